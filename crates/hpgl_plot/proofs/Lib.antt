@@ -1,0 +1,2 @@
+pub mod Bounds
+mod Examples
