@@ -1,0 +1,12 @@
+//! The forms of a picture.
+
+/// What is written.
+#[derive(Clone, Copy, Debug, PartialEq, Eq)]
+pub enum Form {
+    /// A line for each marked pixel: its row, its column and its pen, in decimal.
+    Marks,
+    /// Netpbm's portable bitmap (P4).
+    Pbm,
+    /// Netpbm's portable pixmap (P6).
+    Ppm,
+}

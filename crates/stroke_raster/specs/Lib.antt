@@ -1,0 +1,2 @@
+pub mod Resolutions
+pub mod Pens
