@@ -2,7 +2,13 @@
 #![tactic(auto)]
 
 mod dots;
+mod gauge;
+pub mod laws;
 mod pens;
+mod pixel;
+mod vector;
 
 pub use dots::Dots;
+pub use gauge::{Exact, Gauge};
 pub use pens::PenSet;
+pub use pixel::near;
