@@ -1,6 +1,22 @@
 //! How a picture leaves: the forms that it is written in, and where it is written to.
 #![tactic(auto)]
 
+mod bits;
+mod colours;
+mod fault;
 mod form;
+mod marks;
+mod over_write;
+mod parts;
+mod pieces;
+mod sink;
+#[cfg(test)]
+mod tests;
 
+pub use bits::pack_bits;
+pub use fault::WriteFault;
 pub use form::Form;
+pub use over_write::OverWrite;
+pub use parts::{foot, foot_counted, head, head_counted, room, row, row_counted, row_space};
+pub use pieces::put_all;
+pub use sink::{Sink, SinkFault};

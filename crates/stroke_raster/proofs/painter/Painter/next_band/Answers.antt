@@ -19,6 +19,7 @@ returns g c =
         left = search rules;
         first = search rules;
         rows = rows;
+        some = search rules;
         height = ap length rows ∙ rows_height covers (selected p.pens p.strokes) columns p.next (rows_next p);
         width = subst P (sym rows) (rows_width covers (selected p.pens p.strokes) columns p.next (rows_next p));
         same = search rules;

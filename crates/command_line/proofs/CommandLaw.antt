@@ -1,0 +1,55 @@
+-- The law of parses, for the command of the program.
+use Rattle.std.proofs.Common.{◌≡◌, ◌∙◌, List, [], Result, Ok, Err, IfOk, refl, inl, inr, rules}
+use Rattle.std.specs.List.{AllByRecursion}
+use Rattle.clap.specs.Simple.{HasMatchesOf, built, built_leaf}
+use Rattle.clap.specs.Walk.{Text}
+use Rattle.clap.specs.Faults.{fault_of}
+use Rattle.clap.specs.Kinds.{FailsBy}
+use Rattle.clap.specs.declared.error.Error.{Error}
+use Rattle.clap.specs.declared.parser.matches.ArgMatches.{ArgMatches}
+use Rattle.command_line.specs.Options.{picture_app, plot_app}
+use Rattle.command_line.specs.Parses.{HasGoodMatches}
+use Rattle.command_line.proofs.ParseLaw.{IsSingleShape, parse_good}
+
+-- width, height, left, below, dots, band, from and FILE take one value each; the last one is help
+picture_single : (name : Text) → IsSingleShape (built_leaf (picture_app name).top)
+picture_single name = record {
+  single = (
+    record { found = refl; kind = inl (refl, refl); defaults = search rules },
+    (
+      record { found = refl; kind = inl (refl, refl); defaults = search rules },
+      (
+        record { found = refl; kind = inl (refl, refl); defaults = search rules },
+        (
+          record { found = refl; kind = inl (refl, refl); defaults = search rules },
+          (
+            record { found = refl; kind = inl (refl, refl); defaults = search rules },
+            (
+              record { found = refl; kind = inl (refl, refl); defaults = search rules },
+              (
+                record { found = refl; kind = inl (refl, refl); defaults = search rules },
+                (
+                  record { found = refl; kind = inl (refl, refl); defaults = search rules },
+                  (record { found = refl; kind = inr refl; defaults = search rules }, tt),
+                ),
+              ),
+            ),
+          ),
+        ),
+      ),
+    ),
+  );
+  no_again = refl;
+}
+
+all_single : AllByRecursion IsSingleShape (built plot_app).subs
+all_single = (picture_single _, (picture_single _, (picture_single _, tt)))
+
+pub plot_parses : (words : List Text) (m : ArgMatches) → fault_of plot_app words ≡ [] → HasMatchesOf plot_app words m → HasGoodMatches plot_app words m
+plot_parses words m none given =
+    let to = parse_good plot_app words all_single refl none in
+    record { to = to; rows_are = (given refl).1 ∙ to.is }
+
+pub parsed_good : (words : List Text) (r : Result ArgMatches Error) → FailsBy (fault_of plot_app words) r → IfOk r (HasMatchesOf plot_app words) → IfOk r (HasGoodMatches plot_app words)
+parsed_good words (Ok m) none given = plot_parses words m none given
+parsed_good words (Err e) some given = tt

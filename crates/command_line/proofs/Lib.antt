@@ -1,0 +1,3 @@
+pub mod ParseLaw
+pub mod CommandLaw
+mod Examples

@@ -1,0 +1,67 @@
+-- The subcommands and options of `plotraster`, as `clap` sees them.
+use Rattle.std.specs.Prelude.{◌≡◌, ℕ, [], ◌∷◌, Some, codes, pos, true, false}
+use Rattle.clap.specs.Words.{App, Rule, Text, app_of, new_app, new_rule, with_rule, with_subcommand}
+use Rattle.clap.specs.declared.builder.command.Command.{Command}
+use Rattle.clap.specs.declared.builder.command.Command.TheViews.{out-Command}
+use Rattle.clap.specs.declared.builder.action.ArgAction.TheVariants.{Set}
+use Rattle.clap.specs.declared.builder.value_parser.ValueParser.{ValueParser}
+use Rattle.clap.specs.declared.builder.value_parser.ValueParser.TheVariants as vp
+
+-- `--NAME VALUE`, at most once, with a parser and a default
+abbrev pub option_rule : Text → ValueParser → Text → Rule
+option_rule name parser given = record (new_rule name) {
+  long = Some name;
+  action = Some Set;
+  value_names = 1;
+  defaults = given ∷ [];
+  parser = Some parser;
+}
+
+-- a whole number from low to high
+abbrev pub whole_number : ℕ → ℕ → ValueParser
+whole_number low high = vp.Signed (pos low) (pos high)
+
+-- `--NAME N`, a whole number from low to high, at most once, with a default
+abbrev pub number_rule : Text → ℕ → ℕ → Text → Rule
+number_rule name low high given = option_rule name (whole_number low high) given
+
+-- FILE, the only word that is neither an option nor a subcommand
+abbrev pub file_rule : Rule
+file_rule = record (new_rule (codes "FILE")) { action = Some Set }
+
+-- the page, in plotter units
+abbrev pub with_page : App → App
+with_page a = with_rule (with_rule (with_rule (with_rule a
+    (number_rule (codes "width") 64 65536 (codes "11880")))
+    (number_rule (codes "height") 64 65536 (codes "8400")))
+    (number_rule (codes "left") 0 65536 (codes "0")))
+    (number_rule (codes "below") 0 65536 (codes "0"))
+
+-- how a picture is made: dots per inch, rows in a band, first row
+abbrev pub with_picture : App → App
+with_picture a = with_rule (with_rule (with_rule a
+    (number_rule (codes "dots") 10 600 (codes "100")))
+    (number_rule (codes "band") 1 4096 (codes "64")))
+    (number_rule (codes "from") 0 99999 (codes "0"))
+
+-- a subcommand that writes a picture
+abbrev pub picture_app : Text → App
+picture_app name = with_rule (with_picture (with_page (new_app name))) file_rule
+
+-- a subcommand has to be named, and `help` is none
+abbrev pub needing_subcommand : App → App
+needing_subcommand a =
+    record a { top = record a.top { subcommand_required = true; disable_help_subcommand = true } }
+
+-- `plotraster`
+abbrev pub plot_app : App
+plot_app = with_subcommand (with_subcommand (with_subcommand
+    (needing_subcommand (new_app (codes "plotraster")))
+    (picture_app (codes "marks")).top)
+    (picture_app (codes "pbm")).top)
+    (picture_app (codes "ppm")).top
+
+-- the command is a, and has no global argument
+pub record IsOf (a : App) (c : Command) : Type 0 where
+  pub app : app_of c ≡ a
+  pub local : (out-Command c).has_globals ≡ false

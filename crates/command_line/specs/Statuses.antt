@@ -1,0 +1,10 @@
+-- The exit status of a command line that gave no matches.
+use Rattle.std.specs.Prelude.{ℕ}
+use Rattle.clap.specs.declared.error.kind.ErrorKind.{ErrorKind}
+use Rattle.clap.specs.declared.error.kind.ErrorKind.TheVariants.{DisplayHelp, OutOfMemory}
+
+-- 0 where help was asked for, 4 where memory ran out, and 2 for usage
+abbrev pub parse_status_of : ErrorKind → ℕ
+parse_status_of DisplayHelp = 0
+parse_status_of OutOfMemory = 4
+parse_status_of _ = 2

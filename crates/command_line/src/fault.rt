@@ -1,0 +1,35 @@
+//! What may be wrong with a command line.
+ghost use Rattle.std.specs.Prelude.{◌≡◌};
+ghost use Rattle.clap.specs.Words.{kind_of};
+ghost use Rattle.command_line.specs.Statuses.{parse_status_of};
+
+use clap::error::ErrorKind;
+use thiserror::Error;
+
+/// Why there is no command.
+#[derive(Clone, Copy, Debug, PartialEq, Eq, Drop, Error)]
+pub enum BuildFault {
+    /// The heap gave no memory.
+    #[error("out of memory")]
+    Memory,
+}
+
+/// Why matches ask for nothing that this program does.
+#[derive(Clone, Copy, Debug, PartialEq, Eq, Drop, Error)]
+pub enum LineFault {
+    /// They are the matches of another command, or words that are no text.
+    #[error("words not understood")]
+    Words,
+}
+
+/// The exit status where words gave no matches: 0 where help was asked for, 4 where memory ran
+/// out, and 2 for any other fault, which is one of usage.
+pub fn parse_status(error: &clap::Error) -> u8
+    ensures { result ≡ parse_status_of (kind_of error.now) }
+{
+    match error.kind() {
+        ErrorKind::DisplayHelp => 0,
+        ErrorKind::OutOfMemory => 4,
+        _ => 2,
+    }
+}

@@ -1,0 +1,15 @@
+//! What a command line asks for: its subcommands and options, and the values that they give.
+#![tactic(auto)]
+
+mod fault;
+mod job;
+mod line;
+mod options;
+
+pub use fault::{BuildFault, LineFault, parse_status};
+pub use job::Job;
+pub use line::{Line, Task, settle};
+pub use options::{command, parse};
+
+#[cfg(test)]
+mod tests;

@@ -1,0 +1,95 @@
+//! What a command line asks for.
+ghost use Rattle.std.specs.Prelude.{◌≡◌};
+
+use crate::fault::LineFault;
+use crate::job::Job;
+use clap::ArgMatches;
+use hpgl_plot::Page;
+use picture_out::Form;
+use stroke_raster::{Dots, PenSet};
+
+/// What is to be done.
+#[derive(Clone, Copy)]
+pub enum Task {
+    /// A picture of a plot.
+    Picture(Job),
+}
+
+impl Task {
+    /// The job of the picture.
+    pub fn job(self) -> Job
+        ensures { self ≡ Task.Picture result }
+    {
+        // An enum's only variant can't yet be bound whole where a field of it has ghost fields.
+        let Task::Picture(
+            Job {
+                page,
+                dots,
+                pens,
+                band,
+                first_row,
+                form,
+            },
+        ) = self;
+        Job {
+            page,
+            dots,
+            pens,
+            band,
+            first_row,
+            form,
+        }
+    }
+}
+
+/// What is to be done, and with which plot.
+#[derive(Clone, Copy)]
+pub struct Line<'a> {
+    /// What is to be done.
+    pub task: Task,
+    /// The name of the plot's file, or `None` where the plot comes on standard input.
+    pub file: Option<&'a str>,
+}
+
+/// The values of the matches of `command`'s command, or `Words` where the matches are of another.
+pub fn settle<'a>(matches: &ArgMatches<'a>) -> Result<Line<'a>, LineFault> {
+    let (name, options) = matches.subcommand().ok_or(LineFault::Words)?;
+    let form = form_of(name).ok_or(LineFault::Words)?;
+    Ok(Line {
+        task: Task::Picture(job_of(options, form)?),
+        file: options.get_str("FILE"),
+    })
+}
+
+// The form that a subcommand writes.
+fn form_of(name: &str) -> Option<Form> {
+    match name {
+        "marks" => Some(Form::Marks),
+        "pbm" => Some(Form::Pbm),
+        "ppm" => Some(Form::Ppm),
+        _ => None,
+    }
+}
+
+fn job_of(options: &ArgMatches<'_>, form: Form) -> Result<Job, LineFault> {
+    Ok(Job {
+        page: page_of(options)?,
+        dots: Dots::new(number_of(options, "dots")?).ok_or(LineFault::Words)?,
+        pens: PenSet::all(),
+        band: number_of(options, "band")?,
+        first_row: number_of(options, "from")?,
+        form,
+    })
+}
+
+fn page_of(options: &ArgMatches<'_>) -> Result<Page, LineFault> {
+    let width = number_of(options, "width")?;
+    let height = number_of(options, "height")?;
+    let left = number_of(options, "left")?;
+    let below = number_of(options, "below")?;
+    Page::new(width, height, left, below).map_err(|_| LineFault::Words)
+}
+
+fn number_of(options: &ArgMatches<'_>, name: &str) -> Result<u32, LineFault> {
+    options.get_one::<u32>(name).ok_or(LineFault::Words)
+}

@@ -1,0 +1,35 @@
+-- The bytes of a picture's parts.
+use Rattle.std.specs.Prelude.{ℕ, ◌*◌, List, [], ◌++◌, codes, decimal}
+use Rattle.picture_out.specs.declared.form.Form.{Form}
+use Rattle.picture_out.specs.declared.form.Form.TheVariants.{Marks, Pbm, Ppm}
+use Rattle.picture_out.specs.Marks.{marks}
+use Rattle.picture_out.specs.Bits.{bytes_for, packed}
+use Rattle.picture_out.specs.Colours.{coloured}
+
+-- the size line of Netpbm's forms: the columns, then the rows
+abbrev pub size_line : ℕ → ℕ → List ℕ
+size_line columns rows = decimal columns ++ codes " " ++ decimal rows ++ codes "\n"
+
+-- what stands before the rows, at a resolution in dots per inch
+abbrev pub head_bytes : Form → ℕ → ℕ → ℕ → List ℕ
+head_bytes Marks dots columns rows = []
+head_bytes Pbm dots columns rows = codes "P4\n" ++ size_line columns rows
+head_bytes Ppm dots columns rows = codes "P6\n" ++ size_line columns rows ++ codes "255\n"
+
+-- the row of this number, with a pen number for each column
+abbrev pub row_bytes : Form → ℕ → List ℕ → List ℕ
+row_bytes Marks row cells = marks row cells
+row_bytes Pbm row cells = packed cells
+row_bytes Ppm row cells = coloured cells
+
+-- what stands after the rows
+abbrev pub foot_bytes : Form → List ℕ
+foot_bytes Marks = []
+foot_bytes Pbm = []
+foot_bytes Ppm = []
+
+-- the least buffer that a row of so many columns may be handed
+abbrev pub room_of : Form → ℕ → ℕ
+room_of Marks columns = 0
+room_of Pbm columns = bytes_for columns
+room_of Ppm columns = 3 * columns

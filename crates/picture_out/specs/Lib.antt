@@ -1,0 +1,6 @@
+pub mod Sinks
+pub mod Writers
+pub mod Marks
+pub mod Bits
+pub mod Colours
+pub mod Forms

@@ -1,0 +1,20 @@
+-- What a sink's answers say of its bytes and of its count of failures.
+use Rattle.std.specs.Prelude.{◌≡◌, ℕ, ◌+◌, ◌<◌, List, length, take, Option, Result, Ok, Err}
+use Rattle.std.specs.Io.KnownBytes.{Appends}
+use Rattle.picture_out.specs.declared.sink.SinkFault.{SinkFault}
+use Rattle.picture_out.specs.declared.fault.WriteFault.{WriteFault}
+use Rattle.picture_out.specs.declared.fault.WriteFault.TheVariants.{Write}
+
+-- the count rises by one at a fault, and where nothing is taken of a piece that is not empty; else it stays
+abbrev pub CountsPut : ℕ → ℕ → Result ℕ SinkFault → List ℕ → Type 0
+CountsPut old new (Ok n) piece = (n ≡ 0 → 0 < length piece → new ≡ old + 1) × (0 < n → new ≡ old) × (length piece ≡ 0 → new ≡ old)
+CountsPut old new (Err _) piece = new ≡ old + 1
+
+-- how many bytes were taken before the failure
+abbrev pub taken_of : WriteFault → ℕ
+taken_of (Write n) = n
+
+-- all the bytes were appended and nothing failed, or as many of them as the fault says, and it failed once
+abbrev pub Writes : {U : Type 0} → Option (List ℕ) → Option (List ℕ) → ℕ → ℕ → List ℕ → Result U WriteFault → Type 0
+Writes old new failed failed' bytes (Ok _) = Appends old new bytes × (failed' ≡ failed)
+Writes old new failed failed' bytes (Err e) = Appends old new (take (taken_of e) bytes) × (taken_of e < length bytes) × (failed' ≡ failed + 1)

@@ -1,0 +1,178 @@
+//! A picture's parts in each form.
+ghost use Rattle.std.specs.Prelude.{◌≡◌, ℕ, ◌-◌, ◌+◌, ◌*◌, ◌^◌, ◌<◌, ◌≤◌, ◌++◌, List, All, length, take, IfOk};
+ghost use Rattle.picture_out.specs.Sinks.{Writes};
+ghost use Rattle.picture_out.specs.Bits.{bytes_for};
+ghost use Rattle.picture_out.specs.Forms.{head_bytes, row_bytes, foot_bytes, room_of, size_line};
+
+use crate::bits::pack_bits;
+use crate::colours::put_colours;
+use crate::fault::WriteFault;
+use crate::form::Form;
+use crate::marks::{LONGEST_LINE, put_marks};
+use crate::pieces::{append, put_counted};
+use crate::sink::Sink;
+use itoa::Buffer;
+
+/// The least length of a buffer that `row` takes for rows of so many columns, in bytes.
+pub fn room(form: Form, columns: u32) -> usize
+    ensures { result ≡ room_of form columns }
+{
+    match form {
+        Form::Marks => 0,
+        Form::Pbm => packed_length(columns as usize),
+        Form::Ppm => 3 * columns as usize,
+    }
+}
+
+/// The length of a buffer, in bytes, that takes any row of so many columns whole, so that `row`
+/// hands it to the sink in one piece.
+pub fn row_space(form: Form, columns: u32) -> usize
+    ensures room { room_of form columns ≤ result }
+    ensures whole { (index : ℕ) (cells : List ℕ) → index < 2 ^ 32 → All (λ pen. pen < 256) cells → length cells ≤ columns → length (row_bytes form index cells) ≤ result }
+    ensures most { result ≤ 32 * columns }
+{
+    match form {
+        Form::Marks => LONGEST_LINE * columns as usize,
+        Form::Pbm | Form::Ppm => room(form, columns),
+    }
+}
+
+// How many bytes a row of Netpbm's P4 takes.
+fn packed_length(columns: usize) -> usize
+    requires { columns ≤ 4294967295 }
+    ensures { result ≡ bytes_for columns }
+{
+    (columns + 7) / 8
+}
+
+/// Writes what stands before the rows: nothing for marks, for Netpbm's forms the magic number and
+/// the size of the whole picture (pbm(5), ppm(5)). `dots` is the resolution in dots per inch.
+///
+/// Errors: 7 exactly where the sink fails; it has then taken the first `bytes` bytes.
+pub fn head<K: Sink>(
+    form: Form,
+    dots: u32,
+    columns: u32,
+    rows: u32,
+    sink: &mut K,
+) -> Result<(), WriteFault>
+    requires sound { K.failed sink.old < 2 ^ 64 - 1 }
+    ensures writes { Writes (K.held sink.old) (K.held sink.new) (K.failed sink.old) (K.failed sink.new) (head_bytes form dots columns rows) result }
+{
+    head_counted(form, dots, columns, rows, sink)?;
+    Ok(())
+}
+
+/// `head`, with the count of the bytes written.
+pub fn head_counted<K: Sink>(
+    form: Form,
+    dots: u32,
+    columns: u32,
+    rows: u32,
+    sink: &mut K,
+) -> Result<u64, WriteFault>
+    requires sound { K.failed sink.old < 2 ^ 64 - 1 }
+    ensures writes { Writes (K.held sink.old) (K.held sink.new) (K.failed sink.old) (K.failed sink.new) (head_bytes form dots columns rows) result }
+    ensures count { IfOk result (λ n. n ≡ length (head_bytes form dots columns rows)) }
+    ensures small { length (head_bytes form dots columns rows) ≤ 128 }
+{
+    let mut text = [0; 128];
+    let used = match form {
+        Form::Marks => 0,
+        Form::Pbm => append_netpbm(&mut text, b"P4\n", columns, rows),
+        Form::Ppm => {
+            let used = append_netpbm(&mut text, b"P6\n", columns, rows);
+            append(&mut text, used, b"255\n")
+        }
+    };
+    put_counted(sink, &text[..used])
+}
+
+// Begins a text with a magic number and the size line, and says how long it is then.
+fn append_netpbm(text: &mut [u8], magic: &[u8], columns: u32, rows: u32) -> usize
+    requires magic { length magic.now ≤ 3 }
+    requires room { 25 ≤ length text.old }
+    ensures text { take result text.new ≡ magic.now ++ size_line columns rows }
+    ensures most { result ≤ 25 }
+    ensures size { length text.new ≡ length text.old }
+{
+    let mut digits = Buffer::new();
+    let used = append(text, 0, magic);
+    let used = append(text, used, digits.format(columns).as_bytes());
+    let used = append(text, used, b" ");
+    let used = append(text, used, digits.format(rows).as_bytes());
+    append(text, used, b"\n")
+}
+
+/// Writes the row with the number `index`, counted from 0 at the top, from the pens of its cells:
+/// for marks the line `row column pen` of each cell that is not 0, for pbm a bit a cell, for ppm
+/// three bytes a cell. The buffer is `room` long or longer, and what it holds afterwards is of no
+/// meaning.
+///
+/// Errors: 7 exactly where the sink fails; it has then taken the first `bytes` bytes.
+pub fn row<K: Sink>(
+    form: Form,
+    index: u32,
+    cells: &[u8],
+    buffer: &mut [u8],
+    sink: &mut K,
+) -> Result<(), WriteFault>
+    requires sound { K.failed sink.old < 2 ^ 64 - 1 }
+    requires columns { length cells.now ≤ 4294967295 }
+    requires room { room_of form (length cells.now) ≤ length buffer.old }
+    ensures writes { Writes (K.held sink.old) (K.held sink.new) (K.failed sink.old) (K.failed sink.new) (row_bytes form index cells.now) result }
+{
+    row_counted(form, index, cells, buffer, sink)?;
+    Ok(())
+}
+
+/// `row`, with the count of the bytes written.
+pub fn row_counted<K: Sink>(
+    form: Form,
+    index: u32,
+    cells: &[u8],
+    buffer: &mut [u8],
+    sink: &mut K,
+) -> Result<u64, WriteFault>
+    requires sound { K.failed sink.old < 2 ^ 64 - 1 }
+    requires columns { length cells.now ≤ 4294967295 }
+    requires room { room_of form (length cells.now) ≤ length buffer.old }
+    ensures writes { Writes (K.held sink.old) (K.held sink.new) (K.failed sink.old) (K.failed sink.new) (row_bytes form index cells.now) result }
+    ensures count { IfOk result (λ n. n ≡ length (row_bytes form index cells.now)) }
+    ensures small { length (row_bytes form index cells.now) ≤ 32 * length cells.now + 32 }
+{
+    match form {
+        Form::Marks => put_marks(index, cells, buffer, sink),
+        Form::Pbm => {
+            pack_bits(cells, buffer);
+            put_counted(sink, &buffer[..packed_length(cells.len())])
+        }
+        Form::Ppm => {
+            put_colours(cells, buffer);
+            put_counted(sink, &buffer[..3 * cells.len()])
+        }
+    }
+}
+
+/// Writes what stands after the rows: nothing in each of today's forms.
+///
+/// Errors: 7 exactly where the sink fails; it has then taken the first `bytes` bytes.
+pub fn foot<K: Sink>(form: Form, sink: &mut K) -> Result<(), WriteFault>
+    requires sound { K.failed sink.old < 2 ^ 64 - 1 }
+    ensures writes { Writes (K.held sink.old) (K.held sink.new) (K.failed sink.old) (K.failed sink.new) (foot_bytes form) result }
+{
+    foot_counted(form, sink)?;
+    Ok(())
+}
+
+/// `foot`, with the count of the bytes written.
+pub fn foot_counted<K: Sink>(form: Form, sink: &mut K) -> Result<u64, WriteFault>
+    requires sound { K.failed sink.old < 2 ^ 64 - 1 }
+    ensures writes { Writes (K.held sink.old) (K.held sink.new) (K.failed sink.old) (K.failed sink.new) (foot_bytes form) result }
+    ensures count { IfOk result (λ n. n ≡ length (foot_bytes form)) }
+    ensures small { length (foot_bytes form) ≤ 32 }
+{
+    match form {
+        Form::Marks | Form::Pbm | Form::Ppm => Ok(0),
+    }
+}

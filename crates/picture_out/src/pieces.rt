@@ -1,0 +1,51 @@
+//! Bytes handed to a sink, and bytes gathered into a piece.
+ghost use Rattle.std.specs.Prelude.{◌≡◌, ◌-◌, ◌+◌, ◌^◌, ◌<◌, ◌≤◌, ◌++◌, length, take, IfOk};
+ghost use Rattle.picture_out.specs.Sinks.{Writes};
+
+use crate::fault::WriteFault;
+use crate::sink::Sink;
+
+/// Writes all the bytes, in as many pieces as the sink asks for. An empty piece is never handed
+/// over.
+///
+/// Errors: 7 exactly where the sink fails; it has then taken the first `bytes` bytes.
+pub fn put_all<K: Sink>(sink: &mut K, bytes: &[u8]) -> Result<(), WriteFault>
+    requires sound { K.failed sink.old < 2 ^ 64 - 1 }
+    ensures writes { Writes (K.held sink.old) (K.held sink.new) (K.failed sink.old) (K.failed sink.new) bytes.now result }
+{
+    let mut at = 0;
+    while at < bytes.len() {
+        match sink.put(&bytes[at..]) {
+            Ok(taken) => {
+                if taken == 0 {
+                    return Err(WriteFault::Write { bytes: at as u64 });
+                }
+                at += taken;
+            }
+            Err(_) => return Err(WriteFault::Write { bytes: at as u64 }),
+        }
+    }
+    Ok(())
+}
+
+// The same, with the count of the bytes.
+pub(crate) fn put_counted<K: Sink>(sink: &mut K, bytes: &[u8]) -> Result<u64, WriteFault>
+    requires sound { K.failed sink.old < 2 ^ 64 - 1 }
+    ensures writes { Writes (K.held sink.old) (K.held sink.new) (K.failed sink.old) (K.failed sink.new) bytes.now result }
+    ensures count { IfOk result (λ n. n ≡ length bytes.now) }
+{
+    put_all(sink, bytes)?;
+    Ok(bytes.len() as u64)
+}
+
+// Puts the bytes into a piece that is `used` bytes long, and says how long it is then.
+pub(crate) fn append(piece: &mut [u8], used: usize, bytes: &[u8]) -> usize
+    requires { used + length bytes.now ≤ length piece.old }
+    ensures used { result ≡ used + length bytes.now }
+    ensures piece { take result piece.new ≡ take used piece.old ++ bytes.now }
+    ensures size { length piece.new ≡ length piece.old }
+{
+    let end = used + bytes.len();
+    piece[used..end].copy_from_slice(bytes);
+    end
+}

@@ -1,0 +1,32 @@
+//! Where bytes go.
+ghost use Rattle.std.specs.Prelude.{◌≡◌, ℕ, ◌-◌, ◌^◌, ◌<◌, ◌≤◌, List, length, Option, IfOk};
+ghost use Rattle.std.specs.Io.KnownBytes.{WriteAppends};
+ghost use Rattle.picture_out.specs.Sinks.{CountsPut};
+
+use thiserror::Error;
+
+/// A sink's refusal to take bytes.
+#[derive(Clone, Copy, Debug, PartialEq, Eq, Drop, Error)]
+#[error("the sink takes no bytes")]
+pub struct SinkFault;
+
+/// What takes bytes, as many of a piece at a time as it likes, and counts its failures. A failure
+/// is a fault, or to take nothing of a piece that is not empty.
+pub trait Sink {
+    /// The bytes that it has taken, where they are known.
+    ghost held: { Self → Option (List ℕ) };
+
+    /// How often it has failed.
+    ghost failed: { Self → ℕ };
+
+    /// Takes the first bytes of the piece and says how many. With a fault it has taken none.
+    fn put(&mut self, piece: &[u8]) -> Result<usize, SinkFault>
+        requires sound { failed self.old < 2 ^ 64 - 1 }
+        ensures bound { IfOk result (λ n. n ≤ length piece.now) }
+        ensures bytes { WriteAppends (held self.old) (held self.new) result piece.now }
+        ensures count { CountsPut (failed self.old) (failed self.new) result piece.now };
+
+    /// How often it has failed.
+    fn failures(&self) -> u64
+        ensures { result ≡ failed self.now };
+}

@@ -1,0 +1,12 @@
+mod Gifts
+mod Parts
+mod Numerals
+mod ValueLists
+mod Pairs
+mod ThinTextLemmas
+mod Bridge
+mod Ends
+mod Examples
+mod Pictures
+mod RowTexts
+mod Stops

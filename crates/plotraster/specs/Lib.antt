@@ -1,0 +1,12 @@
+pub mod Sources
+pub mod Readings
+pub mod ThinTexts
+pub mod ThinSteps
+pub mod Strokes
+pub mod Refusals
+pub mod ThinMachine
+pub mod Faults
+pub mod Picture
+pub mod Writings
+pub mod Conversions
+pub mod Laws
