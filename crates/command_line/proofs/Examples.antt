@@ -1,6 +1,12 @@
--- What the command takes, at some words.
-use Rattle.std.proofs.Common.{◌≡◌, refl}
+-- What the command takes, and what it asks for, at some words.
+use Rattle.std.proofs.Common.{◌≡◌, ◌∷◌, [], List, Option, Some, None, ℕ, true, codes, refl}
+use Rattle.std.specs.Prelude.{option_and_then}
+use Rattle.clap.specs.Words.{Kinds, Text, fault_of, subcommand_of, takes}
+use Rattle.clap.proofs.OnLiterals.{clap_on_literals}
 use Rattle.clap.specs.declared.error.kind.ErrorKind.TheVariants as kind
+use Rattle.picture_out.specs.declared.form.Form.TheVariants as form
+use Rattle.command_line.specs.Lines.{form_named, number_in}
+use Rattle.command_line.specs.Options.{plot_app}
 use Rattle.command_line.specs.Statuses.{parse_status_of}
 
 help_is_no_fault : parse_status_of kind.DisplayHelp ≡ 0
@@ -11,3 +17,53 @@ no_memory = refl
 
 unknown_option : parse_status_of kind.UnknownArgument ≡ 2
 unknown_option = refl
+
+ppm_is_a_pixmap : form_named (codes "ppm") ≡ Some form.Ppm
+ppm_is_a_pixmap = refl
+
+report_has_no_form : form_named (codes "report") ≡ None
+report_has_no_form = refl
+
+-- the words of a command line, the program's name before them
+abbrev after_name : List Text → List Text
+after_name words = codes "plotraster" ∷ words
+
+-- the number that an option has on a command line
+abbrev number_on : List Text → Text → Option ℕ
+number_on words name = option_and_then (λ p. number_in p.1 name) (subcommand_of plot_app (after_name words))
+
+width_left_out : number_on (codes "pbm" ∷ []) (codes "width") ≡ Some 11880
+unfolding clap_on_literals
+width_left_out = refl
+
+dots_given : number_on (codes "pbm" ∷ codes "--dots" ∷ codes "300" ∷ []) (codes "dots") ≡ Some 300
+unfolding clap_on_literals
+dots_given = refl
+
+plus_sign : number_on (codes "ppm" ∷ codes "--from=+7" ∷ []) (codes "from") ≡ Some 7
+unfolding clap_on_literals
+plus_sign = refl
+
+file_takes_no_option : takes plot_app (after_name (codes "marks" ∷ codes "plan.plt" ∷ [])) ≡ true
+unfolding clap_on_literals
+file_takes_no_option = refl
+
+-- the kinds of fault on a command line
+abbrev faults_on : List Text → Kinds
+faults_on words = fault_of plot_app (after_name words)
+
+no_subcommand : faults_on [] ≡ kind.MissingSubcommand ∷ []
+unfolding clap_on_literals
+no_subcommand = refl
+
+dots_too_few : faults_on (codes "marks" ∷ codes "--dots" ∷ codes "9" ∷ []) ≡ kind.ValueValidation ∷ []
+unfolding clap_on_literals
+dots_too_few = refl
+
+band_twice : faults_on (codes "pbm" ∷ codes "--band" ∷ codes "8" ∷ codes "--band" ∷ codes "8" ∷ []) ≡ kind.ArgumentConflict ∷ []
+unfolding clap_on_literals
+band_twice = refl
+
+asked_for_help : faults_on (codes "pbm" ∷ codes "-h" ∷ []) ≡ kind.DisplayHelp ∷ []
+unfolding clap_on_literals
+asked_for_help = refl

@@ -1,3 +1,4 @@
+pub mod Lines
 pub mod Options
 pub mod Parses
 pub mod Statuses

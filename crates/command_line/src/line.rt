@@ -1,5 +1,7 @@
 //! What a command line asks for.
-ghost use Rattle.std.specs.Prelude.{◌≡◌};
+ghost use Rattle.std.specs.Prelude.{◌≡◌, Some, IfOk, codes};
+ghost use Rattle.clap.specs.Words.{found_of, rows_of};
+ghost use Rattle.command_line.specs.Lines.{number_in, form_named, IsJobOf, IsLineOf};
 
 use crate::fault::LineFault;
 use crate::job::Job;
@@ -52,7 +54,9 @@ pub struct Line<'a> {
 }
 
 /// The values of the matches of `command`'s command, or `Words` where the matches are of another.
-pub fn settle<'a>(matches: &ArgMatches<'a>) -> Result<Line<'a>, LineFault> {
+pub fn settle<'a>(matches: &ArgMatches<'a>) -> Result<Line<'a>, LineFault>
+    ensures line { IfOk result (IsLineOf matches.now) }
+{
     let (name, options) = matches.subcommand().ok_or(LineFault::Words)?;
     let form = form_of(name).ok_or(LineFault::Words)?;
     Ok(Line {
@@ -62,7 +66,9 @@ pub fn settle<'a>(matches: &ArgMatches<'a>) -> Result<Line<'a>, LineFault> {
 }
 
 // The form that a subcommand writes.
-fn form_of(name: &str) -> Option<Form> {
+fn form_of(name: &str) -> Option<Form>
+    ensures { result ≡ form_named name.now }
+{
     match name {
         "marks" => Some(Form::Marks),
         "pbm" => Some(Form::Pbm),
@@ -71,7 +77,10 @@ fn form_of(name: &str) -> Option<Form> {
     }
 }
 
-fn job_of(options: &ArgMatches<'_>, form: Form) -> Result<Job, LineFault> {
+fn job_of(options: &ArgMatches<'_>, form: Form) -> Result<Job, LineFault>
+    ensures job { IfOk result (IsJobOf (rows_of (found_of options.now))) }
+    ensures form { IfOk result (λ job. job.form ≡ form) }
+{
     Ok(Job {
         page: page_of(options)?,
         dots: Dots::new(number_of(options, "dots")?).ok_or(LineFault::Words)?,
@@ -82,7 +91,12 @@ fn job_of(options: &ArgMatches<'_>, form: Form) -> Result<Job, LineFault> {
     })
 }
 
-fn page_of(options: &ArgMatches<'_>) -> Result<Page, LineFault> {
+fn page_of(options: &ArgMatches<'_>) -> Result<Page, LineFault>
+    ensures width { IfOk result (λ page. number_in (rows_of (found_of options.now)) (codes "width") ≡ Some page.width) }
+    ensures height { IfOk result (λ page. number_in (rows_of (found_of options.now)) (codes "height") ≡ Some page.height) }
+    ensures left { IfOk result (λ page. number_in (rows_of (found_of options.now)) (codes "left") ≡ Some page.left) }
+    ensures below { IfOk result (λ page. number_in (rows_of (found_of options.now)) (codes "below") ≡ Some page.below) }
+{
     let width = number_of(options, "width")?;
     let height = number_of(options, "height")?;
     let left = number_of(options, "left")?;
@@ -90,6 +104,8 @@ fn page_of(options: &ArgMatches<'_>) -> Result<Page, LineFault> {
     Page::new(width, height, left, below).map_err(|_| LineFault::Words)
 }
 
-fn number_of(options: &ArgMatches<'_>, name: &str) -> Result<u32, LineFault> {
+fn number_of(options: &ArgMatches<'_>, name: &str) -> Result<u32, LineFault>
+    ensures { IfOk result (λ n. number_in (rows_of (found_of options.now)) name.now ≡ Some n) }
+{
     options.get_one::<u32>(name).ok_or(LineFault::Words)
 }

@@ -65,7 +65,7 @@ const FROM: HelpLine<'static> = HelpLine {
 };
 
 const TOP: HelpPage<'static> = HelpPage {
-    about: "Turn an HP-GL or HP-GL/2 plot into a raster picture, pixel for pixel as defined",
+    about: "Turn an HP-GL or HP-GL/2 plot into a raster picture with exact pixels",
     example: "Example:\n  plotraster pbm --dots 300 plan.plt > plan.pbm\n\n'plotraster pbm --help' lists the options of pbm, and so for each command.",
 };
 

@@ -1,0 +1,42 @@
+use Rattle.std.proofs.Common.{◌≡◌, ◌∙◌, ap, ap₂, sym, refl, Option, Some, None, Ok, codes}
+use Rattle.std.specs.Prelude.{option_map}
+use Rattle.std.specs.Option.{ok_or}
+use Rattle.clap.specs.Words.{found_of, rows_of}
+use Rattle.clap.proofs.WalkLemmas.{first_value-rows}
+use Rattle.command_line.proofs.line.settle.Goals as goal
+
+was_some : {X E : Type 0} (o : Option X) (e : E) (x : X) → ok_or o e ≡ Ok x → o ≡ Some x
+was_some None e x is = absurd (cc)
+was_some (Some y) e x is = let same : y ≡ x = cc in ap Some same
+
+pair : {A B : Type 0} → A → B → A × B
+pair a b = (a, b)
+
+-- an option of pairs, from its first parts and its second parts
+paired : {X A B : Type 0} (f : X → A) (g : X → B) (o : Option X) (a : A) (b : B)
+    → option_map f o ≡ Some a → option_map (λ (p : A × B). p.1) (option_map {U = A × B} (λ x. (f x, g x)) o) ≡ Some b
+    → option_map {U = A × B} (λ x. (f x, g x)) o ≡ Some (a, b)
+unfolding pair
+paired f g None a b first second = absurd (cc)
+paired {X} {A} {B} f g (Some x) a b first second =
+    let one : f x ≡ a = cc in
+    let two : g x ≡ b = cc in
+    ap Some (ap₂ (λ (l : A) (r : B). pair l r) one two)
+
+pub returns : goal.returns
+returns c =
+    let met = was_some c.subcommand.result _ _ (sym c.ok_or.ensures.value ∙ c.in_ok-name.was) in
+    let form = was_some c.form_of.result _ _ (sym c.ok_or-2.ensures.value ∙ c.in_ok-form.was) in
+    record {
+      line = record {
+        name = c.in_ok-name.name.now;
+        rows = rows_of (found_of c.in_ok-name.options.now);
+        matches = paired _ _ _ _ _ (sym c.subcommand.ensures.name ∙ ap (option_map (λ p. p.0.now)) met)
+            (sym c.subcommand.ensures.rows ∙ ap (option_map (λ p. rows_of (found_of p.1.now))) met);
+        job = c.in_ok-job_of.field-0;
+        task = refl;
+        form = sym c.form_of.ensures ∙ form ∙ ap Some (sym c.in_ok-job_of.ensures.form);
+        numbers = c.in_ok-job_of.ensures.job;
+        file = c.get_str.ensures ∙ first_value-rows (found_of c.in_ok-name.options.now) (codes "FILE");
+      };
+    }

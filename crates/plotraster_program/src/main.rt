@@ -1,0 +1,95 @@
+//! `plotraster`: reads a plot and writes its picture, as the command line asks.
+#![tactic(auto)]
+
+use clap::ArgMatches;
+use plotraster::{
+    Exact, Fault, Job, LineFault, OverRead, OverWrite, command, convert, parse, parse_status,
+    settle, status,
+};
+use std::fs::File;
+use std::io::{ErrorKind, Read};
+use std::process::ExitCode;
+
+// The exit status of a command line that is not understood.
+const USAGE: u8 = 2;
+
+// The exit status where the file cannot be opened.
+const DEVICE: u8 = 3;
+
+fn main(rt: HostRuntime) -> ExitCode {
+    let status = match words_of(&rt) {
+        Ok(words) => run(&rt, words.as_slice()),
+        Err(status) => status,
+    };
+    ExitCode::from(status)
+}
+
+// The words of the command line, or the exit status where they can't be had.
+fn words_of(rt: &HostRuntime) -> Result<Vec<String>, u8> {
+    match std::env::args(rt) {
+        Ok(words) => words
+            .collect(rt.alloc())
+            .map_err(|_| refuse(rt, &Fault::Memory)),
+        Err(error) if error.kind() == ErrorKind::OutOfMemory => Err(refuse(rt, &Fault::Memory)),
+        Err(_) => Err(refuse_words(rt, LineFault::Words)),
+    }
+}
+
+// The exit status of the whole run.
+fn run(rt: &HostRuntime, words: &[String]) -> u8 {
+    let Ok(command) = command(rt.alloc()) else {
+        return refuse(rt, &Fault::Memory);
+    };
+    match parse(command, words) {
+        Ok(matches) => work(rt, &matches),
+        Err(error) => tell(rt, &error),
+    }
+}
+
+// Prints help, or what is wrong with the words.
+fn tell(rt: &HostRuntime, error: &clap::Error) -> u8 {
+    if error.kind() == clap::error::ErrorKind::OutOfMemory {
+        return refuse(rt, &Fault::Memory);
+    }
+    let _ = error.print(rt);
+    parse_status(error)
+}
+
+fn work(rt: &HostRuntime, matches: &ArgMatches<'_>) -> u8 {
+    let line = match settle(matches) {
+        Ok(line) => line,
+        Err(fault) => return refuse_words(rt, fault),
+    };
+    let job = line.task.job();
+    match line.file {
+        None => draw(rt, &job, rt.stdin()),
+        Some(path) => match File::open(rt, path) {
+            Ok(file) => draw(rt, &job, file),
+            Err(_) => {
+                let _ = eprintln!(rt; "plotraster: cannot open {path}");
+                DEVICE
+            }
+        },
+    }
+}
+
+// Writes the picture of the plot that the reader gives to standard output, which has no buffer:
+// so a fault's count of bytes is what the device took.
+fn draw<R: Read + Drop>(rt: &HostRuntime, job: &Job, plot: R) -> u8 {
+    let mut source = OverRead::new(plot);
+    let mut sink = OverWrite::new(rt.stdout());
+    match convert(rt.alloc(), job, &mut Exact::new(), &mut source, &mut sink) {
+        Ok(_) => 0,
+        Err(fault) => refuse(rt, &fault),
+    }
+}
+
+fn refuse(rt: &HostRuntime, fault: &Fault) -> u8 {
+    let _ = eprintln!(rt; "plotraster: {fault}");
+    status(fault)
+}
+
+fn refuse_words(rt: &HostRuntime, fault: LineFault) -> u8 {
+    let _ = eprintln!(rt; "plotraster: {fault}");
+    USAGE
+}
