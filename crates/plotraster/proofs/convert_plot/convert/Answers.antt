@@ -1,6 +1,5 @@
-use Rattle.std.proofs.Common.{rules, arith, ◌≡◌, ◌<◌, ◌≤◌, List, length, ℕ, sym, ap, ◌∙◌, ◌-◌, Bool, Ok, Err, None, true, false, refl, inl, inr}
+use Rattle.std.proofs.Common.{rules, ◌≡◌, ◌<◌, ◌≤◌, List, length, ℕ, sym, ap, ◌∙◌, ◌-◌, Bool, Ok, Err, None, true, false, refl, inl, inr}
 use Rattle.std.proofs.lemmas.Bool.{cases_lt}
-use Rattle.hpgl_plot.specs.Segments.{Segment}
 use Rattle.stroke_raster.specs.Resolutions.{rows_of}
 use Rattle.stroke_raster.specs.Painting.{is_band_height}
 use Rattle.picture_out.specs.Forms.{foot_bytes}
@@ -28,8 +27,8 @@ returns-in-Ok-write_picture-clause-converts g c =
     let items : c.in-Ok-draw_thin.strokes.items ≡ strokes job.page input = c.in-Ok-draw_thin.ensures.strokes ∙ ap (strokes job.page) text in
     let drawn : c.in-Ok-new.painter.strokes ≡ strokes job.page input = made.strokes ∙ c.as_slice-2.ensures.value ∙ items in
     let wrote = move_parts (λ l ss p d r. WritesPicture (head_of job.form p d) (row_of job.form (g.G.Gauge.reaches c.args.gauge.now) l ss p d) (foot_bytes job.form) (rows_of p d) r
-        (g.K.Sink.held c.args.sink.now) (g.K.Sink.held c.write_picture.new.sink) (g.K.Sink.failed c.args.sink.now) (g.K.Sink.failed c.write_picture.new.sink) (Ok c.in-Ok-write_picture.bytes))
-        _ _ _ _ _ _ _ _ _ _ made.pens drawn made.page made.dots made.first c.in-Ok-write_picture.ensures in
+    (g.K.Sink.held c.args.sink.now) (g.K.Sink.held c.write_picture.new.sink) (g.K.Sink.failed c.args.sink.now) (g.K.Sink.failed c.write_picture.new.sink) (Ok c.in-Ok-write_picture.bytes))
+    _ _ _ _ _ _ _ _ _ _ made.pens drawn made.page made.dots made.first c.in-Ok-write_picture.ensures in
     let accepted : refusal job.page input ≡ None = ap (refusal job.page) (sym text) ∙ c.in-Ok-draw_thin.ensures.accepted in
     let was : WasRead input (g.S.Source.failed c.args.source.now) (g.S.Source.failed c.read_plot.new.source) (g.S.Source.ended c.args.source.now) (g.S.Source.ended c.read_plot.new.source) = record { within = read.2.1; sound = read.2.2; end = read.2.3 } in
     let height : is_band_height job.band ≡ true = true_unless _ (λ h. cc (made.band.1 h)) in
@@ -46,8 +45,8 @@ returns-clause-converts g c =
     let text : c.as_slice.result.now ≡ input = c.as_slice.ensures.value ∙ read.2.0 in
     let drawn : c.in-Ok-new.painter.strokes ≡ strokes job.page input = made.strokes ∙ c.as_slice-2.ensures.value ∙ c.in-Ok-draw_thin.ensures.strokes ∙ ap (strokes job.page) text in
     let wrote = move_parts (λ l ss p d r. WritesPicture (head_of job.form p d) (row_of job.form (g.G.Gauge.reaches c.args.gauge.now) l ss p d) (foot_bytes job.form) (rows_of p d) r
-        (g.K.Sink.held c.args.sink.now) (g.K.Sink.held c.write_picture.new.sink) (g.K.Sink.failed c.args.sink.now) (g.K.Sink.failed c.write_picture.new.sink) (Err c.in-Err-write_picture.stop))
-        _ _ _ _ _ _ _ _ _ _ made.pens drawn made.page made.dots made.first c.in-Err-write_picture.ensures in
+    (g.K.Sink.held c.args.sink.now) (g.K.Sink.held c.write_picture.new.sink) (g.K.Sink.failed c.args.sink.now) (g.K.Sink.failed c.write_picture.new.sink) (Err c.in-Err-write_picture.stop))
+    _ _ _ _ _ _ _ _ _ _ made.pens drawn made.page made.dots made.first c.in-Err-write_picture.ensures in
     let accepted : refusal job.page input ≡ None = ap (refusal job.page) (sym text) ∙ c.in-Ok-draw_thin.ensures.accepted in
     let was : WasRead input (g.S.Source.failed c.args.source.now) (g.S.Source.failed c.read_plot.new.source) (g.S.Source.ended c.args.source.now) (g.S.Source.ended c.read_plot.new.source) = record { within = read.2.1; sound = read.2.2; end = read.2.3 } in
     let height : is_band_height job.band ≡ true = true_unless _ (λ h. cc (made.band.1 h)) in

@@ -1,0 +1,15 @@
+//! Tests of the library's public calls, from a plot's bytes to its picture's.
+#![tactic(auto)]
+
+#[cfg(test)]
+mod devices;
+#[cfg(test)]
+mod faults;
+#[cfg(test)]
+mod pages;
+#[cfg(test)]
+mod pictures;
+#[cfg(test)]
+mod refusals;
+#[cfg(test)]
+mod rows;

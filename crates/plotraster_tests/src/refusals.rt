@@ -1,0 +1,199 @@
+//! Plots and jobs that are refused, and what that leaves.
+ghost use Rattle.std.specs.Prelude.{◌-◌, ◌^◌, ◌<◌, None};
+
+use crate::pages::{CROSSING, LINE, eight_by_eight};
+use plotraster::{
+    Done, Exact, Fault, Form, Gauge, Job, OverRead, OverWrite, Page, PageFault, Source,
+    SourceFault, Stroke, Window, convert, picture_bytes,
+};
+use std::test::Fail;
+
+fn marks() -> Result<Job, Fail> {
+    Ok(eight_by_eight(Form::Marks).ok_or("a job")?)
+}
+
+/// A source of so many bytes `;`, or one that fails.
+#[derive(Drop)]
+struct Semicolons {
+    left: usize,
+    fails: bool,
+    failures: u64,
+    ends: u64,
+}
+
+impl Source for Semicolons {
+    ghost left = { λ _. None };
+
+    ghost failed = { λ s. s.failures };
+
+    ghost ended = { λ s. s.ends };
+
+    fn get(&mut self, buffer: &mut [u8]) -> Result<usize, SourceFault> {
+        if self.fails {
+            self.failures += 1;
+            return Err(SourceFault);
+        }
+        let given = self.left.min(buffer.len());
+        if given == 0 && !buffer.is_empty() {
+            self.ends += 1;
+        }
+        for byte in buffer[..given].iter_mut() {
+            *byte = b';';
+        }
+        self.left -= given;
+        Ok(given)
+    }
+
+    fn failures(&self) -> u64 {
+        self.failures
+    }
+
+    fn ends(&self) -> u64 {
+        self.ends
+    }
+}
+
+#[test]
+fn the_answer_tells_what_was_done(rt: HostRuntime) -> Result<(), Fail> {
+    let mut gauge = Exact::new();
+    let mut source = OverRead::new(LINE);
+    let mut sink = OverWrite::new(Vec::new(rt.alloc()));
+    let done = convert(rt.alloc(), &marks()?, &mut gauge, &mut source, &mut sink)?;
+    assert!(rt;
+        done == Done {
+            rows: 8,
+            bytes: 48,
+            strokes: 1,
+            notes: 0
+        }
+    );
+    assert!(rt; gauge.tests() >= 8);
+    assert_eq!(rt; source.ends(), 1);
+    Ok(())
+}
+
+#[test]
+fn plots_that_are_refused(rt: HostRuntime) -> Result<(), Fail> {
+    let cases = [
+        (b"PW0;".as_slice(), Fault::NotYet { at: 0 }),
+        (b"SP1;PU0,28;PD64,28".as_slice(), Fault::NotYet { at: 11 }),
+        (b"PA70000,0;PW0;".as_slice(), Fault::NotYet { at: 10 }),
+        (b"PA70000,0;".as_slice(), Fault::OffRange { at: 0 }),
+        (b"PA1,1;PA-65537,0;".as_slice(), Fault::OffRange { at: 6 }),
+        (b"PA8388608,0;".as_slice(), Fault::NotYet { at: 0 }),
+        (b"SP256;".as_slice(), Fault::NotYet { at: 0 }),
+    ];
+    for (plot, wanted) in cases {
+        let mut sink = OverWrite::new(Vec::new(rt.alloc()));
+        let answer = convert(
+            rt.alloc(),
+            &marks()?,
+            &mut Exact::new(),
+            &mut OverRead::new(plot),
+            &mut sink,
+        );
+        let refused = matches!(answer, Err(fault) if fault == wanted);
+        assert!(rt; refused);
+        assert!(rt; sink.into_inner().is_empty());
+    }
+    Ok(())
+}
+
+#[test]
+fn the_edge_of_the_range(rt: HostRuntime) -> Result<(), Fail> {
+    assert!(rt; picture_bytes(rt.alloc(), &marks()?, b"PA65536,0;").is_ok());
+    let mut job = marks()?;
+    job.page = Page::new(64, 64, 10000, 0)?;
+    assert!(rt; picture_bytes(rt.alloc(), &job, b"PA-75536,0;").is_ok());
+    let answer = picture_bytes(rt.alloc(), &job, b"PA-75537,0;");
+    let refused = matches!(answer, Err(Fault::OffRange { at: 0 }));
+    assert!(rt; refused);
+    Ok(())
+}
+
+#[test]
+fn jobs_that_are_refused(rt: HostRuntime) -> Result<(), Fail> {
+    let mut job = marks()?;
+    job.first_row = 9;
+    let answer = picture_bytes(rt.alloc(), &job, CROSSING);
+    let past = matches!(answer, Err(Fault::Row));
+    assert!(rt; past);
+    job.band = 0;
+    let answer = picture_bytes(rt.alloc(), &job, CROSSING);
+    let none = matches!(answer, Err(Fault::Band));
+    assert!(rt; none);
+    job.band = 4097;
+    let answer = picture_bytes(rt.alloc(), &job, CROSSING);
+    let high = matches!(answer, Err(Fault::Band));
+    assert!(rt; high);
+    Ok(())
+}
+
+// What comes of a source, and how many bytes were written.
+fn converted(
+    rt: &HostRuntime,
+    source: &mut Semicolons,
+) -> Result<(Result<Done, Fault>, usize), Fail>
+    requires failing { source.old.failures < 2 ^ 64 - 1 }
+    requires ending { source.old.ends < 2 ^ 64 - 1 }
+{
+    let mut sink = OverWrite::new(Vec::new(rt.alloc()));
+    let job = marks()?;
+    let answer = convert(rt.alloc(), &job, &mut Exact::new(), source, &mut sink);
+    Ok((answer, sink.into_inner().len()))
+}
+
+#[test]
+fn a_plot_of_one_byte_too_many(rt: HostRuntime) -> Result<(), Fail> {
+    let mut source = Semicolons {
+        left: 67_108_865,
+        fails: false,
+        failures: 0,
+        ends: 0,
+    };
+    let (answer, written) = converted(&rt, &mut source)?;
+    let long = matches!(answer, Err(Fault::TooLong));
+    assert!(rt; long);
+    assert_eq!(rt; written, 0);
+    assert_eq!(rt; source.left, 0);
+    Ok(())
+}
+
+#[test]
+fn a_source_that_fails(rt: HostRuntime) -> Result<(), Fail> {
+    let mut source = Semicolons {
+        left: 10,
+        fails: true,
+        failures: 0,
+        ends: 0,
+    };
+    let (answer, written) = converted(&rt, &mut source)?;
+    let failed = matches!(answer, Err(Fault::Read));
+    assert!(rt; failed);
+    assert_eq!(rt; written, 0);
+    assert_eq!(rt; source.failures(), 1);
+    Ok(())
+}
+
+#[test]
+fn pages_and_strokes_out_of_range(rt: HostRuntime) -> Result<(), Fail> {
+    let size = matches!(Page::new(63, 64, 0, 0), Err(PageFault::Size));
+    assert!(rt; size);
+    let both = matches!(Page::new(64, 65537, 65537, 0), Err(PageFault::Size));
+    assert!(rt; both);
+    let corner = matches!(Page::new(64, 64, 65537, 0), Err(PageFault::Corner));
+    assert!(rt; corner);
+    assert!(rt; plotraster::Dots::new(9).is_none());
+    assert!(rt; plotraster::Dots::new(601).is_none());
+    let window = Window {
+        x0: 0,
+        y0: 0,
+        x1: 1024,
+        y1: 1024,
+    };
+    assert!(rt; Stroke::new(1, 224, window, 0, 0, 1024, 1024).is_some());
+    assert!(rt; Stroke::new(0, 224, window, 0, 0, 1024, 1024).is_none());
+    assert!(rt; Stroke::new(1, 12801, window, 0, 0, 1024, 1024).is_none());
+    assert!(rt; Stroke::new(1, 224, window, 0, 0, 1_048_577, 0).is_none());
+    Ok(())
+}

@@ -1,0 +1,153 @@
+//! Bands, rows and marks of a painter, and gauges.
+ghost use Rattle.std.specs.Prelude.{◌≡◌, ℕ, false};
+
+use hpgl_plot::{Page, Stroke, Window};
+use std::alloc::Global;
+use std::test::Fail;
+use stroke_raster::{Dots, Exact, Gauge, PaintFault, Painter, PenSet, near};
+
+// A stroke of pen 1 in row 4 and one of pen 2 in column 3, on a page of 8 by 8 pixels.
+fn cross() -> Option<[Stroke; 2]> {
+    let window = Window {
+        x0: 0,
+        y0: 0,
+        x1: 1024,
+        y1: 1024,
+    };
+    let across = Stroke::new(1, 224, window, 0, 448, 1024, 448)?;
+    let down = Stroke::new(2, 224, window, 448, 0, 448, 1024)?;
+    Some([across, down])
+}
+
+// The next band's first row, its height, and what its first row shows.
+fn next_of(
+    painter: &mut Painter<'_>,
+    gauge: &mut Exact,
+    alloc: Global,
+) -> Result<Option<(u32, u32, Vec<u8>)>, Fail> {
+    match painter.next_band(gauge) {
+        Some(band) => {
+            if band.rows() == 0 {
+                return Ok(None);
+            }
+            Ok(Some((band.first(), band.rows(), band.row(0).to_vec(alloc)?)))
+        }
+        None => Ok(None),
+    }
+}
+
+#[test]
+fn bands_of_three_rows(rt: HostRuntime) -> Result<(), Fail> {
+    let page = Page::new(64, 64, 0, 0)?;
+    let dots = Dots::new(127).ok_or("dots")?;
+    let strokes = cross().ok_or("strokes")?;
+    let mut gauge = Exact::new();
+    let mut painter = Painter::new(rt.alloc(), &strokes, page, dots, PenSet::all(), 3, 1)?;
+    let wanted = [
+        (1, 3, [0, 0, 0, 2, 0, 0, 0, 0]),
+        (4, 3, [1, 1, 1, 2, 1, 1, 1, 1]),
+        (7, 1, [0, 0, 0, 2, 0, 0, 0, 0]),
+    ];
+    for (first, height, cells) in wanted {
+        let (its_first, its_height, its_cells) = next_of(
+            &mut painter,
+            &mut gauge,
+            rt.alloc(),
+        )?.ok_or("a band")?;
+        assert_eq!(rt; its_first, first);
+        assert_eq!(rt; its_height, height);
+        assert_eq!(rt; its_cells.as_slice(), cells.as_slice());
+    }
+    assert!(rt; next_of(&mut painter, &mut gauge, rt.alloc())?.is_none());
+    assert!(rt; next_of(&mut painter, &mut gauge, rt.alloc())?.is_none());
+    Ok(())
+}
+
+#[test]
+fn marks_of_a_band(rt: HostRuntime) -> Result<(), Fail> {
+    let page = Page::new(64, 64, 0, 0)?;
+    let dots = Dots::new(127).ok_or("dots")?;
+    let strokes = cross().ok_or("strokes")?;
+    let pens = PenSet::none().with(2);
+    let mut painter = Painter::new(rt.alloc(), &strokes, page, dots, pens, 2, 3)?;
+    let mut gauge = Exact::new();
+    let band = painter.next_band(&mut gauge).ok_or("a band")?;
+    let mut marks = band.marks();
+    assert!(rt; marks.next() == Some((3, 3, 2)));
+    assert!(rt; marks.next() == Some((4, 3, 2)));
+    assert!(rt; marks.next().is_none());
+    Ok(())
+}
+
+#[test]
+fn painters_that_are_refused(rt: HostRuntime) -> Result<(), Fail> {
+    let page = Page::new(64, 64, 0, 0)?;
+    let dots = Dots::new(127).ok_or("dots")?;
+    let low = Painter::new(rt.alloc(), &[], page, dots, PenSet::all(), 0, 9).err();
+    assert!(rt; low == Some(PaintFault::Band));
+    let past = Painter::new(rt.alloc(), &[], page, dots, PenSet::all(), 1, 9).err();
+    assert!(rt; past == Some(PaintFault::Row));
+    assert!(rt; Painter::new(rt.alloc(), &[], page, dots, PenSet::all(), 4096, 8).is_ok());
+    Ok(())
+}
+
+#[test]
+fn a_tie_counts(rt: HostRuntime) -> Result<(), Fail> {
+    let page = Page::new(64, 64, 0, 0)?;
+    let dots = Dots::new(127).ok_or("dots")?;
+    let window = Window {
+        x0: 0,
+        y0: 0,
+        x1: 1024,
+        y1: 1024,
+    };
+    let tie = Stroke::new(1, 256, window, 0, 448, 1024, 448).ok_or("a stroke")?;
+    let thin = Stroke::new(1, 255, window, 0, 448, 1024, 448).ok_or("a stroke")?;
+    assert_eq!(rt; dots.rows(&page), 8);
+    assert_eq!(rt; dots.columns(&page), 8);
+    assert!(rt; near(&tie, &page, dots, 3, 0));
+    assert!(rt; !near(&thin, &page, dots, 3, 0));
+    Ok(())
+}
+
+/// A gauge that no stroke reaches a pixel by.
+#[derive(Drop)]
+struct Never {
+    tests: u64,
+}
+
+impl Gauge for Never {
+    ghost reaches = { λ _ _ _ _ _ _. false };
+
+    ghost count = { λ g. g.tests };
+
+    fn meets(
+        &mut self,
+        _stroke: &Stroke,
+        _page: &Page,
+        _dots: Dots,
+        _row: u32,
+        _column: u32,
+    ) -> bool {
+        if self.tests < u64::MAX {
+            self.tests += 1;
+        }
+        false
+    }
+
+    fn tests(&self) -> u64 {
+        self.tests
+    }
+}
+
+#[test]
+fn the_gauge_decides(rt: HostRuntime) -> Result<(), Fail> {
+    let page = Page::new(64, 64, 0, 0)?;
+    let dots = Dots::new(127).ok_or("dots")?;
+    let strokes = cross().ok_or("strokes")?;
+    let mut painter = Painter::new(rt.alloc(), &strokes, page, dots, PenSet::all(), 8, 0)?;
+    let mut never = Never { tests: 0 };
+    let band = painter.next_band(&mut never).ok_or("a band")?;
+    assert!(rt; band.marks().next().is_none());
+    Ok(())
+}
