@@ -1,11 +1,8 @@
 mod Gifts
-mod Parts
-mod Numerals
-mod ValueLists
-mod Pairs
-mod ThinTextLemmas
-mod Bridge
-mod Ends
+mod ItemPairs
+mod ItemLists
+mod DrawingBridge
+mod DrawingEnds
 mod Examples
 mod Pictures
 mod RowTexts

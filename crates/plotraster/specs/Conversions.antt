@@ -9,10 +9,9 @@ use Rattle.picture_out.specs.Forms.{foot_bytes}
 use Rattle.command_line.specs.declared.job.Job.{Job}
 use Rattle.plotraster.specs.Picture.{picture_of, IsStoppedAt}
 use Rattle.plotraster.specs.Writings.{Reach, head_of, row_of}
-use Rattle.plotraster.specs.Strokes.{strokes}
-use Rattle.plotraster.specs.Refusals.{refusal}
-use Rattle.plotraster.specs.declared.thin.fault.ThinFault.{ThinFault}
-use Rattle.plotraster.specs.declared.thin.fault.ThinFault.TheVariants as thin
+use Rattle.plotraster.specs.Plots.{strokes, refusal, notes}
+use Rattle.plotraster.specs.declared.drawing.fault.DrawFault.{DrawFault}
+use Rattle.plotraster.specs.declared.drawing.fault.DrawFault.TheVariants as refused
 use Rattle.plotraster.specs.declared.convert_plot.Done.{Done}
 use Rattle.plotraster.specs.declared.fault.Fault.{Fault}
 use Rattle.plotraster.specs.declared.fault.Fault.TheVariants.{TooLong, Memory, OffRange, TooManyStrokes, Band, Row, Write, Read, NotYet}
@@ -41,7 +40,7 @@ abbrev pub IsAccepted : Page → List ℕ → ℕ → ℕ → ℕ → ℕ → Ty
 IsAccepted page input failed failed' ended ended' = WasRead input failed failed' ended ended' × (refusal page input ≡ None)
 
 -- the plot was read whole, and is refused for the page
-abbrev pub IsRefused : Page → ThinFault → List ℕ → ℕ → ℕ → ℕ → ℕ → Type 0
+abbrev pub IsRefused : Page → DrawFault → List ℕ → ℕ → ℕ → ℕ → ℕ → Type 0
 IsRefused page fault input failed failed' ended ended' = WasRead input failed failed' ended ended' × (refusal page input ≡ Some fault)
 
 -- what each answer says. The conditions of two answers exclude one another, so each comes exactly where its own hold;
@@ -56,16 +55,16 @@ Converts job reaches input failed failed' ended ended' held held' broke broke' (
     × (done.rows ≡ rows_of job.page job.dots - job.first_row)
     × (done.bytes ≡ length (picture job reaches input))
     × (done.strokes ≡ length (strokes job.page input))
-    × (done.notes ≡ 0)
+    × (done.notes ≡ notes input)
 Converts job reaches input failed failed' ended ended' held held' broke broke' (Err Read) = failed' ≡ failed + 1
 Converts job reaches input failed failed' ended ended' held held' broke broke' (Err TooLong) =
     (length input ≡ 67108865) × (failed' ≡ failed)
 Converts job reaches input failed failed' ended ended' held held' broke broke' (Err (NotYet at)) =
-    IsRefused job.page (thin.NotYet at) input failed failed' ended ended'
+    IsRefused job.page (refused.NotYet at) input failed failed' ended ended'
 Converts job reaches input failed failed' ended ended' held held' broke broke' (Err (OffRange at)) =
-    IsRefused job.page (thin.OffRange at) input failed failed' ended ended'
+    IsRefused job.page (refused.OffRange at) input failed failed' ended ended'
 Converts job reaches input failed failed' ended ended' held held' broke broke' (Err (TooManyStrokes at)) =
-    IsRefused job.page (thin.TooManyStrokes at) input failed failed' ended ended'
+    IsRefused job.page (refused.TooManyStrokes at) input failed failed' ended ended'
 Converts job reaches input failed failed' ended ended' held held' broke broke' (Err Band) =
     IsAccepted job.page input failed failed' ended ended' × (is_band_height job.band ≡ false)
 Converts job reaches input failed failed' ended ended' held held' broke broke' (Err Row) =

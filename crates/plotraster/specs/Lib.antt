@@ -1,10 +1,11 @@
 pub mod Sources
 pub mod Readings
-pub mod ThinTexts
-pub mod ThinSteps
-pub mod Strokes
-pub mod Refusals
-pub mod ThinMachine
+pub mod Steps
+pub mod Settings
+pub mod ItemStrokes
+pub mod ItemRefusals
+pub mod DrawingMachine
+pub mod Plots
 pub mod Faults
 pub mod Picture
 pub mod Writings

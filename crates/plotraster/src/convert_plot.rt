@@ -1,14 +1,15 @@
-//! The conversion: read, draw, paint, write.
+//! The conversion: read, cut, draw, paint, write.
 ghost use Rattle.std.specs.Prelude.{◌≡◌, ℕ, ◌-◌, ◌^◌, ◌<◌, List, IfErr, OnOk, false};
 ghost use Rattle.std.specs.Io.KnownBytes.{Consumes, IsAtEnd};
 ghost use Rattle.plotraster.specs.Conversions.{Converts, is_write};
 
+use crate::drawing::{DrawFault, draw_items};
 use crate::fault::Fault;
 use crate::reading::{ReadFault, buffer_of, read_plot};
 use crate::source::Source;
-use crate::thin::{ThinFault, draw_thin};
 use crate::writing::write_picture;
 use command_line::Job;
+use hpgl_text::{TextFault, lex};
 use picture_out::{Sink, row_space};
 use std::alloc::Global;
 use stroke_raster::{Gauge, PaintFault, Painter};
@@ -31,7 +32,7 @@ pub struct Done {
 /// pens that the gauge says reaches it.
 ///
 /// Errors, in this order: 8 where the source fails; 1 where it gives more than 67,108,864 bytes; 10
-/// for a plot with an instruction that is not read yet; 3 and 4 at the first instruction that goes
+/// for a plot with an instruction that is known and not drawn yet; 3 and 4 at the first instruction that goes
 /// off range or makes a stroke too many; 5 and 6 for a band height and a first row out of range; 7
 /// where the sink fails. 2 comes where memory is refused. After every error but 7 the sink is as
 /// it was; after 7 it has taken the first `bytes` bytes of the picture, and the job from row `row`
@@ -59,16 +60,21 @@ pub fn convert<G: Gauge, S: Source, K: Sink>(
         Err(ReadFault::Memory) => return Err(Fault::Memory),
         Err(ReadFault::Read) => return Err(Fault::Read),
     };
-    let strokes = match draw_thin(alloc, plot.as_slice(), &job.page) {
-        Ok(strokes) => strokes,
-        Err(ThinFault::Memory) => return Err(Fault::Memory),
-        Err(ThinFault::NotYet { at }) => return Err(Fault::NotYet { at }),
-        Err(ThinFault::OffRange { at }) => return Err(Fault::OffRange { at }),
-        Err(ThinFault::TooManyStrokes { at }) => return Err(Fault::TooManyStrokes { at }),
+    let program = match lex(alloc, plot.as_slice()) {
+        Ok(program) => program,
+        Err(TextFault::TooLong) => return Err(Fault::TooLong),
+        Err(TextFault::Memory) => return Err(Fault::Memory),
+    };
+    let drawn = match draw_items(alloc, program.items(), &job.page) {
+        Ok(drawn) => drawn,
+        Err(DrawFault::Memory) => return Err(Fault::Memory),
+        Err(DrawFault::NotYet { at }) => return Err(Fault::NotYet { at }),
+        Err(DrawFault::OffRange { at }) => return Err(Fault::OffRange { at }),
+        Err(DrawFault::TooManyStrokes { at }) => return Err(Fault::TooManyStrokes { at }),
     };
     let mut painter = match Painter::new(
         alloc,
-        strokes.as_slice(),
+        drawn.strokes.as_slice(),
         job.page,
         job.dots,
         job.pens,
@@ -88,8 +94,8 @@ pub fn convert<G: Gauge, S: Source, K: Sink>(
         Ok(bytes) => Ok(Done {
             rows: job.dots.rows(&job.page) - job.first_row,
             bytes,
-            strokes: strokes.len(),
-            notes: 0,
+            strokes: drawn.strokes.len(),
+            notes: drawn.notes,
         }),
         Err(stop) => Err(Fault::Write {
             row: stop.row,

@@ -2,12 +2,12 @@
 #![tactic(auto)]
 
 mod convert_plot;
+mod drawing;
 mod fault;
 mod in_memory;
 pub mod laws;
 mod reading;
 mod source;
-mod thin;
 mod writing;
 
 pub use command_line::{

@@ -6,6 +6,8 @@ mod devices;
 #[cfg(test)]
 mod faults;
 #[cfg(test)]
+mod lexed;
+#[cfg(test)]
 mod pages;
 #[cfg(test)]
 mod pictures;

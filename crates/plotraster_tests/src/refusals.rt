@@ -76,12 +76,11 @@ fn the_answer_tells_what_was_done(rt: HostRuntime) -> Result<(), Fail> {
 fn plots_that_are_refused(rt: HostRuntime) -> Result<(), Fail> {
     let cases = [
         (b"PW0;".as_slice(), Fault::NotYet { at: 0 }),
-        (b"SP1;PU0,28;PD64,28".as_slice(), Fault::NotYet { at: 11 }),
-        (b"PA70000,0;PW0;".as_slice(), Fault::NotYet { at: 10 }),
+        (b"PA70000,0;IN;".as_slice(), Fault::NotYet { at: 10 }),
+        (b"pa1 1pr".as_slice(), Fault::NotYet { at: 5 }),
         (b"PA70000,0;".as_slice(), Fault::OffRange { at: 0 }),
         (b"PA1,1;PA-65537,0;".as_slice(), Fault::OffRange { at: 6 }),
-        (b"PA8388608,0;".as_slice(), Fault::NotYet { at: 0 }),
-        (b"SP256;".as_slice(), Fault::NotYet { at: 0 }),
+        (b"SP0;PU0,65536.04;".as_slice(), Fault::OffRange { at: 4 }),
     ];
     for (plot, wanted) in cases {
         let mut sink = OverWrite::new(Vec::new(rt.alloc()));
@@ -141,6 +140,29 @@ fn converted(
     let job = marks()?;
     let answer = convert(rt.alloc(), &job, &mut Exact::new(), source, &mut sink);
     Ok((answer, sink.into_inner().len()))
+}
+
+#[test]
+fn the_longest_plot(rt: HostRuntime) -> Result<(), Fail> {
+    let mut source = Semicolons {
+        left: 67_108_864,
+        fails: false,
+        failures: 0,
+        ends: 0,
+    };
+    let (answer, written) = converted(&rt, &mut source)?;
+    let empty = matches!(
+        answer,
+        Ok(Done {
+            rows: 8,
+            bytes: 0,
+            strokes: 0,
+            notes: 0,
+        },)
+    );
+    assert!(rt; empty);
+    assert_eq!(rt; written, 0);
+    Ok(())
 }
 
 #[test]

@@ -1,0 +1,10 @@
+pub mod Bytes
+pub mod Numbers
+pub mod Ends
+pub mod Silent
+pub mod Shapes
+pub mod Seen
+pub mod Parameters
+pub mod Mnemonics
+pub mod Items
+pub mod Cut

@@ -1,0 +1,22 @@
+//! From the bytes of a plot to its instructions.
+#![tactic(auto)]
+
+mod bytes;
+mod content;
+mod fault;
+mod item;
+pub mod laws;
+mod mnemonic;
+mod number;
+mod parameters;
+mod program;
+mod reading;
+mod silent;
+#[cfg(test)]
+mod tests;
+
+pub use fault::TextFault;
+pub use item::{Body, Item};
+pub use number::{Number, Numbers};
+pub use program::{Program, lex};
+pub use reading::read_number;

@@ -1,0 +1,95 @@
+// Plots and what they are cut into, by the printed forms of their items.
+use crate::{Number, TextFault, lex, read_number};
+use std::alloc::Global;
+use std::test::Fail;
+
+// The items of a plot, a line each.
+fn items_of(alloc: Global, plot: &[u8]) -> Result<String, Fail> {
+    let program = lex(alloc, plot)?;
+    let mut lines = String::new(alloc);
+    for item in program.items() {
+        let line = format!(in alloc; "{item:?}\n")?;
+        lines.push_str(line.as_str())?;
+    }
+    Ok(lines)
+}
+
+#[test]
+fn small_letters(rt: HostRuntime) -> Result<(), Fail> {
+    let items = items_of(rt.alloc(), b"pu0,28pd-64.5,.25")?;
+    assert_eq!(rt;
+        items.as_str(),
+        "\
+Item { at: 0, code: [80, 85], body: Params(Numbers { values: [Number { millionths: 0 }, Number { millionths: 28000000 }] }), unended: false }
+Item { at: 6, code: [80, 68], body: Params(Numbers { values: [Number { millionths: -64500000 }, Number { millionths: 250000 }] }), unended: false }
+"
+    );
+    Ok(())
+}
+
+#[test]
+fn labels(rt: HostRuntime) -> Result<(), Fail> {
+    let items = items_of(rt.alloc(), b"DT$;LBL$")?;
+    assert_eq!(rt;
+        items.as_str(),
+        "\
+Item { at: 0, code: [68, 84], body: Terminator(36), unended: false }
+Item { at: 4, code: [76, 66], body: Label([76]), unended: false }
+"
+    );
+    let items = items_of(rt.alloc(), b"LBL")?;
+    assert_eq!(rt;
+        items.as_str(),
+        "Item { at: 0, code: [76, 66], body: Label([76]), unended: true }\n"
+    );
+    Ok(())
+}
+
+#[test]
+fn skipped_and_stray(rt: HostRuntime) -> Result<(), Fail> {
+    let items = items_of(rt.alloc(), b"ZZ1,2;CO\"a;b\";PA1:\x1b%-1B\x1b.(;!\x1bE")?;
+    assert_eq!(rt;
+        items.as_str(),
+        "\
+Item { at: 0, code: [90, 90], body: Skipped, unended: false }
+Item { at: 6, code: [67, 79], body: Skipped, unended: false }
+Item { at: 14, code: [80, 65], body: Bad, unended: false }
+Item { at: 27, code: [0, 0], body: Stray(33), unended: false }
+"
+    );
+    Ok(())
+}
+
+#[test]
+fn mnemonics(rt: HostRuntime) -> Result<(), Fail> {
+    let known = b"INDFIPSCROIWSPPWPUPDPAPREAERCIAAARSIDI";
+    let program = lex(rt.alloc(), known)?;
+    assert_eq!(rt; program.items().len(), 19);
+    for item in program.items() {
+        assert!(rt; matches!(&item.body, crate::Body::Params(_)));
+    }
+    Ok(())
+}
+
+#[test]
+fn numbers(rt: HostRuntime) {
+    let millionths = |found: Option<(Number, usize)>| found.map(|(number, next)| (
+        number.millionths(),
+        next,
+    ));
+    assert_eq!(rt;
+        millionths(read_number(b"PA-1.5,7", 2)),
+        Some((-1_500_000, 6))
+    );
+    assert_eq!(rt; millionths(read_number(b"8388608", 0)), None);
+    assert_eq!(rt; millionths(read_number(b"12", 3)), None);
+}
+
+#[test]
+fn longest_plots(rt: HostRuntime) -> Result<(), Fail> {
+    let mut plot = vec![in rt.alloc(); b';'; 67_108_864]?;
+    assert_eq!(rt; lex(rt.alloc(), plot.as_slice())?.items().len(), 0);
+    plot.push(b';')?;
+    assert!(rt; matches!(lex(rt.alloc(), plot.as_slice()), Err(TextFault::TooLong)));
+    Ok(())
+}
