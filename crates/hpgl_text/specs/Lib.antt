@@ -3,6 +3,7 @@ pub mod Numbers
 pub mod Ends
 pub mod Silent
 pub mod Shapes
+pub mod Stores
 pub mod Seen
 pub mod Parameters
 pub mod Mnemonics

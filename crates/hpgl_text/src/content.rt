@@ -7,7 +7,8 @@ ghost use Rattle.hpgl_text.specs.Items.{parameters, label, label_end, label_end_
 use crate::bytes::{after, count_through, is_at_end, skip_count};
 use crate::item::Body;
 use crate::mnemonic::Kind;
-use crate::number::{Number, Numbers};
+use crate::number::Number;
+use crate::numbers::Numbers;
 use crate::parameters::read_numbers;
 use memchr::memchr;
 use std::alloc::{AllocError, Global};
@@ -38,7 +39,8 @@ impl<'a> Model for Content<'a> {
 }
 
 /// What stands behind a mnemonic of this kind, while labels end with this terminator. Numbers are
-/// read into the scratch list first, so that an item's own list is allocated once.
+/// read into the scratch list first, so that few of them take no allocation, and more of them no
+/// room to spare.
 pub fn read_content<'a>(
     alloc: Global,
     kind: Kind,
@@ -83,9 +85,7 @@ fn read_parameters<'a>(
     let end = read_numbers(text, scratch)?;
     let left = after(text, end);
     let body = if is_at_end(left) {
-        let mut values = Vec::with_capacity(alloc, scratch.len())?;
-        values.extend_from_slice(scratch.as_slice())?;
-        Body::Params(Numbers::from_vec(values))
+        Body::Params(Numbers::from_slice(alloc, scratch.as_slice())?)
     } else {
         Body::Bad
     };

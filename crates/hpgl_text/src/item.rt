@@ -1,5 +1,5 @@
 //! Items: what a plot is cut into.
-use crate::number::Numbers;
+use crate::numbers::Numbers;
 use std::marker::Model;
 
 /// What an item has besides its mnemonic.
@@ -24,10 +24,10 @@ pub enum Body<'a> {
 pub struct Item<'a> {
     /// The place of its first byte, from 0.
     pub at: usize,
+    /// What it has besides its letters.
+    pub body: Body<'a>,
     /// Its two letters in capitals, or two zeros for a stray byte.
     pub code: [u8; 2],
-    /// What else it has.
-    pub body: Body<'a>,
     /// Whether the plot ends before a label's terminator, or the semicolon of a PE.
     pub unended: bool,
 }

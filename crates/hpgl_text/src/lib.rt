@@ -8,6 +8,7 @@ mod item;
 pub mod laws;
 mod mnemonic;
 mod number;
+mod numbers;
 mod parameters;
 mod program;
 mod reading;
@@ -17,6 +18,7 @@ mod tests;
 
 pub use fault::TextFault;
 pub use item::{Body, Item};
-pub use number::{Number, Numbers};
+pub use number::Number;
+pub use numbers::Numbers;
 pub use program::{Program, lex};
 pub use reading::read_number;

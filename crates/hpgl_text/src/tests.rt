@@ -20,8 +20,22 @@ fn small_letters(rt: HostRuntime) -> Result<(), Fail> {
     assert_eq!(rt;
         items.as_str(),
         "\
-Item { at: 0, code: [80, 85], body: Params(Numbers { values: [Number { millionths: 0 }, Number { millionths: 28000000 }] }), unended: false }
-Item { at: 6, code: [80, 68], body: Params(Numbers { values: [Number { millionths: -64500000 }, Number { millionths: 250000 }] }), unended: false }
+Item { at: 0, body: Params([Number { millionths: 0 }, Number { millionths: 28000000 }]), code: [80, 85], unended: false }
+Item { at: 6, body: Params([Number { millionths: -64500000 }, Number { millionths: 250000 }]), code: [80, 68], unended: false }
+"
+    );
+    Ok(())
+}
+
+#[test]
+fn lists_of_each_length(rt: HostRuntime) -> Result<(), Fail> {
+    let items = items_of(rt.alloc(), b"PU;SP3;AA4,5,6")?;
+    assert_eq!(rt;
+        items.as_str(),
+        "\
+Item { at: 0, body: Params([]), code: [80, 85], unended: false }
+Item { at: 3, body: Params([Number { millionths: 3000000 }]), code: [83, 80], unended: false }
+Item { at: 7, body: Params([Number { millionths: 4000000 }, Number { millionths: 5000000 }, Number { millionths: 6000000 }]), code: [65, 65], unended: false }
 "
     );
     Ok(())
@@ -33,14 +47,14 @@ fn labels(rt: HostRuntime) -> Result<(), Fail> {
     assert_eq!(rt;
         items.as_str(),
         "\
-Item { at: 0, code: [68, 84], body: Terminator(36), unended: false }
-Item { at: 4, code: [76, 66], body: Label([76]), unended: false }
+Item { at: 0, body: Terminator(36), code: [68, 84], unended: false }
+Item { at: 4, body: Label([76]), code: [76, 66], unended: false }
 "
     );
     let items = items_of(rt.alloc(), b"LBL")?;
     assert_eq!(rt;
         items.as_str(),
-        "Item { at: 0, code: [76, 66], body: Label([76]), unended: true }\n"
+        "Item { at: 0, body: Label([76]), code: [76, 66], unended: true }\n"
     );
     Ok(())
 }
@@ -51,10 +65,10 @@ fn skipped_and_stray(rt: HostRuntime) -> Result<(), Fail> {
     assert_eq!(rt;
         items.as_str(),
         "\
-Item { at: 0, code: [90, 90], body: Skipped, unended: false }
-Item { at: 6, code: [67, 79], body: Skipped, unended: false }
-Item { at: 14, code: [80, 65], body: Bad, unended: false }
-Item { at: 27, code: [0, 0], body: Stray(33), unended: false }
+Item { at: 0, body: Skipped, code: [90, 90], unended: false }
+Item { at: 6, body: Skipped, code: [67, 79], unended: false }
+Item { at: 14, body: Bad, code: [80, 65], unended: false }
+Item { at: 27, body: Stray(33), code: [0, 0], unended: false }
 "
     );
     Ok(())
