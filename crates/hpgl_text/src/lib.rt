@@ -12,6 +12,8 @@ mod numbers;
 mod parameters;
 mod program;
 mod reading;
+#[cfg(test)]
+mod real_plots;
 mod silent;
 #[cfg(test)]
 mod tests;
@@ -20,5 +22,5 @@ pub use fault::TextFault;
 pub use item::{Body, Item};
 pub use number::Number;
 pub use numbers::Numbers;
-pub use program::{Program, lex};
+pub use program::{LONGEST_PLOT, Program, lex};
 pub use reading::read_number;

@@ -14,8 +14,8 @@ use crate::silent::silent_count;
 use std::alloc::{AllocError, Global};
 use std::marker::Model;
 
-/// The longest plot, in bytes.
-const LONGEST_PLOT: usize = 67_108_864;
+/// The longest plot that is cut, in bytes.
+pub const LONGEST_PLOT: usize = 67_108_864;
 
 /// A plot with its items.
 #[derive(Debug, Drop)]
