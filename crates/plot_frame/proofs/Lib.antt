@@ -1,0 +1,8 @@
+pub mod Near
+pub mod InBounds
+pub mod Theorems
+mod Turned
+mod Values
+mod OnLine
+mod OfScaling
+mod Examples
