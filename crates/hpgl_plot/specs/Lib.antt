@@ -1,2 +1,15 @@
 pub mod Pages
 pub mod Segments
+pub mod Words
+pub mod Parameters
+pub mod Steps
+pub mod Notes
+pub mod Settings
+pub mod Turns
+pub mod Windows
+pub mod Frames
+pub mod Strokes
+pub mod Plots
+pub mod Bounds
+pub mod Machine
+pub mod Laws

@@ -1,8 +1,26 @@
-//! What a plot draws: the page that it is drawn on, and its strokes.
+//! What a plot draws: the page that it is drawn on, what its instructions set, and its strokes.
 #![tactic(auto)]
 
+mod fault;
+pub mod laws;
+mod note;
+mod noting;
 mod page;
+mod parameters;
+mod place;
+mod plot;
+mod plotter;
+mod setting;
+mod state;
 mod stroke;
+#[cfg(test)]
+mod tests;
+mod turn;
+mod window;
+mod word;
 
+pub use fault::PlotFault;
+pub use note::{Note, NoteKind};
 pub use page::{Page, PageFault};
+pub use plot::{Plot, draw};
 pub use stroke::{Stroke, Window};

@@ -1,6 +1,8 @@
 -- The picture of a plot, and what a conversion answers, from what it read.
 use Rattle.std.specs.Prelude.{◌≡◌, ℕ, ◌+◌, ◌-◌, ◌<◌, ◌≤◌, Bool, true, false, List, Option, Some, None, length, take, Result, Ok, Err}
 use Rattle.std.specs.Io.KnownBytes.{Appends}
+use Rattle.hpgl_plot.specs.declared.fault.PlotFault.{PlotFault}
+use Rattle.hpgl_plot.specs.declared.fault.PlotFault.TheVariants as refused
 use Rattle.hpgl_plot.specs.declared.page.Page.{Page}
 use Rattle.stroke_raster.specs.Resolutions.{rows_of}
 use Rattle.stroke_raster.specs.Covers.{covers}
@@ -9,9 +11,7 @@ use Rattle.picture_out.specs.Forms.{foot_bytes}
 use Rattle.command_line.specs.declared.job.Job.{Job}
 use Rattle.plotraster.specs.Picture.{picture_of, IsStoppedAt}
 use Rattle.plotraster.specs.Writings.{Reach, head_of, row_of}
-use Rattle.plotraster.specs.Plots.{strokes, refusal, notes}
-use Rattle.plotraster.specs.declared.drawing.fault.DrawFault.{DrawFault}
-use Rattle.plotraster.specs.declared.drawing.fault.DrawFault.TheVariants as refused
+use Rattle.plotraster.specs.Plots.{strokes, refusal, notes_count}
 use Rattle.plotraster.specs.declared.convert_plot.Done.{Done}
 use Rattle.plotraster.specs.declared.fault.Fault.{Fault}
 use Rattle.plotraster.specs.declared.fault.Fault.TheVariants.{TooLong, Memory, OffRange, TooManyStrokes, Band, Row, Write, Read, NotYet}
@@ -40,7 +40,7 @@ abbrev pub IsAccepted : Page → List ℕ → ℕ → ℕ → ℕ → ℕ → Ty
 IsAccepted page input failed failed' ended ended' = WasRead input failed failed' ended ended' × (refusal page input ≡ None)
 
 -- the plot was read whole, and is refused for the page
-abbrev pub IsRefused : Page → DrawFault → List ℕ → ℕ → ℕ → ℕ → ℕ → Type 0
+abbrev pub IsRefused : Page → PlotFault → List ℕ → ℕ → ℕ → ℕ → ℕ → Type 0
 IsRefused page fault input failed failed' ended ended' = WasRead input failed failed' ended ended' × (refusal page input ≡ Some fault)
 
 -- what each answer says. The conditions of two answers exclude one another, so each comes exactly where its own hold;
@@ -55,7 +55,7 @@ Converts job reaches input failed failed' ended ended' held held' broke broke' (
     × (done.rows ≡ rows_of job.page job.dots - job.first_row)
     × (done.bytes ≡ length (picture job reaches input))
     × (done.strokes ≡ length (strokes job.page input))
-    × (done.notes ≡ notes input)
+    × (done.notes ≡ notes_count input)
 Converts job reaches input failed failed' ended ended' held held' broke broke' (Err Read) = failed' ≡ failed + 1
 Converts job reaches input failed failed' ended ended' held held' broke broke' (Err TooLong) =
     (length input ≡ 67108865) × (failed' ≡ failed)

@@ -3,12 +3,12 @@ ghost use Rattle.std.specs.Prelude.{◌≡◌, ℕ, ◌-◌, ◌^◌, ◌<◌, L
 ghost use Rattle.std.specs.Io.KnownBytes.{Consumes, IsAtEnd};
 ghost use Rattle.plotraster.specs.Conversions.{Converts, is_write};
 
-use crate::drawing::{DrawFault, draw_items};
 use crate::fault::Fault;
 use crate::reading::{ReadFault, buffer_of, read_plot};
 use crate::source::Source;
 use crate::writing::write_picture;
 use command_line::Job;
+use hpgl_plot::{PlotFault, draw};
 use hpgl_text::{TextFault, lex};
 use picture_out::{Sink, row_space};
 use std::alloc::Global;
@@ -32,11 +32,11 @@ pub struct Done {
 /// pens that the gauge says reaches it.
 ///
 /// Errors, in this order: 8 where the source fails; 1 where it gives more than 67,108,864 bytes; 10
-/// for a plot with an instruction that is known and not drawn yet; 3 and 4 at the first instruction that goes
-/// off range or makes a stroke too many; 5 and 6 for a band height and a first row out of range; 7
-/// where the sink fails. 2 comes where memory is refused. After every error but 7 the sink is as
-/// it was; after 7 it has taken the first `bytes` bytes of the picture, and the job from row `row`
-/// writes what follows the first `whole` of them.
+/// for a plot with an instruction that is known and not drawn yet; 3 and 4 at the first instruction
+/// that goes off range or makes a stroke too many; 5 and 6 for a band height and a first row out of
+/// range; 7 where the sink fails. 2 comes where memory is refused. After every error but 7 the sink
+/// is as it was; after 7 it has taken the first `bytes` bytes of the picture, and the job from row
+/// `row` writes what follows the first `whole` of them.
 pub fn convert<G: Gauge, S: Source, K: Sink>(
     alloc: Global,
     job: &Job,
@@ -65,16 +65,16 @@ pub fn convert<G: Gauge, S: Source, K: Sink>(
         Err(TextFault::TooLong) => return Err(Fault::TooLong),
         Err(TextFault::Memory) => return Err(Fault::Memory),
     };
-    let drawn = match draw_items(alloc, program.items(), &job.page) {
+    let drawn = match draw(alloc, &program, &job.page) {
         Ok(drawn) => drawn,
-        Err(DrawFault::Memory) => return Err(Fault::Memory),
-        Err(DrawFault::NotYet { at }) => return Err(Fault::NotYet { at }),
-        Err(DrawFault::OffRange { at }) => return Err(Fault::OffRange { at }),
-        Err(DrawFault::TooManyStrokes { at }) => return Err(Fault::TooManyStrokes { at }),
+        Err(PlotFault::Memory) => return Err(Fault::Memory),
+        Err(PlotFault::NotYet { at }) => return Err(Fault::NotYet { at }),
+        Err(PlotFault::OffRange { at }) => return Err(Fault::OffRange { at }),
+        Err(PlotFault::TooManyStrokes { at }) => return Err(Fault::TooManyStrokes { at }),
     };
     let mut painter = match Painter::new(
         alloc,
-        drawn.strokes.as_slice(),
+        drawn.strokes(),
         job.page,
         job.dots,
         job.pens,
@@ -94,8 +94,8 @@ pub fn convert<G: Gauge, S: Source, K: Sink>(
         Ok(bytes) => Ok(Done {
             rows: job.dots.rows(&job.page) - job.first_row,
             bytes,
-            strokes: drawn.strokes.len(),
-            notes: drawn.notes,
+            strokes: drawn.strokes().len(),
+            notes: drawn.notes().len(),
         }),
         Err(stop) => Err(Fault::Write {
             row: stop.row,

@@ -15,3 +15,4 @@ mod pictures;
 mod refusals;
 #[cfg(test)]
 mod rows;
+mod settings;

@@ -1,0 +1,109 @@
+-- The same, one step at a time, as the code does it: `proofs/Bridge.antt` shows that it comes to the definitions.
+use Rattle.std.specs.Prelude.{◌≡◌, ℕ, Bool, true, false, List, [], ◌∷◌, ◌++◌, Option, Some, None, Result, Ok, Err, length, nat_lt, set, if◌then◌else◌, ⊤}
+use Rattle.plot_frame.specs.Line.{across_line, upward_line}
+use Rattle.plot_frame.specs.declared.scaling.Scaling.TheVariants.{Off}
+use Rattle.hpgl_text.specs.Shapes.{ItemShape}
+use Rattle.hpgl_plot.specs.declared.fault.PlotFault.{PlotFault}
+use Rattle.hpgl_plot.specs.declared.fault.PlotFault.TheVariants as fault
+use Rattle.hpgl_plot.specs.declared.page.Page.{Page}
+use Rattle.hpgl_plot.specs.declared.plotter.Plotter.{Plotter}
+use Rattle.hpgl_plot.specs.declared.plotter.Stop.{Stop}
+use Rattle.hpgl_plot.specs.declared.plotter.Stop.TheVariants.{Memory, OffRange}
+use Rattle.hpgl_plot.specs.declared.setting.Setting.{Setting}
+use Rattle.hpgl_plot.specs.declared.setting.Setting.TheVariants.{Start, Defaults, PageCorners, FirstPoint, BothPoints, Scale, Rotate, PageWindow, CornerWindow, Pen, Width, WidthOfAll}
+use Rattle.hpgl_plot.specs.declared.state.State.{State}
+use Rattle.hpgl_plot.specs.Segments.{Segment}
+use Rattle.hpgl_plot.specs.Settings.{all_pens}
+use Rattle.hpgl_plot.specs.Steps.{Step, Set, Touch, Lower, Relate, Move, steps_of}
+use Rattle.hpgl_plot.specs.Frames.{back, points_with, window_with, target, state_of}
+use Rattle.hpgl_plot.specs.Plots.{refusal_after}
+use Rattle.hpgl_plot.specs.Windows.{page_window}
+use Rattle.hpgl_plot.specs.Strokes.{frame_in, moved_place, are_in_range, reached, made}
+
+-- the coordinates are taken again
+abbrev pub again : Page → State → State
+again page s = record s { coordinates = back page (frame_in s) s.place }
+
+-- the axes, and then the coordinates
+abbrev pub framed : Page → State → State
+framed page s = again page (record s { across = across_line s.points s.scaling page.left; upward = upward_line s.points s.scaling page.below })
+
+abbrev pub pointed : Page → State → Setting → State
+pointed page s setting = framed page (record s { points = points_with page s.rotation setting s.points })
+
+abbrev pub set_to : Page → State → Setting → State
+set_to page s Start = state_of page []
+set_to page s Defaults = framed page (record s { is_relative = false; scaling = Off; window = page_window page })
+set_to page s PageCorners = pointed page s PageCorners
+set_to page s (FirstPoint x y) = pointed page s (FirstPoint x y)
+set_to page s (BothPoints p) = pointed page s (BothPoints p)
+set_to page s (Scale c) = framed page (record s { scaling = c })
+set_to page s (Rotate r) = again page (record s { rotation = r })
+set_to page s PageWindow = record s { window = page_window page }
+set_to page s (CornerWindow c) = record s { window = window_with page (frame_in s) (CornerWindow c) s.window }
+set_to page s (Pen n) = record s { pen = n }
+set_to page s (Width p w) = record s { widths = set s.widths p w }
+set_to page s (WidthOfAll w) = record s { widths = all_pens w }
+
+abbrev pub after : Page → State → Step → State
+after page s (Set setting) = set_to page s setting
+after page s Touch = s
+after page s (Lower b) = record s { is_down = b }
+after page s (Relate b) = record s { is_relative = b }
+after page s (Move x y) = record s { place = moved_place page s x y; coordinates = target s.is_relative s.coordinates x y }
+
+-- the state, the strokes that are kept, and whether there were more than may be kept
+pub record World : Type 0 where
+  pub state : State
+  pub kept : List Segment
+  pub full : Bool
+
+-- strokes put to those that are kept, while there is room
+abbrev pub kept_with : List Segment → Bool → List Segment → List Segment
+kept_with kept full [] = kept
+kept_with kept full (s ∷ ss) = if nat_lt (length kept) 4194304 then kept_with (kept ++ (s ∷ [])) full ss else kept_with kept true ss
+
+abbrev pub full_with : List Segment → Bool → List Segment → Bool
+full_with kept full [] = full
+full_with kept full (s ∷ ss) = if nat_lt (length kept) 4194304 then full_with (kept ++ (s ∷ [])) full ss else full_with kept true ss
+
+abbrev pub with_strokes : World → State → List Segment → World
+with_strokes w s ss = record { state = s; kept = kept_with w.kept w.full ss; full = full_with w.kept w.full ss }
+
+-- None where a place is out of range
+unfoldable pub step : Page → World → Step → Option World
+step page w s = if are_in_range (reached page w.state s) then Some (with_strokes w (after page w.state s) (made page w.state s)) else None
+
+abbrev pub followed : Option World → (World → Option World) → Option World
+followed None f = None
+followed (Some w) f = f w
+
+abbrev pub run : Page → World → List Step → Option World
+run page w [] = Some w
+run page w (s ∷ ss) = followed (step page w s) (λ (v : World). run page v ss)
+
+-- what a call answers that was to make this of the world
+abbrev pub Runs : {U : Type 0} → Option World → World → Result U Stop → Type 0
+Runs ran new (Ok _) = ran ≡ Some new
+Runs ran new (Err Memory) = ⊤
+Runs ran new (Err OffRange) = ran ≡ None
+
+-- the items, one after another
+abbrev pub ended : Option World → ℕ → (World → Result World PlotFault) → Result World PlotFault
+ended None at go = Err (fault.OffRange at)
+ended (Some w) at go = if w.full then Err (fault.TooManyStrokes at) else go w
+
+abbrev pub runs : Page → World → List ItemShape → Result World PlotFault
+runs page w [] = Ok w
+runs page w (i ∷ more) = ended (run page w (steps_of i)) i.at (λ (v : World). runs page v more)
+
+-- a plotter as the definitions see it
+abbrev pub seen : Plotter → World
+seen p = record { state = p.state; kept = p.strokes.items; full = p.is_full }
+
+-- how drawing items may fail, none of which is left for later
+abbrev pub Stops : PlotFault → Page → List ItemShape → Type 0
+Stops fault.Memory page items = ⊤
+Stops (fault.NotYet at) page items = ⊥
+Stops (fault.OffRange at) page items = refusal_after page [] 0 items ≡ Some (fault.OffRange at)
+Stops (fault.TooManyStrokes at) page items = refusal_after page [] 0 items ≡ Some (fault.TooManyStrokes at)

@@ -1,0 +1,154 @@
+-- What the parameters of an instruction set, or None where they are wrong. Numbers are in millionths.
+use Rattle.std.specs.Prelude.{ℕ, ℤ, pos, ◌+ℤ◌, ◌*ℤ◌, nat_abs, Bool, not, ◌&&◌, ◌||◌, int_le, List, [], ◌∷◌, Option, Some, None, if◌then◌else◌}
+use Rattle.std.specs.Ordering.{int_eq}
+use Rattle.exact.specs.Fraction.{round}
+use Rattle.plot_frame.specs.declared.scaling.Points.{Points}
+use Rattle.plot_frame.specs.declared.scaling.Ranges.{Ranges}
+use Rattle.plot_frame.specs.declared.scaling.Scaling.TheVariants.{Off, Anisotropic, Isotropic, PointFactor}
+use Rattle.hpgl_plot.specs.declared.setting.Rotation.TheVariants as rotation
+use Rattle.hpgl_plot.specs.declared.setting.Setting.{Setting}
+use Rattle.hpgl_plot.specs.declared.setting.Setting.TheVariants.{Start, Defaults, PageCorners, FirstPoint, BothPoints, Scale, Rotate, PageWindow, CornerWindow, Pen, Width, WidthOfAll}
+use Rattle.hpgl_plot.specs.declared.word.Word.{Word}
+use Rattle.hpgl_plot.specs.declared.word.Word.TheVariants as word
+
+-- rounded to a whole number
+abbrev pub whole_of : ℤ → ℤ
+whole_of n = round (record { over = n; under = 1000000 })
+
+-- from one number to another
+abbrev pub is_between : ℤ → ℤ → ℤ → Bool
+is_between least greatest n = int_le least n && int_le n greatest
+
+-- a pen's number is 0 to 255
+abbrev pub is_pen : ℤ → Bool
+is_pen n = is_between (pos 0) (pos 255) n
+
+-- SP pen: pen 0 where none is named
+abbrev pub pen_set : ℤ → Option Setting
+pen_set n = if is_pen n then Some (Pen (nat_abs n)) else None
+
+abbrev pub selected_pen : List ℤ → Option Setting
+selected_pen [] = Some (Pen 0)
+selected_pen (n ∷ ns) = pen_set (whole_of n)
+
+-- PW width, pen: the width is 0 to 20 mm, as written
+abbrev pub is_width : ℤ → Bool
+is_width n = is_between (pos 0) (pos 20000000) n
+
+-- millimetres as grains, of which a plotter unit of 0.025 mm has 16
+abbrev pub width_grains : ℤ → ℕ
+width_grains n = nat_abs (round (record { over = pos 640 *ℤ n; under = 1000000 }))
+
+abbrev pub all_widths_set : ℤ → Option Setting
+all_widths_set n = if is_width n then Some (WidthOfAll (width_grains n)) else None
+
+abbrev pub width_set : ℤ → ℤ → Option Setting
+width_set n pen = if is_width n && is_pen pen then Some (Width (nat_abs pen) (width_grains n)) else None
+
+-- all pens get the width where none is named, and 0.35 mm (224 grains) where no width is
+abbrev pub pen_width : List ℤ → Option Setting
+pen_width [] = Some (WidthOfAll 224)
+pen_width (n ∷ []) = all_widths_set n
+pen_width (n ∷ (p ∷ ns)) = width_set n (whole_of p)
+
+-- RO angle: 0, 90, 180 or 270 degrees
+abbrev pub rotation_set : ℤ → Option Setting
+rotation_set n =
+    if int_eq n (pos 0) then Some (Rotate rotation.None) else
+    if int_eq n (pos 90) then Some (Rotate rotation.Quarter) else
+    if int_eq n (pos 180) then Some (Rotate rotation.Half) else
+    if int_eq n (pos 270) then Some (Rotate rotation.ThreeQuarters) else
+    None
+
+abbrev pub rotated : List ℤ → Option Setting
+rotated [] = Some (Rotate rotation.None)
+rotated (n ∷ ns) = rotation_set (whole_of n)
+
+-- a number apart from another: where both are the same, one more
+abbrev pub apart : ℤ → ℤ → ℤ
+apart a b = if int_eq a b then b +ℤ pos 1 else b
+
+-- P1 and P2, which are kept apart in x and in y
+abbrev pub points_at : ℤ → ℤ → ℤ → ℤ → Points
+points_at ax ay bx by = record { x1 = ax; y1 = ay; x2 = apart ax bx; y2 = apart ay by }
+
+-- IP: none, P1 alone, or P1 and P2
+abbrev pub scaling_points : List ℤ → Option Setting
+scaling_points [] = Some PageCorners
+scaling_points (x ∷ []) = None
+scaling_points (x ∷ (y ∷ [])) = Some (FirstPoint (whole_of x) (whole_of y))
+scaling_points (x ∷ (y ∷ (z ∷ []))) = None
+scaling_points (a ∷ (b ∷ (c ∷ (d ∷ ns)))) = Some (BothPoints (points_at (whole_of a) (whole_of b) (whole_of c) (whole_of d)))
+
+-- IW: two corners, or the page
+abbrev pub window_corners : List ℤ → Option Setting
+window_corners [] = Some PageWindow
+window_corners (x ∷ []) = None
+window_corners (x ∷ (y ∷ [])) = None
+window_corners (x ∷ (y ∷ (z ∷ []))) = None
+window_corners (a ∷ (b ∷ (c ∷ (d ∷ ns)))) = Some (CornerWindow (record { ax = a; ay = b; bx = c; by = d }))
+
+-- the four numbers of an SC
+abbrev pub ranges_of : ℤ → ℤ → ℤ → ℤ → Ranges
+ranges_of a b c d = record { xmin = a; xmax = b; ymin = c; ymax = d }
+
+-- the least coordinate is the greatest, in x or in y
+abbrev pub has_empty_range : Ranges → Bool
+has_empty_range r = int_eq r.xmin r.xmax || int_eq r.ymin r.ymax
+
+-- SC of type 0: from the least to the greatest coordinate is from P1 to P2
+abbrev pub anisotropic : Ranges → Option Setting
+anisotropic r = if has_empty_range r then None else Some (Scale (Anisotropic r))
+
+-- a share of 0 to 100 percent, as written
+abbrev pub is_percent : ℤ → Bool
+is_percent n = is_between (pos 0) (pos 100000000) n
+
+-- SC of type 1: both axes have one unit, and what is left over lies on the left and at the bottom by these percents
+abbrev pub isotropic : Ranges → ℤ → ℤ → Option Setting
+isotropic r left bottom =
+    if has_empty_range r || (not (is_percent left) || not (is_percent bottom)) then None else
+    Some (Scale (Isotropic (record { ranges = r; left = left; bottom = bottom })))
+
+-- each percent is 50 where it is absent
+abbrev pub isotropic_by : Ranges → List ℤ → Option Setting
+isotropic_by r [] = isotropic r (pos 50000000) (pos 50000000)
+isotropic_by r (l ∷ []) = isotropic r l (pos 50000000)
+isotropic_by r (l ∷ (b ∷ ns)) = isotropic r l b
+
+-- SC of type 2: the second number and the fourth are how many plotter units a unit has
+abbrev pub point_factor : Ranges → Option Setting
+point_factor r =
+    if int_eq r.xmax (pos 0) || int_eq r.ymax (pos 0) then None else
+    Some (Scale (PointFactor (record { xmin = r.xmin; xfactor = r.xmax; ymin = r.ymin; yfactor = r.ymax })))
+
+abbrev pub scaling_of_type : ℤ → Ranges → List ℤ → Option Setting
+scaling_of_type kind r ns =
+    if int_eq kind (pos 0) then anisotropic r else
+    if int_eq kind (pos 1) then isotropic_by r ns else
+    if int_eq kind (pos 2) then point_factor r else
+    None
+
+-- SC: off, or by four numbers, a type and two percents
+abbrev pub scaled : List ℤ → Option Setting
+scaled [] = Some (Scale Off)
+scaled (x ∷ []) = None
+scaled (x ∷ (y ∷ [])) = None
+scaled (x ∷ (y ∷ (z ∷ []))) = None
+scaled (a ∷ (b ∷ (c ∷ (d ∷ [])))) = anisotropic (ranges_of a b c d)
+scaled (a ∷ (b ∷ (c ∷ (d ∷ (t ∷ ns))))) = scaling_of_type (whole_of t) (ranges_of a b c d) ns
+
+-- what an instruction sets, or None where its parameters are wrong; those that move the pen are none of these
+abbrev pub setting_of : Word → List ℤ → Option Setting
+setting_of word.Initialize ns = Some Start
+setting_of word.DefaultValues ns = Some Defaults
+setting_of word.InputPoints ns = scaling_points ns
+setting_of word.Scale ns = scaled ns
+setting_of word.Rotate ns = rotated ns
+setting_of word.InputWindow ns = window_corners ns
+setting_of word.SelectPen ns = selected_pen ns
+setting_of word.PenWidth ns = pen_width ns
+setting_of word.PenUp ns = None
+setting_of word.PenDown ns = None
+setting_of word.PlotAbsolute ns = None
+setting_of word.PlotRelative ns = None

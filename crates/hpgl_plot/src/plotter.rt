@@ -1,0 +1,231 @@
+//! The plotter: what is set, and the strokes that were made.
+ghost use Rattle.std.specs.Prelude.{◌≡◌, ◌≤◌, [], nat_abs, slice_index, All, IfOk, IfErr, Some, if◌then◌else◌};
+ghost use Rattle.hpgl_plot.specs.Bounds.{IsSound, IsInRange, IsWindow, AreWidths};
+ghost use Rattle.hpgl_plot.specs.Machine.{seen, step, run, Runs, kept_with, full_with};
+ghost use Rattle.hpgl_plot.specs.Strokes.{drawn};
+ghost use Rattle.hpgl_plot.specs.Steps.{Touch, Lower, Relate, Move, moves, steps_by, steps_of};
+ghost use Rattle.hpgl_plot.specs.Notes.{is_wrong, is_wrong_item};
+
+mod settings;
+
+use crate::page::Page;
+use crate::place::{is_place_in_range, place_on, target_of};
+use crate::state::{Spot, State};
+use crate::stroke::Stroke;
+use crate::word::{Word, word_of_code};
+use hpgl_text::{Body, Item, Number};
+
+/// The most strokes that a plot may have.
+const MOST_STROKES: usize = 4_194_304;
+
+/// Why an instruction is not carried out.
+#[derive(Clone, Copy, Debug, PartialEq, Eq)]
+pub enum Stop {
+    /// There is no memory for it.
+    Memory,
+    /// It goes to a place out of range.
+    OffRange,
+}
+
+/// What is set, the strokes that were made, and whether there were more than a plot may have, which
+/// are not kept.
+#[derive(Drop)]
+pub struct Plotter {
+    pub state: State,
+    pub strokes: Vec<Stroke>,
+    pub is_full: bool,
+}
+
+impl Plotter {
+    /// Carries out an item, and answers whether it is an instruction with wrong parameters. One that
+    /// is no instruction that is drawn does nothing.
+    pub fn take(&mut self, page: &Page, item: &Item<'_>) -> Result<bool, Stop>
+        requires sound { IsSound page.now self.old.state }
+        ensures sound { IfOk result (λ _. IsSound page.now self.new.state) }
+        ensures runs { Runs (run page.now (seen self.old) (steps_of item.now)) (seen self.new) result }
+        ensures wrong { IfOk result (λ b. b ≡ is_wrong_item item.now) }
+    {
+        match (word_of_code(item.code), &item.body) {
+            (Some(word), Body::Params(numbers)) => self.obey(page, word, numbers.as_slice()),
+            _ => Ok(false),
+        }
+    }
+
+    // Carries out an instruction, and answers whether its parameters are wrong.
+    fn obey(&mut self, page: &Page, word: Word, numbers: &[Number]) -> Result<bool, Stop>
+        requires small { All (λ z. nat_abs z ≤ 8388607999999) numbers.now }
+        requires sound { IsSound page.now self.old.state }
+        ensures sound { IfOk result (λ _. IsSound page.now self.new.state) }
+        ensures runs { Runs (run page.now (seen self.old) (steps_by word numbers.now)) (seen self.new) result }
+        ensures wrong { IfOk result (λ b. b ≡ is_wrong word numbers.now) }
+    {
+        let is_unpaired = numbers.len() % 2 == 1;
+        match word {
+            Word::PenUp => {
+                self.set_down(page, false);
+                self.follow(page, numbers)?;
+                Ok(is_unpaired)
+            }
+            Word::PenDown => {
+                self.lower(page, numbers)?;
+                Ok(is_unpaired)
+            }
+            Word::PlotAbsolute => {
+                self.set_relative(page, false);
+                self.follow(page, numbers)?;
+                Ok(is_unpaired)
+            }
+            Word::PlotRelative => {
+                self.set_relative(page, true);
+                self.follow(page, numbers)?;
+                Ok(is_unpaired)
+            }
+            _ => Ok(self.set_named(page, word, numbers)),
+        }
+    }
+
+    // PD: a dot where it makes no move, and its moves.
+    fn lower(&mut self, page: &Page, numbers: &[Number]) -> Result<(), Stop>
+        requires sound { IsSound page.now self.old.state }
+        ensures sound { IfOk result (λ _. IsSound page.now self.new.state) }
+        ensures runs { Runs (run page.now (seen self.old) (steps_by Word.PenDown numbers.now)) (seen self.new) result }
+    {
+        if numbers.len() < 2 {
+            self.touch(page)?;
+        }
+        self.set_down(page, true);
+        self.follow(page, numbers)?;
+        Ok(())
+    }
+
+    // A move to each pair.
+    fn follow(&mut self, page: &Page, numbers: &[Number]) -> Result<(), Stop>
+        requires sound { IsSound page.now self.old.state }
+        ensures sound { IfOk result (λ _. IsSound page.now self.new.state) }
+        ensures runs { Runs (run page.now (seen self.old) (moves numbers.now)) (seen self.new) result }
+    {
+        let mut rest = numbers;
+        'pairs: while let [x, y, tail @ ..] = rest {
+            self.move_to(page, *x, *y)?;
+            rest = tail;
+        }
+        Ok(())
+    }
+
+    // A move to coordinates, drawn if the pen is down.
+    fn move_to(&mut self, page: &Page, x: Number, y: Number) -> Result<(), Stop>
+        requires sound { IsSound page.now self.old.state }
+        ensures sound { IfOk result (λ _. IsSound page.now self.new.state) }
+        ensures runs { Runs (step page.now (seen self.old) (Move x y)) (seen self.new) result }
+    {
+        let is_relative = self.state.is_relative;
+        let target = target_of(&self.state, is_relative, x.millionths(), y.millionths());
+        let place = place_on(page, &self.state, target);
+        if !is_place_in_range(place) {
+            return Err(Stop::OffRange);
+        }
+        self.arrive(page, place, target)?;
+        Ok(())
+    }
+
+    // The pen comes to a place, and draws on its way if it is down.
+    fn arrive(&mut self, page: &Page, place: Spot, coordinates: Spot) -> Result<(), Stop>
+        requires sound { IsSound page.now self.old.state }
+        requires in_range { IsInRange place }
+        ensures state { IfOk result (λ _. self.new.state ≡ record self.old.state { place = place; coordinates = coordinates }) }
+        ensures kept { IfOk result (λ _. self.new.strokes.items ≡ kept_with self.old.strokes.items self.old.is_full (if self.old.state.is_down then drawn self.old.state self.old.state.place place else [])) }
+        ensures full { IfOk result (λ _. self.new.is_full ≡ full_with self.old.strokes.items self.old.is_full (if self.old.state.is_down then drawn self.old.state self.old.state.place place else [])) }
+        ensures memory { IfErr result (λ e. e ≡ Stop.Memory) }
+    {
+        if self.state.is_down {
+            let start = self.state.place;
+            self.draw(page, start, place)?;
+        }
+        self.stand_at(place, coordinates);
+        Ok(())
+    }
+
+    fn stand_at(&mut self, place: Spot, coordinates: Spot)
+        ensures state { self.new.state ≡ record self.old.state { place = place; coordinates = coordinates } }
+        ensures strokes { self.new.strokes ≡ self.old.strokes }
+        ensures full { self.new.is_full ≡ self.old.is_full }
+    {
+        self.state.place = place;
+        self.state.coordinates = coordinates;
+    }
+
+    // A stroke between two places, unless the pen is 0.
+    fn draw(&mut self, page: &Page, a: Spot, b: Spot) -> Result<(), Stop>
+        requires sound { IsSound page.now self.old.state }
+        requires a_in { IsInRange a }
+        requires b_in { IsInRange b }
+        ensures state { self.new.state ≡ self.old.state }
+        ensures kept { IfOk result (λ _. self.new.strokes.items ≡ kept_with self.old.strokes.items self.old.is_full (drawn self.old.state a b)) }
+        ensures full { IfOk result (λ _. self.new.is_full ≡ full_with self.old.strokes.items self.old.is_full (drawn self.old.state a b)) }
+        ensures memory { IfErr result (λ e. e ≡ Stop.Memory) }
+    {
+        if self.state.pen == 0 {
+            return Ok(());
+        }
+        if self.strokes.len() >= MOST_STROKES {
+            self.is_full = true;
+            return Ok(());
+        }
+        let stroke = stroke_between(&self.state, a, b);
+        self.strokes.push(stroke).map_err(|_| Stop::Memory)
+    }
+
+    // A dot, unless the pen is down.
+    #[tactic(auto, unfolding(crate::specs::Machine::step))]
+    fn touch(&mut self, page: &Page) -> Result<(), Stop>
+        requires sound { IsSound page.now self.old.state }
+        ensures state { self.new.state ≡ self.old.state }
+        ensures runs { Runs (step page.now (seen self.old) Touch) (seen self.new) result }
+    {
+        if !self.state.is_down {
+            let place = self.state.place;
+            self.draw(page, place, place)?;
+        }
+        Ok(())
+    }
+
+    // The pen goes down, or up.
+    #[tactic(auto, unfolding(crate::specs::Machine::step))]
+    fn set_down(&mut self, page: &Page, is_down: bool)
+        requires sound { IsSound page.now self.old.state }
+        ensures sound { IsSound page.now self.new.state }
+        ensures runs { step page.now (seen self.old) (Lower is_down) ≡ Some (seen self.new) }
+    {
+        self.state.is_down = is_down;
+    }
+
+    // Coordinates are relative from here on, or absolute.
+    #[tactic(auto, unfolding(crate::specs::Machine::step))]
+    fn set_relative(&mut self, page: &Page, is_relative: bool)
+        requires sound { IsSound page.now self.old.state }
+        ensures sound { IsSound page.now self.new.state }
+        ensures runs { step page.now (seen self.old) (Relate is_relative) ≡ Some (seen self.new) }
+    {
+        self.state.is_relative = is_relative;
+    }
+}
+
+// A stroke between two places, by the pen that is selected, as wide as that pen is, in the window.
+fn stroke_between(state: &State, a: Spot, b: Spot) -> Stroke
+    requires pen { 1 ≤ state.now.pen }
+    requires window { IsWindow state.now.window }
+    requires widths { AreWidths state.now.widths }
+    requires a_in { IsInRange a }
+    requires b_in { IsInRange b }
+    ensures { result ≡ record { pen = state.now.pen; width = slice_index state.now.widths state.now.pen; window = state.now.window; ax = a.x; ay = a.y; bx = b.x; by = b.y } }
+{
+    Stroke {
+        pen: state.pen,
+        width: state.widths[usize::from(state.pen)],
+        window: state.window,
+        ax: a.x as i32,
+        ay: a.y as i32,
+        bx: b.x as i32,
+        by: b.y as i32,
+    }
+}

@@ -1,0 +1,265 @@
+// What plots draw, by their text. The drawings that are wanted come from a plotter that was written
+// apart from this one.
+use crate::{Page, PlotFault, draw};
+use hpgl_text::lex;
+use std::alloc::Global;
+use std::test::Fail;
+
+fn square() -> Result<Page, Fail> {
+    Ok(Page::new(64, 64, 0, 0)?)
+}
+
+fn wide() -> Result<Page, Fail> {
+    Ok(Page::new(128, 64, 0, 0)?)
+}
+
+// The strokes of a plot, a line each: pen, width, window and ends; and then its notes.
+fn drawing_of(alloc: Global, page: &Page, text: &[u8]) -> Result<String, Fail> {
+    let program = lex(alloc, text)?;
+    let plot = draw(alloc, &program, page)?;
+    let mut lines = String::new(alloc);
+    for s in plot.strokes() {
+        let (pen, width, w) = (s.pen, s.width, s.window);
+        let (x0, y0, x1, y1) = (w.x0, w.y0, w.x1, w.y1);
+        let (ax, ay, bx, by) = (s.ax, s.ay, s.bx, s.by);
+        let line = format!(in alloc;
+            "{pen} {width} in {x0} {y0} {x1} {y1}: {ax},{ay} to {bx},{by}\n"
+        )?;
+        lines.push_str(line.as_str())?;
+    }
+    for note in plot.notes() {
+        let (at, kind) = (note.at, note.kind);
+        let first = letter(note.code[0]);
+        let second = letter(note.code[1]);
+        let line = format!(in alloc; "note {at} {first}{second} {kind:?}\n")?;
+        lines.push_str(line.as_str())?;
+    }
+    Ok(lines)
+}
+
+// A letter of a note's code, where it has one.
+fn letter(byte: u8) -> char {
+    if byte == 0 { '-' } else { char::from(byte) }
+}
+
+#[test]
+fn pens_and_widths(rt: HostRuntime) -> Result<(), Fail> {
+    let plots = [
+        (
+            square()?,
+            b"SP1;PU0,28;PD64,28;".as_slice(),
+            "1 224 in 0 0 1024 1024: 0,448 to 1024,448\n",
+        ),
+        (
+            square()?,
+            b"PU0,28;PW0.4;PD64,28;PW0.4,2;SP2;PD0,0;".as_slice(),
+            "1 256 in 0 0 1024 1024: 0,448 to 1024,448\n\
+2 256 in 0 0 1024 1024: 1024,448 to 0,0\n",
+        ),
+        (
+            square()?,
+            b"SP0;PD64,64;SP255.4;PW20;PD0,0;".as_slice(),
+            "255 12800 in 0 0 1024 1024: 1024,1024 to 0,0\n",
+        ),
+    ];
+    for (page, plot, wanted) in plots {
+        assert_eq!(rt; drawing_of(rt.alloc(), &page, plot)?.as_str(), wanted);
+    }
+    Ok(())
+}
+
+#[test]
+fn scaled(rt: HostRuntime) -> Result<(), Fail> {
+    let plots = [
+        (
+            square()?,
+            b"SC0,8,0,8;PU0,3.5;PD8,3.5;".as_slice(),
+            "1 224 in 0 0 1024 1024: 0,448 to 1024,448\n",
+        ),
+        (
+            square()?,
+            b"SC0,8,0,8,2;PU0,3.5;PD8,3.5;".as_slice(),
+            "1 224 in 0 0 1024 1024: 0,448 to 1024,448\n",
+        ),
+        (
+            square()?,
+            b"SC8,0,0,8;SC0,0,0,8;PU0,3.5;PD4,3.5;".as_slice(),
+            "1 224 in 0 0 1024 1024: 1024,448 to 512,448\n\
+note 10 SC Bad\n",
+        ),
+        (
+            wide()?,
+            b"SC0,8,0,8,1;PU0,3.5;PD8,3.5;".as_slice(),
+            "1 224 in 0 0 2048 1024: 512,448 to 1536,448\n",
+        ),
+        (
+            wide()?,
+            b"SC0,8,0,8,1,100;PU0,3.5;PD8,3.5;".as_slice(),
+            "1 224 in 0 0 2048 1024: 1024,448 to 2048,448\n",
+        ),
+    ];
+    for (page, plot, wanted) in plots {
+        assert_eq!(rt; drawing_of(rt.alloc(), &page, plot)?.as_str(), wanted);
+    }
+    Ok(())
+}
+
+#[test]
+fn rotated(rt: HostRuntime) -> Result<(), Fail> {
+    let plots = [
+        (
+            square()?,
+            b"RO90;PU0,28;PD64,28;".as_slice(),
+            "1 224 in 0 0 1024 1024: 576,0 to 576,1024\n",
+        ),
+        (
+            wide()?,
+            b"RO90;IP;SC0,8,0,8;PU0,4;PD8,4;".as_slice(),
+            "1 224 in 0 0 2048 1024: 1024,0 to 1024,1024\n",
+        ),
+        (
+            wide()?,
+            b"RO270;PU0,28;PD64,28;".as_slice(),
+            "1 224 in 0 0 2048 1024: 448,1024 to 448,0\n",
+        ),
+        (
+            square()?,
+            b"PU10,20;RO90;PR;PD1,0;".as_slice(),
+            "1 224 in 0 0 1024 1024: 160,320 to 160,336\n",
+        ),
+    ];
+    for (page, plot, wanted) in plots {
+        assert_eq!(rt; drawing_of(rt.alloc(), &page, plot)?.as_str(), wanted);
+    }
+    Ok(())
+}
+
+#[test]
+fn in_a_window(rt: HostRuntime) -> Result<(), Fail> {
+    let plots = [
+        (
+            square()?,
+            b"PU0,28;PD64,28;IW0,0,20,64;PU0,12;PD64,12;".as_slice(),
+            "1 224 in 0 0 1024 1024: 0,448 to 1024,448\n\
+1 224 in 0 0 320 1024: 0,192 to 1024,192\n",
+        ),
+        (
+            square()?,
+            b"IW70,0,80,64;PD64,12;".as_slice(),
+            "1 224 in 1 1 0 0: 0,0 to 1024,192\n",
+        ),
+        (
+            square()?,
+            b"IW0,0,20,64;RO90;SC0,8,0,8;PD1,1;".as_slice(),
+            "1 224 in 0 0 320 1024: 0,0 to 896,128\n",
+        ),
+    ];
+    for (page, plot, wanted) in plots {
+        assert_eq!(rt; drawing_of(rt.alloc(), &page, plot)?.as_str(), wanted);
+    }
+    Ok(())
+}
+
+#[test]
+fn corners_of_the_scaling(rt: HostRuntime) -> Result<(), Fail> {
+    let plots = [
+        (
+            square()?,
+            b"IP10,20,30,60;IP20,30;SC0,2,0,4;PU1,1;PD1,1;".as_slice(),
+            "1 224 in 0 0 1024 1024: 480,640 to 480,640\n",
+        ),
+        (
+            square()?,
+            b"IP10,20,10,60;SC0,1,0,4;PU1,1;PD1,1;".as_slice(),
+            "1 224 in 0 0 1024 1024: 176,480 to 176,480\n",
+        ),
+        (square()?, b"RO45;".as_slice(), "note 0 RO Bad\n"),
+    ];
+    for (page, plot, wanted) in plots {
+        assert_eq!(rt; drawing_of(rt.alloc(), &page, plot)?.as_str(), wanted);
+    }
+    Ok(())
+}
+
+#[test]
+fn relative_moves(rt: HostRuntime) -> Result<(), Fail> {
+    let plots = [
+        (
+            square()?,
+            b"PU0,28;SC0,8,0,8;PR;PD8,0;".as_slice(),
+            "1 224 in 0 0 1024 1024: 0,448 to 1024,448\n",
+        ),
+        (
+            square()?,
+            b"SC0,8,0,8;PU0,3.5;DF;PD64,28;".as_slice(),
+            "1 224 in 0 0 1024 1024: 0,448 to 1024,448\n",
+        ),
+        (
+            square()?,
+            b"SC0,3,0,8;PU0,3.5;PR;PD1,0,1,0,1,0;".as_slice(),
+            "1 224 in 0 0 1024 1024: 0,448 to 341,448\n\
+1 224 in 0 0 1024 1024: 341,448 to 683,448\n\
+1 224 in 0 0 1024 1024: 683,448 to 1024,448\n",
+        ),
+        (
+            square()?,
+            b"SC0,3,0,3;PA1,1;RO;PR;PD1,1;".as_slice(),
+            "1 224 in 0 0 1024 1024: 341,341 to 682,682\n",
+        ),
+    ];
+    for (page, plot, wanted) in plots {
+        assert_eq!(rt; drawing_of(rt.alloc(), &page, plot)?.as_str(), wanted);
+    }
+    Ok(())
+}
+
+#[test]
+fn noted(rt: HostRuntime) -> Result<(), Fail> {
+    let plots = [
+        (
+            square()?,
+            b"ZZ1,2;CO,a,b;PA1".as_slice(),
+            "note 0 ZZ Skipped\n\
+note 6 CO Skipped\n\
+note 9 -- Stray(97)\n\
+note 10 -- Stray(44)\n\
+note 11 -- Stray(98)\n\
+note 13 PA Bad\n",
+        ),
+        (
+            square()?,
+            b"!PD5;PW1,2,3;SC1;IN7;".as_slice(),
+            "1 224 in 0 0 1024 1024: 0,0 to 0,0\n\
+note 0 -- Stray(33)\n\
+note 1 PD Bad\n\
+note 13 SC Bad\n",
+        ),
+    ];
+    for (page, plot, wanted) in plots {
+        assert_eq!(rt; drawing_of(rt.alloc(), &page, plot)?.as_str(), wanted);
+    }
+    Ok(())
+}
+
+#[test]
+fn refused(rt: HostRuntime) -> Result<(), Fail> {
+    let plots = [
+        (b"PA70000,0;IN;".as_slice(), PlotFault::OffRange { at: 0 }),
+        (
+            b"SP0;PU0,0,0,-65537;".as_slice(),
+            PlotFault::OffRange { at: 4 },
+        ),
+        (
+            b"SC0,1,0,1;PA1024,1024;PA1025,0;".as_slice(),
+            PlotFault::OffRange { at: 22 },
+        ),
+        (b"PA70000,0;LBx".as_slice(), PlotFault::NotYet { at: 10 }),
+    ];
+    for (plot, wanted) in plots {
+        let program = lex(rt.alloc(), plot)?;
+        let answer = draw(rt.alloc(), &program, &square()?);
+        let refused = matches!(answer, Err(fault) if fault == wanted);
+        assert!(rt; refused);
+    }
+    Ok(())
+}
