@@ -9,7 +9,7 @@ PROGRAM = crates/plotraster_program/out/plotraster_program
 BIN = $(DESTDIR)$(PREFIX)/bin
 MAN = $(DESTDIR)$(PREFIX)/share/man/man1
 COMPLETIONS = $(DESTDIR)$(PREFIX)/share/bash-completion/completions
-ROSE = --width 4000 --height 3000 --dots 150
+CARD = --width 4000 --height 3000 --dots 150
 
 build:
 	cd crates/plotraster_program && rt run -- --help > /dev/null
@@ -19,15 +19,19 @@ build:
 demo: build
 	@echo 'plotraster marks --width 64 --height 64 --dots 127 examples/line.plt'
 	@build/plotraster marks --width 64 --height 64 --dots 127 examples/line.plt
-	@echo 'plotraster pbm $(ROSE) examples/rose.plt > build/demo.pbm'
-	@build/plotraster pbm $(ROSE) examples/rose.plt > build/demo.pbm
-	@echo 'plotraster ppm $(ROSE) examples/rose.plt > build/demo.ppm'
-	@build/plotraster ppm $(ROSE) examples/rose.plt > build/demo.ppm
+	@echo 'plotraster pbm $(CARD) examples/rose.plt > build/rose.pbm'
+	@build/plotraster pbm $(CARD) examples/rose.plt > build/rose.pbm
+	@echo 'plotraster ppm $(CARD) examples/rose.plt > build/rose.ppm'
+	@build/plotraster ppm $(CARD) examples/rose.plt > build/rose.ppm
+	@echo 'plotraster ppm $(CARD) examples/tide.plt > build/tide.ppm'
+	@build/plotraster ppm $(CARD) examples/tide.plt > build/tide.ppm
 	@if command -v pnmtopng > /dev/null; then \
-	    echo 'pnmtopng build/demo.ppm > build/demo.png'; \
-	    pnmtopng build/demo.ppm > build/demo.png; \
+	    for name in rose tide; do \
+	        echo "pnmtopng build/$$name.ppm > build/$$name.png"; \
+	        pnmtopng build/$$name.ppm > build/$$name.png; \
+	    done; \
 	fi
-	@echo 'The pictures are:' build/demo.*
+	@echo 'The pictures are:' build/rose.* build/tide.*
 
 check: build
 	tests/run $(PROGRAM)
