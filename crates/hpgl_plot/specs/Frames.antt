@@ -1,4 +1,6 @@
--- The frame before a step, and the pen's place and the window by recursion on the steps before it, the newest first.
+-- The frame before a step, and the pen's place and the window by recursion on the steps before it, the newest first: IP
+-- (Input P1 and P2), SC (Scale), RO (Rotate Coordinate System), IW (Input Window), PA and PR. That a window stays where it
+-- lies, and that a good IP, SC, RO or DF takes the pen's coordinates again from its place, is this program's own.
 use Rattle.std.specs.Prelude.{ℕ, ℤ, pos, ◌+ℤ◌, ◌-ℤ◌, Bool, List, [], ◌∷◌, if◌then◌else◌}
 use Rattle.exact.specs.Fraction.{whole}
 use Rattle.plot_frame.specs.Frame.{across_at, upward_at, grains, coordinate}

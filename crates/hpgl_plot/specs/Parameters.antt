@@ -1,4 +1,6 @@
--- What the parameters of an instruction set, or None where they are wrong. Numbers are in millionths.
+-- What the parameters of an instruction set, or None where they are wrong. Numbers are in millionths. The instructions
+-- are those of the HP-GL/2 and HP RTL Reference Guide, each under its name; that whole numbers are rounded before they
+-- are tested, and all others tested as written, is this program's own.
 use Rattle.std.specs.Prelude.{ℕ, ℤ, pos, ◌+ℤ◌, ◌*ℤ◌, nat_abs, Bool, not, ◌&&◌, ◌||◌, int_le, List, [], ◌∷◌, Option, Some, None, if◌then◌else◌}
 use Rattle.std.specs.Ordering.{int_eq}
 use Rattle.exact.specs.Fraction.{round}
@@ -23,7 +25,7 @@ is_between least greatest n = int_le least n && int_le n greatest
 abbrev pub is_pen : ℤ → Bool
 is_pen n = is_between (pos 0) (pos 255) n
 
--- SP pen: pen 0 where none is named
+-- SP (Select Pen) pen: pen 0 where none is named; 255 as the last pen is this program's own
 abbrev pub pen_set : ℤ → Option Setting
 pen_set n = if is_pen n then Some (Pen (nat_abs n)) else None
 
@@ -31,7 +33,7 @@ abbrev pub selected_pen : List ℤ → Option Setting
 selected_pen [] = Some (Pen 0)
 selected_pen (n ∷ ns) = pen_set (whole_of n)
 
--- PW width, pen: the width is 0 to 20 mm, as written
+-- PW (Pen Width) width, pen: the width is 0 to 20 mm, as written; the limit is this program's own
 abbrev pub is_width : ℤ → Bool
 is_width n = is_between (pos 0) (pos 20000000) n
 
@@ -51,7 +53,7 @@ pen_width [] = Some (WidthOfAll 224)
 pen_width (n ∷ []) = all_widths_set n
 pen_width (n ∷ (p ∷ ns)) = width_set n (whole_of p)
 
--- RO angle: 0, 90, 180 or 270 degrees
+-- RO (Rotate Coordinate System) angle: 0, 90, 180 or 270 degrees
 abbrev pub rotation_set : ℤ → Option Setting
 rotation_set n =
     if int_eq n (pos 0) then Some (Rotate rotation.None) else
@@ -64,7 +66,7 @@ abbrev pub rotated : List ℤ → Option Setting
 rotated [] = Some (Rotate rotation.None)
 rotated (n ∷ ns) = rotation_set (whole_of n)
 
--- a number apart from another: where both are the same, one more
+-- a number apart from another: where both are the same, one more, which is this program's own
 abbrev pub apart : ℤ → ℤ → ℤ
 apart a b = if int_eq a b then b +ℤ pos 1 else b
 
@@ -72,7 +74,7 @@ apart a b = if int_eq a b then b +ℤ pos 1 else b
 abbrev pub points_at : ℤ → ℤ → ℤ → ℤ → Points
 points_at ax ay bx by = record { x1 = ax; y1 = ay; x2 = apart ax bx; y2 = apart ay by }
 
--- IP: none, P1 alone, or P1 and P2
+-- IP (Input P1 and P2): none, P1 alone, or both
 abbrev pub scaling_points : List ℤ → Option Setting
 scaling_points [] = Some PageCorners
 scaling_points (x ∷ []) = None
@@ -80,7 +82,7 @@ scaling_points (x ∷ (y ∷ [])) = Some (FirstPoint (whole_of x) (whole_of y))
 scaling_points (x ∷ (y ∷ (z ∷ []))) = None
 scaling_points (a ∷ (b ∷ (c ∷ (d ∷ ns)))) = Some (BothPoints (points_at (whole_of a) (whole_of b) (whole_of c) (whole_of d)))
 
--- IW: two corners, or the page
+-- IW (Input Window): two corners, or the page
 abbrev pub window_corners : List ℤ → Option Setting
 window_corners [] = Some PageWindow
 window_corners (x ∷ []) = None
@@ -96,7 +98,7 @@ ranges_of a b c d = record { xmin = a; xmax = b; ymin = c; ymax = d }
 abbrev pub has_empty_range : Ranges → Bool
 has_empty_range r = int_eq r.xmin r.xmax || int_eq r.ymin r.ymax
 
--- SC of type 0: from the least to the greatest coordinate is from P1 to P2
+-- SC (Scale) of type 0, anisotropic: from the least to the greatest coordinate is from P1 to P2
 abbrev pub anisotropic : Ranges → Option Setting
 anisotropic r = if has_empty_range r then None else Some (Scale (Anisotropic r))
 
@@ -104,7 +106,7 @@ anisotropic r = if has_empty_range r then None else Some (Scale (Anisotropic r))
 abbrev pub is_percent : ℤ → Bool
 is_percent n = is_between (pos 0) (pos 100000000) n
 
--- SC of type 1: both axes have one unit, and what is left over lies on the left and at the bottom by these percents
+-- type 1, isotropic: both axes have one unit, and what is left over lies on the left and at the bottom by these percents
 abbrev pub isotropic : Ranges → ℤ → ℤ → Option Setting
 isotropic r left bottom =
     if has_empty_range r || (not (is_percent left) || not (is_percent bottom)) then None else
@@ -116,7 +118,7 @@ isotropic_by r [] = isotropic r (pos 50000000) (pos 50000000)
 isotropic_by r (l ∷ []) = isotropic r l (pos 50000000)
 isotropic_by r (l ∷ (b ∷ ns)) = isotropic r l b
 
--- SC of type 2: the second number and the fourth are how many plotter units a unit has
+-- type 2, point factor: the second number and the fourth are how many plotter units a unit has
 abbrev pub point_factor : Ranges → Option Setting
 point_factor r =
     if int_eq r.xmax (pos 0) || int_eq r.ymax (pos 0) then None else

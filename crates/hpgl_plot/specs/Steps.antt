@@ -1,4 +1,5 @@
--- What an item of a plot does by itself, step by step.
+-- What an item of a plot does by itself, step by step: PU (Pen Up), PD (Pen Down), PA (Plot Absolute), PR (Plot Relative)
+-- and what sets something.
 use Rattle.std.specs.Prelude.{ℤ, Bool, true, false, List, [], ◌∷◌, Option, Some, None}
 use Rattle.hpgl_text.specs.Shapes.{ItemShape, BodyShape, Params, Label, Terminator, Skipped, Bad, Stray}
 use Rattle.hpgl_plot.specs.declared.setting.Setting.{Setting}
@@ -26,7 +27,7 @@ moves [] = []
 moves (x ∷ []) = []
 moves (x ∷ (y ∷ ns)) = Move x y ∷ moves ns
 
--- a pen that is lowered without a move makes a dot, if it was up
+-- a pen that is lowered without a move makes a dot, if it was up, which is this program's own where one coordinate stands
 abbrev pub lowered_then : List Step → List Step
 lowered_then [] = Touch ∷ (Lower true ∷ [])
 lowered_then (s ∷ ss) = Lower true ∷ (s ∷ ss)
