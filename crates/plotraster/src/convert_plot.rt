@@ -1,5 +1,5 @@
 //! The conversion: read, cut, draw, paint, write.
-ghost use Rattle.std.specs.Prelude.{◌≡◌, ℕ, ◌-◌, ◌^◌, ◌<◌, List, IfErr, OnOk, false};
+ghost use Rattle.std.specs.Prelude.{◌≡◌, ℕ, ◌+◌, ◌-◌, ◌^◌, ◌<◌, List, IfErr, false};
 ghost use Rattle.std.specs.Io.KnownBytes.{Consumes, IsAtEnd};
 ghost use Rattle.plotraster.specs.Conversions.{Converts, is_write};
 
@@ -51,7 +51,7 @@ pub fn convert<G: Gauge, S: Source, K: Sink>(
     ensures converts { (input : List ℕ) × Consumes (S.left source.old) (S.left source.new) input
         × Converts job.now (G.reaches gauge.old) input (S.failed source.old) (S.failed source.new) (S.ended source.old) (S.ended source.new)
         (K.held sink.old) (K.held sink.new) (K.failed sink.old) (K.failed sink.new) result }
-    ensures end { OnOk result (IsAtEnd (S.left source.new)) }
+    ensures end { S.ended source.new ≡ S.ended source.old + 1 → IsAtEnd (S.left source.new) }
     ensures untouched { IfErr result (λ fault. is_write fault ≡ false → sink.new ≡ sink.old) }
 {
     let plot = match read_plot(alloc, source) {
