@@ -12,7 +12,7 @@ fn bits(rt: &HostRuntime, page: Page, plot: &[u8]) -> Result<Vec<u8>, Fail> {
     let picture = picture_bytes(rt.alloc(), &job, plot)?;
     let rows = 8 * page.width.div_ceil(64) as usize;
     let mut bits = Vec::new(rt.alloc());
-    bits.extend_from_slice(&picture.as_slice()[picture.len() - rows..])?;
+    bits.extend_from_slice(&picture.as_slice()[picture.len().saturating_sub(rows)..])?;
     Ok(bits)
 }
 
