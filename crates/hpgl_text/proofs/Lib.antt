@@ -1,3 +1,5 @@
+mod CodedReading
+mod Spellings
 mod Digits
 mod NumberSizes
 mod Places

@@ -1,5 +1,6 @@
 pub mod Bytes
 pub mod Numbers
+pub mod Coded
 pub mod Ends
 pub mod Silent
 pub mod Shapes

@@ -1,7 +1,9 @@
 //! From the bytes of a plot to its instructions.
 #![tactic(auto)]
 
+mod base;
 mod bytes;
+mod coded;
 mod content;
 mod fault;
 mod item;
@@ -18,6 +20,8 @@ mod silent;
 #[cfg(test)]
 mod tests;
 
+pub use base::Base;
+pub use coded::read_coded;
 pub use fault::TextFault;
 pub use item::{Body, Item};
 pub use number::Number;
