@@ -8,3 +8,4 @@ mod Skips
 mod ParameterLists
 mod Cuts
 mod Examples
+mod PolylineExamples

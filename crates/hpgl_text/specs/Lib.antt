@@ -3,6 +3,10 @@ pub mod Numbers
 pub mod Coded
 pub mod Ends
 pub mod Silent
+pub mod EntryShapes
+pub mod SeenEntries
+pub mod Polylines
+pub mod Entries
 pub mod Shapes
 pub mod Stores
 pub mod Seen

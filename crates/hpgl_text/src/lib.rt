@@ -4,14 +4,18 @@
 mod base;
 mod bytes;
 mod coded;
+mod coding;
 mod content;
+mod entry;
 mod fault;
 mod item;
 pub mod laws;
+mod mark;
 mod mnemonic;
 mod number;
 mod numbers;
 mod parameters;
+mod piece;
 mod program;
 mod reading;
 #[cfg(test)]
@@ -19,9 +23,11 @@ mod real_plots;
 mod silent;
 #[cfg(test)]
 mod tests;
+mod whole;
 
 pub use base::Base;
 pub use coded::read_coded;
+pub use entry::{Entry, Part};
 pub use fault::TextFault;
 pub use item::{Body, Item};
 pub use number::Number;
