@@ -9,3 +9,6 @@ mod ParameterLists
 mod Cuts
 mod Examples
 mod PolylineExamples
+mod Coordinates
+mod StrayLists
+mod EntryLists

@@ -1,5 +1,5 @@
 -- The definitions of coded numbers and polylines at some texts.
-use Rattle.std.proofs.Common.{◌≡◌, refl, ℕ, ◌*◌, ℤ, pos, negsuc, neg_ℤ, List, [], ◌∷◌, ◌++◌, codes, Bool, true, false, replicate}
+use Rattle.std.proofs.Common.{◌≡◌, refl, ℕ, ◌*◌, ℤ, pos, negsuc, neg_ℤ, List, [], ◌∷◌, ◌++◌, codes, true, false, replicate}
 use Rattle.hpgl_text.specs.declared.base.Base.TheVariants.{SixtyFour, ThirtyTwo}
 use Rattle.hpgl_text.specs.Coded.{begins_with_coded, coded_value, coded_length, spell}
 use Rattle.hpgl_text.specs.EntryShapes.{EntryShape, Pen, Pair, Bad, Stray}

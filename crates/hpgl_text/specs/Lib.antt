@@ -7,6 +7,7 @@ pub mod EntryShapes
 pub mod SeenEntries
 pub mod Polylines
 pub mod Entries
+pub mod Carried
 pub mod Shapes
 pub mod Stores
 pub mod Seen

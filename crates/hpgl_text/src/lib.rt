@@ -2,10 +2,12 @@
 #![tactic(auto)]
 
 mod base;
+mod bits;
 mod bytes;
 mod coded;
 mod coding;
 mod content;
+mod coordinate;
 mod entry;
 mod fault;
 mod item;
@@ -16,6 +18,7 @@ mod number;
 mod numbers;
 mod parameters;
 mod piece;
+mod polyline;
 mod program;
 mod reading;
 #[cfg(test)]

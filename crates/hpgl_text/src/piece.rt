@@ -6,6 +6,7 @@ ghost use Rattle.hpgl_text.specs.Coded.{digits_of, is_inner, is_last, coded_leng
 ghost use Rattle.hpgl_text.specs.Polylines.{is_flag, starts_number, is_passed, gap_length, plain, without_number, is_within, most_behind, flag_mark, flag_piece, pair_piece, is_cut, number_piece, piece_at};
 
 use crate::base::Base;
+use crate::bits::FractionBits;
 use crate::bytes::{after, byte_at, is_blank_byte};
 use crate::coded::first_coded;
 use crate::mark::{Flag, Mark};
@@ -38,6 +39,7 @@ pub fn read_piece<'a>(base: Base, closed: bool, text: &'a [u8]) -> Piece<'a>
     requires { 0 < length text.now }
     ensures value { result ≡ piece_at base closed text.now }
     ensures within { (0 < result.bytes) × (result.bytes ≤ length text.now) }
+    ensures gap { result.gap_at + length result.gap ≤ result.bytes }
 {
     match text[0] {
         b'7' => plain_piece(Mark::Narrow, 1),
@@ -73,6 +75,7 @@ fn plain_piece<'a>(mark: Mark, bytes: usize) -> Piece<'a>
 fn read_flag<'a>(flag: Flag, base: Base, closed: bool, text: &'a [u8]) -> Piece<'a>
     ensures value { result ≡ flag_piece flag base closed text.now }
     ensures within { (0 < result.bytes) × (result.bytes ≤ 1 + length text.now) }
+    ensures gap { result.gap_at + length result.gap ≤ result.bytes }
 {
     let gap = gap_count(base, text);
     let ahead = after(text, gap);
@@ -95,6 +98,7 @@ fn read_numbers<'a>(base: Base, closed: bool, text: &'a [u8]) -> Piece<'a>
     requires { 0 < length text.now }
     ensures value { result ≡ number_piece base closed text.now }
     ensures within { (0 < result.bytes) × (result.bytes ≤ length text.now) }
+    ensures gap { result.gap_at + length result.gap ≤ result.bytes }
 {
     match first_coded(text, base) {
         Some((x, bytes)) => read_second(x, bytes, base, closed, after(text, bytes)),
@@ -114,6 +118,7 @@ fn read_second<'a>(x: Whole, first: usize, base: Base, closed: bool, text: &'a [
     requires small { first + length text.now < 2 ^ 63 }
     ensures value { result ≡ pair_piece x first base closed text.now }
     ensures within { (0 < result.bytes) × (result.bytes ≤ first + length text.now) }
+    ensures gap { result.gap_at + length result.gap ≤ result.bytes }
 {
     let gap = gap_count(base, text);
     let ahead = after(text, gap);
@@ -215,13 +220,13 @@ fn is_number_within(most: u8, number: Whole) -> bool
 
 // A flag with its number.
 fn mark_with(flag: Flag, number: Whole) -> Mark
-    requires { nat_abs number ≤ 255 }
+    requires { nat_abs number ≤ most_behind flag }
     ensures { result ≡ flag_mark flag (nat_abs number) }
 {
     let number = number.get().unsigned_abs() as u8;
     match flag {
         Flag::Pen => Mark::Pen(number),
-        Flag::FractionBits => Mark::FractionBits(number),
+        Flag::FractionBits => Mark::FractionBits(FractionBits::new(number)),
     }
 }
 
