@@ -2,6 +2,7 @@ pub mod Bounds
 pub mod Bridge
 pub mod Ends
 pub mod Pairs
+pub mod Runs
 pub mod Widths
 pub mod OnAxes
 pub mod Sound
@@ -18,3 +19,4 @@ mod MoveExamples
 mod FrameExamples
 mod WindowExamples
 mod NoteExamples
+mod PolylineExamples

@@ -1,7 +1,9 @@
 -- What is noted on the items of a plot.
-use Rattle.std.specs.Prelude.{◌%◌, ◌==◌, Bool, false, is_none, List, [], ◌∷◌, ◌++◌, length, Option, Some, None, ℤ, if◌then◌else◌}
+use Rattle.std.specs.Prelude.{ℕ, ◌%◌, ◌==◌, Bool, false, is_none, List, [], ◌∷◌, ◌++◌, length, Option, Some, None, ℤ, if◌then◌else◌}
 use Rattle.std.specs.List.{flat_map}
-use Rattle.hpgl_text.specs.Shapes.{ItemShape, BodyShape, Params, Label, Terminator}
+use Rattle.hpgl_text.specs.EntryShapes.{PartShape, EntryShape}
+use Rattle.hpgl_text.specs.EntryShapes as part
+use Rattle.hpgl_text.specs.Shapes.{ItemShape, BodyShape, Params, Coded, Label, Terminator}
 use Rattle.hpgl_text.specs.Shapes as shape
 use Rattle.hpgl_plot.specs.declared.note.Note.{Note}
 use Rattle.hpgl_plot.specs.declared.note.NoteKind.{NoteKind}
@@ -43,6 +45,7 @@ is_wrong_item item = is_wrong_body (word_of item.code) item.body
 -- what is noted on a body
 abbrev pub noted : Option Word → BodyShape → Option NoteKind
 noted word (Params ns) = if is_wrong_with word ns then Some Bad else None
+noted word (Coded entries) = None
 noted word (Label text) = None
 noted word (Terminator byte) = None
 noted word shape.Skipped = Some Skipped
@@ -53,12 +56,29 @@ noted word (shape.Stray byte) = Some (Stray byte)
 abbrev pub open_noted : Bool → Option NoteKind
 open_noted unended = if unended then Some Open else None
 
-abbrev pub note_list : ItemShape → Option NoteKind → List Note
-note_list item (Some kind) = record { at = item.at; code = item.code; kind = kind } ∷ []
-note_list item None = []
+abbrev pub note_at : List ℕ → ℕ → Option NoteKind → List Note
+note_at code at (Some kind) = record { at = at; code = code; kind = kind } ∷ []
+note_at code at None = []
+
+-- what is noted within a PE, at its own places
+abbrev pub part_noted : PartShape → Option NoteKind
+part_noted (part.Pen n) = None
+part_noted (part.Pair up absolute x y) = None
+part_noted part.Bad = Some Bad
+part_noted (part.Stray byte) = Some (Stray byte)
+
+abbrev pub entry_note : List ℕ → EntryShape → List Note
+entry_note code e = note_at code e.at (part_noted e.what)
+
+abbrev pub entries_in : BodyShape → List EntryShape
+entries_in (Coded entries) = entries
+entries_in _ = []
 
 abbrev pub notes_of : ItemShape → List Note
-notes_of item = note_list item (noted (word_of item.code) item.body) ++ note_list item (open_noted item.unended)
+notes_of item =
+    note_at item.code item.at (noted (word_of item.code) item.body)
+    ++ (flat_map (entry_note item.code) (entries_in item.body)
+    ++ note_at item.code item.at (open_noted item.unended))
 
 -- the notes on a plot, in the order of its items
 abbrev pub notes : List ItemShape → List Note

@@ -4,15 +4,15 @@ use Rattle.hpgl_plot.specs.declared.page.Page.{Page}
 use Rattle.hpgl_plot.specs.declared.state.Spot.{Spot}
 use Rattle.hpgl_plot.specs.declared.state.State.{State}
 use Rattle.hpgl_plot.specs.Segments.{Segment, is_end}
-use Rattle.hpgl_plot.specs.Steps.{Step, Touch, Move}
+use Rattle.hpgl_plot.specs.Steps.{Step, Touch, Move, Go}
 use Rattle.hpgl_plot.specs.Frames.{Frame, place, target, state_of}
 
 abbrev pub frame_in : State → Frame
 frame_in s = record { points = s.points; scaling = s.scaling; rotation = s.rotation }
 
 -- the place of a move
-abbrev pub moved_place : Page → State → ℤ → ℤ → Spot
-moved_place page s x y = place page (frame_in s) (target s.is_relative s.coordinates x y)
+abbrev pub moved_place : Page → State → Bool → ℤ → ℤ → Spot
+moved_place page s relative x y = place page (frame_in s) (target relative s.coordinates x y)
 
 -- a place lies within 65,536 units (1,048,576 grains) of the page's lower left corner in x and in y
 abbrev pub is_in_range : Spot → Bool
@@ -24,7 +24,8 @@ are_in_range (q ∷ qs) = is_in_range q && are_in_range qs
 
 -- the places that a step names, whether it draws or not
 abbrev pub reached : Page → State → Step → List Spot
-reached page s (Move x y) = moved_place page s x y ∷ []
+reached page s (Move x y) = moved_place page s s.is_relative x y ∷ []
+reached page s (Go relative x y) = moved_place page s relative x y ∷ []
 reached page s _ = []
 
 -- a stroke between two places; pen 0 makes none
@@ -33,7 +34,8 @@ drawn s a b = if nat_eq s.pen 0 then [] else (record { pen = s.pen; width = slic
 
 -- the strokes of a step: a move with the pen down, and a dot where a pen that is up touches the paper
 abbrev pub made : Page → State → Step → List Segment
-made page s (Move x y) = if s.is_down then drawn s s.place (moved_place page s x y) else []
+made page s (Move x y) = if s.is_down then drawn s s.place (moved_place page s s.is_relative x y) else []
+made page s (Go relative x y) = if s.is_down then drawn s s.place (moved_place page s relative x y) else []
 made page s Touch = if s.is_down then [] else drawn s s.place s.place
 made page s _ = []
 

@@ -24,7 +24,7 @@ word_of code =
 -- the instructions that are known but not yet drawn
 abbrev pub later_codes : List (List ℕ)
 later_codes =
-    codes "PE" ∷ codes "EA" ∷ codes "ER" ∷ codes "CI" ∷ codes "AA" ∷ codes "AR" ∷ codes "LB" ∷ codes "DT" ∷ codes "SI" ∷ codes "DI" ∷ []
+    codes "EA" ∷ codes "ER" ∷ codes "CI" ∷ codes "AA" ∷ codes "AR" ∷ codes "LB" ∷ codes "DT" ∷ codes "SI" ∷ codes "DI" ∷ []
 
 abbrev pub is_later : List ℕ → Bool
 is_later code = list_any (bytes_eq code) later_codes

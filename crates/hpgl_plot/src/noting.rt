@@ -1,10 +1,12 @@
 //! Noting what is skipped, wrong or open.
 ghost use Rattle.std.specs.Prelude.{◌≡◌, ◌++◌, IfOk};
-ghost use Rattle.hpgl_plot.specs.Notes.{noted, notes_of, is_wrong_item};
+ghost use Rattle.std.specs.List.{flat_map};
+ghost use Rattle.hpgl_text.specs.SeenEntries.{part_shape};
+ghost use Rattle.hpgl_plot.specs.Notes.{noted, notes_of, is_wrong_item, entry_note, part_noted};
 ghost use Rattle.hpgl_plot.specs.Words.{word_of};
 
 use crate::note::{Note, NoteKind};
-use hpgl_text::{Body, Item};
+use hpgl_text::{Body, Entry, Item, Part};
 use std::alloc::AllocError;
 
 /// Puts to the notes what is noted on an item, which may be an instruction with wrong parameters.
@@ -13,22 +15,43 @@ pub fn note_item(item: &Item<'_>, is_wrong: bool, notes: &mut Vec<Note>) -> Resu
     ensures { IfOk result (λ _. notes.new.items ≡ notes.old.items ++ notes_of item.now) }
 {
     if let Some(kind) = noted_kind(item, is_wrong) {
-        notes.push(note_on(item, kind))?;
+        notes.push(note_on(item.code, item.at, kind))?;
+    }
+    if let Body::Coded(entries) = &item.body {
+        note_entries(item.code, entries.as_slice(), notes)?;
     }
     if item.unended {
-        notes.push(note_on(item, NoteKind::Open))?;
+        notes.push(note_on(item.code, item.at, NoteKind::Open))?;
     }
     Ok(())
 }
 
-fn note_on(item: &Item<'_>, kind: NoteKind) -> Note
-    ensures { result ≡ record { at = item.now.at; code = item.now.code; kind = kind } }
+// What is noted within a PE.
+fn note_entries(code: [u8; 2], entries: &[Entry], notes: &mut Vec<Note>) -> Result<(), AllocError>
+    ensures { IfOk result (λ _. notes.new.items ≡ notes.old.items ++ flat_map (entry_note code) entries.now) }
 {
-    Note {
-        at: item.at,
-        code: item.code,
-        kind,
+    for entry in entries {
+        if let Some(kind) = part_kind(entry.what) {
+            notes.push(note_on(code, entry.at, kind))?;
+        }
     }
+    Ok(())
+}
+
+fn part_kind(part: Part) -> Option<NoteKind>
+    ensures { result ≡ part_noted (part_shape part) }
+{
+    match part {
+        Part::Pen(_) | Part::Pair { .. } => None,
+        Part::Bad => Some(NoteKind::Bad),
+        Part::Stray(byte) => Some(NoteKind::Stray(byte)),
+    }
+}
+
+fn note_on(code: [u8; 2], at: usize, kind: NoteKind) -> Note
+    ensures { result ≡ record { at = at; code = code; kind = kind } }
+{
+    Note { at, code, kind }
 }
 
 // What is noted on an item besides that it is open.
@@ -38,7 +61,7 @@ fn noted_kind(item: &Item<'_>, is_wrong: bool) -> Option<NoteKind>
 {
     match &item.body {
         Body::Params(_) => { if is_wrong { Some(NoteKind::Bad) } else { None } }
-        Body::Label(_) | Body::Terminator(_) => None,
+        Body::Coded(_) | Body::Label(_) | Body::Terminator(_) => None,
         Body::Skipped => Some(NoteKind::Skipped),
         Body::Bad => Some(NoteKind::Bad),
         Body::Stray(byte) => Some(NoteKind::Stray(*byte)),

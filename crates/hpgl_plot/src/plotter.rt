@@ -3,7 +3,7 @@ ghost use Rattle.std.specs.Prelude.{◌≡◌, ◌≤◌, [], nat_abs, slice_ind
 ghost use Rattle.hpgl_plot.specs.Bounds.{IsSound, IsInRange, IsWindow, AreWidths};
 ghost use Rattle.hpgl_plot.specs.Machine.{seen, step, run, Runs, kept_with, full_with};
 ghost use Rattle.hpgl_plot.specs.Strokes.{drawn};
-ghost use Rattle.hpgl_plot.specs.Steps.{Touch, Lower, Relate, Move, moves, steps_by, steps_of};
+ghost use Rattle.hpgl_plot.specs.Steps.{Touch, Lower, Relate, Move, Go, moves, steps_by, steps_of, part_steps, entry_steps};
 ghost use Rattle.hpgl_plot.specs.Notes.{is_wrong, is_wrong_item};
 
 mod settings;
@@ -13,7 +13,7 @@ use crate::place::{is_place_in_range, place_on, target_of};
 use crate::state::{Spot, State};
 use crate::stroke::Stroke;
 use crate::word::{Word, word_of_code};
-use hpgl_text::{Body, Item, Number};
+use hpgl_text::{Body, Entry, Item, Number, Part};
 
 /// The most strokes that a plot may have.
 const MOST_STROKES: usize = 4_194_304;
@@ -45,9 +45,18 @@ impl Plotter {
         ensures runs { Runs (run page.now (seen self.old) (steps_of item.now)) (seen self.new) result }
         ensures wrong { IfOk result (λ b. b ≡ is_wrong_item item.now) }
     {
-        match (word_of_code(item.code), &item.body) {
-            (Some(word), Body::Params(numbers)) => self.obey(page, word, numbers.as_slice()),
-            _ => Ok(false),
+        match &item.body {
+            Body::Params(numbers) => match word_of_code(item.code) {
+                Some(word) => self.obey(page, word, numbers.as_slice()),
+                None => Ok(false),
+            },
+            Body::Coded(entries) => {
+                self.follow_entries(page, entries.as_slice())?;
+                Ok(false)
+            }
+            Body::Label(_) | Body::Terminator(_) | Body::Skipped | Body::Bad | Body::Stray(_) => Ok(
+                false,
+            ),
         }
     }
 
@@ -112,13 +121,55 @@ impl Plotter {
         Ok(())
     }
 
-    // A move to coordinates, drawn if the pen is down.
+    // What each entry of a PE asks for.
+    fn follow_entries(&mut self, page: &Page, entries: &[Entry]) -> Result<(), Stop>
+        requires sound { IsSound page.now self.old.state }
+        ensures sound { IfOk result (λ _. IsSound page.now self.new.state) }
+        ensures runs { Runs (run page.now (seen self.old) (entry_steps entries.now)) (seen self.new) result }
+    {
+        for entry in entries {
+            self.follow_entry(page, entry)?;
+        }
+        Ok(())
+    }
+
+    fn follow_entry(&mut self, page: &Page, entry: &Entry) -> Result<(), Stop>
+        requires sound { IsSound page.now self.old.state }
+        ensures sound { IfOk result (λ _. IsSound page.now self.new.state) }
+        ensures runs { Runs (run page.now (seen self.old) (part_steps entry.now.what)) (seen self.new) result }
+    {
+        match entry.what {
+            Part::Pen(pen) => {
+                self.select(page, pen);
+                Ok(())
+            }
+            Part::Pair { up, absolute, x, y } => {
+                self.set_down(page, !up);
+                self.go(page, !absolute, x, y)?;
+                Ok(())
+            }
+            Part::Bad | Part::Stray(_) => Ok(()),
+        }
+    }
+
+    // A move to coordinates, as PA or PR said last.
+    #[tactic(auto, unfolding(crate::specs::Machine::step))]
     fn move_to(&mut self, page: &Page, x: Number, y: Number) -> Result<(), Stop>
         requires sound { IsSound page.now self.old.state }
         ensures sound { IfOk result (λ _. IsSound page.now self.new.state) }
         ensures runs { Runs (step page.now (seen self.old) (Move x y)) (seen self.new) result }
     {
         let is_relative = self.state.is_relative;
+        self.go(page, is_relative, x, y)?;
+        Ok(())
+    }
+
+    // A move to coordinates, drawn if the pen is down.
+    fn go(&mut self, page: &Page, is_relative: bool, x: Number, y: Number) -> Result<(), Stop>
+        requires sound { IsSound page.now self.old.state }
+        ensures sound { IfOk result (λ _. IsSound page.now self.new.state) }
+        ensures runs { Runs (step page.now (seen self.old) (Go is_relative x y)) (seen self.new) result }
+    {
         let target = target_of(&self.state, is_relative, x.millionths(), y.millionths());
         let place = place_on(page, &self.state, target);
         if !is_place_in_range(place) {

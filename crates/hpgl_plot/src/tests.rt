@@ -242,6 +242,56 @@ note 13 SC Bad\n",
 }
 
 #[test]
+fn encoded_polylines(rt: HostRuntime) -> Result<(), Fail> {
+    let plots = [
+        (
+            square()?,
+            b"PU0,28;PE?\xc1\xbf;".as_slice(),
+            "1 224 in 0 0 1024 1024: 0,448 to 1024,448\n",
+        ),
+        (
+            square()?,
+            b"PU0,28;PE7?c_;".as_slice(),
+            "1 224 in 0 0 1024 1024: 0,448 to 1024,448\n",
+        ),
+        (
+            square()?,
+            b"PU0,28;PE7>c?o_;".as_slice(),
+            "1 224 in 0 0 1024 1024: 0,448 to 1024,448\n",
+        ),
+        (
+            square()?,
+            b"PU0,28;PE7:c?c_;".as_slice(),
+            "2 224 in 0 0 1024 1024: 0,448 to 1024,448\n",
+        ),
+        (
+            square()?,
+            b"PE7<=_w?c_;".as_slice(),
+            "1 224 in 0 0 1024 1024: 0,192 to 1024,192\n",
+        ),
+        (square()?, b"PEG".as_slice(), "note 0 PE Open\n"),
+        (
+            square()?,
+            b"PU0,28;PE:;PU0,28;PE?\xc1;".as_slice(),
+            "note 9 PE Bad\n\
+note 20 PE Bad\n",
+        ),
+        (
+            square()?,
+            b"PE7_!w;PE7_w:".as_slice(),
+            "1 224 in 0 0 1024 1024: 0,0 to 0,192\n\
+1 224 in 0 0 1024 1024: 0,192 to 0,384\n\
+note 4 PE Stray(33)\n\
+note 7 PE Open\n",
+        ),
+    ];
+    for (page, plot, wanted) in plots {
+        assert_eq!(rt; drawing_of(rt.alloc(), &page, plot)?.as_str(), wanted);
+    }
+    Ok(())
+}
+
+#[test]
 fn refused(rt: HostRuntime) -> Result<(), Fail> {
     let plots = [
         (b"PA70000,0;IN;".as_slice(), PlotFault::OffRange { at: 0 }),

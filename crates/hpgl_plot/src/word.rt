@@ -58,6 +58,6 @@ pub fn is_later_code(code: [u8; 2]) -> bool
 {
     matches!(
         &code,
-        b"PE" | b"EA" | b"ER" | b"CI" | b"AA" | b"AR" | b"LB" | b"DT" | b"SI" | b"DI"
+        b"EA" | b"ER" | b"CI" | b"AA" | b"AR" | b"LB" | b"DT" | b"SI" | b"DI"
     )
 }

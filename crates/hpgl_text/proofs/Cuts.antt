@@ -32,8 +32,8 @@ length_by : (mnemonic : Bool) (n : ℕ) → 0 < elim mnemonic [ true ↦ 2 + n |
 length_by true n = omega arith
 length_by false n = omega arith
 
-pub item_takes : (terminator : ℕ) (text : List ℕ) → 0 < item_length terminator text
-item_takes terminator text = length_by (begins_with_mnemonic text) (instruction terminator text).bytes
+pub item_takes : (terminator at : ℕ) (text : List ℕ) → 0 < item_length terminator at text
+item_takes terminator at text = length_by (begins_with_mnemonic text) (instruction terminator at text).bytes
 
 -- each cut by steps is the one that is computed
 pub same_cut : {plot : List ℕ} {before : List ItemShape} {at : ℕ} {items : List ItemShape} → CutFrom plot before at items → (n : ℕ) → length plot ≤ n + at → items ≡ items_from n plot before at
@@ -42,7 +42,7 @@ same_cut {plot} {before} {at} (silent l s c) zero h = absurd (omega arith)
 same_cut {plot} {before} {at} (silent l s c) (suc n) h = same_cut c n (omega arith) ∙ sym (passes_silent n plot before at l s)
 same_cut {plot} {before} {at} (found l s c) zero h = absurd (omega arith)
 same_cut {plot} {before} {at} (found l s c) (suc n) h =
-    ap (λ (is : List ItemShape). item_at plot before at ∷ is) (same_cut c n (omega (arith, item_takes (terminator_after before) (drop at plot)))) ∙ sym (finds_item n plot before at l s)
+    ap (λ (is : List ItemShape). item_at plot before at ∷ is) (same_cut c n (omega (arith, item_takes (terminator_after before) at (drop at plot)))) ∙ sym (finds_item n plot before at l s)
 
 -- and what is computed is a cut by steps
 pub cut_by_steps : (n : ℕ) (plot : List ℕ) (before : List ItemShape) (at : ℕ) → length plot ≤ n + at → CutFrom plot before at (items_from n plot before at)
@@ -54,7 +54,7 @@ cut_by_steps (suc n) plot before at h = elim (cases_lt at (length plot)) [
         (silent here quiet (cut_by_steps n plot before (at + silent_at plot at) (omega arith)))
     | inr loud ↦ (let none : silent_at plot at ≡ 0 = omega arith in
         subst (λ (is : List ItemShape). CutFrom plot before at is) (sym (finds_item n plot before at here none))
-        (found here none (cut_by_steps n plot (before ++ item_at plot before at ∷ []) (next_place plot before at) (omega (arith, item_takes (terminator_after before) (drop at plot))))))
+        (found here none (cut_by_steps n plot (before ++ item_at plot before at ∷ []) (next_place plot before at) (omega (arith, item_takes (terminator_after before) at (drop at plot))))))
   ]
 ]
 
@@ -107,12 +107,12 @@ pub passed : (plot : List ℕ) (items : List ItemShape) (terminator at n : ℕ) 
 passed plot items terminator at n c h s p w = silent_by c.left plot items terminator at n c.enough c.items_are c.terminator_is h s p w
 
 item_by : (left : ℕ) (plot : List ℕ) (items : List ItemShape) (t u at n : ℕ) (item : ItemShape) → length plot ≤ left + at → cut plot ≡ items ++ items_from left plot items at
-    → t ≡ terminator_after items → at < length plot → silent_at plot at ≡ 0 → item ≡ item_of t at (drop at plot) → n ≡ item_length t (drop at plot) → 0 < n → at + n ≤ length plot
+    → t ≡ terminator_after items → at < length plot → silent_at plot at ≡ 0 → item ≡ item_of t at (drop at plot) → n ≡ item_length t at (drop at plot) → 0 < n → at + n ≤ length plot
     → u ≡ terminator_after (items ++ item ∷ []) → Cutting plot (items ++ item ∷ []) u (at + n)
 item_by zero plot items t u at n item e i is h s v m p w v' = absurd (omega arith)
 item_by (suc left) plot items t u at n item e i is h s v m p w v' =
     let same : item_at plot items at ≡ item = ap (λ (k : ℕ). item_of k at (drop at plot)) (sym is) ∙ sym v in
-    let next : next_place plot items at ≡ at + n = ap (λ (k : ℕ). at + item_length k (drop at plot)) (sym is) ∙ ap (λ (k : ℕ). at + k) (sym m) in
+    let next : next_place plot items at ≡ at + n = ap (λ (k : ℕ). at + item_length k at (drop at plot)) (sym is) ∙ ap (λ (k : ℕ). at + k) (sym m) in
     record {
       left = left;
       enough = omega arith;
@@ -125,7 +125,7 @@ item_by (suc left) plot items t u at n item e i is h s v m p w v' =
     }
 
 pub found_one : (plot : List ℕ) (items : List ItemShape) (t u at n : ℕ) (item : ItemShape) → Cutting plot items t at → at < length plot → silent_at plot at ≡ 0
-    → item ≡ item_of t at (drop at plot) → n ≡ item_length t (drop at plot) → 0 < n → at + n ≤ length plot → MatchOption (terminator_set item) (u ≡ t) (λ byte. u ≡ byte)
+    → item ≡ item_of t at (drop at plot) → n ≡ item_length t at (drop at plot) → 0 < n → at + n ≤ length plot → MatchOption (terminator_set item) (u ≡ t) (λ byte. u ≡ byte)
     → Cutting plot (items ++ item ∷ []) u (at + n)
 found_one plot items t u at n item c h s v m p w o =
     item_by c.left plot items t u at n item c.enough c.items_are c.terminator_is h s v m p w (terminator_push items item t u c.terminator_is o)

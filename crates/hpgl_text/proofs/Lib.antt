@@ -4,6 +4,7 @@ mod Digits
 mod NumberSizes
 mod Places
 mod Labels
+mod PolylineEnds
 mod Skips
 mod ParameterLists
 mod Cuts

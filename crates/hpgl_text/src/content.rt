@@ -1,15 +1,18 @@
 //! What stands behind a mnemonic.
-ghost use Rattle.std.specs.Prelude.{◌≡◌, ◌≤◌, length, false, IfOk};
+ghost use Rattle.std.specs.Prelude.{◌≡◌, ◌+◌, ◌<◌, ◌≤◌, ◌^◌, length, false, IfOk};
 ghost use Rattle.hpgl_text.specs.Shapes as shape;
 ghost use Rattle.hpgl_text.specs.Seen.{body_shape};
+ghost use Rattle.hpgl_text.specs.Entries.{entries};
 ghost use Rattle.hpgl_text.specs.Items.{parameters, label, label_end, label_end_body, polyline, symbol, buffer, content_of};
 
-use crate::bytes::{after, count_through, is_at_end, skip_count};
+use crate::bytes::{after, before, count_through, is_at_end, skip_count};
+use crate::entries::Entries;
 use crate::item::Body;
 use crate::mnemonic::Kind;
 use crate::number::Number;
 use crate::numbers::Numbers;
 use crate::parameters::read_numbers;
+use crate::polyline::read_entries;
 use memchr::memchr;
 use std::alloc::{AllocError, Global};
 use std::marker::Model;
@@ -29,6 +32,7 @@ pub struct Content<'a> {
 }
 
 impl<'a> Model for Content<'a> {
+    ghost use Rattle.hpgl_text.specs.Entries.{entries};
     ghost use Rattle.hpgl_text.specs.Items.{Content};
 
     ghost Value = { Content };
@@ -38,24 +42,27 @@ impl<'a> Model for Content<'a> {
     ghost view = { λ c. record { body = body_shape c.body; unended = c.unended; bytes = c.bytes } };
 }
 
-/// What stands behind a mnemonic of this kind, while labels end with this terminator. Numbers are
+/// What stands behind a mnemonic of this kind, at this place of the plot, while labels end with this
+/// terminator. Numbers are
 /// read into the scratch list first, so that few of them take no allocation, and more of them no
 /// room to spare.
 pub fn read_content<'a>(
     alloc: Global,
     kind: Kind,
+    at: usize,
     text: &'a [u8],
     terminator: u8,
     scratch: &mut Vec<Number>,
 ) -> Result<Content<'a>, AllocError>
-    ensures value { IfOk result (λ content. content ≡ content_of kind terminator text.now) }
+    requires { at + length text.now < 2 ^ 63 }
+    ensures value { IfOk result (λ content. content ≡ content_of kind terminator at text.now) }
     ensures within { IfOk result (λ content. content.bytes ≤ length text.now) }
 {
     match kind {
         Kind::Parameters => read_parameters(alloc, text, scratch),
         Kind::LabelText => Ok(read_label(text, terminator)),
         Kind::LabelEnd => Ok(read_label_end(text)),
-        Kind::Polyline => Ok(skip_polyline(text)),
+        Kind::Polyline => read_polyline(alloc, at, text),
         Kind::Symbol => Ok(skipped(skip_symbol(text))),
         Kind::Buffer => Ok(skipped(count_through(terminator, text))),
         Kind::Unknown => Ok(skipped(skip_count(text))),
@@ -149,19 +156,33 @@ fn terminator_of<'a>(byte: u8) -> Body<'a>
     }
 }
 
-// All up to a semicolon and with it.
-fn skip_polyline<'a>(text: &'a [u8]) -> Content<'a>
-    ensures value { result ≡ polyline text.now }
-    ensures within { result.bytes ≤ length text.now }
+// The entries up to a semicolon, or up to the plot's end.
+fn read_polyline<'a>(alloc: Global, at: usize, text: &'a [u8]) -> Result<Content<'a>, AllocError>
+    requires { at + length text.now < 2 ^ 63 }
+    ensures value { IfOk result (λ content. content ≡ polyline at text.now) }
+    ensures within { IfOk result (λ content. content.bytes ≤ length text.now) }
 {
     match memchr(b';', text) {
-        Some(end) => skipped(end + 1),
-        None => Content {
-            body: Body::Skipped,
+        Some(end) => Ok(Content {
+            body: coded(alloc, true, at, before(text, end))?,
+            unended: false,
+            bytes: end + 1,
+        }),
+        None => Ok(Content {
+            body: coded(alloc, false, at, text)?,
             unended: true,
             bytes: text.len(),
-        },
+        }),
     }
+}
+
+// The entries of a PE.
+fn coded<'a>(alloc: Global, closed: bool, at: usize, text: &[u8]) -> Result<Body<'a>, AllocError>
+    requires { at + length text.now < 2 ^ 63 }
+    ensures { IfOk result (λ body. body_shape body ≡ shape.Coded (entries closed at text.now)) }
+{
+    let list = read_entries(alloc, closed, at, text)?;
+    Ok(Body::Coded(Entries::from_vec(alloc, list)?))
 }
 
 // How many bytes stand behind SM: one, unless it is a semicolon, and what the skip rule passes.

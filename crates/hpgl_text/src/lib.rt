@@ -8,6 +8,7 @@ mod coded;
 mod coding;
 mod content;
 mod coordinate;
+mod entries;
 mod entry;
 mod fault;
 mod item;
@@ -30,6 +31,7 @@ mod whole;
 
 pub use base::Base;
 pub use coded::read_coded;
+pub use entries::Entries;
 pub use entry::{Entry, Part};
 pub use fault::TextFault;
 pub use item::{Body, Item};

@@ -1,5 +1,5 @@
 //! Programs: plots and what they are cut into.
-ghost use Rattle.std.specs.Prelude.{◌≡◌, ◌↔◌, ◌+◌, ◌<◌, ◌≤◌, length, drop, Err, IfOk, MatchOption, Some, None};
+ghost use Rattle.std.specs.Prelude.{◌≡◌, ◌↔◌, ◌+◌, ◌<◌, ◌≤◌, ◌^◌, length, drop, Err, IfOk, MatchOption, Some, None};
 ghost use Rattle.std.specs.Bool.{OnTrue};
 ghost use Rattle.hpgl_text.specs.Items.{begins_with_mnemonic, item_of, item_length};
 ghost use Rattle.hpgl_text.specs.Cut.{cut, terminator_set};
@@ -95,9 +95,10 @@ fn read_item<'a>(
     terminator: u8,
     scratch: &mut Vec<Number>,
 ) -> Result<(Item<'a>, usize), AllocError>
-    requires { 0 < length text.now }
+    requires some { 0 < length text.now }
+    requires room { at + length text.now < 2 ^ 63 }
     ensures item { IfOk result (λ read. read.0 ≡ item_of terminator at text.now) }
-    ensures bytes { IfOk result (λ read. read.1 ≡ item_length terminator text.now) }
+    ensures bytes { IfOk result (λ read. read.1 ≡ item_length terminator at text.now) }
     ensures within { IfOk result (λ read. (0 < read.1) × (read.1 ≤ length text.now)) }
 {
     if !does_begin_with_mnemonic(text) {
@@ -113,6 +114,7 @@ fn read_item<'a>(
     let content = read_content(
         alloc,
         kind_of_code(code),
+        at + 2,
         after(text, 2),
         terminator,
         scratch,
@@ -147,6 +149,6 @@ fn terminator_behind(item: &Item<'_>, terminator: u8) -> u8
                 terminator
             }
         }
-        Body::Label(_) | Body::Skipped | Body::Bad | Body::Stray(_) => terminator,
+        Body::Label(_) | Body::Coded(_) | Body::Skipped | Body::Bad | Body::Stray(_) => terminator,
     }
 }

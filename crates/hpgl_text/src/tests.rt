@@ -1,5 +1,5 @@
 // Plots and what they are cut into, by the printed forms of their items.
-use crate::{Number, TextFault, lex, read_number};
+use crate::{Base, Number, TextFault, lex, read_coded, read_number};
 use std::alloc::Global;
 use std::test::Fail;
 
@@ -97,6 +97,107 @@ fn numbers(rt: HostRuntime) {
     );
     assert_eq!(rt; millionths(read_number(b"8388608", 0)), None);
     assert_eq!(rt; millionths(read_number(b"12", 3)), None);
+}
+
+#[test]
+fn encoded_lines(rt: HostRuntime) -> Result<(), Fail> {
+    let items = items_of(rt.alloc(), b"PU0,28;PE\x3f\xc1\xbf;")?;
+    assert_eq!(rt;
+        items.as_str(),
+        "\
+Item { at: 0, body: Params([Number { millionths: 0 }, Number { millionths: 28000000 }]), code: [80, 85], unended: false }
+Item { at: 7, body: Coded([Entry { at: 9, what: Pair { up: false, absolute: false, x: Number { millionths: 64000000 }, y: Number { millionths: 0 } } }]), code: [80, 69], unended: false }
+"
+    );
+    let items = items_of(rt.alloc(), b"PU0,28;PE7?c_;")?;
+    assert_eq!(rt;
+        items.as_str(),
+        "\
+Item { at: 0, body: Params([Number { millionths: 0 }, Number { millionths: 28000000 }]), code: [80, 85], unended: false }
+Item { at: 7, body: Coded([Entry { at: 10, what: Pair { up: false, absolute: false, x: Number { millionths: 64000000 }, y: Number { millionths: 0 } } }]), code: [80, 69], unended: false }
+"
+    );
+    let items = items_of(rt.alloc(), b"PU0,28;PE7>c?o_;")?;
+    assert_eq!(rt;
+        items.as_str(),
+        "\
+Item { at: 0, body: Params([Number { millionths: 0 }, Number { millionths: 28000000 }]), code: [80, 85], unended: false }
+Item { at: 7, body: Coded([Entry { at: 12, what: Pair { up: false, absolute: false, x: Number { millionths: 64000000 }, y: Number { millionths: 0 } } }]), code: [80, 69], unended: false }
+"
+    );
+    let items = items_of(rt.alloc(), b"PU0,28;PE7:c?c_;")?;
+    assert_eq!(rt;
+        items.as_str(),
+        "\
+Item { at: 0, body: Params([Number { millionths: 0 }, Number { millionths: 28000000 }]), code: [80, 85], unended: false }
+Item { at: 7, body: Coded([Entry { at: 10, what: Pen(2) }, Entry { at: 12, what: Pair { up: false, absolute: false, x: Number { millionths: 64000000 }, y: Number { millionths: 0 } } }]), code: [80, 69], unended: false }
+"
+    );
+    let items = items_of(rt.alloc(), b"PU0,28;PE7<=_w?c_;")?;
+    assert_eq!(rt;
+        items.as_str(),
+        "\
+Item { at: 0, body: Params([Number { millionths: 0 }, Number { millionths: 28000000 }]), code: [80, 85], unended: false }
+Item { at: 7, body: Coded([Entry { at: 12, what: Pair { up: true, absolute: true, x: Number { millionths: 0 }, y: Number { millionths: 12000000 } } }, Entry { at: 14, what: Pair { up: false, absolute: false, x: Number { millionths: 64000000 }, y: Number { millionths: 0 } } }]), code: [80, 69], unended: false }
+"
+    );
+    Ok(())
+}
+
+#[test]
+fn wrong_polylines(rt: HostRuntime) -> Result<(), Fail> {
+    let items = items_of(rt.alloc(), b"PU0,28;PE:;")?;
+    assert_eq!(rt;
+        items.as_str(),
+        "\
+Item { at: 0, body: Params([Number { millionths: 0 }, Number { millionths: 28000000 }]), code: [80, 85], unended: false }
+Item { at: 7, body: Coded([Entry { at: 9, what: Bad }]), code: [80, 69], unended: false }
+"
+    );
+    let items = items_of(rt.alloc(), b"PU0,28;PE\x3f\xc1;")?;
+    assert_eq!(rt;
+        items.as_str(),
+        "\
+Item { at: 0, body: Params([Number { millionths: 0 }, Number { millionths: 28000000 }]), code: [80, 85], unended: false }
+Item { at: 7, body: Coded([Entry { at: 9, what: Bad }]), code: [80, 69], unended: false }
+"
+    );
+    let items = items_of(rt.alloc(), b"PU0,28;PE7?c!_#_!;")?;
+    assert_eq!(rt;
+        items.as_str(),
+        "\
+Item { at: 0, body: Params([Number { millionths: 0 }, Number { millionths: 28000000 }]), code: [80, 85], unended: false }
+Item { at: 7, body: Coded([Entry { at: 10, what: Pair { up: false, absolute: false, x: Number { millionths: 64000000 }, y: Number { millionths: 0 } } }, Entry { at: 12, what: Stray(33) }, Entry { at: 14, what: Stray(35) }, Entry { at: 15, what: Bad }]), code: [80, 69], unended: false }
+"
+    );
+    Ok(())
+}
+
+#[test]
+fn cut_polylines(rt: HostRuntime) -> Result<(), Fail> {
+    let items = items_of(rt.alloc(), b"PEG")?;
+    assert_eq!(rt;
+        items.as_str(),
+        "Item { at: 0, body: Coded([]), code: [80, 69], unended: true }\n"
+    );
+    let items = items_of(rt.alloc(), b"PE??????")?;
+    assert_eq!(rt;
+        items.as_str(),
+        "Item { at: 0, body: Coded([Entry { at: 2, what: Bad }]), code: [80, 69], unended: true }\n"
+    );
+    Ok(())
+}
+
+#[test]
+fn coded_numbers(rt: HostRuntime) {
+    assert_eq!(rt; read_coded(b"G\xc2", 0, Base::SixtyFour), Some((100, 2)));
+    assert_eq!(rt; read_coded(b"Ge", 0, Base::ThirtyTwo), Some((100, 2)));
+    assert_eq!(rt; read_coded(b"PE\xc6", 2, Base::SixtyFour), Some((-3, 3)));
+    assert_eq!(rt; read_coded(b"?????\xbf", 0, Base::SixtyFour), Some((0, 6)));
+    assert_eq!(rt; read_coded(b"??????\xbf", 0, Base::SixtyFour), None);
+    assert_eq!(rt; read_coded(b"??????_", 0, Base::ThirtyTwo), Some((0, 7)));
+    assert_eq!(rt; read_coded(b"???????_", 0, Base::ThirtyTwo), None);
+    assert_eq!(rt; read_coded(b"_", 1, Base::ThirtyTwo), None);
 }
 
 #[test]

@@ -77,7 +77,7 @@ fn plots_that_are_refused(rt: HostRuntime) -> Result<(), Fail> {
     let cases = [
         (b"CI10;".as_slice(), Fault::NotYet { at: 0 }),
         (b"PA70000,0;EA1,1;".as_slice(), Fault::NotYet { at: 10 }),
-        (b"pa1 1pe".as_slice(), Fault::NotYet { at: 5 }),
+        (b"pa1 1ea".as_slice(), Fault::NotYet { at: 5 }),
         (b"PA70000,0;IN;".as_slice(), Fault::OffRange { at: 0 }),
         (b"PA70000,0;".as_slice(), Fault::OffRange { at: 0 }),
         (b"PA1,1;PA-65537,0;".as_slice(), Fault::OffRange { at: 6 }),

@@ -25,7 +25,7 @@ steps-preserved c =
     let l = ap (λ (x : List ℕ). length x) c.after-text.ensures in
     let within = c.in_ok-item.ensures.within in
     rw c.in_ok-push.ensures.items (found_one plot c.steps.items.items c.steps.terminator c.terminator_behind-terminator.result at c.in_ok-item.bytes c.in_ok-item.item c.steps.invariant (omega arith) none
-    (c.in_ok-item.ensures.item ∙ ap (item_of c.steps.terminator at) c.after-text.ensures) (c.in_ok-item.ensures.bytes ∙ ap (item_length c.steps.terminator) c.after-text.ensures)
+    (c.in_ok-item.ensures.item ∙ ap (item_of c.steps.terminator at) c.after-text.ensures) (c.in_ok-item.ensures.bytes ∙ ap (item_length c.steps.terminator at) c.after-text.ensures)
     within.0 (omega (arith, within.1, l, length-drop at plot)) c.terminator_behind-terminator.ensures)
 
 pub returns : goal.returns
