@@ -9,7 +9,7 @@ use Rattle.hpgl_plot.specs.declared.setting.Setting.{Setting}
 use Rattle.hpgl_plot.specs.declared.setting.Setting.TheVariants.{Start, Defaults, PageCorners, FirstPoint, BothPoints, Scale, Rotate, PageWindow, CornerWindow, Pen, Width, WidthOfAll}
 use Rattle.hpgl_plot.specs.declared.state.State.{State}
 use Rattle.hpgl_plot.specs.Segments.{Segment}
-use Rattle.hpgl_plot.specs.Steps.{Step, Set, Touch, Lower, Relate, Move, Go, steps_of}
+use Rattle.hpgl_plot.specs.Steps.{Step, Set, Touch, Lower, Relate, Move, Go, Edge, steps_of}
 use Rattle.hpgl_plot.specs.Frames.{state_of}
 use Rattle.hpgl_plot.specs.Strokes.{reached, made, are_in_range, history, strokes_from, stay_in_range}
 use Rattle.hpgl_plot.specs.Plots.{strokes_after, refusal_after}
@@ -41,16 +41,17 @@ one_more_step page before (Lower b) = refl
 one_more_step page before (Relate b) = refl
 one_more_step page before (Move x y) = refl
 one_more_step page before (Go r x y) = refl
+one_more_step page before (Edge r x y) = refl
 
 -- what is kept of some strokes and then of others
-kept_with-append : (kept : List Segment) (full : Bool) (a b : List Segment) → kept_with (kept_with kept full a) (full_with kept full a) b ≡ kept_with kept full (a ++ b)
+pub kept_with-append : (kept : List Segment) (full : Bool) (a b : List Segment) → kept_with (kept_with kept full a) (full_with kept full a) b ≡ kept_with kept full (a ++ b)
 kept_with-append kept full [] b = refl
 kept_with-append kept full (s ∷ a) b = elim (tested (nat_lt (length kept) 4194304)) [
   | inl t ↦ rw t (kept_with-append (kept ++ (s ∷ [])) full a b)
   | inr t ↦ rw t (kept_with-append kept true a b)
 ]
 
-full_with-append : (kept : List Segment) (full : Bool) (a b : List Segment) → full_with (kept_with kept full a) (full_with kept full a) b ≡ full_with kept full (a ++ b)
+pub full_with-append : (kept : List Segment) (full : Bool) (a b : List Segment) → full_with (kept_with kept full a) (full_with kept full a) b ≡ full_with kept full (a ++ b)
 full_with-append kept full [] b = refl
 full_with-append kept full (s ∷ a) b = elim (tested (nat_lt (length kept) 4194304)) [
   | inl t ↦ rw t (full_with-append (kept ++ (s ∷ [])) full a b)

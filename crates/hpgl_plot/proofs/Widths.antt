@@ -6,7 +6,7 @@ use Rattle.std.proofs.lemmas.List.{get_or-replicate}
 use Rattle.std.proofs.lemmas.List.Elements.{All-head, All-tail, All-replicate}
 use Rattle.std.proofs.lemmas.Bool.Decides.{nat_tests}
 use Rattle.hpgl_plot.specs.declared.setting.Setting.TheVariants.{Start, Defaults, PageCorners, FirstPoint, BothPoints, Scale, Rotate, PageWindow, CornerWindow, Pen, Width, WidthOfAll}
-use Rattle.hpgl_plot.specs.Steps.{Step, Set, Touch, Lower, Relate, Move, Go}
+use Rattle.hpgl_plot.specs.Steps.{Step, Set, Touch, Lower, Relate, Move, Go, Edge}
 use Rattle.hpgl_plot.specs.Settings.{widths, width, all_pens, newer}
 use Rattle.hpgl_plot.specs.Bounds.{AreWidths}
 use Rattle.hpgl_plot.specs.Laws.{WidthsAreLookedBackFor}
@@ -35,6 +35,7 @@ widths_length (Lower b ∷ before) = widths_length before
 widths_length (Relate b ∷ before) = widths_length before
 widths_length (Move x y ∷ before) = widths_length before
 widths_length (Go r x y ∷ before) = widths_length before
+widths_length (Edge r x y ∷ before) = widths_length before
 
 all_tell : (w p : ℕ) → p < 256 → get_or (all_pens w) p 0 ≡ w
 unfolding all_pens
@@ -66,6 +67,7 @@ widths_tell (Lower b ∷ before) p h = widths_tell before p h
 widths_tell (Relate b ∷ before) p h = widths_tell before p h
 widths_tell (Move x y ∷ before) p h = widths_tell before p h
 widths_tell (Go r x y ∷ before) p h = widths_tell before p h
+widths_tell (Edge r x y ∷ before) p h = widths_tell before p h
 
 -- widths within the range
 pub all_within : (w : ℕ) → w ≤ 12800 → AreWidths (all_pens w)

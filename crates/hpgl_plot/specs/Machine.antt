@@ -14,7 +14,7 @@ use Rattle.hpgl_plot.specs.declared.setting.Setting.TheVariants.{Start, Defaults
 use Rattle.hpgl_plot.specs.declared.state.State.{State}
 use Rattle.hpgl_plot.specs.Segments.{Segment}
 use Rattle.hpgl_plot.specs.Settings.{all_pens}
-use Rattle.hpgl_plot.specs.Steps.{Step, Set, Touch, Lower, Relate, Move, Go, steps_of}
+use Rattle.hpgl_plot.specs.Steps.{Step, Set, Touch, Lower, Relate, Move, Go, Edge, steps_of}
 use Rattle.hpgl_plot.specs.Frames.{back, points_with, window_with, target, state_of}
 use Rattle.hpgl_plot.specs.Plots.{refusal_after}
 use Rattle.hpgl_plot.specs.Windows.{page_window}
@@ -48,6 +48,7 @@ set_to page s (WidthOfAll w) = record s { widths = all_pens w }
 abbrev pub after : Page → State → Step → State
 after page s (Set setting) = set_to page s setting
 after page s Touch = s
+after page s (Edge relative x y) = s
 after page s (Lower b) = record s { is_down = b }
 after page s (Relate b) = record s { is_relative = b }
 after page s (Move x y) = record s { place = moved_place page s s.is_relative x y; coordinates = target s.is_relative s.coordinates x y }

@@ -28,6 +28,7 @@ pub fn named_setting(word: Word, numbers: &[Number]) -> Option<Setting>
         Word::SelectPen => named_pen(numbers),
         Word::PenWidth => named_width(numbers),
         Word::PenUp | Word::PenDown | Word::PlotAbsolute | Word::PlotRelative => None,
+        Word::EdgeAbsolute | Word::EdgeRelative => None,
     }
 }
 

@@ -6,6 +6,7 @@ ghost use Rattle.hpgl_plot.specs.Strokes.{drawn};
 ghost use Rattle.hpgl_plot.specs.Steps.{Touch, Lower, Relate, Move, Go, moves, steps_by, steps_of, part_steps, entry_steps};
 ghost use Rattle.hpgl_plot.specs.Notes.{is_wrong, is_wrong_item};
 
+mod figures;
 mod settings;
 
 use crate::page::Page;
@@ -89,6 +90,8 @@ impl Plotter {
                 self.follow(page, numbers)?;
                 Ok(is_unpaired)
             }
+            Word::EdgeAbsolute => self.edge_by(page, false, numbers),
+            Word::EdgeRelative => self.edge_by(page, true, numbers),
             _ => Ok(self.set_named(page, word, numbers)),
         }
     }
@@ -206,7 +209,7 @@ impl Plotter {
     }
 
     // A stroke between two places, unless the pen is 0.
-    fn draw(&mut self, page: &Page, a: Spot, b: Spot) -> Result<(), Stop>
+    pub fn draw(&mut self, page: &Page, a: Spot, b: Spot) -> Result<(), Stop>
         requires sound { IsSound page.now self.old.state }
         requires a_in { IsInRange a }
         requires b_in { IsInRange b }

@@ -56,6 +56,12 @@ fn pictures_of_eight_by_eight(rt: HostRuntime) -> Result<(), Fail> {
             b"\x1b%-1BIN;SP1;PU0,28;PD64,28;SP0;\x1b%0A\x1bE".as_slice(),
             middle,
         ),
+        (b"PU0,28;EA64,28;".as_slice(), middle),
+        (
+            b"PU12,12;ER40,40;".as_slice(),
+            b"\0\x7e\x42\x42\x42\x42\x7e\0".as_slice(),
+        ),
+        (b"PU0,28;PE7>c?o_;".as_slice(), middle),
     ];
     for (plot, wanted) in plots {
         let bits = bits(&rt, Page::new(64, 64, 0, 0)?, plot)?;
