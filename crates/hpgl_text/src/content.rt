@@ -42,8 +42,8 @@ impl<'a> Model for Content<'a> {
     ghost view = { λ c. record { body = body_shape c.body; unended = c.unended; bytes = c.bytes } };
 }
 
-/// What stands behind a mnemonic of this kind, at this place of the plot, while labels end with this
-/// terminator. Numbers are
+/// What stands behind a mnemonic of this kind, at this place of the plot, while labels end with
+/// this terminator. Numbers are
 /// read into the scratch list first, so that few of them take no allocation, and more of them no
 /// room to spare.
 pub fn read_content<'a>(

@@ -6,7 +6,8 @@ use crate::bits::FractionBits;
 use crate::number::Number;
 use crate::whole::Whole;
 
-/// The coordinate that this number is, with so many bits of it as a fraction, rounded to millionths.
+/// The coordinate that this number is, with so many bits of it as a fraction, rounded to
+/// millionths.
 pub fn coordinate_of(number: Whole, bits: FractionBits) -> Number
     ensures { result ≡ coordinate number bits }
 {
