@@ -15,4 +15,5 @@ mod pictures;
 mod refusals;
 #[cfg(test)]
 mod rows;
+#[cfg(test)]
 mod settings;
