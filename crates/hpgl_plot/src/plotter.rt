@@ -55,9 +55,8 @@ impl Plotter {
                 self.follow_entries(page, entries.as_slice())?;
                 Ok(false)
             }
-            Body::Label(_) | Body::Terminator(_) | Body::Skipped | Body::Bad | Body::Stray(_) => Ok(
-                false,
-            ),
+            Body::Label(_) | Body::Terminator(_) => Ok(false),
+            Body::Skipped | Body::Bad | Body::Stray(_) => Ok(false),
         }
     }
 
@@ -208,7 +207,7 @@ impl Plotter {
         self.state.coordinates = coordinates;
     }
 
-    // A stroke between two places, unless the pen is 0.
+    /// A stroke between two places, unless the pen is 0.
     pub fn draw(&mut self, page: &Page, a: Spot, b: Spot) -> Result<(), Stop>
         requires sound { IsSound page.now self.old.state }
         requires a_in { IsInRange a }

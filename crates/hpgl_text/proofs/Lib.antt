@@ -10,6 +10,5 @@ mod ParameterLists
 mod Cuts
 mod Examples
 mod PolylineExamples
-mod Coordinates
 mod StrayLists
 mod EntryLists
