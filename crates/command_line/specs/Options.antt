@@ -40,7 +40,7 @@ with_page a = with_rule (with_rule (with_rule (with_rule a
 -- how a picture is made: dots per inch, rows in a band, first row
 abbrev pub with_picture : App → App
 with_picture a = with_rule (with_rule (with_rule a
-    (number_rule (codes "dots") 10 600 (codes "100")))
+    (number_rule (codes "dots") 10 1200 (codes "100")))
     (number_rule (codes "band") 1 4096 (codes "64")))
     (number_rule (codes "from") 0 99999 (codes "0"))
 

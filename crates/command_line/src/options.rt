@@ -51,7 +51,7 @@ const BELOW: HelpLine<'static> = HelpLine {
 
 const DOTS: HelpLine<'static> = HelpLine {
     value: "DPI",
-    help: "Resolution in dots per inch, 10 to 600",
+    help: "Resolution in dots per inch, 10 to 1200",
 };
 
 const BAND: HelpLine<'static> = HelpLine {
@@ -70,7 +70,7 @@ const TOP: HelpPage<'static> = HelpPage {
 };
 
 const MARKS: HelpPage<'static> = HelpPage {
-    about: "Write a line for each pixel that is drawn: its row, its column and its pen",
+    about: "Write a line for each pixel that is drawn: its row, its column, its pen and its colour",
     example: "Example, a page of 64 by 64 units, 8 by 8 pixels:\n  printf 'SP1;PU0,28;PD64,28;' | plotraster marks --width 64 --height 64 --dots 127",
 };
 
@@ -163,7 +163,7 @@ fn add_picture<'a>(alloc: Global, command: Command<'a>) -> Result<Command<'a>, A
     requires { (fields_of command).has_globals ≡ false }
     ensures { IfOk result (IsOf (with_picture (app_of command.entry))) }
 {
-    let dots = number_of(alloc, "dots", 10, 600, "100", DOTS);
+    let dots = number_of(alloc, "dots", 10, 1200, "100", DOTS);
     let band = number_of(alloc, "band", 1, 4096, "64", BAND);
     let from = number_of(alloc, "from", 0, 99999, "0", FROM);
     let command = add(command, dots)?;

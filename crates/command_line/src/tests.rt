@@ -39,7 +39,7 @@ fn settles_each_option(rt: HostRuntime) -> Result<(), Fail> {
         "--below",
         "4",
         "--dots",
-        "600",
+        "1200",
         "--band",
         "4096",
         "--from",
@@ -52,7 +52,7 @@ fn settles_each_option(rt: HostRuntime) -> Result<(), Fail> {
     let job = line.task.job();
     assert_eq!(rt; (job.page.width, job.page.height), (64, 65536));
     assert_eq!(rt; (job.page.left, job.page.below), (3, 4));
-    assert_eq!(rt; job.dots.per_inch(), 600);
+    assert_eq!(rt; job.dots.per_inch(), 1200);
     assert_eq!(rt; (job.band, job.first_row), (4096, 99999));
     Ok(())
 }
@@ -71,7 +71,7 @@ fn refuses_words(rt: HostRuntime) -> Result<(), Fail> {
             2,
         ),
         (
-            &["plotraster", "pbm", "--dots", "601"],
+            &["plotraster", "pbm", "--dots", "1201"],
             ErrorKind::ValueValidation,
             2,
         ),

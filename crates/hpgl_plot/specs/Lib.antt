@@ -1,5 +1,6 @@
 pub mod Pages
 pub mod Segments
+pub mod Colours
 pub mod Words
 pub mod Parameters
 pub mod Steps
@@ -13,3 +14,4 @@ pub mod Plots
 pub mod Bounds
 pub mod Machine
 pub mod Laws
+pub mod Noting

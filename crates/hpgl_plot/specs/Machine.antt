@@ -10,8 +10,9 @@ use Rattle.hpgl_plot.specs.declared.plotter.Plotter.{Plotter}
 use Rattle.hpgl_plot.specs.declared.plotter.Stop.{Stop}
 use Rattle.hpgl_plot.specs.declared.plotter.Stop.TheVariants.{Memory, OffRange}
 use Rattle.hpgl_plot.specs.declared.setting.Setting.{Setting}
-use Rattle.hpgl_plot.specs.declared.setting.Setting.TheVariants.{Start, Defaults, PageCorners, FirstPoint, BothPoints, Scale, Rotate, PageWindow, CornerWindow, Pen, Width, WidthOfAll}
+use Rattle.hpgl_plot.specs.declared.setting.Setting.TheVariants.{Start, Defaults, PageCorners, FirstPoint, BothPoints, Scale, Rotate, PageWindow, CornerWindow, Pen, Width, WidthOfAll, PenColour, DefaultColours}
 use Rattle.hpgl_plot.specs.declared.state.State.{State}
+use Rattle.hpgl_plot.specs.Colours.{default_colours}
 use Rattle.hpgl_plot.specs.Segments.{Segment}
 use Rattle.hpgl_plot.specs.Settings.{all_pens}
 use Rattle.hpgl_plot.specs.Steps.{Step, Set, Touch, Lower, Relate, Move, Go, Edge, steps_of}
@@ -44,6 +45,8 @@ set_to page s (CornerWindow c) = record s { window = window_with page (frame_in 
 set_to page s (Pen n) = record s { pen = n }
 set_to page s (Width p w) = record s { widths = set s.widths p w }
 set_to page s (WidthOfAll w) = record s { widths = all_pens w }
+set_to page s (PenColour p c) = record s { colours = set s.colours p c }
+set_to page s DefaultColours = record s { colours = default_colours }
 
 abbrev pub after : Page → State → Step → State
 after page s (Set setting) = set_to page s setting
@@ -103,9 +106,30 @@ runs page w (i ∷ more) = ended (run page w (steps_of i)) i.at (λ (v : World).
 abbrev pub seen : Plotter → World
 seen p = record { state = p.state; kept = p.strokes.items; full = p.is_full }
 
+-- before the first item
+abbrev pub at_start : Page → World
+at_start page = record { state = state_of page []; kept = []; full = false }
+
 -- how drawing items may fail, none of which is left for later
 abbrev pub Stops : PlotFault → Page → List ItemShape → Type 0
 Stops fault.Memory page items = ⊤
 Stops (fault.NotYet at) page items = ⊥
 Stops (fault.OffRange at) page items = refusal_after page [] 0 items ≡ Some (fault.OffRange at)
 Stops (fault.TooManyStrokes at) page items = refusal_after page [] 0 items ≡ Some (fault.TooManyStrokes at)
+
+-- how an item is refused
+abbrev pub Refused : Page → World → ItemShape → PlotFault → Type 0
+Refused page w i fault.Memory = ⊤
+Refused page w i (fault.NotYet at) = ⊥
+Refused page w i (fault.OffRange at) = (more : List ItemShape) → runs page w (i ∷ more) ≡ Err (fault.OffRange at)
+Refused page w i (fault.TooManyStrokes at) = (more : List ItemShape) → runs page w (i ∷ more) ≡ Err (fault.TooManyStrokes at)
+
+-- what a call answers that carries out an item: the items behind it go on from the new world, or all of them are refused
+abbrev pub CarriesOut : {U : Type 0} → Page → World → ItemShape → World → Result U PlotFault → Type 0
+CarriesOut page w i v (Ok _) = (more : List ItemShape) → runs page w (i ∷ more) ≡ runs page v more
+CarriesOut page w i v (Err e) = Refused page w i e
+
+-- a later instruction comes before a refusal of today
+abbrev pub later_or : Option ItemShape → PlotFault → PlotFault
+later_or (Some i) e = fault.NotYet i.at
+later_or None e = e

@@ -1,9 +1,12 @@
 //! What a plot draws: the page that it is drawn on, what its instructions set, and its strokes.
 #![tactic(auto)]
 
+mod colour;
 mod fault;
 pub mod laws;
+mod lines;
 mod note;
+mod notes;
 mod noting;
 mod page;
 mod parameters;
@@ -19,8 +22,11 @@ mod turn;
 mod window;
 mod word;
 
+pub use colour::Colour;
 pub use fault::PlotFault;
+pub use lines::{Lines, draw_items};
 pub use note::{Note, NoteKind};
+pub use notes::Notes;
 pub use page::{Page, PageFault};
 pub use plot::{Plot, draw};
 pub use stroke::{Stroke, Window};

@@ -1,5 +1,5 @@
 //! Noting what is skipped, wrong or open.
-ghost use Rattle.std.specs.Prelude.{◌≡◌, ◌++◌, IfOk};
+ghost use Rattle.std.specs.Prelude.{◌≡◌, ◌≤◌, ◌++◌, IfOk, length};
 ghost use Rattle.std.specs.List.{flat_map};
 ghost use Rattle.hpgl_text.specs.SeenEntries.{part_shape};
 ghost use Rattle.hpgl_plot.specs.Notes.{noted, notes_of, is_wrong_item, entry_note, part_noted};
@@ -9,7 +9,7 @@ use crate::note::{Note, NoteKind};
 use hpgl_text::{Body, Entry, Item, Part};
 use std::alloc::AllocError;
 
-/// Puts to the notes what is noted on an item, which may be an instruction with wrong parameters.
+/// Appends to the notes what is noted on an item, which may be an instruction with wrong parameters.
 pub fn note_item(item: &Item<'_>, is_wrong: bool, notes: &mut Vec<Note>) -> Result<(), AllocError>
     requires { is_wrong ≡ is_wrong_item item.now }
     ensures { IfOk result (λ _. notes.new.items ≡ notes.old.items ++ notes_of item.now) }
@@ -24,6 +24,33 @@ pub fn note_item(item: &Item<'_>, is_wrong: bool, notes: &mut Vec<Note>) -> Resu
         notes.push(note_on(item.code, item.at, NoteKind::Open))?;
     }
     Ok(())
+}
+
+/// How many notes there are on an item, which may be an instruction with wrong parameters.
+pub fn count_notes(item: &Item<'_>, is_wrong: bool) -> usize
+    requires { is_wrong ≡ is_wrong_item item.now }
+    ensures { result ≡ length (notes_of item.now) }
+{
+    let within = match &item.body {
+        Body::Coded(entries) => count_entry_notes(item.code, entries.as_slice()),
+        _ => 0,
+    };
+    let own = usize::from(noted_kind(item, is_wrong).is_some());
+    own + within + usize::from(item.unended)
+}
+
+// How many notes there are within a PE.
+fn count_entry_notes(code: [u8; 2], entries: &[Entry]) -> usize
+    ensures count { result ≡ length (flat_map (entry_note code) entries.now) }
+    ensures within { result ≤ length entries.now }
+{
+    let mut count = 0;
+    for entry in entries {
+        if part_kind(entry.what).is_some() {
+            count += 1;
+        }
+    }
+    count
 }
 
 // What is noted within a PE.

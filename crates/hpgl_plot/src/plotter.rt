@@ -1,7 +1,8 @@
 //! The plotter: what is set, and the strokes that were made.
-ghost use Rattle.std.specs.Prelude.{◌≡◌, ◌≤◌, [], nat_abs, slice_index, All, IfOk, IfErr, Some, if◌then◌else◌};
+ghost use Rattle.std.specs.Prelude.{◌≡◌, ◌≤◌, [], nat_abs, slice_index, slice_index_or, All, IfOk, IfErr, Some, if◌then◌else◌};
+ghost use Rattle.hpgl_plot.specs.Colours.{black};
 ghost use Rattle.hpgl_plot.specs.Bounds.{IsSound, IsInRange, IsWindow, AreWidths};
-ghost use Rattle.hpgl_plot.specs.Machine.{seen, step, run, Runs, kept_with, full_with};
+ghost use Rattle.hpgl_plot.specs.Machine.{seen, at_start, step, run, Runs, CarriesOut, kept_with, full_with};
 ghost use Rattle.hpgl_plot.specs.Strokes.{drawn};
 ghost use Rattle.hpgl_plot.specs.Steps.{Touch, Lower, Relate, Move, Go, moves, steps_by, steps_of, part_steps, entry_steps};
 ghost use Rattle.hpgl_plot.specs.Notes.{is_wrong, is_wrong_item};
@@ -9,12 +10,14 @@ ghost use Rattle.hpgl_plot.specs.Notes.{is_wrong, is_wrong_item};
 mod figures;
 mod settings;
 
+use crate::fault::PlotFault;
 use crate::page::Page;
-use crate::place::{is_place_in_range, place_on, target_of};
+use crate::place::{is_place_in_range, place_on, start_of, target_of};
 use crate::state::{Spot, State};
 use crate::stroke::Stroke;
 use crate::word::{Word, word_of_code};
 use hpgl_text::{Body, Entry, Item, Number, Part};
+use std::alloc::Global;
 
 /// The most strokes that a plot may have.
 const MOST_STROKES: usize = 4_194_304;
@@ -38,6 +41,18 @@ pub struct Plotter {
 }
 
 impl Plotter {
+    /// A plotter on a page, before the first item.
+    pub fn new(alloc: Global, page: &Page) -> Plotter
+        ensures sound { IsSound page.now result.state }
+        ensures seen { seen result ≡ at_start page.now }
+    {
+        Plotter {
+            state: start_of(page),
+            strokes: Vec::new(alloc),
+            is_full: false,
+        }
+    }
+
     /// Carries out an item, and answers whether it is an instruction with wrong parameters. One that
     /// is no instruction that is drawn does nothing.
     pub fn take(&mut self, page: &Page, item: &Item<'_>) -> Result<bool, Stop>
@@ -57,6 +72,26 @@ impl Plotter {
             }
             Body::Label(_) | Body::Terminator(_) => Ok(false),
             Body::Skipped | Body::Bad | Body::Stray(_) => Ok(false),
+        }
+    }
+
+    /// The same, with the refusal at the item: of a place out of range, or of a stroke too many.
+    pub fn carry_out(&mut self, page: &Page, item: &Item<'_>) -> Result<bool, PlotFault>
+        requires sound { IsSound page.now self.old.state }
+        ensures sound { IfOk result (λ _. IsSound page.now self.new.state) }
+        ensures runs { CarriesOut page.now (seen self.old) item.now (seen self.new) result }
+        ensures wrong { IfOk result (λ b. b ≡ is_wrong_item item.now) }
+    {
+        match self.take(page, item) {
+            Ok(is_wrong) => {
+                if self.is_full {
+                    Err(PlotFault::TooManyStrokes { at: item.at })
+                } else {
+                    Ok(is_wrong)
+                }
+            }
+            Err(Stop::Memory) => Err(PlotFault::Memory),
+            Err(Stop::OffRange) => Err(PlotFault::OffRange { at: item.at }),
         }
     }
 
@@ -263,18 +298,21 @@ impl Plotter {
     }
 }
 
-// A stroke between two places, by the pen that is selected, as wide as that pen is, in the window.
+// A stroke between two places, by the pen that is selected, of its colour and its width, in the
+// window.
 fn stroke_between(state: &State, a: Spot, b: Spot) -> Stroke
     requires pen { 1 ≤ state.now.pen }
     requires window { IsWindow state.now.window }
     requires widths { AreWidths state.now.widths }
     requires a_in { IsInRange a }
     requires b_in { IsInRange b }
-    ensures { result ≡ record { pen = state.now.pen; width = slice_index state.now.widths state.now.pen; window = state.now.window; ax = a.x; ay = a.y; bx = b.x; by = b.y } }
+    ensures { result ≡ record { pen = state.now.pen; colour = slice_index_or state.now.colours state.now.pen black; width = slice_index state.now.widths state.now.pen; window = state.now.window; ax = a.x; ay = a.y; bx = b.x; by = b.y } }
 {
+    let pen = usize::from(state.pen);
     Stroke {
         pen: state.pen,
-        width: state.widths[usize::from(state.pen)],
+        colour: state.colours[pen],
+        width: state.widths[pen],
         window: state.window,
         ax: a.x as i32,
         ay: a.y as i32,

@@ -1,7 +1,7 @@
 // What plots draw, by their text. The drawings that are wanted come from a plotter that was written
 // apart from this one.
-use crate::{Page, PlotFault, draw};
-use hpgl_text::lex;
+use crate::{Colour, Notes, Page, PlotFault, Stroke, Window, draw, draw_items};
+use hpgl_text::{Items, lex};
 use std::alloc::Global;
 use std::test::Fail;
 
@@ -66,6 +66,99 @@ fn pens_and_widths(rt: HostRuntime) -> Result<(), Fail> {
         assert_eq!(rt; drawing_of(rt.alloc(), &page, plot)?.as_str(), wanted);
     }
     Ok(())
+}
+
+// The strokes with their colours, a line each: pen, red, green and blue, and ends.
+fn coloured(alloc: Global, strokes: &[Stroke]) -> Result<String, Fail> {
+    let mut lines = String::new(alloc);
+    for s in strokes {
+        let (pen, c) = (s.pen, s.colour);
+        let (red, green, blue) = (c.red, c.green, c.blue);
+        let (ax, ay, bx, by) = (s.ax, s.ay, s.bx, s.by);
+        let line = format!(in alloc; "{pen} {red} {green} {blue}: {ax},{ay} to {bx},{by}\n")?;
+        lines.push_str(line.as_str())?;
+    }
+    Ok(lines)
+}
+
+// The strokes of each plot, and how many notes there are on it, by both ways to draw.
+#[test]
+fn colours(rt: HostRuntime) -> Result<(), Fail> {
+    let red = "1 255 0 0: 0,448 to 1024,448\n";
+    let black = "1 0 0 0: 0,448 to 1024,448\n";
+    let plots = [
+        (
+            b"PC2,10,20,30;SP2;PU0,28;PD64,28;PC2;PU0,12;PD64,12;".as_slice(),
+            "2 10 20 30: 0,448 to 1024,448\n\
+2 255 0 0: 0,192 to 1024,192\n",
+            0,
+        ),
+        (b"PC1,255,0,0;DF;PU0,28;PD64,28;".as_slice(), red, 0),
+        (b"PC1,255,0,0;IN;PU0,28;PD64,28;".as_slice(), black, 0),
+        (b"PC1,255,0,0;PC;PU0,28;PD64,28;".as_slice(), black, 0),
+        (
+            b"PC1,256,0,0;PC1,2;PC1,2,3;PU0,28;PD64,28;".as_slice(),
+            black,
+            3,
+        ),
+        (
+            b"PC1.4,255.4,-0.5,0,7;CR;PU0,28;PD64,28;".as_slice(),
+            red,
+            1,
+        ),
+        (b"PC0,9,9,9;SP0;PU0,28;PD64,28;".as_slice(), "", 0),
+        (
+            b"PC2,10,20,30;PU0,28;PE7:c?c_;".as_slice(),
+            "2 10 20 30: 0,448 to 1024,448\n",
+            0,
+        ),
+        (
+            b"PD1,0;SP3;PD2,0;SP4;PD3,0;SP5;PD4,0;SP6;PD5,0;SP7;PD6,0;SP8;PD7,0;".as_slice(),
+            "1 0 0 0: 0,0 to 16,0\n\
+3 0 255 0: 16,0 to 32,0\n\
+4 255 255 0: 32,0 to 48,0\n\
+5 0 0 255: 48,0 to 64,0\n\
+6 255 0 255: 64,0 to 80,0\n\
+7 0 255 255: 80,0 to 96,0\n\
+8 0 0 0: 96,0 to 112,0\n",
+            0,
+        ),
+    ];
+    for (text, wanted, notes) in plots {
+        let program = lex(rt.alloc(), text)?;
+        let plot = draw(rt.alloc(), &program, &square()?)?;
+        assert_eq!(rt; coloured(rt.alloc(), plot.strokes())?.as_str(), wanted);
+        assert_eq!(rt; plot.notes().len(), notes);
+        let lines = draw_items(rt.alloc(), Items::new(rt.alloc(), text), &square()?)?;
+        assert_eq!(rt;
+            coloured(rt.alloc(), lines.strokes.as_slice())?.as_str(),
+            wanted
+        );
+        assert_eq!(rt; lines.notes, notes);
+    }
+    Ok(())
+}
+
+// A plot may have 4,194,304 strokes, so their size counts.
+#[test]
+fn strokes_of_40_bytes(rt: HostRuntime) {
+    let (colour, window) = (
+        Colour {
+            red: 1,
+            green: 2,
+            blue: 3,
+        },
+        Window {
+            x0: 0,
+            y0: 0,
+            x1: 9,
+            y1: 9,
+        },
+    );
+    let stroke = Stroke::new(255, colour, 12_800, window, 0, 0, 1_048_576, 0);
+    assert!(rt; stroke.is_some_and(|s| s.colour == colour));
+    assert!(rt; Stroke::new(0, colour, 224, window, 0, 0, 1, 1).is_none());
+    assert_eq!(rt; size_of::<Stroke>(), 40);
 }
 
 #[test]
@@ -310,6 +403,43 @@ fn refused(rt: HostRuntime) -> Result<(), Fail> {
         let answer = draw(rt.alloc(), &program, &square()?);
         let refused = matches!(answer, Err(fault) if fault == wanted);
         assert!(rt; refused);
+    }
+    Ok(())
+}
+
+// One item at a time, the strokes and the notes are those of the whole program.
+#[test]
+fn one_item_at_a_time(rt: HostRuntime) -> Result<(), Fail> {
+    let text = b"SP1;PD9,9,9;!WU1;PE<=7!;PU1;EA5,5;PE!".as_slice();
+    let program = lex(rt.alloc(), text)?;
+    let plot = draw(rt.alloc(), &program, &square()?)?;
+    let lines = draw_items(rt.alloc(), Items::new(rt.alloc(), text), &square()?)?;
+    assert_eq!(rt; lines.strokes.len(), plot.strokes().len());
+    assert_eq!(rt; lines.notes, plot.notes().len());
+    let mut told = Vec::new(rt.alloc());
+    for note in Notes::new(rt.alloc(), Items::new(rt.alloc(), text)) {
+        told.push(note?)?;
+    }
+    assert_eq!(rt; told.as_slice(), plot.notes());
+    Ok(())
+}
+
+// What is not drawn yet comes before a refusal of today, wherever it stands.
+#[test]
+fn later_before_refused(rt: HostRuntime) -> Result<(), Fail> {
+    let plots = [
+        (b"PU99999,0;CI5;".as_slice(), PlotFault::NotYet { at: 10 }),
+        (
+            b"PU99999,0;PU0,0;".as_slice(),
+            PlotFault::OffRange { at: 0 },
+        ),
+    ];
+    for (text, wanted) in plots {
+        let items = Items::new(rt.alloc(), text);
+        match draw_items(rt.alloc(), items, &square()?) {
+            Ok(_) => assert!(rt; false),
+            Err(fault) => assert_eq!(rt; fault, wanted),
+        }
     }
     Ok(())
 }

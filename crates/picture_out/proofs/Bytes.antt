@@ -4,7 +4,7 @@ use Rattle.std.proofs.lemmas.List.{get_or-take, get_or-drop, take_rest}
 use Rattle.std.proofs.lemmas.Bool.Decides.{nat_tests}
 use Rattle.picture_out.specs.Bits.{byte_of}
 
-byte_same : (a b : List ℕ) → ((i : ℕ) → i < 8 → get_or a i 0 ≡ get_or b i 0) → byte_of a ≡ byte_of b
+pub byte_same : (a b : List ℕ) → ((i : ℕ) → i < 8 → get_or a i 0 ≡ get_or b i 0) → byte_of a ≡ byte_of b
 byte_same a b h =
     let e0 : get_or a 0 0 ≡ get_or b 0 0 = h 0 (omega arith) in
     let e1 : get_or a 1 0 ≡ get_or b 1 0 = h 1 (omega arith) in

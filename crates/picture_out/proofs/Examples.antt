@@ -1,13 +1,27 @@
 -- The bytes of some cells, in each form.
-use Rattle.std.proofs.Common.{◌≡◌, ◌∷◌, [], refl, codes}
+use Rattle.std.proofs.Common.{◌≡◌, ◌∷◌, [], List, refl, codes}
 use Rattle.std.specs.Fmt.{digits}
 use Rattle.picture_out.specs.declared.form.Form.TheVariants.{Marks, Pbm, Ppm}
+use Rattle.picture_out.specs.declared.inks.Ink.{Ink}
 use Rattle.picture_out.specs.Bits.{byte_of, packed}
-use Rattle.picture_out.specs.Colours.{colour}
-use Rattle.picture_out.specs.Marks.{marks, marks_from}
+use Rattle.picture_out.specs.Inks.{paper, ink_at, cell_colour}
+use Rattle.picture_out.specs.Marks.{two_digits, colour_digits, marks, marks_from}
 use Rattle.picture_out.specs.Forms.{head_bytes, row_bytes, foot_bytes, room_of}
 
--- bits: the leftmost cell is the highest, whatever its pen
+-- black with pen 1, a dark blue with pen 2, a red with pen 255
+abbrev black : Ink
+black = record { pen = 1; red = 0; green = 0; blue = 0 }
+
+abbrev dark : Ink
+dark = record { pen = 2; red = 10; green = 20; blue = 30 }
+
+abbrev red : Ink
+red = record { pen = 255; red = 255; green = 1; blue = 16 }
+
+abbrev inks : List Ink
+inks = black ∷ dark ∷ red ∷ []
+
+-- bits: the leftmost cell is the highest, whatever its position
 left_is_highest : byte_of (1 ∷ []) ≡ 128
 left_is_highest = refl
 
@@ -27,53 +41,67 @@ five_cells = refl
 eight_cells : packed (3 ∷ 3 ∷ 3 ∷ 3 ∷ 3 ∷ 3 ∷ 3 ∷ 3 ∷ []) ≡ 255 ∷ []
 eight_cells = refl
 
+-- positions whose lowest byte is 0
+far_positions : packed (256 ∷ 65536 ∷ 4194304 ∷ []) ≡ 224 ∷ []
+far_positions = refl
+
 room_of_nine : room_of Pbm 9 ≡ 2
 room_of_nine = refl
 
 room_of_eight : room_of Pbm 8 ≡ 1
 room_of_eight = refl
 
--- colours
-paper : colour 0 ≡ 255 ∷ 255 ∷ 255 ∷ []
-paper = refl
+-- inks: positions count from 1, and 0 is the paper
+first_ink : ink_at inks 1 ≡ black
+first_ink = refl
 
-pen_one : colour 1 ≡ 0 ∷ 0 ∷ 0 ∷ []
-pen_one = refl
+last_ink : ink_at inks 3 ≡ red
+last_ink = refl
 
-pen_two : colour 2 ≡ 255 ∷ 0 ∷ 0 ∷ []
-pen_two = refl
+past_the_inks : ink_at inks 4 ≡ paper
+past_the_inks = refl
 
-pen_five : colour 5 ≡ 0 ∷ 0 ∷ 255 ∷ []
-pen_five = refl
+colour_of_none : cell_colour inks 0 ≡ 255 ∷ 255 ∷ 255 ∷ []
+colour_of_none = refl
 
-pen_seven : colour 7 ≡ 0 ∷ 255 ∷ 255 ∷ []
-pen_seven = refl
+colour_of_second : cell_colour inks 2 ≡ 10 ∷ 20 ∷ 30 ∷ []
+colour_of_second = refl
 
-pen_eight : colour 8 ≡ 0 ∷ 0 ∷ 0 ∷ []
-pen_eight = refl
-
-last_pen : colour 255 ≡ 0 ∷ 0 ∷ 0 ∷ []
-last_pen = refl
-
-green_and_paper : row_bytes Ppm 7 (3 ∷ 0 ∷ []) ≡ 0 ∷ 255 ∷ 0 ∷ 255 ∷ 255 ∷ 255 ∷ []
-green_and_paper = refl
+dark_and_paper : row_bytes Ppm 7 inks (2 ∷ 0 ∷ []) ≡ 10 ∷ 20 ∷ 30 ∷ 255 ∷ 255 ∷ 255 ∷ []
+dark_and_paper = refl
 
 room_in_colour : room_of Ppm 8 ≡ 24
 room_in_colour = refl
 
--- marks: the row, the column and the pen
-one_mark : marks 4 (1 ∷ []) ≡ codes "4 0 1\n"
-unfolding digits
-one_mark = refl
+-- marks: the row, the column, the pen and the colour
+small_digits : two_digits 10 ≡ codes "0a"
+small_digits = refl
 
-two_marks : marks 10 (0 ∷ 7 ∷ 0 ∷ 255 ∷ []) ≡ codes "10 1 7\n10 3 255\n"
+both_digits : two_digits 91 ≡ codes "5b"
+both_digits = refl
+
+greatest_digits : two_digits 255 ≡ codes "ff"
+greatest_digits = refl
+
+digits_of_red : colour_digits red ≡ codes "ff0110"
+digits_of_red = refl
+
+black_mark : marks 4 inks (1 ∷ []) ≡ codes "4 0 1 000000\n"
+unfolding digits
+black_mark = refl
+
+dark_mark : marks 4 inks (2 ∷ []) ≡ codes "4 0 2 0a141e\n"
+unfolding digits
+dark_mark = refl
+
+two_marks : marks 10 inks (0 ∷ 2 ∷ 0 ∷ 3 ∷ []) ≡ codes "10 1 2 0a141e\n10 3 255 ff0110\n"
 unfolding digits
 two_marks = refl
 
-no_marks : marks 3 (0 ∷ 0 ∷ []) ≡ []
+no_marks : marks 3 inks (0 ∷ 0 ∷ []) ≡ []
 no_marks = refl
 
-far_mark : marks_from (codes "77404") 77403 (12 ∷ []) ≡ codes "77404 77403 12\n"
+far_mark : marks_from (codes "77404") 77403 inks (1 ∷ []) ≡ codes "77404 77403 1 000000\n"
 unfolding digits
 far_mark = refl
 

@@ -1,8 +1,11 @@
 -- Lists that are written from the left, over old ones.
-use Rattle.std.proofs.Common.{◌≡◌, ℕ, ◌+◌, ◌-◌, ◌<◌, ◌≤◌, List, ◌++◌, ◌∷◌, [], length, get_or, set, take, drop, map, ap, ◌∙◌, sym, append_assoc, arith, subst}
+use Rattle.std.proofs.Common.{◌≡◌, ℕ, ◌+◌, ◌-◌, ◌<◌, ◌≤◌, List, ◌++◌, ◌∷◌, [], length, get_or, set, take, drop, map, replicate, ap, ◌∙◌, sym, append_assoc, arith, subst, refl, zero, suc}
+use borrow.Rule.Slice.PartMut.{put_mid}
 use Rattle.std.specs.List.{range_with_len, flat_map}
-use Rattle.std.proofs.lemmas.List.{drop_more, set_at, set-append_right, take_more, flat_map_more}
-use Rattle.std.proofs.lemmas.List.FromFn.{length-map-range_with_len, map-range_with_len_more}
+use Rattle.std.proofs.lemmas.List.{drop_more, set_at, set-append_right, take_more, flat_map_more, take_at, drop_at, drop-drop, length-replicate}
+use Rattle.std.proofs.lemmas.Simd.{get_or-replicate}
+use Rattle.std.proofs.lemmas.Grind.{same_number_lists}
+use Rattle.std.proofs.lemmas.List.FromFn.{length-map-range_with_len, map-range_with_len_more, get_or-map-range_with_len}
 
 -- one more value of a table
 pub filled_more : (f : ℕ → ℕ) (out old : List ℕ) (p y : ℕ) → p < length old → out ≡ map f (range_with_len 0 p) ++ drop p old → y ≡ f p → set out p y ≡ map f (range_with_len 0 (p + 1)) ++ drop (p + 1) old
@@ -55,3 +58,52 @@ piece_more f cells out old i n m r g b lt size le next h e =
     let joined : (front ++ (r ∷ g ∷ b ∷ [])) ++ rest ≡ front ++ (r ∷ g ∷ b ∷ rest) = append_assoc front (r ∷ g ∷ b ∷ []) rest in
     let more : front ++ (r ∷ g ∷ b ∷ []) ≡ flat_map f (take (i + 1) cells) = ap (λ (w : List ℕ). front ++ w) e ∙ flat_map_more f [] (take i cells) (get_or cells i 0) ∙ ap (flat_map f) (sym (take_more cells i 0 lt)) in
     written ∙ sym joined ∙ ap (λ (w : List ℕ). w ++ rest) more ∙ ap (λ (j : ℕ). flat_map f (take (i + 1) cells) ++ drop j old) next
+
+-- a part is written right after the front
+pub placed : (front out old part : List ℕ) (a k m : ℕ) → a + k ≡ m → length front ≡ a → out ≡ front ++ drop a old → put_mid a k out part ≡ (front ++ part) ++ drop m old
+placed front out old part a k m next size h =
+    let before : take a out ≡ front = ap (take a) h ∙ take_at front (drop a old) a size in
+    let behind : drop a out ≡ drop a old = ap (drop a) h ∙ drop_at front (drop a old) a size in
+    let rest : drop k (drop a out) ≡ drop m old = ap (drop k) behind ∙ drop-drop k a old ∙ ap (λ (n : ℕ). drop n old) next in
+    ap (λ (z : List ℕ). z ++ (part ++ drop k (drop a out))) before
+    ∙ ap (λ (z : List ℕ). front ++ (part ++ z)) rest
+    ∙ sym (append_assoc front part (drop m old))
+
+-- a table from a on, and one from its end on
+pub tables_joined : (f : ℕ → ℕ) (a n k b : ℕ) → a + n ≡ b → map f (range_with_len a n) ++ map f (range_with_len b k) ≡ map f (range_with_len a (n + k))
+tables_joined f a zero k b e =
+    let here : b ≡ a = omega (arith, e) in
+    let same : k ≡ 0 + k = omega arith in
+    ap (λ (z : ℕ). map f (range_with_len z k)) here ∙ ap (λ (z : ℕ). map f (range_with_len a z)) same
+tables_joined f a (suc n) k b e =
+    let more : suc (n + k) ≡ suc n + k = omega arith in
+    ap (λ (z : List ℕ). f a ∷ z) (tables_joined f (a + 1) n k b (omega (arith, e))) ∙ ap (λ (z : ℕ). map f (range_with_len a z)) more
+
+-- a further part of a table is written
+pub table_more : (f : ℕ → ℕ) (out old part : List ℕ) (a k m : ℕ) → a + k ≡ m → out ≡ map f (range_with_len 0 a) ++ drop a old → part ≡ map f (range_with_len a k) → put_mid a k out part ≡ map f (range_with_len 0 m) ++ drop m old
+table_more f out old part a k m next h e =
+    placed (map f (range_with_len 0 a)) out old part a k m next (length-map-range_with_len f 0 a) h
+    ∙ ap (λ (z : List ℕ). (map f (range_with_len 0 a) ++ z) ++ drop m old) e
+    ∙ ap (λ (z : List ℕ). z ++ drop m old) (tables_joined f 0 a k a (omega arith))
+    ∙ ap (λ (z : ℕ). map f (range_with_len 0 z) ++ drop m old) next
+
+-- two tables with the same values
+pub same_table : (g f : ℕ → ℕ) (b n : ℕ) → ((k : ℕ) → k < n → g k ≡ f (b + k)) → map g (range_with_len 0 n) ≡ map f (range_with_len b n)
+same_table g f b n h =
+    let left : length (map g (range_with_len 0 n)) ≡ n = length-map-range_with_len g 0 n in
+    same_number_lists _ _ (left ∙ sym (length-map-range_with_len f b n)) (λ k lt.
+    let in_range : k < n = omega (arith, lt, left) in
+    get_or-map-range_with_len g 0 n k k 0 in_range (omega arith) ∙ h k in_range ∙ sym (get_or-map-range_with_len f b n k (b + k) 0 in_range refl))
+
+-- a table whose values are 0
+pub zero_table : (f : ℕ → ℕ) (b n : ℕ) → ((k : ℕ) → k < n → f (b + k) ≡ 0) → replicate {A = ℕ} n 0 ≡ map f (range_with_len b n)
+zero_table f b n h =
+    same_number_lists _ _ (length-replicate {A = ℕ} n 0 ∙ sym (length-map-range_with_len f b n)) (λ k lt.
+    let in_range : k < n = omega (arith, lt, length-replicate {A = ℕ} n 0) in
+    get_or-replicate {A = ℕ} n k 0 0 in_range ∙ sym (h k in_range) ∙ sym (get_or-map-range_with_len f b n k (b + k) 0 in_range refl))
+
+-- bytes of one value
+pub filled_to : (xs : List ℕ) (n m y : ℕ) → xs ≡ replicate n y → length xs ≡ m → xs ≡ replicate m y
+filled_to xs n m y h size =
+    let e : n ≡ m = sym (length-replicate {A = ℕ} n y) ∙ sym (ap length h) ∙ size in
+    h ∙ ap (λ (k : ℕ). replicate k y) e

@@ -1,7 +1,10 @@
 pub mod Known
+pub mod Spans
 pub mod Marked
 pub mod Filled
 pub mod Bytes
+pub mod Lanes
+pub mod Packed
+pub mod Coloured
 pub mod Sizes
-pub mod Bitwise
 mod Examples

@@ -2,7 +2,7 @@
 use Rattle.std.specs.Prelude.{ℕ, ◌+◌, ◌*◌, ◌/◌, List, length, get_or, drop, map, nat_eq, if◌then◌else◌}
 use Rattle.std.specs.List.{range_with_len}
 
--- black (1) for a cell with a pen, white (0) for a cell without one and past the last cell
+-- black (1) for a cell that is not 0, white (0) for one that is and past the last cell
 abbrev pub bit_of : List ℕ → ℕ → ℕ
 bit_of cells place = if nat_eq (get_or cells place 0) 0 then 0 else 1
 

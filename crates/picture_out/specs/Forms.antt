@@ -2,6 +2,7 @@
 use Rattle.std.specs.Prelude.{ℕ, ◌*◌, List, [], ◌++◌, codes, decimal}
 use Rattle.picture_out.specs.declared.form.Form.{Form}
 use Rattle.picture_out.specs.declared.form.Form.TheVariants.{Marks, Pbm, Ppm}
+use Rattle.picture_out.specs.declared.inks.Ink.{Ink}
 use Rattle.picture_out.specs.Marks.{marks}
 use Rattle.picture_out.specs.Bits.{bytes_for, packed}
 use Rattle.picture_out.specs.Colours.{coloured}
@@ -16,11 +17,11 @@ head_bytes Marks dots columns rows = []
 head_bytes Pbm dots columns rows = codes "P4\n" ++ size_line columns rows
 head_bytes Ppm dots columns rows = codes "P6\n" ++ size_line columns rows ++ codes "255\n"
 
--- the row of this number, with a pen number for each column
-abbrev pub row_bytes : Form → ℕ → List ℕ → List ℕ
-row_bytes Marks row cells = marks row cells
-row_bytes Pbm row cells = packed cells
-row_bytes Ppm row cells = coloured cells
+-- the row of this number. A cell for each column is 0 or the position of an ink, from 1
+abbrev pub row_bytes : Form → ℕ → List Ink → List ℕ → List ℕ
+row_bytes Marks row inks cells = marks row inks cells
+row_bytes Pbm row inks cells = packed cells
+row_bytes Ppm row inks cells = coloured inks cells
 
 -- what stands after the rows
 abbrev pub foot_bytes : Form → List ℕ

@@ -1,5 +1,7 @@
 pub mod Sinks
 pub mod Writers
+pub mod Inks
+pub mod Spans
 pub mod Marks
 pub mod Bits
 pub mod Colours

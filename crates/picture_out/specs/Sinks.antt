@@ -1,5 +1,5 @@
 -- What a sink's answers say of its bytes and of its count of failures.
-use Rattle.std.specs.Prelude.{◌≡◌, ℕ, ◌+◌, ◌<◌, List, length, take, Option, Result, Ok, Err}
+use Rattle.std.specs.Prelude.{◌≡◌, ℕ, ◌+◌, ◌<◌, ◌≤◌, List, length, take, Option, Result, Ok, Err}
 use Rattle.std.specs.Io.KnownBytes.{Appends}
 use Rattle.picture_out.specs.declared.sink.SinkFault.{SinkFault}
 use Rattle.picture_out.specs.declared.fault.WriteFault.{WriteFault}
@@ -18,3 +18,8 @@ taken_of (Write n) = n
 abbrev pub Writes : {U : Type 0} → Option (List ℕ) → Option (List ℕ) → ℕ → ℕ → List ℕ → Result U WriteFault → Type 0
 Writes old new failed failed' bytes (Ok _) = Appends old new bytes × (failed' ≡ failed)
 Writes old new failed failed' bytes (Err e) = Appends old new (take (taken_of e) bytes) × (taken_of e < length bytes) × (failed' ≡ failed + 1)
+
+-- no more bytes than `most` were written, whether all of them or up to the failure
+abbrev pub WritesAtMost : ℕ → Result ℕ WriteFault → Type 0
+WritesAtMost most (Ok n) = n ≤ most
+WritesAtMost most (Err e) = taken_of e ≤ most

@@ -1,11 +1,15 @@
 //! Cells packed into bits.
-ghost use Rattle.std.specs.Prelude.{◌≡◌, ◌≤◌, ◌++◌, length, drop, nat_eq, if◌then◌else◌};
-ghost use Rattle.picture_out.specs.Bits.{bit_of, byte_of, bytes_for, packed};
+ghost use Rattle.std.specs.Prelude.{◌≡◌, ◌≤◌, ◌++◌, length, drop};
+ghost use Rattle.picture_out.specs.Bits.{byte_of, bytes_for, packed};
+ghost use Rattle.picture_out.specs.Spans.{IsBlankOutside};
+
+use crate::cells::Span;
+use std::simd::prelude::*;
 
 /// Packs a cell into a bit, 1 where the cell is not 0, as a row of Netpbm's P4: the leftmost cell
 /// of eight in the highest bit of a byte, and 0 bits after the last cell. The bytes of `out` after
 /// the packed ones stay as they were.
-pub fn pack_bits(cells: &[u8], out: &mut [u8])
+pub fn pack_bits(cells: &[u32], out: &mut [u8])
     requires room { bytes_for (length cells.now) ≤ length out.old }
     ensures packed { out.new ≡ packed cells.now ++ drop (bytes_for (length cells.now)) out.old }
 {
@@ -19,8 +23,31 @@ pub fn pack_bits(cells: &[u8], out: &mut [u8])
     }
 }
 
+// The same of a row that is blank outside its span: only the bytes that the span touches are
+// packed.
+pub(crate) fn pack_row(cells: &[u32], span: Span, out: &mut [u8])
+    requires span { IsBlankOutside cells.now span.low span.end }
+    requires room { bytes_for (length cells.now) ≤ length out.old }
+    ensures packed { out.new ≡ packed cells.now ++ drop (bytes_for (length cells.now)) out.old }
+{
+    let all = packed_length(cells.len());
+    let first = span.low / 8;
+    let last = packed_length(span.end);
+    let stop = cells.len().min(8 * last);
+    out[..first].fill(0);
+    pack_bits(&cells[8 * first..stop], &mut out[first..last]);
+    out[last..all].fill(0);
+}
+
+// How many bytes a row of Netpbm's P4 takes.
+pub(crate) fn packed_length(columns: usize) -> usize
+    ensures { result ≡ bytes_for columns }
+{
+    columns.div_ceil(8)
+}
+
 // Fewer than eight cells, filled up with 0.
-fn pack_last(cells: &[u8]) -> u8
+fn pack_last(cells: &[u32]) -> u8
     requires { length cells.now ≤ 7 }
     ensures { result ≡ byte_of cells.now }
 {
@@ -29,25 +56,12 @@ fn pack_last(cells: &[u8]) -> u8
     pack_eight(&eight)
 }
 
+// A mask has the first lane in its lowest bit, so the lanes are turned round.
 #[inline(always)]
-fn pack_eight(cells: &[u8]) -> u8
+fn pack_eight(cells: &[u32]) -> u8
     requires { length cells.now ≡ 8 }
     ensures { result ≡ byte_of cells.now }
 {
-    128 * bit(cells[0])
-        + 64 * bit(cells[1])
-        + 32 * bit(cells[2])
-        + 16 * bit(cells[3])
-        + 8 * bit(cells[4])
-        + 4 * bit(cells[5])
-        + 2 * bit(cells[6])
-        + bit(cells[7])
-}
-
-// 1 for a cell with a pen.
-#[inline(always)]
-fn bit(cell: u8) -> u8
-    ensures { result ≡ (if nat_eq cell 0 then 0 else 1) }
-{
-    u8::from(cell != 0)
+    let lanes = u32x8::from_slice(cells).reverse();
+    lanes.simd_ne(u32x8::splat(0)).to_bitmask() as u8
 }

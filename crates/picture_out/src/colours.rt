@@ -1,87 +1,78 @@
 //! Cells as colours.
-ghost use Rattle.std.specs.Prelude.{◌≡◌, ◌≤◌, ◌++◌, ◌*◌, ◌∷◌, [], length, drop};
-ghost use Rattle.picture_out.specs.Colours.{colour, coloured};
+ghost use Rattle.std.specs.Prelude.{◌≡◌, ℕ, ◌<◌, ◌≤◌, ◌++◌, ◌*◌, ◌/◌, ◌%◌, length, drop, All, get_or, flat_map};
+ghost use Rattle.std.specs.List.{range_with_len};
+ghost use Rattle.picture_out.specs.Inks.{cell_colour, colour_of};
+ghost use Rattle.picture_out.specs.Colours.{coloured};
+ghost use Rattle.picture_out.specs.Spans.{IsBlankOutside};
 
-// A colour as Netpbm's P6 has it, each part 0 to 255.
-#[derive(Clone, Copy)]
-struct Colour {
-    red: u8,
-    green: u8,
-    blue: u8,
-}
+use crate::cells::Span;
+use crate::inks::{Ink, Inks};
 
-// Puts the colour of each cell's pen, from the left, and leaves the bytes after them as they were.
-pub(crate) fn put_colours(cells: &[u8], out: &mut [u8])
+// Puts the colour of each cell, from the left, and leaves the bytes after them as they were. The
+// ink is looked up once for each run of cells of one position.
+pub(crate) fn put_colours<I: Inks>(cells: &[u32], span: Span, inks: &I, out: &mut [u8])
+    requires span { IsBlankOutside cells.now span.low span.end }
+    requires inked { All (λ cell. cell ≤ length (I.inks inks.now)) cells.now }
     requires room { 3 * length cells.now ≤ length out.old }
-    ensures coloured { out.new ≡ coloured cells.now ++ drop (3 * length cells.now) out.old }
+    ensures coloured { out.new ≡ coloured (I.inks inks.now) cells.now ++ drop (3 * length cells.now) out.old }
 {
-    for (column, cell) in cells.iter().enumerate() {
-        let colour = colour_of(*cell);
-        out[3 * column] = colour.red;
-        out[3 * column + 1] = colour.green;
-        out[3 * column + 2] = colour.blue;
+    let all = cells.len();
+    out[..3 * span.low].fill(255);
+    let mut column = span.low;
+    while column < span.end {
+        let next = run_end(cells, column, span.end);
+        put_run(
+            cell_ink(cells[column], inks),
+            &mut out[3 * column..3 * next],
+        );
+        column = next;
     }
+    out[3 * span.end..3 * all].fill(255);
 }
 
-const WHITE: Colour = Colour {
+const PAPER: Ink = Ink {
+    pen: 0,
     red: 255,
     green: 255,
     blue: 255,
 };
 
-const BLACK: Colour = Colour {
-    red: 0,
-    green: 0,
-    blue: 0,
-};
-
-const RED: Colour = Colour {
-    red: 255,
-    green: 0,
-    blue: 0,
-};
-
-const GREEN: Colour = Colour {
-    red: 0,
-    green: 255,
-    blue: 0,
-};
-
-const YELLOW: Colour = Colour {
-    red: 255,
-    green: 255,
-    blue: 0,
-};
-
-const BLUE: Colour = Colour {
-    red: 0,
-    green: 0,
-    blue: 255,
-};
-
-const MAGENTA: Colour = Colour {
-    red: 255,
-    green: 0,
-    blue: 255,
-};
-
-const CYAN: Colour = Colour {
-    red: 0,
-    green: 255,
-    blue: 255,
-};
-
-// By pen, pen 0 being the paper; the last colour is that of each pen from 8 on.
-static PALETTE: [Colour; 9] = [WHITE, BLACK, RED, GREEN, YELLOW, BLUE, MAGENTA, CYAN, BLACK];
-
-// A look-up is faster here than a `match`.
+// The ink of a cell, or the paper for 0.
 #[inline(always)]
-fn colour_of(pen: u8) -> Colour
-    ensures { result.red ∷ result.green ∷ result.blue ∷ [] ≡ colour pen }
+fn cell_ink<I: Inks>(cell: u32, inks: &I) -> Ink
+    requires { cell ≤ length (I.inks inks.now) }
+    ensures { colour_of result ≡ cell_colour (I.inks inks.now) cell }
 {
-    if pen < 8 {
-        PALETTE[pen as usize]
-    } else {
-        PALETTE[8]
+    if cell == 0 { PAPER } else { inks.ink(cell) }
+}
+
+// The column after the cells from `column` on that are the same as the first of them.
+#[inline(always)]
+fn run_end(cells: &[u32], column: usize, end: usize) -> usize
+    requires from { column < end }
+    requires end { end ≤ length cells.now }
+    ensures onward { column < result }
+    ensures within { result ≤ end }
+    ensures same { (k : ℕ) → column ≤ k → k < result → get_or cells.now k 0 ≡ get_or cells.now column 0 }
+{
+    let first = cells[column];
+    let mut next = column + 1;
+    while next < end && cells[next] == first {
+        next += 1;
+    }
+    next
+}
+
+// Fills a piece of three bytes a pixel with one colour.
+#[inline(always)]
+fn put_run(ink: Ink, out: &mut [u8])
+    requires whole { length out.old % 3 ≡ 0 }
+    ensures { out.new ≡ flat_map (λ _. colour_of ink) (range_with_len 0 (length out.old / 3)) }
+{
+    let count = out.len() / 3;
+    for pixel in 0..count {
+        out[3 * pixel] = ink.red;
+        out[3 * pixel + 1] = ink.green;
+        out[3 * pixel + 2] = ink.blue;
     }
 }

@@ -3,7 +3,7 @@
 /// What is written.
 #[derive(Clone, Copy, Debug, PartialEq, Eq)]
 pub enum Form {
-    /// A line for each marked pixel: its row, its column and its pen, in decimal.
+    /// A line for each marked pixel: its row, its column, its pen and its colour.
     Marks,
     /// Netpbm's portable bitmap (P4).
     Pbm,

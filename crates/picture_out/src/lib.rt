@@ -2,9 +2,11 @@
 #![tactic(auto)]
 
 mod bits;
+mod cells;
 mod colours;
 mod fault;
 mod form;
+mod inks;
 mod marks;
 mod over_write;
 mod parts;
@@ -14,8 +16,10 @@ mod sink;
 mod tests;
 
 pub use bits::pack_bits;
+pub use cells::Cells;
 pub use fault::WriteFault;
 pub use form::Form;
+pub use inks::{Ink, Inks};
 pub use over_write::OverWrite;
 pub use parts::{foot, foot_counted, head, head_counted, room, row, row_counted, row_space};
 pub use pieces::put_all;

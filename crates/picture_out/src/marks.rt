@@ -1,70 +1,71 @@
-//! Marks: a line of text for each pixel with a pen.
-ghost use Rattle.std.specs.Prelude.{◌≡◌, ◌-◌, ◌+◌, ◌*◌, ◌^◌, ◌<◌, ◌≤◌, ◌++◌, [], length, take, drop, All, IfOk, true};
-ghost use Rattle.picture_out.specs.Sinks.{Writes};
-ghost use Rattle.picture_out.specs.Marks.{mark, marks_from, marks};
+//! Marks: a line of text for each cell that is not 0.
+ghost use Rattle.std.specs.Prelude.{◌≡◌, ◌-◌, ◌+◌, ◌*◌, ◌^◌, ◌<◌, ◌≤◌, ◌++◌, length, take, drop, All, IfOk, false};
+ghost use Rattle.std.specs.Fmt.{digit_glyph};
+ghost use Rattle.picture_out.specs.Sinks.{Writes, WritesAtMost};
+ghost use Rattle.picture_out.specs.Marks.{colour_digits, line, marks_from, marks};
+ghost use Rattle.picture_out.specs.Spans.{IsBlankOutside};
 
+use crate::cells::Span;
 use crate::fault::WriteFault;
+use crate::inks::{Ink, Inks};
 use crate::pieces::{append, put_all};
 use crate::sink::Sink;
 use itoa::Buffer;
 
-/// The longest line: a row and a column of ten digits, a pen of three, two spaces and the LF.
-pub(crate) const LONGEST_LINE: usize = 26;
+/// The longest line: a row and a column of ten digits, a pen of three, a colour of six, three
+/// spaces and the LF.
+pub(crate) const LONGEST_LINE: usize = 33;
 
 // Writes the lines of a row, as many at a time as the buffer surely takes.
-pub(crate) fn put_marks<K: Sink>(
+pub(crate) fn put_marks<I: Inks, K: Sink>(
     row: u32,
-    cells: &[u8],
+    cells: &[u32],
+    span: Span,
+    inks: &I,
     buffer: &mut [u8],
     sink: &mut K,
 ) -> Result<u64, WriteFault>
     requires sound { K.failed sink.old < 2 ^ 64 - 1 }
     requires columns { length cells.now ≤ 4294967295 }
-    ensures writes { Writes (K.held sink.old) (K.held sink.new) (K.failed sink.old) (K.failed sink.new) (marks row cells.now) result }
-    ensures count { IfOk result (λ n. n ≡ length (marks row cells.now)) }
+    requires span { IsBlankOutside cells.now span.low span.end }
+    requires inked { All (λ cell. cell ≤ length (I.inks inks.now)) cells.now }
+    ensures writes { Writes (K.held sink.old) (K.held sink.new) (K.failed sink.old) (K.failed sink.new) (marks row (I.inks inks.now) cells.now) result }
+    ensures count { IfOk result (λ n. n ≡ length (marks row (I.inks inks.now) cells.now)) }
+    ensures small { WritesAtMost (33 * length cells.now) result }
 {
-    if is_blank(cells) {
-        return Ok(0);
-    }
     let mut digits = Buffer::new();
     let row_text = digits.format(row).as_bytes();
     if buffer.len() < LONGEST_LINE {
-        let mut line = [0; LONGEST_LINE];
-        put_lines(row_text, cells, &mut line, sink)
+        let mut piece = [0; LONGEST_LINE];
+        put_lines(row_text, cells, span, inks, &mut piece, sink)
     } else {
-        put_lines(row_text, cells, buffer, sink)
+        put_lines(row_text, cells, span, inks, buffer, sink)
     }
-}
-
-// Whether no cell has a pen.
-fn is_blank(cells: &[u8]) -> bool
-    ensures { result ≡ true → All (λ pen. pen ≡ 0) cells.now }
-{
-    let mut pens = 0;
-    for cell in cells {
-        pens |= *cell;
-    }
-    pens == 0
 }
 
 // The same by a piece that takes at least one line, with the row's number as text.
-fn put_lines<K: Sink>(
+fn put_lines<I: Inks, K: Sink>(
     row: &[u8],
-    cells: &[u8],
+    cells: &[u32],
+    span: Span,
+    inks: &I,
     piece: &mut [u8],
     sink: &mut K,
 ) -> Result<u64, WriteFault>
     requires sound { K.failed sink.old < 2 ^ 64 - 1 }
     requires columns { length cells.now ≤ 4294967295 }
+    requires span { IsBlankOutside cells.now span.low span.end }
+    requires inked { All (λ cell. cell ≤ length (I.inks inks.now)) cells.now }
     requires row { length row.now ≤ 10 }
-    requires piece { 26 ≤ length piece.old }
-    ensures writes { Writes (K.held sink.old) (K.held sink.new) (K.failed sink.old) (K.failed sink.new) (marks_from row.now 0 cells.now) result }
-    ensures count { IfOk result (λ n. n ≡ length (marks_from row.now 0 cells.now)) }
+    requires piece { 33 ≤ length piece.old }
+    ensures writes { Writes (K.held sink.old) (K.held sink.new) (K.failed sink.old) (K.failed sink.new) (marks_from row.now 0 (I.inks inks.now) cells.now) result }
+    ensures count { IfOk result (λ n. n ≡ length (marks_from row.now 0 (I.inks inks.now) cells.now)) }
+    ensures small { WritesAtMost (33 * length cells.now) result }
 {
     let mut done: u64 = 0;
-    let mut column = 0;
-    while column < cells.len() {
-        let lines = fill(row, cells, column, piece);
+    let mut column = span.low;
+    while column < span.end {
+        let lines = fill(row, cells, inks, column, span.end, piece);
         match put_all(sink, &piece[..lines.length]) {
             Ok(()) => done += lines.length as u64,
             Err(fault) => return Err(fault.after(done)),
@@ -81,24 +82,35 @@ struct Lines {
     next: usize,
 }
 
-// Fills the piece with the lines of the cells from a column on, while a further line surely fits.
-fn fill(row: &[u8], cells: &[u8], from: usize, piece: &mut [u8]) -> Lines
+// Fills the piece with the lines of the cells from a column on, before the column `end`, while a
+// further line surely fits.
+fn fill<I: Inks>(
+    row: &[u8],
+    cells: &[u32],
+    inks: &I,
+    from: usize,
+    end: usize,
+    piece: &mut [u8],
+) -> Lines
     requires columns { length cells.now ≤ 4294967295 }
-    requires from { from < length cells.now }
+    requires inked { All (λ cell. cell ≤ length (I.inks inks.now)) cells.now }
+    requires from { from < end }
+    requires end { end ≤ length cells.now }
     requires row { length row.now ≤ 10 }
-    requires piece { 26 ≤ length piece.old }
+    requires piece { 33 ≤ length piece.old }
     ensures fits { result.length ≤ length piece.new }
     ensures onward { from < result.next }
-    ensures within { result.next ≤ length cells.now }
-    ensures lines { take result.length piece.new ++ marks_from row.now result.next (drop result.next cells.now) ≡ marks_from row.now from (drop from cells.now) }
+    ensures within { result.next ≤ end }
+    ensures most { result.length + 33 * from ≤ 33 * result.next }
+    ensures lines { take result.length piece.new ++ marks_from row.now result.next (I.inks inks.now) (drop result.next cells.now) ≡ marks_from row.now from (I.inks inks.now) (drop from cells.now) }
     ensures size { length piece.new ≡ length piece.old }
 {
     let mut length = 0;
     let mut next = from;
-    while next < cells.len() && length + LONGEST_LINE <= piece.len() {
-        let pen = cells[next];
-        if pen != 0 {
-            length = append_mark(piece, length, row, next as u32, pen);
+    while next < end && length + LONGEST_LINE <= piece.len() {
+        let cell = cells[next];
+        if cell != 0 {
+            length = append_line(piece, length, row, next as u32, inks.ink(cell));
         }
         next += 1;
     }
@@ -106,13 +118,12 @@ fn fill(row: &[u8], cells: &[u8], from: usize, piece: &mut [u8]) -> Lines
 }
 
 // Puts one line into a piece that is `used` bytes long, and says how long it is then.
-fn append_mark(piece: &mut [u8], used: usize, row: &[u8], column: u32, pen: u8) -> usize
-    requires pen { 0 < pen }
+fn append_line(piece: &mut [u8], used: usize, row: &[u8], column: u32, ink: Ink) -> usize
     requires row { length row.now ≤ 10 }
-    requires room { used + 26 ≤ length piece.old }
-    ensures line { take result piece.new ≡ take used piece.old ++ mark row.now column pen }
-    ensures used { result ≡ used + length (mark row.now column pen) }
-    ensures most { result ≤ used + 26 }
+    requires room { used + 33 ≤ length piece.old }
+    ensures line { take result piece.new ≡ take used piece.old ++ line row.now column ink }
+    ensures used { result ≡ used + length (line row.now column ink) }
+    ensures most { result ≤ used + 33 }
     ensures size { length piece.new ≡ length piece.old }
 {
     let mut digits = Buffer::new();
@@ -120,6 +131,33 @@ fn append_mark(piece: &mut [u8], used: usize, row: &[u8], column: u32, pen: u8) 
     let used = append(piece, used, b" ");
     let used = append(piece, used, digits.format(column).as_bytes());
     let used = append(piece, used, b" ");
-    let used = append(piece, used, digits.format(pen).as_bytes());
+    let used = append(piece, used, digits.format(ink.pen).as_bytes());
+    let used = append(piece, used, b" ");
+    let used = append(piece, used, &colour_text(ink));
     append(piece, used, b"\n")
+}
+
+fn colour_text(ink: Ink) -> [u8; 6]
+    ensures { result ≡ colour_digits ink }
+{
+    [
+        digit(ink.red / 16),
+        digit(ink.red % 16),
+        digit(ink.green / 16),
+        digit(ink.green % 16),
+        digit(ink.blue / 16),
+        digit(ink.blue % 16),
+    ]
+}
+
+// A number below 16 as a hexadecimal digit.
+fn digit(number: u8) -> u8
+    requires { number < 16 }
+    ensures { result ≡ digit_glyph false number }
+{
+    if number < 10 {
+        b'0' + number
+    } else {
+        b'a' + (number - 10)
+    }
 }

@@ -1,13 +1,15 @@
 //! A picture's parts in each form.
 ghost use Rattle.std.specs.Prelude.{◌≡◌, ℕ, ◌-◌, ◌+◌, ◌*◌, ◌^◌, ◌<◌, ◌≤◌, ◌++◌, List, All, length, take, IfOk};
-ghost use Rattle.picture_out.specs.Sinks.{Writes};
-ghost use Rattle.picture_out.specs.Bits.{bytes_for};
+ghost use Rattle.picture_out.specs.Sinks.{Writes, WritesAtMost};
+ghost use Rattle.picture_out.specs.Spans.{IsBlankOutside};
 ghost use Rattle.picture_out.specs.Forms.{head_bytes, row_bytes, foot_bytes, room_of, size_line};
 
-use crate::bits::pack_bits;
+use crate::bits::{pack_row, packed_length};
+use crate::cells::{Cells, Span};
 use crate::colours::put_colours;
 use crate::fault::WriteFault;
 use crate::form::Form;
+use crate::inks::{Ink, Inks};
 use crate::marks::{LONGEST_LINE, put_marks};
 use crate::pieces::{append, put_counted};
 use crate::sink::Sink;
@@ -25,24 +27,16 @@ pub fn room(form: Form, columns: u32) -> usize
 }
 
 /// The length of a buffer, in bytes, that takes any row of so many columns whole, so that `row`
-/// hands it to the sink in one piece.
+/// hands it to the sink in one piece, whatever its inks.
 pub fn row_space(form: Form, columns: u32) -> usize
     ensures room { room_of form columns ≤ result }
-    ensures whole { (index : ℕ) (cells : List ℕ) → index < 2 ^ 32 → All (λ pen. pen < 256) cells → length cells ≤ columns → length (row_bytes form index cells) ≤ result }
-    ensures most { result ≤ 32 * columns }
+    ensures whole { (index : ℕ) (inks : List Ink) (cells : List ℕ) → index < 2 ^ 32 → All (λ ink. ink.pen < 256) inks → length cells ≤ columns → length (row_bytes form index inks cells) ≤ result }
+    ensures most { result ≤ 40 * columns }
 {
     match form {
         Form::Marks => LONGEST_LINE * columns as usize,
         Form::Pbm | Form::Ppm => room(form, columns),
     }
-}
-
-// How many bytes a row of Netpbm's P4 takes.
-fn packed_length(columns: usize) -> usize
-    requires { columns ≤ 4294967295 }
-    ensures { result ≡ bytes_for columns }
-{
-    (columns + 7) / 8
 }
 
 /// Writes what stands before the rows: nothing for marks, for Netpbm's forms the magic number and
@@ -104,51 +98,78 @@ fn append_netpbm(text: &mut [u8], magic: &[u8], columns: u32, rows: u32) -> usiz
     append(text, used, b"\n")
 }
 
-/// Writes the row with the number `index`, counted from 0 at the top, from the pens of its cells:
-/// for marks the line `row column pen` of each cell that is not 0, for pbm a bit a cell, for ppm
-/// three bytes a cell. The buffer is `room` long or longer, and what it holds afterwards is of no
-/// meaning.
+/// Writes the row with the number `index`, counted from 0 at the top. Each cell is 0 for the
+/// paper, or the position of its ink, from 1 up to and including the count. For marks: the line
+/// `row column pen rrggbb` of each cell that is not 0, the colour in hexadecimal; for pbm a bit a
+/// cell, for ppm three bytes a cell. The buffer is `room` long or longer, and what it holds
+/// afterwards has no meaning.
 ///
 /// Errors: 7 exactly where the sink fails; it has then taken the first `bytes` bytes.
-pub fn row<K: Sink>(
+pub fn row<I: Inks, K: Sink>(
     form: Form,
     index: u32,
-    cells: &[u8],
+    cells: &[u32],
+    inks: &I,
     buffer: &mut [u8],
     sink: &mut K,
 ) -> Result<(), WriteFault>
     requires sound { K.failed sink.old < 2 ^ 64 - 1 }
     requires columns { length cells.now ≤ 4294967295 }
+    requires inked { All (λ cell. cell ≤ length (I.inks inks.now)) cells.now }
     requires room { room_of form (length cells.now) ≤ length buffer.old }
-    ensures writes { Writes (K.held sink.old) (K.held sink.new) (K.failed sink.old) (K.failed sink.new) (row_bytes form index cells.now) result }
+    ensures writes { Writes (K.held sink.old) (K.held sink.new) (K.failed sink.old) (K.failed sink.new) (row_bytes form index (I.inks inks.now) cells.now) result }
 {
-    row_counted(form, index, cells, buffer, sink)?;
+    row_counted(form, index, Cells::new(cells), inks, buffer, sink)?;
     Ok(())
 }
 
-/// `row`, with the count of the bytes written.
-pub fn row_counted<K: Sink>(
+/// `row`, with the count of the bytes written, for cells that may say where they are blank.
+pub fn row_counted<I: Inks, K: Sink>(
     form: Form,
     index: u32,
-    cells: &[u8],
+    cells: Cells<'_>,
+    inks: &I,
+    buffer: &mut [u8],
+    sink: &mut K,
+) -> Result<u64, WriteFault>
+    requires sound { K.failed sink.old < 2 ^ 64 - 1 }
+    requires columns { length cells ≤ 4294967295 }
+    requires inked { All (λ cell. cell ≤ length (I.inks inks.now)) cells }
+    requires room { room_of form (length cells) ≤ length buffer.old }
+    ensures writes { Writes (K.held sink.old) (K.held sink.new) (K.failed sink.old) (K.failed sink.new) (row_bytes form index (I.inks inks.now) cells.entry) result }
+    ensures count { IfOk result (λ n. n ≡ length (row_bytes form index (I.inks inks.now) cells.entry)) }
+    ensures small { WritesAtMost (40 * length cells.entry + 40) result }
+{
+    let span = cells.span;
+    put_row(form, index, cells.cells, span, inks, buffer, sink)
+}
+
+fn put_row<I: Inks, K: Sink>(
+    form: Form,
+    index: u32,
+    cells: &[u32],
+    span: Span,
+    inks: &I,
     buffer: &mut [u8],
     sink: &mut K,
 ) -> Result<u64, WriteFault>
     requires sound { K.failed sink.old < 2 ^ 64 - 1 }
     requires columns { length cells.now ≤ 4294967295 }
+    requires span { IsBlankOutside cells.now span.low span.end }
+    requires inked { All (λ cell. cell ≤ length (I.inks inks.now)) cells.now }
     requires room { room_of form (length cells.now) ≤ length buffer.old }
-    ensures writes { Writes (K.held sink.old) (K.held sink.new) (K.failed sink.old) (K.failed sink.new) (row_bytes form index cells.now) result }
-    ensures count { IfOk result (λ n. n ≡ length (row_bytes form index cells.now)) }
-    ensures small { length (row_bytes form index cells.now) ≤ 32 * length cells.now + 32 }
+    ensures writes { Writes (K.held sink.old) (K.held sink.new) (K.failed sink.old) (K.failed sink.new) (row_bytes form index (I.inks inks.now) cells.now) result }
+    ensures count { IfOk result (λ n. n ≡ length (row_bytes form index (I.inks inks.now) cells.now)) }
+    ensures small { WritesAtMost (40 * length cells.now + 40) result }
 {
     match form {
-        Form::Marks => put_marks(index, cells, buffer, sink),
+        Form::Marks => put_marks(index, cells, span, inks, buffer, sink),
         Form::Pbm => {
-            pack_bits(cells, buffer);
+            pack_row(cells, span, buffer);
             put_counted(sink, &buffer[..packed_length(cells.len())])
         }
         Form::Ppm => {
-            put_colours(cells, buffer);
+            put_colours(cells, span, inks, buffer);
             put_counted(sink, &buffer[..3 * cells.len()])
         }
     }

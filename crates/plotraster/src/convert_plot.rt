@@ -1,15 +1,16 @@
 //! The conversion: read, cut, draw, paint, write.
-ghost use Rattle.std.specs.Prelude.{◌≡◌, ℕ, ◌+◌, ◌-◌, ◌^◌, ◌<◌, List, IfErr, false};
+ghost use Rattle.std.specs.Prelude.{◌≡◌, ℕ, ◌+◌, ◌-◌, ◌^◌, ◌<◌, ◌≤◌, List, IfErr, false};
 ghost use Rattle.std.specs.Io.KnownBytes.{Consumes, IsAtEnd};
-ghost use Rattle.plotraster.specs.Conversions.{Converts, is_write};
+ghost use Rattle.plotraster.specs.Conversions.{Converts, is_write, job_boxes};
 
 use crate::fault::Fault;
 use crate::reading::{ReadFault, buffer_of, read_plot};
 use crate::source::Source;
+use crate::stroke_inks::StrokeInks;
 use crate::writing::write_picture;
 use command_line::Job;
-use hpgl_plot::{PlotFault, draw};
-use hpgl_text::{TextFault, lex};
+use hpgl_plot::{PlotFault, draw_items};
+use hpgl_text::Items;
 use picture_out::{Sink, row_space};
 use std::alloc::Global;
 use stroke_raster::{Gauge, PaintFault, Painter};
@@ -28,8 +29,9 @@ pub struct Done {
 }
 
 /// Writes the picture of the plot that the source gives: the head if the job's first row is 0, its
-/// rows from the first row on, the foot. A pixel shows the pen of the last stroke of the selected
-/// pens that the gauge says reaches it.
+/// rows from the first row on, the foot. A pixel shows the pen and the colour of the last stroke of
+/// the selected pens that the gauge says reaches it. The gauge makes at most as many tests as the
+/// boxes of those strokes have pixels, whatever the band height.
 ///
 /// Errors, in this order: 8 where the source fails; 1 where it gives more than 67,108,864 bytes; 10
 /// for a plot with an instruction that is known and not drawn yet; 3 and 4 at the first instruction
@@ -49,9 +51,11 @@ pub fn convert<G: Gauge, S: Source, K: Sink>(
     requires sinking { K.failed sink.old < 2 ^ 64 - 1 }
     // What was read is one list, of which all of this is said.
     ensures converts { (input : List ℕ) × Consumes (S.left source.old) (S.left source.new) input
+        × (G.count gauge.new ≤ G.count gauge.old + job_boxes job.now input)
         × Converts job.now (G.reaches gauge.old) input (S.failed source.old) (S.failed source.new) (S.ended source.old) (S.ended source.new)
         (K.held sink.old) (K.held sink.new) (K.failed sink.old) (K.failed sink.new) result }
     ensures end { S.ended source.new ≡ S.ended source.old + 1 → IsAtEnd (S.left source.new) }
+    ensures same { G.reaches gauge.new ≡ G.reaches gauge.old }
     ensures untouched { IfErr result (λ fault. is_write fault ≡ false → sink.new ≡ sink.old) }
 {
     let plot = match read_plot(alloc, source) {
@@ -60,21 +64,19 @@ pub fn convert<G: Gauge, S: Source, K: Sink>(
         Err(ReadFault::Memory) => return Err(Fault::Memory),
         Err(ReadFault::Read) => return Err(Fault::Read),
     };
-    let program = match lex(alloc, plot.as_slice()) {
-        Ok(program) => program,
-        Err(TextFault::TooLong) => return Err(Fault::TooLong),
-        Err(TextFault::Memory) => return Err(Fault::Memory),
-    };
-    let drawn = match draw(alloc, &program, &job.page) {
-        Ok(drawn) => drawn,
+    let items = Items::new(alloc, plot.as_slice());
+    let lines = match draw_items(alloc, items, &job.page) {
+        Ok(lines) => lines,
         Err(PlotFault::Memory) => return Err(Fault::Memory),
         Err(PlotFault::NotYet { at }) => return Err(Fault::NotYet { at }),
         Err(PlotFault::OffRange { at }) => return Err(Fault::OffRange { at }),
         Err(PlotFault::TooManyStrokes { at }) => return Err(Fault::TooManyStrokes { at }),
     };
+    drop(plot);
+    let strokes = lines.strokes.as_slice();
     let mut painter = match Painter::new(
         alloc,
-        drawn.strokes(),
+        strokes,
         job.page,
         job.dots,
         job.pens,
@@ -90,12 +92,20 @@ pub fn convert<G: Gauge, S: Source, K: Sink>(
         Ok(buffer) => buffer,
         Err(_) => return Err(Fault::Memory),
     };
-    match write_picture(job.form, &mut painter, gauge, buffer.as_mut_slice(), sink) {
+    let inks = StrokeInks::new(strokes);
+    match write_picture(
+        job.form,
+        &mut painter,
+        gauge,
+        &inks,
+        buffer.as_mut_slice(),
+        sink,
+    ) {
         Ok(bytes) => Ok(Done {
             rows: job.dots.rows(&job.page) - job.first_row,
             bytes,
-            strokes: drawn.strokes().len(),
-            notes: drawn.notes().len(),
+            strokes: strokes.len(),
+            notes: lines.notes,
         }),
         Err(stop) => Err(Fault::Write {
             row: stop.row,

@@ -48,6 +48,6 @@ fn what_is_noted(rt: HostRuntime) -> Result<(), Fail> {
         assert_eq!(rt; done.notes, notes);
     }
     let (_, marks) = run(&rt, b"!PD;")?;
-    assert_eq!(rt; marks.as_slice(), b"7 0 1\n".as_slice());
+    assert_eq!(rt; marks.as_slice(), b"7 0 1 000000\n".as_slice());
     Ok(())
 }

@@ -2,15 +2,25 @@
 #![tactic(auto)]
 
 #[cfg(test)]
+mod colours;
+#[cfg(test)]
 mod devices;
 #[cfg(test)]
 mod faults;
 #[cfg(test)]
+mod fine;
+#[cfg(test)]
+mod gauges;
+#[cfg(test)]
 mod lexed;
+#[cfg(test)]
+mod once;
 #[cfg(test)]
 mod pages;
 #[cfg(test)]
 mod pictures;
+#[cfg(test)]
+mod random;
 #[cfg(test)]
 mod refusals;
 #[cfg(test)]

@@ -1,7 +1,7 @@
 //! Plots and jobs that are refused, and what that leaves.
 ghost use Rattle.std.specs.Prelude.{◌-◌, ◌^◌, ◌<◌, None};
 
-use crate::pages::{CROSSING, LINE, eight_by_eight};
+use crate::pages::{BLACK, CROSSING, LINE, eight_by_eight};
 use plotraster::{
     Done, Exact, Fault, Form, Gauge, Job, OverRead, OverWrite, Page, PageFault, Source,
     SourceFault, Stroke, Window, convert, picture_bytes,
@@ -62,7 +62,7 @@ fn the_answer_tells_what_was_done(rt: HostRuntime) -> Result<(), Fail> {
     assert!(rt;
         done == Done {
             rows: 8,
-            bytes: 48,
+            bytes: 104,
             strokes: 1,
             notes: 0
         }
@@ -207,16 +207,17 @@ fn pages_and_strokes_out_of_range(rt: HostRuntime) -> Result<(), Fail> {
     let corner = matches!(Page::new(64, 64, 65537, 0), Err(PageFault::Corner));
     assert!(rt; corner);
     assert!(rt; plotraster::Dots::new(9).is_none());
-    assert!(rt; plotraster::Dots::new(601).is_none());
+    assert!(rt; plotraster::Dots::new(1200).is_some());
+    assert!(rt; plotraster::Dots::new(1201).is_none());
     let window = Window {
         x0: 0,
         y0: 0,
         x1: 1024,
         y1: 1024,
     };
-    assert!(rt; Stroke::new(1, 224, window, 0, 0, 1024, 1024).is_some());
-    assert!(rt; Stroke::new(0, 224, window, 0, 0, 1024, 1024).is_none());
-    assert!(rt; Stroke::new(1, 12801, window, 0, 0, 1024, 1024).is_none());
-    assert!(rt; Stroke::new(1, 224, window, 0, 0, 1_048_577, 0).is_none());
+    assert!(rt; Stroke::new(1, BLACK, 224, window, 0, 0, 1024, 1024).is_some());
+    assert!(rt; Stroke::new(0, BLACK, 224, window, 0, 0, 1024, 1024).is_none());
+    assert!(rt; Stroke::new(1, BLACK, 12801, window, 0, 0, 1024, 1024).is_none());
+    assert!(rt; Stroke::new(1, BLACK, 224, window, 0, 0, 1_048_577, 0).is_none());
     Ok(())
 }

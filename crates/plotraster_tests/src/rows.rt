@@ -1,10 +1,10 @@
-//! Bands, rows and marks of a painter, and gauges.
-ghost use Rattle.std.specs.Prelude.{◌≡◌, ℕ, false};
+//! Bands, rows and marks of a painter.
 
+use crate::pages::BLACK;
 use hpgl_plot::{Page, Stroke, Window};
 use std::alloc::Global;
 use std::test::Fail;
-use stroke_raster::{Dots, Exact, Gauge, PaintFault, Painter, PenSet, near};
+use stroke_raster::{Dots, Exact, PaintFault, Painter, PenSet, near};
 
 // A stroke of pen 1 in row 4 and one of pen 2 in column 3, on a page of 8 by 8 pixels.
 fn cross() -> Option<[Stroke; 2]> {
@@ -14,8 +14,8 @@ fn cross() -> Option<[Stroke; 2]> {
         x1: 1024,
         y1: 1024,
     };
-    let across = Stroke::new(1, 224, window, 0, 448, 1024, 448)?;
-    let down = Stroke::new(2, 224, window, 448, 0, 448, 1024)?;
+    let across = Stroke::new(1, BLACK, 224, window, 0, 448, 1024, 448)?;
+    let down = Stroke::new(2, BLACK, 224, window, 448, 0, 448, 1024)?;
     Some([across, down])
 }
 
@@ -24,7 +24,7 @@ fn next_of(
     painter: &mut Painter<'_>,
     gauge: &mut Exact,
     alloc: Global,
-) -> Result<Option<(u32, u32, Vec<u8>)>, Fail> {
+) -> Result<Option<(u32, u32, Vec<u32>)>, Fail> {
     match painter.next_band(gauge) {
         Some(band) => {
             if band.rows() == 0 {
@@ -101,8 +101,8 @@ fn a_tie_counts(rt: HostRuntime) -> Result<(), Fail> {
         x1: 1024,
         y1: 1024,
     };
-    let tie = Stroke::new(1, 256, window, 0, 448, 1024, 448).ok_or("a stroke")?;
-    let thin = Stroke::new(1, 255, window, 0, 448, 1024, 448).ok_or("a stroke")?;
+    let tie = Stroke::new(1, BLACK, 256, window, 0, 448, 1024, 448).ok_or("a stroke")?;
+    let thin = Stroke::new(1, BLACK, 255, window, 0, 448, 1024, 448).ok_or("a stroke")?;
     assert_eq!(rt; dots.rows(&page), 8);
     assert_eq!(rt; dots.columns(&page), 8);
     assert!(rt; near(&tie, &page, dots, 3, 0));
@@ -110,44 +110,31 @@ fn a_tie_counts(rt: HostRuntime) -> Result<(), Fail> {
     Ok(())
 }
 
-/// A gauge that no stroke reaches a pixel by.
-#[derive(Drop)]
-struct Never {
-    tests: u64,
-}
-
-impl Gauge for Never {
-    ghost reaches = { λ _ _ _ _ _ _. false };
-
-    ghost count = { λ g. g.tests };
-
-    fn meets(
-        &mut self,
-        _stroke: &Stroke,
-        _page: &Page,
-        _dots: Dots,
-        _row: u32,
-        _column: u32,
-    ) -> bool {
-        if self.tests < u64::MAX {
-            self.tests += 1;
-        }
-        false
-    }
-
-    fn tests(&self) -> u64 {
-        self.tests
-    }
-}
-
+// Beyond an end only the distance to that end counts, not the one to the line.
 #[test]
-fn the_gauge_decides(rt: HostRuntime) -> Result<(), Fail> {
+fn past_the_ends(rt: HostRuntime) -> Result<(), Fail> {
     let page = Page::new(64, 64, 0, 0)?;
     let dots = Dots::new(127).ok_or("dots")?;
-    let strokes = cross().ok_or("strokes")?;
-    let mut painter = Painter::new(rt.alloc(), &strokes, page, dots, PenSet::all(), 8, 0)?;
-    let mut never = Never { tests: 0 };
-    let band = painter.next_band(&mut never).ok_or("a band")?;
-    assert!(rt; band.marks().next().is_none());
+    let window = Window {
+        x0: 0,
+        y0: 0,
+        x1: 1024,
+        y1: 1024,
+    };
+    let middle = Stroke::new(1, BLACK, 224, window, 256, 448, 512, 448).ok_or("a stroke")?;
+    for (column, wanted) in [
+        (0, false),
+        (1, true),
+        (2, true),
+        (3, true),
+        (4, true),
+        (5, false),
+    ] {
+        assert_eq!(rt;
+            near(&middle, &page, dots, 4, column),
+            wanted,
+            "column {column}"
+        );
+    }
     Ok(())
 }

@@ -100,6 +100,6 @@ fn the_thinnest_line_on_one_pixel(rt: HostRuntime) -> Result<(), Fail> {
         ..eight_by_eight(Form::Marks).ok_or("a job")?
     };
     let marks = picture_bytes(rt.alloc(), &job, b"PW0;PU0,34;PD64,34;")?;
-    assert_eq!(rt; marks.as_slice(), b"0 0 1\n".as_slice());
+    assert_eq!(rt; marks.as_slice(), b"0 0 1 000000\n".as_slice());
     Ok(())
 }

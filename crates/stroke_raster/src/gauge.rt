@@ -1,14 +1,15 @@
 //! What measures whether a stroke reaches a pixel, and counts the tests.
-ghost use Rattle.std.specs.Prelude.{◌≡◌, ℕ, ◌<◌, Bool};
+ghost use Rattle.std.specs.Prelude.{◌≡◌, ℕ, ◌+◌, ◌<◌, ◌≤◌, Bool, false, cond, get_or, length, min};
 ghost use Rattle.hpgl_plot.specs.Segments.{Segment};
 ghost use Rattle.hpgl_plot.specs.declared.page.Page.{Page};
 ghost use Rattle.stroke_raster.specs.declared.dots.Dots.{Dots};
 ghost use Rattle.stroke_raster.specs.Resolutions.{columns_of, rows_of};
-ghost use Rattle.stroke_raster.specs.Tests.{next_count};
-ghost use Rattle.stroke_raster.specs.Covers.{covers};
+ghost use Rattle.stroke_raster.specs.Tests.{next_count, reached, MOST_TESTS};
+ghost use Rattle.stroke_raster.specs.Covers.{covers, BoxHolds};
 
 use crate::dots::Dots;
 use crate::pixel::near;
+use crate::strip::{Span, fill, run};
 use hpgl_plot::{Page, Stroke};
 use std::marker::Model;
 
@@ -31,6 +32,48 @@ pub trait Gauge {
     /// How many tests were made.
     fn tests(&self) -> u64
         ensures { result ≡ count self.now };
+
+    /// Does nothing. Its contract is a law of the gauge: a stroke reaches only pixels of its box.
+    fn keeps_to_boxes(&self)
+        ensures { BoxHolds (reaches self.now) };
+
+    /// Paints a stroke's part of a row: each cell becomes the position where the stroke reaches the
+    /// cell's pixel; the first cell is that of column `from`. The count rises by no less than the
+    /// pixels reached and no more than the cells, or to 2^64 - 1, where it stays. Gives a span of
+    /// the cells, outside which none is reached.
+    #[inline(always)]
+    fn paint(
+        &mut self,
+        stroke: &Stroke,
+        page: &Page,
+        dots: Dots,
+        row: u32,
+        from: u32,
+        position: u32,
+        cells: &mut [u32],
+    ) -> Span
+        requires row_in { row < rows_of page.now dots }
+        requires columns_in { from + length cells.old ≤ columns_of page.now dots }
+        ensures cells { (i : ℕ) → i < length cells.old → get_or cells.new i 0 ≡ cond (reaches self.old stroke.now page.now dots row (from + i)) position (get_or cells.old i 0) }
+        ensures same { reaches self.new ≡ reaches self.old }
+        ensures least { min (count self.old + reached (reaches self.old stroke.now page.now dots row) from (length cells.old)) MOST_TESTS ≤ count self.new }
+        ensures most { count self.new ≤ count self.old + length cells.old }
+        ensures grows { count self.old ≤ count self.new }
+        ensures order { result.low ≤ result.end }
+        ensures high { result.end ≤ length cells.old }
+        ensures before { (i : ℕ) → i < result.low → reaches self.old stroke.now page.now dots row (from + i) ≡ false }
+        ensures after { (i : ℕ) → result.end ≤ i → i < length cells.old → reaches self.old stroke.now page.now dots row (from + i) ≡ false }
+    {
+        for (i, cell) in cells.iter_mut().enumerate() {
+            let old = *cell;
+            let is_met = self.meets(stroke, page, dots, row, from + i as u32);
+            *cell = if is_met { position } else { old };
+        }
+        Span {
+            low: 0,
+            end: cells.len() as u32,
+        }
+    }
 }
 
 /// The gauge that asks `near`.
@@ -70,7 +113,29 @@ impl Gauge for Exact {
         near(stroke, page, dots, row, column)
     }
 
+    // The pixels that a stroke covers in a row form a run, so only its ends are tested.
+    #[inline(always)]
+    fn paint(
+        &mut self,
+        stroke: &Stroke,
+        page: &Page,
+        dots: Dots,
+        row: u32,
+        from: u32,
+        position: u32,
+        cells: &mut [u32],
+    ) -> Span {
+        let stroke = *stroke;
+        let page = *page;
+        let run = run(&stroke, &page, dots, row, from, cells.len() as u32);
+        fill(cells, run, position);
+        self.tests = self.tests.saturating_add(u64::from(run.end - run.low));
+        run
+    }
+
     fn tests(&self) -> u64 {
         self.tests
     }
+
+    fn keeps_to_boxes(&self) {}
 }

@@ -1,16 +1,19 @@
-//! From strokes to pixels: which pen each pixel of a page shows.
+//! From strokes to pixels: which stroke each pixel of a page shows.
 #![tactic(auto)]
 
 mod band;
 mod dots;
+mod extent;
 mod gauge;
 pub mod laws;
 mod marks;
-mod paint;
 mod painter;
 mod pens;
 mod pixel;
+mod scene;
+mod strip;
 mod vector;
+mod walk;
 
 pub use band::Band;
 pub use dots::Dots;
@@ -19,3 +22,4 @@ pub use marks::Marks;
 pub use painter::{PaintFault, Painter};
 pub use pens::PenSet;
 pub use pixel::near;
+pub use strip::Span;

@@ -29,11 +29,11 @@ pub fn near(stroke: &Stroke, page: &Page, dots: Dots, row: u32, column: u32) -> 
     is_in_window(stroke, dots, place) && is_close(stroke, dots, place)
 }
 
-// The centre of a pixel.
+// The centre of a pixel, or of the one that would follow a row's last.
 #[inline(always)]
-fn centre_of(page: &Page, dots: Dots, row: u32, column: u32) -> Vector
+pub fn centre_of(page: &Page, dots: Dots, row: u32, column: u32) -> Vector
     requires row_in { row < rows_of page.now dots }
-    requires column_in { column < columns_of page.now dots }
+    requires column_in { column ≤ columns_of page.now dots }
     ensures value { result ≡ centre page.now.height dots.resolution row column }
     ensures small { Within (2 ^ 31) result }
 {
@@ -72,12 +72,21 @@ fn is_close(stroke: &Stroke, dots: Dots, place: Vector) -> bool
     let a = first_end_of(stroke);
     let b = last_end_of(stroke);
     let r = dots.resolution;
-    let width = (stroke.width * r).max(LEAST_WIDTH);
+    let width = drawn_width_of(stroke, dots);
     meets_gap(way_between(a, b), way_between(times(r, a), place), r, width)
 }
 
+// The drawn width of the stroke, in grains divided by the resolution.
 #[inline(always)]
-fn first_end_of(stroke: &Stroke) -> Vector
+pub fn drawn_width_of(stroke: &Stroke, dots: Dots) -> u32
+    ensures value { result ≡ drawn_width stroke.now.width dots.resolution }
+    ensures small { result ≤ 2 ^ 24 }
+{
+    (stroke.width * dots.resolution).max(LEAST_WIDTH)
+}
+
+#[inline(always)]
+pub fn first_end_of(stroke: &Stroke) -> Vector
     ensures value { result ≡ first_end stroke.now }
     ensures small { Within (2 ^ 20) result }
 {
@@ -88,7 +97,7 @@ fn first_end_of(stroke: &Stroke) -> Vector
 }
 
 #[inline(always)]
-fn last_end_of(stroke: &Stroke) -> Vector
+pub fn last_end_of(stroke: &Stroke) -> Vector
     ensures value { result ≡ last_end stroke.now }
     ensures small { Within (2 ^ 20) result }
 {
@@ -100,7 +109,7 @@ fn last_end_of(stroke: &Stroke) -> Vector
 
 // The way from one place to another.
 #[inline(always)]
-fn way_between(from: Vector, to: Vector) -> Vector
+pub fn way_between(from: Vector, to: Vector) -> Vector
     requires from_in { Within (2 ^ 40) from }
     requires to_in { Within (2 ^ 40) to }
     ensures { result ≡ way from to }
@@ -112,7 +121,7 @@ fn way_between(from: Vector, to: Vector) -> Vector
 }
 
 #[inline(always)]
-fn times(k: u32, v: Vector) -> Vector
+pub fn times(k: u32, v: Vector) -> Vector
     requires k_in { k ≤ 1200 }
     requires v_in { Within (2 ^ 21) v }
     ensures { result ≡ scaled (pos k) v }
@@ -134,7 +143,7 @@ fn dot_product(v: Vector, w: Vector) -> i64
 }
 
 #[inline(always)]
-fn squared_length(v: Vector) -> i64
+pub fn squared_length(v: Vector) -> i64
     requires { Within (2 ^ 21) v }
     ensures value { result ≡ dot v v }
     ensures small { nat_abs result ≤ 2 ^ 43 }
@@ -143,7 +152,7 @@ fn squared_length(v: Vector) -> i64
 }
 
 #[inline(always)]
-fn cross_product(v: Vector, w: Vector) -> i64
+pub fn cross_product(v: Vector, w: Vector) -> i64
     requires v_in { Within (2 ^ 21) v }
     requires w_in { Within (2 ^ 32) w }
     ensures value { result ≡ cross v w }

@@ -1,0 +1,91 @@
+//! A reader and a writer that fail once, in the middle, and would then go on.
+use crate::pages::{CROSSING, eight_by_eight};
+use plotraster::{Exact, Fault, Form, OverRead, OverWrite, Sink, Source, convert, picture_bytes};
+use std::io::{Error, ErrorKind, Read, Write};
+use std::test::Fail;
+
+// Gives ten bytes a call; the third call fails.
+#[derive(Drop)]
+struct Reader<'a> {
+    rest: &'a [u8],
+    calls: u32,
+}
+
+impl<'a> Read for Reader<'a> {
+    fn read(&mut self, buf: &mut [u8]) -> std::io::Result<usize> {
+        self.calls = self.calls.wrapping_add(1);
+        if self.calls == 3 {
+            return Err(Error::from(ErrorKind::Other));
+        }
+        let n = self.rest.len().min(buf.len()).min(10);
+        buf[..n].copy_from_slice(&self.rest[..n]);
+        self.rest = &self.rest[n..];
+        Ok(n)
+    }
+}
+
+// Takes ten bytes a call; the third call fails.
+#[derive(Drop)]
+struct Writer {
+    bytes: Vec<u8>,
+    calls: u32,
+}
+
+impl Write for Writer {
+    fn write(&mut self, buf: &[u8]) -> std::io::Result<usize> {
+        self.calls = self.calls.wrapping_add(1);
+        if self.calls == 3 {
+            return Err(Error::from(ErrorKind::Other));
+        }
+        let n = buf.len().min(10);
+        match self.bytes.extend_from_slice(&buf[..n]) {
+            Ok(()) => Ok(n),
+            Err(_) => Err(Error::from(ErrorKind::OutOfMemory)),
+        }
+    }
+
+    fn flush(&mut self) -> std::io::Result<()> {
+        Ok(())
+    }
+}
+
+#[test]
+fn a_reader_is_not_asked_again(rt: HostRuntime) -> Result<(), Fail> {
+    let job = eight_by_eight(Form::Pbm).ok_or("a job")?;
+    let mut source = OverRead::new(Reader {
+        rest: CROSSING,
+        calls: 0,
+    });
+    let mut sink = OverWrite::new(Vec::new(rt.alloc()));
+    let answer = convert(rt.alloc(), &job, &mut Exact::new(), &mut source, &mut sink);
+    let is_refused = matches!(answer, Err(Fault::Read));
+    assert!(rt; is_refused);
+    assert_eq!(rt; source.failures(), 1);
+    assert_eq!(rt; source.into_inner().calls, 3);
+    assert!(rt; sink.into_inner().is_empty());
+    Ok(())
+}
+
+#[test]
+fn a_writer_is_not_asked_again(rt: HostRuntime) -> Result<(), Fail> {
+    let job = eight_by_eight(Form::Ppm).ok_or("a job")?;
+    let whole = picture_bytes(rt.alloc(), &job, CROSSING)?;
+    let mut sink = OverWrite::new(Writer {
+        bytes: Vec::new(rt.alloc()),
+        calls: 0,
+    });
+    let mut source = OverRead::new(CROSSING);
+    let answer = convert(rt.alloc(), &job, &mut Exact::new(), &mut source, &mut sink);
+    let wanted = Fault::Write {
+        row: 0,
+        whole: 0,
+        bytes: 11,
+    };
+    let is_stopped = matches!(answer, Err(fault) if fault == wanted);
+    assert!(rt; is_stopped);
+    assert_eq!(rt; sink.failures(), 1);
+    let writer = sink.into_inner();
+    assert_eq!(rt; writer.calls, 3);
+    assert_eq!(rt; writer.bytes.as_slice(), &whole.as_slice()[..11]);
+    Ok(())
+}

@@ -1,0 +1,222 @@
+-- The strip along a stroke's line: bounds by division, and what lies outside them.
+use Rattle.std.proofs.Common.{zero, suc, ◌≡◌, ℕ, ◌+◌, ◌-◌, ◌*◌, ◌/◌, ◌<◌, ◌≤◌, inl, inr, refl, sym, subst, ap, ap₂, ◌∙◌, arith, ℤ, pos, negsuc, ◌+ℤ◌, ◌-ℤ◌, ◌*ℤ◌, ◌≤ℤ◌, ◌<ℤ◌, neg_ℤ, nat_abs, true, false, Bool, int_le, cond, min}
+use Rattle.std.proofs.lemmas.Int.{ints}
+use Rattle.std.specs.Int.Signed.{le_z, lt_z}
+use Rattle.std.proofs.lemmas.Bool.{cases_Bool, cases_lt, and_parts}
+use Rattle.std.proofs.lemmas.Nat.{mul-le}
+use Rattle.std.proofs.Math.Nat.{mul-le-mul_left, le_of_mul-le-mul_left, mul-lt-mul_of_pos_left, lt_of_mul-lt-mul_right, div-lt_iff_lt-mul, le-div_iff_mul-le}
+use Rattle.exact.proofs.Ring.{mul_comm_z, mul_left_comm_z, mul-add_z, mul-sub_z, square_is}
+use Rattle.hpgl_plot.specs.Segments.{Segment}
+use Rattle.stroke_raster.specs.declared.vector.Vector.{Vector}
+use Rattle.stroke_raster.specs.Gap.{way, scaled, dot, cross, gap_met}
+use Rattle.stroke_raster.specs.Covers.{drawn_width, centre, first_end, last_end, in_window, is_gap_met, covers_place}
+use Rattle.stroke_raster.proofs.GapLemmas.{cross_is, size, size_is}
+use Rattle.stroke_raster.proofs.Scaling.{gap_met_unscaled, gap_met-scaled, way-scaled}
+use Rattle.stroke_raster.proofs.Squares.{two_squares}
+use Rattle.stroke_raster.proofs.BoxLemmas.{roots}
+
+-- one step of Newton's method does not fall below the root
+newton_core : (n g q l : ℕ) → n < (q + 1) * g → g + q + 1 ≤ 2 * l → n ≤ l * l
+newton_core n g q l h k =
+    let s = two_squares g (q + 1) in
+    let m : (g + q + 1) * (g + q + 1) ≤ (2 * l) * (2 * l) = mul-le (g + q + 1) (g + q + 1) (2 * l) (2 * l) k k in
+    omega (arith, s, m, h)
+
+pub newton : (n g : ℕ) → 0 < g → n ≤ ((g + n / g) / 2 + 1) * ((g + n / g) / 2 + 1)
+newton n g h =
+    let d : n < (n / g + 1) * g = (div-lt_iff_lt-mul h).0 (omega arith) in
+    newton_core n g (n / g) ((g + n / g) / 2 + 1) d (omega arith)
+
+-- past the product with a reciprocal that is not too small the multiples are past the number
+past_inverse : (a v g w i : ℕ) → 0 < w → 0 < g → w ≤ v * g → a * v / w < i → a < i * g
+past_inverse a v g w i h k l m =
+    let p : a * v < i * w = (div-lt_iff_lt-mul h).0 m in
+    let q : a * w ≤ a * (v * g) = mul-le-mul_left a l in
+    let r : g * (a * v) < g * (i * w) = mul-lt-mul_of_pos_left p k in
+    lt_of_mul-lt-mul_right w (omega (arith, q, r))
+
+-- up to the product with a reciprocal that is not too great the multiples are not past the number
+before_inverse : (a v g w i : ℕ) → 0 < w → v * g ≤ w → i ≤ a * v / w → i * g ≤ a
+before_inverse a v g w i h k l =
+    let p : i * w ≤ a * v = (le-div_iff_mul-le h).0 l in
+    let q : a * (v * g) ≤ a * w = mul-le-mul_left a k in
+    let r : g * (i * w) ≤ g * (a * v) = mul-le-mul_left g p in
+    let s : w * (i * g) ≤ w * a = omega (arith, q, r) in
+    le_of_mul-le-mul_left s h
+
+-- a reciprocal rounded down, and the next number
+pub inverse_sides : (w g : ℕ) → 0 < g → ((w - 1) / g * g ≤ w) × (w ≤ ((w - 1) / g + 1) * g)
+inverse_sides w g h =
+    let a : (w - 1) / g * g ≤ w - 1 = (le-div_iff_mul-le h).0 (omega arith) in
+    let b : w - 1 < ((w - 1) / g + 1) * g = (div-lt_iff_lt-mul h).0 (omega arith) in
+    (omega (arith, a), omega (arith, b))
+
+-- before the gap's two ends, by Lagrange's identity
+near_core : (x y a b d : ℕ) → x * x + y * y ≡ b * a → 4 * b ≤ d * d → 4 * (x * x) ≤ d * d * a
+near_core x y a b d e h = let m : (4 * b) * a ≤ (d * d) * a = mul-le (4 * b) a (d * d) a h (omega arith) in omega (arith, m, e)
+
+squares : (v w : Vector) → nat_abs (cross v w) * nat_abs (cross v w) + nat_abs (dot v w) * nat_abs (dot v w) ≡ size w * size v
+squares v w =
+    let c = cross_is v w in
+    let p = square_is (cross v w) in
+    let q = square_is (dot v w) in
+    let e : cross v w *ℤ cross v w +ℤ dot v w *ℤ dot v w ≡ pos (size w) *ℤ pos (size v) = c ∙ ap₂ ◌*ℤ◌ (size_is w) (size_is v) in
+    omega (arith, ints)
+
+-- the cross product with the way from the other end is the same
+cross_way : (r : ℤ) (v w : Vector) → cross v (way (scaled r v) w) ≡ cross v w
+cross_way r v w =
+    let a = mul-sub_z v.x w.y (r *ℤ v.y) in
+    let b = mul-sub_z v.y w.x (r *ℤ v.x) in
+    let c = mul_left_comm_z v.x r v.y in
+    let d = mul_left_comm_z v.y r v.x in
+    let e = ap (λ (z : ℤ). r *ℤ z) (mul_comm_z v.x v.y) in
+    omega (arith, ints, a, b, c, d, e)
+
+small : (w : Vector) (d : ℕ) → int_le (pos 4 *ℤ dot w w) (pos (d * d)) ≡ true → 4 * size w ≤ d * d
+small w d h = let s = size_is w in let k : int_le (pos 4 *ℤ pos (size w)) (pos (d * d)) ≡ true = rw s at h in omega (arith, ints)
+
+inside : (v w : Vector) (r d : ℕ) → gap_met_unscaled v w r d ≡ true → 4 * (nat_abs (cross v w) * nat_abs (cross v w)) ≤ d * d * size v
+inside v w r d h = elim (cases_Bool (int_le (dot v w) (pos 0))) [
+  | inl e ↦ near_core (nat_abs (cross v w)) (nat_abs (dot v w)) (size v) (size w) d (squares v w) (small w d (rw e at h))
+  | inr e ↦ elim (cases_Bool (int_le (pos r *ℤ dot v v) (dot v w))) [
+    | inl f ↦ (let u = way (scaled (pos r) v) w in
+        let n = near_core (nat_abs (cross v u)) (nat_abs (dot v u)) (size v) (size u) d (squares v u) (small u d (rw (e, f) at h)) in
+        let m = ap nat_abs (cross_way (pos r) v w) in
+        let k = ap (λ (z : ℕ). 4 * (z * z)) m in
+        omega (arith, n, k))
+    | inr f ↦ (let k : int_le (pos 4 *ℤ (cross v w *ℤ cross v w)) (pos (d * d) *ℤ dot v v) ≡ true = rw (e, f) at h in
+        let p = square_is (cross v w) in
+        let r = size_is v in
+        let l : int_le (pos 4 *ℤ pos (nat_abs (cross v w) * nat_abs (cross v w))) (pos (d * d) *ℤ pos (size v)) ≡ true = rw (p, r) at k in
+        omega (arith, ints))
+  ]
+]
+
+-- where the gap is met, the place is as near to the endless line
+beside_line : (v w : Vector) (r d l : ℕ) → gap_met_unscaled v w r d ≡ true → dot v v ≤ℤ pos (l * l) → 2 * nat_abs (cross v w) ≤ d * l
+beside_line v w r d l h k =
+    let i = inside v w r d h in
+    let s = size_is v in
+    let b : size v ≤ l * l = omega (arith, ints, k, s) in
+    let m : d * d * size v ≤ d * d * (l * l) = mul-le-mul_left (d * d) b in
+    let c = nat_abs (cross v w) in
+    roots (2 * nat_abs (cross v w)) (d * l) (omega (arith, i, m))
+
+-- twice the cross product, some columns on
+cross_on : (v w u : Vector) (i : ℕ) → u.x ≡ w.x +ℤ pos (16256 * i) → u.y ≡ w.y → pos 2 *ℤ cross v u ≡ pos 2 *ℤ cross v w -ℤ pos (32512 * i) *ℤ v.y
+cross_on v w u i e f =
+    let a = ap (λ (z : ℤ). v.y *ℤ z) e in
+    let b = ap (λ (z : ℤ). v.x *ℤ z) f in
+    let c = mul-add_z v.y w.x (pos (16256 * i)) in
+    omega (arith, ints, a, b, c)
+
+covered_is_beside : (s : Segment) (h r row from i l : ℕ) → 0 < r → covers_place s r (centre h r row (from + i)) ≡ true
+    → dot (way (first_end s) (last_end s)) (way (first_end s) (last_end s)) ≤ℤ pos (l * l)
+    → nat_abs (pos 2 *ℤ cross (way (first_end s) (last_end s)) (way (scaled (pos r) (first_end s)) (centre h r row from)) -ℤ pos (32512 * i) *ℤ (s.by -ℤ s.ay)) ≤ drawn_width s.width r * l
+covered_is_beside s h r row from i l pr c k =
+    let p = and_parts (in_window s.window r (centre h r row (from + i))) (is_gap_met s r (centre h r row (from + i))) c in
+    let d = drawn_width s.width r in
+    let v = way (first_end s) (last_end s) in
+    let w = way (scaled (pos r) (first_end s)) (centre h r row from) in
+    let u = way (scaled (pos r) (first_end s)) (centre h r row (from + i)) in
+    let g : gap_met (way (scaled (pos r) (first_end s)) (scaled (pos r) (last_end s))) u d ≡ true = p.1 in
+    let g' : gap_met (scaled (pos r) v) u d ≡ true = sym (ap (λ (z : Vector). gap_met z u d) (way-scaled (pos r) (first_end s) (last_end s))) ∙ g in
+    let m : gap_met_unscaled v u r d ≡ true = sym (gap_met-scaled r d v u pr) ∙ g' in
+    let b = beside_line v u r d l m k in
+    let e : u.x ≡ w.x +ℤ pos (16256 * i) = omega (arith, ints) in
+    let o = cross_on v w u i e refl in
+    let z : nat_abs (pos 2 *ℤ cross v u) ≤ d * l = omega (arith, ints, b) in
+    rw o at z
+
+-- a turned number against the multiples of a size
+turn_core : (y b : ℤ) (i m : ℕ) → nat_abs (b -ℤ pos (32512 * i) *ℤ y) ≤ m
+    → (((pos (i * (32512 * nat_abs y)) -ℤ cond (int_le (pos 0) y) b (neg_ℤ b)) ≤ℤ pos m) × ((cond (int_le (pos 0) y) b (neg_ℤ b) -ℤ pos (i * (32512 * nat_abs y))) ≤ℤ pos m))
+turn_core (pos n) b i m h =
+    let e : int_le (pos 0) (pos n) ≡ true = sym (omega (arith, ints)) in
+    rw e (omega (arith, ints, h), omega (arith, ints, h))
+turn_core (negsuc n) b i m h = (omega (arith, ints, h), omega (arith, ints, h))
+
+-- the numbers of a strip's code
+pub record Strip (s : Segment) (h r row from l : ℕ) (v w : Vector) (k most : ℤ) (step : ℕ) : Type 0 where
+  pub some : 0 < r
+  pub led : v ≡ way (first_end s) (last_end s)
+  pub place : w ≡ way (scaled (pos r) (first_end s)) (centre h r row from)
+  pub enough : dot v v ≤ℤ pos (l * l)
+  pub turned : k ≡ cond (int_le (pos 0) v.y) (pos 2 *ℤ cross v w) (neg_ℤ (pos 2 *ℤ cross v w))
+  pub reach : most ≡ pos (drawn_width s.width r * l)
+  pub steps : step ≡ 32512 * nat_abs v.y
+
+sides : (s : Segment) (h r row from l : ℕ) (v w : Vector) (k most : ℤ) (step i : ℕ) → Strip s h r row from l v w k most step → covers_place s r (centre h r row (from + i)) ≡ true
+    → ((pos (i * step) -ℤ k) ≤ℤ most) × ((k -ℤ pos (i * step)) ≤ℤ most)
+sides s h r row from l v w k most step i t c =
+    let e : dot (way (first_end s) (last_end s)) (way (first_end s) (last_end s)) ≤ℤ pos (l * l) = subst (λ (z : Vector). dot z z ≤ℤ pos (l * l)) t.led t.enough in
+    let b = covered_is_beside s h r row from i l t.some c e in
+    let q = turn_core (s.by -ℤ s.ay) (pos 2 *ℤ cross (way (first_end s) (last_end s)) (way (scaled (pos r) (first_end s)) (centre h r row from))) i (drawn_width s.width r * l) b in
+    let y : v.y ≡ s.by -ℤ s.ay = ap (λ (z : Vector). z.y) t.led in
+    let x : cross v w ≡ cross (way (first_end s) (last_end s)) (way (scaled (pos r) (first_end s)) (centre h r row from)) = ap₂ cross t.led t.place in
+    let k' : k ≡ cond (int_le (pos 0) (s.by -ℤ s.ay)) (pos 2 *ℤ cross (way (first_end s) (last_end s)) (way (scaled (pos r) (first_end s)) (centre h r row from))) (neg_ℤ (pos 2 *ℤ cross (way (first_end s) (last_end s)) (way (scaled (pos r) (first_end s)) (centre h r row from)))) =
+    t.turned ∙ ap₂ (λ (a b : ℤ). cond (int_le (pos 0) a) (pos 2 *ℤ b) (neg_ℤ (pos 2 *ℤ b))) y x in
+    let step' : step ≡ 32512 * nat_abs (s.by -ℤ s.ay) = t.steps ∙ ap (λ (z : ℤ). 32512 * nat_abs z) y in
+    let f = subst (λ (z : ℤ). ((pos (i * (32512 * nat_abs (s.by -ℤ s.ay))) -ℤ z) ≤ℤ pos (drawn_width s.width r * l)) × ((z -ℤ pos (i * (32512 * nat_abs (s.by -ℤ s.ay)))) ≤ℤ pos (drawn_width s.width r * l))) (sym k') q in
+    let g = subst (λ (z : ℕ). ((pos (i * z) -ℤ k) ≤ℤ pos (drawn_width s.width r * l)) × ((k -ℤ pos (i * z)) ≤ℤ pos (drawn_width s.width r * l))) (sym step') f in
+    subst (λ (z : ℤ). ((pos (i * step) -ℤ k) ≤ℤ z) × ((k -ℤ pos (i * step)) ≤ℤ z)) (sym t.reach) g
+
+-- a pixel before or after the strip is not covered
+pub outside_before : (s : Segment) (h r row from l : ℕ) (v w : Vector) (k most : ℤ) (step i : ℕ) → Strip s h r row from l v w k most step → most <ℤ (k -ℤ pos (i * step)) → covers_place s r (centre h r row (from + i)) ≡ false
+outside_before s h r row from l v w k most step i t u = elim (cases_Bool (covers_place s r (centre h r row (from + i)))) [
+  | inl e ↦ (let q = (sides s h r row from l v w k most step i t e).1 in absurd (omega (arith, ints, q, u)))
+  | inr e ↦ e
+]
+
+pub outside_after : (s : Segment) (h r row from l : ℕ) (v w : Vector) (k most : ℤ) (step i : ℕ) → Strip s h r row from l v w k most step → most <ℤ (pos (i * step) -ℤ k) → covers_place s r (centre h r row (from + i)) ≡ false
+outside_after s h r row from l v w k most step i t u = elim (cases_Bool (covers_place s r (centre h r row (from + i)))) [
+  | inl e ↦ (let q = (sides s h r row from l v w k most step i t e).0 in absurd (omega (arith, ints, q, u)))
+  | inr e ↦ e
+]
+
+pub turned_small : (b : Bool) (z : ℤ) (m : ℕ) → nat_abs z ≤ m → nat_abs (cond b z (neg_ℤ z)) ≤ m
+turned_small true z m h = h
+turned_small false z m h = omega (arith, ints, h)
+
+pub size_from : (z : ℤ) (n : ℕ) → lt_z z (pos 0) ≡ false → n ≡ nat_abs z → z ≡ pos n
+size_from (pos m) n h e = ap pos (sym e)
+size_from (negsuc m) n h e = cc h
+
+pub size_past : (z : ℤ) (n : ℕ) → le_z z (pos 0) ≡ false → n ≡ nat_abs z → z ≡ pos n
+size_past (pos m) n h e = ap pos (sym e)
+size_past (negsuc m) n h e = cc h
+
+pub size_some : (z : ℤ) (n : ℕ) → le_z z (pos 0) ≡ false → n ≡ nat_abs z → 0 < n
+size_some (pos zero) n h e = cc h
+size_some (pos (suc m)) n h e = omega (arith, e)
+size_some (negsuc m) n h e = cc h
+
+pub after_core : (k most : ℤ) (a v step w i n : ℕ) → 0 < w → 0 < step → w ≤ v * step → k +ℤ most ≡ pos a → min (a * v / w + 1) n ≤ i → i < n → most <ℤ (pos (i * step) -ℤ k)
+after_core k most a v step w i n p q r e u l =
+    let m = past_inverse a v step w i p q r (omega (arith, u, l)) in
+    omega (arith, ints, m, e)
+
+pub before_core : (k most : ℤ) (a v step w i end : ℕ) → 0 < w → v * step ≤ w → k -ℤ most ≡ pos a → 0 < a → i < min ((a - 1) * v / w + 1) end → most <ℤ (k -ℤ pos (i * step))
+before_core k most a v step w i end p q e z u =
+    let m = before_inverse (a - 1) v step w i p q (omega (arith, u)) in
+    omega (arith, ints, m, e, z)
+
+-- the lesser of two lengths that are at least the way's
+pub newton_min : (x y n g : ℕ) → n ≡ x * x + y * y → 0 < g → n ≤ min ((g + n / g) / 2 + 1) (x + y) * min ((g + n / g) / 2 + 1) (x + y)
+newton_min x y n g e p =
+    let a = newton n g p in
+    let b : n ≤ (x + y) * (x + y) = omega (arith, e) in
+    elim (cases_lt ((g + n / g) / 2 + 1) (x + y)) [
+      | inl l ↦ (let m : min ((g + n / g) / 2 + 1) (x + y) ≡ (g + n / g) / 2 + 1 = omega (arith, l) in rw m a)
+      | inr l ↦ (let m : min ((g + n / g) / 2 + 1) (x + y) ≡ x + y = omega (arith, l) in rw m b)
+    ]
+
+pub newton_way : (v : Vector) (a b n g m : ℕ) → a ≡ nat_abs v.x → b ≡ nat_abs v.y → n ≡ nat_abs (dot v v) → 0 < g → m ≡ min ((g + n / g) / 2 + 1) (a + b) → dot v v ≤ℤ pos (m * m)
+unfolding size
+newton_way v a b n g m ea eb en p em =
+    let z = size_is v in
+    let f : n ≡ nat_abs v.x * nat_abs v.x + nat_abs v.y * nat_abs v.y = en ∙ ap nat_abs z in
+    let e : n ≡ a * a + b * b = f ∙ ap₂ (λ (i j : ℕ). i * i + j * j) (sym ea) (sym eb) in
+    let k : n ≤ m * m = subst (λ (i : ℕ). n ≤ i * i) (sym em) (newton_min a b n g e p) in
+    omega (arith, ints, z, f, k)

@@ -1,0 +1,22 @@
+//! What a painter paints.
+ghost use Rattle.std.specs.Prelude.{◌≤◌, length};
+
+use crate::dots::Dots;
+use crate::pens::PenSet;
+use hpgl_plot::{Page, Stroke};
+
+/// The strokes of a picture, each later one over the earlier ones, of which those of the selected
+/// pens are drawn; and how the rows of its page are parted into bands: from the first row on,
+/// `band_rows` at a time.
+#[derive(Clone, Copy)]
+pub struct Scene<'a> {
+    pub strokes: &'a [Stroke],
+    pub page: Page,
+    pub dots: Dots,
+    pub pens: PenSet,
+    pub first_row: u32,
+    pub band_rows: u32,
+    pub ghost few: { length strokes.now ≤ 4194304 },
+    pub ghost at_least: { 1 ≤ band_rows },
+    pub ghost at_most: { band_rows ≤ 4096 },
+}
