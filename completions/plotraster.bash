@@ -9,7 +9,7 @@ _plotraster() {
     case "$before" in
         --width | --height | --left | --below | --band | --from) return ;;
         --dots)
-            COMPREPLY=($(compgen -W "75 100 150 200 300 600" -- "$word"))
+            COMPREPLY=($(compgen -W "75 100 150 200 300 600 1200" -- "$word"))
             return
             ;;
     esac
