@@ -1,16 +1,25 @@
 #!/usr/bin/env python3
-"""Writes the plot of examples/rose.plt: a rose of lines, and the chart of a swing that dies away.
+"""Writes the plot of examples/rose.plt: a rose of lines, and the chart of a damped oscillation.
 
     tools/draw_rose.py > examples/rose.plt
 
-The page is 4000 by 3000 plotter units (100 by 75 mm). The plot has only the instructions SP, PU
-and PD in capitals, with whole numbers parted by one comma, and nothing between instructions.
+The page is 4000 by 3000 plotter units (100 by 75 mm). The plot has only the instructions PC, SP,
+PW, PU and PD in capitals, with numbers separated by one comma, and nothing between instructions.
 """
 
 import math
 import sys
 
 BLACK, RED, GREEN, BLUE, MAGENTA, CYAN = 1, 2, 3, 5, 6, 7
+
+# The colours of the pens: red, green and blue, 0 to 255 each.
+COLOURS = {
+    RED: (200, 30, 45),
+    GREEN: (40, 140, 70),
+    BLUE: (25, 70, 170),
+    MAGENTA: (175, 35, 130),
+    CYAN: (0, 140, 165),
+}
 
 
 class Plot:
@@ -19,8 +28,16 @@ class Plot:
     def __init__(self):
         self.parts = []
 
-    def pen(self, number):
-        self.parts.append(f"SP{number};")
+    def colour(self, number, parts):
+        """Sets a pen's colour."""
+        self.parts.append("PC%d,%d,%d,%d;" % (number, *parts))
+
+    def pen(self, number, millimetres):
+        """Selects a pen and sets its width."""
+        self.parts.append(f"SP{number};PW{millimetres:g},{number};")
+
+    def put_down_the_pen(self):
+        self.parts.append("SP0;")
 
     def line(self, places):
         """Draws through the places, rounded to whole plotter units."""
@@ -47,54 +64,54 @@ def frame(plot, left, bottom, right, top):
 
 
 def draw_rose(plot):
-    """A rose of six petals twice over: its outline, and the lines of a walk by steps of 71 degrees."""
+    """A rose of twelve petals: its outline, and lines between places of it that are 71 degrees apart."""
     centre, radius = (1420, 1500), 1180
-    plot.pen(CYAN)
+    plot.pen(CYAN, 0.3)
     plot.line([on_circle(centre, radius + 60, degrees) for degrees in range(0, 361, 5)])
-    plot.pen(BLUE)
+    plot.pen(BLUE, 0.06)
     plot.line([rose_place(centre, radius, 6, 71 * step) for step in range(361)])
-    plot.pen(RED)
-    plot.line([rose_place(centre, radius, 6, degrees) for degrees in range(0, 361, 2)])
-    plot.pen(BLACK)
+    plot.pen(RED, 0.3)
+    plot.line([rose_place(centre, radius, 6, degrees) for degrees in range(361)])
+    plot.pen(BLACK, 0.2)
     for degrees in range(0, 360, 15):
         length = 90 if degrees % 45 == 0 else 45
         plot.line([on_circle(centre, radius + 60, degrees), on_circle(centre, radius + 60 + length, degrees)])
 
 
-def swing(time):
-    """How far the swing is out at a time of 0 to 1, and how far it can be."""
-    reach = math.exp(-3 * time)
-    return reach * math.cos(10 * math.pi * time), reach
+def oscillation(time):
+    """The oscillation at a time of 0 to 1, and its amplitude."""
+    amplitude = math.exp(-3 * time)
+    return amplitude * math.cos(10 * math.pi * time), amplitude
 
 
 def draw_chart(plot, left, bottom, right, top):
     middle, half = (bottom + top) / 2, (top - bottom) / 2 - 60
-    across = lambda time: left + time * (right - left)
-    plot.pen(BLACK)
+    x_at = lambda time: left + time * (right - left)
+    plot.pen(BLACK, 0.2)
     frame(plot, left, bottom, right, top)
     plot.line([(left, middle), (right, middle)])
     for tick in range(1, 10):
         length = 50 if tick == 5 else 28
-        plot.line([(across(tick / 10), bottom), (across(tick / 10), bottom + length)])
+        plot.line([(x_at(tick / 10), bottom), (x_at(tick / 10), bottom + length)])
     for tick in range(-4, 5):
         plot.line([(left, middle + tick * half / 4), (left + 28, middle + tick * half / 4)])
     times = [step / 120 for step in range(121)]
-    plot.pen(GREEN)
-    plot.line([(across(time), middle + half * swing(time)[1]) for time in times[::6]])
-    plot.line([(across(time), middle - half * swing(time)[1]) for time in times[::6]])
-    plot.pen(MAGENTA)
-    plot.line([(across(time), middle + half * swing(time)[0]) for time in times])
+    plot.pen(GREEN, 0.2)
+    plot.line([(x_at(time), middle + half * oscillation(time)[1]) for time in times[::6]])
+    plot.line([(x_at(time), middle - half * oscillation(time)[1]) for time in times[::6]])
+    plot.pen(MAGENTA, 0.35)
+    plot.line([(x_at(time), middle + half * oscillation(time)[0]) for time in times])
 
 
 def draw_lines(plot, left, bottom, right, top):
-    """A corner filled by straight lines whose edge is a curve."""
-    plot.pen(BLACK)
+    """Two families of straight lines, each of which outlines a curve."""
+    plot.pen(BLACK, 0.2)
     frame(plot, left, bottom, right, top)
-    plot.pen(BLUE)
+    plot.pen(BLUE, 0.1)
     for step in range(25):
         part = step / 24
         plot.line([(left + part * (right - left), bottom), (right, bottom + part * (top - bottom))])
-    plot.pen(RED)
+    plot.pen(RED, 0.1)
     for step in range(25):
         part = step / 24
         plot.line([(left, bottom + part * (top - bottom)), (left + part * (right - left), top)])
@@ -102,12 +119,14 @@ def draw_lines(plot, left, bottom, right, top):
 
 def main():
     plot = Plot()
-    plot.pen(BLACK)
+    for number, parts in COLOURS.items():
+        plot.colour(number, parts)
+    plot.pen(BLACK, 0.35)
     frame(plot, 60, 60, 3940, 2940)
     draw_rose(plot)
     draw_chart(plot, 2860, 1640, 3800, 2800)
     draw_lines(plot, 2860, 200, 3800, 1400)
-    plot.pen(0)
+    plot.put_down_the_pen()
     sys.stdout.write(plot.text())
 
 

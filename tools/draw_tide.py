@@ -1,17 +1,20 @@
 #!/usr/bin/env python3
-"""Writes the plot of examples/tide.plt: the tides of a day, a compass, and the same tides turned.
+"""Writes the plot of examples/tide.plt: the tides of a day, a compass, and the same tides rotated.
 
     tools/draw_tide.py > examples/tide.plt
 
-The page is 4000 by 3000 plotter units (100 by 75 mm). The three charts have user units of their
-own (IP and SC), windows that cut their curves (IW), widths (PW), relative moves (PR), and the last
-one stands on its side (RO).
+The page is 4000 by 3000 plotter units (100 by 75 mm). Each of the three charts has user units (IP
+and SC), windows cut the curves (IW), pens have colours and widths (PC and PW), the ticks are
+relative moves (PR), and the last chart is rotated by 90 degrees (RO).
 """
 
 import math
 
 BLACK, RED, GREEN, BLUE, CYAN = 1, 2, 3, 5, 7
 HALF_DAY = 12.42
+
+# The colours of the pens: red, green and blue, 0 to 255 each.
+COLOURS = "PC2,200,30,45;PC3,40,140,70;PC5,25,70,170;PC7,120,190,205;\n"
 
 
 def spring(hour):
@@ -40,7 +43,7 @@ def tides(curve):
 
 
 def chart():
-    """A day across, three metres up and down: what is higher is cut off by the window."""
+    """A day in x and three metres either way in y. The window cuts off what is higher or lower."""
     text = "SC0,24,-3,3;\n" + pen(CYAN, 0.1)
     for metre in range(-2, 3):
         text += polyline([(0, metre), (24, metre)])
@@ -53,7 +56,7 @@ def chart():
 
 
 def compass():
-    """Units that are as long across as upward, whatever the room is."""
+    """Isotropic units: as long in x as in y, whatever the shape of the space."""
     text = "SC-10,10,-10,10,1,50,50;\n" + pen(BLACK, 0.35)
     for radius in (9.5, 8.5):
         turns = [math.radians(3 * step) for step in range(121)]
@@ -75,7 +78,7 @@ def compass():
 
 
 def main():
-    print("IN;\n" + pen(BLACK, 0.5) + "PU60,60;PD3940,60,3940,2940,60,2940,60,60;PU;")
+    print("IN;\n" + COLOURS + pen(BLACK, 0.5) + "PU60,60;PD3940,60,3940,2940,60,2940,60,60;PU;")
     print("IP300,1600,3700,2750;" + chart(), end="")
     print("IP300,250,1900,1400;" + compass(), end="")
     print("RO90;IP250,300,1400,1900;", end="")
