@@ -6,7 +6,7 @@ ghost use Rattle.command_line.specs.Lines.{number_in, form_named, IsJobOf, IsLin
 use crate::fault::LineFault;
 use crate::job::Job;
 use clap::ArgMatches;
-use hpgl_plot::Page;
+use plot_page::Page;
 use picture_out::Form;
 use stroke_raster::{Dots, PenSet};
 

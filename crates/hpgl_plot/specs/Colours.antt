@@ -1,7 +1,7 @@
 -- The colours of pens. The first eight are those that the guide gives a palette of eight pens; black for all others is
 -- our choice.
 use Rattle.std.specs.Prelude.{ℕ, List, [], ◌∷◌, ◌++◌, replicate, slice_index_or}
-use Rattle.hpgl_plot.specs.declared.colour.Colour.{Colour}
+use Rattle.plot_page.specs.declared.colour.Colour.{Colour}
 
 abbrev pub rgb : ℕ → ℕ → ℕ → Colour
 rgb red green blue = record { red = red; green = green; blue = blue }

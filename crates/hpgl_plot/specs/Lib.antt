@@ -1,5 +1,3 @@
-pub mod Pages
-pub mod Segments
 pub mod Colours
 pub mod Words
 pub mod Parameters

@@ -5,7 +5,7 @@ use Rattle.plot_frame.specs.declared.scaling.Scaling.TheVariants.{Off}
 use Rattle.hpgl_text.specs.Shapes.{ItemShape}
 use Rattle.hpgl_plot.specs.declared.fault.PlotFault.{PlotFault}
 use Rattle.hpgl_plot.specs.declared.fault.PlotFault.TheVariants as fault
-use Rattle.hpgl_plot.specs.declared.page.Page.{Page}
+use Rattle.plot_page.specs.declared.page.Page.{Page}
 use Rattle.hpgl_plot.specs.declared.plotter.Plotter.{Plotter}
 use Rattle.hpgl_plot.specs.declared.plotter.Stop.{Stop}
 use Rattle.hpgl_plot.specs.declared.plotter.Stop.TheVariants.{Memory, OffRange}
@@ -13,7 +13,7 @@ use Rattle.hpgl_plot.specs.declared.setting.Setting.{Setting}
 use Rattle.hpgl_plot.specs.declared.setting.Setting.TheVariants.{Start, Defaults, PageCorners, FirstPoint, BothPoints, Scale, Rotate, PageWindow, CornerWindow, Pen, Width, WidthOfAll, PenColour, DefaultColours}
 use Rattle.hpgl_plot.specs.declared.state.State.{State}
 use Rattle.hpgl_plot.specs.Colours.{default_colours}
-use Rattle.hpgl_plot.specs.Segments.{Segment}
+use Rattle.plot_page.specs.Segments.{Segment}
 use Rattle.hpgl_plot.specs.Settings.{all_pens}
 use Rattle.hpgl_plot.specs.Steps.{Step, Set, Touch, Lower, Relate, Move, Go, Edge, steps_of}
 use Rattle.hpgl_plot.specs.Frames.{back, points_with, window_with, target, state_of}

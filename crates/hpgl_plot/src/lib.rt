@@ -1,32 +1,28 @@
 //! What a plot draws: the page that it is drawn on, what its instructions set, and its strokes.
 #![tactic(auto)]
 
-mod colour;
 mod fault;
 pub mod laws;
 mod lines;
 mod note;
 mod notes;
 mod noting;
-mod page;
+mod palette;
 mod parameters;
 mod place;
 mod plot;
 mod plotter;
 mod setting;
 mod state;
-mod stroke;
 #[cfg(test)]
 mod tests;
 mod turn;
 mod window;
 mod word;
 
-pub use colour::Colour;
 pub use fault::PlotFault;
 pub use lines::{Lines, draw_items};
 pub use note::{Note, NoteKind};
 pub use notes::Notes;
-pub use page::{Page, PageFault};
 pub use plot::{Plot, draw};
-pub use stroke::{Stroke, Window};
+pub use plot_page::{Colour, Page, PageFault, Stroke, Window};

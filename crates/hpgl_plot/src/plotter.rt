@@ -11,12 +11,11 @@ mod figures;
 mod settings;
 
 use crate::fault::PlotFault;
-use crate::page::Page;
 use crate::place::{is_place_in_range, place_on, start_of, target_of};
 use crate::state::{Spot, State};
-use crate::stroke::Stroke;
 use crate::word::{Word, word_of_code};
 use hpgl_text::{Body, Entry, Item, Number, Part};
+use plot_page::{Page, Stroke};
 use std::alloc::Global;
 
 /// The most strokes that a plot may have.

@@ -139,28 +139,6 @@ fn colours(rt: HostRuntime) -> Result<(), Fail> {
     Ok(())
 }
 
-// A plot may have 4,194,304 strokes, so their size counts.
-#[test]
-fn strokes_of_40_bytes(rt: HostRuntime) {
-    let (colour, window) = (
-        Colour {
-            red: 1,
-            green: 2,
-            blue: 3,
-        },
-        Window {
-            x0: 0,
-            y0: 0,
-            x1: 9,
-            y1: 9,
-        },
-    );
-    let stroke = Stroke::new(255, colour, 12_800, window, 0, 0, 1_048_576, 0);
-    assert!(rt; stroke.is_some_and(|s| s.colour == colour));
-    assert!(rt; Stroke::new(0, colour, 224, window, 0, 0, 1, 1).is_none());
-    assert_eq!(rt; size_of::<Stroke>(), 40);
-}
-
 #[test]
 fn scaled(rt: HostRuntime) -> Result<(), Fail> {
     let plots = [

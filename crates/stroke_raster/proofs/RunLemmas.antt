@@ -8,8 +8,8 @@ use Rattle.exact.proofs.Ring.{mul_assoc_z, mul-add_z, add-mul_z, mul-sub_z, mul_
 use Rattle.stroke_raster.specs.declared.vector.Vector.{Vector}
 use Rattle.stroke_raster.specs.Gap.{way, scaled, dot, cross, gap_met, off, IsNear}
 use Rattle.stroke_raster.specs.Covers.{between, in_window, drawn_width, centre, first_end, last_end, is_gap_met, covers_place, covers, RowsHoldRuns}
-use Rattle.hpgl_plot.specs.Segments.{Segment}
-use Rattle.hpgl_plot.specs.declared.page.Page.{Page}
+use Rattle.plot_page.specs.Segments.{Segment}
+use Rattle.plot_page.specs.declared.page.Page.{Page}
 use Rattle.stroke_raster.specs.declared.dots.Dots.{Dots}
 use Rattle.stroke_raster.proofs.GapLemmas.{near_first, near_last, near_between, far, cross_is, size, size_is}
 use Rattle.stroke_raster.proofs.BoxLemmas.{roots}

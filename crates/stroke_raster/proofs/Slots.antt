@@ -6,8 +6,8 @@ use Rattle.std.proofs.lemmas.Grind.{take_at_read}
 use Rattle.std.proofs.lemmas.List.{length-take-le}
 use Rattle.std.proofs.lemmas.Nat.{mul-le}
 use Rattle.std.proofs.Math.Nat.{div-lt_iff_lt-mul}
-use Rattle.hpgl_plot.specs.Segments.{Segment}
-use Rattle.hpgl_plot.specs.declared.page.Page.{Page}
+use Rattle.plot_page.specs.Segments.{Segment}
+use Rattle.plot_page.specs.declared.page.Page.{Page}
 use Rattle.stroke_raster.specs.declared.dots.Dots.{Dots}
 use Rattle.stroke_raster.specs.declared.pens.PenSet.{PenSet}
 use Rattle.stroke_raster.specs.Pens.{has_pen}

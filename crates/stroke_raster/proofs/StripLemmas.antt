@@ -6,7 +6,7 @@ use Rattle.std.proofs.lemmas.Bool.{cases_Bool, cases_lt, and_parts}
 use Rattle.std.proofs.lemmas.Nat.{mul-le}
 use Rattle.std.proofs.Math.Nat.{mul-le-mul_left, le_of_mul-le-mul_left, mul-lt-mul_of_pos_left, lt_of_mul-lt-mul_right, div-lt_iff_lt-mul, le-div_iff_mul-le}
 use Rattle.exact.proofs.Ring.{mul_comm_z, mul_left_comm_z, mul-add_z, mul-sub_z, square_is}
-use Rattle.hpgl_plot.specs.Segments.{Segment}
+use Rattle.plot_page.specs.Segments.{Segment}
 use Rattle.stroke_raster.specs.declared.vector.Vector.{Vector}
 use Rattle.stroke_raster.specs.Gap.{way, scaled, dot, cross, gap_met}
 use Rattle.stroke_raster.specs.Covers.{drawn_width, centre, first_end, last_end, in_window, is_gap_met, covers_place}

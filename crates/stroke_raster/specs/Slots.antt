@@ -1,7 +1,7 @@
 -- The strokes of a list by slots from 1 on, and the bands in which they begin and go on.
 use Rattle.std.specs.Prelude.{◌≡◌, ℕ, ◌+◌, ◌-◌, ◌*◌, ◌/◌, ◌%◌, ◌<◌, Bool, nat_lt, ◌&&◌, if◌then◌else◌, max, List, get_or, length, pos}
-use Rattle.hpgl_plot.specs.declared.page.Page.{Page}
-use Rattle.hpgl_plot.specs.Segments.{Segment}
+use Rattle.plot_page.specs.declared.page.Page.{Page}
+use Rattle.plot_page.specs.Segments.{Segment}
 use Rattle.stroke_raster.specs.declared.dots.Dots.{Dots}
 use Rattle.stroke_raster.specs.declared.pens.PenSet.{PenSet}
 use Rattle.stroke_raster.specs.Pens.{has_pen}

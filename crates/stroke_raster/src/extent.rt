@@ -8,7 +8,7 @@ ghost use Rattle.stroke_raster.specs.Extents.{first_place, end_place, first_row_
 use crate::dots::Dots;
 use crate::pixel::drawn_width_of;
 use crate::strip::Span;
-use hpgl_plot::{Page, Stroke};
+use plot_page::{Page, Stroke};
 
 /// The rows and the columns whose pixels lie in a stroke's box.
 #[derive(Clone, Copy, Debug)]

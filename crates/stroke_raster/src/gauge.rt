@@ -1,7 +1,7 @@
 //! What measures whether a stroke reaches a pixel, and counts the tests.
 ghost use Rattle.std.specs.Prelude.{◌≡◌, ℕ, ◌+◌, ◌<◌, ◌≤◌, Bool, false, cond, get_or, length, min};
-ghost use Rattle.hpgl_plot.specs.Segments.{Segment};
-ghost use Rattle.hpgl_plot.specs.declared.page.Page.{Page};
+ghost use Rattle.plot_page.specs.Segments.{Segment};
+ghost use Rattle.plot_page.specs.declared.page.Page.{Page};
 ghost use Rattle.stroke_raster.specs.declared.dots.Dots.{Dots};
 ghost use Rattle.stroke_raster.specs.Resolutions.{columns_of, rows_of};
 ghost use Rattle.stroke_raster.specs.Tests.{next_count, reached, MOST_TESTS};
@@ -10,7 +10,7 @@ ghost use Rattle.stroke_raster.specs.Covers.{covers, BoxHolds};
 use crate::dots::Dots;
 use crate::pixel::near;
 use crate::strip::{Span, fill, run};
-use hpgl_plot::{Page, Stroke};
+use plot_page::{Page, Stroke};
 use std::marker::Model;
 
 /// A measure of which pixels a stroke reaches, that counts how often it was asked.

@@ -11,7 +11,7 @@ ghost use Rattle.stroke_raster.specs.Resolutions.{columns_of, rows_of};
 
 use crate::dots::Dots;
 use crate::vector::Vector;
-use hpgl_plot::{Page, Stroke, Window};
+use plot_page::{Page, Stroke, Window};
 
 // Twice half a pixel and a half: the least width that is drawn, in grains divided by the resolution.
 const LEAST_WIDTH: u32 = 24384;

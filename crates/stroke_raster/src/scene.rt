@@ -3,7 +3,7 @@ ghost use Rattle.std.specs.Prelude.{◌≤◌, length};
 
 use crate::dots::Dots;
 use crate::pens::PenSet;
-use hpgl_plot::{Page, Stroke};
+use plot_page::{Page, Stroke};
 
 /// The strokes of a picture, each later one over the earlier ones, of which those of the selected
 /// pens are drawn; and how the rows of its page are parted into bands: from the first row on,

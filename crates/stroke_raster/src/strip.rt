@@ -11,7 +11,7 @@ use crate::pixel::{
     times, way_between,
 };
 use crate::vector::Vector;
-use hpgl_plot::{Page, Stroke};
+use plot_page::{Page, Stroke};
 
 // A strip of at most this many columns is scanned from both ends.
 const FEW: u32 = 16;

@@ -21,7 +21,7 @@ use crate::extent::extent_of;
 use crate::gauge::Gauge;
 use crate::scene::Scene;
 use crate::strip::Span;
-use hpgl_plot::{Page, Stroke};
+use plot_page::{Page, Stroke};
 
 // The least span that holds all that two spans hold.
 fn joined(a: Span, b: Span) -> Span

@@ -2,7 +2,7 @@ use Rattle.std.proofs.Common.{◌≡◌, ℕ, ℤ, ◌*◌, ◌^◌, ◌≤◌, 
 use mir.Syntax.{w32, w64}
 use Rattle.std.proofs.lemmas.Int.{ints, to_z-of_z}
 use Rattle.std.proofs.lemmas.Nat.{mul-le}
-use Rattle.hpgl_plot.specs.Segments.{Segment}
+use Rattle.plot_page.specs.Segments.{Segment}
 use Rattle.stroke_raster.specs.Extents.{low_side, high_side, top_side, bottom_side, first_place, end_place}
 use Rattle.stroke_raster.proofs.ExtentLemmas.{Box, box_across, box_up, box_full}
 use Rattle.stroke_raster.proofs.extent.extent_of.Goals as goal

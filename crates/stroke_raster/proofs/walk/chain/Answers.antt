@@ -1,5 +1,5 @@
 use Rattle.std.proofs.Common.{◌≡◌, ℕ, ◌-◌, ◌<◌, length, sym, ap, ◌∙◌, arith}
-use Rattle.hpgl_plot.specs.Segments.{Segment}
+use Rattle.plot_page.specs.Segments.{Segment}
 use Rattle.stroke_raster.specs.Slots.{band_of, band_from, goes_on, stroke_at}
 use Rattle.stroke_raster.proofs.Chains.{build_start, build_step, build_end}
 use Rattle.stroke_raster.proofs.Slots.{slot_is}

@@ -1,7 +1,7 @@
 use Rattle.std.proofs.Common.{◌≡◌, ℕ, ◌<◌, ◌≤◌, length, ◌*◌, drop, ap, sym, ◌∙◌, arith}
 use Rattle.std.proofs.lemmas.List.{length-take-le}
 use Rattle.std.proofs.lemmas.Nat.{mul-le}
-use Rattle.hpgl_plot.specs.Segments.{Segment}
+use Rattle.plot_page.specs.Segments.{Segment}
 use Rattle.stroke_raster.specs.Resolutions.{columns_of}
 use Rattle.stroke_raster.specs.Shown.{marked_in_rows}
 use Rattle.stroke_raster.proofs.Rows.{parted_first, painted_rows, marked_parted}

@@ -4,7 +4,7 @@ use Rattle.std.proofs.lemmas.Bool.{cases_lt}
 use Rattle.std.proofs.Math.Nat.{div-lt_iff_lt-mul}
 use Rattle.std.proofs.lemmas.Nat.{mul-le}
 use borrow.Rule.Slice.PartMut.{put_mid, mid_of, same_len_mid}
-use Rattle.hpgl_plot.specs.Segments.{Segment}
+use Rattle.plot_page.specs.Segments.{Segment}
 use Rattle.stroke_raster.specs.Covers.{in_box}
 use Rattle.stroke_raster.specs.Resolutions.{columns_of}
 use Rattle.stroke_raster.specs.Shown.{marked}

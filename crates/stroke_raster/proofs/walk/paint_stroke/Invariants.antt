@@ -1,5 +1,5 @@
 use Rattle.std.proofs.Common.{◌≡◌, ℕ, ◌+◌, ◌-◌, ◌/◌, ◌%◌, ◌<◌, ◌≤◌, ◌&&◌, nat_lt, cond, length, get_or, min}
-use Rattle.hpgl_plot.specs.Segments.{Segment}
+use Rattle.plot_page.specs.Segments.{Segment}
 use Rattle.stroke_raster.specs.Boxes.{box_pixels}
 use Rattle.stroke_raster.specs.Covers.{in_box}
 use Rattle.stroke_raster.specs.Resolutions.{columns_of}

@@ -1,0 +1,162 @@
+use Rattle.std.proofs.Common.{arith, ◌≡◌, ◌<◌, ◌≤◌, ◌+◌, ◌-◌, ◌*◌, ◌++◌, List, [], length, ℕ, take, drop, refl, subst, sym, ap, ap₂, ◌∙◌, append_assoc, append-nil, length-drop, map, Err}
+use Rattle.std.specs.Io.KnownBytes.{Appends}
+use Rattle.std.specs.List.{range_with_len}
+use Rattle.plot_page.specs.Segments.{Segment}
+use Rattle.plot_page.specs.declared.page.Page.{Page}
+use Rattle.stroke_raster.specs.declared.dots.Dots.{Dots}
+use Rattle.stroke_raster.specs.Resolutions.{columns_of, rows_of}
+use Rattle.stroke_raster.specs.Shown.{row_shown, rows_shown}
+use Rattle.stroke_raster.specs.Bands.{first_of, rows_of_band}
+use Rattle.stroke_raster.specs.Boxes.{boxes, selected}
+use Rattle.stroke_raster.specs.Covers.{in_box}
+use Rattle.stroke_raster.proofs.BoxCounts.{boxes_after, boxes_fewer}
+use Rattle.stroke_raster.specs.Painting.{rows_next}
+use Rattle.picture_out.specs.declared.inks.Ink.{Ink}
+use Rattle.picture_out.specs.Forms.{foot_bytes, row_bytes}
+use Rattle.picture_out.proofs.Known.{written_next, cut_next, written_all}
+use Rattle.plotraster.specs.Picture.{rows_bytes, picture_of, bytes_before}
+use Rattle.plotraster.specs.Writings.{head_of, row_of, rows_text, WritesRows}
+use Rattle.plotraster.proofs.Pictures.{rows_join, before_rows}
+use Rattle.plotraster.proofs.RowTexts.{text_is}
+use Rattle.plotraster.proofs.Stops.{band_stop, same_rows, move_parts}
+use Rattle.plotraster.proofs.writing.write_picture.Goals as goal
+
+pub bands-preserved : goal.bands-preserved
+bands-preserved g c =
+    let p = c.args.painter.now in
+    let q = c.bands.painter in
+    let inv = c.bands.invariant in
+    let form = c.args.form in
+    let head = head_of form p.page p.dots in
+    let row = row_of form (g.G.Gauge.reaches c.args.gauge.now) p.pens p.strokes p.page p.dots in
+    let foot = foot_bytes form in
+    let rows = rows_of p.page p.dots in
+    let all = picture_of head row foot rows p.next in
+    let at = c.bands.at in
+    let n = rows_next q in
+    let inks : List Ink = g.I.Inks.inks c.args.inks.now in
+    let pens = λ (r : ℕ). row_shown (λ (s : Segment). g.G.Gauge.reaches c.args.gauge.now s p.page p.dots) p.pens p.strokes (columns_of p.page p.dots) r in
+    let made : (r : ℕ) → row r ≡ row_bytes form r inks (pens r) = λ r. ap (λ (z : List Ink). row_bytes form r z (pens r)) (sym c.requires.inks) in
+    let shown : rows_of_band c.in-Some.band ≡ map pens (range_with_len at n) =
+    c.in-Some.ensures.rows ∙ same_rows (λ f l ss pg d r. rows_shown (λ s. f s pg d) l ss (columns_of pg d) r n) _ _ _ _ _ _ _ _ _ _ _ _ inv.same inv.pens inv.strokes inv.page inv.dots inv.next in
+    let first : first_of c.in-Some.band ≡ at = c.in-Some.ensures.first ∙ inv.next in
+    let text : rows_text form inks (first_of c.in-Some.band) (rows_of_band c.in-Some.band) ≡ rows_bytes row at n =
+    ap₂ (rows_text form inks) first shown ∙ text_is form inks row pens at n made in
+    let page_rows : rows_of q.page q.dots ≡ rows = ap (λ (z : Page). rows_of z q.dots) inv.page ∙ ap (λ (d : Dots). rows_of p.page d) inv.dots in
+    let left : q.next < rows_of q.page q.dots = c.in-Some.ensures.left.0 refl in
+    let fit : at + n ≤ rows = omega (arith, left, page_rows, inv.next) in
+    let rest = rows_bytes row (at + n) (rows - (at + n)) ++ foot in
+    let parts : rows - at ≡ n + (rows - (at + n)) = omega (arith, fit) in
+    let split : drop c.bands.done all ≡ rows_text form inks (first_of c.in-Some.band) (rows_of_band c.in-Some.band) ++ rest =
+    inv.rest
+    ∙ ap (λ (z : List ℕ). z ++ foot) (ap (rows_bytes row at) parts ∙ rows_join row at n (rows - (at + n)))
+    ∙ append_assoc (rows_bytes row at n) (rows_bytes row (at + n) (rows - (at + n))) foot
+    ∙ ap (λ (z : List ℕ). z ++ rest) (sym text) in
+    let wrote = c.in-Ok-write_band.ensures.rows in
+    let next = written_next _ _ _ _ _ _ all (rows_text form inks (first_of c.in-Some.band) (rows_of_band c.in-Some.band)) rest c.bands.done split inv.within inv.so_far inv.quiet (wrote.0, wrote.2) in
+    let count : c.in-Ok-write_band.bytes ≡ c.bands.done + length (rows_text form inks (first_of c.in-Some.band) (rows_of_band c.in-Some.band)) = wrote.1 in
+    let height : c.rows-at.result ≡ n = c.rows-at.ensures ∙ c.in-Some.ensures.height in
+    let there : at + c.rows-at.result ≡ at + n = ap (λ (k : ℕ). at + k) height in
+    let some = c.in-Some.ensures.some refl in
+    let moved = c.next_band.follows.holds-at-none in
+    let before : c.in-Ok-write_band.bytes ≡ bytes_before head row p.next (at + n) = omega (arith, count, inv.before, ap length text, before_rows head row p.next at n inv.from) in
+    let size : c.in-Ok-write_band.bytes ≤ c.bands.done + c.rows-at.result * 4194304 = rw c.rows-at.ensures c.in-Ok-write_band.ensures.small in
+    let P : ℕ → Type 0 = λ k. Appends (g.K.Sink.held c.args.sink.now) (g.K.Sink.held c.write_band.new.sink) (take k all) in
+    record {
+      rest = ap (λ (k : ℕ). drop k all) count ∙ next.2 ∙ ap (λ (k : ℕ). rows_bytes row k (rows - k) ++ foot) (sym there);
+      so_far = subst P (sym count) next.0;
+      within = omega (arith, count, next.3);
+      quiet = next.1;
+      before = before ∙ ap (bytes_before head row p.next) (sym there);
+      small = omega (arith, inv.small, size);
+      from = omega (arith, inv.from);
+      to = omega (arith, fit, there);
+      few = inv.few;
+      strokes = moved.strokes ∙ inv.strokes;
+      page = moved.page ∙ inv.page;
+      dots = moved.dots ∙ inv.dots;
+      pens = moved.pens ∙ inv.pens;
+      next = moved.next ∙ ap (λ (k : ℕ). k + n) inv.next ∙ sym there;
+      same = c.in-Some.ensures.same ∙ inv.same;
+      tests = (let inside = λ (s : Segment). in_box s p.page p.dots in
+          let few : g.G.Gauge.count c.next_band.new.gauge ≤ g.G.Gauge.count c.bands.gauge + boxes inside (selected p.pens p.strokes) at n (columns_of p.page p.dots) =
+          move_parts (λ l ss pg d r. g.G.Gauge.count c.next_band.new.gauge ≤ g.G.Gauge.count c.bands.gauge + boxes (λ (s : Segment). in_box s pg d) (selected l ss) r n (columns_of pg d)) _ _ _ _ _ _ _ _ _ _ inv.pens inv.strokes inv.page inv.dots inv.next c.in-Some.ensures.most in
+          let join = boxes_after inside (selected p.pens p.strokes) p.next at n (columns_of p.page p.dots) inv.from in
+          let more : at + c.rows-at.result - p.next ≡ at + n - p.next = ap (λ (k : ℕ). k - p.next) there in
+          rw more (omega (arith, inv.tests, few, join)));
+    }
+
+pub returns-in-Err-write_band : goal.returns-in-Err-write_band
+returns-in-Err-write_band g c =
+    let p = c.args.painter.now in
+    let q = c.bands.painter in
+    let inv = c.bands.invariant in
+    let form = c.args.form in
+    let head = head_of form p.page p.dots in
+    let row = row_of form (g.G.Gauge.reaches c.args.gauge.now) p.pens p.strokes p.page p.dots in
+    let foot = foot_bytes form in
+    let rows = rows_of p.page p.dots in
+    let all = picture_of head row foot rows p.next in
+    let at = c.bands.at in
+    let n = rows_next q in
+    let inks : List Ink = g.I.Inks.inks c.args.inks.now in
+    let pens = λ (r : ℕ). row_shown (λ (s : Segment). g.G.Gauge.reaches c.args.gauge.now s p.page p.dots) p.pens p.strokes (columns_of p.page p.dots) r in
+    let made : (r : ℕ) → row r ≡ row_bytes form r inks (pens r) = λ r. ap (λ (z : List Ink). row_bytes form r z (pens r)) (sym c.requires.inks) in
+    let shown : rows_of_band c.in-Some.band ≡ map pens (range_with_len at n) =
+    c.in-Some.ensures.rows ∙ same_rows (λ f l ss pg d r. rows_shown (λ s. f s pg d) l ss (columns_of pg d) r n) _ _ _ _ _ _ _ _ _ _ _ _ inv.same inv.pens inv.strokes inv.page inv.dots inv.next in
+    let first : first_of c.in-Some.band ≡ at = c.in-Some.ensures.first ∙ inv.next in
+    let list = map pens (range_with_len at n) in
+    let text : rows_text form inks at list ≡ rows_bytes row at n = text_is form inks row pens at n made in
+    let page_rows : rows_of q.page q.dots ≡ rows = ap (λ (z : Page). rows_of z q.dots) inv.page ∙ ap (λ (d : Dots). rows_of p.page d) inv.dots in
+    let left : q.next < rows_of q.page q.dots = c.in-Some.ensures.left.0 refl in
+    let fit : at + n ≤ rows = omega (arith, left, page_rows, inv.next) in
+    let rest = rows_bytes row (at + n) (rows - (at + n)) ++ foot in
+    let parts : rows - at ≡ n + (rows - (at + n)) = omega (arith, fit) in
+    let split : drop c.bands.done all ≡ rows_text form inks at list ++ rest =
+    inv.rest
+    ∙ ap (λ (z : List ℕ). z ++ foot) (ap (rows_bytes row at) parts ∙ rows_join row at n (rows - (at + n)))
+    ∙ append_assoc (rows_bytes row at n) (rows_bytes row (at + n) (rows - (at + n))) foot
+    ∙ ap (λ (z : List ℕ). z ++ rest) (sym text) in
+    let P : ℕ → Type 0 = λ k. WritesRows form inks c.next_row-first.result k (rows_of_band c.in-Some.band) c.bands.done (g.K.Sink.held c.bands.sink) (g.K.Sink.held c.write_band.new.sink) (g.K.Sink.failed c.bands.sink) (g.K.Sink.failed c.write_band.new.sink) (Err c.in-Err-write_band.stop) in
+    let Q : List (List ℕ) → Type 0 = λ z. WritesRows form inks c.next_row-first.result at z c.bands.done (g.K.Sink.held c.bands.sink) (g.K.Sink.held c.write_band.new.sink) (g.K.Sink.failed c.bands.sink) (g.K.Sink.failed c.write_band.new.sink) (Err c.in-Err-write_band.stop) in
+    let R : ℕ → Type 0 = λ k. WritesRows form inks k at list c.bands.done (g.K.Sink.held c.bands.sink) (g.K.Sink.held c.write_band.new.sink) (g.K.Sink.failed c.bands.sink) (g.K.Sink.failed c.write_band.new.sink) (Err c.in-Err-write_band.stop) in
+    let wrote = subst R c.next_row-first.ensures.next (subst Q shown (subst P first c.in-Err-write_band.ensures.rows)) in
+    let stop = band_stop form inks head row pens made rows p.next at n c.bands.done c.in-Err-write_band.stop wrote.2.0 inv.from fit inv.before wrote.2.1 in
+    let whole : c.in-Err-write_band.stop.bytes ≡ c.bands.done + (c.in-Err-write_band.stop.bytes - c.bands.done) = omega (arith, stop.from) in
+    let cut = cut_next _ _ _ _ _ _ all (rows_text form inks at list) rest c.bands.done _ _ split inv.within inv.so_far inv.quiet (wrote.0, stop.to, wrote.1) whole in
+    let inside = λ (s : Segment). in_box s p.page p.dots in
+    let few : g.G.Gauge.count c.next_band.new.gauge ≤ g.G.Gauge.count c.bands.gauge + boxes inside (selected p.pens p.strokes) at n (columns_of p.page p.dots) =
+    move_parts (λ l ss pg d r. g.G.Gauge.count c.next_band.new.gauge ≤ g.G.Gauge.count c.bands.gauge + boxes (λ (s : Segment). in_box s pg d) (selected l ss) r n (columns_of pg d)) _ _ _ _ _ _ _ _ _ _ inv.pens inv.strokes inv.page inv.dots inv.next c.in-Some.ensures.most in
+    let join = boxes_after inside (selected p.pens p.strokes) p.next at n (columns_of p.page p.dots) inv.from in
+    let fewer = boxes_fewer inside (selected p.pens p.strokes) p.next (at + n - p.next) (rows - p.next) (columns_of p.page p.dots) (omega (arith, fit)) in
+    record {
+      tests = omega (arith, inv.tests, few, join, fewer);
+      same = c.in-Some.ensures.same ∙ inv.same;
+      writes = (cut.0, cut.1, cut.2, stop.at);
+    }
+
+pub returns-in-Ok-foot_counted : goal.returns-in-Ok-foot_counted
+returns-in-Ok-foot_counted g c =
+    let p = c.args.painter.now in
+    let q = c.bands.painter in
+    let inv = c.bands.invariant in
+    let form = c.args.form in
+    let head = head_of form p.page p.dots in
+    let row = row_of form (g.G.Gauge.reaches c.args.gauge.now) p.pens p.strokes p.page p.dots in
+    let foot = foot_bytes form in
+    let rows = rows_of p.page p.dots in
+    let all = picture_of head row foot rows p.next in
+    let at = c.bands.at in
+    let page_rows : rows_of q.page q.dots ≡ rows = ap (λ (z : Page). rows_of z q.dots) inv.page ∙ ap (λ (d : Dots). rows_of p.page d) inv.dots in
+    let none : q.next < rows_of q.page q.dots → ⊥ = λ lt. cc (c.in_default.ensures.left.1 lt) in
+    let done : rows - at ≡ 0 = omega (arith, none, page_rows, inv.next) in
+    let split : drop c.bands.done all ≡ foot ++ [] = inv.rest ∙ ap (λ (k : ℕ). rows_bytes row at k ++ foot) done ∙ sym (append-nil foot) in
+    let next = written_next _ _ _ _ _ _ all foot [] c.bands.done split inv.within inv.so_far inv.quiet c.in-Ok-foot_counted.ensures.writes in
+    let count : c.in-Ok-foot_counted.bytes ≡ length foot = c.in-Ok-foot_counted.ensures.count in
+    let inside = λ (s : Segment). in_box s p.page p.dots in
+    let fewer = boxes_fewer inside (selected p.pens p.strokes) p.next (at - p.next) (rows - p.next) (columns_of p.page p.dots) (omega (arith, inv.to)) in
+    record {
+      tests = rw c.in_default.ensures.idle (omega (arith, inv.tests, fewer));
+      same = c.in_default.ensures.same ∙ inv.same;
+      writes = (written_all _ _ all (c.bands.done + length foot) next.2 next.0, omega (arith, count, next.3, ap length next.2, length-drop (c.bands.done + length foot) all), next.1);
+    }

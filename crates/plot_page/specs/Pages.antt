@@ -1,0 +1,12 @@
+-- Pages, in plotter units.
+use Rattle.std.specs.Prelude.{ℕ, Bool, nat_le, ◌&&◌}
+use Rattle.plot_page.specs.declared.page.TheConstants.{SHORTEST_SIDE, LONGEST_SIDE, FARTHEST_CORNER}
+
+abbrev pub is_page_side : ℕ → Bool
+is_page_side units = nat_le SHORTEST_SIDE units && nat_le units LONGEST_SIDE
+
+abbrev pub has_page_size : ℕ → ℕ → Bool
+has_page_size width height = is_page_side width && is_page_side height
+
+abbrev pub has_page_corner : ℕ → ℕ → Bool
+has_page_corner left below = nat_le left FARTHEST_CORNER && nat_le below FARTHEST_CORNER

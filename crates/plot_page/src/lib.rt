@@ -1,0 +1,14 @@
+//! Pages, and the strokes on them: what a plot is drawn into, and what is painted.
+#![tactic(auto)]
+
+mod colour;
+mod page;
+mod stroke;
+#[cfg(test)]
+mod tests;
+mod window;
+
+pub use colour::Colour;
+pub use page::{FARTHEST_CORNER, LONGEST_SIDE, Page, PageFault, SHORTEST_SIDE};
+pub use stroke::{FARTHEST_PLACE, GREATEST_WIDTH, Stroke};
+pub use window::Window;
