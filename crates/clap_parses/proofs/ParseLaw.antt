@@ -23,7 +23,7 @@ use Rattle.clap.specs.declared.error.kind.ErrorKind.{ErrorKind}
 use Rattle.clap.specs.declared.error.kind.ErrorKind.TheVariants.{InvalidValue, WrongNumberOfValues, ArgumentConflict, TooManyValues}
 use Rattle.clap.specs.declared.parser.matches.ValueSource.TheVariants.{DefaultValue, CommandLine}
 use Rattle.clap.specs.declared.builder.value_parser.Reading.{Reading}
-use Rattle.command_line.specs.Parses.{RowOf, RowsOf, ParsesTo, IsIn, first, past}
+use Rattle.clap_parses.specs.Parses.{RowOf, RowsOf, ParsesTo, IsIn, first, past, one, IsSingle, IsSingleShape}
 
 or_none : (a b : Kinds) → or_else a b ≡ [] → (a ≡ []) × (b ≡ [])
 or_none [] b e = (refl, e)
@@ -90,15 +90,6 @@ some_values a (v ∷ vs) e = refl
 if_fault : (b : Bool) (k : ErrorKind) (ks : Kinds) → cond (b && true) (k ∷ ks) [] ≡ [] → b ≡ false
 if_fault true k ks e = absurd (cc)
 if_fault false k ks e = refl
-
--- an option or positional of one value, or a call for help
-abbrev pub one : ValueRange
-one = record { start_inclusive = 1; end_inclusive = 1 }
-
-pub record IsSingle (c : List Rule) (a : Rule) : Type 0 where
-  pub found : arg_by_id c a.id ≡ Some a
-  pub kind : ((a.action ≡ Some Set) × (a.range ≡ Some one)) ⊎ (a.action ≡ Some Help)
-  pub defaults : length a.defaults ≤ 1
 
 -- a use of an argument of one value, where it has no fault
 set_parts : (a : Rule) (vs : List Text) (rows : List Row) (x : ArgAction) (least most : ℕ) → x ≡ Set → least ≡ 1 → most ≡ 1
@@ -411,10 +402,6 @@ module _ (s : Shape) (single : AllByRecursion (IsSingle s.rules) s.rules) (no_ag
       }
 
 -- ---- the command and its subcommand
-
-pub record IsSingleShape (s : Shape) : Type 0 where
-  pub single : AllByRecursion (IsSingle s.rules) s.rules
-  pub no_again : s.args_override_self ≡ false
 
 find_in : {X : Type 0} (p : X → Bool) (xs : List X) (x : X) → find p xs ≡ Some x → IsIn x xs
 find_in p [] x e = absurd (cc)

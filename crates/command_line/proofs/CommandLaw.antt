@@ -8,8 +8,8 @@ use Rattle.clap.specs.Kinds.{FailsBy}
 use Rattle.clap.specs.declared.error.Error.{Error}
 use Rattle.clap.specs.declared.parser.matches.ArgMatches.{ArgMatches}
 use Rattle.command_line.specs.Options.{picture_app, plot_app}
-use Rattle.command_line.specs.Parses.{HasGoodMatches}
-use Rattle.command_line.proofs.ParseLaw.{IsSingleShape, parse_good}
+use Rattle.clap_parses.specs.Parses.{HasGoodMatches, IsSingleShape}
+use Rattle.clap_parses.proofs.ParseLaw.{parse_good}
 
 -- width, height, left, below, dots, band, from and FILE take one value each; the last one is help
 picture_single : (name : Text) → IsSingleShape (built_leaf (picture_app name).top)

@@ -1,3 +1,2 @@
-pub mod ParseLaw
 pub mod CommandLaw
 mod Examples

@@ -1,4 +1,3 @@
 pub mod Lines
 pub mod Options
-pub mod Parses
 pub mod Statuses

@@ -7,7 +7,7 @@ use Rattle.clap.specs.declared.parser.matches.ArgMatches.{ArgMatches}
 use Rattle.picture_out.specs.declared.form.Form.{Form}
 use Rattle.picture_out.specs.declared.form.Form.TheVariants.{Marks, Pbm, Ppm}
 use Rattle.stroke_raster.specs.Pens.{has_pen}
-use Rattle.command_line.specs.declared.job.Job.{Job}
+use Rattle.picture_job.specs.declared.job.Job.{Job}
 use Rattle.command_line.specs.declared.line.Line.{Line}
 use Rattle.command_line.specs.declared.line.Task.TheVariants.{Picture}
 

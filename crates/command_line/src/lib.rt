@@ -2,12 +2,10 @@
 #![tactic(auto)]
 
 mod fault;
-mod job;
 mod line;
 mod options;
 
 pub use fault::{BuildFault, LineFault, parse_status};
-pub use job::Job;
 pub use line::{Line, Task, settle};
 pub use options::{command, parse};
 

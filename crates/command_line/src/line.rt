@@ -4,10 +4,10 @@ ghost use Rattle.clap.specs.Words.{found_of, rows_of};
 ghost use Rattle.command_line.specs.Lines.{number_in, form_named, IsJobOf, IsLineOf};
 
 use crate::fault::LineFault;
-use crate::job::Job;
 use clap::ArgMatches;
-use plot_page::Page;
+use picture_job::Job;
 use picture_out::Form;
+use plot_page::Page;
 use stroke_raster::{Dots, PenSet};
 
 /// What is to be done.

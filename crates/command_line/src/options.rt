@@ -7,7 +7,7 @@ ghost use Rattle.clap.specs.Words.{app_of, rule_of, is_simple_and_free, new_app,
 ghost use Rattle.clap.specs.declared.builder.command.Command.TheViews.{out-Command as fields_of};
 ghost use Rattle.command_line.specs.Options.{option_rule, number_rule, file_rule, plot_app, with_page};
 ghost use Rattle.command_line.specs.Options.{with_picture, picture_app, needing_subcommand, IsOf};
-ghost use Rattle.command_line.specs.Parses.{HasGoodMatches};
+ghost use Rattle.clap_parses.specs.Parses.{HasGoodMatches};
 
 use crate::fault::BuildFault;
 use clap::builder::ValueParser;

@@ -10,11 +10,12 @@ use Rattle.stroke_raster.specs.declared.pens.PenSet.{PenSet}
 use Rattle.picture_out.specs.declared.form.Form.{Form}
 use Rattle.picture_out.specs.declared.inks.Ink.{Ink}
 use Rattle.picture_out.specs.Forms.{row_bytes}
-use Rattle.plotraster.specs.declared.writing.Stop.{Stop}
-use Rattle.plotraster.specs.Picture.{rows_bytes, bytes_before, IsStoppedAt}
-use Rattle.plotraster.specs.Writings.{rows_text, StopsIn, Reach}
-use Rattle.plotraster.proofs.RowTexts.{text_is, text_more, text-append}
-use Rattle.plotraster.proofs.Pictures.{before_rows, stopped_at}
+use Rattle.conversion.specs.declared.writing.Stop.{Stop}
+use Rattle.conversion.specs.Picture.{rows_bytes, bytes_before, IsStoppedAt}
+use Rattle.conversion.specs.Writings.{Reach}
+use Rattle.conversion.specs.Progress.{rows_text, StopsIn}
+use Rattle.conversion.proofs.RowTexts.{text_is, text_more, text-append}
+use Rattle.conversion.proofs.Pictures.{before_rows, stopped_at}
 
 -- some of the rows have no more bytes than all of them
 text_some : (form : Form) (inks : List Ink) (at i : ℕ) (rows : List (List ℕ)) → length (rows_text form inks at (take i rows)) ≤ length (rows_text form inks at rows)

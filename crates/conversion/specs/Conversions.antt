@@ -1,20 +1,21 @@
 -- The picture of a plot, and what a conversion answers, from what it read.
-use Rattle.std.specs.Prelude.{◌≡◌, ℕ, ◌+◌, ◌-◌, ◌<◌, ◌≤◌, Bool, true, false, List, Option, Some, None, length, take, Result, Ok, Err, ⊤}
-use Rattle.std.specs.Io.KnownBytes.{Appends}
-use Rattle.hpgl_plot.specs.declared.fault.PlotFault.{PlotFault}
-use Rattle.hpgl_plot.specs.declared.fault.PlotFault.TheVariants as refused
-use Rattle.plot_page.specs.declared.page.Page.{Page}
+use Rattle.std.specs.Prelude.{◌≡◌, ℕ, ◌+◌, ◌-◌, ◌<◌, ◌≤◌, nat_lt, Bool, true, false, not, List, Option, Some, None, option_map, length, take, Result, Ok, Err, if◌then◌else◌, ⊤}
+use Rattle.std.specs.Io.KnownBytes.{Consumes, Appends}
 use Rattle.stroke_raster.specs.Resolutions.{rows_of}
 use Rattle.stroke_raster.specs.Covers.{covers}
 use Rattle.stroke_raster.specs.Painting.{is_band_height}
 use Rattle.picture_out.specs.Forms.{foot_bytes}
-use Rattle.command_line.specs.declared.job.Job.{Job}
-use Rattle.plotraster.specs.Picture.{picture_of, IsStoppedAt}
-use Rattle.plotraster.specs.Writings.{Reach, head_of, row_of, boxes_from}
-use Rattle.plotraster.specs.Plots.{strokes, refusal, notes_count}
-use Rattle.plotraster.specs.declared.convert_plot.Done.{Done}
-use Rattle.plotraster.specs.declared.fault.Fault.{Fault}
-use Rattle.plotraster.specs.declared.fault.Fault.TheVariants.{TooLong, Memory, OffRange, TooManyStrokes, Band, Row, Write, Read, NotYet}
+use Rattle.hpgl_text.specs.declared.program.TheConstants.{LONGEST_PLOT}
+use Rattle.picture_job.specs.declared.job.Job.{Job}
+use Rattle.conversion.specs.Faults.{of_plot}
+use Rattle.conversion.specs.Picture.{picture_of, IsStoppedAt}
+use Rattle.conversion.specs.Plots.{strokes, refusal, notes_count}
+use Rattle.conversion.specs.Readings.{WasRead, WasTooLong}
+use Rattle.conversion.specs.Sources.{SourceState}
+use Rattle.conversion.specs.Writings.{Reach, head_of, row_of, boxes_from}
+use Rattle.conversion.specs.declared.convert_plot.Done.{Done}
+use Rattle.conversion.specs.declared.fault.Fault.{Fault}
+use Rattle.conversion.specs.declared.fault.Fault.TheVariants.{TooLong, Memory, Band, Row, Write, Read}
 
 -- the gauge that reaches what a stroke covers
 abbrev pub exact : Reach
@@ -33,69 +34,79 @@ abbrev pub picture : Job → Reach → List ℕ → List ℕ
 picture job reaches plot =
     picture_of (head_of job.form job.page job.dots) (job_row job reaches plot) (foot_bytes job.form) (rows_of job.page job.dots) job.first_row
 
--- the plot was read to the source's end, and nothing failed
-pub record WasRead (input : List ℕ) (failed failed' ended ended' : ℕ) : Type 0 where
-  pub within : length input ≤ 67108864
-  pub sound : failed' ≡ failed
-  pub end : ended' ≡ ended + 1
+-- why a job cannot be done on its page, whatever the plot: its band height, and then its first row
+abbrev pub job_fault : Job → Option Fault
+job_fault job =
+    if not (is_band_height job.band) then Some Band else
+    if nat_lt (rows_of job.page job.dots) job.first_row then Some Row else
+    None
 
--- the plot was read whole, and is accepted for the page
-abbrev pub IsAccepted : Page → List ℕ → ℕ → ℕ → ℕ → ℕ → Type 0
-IsAccepted page input failed failed' ended ended' = WasRead input failed failed' ended ended' × (refusal page input ≡ None)
+-- the first of two, if there is one
+abbrev pub first_fault : Option Fault → Option Fault → Option Fault
+first_fault (Some fault) later = Some fault
+first_fault None later = later
 
--- the plot was read whole, and is refused for the page
-abbrev pub IsRefused : Page → PlotFault → List ℕ → ℕ → ℕ → ℕ → ℕ → Type 0
-IsRefused page fault input failed failed' ended ended' = WasRead input failed failed' ended ended' × (refusal page input ≡ Some fault)
+-- why a plot that was read whole has no picture of a job, or None if it has one: the plot's refusal for the page, and
+-- then the job's fault
+abbrev pub fault_of : Job → List ℕ → Option Fault
+fault_of job plot = first_fault (option_map of_plot (refusal job.page plot)) (job_fault job)
 
--- what each answer says. The conditions of two answers exclude one another, so each comes exactly where its own hold;
--- want of memory says only that the source did not fail
-abbrev pub Converts : Job → Reach → List ℕ → ℕ → ℕ → ℕ → ℕ → Option (List ℕ) → Option (List ℕ) → ℕ → ℕ → Result Done Fault → Type 0
-Converts job reaches input failed failed' ended ended' held held' broke broke' (Ok done) =
-    IsAccepted job.page input failed failed' ended ended'
-    × (is_band_height job.band ≡ true)
-    × (job.first_row ≤ rows_of job.page job.dots)
-    × Appends held held' (picture job reaches input)
-    × (broke' ≡ broke)
-    × (done.rows ≡ rows_of job.page job.dots - job.first_row)
-    × (done.bytes ≡ length (picture job reaches input))
-    × (done.strokes ≡ length (strokes job.page input))
-    × (done.notes ≡ notes_count input)
-Converts job reaches input failed failed' ended ended' held held' broke broke' (Err Read) = failed' ≡ failed + 1
-Converts job reaches input failed failed' ended ended' held held' broke broke' (Err TooLong) =
-    (length input ≡ 67108865) × (failed' ≡ failed)
-Converts job reaches input failed failed' ended ended' held held' broke broke' (Err (NotYet at)) =
-    IsRefused job.page (refused.NotYet at) input failed failed' ended ended'
-Converts job reaches input failed failed' ended ended' held held' broke broke' (Err (OffRange at)) =
-    IsRefused job.page (refused.OffRange at) input failed failed' ended ended'
-Converts job reaches input failed failed' ended ended' held held' broke broke' (Err (TooManyStrokes at)) =
-    IsRefused job.page (refused.TooManyStrokes at) input failed failed' ended ended'
-Converts job reaches input failed failed' ended ended' held held' broke broke' (Err Band) =
-    IsAccepted job.page input failed failed' ended ended' × (is_band_height job.band ≡ false)
-Converts job reaches input failed failed' ended ended' held held' broke broke' (Err Row) =
-    IsAccepted job.page input failed failed' ended ended' × (is_band_height job.band ≡ true) × (rows_of job.page job.dots < job.first_row)
-Converts job reaches input failed failed' ended ended' held held' broke broke' (Err (Write row whole bytes)) =
-    IsAccepted job.page input failed failed' ended ended'
-    × (is_band_height job.band ≡ true)
-    × (job.first_row ≤ rows_of job.page job.dots)
-    × (broke' ≡ broke + 1)
-    × Appends held held' (take bytes (picture job reaches input))
-    × (bytes < length (picture job reaches input))
-    × IsStoppedAt (head_of job.form job.page job.dots) (job_row job reaches input) (rows_of job.page job.dots) job.first_row bytes row whole
-Converts job reaches input failed failed' ended ended' held held' broke broke' (Err Memory) = failed' ≡ failed
+-- a sink at a moment: the bytes that it has, if they are known, and how often it failed
+pub record SinkState : Type 0 where
+  pub held : Option (List ℕ)
+  pub faults : ℕ
+
+-- the whole picture was written
+pub record IsWritten (job : Job) (reaches : Reach) (input : List ℕ) (before after : SourceState) (sink sink' : SinkState) (done : Done) : Type 0 where
+  pub read : WasRead input before after
+  pub accepted : fault_of job input ≡ None
+  pub written : Appends sink.held sink'.held (picture job reaches input)
+  pub sound : sink'.faults ≡ sink.faults
+  pub rows : done.rows ≡ rows_of job.page job.dots - job.first_row
+  pub bytes : done.bytes ≡ length (picture job reaches input)
+  pub strokes_count : done.strokes ≡ length (strokes job.page input)
+  pub notes : done.notes ≡ notes_count input
+
+-- the sink failed after the first bytes of the picture, in a row that begins after the bytes `whole`
+pub record IsCutShort (job : Job) (reaches : Reach) (input : List ℕ) (before after : SourceState) (sink sink' : SinkState) (row whole bytes : ℕ) : Type 0 where
+  pub read : WasRead input before after
+  pub accepted : fault_of job input ≡ None
+  pub written : Appends sink.held sink'.held (take bytes (picture job reaches input))
+  pub within : bytes < length (picture job reaches input)
+  pub failed : sink'.faults ≡ sink.faults + 1
+  pub stopped : IsStoppedAt (head_of job.form job.page job.dots) (job_row job reaches input) (rows_of job.page job.dots) job.first_row bytes row whole
+
+-- the plot was read whole, and this is why it has no picture of the job
+pub record IsRefused (job : Job) (input : List ℕ) (before after : SourceState) (fault : Fault) : Type 0 where
+  pub read : WasRead input before after
+  pub refused : fault_of job input ≡ Some fault
+
+-- what each answer says. The conditions of two answers exclude one another, so each comes exactly if its own hold; want
+-- of memory says only that the source did not fail
+abbrev pub Converts : Job → Reach → List ℕ → SourceState → SourceState → SinkState → SinkState → Result Done Fault → Type 0
+Converts job reaches input before after sink sink' (Ok done) = IsWritten job reaches input before after sink sink' done
+Converts job reaches input before after sink sink' (Err Read) = after.faults ≡ before.faults + 1
+Converts job reaches input before after sink sink' (Err TooLong) = WasTooLong input before after
+Converts job reaches input before after sink sink' (Err Memory) = after.faults ≡ before.faults
+Converts job reaches input before after sink sink' (Err (Write row whole bytes)) = IsCutShort job reaches input before after sink sink' row whole bytes
+Converts job reaches input before after sink sink' (Err fault) = IsRefused job input before after fault
+
+-- a conversion: what it took from the source, its answer, and how many tests the gauge made
+pub record HasConverted (job : Job) (reaches : Reach) (before after : SourceState) (sink sink' : SinkState) (tests tests' : ℕ) (answer : Result Done Fault) : Type 0 where
+  pub input : List ℕ
+  pub taken : Consumes before.left after.left input
+  pub converts : Converts job reaches input before after sink sink' answer
+  pub tested : tests' ≤ tests + job_boxes job input
 
 -- the sink failed
 abbrev pub is_write : Fault → Bool
 is_write (Write row whole bytes) = true
 is_write _ = false
 
--- why a plot in memory has no picture of a job; what devices and memory do is left open
+-- why a plot in memory has no picture of a job. No device fails; what memory does is left open
 abbrev pub Refuses : Job → List ℕ → Fault → Type 0
-Refuses job plot TooLong = 67108864 < length plot
-Refuses job plot (NotYet at) = refusal job.page plot ≡ Some (refused.NotYet at)
-Refuses job plot (OffRange at) = refusal job.page plot ≡ Some (refused.OffRange at)
-Refuses job plot (TooManyStrokes at) = refusal job.page plot ≡ Some (refused.TooManyStrokes at)
-Refuses job plot Band = (refusal job.page plot ≡ None) × (is_band_height job.band ≡ false)
-Refuses job plot Row = (refusal job.page plot ≡ None) × (is_band_height job.band ≡ true) × (rows_of job.page job.dots < job.first_row)
-Refuses job plot (Write row whole bytes) = ⊤
-Refuses job plot Read = ⊤
+Refuses job plot TooLong = LONGEST_PLOT < length plot
+Refuses job plot (Write row whole bytes) = ⊥
+Refuses job plot Read = ⊥
 Refuses job plot Memory = ⊤
+Refuses job plot fault = fault_of job plot ≡ Some fault

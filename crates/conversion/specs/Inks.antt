@@ -1,8 +1,8 @@
 -- The inks of strokes.
 use Rattle.std.specs.Prelude.{List}
 use Rattle.picture_out.specs.declared.inks.Ink.{Ink}
-use Rattle.plotraster.specs.declared.stroke_inks.StrokeInks.{StrokeInks}
-use Rattle.plotraster.specs.Writings.{inks_of}
+use Rattle.conversion.specs.declared.stroke_inks.StrokeInks.{StrokeInks}
+use Rattle.conversion.specs.Writings.{inks_of}
 
 -- what they hold: the pen and the colour of each stroke, in order
 abbrev pub inks_held : StrokeInks → List Ink

@@ -13,8 +13,8 @@ pub struct StrokeInks<'a> {
 }
 
 impl<'a> StrokeInks<'a> {
-    ghost use Rattle.plotraster.specs.Writings.{inks_of};
-    ghost use Rattle.plotraster.specs.Inks.{inks_held};
+    ghost use Rattle.conversion.specs.Writings.{inks_of};
+    ghost use Rattle.conversion.specs.Inks.{inks_held};
 
     /// The inks of these strokes, in their order.
     pub fn new(strokes: &'a [Stroke]) -> StrokeInks<'a>
@@ -26,7 +26,7 @@ impl<'a> StrokeInks<'a> {
 }
 
 impl<'a> Inks for StrokeInks<'a> {
-    ghost use Rattle.plotraster.specs.Inks.{inks_held};
+    ghost use Rattle.conversion.specs.Inks.{inks_held};
 
     ghost inks = { inks_held };
 

@@ -1,6 +1,6 @@
 //! A picture that is asked for.
-use plot_page::Page;
 use picture_out::Form;
+use plot_page::Page;
 use stroke_raster::{Dots, PenSet};
 
 /// A picture that is asked for: of which page, how fine, in which form.

@@ -3,7 +3,7 @@ ghost use Rattle.std.specs.Prelude.{◌≡◌, ◌+◌, ◌%◌, ◌&&◌, nat_e
 ghost use Rattle.stroke_raster.specs.Covers.{covers};
 
 use crate::pages::{CROSSING, LINE, eight_by_eight};
-use hpgl_plot::{Page, Stroke};
+use plot_page::{Page, Stroke};
 use plotraster::{Dots, Exact, Form, Gauge, OverRead, OverWrite, convert};
 use std::alloc::Global;
 use std::test::Fail;

@@ -1,7 +1,7 @@
 //! Bands, rows and marks of a painter.
 
 use crate::pages::BLACK;
-use hpgl_plot::{Page, Stroke, Window};
+use plot_page::{Page, Stroke, Window};
 use std::alloc::Global;
 use std::test::Fail;
 use stroke_raster::{Dots, Exact, PaintFault, Painter, PenSet, near};

@@ -14,12 +14,14 @@ use Rattle.stroke_raster.specs.Painting.{rows_next}
 use Rattle.picture_out.specs.declared.inks.Ink.{Ink}
 use Rattle.picture_out.specs.Forms.{foot_bytes, row_bytes}
 use Rattle.picture_out.proofs.Known.{written_next, cut_next, written_all}
-use Rattle.plotraster.specs.Picture.{rows_bytes, picture_of, bytes_before}
-use Rattle.plotraster.specs.Writings.{head_of, row_of, rows_text, WritesRows}
-use Rattle.plotraster.proofs.Pictures.{rows_join, before_rows}
-use Rattle.plotraster.proofs.RowTexts.{text_is}
-use Rattle.plotraster.proofs.Stops.{band_stop, same_rows, move_parts}
-use Rattle.plotraster.proofs.writing.write_picture.Goals as goal
+use Rattle.conversion.specs.Picture.{rows_bytes, picture_of, bytes_before}
+use Rattle.conversion.specs.Writings.{head_of, row_of}
+use Rattle.conversion.specs.Progress.{rows_text, WritesRows}
+use Rattle.conversion.specs.Conversions.{SinkState}
+use Rattle.conversion.proofs.Pictures.{rows_join, before_rows}
+use Rattle.conversion.proofs.RowTexts.{text_is}
+use Rattle.conversion.proofs.Stops.{band_stop, same_rows, move_parts}
+use Rattle.conversion.proofs.writing.write_picture.Goals as goal
 
 pub bands-preserved : goal.bands-preserved
 bands-preserved g c =
@@ -53,8 +55,8 @@ bands-preserved g c =
     ∙ append_assoc (rows_bytes row at n) (rows_bytes row (at + n) (rows - (at + n))) foot
     ∙ ap (λ (z : List ℕ). z ++ rest) (sym text) in
     let wrote = c.in-Ok-write_band.ensures.rows in
-    let next = written_next _ _ _ _ _ _ all (rows_text form inks (first_of c.in-Some.band) (rows_of_band c.in-Some.band)) rest c.bands.done split inv.within inv.so_far inv.quiet (wrote.0, wrote.2) in
-    let count : c.in-Ok-write_band.bytes ≡ c.bands.done + length (rows_text form inks (first_of c.in-Some.band) (rows_of_band c.in-Some.band)) = wrote.1 in
+    let next = written_next _ _ _ _ _ _ all (rows_text form inks (first_of c.in-Some.band) (rows_of_band c.in-Some.band)) rest c.bands.done split inv.within inv.so_far inv.quiet (wrote.written, wrote.sound) in
+    let count : c.in-Ok-write_band.bytes ≡ c.bands.done + length (rows_text form inks (first_of c.in-Some.band) (rows_of_band c.in-Some.band)) = wrote.count in
     let height : c.rows-at.result ≡ n = c.rows-at.ensures ∙ c.in-Some.ensures.height in
     let there : at + c.rows-at.result ≡ at + n = ap (λ (k : ℕ). at + k) height in
     let some = c.in-Some.ensures.some refl in
@@ -117,13 +119,15 @@ returns-in-Err-write_band g c =
     ∙ ap (λ (z : List ℕ). z ++ foot) (ap (rows_bytes row at) parts ∙ rows_join row at n (rows - (at + n)))
     ∙ append_assoc (rows_bytes row at n) (rows_bytes row (at + n) (rows - (at + n))) foot
     ∙ ap (λ (z : List ℕ). z ++ rest) (sym text) in
-    let P : ℕ → Type 0 = λ k. WritesRows form inks c.next_row-first.result k (rows_of_band c.in-Some.band) c.bands.done (g.K.Sink.held c.bands.sink) (g.K.Sink.held c.write_band.new.sink) (g.K.Sink.failed c.bands.sink) (g.K.Sink.failed c.write_band.new.sink) (Err c.in-Err-write_band.stop) in
-    let Q : List (List ℕ) → Type 0 = λ z. WritesRows form inks c.next_row-first.result at z c.bands.done (g.K.Sink.held c.bands.sink) (g.K.Sink.held c.write_band.new.sink) (g.K.Sink.failed c.bands.sink) (g.K.Sink.failed c.write_band.new.sink) (Err c.in-Err-write_band.stop) in
-    let R : ℕ → Type 0 = λ k. WritesRows form inks k at list c.bands.done (g.K.Sink.held c.bands.sink) (g.K.Sink.held c.write_band.new.sink) (g.K.Sink.failed c.bands.sink) (g.K.Sink.failed c.write_band.new.sink) (Err c.in-Err-write_band.stop) in
+    let was : SinkState = record { held = g.K.Sink.held c.bands.sink; faults = g.K.Sink.failed c.bands.sink } in
+    let is : SinkState = record { held = g.K.Sink.held c.write_band.new.sink; faults = g.K.Sink.failed c.write_band.new.sink } in
+    let P : ℕ → Type 0 = λ k. WritesRows form inks c.next_row-first.result k (rows_of_band c.in-Some.band) c.bands.done was is (Err c.in-Err-write_band.stop) in
+    let Q : List (List ℕ) → Type 0 = λ z. WritesRows form inks c.next_row-first.result at z c.bands.done was is (Err c.in-Err-write_band.stop) in
+    let R : ℕ → Type 0 = λ k. WritesRows form inks k at list c.bands.done was is (Err c.in-Err-write_band.stop) in
     let wrote = subst R c.next_row-first.ensures.next (subst Q shown (subst P first c.in-Err-write_band.ensures.rows)) in
-    let stop = band_stop form inks head row pens made rows p.next at n c.bands.done c.in-Err-write_band.stop wrote.2.0 inv.from fit inv.before wrote.2.1 in
+    let stop = band_stop form inks head row pens made rows p.next at n c.bands.done c.in-Err-write_band.stop wrote.k inv.from fit inv.before wrote.stopped in
     let whole : c.in-Err-write_band.stop.bytes ≡ c.bands.done + (c.in-Err-write_band.stop.bytes - c.bands.done) = omega (arith, stop.from) in
-    let cut = cut_next _ _ _ _ _ _ all (rows_text form inks at list) rest c.bands.done _ _ split inv.within inv.so_far inv.quiet (wrote.0, stop.to, wrote.1) whole in
+    let cut = cut_next _ _ _ _ _ _ all (rows_text form inks at list) rest c.bands.done _ _ split inv.within inv.so_far inv.quiet (wrote.written, stop.to, wrote.failed) whole in
     let inside = λ (s : Segment). in_box s p.page p.dots in
     let few : g.G.Gauge.count c.next_band.new.gauge ≤ g.G.Gauge.count c.bands.gauge + boxes inside (selected p.pens p.strokes) at n (columns_of p.page p.dots) =
     move_parts (λ l ss pg d r. g.G.Gauge.count c.next_band.new.gauge ≤ g.G.Gauge.count c.bands.gauge + boxes (λ (s : Segment). in_box s pg d) (selected l ss) r n (columns_of pg d)) _ _ _ _ _ _ _ _ _ _ inv.pens inv.strokes inv.page inv.dots inv.next c.in-Some.ensures.most in
@@ -132,7 +136,7 @@ returns-in-Err-write_band g c =
     record {
       tests = omega (arith, inv.tests, few, join, fewer);
       same = c.in-Some.ensures.same ∙ inv.same;
-      writes = (cut.0, cut.1, cut.2, stop.at);
+      writes = record { written = cut.0; within = cut.1; failed = cut.2; stopped = stop.at };
     }
 
 pub returns-in-Ok-foot_counted : goal.returns-in-Ok-foot_counted
@@ -158,5 +162,9 @@ returns-in-Ok-foot_counted g c =
     record {
       tests = rw c.in_default.ensures.idle (omega (arith, inv.tests, fewer));
       same = c.in_default.ensures.same ∙ inv.same;
-      writes = (written_all _ _ all (c.bands.done + length foot) next.2 next.0, omega (arith, count, next.3, ap length next.2, length-drop (c.bands.done + length foot) all), next.1);
+      writes = record {
+        written = written_all _ _ all (c.bands.done + length foot) next.2 next.0;
+        count = omega (arith, count, next.3, ap length next.2, length-drop (c.bands.done + length foot) all);
+        sound = next.1;
+      };
     }

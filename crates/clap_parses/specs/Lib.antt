@@ -1,0 +1,2 @@
+-- What a reader must believe: what a parse gives.
+pub mod Parses

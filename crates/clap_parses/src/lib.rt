@@ -1,0 +1,9 @@
+//! A law of `clap`'s parses, for commands whose arguments take one value each.
+#![tactic(auto)]
+ghost use Rattle.clap_parses.specs.Parses.{FaultlessParsesPass};
+
+/// A parse that has no fault names a subcommand, each of its values passes the rule of its argument,
+/// and each argument that was left out has its default.
+pub fn faultless_parses_pass()
+    ensures { FaultlessParsesPass }
+{}

@@ -1,0 +1,38 @@
+-- What reading a plot and drawing it on a page answers.
+use Rattle.std.specs.Prelude.{◌≡◌, ℕ, ◌+◌, ◌≤◌, List, length, Result, Ok, Err, None, Some, option_map}
+use Rattle.std.specs.Io.KnownBytes.{Consumes}
+use Rattle.hpgl_plot.specs.declared.lines.Lines.{Lines}
+use Rattle.plot_page.specs.declared.page.Page.{Page}
+use Rattle.conversion.specs.Faults.{of_plot}
+use Rattle.conversion.specs.Plots.{strokes, refusal, notes_count}
+use Rattle.conversion.specs.Readings.{WasRead, WasTooLong}
+use Rattle.conversion.specs.Sources.{SourceState}
+use Rattle.conversion.specs.declared.fault.Fault.{Fault}
+use Rattle.conversion.specs.declared.fault.Fault.TheVariants.{TooLong, Memory, Read}
+
+-- the plot was read whole and is accepted for the page; these are its strokes, and how many notes there are on it
+pub record IsDrawn (page : Page) (input : List ℕ) (before after : SourceState) (lines : Lines) : Type 0 where
+  pub read : WasRead input before after
+  pub accepted : refusal page input ≡ None
+  pub strokes_are : lines.strokes.items ≡ strokes page input
+  pub notes_are : lines.notes ≡ notes_count input
+  pub few : length lines.strokes.items ≤ 4194304
+
+-- the plot was read whole and is refused for the page
+pub record IsRefused (page : Page) (input : List ℕ) (before after : SourceState) (fault : Fault) : Type 0 where
+  pub read : WasRead input before after
+  pub refused : option_map of_plot (refusal page input) ≡ Some fault
+
+-- what each answer says of what was read; want of memory says only that the source did not fail
+abbrev pub Draws : Page → List ℕ → SourceState → SourceState → Result Lines Fault → Type 0
+Draws page input before after (Ok lines) = IsDrawn page input before after lines
+Draws page input before after (Err TooLong) = WasTooLong input before after
+Draws page input before after (Err Read) = after.faults ≡ before.faults + 1
+Draws page input before after (Err Memory) = after.faults ≡ before.faults
+Draws page input before after (Err fault) = IsRefused page input before after fault
+
+-- a drawing: what it took from the source, and its answer
+pub record HasDrawn (page : Page) (before after : SourceState) (answer : Result Lines Fault) : Type 0 where
+  pub input : List ℕ
+  pub taken : Consumes before.left after.left input
+  pub draws : Draws page input before after answer

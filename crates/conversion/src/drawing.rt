@@ -1,0 +1,32 @@
+//! Reading a plot and drawing it: what every task begins with.
+ghost use Rattle.std.specs.Prelude.{◌≡◌, ℕ, ◌+◌, ◌-◌, ◌^◌, ◌<◌};
+ghost use Rattle.std.specs.Io.KnownBytes.{IsAtEnd};
+ghost use Rattle.conversion.specs.Drawings.{HasDrawn};
+
+use crate::fault::Fault;
+use crate::reading::read_plot;
+use crate::source::Source;
+use hpgl_plot::{Lines, draw_items};
+use hpgl_text::Items;
+use plot_page::Page;
+use std::alloc::Global;
+
+/// The strokes of the plot that the source gives, drawn on a page, and how many notes there are on
+/// it. Of the plot nothing else is kept.
+///
+/// Errors, in this order: `Read` if the source fails; `TooLong` if it gives more than 67,108,864
+/// bytes; `NotYet` for a plot with an instruction that is known and not drawn yet; `OffRange` and
+/// `TooManyStrokes` at the first instruction that goes out of range or makes a stroke too many.
+/// `Memory` comes when memory is refused.
+pub fn draw_source<S: Source>(alloc: Global, page: &Page, source: &mut S) -> Result<Lines, Fault>
+    requires failing { S.failed source.old < 2 ^ 64 - 1 }
+    requires ending { S.ended source.old < 2 ^ 64 - 1 }
+    ensures draws { HasDrawn page.now
+        (record { left = S.left source.old; faults = S.failed source.old; ends = S.ended source.old })
+        (record { left = S.left source.new; faults = S.failed source.new; ends = S.ended source.new }) result }
+    ensures end { S.ended source.new ≡ S.ended source.old + 1 → IsAtEnd (S.left source.new) }
+{
+    let plot = read_plot(alloc, source)?;
+    let lines = draw_items(alloc, Items::new(alloc, plot.as_slice()), page)?;
+    Ok(lines)
+}

@@ -1,0 +1,6 @@
+//! What a picture is asked for by: the page, the resolution, the pens, the form.
+#![tactic(auto)]
+
+mod job;
+
+pub use job::Job;
