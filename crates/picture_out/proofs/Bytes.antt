@@ -1,4 +1,4 @@
--- A byte depends on eight cells alone.
+-- A byte depends only on its eight cells.
 use Rattle.std.proofs.Common.{◌≡◌, ℕ, ◌+◌, ◌<◌, List, ◌++◌, [], length, get_or, take, drop, ap, ◌∙◌, arith, refl, ◌∷◌, zero, suc, false, ◌==◌, ◌-◌, length-drop}
 use Rattle.std.proofs.lemmas.List.{get_or-take, get_or-drop, take_rest}
 use Rattle.std.proofs.lemmas.Bool.Decides.{nat_tests}
@@ -28,7 +28,7 @@ padded (x ∷ xs) padding (suc i) h = padded xs padding i h
 pub byte_padded : (cells padding : List ℕ) → ((i : ℕ) → get_or padding i 0 ≡ 0) → byte_of (cells ++ padding) ≡ byte_of cells
 byte_padded cells padding h = byte_same (cells ++ padding) cells (λ i lt. padded cells padding i h)
 
--- eight cells without a pen
+-- eight cells that are 0
 abbrev pub zeros : List ℕ
 zeros = 0 ∷ 0 ∷ 0 ∷ 0 ∷ 0 ∷ 0 ∷ 0 ∷ 0 ∷ []
 
@@ -53,7 +53,7 @@ byte_of_eight cells place n e = ap (λ (m : ℕ). byte_of (take m (drop place ce
 not_none : (n q : ℕ) → false ≡ (n - q == 0) → q < n
 not_none n q h = grind (arith, nat_tests)
 
--- where something is left behind a place, the place lies before the end
+-- if cells are left from a place on, the place is before the end
 pub some_left : (cells : List ℕ) (q : ℕ) → false ≡ (length (take (length cells - q) (drop q cells)) == 0) → q < length cells
 some_left cells q h =
     let size : length (take (length cells - q) (drop q cells)) ≡ length cells - q = ap length (take_rest cells q) ∙ length-drop q cells in

@@ -6,7 +6,7 @@ use Rattle.std.proofs.lemmas.Grind.{flat_map-append}
 use Rattle.std.proofs.lemmas.List.{length-take-le, length-drop}
 use Rattle.picture_out.specs.declared.inks.Ink.{Ink}
 use Rattle.picture_out.specs.Inks.{cell_colour, colour_of, ink_at, paper}
-use Rattle.picture_out.proofs.Filled.{placed}
+use Rattle.picture_out.proofs.Tables.{placed}
 
 pub colour_size : (inks : List Ink) (cell : ℕ) → length (cell_colour inks cell) ≡ 3
 colour_size inks cell = elim (nat_eq cell 0) as (λ b. length (cond b (colour_of paper) (colour_of (ink_at inks cell))) ≡ 3) [ true ↦ refl | false ↦ refl ]

@@ -1,10 +1,11 @@
-pub mod Known
+pub mod KnownBytes
 pub mod Spans
-pub mod Marked
-pub mod Filled
+pub mod Lines
+pub mod Tables
 pub mod Bytes
 pub mod Lanes
 pub mod Packed
 pub mod Coloured
 pub mod Sizes
+pub mod Shown
 mod Examples

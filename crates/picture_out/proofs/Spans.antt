@@ -8,9 +8,9 @@ use Rattle.picture_out.specs.Spans.{IsBlankOutside}
 pub before_span : (cells : List ℕ) (low end k : ℕ) → IsBlankOutside cells low end → k < low → get_or cells k 0 ≡ 0
 before_span cells low end k span lt = span.before k (omega (arith, span.order, span.high)) lt
 
-behind_by : (cells : List ℕ) (low end k : ℕ) → IsBlankOutside cells low end → end ≤ k → (k < length cells) ⊎ (length cells ≤ k) → get_or cells k 0 ≡ 0
-behind_by cells low end k span le (inl here) = span.after k here le
-behind_by cells low end k span le (inr past) = get_or_past cells k 0 past
+after_by : (cells : List ℕ) (low end k : ℕ) → IsBlankOutside cells low end → end ≤ k → (k < length cells) ⊎ (length cells ≤ k) → get_or cells k 0 ≡ 0
+after_by cells low end k span le (inl here) = span.after k here le
+after_by cells low end k span le (inr past) = get_or_past cells k 0 past
 
-pub behind_span : (cells : List ℕ) (low end k : ℕ) → IsBlankOutside cells low end → end ≤ k → get_or cells k 0 ≡ 0
-behind_span cells low end k span le = behind_by cells low end k span le (cases_lt k (length cells))
+pub after_span : (cells : List ℕ) (low end k : ℕ) → IsBlankOutside cells low end → end ≤ k → get_or cells k 0 ≡ 0
+after_span cells low end k span le = after_by cells low end k span le (cases_lt k (length cells))

@@ -1,5 +1,5 @@
 -- The bytes of a picture's parts.
-use Rattle.std.specs.Prelude.{ℕ, ◌*◌, List, [], ◌++◌, codes, decimal}
+use Rattle.std.specs.Prelude.{ℕ, ◌*◌, ◌^◌, ◌<◌, ◌≤◌, List, [], ◌++◌, All, length, codes, decimal}
 use Rattle.picture_out.specs.declared.form.Form.{Form}
 use Rattle.picture_out.specs.declared.form.Form.TheVariants.{Marks, Pbm, Ppm}
 use Rattle.picture_out.specs.declared.inks.Ink.{Ink}
@@ -11,26 +11,31 @@ use Rattle.picture_out.specs.Colours.{coloured}
 abbrev pub size_line : ℕ → ℕ → List ℕ
 size_line columns rows = decimal columns ++ codes " " ++ decimal rows ++ codes "\n"
 
--- what stands before the rows, at a resolution in dots per inch
+-- the header, at a resolution in dots per inch
 abbrev pub head_bytes : Form → ℕ → ℕ → ℕ → List ℕ
 head_bytes Marks dots columns rows = []
 head_bytes Pbm dots columns rows = codes "P4\n" ++ size_line columns rows
 head_bytes Ppm dots columns rows = codes "P6\n" ++ size_line columns rows ++ codes "255\n"
 
--- the row of this number. A cell for each column is 0 or the position of an ink, from 1
+-- the row of this number: for each column a cell, 0 or the position of an ink, counted from 1
 abbrev pub row_bytes : Form → ℕ → List Ink → List ℕ → List ℕ
 row_bytes Marks row inks cells = marks row inks cells
 row_bytes Pbm row inks cells = packed cells
 row_bytes Ppm row inks cells = coloured inks cells
 
--- what stands after the rows
+-- the foot, which follows the rows
 abbrev pub foot_bytes : Form → List ℕ
 foot_bytes Marks = []
 foot_bytes Pbm = []
 foot_bytes Ppm = []
 
--- the least buffer that a row of so many columns may be handed
+-- the least length of a buffer for rows of a number of columns
 abbrev pub room_of : Form → ℕ → ℕ
 room_of Marks columns = 0
 room_of Pbm columns = bytes_for columns
 room_of Ppm columns = 3 * columns
+
+-- a buffer of this length takes any row of at most this number of columns, whatever its inks
+abbrev pub TakesAnyRow : Form → ℕ → ℕ → Type 0
+TakesAnyRow form columns space = (index : ℕ) (inks : List Ink) (cells : List ℕ) → index < 2 ^ 32 → All (λ ink. ink.pen < 256) inks → length cells ≤ columns →
+    length (row_bytes form index inks cells) ≤ space

@@ -1,5 +1,5 @@
--- Inks: the pen and the colour that each position of a list of strokes stands for.
-use Rattle.std.specs.Prelude.{ℕ, ◌-◌, List, [], ◌∷◌, get_or, nat_eq, if◌then◌else◌}
+-- Inks: the pen and the colour of each position.
+use Rattle.std.specs.Prelude.{ℕ, ◌-◌, ◌≤◌, List, [], ◌∷◌, All, length, get_or, nat_eq, if◌then◌else◌}
 use Rattle.picture_out.specs.declared.inks.Ink.{Ink}
 
 -- pen 0, white
@@ -10,10 +10,14 @@ paper = record { pen = 0; red = 255; green = 255; blue = 255 }
 abbrev pub ink_at : List Ink → ℕ → Ink
 ink_at inks n = get_or inks (n - 1) paper
 
+-- each of these cells is 0 or the position of an ink
+abbrev pub AreInked : List Ink → List ℕ → Type 0
+AreInked inks cells = All (λ cell. cell ≤ length inks) cells
+
 -- red, green and blue
 abbrev pub colour_of : Ink → List ℕ
 colour_of ink = ink.red ∷ ink.green ∷ ink.blue ∷ []
 
--- the colour of a cell: that of the paper for 0, else that of the ink at its position
+-- the colour of a cell: the paper's for 0, otherwise that of the ink at its position
 abbrev pub cell_colour : List Ink → ℕ → List ℕ
 cell_colour inks cell = if nat_eq cell 0 then colour_of paper else colour_of (ink_at inks cell)

@@ -1,8 +1,11 @@
-pub mod Sinks
-pub mod Writers
+-- What a reader must believe: the bytes of each form, and what a sink's answers mean.
 pub mod Inks
-pub mod Spans
 pub mod Marks
 pub mod Bits
 pub mod Colours
 pub mod Forms
+pub mod Sinks
+pub mod Writers
+pub mod Laws
+-- What contracts of private functions need.
+pub mod Spans

@@ -1,10 +1,10 @@
 -- Marks: a line of text for each cell that is not 0.
-use Rattle.std.specs.Prelude.{ℕ, ◌+◌, ◌/◌, ◌%◌, List, [], ◌∷◌, ◌++◌, nat_eq, if◌then◌else◌, false, codes, decimal}
+use Rattle.std.specs.Prelude.{ℕ, ◌+◌, ◌/◌, ◌%◌, List, [], ◌∷◌, ◌++◌, drop, nat_eq, if◌then◌else◌, false, codes, decimal}
 use Rattle.std.specs.Fmt.{digit_glyph}
 use Rattle.picture_out.specs.declared.inks.Ink.{Ink}
 use Rattle.picture_out.specs.Inks.{ink_at}
 
--- a byte as two hexadecimal digits, in small letters
+-- a byte as two hexadecimal digits, in lower case
 abbrev pub two_digits : ℕ → List ℕ
 two_digits byte = digit_glyph false (byte / 16) ∷ digit_glyph false (byte % 16) ∷ []
 
@@ -20,10 +20,14 @@ line row column ink = row ++ codes " " ++ decimal column ++ codes " " ++ decimal
 abbrev pub mark : List ℕ → ℕ → List Ink → ℕ → List ℕ
 mark row column inks cell = if nat_eq cell 0 then [] else line row column (ink_at inks cell)
 
--- the lines of the cells of a row, the first of which is in the given column
+-- the lines of cells that begin in a column
 abbrev pub marks_from : List ℕ → ℕ → List Ink → List ℕ → List ℕ
 marks_from row column inks [] = []
 marks_from row column inks (cell ∷ cells) = mark row column inks cell ++ marks_from row (column + 1) inks cells
+
+-- the lines of a row's cells from a column on
+abbrev pub lines_on : List ℕ → List Ink → List ℕ → ℕ → List ℕ
+lines_on row inks cells column = marks_from row column inks (drop column cells)
 
 -- the lines of a whole row
 abbrev pub marks : ℕ → List Ink → List ℕ → List ℕ

@@ -5,7 +5,7 @@ use Rattle.picture_out.specs.declared.sink.SinkFault.{SinkFault}
 use Rattle.picture_out.specs.declared.fault.WriteFault.{WriteFault}
 use Rattle.picture_out.specs.declared.fault.WriteFault.TheVariants.{Write}
 
--- the count rises by one at a fault, and where nothing is taken of a piece that is not empty; else it stays
+-- the count rises by one after a fault, or when nothing is taken of a piece that is not empty; otherwise it stays
 abbrev pub CountsPut : ℕ → ℕ → Result ℕ SinkFault → List ℕ → Type 0
 CountsPut old new (Ok n) piece = (n ≡ 0 → 0 < length piece → new ≡ old + 1) × (0 < n → new ≡ old) × (length piece ≡ 0 → new ≡ old)
 CountsPut old new (Err _) piece = new ≡ old + 1
@@ -14,10 +14,11 @@ CountsPut old new (Err _) piece = new ≡ old + 1
 abbrev pub taken_of : WriteFault → ℕ
 taken_of (Write n) = n
 
--- all the bytes were appended and nothing failed, or as many of them as the fault says, and it failed once
-abbrev pub Writes : {U : Type 0} → Option (List ℕ) → Option (List ℕ) → ℕ → ℕ → List ℕ → Result U WriteFault → Type 0
-Writes old new failed failed' bytes (Ok _) = Appends old new bytes × (failed' ≡ failed)
-Writes old new failed failed' bytes (Err e) = Appends old new (take (taken_of e) bytes) × (taken_of e < length bytes) × (failed' ≡ failed + 1)
+-- a sink was handed these bytes: it took them all and has not failed, or it took as many of the first ones as the fault
+-- says, and has failed once more
+abbrev pub Writes : {K U : Type 0} → (K → Option (List ℕ)) → (K → ℕ) → K → K → List ℕ → Result U WriteFault → Type 0
+Writes held failed old new bytes (Ok _) = Appends (held old) (held new) bytes × (failed new ≡ failed old)
+Writes held failed old new bytes (Err e) = Appends (held old) (held new) (take (taken_of e) bytes) × (taken_of e < length bytes) × (failed new ≡ failed old + 1)
 
 -- no more bytes than `most` were written, whether all of them or up to the failure
 abbrev pub WritesAtMost : ℕ → Result ℕ WriteFault → Type 0

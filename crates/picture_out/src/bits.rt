@@ -6,7 +6,7 @@ ghost use Rattle.picture_out.specs.Spans.{IsBlankOutside};
 use crate::cells::Span;
 use std::simd::prelude::*;
 
-/// Packs a cell into a bit, 1 where the cell is not 0, as a row of Netpbm's P4: the leftmost cell
+/// Packs each cell into a bit, 1 if the cell is not 0, as in a row of Netpbm's P4: the leftmost cell
 /// of eight in the highest bit of a byte, and 0 bits after the last cell. The bytes of `out` after
 /// the packed ones stay as they were.
 pub fn pack_bits(cells: &[u32], out: &mut [u8])
@@ -23,8 +23,8 @@ pub fn pack_bits(cells: &[u32], out: &mut [u8])
     }
 }
 
-// The same of a row that is blank outside its span: only the bytes that the span touches are
-// packed.
+// Packs a row as `pack_bits` does. Only the bytes that the span touches need packing; the others
+// are 0.
 pub(crate) fn pack_row(cells: &[u32], span: Span, out: &mut [u8])
     requires span { IsBlankOutside cells.now span.low span.end }
     requires room { bytes_for (length cells.now) ≤ length out.old }
@@ -46,7 +46,7 @@ pub(crate) fn packed_length(columns: usize) -> usize
     columns.div_ceil(8)
 }
 
-// Fewer than eight cells, filled up with 0.
+// Packs fewer than eight cells; the padding is 0.
 fn pack_last(cells: &[u32]) -> u8
     requires { length cells.now ≤ 7 }
     ensures { result ≡ byte_of cells.now }
@@ -56,7 +56,7 @@ fn pack_last(cells: &[u32]) -> u8
     pack_eight(&eight)
 }
 
-// A mask has the first lane in its lowest bit, so the lanes are turned round.
+// A mask has the first lane in its lowest bit, but P4 wants it in the highest.
 #[inline(always)]
 fn pack_eight(cells: &[u32]) -> u8
     requires { length cells.now ≡ 8 }

@@ -1,4 +1,4 @@
-//! The cells of a row, with the columns outside which it is blank.
+//! The cells of a row, and the columns outside which it is blank.
 ghost use Rattle.std.specs.Prelude.{◌≡◌, ℕ, ◌<◌, ◌≤◌, length, get_or};
 
 use std::marker::Model;

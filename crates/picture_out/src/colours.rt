@@ -1,18 +1,18 @@
 //! Cells as colours.
-ghost use Rattle.std.specs.Prelude.{◌≡◌, ℕ, ◌<◌, ◌≤◌, ◌++◌, ◌*◌, ◌/◌, ◌%◌, length, drop, All, get_or, flat_map};
+ghost use Rattle.std.specs.Prelude.{◌≡◌, ℕ, ◌<◌, ◌≤◌, ◌++◌, ◌*◌, ◌/◌, ◌%◌, length, drop, get_or, flat_map};
 ghost use Rattle.std.specs.List.{range_with_len};
-ghost use Rattle.picture_out.specs.Inks.{cell_colour, colour_of};
+ghost use Rattle.picture_out.specs.Inks.{AreInked, cell_colour, colour_of};
 ghost use Rattle.picture_out.specs.Colours.{coloured};
 ghost use Rattle.picture_out.specs.Spans.{IsBlankOutside};
 
 use crate::cells::Span;
 use crate::inks::{Ink, Inks};
 
-// Puts the colour of each cell, from the left, and leaves the bytes after them as they were. The
-// ink is looked up once for each run of cells of one position.
+// Writes the colour of each cell, from the left, and leaves the bytes after them as they were. The
+// ink is looked up once for each run of equal cells.
 pub(crate) fn put_colours<I: Inks>(cells: &[u32], span: Span, inks: &I, out: &mut [u8])
     requires span { IsBlankOutside cells.now span.low span.end }
-    requires inked { All (λ cell. cell ≤ length (I.inks inks.now)) cells.now }
+    requires inked { AreInked (I.inks inks.now) cells.now }
     requires room { 3 * length cells.now ≤ length out.old }
     ensures coloured { out.new ≡ coloured (I.inks inks.now) cells.now ++ drop (3 * length cells.now) out.old }
 {
@@ -37,7 +37,7 @@ const PAPER: Ink = Ink {
     blue: 255,
 };
 
-// The ink of a cell, or the paper for 0.
+// The ink of a cell; 0 is the paper.
 #[inline(always)]
 fn cell_ink<I: Inks>(cell: u32, inks: &I) -> Ink
     requires { cell ≤ length (I.inks inks.now) }
@@ -46,7 +46,7 @@ fn cell_ink<I: Inks>(cell: u32, inks: &I) -> Ink
     if cell == 0 { PAPER } else { inks.ink(cell) }
 }
 
-// The column after the cells from `column` on that are the same as the first of them.
+// The end of the run of equal cells that begins in `column`.
 #[inline(always)]
 fn run_end(cells: &[u32], column: usize, end: usize) -> usize
     requires from { column < end }
@@ -63,7 +63,7 @@ fn run_end(cells: &[u32], column: usize, end: usize) -> usize
     next
 }
 
-// Fills a piece of three bytes a pixel with one colour.
+// Fills a piece of three bytes for each pixel with one colour.
 #[inline(always)]
 fn put_run(ink: Ink, out: &mut [u8])
     requires whole { length out.old % 3 ≡ 0 }

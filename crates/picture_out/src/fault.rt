@@ -1,4 +1,4 @@
-//! What a broken-off write says.
+//! Why a write ended early.
 ghost use Rattle.std.specs.Prelude.{◌≡◌, ◌+◌, ◌^◌, ◌<◌};
 ghost use Rattle.picture_out.specs.Sinks.{taken_of};
 
@@ -21,7 +21,7 @@ impl WriteFault {
         bytes
     }
 
-    /// The same fault as it is seen by a call that had written `done` bytes before.
+    /// The same fault for a call that wrote `done` bytes before.
     pub fn after(self, done: u64) -> WriteFault
         requires { done + taken_of self < 2 ^ 64 }
         ensures { taken_of result ≡ done + taken_of self }

@@ -1,6 +1,6 @@
-//! The forms of a picture.
+//! The forms that a picture is written in.
 
-/// What is written.
+/// The form of a picture.
 #[derive(Clone, Copy, Debug, PartialEq, Eq)]
 pub enum Form {
     /// A line for each marked pixel: its row, its column, its pen and its colour.

@@ -1,4 +1,4 @@
-//! What the positions in a picture's cells stand for.
+//! The inks of a picture.
 ghost use Rattle.std.specs.Prelude.{◌≡◌, ◌≤◌, List, length};
 ghost use Rattle.picture_out.specs.Inks.{ink_at};
 

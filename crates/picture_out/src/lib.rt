@@ -1,4 +1,4 @@
-//! How a picture leaves: the forms that it is written in, and where it is written to.
+//! The forms of a picture, and the sinks that take its bytes.
 #![tactic(auto)]
 
 mod bits;
@@ -7,6 +7,7 @@ mod colours;
 mod fault;
 mod form;
 mod inks;
+pub mod laws;
 mod marks;
 mod over_write;
 mod parts;

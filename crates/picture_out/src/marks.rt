@@ -1,8 +1,9 @@
 //! Marks: a line of text for each cell that is not 0.
-ghost use Rattle.std.specs.Prelude.{◌≡◌, ◌-◌, ◌+◌, ◌*◌, ◌^◌, ◌<◌, ◌≤◌, ◌++◌, length, take, drop, All, IfOk, false};
+ghost use Rattle.std.specs.Prelude.{◌≡◌, ◌-◌, ◌+◌, ◌*◌, ◌^◌, ◌<◌, ◌≤◌, ◌++◌, length, take, IfOk, false};
 ghost use Rattle.std.specs.Fmt.{digit_glyph};
 ghost use Rattle.picture_out.specs.Sinks.{Writes, WritesAtMost};
-ghost use Rattle.picture_out.specs.Marks.{colour_digits, line, marks_from, marks};
+ghost use Rattle.picture_out.specs.Marks.{colour_digits, line, marks_from, marks, lines_on};
+ghost use Rattle.picture_out.specs.Inks.{AreInked};
 ghost use Rattle.picture_out.specs.Spans.{IsBlankOutside};
 
 use crate::cells::Span;
@@ -12,11 +13,14 @@ use crate::pieces::{append, put_all};
 use crate::sink::Sink;
 use itoa::Buffer;
 
+/// The most digits that a row or a column has.
+const LONGEST_NUMBER: usize = 10;
+
 /// The longest line: a row and a column of ten digits, a pen of three, a colour of six, three
 /// spaces and the LF.
 pub(crate) const LONGEST_LINE: usize = 33;
 
-// Writes the lines of a row, as many at a time as the buffer surely takes.
+// Writes the lines of a row, as many at a time as the buffer is sure to take.
 pub(crate) fn put_marks<I: Inks, K: Sink>(
     row: u32,
     cells: &[u32],
@@ -26,12 +30,12 @@ pub(crate) fn put_marks<I: Inks, K: Sink>(
     sink: &mut K,
 ) -> Result<u64, WriteFault>
     requires sound { K.failed sink.old < 2 ^ 64 - 1 }
-    requires columns { length cells.now ≤ 4294967295 }
+    requires columns { length cells.now < 2 ^ 32 }
     requires span { IsBlankOutside cells.now span.low span.end }
-    requires inked { All (λ cell. cell ≤ length (I.inks inks.now)) cells.now }
-    ensures writes { Writes (K.held sink.old) (K.held sink.new) (K.failed sink.old) (K.failed sink.new) (marks row (I.inks inks.now) cells.now) result }
+    requires inked { AreInked (I.inks inks.now) cells.now }
+    ensures writes { Writes K.held K.failed sink.old sink.new (marks row (I.inks inks.now) cells.now) result }
     ensures count { IfOk result (λ n. n ≡ length (marks row (I.inks inks.now) cells.now)) }
-    ensures small { WritesAtMost (33 * length cells.now) result }
+    ensures small { WritesAtMost (LONGEST_LINE * length cells.now) result }
 {
     let mut digits = Buffer::new();
     let row_text = digits.format(row).as_bytes();
@@ -43,7 +47,7 @@ pub(crate) fn put_marks<I: Inks, K: Sink>(
     }
 }
 
-// The same by a piece that takes at least one line, with the row's number as text.
+// `put_marks` with a piece that takes at least one line, and with the row's number as text.
 fn put_lines<I: Inks, K: Sink>(
     row: &[u8],
     cells: &[u32],
@@ -53,14 +57,14 @@ fn put_lines<I: Inks, K: Sink>(
     sink: &mut K,
 ) -> Result<u64, WriteFault>
     requires sound { K.failed sink.old < 2 ^ 64 - 1 }
-    requires columns { length cells.now ≤ 4294967295 }
+    requires columns { length cells.now < 2 ^ 32 }
     requires span { IsBlankOutside cells.now span.low span.end }
-    requires inked { All (λ cell. cell ≤ length (I.inks inks.now)) cells.now }
-    requires row { length row.now ≤ 10 }
-    requires piece { 33 ≤ length piece.old }
-    ensures writes { Writes (K.held sink.old) (K.held sink.new) (K.failed sink.old) (K.failed sink.new) (marks_from row.now 0 (I.inks inks.now) cells.now) result }
+    requires inked { AreInked (I.inks inks.now) cells.now }
+    requires row { length row.now ≤ LONGEST_NUMBER }
+    requires piece { LONGEST_LINE ≤ length piece.old }
+    ensures writes { Writes K.held K.failed sink.old sink.new (marks_from row.now 0 (I.inks inks.now) cells.now) result }
     ensures count { IfOk result (λ n. n ≡ length (marks_from row.now 0 (I.inks inks.now) cells.now)) }
-    ensures small { WritesAtMost (33 * length cells.now) result }
+    ensures small { WritesAtMost (LONGEST_LINE * length cells.now) result }
 {
     let mut done: u64 = 0;
     let mut column = span.low;
@@ -75,15 +79,15 @@ fn put_lines<I: Inks, K: Sink>(
     Ok(done)
 }
 
-// Lines in a piece: how many bytes they take, and the first column that has none of them.
+// Lines in a piece: how many bytes they take, and the column that the next line may have.
 #[derive(Clone, Copy)]
 struct Lines {
     length: usize,
     next: usize,
 }
 
-// Fills the piece with the lines of the cells from a column on, before the column `end`, while a
-// further line surely fits.
+// Fills the piece with the lines of the cells from column `from` up to `end`, as long as a longest
+// line fits.
 fn fill<I: Inks>(
     row: &[u8],
     cells: &[u32],
@@ -92,17 +96,17 @@ fn fill<I: Inks>(
     end: usize,
     piece: &mut [u8],
 ) -> Lines
-    requires columns { length cells.now ≤ 4294967295 }
-    requires inked { All (λ cell. cell ≤ length (I.inks inks.now)) cells.now }
+    requires columns { length cells.now < 2 ^ 32 }
+    requires inked { AreInked (I.inks inks.now) cells.now }
     requires from { from < end }
     requires end { end ≤ length cells.now }
-    requires row { length row.now ≤ 10 }
-    requires piece { 33 ≤ length piece.old }
+    requires row { length row.now ≤ LONGEST_NUMBER }
+    requires piece { LONGEST_LINE ≤ length piece.old }
     ensures fits { result.length ≤ length piece.new }
     ensures onward { from < result.next }
     ensures within { result.next ≤ end }
-    ensures most { result.length + 33 * from ≤ 33 * result.next }
-    ensures lines { take result.length piece.new ++ marks_from row.now result.next (I.inks inks.now) (drop result.next cells.now) ≡ marks_from row.now from (I.inks inks.now) (drop from cells.now) }
+    ensures most { result.length + LONGEST_LINE * from ≤ LONGEST_LINE * result.next }
+    ensures lines { take result.length piece.new ++ lines_on row.now (I.inks inks.now) cells.now result.next ≡ lines_on row.now (I.inks inks.now) cells.now from }
     ensures size { length piece.new ≡ length piece.old }
 {
     let mut length = 0;
@@ -117,13 +121,13 @@ fn fill<I: Inks>(
     Lines { length, next }
 }
 
-// Puts one line into a piece that is `used` bytes long, and says how long it is then.
+// Appends a line to the first `used` bytes of a piece, and returns how many are used then.
 fn append_line(piece: &mut [u8], used: usize, row: &[u8], column: u32, ink: Ink) -> usize
-    requires row { length row.now ≤ 10 }
-    requires room { used + 33 ≤ length piece.old }
+    requires row { length row.now ≤ LONGEST_NUMBER }
+    requires room { used + LONGEST_LINE ≤ length piece.old }
     ensures line { take result piece.new ≡ take used piece.old ++ line row.now column ink }
     ensures used { result ≡ used + length (line row.now column ink) }
-    ensures most { result ≤ used + 33 }
+    ensures most { result ≤ used + LONGEST_LINE }
     ensures size { length piece.new ≡ length piece.old }
 {
     let mut digits = Buffer::new();

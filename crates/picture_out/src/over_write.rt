@@ -5,8 +5,8 @@ ghost use Rattle.picture_out.specs.Writers.{writer_of, failures_of};
 use crate::sink::{Sink, SinkFault};
 use std::io::Write;
 
-/// A sink over any writer: each error of the writer is a failure, and so is to take nothing of a
-/// piece that is not empty. Nothing is kept back in a buffer.
+/// A sink over any writer: an error of the writer is a failure, and so is a write that takes
+/// nothing of a piece that is not empty. It has no buffer of its own.
 #[derive(Drop)]
 pub struct OverWrite<W: Write> {
     inner: W,

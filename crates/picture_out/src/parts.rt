@@ -1,8 +1,9 @@
-//! A picture's parts in each form.
+//! The parts of a picture in each form: the header, the rows and the foot.
 ghost use Rattle.std.specs.Prelude.{◌≡◌, ℕ, ◌-◌, ◌+◌, ◌*◌, ◌^◌, ◌<◌, ◌≤◌, ◌++◌, List, All, length, take, IfOk};
 ghost use Rattle.picture_out.specs.Sinks.{Writes, WritesAtMost};
 ghost use Rattle.picture_out.specs.Spans.{IsBlankOutside};
-ghost use Rattle.picture_out.specs.Forms.{head_bytes, row_bytes, foot_bytes, room_of, size_line};
+ghost use Rattle.picture_out.specs.Forms.{head_bytes, row_bytes, foot_bytes, room_of, TakesAnyRow, size_line};
+ghost use Rattle.picture_out.specs.Inks.{AreInked};
 
 use crate::bits::{pack_row, packed_length};
 use crate::cells::{Cells, Span};
@@ -15,7 +16,13 @@ use crate::pieces::{append, put_counted};
 use crate::sink::Sink;
 use itoa::Buffer;
 
-/// The least length of a buffer that `row` takes for rows of so many columns, in bytes.
+// The longest magic number with the size: three bytes, two numbers of ten digits, a space and the LF.
+const LONGEST_SIZE: usize = 25;
+
+// The longest header: PPM's also has the line `255`.
+const LONGEST_HEAD: usize = LONGEST_SIZE + 4;
+
+/// The least length of a buffer that `row` takes for rows of `columns` columns, in bytes.
 pub fn room(form: Form, columns: u32) -> usize
     ensures { result ≡ room_of form columns }
 {
@@ -26,12 +33,12 @@ pub fn room(form: Form, columns: u32) -> usize
     }
 }
 
-/// The length of a buffer, in bytes, that takes any row of so many columns whole, so that `row`
-/// hands it to the sink in one piece, whatever its inks.
+/// The length of a buffer, in bytes, that takes any row of `columns` columns whole, whatever its
+/// inks, so that `row` writes it in one piece.
 pub fn row_space(form: Form, columns: u32) -> usize
     ensures room { room_of form columns ≤ result }
-    ensures whole { (index : ℕ) (inks : List Ink) (cells : List ℕ) → index < 2 ^ 32 → All (λ ink. ink.pen < 256) inks → length cells ≤ columns → length (row_bytes form index inks cells) ≤ result }
-    ensures most { result ≤ 40 * columns }
+    ensures whole { TakesAnyRow form columns result }
+    ensures most { result ≤ LONGEST_LINE * columns }
 {
     match form {
         Form::Marks => LONGEST_LINE * columns as usize,
@@ -39,10 +46,10 @@ pub fn row_space(form: Form, columns: u32) -> usize
     }
 }
 
-/// Writes what stands before the rows: nothing for marks, for Netpbm's forms the magic number and
-/// the size of the whole picture (pbm(5), ppm(5)). `dots` is the resolution in dots per inch.
+/// Writes the header: nothing for marks, for Netpbm's forms the magic number and the size of the
+/// whole picture (pbm(5), ppm(5)). `dots` is the resolution in dots per inch.
 ///
-/// Errors: 7 exactly where the sink fails; it has then taken the first `bytes` bytes.
+/// Errors: 7 exactly if the sink fails; it has then taken the first `bytes` bytes.
 pub fn head<K: Sink>(
     form: Form,
     dots: u32,
@@ -51,7 +58,7 @@ pub fn head<K: Sink>(
     sink: &mut K,
 ) -> Result<(), WriteFault>
     requires sound { K.failed sink.old < 2 ^ 64 - 1 }
-    ensures writes { Writes (K.held sink.old) (K.held sink.new) (K.failed sink.old) (K.failed sink.new) (head_bytes form dots columns rows) result }
+    ensures writes { Writes K.held K.failed sink.old sink.new (head_bytes form dots columns rows) result }
 {
     head_counted(form, dots, columns, rows, sink)?;
     Ok(())
@@ -66,11 +73,11 @@ pub fn head_counted<K: Sink>(
     sink: &mut K,
 ) -> Result<u64, WriteFault>
     requires sound { K.failed sink.old < 2 ^ 64 - 1 }
-    ensures writes { Writes (K.held sink.old) (K.held sink.new) (K.failed sink.old) (K.failed sink.new) (head_bytes form dots columns rows) result }
+    ensures writes { Writes K.held K.failed sink.old sink.new (head_bytes form dots columns rows) result }
     ensures count { IfOk result (λ n. n ≡ length (head_bytes form dots columns rows)) }
-    ensures small { length (head_bytes form dots columns rows) ≤ 128 }
+    ensures small { length (head_bytes form dots columns rows) ≤ LONGEST_HEAD }
 {
-    let mut text = [0; 128];
+    let mut text = [0; LONGEST_HEAD];
     let used = match form {
         Form::Marks => 0,
         Form::Pbm => append_netpbm(&mut text, b"P4\n", columns, rows),
@@ -82,12 +89,12 @@ pub fn head_counted<K: Sink>(
     put_counted(sink, &text[..used])
 }
 
-// Begins a text with a magic number and the size line, and says how long it is then.
+// Writes a magic number and the size line, and returns how many bytes they take.
 fn append_netpbm(text: &mut [u8], magic: &[u8], columns: u32, rows: u32) -> usize
     requires magic { length magic.now ≤ 3 }
-    requires room { 25 ≤ length text.old }
+    requires room { LONGEST_SIZE ≤ length text.old }
     ensures text { take result text.new ≡ magic.now ++ size_line columns rows }
-    ensures most { result ≤ 25 }
+    ensures most { result ≤ LONGEST_SIZE }
     ensures size { length text.new ≡ length text.old }
 {
     let mut digits = Buffer::new();
@@ -99,12 +106,12 @@ fn append_netpbm(text: &mut [u8], magic: &[u8], columns: u32, rows: u32) -> usiz
 }
 
 /// Writes the row with the number `index`, counted from 0 at the top. Each cell is 0 for the
-/// paper, or the position of its ink, from 1 up to and including the count. For marks: the line
-/// `row column pen rrggbb` of each cell that is not 0, the colour in hexadecimal; for pbm a bit a
-/// cell, for ppm three bytes a cell. The buffer is `room` long or longer, and what it holds
+/// paper, or the position of its ink, from 1 up to and including the count. Marks have a
+/// line `row column pen rrggbb` for each cell that is not 0, the colour in hexadecimal; PBM has a
+/// bit for each cell, PPM three bytes. The buffer is `room` long or longer, and what it holds
 /// afterwards has no meaning.
 ///
-/// Errors: 7 exactly where the sink fails; it has then taken the first `bytes` bytes.
+/// Errors: 7 exactly if the sink fails; it has then taken the first `bytes` bytes.
 pub fn row<I: Inks, K: Sink>(
     form: Form,
     index: u32,
@@ -114,16 +121,16 @@ pub fn row<I: Inks, K: Sink>(
     sink: &mut K,
 ) -> Result<(), WriteFault>
     requires sound { K.failed sink.old < 2 ^ 64 - 1 }
-    requires columns { length cells.now ≤ 4294967295 }
-    requires inked { All (λ cell. cell ≤ length (I.inks inks.now)) cells.now }
+    requires columns { length cells.now < 2 ^ 32 }
+    requires inked { AreInked (I.inks inks.now) cells.now }
     requires room { room_of form (length cells.now) ≤ length buffer.old }
-    ensures writes { Writes (K.held sink.old) (K.held sink.new) (K.failed sink.old) (K.failed sink.new) (row_bytes form index (I.inks inks.now) cells.now) result }
+    ensures writes { Writes K.held K.failed sink.old sink.new (row_bytes form index (I.inks inks.now) cells.now) result }
 {
     row_counted(form, index, Cells::new(cells), inks, buffer, sink)?;
     Ok(())
 }
 
-/// `row`, with the count of the bytes written, for cells that may say where they are blank.
+/// `row` for cells that may know a span, with the count of the bytes written.
 pub fn row_counted<I: Inks, K: Sink>(
     form: Form,
     index: u32,
@@ -133,12 +140,12 @@ pub fn row_counted<I: Inks, K: Sink>(
     sink: &mut K,
 ) -> Result<u64, WriteFault>
     requires sound { K.failed sink.old < 2 ^ 64 - 1 }
-    requires columns { length cells ≤ 4294967295 }
-    requires inked { All (λ cell. cell ≤ length (I.inks inks.now)) cells }
+    requires columns { length cells < 2 ^ 32 }
+    requires inked { AreInked (I.inks inks.now) cells }
     requires room { room_of form (length cells) ≤ length buffer.old }
-    ensures writes { Writes (K.held sink.old) (K.held sink.new) (K.failed sink.old) (K.failed sink.new) (row_bytes form index (I.inks inks.now) cells.entry) result }
+    ensures writes { Writes K.held K.failed sink.old sink.new (row_bytes form index (I.inks inks.now) cells.entry) result }
     ensures count { IfOk result (λ n. n ≡ length (row_bytes form index (I.inks inks.now) cells.entry)) }
-    ensures small { WritesAtMost (40 * length cells.entry + 40) result }
+    ensures small { WritesAtMost (LONGEST_LINE * length cells.entry) result }
 {
     let span = cells.span;
     put_row(form, index, cells.cells, span, inks, buffer, sink)
@@ -154,13 +161,13 @@ fn put_row<I: Inks, K: Sink>(
     sink: &mut K,
 ) -> Result<u64, WriteFault>
     requires sound { K.failed sink.old < 2 ^ 64 - 1 }
-    requires columns { length cells.now ≤ 4294967295 }
+    requires columns { length cells.now < 2 ^ 32 }
     requires span { IsBlankOutside cells.now span.low span.end }
-    requires inked { All (λ cell. cell ≤ length (I.inks inks.now)) cells.now }
+    requires inked { AreInked (I.inks inks.now) cells.now }
     requires room { room_of form (length cells.now) ≤ length buffer.old }
-    ensures writes { Writes (K.held sink.old) (K.held sink.new) (K.failed sink.old) (K.failed sink.new) (row_bytes form index (I.inks inks.now) cells.now) result }
+    ensures writes { Writes K.held K.failed sink.old sink.new (row_bytes form index (I.inks inks.now) cells.now) result }
     ensures count { IfOk result (λ n. n ≡ length (row_bytes form index (I.inks inks.now) cells.now)) }
-    ensures small { WritesAtMost (40 * length cells.now + 40) result }
+    ensures small { WritesAtMost (LONGEST_LINE * length cells.now) result }
 {
     match form {
         Form::Marks => put_marks(index, cells, span, inks, buffer, sink),
@@ -175,12 +182,12 @@ fn put_row<I: Inks, K: Sink>(
     }
 }
 
-/// Writes what stands after the rows: nothing in each of today's forms.
+/// Writes the foot, which follows the rows: it is empty in all of these forms.
 ///
-/// Errors: 7 exactly where the sink fails; it has then taken the first `bytes` bytes.
+/// Errors: 7 exactly if the sink fails; it has then taken the first `bytes` bytes.
 pub fn foot<K: Sink>(form: Form, sink: &mut K) -> Result<(), WriteFault>
     requires sound { K.failed sink.old < 2 ^ 64 - 1 }
-    ensures writes { Writes (K.held sink.old) (K.held sink.new) (K.failed sink.old) (K.failed sink.new) (foot_bytes form) result }
+    ensures writes { Writes K.held K.failed sink.old sink.new (foot_bytes form) result }
 {
     foot_counted(form, sink)?;
     Ok(())
@@ -189,9 +196,9 @@ pub fn foot<K: Sink>(form: Form, sink: &mut K) -> Result<(), WriteFault>
 /// `foot`, with the count of the bytes written.
 pub fn foot_counted<K: Sink>(form: Form, sink: &mut K) -> Result<u64, WriteFault>
     requires sound { K.failed sink.old < 2 ^ 64 - 1 }
-    ensures writes { Writes (K.held sink.old) (K.held sink.new) (K.failed sink.old) (K.failed sink.new) (foot_bytes form) result }
+    ensures writes { Writes K.held K.failed sink.old sink.new (foot_bytes form) result }
     ensures count { IfOk result (λ n. n ≡ length (foot_bytes form)) }
-    ensures small { length (foot_bytes form) ≤ 32 }
+    ensures small { length (foot_bytes form) ≡ 0 }
 {
     match form {
         Form::Marks | Form::Pbm | Form::Ppm => Ok(0),

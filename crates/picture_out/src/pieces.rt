@@ -1,17 +1,16 @@
-//! Bytes handed to a sink, and bytes gathered into a piece.
+//! Bytes written to a sink, and bytes appended to a piece.
 ghost use Rattle.std.specs.Prelude.{◌≡◌, ◌-◌, ◌+◌, ◌^◌, ◌<◌, ◌≤◌, ◌++◌, length, take, IfOk};
 ghost use Rattle.picture_out.specs.Sinks.{Writes};
 
 use crate::fault::WriteFault;
 use crate::sink::Sink;
 
-/// Writes all the bytes, in as many pieces as the sink asks for. An empty piece is never handed
-/// over.
+/// Writes all the bytes, in as many pieces as the sink needs. An empty piece is never put.
 ///
-/// Errors: 7 exactly where the sink fails; it has then taken the first `bytes` bytes.
+/// Errors: 7 exactly if the sink fails; it has then taken the first `bytes` bytes.
 pub fn put_all<K: Sink>(sink: &mut K, bytes: &[u8]) -> Result<(), WriteFault>
     requires sound { K.failed sink.old < 2 ^ 64 - 1 }
-    ensures writes { Writes (K.held sink.old) (K.held sink.new) (K.failed sink.old) (K.failed sink.new) bytes.now result }
+    ensures writes { Writes K.held K.failed sink.old sink.new bytes.now result }
 {
     let mut at = 0;
     while at < bytes.len() {
@@ -28,17 +27,17 @@ pub fn put_all<K: Sink>(sink: &mut K, bytes: &[u8]) -> Result<(), WriteFault>
     Ok(())
 }
 
-// The same, with the count of the bytes.
+// `put_all`, with the count of the bytes.
 pub(crate) fn put_counted<K: Sink>(sink: &mut K, bytes: &[u8]) -> Result<u64, WriteFault>
     requires sound { K.failed sink.old < 2 ^ 64 - 1 }
-    ensures writes { Writes (K.held sink.old) (K.held sink.new) (K.failed sink.old) (K.failed sink.new) bytes.now result }
+    ensures writes { Writes K.held K.failed sink.old sink.new bytes.now result }
     ensures count { IfOk result (λ n. n ≡ length bytes.now) }
 {
     put_all(sink, bytes)?;
     Ok(bytes.len() as u64)
 }
 
-// Puts the bytes into a piece that is `used` bytes long, and says how long it is then.
+// Appends bytes to the first `used` bytes of a piece, and returns how many are used then.
 pub(crate) fn append(piece: &mut [u8], used: usize, bytes: &[u8]) -> usize
     requires { used + length bytes.now ≤ length piece.old }
     ensures used { result ≡ used + length bytes.now }

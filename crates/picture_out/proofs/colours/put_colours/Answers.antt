@@ -3,8 +3,8 @@ use Rattle.std.specs.List.{range_with_len}
 use Rattle.std.proofs.lemmas.List.{length-take, length-take-le, length-drop, get_or-take, get_or-drop, take_all}
 use Rattle.std.proofs.lemmas.List.FromFn.{length-range_with_len}
 use Rattle.picture_out.specs.Inks.{cell_colour, colour_of}
-use Rattle.picture_out.proofs.Filled.{filled_to}
-use Rattle.picture_out.proofs.Spans.{before_span, behind_span}
+use Rattle.picture_out.proofs.Tables.{filled_to}
+use Rattle.picture_out.proofs.Spans.{before_span, after_span}
 use Rattle.picture_out.proofs.Coloured.{colour_size, white, one_colour, cells_more, filled_size}
 use Rattle.picture_out.proofs.colours.put_colours.Goals as goal
 
@@ -65,7 +65,7 @@ returns g c =
     let kept : length out ≡ length c.args.out.now = filled_size f cells out c.args.out.now end (3 * end) (colour_size inks) refl c.requires.span.high (omega (arith, c.requires.room, c.requires.span.high)) filled in
     let size : length c.fill-2.new.self ≡ 3 * all - 3 * end = omega (arith, c.fill-2.ensures.len, length-take (3 * all - 3 * end) (drop (3 * end) out), length-drop (3 * end) out, kept, c.requires.room, c.requires.span.high) in
     let blank : (k : ℕ) → k < length rest → get_or rest k 0 ≡ 0 = λ k lt.
-    get_or-take (all - end) (drop end cells) k 0 (omega (arith, long)) ∙ get_or-drop end cells k 0 ∙ behind_span cells c.args.span.low end (end + k) c.requires.span (omega arith) in
+    get_or-take (all - end) (drop end cells) k 0 (omega (arith, long)) ∙ get_or-drop end cells k 0 ∙ after_span cells c.args.span.low end (end + k) c.requires.span (omega arith) in
     let cleared : c.fill-2.new.self ≡ flat_map f rest =
     filled_to c.fill-2.new.self _ (3 * all - 3 * end) 255 (c.fill-2.ensures.after (λ y h. h)) size
     ∙ white inks rest (3 * all - 3 * end) (omega (arith, long)) blank

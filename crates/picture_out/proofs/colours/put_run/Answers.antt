@@ -4,7 +4,7 @@ use Rattle.std.proofs.lemmas.List.{length-take-le, drop_all, take_all}
 use Rattle.std.proofs.lemmas.List.FromFn.{length-range_with_len}
 use Rattle.picture_out.specs.Inks.{colour_of}
 use Rattle.picture_out.proofs.Coloured.{threes}
-use Rattle.picture_out.proofs.Filled.{piece_more}
+use Rattle.picture_out.proofs.Tables.{piece_more}
 use Rattle.picture_out.proofs.colours.put_run.Goals as goal
 
 pub loop-pixel-preserved : goal.loop-pixel-preserved

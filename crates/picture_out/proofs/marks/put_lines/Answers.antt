@@ -1,8 +1,8 @@
 use Rattle.std.proofs.Common.{◌≡◌, ◌++◌, ◌≤◌, ◌∙◌, [], length, take, drop, ap, arith, refl}
 use Rattle.std.proofs.lemmas.List.{length-drop, length-take-le}
 use Rattle.picture_out.specs.Marks.{marks_from}
-use Rattle.picture_out.proofs.Known.{written_part, cut_next, written_all, begins_with, Appends-none}
-use Rattle.picture_out.proofs.Marked.{marks_before, marks_behind}
+use Rattle.picture_out.proofs.KnownBytes.{written_part, cut_next, written_all, begins_with, Appends-none}
+use Rattle.picture_out.proofs.Lines.{marks_before, marks_after}
 use Rattle.picture_out.proofs.marks.put_lines.Goals as goal
 
 pub loop-column-init : goal.loop-column-init
@@ -48,18 +48,14 @@ loop-column-preserved g c =
       quiet = next.1;
     }
 
-pub returns-clause-writes : goal.returns-clause-writes
-returns-clause-writes g c =
+pub returns : goal.returns
+returns g c =
     let inks = g.I.Inks.inks c.args.inks.now in
     let all = marks_from c.args.row.now 0 inks c.args.cells.now in
     let at_end : c.args.span.end ≤ c.loop-column.column = omega (arith, c.loop-column-test.false) in
-    let left : drop c.loop-column.done all ≡ [] = c.loop-column.invariant.rest ∙ marks_behind c.args.row.now inks c.args.cells.now c.args.span.low c.args.span.end c.loop-column.column c.requires.span at_end in
-    (written_all _ _ all c.loop-column.done left c.loop-column.invariant.so_far, c.loop-column.invariant.quiet)
-
-pub returns-clause-count : goal.returns-clause-count
-returns-clause-count g c =
-    let inks = g.I.Inks.inks c.args.inks.now in
-    let all = marks_from c.args.row.now 0 inks c.args.cells.now in
-    let at_end : c.args.span.end ≤ c.loop-column.column = omega (arith, c.loop-column-test.false) in
-    let left : drop c.loop-column.done all ≡ [] = c.loop-column.invariant.rest ∙ marks_behind c.args.row.now inks c.args.cells.now c.args.span.low c.args.span.end c.loop-column.column c.requires.span at_end in
-    omega (arith, ap length left, length-drop c.loop-column.done all, c.loop-column.invariant.within)
+    let left : drop c.loop-column.done all ≡ [] = c.loop-column.invariant.rest ∙ marks_after c.args.row.now inks c.args.cells.now c.args.span.low c.args.span.end c.loop-column.column c.requires.span at_end in
+    record {
+      writes = (written_all _ _ all c.loop-column.done left c.loop-column.invariant.so_far, c.loop-column.invariant.quiet);
+      count = omega (arith, ap length left, length-drop c.loop-column.done all, c.loop-column.invariant.within);
+      small = omega (arith, c.loop-column.invariant.small, c.loop-column.invariant.column_in, c.requires.span.high);
+    }

@@ -2,10 +2,11 @@ use Rattle.std.proofs.Common.{◌≡◌, ◌*◌, ◌-◌, ◌≤◌, ◌⊎◌,
 use Rattle.picture_out.specs.declared.form.Form.{Form}
 use Rattle.picture_out.specs.declared.form.Form.TheVariants.{Pbm, Ppm}
 use Rattle.picture_out.specs.declared.inks.Ink.{Ink}
+use Rattle.picture_out.specs.declared.marks.TheConstants.{LONGEST_LINE}
 use Rattle.picture_out.specs.Forms.{row_bytes, room_of}
 use Rattle.picture_out.specs.Marks.{marks}
 use Rattle.picture_out.proofs.Sizes.{packed_size, coloured_size}
-use Rattle.picture_out.proofs.Marked.{marks_row_size, pens_are_bytes}
+use Rattle.picture_out.proofs.Lines.{marks_row_size, pens_are_bytes}
 use Rattle.picture_out.proofs.parts.row_space.Goals as goal
 
 pub returns-in-Marks-clause-whole : goal.returns-in-Marks-clause-whole
@@ -17,7 +18,7 @@ whole : (form : Form) (index columns : ℕ) (inks : List Ink) (cells : List ℕ)
 whole form index columns inks cells (inl e) within = rw e (omega (arith, packed_size cells))
 whole form index columns inks cells (inr e) within = rw e (omega (arith, coloured_size inks cells))
 
-most : (form : Form) (columns : ℕ) → (form ≡ Pbm) ⊎ (form ≡ Ppm) → room_of form columns ≤ 40 * columns
+most : (form : Form) (columns : ℕ) → (form ≡ Pbm) ⊎ (form ≡ Ppm) → room_of form columns ≤ LONGEST_LINE * columns
 most form columns (inl e) = rw e (omega arith)
 most form columns (inr e) = rw e (omega arith)
 

@@ -1,6 +1,6 @@
 use Rattle.std.proofs.Common.{arith}
 use Rattle.std.proofs.lemmas.List.{take_rest}
-use Rattle.picture_out.proofs.Known.{Appends-more}
+use Rattle.picture_out.proofs.KnownBytes.{Appends-more}
 use Rattle.picture_out.proofs.pieces.put_all.Goals as goal
 
 pub loop-at-preserved : goal.loop-at-preserved

@@ -23,8 +23,8 @@ filled_last f out old p q m y here next le h e =
     let P : ℕ → Type 0 = λ n. out ≡ map f (range_with_len 0 n) ++ drop n old in
     filled_more f out old q y (omega arith) (subst P here h) e ∙ ap (λ (n : ℕ). map f (range_with_len 0 n) ++ drop n old) next
 
-set_behind : (front ys : List ℕ) (n k y : ℕ) → length front ≡ n → set (front ++ ys) (n + k) y ≡ front ++ set ys k y
-set_behind front ys n k y h =
+set_after : (front ys : List ℕ) (n k y : ℕ) → length front ≡ n → set (front ++ ys) (n + k) y ≡ front ++ set ys k y
+set_after front ys n k y h =
     let e : (n + k) - n ≡ k = omega arith in
     set-append_right front ys n (n + k) y h (omega arith) ∙ ap (λ (j : ℕ). front ++ set ys j y) e
 
@@ -37,7 +37,7 @@ three_more old n le =
     let three : n + 2 + 1 ≡ n + 3 = omega arith in
     a ∙ ap (λ (z : List ℕ). get_or old n 0 ∷ z) (b ∙ ap (λ (j : ℕ). get_or old (n + 1) 0 ∷ drop j old) two ∙ ap (λ (z : List ℕ). get_or old (n + 1) 0 ∷ z) (c ∙ ap (λ (j : ℕ). get_or old (n + 2) 0 ∷ drop j old) three))
 
--- three more values behind the front
+-- three more values after the front
 pub three_written : (front out old : List ℕ) (n r g b : ℕ) → length front ≡ n → n + 3 ≤ length old → out ≡ front ++ drop n old → set (set (set out n r) (n + 1) g) (n + 2) b ≡ front ++ (r ∷ g ∷ b ∷ drop (n + 3) old)
 three_written front out old n r g b size le h =
     let x = get_or old n 0 in
@@ -46,8 +46,8 @@ three_written front out old n r g b size le h =
     let rest = drop (n + 3) old in
     let opened : out ≡ front ++ (x ∷ y ∷ z ∷ rest) = h ∙ ap (λ (w : List ℕ). front ++ w) (three_more old n le) in
     let one : set out n r ≡ front ++ (r ∷ y ∷ z ∷ rest) = ap (λ (w : List ℕ). set w n r) opened ∙ set_at front x (y ∷ z ∷ rest) r n size in
-    let two : set (set out n r) (n + 1) g ≡ front ++ (r ∷ g ∷ z ∷ rest) = ap (λ (w : List ℕ). set w (n + 1) g) one ∙ set_behind front (r ∷ y ∷ z ∷ rest) n 1 g size in
-    ap (λ (w : List ℕ). set w (n + 2) b) two ∙ set_behind front (r ∷ g ∷ z ∷ rest) n 2 b size
+    let two : set (set out n r) (n + 1) g ≡ front ++ (r ∷ g ∷ z ∷ rest) = ap (λ (w : List ℕ). set w (n + 1) g) one ∙ set_after front (r ∷ y ∷ z ∷ rest) n 1 g size in
+    ap (λ (w : List ℕ). set w (n + 2) b) two ∙ set_after front (r ∷ g ∷ z ∷ rest) n 2 b size
 
 -- one more piece of three values
 pub piece_more : (f : ℕ → List ℕ) (cells out old : List ℕ) (i n m r g b : ℕ) → i < length cells → length (flat_map f (take i cells)) ≡ n → n + 3 ≤ length old → n + 3 ≡ m → out ≡ flat_map f (take i cells) ++ drop n old → (r ∷ g ∷ b ∷ []) ≡ f (get_or cells i 0) → set (set (set out n r) (n + 1) g) (n + 2) b ≡ flat_map f (take (i + 1) cells) ++ drop m old
@@ -63,8 +63,8 @@ piece_more f cells out old i n m r g b lt size le next h e =
 pub placed : (front out old part : List ℕ) (a k m : ℕ) → a + k ≡ m → length front ≡ a → out ≡ front ++ drop a old → put_mid a k out part ≡ (front ++ part) ++ drop m old
 placed front out old part a k m next size h =
     let before : take a out ≡ front = ap (take a) h ∙ take_at front (drop a old) a size in
-    let behind : drop a out ≡ drop a old = ap (drop a) h ∙ drop_at front (drop a old) a size in
-    let rest : drop k (drop a out) ≡ drop m old = ap (drop k) behind ∙ drop-drop k a old ∙ ap (λ (n : ℕ). drop n old) next in
+    let after : drop a out ≡ drop a old = ap (drop a) h ∙ drop_at front (drop a old) a size in
+    let rest : drop k (drop a out) ≡ drop m old = ap (drop k) after ∙ drop-drop k a old ∙ ap (λ (n : ℕ). drop n old) next in
     ap (λ (z : List ℕ). z ++ (part ++ drop k (drop a out))) before
     ∙ ap (λ (z : List ℕ). front ++ (part ++ z)) rest
     ∙ sym (append_assoc front part (drop m old))

@@ -6,7 +6,7 @@ use Rattle.picture_out.specs.declared.inks.Ink.{Ink}
 use Rattle.picture_out.specs.Inks.{ink_at, paper}
 use Rattle.picture_out.specs.Marks.{line, mark, marks_from, marks}
 use Rattle.picture_out.specs.Spans.{IsBlankOutside}
-use Rattle.picture_out.proofs.Spans.{before_span, behind_span}
+use Rattle.picture_out.proofs.Spans.{before_span, after_span}
 
 mark_none : (r : List ℕ) (c : ℕ) (inks : List Ink) (cell : ℕ) → cell ≡ 0 → mark r c inks cell ≡ []
 mark_none r c inks cell h = rw h refl
@@ -24,13 +24,13 @@ skip r c (suc n) column inks (x ∷ xs) e le h =
 pub marks_before : (r : List ℕ) (inks : List Ink) (cells : List ℕ) (low end : ℕ) → IsBlankOutside cells low end → marks_from r 0 inks cells ≡ marks_from r low inks (drop low cells)
 marks_before r inks cells low end span = skip r 0 low low inks cells (omega arith) (omega (arith, span.order, span.high)) (λ k lt. before_span cells low end k span lt)
 
--- and so have those after it
+-- the cells after the span have no lines
 blank : (r : List ℕ) (c : ℕ) (inks : List Ink) (cells : List ℕ) → ((k : ℕ) → get_or cells k 0 ≡ 0) → marks_from r c inks cells ≡ []
 blank r c inks [] h = refl
 blank r c inks (x ∷ xs) h = rw (mark_none r c inks x (h 0)) (blank r (c + 1) inks xs (λ k. h (suc k)))
 
-pub marks_behind : (r : List ℕ) (inks : List Ink) (cells : List ℕ) (low end column : ℕ) → IsBlankOutside cells low end → end ≤ column → marks_from r column inks (drop column cells) ≡ []
-marks_behind r inks cells low end column span le = blank r column inks (drop column cells) (λ k. get_or-drop column cells k 0 ∙ behind_span cells low end (column + k) span (omega (arith, le)))
+pub marks_after : (r : List ℕ) (inks : List Ink) (cells : List ℕ) (low end column : ℕ) → IsBlankOutside cells low end → end ≤ column → marks_from r column inks (drop column cells) ≡ []
+marks_after r inks cells low end column span le = blank r column inks (drop column cells) (λ k. get_or-drop column cells k 0 ∙ after_span cells low end (column + k) span (omega (arith, le)))
 
 -- a line takes at most 33 bytes
 line_size : (r : List ℕ) (c : ℕ) (ink : Ink) → length r ≤ 10 → c < 2 ^ 32 → ink.pen < 256 → length (line r c ink) ≤ 33

@@ -47,7 +47,7 @@ written_all a b all done none so_far =
     let whole : take done all ≡ all = sym (append-nil (take done all)) ∙ joined in
     let P : List ℕ → Type 0 = λ z. Appends a b z in subst P whole so_far
 
--- a piece of what is left lies within the bytes
+-- a piece of what is left ends within the bytes
 pub piece_in : (all piece rest : List ℕ) (done : ℕ) → drop done all ≡ piece ++ rest → done ≤ length all → done + length piece ≤ length all
 piece_in all piece rest done split within = omega (arith, ap length split, length-append piece rest, length-drop done all)
 
@@ -56,7 +56,7 @@ pub Appends-none : (a : Option (List ℕ)) (bs : List ℕ) → bs ≡ [] → App
 Appends-none None bs e = tt
 Appends-none (Some xs) bs e = sym (append-nil xs) ∙ ap (λ (z : List ℕ). xs ++ z) (sym e)
 
--- the same as `written_next`, where the piece's length has a name
+-- `written_next` for a piece of a given length
 pub written_part : (a b c : Option (List ℕ)) (f g h : ℕ) (all piece rest : List ℕ) (done n : ℕ) → length piece ≡ n → drop done all ≡ piece ++ rest → done ≤ length all → Appends a b (take done all) → g ≡ f → Appends b c piece × (h ≡ g) → Appends a c (take (done + n) all) × (h ≡ f) × (drop (done + n) all ≡ rest) × (done + n ≤ length all)
 written_part a b c f g h all piece rest done n size split within so_far quiet wrote =
     let P : ℕ → Type 0 = λ m. Appends a c (take (done + m) all) × (h ≡ f) × (drop (done + m) all ≡ rest) × (done + m ≤ length all) in
