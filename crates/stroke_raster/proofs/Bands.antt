@@ -1,9 +1,9 @@
 -- The rows of a painter's bands, joined.
-use Rattle.std.proofs.Common.{◌≡◌, ℕ, ◌+◌, ◌-◌, ◌≤◌, List, [], ◌∷◌, ◌++◌, flat_map, map, ap, ◌∙◌, arith, refl, zero, suc, min}
+use Rattle.std.proofs.Common.{◌≡◌, ℕ, ◌+◌, ◌-◌, List, [], ◌∷◌, ◌++◌, flat_map, map, ap, ◌∙◌, arith, refl, zero, suc}
 use Rattle.std.specs.List.{range_with_len}
-use Rattle.stroke_raster.specs.Resolutions.{columns_of, rows_of}
-use Rattle.stroke_raster.specs.Painting.{Painting, Moves, rows_next}
-use Rattle.stroke_raster.specs.Laws.{Reaches, painted_rows, Lends, LendsAll}
+use Rattle.stroke_raster.specs.Resolutions.{rows_of}
+use Rattle.stroke_raster.specs.Painting.{Painting, Reaches, painted_rows, Moves, rows_next}
+use Rattle.stroke_raster.specs.Laws.{LendsAll}
 
 -- n rows from one on, and then the rows after them
 tables_joined : {X : Type 0} (f : ℕ → X) (a n k : ℕ) → map f (range_with_len a n) ++ map f (range_with_len (a + n) k) ≡ map f (range_with_len a (n + k))

@@ -161,7 +161,7 @@ pub take_whole : (xs : List Segment) → take (length xs) xs ≡ xs
 take_whole [] = refl
 take_whole (x ∷ xs) = ap (λ (ys : List Segment). x ∷ ys) (take_whole xs)
 
--- what a stroke's painting leaves, told of the same stroke and the same law
+-- what the painting of a stroke leaves, said of an equal stroke and an equal test
 pub painted_as : (f f' : Segment → Page → Dots → ℕ → ℕ → Bool) → f ≡ f' → (t t' : Segment) → t ≡ t' → (page : Page) (dots : Dots) (first columns place : ℕ) (cells cells' : List ℕ)
     → ((i : ℕ) → i < length cells → get_or cells' i 0 ≡ cond (f t page dots (first + i / columns) (i % columns)) place (get_or cells i 0))
     → (i : ℕ) → i < length cells → get_or cells' i 0 ≡ cond (f' t' page dots (first + i / columns) (i % columns)) place (get_or cells i 0)

@@ -1,19 +1,7 @@
 -- The bands that a painter lends, one call of `next_band` after another.
-use Rattle.std.specs.Prelude.{◌≡◌, ℕ, ◌-◌, ◌<◌, ◌≤◌, Bool, List, [], ◌∷◌, flat_map}
-use Rattle.hpgl_plot.specs.Segments.{Segment}
-use Rattle.hpgl_plot.specs.declared.page.Page.{Page}
-use Rattle.stroke_raster.specs.declared.dots.Dots.{Dots}
-use Rattle.stroke_raster.specs.Resolutions.{columns_of, rows_of}
-use Rattle.stroke_raster.specs.Shown.{rows_shown}
-use Rattle.stroke_raster.specs.Painting.{Painting, rows_next, Moves}
-
--- which pixels of a page a stroke reaches, by row and column
-abbrev pub Reaches : Type 0
-Reaches = Segment → Page → Dots → ℕ → ℕ → Bool
-
--- what a painter's rows show, a number of them from one on
-abbrev pub painted_rows : Reaches → Painting → ℕ → ℕ → List (List ℕ)
-painted_rows reaches p first count = rows_shown (λ s. reaches s p.page p.dots) p.pens p.strokes (columns_of p.page p.dots) first count
+use Rattle.std.specs.Prelude.{◌≡◌, ℕ, ◌-◌, ◌<◌, ◌≤◌, List, [], ◌∷◌, flat_map}
+use Rattle.stroke_raster.specs.Resolutions.{rows_of}
+use Rattle.stroke_raster.specs.Painting.{Painting, Reaches, painted_rows, rows_next, Moves}
 
 -- a painter lends a band of these rows, and is `new` afterwards: the clauses of `next_band`
 pub record Lends (reaches : Reaches) (old : Painting) (rows : List (List ℕ)) (new : Painting) : Type 0 where

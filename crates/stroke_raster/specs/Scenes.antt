@@ -1,8 +1,29 @@
--- The chains of a scene's strokes.
-use Rattle.std.specs.Prelude.{ℕ, List, length}
+-- A scene: what its rows show, and the chains of its strokes.
+use Rattle.std.specs.Prelude.{◌≡◌, ℕ, ◌+◌, ◌*◌, ◌<◌, ◌≤◌, List, length}
 use Rattle.stroke_raster.specs.declared.scene.Scene.{Scene}
 use Rattle.stroke_raster.specs.Chains.{Linked}
-use Rattle.stroke_raster.specs.Slots.{band_of, goes_on}
+use Rattle.stroke_raster.specs.Resolutions.{columns_of, rows_of}
+use Rattle.stroke_raster.specs.Covers.{in_box}
+use Rattle.stroke_raster.specs.Boxes.{selected, boxes}
+use Rattle.stroke_raster.specs.Shown.{rows_shown}
+use Rattle.stroke_raster.specs.Painting.{Reaches}
+use Rattle.stroke_raster.specs.Slots.{band_of, goes_on, IsPainted}
+
+-- how many columns its rows have
+abbrev pub width_of : Scene → ℕ
+width_of scene = columns_of scene.page scene.dots
+
+-- each cell of a band shows what the scene's strokes make its pixel show
+abbrev pub ShowsScene : Reaches → Scene → ℕ → List ℕ → Type 0
+ShowsScene reaches scene first cells = IsPainted (λ s. reaches s scene.page scene.dots) scene.pens scene.strokes.now first (width_of scene) cells
+
+-- what a number of its rows show, from a row on
+abbrev pub scene_rows : Reaches → Scene → ℕ → ℕ → List (List ℕ)
+scene_rows reaches scene first count = rows_shown (λ s. reaches s scene.page scene.dots) scene.pens scene.strokes.now (width_of scene) first count
+
+-- how many pixels of these rows lie in the boxes of the strokes that are drawn
+abbrev pub scene_boxes : Scene → ℕ → ℕ → ℕ
+scene_boxes scene first count = boxes (λ s. in_box s scene.page scene.dots) (selected scene.pens scene.strokes.now) first count (width_of scene)
 
 -- before a band: the strokes that go on in it are chained, and for each band from it on those that begin there
 abbrev pub AreChained : Scene → ℕ → List ℕ → List ℕ → Type 0
@@ -11,3 +32,12 @@ AreChained scene band heads links =
     (band_of scene.pens scene.page scene.dots scene.first_row scene.band_rows (length heads) scene.strokes.now)
     (goes_on scene.page scene.dots scene.first_row scene.band_rows scene.strokes.now)
     band heads links
+
+-- band `band` of a scene is next: it has `rows` rows of the page from `first` on, and its strokes are chained
+pub record IsNext (scene : Scene) (band first rows : ℕ) (heads links : List ℕ) : Type 0 where
+  pub slots : length links ≡ length scene.strokes.now + 1
+  pub in_range : band < length heads
+  pub at : first ≡ scene.first_row + band * scene.band_rows
+  pub rows_fit : rows ≤ scene.band_rows
+  pub rows_in : first + rows ≤ rows_of scene.page scene.dots
+  pub linked : AreChained scene band heads links

@@ -15,7 +15,7 @@ nobody = record { pen = 0; colour = record { red = 0; green = 0; blue = 0 }; wid
 abbrev pub stroke_at : List Segment → ℕ → Segment
 stroke_at strokes slot = get_or strokes (slot - 1) nobody
 
--- the band in which a stroke's box begins, from row r0 on in bands of h rows; the number of bands where it never does
+-- the band in which a stroke's box begins, in bands of h rows from row r0 on; the number of bands if it begins in none
 abbrev pub band_from : PenSet → Page → Dots → ℕ → ℕ → ℕ → Segment → ℕ
 band_from pens page dots r0 h bands s = if has_pen pens s.pen && nat_lt (max (first_row_of s page dots) r0) (end_row_of s page dots) then (max (first_row_of s page dots) r0 - r0) / h else bands
 
@@ -25,6 +25,10 @@ band_of pens page dots r0 h bands strokes slot = band_from pens page dots r0 h b
 -- the box of the slot's stroke reaches the first row of band k, or a later one
 abbrev pub goes_on : Page → Dots → ℕ → ℕ → List Segment → ℕ → ℕ → Bool
 goes_on page dots r0 h strokes k slot = nat_lt (r0 + k * h) (end_row_of (stroke_at strokes slot) page dots)
+
+-- the stroke reaches the pixel of cell q of a band
+abbrev pub reaches_cell : (ℕ → ℕ → Bool) → ℕ → ℕ → ℕ → Bool
+reaches_cell reaches first columns q = reaches (first + q / columns) (q % columns)
 
 -- each cell of a band shows what these strokes make its pixel show
 abbrev pub IsPainted : (Segment → ℕ → ℕ → Bool) → PenSet → List Segment → ℕ → ℕ → List ℕ → Type 0

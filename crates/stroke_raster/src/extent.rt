@@ -39,17 +39,17 @@ pub fn extent_of(stroke: &Stroke, page: &Page, dots: Dots) -> Extent
     let d = drawn_width_of(stroke, dots);
     let r = dots.resolution;
     let window = stroke.window;
-    let across = sides_of(window.x0, window.x1, stroke.ax, stroke.bx, r, d);
-    let up = sides_of(window.y0, window.y1, stroke.ay, stroke.by, r, d);
+    let x = sides_of(window.x0, window.x1, stroke.ax, stroke.bx, r, d);
+    let y = sides_of(window.y0, window.y1, stroke.ay, stroke.by, r, d);
     let top = 2 * i64::from(16 * page.height * r);
     Extent {
-        rows: places_between(top - up.high, top - up.low, dots.rows(page)),
-        columns: places_between(across.low, across.high, dots.columns(page)),
+        rows: places_between(top - y.high, top - y.low, dots.rows(page)),
+        columns: places_between(x.low, x.high, dots.columns(page)),
     }
 }
 
 // Between which numbers the double of a coordinate lies in the box: the window's edges, and the
-// ends with the drawn width.
+// stroke's ends, widened by half of the drawn width.
 fn sides_of(w0: i32, w1: i32, a: i32, b: i32, r: u32, d: u32) -> Sides
     requires r_in { r ≤ 1200 }
     requires d_in { d ≤ 2 ^ 24 }
@@ -75,7 +75,8 @@ fn doubled(r: u32, z: i32) -> i64
     i64::from(2 * r) * i64::from(z)
 }
 
-// The rows or columns i below `count` where (2 * i + 1) * 16256 lies from a number to another.
+// The rows or columns i below `count` for which (2 * i + 1) * 16256 is between two numbers. A pixel
+// is 16,256 steps wide, so this is the double of its centre's coordinate.
 fn places_between(low: i64, high: i64, count: u32) -> Span
     requires low_in { nat_abs low ≤ 2 ^ 50 }
     requires high_in { nat_abs high ≤ 2 ^ 50 }

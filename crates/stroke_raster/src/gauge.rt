@@ -1,4 +1,4 @@
-//! What measures whether a stroke reaches a pixel, and counts the tests.
+//! Gauges decide whether a stroke reaches a pixel, and count the tests.
 ghost use Rattle.std.specs.Prelude.{◌≡◌, ℕ, ◌+◌, ◌<◌, ◌≤◌, Bool, false, cond, get_or, length, min};
 ghost use Rattle.plot_page.specs.Segments.{Segment};
 ghost use Rattle.plot_page.specs.declared.page.Page.{Page};
@@ -13,7 +13,7 @@ use crate::strip::{Span, fill, run};
 use plot_page::{Page, Stroke};
 use std::marker::Model;
 
-/// A measure of which pixels a stroke reaches, that counts how often it was asked.
+/// Decides which pixels a stroke reaches, and counts how often it was asked.
 pub trait Gauge {
     // Whether a stroke reaches a pixel, named by its row and its column.
     ghost reaches: { Self → Segment → Page → Dots → ℕ → ℕ → Bool };
@@ -37,10 +37,10 @@ pub trait Gauge {
     fn keeps_to_boxes(&self)
         ensures { BoxHolds (reaches self.now) };
 
-    /// Paints a stroke's part of a row: each cell becomes the position where the stroke reaches the
-    /// cell's pixel; the first cell is that of column `from`. The count rises by no less than the
-    /// pixels reached and no more than the cells, or to 2^64 - 1, where it stays. Gives a span of
-    /// the cells, outside which none is reached.
+    /// Paints a stroke's part of a row: each cell whose pixel the stroke reaches becomes the
+    /// position; the first cell is that of column `from`. The count rises by at least the pixels
+    /// reached and at most the cells, or to 2^64 - 1, where it stays. Returns a span of the cells,
+    /// outside which none is reached.
     #[inline(always)]
     fn paint(
         &mut self,

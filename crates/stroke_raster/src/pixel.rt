@@ -13,7 +13,8 @@ use crate::dots::Dots;
 use crate::vector::Vector;
 use plot_page::{Page, Stroke, Window};
 
-// Twice half a pixel and a half: the least width that is drawn, in grains divided by the resolution.
+// The least width that is drawn, one and a half pixels. A pixel is 16,256 grains divided by the
+// resolution wide: an inch has 1016 plotter units of 16 grains.
 const LEAST_WIDTH: u32 = 24384;
 
 /// Whether the stroke covers the pixel: the pixel's centre lies in the stroke's window, edges
@@ -29,7 +30,8 @@ pub fn near(stroke: &Stroke, page: &Page, dots: Dots, row: u32, column: u32) -> 
     is_in_window(stroke, dots, place) && is_close(stroke, dots, place)
 }
 
-// The centre of a pixel, or of the one that would follow a row's last.
+// The centre of a pixel, or of the one that would follow a row's last. It is an odd number of half
+// pixels, 8,128 steps each, from the page's left and upper edges.
 #[inline(always)]
 pub fn centre_of(page: &Page, dots: Dots, row: u32, column: u32) -> Vector
     requires row_in { row < rows_of page.now dots }

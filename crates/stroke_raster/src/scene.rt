@@ -1,4 +1,4 @@
-//! What a painter paints.
+//! The scene that a painter paints.
 ghost use Rattle.std.specs.Prelude.{◌≤◌, length};
 
 use crate::dots::Dots;
@@ -6,7 +6,7 @@ use crate::pens::PenSet;
 use plot_page::{Page, Stroke};
 
 /// The strokes of a picture, each later one over the earlier ones, of which those of the selected
-/// pens are drawn; and how the rows of its page are parted into bands: from the first row on,
+/// pens are drawn; and how the rows of its page are split into bands: from the first row on,
 /// `band_rows` at a time.
 #[derive(Clone, Copy)]
 pub struct Scene<'a> {

@@ -23,7 +23,7 @@ pub struct Span {
     pub end: u32,
 }
 
-/// The pixels of a row that the stroke covers, of so many from column `from` on: they form a run.
+/// The run of pixels that the stroke covers, among `length` pixels of a row from column `from` on.
 #[inline(always)]
 pub fn run(stroke: &Stroke, page: &Page, dots: Dots, row: u32, from: u32, length: u32) -> Span
     requires row_in { row < rows_of page.now dots }
@@ -55,8 +55,9 @@ pub fn run(stroke: &Stroke, page: &Page, dots: Dots, row: u32, from: u32, length
     Span { low, end }
 }
 
-// The first column of a run that holds the span's end and begins in the span: steps from the span's
-// first column, each twice as long as the one before, then halving.
+// The first column of a run that holds the span's end and begins in the span. The search steps from
+// the span's first column, since the run usually begins near it: each step is twice as long as the
+// one before, and at most half of what is left.
 #[inline(always)]
 fn start_of_run(stroke: &Stroke, page: &Page, dots: Dots, row: u32, from: u32, span: Span) -> u32
     requires row_in { row < rows_of page.now dots }
@@ -83,8 +84,8 @@ fn start_of_run(stroke: &Stroke, page: &Page, dots: Dots, row: u32, from: u32, s
     end
 }
 
-// The column after the last one of a run that holds the span's first column and ends in the span, found
-// in the same way from the span's end.
+// The column after the last one of a run that holds the span's first column and ends in the span,
+// searched in the same way from the span's end.
 #[inline(always)]
 fn end_of_run(stroke: &Stroke, page: &Page, dots: Dots, row: u32, from: u32, span: Span) -> u32
     requires row_in { row < rows_of page.now dots }
@@ -153,8 +154,8 @@ fn end_of_covered(stroke: &Stroke, page: &Page, dots: Dots, row: u32, from: u32,
     at
 }
 
-// The columns outside which the pixels lie too far from the endless line along the stroke. Both
-// divisions depend on the stroke only. They come before any branch, since only then does the
+// The columns outside which pixels are too far from the infinite line along the stroke. Both divisions
+// depend only on the stroke. They come before any branch, since only then does the
 // compiler move them out of the loop over rows.
 #[inline(always)]
 fn strip(stroke: &Stroke, page: &Page, dots: Dots, row: u32, from: u32, length: u32) -> Span
@@ -178,7 +179,7 @@ fn strip(stroke: &Stroke, page: &Page, dots: Dots, row: u32, from: u32, length: 
     within(beside, most, step, inverse, length)
 }
 
-// A number with its sign turned where another is below 0.
+// The number, negated if `sign` is below 0.
 #[inline(always)]
 fn turned(z: i64, sign: i64) -> i64
     requires { nat_abs z ≤ 2 ^ 56 }
@@ -188,8 +189,8 @@ fn turned(z: i64, sign: i64) -> i64
     if sign < 0 { -z } else { z }
 }
 
-// The columns i below `length` where k - step * i lies within `most` of 0, and perhaps one more at the
-// end. The step's reciprocal saves two divisions, which would take as long as the rest of a row.
+// The columns i below `length` for which k - step * i is within `most` of 0, and perhaps one more at
+// the end. The step's reciprocal saves two divisions, which would take as long as the rest of a row.
 #[inline(always)]
 fn within(k: i64, most: i64, step: u64, inverse: u64, length: u32) -> Span
     requires k_in { nat_abs k ≤ 2 ^ 56 }
@@ -234,7 +235,8 @@ fn high_half(a: u64, b: u128) -> u64
     (u128::from(a) * b >> 64) as u64
 }
 
-// A length that is at least the way's: one step of Newton's method from a near one.
+// A whole number that is at least the length of the way: Newton's method makes one step from a near
+// guess.
 #[inline(always)]
 fn length_at_most(way: Vector) -> u32
     requires { Within (2 ^ 21) way }

@@ -1,18 +1,18 @@
-//! Walking the chains of a band: each stroke that reaches the band is painted, in the list's order.
+//! Paints a band along its chains: each stroke that reaches the band, in the order of the list.
 //!
 //! The strokes are named by slots, their positions in the list, counted from 1. Between two bands slot
-//! 0 leads to the first stroke that began in an earlier band and goes on, and each of those to the
+//! 0 leads to the first stroke that began in an earlier band and goes on, and each of these to the
 //! next of them. The head of a later band leads to the first stroke that begins in it, and each of
-//! those to the next that does. The number after the last slot stands for the end.
+//! those to the next that does. The number after the last slot is the end of each chain.
 ghost use Rattle.std.specs.Prelude.{◌≡◌, ℕ, ◌+◌, ◌*◌, ◌/◌, ◌%◌, ◌<◌, ◌≤◌, ◌^◌, Bool, cond, nat_eq, nat_lt, length, get_or, set, min, max, false};
-ghost use Rattle.stroke_raster.specs.Boxes.{selected, boxes, box_pixels};
-ghost use Rattle.stroke_raster.specs.Scenes.{AreChained};
+ghost use Rattle.stroke_raster.specs.Boxes.{box_pixels};
+ghost use Rattle.stroke_raster.specs.Scenes.{AreChained, IsNext, ShowsScene, scene_boxes, scene_rows, width_of};
 ghost use Rattle.stroke_raster.specs.Covers.{in_box, BoxHolds};
 ghost use Rattle.stroke_raster.specs.Extents.{end_row_of};
 ghost use Rattle.stroke_raster.specs.Resolutions.{columns_of, rows_of};
-ghost use Rattle.stroke_raster.specs.Shown.{marked, rows_shown, marked_in_rows};
-ghost use Rattle.stroke_raster.specs.Rows.{parted};
-ghost use Rattle.stroke_raster.specs.Slots.{band_from, IsPainted};
+ghost use Rattle.stroke_raster.specs.Shown.{marked, marked_in_rows};
+ghost use Rattle.stroke_raster.specs.Rows.{split_rows};
+ghost use Rattle.stroke_raster.specs.Slots.{band_from, reaches_cell};
 ghost use Rattle.stroke_raster.specs.Spans.{Spanned, holds, none};
 ghost use Rattle.stroke_raster.specs.Tests.{MOST_TESTS};
 
@@ -44,7 +44,7 @@ fn joined(a: Span, b: Span) -> Span
     }
 }
 
-// Paints the part of a stroke that lies in so many rows, and tells the end of its box's rows.
+// Paints the part of a stroke in `rows` rows from `first` on, and returns the end of its box's rows.
 fn paint_stroke<G: Gauge>(
     gauge: &mut G,
     stroke: &Stroke,
@@ -63,7 +63,7 @@ fn paint_stroke<G: Gauge>(
     requires spanned { Spanned (columns_of page.now dots) spans.old cells.old }
     ensures spanned { Spanned (columns_of page.now dots) spans.new cells.new }
     ensures end { result ≡ end_row_of stroke.now page.now dots }
-    ensures cells { (q : ℕ) → q < length cells.old → get_or cells.new q 0 ≡ cond (G.reaches gauge.old stroke.now page.now dots (first + q / columns_of page.now dots) (q % columns_of page.now dots)) position (get_or cells.old q 0) }
+    ensures cells { (q : ℕ) → q < length cells.old → get_or cells.new q 0 ≡ cond (reaches_cell (G.reaches gauge.old stroke.now page.now dots) first (columns_of page.now dots) q) position (get_or cells.old q 0) }
     ensures same { G.reaches gauge.new ≡ G.reaches gauge.old }
     ensures least { (m : ℕ) → min (m + marked cells.old) MOST_TESTS ≤ G.count gauge.old → min (m + marked cells.new) MOST_TESTS ≤ G.count gauge.new }
     ensures most { G.count gauge.new ≤ G.count gauge.old + box_pixels (λ s. in_box s page.now dots) stroke.now first rows (columns_of page.now dots) }
@@ -89,14 +89,14 @@ fn paint_stroke<G: Gauge>(
     extent.rows.end
 }
 
-// The next slot of a chain that stood at `slot`, or where the chain stands.
+// Moves on a chain that is at `slot`; any other chain stays where it is.
 fn moved(at: u32, slot: u32, next: u32) -> u32
     ensures { result ≡ cond (nat_eq at slot) next at }
 {
     if at == slot { next } else { at }
 }
 
-// Chains the slot behind the last one that goes on, if it goes on too; gives the last one.
+// Chains the slot after `tail`, the last one that goes on, if it goes on too. Returns the new tail.
 fn keep(links: &mut [u32], tail: u32, slot: u32, goes: bool) -> u32
     requires { tail < length links.old }
     ensures links { links.new ≡ cond goes (set links.old tail slot) links.old }
@@ -110,7 +110,7 @@ fn keep(links: &mut [u32], tail: u32, slot: u32, goes: bool) -> u32
     }
 }
 
-// Paints a band of blank cells: each stroke that its chains hold, in the order of the list.
+// Paints the strokes of a band's chains, in the order of the list, over blank cells.
 fn walk<G: Gauge>(
     gauge: &mut G,
     scene: &Scene<'_>,
@@ -122,22 +122,17 @@ fn walk<G: Gauge>(
     spans: &mut [Span],
     cells: &mut [u32],
 )
-    requires slots { length links.old ≡ length scene.now.strokes.now + 1 }
-    requires in_range { band < length heads.now }
-    requires at { first ≡ scene.now.first_row + band * scene.now.band_rows }
-    requires rows_fit { rows ≤ scene.now.band_rows }
-    requires rows_in { first + rows ≤ rows_of scene.now.page scene.now.dots }
-    requires wide { length cells.old ≡ rows * columns_of scene.now.page scene.now.dots }
+    requires next { IsNext scene.now band first rows heads.now links.old }
+    requires wide { length cells.old ≡ rows * width_of scene.now }
     requires tall { length spans.old ≡ rows }
-    requires spanned { Spanned (columns_of scene.now.page scene.now.dots) spans.old cells.old }
+    requires spanned { Spanned (width_of scene.now) spans.old cells.old }
     requires blank { (q : ℕ) → q < length cells.old → get_or cells.old q 0 ≡ 0 }
-    requires linked { AreChained scene.now band heads.now links.old }
     ensures linked { AreChained scene.now (band + 1) heads.now links.new }
-    ensures spanned { Spanned (columns_of scene.now.page scene.now.dots) spans.new cells.new }
-    ensures cells { IsPainted (λ s. G.reaches gauge.old s scene.now.page scene.now.dots) scene.now.pens scene.now.strokes.now first (columns_of scene.now.page scene.now.dots) cells.new }
+    ensures spanned { Spanned (width_of scene.now) spans.new cells.new }
+    ensures cells { ShowsScene (G.reaches gauge.old) scene.now first cells.new }
     ensures same { G.reaches gauge.new ≡ G.reaches gauge.old }
     ensures least { min (G.count gauge.old + marked cells.new) MOST_TESTS ≤ G.count gauge.new }
-    ensures most { G.count gauge.new ≤ G.count gauge.old + boxes (λ s. in_box s scene.now.page scene.now.dots) (selected scene.now.pens scene.now.strokes.now) first rows (columns_of scene.now.page scene.now.dots) }
+    ensures most { G.count gauge.new ≤ G.count gauge.old + scene_boxes scene.now first rows }
     ensures grows { G.count gauge.old ≤ G.count gauge.new }
 {
     gauge.keeps_to_boxes();
@@ -215,7 +210,7 @@ fn blank(cells: &mut [u32])
     }
 }
 
-// Makes all cells blank, of which the spans hold those that aren't, and the spans empty.
+// Makes the cells in the spans blank, which leaves none that is not, and the spans empty.
 fn clear(columns: u32, spans: &mut [Span], cells: &mut [u32])
     requires some { 0 < columns }
     requires wide { length cells.old ≡ length spans.old * columns }
@@ -232,7 +227,7 @@ fn clear(columns: u32, spans: &mut [Span], cells: &mut [u32])
     }
 }
 
-/// Paints a band into the first of the cells, and goes on to the next one's chains.
+/// Paints a band into the first rows of the cells, and makes the chains of the next band.
 pub fn paint_band<G: Gauge>(
     gauge: &mut G,
     scene: &Scene<'_>,
@@ -244,21 +239,16 @@ pub fn paint_band<G: Gauge>(
     spans: &mut [Span],
     cells: &mut [u32],
 )
-    requires slots { length links.old ≡ length scene.now.strokes.now + 1 }
-    requires in_range { band < length heads.now }
-    requires at { first ≡ scene.now.first_row + band * scene.now.band_rows }
-    requires rows_fit { rows ≤ scene.now.band_rows }
-    requires rows_in { first + rows ≤ rows_of scene.now.page scene.now.dots }
+    requires next { IsNext scene.now band first rows heads.now links.old }
     requires tall { rows ≤ length spans.old }
-    requires wide { length cells.old ≡ length spans.old * columns_of scene.now.page scene.now.dots }
-    requires spanned { Spanned (columns_of scene.now.page scene.now.dots) spans.old cells.old }
-    requires linked { AreChained scene.now band heads.now links.old }
+    requires wide { length cells.old ≡ length spans.old * width_of scene.now }
+    requires spanned { Spanned (width_of scene.now) spans.old cells.old }
     ensures linked { AreChained scene.now (band + 1) heads.now links.new }
-    ensures spanned { Spanned (columns_of scene.now.page scene.now.dots) spans.new cells.new }
-    ensures rows { parted (columns_of scene.now.page scene.now.dots) rows cells.new ≡ rows_shown (λ s. G.reaches gauge.old s scene.now.page scene.now.dots) scene.now.pens scene.now.strokes.now (columns_of scene.now.page scene.now.dots) first rows }
+    ensures spanned { Spanned (width_of scene.now) spans.new cells.new }
+    ensures rows { split_rows (width_of scene.now) rows cells.new ≡ scene_rows (G.reaches gauge.old) scene.now first rows }
     ensures same { G.reaches gauge.new ≡ G.reaches gauge.old }
-    ensures least { min (G.count gauge.old + marked_in_rows (parted (columns_of scene.now.page scene.now.dots) rows cells.new)) MOST_TESTS ≤ G.count gauge.new }
-    ensures most { G.count gauge.new ≤ G.count gauge.old + boxes (λ s. in_box s scene.now.page scene.now.dots) (selected scene.now.pens scene.now.strokes.now) first rows (columns_of scene.now.page scene.now.dots) }
+    ensures least { min (G.count gauge.old + marked_in_rows (split_rows (width_of scene.now) rows cells.new)) MOST_TESTS ≤ G.count gauge.new }
+    ensures most { G.count gauge.new ≤ G.count gauge.old + scene_boxes scene.now first rows }
     ensures grows { G.count gauge.old ≤ G.count gauge.new }
 {
     let columns = scene.dots.columns(&scene.page);

@@ -4,7 +4,7 @@ use Rattle.std.proofs.lemmas.Nat.{mul-le}
 use Rattle.plot_page.specs.Segments.{Segment}
 use Rattle.stroke_raster.specs.Resolutions.{columns_of}
 use Rattle.stroke_raster.specs.Shown.{marked_in_rows}
-use Rattle.stroke_raster.proofs.Rows.{parted_first, painted_rows, marked_parted}
+use Rattle.stroke_raster.proofs.Rows.{split_rows_first, painted_rows, marked_split_rows}
 use Rattle.stroke_raster.proofs.Slots.{wide_page}
 use Rattle.stroke_raster.proofs.Spans.{spanned_append, drop_spans, drop_cells, spans_length, cells_length}
 use Rattle.stroke_raster.proofs.walk.paint_band.Goals as goal
@@ -19,7 +19,7 @@ returns-clause-rows g c =
     let t = length-take-le (c.args.rows * c.columns-columns.result) c.clear.new.cells (omega (arith, m, e, c.clear.auto.cells, c.requires.wide)) in
     let k : length c.walk.new.cells ≡ c.args.rows * c.columns-columns.result = omega (arith, c.walk.auto.cells, t) in
     let len : length c.walk.new.cells ≡ c.args.rows * columns_of c.args.scene.now.page c.args.scene.now.dots = k ∙ e in
-    parted_first columns c.args.rows c.walk.new.cells (drop (c.args.rows * c.columns-columns.result) c.clear.new.cells) len
+    split_rows_first columns c.args.rows c.walk.new.cells (drop (c.args.rows * c.columns-columns.result) c.clear.new.cells) len
     ∙ painted_rows covers c.args.scene.now.pens c.args.scene.now.strokes.now columns c.args.first c.args.rows c.walk.new.cells wide len c.walk.ensures.cells
 
 pub returns-clause-least : goal.returns-clause-least
@@ -31,7 +31,7 @@ returns-clause-least g c =
     let t = length-take-le (c.args.rows * c.columns-columns.result) c.clear.new.cells (omega (arith, m, e, c.clear.auto.cells, c.requires.wide)) in
     let k : length c.walk.new.cells ≡ c.args.rows * c.columns-columns.result = omega (arith, c.walk.auto.cells, t) in
     let len : length c.walk.new.cells ≡ c.args.rows * columns_of c.args.scene.now.page c.args.scene.now.dots = k ∙ e in
-    let p = ap marked_in_rows (parted_first columns c.args.rows c.walk.new.cells (drop (c.args.rows * c.columns-columns.result) c.clear.new.cells) len) ∙ marked_parted columns c.args.rows c.walk.new.cells len in
+    let p = ap marked_in_rows (split_rows_first columns c.args.rows c.walk.new.cells (drop (c.args.rows * c.columns-columns.result) c.clear.new.cells) len) ∙ marked_split_rows columns c.args.rows c.walk.new.cells len in
     omega (arith, p, c.walk.ensures.least)
 
 pub returns-clause-spanned : goal.returns-clause-spanned

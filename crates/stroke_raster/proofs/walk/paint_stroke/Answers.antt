@@ -38,14 +38,14 @@ loop-row-preserved g c =
     let line : length c.paint-run.new.cells ≡ ((c.loop-row.row - c.args.first) * c.columns-columns.result + c.extent_of-extent.result.columns.end) - ((c.loop-row.row - c.args.first) * c.columns-columns.result + c.extent_of-extent.result.columns.low) = omega (arith, c.paint-run.auto.cells, lm) in
     let front : (k : ℕ) → k < c.extent_of-extent.result.columns.low → reaches c.loop-row.row k ≡ false = (λ k v. beside (reaches c.loop-row.row k) (in_box c.args.stroke.now c.args.page.now c.args.dots c.loop-row.row k) (c.requires.boxed c.args.stroke.now c.args.page.now c.args.dots c.loop-row.row k)
     (λ b. let x = c.extent_of-extent.ensures.column_in c.loop-row.row k (omega (arith, v, order, most)) b in absurd (omega (arith, x.0, v)))) in
-    let behind : (k : ℕ) → c.extent_of-extent.result.columns.end ≤ k → k < columns_of c.args.page.now c.args.dots → reaches c.loop-row.row k ≡ false = (λ k v w. beside (reaches c.loop-row.row k) (in_box c.args.stroke.now c.args.page.now c.args.dots c.loop-row.row k) (c.requires.boxed c.args.stroke.now c.args.page.now c.args.dots c.loop-row.row k)
+    let after : (k : ℕ) → c.extent_of-extent.result.columns.end ≤ k → k < columns_of c.args.page.now c.args.dots → reaches c.loop-row.row k ≡ false = (λ k v w. beside (reaches c.loop-row.row k) (in_box c.args.stroke.now c.args.page.now c.args.dots c.loop-row.row k) (c.requires.boxed c.args.stroke.now c.args.page.now c.args.dots c.loop-row.row k)
     (λ b. let x = c.extent_of-extent.ensures.column_in c.loop-row.row k w b in absurd (omega (arith, x.1, v)))) in
     let cells : (i : ℕ) → i < ((c.loop-row.row - c.args.first) * c.columns-columns.result + c.extent_of-extent.result.columns.end) - ((c.loop-row.row - c.args.first) * c.columns-columns.result + c.extent_of-extent.result.columns.low) → get_or c.paint-run.new.cells i 0 ≡ cond (reaches c.loop-row.row (c.extent_of-extent.result.columns.low + i)) c.args.position (get_or (mid_of ((c.loop-row.row - c.args.first) * c.columns-columns.result + c.extent_of-extent.result.columns.low) (((c.loop-row.row - c.args.first) * c.columns-columns.result + c.extent_of-extent.result.columns.end) - ((c.loop-row.row - c.args.first) * c.columns-columns.result + c.extent_of-extent.result.columns.low)) c.loop-row.cells) i 0) =
     (line_as (g.G.Gauge.reaches c.loop-row.gauge) (g.G.Gauge.reaches c.args.gauge.now) inv.same c.args.stroke.now c.args.page.now c.args.dots c.loop-row.row (c.extent_of-extent.result.columns.low) (((c.loop-row.row - c.args.first) * c.columns-columns.result + c.extent_of-extent.result.columns.end) - ((c.loop-row.row - c.args.first) * c.columns-columns.result + c.extent_of-extent.result.columns.low)) c.args.position (mid_of ((c.loop-row.row - c.args.first) * c.columns-columns.result + c.extent_of-extent.result.columns.low) (((c.loop-row.row - c.args.first) * c.columns-columns.result + c.extent_of-extent.result.columns.end) - ((c.loop-row.row - c.args.first) * c.columns-columns.result + c.extent_of-extent.result.columns.low)) c.loop-row.cells) c.paint-run.new.cells c.paint-run.ensures.cells (omega (arith, lm))) in
     record {
       painted = λ q u. row_step reaches c.args.position c.args.first c.loop-row.row (columns_of c.args.page.now c.args.dots) (c.extent_of-extent.result.columns.low) (c.extent_of-extent.result.columns.end) ((c.loop-row.row - c.args.first) * c.columns-columns.result + c.extent_of-extent.result.columns.low) (((c.loop-row.row - c.args.first) * c.columns-columns.result + c.extent_of-extent.result.columns.end) - ((c.loop-row.row - c.args.first) * c.columns-columns.result + c.extent_of-extent.result.columns.low))
           c.args.cells.now c.loop-row.cells c.paint-run.new.cells wide low order most fit eA eK
-          front behind
+          front after
           line
           (λ i v. inv.painted i (omega (arith, v, len)))
           cells
@@ -65,9 +65,9 @@ loop-row-preserved g c =
       spanned = spanned_painted (reaches c.loop-row.row) (columns_of c.args.page.now c.args.dots) (c.loop-row.row - c.args.first) c.args.position c.loop-row.spans _ c.joined.result (record { low = c.extent_of-extent.result.columns.low + c.paint-run.result.low; end = c.extent_of-extent.result.columns.low + c.paint-run.result.end })
           c.loop-row.cells (put_mid ((c.loop-row.row - c.args.first) * c.columns-columns.result + c.extent_of-extent.result.columns.low) (((c.loop-row.row - c.args.first) * c.columns-columns.result + c.extent_of-extent.result.columns.end) - ((c.loop-row.row - c.args.first) * c.columns-columns.result + c.extent_of-extent.result.columns.low)) c.loop-row.cells c.paint-run.new.cells) wide inv.spanned (omega (arith, tall, c.loop-row.auto.spans, c.requires.tall)) refl
           c.joined.ensures.order (let h = inv.spanned.high (c.loop-row.row - c.args.first) (omega (arith, tall, c.loop-row.auto.spans, c.requires.tall)) in omega (arith, h, c.joined.ensures.high, c.paint-run.ensures.high, lm, eK, order, most)) (same_len_mid ((c.loop-row.row - c.args.first) * c.columns-columns.result + c.extent_of-extent.result.columns.low) (((c.loop-row.row - c.args.first) * c.columns-columns.result + c.extent_of-extent.result.columns.end) - ((c.loop-row.row - c.args.first) * c.columns-columns.result + c.extent_of-extent.result.columns.low)) c.loop-row.cells c.paint-run.new.cells (omega (arith, c.paint-run.auto.cells)))
-          (part_step (reaches c.loop-row.row) c.args.position (c.loop-row.row - c.args.first) (columns_of c.args.page.now c.args.dots) (c.extent_of-extent.result.columns.low) (c.extent_of-extent.result.columns.end) ((c.loop-row.row - c.args.first) * c.columns-columns.result + c.extent_of-extent.result.columns.low) (((c.loop-row.row - c.args.first) * c.columns-columns.result + c.extent_of-extent.result.columns.end) - ((c.loop-row.row - c.args.first) * c.columns-columns.result + c.extent_of-extent.result.columns.low)) c.loop-row.cells c.paint-run.new.cells wide order most fit eA eK front behind line cells)
+          (part_step (reaches c.loop-row.row) c.args.position (c.loop-row.row - c.args.first) (columns_of c.args.page.now c.args.dots) (c.extent_of-extent.result.columns.low) (c.extent_of-extent.result.columns.end) ((c.loop-row.row - c.args.first) * c.columns-columns.result + c.extent_of-extent.result.columns.low) (((c.loop-row.row - c.args.first) * c.columns-columns.result + c.extent_of-extent.result.columns.end) - ((c.loop-row.row - c.args.first) * c.columns-columns.result + c.extent_of-extent.result.columns.low)) c.loop-row.cells c.paint-run.new.cells wide order most fit eA eK front after line cells)
           c.joined.ensures.first c.joined.ensures.second
-          (unpainted (reaches c.loop-row.row) (c.extent_of-extent.result.columns.low) (c.extent_of-extent.result.columns.end) (columns_of c.args.page.now c.args.dots) c.paint-run.result.low c.paint-run.result.end order front behind
+          (unpainted (reaches c.loop-row.row) (c.extent_of-extent.result.columns.low) (c.extent_of-extent.result.columns.end) (columns_of c.args.page.now c.args.dots) c.paint-run.result.low c.paint-run.result.end order front after
           (λ i u. told (g.G.Gauge.reaches c.loop-row.gauge) (g.G.Gauge.reaches c.args.gauge.now) inv.same c.args.stroke.now c.args.page.now c.args.dots c.loop-row.row (c.extent_of-extent.result.columns.low + i) (c.paint-run.ensures.before i u))
           (λ i u v. told (g.G.Gauge.reaches c.loop-row.gauge) (g.G.Gauge.reaches c.args.gauge.now) inv.same c.args.stroke.now c.args.page.now c.args.dots c.loop-row.row (c.extent_of-extent.result.columns.low + i) (c.paint-run.ensures.after i u (omega (arith, v, lm, eK)))))
           (search (rules, places));

@@ -19,11 +19,11 @@ slots-init g c =
     let covers = λ (s : Segment). g.G.Gauge.reaches c.args.gauge.now s c.args.scene.now.page c.args.scene.now.dots in
     let band = band_of c.args.scene.now.pens c.args.scene.now.page c.args.scene.now.dots c.args.scene.now.first_row c.args.scene.now.band_rows bands xs in
     let goes = goes_on c.args.scene.now.page c.args.scene.now.dots c.args.scene.now.first_row c.args.scene.now.band_rows xs in
-    let linked = c.requires.linked in
-    let s = start (length xs) bands band goes (goes_on_falls c.args.scene.now.page c.args.scene.now.dots c.args.scene.now.first_row c.args.scene.now.band_rows xs) c.args.band c.args.heads.now c.args.links.now linked c.requires.in_range (get_or c.args.links.now 0 0) (get_or c.args.heads.now c.args.band 0) refl refl in
+    let linked = c.requires.next.linked in
+    let s = start (length xs) bands band goes (goes_on_falls c.args.scene.now.page c.args.scene.now.dots c.args.scene.now.first_row c.args.scene.now.band_rows xs) c.args.band c.args.heads.now c.args.links.now linked c.requires.next.in_range (get_or c.args.links.now 0 0) (get_or c.args.heads.now c.args.band 0) refl refl in
     let low = s.1.low in
     let o = linked.first in
-    let w = linked.begin c.args.band (omega arith) c.requires.in_range in
+    let w = linked.begin c.args.band (omega arith) c.requires.next.in_range in
     let ho = o.high in
     let wide : 0 < columns_of c.args.scene.now.page c.args.scene.now.dots = wide_page c.args.scene.now.page.width c.args.scene.now.dots.resolution (omega (arith, c.args.scene.now.page.width_in)) (omega (arith, c.args.scene.now.dots.at_least)) in
     record {
@@ -31,8 +31,8 @@ slots-init g c =
       ahead = s.0;
       kept = s.1;
       painted = painted_start covers c.args.scene.now.pens xs c.args.first c.args.rows (columns_of c.args.scene.now.page c.args.scene.now.dots) c.min-slot.result c.args.cells.now (omega (arith, c.min-slot.ensures)) (omega (arith, c.min-slot.ensures)) wide c.requires.wide c.requires.blank
-          (λ j r k u v rr sel. quiet c.args.scene.now.pens c.args.scene.now.page c.args.scene.now.dots c.args.scene.now.first_row c.args.scene.now.band_rows bands xs covers (λ t r c'. c.keeps_to_boxes.ensures t c.args.scene.now.page c.args.scene.now.dots r c') c.args.band j c.args.first c.args.scene.now.at_least c.requires.at
-          (o.none j u (omega (arith, v, c.min-slot.ensures))) (w.none j u (omega (arith, v, c.min-slot.ensures))) r k (omega (arith, rr, c.requires.rows_fit)) (omega (arith, rr, c.requires.rows_in)) sel);
+          (λ j r k u v rr sel. quiet c.args.scene.now.pens c.args.scene.now.page c.args.scene.now.dots c.args.scene.now.first_row c.args.scene.now.band_rows bands xs covers (λ t r c'. c.keeps_to_boxes.ensures t c.args.scene.now.page c.args.scene.now.dots r c') c.args.band j c.args.first c.args.scene.now.at_least c.requires.next.at
+          (o.none j u (omega (arith, v, c.min-slot.ensures))) (w.none j u (omega (arith, v, c.min-slot.ensures))) r k (omega (arith, rr, c.requires.next.rows_fit)) (omega (arith, rr, c.requires.next.rows_in)) sel);
       same = refl;
       least = (let z = marked_blank c.args.cells.now c.requires.blank in omega (arith, z));
       most = omega arith;
@@ -53,8 +53,8 @@ slots-smaller g c =
     let e : c.paint_stroke-bottom.result ≡ end_row_of (stroke_at xs c.slots.slot) c.args.scene.now.page c.args.scene.now.dots = c.paint_stroke-bottom.ensures.end ∙ ap (λ (s : Segment). end_row_of s c.args.scene.now.page c.args.scene.now.dots) (sym t) in
     let s = step (length xs) bands band goes (goes_on_falls c.args.scene.now.page c.args.scene.now.dots c.args.scene.now.first_row c.args.scene.now.band_rows xs) c.args.band c.args.heads.now c.args.links.now c.slots.links c.keep-tail.new.links
     c.slots.old c.slots.new c.slots.slot c.slots.tail c.keep-tail.result c.moved-old.result c.moved-new.result (get_or c.slots.links c.slots.slot 0) (nat_lt (c.args.first + c.args.scene.now.band_rows) c.paint_stroke-bottom.result)
-    c.requires.linked c.requires.in_range (omega (arith, c.slots.auto.links, c.requires.slots)) inv.lesser fit inv.ahead inv.kept refl c.moved-old.ensures c.moved-new.ensures
-    (goes_is c.args.first c.args.scene.now.first_row c.args.band c.args.scene.now.band_rows c.paint_stroke-bottom.result (end_row_of (stroke_at xs c.slots.slot) c.args.scene.now.page c.args.scene.now.dots) c.requires.at e) c.keep-tail.ensures.links c.keep-tail.ensures.tail in
+    c.requires.next.linked c.requires.next.in_range (omega (arith, c.slots.auto.links, c.requires.next.slots)) inv.lesser fit inv.ahead inv.kept refl c.moved-old.ensures c.moved-new.ensures
+    (goes_is c.args.first c.args.scene.now.first_row c.args.band c.args.scene.now.band_rows c.paint_stroke-bottom.result (end_row_of (stroke_at xs c.slots.slot) c.args.scene.now.page c.args.scene.now.dots) c.requires.next.at e) c.keep-tail.ensures.links c.keep-tail.ensures.tail in
     omega (arith, s.3, c.min-slot-in-slots.ensures, fit)
 
 pub slots-preserved : goal.slots-preserved
@@ -73,11 +73,11 @@ slots-preserved g c =
     let pos : 0 < c.slots.slot = omega (arith, low, inv.lesser) in
     let t : stroke_at xs c.slots.slot ≡ c.index-strokes-slot.result = slot_is xs (c.slots.slot - 1) c.index-strokes-slot.result (omega arith) c.index-strokes-slot.is in
     let e : c.paint_stroke-bottom.result ≡ end_row_of (stroke_at xs c.slots.slot) c.args.scene.now.page c.args.scene.now.dots = c.paint_stroke-bottom.ensures.end ∙ ap (λ (s : Segment). end_row_of s c.args.scene.now.page c.args.scene.now.dots) (sym t) in
-    let len : length c.slots.links ≡ length xs + 1 = omega (arith, c.slots.auto.links, c.requires.slots) in
+    let len : length c.slots.links ≡ length xs + 1 = omega (arith, c.slots.auto.links, c.requires.next.slots) in
     let s = step (length xs) bands band goes (goes_on_falls c.args.scene.now.page c.args.scene.now.dots c.args.scene.now.first_row c.args.scene.now.band_rows xs) c.args.band c.args.heads.now c.args.links.now c.slots.links c.keep-tail.new.links
     c.slots.old c.slots.new c.slots.slot c.slots.tail c.keep-tail.result c.moved-old.result c.moved-new.result (get_or c.slots.links c.slots.slot 0) (nat_lt (c.args.first + c.args.scene.now.band_rows) c.paint_stroke-bottom.result)
-    c.requires.linked c.requires.in_range len inv.lesser fit inv.ahead inv.kept refl c.moved-old.ensures c.moved-new.ensures
-    (goes_is c.args.first c.args.scene.now.first_row c.args.band c.args.scene.now.band_rows c.paint_stroke-bottom.result (end_row_of (stroke_at xs c.slots.slot) c.args.scene.now.page c.args.scene.now.dots) c.requires.at e) c.keep-tail.ensures.links c.keep-tail.ensures.tail in
+    c.requires.next.linked c.requires.next.in_range len inv.lesser fit inv.ahead inv.kept refl c.moved-old.ensures c.moved-new.ensures
+    (goes_is c.args.first c.args.scene.now.first_row c.args.band c.args.scene.now.band_rows c.paint_stroke-bottom.result (end_row_of (stroke_at xs c.slots.slot) c.args.scene.now.page c.args.scene.now.dots) c.requires.next.at e) c.keep-tail.ensures.links c.keep-tail.ensures.tail in
     let a = s.0 in
     let k = s.1 in
     let between = s.2 in
@@ -85,7 +85,7 @@ slots-preserved g c =
     let ho = a.old_next.high in
     let end : c.min-slot-in-slots.result ≤ length xs + 1 = omega (arith, c.min-slot-in-slots.ensures, ho) in
     let began : band c.slots.slot ≤ c.args.band = rw inv.lesser (due_began (length xs) band goes c.args.band c.args.links.now c.slots.links c.slots.old c.slots.new inv.ahead (omega (arith, inv.lesser, fit))) in
-    let sel : has_pen c.args.scene.now.pens (stroke_at xs c.slots.slot).pen ≡ true = due_selected c.args.scene.now.pens c.args.scene.now.page c.args.scene.now.dots c.args.scene.now.first_row c.args.scene.now.band_rows bands xs c.slots.slot (omega (arith, began, c.requires.in_range)) in
+    let sel : has_pen c.args.scene.now.pens (stroke_at xs c.slots.slot).pen ≡ true = due_selected c.args.scene.now.pens c.args.scene.now.page c.args.scene.now.dots c.args.scene.now.first_row c.args.scene.now.band_rows bands xs c.slots.slot (omega (arith, began, c.requires.next.in_range)) in
     let wide : 0 < columns_of c.args.scene.now.page c.args.scene.now.dots = wide_page c.args.scene.now.page.width c.args.scene.now.dots.resolution (omega (arith, c.args.scene.now.page.width_in)) (omega (arith, c.args.scene.now.dots.at_least)) in
     record {
       lesser = c.min-slot-in-slots.ensures;
@@ -95,8 +95,8 @@ slots-preserved g c =
           (omega (arith, c.slots.auto.cells, c.requires.wide)) (omega (arith, c.paint_stroke-bottom.auto.cells)) inv.painted
           (painted_as (g.G.Gauge.reaches c.slots.gauge) (g.G.Gauge.reaches c.args.gauge.now) inv.same c.index-strokes-slot.result (stroke_at xs c.slots.slot) (sym t) c.args.scene.now.page c.args.scene.now.dots c.args.first (columns_of c.args.scene.now.page c.args.scene.now.dots) c.slots.slot c.slots.cells c.paint_stroke-bottom.new.cells c.paint_stroke-bottom.ensures.cells)
           (λ j r q u v rr se. let b = between j u (omega (arith, v, c.min-slot-in-slots.ensures)) in
-          quiet c.args.scene.now.pens c.args.scene.now.page c.args.scene.now.dots c.args.scene.now.first_row c.args.scene.now.band_rows bands xs covers (λ t' r' c'. c.keeps_to_boxes.ensures t' c.args.scene.now.page c.args.scene.now.dots r' c') c.args.band j c.args.first c.args.scene.now.at_least c.requires.at
-          b.0 b.1 r q (omega (arith, rr, c.requires.rows_fit)) (omega (arith, rr, c.requires.rows_in)) se);
+          quiet c.args.scene.now.pens c.args.scene.now.page c.args.scene.now.dots c.args.scene.now.first_row c.args.scene.now.band_rows bands xs covers (λ t' r' c'. c.keeps_to_boxes.ensures t' c.args.scene.now.page c.args.scene.now.dots r' c') c.args.band j c.args.first c.args.scene.now.at_least c.requires.next.at
+          b.0 b.1 r q (omega (arith, rr, c.requires.next.rows_fit)) (omega (arith, rr, c.requires.next.rows_in)) se);
       same = c.paint_stroke-bottom.ensures.same ∙ inv.same;
       least = c.paint_stroke-bottom.ensures.least (g.G.Gauge.count c.args.gauge.now) inv.least;
       most = (let x = boxes_slot c.args.scene.now.pens inside xs c.slots.slot c.args.first c.args.rows (columns_of c.args.scene.now.page c.args.scene.now.dots) pos fit sel in
@@ -113,7 +113,7 @@ returns-clause-linked g c =
     let bands = length c.args.heads.now in
     let inv = c.slots.invariant in
     finish (length xs) bands (band_of c.args.scene.now.pens c.args.scene.now.page c.args.scene.now.dots c.args.scene.now.first_row c.args.scene.now.band_rows bands xs) (goes_on c.args.scene.now.page c.args.scene.now.dots c.args.scene.now.first_row c.args.scene.now.band_rows xs) c.args.band c.args.heads.now c.args.links.now c.slots.links c.slots.old c.slots.new c.slots.tail
-    (omega (arith, c.slots.auto.links, c.requires.slots)) c.requires.linked inv.ahead inv.kept (omega (arith, c.slots-test.false, inv.lesser))
+    (omega (arith, c.slots.auto.links, c.requires.next.slots)) c.requires.next.linked inv.ahead inv.kept (omega (arith, c.slots-test.false, inv.lesser))
 
 pub returns-clause-cells : goal.returns-clause-cells
 returns-clause-cells g c =
