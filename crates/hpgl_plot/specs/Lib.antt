@@ -1,7 +1,8 @@
 pub mod Colours
-pub mod Words
+pub mod Later
 pub mod Parameters
 pub mod Steps
+pub mod Meanings
 pub mod Notes
 pub mod Settings
 pub mod Turns

@@ -15,7 +15,8 @@ use Rattle.hpgl_plot.specs.declared.state.State.{State}
 use Rattle.hpgl_plot.specs.Colours.{default_colours}
 use Rattle.plot_page.specs.Segments.{Segment}
 use Rattle.hpgl_plot.specs.Settings.{all_pens}
-use Rattle.hpgl_plot.specs.Steps.{Step, Set, Touch, Lower, Relate, Move, Go, Edge, steps_of}
+use Rattle.hpgl_plot.specs.Steps.{Step, Set, Touch, Lower, Relate, Move, Go, Edge}
+use Rattle.hpgl_plot.specs.Meanings.{steps_of}
 use Rattle.hpgl_plot.specs.Frames.{back, points_with, window_with, target, state_of}
 use Rattle.hpgl_plot.specs.Plots.{refusal_after}
 use Rattle.hpgl_plot.specs.Windows.{page_window}

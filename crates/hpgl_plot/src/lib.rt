@@ -2,6 +2,7 @@
 #![tactic(auto)]
 
 mod fault;
+mod later;
 pub mod laws;
 mod lines;
 mod note;
@@ -18,7 +19,7 @@ mod state;
 mod tests;
 mod turn;
 mod window;
-mod word;
+mod wrong;
 
 pub use fault::PlotFault;
 pub use lines::{Lines, draw_items};

@@ -2,19 +2,19 @@
 ghost use Rattle.std.specs.Prelude.{◌≡◌, ◌≤◌, ◌++◌, IfOk, length};
 ghost use Rattle.std.specs.List.{flat_map};
 ghost use Rattle.hpgl_text.specs.SeenEntries.{part_shape};
-ghost use Rattle.hpgl_plot.specs.Notes.{noted, notes_of, is_wrong_item, entry_note, part_noted};
-ghost use Rattle.hpgl_plot.specs.Words.{word_of};
+ghost use Rattle.hpgl_plot.specs.Notes.{noted, notes_of, entry_note, part_noted};
+ghost use Rattle.hpgl_plot.specs.Meanings.{is_wrong_item};
 
 use crate::note::{Note, NoteKind};
+use crate::wrong::has_wrong_numbers;
 use hpgl_text::{Body, Entry, Item, Part};
 use std::alloc::AllocError;
 
-/// Appends to the notes what is noted on an item, which may be an instruction with wrong parameters.
-pub fn note_item(item: &Item<'_>, is_wrong: bool, notes: &mut Vec<Note>) -> Result<(), AllocError>
-    requires { is_wrong ≡ is_wrong_item item.now }
+/// Appends to the notes what is noted on an item.
+pub fn note_item(item: &Item<'_>, notes: &mut Vec<Note>) -> Result<(), AllocError>
     ensures { IfOk result (λ _. notes.new.items ≡ notes.old.items ++ notes_of item.now) }
 {
-    if let Some(kind) = noted_kind(item, is_wrong) {
+    if let Some(kind) = noted_kind(item) {
         notes.push(note_on(item.code, item.at, kind))?;
     }
     if let Body::Coded(entries) = &item.body {
@@ -26,16 +26,15 @@ pub fn note_item(item: &Item<'_>, is_wrong: bool, notes: &mut Vec<Note>) -> Resu
     Ok(())
 }
 
-/// How many notes there are on an item, which may be an instruction with wrong parameters.
-pub fn count_notes(item: &Item<'_>, is_wrong: bool) -> usize
-    requires { is_wrong ≡ is_wrong_item item.now }
+/// How many notes there are on an item.
+pub fn count_notes(item: &Item<'_>) -> usize
     ensures { result ≡ length (notes_of item.now) }
 {
     let within = match &item.body {
         Body::Coded(entries) => count_entry_notes(item.code, entries.as_slice()),
         _ => 0,
     };
-    let own = usize::from(noted_kind(item, is_wrong).is_some());
+    let own = usize::from(noted_kind(item).is_some());
     own + within + usize::from(item.unended)
 }
 
@@ -82,12 +81,17 @@ fn note_on(code: [u8; 2], at: usize, kind: NoteKind) -> Note
 }
 
 // What is noted on an item besides that it is open.
-fn noted_kind(item: &Item<'_>, is_wrong: bool) -> Option<NoteKind>
-    requires { is_wrong ≡ is_wrong_item item.now }
-    ensures { result ≡ noted (word_of item.now.code) item.now.body }
+fn noted_kind(item: &Item<'_>) -> Option<NoteKind>
+    ensures { result ≡ noted (is_wrong_item item.now) item.now.body }
 {
     match &item.body {
-        Body::Params(_) => { if is_wrong { Some(NoteKind::Bad) } else { None } }
+        Body::Params(_) => {
+            if has_wrong_numbers(item) {
+                Some(NoteKind::Bad)
+            } else {
+                None
+            }
+        }
         Body::Coded(_) | Body::Label(_) | Body::Terminator(_) => None,
         Body::Skipped => Some(NoteKind::Skipped),
         Body::Bad => Some(NoteKind::Bad),

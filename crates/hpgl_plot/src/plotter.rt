@@ -4,17 +4,20 @@ ghost use Rattle.hpgl_plot.specs.Colours.{black};
 ghost use Rattle.hpgl_plot.specs.Bounds.{IsSound, IsInRange, IsWindow, AreWidths};
 ghost use Rattle.hpgl_plot.specs.Machine.{seen, at_start, step, run, Runs, CarriesOut, kept_with, full_with};
 ghost use Rattle.hpgl_plot.specs.Strokes.{drawn};
-ghost use Rattle.hpgl_plot.specs.Steps.{Touch, Lower, Relate, Move, Go, moves, steps_by, steps_of, part_steps, entry_steps};
-ghost use Rattle.hpgl_plot.specs.Notes.{is_wrong, is_wrong_item};
+ghost use Rattle.hpgl_plot.specs.Steps.{Touch, Lower, Relate, Move, Go, moves, lowered_then, part_steps, entry_steps};
+ghost use Rattle.hpgl_plot.specs.Meanings.{meaning, steps_of};
 
 mod figures;
 mod settings;
 
 use crate::fault::PlotFault;
+use crate::parameters::{
+    named_colour, named_pen, named_points, named_rotation, named_scaling, named_width, named_window,
+};
 use crate::place::{is_place_in_range, place_on, start_of, target_of};
+use crate::setting::Setting;
 use crate::state::{Spot, State};
-use crate::word::{Word, word_of_code};
-use hpgl_text::{Body, Entry, Item, Number, Part};
+use hpgl_text::{Body, Entry, Instruction, Item, Number, Part, instruction_of_code};
 use plot_page::{Page, Stroke};
 use std::alloc::Global;
 
@@ -52,41 +55,35 @@ impl Plotter {
         }
     }
 
-    /// Carries out an item, and answers whether it is an instruction with wrong parameters. One that
-    /// is no instruction that is drawn does nothing.
-    pub fn take(&mut self, page: &Page, item: &Item<'_>) -> Result<bool, Stop>
+    /// Carries out an item. One that is no instruction that is drawn does nothing.
+    pub fn take(&mut self, page: &Page, item: &Item<'_>) -> Result<(), Stop>
         requires sound { IsSound page.now self.old.state }
         ensures sound { IfOk result (λ _. IsSound page.now self.new.state) }
         ensures runs { Runs (run page.now (seen self.old) (steps_of item.now)) (seen self.new) result }
-        ensures wrong { IfOk result (λ b. b ≡ is_wrong_item item.now) }
     {
         match &item.body {
-            Body::Params(numbers) => match word_of_code(item.code) {
-                Some(word) => self.obey(page, word, numbers.as_slice()),
-                None => Ok(false),
+            Body::Params(numbers) => match instruction_of_code(item.code) {
+                Some(instruction) => self.obey(page, instruction, numbers.as_slice()),
+                None => Ok(()),
             },
-            Body::Coded(entries) => {
-                self.follow_entries(page, entries.as_slice())?;
-                Ok(false)
-            }
-            Body::Label(_) | Body::Terminator(_) => Ok(false),
-            Body::Skipped | Body::Bad | Body::Stray(_) => Ok(false),
+            Body::Coded(entries) => self.follow_entries(page, entries.as_slice()),
+            Body::Label(_) | Body::Terminator(_) => Ok(()),
+            Body::Skipped | Body::Bad | Body::Stray(_) => Ok(()),
         }
     }
 
     /// The same, with the refusal at the item: of a place out of range, or of a stroke too many.
-    pub fn carry_out(&mut self, page: &Page, item: &Item<'_>) -> Result<bool, PlotFault>
+    pub fn carry_out(&mut self, page: &Page, item: &Item<'_>) -> Result<(), PlotFault>
         requires sound { IsSound page.now self.old.state }
         ensures sound { IfOk result (λ _. IsSound page.now self.new.state) }
         ensures runs { CarriesOut page.now (seen self.old) item.now (seen self.new) result }
-        ensures wrong { IfOk result (λ b. b ≡ is_wrong_item item.now) }
     {
         match self.take(page, item) {
-            Ok(is_wrong) => {
+            Ok(()) => {
                 if self.is_full {
                     Err(PlotFault::TooManyStrokes { at: item.at })
                 } else {
-                    Ok(is_wrong)
+                    Ok(())
                 }
             }
             Err(Stop::Memory) => Err(PlotFault::Memory),
@@ -94,46 +91,53 @@ impl Plotter {
         }
     }
 
-    // Carries out an instruction, and answers whether its parameters are wrong.
-    fn obey(&mut self, page: &Page, word: Word, numbers: &[Number]) -> Result<bool, Stop>
+    // Carries out an instruction. Those with other contents than numbers are not among these.
+    fn obey(
+        &mut self,
+        page: &Page,
+        instruction: Instruction,
+        numbers: &[Number],
+    ) -> Result<(), Stop>
         requires small { All (λ z. nat_abs z ≤ 8388607999999) numbers.now }
         requires sound { IsSound page.now self.old.state }
         ensures sound { IfOk result (λ _. IsSound page.now self.new.state) }
-        ensures runs { Runs (run page.now (seen self.old) (steps_by word numbers.now)) (seen self.new) result }
-        ensures wrong { IfOk result (λ b. b ≡ is_wrong word numbers.now) }
+        ensures runs { Runs (run page.now (seen self.old) (meaning instruction numbers.now).steps) (seen self.new) result }
     {
-        let is_unpaired = numbers.len() % 2 == 1;
-        match word {
-            Word::PenUp => {
+        match instruction {
+            Instruction::Initialize => self.set_named(page, Some(Setting::Start)),
+            Instruction::DefaultValues => self.set_named(page, Some(Setting::Defaults)),
+            Instruction::InputPoints => self.set_named(page, named_points(numbers)),
+            Instruction::Scale => self.set_named(page, named_scaling(numbers)),
+            Instruction::Rotate => self.set_named(page, named_rotation(numbers)),
+            Instruction::InputWindow => self.set_named(page, named_window(numbers)),
+            Instruction::SelectPen => self.set_named(page, named_pen(numbers)),
+            Instruction::PenWidth => self.set_named(page, named_width(numbers)),
+            Instruction::PenColour => self.set_named(page, named_colour(numbers)),
+            Instruction::PenUp => {
                 self.set_down(page, false);
                 self.follow(page, numbers)?;
-                Ok(is_unpaired)
             }
-            Word::PenDown => {
-                self.lower(page, numbers)?;
-                Ok(is_unpaired)
-            }
-            Word::PlotAbsolute => {
+            Instruction::PenDown => self.lower(page, numbers)?,
+            Instruction::PlotAbsolute => {
                 self.set_relative(page, false);
                 self.follow(page, numbers)?;
-                Ok(is_unpaired)
             }
-            Word::PlotRelative => {
+            Instruction::PlotRelative => {
                 self.set_relative(page, true);
                 self.follow(page, numbers)?;
-                Ok(is_unpaired)
             }
-            Word::EdgeAbsolute => self.edge_by(page, false, numbers),
-            Word::EdgeRelative => self.edge_by(page, true, numbers),
-            _ => Ok(self.set_named(page, word, numbers)),
+            Instruction::EdgeAbsolute => self.edge_by(page, false, numbers)?,
+            Instruction::EdgeRelative => self.edge_by(page, true, numbers)?,
+            _ => {}
         }
+        Ok(())
     }
 
     // PD: a dot where it makes no move, and its moves.
     fn lower(&mut self, page: &Page, numbers: &[Number]) -> Result<(), Stop>
         requires sound { IsSound page.now self.old.state }
         ensures sound { IfOk result (λ _. IsSound page.now self.new.state) }
-        ensures runs { Runs (run page.now (seen self.old) (steps_by Word.PenDown numbers.now)) (seen self.new) result }
+        ensures runs { Runs (run page.now (seen self.old) (lowered_then (moves numbers.now))) (seen self.new) result }
     {
         if numbers.len() < 2 {
             self.touch(page)?;

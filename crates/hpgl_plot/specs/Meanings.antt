@@ -1,0 +1,75 @@
+-- What each instruction means with its numbers: the steps that it asks for, and whether the numbers are wrong.
+use Rattle.std.specs.Prelude.{ℤ, ◌%◌, ◌==◌, Bool, true, false, List, [], ◌∷◌, Option, Some, None, length}
+use Rattle.hpgl_text.specs.Shapes.{ItemShape, BodyShape, Params, Coded}
+use Rattle.hpgl_text.specs.declared.instruction.Instruction.{Instruction}
+use Rattle.hpgl_text.specs.declared.instruction.Instruction.TheVariants.{Initialize, DefaultValues, InputPoints, Scale, Rotate, InputWindow, SelectPen, PenWidth, PenColour, PenUp, PenDown, PlotAbsolute, PlotRelative, EdgeAbsolute, EdgeRelative}
+use Rattle.hpgl_text.specs.Instructions.{instruction_of}
+use Rattle.hpgl_plot.specs.declared.setting.Setting.{Setting}
+use Rattle.hpgl_plot.specs.declared.setting.Setting.TheVariants.{Start, Defaults}
+use Rattle.hpgl_plot.specs.Parameters.{scaling_points, scaled, rotated, window_corners, selected_pen, pen_width, pen_colour}
+use Rattle.hpgl_plot.specs.Steps.{Step, Set, Lower, Relate, Edge, moves, lowered_then, entry_steps}
+
+pub record Meaning : Type 0 where
+  pub steps : List Step
+  pub is_wrong : Bool
+
+abbrev pub nothing : Meaning
+nothing = record { steps = []; is_wrong = false }
+
+abbrev pub wrong : Meaning
+wrong = record { steps = []; is_wrong = true }
+
+-- what is set, or wrong numbers
+abbrev pub sets : Option Setting → Meaning
+sets (Some s) = record { steps = Set s ∷ []; is_wrong = false }
+sets None = wrong
+
+-- steps with a move to each pair of coordinates: an unpaired one is wrong, and the rest holds
+abbrev pub plots : List Step → List ℤ → Meaning
+plots steps ns = record { steps = steps; is_wrong = length ns % 2 == 1 }
+
+-- EA (Edge Rectangle Absolute) and ER (Edge Rectangle Relative)
+abbrev pub edges : Bool → List ℤ → Meaning
+edges relative [] = wrong
+edges relative (x ∷ []) = wrong
+edges relative (x ∷ (y ∷ ns)) = record { steps = Edge relative x y ∷ []; is_wrong = false }
+
+-- PE, LB and DT are followed by no list of numbers, and the others that are missing here are not drawn yet
+abbrev pub meaning : Instruction → List ℤ → Meaning
+meaning Initialize ns = sets (Some Start)
+meaning DefaultValues ns = sets (Some Defaults)
+meaning InputPoints ns = sets (scaling_points ns)
+meaning Scale ns = sets (scaled ns)
+meaning Rotate ns = sets (rotated ns)
+meaning InputWindow ns = sets (window_corners ns)
+meaning SelectPen ns = sets (selected_pen ns)
+meaning PenWidth ns = sets (pen_width ns)
+meaning PenColour ns = sets (pen_colour ns)
+meaning PenUp ns = plots (Lower false ∷ moves ns) ns
+meaning PenDown ns = plots (lowered_then (moves ns)) ns
+meaning PlotAbsolute ns = plots (Relate false ∷ moves ns) ns
+meaning PlotRelative ns = plots (Relate true ∷ moves ns) ns
+meaning EdgeAbsolute ns = edges false ns
+meaning EdgeRelative ns = edges true ns
+meaning _ ns = nothing
+
+abbrev pub meaning_if_known : Option Instruction → List ℤ → Meaning
+meaning_if_known (Some instruction) ns = meaning instruction ns
+meaning_if_known None ns = nothing
+
+abbrev pub body_steps : Option Instruction → BodyShape → List Step
+body_steps instruction (Params ns) = (meaning_if_known instruction ns).steps
+body_steps instruction (Coded entries) = entry_steps entries
+body_steps instruction _ = []
+
+-- the steps of an item
+abbrev pub steps_of : ItemShape → List Step
+steps_of item = body_steps (instruction_of item.code) item.body
+
+abbrev pub is_wrong_body : Option Instruction → BodyShape → Bool
+is_wrong_body instruction (Params ns) = (meaning_if_known instruction ns).is_wrong
+is_wrong_body instruction _ = false
+
+-- the item is an instruction with wrong numbers
+abbrev pub is_wrong_item : ItemShape → Bool
+is_wrong_item item = is_wrong_body (instruction_of item.code) item.body
