@@ -8,6 +8,8 @@ pub mod Settings
 pub mod Turns
 pub mod Windows
 pub mod Frames
+pub mod Paths
+pub mod States
 pub mod Strokes
 pub mod Plots
 pub mod Bounds

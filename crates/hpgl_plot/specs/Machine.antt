@@ -11,16 +11,20 @@ use Rattle.hpgl_plot.specs.declared.plotter.Stop.{Stop}
 use Rattle.hpgl_plot.specs.declared.plotter.Stop.TheVariants.{Memory, OffRange}
 use Rattle.hpgl_plot.specs.declared.setting.Setting.{Setting}
 use Rattle.hpgl_plot.specs.declared.setting.Setting.TheVariants.{Start, Defaults, PageCorners, FirstPoint, BothPoints, Scale, Rotate, PageWindow, CornerWindow, Pen, Width, WidthOfAll, PenColour, DefaultColours}
+use Rattle.hpgl_plot.specs.declared.state.Position.{Position}
+use Rattle.hpgl_plot.specs.declared.state.Spot.{Spot}
 use Rattle.hpgl_plot.specs.declared.state.State.{State}
 use Rattle.hpgl_plot.specs.Colours.{default_colours}
 use Rattle.plot_page.specs.Segments.{Segment}
 use Rattle.hpgl_plot.specs.Settings.{all_pens}
-use Rattle.hpgl_plot.specs.Steps.{Step, Set, Touch, Lower, Relate, Move, Go, Edge}
+use Rattle.hpgl_plot.specs.Steps.{Step, Set, Lower, Relate}
 use Rattle.hpgl_plot.specs.Meanings.{steps_of}
-use Rattle.hpgl_plot.specs.Frames.{back, points_with, window_with, target, state_of}
+use Rattle.hpgl_plot.specs.Frames.{back, points_with, window_with}
+use Rattle.hpgl_plot.specs.Paths.{frame_in, path}
+use Rattle.hpgl_plot.specs.States.{state_of}
 use Rattle.hpgl_plot.specs.Plots.{refusal_after}
 use Rattle.hpgl_plot.specs.Windows.{page_window}
-use Rattle.hpgl_plot.specs.Strokes.{frame_in, moved_place, are_in_range, reached, made}
+use Rattle.hpgl_plot.specs.Strokes.{are_in_range, joined, path_strokes}
 
 -- the coordinates are taken again
 abbrev pub again : Page → State → State
@@ -49,14 +53,15 @@ set_to page s (WidthOfAll w) = record s { widths = all_pens w }
 set_to page s (PenColour p c) = record s { colours = set s.colours p c }
 set_to page s DefaultColours = record s { colours = default_colours }
 
+-- the pen is at another position
+abbrev pub moved : State → Position → State
+moved s p = record s { place = p.place; coordinates = p.coordinates }
+
 abbrev pub after : Page → State → Step → State
 after page s (Set setting) = set_to page s setting
-after page s Touch = s
-after page s (Edge relative x y) = s
 after page s (Lower b) = record s { is_down = b }
 after page s (Relate b) = record s { is_relative = b }
-after page s (Move x y) = record s { place = moved_place page s s.is_relative x y; coordinates = target s.is_relative s.coordinates x y }
-after page s (Go relative x y) = record s { place = moved_place page s relative x y; coordinates = target relative s.coordinates x y }
+after page s t = moved s (path page s t).ends
 
 -- the state, the strokes that are kept, and whether there were more than may be kept
 pub record World : Type 0 where
@@ -76,9 +81,20 @@ full_with kept full (s ∷ ss) = if nat_lt (length kept) 4194304 then full_with 
 abbrev pub with_strokes : World → State → List Segment → World
 with_strokes w s ss = record { state = s; kept = kept_with w.kept w.full ss; full = full_with w.kept w.full ss }
 
--- None where a place is out of range
+-- what strokes over these places leave, from a place on: None if one of them is out of range
+abbrev pub traced : World → Bool → Spot → List Spot → Option World
+traced w draws from places = if are_in_range places then Some (with_strokes w w.state (if draws then joined w.state from places else [])) else None
+
+-- with another state
+abbrev pub ends_in : State → Option World → Option World
+ends_in s None = None
+ends_in s (Some w) = Some (record w { state = s })
+
+-- None if a place is out of range
 unfoldable pub step : Page → World → Step → Option World
-step page w s = if are_in_range (reached page w.state s) then Some (with_strokes w (after page w.state s) (made page w.state s)) else None
+step page w s =
+    let p = path page w.state s in
+    if are_in_range p.places then Some (with_strokes w (after page w.state s) (path_strokes w.state p)) else None
 
 abbrev pub followed : Option World → (World → Option World) → Option World
 followed None f = None

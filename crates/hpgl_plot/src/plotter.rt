@@ -1,9 +1,9 @@
 //! The plotter: what is set, and the strokes that were made.
-ghost use Rattle.std.specs.Prelude.{◌≡◌, ◌≤◌, [], nat_abs, slice_index, slice_index_or, All, IfOk, IfErr, Some, if◌then◌else◌};
+ghost use Rattle.std.specs.Prelude.{◌≡◌, ◌≤◌, [], ◌∷◌, true, nat_abs, slice_index, slice_index_or, All, IfOk, IfErr, Some};
 ghost use Rattle.hpgl_plot.specs.Colours.{black};
 ghost use Rattle.hpgl_plot.specs.Bounds.{IsSound, IsInRange, IsWindow, AreWidths};
-ghost use Rattle.hpgl_plot.specs.Machine.{seen, at_start, step, run, Runs, CarriesOut, kept_with, full_with};
-ghost use Rattle.hpgl_plot.specs.Strokes.{drawn};
+ghost use Rattle.hpgl_plot.specs.Machine.{seen, at_start, step, run, Runs, CarriesOut, kept_with, full_with, moved, traced, ends_in};
+ghost use Rattle.hpgl_plot.specs.Strokes.{drawn, are_in_range};
 ghost use Rattle.hpgl_plot.specs.Steps.{Touch, Lower, Relate, Move, Go, moves, lowered_then, part_steps, entry_steps};
 ghost use Rattle.hpgl_plot.specs.Meanings.{meaning, steps_of};
 
@@ -14,9 +14,9 @@ use crate::fault::PlotFault;
 use crate::parameters::{
     named_colour, named_pen, named_points, named_rotation, named_scaling, named_width, named_window,
 };
-use crate::place::{is_place_in_range, place_on, start_of, target_of};
+use crate::place::{is_place_in_range, place_on, position_of, start_of, target_of};
 use crate::setting::Setting;
-use crate::state::{Spot, State};
+use crate::state::{Position, Spot, State};
 use hpgl_text::{Body, Entry, Instruction, Item, Number, Part, instruction_of_code};
 use plot_page::{Page, Stroke};
 use std::alloc::Global;
@@ -210,43 +210,55 @@ impl Plotter {
         ensures sound { IfOk result (λ _. IsSound page.now self.new.state) }
         ensures runs { Runs (step page.now (seen self.old) (Go is_relative x y)) (seen self.new) result }
     {
-        let target = target_of(&self.state, is_relative, x.millionths(), y.millionths());
-        let place = place_on(page, &self.state, target);
+        let coordinates = target_of(&self.state, is_relative, x.millionths(), y.millionths());
+        let place = place_on(page, &self.state, coordinates);
+        let draws = self.state.is_down;
+        self.trace(page, &[place], draws, Position { place, coordinates })
+    }
+
+    /// Follows a path: from the pen's place to each of these places in turn, in strokes if it draws,
+    /// and leaves the pen at its end.
+    pub fn trace(
+        &mut self,
+        page: &Page,
+        places: &[Spot],
+        draws: bool,
+        end: Position,
+    ) -> Result<(), Stop>
+        requires sound { IsSound page.now self.old.state }
+        ensures in_range { IfOk result (λ _. are_in_range places.now ≡ true) }
+        ensures state { IfOk result (λ _. self.new.state ≡ moved self.old.state end) }
+        ensures runs { Runs (ends_in (moved self.old.state end) (traced (seen self.old) draws self.old.state.place places.now)) (seen self.new) result }
+    {
+        let mut from = self.state.place;
+        for place in places {
+            self.reach(page, from, *place, draws)?;
+            from = *place;
+        }
+        self.state.place = end.place;
+        self.state.coordinates = end.coordinates;
+        Ok(())
+    }
+
+    /// Comes to the next place of a path, in a stroke if it draws.
+    pub fn reach(&mut self, page: &Page, from: Spot, place: Spot, draws: bool) -> Result<(), Stop>
+        requires sound { IsSound page.now self.old.state }
+        requires from_in { IsInRange from }
+        ensures in_range { IfOk result (λ _. IsInRange place) }
+        ensures state { self.new.state ≡ self.old.state }
+        ensures runs { Runs (traced (seen self.old) draws from (place ∷ [])) (seen self.new) result }
+    {
         if !is_place_in_range(place) {
             return Err(Stop::OffRange);
         }
-        self.arrive(page, place, target)?;
-        Ok(())
-    }
-
-    // The pen comes to a place, and draws on its way if it is down.
-    fn arrive(&mut self, page: &Page, place: Spot, coordinates: Spot) -> Result<(), Stop>
-        requires sound { IsSound page.now self.old.state }
-        requires in_range { IsInRange place }
-        ensures state { IfOk result (λ _. self.new.state ≡ record self.old.state { place = place; coordinates = coordinates }) }
-        ensures kept { IfOk result (λ _. self.new.strokes.items ≡ kept_with self.old.strokes.items self.old.is_full (if self.old.state.is_down then drawn self.old.state self.old.state.place place else [])) }
-        ensures full { IfOk result (λ _. self.new.is_full ≡ full_with self.old.strokes.items self.old.is_full (if self.old.state.is_down then drawn self.old.state self.old.state.place place else [])) }
-        ensures memory { IfErr result (λ e. e ≡ Stop.Memory) }
-    {
-        if self.state.is_down {
-            let start = self.state.place;
-            self.draw(page, start, place)?;
+        if draws {
+            self.draw(page, from, place)?;
         }
-        self.stand_at(place, coordinates);
         Ok(())
     }
 
-    fn stand_at(&mut self, place: Spot, coordinates: Spot)
-        ensures state { self.new.state ≡ record self.old.state { place = place; coordinates = coordinates } }
-        ensures strokes { self.new.strokes ≡ self.old.strokes }
-        ensures full { self.new.is_full ≡ self.old.is_full }
-    {
-        self.state.place = place;
-        self.state.coordinates = coordinates;
-    }
-
-    /// A stroke between two places, unless the pen is 0.
-    pub fn draw(&mut self, page: &Page, a: Spot, b: Spot) -> Result<(), Stop>
+    // A stroke between two places, unless the pen is 0.
+    fn draw(&mut self, page: &Page, a: Spot, b: Spot) -> Result<(), Stop>
         requires sound { IsSound page.now self.old.state }
         requires a_in { IsInRange a }
         requires b_in { IsInRange b }
@@ -267,17 +279,14 @@ impl Plotter {
     }
 
     // A dot, unless the pen is down.
-    #[tactic(auto, unfolding(crate::specs::Machine::step))]
     fn touch(&mut self, page: &Page) -> Result<(), Stop>
         requires sound { IsSound page.now self.old.state }
-        ensures state { self.new.state ≡ self.old.state }
+        ensures sound { IfOk result (λ _. IsSound page.now self.new.state) }
         ensures runs { Runs (step page.now (seen self.old) Touch) (seen self.new) result }
     {
-        if !self.state.is_down {
-            let place = self.state.place;
-            self.draw(page, place, place)?;
-        }
-        Ok(())
+        let pen = position_of(&self.state);
+        let draws = !self.state.is_down;
+        self.trace(page, &[pen.place], draws, pen)
     }
 
     // The pen goes down, or up.

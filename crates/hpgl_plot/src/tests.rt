@@ -374,6 +374,10 @@ fn refused(rt: HostRuntime) -> Result<(), Fail> {
             b"SC0,1,0,1;PA1024,1024;PA1025,0;".as_slice(),
             PlotFault::OffRange { at: 22 },
         ),
+        (
+            b"SP0;PU1,1;ER70000,0;".as_slice(),
+            PlotFault::OffRange { at: 10 },
+        ),
         (b"PA70000,0;LBx".as_slice(), PlotFault::NotYet { at: 10 }),
     ];
     for (plot, wanted) in plots {

@@ -1,0 +1,63 @@
+-- All that holds before a step, and in it the pen's position, by recursion on the steps before it, the newest first, since a
+-- relative move goes on from where the pen is. That a good IP, SC, RO or DF recomputes the pen's coordinates from its place
+-- is our choice; the guide does not say.
+use Rattle.std.specs.Prelude.{pos, List, [], ◌∷◌}
+use Rattle.plot_frame.specs.Line.{across_line, upward_line}
+use Rattle.plot_page.specs.declared.page.Page.{Page}
+use Rattle.hpgl_plot.specs.declared.state.Position.{Position}
+use Rattle.hpgl_plot.specs.declared.state.Spot.{Spot}
+use Rattle.hpgl_plot.specs.declared.state.State.{State}
+use Rattle.hpgl_plot.specs.declared.setting.Setting.{Setting}
+use Rattle.hpgl_plot.specs.declared.setting.Setting.TheVariants.{Start, Defaults, PageCorners, FirstPoint, BothPoints, Scale, Rotate}
+use Rattle.hpgl_plot.specs.Steps.{Step, Set}
+use Rattle.hpgl_plot.specs.Settings.{pen, is_down, is_relative, rotation_before, scaling, widths, colours}
+use Rattle.hpgl_plot.specs.Frames.{Frame, frame, points, window, back}
+use Rattle.hpgl_plot.specs.Paths.{pen_at, path}
+
+-- the place stays, and its coordinates are recomputed
+abbrev pub recomputed : Page → Frame → Position → Position
+recomputed page f p = record { place = p.place; coordinates = back page f p.place }
+
+abbrev pub origin : Spot
+origin = record { x = pos 0; y = pos 0 }
+
+-- after a setting, with the frame after it
+abbrev pub pen_with : Page → Frame → Setting → Position → Position
+pen_with page f Start p = pen_at page f origin
+pen_with page f Defaults p = recomputed page f p
+pen_with page f PageCorners p = recomputed page f p
+pen_with page f (FirstPoint x y) p = recomputed page f p
+pen_with page f (BothPoints q) p = recomputed page f p
+pen_with page f (Scale s) p = recomputed page f p
+pen_with page f (Rotate r) p = recomputed page f p
+pen_with page f _ p = p
+
+-- all that holds before a step, with the pen at a position
+abbrev pub state_with : Page → List Step → Position → State
+state_with page before p = record {
+  points = points page before;
+  scaling = scaling before;
+  rotation = rotation_before before;
+  across = across_line (points page before) (scaling before) page.left;
+  upward = upward_line (points page before) (scaling before) page.below;
+  window = window page before;
+  widths = widths before;
+  colours = colours before;
+  pen = pen before;
+  is_down = is_down before;
+  is_relative = is_relative before;
+  place = p.place;
+  coordinates = p.coordinates;
+}
+
+abbrev pub pen_after : Page → List Step → Step → Position → Position
+pen_after page before (Set s) p = pen_with page (frame page (Set s ∷ before)) s p
+pen_after page before s p = (path page (state_with page before p) s).ends
+
+-- at the start the pen is at the coordinates (0, 0)
+abbrev pub pen_before : Page → List Step → Position
+pen_before page [] = pen_at page (frame page []) origin
+pen_before page (s ∷ before) = pen_after page before s (pen_before page before)
+
+abbrev pub state_of : Page → List Step → State
+state_of page before = state_with page before (pen_before page before)
