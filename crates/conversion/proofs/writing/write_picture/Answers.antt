@@ -13,7 +13,7 @@ use Rattle.stroke_raster.proofs.BoxCounts.{boxes_after, boxes_fewer}
 use Rattle.stroke_raster.specs.Painting.{rows_next}
 use Rattle.picture_out.specs.declared.inks.Ink.{Ink}
 use Rattle.picture_out.specs.Forms.{foot_bytes, row_bytes}
-use Rattle.picture_out.proofs.Known.{written_next, cut_next, written_all}
+use Rattle.picture_out.proofs.KnownBytes.{written_next, cut_next, written_all}
 use Rattle.conversion.specs.Picture.{rows_bytes, picture_of, bytes_before}
 use Rattle.conversion.specs.Writings.{head_of, row_of}
 use Rattle.conversion.specs.Progress.{rows_text, WritesRows}
