@@ -1,0 +1,67 @@
+/* A machine that refuses once. Preloaded before the program, it lets one call fail: the read of
+   standard input whose number is READ_FAILS, the write to standard output whose number is
+   WRITE_FAILS, or the allocation whose number is MEMORY_FAILS, each counted from 1. All other calls
+   go through. tests/run builds it. */
+#define _GNU_SOURCE
+#include <dlfcn.h>
+#include <errno.h>
+#include <stdlib.h>
+#include <sys/types.h>
+
+extern void *__libc_malloc(size_t size);
+extern void *__libc_calloc(size_t count, size_t size);
+extern void *__libc_realloc(void *old, size_t size);
+extern void *__libc_memalign(size_t alignment, size_t size);
+
+static long reads, writes, allocations;
+
+static int fails(const char *name, long *calls, int error)
+{
+    const char *wanted = getenv(name);
+    if (wanted == NULL || ++*calls != atol(wanted))
+        return 0;
+    errno = error;
+    return 1;
+}
+
+ssize_t read(int file, void *bytes, size_t size)
+{
+    if (file == 0 && fails("READ_FAILS", &reads, EIO))
+        return -1;
+    ssize_t (*next)(int, void *, size_t) = dlsym(RTLD_NEXT, "read");
+    return next(file, bytes, size);
+}
+
+ssize_t write(int file, const void *bytes, size_t size)
+{
+    if (file == 1 && fails("WRITE_FAILS", &writes, EIO))
+        return -1;
+    ssize_t (*next)(int, const void *, size_t) = dlsym(RTLD_NEXT, "write");
+    return next(file, bytes, size);
+}
+
+void *malloc(size_t size)
+{
+    return fails("MEMORY_FAILS", &allocations, ENOMEM) ? NULL : __libc_malloc(size);
+}
+
+void *calloc(size_t count, size_t size)
+{
+    return fails("MEMORY_FAILS", &allocations, ENOMEM) ? NULL : __libc_calloc(count, size);
+}
+
+void *realloc(void *old, size_t size)
+{
+    return fails("MEMORY_FAILS", &allocations, ENOMEM) ? NULL : __libc_realloc(old, size);
+}
+
+void *aligned_alloc(size_t alignment, size_t size)
+{
+    return fails("MEMORY_FAILS", &allocations, ENOMEM) ? NULL : __libc_memalign(alignment, size);
+}
+
+int posix_memalign(void **to, size_t alignment, size_t size)
+{
+    *to = aligned_alloc(alignment, size);
+    return *to == NULL ? ENOMEM : 0;
+}
