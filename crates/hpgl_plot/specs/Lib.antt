@@ -1,9 +1,9 @@
-pub mod Colours
+-- What a reader must believe: what instructions mean, what holds before a step, strokes, notes and refusals.
 pub mod Later
 pub mod Parameters
 pub mod Steps
 pub mod Meanings
-pub mod Notes
+pub mod Colours
 pub mod Settings
 pub mod Turns
 pub mod Windows
@@ -11,8 +11,10 @@ pub mod Frames
 pub mod Paths
 pub mod States
 pub mod Strokes
+pub mod Notes
 pub mod Plots
+pub mod Noting
+pub mod Laws
+-- What contracts of private functions need.
 pub mod Bounds
 pub mod Machine
-pub mod Laws
-pub mod Noting

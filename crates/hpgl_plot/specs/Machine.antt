@@ -5,6 +5,7 @@ use Rattle.plot_frame.specs.declared.scaling.Scaling.TheVariants.{Off}
 use Rattle.hpgl_text.specs.Shapes.{ItemShape}
 use Rattle.hpgl_plot.specs.declared.fault.PlotFault.{PlotFault}
 use Rattle.hpgl_plot.specs.declared.fault.PlotFault.TheVariants as fault
+use Rattle.hpgl_plot.specs.declared.fault.TheConstants.{MOST_STROKES}
 use Rattle.plot_page.specs.declared.page.Page.{Page}
 use Rattle.hpgl_plot.specs.declared.plotter.Plotter.{Plotter}
 use Rattle.hpgl_plot.specs.declared.plotter.Stop.{Stop}
@@ -19,7 +20,7 @@ use Rattle.plot_page.specs.Segments.{Segment}
 use Rattle.hpgl_plot.specs.Settings.{all_pens}
 use Rattle.hpgl_plot.specs.Steps.{Step, Set, Lower, Relate}
 use Rattle.hpgl_plot.specs.Meanings.{steps_of}
-use Rattle.hpgl_plot.specs.Frames.{back, points_with, window_with}
+use Rattle.hpgl_plot.specs.Frames.{back, points_with, corner_window}
 use Rattle.hpgl_plot.specs.Paths.{frame_in, path}
 use Rattle.hpgl_plot.specs.States.{state_of}
 use Rattle.hpgl_plot.specs.Plots.{refusal_after}
@@ -46,7 +47,7 @@ set_to page s (BothPoints p) = pointed page s (BothPoints p)
 set_to page s (Scale c) = framed page (record s { scaling = c })
 set_to page s (Rotate r) = again page (record s { rotation = r })
 set_to page s PageWindow = record s { window = page_window page }
-set_to page s (CornerWindow c) = record s { window = window_with page (frame_in s) (CornerWindow c) s.window }
+set_to page s (CornerWindow c) = record s { window = corner_window page (frame_in s) c }
 set_to page s (Pen n) = record s { pen = n }
 set_to page s (Width p w) = record s { widths = set s.widths p w }
 set_to page s (WidthOfAll w) = record s { widths = all_pens w }
@@ -72,11 +73,11 @@ pub record World : Type 0 where
 -- strokes put to those that are kept, while there is room
 abbrev pub kept_with : List Segment → Bool → List Segment → List Segment
 kept_with kept full [] = kept
-kept_with kept full (s ∷ ss) = if nat_lt (length kept) 4194304 then kept_with (kept ++ (s ∷ [])) full ss else kept_with kept true ss
+kept_with kept full (s ∷ ss) = if nat_lt (length kept) MOST_STROKES then kept_with (kept ++ (s ∷ [])) full ss else kept_with kept true ss
 
 abbrev pub full_with : List Segment → Bool → List Segment → Bool
 full_with kept full [] = full
-full_with kept full (s ∷ ss) = if nat_lt (length kept) 4194304 then full_with (kept ++ (s ∷ [])) full ss else full_with kept true ss
+full_with kept full (s ∷ ss) = if nat_lt (length kept) MOST_STROKES then full_with (kept ++ (s ∷ [])) full ss else full_with kept true ss
 
 abbrev pub with_strokes : World → State → List Segment → World
 with_strokes w s ss = record { state = s; kept = kept_with w.kept w.full ss; full = full_with w.kept w.full ss }

@@ -21,7 +21,7 @@ mod turn;
 mod window;
 mod wrong;
 
-pub use fault::PlotFault;
+pub use fault::{MOST_STROKES, PlotFault};
 pub use lines::{Lines, draw_items};
 pub use note::{Note, NoteKind};
 pub use notes::Notes;

@@ -10,7 +10,7 @@ ghost use Rattle.hpgl_plot.specs.Meanings.{meaning, steps_of};
 mod figures;
 mod settings;
 
-use crate::fault::PlotFault;
+use crate::fault::{MOST_STROKES, PlotFault};
 use crate::parameters::{
     named_colour, named_pen, named_points, named_rotation, named_scaling, named_width, named_window,
 };
@@ -20,9 +20,6 @@ use crate::state::{Position, Spot, State};
 use hpgl_text::{Body, Entry, Instruction, Item, Number, Part, instruction_of_code};
 use plot_page::{Page, Stroke};
 use std::alloc::Global;
-
-/// The most strokes that a plot may have.
-const MOST_STROKES: usize = 4_194_304;
 
 /// Why an instruction is not carried out.
 #[derive(Clone, Copy, Debug, PartialEq, Eq)]
