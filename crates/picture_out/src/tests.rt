@@ -5,6 +5,7 @@ use crate::{
     Cells, Form, Ink, Inks, OverWrite, Sink, SinkFault, foot, head, pack_bits, put_all, room, row,
     row_counted, row_space,
 };
+use std::io::Write;
 use std::process::Abort;
 use std::test::Fail;
 
@@ -254,6 +255,35 @@ fn a_sink_that_fails(rt: HostRuntime) -> Result<(), Fail> {
             }
         }
     }
+    Ok(())
+}
+
+// A writer that is full after `room` bytes.
+#[derive(Drop)]
+struct Small {
+    room: usize,
+}
+
+impl Write for Small {
+    fn write(&mut self, buf: &[u8]) -> std::io::Result<usize> {
+        let taken = buf.len().min(self.room);
+        self.room -= taken;
+        Ok(taken)
+    }
+
+    fn flush(&mut self) -> std::io::Result<()> {
+        Ok(())
+    }
+}
+
+#[test]
+fn a_writer_that_is_full(rt: HostRuntime) -> Result<(), Fail> {
+    let mut sink = OverWrite::new(Small { room: 1 });
+    assert_eq!(rt; sink.put(b"ab").ok(), Some(1));
+    assert_eq!(rt; sink.put(b"").ok(), Some(0));
+    assert_eq!(rt; sink.failures(), 0);
+    assert_eq!(rt; sink.put(b"b").ok(), Some(0));
+    assert_eq!(rt; sink.failures(), 1);
     Ok(())
 }
 

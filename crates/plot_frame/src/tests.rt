@@ -60,6 +60,45 @@ fn user_units(rt: HostRuntime) {
     assert_eq!(rt; axis_upward(&wide(), &factors, 0).place(3_000_000), -64);
 }
 
+// A range that falls, and one whose units are halves of those on the other axis.
+fn falling() -> Ranges
+    ensures { IsRanges result }
+{
+    Ranges {
+        xmin: 8_000_000,
+        xmax: 0,
+        ymin: 0,
+        ymax: 2_000_000,
+    }
+}
+
+#[test]
+fn falling_ranges(rt: HostRuntime) {
+    let axis = axis_across(&wide(), &Scaling::Anisotropic(falling()), 0);
+    assert_eq!(rt; axis.place(0), 2048);
+    assert_eq!(rt; axis.place(6_000_000), 512);
+    assert_eq!(rt; axis.coordinate(512), 6_000_000);
+}
+
+// Of the 64 units upward, 32 are left over, and half of them lie below the range.
+#[test]
+fn shares_of_what_is_left_over(rt: HostRuntime) {
+    let fitting = Scaling::Isotropic(Fitting {
+        ranges: falling(),
+        left: 25_000_000,
+        bottom: 50_000_000,
+    });
+    assert_eq!(rt; axis_upward(&wide(), &fitting, 0).place(1_000_000), 512);
+}
+
+// Two grains are 1/128 unit, 7812.5 millionths, and a half rounds up.
+#[test]
+fn coordinates_are_rounded(rt: HostRuntime) {
+    let axis = axis_across(&wide(), &Scaling::Anisotropic(eight()), 0);
+    assert_eq!(rt; axis.coordinate(2), 7813);
+    assert_eq!(rt; axis.coordinate(-2), -7812);
+}
+
 #[test]
 fn moves(rt: HostRuntime) {
     let axis = unscaled_axis(0);

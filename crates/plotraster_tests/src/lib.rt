@@ -24,6 +24,4 @@ mod random;
 #[cfg(test)]
 mod refusals;
 #[cfg(test)]
-mod rows;
-#[cfg(test)]
 mod settings;

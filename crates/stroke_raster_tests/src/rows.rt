@@ -1,6 +1,6 @@
 //! Bands, rows and marks of a painter.
 
-use crate::pages::BLACK;
+use crate::strokes::{BLACK, WHOLE};
 use plot_page::{Page, Stroke, Window};
 use std::alloc::Global;
 use std::test::Fail;
@@ -8,14 +8,8 @@ use stroke_raster::{Dots, Exact, PaintFault, Painter, PenSet, near};
 
 // A stroke of pen 1 in row 4 and one of pen 2 in column 3, on a page of 8 by 8 pixels.
 fn cross() -> Option<[Stroke; 2]> {
-    let window = Window {
-        x0: 0,
-        y0: 0,
-        x1: 1024,
-        y1: 1024,
-    };
-    let across = Stroke::new(1, BLACK, 224, window, 0, 448, 1024, 448)?;
-    let down = Stroke::new(2, BLACK, 224, window, 448, 0, 448, 1024)?;
+    let across = Stroke::new(1, BLACK, 224, WHOLE, 0, 448, 1024, 448)?;
+    let down = Stroke::new(2, BLACK, 224, WHOLE, 448, 0, 448, 1024)?;
     Some([across, down])
 }
 
@@ -92,21 +86,59 @@ fn painters_that_are_refused(rt: HostRuntime) -> Result<(), Fail> {
 }
 
 #[test]
+fn sets_of_pens(rt: HostRuntime) {
+    assert!(rt; PenSet::none().with(0).has(0));
+    assert!(rt; !PenSet::all().has(0));
+    assert!(rt; PenSet::all().has(255));
+}
+
+#[test]
 fn a_tie_counts(rt: HostRuntime) -> Result<(), Fail> {
     let page = Page::new(64, 64, 0, 0)?;
     let dots = Dots::new(127).ok_or("dots")?;
-    let window = Window {
-        x0: 0,
-        y0: 0,
-        x1: 1024,
-        y1: 1024,
-    };
-    let tie = Stroke::new(1, BLACK, 256, window, 0, 448, 1024, 448).ok_or("a stroke")?;
-    let thin = Stroke::new(1, BLACK, 255, window, 0, 448, 1024, 448).ok_or("a stroke")?;
+    let tie = Stroke::new(1, BLACK, 256, WHOLE, 0, 448, 1024, 448).ok_or("a stroke")?;
+    let thin = Stroke::new(1, BLACK, 255, WHOLE, 0, 448, 1024, 448).ok_or("a stroke")?;
     assert_eq!(rt; dots.rows(&page), 8);
     assert_eq!(rt; dots.columns(&page), 8);
     assert!(rt; near(&tie, &page, dots, 3, 0));
     assert!(rt; !near(&thin, &page, dots, 3, 0));
+    Ok(())
+}
+
+// A pixel of which half is on the page counts.
+#[test]
+fn half_a_pixel(rt: HostRuntime) -> Result<(), Fail> {
+    let page = Page::new(127, 126, 0, 0)?;
+    let dots = Dots::new(20).ok_or("dots")?;
+    assert_eq!(rt; dots.columns(&page), 3);
+    assert_eq!(rt; dots.rows(&page), 2);
+    Ok(())
+}
+
+// Nothing is in a window whose edges are the wrong way round, not even its edges.
+#[test]
+fn an_empty_window(rt: HostRuntime) -> Result<(), Fail> {
+    let page = Page::new(64, 64, 0, 0)?;
+    let dots = Dots::new(127).ok_or("dots")?;
+    let empty = Window {
+        x0: 448,
+        x1: 0,
+        ..WHOLE
+    };
+    let stroke = Stroke::new(1, BLACK, 224, empty, 0, 448, 1024, 448).ok_or("a stroke")?;
+    assert!(rt; !near(&stroke, &page, dots, 4, 3));
+    Ok(())
+}
+
+// A line is drawn at least one and a half pixels wide, 192 grains here.
+#[test]
+fn the_least_width(rt: HostRuntime) -> Result<(), Fail> {
+    let page = Page::new(64, 64, 0, 0)?;
+    let dots = Dots::new(127).ok_or("dots")?;
+    let tie = Stroke::new(1, BLACK, 0, WHOLE, 0, 544, 1024, 544).ok_or("a stroke")?;
+    let beyond = Stroke::new(1, BLACK, 0, WHOLE, 0, 545, 1024, 545).ok_or("a stroke")?;
+    assert!(rt; near(&tie, &page, dots, 4, 3));
+    assert!(rt; !near(&beyond, &page, dots, 4, 3));
     Ok(())
 }
 
@@ -115,13 +147,7 @@ fn a_tie_counts(rt: HostRuntime) -> Result<(), Fail> {
 fn past_the_ends(rt: HostRuntime) -> Result<(), Fail> {
     let page = Page::new(64, 64, 0, 0)?;
     let dots = Dots::new(127).ok_or("dots")?;
-    let window = Window {
-        x0: 0,
-        y0: 0,
-        x1: 1024,
-        y1: 1024,
-    };
-    let middle = Stroke::new(1, BLACK, 224, window, 256, 448, 512, 448).ok_or("a stroke")?;
+    let middle = Stroke::new(1, BLACK, 224, WHOLE, 256, 448, 512, 448).ok_or("a stroke")?;
     for (column, wanted) in [
         (0, false),
         (1, true),

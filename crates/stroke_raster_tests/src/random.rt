@@ -1,0 +1,94 @@
+//! Strokes from a generator, painted in bands, against the pixel test itself.
+use crate::strokes::{BLACK, WHOLE, cells_by};
+use plot_page::{Page, Stroke, Window};
+use std::alloc::Global;
+use std::test::Fail;
+use stroke_raster::{Dots, Exact, PenSet, near};
+
+// A linear congruential generator.
+#[derive(Drop)]
+struct Numbers {
+    state: u32,
+}
+
+impl Numbers {
+    // 0 to 1599, less 288: a place on a page of 1024 grains or not far from it.
+    fn place(&mut self) -> i32 {
+        self.state = self
+            .state
+            .wrapping_mul(1_664_525)
+            .wrapping_add(1_013_904_223);
+        ((self.state >> 16) % 1600) as i32 - 288
+    }
+
+    // A stroke of one of three pens, in the page's window or in a part of it.
+    fn stroke(&mut self, n: u32) -> Option<Stroke> {
+        let window = if n % 3 == 0 {
+            Window {
+                x0: 300,
+                y0: 200,
+                x1: 900,
+                y1: 640,
+            }
+        } else {
+            WHOLE
+        };
+        let width = [0, 16, 224, 1000][(n % 4) as usize];
+        let (ax, ay) = (self.place(), self.place());
+        let (bx, by) = (self.place(), self.place());
+        Stroke::new((n % 3 + 1) as u8, BLACK, width, window, ax, ay, bx, by)
+    }
+}
+
+// The cells of the whole page, each the position of the last stroke that is near, or 0.
+fn cells_by_near(
+    alloc: Global,
+    strokes: &[Stroke],
+    dots: Dots,
+    pens: PenSet,
+) -> Result<Vec<u32>, Fail> {
+    let page = Page::new(64, 64, 0, 0)?;
+    let mut cells = Vec::new(alloc);
+    for row in 0..dots.rows(&page) {
+        for column in 0..dots.columns(&page) {
+            let mut cell = 0u32;
+            let mut position = 0u32;
+            for stroke in strokes {
+                position = position.wrapping_add(1);
+                if pens.has(stroke.pen) && near(stroke, &page, dots, row, column) {
+                    cell = position;
+                }
+            }
+            cells.push(cell)?;
+        }
+    }
+    Ok(cells)
+}
+
+#[test]
+fn strokes_in_bands(rt: HostRuntime) -> Result<(), Fail> {
+    let mut numbers = Numbers { state: 7 };
+    let mut strokes = Vec::new(rt.alloc());
+    for n in 0..24 {
+        strokes.push(numbers.stroke(n).ok_or("a stroke")?)?;
+    }
+    let pens = PenSet::none().with(1).with(2);
+    assert_eq!(rt; strokes.len(), 24);
+    for resolution in [127, 600] {
+        let dots = Dots::new(resolution).ok_or("a resolution")?;
+        let wanted = cells_by_near(rt.alloc(), strokes.as_slice(), dots, pens)?;
+        for band_rows in [1, 3, 4096] {
+            let mut gauge = Exact::new();
+            let cells = cells_by(
+                rt.alloc(),
+                &mut gauge,
+                strokes.as_slice(),
+                dots,
+                pens,
+                band_rows,
+            )?;
+            assert_eq!(rt; cells.as_slice(), wanted.as_slice());
+        }
+    }
+    Ok(())
+}
