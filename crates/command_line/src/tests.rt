@@ -1,6 +1,7 @@
 use crate::{BuildFault, LineFault, command, parse, parse_status, settle};
 use clap::error::ErrorKind;
 use picture_out::Form;
+use std::alloc::AllocError;
 use std::test::Fail;
 
 #[test]
@@ -113,6 +114,11 @@ fn refuses_words(rt: HostRuntime) -> Result<(), Fail> {
         }
     }
     Ok(())
+}
+
+#[test]
+fn want_of_memory(rt: HostRuntime) {
+    assert_eq!(rt; parse_status(&clap::Error::from(AllocError)), 4);
 }
 
 #[test]

@@ -14,6 +14,8 @@ mod place;
 mod plot;
 mod plotter;
 mod setting;
+#[cfg(test)]
+mod settings_tests;
 mod state;
 #[cfg(test)]
 mod tests;

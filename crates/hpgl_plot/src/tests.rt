@@ -5,16 +5,16 @@ use hpgl_text::{Items, lex};
 use std::alloc::Global;
 use std::test::Fail;
 
-fn square() -> Result<Page, Fail> {
+pub fn square() -> Result<Page, Fail> {
     Ok(Page::new(64, 64, 0, 0)?)
 }
 
-fn wide() -> Result<Page, Fail> {
+pub fn wide() -> Result<Page, Fail> {
     Ok(Page::new(128, 64, 0, 0)?)
 }
 
 // The strokes of a plot, a line each: pen, width, window and ends; and then its notes.
-fn drawing_of(alloc: Global, page: &Page, text: &[u8]) -> Result<String, Fail> {
+pub fn drawing_of(alloc: Global, page: &Page, text: &[u8]) -> Result<String, Fail> {
     let program = lex(alloc, text)?;
     let plot = draw(alloc, &program, page)?;
     let mut lines = String::new(alloc);
