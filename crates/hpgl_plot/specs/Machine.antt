@@ -1,4 +1,4 @@
--- The same, one step at a time, as the code does it: `proofs/Bridge.antt` shows that it comes to the definitions.
+-- The same, one step at a time, as the code does it: `proofs/Bridge.antt` shows that it is equivalent to the definitions.
 use Rattle.std.specs.Prelude.{◌≡◌, ℕ, Bool, true, false, List, [], ◌∷◌, ◌++◌, Option, Some, None, Result, Ok, Err, length, nat_lt, set, if◌then◌else◌, ⊤}
 use Rattle.plot_frame.specs.Line.{across_line, upward_line}
 use Rattle.plot_frame.specs.declared.scaling.Scaling.TheVariants.{Off}
@@ -27,7 +27,7 @@ use Rattle.hpgl_plot.specs.Plots.{refusal_after}
 use Rattle.hpgl_plot.specs.Windows.{page_window}
 use Rattle.hpgl_plot.specs.Strokes.{are_in_range, joined, path_strokes}
 
--- the coordinates are taken again
+-- the coordinates are recomputed
 abbrev pub again : Page → State → State
 again page s = record s { coordinates = back page (frame_in s) s.place }
 
@@ -70,7 +70,7 @@ pub record World : Type 0 where
   pub kept : List Segment
   pub full : Bool
 
--- strokes put to those that are kept, while there is room
+-- strokes appended to those that are kept, while there is room
 abbrev pub kept_with : List Segment → Bool → List Segment → List Segment
 kept_with kept full [] = kept
 kept_with kept full (s ∷ ss) = if nat_lt (length kept) MOST_STROKES then kept_with (kept ++ (s ∷ [])) full ss else kept_with kept true ss
@@ -142,7 +142,7 @@ Refused page w i (fault.NotYet at) = ⊥
 Refused page w i (fault.OffRange at) = (more : List ItemShape) → runs page w (i ∷ more) ≡ Err (fault.OffRange at)
 Refused page w i (fault.TooManyStrokes at) = (more : List ItemShape) → runs page w (i ∷ more) ≡ Err (fault.TooManyStrokes at)
 
--- what a call answers that carries out an item: the items behind it go on from the new world, or all of them are refused
+-- what a call answers that carries out an item: the items after it go on from the new world, or all of them are refused
 abbrev pub CarriesOut : {U : Type 0} → Page → World → ItemShape → World → Result U PlotFault → Type 0
 CarriesOut page w i v (Ok _) = (more : List ItemShape) → runs page w (i ∷ more) ≡ runs page v more
 CarriesOut page w i v (Err e) = Refused page w i e

@@ -88,7 +88,8 @@ impl Plotter {
         }
     }
 
-    // Carries out an instruction. Those with other contents than numbers are not among these.
+    // Carries out an instruction with its numbers. Those without numbers, and those that are not drawn
+    // yet, do nothing.
     fn obey(
         &mut self,
         page: &Page,
@@ -130,7 +131,7 @@ impl Plotter {
         Ok(())
     }
 
-    // PD: a dot where it makes no move, and its moves.
+    // PD: a dot if it makes no move, and its moves.
     fn lower(&mut self, page: &Page, numbers: &[Number]) -> Result<(), Stop>
         requires sound { IsSound page.now self.old.state }
         ensures sound { IfOk result (λ _. IsSound page.now self.new.state) }
@@ -189,7 +190,7 @@ impl Plotter {
         }
     }
 
-    // A move to coordinates, as PA or PR said last.
+    // A move to coordinates, which are relative or absolute by the most recent PA or PR.
     #[tactic(auto, unfolding(crate::specs::Machine::step))]
     fn move_to(&mut self, page: &Page, x: Number, y: Number) -> Result<(), Stop>
         requires sound { IsSound page.now self.old.state }
