@@ -1,6 +1,7 @@
 -- The same, one step at a time, as the code does it: `proofs/Bridge.antt` shows that it is equivalent to the definitions.
 use Rattle.std.specs.Prelude.{◌≡◌, ℕ, Bool, true, false, List, [], ◌∷◌, ◌++◌, Option, Some, None, Result, Ok, Err, length, nat_lt, set, if◌then◌else◌, ⊤}
 use Rattle.plot_frame.specs.Line.{across_line, upward_line}
+use Rattle.plot_frame.specs.declared.scaling.Points.{Points}
 use Rattle.plot_frame.specs.declared.scaling.Scaling.TheVariants.{Off}
 use Rattle.hpgl_text.specs.Shapes.{ItemShape}
 use Rattle.hpgl_plot.specs.declared.fault.PlotFault.{PlotFault}
@@ -20,10 +21,11 @@ use Rattle.plot_page.specs.Segments.{Segment}
 use Rattle.hpgl_plot.specs.Settings.{all_pens}
 use Rattle.hpgl_plot.specs.Steps.{Step, Set, Lower, Relate}
 use Rattle.hpgl_plot.specs.Meanings.{steps_of}
-use Rattle.hpgl_plot.specs.Frames.{back, points_with, corner_window}
+use Rattle.hpgl_plot.specs.Frames.{back, moved_points, corner_window}
 use Rattle.hpgl_plot.specs.Paths.{frame_in, path}
 use Rattle.hpgl_plot.specs.States.{state_of}
 use Rattle.hpgl_plot.specs.Plots.{refusal_after}
+use Rattle.hpgl_plot.specs.Turns.{corners}
 use Rattle.hpgl_plot.specs.Windows.{page_window}
 use Rattle.hpgl_plot.specs.Strokes.{are_in_range, joined, path_strokes}
 
@@ -35,15 +37,15 @@ again page s = record s { coordinates = back page (frame_in s) s.place }
 abbrev pub framed : Page → State → State
 framed page s = again page (record s { across = across_line s.points s.scaling page.left; upward = upward_line s.points s.scaling page.below })
 
-abbrev pub pointed : Page → State → Setting → State
-pointed page s setting = framed page (record s { points = points_with page s.rotation setting s.points })
+abbrev pub pointed : Page → State → Points → State
+pointed page s p = framed page (record s { points = p })
 
 abbrev pub set_to : Page → State → Setting → State
 set_to page s Start = state_of page []
 set_to page s Defaults = framed page (record s { is_relative = false; scaling = Off; window = page_window page })
-set_to page s PageCorners = pointed page s PageCorners
-set_to page s (FirstPoint x y) = pointed page s (FirstPoint x y)
-set_to page s (BothPoints p) = pointed page s (BothPoints p)
+set_to page s PageCorners = pointed page s (corners page s.rotation)
+set_to page s (FirstPoint x y) = pointed page s (moved_points s.points x y)
+set_to page s (BothPoints p) = pointed page s p
 set_to page s (Scale c) = framed page (record s { scaling = c })
 set_to page s (Rotate r) = again page (record s { rotation = r })
 set_to page s PageWindow = record s { window = page_window page }
