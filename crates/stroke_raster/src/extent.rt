@@ -1,9 +1,8 @@
 //! The rows and the columns of a stroke's box.
 ghost use Rattle.std.specs.Prelude.{◌≡◌, ℕ, ℤ, ◌+◌, ◌*◌, ◌<◌, ◌≤◌, ◌^◌, pos, nat_abs, ◌+ℤ◌, ◌-ℤ◌, ◌*ℤ◌, ◌≤ℤ◌, true};
 ghost use Rattle.std.specs.Int.{int_min, int_max};
-ghost use Rattle.stroke_raster.specs.Covers.{in_box};
 ghost use Rattle.stroke_raster.specs.Resolutions.{columns_of, rows_of};
-ghost use Rattle.stroke_raster.specs.Extents.{first_place, end_place, first_row_of, end_row_of};
+ghost use Rattle.stroke_raster.specs.Extents.{first_place, end_place, first_row_of, end_row_of, HoldRows, HoldColumns, AreBoxed};
 
 use crate::dots::Dots;
 use crate::pixel::drawn_width_of;
@@ -32,9 +31,9 @@ pub fn extent_of(stroke: &Stroke, page: &Page, dots: Dots) -> Extent
     ensures columns_order { result.columns.low ≤ result.columns.end }
     ensures low { result.rows.low ≡ first_row_of stroke.now page.now dots }
     ensures end { result.rows.end ≡ end_row_of stroke.now page.now dots }
-    ensures row_in { (row column : ℕ) → row < rows_of page.now dots → in_box stroke.now page.now dots row column ≡ true → (result.rows.low ≤ row) × (row < result.rows.end) }
-    ensures column_in { (row column : ℕ) → column < columns_of page.now dots → in_box stroke.now page.now dots row column ≡ true → (result.columns.low ≤ column) × (column < result.columns.end) }
-    ensures full { (row column : ℕ) → result.rows.low ≤ row → row < result.rows.end → result.columns.low ≤ column → column < result.columns.end → in_box stroke.now page.now dots row column ≡ true }
+    ensures row_in { HoldRows stroke.now page.now dots result.rows }
+    ensures column_in { HoldColumns stroke.now page.now dots result.columns }
+    ensures full { AreBoxed stroke.now page.now dots result.rows result.columns }
 {
     let d = drawn_width_of(stroke, dots);
     let r = dots.resolution;
