@@ -73,6 +73,26 @@ fn marks_of_a_band(rt: HostRuntime) -> Result<(), Fail> {
     Ok(())
 }
 
+// Two strokes down the page, with blank columns before, between and after them.
+#[test]
+fn marks_with_blanks_between(rt: HostRuntime) -> Result<(), Fail> {
+    let page = Page::new(64, 64, 0, 0)?;
+    let dots = Dots::new(127).ok_or("dots")?;
+    let left = Stroke::new(1, BLACK, 224, WHOLE, 192, 0, 192, 1024).ok_or("a stroke")?;
+    let right = Stroke::new(2, BLACK, 224, WHOLE, 704, 0, 704, 1024).ok_or("a stroke")?;
+    let strokes = [left, right];
+    let mut painter = Painter::new(rt.alloc(), &strokes, page, dots, PenSet::all(), 2, 3)?;
+    let mut gauge = Exact::new();
+    let band = painter.next_band(&mut gauge).ok_or("a band")?;
+    let mut marks = band.marks();
+    assert!(rt; marks.next() == Some((3, 1, 1)));
+    assert!(rt; marks.next() == Some((3, 5, 2)));
+    assert!(rt; marks.next() == Some((4, 1, 1)));
+    assert!(rt; marks.next() == Some((4, 5, 2)));
+    assert!(rt; marks.next().is_none());
+    Ok(())
+}
+
 #[test]
 fn painters_that_are_refused(rt: HostRuntime) -> Result<(), Fail> {
     let page = Page::new(64, 64, 0, 0)?;
