@@ -1,6 +1,6 @@
 # make            proves and builds the command
 # make demo       builds it and runs it on the plots of examples/
-# make check      the command-line cases of tests/, then every proof, test and mutant (rt ci)
+# make check      the command-line cases of tests/, a test on each mutant, then every proof and test (rt ci)
 # make install    copies the command, its manual page and its completion under PREFIX (/usr/local)
 # make uninstall  removes them
 # make clean      removes all that was built; the next build proves everything again
@@ -33,6 +33,7 @@ demo: build
 
 check: build
 	tests/run $(PROGRAM)
+	tools/mutants
 	rt ci
 
 install: build

@@ -182,6 +182,23 @@ fn a_plot_of_one_byte_too_many(rt: HostRuntime) -> Result<(), Fail> {
     Ok(())
 }
 
+// Of a longer plot one byte too many is read, and the rest is left.
+#[test]
+fn the_rest_of_a_plot_too_long(rt: HostRuntime) -> Result<(), Fail> {
+    let mut source = Semicolons {
+        left: 67_108_867,
+        fails: false,
+        failures: 0,
+        ends: 0,
+    };
+    let (answer, written) = converted(&rt, &mut source)?;
+    let long = matches!(answer, Err(Fault::TooLong));
+    assert!(rt; long);
+    assert_eq!(rt; written, 0);
+    assert_eq!(rt; source.left, 2);
+    Ok(())
+}
+
 #[test]
 fn a_source_that_fails(rt: HostRuntime) -> Result<(), Fail> {
     let mut source = Semicolons {
