@@ -75,7 +75,7 @@ fn marks_of_a_band(rt: HostRuntime) -> Result<(), Fail> {
 
 // Two strokes down the page, with blank columns before, between and after them.
 #[test]
-fn marks_with_blanks_between(rt: HostRuntime) -> Result<(), Fail> {
+fn marks_beside_blanks(rt: HostRuntime) -> Result<(), Fail> {
     let page = Page::new(64, 64, 0, 0)?;
     let dots = Dots::new(127).ok_or("dots")?;
     let left = Stroke::new(1, BLACK, 224, WHOLE, 192, 0, 192, 1024).ok_or("a stroke")?;
