@@ -3,7 +3,7 @@ use Rattle.std.specs.Prelude.{ℕ}
 use Rattle.clap.specs.declared.error.kind.ErrorKind.{ErrorKind}
 use Rattle.clap.specs.declared.error.kind.ErrorKind.TheVariants.{DisplayHelp, OutOfMemory}
 
--- 0 where help was asked for, 4 where memory ran out, and 2 for usage
+-- 0 if help was asked for, 4 if memory ran out, and 2 for usage
 abbrev pub parse_status_of : ErrorKind → ℕ
 parse_status_of DisplayHelp = 0
 parse_status_of OutOfMemory = 4

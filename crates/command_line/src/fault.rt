@@ -22,7 +22,7 @@ pub enum LineFault {
     Words,
 }
 
-/// The exit status where words gave no matches: 0 where help was asked for, 4 where memory ran
+/// The exit status if words gave no matches: 0 if help was asked for, 4 if memory ran
 /// out, and 2 for any other fault, which is one of usage.
 pub fn parse_status(error: &clap::Error) -> u8
     ensures { result ≡ parse_status_of (kind_of error.now) }

@@ -22,7 +22,7 @@ impl Task {
     pub fn job(self) -> Job
         ensures { self ≡ Task.Picture result }
     {
-        // An enum's only variant can't yet be bound whole where a field of it has ghost fields.
+        // An enum's only variant can't yet be bound whole if a field of it has ghost fields.
         let Task::Picture(
             Job {
                 page,
@@ -49,11 +49,11 @@ impl Task {
 pub struct Line<'a> {
     /// What is to be done.
     pub task: Task,
-    /// The name of the plot's file, or `None` where the plot comes on standard input.
+    /// The name of the plot's file, or `None` if the plot comes on standard input.
     pub file: Option<&'a str>,
 }
 
-/// The values of the matches of `command`'s command, or `Words` where the matches are of another.
+/// The values of the matches of `command`'s command, or `Words` if they are of another.
 pub fn settle<'a>(matches: &ArgMatches<'a>) -> Result<Line<'a>, LineFault>
     ensures line { IfOk result (IsLineOf matches.now) }
 {

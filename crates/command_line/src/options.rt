@@ -210,8 +210,8 @@ fn whole_command<'a>(alloc: Global) -> Result<Command<'a>, AllocError>
     add_command(command, ppm)
 }
 
-/// The command line of `plotraster`, with its subcommands and their options. It fails for want of
-/// memory alone.
+/// The command line of `plotraster`, with its subcommands and their options. It fails only for want
+/// of memory.
 pub fn command<'a>(alloc: Global) -> Result<Command<'a>, BuildFault>
     ensures app { IfOk result (λ c. app_of c ≡ plot_app) }
     ensures simple { IfOk result (λ c. is_simple_and_free (app_of c) ≡ true) }

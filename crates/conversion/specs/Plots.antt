@@ -11,7 +11,7 @@ use Rattle.hpgl_text.specs.Cut.{cut}
 abbrev pub strokes : Page → List ℕ → List Segment
 strokes page plot = drawing.strokes page (cut plot)
 
--- the first refusal, or None where the plot is accepted
+-- the first refusal, or None if the plot is accepted
 abbrev pub refusal : Page → List ℕ → Option PlotFault
 refusal page plot = drawing.refusal page (cut plot)
 

@@ -13,7 +13,7 @@ use std::process::ExitCode;
 // The exit status of a command line that is not understood.
 const USAGE: u8 = 2;
 
-// The exit status where the file cannot be opened.
+// The exit status if the file cannot be opened.
 const DEVICE: u8 = 3;
 
 fn main(rt: HostRuntime) -> ExitCode {
@@ -24,7 +24,7 @@ fn main(rt: HostRuntime) -> ExitCode {
     ExitCode::from(status)
 }
 
-// The words of the command line, or the exit status where they can't be had.
+// The words of the command line, or the exit status if they can't be had.
 fn words_of(rt: &HostRuntime) -> Result<Vec<String>, u8> {
     match std::env::args(rt) {
         Ok(words) => words
