@@ -56,12 +56,12 @@ const DOTS: HelpLine<'static> = HelpLine {
 
 const BAND: HelpLine<'static> = HelpLine {
     value: "ROWS",
-    help: "Rows of pixels worked out at a time, 1 to 4096; the output is the same for each",
+    help: "Rows of pixels painted at a time, 1 to 4096; the output is the same for each",
 };
 
 const FROM: HelpLine<'static> = HelpLine {
     value: "ROW",
-    help: "First row of pixels to write, counted from 0 at the top, 0 to 99999; no head after row 0",
+    help: "First row of pixels to write, counted from 0 at the top, 0 to 99999; only row 0 comes with a header",
 };
 
 const TOP: HelpPage<'static> = HelpPage {

@@ -12,7 +12,7 @@ pub struct Job {
     pub dots: Dots,
     /// The pens whose strokes are drawn.
     pub pens: PenSet,
-    /// How many rows of pixels are worked out at a time: a picture has 1 to 4,096.
+    /// How many rows of pixels are painted at a time, 1 to 4,096.
     pub band: u32,
     /// The first row that is written, counted from 0 at the top: at most the count of rows.
     pub first_row: u32,
