@@ -1,5 +1,6 @@
 //! A law of `clap`'s parses, for commands whose arguments take one value each.
 #![tactic(auto)]
+
 ghost use Rattle.clap_parses.specs.Parses.{FaultlessParsesPass};
 
 /// A parse that has no fault names a subcommand, each of its values passes the rule of its argument,
