@@ -1,0 +1,5 @@
+pub mod Polylines
+pub mod Strokes
+pub mod Tables
+pub mod FontLaws
+pub mod Examples

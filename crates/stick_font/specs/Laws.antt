@@ -1,0 +1,16 @@
+-- What holds of the whole font, byte by byte.
+use Rattle.std.specs.Prelude.{◌≡◌, ℕ, ◌-◌, ◌^◌, ◌<◌, ◌≤◌, IsTrue, length, nat_lt}
+use Rattle.std.specs.List.{list_all}
+use Rattle.stick_font.specs.Glyphs.{is_between, is_on_grid, strokes}
+
+-- no stroke leaves the grid
+abbrev pub StrokesAreOnTheGrid : Type 0
+StrokesAreOnTheGrid = (byte : ℕ) → byte < 2 ^ 8 → IsTrue (list_all is_on_grid (strokes byte))
+
+-- the bytes 33 to 126 have strokes, and no other byte has any
+abbrev pub PrintingCharactersHaveStrokes : Type 0
+PrintingCharactersHaveStrokes = (byte : ℕ) → byte < 2 ^ 8 → nat_lt 0 (length (strokes byte)) ≡ is_between 33 126 byte
+
+-- a small letter has the strokes of its capital
+abbrev pub SmallLettersAreDrawnAsCapitals : Type 0
+SmallLettersAreDrawnAsCapitals = (byte : ℕ) → 97 ≤ byte → byte ≤ 122 → strokes byte ≡ strokes (byte - 32)

@@ -1,0 +1,12 @@
+//! A stick font: the strokes that draw the printing characters of ASCII.
+#![tactic(auto)]
+
+mod characters;
+mod font;
+mod grid;
+pub mod laws;
+#[cfg(test)]
+mod tests;
+
+pub use characters::{column_width, glyph};
+pub use grid::GridStroke;
