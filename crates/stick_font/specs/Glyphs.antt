@@ -1,5 +1,5 @@
 -- The strokes of characters, on a grid: x is 0 to 4 from left to right, y is 0 to 6 from the baseline up. The shapes are
--- the data of src/font.rt; they are our own, since HP-GL/2 leaves them to the device.
+-- data in src/font.rt, and are our own.
 use Rattle.std.specs.Prelude.{ℕ, Bool, List, [], ◌∷◌, map, nat_le, ◌&&◌, if◌then◌else◌, ◌-◌, slice_index_or}
 use Rattle.std.specs.List.{flat_map}
 use Rattle.stick_font.specs.declared.font.TheConstants.{FROM_EXCLAMATION_MARK, FROM_LEFT_BRACE}

@@ -5,7 +5,7 @@
 //! separates the points of a polyline. A polyline of one point is a dot. `tools/font_table` draws
 //! all characters as text.
 //!
-//! The shapes are our own: HP-GL/2 leaves them to the device.
+//! The shapes are our own.
 
 // The bytes 33 to 96.
 pub(crate) static FROM_EXCLAMATION_MARK: [&[&str]; 64] = [
