@@ -1,0 +1,5 @@
+pub mod SineRange
+pub mod Angles
+pub mod Nearest
+mod SineExamples
+mod ArcExamples

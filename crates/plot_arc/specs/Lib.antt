@@ -1,0 +1,4 @@
+pub mod Sines
+pub mod Chords
+pub mod Turns
+pub mod Laws
