@@ -84,9 +84,9 @@ full_with kept full (s ∷ ss) = if nat_lt (length kept) MOST_STROKES then full_
 abbrev pub with_strokes : World → State → List Segment → World
 with_strokes w s ss = record { state = s; kept = kept_with w.kept w.full ss; full = full_with w.kept w.full ss }
 
--- what strokes over these places leave, from a place on: None if one of them is out of range
-abbrev pub traced : World → Bool → Spot → List Spot → Option World
-traced w draws from places = if are_in_range places then Some (with_strokes w w.state (if draws then joined w.state from places else [])) else None
+-- what a path over these places leaves: None if one of them is out of range
+abbrev pub traced : World → Bool → List Spot → Option World
+traced w draws places = if are_in_range places then Some (with_strokes w w.state (if draws then joined w.state places else [])) else None
 
 -- with another state
 abbrev pub ends_in : State → Option World → Option World

@@ -1,4 +1,4 @@
--- The path of a step: what it names on the page, what it draws, and where the pen is after it. PA (Plot Absolute), PR
+-- The path of a step: the places that it passes, whether it draws, and where the pen is after it. PA (Plot Absolute), PR
 -- (Plot Relative), EA (Edge Rectangle Absolute) and ER (Edge Rectangle Relative).
 use Rattle.std.specs.Prelude.{ℤ, ◌+ℤ◌, Bool, true, false, not, List, [], ◌∷◌, if◌then◌else◌}
 use Rattle.plot_page.specs.declared.page.Page.{Page}
@@ -25,30 +25,31 @@ target relative u x y = record {
   y = if relative then u.y +ℤ y else y;
 }
 
--- the places, one after another; whether strokes join them, from the pen's place on; and where the pen ends
+-- the places, one after another from where the path starts; whether strokes join each to the next; and where the pen ends
 pub record Path : Type 0 where
   pub places : List Spot
   pub draws : Bool
   pub ends : Position
 
--- to these coordinates, drawn if the pen is down
+-- from the pen to these coordinates, drawn if the pen is down
 abbrev pub move_path : Page → State → Spot → Path
 move_path page s u =
     let p = pen_at page (frame_in s) u in
-    record { places = p.place ∷ []; draws = s.is_down; ends = p }
+    record { places = s.place ∷ (p.place ∷ []); draws = s.is_down; ends = p }
 
--- over the corners of a rectangle, the last of which is the pen's place, drawn whether the pen is down or not
+-- from the pen over the corners of a rectangle and back, drawn whether the pen is down or not
 abbrev pub edge_path : Page → State → Spot → Path
 edge_path page s u = record {
-  places = place page (frame_in s) (record { x = u.x; y = s.coordinates.y })
-      ∷ (place page (frame_in s) u ∷ (place page (frame_in s) (record { x = s.coordinates.x; y = u.y }) ∷ (s.place ∷ [])));
+  places = s.place
+      ∷ (place page (frame_in s) (record { x = u.x; y = s.coordinates.y })
+      ∷ (place page (frame_in s) u ∷ (place page (frame_in s) (record { x = s.coordinates.x; y = u.y }) ∷ (s.place ∷ []))));
   draws = true;
   ends = position s;
 }
 
--- a dot, if the pen is up
+-- from the pen to where it is: a dot, if the pen is up
 abbrev pub touch_path : State → Path
-touch_path s = record { places = s.place ∷ []; draws = not s.is_down; ends = position s }
+touch_path s = record { places = s.place ∷ (s.place ∷ []); draws = not s.is_down; ends = position s }
 
 abbrev pub no_path : State → Path
 no_path s = record { places = []; draws = false; ends = position s }

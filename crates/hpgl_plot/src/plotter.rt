@@ -1,5 +1,5 @@
 //! The plotter: what is set, and the strokes that were made.
-ghost use Rattle.std.specs.Prelude.{◌≡◌, ◌≤◌, [], ◌∷◌, true, nat_abs, slice_index, slice_index_or, All, IfOk, IfErr, Some};
+ghost use Rattle.std.specs.Prelude.{◌≡◌, ◌≤◌, Bool, [], ◌∷◌, true, nat_abs, slice_index, slice_index_or, All, IfOk, IfErr, Some};
 ghost use Rattle.hpgl_plot.specs.Colours.{black};
 ghost use Rattle.hpgl_plot.specs.Bounds.{IsSound, IsInRange, IsWindow, AreWidths};
 ghost use Rattle.hpgl_plot.specs.Machine.{seen, at_start, step, run, Runs, CarriesOut, kept_with, full_with, moved, traced, ends_in};
@@ -211,14 +211,22 @@ impl Plotter {
         let coordinates = target_of(&self.state, is_relative, x.millionths(), y.millionths());
         let place = place_on(page, &self.state, coordinates);
         let draws = self.state.is_down;
-        self.trace(page, &[place], draws, Position { place, coordinates })
+        let start = self.state.place;
+        self.trace(
+            page,
+            start,
+            &[place],
+            draws,
+            Position { place, coordinates },
+        )
     }
 
-    /// Follows a path: from the pen's place to each of these places in turn, in strokes if it draws,
-    /// and leaves the pen at its end.
+    /// Follows a path: from its start to each of these places in turn, in strokes if it draws, and
+    /// leaves the pen at its end.
     pub fn trace(
         &mut self,
         page: &Page,
+        start: Spot,
         places: &[Spot],
         draws: bool,
         end: Position,
@@ -226,9 +234,10 @@ impl Plotter {
         requires sound { IsSound page.now self.old.state }
         ensures in_range { IfOk result (λ _. are_in_range places.now ≡ true) }
         ensures state { IfOk result (λ _. self.new.state ≡ moved self.old.state end) }
-        ensures runs { Runs (ends_in (moved self.old.state end) (traced (seen self.old) draws self.old.state.place places.now)) (seen self.new) result }
+        ensures runs { Runs (ends_in (moved self.old.state end) (traced (seen self.old) draws (start ∷ places.now))) (seen self.new) result }
     {
-        let mut from = self.state.place;
+        self.begin(start)?;
+        let mut from = start;
         for place in places {
             self.reach(page, from, *place, draws)?;
             from = *place;
@@ -238,13 +247,25 @@ impl Plotter {
         Ok(())
     }
 
+    /// Begins a path at a place, which need not be the pen's.
+    pub fn begin(&self, place: Spot) -> Result<(), Stop>
+        ensures in_range { IfOk result (λ _. IsInRange place) }
+        ensures runs { (draws : Bool) → Runs (traced (seen self.now) draws (place ∷ [])) (seen self.now) result }
+    {
+        if is_place_in_range(place) {
+            Ok(())
+        } else {
+            Err(Stop::OffRange)
+        }
+    }
+
     /// Comes to the next place of a path, in a stroke if it draws.
     pub fn reach(&mut self, page: &Page, from: Spot, place: Spot, draws: bool) -> Result<(), Stop>
         requires sound { IsSound page.now self.old.state }
         requires from_in { IsInRange from }
         ensures in_range { IfOk result (λ _. IsInRange place) }
         ensures state { self.new.state ≡ self.old.state }
-        ensures runs { Runs (traced (seen self.old) draws from (place ∷ [])) (seen self.new) result }
+        ensures runs { Runs (traced (seen self.old) draws (from ∷ (place ∷ []))) (seen self.new) result }
     {
         if !is_place_in_range(place) {
             return Err(Stop::OffRange);
@@ -284,7 +305,7 @@ impl Plotter {
     {
         let pen = position_of(&self.state);
         let draws = !self.state.is_down;
-        self.trace(page, &[pen.place], draws, pen)
+        self.trace(page, pen.place, &[pen.place], draws, pen)
     }
 
     // The pen goes down, or up.

@@ -1,4 +1,4 @@
-use Rattle.std.proofs.Common.{◌≡◌, drop}
+use Rattle.std.proofs.Common.{◌≡◌, ◌∷◌, drop}
 use Rattle.hpgl_plot.specs.Bounds.{IsInRange}
 use Rattle.hpgl_plot.specs.Machine.{seen, traced}
 use Rattle.hpgl_plot.proofs.plotter.Plotter.trace.Given as goal
@@ -8,5 +8,5 @@ abbrev pub invariant-loop-place : goal.invariant-loop-place
 invariant-loop-place l = record {
   state : l.self.state ≡ l.fn.self.state;
   from_in : IsInRange l.from;
-  same : traced (seen l.self) l.draws l.from (drop l.place-index l.places) ≡ traced (seen l.fn.self) l.draws l.fn.self.state.place l.places;
+  same : traced (seen l.self) l.draws (l.from ∷ drop l.place-index l.places) ≡ traced (seen l.fn.self) l.draws (l.fn.start ∷ l.places);
 }

@@ -1,0 +1,84 @@
+-- A path that is fed to the plotter one place after another.
+use Rattle.std.proofs.Common.{◌≡◌, ap, ap₂, sym, subst, refl, inl, inr, Bool, true, false, List, [], ◌∷◌, ◌++◌, append-nil, Some, None, Result, Ok, Err, arith}
+use Rattle.std.specs.Prelude.{if◌then◌else◌}
+use Rattle.std.proofs.lemmas.Bool.{cases_Bool}
+use Rattle.std.proofs.lemmas.Option.{none-some, same_Some}
+use Rattle.plot_page.specs.Segments.{Segment}
+use Rattle.std.proofs.lemmas.Bool.Decides.{nat_tests}
+use Rattle.std.specs.Result.{IsErrAnd}
+use Rattle.hpgl_plot.specs.declared.plotter.Stop.{Stop}
+use Rattle.hpgl_plot.specs.declared.plotter.Stop.TheVariants.{Memory, OffRange}
+use Rattle.hpgl_plot.specs.declared.state.Spot.{Spot}
+use Rattle.hpgl_plot.specs.declared.state.State.{State}
+use Rattle.hpgl_plot.specs.Bounds.{IsInRange}
+use Rattle.hpgl_plot.specs.Strokes.{is_in_range, are_in_range, drawn, joined}
+use Rattle.hpgl_plot.specs.Machine.{World, with_strokes, traced, ends_in, Runs}
+use Rattle.hpgl_plot.proofs.Bridge.{kept_with-append, full_with-append}
+
+within : (q : Spot) → IsInRange q → is_in_range q ≡ true
+within q h =
+    let x = h.x_in in
+    let y = h.y_in in
+    grind (arith, nat_tests)
+
+-- strokes, and then others
+with_more : (w : World) (a b : List Segment) → with_strokes w w.state (a ++ b) ≡ with_strokes (with_strokes w w.state a) w.state b
+with_more w a b =
+    ap₂ (λ (k : List Segment) (f : Bool). record { state = w.state; kept = k; full = f })
+    (sym (kept_with-append w.kept w.full a b)) (sym (full_with-append w.kept w.full a b))
+
+-- the strokes of the first line of a path, and of the rest
+more_strokes : (w : World) (draws : Bool) (a b : Spot) (rest : List Spot)
+    → with_strokes w w.state (if draws then joined w.state (a ∷ (b ∷ rest)) else [])
+    ≡ with_strokes (with_strokes w w.state (if draws then joined w.state (a ∷ (b ∷ [])) else [])) w.state (if draws then joined w.state (b ∷ rest) else [])
+more_strokes w true a b rest = rw (append-nil (drawn w.state a b)) (with_more w (drawn w.state a b) (joined w.state (b ∷ rest)))
+more_strokes w false a b rest = refl
+
+-- the first line of a path, and then the rest of it
+pub traced_more : (w v : World) (draws : Bool) (a b : Spot) (rest : List Spot) → traced w draws (a ∷ (b ∷ [])) ≡ Some v
+    → traced w draws (a ∷ (b ∷ rest)) ≡ traced v draws (b ∷ rest)
+traced_more w v draws a b rest h = elim (cases_Bool (is_in_range a)) [
+  | inr s ↦ absurd (none-some v (rw s at h))
+  | inl s ↦ elim (cases_Bool (is_in_range b)) [
+    | inr t ↦ absurd (none-some v (rw (s, t) at h))
+    | inl t ↦ (let e = same_Some _ _ (rw (s, t) at h) in
+        subst (λ (u : World). traced w draws (a ∷ (b ∷ rest)) ≡ traced u draws (b ∷ rest)) e
+        (rw (s, t) (ap (λ (u : World). if are_in_range rest then Some u else None) (more_strokes w draws a b rest))))
+  ]
+]
+
+-- the first line of a path that leaves the range, and the whole path
+pub traced_never : (w : World) (draws : Bool) (a b : Spot) (rest : List Spot) → traced w draws (a ∷ (b ∷ [])) ≡ None
+    → traced w draws (a ∷ (b ∷ rest)) ≡ None
+traced_never w draws a b rest h = elim (cases_Bool (is_in_range a)) [
+  | inr s ↦ rw s refl
+  | inl s ↦ elim (cases_Bool (is_in_range b)) [
+    | inr t ↦ rw (s, t) refl
+    | inl t ↦ absurd (none-some _ (sym (rw (s, t) at h)))
+  ]
+]
+
+-- a path of one place
+pub traced_one : (w : World) (draws : Bool) (a : Spot) → IsInRange a → traced w draws (a ∷ []) ≡ Some w
+traced_one w true a h = rw (within a h) refl
+traced_one w false a h = rw (within a h) refl
+
+-- a path that was traced is in range
+pub traced_within : (w v : World) (draws : Bool) (a : Spot) (rest : List Spot) → traced w draws (a ∷ rest) ≡ Some v → are_in_range rest ≡ true
+traced_within w v draws a rest h = elim (cases_Bool (is_in_range a)) [
+  | inr s ↦ absurd (none-some v (rw s at h))
+  | inl s ↦ elim (cases_Bool (are_in_range rest)) [
+    | inl t ↦ t
+    | inr t ↦ absurd (none-some v (rw (s, t) at h))
+  ]
+]
+
+-- a path that does not begin
+pub never_begun : {U : Type 0} (w v : World) (s : State) (draws : Bool) (a : Spot) (rest : List Spot) (e : Stop) (r : Result U Stop)
+    → Runs {U = U} (traced w draws (a ∷ [])) w (Err e) → IsErrAnd r (λ f. f ≡ e) → Runs (ends_in s (traced w draws (a ∷ rest))) v r
+never_begun w v s draws a rest e (Ok x) h i = absurd i
+never_begun w v s draws a rest Memory (Err f) h i = rw i tt
+never_begun w v s draws a rest OffRange (Err f) h i = elim (cases_Bool (is_in_range a)) [
+  | inl t ↦ absurd (none-some _ (sym (rw t at h)))
+  | inr t ↦ rw (i, t) refl
+]
