@@ -1,18 +1,14 @@
 -- A path that is fed to the plotter one place after another.
-use Rattle.std.proofs.Common.{◌≡◌, ap, ap₂, sym, subst, refl, inl, inr, Bool, true, false, List, [], ◌∷◌, ◌++◌, append-nil, Some, None, Result, Ok, Err, arith}
+use Rattle.std.proofs.Common.{◌≡◌, ap, ap₂, sym, subst, refl, inl, inr, Bool, true, false, List, [], ◌∷◌, ◌++◌, append-nil, Some, None, arith}
 use Rattle.std.specs.Prelude.{if◌then◌else◌}
 use Rattle.std.proofs.lemmas.Bool.{cases_Bool}
 use Rattle.std.proofs.lemmas.Option.{none-some, same_Some}
 use Rattle.plot_page.specs.Segments.{Segment}
 use Rattle.std.proofs.lemmas.Bool.Decides.{nat_tests}
-use Rattle.std.specs.Result.{IsErrAnd}
-use Rattle.hpgl_plot.specs.declared.plotter.Stop.{Stop}
-use Rattle.hpgl_plot.specs.declared.plotter.Stop.TheVariants.{Memory, OffRange}
 use Rattle.hpgl_plot.specs.declared.state.Spot.{Spot}
-use Rattle.hpgl_plot.specs.declared.state.State.{State}
 use Rattle.hpgl_plot.specs.Bounds.{IsInRange}
 use Rattle.hpgl_plot.specs.Strokes.{is_in_range, are_in_range, drawn, joined}
-use Rattle.hpgl_plot.specs.Machine.{World, with_strokes, traced, ends_in, Runs}
+use Rattle.hpgl_plot.specs.Machine.{World, with_strokes, traced}
 use Rattle.hpgl_plot.proofs.Bridge.{kept_with-append, full_with-append}
 
 within : (q : Spot) → IsInRange q → is_in_range q ≡ true
@@ -24,7 +20,7 @@ within q h =
 -- strokes, and then others
 with_more : (w : World) (a b : List Segment) → with_strokes w w.state (a ++ b) ≡ with_strokes (with_strokes w w.state a) w.state b
 with_more w a b =
-    ap₂ (λ (k : List Segment) (f : Bool). record { state = w.state; kept = k; full = f })
+    ap₂ (λ (k : List Segment) (f : Bool). record { page = w.page; state = w.state; kept = k; full = f })
     (sym (kept_with-append w.kept w.full a b)) (sym (full_with-append w.kept w.full a b))
 
 -- the strokes of the first line of a path, and of the rest
@@ -73,12 +69,9 @@ traced_within w v draws a rest h = elim (cases_Bool (is_in_range a)) [
   ]
 ]
 
--- a path that does not begin
-pub never_begun : {U : Type 0} (w v : World) (s : State) (draws : Bool) (a : Spot) (rest : List Spot) (e : Stop) (r : Result U Stop)
-    → Runs {U = U} (traced w draws (a ∷ [])) w (Err e) → IsErrAnd r (λ f. f ≡ e) → Runs (ends_in s (traced w draws (a ∷ rest))) v r
-never_begun w v s draws a rest e (Ok x) h i = absurd i
-never_begun w v s draws a rest Memory (Err f) h i = rw i tt
-never_begun w v s draws a rest OffRange (Err f) h i = elim (cases_Bool (is_in_range a)) [
+-- a path that does not begin, and the whole path
+pub traced_out : (w : World) (draws : Bool) (a : Spot) (rest : List Spot) → traced w draws (a ∷ []) ≡ None → traced w draws (a ∷ rest) ≡ None
+traced_out w draws a rest h = elim (cases_Bool (is_in_range a)) [
   | inl t ↦ absurd (none-some _ (sym (rw t at h)))
-  | inr t ↦ rw (i, t) refl
+  | inr t ↦ rw t refl
 ]

@@ -1,60 +1,87 @@
 -- A step is its path, and the state after it: what each figure leaves.
-use Rattle.std.proofs.Common.{◌≡◌, ◌∙◌, sym, subst, refl, inl, inr, Bool, true, not, ℤ, [], ◌∷◌, Option, Result, IfOk, Ok, Err}
+use Rattle.std.proofs.Common.{◌≡◌, ◌∙◌, ap, sym, subst, refl, inl, inr, Bool, true, ℤ, List, [], ◌∷◌, Option, Some, None, Result, Ok, Err}
 use Rattle.std.proofs.lemmas.Bool.{cases_Bool}
+use Rattle.std.proofs.lemmas.Option.{none-some, same_Some}
+use Rattle.std.specs.Result.{IsErrAnd}
 use Rattle.plot_page.specs.declared.page.Page.{Page}
 use Rattle.hpgl_plot.specs.declared.plotter.Stop.{Stop}
-use Rattle.hpgl_plot.specs.declared.state.Position.{Position}
+use Rattle.hpgl_plot.specs.declared.plotter.Stop.TheVariants.{Memory, OffRange}
 use Rattle.hpgl_plot.specs.declared.state.Spot.{Spot}
 use Rattle.hpgl_plot.specs.declared.state.State.{State}
-use Rattle.hpgl_plot.specs.Bounds.{IsSound}
-use Rattle.hpgl_plot.specs.Steps.{Step, Touch, Go, Edge}
+use Rattle.hpgl_plot.specs.Steps.{Step, Go, Edge}
 use Rattle.hpgl_plot.specs.Frames.{place}
-use Rattle.hpgl_plot.specs.Paths.{Path, path, position, frame_in, target}
+use Rattle.hpgl_plot.specs.Paths.{Path, path, position, target}
 use Rattle.hpgl_plot.specs.Strokes.{are_in_range}
 use Rattle.hpgl_plot.specs.Machine.{World, step, after, moved, traced, ends_in, Runs}
 
-step_is : (page : Page) (w : World) (s : Step) → step page w s ≡ ends_in (after page w.state s) (traced w (path page w.state s).draws (path page w.state s).places)
+step_is : (w : World) (s : Step) → step w s ≡ ends_in (after w.page w.state s) (traced w (path w.page w.state s).draws (path w.page w.state s).places)
 unfolding step
-step_is page w s = elim (cases_Bool (are_in_range (path page w.state s).places)) [
+step_is w s = elim (cases_Bool (are_in_range (path w.page w.state s).places)) [
   | inl t ↦ rw t refl
   | inr t ↦ rw t refl
 ]
 
--- a step has run if its path was traced, and the pen is at the path's end
-pub path_runs : {U : Type 0} (page : Page) (w v : World) (s : Step) (p : Path) (r : Result U Stop) → after page w.state s ≡ moved w.state (path page w.state s).ends → path page w.state s ≡ p
-    → Runs (ends_in (moved w.state p.ends) (traced w p.draws p.places)) v r → Runs (step page w s) v r
-path_runs {U} page w v s p r a e h =
-    let q : step page w s ≡ ends_in (moved w.state (path page w.state s).ends) (traced w (path page w.state s).draws (path page w.state s).places) = rw (sym a) (step_is page w s) in
-    subst (λ (o : Option World). Runs o v r) (sym (q ∙ rw e refl)) h
+step_by : (w : World) (s : Step) (p : Path) → path w.page w.state s ≡ p → step w s ≡ ends_in (after w.page w.state s) (traced w p.draws p.places)
+step_by w s p e = step_is w s ∙ ap (λ (q : Path). ends_in (after w.page w.state s) (traced w q.draws q.places)) e
 
--- what holds after two facts of a result that is no error
-pub ok_by : {T E P Q S : Type 0} (r : Result T E) → (P → Q → S) → IfOk r (λ _. P) → IfOk r (λ _. Q) → IfOk r (λ _. S)
-ok_by (Ok x) f p q = f p q
-ok_by (Err x) f p q = tt
+-- a path changes neither the page nor what is set
+traced_stays : (w : World) (draws : Bool) (places : List Spot) → ends_in w.state (traced w draws places) ≡ traced w draws places
+traced_stays w draws places = elim (cases_Bool (are_in_range places)) [
+  | inl t ↦ rw t refl
+  | inr t ↦ rw t refl
+]
+
+pub record IsKept (w u : World) : Type 0 where
+  pub page_is : u.page ≡ w.page
+  pub state_is : u.state ≡ w.state
+
+pub traced_keeps : (w u : World) (draws : Bool) (places : List Spot) → traced w draws places ≡ Some u → IsKept w u
+traced_keeps w u draws places h = elim (cases_Bool (are_in_range places)) [
+  | inl t ↦ (let e = sym (same_Some _ _ (rw t at h)) in record { page_is = ap (λ (v : World). v.page) e; state_is = ap (λ (v : World). v.state) e })
+  | inr t ↦ absurd (none-some u (rw t at h))
+]
+
+-- a step after which the pen is where it was has run if its path was traced
+pub still_runs : {U : Type 0} (w v : World) (s : Step) (p : Path) (r : Result U Stop) → after w.page w.state s ≡ w.state → path w.page w.state s ≡ p
+    → Runs (traced w p.draws p.places) v r → Runs (step w s) v r
+still_runs {U} w v s p r a e h =
+    let k : step w s ≡ traced w p.draws p.places = step_by w s p e ∙ ap (λ (t : State). ends_in t (traced w p.draws p.places)) a ∙ traced_stays w p.draws p.places in
+    subst (λ (o : Option World). Runs o v r) (sym k) h
+
+-- any other has run if its path was traced, and then the pen came to its end
+pub moved_runs : (w u v : World) (s : Step) (p : Path) → after w.page w.state s ≡ moved w.state p.ends → path w.page w.state s ≡ p
+    → traced w p.draws p.places ≡ Some u → ends_in (moved u.state p.ends) (Some u) ≡ Some v → step w s ≡ Some v
+moved_runs w u v s p a e h m =
+    step_by w s p e
+    ∙ ap (λ (t : State). ends_in t (traced w p.draws p.places)) (a ∙ ap (λ (t : State). moved t p.ends) (sym (traced_keeps w u p.draws p.places h).state_is))
+    ∙ ap (λ (o : Option World). ends_in (moved u.state p.ends) o) h
+    ∙ m
+
+-- a step whose path leaves the range
+pub step_out : (w : World) (s : Step) (p : Path) → path w.page w.state s ≡ p → traced w p.draws p.places ≡ None → step w s ≡ None
+step_out w s p e h = step_by w s p e ∙ ap (λ (o : Option World). ends_in (after w.page w.state s) o) h
+
+-- what stops early stops all of it
+pub stopped : {U : Type 0} (o p : Option World) (u v : World) (e : Stop) (r : Result U Stop) → (o ≡ None → p ≡ None)
+    → Runs {U = U} o u (Err e) → IsErrAnd r (λ f. f ≡ e) → Runs p v r
+stopped o p u v e (Ok x) n h i = absurd i
+stopped o p u v Memory (Err f) n h i = rw i tt
+stopped o p u v OffRange (Err f) n h i = rw i (n h)
 
 -- the path of a move
-pub go_path : (page : Page) (s : State) (relative : Bool) (x y : ℤ) (u q : Spot) → u ≡ target relative s.coordinates x y → q ≡ place page (frame_in s) u
+pub go_path : (page : Page) (s : State) (relative : Bool) (x y : ℤ) (u q : Spot) → u ≡ target relative s.coordinates x y → q ≡ place page s.frame u
     → path page s (Go relative x y) ≡ record { places = s.place ∷ (q ∷ []); draws = s.is_down; ends = record { place = q; coordinates = u } }
 go_path page s relative x y u q eu eq = rw (eq, eu) refl
 
--- the path of a dot
-pub touch_path_is : (page : Page) (s : State) (pen : Position) → pen ≡ position s → path page s Touch ≡ record { places = pen.place ∷ (pen.place ∷ []); draws = not s.is_down; ends = pen }
-touch_path_is page s pen e = rw e refl
-
 -- the corners b, c and d of a rectangle, from the coordinates t opposite of the pen and p and q beside it
-pub record AreCorners (page : Page) (s : State) (relative : Bool) (x y : ℤ) (pen : Position) (t p q b c d : Spot) : Type 0 where
-  pub pen_is : pen ≡ position s
+pub record AreCorners (page : Page) (s : State) (relative : Bool) (x y : ℤ) (t p q b c d : Spot) : Type 0 where
   pub opposite : t ≡ target relative s.coordinates x y
-  pub beside : p ≡ record { x = t.x; y = pen.coordinates.y }
-  pub above : q ≡ record { x = pen.coordinates.x; y = t.y }
-  pub b_is : b ≡ place page (frame_in s) p
-  pub c_is : c ≡ place page (frame_in s) t
-  pub d_is : d ≡ place page (frame_in s) q
+  pub beside : p ≡ record { x = t.x; y = s.coordinates.y }
+  pub above : q ≡ record { x = s.coordinates.x; y = t.y }
+  pub b_is : b ≡ place page s.frame p
+  pub c_is : c ≡ place page s.frame t
+  pub d_is : d ≡ place page s.frame q
 
-pub edge_path_is : (page : Page) (s : State) (relative : Bool) (x y : ℤ) (pen : Position) (t p q b c d : Spot) → AreCorners page s relative x y pen t p q b c d
-    → path page s (Edge relative x y) ≡ record { places = pen.place ∷ (b ∷ (c ∷ (d ∷ (pen.place ∷ [])))); draws = true; ends = pen }
-edge_path_is page s relative x y pen t p q b c d h = rw (h.b_is, h.c_is, h.d_is, h.beside, h.above, h.pen_is, h.opposite) refl
-
--- a pen that ends where it was
-pub sound_still : (page : Page) (s v : State) (pen : Position) → IsSound page s → pen ≡ position s → v ≡ moved s pen → IsSound page v
-sound_still page s v pen h p e = subst (λ (u : State). IsSound page u) (sym (e ∙ rw p refl)) h
+pub edge_path_is : (page : Page) (s : State) (relative : Bool) (x y : ℤ) (t p q b c d : Spot) → AreCorners page s relative x y t p q b c d
+    → path page s (Edge relative x y) ≡ record { places = s.place ∷ (b ∷ (c ∷ (d ∷ (s.place ∷ [])))); draws = true; ends = position s }
+edge_path_is page s relative x y t p q b c d h = rw (h.b_is, h.c_is, h.d_is, h.beside, h.above, h.opposite) refl

@@ -1,6 +1,5 @@
 -- The same, one step at a time, as the code does it: `proofs/Bridge.antt` shows that it is equivalent to the definitions.
 use Rattle.std.specs.Prelude.{◌≡◌, ℕ, Bool, true, false, List, [], ◌∷◌, ◌++◌, Option, Some, None, Result, Ok, Err, length, nat_lt, set, if◌then◌else◌, ⊤}
-use Rattle.plot_frame.specs.Line.{across_line, upward_line}
 use Rattle.plot_frame.specs.declared.scaling.Points.{Points}
 use Rattle.plot_frame.specs.declared.scaling.Scaling.TheVariants.{Off}
 use Rattle.hpgl_text.specs.Shapes.{ItemShape}
@@ -13,6 +12,7 @@ use Rattle.hpgl_plot.specs.declared.plotter.Stop.{Stop}
 use Rattle.hpgl_plot.specs.declared.plotter.Stop.TheVariants.{Memory, OffRange}
 use Rattle.hpgl_plot.specs.declared.setting.Setting.{Setting}
 use Rattle.hpgl_plot.specs.declared.setting.Setting.TheVariants.{Start, Defaults, PageCorners, FirstPoint, BothPoints, Scale, Rotate, PageWindow, CornerWindow, Pen, Width, WidthOfAll, PenColour, DefaultColours}
+use Rattle.hpgl_plot.specs.declared.state.Frame.{Frame}
 use Rattle.hpgl_plot.specs.declared.state.Position.{Position}
 use Rattle.hpgl_plot.specs.declared.state.Spot.{Spot}
 use Rattle.hpgl_plot.specs.declared.state.State.{State}
@@ -22,34 +22,30 @@ use Rattle.hpgl_plot.specs.Settings.{all_pens}
 use Rattle.hpgl_plot.specs.Steps.{Step, Set, Lower, Relate}
 use Rattle.hpgl_plot.specs.Meanings.{steps_of}
 use Rattle.hpgl_plot.specs.Frames.{back, moved_points, corner_window}
-use Rattle.hpgl_plot.specs.Paths.{frame_in, path}
+use Rattle.hpgl_plot.specs.Paths.{path}
 use Rattle.hpgl_plot.specs.States.{state_of}
 use Rattle.hpgl_plot.specs.Plots.{refusal_after}
 use Rattle.hpgl_plot.specs.Turns.{corners}
 use Rattle.hpgl_plot.specs.Windows.{page_window}
 use Rattle.hpgl_plot.specs.Strokes.{are_in_range, joined, path_strokes}
 
--- the coordinates are recomputed
-abbrev pub again : Page → State → State
-again page s = record s { coordinates = back page (frame_in s) s.place }
-
--- the axes, and then the coordinates
-abbrev pub framed : Page → State → State
-framed page s = again page (record s { across = across_line s.points s.scaling page.left; upward = upward_line s.points s.scaling page.below })
+-- another frame: the coordinates are recomputed
+abbrev pub framed : Page → State → Frame → State
+framed page s f = record s { frame = f; coordinates = back page f s.place }
 
 abbrev pub pointed : Page → State → Points → State
-pointed page s p = framed page (record s { points = p })
+pointed page s p = framed page s (record s.frame { points = p })
 
 abbrev pub set_to : Page → State → Setting → State
 set_to page s Start = state_of page []
-set_to page s Defaults = framed page (record s { is_relative = false; scaling = Off; window = page_window page })
-set_to page s PageCorners = pointed page s (corners page s.rotation)
-set_to page s (FirstPoint x y) = pointed page s (moved_points s.points x y)
+set_to page s Defaults = record (framed page s (record s.frame { scaling = Off })) { is_relative = false; window = page_window page }
+set_to page s PageCorners = pointed page s (corners page s.frame.rotation)
+set_to page s (FirstPoint x y) = pointed page s (moved_points s.frame.points x y)
 set_to page s (BothPoints p) = pointed page s p
-set_to page s (Scale c) = framed page (record s { scaling = c })
-set_to page s (Rotate r) = again page (record s { rotation = r })
+set_to page s (Scale c) = framed page s (record s.frame { scaling = c })
+set_to page s (Rotate r) = framed page s (record s.frame { rotation = r })
 set_to page s PageWindow = record s { window = page_window page }
-set_to page s (CornerWindow c) = record s { window = corner_window page (frame_in s) c }
+set_to page s (CornerWindow c) = record s { window = corner_window page s.frame c }
 set_to page s (Pen n) = record s { pen = n }
 set_to page s (Width p w) = record s { widths = set s.widths p w }
 set_to page s (WidthOfAll w) = record s { widths = all_pens w }
@@ -66,8 +62,9 @@ after page s (Lower b) = record s { is_down = b }
 after page s (Relate b) = record s { is_relative = b }
 after page s t = moved s (path page s t).ends
 
--- the state, the strokes that are kept, and whether there were more than may be kept
+-- the page, the state, the strokes that are kept, and whether there were more than may be kept
 pub record World : Type 0 where
+  pub page : Page
   pub state : State
   pub kept : List Segment
   pub full : Bool
@@ -82,7 +79,7 @@ full_with kept full [] = full
 full_with kept full (s ∷ ss) = if nat_lt (length kept) MOST_STROKES then full_with (kept ++ (s ∷ [])) full ss else full_with kept true ss
 
 abbrev pub with_strokes : World → State → List Segment → World
-with_strokes w s ss = record { state = s; kept = kept_with w.kept w.full ss; full = full_with w.kept w.full ss }
+with_strokes w s ss = record { page = w.page; state = s; kept = kept_with w.kept w.full ss; full = full_with w.kept w.full ss }
 
 -- what a path over these places leaves: None if one of them is out of range
 abbrev pub traced : World → Bool → List Spot → Option World
@@ -94,18 +91,18 @@ ends_in s None = None
 ends_in s (Some w) = Some (record w { state = s })
 
 -- None if a place is out of range
-unfoldable pub step : Page → World → Step → Option World
-step page w s =
-    let p = path page w.state s in
-    if are_in_range p.places then Some (with_strokes w (after page w.state s) (path_strokes w.state p)) else None
+unfoldable pub step : World → Step → Option World
+step w s =
+    let p = path w.page w.state s in
+    if are_in_range p.places then Some (with_strokes w (after w.page w.state s) (path_strokes w.state p)) else None
 
 abbrev pub followed : Option World → (World → Option World) → Option World
 followed None f = None
 followed (Some w) f = f w
 
-abbrev pub run : Page → World → List Step → Option World
-run page w [] = Some w
-run page w (s ∷ ss) = followed (step page w s) (λ (v : World). run page v ss)
+abbrev pub run : World → List Step → Option World
+run w [] = Some w
+run w (s ∷ ss) = followed (step w s) (λ (v : World). run v ss)
 
 -- what a call answers that was to make this of the world
 abbrev pub Runs : {U : Type 0} → Option World → World → Result U Stop → Type 0
@@ -118,17 +115,17 @@ abbrev pub ended : Option World → ℕ → (World → Result World PlotFault) �
 ended None at go = Err (fault.OffRange at)
 ended (Some w) at go = if w.full then Err (fault.TooManyStrokes at) else go w
 
-abbrev pub runs : Page → World → List ItemShape → Result World PlotFault
-runs page w [] = Ok w
-runs page w (i ∷ more) = ended (run page w (steps_of i)) i.at (λ (v : World). runs page v more)
+abbrev pub runs : World → List ItemShape → Result World PlotFault
+runs w [] = Ok w
+runs w (i ∷ more) = ended (run w (steps_of i)) i.at (λ (v : World). runs v more)
 
 -- a plotter as the definitions see it
 abbrev pub seen : Plotter → World
-seen p = record { state = p.state; kept = p.strokes.items; full = p.is_full }
+seen p = record { page = p.page; state = p.state; kept = p.strokes.items; full = p.is_full }
 
 -- before the first item
 abbrev pub at_start : Page → World
-at_start page = record { state = state_of page []; kept = []; full = false }
+at_start page = record { page = page; state = state_of page []; kept = []; full = false }
 
 -- how drawing items may fail, none of which is left for later
 abbrev pub Stops : PlotFault → Page → List ItemShape → Type 0
@@ -138,16 +135,16 @@ Stops (fault.OffRange at) page items = refusal_after page [] 0 items ≡ Some (f
 Stops (fault.TooManyStrokes at) page items = refusal_after page [] 0 items ≡ Some (fault.TooManyStrokes at)
 
 -- how an item is refused
-abbrev pub Refused : Page → World → ItemShape → PlotFault → Type 0
-Refused page w i fault.Memory = ⊤
-Refused page w i (fault.NotYet at) = ⊥
-Refused page w i (fault.OffRange at) = (more : List ItemShape) → runs page w (i ∷ more) ≡ Err (fault.OffRange at)
-Refused page w i (fault.TooManyStrokes at) = (more : List ItemShape) → runs page w (i ∷ more) ≡ Err (fault.TooManyStrokes at)
+abbrev pub Refused : World → ItemShape → PlotFault → Type 0
+Refused w i fault.Memory = ⊤
+Refused w i (fault.NotYet at) = ⊥
+Refused w i (fault.OffRange at) = (more : List ItemShape) → runs w (i ∷ more) ≡ Err (fault.OffRange at)
+Refused w i (fault.TooManyStrokes at) = (more : List ItemShape) → runs w (i ∷ more) ≡ Err (fault.TooManyStrokes at)
 
 -- what a call answers that carries out an item: the items after it go on from the new world, or all of them are refused
-abbrev pub CarriesOut : {U : Type 0} → Page → World → ItemShape → World → Result U PlotFault → Type 0
-CarriesOut page w i v (Ok _) = (more : List ItemShape) → runs page w (i ∷ more) ≡ runs page v more
-CarriesOut page w i v (Err e) = Refused page w i e
+abbrev pub CarriesOut : {U : Type 0} → World → ItemShape → World → Result U PlotFault → Type 0
+CarriesOut w i v (Ok _) = (more : List ItemShape) → runs w (i ∷ more) ≡ runs v more
+CarriesOut w i v (Err e) = Refused w i e
 
 -- a later instruction comes before a refusal of today
 abbrev pub later_or : Option ItemShape → PlotFault → PlotFault

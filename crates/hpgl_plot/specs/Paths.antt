@@ -2,18 +2,16 @@
 -- (Plot Relative), EA (Edge Rectangle Absolute) and ER (Edge Rectangle Relative).
 use Rattle.std.specs.Prelude.{ℤ, ◌+ℤ◌, Bool, true, false, not, List, [], ◌∷◌, if◌then◌else◌}
 use Rattle.plot_page.specs.declared.page.Page.{Page}
+use Rattle.hpgl_plot.specs.declared.state.Frame.{Frame}
 use Rattle.hpgl_plot.specs.declared.state.Position.{Position}
 use Rattle.hpgl_plot.specs.declared.state.Spot.{Spot}
 use Rattle.hpgl_plot.specs.declared.state.State.{State}
 use Rattle.hpgl_plot.specs.Steps.{Step, Touch, Move, Go, Edge}
-use Rattle.hpgl_plot.specs.Frames.{Frame, place}
+use Rattle.hpgl_plot.specs.Frames.{place}
 
 -- where the pen is
 abbrev pub position : State → Position
 position s = record { place = s.place; coordinates = s.coordinates }
-
-abbrev pub frame_in : State → Frame
-frame_in s = record { points = s.points; scaling = s.scaling; rotation = s.rotation }
 
 abbrev pub pen_at : Page → Frame → Spot → Position
 pen_at page f u = record { place = place page f u; coordinates = u }
@@ -34,15 +32,15 @@ pub record Path : Type 0 where
 -- from the pen to these coordinates, drawn if the pen is down
 abbrev pub move_path : Page → State → Spot → Path
 move_path page s u =
-    let p = pen_at page (frame_in s) u in
+    let p = pen_at page s.frame u in
     record { places = s.place ∷ (p.place ∷ []); draws = s.is_down; ends = p }
 
 -- from the pen over the corners of a rectangle and back, drawn whether the pen is down or not
 abbrev pub edge_path : Page → State → Spot → Path
 edge_path page s u = record {
   places = s.place
-      ∷ (place page (frame_in s) (record { x = u.x; y = s.coordinates.y })
-      ∷ (place page (frame_in s) u ∷ (place page (frame_in s) (record { x = s.coordinates.x; y = u.y }) ∷ (s.place ∷ []))));
+      ∷ (place page s.frame (record { x = u.x; y = s.coordinates.y })
+      ∷ (place page s.frame u ∷ (place page s.frame (record { x = s.coordinates.x; y = u.y }) ∷ (s.place ∷ []))));
   draws = true;
   ends = position s;
 }

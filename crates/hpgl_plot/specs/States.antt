@@ -2,16 +2,16 @@
 -- relative move goes on from where the pen is. That a good IP, SC, RO or DF recomputes the pen's coordinates from its place
 -- is our choice; the guide does not say.
 use Rattle.std.specs.Prelude.{pos, List, [], ◌∷◌}
-use Rattle.plot_frame.specs.Line.{across_line, upward_line}
 use Rattle.plot_page.specs.declared.page.Page.{Page}
+use Rattle.hpgl_plot.specs.declared.state.Frame.{Frame}
 use Rattle.hpgl_plot.specs.declared.state.Position.{Position}
 use Rattle.hpgl_plot.specs.declared.state.Spot.{Spot}
 use Rattle.hpgl_plot.specs.declared.state.State.{State}
 use Rattle.hpgl_plot.specs.declared.setting.Setting.{Setting}
 use Rattle.hpgl_plot.specs.declared.setting.Setting.TheVariants.{Start, Defaults, PageCorners, FirstPoint, BothPoints, Scale, Rotate}
 use Rattle.hpgl_plot.specs.Steps.{Step, Set}
-use Rattle.hpgl_plot.specs.Settings.{pen, is_down, is_relative, rotation_before, scaling, widths, colours}
-use Rattle.hpgl_plot.specs.Frames.{Frame, frame, points, window, back}
+use Rattle.hpgl_plot.specs.Settings.{pen, is_down, is_relative, widths, colours}
+use Rattle.hpgl_plot.specs.Frames.{frame, window, back}
 use Rattle.hpgl_plot.specs.Paths.{pen_at, path}
 
 -- the place stays, and its coordinates are recomputed
@@ -35,11 +35,7 @@ pen_with page f _ p = p
 -- all that holds before a step, with the pen at a position
 abbrev pub state_with : Page → List Step → Position → State
 state_with page before p = record {
-  points = points page before;
-  scaling = scaling before;
-  rotation = rotation_before before;
-  across = across_line (points page before) (scaling before) page.left;
-  upward = upward_line (points page before) (scaling before) page.below;
+  frame = frame page before;
   window = window page before;
   widths = widths before;
   colours = colours before;

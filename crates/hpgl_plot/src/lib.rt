@@ -1,6 +1,7 @@
 //! What a plot draws: the page that it is drawn on, what its instructions set, and its strokes.
 #![tactic(auto)]
 
+mod axes;
 mod fault;
 mod later;
 pub mod laws;

@@ -1,0 +1,171 @@
+//! Moves, and the strokes along a path.
+ghost use Rattle.std.specs.Prelude.{◌≡◌, ◌≤◌, ◌^◌, ◌*ℤ◌, Bool, [], ◌∷◌, nat_abs, slice_index, slice_index_or, IfOk, IfErr, Some};
+ghost use Rattle.plot_frame.specs.Bounds.{IsNear};
+ghost use Rattle.hpgl_plot.specs.Colours.{black};
+ghost use Rattle.hpgl_plot.specs.Bounds.{IsInRange};
+ghost use Rattle.hpgl_plot.specs.Frames as frames;
+ghost use Rattle.hpgl_plot.specs.Machine.{seen, step, Runs, kept_with, full_with, moved, traced, ends_in};
+ghost use Rattle.hpgl_plot.specs.Paths as paths;
+ghost use Rattle.hpgl_plot.specs.Strokes.{drawn};
+ghost use Rattle.hpgl_plot.specs.Steps.{Touch, Move, Go};
+
+use crate::fault::MOST_STROKES;
+use crate::place::{is_place_in_range, place_on, target_of};
+use crate::plotter::{Plotter, Stop};
+use crate::state::{Position, Spot};
+use hpgl_text::Number;
+use plot_page::Stroke;
+
+impl Plotter {
+    /// A move to coordinates, which are relative or absolute by the most recent PA or PR.
+    #[tactic(auto, unfolding(crate::specs::Machine::step))]
+    pub fn move_to(&mut self, x: Number, y: Number) -> Result<(), Stop>
+        ensures { Runs (step (seen self.old) (Move x y)) (seen self.new) result }
+    {
+        let is_relative = self.state.is_relative;
+        self.go(is_relative, x, y)?;
+        Ok(())
+    }
+
+    /// A move to coordinates, drawn if the pen is down.
+    pub fn go(&mut self, is_relative: bool, x: Number, y: Number) -> Result<(), Stop>
+        ensures { Runs (step (seen self.old) (Go is_relative x y)) (seen self.new) result }
+    {
+        let coordinates = self.target(is_relative, x, y);
+        let place = self.place_of(coordinates);
+        let start = self.state.place;
+        let draws = self.state.is_down;
+        self.trace(start, &[place], draws)?;
+        self.arrive(Position { place, coordinates });
+        Ok(())
+    }
+
+    /// A dot, unless the pen is down.
+    pub fn touch(&mut self) -> Result<(), Stop>
+        ensures { Runs (step (seen self.old) Touch) (seen self.new) result }
+    {
+        let pen = self.state.place;
+        let draws = !self.state.is_down;
+        self.trace(pen, &[pen], draws)
+    }
+
+    /// Where a move ends, in coordinates.
+    pub fn target(&self, is_relative: bool, x: Number, y: Number) -> Spot
+        ensures value { result ≡ paths.target is_relative self.now.state.coordinates x y }
+        ensures x_near { nat_abs (self.now.axes.across.slope *ℤ result.x) ≤ 2 ^ 112 }
+        ensures y_near { nat_abs (self.now.axes.upward.slope *ℤ result.y) ≤ 2 ^ 112 }
+    {
+        let from = self.state.coordinates;
+        target_of(
+            &self.axes,
+            from,
+            is_relative,
+            x.millionths(),
+            y.millionths(),
+        )
+    }
+
+    /// Where coordinates lie on the page.
+    pub fn place_of(&self, coordinates: Spot) -> Spot
+        requires x_near { nat_abs (self.now.axes.across.slope *ℤ coordinates.x) ≤ 2 ^ 112 }
+        requires y_near { nat_abs (self.now.axes.upward.slope *ℤ coordinates.y) ≤ 2 ^ 112 }
+        ensures { result ≡ frames.place self.now.page self.now.state.frame coordinates }
+    {
+        place_on(&self.page, &self.state.frame, &self.axes, coordinates)
+    }
+
+    /// Follows a path: from its start to each of these places in turn, in strokes if it draws. The pen
+    /// stays where it is.
+    pub fn trace(&mut self, start: Spot, places: &[Spot], draws: bool) -> Result<(), Stop>
+        ensures { Runs (traced (seen self.old) draws (start ∷ places.now)) (seen self.new) result }
+    {
+        self.begin(start)?;
+        let mut from = start;
+        for place in places {
+            self.reach(from, *place, draws)?;
+            from = *place;
+        }
+        Ok(())
+    }
+
+    /// Begins a path at a place, which need not be the pen's.
+    pub fn begin(&self, place: Spot) -> Result<(), Stop>
+        ensures in_range { IfOk result (λ _. IsInRange place) }
+        ensures runs { (draws : Bool) → Runs (traced (seen self.now) draws (place ∷ [])) (seen self.now) result }
+    {
+        if is_place_in_range(place) {
+            Ok(())
+        } else {
+            Err(Stop::OffRange)
+        }
+    }
+
+    /// Comes to the next place of a path, in a stroke if it draws.
+    pub fn reach(&mut self, from: Spot, place: Spot, draws: bool) -> Result<(), Stop>
+        requires from_in { IsInRange from }
+        ensures in_range { IfOk result (λ _. IsInRange place) }
+        ensures runs { Runs (traced (seen self.old) draws (from ∷ (place ∷ []))) (seen self.new) result }
+    {
+        if !is_place_in_range(place) {
+            return Err(Stop::OffRange);
+        }
+        if draws {
+            self.draw(from, place)?;
+        }
+        Ok(())
+    }
+
+    /// The pen comes to a position.
+    pub fn arrive(&mut self, end: Position)
+        requires place_in { IsInRange end.place }
+        requires x_near { IsNear self.old.axes.across end.coordinates.x }
+        requires y_near { IsNear self.old.axes.upward end.coordinates.y }
+        ensures { ends_in (moved self.old.state end) (Some (seen self.old)) ≡ Some (seen self.new) }
+    {
+        self.state.place = end.place;
+        self.state.coordinates = end.coordinates;
+    }
+
+    // A stroke between two places, unless the pen is 0.
+    fn draw(&mut self, a: Spot, b: Spot) -> Result<(), Stop>
+        requires a_in { IsInRange a }
+        requires b_in { IsInRange b }
+        ensures page { self.new.page ≡ self.old.page }
+        ensures state { self.new.state ≡ self.old.state }
+        ensures kept { IfOk result (λ _. self.new.strokes.items ≡ kept_with self.old.strokes.items self.old.is_full (drawn self.old.state a b)) }
+        ensures full { IfOk result (λ _. self.new.is_full ≡ full_with self.old.strokes.items self.old.is_full (drawn self.old.state a b)) }
+        ensures memory { IfErr result (λ e. e ≡ Stop.Memory) }
+    {
+        if self.state.pen == 0 {
+            return Ok(());
+        }
+        if self.strokes.len() >= MOST_STROKES {
+            self.is_full = true;
+            return Ok(());
+        }
+        let stroke = self.stroke(a, b);
+        self.strokes.push(stroke).map_err(|_| Stop::Memory)
+    }
+
+    // A stroke between two places, by the pen that is selected, of its colour and its width, in the
+    // window.
+    fn stroke(&self, a: Spot, b: Spot) -> Stroke
+        requires pen { 1 ≤ self.now.state.pen }
+        requires a_in { IsInRange a }
+        requires b_in { IsInRange b }
+        ensures { result ≡ record { pen = self.now.state.pen; colour = slice_index_or self.now.state.colours self.now.state.pen black; width = slice_index self.now.state.widths self.now.state.pen; window = self.now.state.window; ax = a.x; ay = a.y; bx = b.x; by = b.y } }
+    {
+        let state = &self.state;
+        let pen = usize::from(state.pen);
+        Stroke {
+            pen: state.pen,
+            colour: state.colours[pen],
+            width: state.widths[pen],
+            window: state.window,
+            ax: a.x as i32,
+            ay: a.y as i32,
+            bx: b.x as i32,
+            by: b.y as i32,
+        }
+    }
+}
