@@ -17,5 +17,5 @@ pub mod Noting
 pub mod Laws
 -- What contracts of private functions need.
 pub mod Bounds
-pub mod Proofs
+pub mod Unique
 pub mod Machine

@@ -1,6 +1,6 @@
 //! The plotter: what is set, and the strokes that were made.
 ghost use Rattle.hpgl_plot.specs.Bounds.{IsSound};
-ghost use Rattle.hpgl_plot.specs.Proofs.{IsScaling-prop};
+ghost use Rattle.hpgl_plot.specs.Unique.{IsScaling-prop};
 ghost use Rattle.std.proofs.Props.{props};
 
 mod figures;
