@@ -1,4 +1,5 @@
 pub mod Near
+pub mod Crossing
 pub mod InBounds
 pub mod Theorems
 mod Turned

@@ -1,5 +1,5 @@
 -- What keeps the arithmetic in 128 bits: the sizes of P1, P2 and SC's numbers, of the lines, and of the coordinates on them.
-use Rattle.std.specs.Prelude.{◌≢◌, ◌<◌, ◌^◌, ◌≤◌, ℤ, pos, ◌+ℤ◌, ◌*ℤ◌, ◌<ℤ◌, ◌≤ℤ◌, ◌-ℤ◌, nat_abs, ⊤}
+use Rattle.std.specs.Prelude.{◌≢◌, ◌<◌, ◌+◌, ◌*◌, ◌^◌, ◌≤◌, ℤ, pos, ◌+ℤ◌, ◌*ℤ◌, ◌<ℤ◌, ◌≤ℤ◌, ◌-ℤ◌, nat_abs, ⊤}
 use Rattle.plot_frame.specs.declared.axis.Axis.{Axis}
 use Rattle.plot_frame.specs.declared.scaling.Points.{Points}
 use Rattle.plot_frame.specs.declared.scaling.Ranges.{Ranges}
@@ -17,9 +17,15 @@ pub record IsLine (a : Axis) : Type 0 where
   pub under_in : nat_abs a.under ≤ 2 ^ 72
   pub under_above : pos 0 <ℤ a.under
 
--- the coordinate of a place that is not far from the page
+-- the coordinate of a place that is not far from the page, or one that is rounded to it
 pub record IsNear (a : Axis) (u : ℤ) : Type 0 where
-  pub near : nat_abs (a.slope *ℤ u +ℤ a.offset) ≤ 2 ^ 96
+  pub near : nat_abs (a.slope *ℤ u +ℤ a.offset) ≤ 2 ^ 22 * nat_abs a.under + nat_abs a.slope
+
+-- a coordinate of either axis that is small on both, so that it can be turned from one to the other
+pub record IsSmall (across upward : Axis) (u : ℤ) : Type 0 where
+  pub size : nat_abs u ≤ 2 ^ 77
+  pub across_in : nat_abs (across.slope *ℤ u) ≤ 2 ^ 115
+  pub upward_in : nat_abs (upward.slope *ℤ u) ≤ 2 ^ 115
 
 -- P1 and P2 stand apart in x and in y
 pub record IsPoints (p : Points) : Type 0 where

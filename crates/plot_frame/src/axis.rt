@@ -18,7 +18,7 @@ impl Axis {
     /// The place of a coordinate, in grains.
     pub fn place(&self, u: i128) -> i128
         requires line { IsLine self.now }
-        requires near { nat_abs (self.now.slope *ℤ u) ≤ 2 ^ 112 }
+        requires near { nat_abs (self.now.slope *ℤ u) ≤ 2 ^ 118 }
         ensures value { result ≡ place self.now u }
         ensures bound { nat_abs result ≤ 2 ^ 120 }
     {
@@ -46,7 +46,7 @@ impl Axis {
         requires line { IsLine self.now }
         requires near { IsNear self.now u }
         ensures value { result ≡ (if relative then u +ℤ n else n) }
-        ensures near { nat_abs (self.now.slope *ℤ result) ≤ 2 ^ 112 }
+        ensures near { nat_abs (self.now.slope *ℤ result) ≤ 2 ^ 118 }
     {
         if relative {
             u + i128::from(n)

@@ -38,5 +38,5 @@ returns-clause-bound c =
     let fq : FitsSigned w128 (axis.slope *ℤ c.args.u +ℤ axis.offset) = omega (arith, ints) in
     let fr : FitsSigned w128 c.rounded.result = search rules in
     let e = simp to_z-of_z at c.rounded.ensures in
-    let h : nat_abs (axis.slope *ℤ c.args.u +ℤ axis.offset) ≤ 2 ^ 113 = omega (arith, ints) in
+    let h : nat_abs (axis.slope *ℤ c.args.u +ℤ axis.offset) ≤ 2 ^ 119 = omega (arith, ints) in
     simp to_z-of_z (rw e (round_in (axis.slope *ℤ c.args.u +ℤ axis.offset) axis.under l.under_above h))
