@@ -8,7 +8,7 @@ use Rattle.std.proofs.lemmas.Bool.Decides.{nat_tests}
 use Rattle.plot_page.specs.declared.colour.Colour.{Colour}
 use Rattle.hpgl_plot.specs.declared.setting.Setting.TheVariants.{Start, Defaults, PageCorners, FirstPoint, BothPoints, Scale, Rotate, PageWindow, CornerWindow, Pen, Width, WidthOfAll, PenColour, DefaultColours}
 use Rattle.hpgl_plot.specs.Colours.{black, default_colour, default_colours}
-use Rattle.hpgl_plot.specs.Steps.{Step, Set, Touch, Lower, Relate, Move, Go, Edge}
+use Rattle.hpgl_plot.specs.Steps.{Step, Set, Touch, Lower, Relate, Move, Go, Edge, DrawCircle, DrawArc}
 use Rattle.hpgl_plot.specs.Settings.{colours, colour, newer}
 use Rattle.hpgl_plot.specs.Laws.{ColoursAreLookedBackFor}
 
@@ -38,6 +38,8 @@ colours_length (Relate b ∷ before) = colours_length before
 colours_length (Move x y ∷ before) = colours_length before
 colours_length (Go r x y ∷ before) = colours_length before
 colours_length (Edge r x y ∷ before) = colours_length before
+colours_length (DrawCircle c ∷ before) = colours_length before
+colours_length (DrawArc r a ∷ before) = colours_length before
 
 -- the list of the default colours has each pen's
 default_tells : (p : ℕ) → p < 256 → get_or default_colours p black ≡ default_colour p
@@ -81,3 +83,5 @@ colours_tell (Relate b ∷ before) p h = colours_tell before p h
 colours_tell (Move x y ∷ before) p h = colours_tell before p h
 colours_tell (Go r x y ∷ before) p h = colours_tell before p h
 colours_tell (Edge r x y ∷ before) p h = colours_tell before p h
+colours_tell (DrawCircle c ∷ before) p h = colours_tell before p h
+colours_tell (DrawArc r a ∷ before) p h = colours_tell before p h

@@ -5,13 +5,13 @@ use Rattle.std.proofs.lemmas.Bool.{cases_Bool}
 use Rattle.std.proofs.lemmas.Option.{none-some, same_Some}
 use Rattle.plot_page.specs.Segments.{Segment}
 use Rattle.std.proofs.lemmas.Bool.Decides.{nat_tests}
-use Rattle.hpgl_plot.specs.declared.state.Spot.{Spot}
+use Rattle.plot_arc.specs.declared.spot.Spot.{Spot}
 use Rattle.hpgl_plot.specs.Bounds.{IsInRange}
 use Rattle.hpgl_plot.specs.Strokes.{is_in_range, are_in_range, drawn, joined}
 use Rattle.hpgl_plot.specs.Machine.{World, with_strokes, traced}
 use Rattle.hpgl_plot.proofs.Bridge.{kept_with-append, full_with-append}
 
-within : (q : Spot) → IsInRange q → is_in_range q ≡ true
+pub within : (q : Spot) → IsInRange q → is_in_range q ≡ true
 within q h =
     let x = h.x_in in
     let y = h.y_in in

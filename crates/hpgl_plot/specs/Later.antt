@@ -1,13 +1,10 @@
 -- The instructions that are known and not drawn yet.
 use Rattle.std.specs.Prelude.{ℕ, Bool, true, false, List, Option, Some, None}
 use Rattle.hpgl_text.specs.declared.instruction.Instruction.{Instruction}
-use Rattle.hpgl_text.specs.declared.instruction.Instruction.TheVariants.{Circle, ArcAbsolute, ArcRelative, Label, LabelTerminator, CharacterSize, Direction}
+use Rattle.hpgl_text.specs.declared.instruction.Instruction.TheVariants.{Label, LabelTerminator, CharacterSize, Direction}
 use Rattle.hpgl_text.specs.Instructions.{instruction_of}
 
 abbrev pub is_later : Instruction → Bool
-is_later Circle = true
-is_later ArcAbsolute = true
-is_later ArcRelative = true
 is_later Label = true
 is_later LabelTerminator = true
 is_later CharacterSize = true

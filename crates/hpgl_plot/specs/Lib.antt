@@ -1,6 +1,7 @@
 -- What a reader must believe: what instructions mean, what holds before a step, strokes, notes and refusals.
 pub mod Later
 pub mod Parameters
+pub mod ArcParameters
 pub mod Steps
 pub mod Meanings
 pub mod Colours
@@ -8,6 +9,7 @@ pub mod Settings
 pub mod Turns
 pub mod Windows
 pub mod Frames
+pub mod Arcs
 pub mod Paths
 pub mod States
 pub mod Strokes

@@ -14,7 +14,7 @@ use Rattle.hpgl_plot.specs.declared.setting.Setting.{Setting}
 use Rattle.hpgl_plot.specs.declared.setting.Setting.TheVariants.{Start, Defaults, PageCorners, FirstPoint, BothPoints, Scale, Rotate, PageWindow, CornerWindow, Pen, Width, WidthOfAll, PenColour, DefaultColours}
 use Rattle.hpgl_plot.specs.declared.state.Frame.{Frame}
 use Rattle.hpgl_plot.specs.declared.state.Position.{Position}
-use Rattle.hpgl_plot.specs.declared.state.Spot.{Spot}
+use Rattle.plot_arc.specs.declared.spot.Spot.{Spot}
 use Rattle.hpgl_plot.specs.declared.state.State.{State}
 use Rattle.hpgl_plot.specs.Colours.{default_colours}
 use Rattle.plot_page.specs.Segments.{Segment}

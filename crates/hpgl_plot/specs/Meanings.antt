@@ -2,12 +2,15 @@
 use Rattle.std.specs.Prelude.{ℤ, ◌%◌, ◌==◌, Bool, true, false, List, [], ◌∷◌, Option, Some, None, length}
 use Rattle.hpgl_text.specs.Shapes.{ItemShape, BodyShape, Params, Coded}
 use Rattle.hpgl_text.specs.declared.instruction.Instruction.{Instruction}
-use Rattle.hpgl_text.specs.declared.instruction.Instruction.TheVariants.{Initialize, DefaultValues, InputPoints, Scale, Rotate, InputWindow, SelectPen, PenWidth, PenColour, PenUp, PenDown, PlotAbsolute, PlotRelative, EdgeAbsolute, EdgeRelative}
+use Rattle.hpgl_text.specs.declared.instruction.Instruction.TheVariants.{Initialize, DefaultValues, InputPoints, Scale, Rotate, InputWindow, SelectPen, PenWidth, PenColour, PenUp, PenDown, PlotAbsolute, PlotRelative, EdgeAbsolute, EdgeRelative, Circle, ArcAbsolute, ArcRelative}
 use Rattle.hpgl_text.specs.Instructions.{instruction_of}
+use Rattle.hpgl_plot.specs.ArcParameters.{circled, arced}
+use Rattle.hpgl_plot.specs.declared.curve.Arc as arc
+use Rattle.hpgl_plot.specs.declared.curve.Circle as circle
 use Rattle.hpgl_plot.specs.declared.setting.Setting.{Setting}
 use Rattle.hpgl_plot.specs.declared.setting.Setting.TheVariants.{Start, Defaults}
 use Rattle.hpgl_plot.specs.Parameters.{scaling_points, scaled, rotated, window_corners, selected_pen, pen_width, pen_colour}
-use Rattle.hpgl_plot.specs.Steps.{Step, Set, Lower, Relate, Edge, moves, lowered_then, entry_steps}
+use Rattle.hpgl_plot.specs.Steps.{Step, Set, Lower, Relate, Edge, DrawCircle, DrawArc, moves, lowered_then, entry_steps}
 
 pub record Meaning : Type 0 where
   pub steps : List Step
@@ -34,6 +37,16 @@ edges relative [] = wrong
 edges relative (x ∷ []) = wrong
 edges relative (x ∷ (y ∷ ns)) = record { steps = Edge relative x y ∷ []; is_wrong = false }
 
+-- CI (Circle), or wrong numbers
+abbrev pub circles : Option circle.Circle → Meaning
+circles (Some c) = record { steps = DrawCircle c ∷ []; is_wrong = false }
+circles None = wrong
+
+-- AA (Arc Absolute) and AR (Arc Relative), or wrong numbers
+abbrev pub arcs : Bool → Option arc.Arc → Meaning
+arcs relative (Some a) = record { steps = DrawArc relative a ∷ []; is_wrong = false }
+arcs relative None = wrong
+
 -- PE, LB and DT are followed by no list of numbers, and the others that are missing here are not drawn yet
 abbrev pub meaning : Instruction → List ℤ → Meaning
 meaning Initialize ns = sets (Some Start)
@@ -51,6 +64,9 @@ meaning PlotAbsolute ns = plots (Relate false ∷ moves ns) ns
 meaning PlotRelative ns = plots (Relate true ∷ moves ns) ns
 meaning EdgeAbsolute ns = edges false ns
 meaning EdgeRelative ns = edges true ns
+meaning Circle ns = circles (circled ns)
+meaning ArcAbsolute ns = arcs false (arced ns)
+meaning ArcRelative ns = arcs true (arced ns)
 meaning _ ns = nothing
 
 abbrev pub meaning_if_known : Option Instruction → List ℤ → Meaning

@@ -1,13 +1,16 @@
 -- The path of a step: the places that it passes, whether it draws, and where the pen is after it. PA (Plot Absolute), PR
--- (Plot Relative), EA (Edge Rectangle Absolute) and ER (Edge Rectangle Relative).
+-- (Plot Relative), EA (Edge Rectangle Absolute), ER (Edge Rectangle Relative), CI (Circle), AA (Arc Absolute) and AR
+-- (Arc Relative).
 use Rattle.std.specs.Prelude.{ℤ, ◌+ℤ◌, Bool, true, false, not, List, [], ◌∷◌, if◌then◌else◌}
 use Rattle.plot_page.specs.declared.page.Page.{Page}
 use Rattle.hpgl_plot.specs.declared.state.Frame.{Frame}
 use Rattle.hpgl_plot.specs.declared.state.Position.{Position}
-use Rattle.hpgl_plot.specs.declared.state.Spot.{Spot}
+use Rattle.plot_arc.specs.declared.spot.Spot.{Spot}
 use Rattle.hpgl_plot.specs.declared.state.State.{State}
-use Rattle.hpgl_plot.specs.Steps.{Step, Touch, Move, Go, Edge}
+use Rattle.hpgl_plot.specs.Steps.{Step, Touch, Move, Go, Edge, DrawCircle, DrawArc}
 use Rattle.hpgl_plot.specs.Frames.{place}
+use Rattle.hpgl_plot.specs.Arcs.{circle_curve, arc_curve, chord_count, curve_point, curve_places}
+use Rattle.hpgl_plot.specs.declared.curve.Curve.{Curve}
 
 -- where the pen is
 abbrev pub position : State → Position
@@ -45,6 +48,18 @@ edge_path page s u = record {
   ends = position s;
 }
 
+-- over the ends of a circle's chords, from its first point on, drawn whether the pen is down or not
+abbrev pub circle_path : Page → State → Curve → Path
+circle_path page s c = record { places = place page s.frame c.from ∷ curve_places page s.frame c; draws = true; ends = position s }
+
+-- from the pen over the ends of an arc's chords to the last one, drawn if the pen is down
+abbrev pub arc_path : Page → State → Curve → Path
+arc_path page s c = record {
+  places = s.place ∷ curve_places page s.frame c;
+  draws = s.is_down;
+  ends = pen_at page s.frame (curve_point c (chord_count c));
+}
+
 -- from the pen to where it is: a dot, if the pen is up
 abbrev pub touch_path : State → Path
 touch_path s = record { places = s.place ∷ (s.place ∷ []); draws = not s.is_down; ends = position s }
@@ -57,4 +72,6 @@ path page s Touch = touch_path s
 path page s (Move x y) = move_path page s (target s.is_relative s.coordinates x y)
 path page s (Go relative x y) = move_path page s (target relative s.coordinates x y)
 path page s (Edge relative x y) = edge_path page s (target relative s.coordinates x y)
+path page s (DrawCircle c) = circle_path page s (circle_curve s.coordinates c)
+path page s (DrawArc relative a) = arc_path page s (arc_curve s.coordinates (target relative s.coordinates a.x a.y) a)
 path page s _ = no_path s

@@ -18,7 +18,6 @@ fn is_later(instruction: Instruction) -> bool
     ensures { result ≡ later.is_later instruction }
 {
     match instruction {
-        Instruction::Circle | Instruction::ArcAbsolute | Instruction::ArcRelative => true,
         Instruction::Label | Instruction::LabelTerminator => true,
         Instruction::CharacterSize | Instruction::Direction => true,
         _ => false,

@@ -1,7 +1,9 @@
 //! What a plot draws: the page that it is drawn on, what its instructions set, and its strokes.
 #![tactic(auto)]
 
+mod arc_parameters;
 mod axes;
+mod curve;
 mod fault;
 mod later;
 pub mod laws;

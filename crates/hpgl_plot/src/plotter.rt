@@ -3,10 +3,12 @@ ghost use Rattle.hpgl_plot.specs.Bounds.{IsSound};
 ghost use Rattle.hpgl_plot.specs.Unique.{IsScaling-prop};
 ghost use Rattle.std.proofs.Props.{props};
 
+mod arcs;
 mod figures;
 mod moves;
 mod settings;
 
+use crate::arc_parameters::{named_arc, named_circle};
 use crate::axes::Axes;
 use crate::fault::PlotFault;
 use crate::parameters::{
@@ -123,6 +125,9 @@ impl Plotter {
             }
             Instruction::EdgeAbsolute => self.edge_by(false, numbers)?,
             Instruction::EdgeRelative => self.edge_by(true, numbers)?,
+            Instruction::Circle => self.circle_by(named_circle(numbers))?,
+            Instruction::ArcAbsolute => self.arc_by(false, named_arc(numbers))?,
+            Instruction::ArcRelative => self.arc_by(true, named_arc(numbers))?,
             _ => {}
         }
         Ok(())

@@ -410,7 +410,7 @@ fn one_item_at_a_time(rt: HostRuntime) -> Result<(), Fail> {
 #[test]
 fn later_before_refused(rt: HostRuntime) -> Result<(), Fail> {
     let plots = [
-        (b"PU99999,0;CI5;".as_slice(), PlotFault::NotYet { at: 10 }),
+        (b"PU99999,0;SI5;".as_slice(), PlotFault::NotYet { at: 10 }),
         (
             b"PU99999,0;PU0,0;".as_slice(),
             PlotFault::OffRange { at: 0 },

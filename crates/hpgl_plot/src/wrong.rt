@@ -2,6 +2,7 @@
 ghost use Rattle.std.specs.Prelude.{◌≡◌, ◌≤◌, All, nat_abs};
 ghost use Rattle.hpgl_plot.specs.Meanings.{meaning, is_wrong_item};
 
+use crate::arc_parameters::{named_arc, named_circle};
 use crate::parameters::{
     named_colour, named_pen, named_points, named_rotation, named_scaling, named_width, named_window,
 };
@@ -36,6 +37,8 @@ fn are_wrong(instruction: Instruction, numbers: &[Number]) -> bool
         Instruction::PenUp | Instruction::PenDown => numbers.len() % 2 == 1,
         Instruction::PlotAbsolute | Instruction::PlotRelative => numbers.len() % 2 == 1,
         Instruction::EdgeAbsolute | Instruction::EdgeRelative => numbers.len() < 2,
+        Instruction::Circle => named_circle(numbers).is_none(),
+        Instruction::ArcAbsolute | Instruction::ArcRelative => named_arc(numbers).is_none(),
         _ => false,
     }
 }

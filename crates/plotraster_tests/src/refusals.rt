@@ -75,8 +75,8 @@ fn the_answer_tells_what_was_done(rt: HostRuntime) -> Result<(), Fail> {
 #[test]
 fn plots_that_are_refused(rt: HostRuntime) -> Result<(), Fail> {
     let cases = [
-        (b"CI10;".as_slice(), Fault::NotYet { at: 0 }),
-        (b"PA70000,0;AA1,1,9;".as_slice(), Fault::NotYet { at: 10 }),
+        (b"DI10;".as_slice(), Fault::NotYet { at: 0 }),
+        (b"PA70000,0;SI1,1;".as_slice(), Fault::NotYet { at: 10 }),
         (b"pa1 1lb".as_slice(), Fault::NotYet { at: 5 }),
         (b"PA70000,0;IN;".as_slice(), Fault::OffRange { at: 0 }),
         (b"PA70000,0;".as_slice(), Fault::OffRange { at: 0 }),

@@ -12,8 +12,9 @@ ghost use Rattle.hpgl_plot.specs.Steps.{Touch, Move, Go};
 use crate::fault::MOST_STROKES;
 use crate::place::{is_place_in_range, place_on, target_of};
 use crate::plotter::{Plotter, Stop};
-use crate::state::{Position, Spot};
+use crate::state::Position;
 use hpgl_text::Number;
+use plot_arc::Spot;
 use plot_page::Stroke;
 
 impl Plotter {
@@ -52,8 +53,8 @@ impl Plotter {
     /// Where a move ends, in coordinates.
     pub fn target(&self, is_relative: bool, x: Number, y: Number) -> Spot
         ensures value { result ≡ paths.target is_relative self.now.state.coordinates x y }
-        ensures x_near { nat_abs (self.now.axes.across.slope *ℤ result.x) ≤ 2 ^ 112 }
-        ensures y_near { nat_abs (self.now.axes.upward.slope *ℤ result.y) ≤ 2 ^ 112 }
+        ensures x_near { nat_abs (self.now.axes.across.slope *ℤ result.x) ≤ 2 ^ 118 }
+        ensures y_near { nat_abs (self.now.axes.upward.slope *ℤ result.y) ≤ 2 ^ 118 }
     {
         let from = self.state.coordinates;
         target_of(
@@ -67,8 +68,8 @@ impl Plotter {
 
     /// Where coordinates lie on the page.
     pub fn place_of(&self, coordinates: Spot) -> Spot
-        requires x_near { nat_abs (self.now.axes.across.slope *ℤ coordinates.x) ≤ 2 ^ 112 }
-        requires y_near { nat_abs (self.now.axes.upward.slope *ℤ coordinates.y) ≤ 2 ^ 112 }
+        requires x_near { nat_abs (self.now.axes.across.slope *ℤ coordinates.x) ≤ 2 ^ 118 }
+        requires y_near { nat_abs (self.now.axes.upward.slope *ℤ coordinates.y) ≤ 2 ^ 118 }
         ensures { result ≡ frames.place self.now.page self.now.state.frame coordinates }
     {
         place_on(&self.page, &self.state.frame, &self.axes, coordinates)

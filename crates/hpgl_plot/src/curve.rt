@@ -1,0 +1,51 @@
+//! Circles and arcs in coordinates.
+ghost use Rattle.std.specs.Prelude.{◌≡◌, ◌<◌};
+ghost use Rattle.plot_arc.specs.Chords.{IsNear};
+ghost use Rattle.hpgl_plot.specs.Arcs as curves;
+
+use plot_arc::{Spot, chord_point, turn, turn_count};
+
+/// What CI asks for: the radius in millionths of the current unit, and the angle of a chord, 500 to
+/// 180,000 thousandths of a degree.
+#[derive(Clone, Copy, Debug)]
+pub struct Circle {
+    pub radius: i64,
+    pub chord: u32,
+}
+
+/// What AA and AR ask for: the centre in millionths of the current unit, and in thousandths of a
+/// degree the sweep, -360,000 to 360,000, and the angle of a chord, 500 to 180,000.
+#[derive(Clone, Copy, Debug)]
+pub struct Arc {
+    pub x: i64,
+    pub y: i64,
+    pub sweep: i32,
+    pub chord: u32,
+}
+
+/// A circle or an arc: its centre and its first point in millionths of the current unit, its sweep
+/// and the angle of a chord in thousandths of a degree.
+#[derive(Clone, Copy, Debug)]
+pub struct Curve {
+    pub centre: Spot,
+    pub from: Spot,
+    pub sweep: i32,
+    pub chord: u32,
+}
+
+/// How many chords a curve has.
+pub fn chord_count(curve: Curve) -> u32
+    requires { 0 < curve.chord }
+    ensures { result ≡ curves.chord_count curve }
+{
+    turn_count(curve.chord, curve.sweep)
+}
+
+/// Where the `k`-th chord of a curve ends.
+pub fn curve_point(curve: Curve, k: u32) -> Spot
+    requires centre { IsNear curve.centre }
+    requires from { IsNear curve.from }
+    ensures { result ≡ curves.curve_point curve k }
+{
+    chord_point(curve.centre, curve.from, turn(curve.chord, curve.sweep, k))
+}

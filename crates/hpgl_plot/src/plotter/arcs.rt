@@ -1,0 +1,118 @@
+//! Circles and arcs.
+ghost use Rattle.std.specs.Prelude.{◌≡◌, ◌∷◌, IfOk, IfSome};
+ghost use Rattle.hpgl_plot.specs.Arcs as curves;
+ghost use Rattle.hpgl_plot.specs.Bounds.{IsInRange, IsCircle, IsArc, IsCurve};
+ghost use Rattle.hpgl_plot.specs.Machine.{seen, step, run, Runs, traced};
+ghost use Rattle.hpgl_plot.specs.Meanings.{circles, arcs};
+ghost use Rattle.hpgl_plot.specs.Paths.{pen_at, target};
+ghost use Rattle.hpgl_plot.specs.Steps.{DrawCircle, DrawArc};
+
+use crate::curve::{Arc, Circle, Curve, chord_count, curve_point};
+use crate::place::target_of;
+use crate::plotter::{Plotter, Stop};
+use crate::state::Position;
+use plot_arc::Spot;
+
+impl Plotter {
+    /// A circle, if its parameters are not wrong.
+    pub fn circle_by(&mut self, named: Option<Circle>) -> Result<(), Stop>
+        requires { IfSome named (λ c. IsCircle c) }
+        ensures { Runs (run (seen self.old) (circles named).steps) (seen self.new) result }
+    {
+        if let Some(circle) = named {
+            self.circle(circle)?;
+        }
+        Ok(())
+    }
+
+    /// An arc, if its parameters are not wrong.
+    pub fn arc_by(&mut self, is_relative: bool, named: Option<Arc>) -> Result<(), Stop>
+        requires { IfSome named (λ a. IsArc a) }
+        ensures { Runs (run (seen self.old) (arcs is_relative named).steps) (seen self.new) result }
+    {
+        if let Some(arc) = named {
+            self.arc(is_relative, arc)?;
+        }
+        Ok(())
+    }
+
+    // A circle about the pen, which stays where it is.
+    fn circle(&mut self, circle: Circle) -> Result<(), Stop>
+        requires { IsCircle circle }
+        ensures { Runs (step (seen self.old) (DrawCircle circle)) (seen self.new) result }
+    {
+        let curve = self.circle_curve(circle);
+        let start = self.place_of(curve.from);
+        self.follow_curve(start, curve, true)?;
+        Ok(())
+    }
+
+    // An arc from the pen on, which moves to its end.
+    fn arc(&mut self, is_relative: bool, arc: Arc) -> Result<(), Stop>
+        requires { IsArc arc }
+        ensures { Runs (step (seen self.old) (DrawArc is_relative arc)) (seen self.new) result }
+    {
+        let curve = self.arc_curve(is_relative, arc);
+        let start = self.state.place;
+        let draws = self.state.is_down;
+        let end = self.follow_curve(start, curve, draws)?;
+        self.arrive(end);
+        Ok(())
+    }
+
+    // A circle in coordinates.
+    fn circle_curve(&self, circle: Circle) -> Curve
+        requires { IsCircle circle }
+        ensures value { result ≡ curves.circle_curve self.now.state.coordinates circle }
+        ensures curve { IsCurve self.now.page self.now.state.frame result }
+    {
+        let centre = self.state.coordinates;
+        let right = self.axes.across.moved(centre.x, circle.radius, true);
+        Curve {
+            centre,
+            from: Spot {
+                x: right,
+                y: centre.y,
+            },
+            sweep: 360_000,
+            chord: circle.chord,
+        }
+    }
+
+    // An arc in coordinates.
+    fn arc_curve(&self, is_relative: bool, arc: Arc) -> Curve
+        requires { IsArc arc }
+        ensures value { result ≡ curves.arc_curve self.now.state.coordinates (target is_relative self.now.state.coordinates arc.x arc.y) arc }
+        ensures curve { IsCurve self.now.page self.now.state.frame result }
+    {
+        let from = self.state.coordinates;
+        Curve {
+            centre: target_of(&self.axes, from, is_relative, arc.x, arc.y),
+            from,
+            sweep: arc.sweep,
+            chord: arc.chord,
+        }
+    }
+
+    // Passes the ends of a curve's chords, from a place on, and gives the last of them. The pen stays
+    // where it is.
+    fn follow_curve(&mut self, start: Spot, curve: Curve, draws: bool) -> Result<Position, Stop>
+        requires { IsCurve self.old.page self.old.state.frame curve }
+        ensures end { IfOk result (λ end. end ≡ pen_at self.old.page self.old.state.frame (curves.curve_point curve (curves.chord_count curve))) }
+        ensures in_range { IfOk result (λ end. IsInRange end.place) }
+        ensures runs { Runs (traced (seen self.old) draws (start ∷ curves.curve_places self.old.page self.old.state.frame curve)) (seen self.new) result }
+    {
+        self.begin(start)?;
+        let mut end = Position {
+            place: start,
+            coordinates: curve.from,
+        };
+        for k in 0..chord_count(curve) {
+            let coordinates = curve_point(curve, k + 1);
+            let place = self.place_of(coordinates);
+            self.reach(end.place, place, draws)?;
+            end = Position { place, coordinates };
+        }
+        Ok(end)
+    }
+}
