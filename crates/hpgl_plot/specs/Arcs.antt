@@ -1,6 +1,6 @@
 -- Circles and arcs in coordinates, of CI (Circle), AA (Arc Absolute) and AR (Arc Relative). The end of each chord is
 -- turned from the first point, so roundings do not add up.
-use Rattle.std.specs.Prelude.{ℕ, ℤ, pos, ◌+ℤ◌, List, map}
+use Rattle.std.specs.Prelude.{ℕ, pos, ◌+ℤ◌, List, map}
 use Rattle.std.specs.List.{range_with_len}
 use Rattle.plot_arc.specs.declared.spot.Spot.{Spot}
 use Rattle.plot_arc.specs.Chords.{chord_point_of}

@@ -2,6 +2,8 @@
 #![tactic(auto)]
 
 mod arc_parameters;
+#[cfg(test)]
+mod arc_tests;
 mod axes;
 mod curve;
 mod fault;

@@ -1,7 +1,7 @@
-use Rattle.std.proofs.Common.{◌≡◌, ◌+◌, ◌-◌, ◌<◌, ◌∷◌}
-use Rattle.hpgl_plot.specs.Arcs.{chord_count, curve_point, curve_places}
+use Rattle.std.proofs.Common.{◌≡◌, ◌<◌}
+use Rattle.hpgl_plot.specs.Arcs.{curve_point}
 use Rattle.hpgl_plot.specs.Bounds.{IsInRange}
-use Rattle.hpgl_plot.specs.Machine.{seen, traced}
+use Rattle.hpgl_plot.specs.Machine.{seen}
 use Rattle.hpgl_plot.specs.Paths.{pen_at}
 use Rattle.hpgl_plot.proofs.Curves.{Left}
 use Rattle.hpgl_plot.proofs.Traces.{IsKept}
