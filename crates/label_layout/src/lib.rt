@@ -1,0 +1,13 @@
+//! Where the characters of a label lie: cell by cell, and how far each of their strokes is from the
+//! label's start.
+#![tactic(auto)]
+
+mod cell;
+mod size;
+mod strokes;
+#[cfg(test)]
+mod tests;
+
+pub use cell::Cell;
+pub use size::{CharacterSize, Offset};
+pub use strokes::{LabelPoint, LabelStroke, label_stroke};
