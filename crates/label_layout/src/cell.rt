@@ -6,6 +6,7 @@ ghost use Rattle.label_layout.specs.Points as points;
 use crate::strokes::LabelPoint;
 
 const LINE_FEED: u8 = b'\n';
+
 const CARRIAGE_RETURN: u8 = b'\r';
 
 /// A cell of a label: its column, counted from the label's start, and its line, counted downward.
