@@ -32,7 +32,7 @@ pub struct Done {
 /// the selected pens that the gauge says reaches it. The gauge makes at most as many tests as the
 /// boxes of those strokes have pixels, whatever the band height.
 ///
-/// Errors, in this order: those of reading and drawing the plot (`Read`, `TooLong`, `NotYet`,
+/// Errors, in this order: those of reading and drawing the plot (`Read`, `TooLong`,
 /// `OffRange`, `TooManyStrokes`); `Band` and `Row` for a band height and a first row out of range;
 /// `Write` if the sink fails. `Memory` comes when memory is refused. After every error but `Write`
 /// the sink is as it was; after `Write` it has taken the first `bytes` bytes of the picture, and the

@@ -15,8 +15,8 @@ use std::alloc::Global;
 /// it. Of the plot nothing else is kept.
 ///
 /// Errors, in this order: `Read` if the source fails; `TooLong` if it gives more than 67,108,864
-/// bytes; `NotYet` for a plot with an instruction that is known and not drawn yet; `OffRange` and
-/// `TooManyStrokes` at the first instruction that goes out of range or makes a stroke too many.
+/// bytes; `OffRange` and `TooManyStrokes` at the first instruction that goes out of range or makes a
+/// stroke too many.
 /// `Memory` comes when memory is refused.
 pub fn draw_source<S: Source>(alloc: Global, page: &Page, source: &mut S) -> Result<Lines, Fault>
     requires failing { S.failed source.old < 2 ^ 64 - 1 }

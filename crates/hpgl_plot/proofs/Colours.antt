@@ -6,9 +6,9 @@ use Rattle.std.proofs.Math.ListN.{length-set}
 use Rattle.std.proofs.lemmas.List.{get_or-replicate}
 use Rattle.std.proofs.lemmas.Bool.Decides.{nat_tests}
 use Rattle.plot_page.specs.declared.colour.Colour.{Colour}
-use Rattle.hpgl_plot.specs.declared.setting.Setting.TheVariants.{Start, Defaults, PageCorners, FirstPoint, BothPoints, Scale, Rotate, PageWindow, CornerWindow, Pen, Width, WidthOfAll, PenColour, DefaultColours}
+use Rattle.hpgl_plot.specs.declared.setting.Setting.TheVariants.{Start, Defaults, PageCorners, FirstPoint, BothPoints, Scale, Rotate, PageWindow, CornerWindow, Pen, Width, WidthOfAll, PenColour, DefaultColours, Size, Direction}
 use Rattle.hpgl_plot.specs.Colours.{black, default_colour, default_colours}
-use Rattle.hpgl_plot.specs.Steps.{Step, Set, Touch, Lower, Relate, Move, Go, Edge, DrawCircle, DrawArc}
+use Rattle.hpgl_plot.specs.Steps.{Step, Set, Touch, Lower, Relate, Move, Go, Edge, DrawCircle, DrawArc, Write, EndLabel}
 use Rattle.hpgl_plot.specs.Settings.{colours, colour, newer}
 use Rattle.hpgl_plot.specs.Laws.{ColoursAreLookedBackFor}
 
@@ -20,6 +20,8 @@ colours_length : (before : List Step) → length (colours before) ≡ 256
 colours_length [] = length_default
 colours_length (Set Start ∷ before) = length_default
 colours_length (Set DefaultColours ∷ before) = length_default
+colours_length (Set (Size c) ∷ before) = colours_length before
+colours_length (Set (Direction r) ∷ before) = colours_length before
 colours_length (Set (PenColour q c) ∷ before) = length-set (colours before) q c ∙ colours_length before
 colours_length (Set Defaults ∷ before) = colours_length before
 colours_length (Set PageCorners ∷ before) = colours_length before
@@ -40,6 +42,8 @@ colours_length (Go r x y ∷ before) = colours_length before
 colours_length (Edge r x y ∷ before) = colours_length before
 colours_length (DrawCircle c ∷ before) = colours_length before
 colours_length (DrawArc r a ∷ before) = colours_length before
+colours_length (Write t ∷ before) = colours_length before
+colours_length (EndLabel q ∷ before) = colours_length before
 
 -- the list of the default colours has each pen's
 default_tells : (p : ℕ) → p < 256 → get_or default_colours p black ≡ default_colour p
@@ -65,6 +69,8 @@ pub colours_tell : ColoursAreLookedBackFor
 colours_tell [] p h = default_tells p h
 colours_tell (Set Start ∷ before) p h = default_tells p h
 colours_tell (Set DefaultColours ∷ before) p h = default_tells p h
+colours_tell (Set (Size c) ∷ before) p h = colours_tell before p h
+colours_tell (Set (Direction r) ∷ before) p h = colours_tell before p h
 colours_tell (Set (PenColour q c) ∷ before) p h = one_tells (colours before) p q c (colour p before) (colours_length before) h (colours_tell before p h)
 colours_tell (Set Defaults ∷ before) p h = colours_tell before p h
 colours_tell (Set PageCorners ∷ before) p h = colours_tell before p h
@@ -85,3 +91,5 @@ colours_tell (Go r x y ∷ before) p h = colours_tell before p h
 colours_tell (Edge r x y ∷ before) p h = colours_tell before p h
 colours_tell (DrawCircle c ∷ before) p h = colours_tell before p h
 colours_tell (DrawArc r a ∷ before) p h = colours_tell before p h
+colours_tell (Write t ∷ before) p h = colours_tell before p h
+colours_tell (EndLabel q ∷ before) p h = colours_tell before p h

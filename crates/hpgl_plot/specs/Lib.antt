@@ -1,7 +1,7 @@
 -- What a reader must believe: what instructions mean, what holds before a step, strokes, notes and refusals.
-pub mod Later
 pub mod Parameters
 pub mod ArcParameters
+pub mod Lettering
 pub mod Steps
 pub mod Meanings
 pub mod Colours
@@ -10,6 +10,7 @@ pub mod Turns
 pub mod Windows
 pub mod Frames
 pub mod Arcs
+pub mod Labels
 pub mod Paths
 pub mod States
 pub mod Strokes

@@ -10,13 +10,15 @@ use Rattle.plot_page.specs.declared.page.Page.{Page}
 use Rattle.hpgl_plot.specs.declared.plotter.Plotter.{Plotter}
 use Rattle.hpgl_plot.specs.declared.plotter.Stop.{Stop}
 use Rattle.hpgl_plot.specs.declared.plotter.Stop.TheVariants.{Memory, OffRange}
+use Rattle.hpgl_plot.specs.declared.setting.Rotation.TheVariants as rotation
 use Rattle.hpgl_plot.specs.declared.setting.Setting.{Setting}
-use Rattle.hpgl_plot.specs.declared.setting.Setting.TheVariants.{Start, Defaults, PageCorners, FirstPoint, BothPoints, Scale, Rotate, PageWindow, CornerWindow, Pen, Width, WidthOfAll, PenColour, DefaultColours}
+use Rattle.hpgl_plot.specs.declared.setting.Setting.TheVariants.{Start, Defaults, PageCorners, FirstPoint, BothPoints, Scale, Rotate, PageWindow, CornerWindow, Pen, Width, WidthOfAll, PenColour, DefaultColours, Size, Direction}
 use Rattle.hpgl_plot.specs.declared.state.Frame.{Frame}
 use Rattle.hpgl_plot.specs.declared.state.Position.{Position}
 use Rattle.plot_arc.specs.declared.spot.Spot.{Spot}
 use Rattle.hpgl_plot.specs.declared.state.State.{State}
 use Rattle.hpgl_plot.specs.Colours.{default_colours}
+use Rattle.hpgl_plot.specs.Lettering.{usual_size}
 use Rattle.plot_page.specs.Segments.{Segment}
 use Rattle.hpgl_plot.specs.Settings.{all_pens}
 use Rattle.hpgl_plot.specs.Steps.{Step, Set, Lower, Relate}
@@ -24,7 +26,6 @@ use Rattle.hpgl_plot.specs.Meanings.{steps_of}
 use Rattle.hpgl_plot.specs.Frames.{back, moved_points, corner_window}
 use Rattle.hpgl_plot.specs.Paths.{path}
 use Rattle.hpgl_plot.specs.States.{state_of}
-use Rattle.hpgl_plot.specs.Plots.{refusal_after}
 use Rattle.hpgl_plot.specs.Turns.{corners}
 use Rattle.hpgl_plot.specs.Windows.{page_window}
 use Rattle.hpgl_plot.specs.Strokes.{are_in_range, joined, path_strokes}
@@ -38,7 +39,7 @@ pointed page s p = framed page s (record s.frame { points = p })
 
 abbrev pub set_to : Page → State → Setting → State
 set_to page s Start = state_of page []
-set_to page s Defaults = record (framed page s (record s.frame { scaling = Off })) { is_relative = false; window = page_window page }
+set_to page s Defaults = record (framed page s (record s.frame { scaling = Off })) { is_relative = false; window = page_window page; size = usual_size; direction = rotation.None }
 set_to page s PageCorners = pointed page s (corners page s.frame.rotation)
 set_to page s (FirstPoint x y) = pointed page s (moved_points s.frame.points x y)
 set_to page s (BothPoints p) = pointed page s p
@@ -51,6 +52,8 @@ set_to page s (Width p w) = record s { widths = set s.widths p w }
 set_to page s (WidthOfAll w) = record s { widths = all_pens w }
 set_to page s (PenColour p c) = record s { colours = set s.colours p c }
 set_to page s DefaultColours = record s { colours = default_colours }
+set_to page s (Size c) = record s { size = c }
+set_to page s (Direction r) = record s { direction = r }
 
 -- the pen is at another position
 abbrev pub moved : State → Position → State
@@ -127,17 +130,9 @@ seen p = record { page = p.page; state = p.state; kept = p.strokes.items; full =
 abbrev pub at_start : Page → World
 at_start page = record { page = page; state = state_of page []; kept = []; full = false }
 
--- how drawing items may fail, none of which is left for later
-abbrev pub Stops : PlotFault → Page → List ItemShape → Type 0
-Stops fault.Memory page items = ⊤
-Stops (fault.NotYet at) page items = ⊥
-Stops (fault.OffRange at) page items = refusal_after page [] 0 items ≡ Some (fault.OffRange at)
-Stops (fault.TooManyStrokes at) page items = refusal_after page [] 0 items ≡ Some (fault.TooManyStrokes at)
-
 -- how an item is refused
 abbrev pub Refused : World → ItemShape → PlotFault → Type 0
 Refused w i fault.Memory = ⊤
-Refused w i (fault.NotYet at) = ⊥
 Refused w i (fault.OffRange at) = (more : List ItemShape) → runs w (i ∷ more) ≡ Err (fault.OffRange at)
 Refused w i (fault.TooManyStrokes at) = (more : List ItemShape) → runs w (i ∷ more) ≡ Err (fault.TooManyStrokes at)
 
@@ -145,8 +140,3 @@ Refused w i (fault.TooManyStrokes at) = (more : List ItemShape) → runs w (i �
 abbrev pub CarriesOut : {U : Type 0} → World → ItemShape → World → Result U PlotFault → Type 0
 CarriesOut w i v (Ok _) = (more : List ItemShape) → runs w (i ∷ more) ≡ runs v more
 CarriesOut w i v (Err e) = Refused w i e
-
--- a later instruction comes before a refusal of today
-abbrev pub later_or : Option ItemShape → PlotFault → PlotFault
-later_or (Some i) e = fault.NotYet i.at
-later_or None e = e

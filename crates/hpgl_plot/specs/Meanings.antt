@@ -1,8 +1,8 @@
 -- What each instruction means with its numbers: the steps that it asks for, and whether the numbers are wrong.
 use Rattle.std.specs.Prelude.{ℤ, ◌%◌, ◌==◌, Bool, true, false, List, [], ◌∷◌, Option, Some, None, length}
-use Rattle.hpgl_text.specs.Shapes.{ItemShape, BodyShape, Params, Coded}
+use Rattle.hpgl_text.specs.Shapes.{ItemShape, BodyShape, Params, Coded, Label}
 use Rattle.hpgl_text.specs.declared.instruction.Instruction.{Instruction}
-use Rattle.hpgl_text.specs.declared.instruction.Instruction.TheVariants.{Initialize, DefaultValues, InputPoints, Scale, Rotate, InputWindow, SelectPen, PenWidth, PenColour, PenUp, PenDown, PlotAbsolute, PlotRelative, EdgeAbsolute, EdgeRelative, Circle, ArcAbsolute, ArcRelative}
+use Rattle.hpgl_text.specs.declared.instruction.Instruction.TheVariants.{Initialize, DefaultValues, InputPoints, Scale, Rotate, InputWindow, SelectPen, PenWidth, PenColour, PenUp, PenDown, PlotAbsolute, PlotRelative, EdgeAbsolute, EdgeRelative, Circle, ArcAbsolute, ArcRelative, CharacterSize, Direction}
 use Rattle.hpgl_text.specs.Instructions.{instruction_of}
 use Rattle.hpgl_plot.specs.ArcParameters.{circled, arced}
 use Rattle.hpgl_plot.specs.declared.curve.Arc as arc
@@ -11,6 +11,8 @@ use Rattle.hpgl_plot.specs.declared.setting.Setting.{Setting}
 use Rattle.hpgl_plot.specs.declared.setting.Setting.TheVariants.{Start, Defaults}
 use Rattle.hpgl_plot.specs.Parameters.{scaling_points, scaled, rotated, window_corners, selected_pen, pen_width, pen_colour}
 use Rattle.hpgl_plot.specs.Steps.{Step, Set, Lower, Relate, Edge, DrawCircle, DrawArc, moves, lowered_then, entry_steps}
+use Rattle.hpgl_plot.specs.Lettering.{character_size, direction}
+use Rattle.hpgl_plot.specs.Labels.{label_steps}
 
 pub record Meaning : Type 0 where
   pub steps : List Step
@@ -67,6 +69,8 @@ meaning EdgeRelative ns = edges true ns
 meaning Circle ns = circles (circled ns)
 meaning ArcAbsolute ns = arcs false (arced ns)
 meaning ArcRelative ns = arcs true (arced ns)
+meaning CharacterSize ns = sets (character_size ns)
+meaning Direction ns = sets (direction ns)
 meaning _ ns = nothing
 
 abbrev pub meaning_if_known : Option Instruction → List ℤ → Meaning
@@ -76,6 +80,7 @@ meaning_if_known None ns = nothing
 abbrev pub body_steps : Option Instruction → BodyShape → List Step
 body_steps instruction (Params ns) = (meaning_if_known instruction ns).steps
 body_steps instruction (Coded entries) = entry_steps entries
+body_steps instruction (Label bytes) = label_steps bytes
 body_steps instruction _ = []
 
 -- the steps of an item

@@ -1,16 +1,19 @@
 -- The path of a step: the places that it passes, whether it draws, and where the pen is after it. PA (Plot Absolute), PR
--- (Plot Relative), EA (Edge Rectangle Absolute), ER (Edge Rectangle Relative), CI (Circle), AA (Arc Absolute) and AR
--- (Arc Relative).
+-- (Plot Relative), EA (Edge Rectangle Absolute), ER (Edge Rectangle Relative), CI (Circle), AA (Arc Absolute), AR
+-- (Arc Relative), LB (Label).
 use Rattle.std.specs.Prelude.{ℤ, ◌+ℤ◌, Bool, true, false, not, List, [], ◌∷◌, if◌then◌else◌}
 use Rattle.plot_page.specs.declared.page.Page.{Page}
+use Rattle.label_layout.specs.declared.strokes.LabelPoint.{LabelPoint}
+use Rattle.label_layout.specs.declared.strokes.LabelStroke.{LabelStroke}
 use Rattle.hpgl_plot.specs.declared.state.Frame.{Frame}
 use Rattle.hpgl_plot.specs.declared.state.Position.{Position}
 use Rattle.plot_arc.specs.declared.spot.Spot.{Spot}
 use Rattle.hpgl_plot.specs.declared.state.State.{State}
-use Rattle.hpgl_plot.specs.Steps.{Step, Touch, Move, Go, Edge, DrawCircle, DrawArc}
-use Rattle.hpgl_plot.specs.Frames.{place}
+use Rattle.hpgl_plot.specs.Steps.{Step, Touch, Move, Go, Edge, DrawCircle, DrawArc, Write, EndLabel}
+use Rattle.hpgl_plot.specs.Frames.{place, back}
 use Rattle.hpgl_plot.specs.Arcs.{circle_curve, arc_curve, chord_count, curve_point, curve_places}
 use Rattle.hpgl_plot.specs.declared.curve.Curve.{Curve}
+use Rattle.hpgl_plot.specs.Labels.{label_place}
 
 -- where the pen is
 abbrev pub position : State → Position
@@ -64,6 +67,16 @@ arc_path page s c = record {
 abbrev pub touch_path : State → Path
 touch_path s = record { places = s.place ∷ (s.place ∷ []); draws = not s.is_down; ends = position s }
 
+-- a stroke of a label, drawn whether the pen is down or not; the pen stays at the label's start
+abbrev pub write_path : State → LabelStroke → Path
+write_path s t = record { places = label_place s t.from ∷ (label_place s t.to ∷ []); draws = true; ends = position s }
+
+-- the end of a label, where the pen is put, and its coordinates are recomputed
+abbrev pub label_end_path : Page → State → LabelPoint → Path
+label_end_path page s p =
+    let q = label_place s p in
+    record { places = q ∷ []; draws = false; ends = record { place = q; coordinates = back page s.frame q } }
+
 abbrev pub no_path : State → Path
 no_path s = record { places = []; draws = false; ends = position s }
 
@@ -74,4 +87,6 @@ path page s (Go relative x y) = move_path page s (target relative s.coordinates 
 path page s (Edge relative x y) = edge_path page s (target relative s.coordinates x y)
 path page s (DrawCircle c) = circle_path page s (circle_curve s.coordinates c)
 path page s (DrawArc relative a) = arc_path page s (arc_curve s.coordinates (target relative s.coordinates a.x a.y) a)
+path page s (Write t) = write_path s t
+path page s (EndLabel p) = label_end_path page s p
 path page s _ = no_path s

@@ -10,7 +10,7 @@ use Rattle.hpgl_plot.specs.declared.state.State.{State}
 use Rattle.hpgl_plot.specs.declared.setting.Setting.{Setting}
 use Rattle.hpgl_plot.specs.declared.setting.Setting.TheVariants.{Start, Defaults, PageCorners, FirstPoint, BothPoints, Scale, Rotate}
 use Rattle.hpgl_plot.specs.Steps.{Step, Set}
-use Rattle.hpgl_plot.specs.Settings.{pen, is_down, is_relative, widths, colours}
+use Rattle.hpgl_plot.specs.Settings.{pen, is_down, is_relative, widths, colours, size, direction}
 use Rattle.hpgl_plot.specs.Frames.{frame, window, back}
 use Rattle.hpgl_plot.specs.Paths.{pen_at, path}
 
@@ -39,6 +39,8 @@ state_with page before p = record {
   window = window page before;
   widths = widths before;
   colours = colours before;
+  size = size before;
+  direction = direction before;
   pen = pen before;
   is_down = is_down before;
   is_relative = is_relative before;

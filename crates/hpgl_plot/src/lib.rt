@@ -7,8 +7,10 @@ mod arc_tests;
 mod axes;
 mod curve;
 mod fault;
-mod later;
+#[cfg(test)]
+mod label_tests;
 pub mod laws;
+mod lettering;
 mod lines;
 mod note;
 mod notes;

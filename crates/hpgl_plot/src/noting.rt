@@ -2,12 +2,14 @@
 ghost use Rattle.std.specs.Prelude.{◌≡◌, ◌≤◌, ◌++◌, IfOk, length};
 ghost use Rattle.std.specs.List.{flat_map};
 ghost use Rattle.hpgl_text.specs.SeenEntries.{part_shape};
-ghost use Rattle.hpgl_plot.specs.Notes.{noted, notes_of, entry_note, part_noted};
+ghost use Rattle.hpgl_plot.specs.Notes.{noted, notes_of, entry_note, part_noted, is_slanted_item};
+ghost use Rattle.hpgl_plot.specs.Notes as notes;
 ghost use Rattle.hpgl_plot.specs.Meanings.{is_wrong_item};
 
+use crate::lettering::is_slanted;
 use crate::note::{Note, NoteKind};
 use crate::wrong::has_wrong_numbers;
-use hpgl_text::{Body, Entry, Item, Part};
+use hpgl_text::{Body, Entry, Instruction, Item, Part, instruction_of_code};
 use std::alloc::AllocError;
 
 /// Appends to the notes what is noted on an item.
@@ -82,12 +84,14 @@ fn note_on(code: [u8; 2], at: usize, kind: NoteKind) -> Note
 
 // What is noted on an item besides that it is open.
 fn noted_kind(item: &Item<'_>) -> Option<NoteKind>
-    ensures { result ≡ noted (is_wrong_item item.now) item.now.body }
+    ensures { result ≡ noted (is_wrong_item item.now) (is_slanted_item item.now) item.now.body }
 {
     match &item.body {
         Body::Params(_) => {
             if has_wrong_numbers(item) {
                 Some(NoteKind::Bad)
+            } else if is_slanted_item(item) {
+                Some(NoteKind::Axis)
             } else {
                 None
             }
@@ -96,5 +100,19 @@ fn noted_kind(item: &Item<'_>) -> Option<NoteKind>
         Body::Skipped => Some(NoteKind::Skipped),
         Body::Bad => Some(NoteKind::Bad),
         Body::Stray(byte) => Some(NoteKind::Stray(*byte)),
+    }
+}
+
+// Whether the item is a DI whose direction is along no axis.
+fn is_slanted_item(item: &Item<'_>) -> bool
+    ensures { result ≡ notes.is_slanted_item item.now }
+{
+    match &item.body {
+        Body::Params(numbers) => match instruction_of_code(item.code) {
+            Some(Instruction::Direction) => is_slanted(numbers.as_slice()),
+            _ => false,
+        },
+        Body::Coded(_) | Body::Label(_) | Body::Terminator(_) => false,
+        Body::Skipped | Body::Bad | Body::Stray(_) => false,
     }
 }

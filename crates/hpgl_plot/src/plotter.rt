@@ -5,12 +5,14 @@ ghost use Rattle.std.proofs.Props.{props};
 
 mod arcs;
 mod figures;
+mod labels;
 mod moves;
 mod settings;
 
 use crate::arc_parameters::{named_arc, named_circle};
 use crate::axes::Axes;
 use crate::fault::PlotFault;
+use crate::lettering::{named_direction, named_size};
 use crate::parameters::{
     named_colour, named_pen, named_points, named_rotation, named_scaling, named_width, named_window,
 };
@@ -72,8 +74,8 @@ impl Plotter {
                 None => Ok(()),
             },
             Body::Coded(entries) => self.follow_entries(entries.as_slice()),
-            Body::Label(_) | Body::Terminator(_) => Ok(()),
-            Body::Skipped | Body::Bad | Body::Stray(_) => Ok(()),
+            Body::Label(bytes) => self.write(bytes),
+            Body::Terminator(_) | Body::Skipped | Body::Bad | Body::Stray(_) => Ok(()),
         }
     }
 
@@ -128,6 +130,8 @@ impl Plotter {
             Instruction::Circle => self.circle_by(named_circle(numbers))?,
             Instruction::ArcAbsolute => self.arc_by(false, named_arc(numbers))?,
             Instruction::ArcRelative => self.arc_by(true, named_arc(numbers))?,
+            Instruction::CharacterSize => self.set_named(named_size(numbers)),
+            Instruction::Direction => self.set_named(named_direction(numbers)),
             _ => {}
         }
         Ok(())

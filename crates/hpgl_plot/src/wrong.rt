@@ -3,6 +3,7 @@ ghost use Rattle.std.specs.Prelude.{◌≡◌, ◌≤◌, All, nat_abs};
 ghost use Rattle.hpgl_plot.specs.Meanings.{meaning, is_wrong_item};
 
 use crate::arc_parameters::{named_arc, named_circle};
+use crate::lettering::{named_direction, named_size};
 use crate::parameters::{
     named_colour, named_pen, named_points, named_rotation, named_scaling, named_width, named_window,
 };
@@ -39,6 +40,8 @@ fn are_wrong(instruction: Instruction, numbers: &[Number]) -> bool
         Instruction::EdgeAbsolute | Instruction::EdgeRelative => numbers.len() < 2,
         Instruction::Circle => named_circle(numbers).is_none(),
         Instruction::ArcAbsolute | Instruction::ArcRelative => named_arc(numbers).is_none(),
+        Instruction::CharacterSize => named_size(numbers).is_none(),
+        Instruction::Direction => named_direction(numbers).is_none(),
         _ => false,
     }
 }

@@ -1,6 +1,7 @@
 -- The points and strokes of a label, and how far they lie from its start.
 use Rattle.std.specs.Prelude.{ℕ, ◌+◌, ◌*◌, ◌≤◌, ◌^◌, ℤ, pos, ◌-ℤ◌, ◌*ℤ◌, nat_abs, List, [], ◌∷◌, ◌++◌, map, reverse}
 use Rattle.exact.specs.Fraction.{round, quotient}
+unfoldable pub use Rattle.stick_font.specs.Glyphs.{first_rows, last_rows}
 use Rattle.stick_font.specs.Glyphs.{strokes, column_width}
 use Rattle.stick_font.specs.declared.grid.GridStroke.{GridStroke}
 use Rattle.label_layout.specs.declared.cell.Cell.{Cell}

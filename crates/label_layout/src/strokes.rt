@@ -1,5 +1,5 @@
 //! The strokes of a label, before its characters have a size.
-ghost use Rattle.std.specs.Prelude.{◌≡◌, map, slice_get, IfSome};
+ghost use Rattle.std.specs.Prelude.{◌≡◌, ◌<◌, map, slice_get, IfSome};
 ghost use Rattle.label_layout.specs.Points as points;
 
 use crate::cell::Cell;
@@ -39,6 +39,7 @@ impl LabelPoint {
 pub fn label_stroke(cell: Cell, byte: u8, k: usize) -> Option<LabelStroke>
     ensures value { result ≡ slice_get (points.character_strokes cell byte) k }
     ensures within { IfSome result (λ s. points.IsLabelStroke s) }
+    ensures few { IfSome result (λ _. k < 15) }
 {
     match glyph(byte, k) {
         Some(stroke) => {

@@ -23,7 +23,6 @@ fn numbers_statuses_and_texts(rt: HostRuntime) -> Result<(), Fail> {
         (Fault::Row, 6, 2, "first row is past the last row"),
         (write, 7, 3, "write failed: go on from row 5 after byte 131"),
         (Fault::Read, 8, 3, "read failed"),
-        (Fault::NotYet { at: 3 }, 10, 1, "not read yet at byte 3"),
     ];
     for (fault, its_number, its_status, text) in cases {
         assert_eq!(rt; number(&fault), its_number);

@@ -75,9 +75,7 @@ fn the_answer_tells_what_was_done(rt: HostRuntime) -> Result<(), Fail> {
 #[test]
 fn plots_that_are_refused(rt: HostRuntime) -> Result<(), Fail> {
     let cases = [
-        (b"DI10;".as_slice(), Fault::NotYet { at: 0 }),
-        (b"PA70000,0;SI1,1;".as_slice(), Fault::NotYet { at: 10 }),
-        (b"pa1 1lb".as_slice(), Fault::NotYet { at: 5 }),
+        (b"PA70000,0;DT$;".as_slice(), Fault::OffRange { at: 0 }),
         (b"PA70000,0;IN;".as_slice(), Fault::OffRange { at: 0 }),
         (b"PA70000,0;".as_slice(), Fault::OffRange { at: 0 }),
         (b"PA1,1;PA-65537,0;".as_slice(), Fault::OffRange { at: 6 }),

@@ -1,6 +1,7 @@
 -- Facts of each byte, found by computing all of them.
-use Rattle.std.proofs.Common.{◌≡◌, ◌<◌, ◌≤◌, ◌+◌, ◌-◌, ℕ, Bool, true, map, length, nat_lt, get_or, refl, sym, ap, ◌∙◌, arith}
+use Rattle.std.proofs.Common.{◌≡◌, ◌<◌, ◌≤◌, ◌+◌, ◌-◌, ℕ, Bool, true, map, length, nat_lt, nat_le, get_or, refl, sym, ap, ◌∙◌, arith}
 use Rattle.std.proofs.lemmas.List.FromFn.{get_or-map-range_with_len}
+use Rattle.std.proofs.lemmas.Bool.Decides.{nat_tests}
 use Rattle.std.specs.List.{list_all, range_with_len}
 use Rattle.stick_font.specs.Glyphs.{strokes, is_between, is_on_grid, first_rows, last_rows}
 
@@ -30,6 +31,18 @@ all_printing = refl
 
 pub printing : (byte : ℕ) → byte < 256 → nat_lt 0 (length (strokes byte)) ≡ is_between 33 126 byte
 printing byte h = each_of has_strokes (is_between 33 126) 0 0 256 byte byte byte all_printing h (omega arith) (omega arith)
+
+abbrev few_test : ℕ → Bool
+few_test byte = nat_le (length (strokes byte)) 15
+
+all_few : map few_test (range_with_len 0 256) ≡ map (λ _. true) (range_with_len 0 256)
+unfolding first_rows last_rows
+all_few = refl
+
+pub few : (byte : ℕ) → byte < 256 → length (strokes byte) ≤ 15
+few byte h =
+    let t : few_test byte ≡ true = each_of few_test (λ _. true) 0 0 256 byte byte byte all_few h (omega arith) (omega arith) in
+    grind (arith, nat_tests)
 
 all_small : map strokes (range_with_len 97 26) ≡ map strokes (range_with_len 65 26)
 unfolding first_rows last_rows

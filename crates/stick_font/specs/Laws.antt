@@ -11,6 +11,10 @@ StrokesAreOnTheGrid = (byte : ℕ) → byte < 2 ^ 8 → IsTrue (list_all is_on_g
 abbrev pub PrintingCharactersHaveStrokes : Type 0
 PrintingCharactersHaveStrokes = (byte : ℕ) → byte < 2 ^ 8 → nat_lt 0 (length (strokes byte)) ≡ is_between 33 126 byte
 
+-- no character has more than 15 strokes
+abbrev pub CharactersHaveFewStrokes : Type 0
+CharactersHaveFewStrokes = (byte : ℕ) → byte < 2 ^ 8 → length (strokes byte) ≤ 15
+
 -- a small letter has the strokes of its capital
 abbrev pub SmallLettersAreDrawnAsCapitals : Type 0
 SmallLettersAreDrawnAsCapitals = (byte : ℕ) → 97 ≤ byte → byte ≤ 122 → strokes byte ≡ strokes (byte - 32)

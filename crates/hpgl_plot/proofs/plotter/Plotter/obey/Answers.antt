@@ -1,4 +1,4 @@
-use Rattle.hpgl_plot.proofs.Named.{named_points_sound, named_scaling_sound, named_rotation_sound, named_window_sound, named_colour_sound}
+use Rattle.hpgl_plot.proofs.Named.{named_points_sound, named_scaling_sound, named_rotation_sound, named_window_sound, named_colour_sound, named_size_sound, named_direction_sound}
 use Rattle.hpgl_plot.proofs.plotter.Plotter.obey.Goals as goal
 
 pub set_named-requires-in-InputPoints : goal.set_named-requires-in-InputPoints
@@ -15,3 +15,9 @@ set_named-requires-in-InputWindow c = rw c.named_window.ensures (named_window_so
 
 pub set_named-requires-in-PenColour : goal.set_named-requires-in-PenColour
 set_named-requires-in-PenColour c = rw c.named_colour.ensures (named_colour_sound c.args.numbers.now)
+
+pub set_named-requires-in-CharacterSize : goal.set_named-requires-in-CharacterSize
+set_named-requires-in-CharacterSize c = rw c.named_size.ensures (named_size_sound c.args.numbers.now)
+
+pub set_named-requires-in-Direction : goal.set_named-requires-in-Direction
+set_named-requires-in-Direction c = rw c.named_direction.ensures (named_direction_sound c.args.numbers.now)

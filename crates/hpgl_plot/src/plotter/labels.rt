@@ -1,0 +1,103 @@
+//! Labels, stroke by stroke.
+ghost use Rattle.std.specs.Prelude.{◌≡◌, ◌≤◌, ◌^◌, nat_abs, map};
+ghost use Rattle.label_layout.specs.Points.{IsLabelPoint, IsLabelStroke, character_strokes};
+ghost use Rattle.hpgl_plot.specs.Labels as labels;
+ghost use Rattle.hpgl_plot.specs.Machine.{seen, step, run, Runs};
+ghost use Rattle.hpgl_plot.specs.Steps.{Write, EndLabel};
+
+use crate::place::coordinates_at;
+use crate::plotter::{Plotter, Stop};
+use crate::setting::Rotation;
+use crate::state::Position;
+use label_layout::{Cell, LabelPoint, LabelStroke, Offset, label_stroke};
+use plot_arc::Spot;
+
+impl Plotter {
+    /// LB: writes the bytes from the pen's place on, and leaves the pen where the next character would
+    /// begin.
+    pub fn write(&mut self, bytes: &[u8]) -> Result<(), Stop>
+        ensures { Runs (run (seen self.old) (labels.label_steps bytes.now)) (seen self.new) result }
+    {
+        let mut cell = Cell::FIRST;
+        for byte in bytes {
+            self.write_byte(cell, *byte)?;
+            cell = cell.after(*byte);
+        }
+        self.end_label(cell.corner())?;
+        Ok(())
+    }
+
+    // The strokes of a byte in a cell.
+    fn write_byte(&mut self, cell: Cell, byte: u8) -> Result<(), Stop>
+        ensures { Runs (run (seen self.old) (map Write (character_strokes cell byte))) (seen self.new) result }
+    {
+        let mut k = 0;
+        'strokes: while let Some(stroke) = label_stroke(cell, byte, k) {
+            self.write_stroke(stroke)?;
+            k += 1;
+        }
+        Ok(())
+    }
+
+    // A stroke, drawn whether the pen is down or not. The pen stays at the label's start.
+    fn write_stroke(&mut self, stroke: LabelStroke) -> Result<(), Stop>
+        requires { IsLabelStroke stroke }
+        ensures { Runs (step (seen self.old) (Write stroke)) (seen self.new) result }
+    {
+        let from = self.label_place(stroke.from);
+        let to = self.label_place(stroke.to);
+        self.trace(from, &[to], true)
+    }
+
+    // The pen goes to the end of the label.
+    fn end_label(&mut self, end: LabelPoint) -> Result<(), Stop>
+        requires { IsLabelPoint end }
+        ensures { Runs (step (seen self.old) (EndLabel end)) (seen self.new) result }
+    {
+        let place = self.label_place(end);
+        self.begin(place)?;
+        let coordinates = coordinates_at(&self.page, &self.state.frame, &self.axes, place);
+        self.arrive(Position { place, coordinates });
+        Ok(())
+    }
+
+    // Where a point of a label that begins at the pen's place lies on the page.
+    fn label_place(&self, point: LabelPoint) -> Spot
+        requires { IsLabelPoint point }
+        ensures { result ≡ labels.label_place self.now.state point }
+    {
+        let state = &self.state;
+        let unturned = state.size.offset(point);
+        let along = turned_offset(state.direction, unturned);
+        let on_page = turned_offset(state.frame.rotation, along);
+        Spot {
+            x: state.place.x + on_page.x,
+            y: state.place.y + on_page.y,
+        }
+    }
+}
+
+// An offset, turned counterclockwise.
+fn turned_offset(rotation: Rotation, offset: Offset) -> Offset
+    requires x_in { nat_abs offset.x ≤ 2 ^ 104 }
+    requires y_in { nat_abs offset.y ≤ 2 ^ 104 }
+    ensures value { result ≡ labels.turned_offset rotation offset }
+    ensures x_in { nat_abs result.x ≤ 2 ^ 104 }
+    ensures y_in { nat_abs result.y ≤ 2 ^ 104 }
+{
+    match rotation {
+        Rotation::None => offset,
+        Rotation::Quarter => Offset {
+            x: 0 - offset.y,
+            y: offset.x,
+        },
+        Rotation::Half => Offset {
+            x: 0 - offset.x,
+            y: 0 - offset.y,
+        },
+        Rotation::ThreeQuarters => Offset {
+            x: offset.y,
+            y: 0 - offset.x,
+        },
+    }
+}
