@@ -1,11 +1,10 @@
 -- The steps of a label, byte by byte and stroke by stroke.
-use Rattle.std.proofs.Common.{◌≡◌, ◌∙◌, ◌≤◌, ◌<◌, ap, ap₂, sym, refl, ℕ, suc, true, false, inl, inr, List, [], ◌∷◌, ◌++◌, length, map, drop, slice_get, ◌+◌, append_assoc, append-nil, nat_eq, None, Some, Result, Ok, Err, ◌+ℤ◌, arith}
+use Rattle.std.proofs.Common.{◌≡◌, ◌∙◌, ◌≤◌, ◌<◌, ap, ap₂, sym, refl, ℕ, suc, true, false, inl, inr, List, [], ◌∷◌, ◌++◌, length, map, drop, slice_get, ◌+◌, append_assoc, append-nil, nat_eq, None, Some, ◌+ℤ◌, arith}
 use Rattle.std.specs.Prelude.{reverse}
 use Rattle.std.proofs.lemmas.List.{map-append, reverse-append}
 use Rattle.std.proofs.Math.ListN.{drop_of_length-le}
 use Rattle.std.proofs.lemmas.Bool.{cases_Bool, cases_lt}
 use Rattle.std.proofs.lemmas.Option.{none-some, slice_get_within, slice_get-get_or, get_or_from_slice_get}
-use Rattle.std.specs.Result.{IsErrAnd}
 use Rattle.label_layout.specs.declared.cell.Cell.{Cell}
 use Rattle.label_layout.specs.declared.size.Offset.{Offset}
 use Rattle.label_layout.specs.declared.strokes.LabelPoint.{LabelPoint}
@@ -17,13 +16,12 @@ use Rattle.hpgl_plot.specs.declared.plotter.Stop.{Stop}
 use Rattle.hpgl_plot.specs.declared.plotter.Stop.TheVariants.{Memory, OffRange}
 use Rattle.hpgl_plot.specs.declared.state.Position.{Position}
 use Rattle.plot_arc.specs.declared.spot.Spot.{Spot}
+use Rattle.hpgl_plot.specs.declared.state.Spot.{Spot}
 use Rattle.hpgl_plot.specs.declared.state.State.{State}
-use Rattle.hpgl_plot.specs.Bounds.{IsInRange}
 use Rattle.hpgl_plot.specs.Steps.{Step, Write, EndLabel}
 use Rattle.hpgl_plot.specs.Frames.{back}
 use Rattle.hpgl_plot.specs.Labels.{label_steps, label_place, turned_offset}
 use Rattle.hpgl_plot.specs.Paths.{Path, path, position}
-use Rattle.hpgl_plot.specs.Machine.{World, step, run, moved, traced, Runs}
 use Rattle.hpgl_plot.proofs.ItemLists.{next_item}
 
 -- the steps of bytes, from a cell on

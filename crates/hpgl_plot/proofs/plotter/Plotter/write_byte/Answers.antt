@@ -1,4 +1,4 @@
-use Rattle.std.proofs.Common.{◌≡◌, ◌∙◌, ◌+◌, ◌<◌, ◌-◌, ap, sym, arith, List, length, drop, map}
+use Rattle.std.proofs.Common.{◌∙◌, ◌+◌, ap, sym, arith, List, drop, map}
 use Rattle.std.proofs.lemmas.Option.{slice_get_within}
 use Rattle.label_layout.specs.Points.{character_strokes}
 use Rattle.hpgl_plot.specs.Steps.{Step, Write}
