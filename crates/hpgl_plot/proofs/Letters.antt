@@ -12,11 +12,7 @@ use Rattle.label_layout.specs.declared.strokes.LabelStroke.{LabelStroke}
 use Rattle.label_layout.specs.Cells.{cell_after, moved_on, is_printed}
 use Rattle.label_layout.specs.Points.{corner, character_strokes, strokes_after, offset}
 use Rattle.plot_page.specs.declared.page.Page.{Page}
-use Rattle.hpgl_plot.specs.declared.plotter.Stop.{Stop}
-use Rattle.hpgl_plot.specs.declared.plotter.Stop.TheVariants.{Memory, OffRange}
-use Rattle.hpgl_plot.specs.declared.state.Position.{Position}
 use Rattle.plot_arc.specs.declared.spot.Spot.{Spot}
-use Rattle.hpgl_plot.specs.declared.state.Spot.{Spot}
 use Rattle.hpgl_plot.specs.declared.state.State.{State}
 use Rattle.hpgl_plot.specs.Steps.{Step, Write, EndLabel}
 use Rattle.hpgl_plot.specs.Frames.{back}
