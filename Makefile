@@ -1,9 +1,11 @@
 # make            proves and builds the command
 # make demo       builds it and runs it on the plots of examples/
-# make check      the command-line cases of tests/, a test on each mutant, then every proof and test (rt ci)
+# make check      every proof and test (rt ci), then the command-line cases of tests/, and a test on each mutant
 # make install    copies the command, its manual page and its completion under PREFIX (/usr/local)
 # make uninstall  removes them
 # make clean      removes all that was built; the next build proves everything again
+SHELL = /bin/bash
+.SHELLFLAGS = -o pipefail -c
 PREFIX ?= /usr/local
 PROGRAM = crates/plotraster_program/out/plotraster_program
 BIN = $(DESTDIR)$(PREFIX)/bin
@@ -31,10 +33,13 @@ demo: build
 	fi
 	@echo 'The pictures are:' build/rose.* build/tide.*
 
-check: build
+# The cases and the mutants use what rt ci proved and built; its verdict is said again as the last line.
+check:
+	@mkdir -p build
+	rt ci 2>&1 | tee build/verdict
 	tests/run $(PROGRAM)
 	tools/mutants
-	rt ci
+	@tail -n 1 build/verdict
 
 install: build
 	install -D -m 755 $(PROGRAM) $(BIN)/plotraster

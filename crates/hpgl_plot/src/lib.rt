@@ -11,6 +11,8 @@ mod fault;
 mod label_tests;
 pub mod laws;
 mod lettering;
+#[cfg(test)]
+mod limit_tests;
 mod lines;
 mod note;
 mod notes;
