@@ -17,7 +17,7 @@ use std::marker::Model;
 const KEPT_NUMBERS: usize = 4_096;
 
 /// The items of a plot that are to come, each of which is cut when it is asked for. As an iterator it
-/// ends where memory is refused.
+/// ends if memory is refused.
 #[derive(Drop)]
 pub struct Items<'a> {
     alloc: Global,
@@ -51,7 +51,7 @@ impl<'a> Items<'a> {
         }
     }
 
-    // The next item, or `None` where none is to come. Where memory is refused, they are still to
+    // The next item, or `None` if none is to come. If memory is refused, they are still to
     // come.
     #[inline]
     fn cut_next(&mut self) -> Result<Option<Item<'a>>, AllocError>
@@ -99,7 +99,7 @@ fn let_go(alloc: Global, scratch: &mut Vec<Number>) {
     }
 }
 
-// The first place from here on at which nothing silent stands.
+// The first place from here on at which nothing silent begins.
 fn past_silence(plot: &[u8], from: usize) -> usize
     ensures left { (terminator : ℕ) → left_from plot.now terminator from ≡ left_from plot.now terminator result }
     ensures loud { result < length plot.now → silent_at plot.now result ≡ 0 }
