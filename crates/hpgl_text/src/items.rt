@@ -8,7 +8,7 @@ use crate::bytes::after;
 use crate::content::FIRST_TERMINATOR;
 use crate::item::Item;
 use crate::number::Number;
-use crate::program::{read_item, terminator_behind};
+use crate::program::{read_item, terminator_left_by};
 use crate::silent::silent_count;
 use std::alloc::{AllocError, Global};
 use std::marker::Model;
@@ -66,7 +66,7 @@ impl<'a> Items<'a> {
         let text = after(self.plot, at);
         let (item, bytes) = read_item(self.alloc, at, text, self.terminator, &mut self.scratch)?;
         let_go(self.alloc, &mut self.scratch);
-        self.terminator = terminator_behind(&item, self.terminator);
+        self.terminator = terminator_left_by(&item, self.terminator);
         self.at = at + bytes;
         Ok(Some(item))
     }
