@@ -3,6 +3,7 @@ use Rattle.std.specs.Prelude.{◌≡◌, ℕ, ◌+◌, ◌≤◌, List, length, 
 use Rattle.std.specs.Io.KnownBytes.{Consumes}
 use Rattle.hpgl_plot.specs.declared.lines.Lines.{Lines}
 use Rattle.plot_page.specs.declared.page.Page.{Page}
+use Rattle.plot_page.specs.declared.stroke.TheConstants.{MOST_STROKES}
 use Rattle.conversion.specs.Faults.{of_plot}
 use Rattle.conversion.specs.Plots.{strokes, refusal, notes_count}
 use Rattle.conversion.specs.Readings.{WasRead, WasTooLong}
@@ -16,10 +17,10 @@ pub record IsDrawn (page : Page) (input : List ℕ) (before after : SourceState)
   pub accepted : refusal page input ≡ None
   pub strokes_are : lines.strokes.items ≡ strokes page input
   pub notes_are : lines.notes ≡ notes_count input
-  pub few : length lines.strokes.items ≤ 4194304
+  pub few : length lines.strokes.items ≤ MOST_STROKES
 
 -- the plot was read whole and is refused for the page
-pub record IsRefused (page : Page) (input : List ℕ) (before after : SourceState) (fault : Fault) : Type 0 where
+pub record IsNotDrawn (page : Page) (input : List ℕ) (before after : SourceState) (fault : Fault) : Type 0 where
   pub read : WasRead input before after
   pub refused : option_map of_plot (refusal page input) ≡ Some fault
 
@@ -29,7 +30,7 @@ Draws page input before after (Ok lines) = IsDrawn page input before after lines
 Draws page input before after (Err TooLong) = WasTooLong input before after
 Draws page input before after (Err Read) = after.faults ≡ before.faults + 1
 Draws page input before after (Err Memory) = after.faults ≡ before.faults
-Draws page input before after (Err fault) = IsRefused page input before after fault
+Draws page input before after (Err fault) = IsNotDrawn page input before after fault
 
 -- a drawing: what it took from the source, and its answer
 pub record HasDrawn (page : Page) (before after : SourceState) (answer : Result Lines Fault) : Type 0 where

@@ -1,5 +1,6 @@
 //! The inks of a picture of strokes.
 ghost use Rattle.std.specs.Prelude.{◌≡◌, ◌≤◌, length};
+ghost use Rattle.plot_page.specs.declared.stroke.TheConstants.{MOST_STROKES};
 
 use hpgl_plot::Stroke;
 use picture_out::{Ink, Inks};
@@ -9,7 +10,7 @@ use picture_out::{Ink, Inks};
 #[derive(Clone, Copy)]
 pub struct StrokeInks<'a> {
     strokes: &'a [Stroke],
-    ghost few: { length strokes.now ≤ 4194304 },
+    ghost few: { length strokes.now ≤ MOST_STROKES },
 }
 
 impl<'a> StrokeInks<'a> {
@@ -18,7 +19,7 @@ impl<'a> StrokeInks<'a> {
 
     /// The inks of these strokes, in their order.
     pub fn new(strokes: &'a [Stroke]) -> StrokeInks<'a>
-        requires few { length strokes.now ≤ 4194304 }
+        requires few { length strokes.now ≤ MOST_STROKES }
         ensures inks { inks_held result ≡ inks_of strokes.entry.now }
     {
         StrokeInks { strokes }

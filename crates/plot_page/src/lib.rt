@@ -10,5 +10,5 @@ mod window;
 
 pub use colour::Colour;
 pub use page::{FARTHEST_CORNER, LONGEST_SIDE, Page, PageFault, SHORTEST_SIDE};
-pub use stroke::{FARTHEST_PLACE, GREATEST_WIDTH, Stroke};
+pub use stroke::{FARTHEST_PLACE, GREATEST_WIDTH, MOST_STROKES, Stroke};
 pub use window::Window;

@@ -13,6 +13,9 @@ pub const GREATEST_WIDTH: u32 = 12_800;
 /// plotter units. No corner of a window is farther away.
 pub const FARTHEST_PLACE: u32 = 1_048_576;
 
+/// The most strokes of a plot.
+pub const MOST_STROKES: usize = 4_194_304;
+
 /// A straight line that a pen drew, from (`ax`, `ay`) to (`bx`, `by`), in grains of 1/16 plotter
 /// unit from the page's lower left corner. The pen is 1 to 255, the colour the one that the pen had
 /// then, the width 0 to 12,800 grains (20 mm), each end within 1,048,576 grains of the corner in x

@@ -16,7 +16,7 @@ mod vector;
 mod walk;
 
 pub use band::Band;
-pub use dots::Dots;
+pub use dots::{Dots, MOST_PIXELS_A_SIDE};
 pub use gauge::{Exact, Gauge};
 pub use marks::Marks;
 pub use painter::{PaintFault, Painter};

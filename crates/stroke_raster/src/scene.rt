@@ -1,5 +1,6 @@
 //! The scene that a painter paints.
 ghost use Rattle.std.specs.Prelude.{◌≤◌, length};
+ghost use Rattle.plot_page.specs.declared.stroke.TheConstants.{MOST_STROKES};
 
 use crate::dots::Dots;
 use crate::pens::PenSet;
@@ -16,7 +17,7 @@ pub struct Scene<'a> {
     pub pens: PenSet,
     pub first_row: u32,
     pub band_rows: u32,
-    pub ghost few: { length strokes.now ≤ 4194304 },
+    pub ghost few: { length strokes.now ≤ MOST_STROKES },
     pub ghost at_least: { 1 ≤ band_rows },
     pub ghost at_most: { band_rows ≤ 4096 },
 }
