@@ -26,7 +26,8 @@ with_more w a b =
 -- the strokes of the first line of a path, and of the rest
 more_strokes : (w : World) (draws : Bool) (a b : Spot) (rest : List Spot)
     → with_strokes w w.state (if draws then joined w.state (a ∷ (b ∷ rest)) else [])
-    ≡ with_strokes (with_strokes w w.state (if draws then joined w.state (a ∷ (b ∷ [])) else [])) w.state (if draws then joined w.state (b ∷ rest) else [])
+    ≡ with_strokes (with_strokes w w.state (if draws then joined w.state (a ∷ (b ∷ [])) else [])) w.state
+    (if draws then joined w.state (b ∷ rest) else [])
 more_strokes w true a b rest = rw (append-nil (drawn w.state a b)) (with_more w (drawn w.state a b) (joined w.state (b ∷ rest)))
 more_strokes w false a b rest = refl
 
@@ -60,7 +61,8 @@ traced_one w true a h = rw (within a h) refl
 traced_one w false a h = rw (within a h) refl
 
 -- a path that was traced is in range
-pub traced_within : (w v : World) (draws : Bool) (a : Spot) (rest : List Spot) → traced w draws (a ∷ rest) ≡ Some v → are_in_range rest ≡ true
+pub traced_within : (w v : World) (draws : Bool) (a : Spot) (rest : List Spot) → traced w draws (a ∷ rest) ≡ Some v
+    → are_in_range rest ≡ true
 traced_within w v draws a rest h = elim (cases_Bool (is_in_range a)) [
   | inr s ↦ absurd (none-some v (rw s at h))
   | inl s ↦ elim (cases_Bool (are_in_range rest)) [
@@ -70,7 +72,8 @@ traced_within w v draws a rest h = elim (cases_Bool (is_in_range a)) [
 ]
 
 -- a path that does not begin, and the whole path
-pub traced_out : (w : World) (draws : Bool) (a : Spot) (rest : List Spot) → traced w draws (a ∷ []) ≡ None → traced w draws (a ∷ rest) ≡ None
+pub traced_out : (w : World) (draws : Bool) (a : Spot) (rest : List Spot) → traced w draws (a ∷ []) ≡ None
+    → traced w draws (a ∷ rest) ≡ None
 traced_out w draws a rest h = elim (cases_Bool (is_in_range a)) [
   | inl t ↦ absurd (none-some _ (sym (rw t at h)))
   | inr t ↦ rw t refl

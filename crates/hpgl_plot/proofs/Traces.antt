@@ -14,14 +14,16 @@ use Rattle.hpgl_plot.specs.Paths.{Path, path, position, target}
 use Rattle.hpgl_plot.specs.Strokes.{are_in_range}
 use Rattle.hpgl_plot.specs.Machine.{World, step, after, moved, traced, ends_in, Runs}
 
-step_is : (w : World) (s : Step) → step w s ≡ ends_in (after w.page w.state s) (traced w (path w.page w.state s).draws (path w.page w.state s).places)
+step_is : (w : World) (s : Step)
+    → step w s ≡ ends_in (after w.page w.state s) (traced w (path w.page w.state s).draws (path w.page w.state s).places)
 unfolding step
 step_is w s = elim (cases_Bool (are_in_range (path w.page w.state s).places)) [
   | inl t ↦ rw t refl
   | inr t ↦ rw t refl
 ]
 
-step_by : (w : World) (s : Step) (p : Path) → path w.page w.state s ≡ p → step w s ≡ ends_in (after w.page w.state s) (traced w p.draws p.places)
+step_by : (w : World) (s : Step) (p : Path) → path w.page w.state s ≡ p
+    → step w s ≡ ends_in (after w.page w.state s) (traced w p.draws p.places)
 step_by w s p e = step_is w s ∙ ap (λ (q : Path). ends_in (after w.page w.state s) (traced w q.draws q.places)) e
 
 -- a path changes neither the page nor what is set
@@ -37,15 +39,17 @@ pub record IsKept (w u : World) : Type 0 where
 
 pub traced_keeps : (w u : World) (draws : Bool) (places : List Spot) → traced w draws places ≡ Some u → IsKept w u
 traced_keeps w u draws places h = elim (cases_Bool (are_in_range places)) [
-  | inl t ↦ (let e = sym (same_Some _ _ (rw t at h)) in record { page_is = ap (λ (v : World). v.page) e; state_is = ap (λ (v : World). v.state) e })
+  | inl t ↦ (let e = sym (same_Some _ _ (rw t at h)) in
+      record { page_is = ap (λ (v : World). v.page) e; state_is = ap (λ (v : World). v.state) e })
   | inr t ↦ absurd (none-some u (rw t at h))
 ]
 
 -- a step after which the pen is where it was has run if its path was traced
-pub still_runs : {U : Type 0} (w v : World) (s : Step) (p : Path) (r : Result U Stop) → after w.page w.state s ≡ w.state → path w.page w.state s ≡ p
-    → Runs (traced w p.draws p.places) v r → Runs (step w s) v r
+pub still_runs : {U : Type 0} (w v : World) (s : Step) (p : Path) (r : Result U Stop)
+    → after w.page w.state s ≡ w.state → path w.page w.state s ≡ p → Runs (traced w p.draws p.places) v r → Runs (step w s) v r
 still_runs {U} w v s p r a e h =
-    let k : step w s ≡ traced w p.draws p.places = step_by w s p e ∙ ap (λ (t : State). ends_in t (traced w p.draws p.places)) a ∙ traced_stays w p.draws p.places in
+    let k : step w s ≡ traced w p.draws p.places =
+    step_by w s p e ∙ ap (λ (t : State). ends_in t (traced w p.draws p.places)) a ∙ traced_stays w p.draws p.places in
     subst (λ (o : Option World). Runs o v r) (sym k) h
 
 -- any other has run if its path was traced, and then the pen came to its end
@@ -53,7 +57,8 @@ pub moved_runs : (w u v : World) (s : Step) (p : Path) → after w.page w.state 
     → traced w p.draws p.places ≡ Some u → ends_in (moved u.state p.ends) (Some u) ≡ Some v → step w s ≡ Some v
 moved_runs w u v s p a e h m =
     step_by w s p e
-    ∙ ap (λ (t : State). ends_in t (traced w p.draws p.places)) (a ∙ ap (λ (t : State). moved t p.ends) (sym (traced_keeps w u p.draws p.places h).state_is))
+    ∙ ap (λ (t : State). ends_in t (traced w p.draws p.places)) a
+    ∙ ap (λ (t : State). ends_in (moved t p.ends) (traced w p.draws p.places)) (sym (traced_keeps w u p.draws p.places h).state_is)
     ∙ ap (λ (o : Option World). ends_in (moved u.state p.ends) o) h
     ∙ m
 
@@ -69,8 +74,10 @@ stopped o p u v Memory (Err f) n h i = rw i tt
 stopped o p u v OffRange (Err f) n h i = rw i (n h)
 
 -- the path of a move
-pub go_path : (page : Page) (s : State) (relative : Bool) (x y : ℤ) (u q : Spot) → u ≡ target relative s.coordinates x y → q ≡ place page s.frame u
-    → path page s (Go relative x y) ≡ record { places = s.place ∷ (q ∷ []); draws = s.is_down; ends = record { place = q; coordinates = u } }
+pub go_path : (page : Page) (s : State) (relative : Bool) (x y : ℤ) (u q : Spot)
+    → u ≡ target relative s.coordinates x y → q ≡ place page s.frame u
+    → path page s (Go relative x y)
+    ≡ record { places = s.place ∷ (q ∷ []); draws = s.is_down; ends = record { place = q; coordinates = u } }
 go_path page s relative x y u q eu eq = rw (eq, eu) refl
 
 -- the corners b, c and d of a rectangle, from the coordinates t opposite of the pen and p and q beside it

@@ -8,4 +8,5 @@ pub returns-in_err-begin : goal.returns-in_err-begin
 returns-in_err-begin c =
     let w = seen c.args.self.now in
     let draws = c.args.draws in
-    stopped (traced w draws (c.args.start ∷ [])) _ w w c.in_err-begin.field-0.0 c.from_residual.result (traced_out w draws c.args.start c.args.places.now) (c.in_err-begin.ensures.runs draws) c.from_residual.ensures.1
+    stopped (traced w draws (c.args.start ∷ [])) _ w w c.in_err-begin.field-0.0 c.from_residual.result
+    (traced_out w draws c.args.start c.args.places.now) (c.in_err-begin.ensures.runs draws) c.from_residual.ensures.1
