@@ -5,7 +5,7 @@ use Rattle.plot_frame.specs.declared.scaling.Scaling.TheVariants.{Off}
 use Rattle.hpgl_text.specs.Shapes.{ItemShape}
 use Rattle.hpgl_plot.specs.declared.fault.PlotFault.{PlotFault}
 use Rattle.hpgl_plot.specs.declared.fault.PlotFault.TheVariants as fault
-use Rattle.hpgl_plot.specs.declared.fault.TheConstants.{MOST_STROKES}
+use Rattle.plot_page.specs.declared.stroke.TheConstants.{MOST_STROKES}
 use Rattle.plot_page.specs.declared.page.Page.{Page}
 use Rattle.hpgl_plot.specs.declared.plotter.Plotter.{Plotter}
 use Rattle.hpgl_plot.specs.declared.plotter.Stop.{Stop}

@@ -32,9 +32,9 @@ mod turn;
 mod window;
 mod wrong;
 
-pub use fault::{MOST_STROKES, PlotFault};
+pub use fault::PlotFault;
 pub use lines::{Lines, draw_items};
 pub use note::{Note, NoteKind};
 pub use notes::Notes;
 pub use plot::{Plot, draw};
-pub use plot_page::{Colour, Page, PageFault, Stroke, Window};
+pub use plot_page::{Colour, MOST_STROKES, Page, PageFault, Stroke, Window};

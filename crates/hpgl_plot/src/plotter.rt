@@ -45,7 +45,8 @@ pub struct Plotter {
 }
 
 impl Plotter {
-    ghost use Rattle.std.specs.Prelude.{◌≡◌, ◌≤◌, nat_abs, All, Some};
+    ghost use Rattle.std.specs.Prelude.{◌≡◌, All, Some};
+    ghost use Rattle.hpgl_text.specs.Numbers.{IsNumber};
     ghost use Rattle.hpgl_plot.specs.Machine.{seen, at_start, step, run, Runs, CarriesOut};
     ghost use Rattle.hpgl_plot.specs.Steps.{Lower, Relate, moves, lowered_then, part_steps, entry_steps};
     ghost use Rattle.hpgl_plot.specs.Meanings.{meaning, steps_of};
@@ -99,7 +100,7 @@ impl Plotter {
     // Carries out an instruction with its numbers. Those without numbers, and those that are not drawn
     // yet, do nothing.
     fn obey(&mut self, instruction: Instruction, numbers: &[Number]) -> Result<(), Stop>
-        requires small { All (λ z. nat_abs z ≤ 8388607999999) numbers.now }
+        requires small { All IsNumber numbers.now }
         ensures { Runs (run (seen self.old) (meaning instruction numbers.now).steps) (seen self.new) result }
     {
         match instruction {

@@ -1,5 +1,6 @@
 //! Instructions with wrong numbers.
-ghost use Rattle.std.specs.Prelude.{◌≡◌, ◌≤◌, All, nat_abs};
+ghost use Rattle.std.specs.Prelude.{◌≡◌, All};
+ghost use Rattle.hpgl_text.specs.Numbers.{IsNumber};
 ghost use Rattle.hpgl_plot.specs.Meanings.{meaning, is_wrong_item};
 
 use crate::arc_parameters::{named_arc, named_circle};
@@ -24,7 +25,7 @@ pub fn has_wrong_numbers(item: &Item<'_>) -> bool
 }
 
 fn are_wrong(instruction: Instruction, numbers: &[Number]) -> bool
-    requires { All (λ z. nat_abs z ≤ 8388607999999) numbers.now }
+    requires { All IsNumber numbers.now }
     ensures { result ≡ (meaning instruction numbers.now).is_wrong }
 {
     match instruction {

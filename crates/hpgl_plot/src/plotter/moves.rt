@@ -9,13 +9,12 @@ ghost use Rattle.hpgl_plot.specs.Paths as paths;
 ghost use Rattle.hpgl_plot.specs.Strokes.{drawn};
 ghost use Rattle.hpgl_plot.specs.Steps.{Touch, Move, Go};
 
-use crate::fault::MOST_STROKES;
 use crate::place::{is_place_in_range, place_on, target_of};
 use crate::plotter::{Plotter, Stop};
 use crate::state::Position;
 use hpgl_text::Number;
 use plot_arc::Spot;
-use plot_page::Stroke;
+use plot_page::{MOST_STROKES, Stroke};
 
 impl Plotter {
     /// A move to coordinates, which are relative or absolute by the most recent PA or PR.
