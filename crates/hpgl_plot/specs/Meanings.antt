@@ -49,7 +49,7 @@ abbrev pub arcs : Bool → Option arc.Arc → Meaning
 arcs relative (Some a) = record { steps = DrawArc relative a ∷ []; is_wrong = false }
 arcs relative None = wrong
 
--- PE, LB and DT are followed by no list of numbers, and the others that are missing here are not drawn yet
+-- PE, LB and DT are followed by no list of numbers
 abbrev pub meaning : Instruction → List ℤ → Meaning
 meaning Initialize ns = sets (Some Start)
 meaning DefaultValues ns = sets (Some Defaults)

@@ -65,7 +65,7 @@ impl Plotter {
         }
     }
 
-    /// Carries out an item. One that is no instruction that is drawn does nothing.
+    /// Carries out an item. One that is no known instruction does nothing, and so does DT.
     pub fn take(&mut self, item: &Item<'_>) -> Result<(), Stop>
         ensures { Runs (run (seen self.old) (steps_of item.now)) (seen self.new) result }
     {
@@ -97,8 +97,7 @@ impl Plotter {
         }
     }
 
-    // Carries out an instruction with its numbers. Those without numbers, and those that are not drawn
-    // yet, do nothing.
+    // Carries out an instruction with its numbers. PE, LB and DT have none, and do nothing here.
     fn obey(&mut self, instruction: Instruction, numbers: &[Number]) -> Result<(), Stop>
         requires small { All IsNumber numbers.now }
         ensures { Runs (run (seen self.old) (meaning instruction numbers.now).steps) (seen self.new) result }
