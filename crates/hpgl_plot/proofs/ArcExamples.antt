@@ -42,7 +42,9 @@ first_point : (circle_curve (units 32000000 32000000) (record { radius = pos 160
 first_point = refl
 
 -- four chords, drawn with the pen up
-diamond : strokes square (cut (codes "PU32,32;CI16,90;")) ≡ line (pos 768) (pos 512) (pos 512) (pos 768) ∷ line (pos 512) (pos 768) (pos 256) (pos 512) ∷ line (pos 256) (pos 512) (pos 512) (pos 256) ∷ line (pos 512) (pos 256) (pos 768) (pos 512) ∷ []
+diamond : strokes square (cut (codes "PU32,32;CI16,90;")) ≡ line (pos 768) (pos 512) (pos 512) (pos 768)
+    ∷ line (pos 512) (pos 768) (pos 256) (pos 512) ∷ line (pos 256) (pos 512) (pos 512) (pos 256) ∷ line (pos 512) (pos 256) (pos 768)
+    (pos 512) ∷ []
 unfolding across_place upward_place across_back upward_back all_pens default_colours curve_point
 diamond = refl
 
@@ -52,7 +54,8 @@ unfolding across_place upward_place across_back upward_back all_pens default_col
 usual_circle = refl
 
 -- clockwise about a centre that is relative to the pen, which is down
-clockwise : strokes square (cut (codes "PU48,32;PD;AR-16,0,-90,45;")) ≡ line (pos 768) (pos 512) (pos 768) (pos 512) ∷ line (pos 768) (pos 512) (pos 693) (pos 331) ∷ line (pos 693) (pos 331) (pos 512) (pos 256) ∷ []
+clockwise : strokes square (cut (codes "PU48,32;PD;AR-16,0,-90,45;")) ≡ line (pos 768) (pos 512) (pos 768) (pos 512)
+    ∷ line (pos 768) (pos 512) (pos 693) (pos 331) ∷ line (pos 693) (pos 331) (pos 512) (pos 256) ∷ []
 unfolding across_place upward_place across_back upward_back all_pens default_colours curve_point
 clockwise = refl
 
@@ -62,17 +65,20 @@ unfolding across_place upward_place across_back upward_back all_pens default_col
 only_a_move = refl
 
 -- a circle leaves the pen where it is, and up
-circle_leaves_the_pen : strokes square (cut (codes "SP0;PU32,32;CI16,180;SP1;PU32,33;PD;")) ≡ line (pos 512) (pos 528) (pos 512) (pos 528) ∷ []
+circle_leaves_the_pen : strokes square (cut (codes "SP0;PU32,32;CI16,180;SP1;PU32,33;PD;")) ≡ line (pos 512) (pos 528) (pos 512) (pos 528)
+    ∷ []
 unfolding across_place upward_place across_back upward_back all_pens default_colours curve_point
 circle_leaves_the_pen = refl
 
 -- without a radius two chords of length zero
-no_radius : strokes square (cut (codes "PU1,2;CI0,180;")) ≡ line (pos 16) (pos 32) (pos 16) (pos 32) ∷ line (pos 16) (pos 32) (pos 16) (pos 32) ∷ []
+no_radius : strokes square (cut (codes "PU1,2;CI0,180;")) ≡ line (pos 16) (pos 32) (pos 16) (pos 32)
+    ∷ line (pos 16) (pos 32) (pos 16) (pos 32) ∷ []
 unfolding across_place upward_place across_back upward_back all_pens default_colours curve_point
 no_radius = refl
 
 -- on a rotated page, in user units
-rotated_circle : strokes square (cut (codes "RO90;SC0,8,0,8;PU4,4;CI2,180;")) ≡ line (pos 512) (pos 768) (pos 512) (pos 256) ∷ line (pos 512) (pos 256) (pos 512) (pos 768) ∷ []
+rotated_circle : strokes square (cut (codes "RO90;SC0,8,0,8;PU4,4;CI2,180;")) ≡ line (pos 512) (pos 768) (pos 512) (pos 256)
+    ∷ line (pos 512) (pos 256) (pos 512) (pos 768) ∷ []
 unfolding across_place upward_place across_back upward_back all_pens default_colours curve_point
 rotated_circle = refl
 
@@ -88,13 +94,15 @@ default_chord : circled (pos 1000000 ∷ []) ≡ Some (record { radius = pos 100
 default_chord = refl
 
 -- -360.0005 degrees are rounded up to -360
-greatest_sweep : arced (pos 1 ∷ (pos 2 ∷ (neg_ℤ (pos 360000500) ∷ []))) ≡ Some (record { x = pos 1; y = pos 2; sweep = neg_ℤ (pos 360000); chord = 5000 })
+greatest_sweep : arced (pos 1 ∷ (pos 2 ∷ (neg_ℤ (pos 360000500) ∷ [])))
+    ≡ Some (record { x = pos 1; y = pos 2; sweep = neg_ℤ (pos 360000); chord = 5000 })
 greatest_sweep = refl
 
 large_sweep : arced (pos 1 ∷ (pos 2 ∷ (pos 360000500 ∷ []))) ≡ None
 large_sweep = refl
 
-wrong_arcs : notes (cut (codes "CI;CI16,0.4;AA0,0,361;AR1,1;")) ≡ note 0 (codes "CI") Bad ∷ note 3 (codes "CI") Bad ∷ note 12 (codes "AA") Bad ∷ note 22 (codes "AR") Bad ∷ []
+wrong_arcs : notes (cut (codes "CI;CI16,0.4;AA0,0,361;AR1,1;")) ≡ note 0 (codes "CI") Bad ∷ note 3 (codes "CI") Bad
+    ∷ note 12 (codes "AA") Bad ∷ note 22 (codes "AR") Bad ∷ []
 wrong_arcs = refl
 
 -- the first point of a circle is out of range

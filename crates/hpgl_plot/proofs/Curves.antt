@@ -35,12 +35,14 @@ use Rattle.hpgl_plot.proofs.Fed.{traced_more, traced_never, traced_one, within}
 use Rattle.hpgl_plot.proofs.Sound.{sound_at}
 use Rattle.hpgl_plot.proofs.Traces.{traced_keeps}
 
-small_right : (page : Page) (axes : Axes) (s : State) (n : ℤ) → IsSound page axes s → nat_abs n ≤ 2 ^ 55 → IsSmallIn page s.frame (s.coordinates.x +ℤ n)
+small_right : (page : Page) (axes : Axes) (s : State) (n : ℤ) → IsSound page axes s → nat_abs n ≤ 2 ^ 55
+    → IsSmallIn page s.frame (s.coordinates.x +ℤ n)
 small_right page axes s n h k =
     let x = subst (λ (a : Axis). IsNear a s.coordinates.x) h.framed.across_is h.x_near in
     across_small s.frame.points s.frame.scaling page.left page.below s.coordinates.x n h.framed.points h.framed.scaling page.left_in page.below_in x k
 
-small_above : (page : Page) (axes : Axes) (s : State) (n : ℤ) → IsSound page axes s → nat_abs n ≤ 2 ^ 55 → IsSmallIn page s.frame (s.coordinates.y +ℤ n)
+small_above : (page : Page) (axes : Axes) (s : State) (n : ℤ) → IsSound page axes s → nat_abs n ≤ 2 ^ 55
+    → IsSmallIn page s.frame (s.coordinates.y +ℤ n)
 small_above page axes s n h k =
     let y = subst (λ (a : Axis). IsNear a s.coordinates.y) h.framed.upward_is h.y_near in
     upward_small s.frame.points s.frame.scaling page.left page.below s.coordinates.y n h.framed.points h.framed.scaling page.left_in page.below_in y k
@@ -62,11 +64,13 @@ pen_small page axes s h = record {
 }
 
 -- on the right of the pen
-pub right_small : (page : Page) (axes : Axes) (s : State) (n : ℤ) → IsSound page axes s → nat_abs n ≤ 2 ^ 55 → AreSmall page s.frame (record { x = s.coordinates.x +ℤ n; y = s.coordinates.y })
+pub right_small : (page : Page) (axes : Axes) (s : State) (n : ℤ) → IsSound page axes s → nat_abs n ≤ 2 ^ 55
+    → AreSmall page s.frame (record { x = s.coordinates.x +ℤ n; y = s.coordinates.y })
 right_small page axes s n h k = record { x_in = small_right page axes s n h k; y_in = (pen_small page axes s h).y_in }
 
 -- where a move may end
-pub target_small : (page : Page) (axes : Axes) (s : State) (relative : Bool) (x y : ℤ) → IsSound page axes s → nat_abs x ≤ 2 ^ 55 → nat_abs y ≤ 2 ^ 55 → AreSmall page s.frame (target relative s.coordinates x y)
+pub target_small : (page : Page) (axes : Axes) (s : State) (relative : Bool) (x y : ℤ) → IsSound page axes s → nat_abs x ≤ 2 ^ 55
+    → nat_abs y ≤ 2 ^ 55 → AreSmall page s.frame (target relative s.coordinates x y)
 target_small page axes s true x y h k l = record { x_in = small_right page axes s x h k; y_in = small_above page axes s y h l }
 target_small page axes s false x y h k l = record { x_in = small_number page axes s x h k; y_in = small_number page axes s y h l }
 
@@ -81,7 +85,8 @@ product_part : (s a b : ℤ) → nat_abs (s *ℤ a) ≤ 2 ^ 115 → nat_abs (s *
 product_part s a b h k = let e = mul-sub_z s a b in omega (arith, ints)
 
 -- a number that is no greater than two others together
-shared : (s c n x y : ℤ) → nat_abs (s *ℤ c) ≤ 2 ^ 115 → nat_abs (s *ℤ x) ≤ 2 ^ 116 → nat_abs (s *ℤ y) ≤ 2 ^ 116 → nat_abs n ≤ nat_abs x + nat_abs y → nat_abs (s *ℤ (c +ℤ n)) ≤ 2 ^ 118
+shared : (s c n x y : ℤ) → nat_abs (s *ℤ c) ≤ 2 ^ 115 → nat_abs (s *ℤ x) ≤ 2 ^ 116 → nat_abs (s *ℤ y) ≤ 2 ^ 116
+    → nat_abs n ≤ nat_abs x + nat_abs y → nat_abs (s *ℤ (c +ℤ n)) ≤ 2 ^ 118
 shared s c n x y h k l m =
     let e = mul-add_z s c n in
     let p = unsigned_abs-mul s x in
@@ -90,36 +95,43 @@ shared s c n x y h k l m =
     omega (arith, ints)
 
 -- a chord's end has a place
-pub point_right : (page : Page) (f : Frame) (axes : Axes) (c : Curve) (k : ℕ) → AreAxes page f axes → IsCurve page f c → nat_abs (axes.across.slope *ℤ (curve_point c k).x) ≤ 2 ^ 118
+pub point_right : (page : Page) (f : Frame) (axes : Axes) (c : Curve) (k : ℕ) → AreAxes page f axes → IsCurve page f c
+    → nat_abs (axes.across.slope *ℤ (curve_point c k).x) ≤ 2 ^ 118
 unfolding curve_point
 point_right page f axes c k h i =
     let t = turn_after c.chord c.sweep k in
     let s = (across_line f.points f.scaling page.left).slope in
     let a = product_part s c.from.x c.centre.x i.from.x_in.across_in i.centre.x_in.across_in in
     let b = product_part s c.from.y c.centre.y i.from.y_in.across_in i.centre.y_in.across_in in
-    rw h.across_is (shared s c.centre.x (nearest (turned_x (vector c.centre c.from) t)) (c.from.x -ℤ c.centre.x) (c.from.y -ℤ c.centre.y) i.centre.x_in.across_in a b (is_reached c.centre c.from t).x)
+    rw h.across_is (shared s c.centre.x (nearest (turned_x (vector c.centre c.from) t)) (c.from.x -ℤ c.centre.x)
+    (c.from.y -ℤ c.centre.y) i.centre.x_in.across_in a b (is_reached c.centre c.from t).x)
 
-pub point_above : (page : Page) (f : Frame) (axes : Axes) (c : Curve) (k : ℕ) → AreAxes page f axes → IsCurve page f c → nat_abs (axes.upward.slope *ℤ (curve_point c k).y) ≤ 2 ^ 118
+pub point_above : (page : Page) (f : Frame) (axes : Axes) (c : Curve) (k : ℕ) → AreAxes page f axes → IsCurve page f c
+    → nat_abs (axes.upward.slope *ℤ (curve_point c k).y) ≤ 2 ^ 118
 unfolding curve_point
 point_above page f axes c k h i =
     let t = turn_after c.chord c.sweep k in
     let s = (upward_line f.points f.scaling page.below).slope in
     let a = product_part s c.from.x c.centre.x i.from.x_in.upward_in i.centre.x_in.upward_in in
     let b = product_part s c.from.y c.centre.y i.from.y_in.upward_in i.centre.y_in.upward_in in
-    rw h.upward_is (shared s c.centre.y (nearest (turned_y (vector c.centre c.from) t)) (c.from.x -ℤ c.centre.x) (c.from.y -ℤ c.centre.y) i.centre.y_in.upward_in a b (is_reached c.centre c.from t).y)
+    rw h.upward_is (shared s c.centre.y (nearest (turned_y (vector c.centre c.from) t)) (c.from.x -ℤ c.centre.x)
+    (c.from.y -ℤ c.centre.y) i.centre.y_in.upward_in a b (is_reached c.centre c.from t).y)
 
 -- and so has the first point
-pub first_right : (page : Page) (f : Frame) (axes : Axes) (c : Curve) → AreAxes page f axes → IsCurve page f c → nat_abs (axes.across.slope *ℤ c.from.x) ≤ 2 ^ 118
+pub first_right : (page : Page) (f : Frame) (axes : Axes) (c : Curve) → AreAxes page f axes → IsCurve page f c
+    → nat_abs (axes.across.slope *ℤ c.from.x) ≤ 2 ^ 118
 first_right page f axes c h i = let k = i.from.x_in.across_in in rw h.across_is (omega arith)
 
-pub first_above : (page : Page) (f : Frame) (axes : Axes) (c : Curve) → AreAxes page f axes → IsCurve page f c → nat_abs (axes.upward.slope *ℤ c.from.y) ≤ 2 ^ 118
+pub first_above : (page : Page) (f : Frame) (axes : Axes) (c : Curve) → AreAxes page f axes → IsCurve page f c
+    → nat_abs (axes.upward.slope *ℤ c.from.y) ≤ 2 ^ 118
 first_above page f axes c h i = let k = i.from.y_in.upward_in in rw h.upward_is (omega arith)
 
 -- the places of a number of chords' ends
 abbrev pub places_from : Page → Frame → Curve → ℕ → ℕ → List Spot
 places_from page f c first n = map (λ (k : ℕ). place page f (curve_point c k)) (range_with_len first n)
 
-places_next : (page : Page) (f : Frame) (c : Curve) (k n : ℕ) → k < n → places_from page f c (k + 1) (n - k) ≡ place page f (curve_point c (k + 1)) ∷ places_from page f c (k + 1 + 1) (n - (k + 1))
+places_next : (page : Page) (f : Frame) (c : Curve) (k n : ℕ) → k < n
+    → places_from page f c (k + 1) (n - k) ≡ place page f (curve_point c (k + 1)) ∷ places_from page f c (k + 1 + 1) (n - (k + 1))
 places_next page f c k n h = let e : n - k ≡ suc (n - (k + 1)) = omega arith in rw e refl
 
 -- a curve has a chord
@@ -128,52 +140,65 @@ has_chord c = let h = le-max_right (nat_abs c.sweep / c.chord + min 1 (nat_abs c
 
 -- what is left of a curve's path, from a place on, comes to what all of it comes to
 abbrev pub Left : Page → Frame → Curve → Bool → World → Spot → ℕ → World → Spot → Type 0
-Left page f c draws v from k w start = traced v draws (from ∷ places_from page f c (k + 1) (chord_count c - k)) ≡ traced w draws (start ∷ curve_places page f c)
+Left page f c draws v from k w start = traced v draws (from ∷ places_from page f c (k + 1) (chord_count c - k)) ≡ traced w draws
+    (start ∷ curve_places page f c)
 
 -- after one chord more
-pub one_chord : (page : Page) (f : Frame) (c : Curve) (draws : Bool) (v u w : World) (from q start : Spot) (k : ℕ) → k < chord_count c → q ≡ place page f (curve_point c (k + 1))
+pub one_chord : (page : Page) (f : Frame) (c : Curve) (draws : Bool) (v u w : World) (from q start : Spot) (k : ℕ) → k < chord_count c
+    → q ≡ place page f (curve_point c (k + 1))
     → Left page f c draws v from k w start → traced v draws (from ∷ (q ∷ [])) ≡ Some u → Left page f c draws u q (k + 1) w start
 one_chord page f c draws v u w from q start k h e l t =
     let n = places_next page f c k (chord_count c) h in
     let rest = places_from page f c (k + 1 + 1) (chord_count c - (k + 1)) in
-    sym (traced_more v u draws from q rest t) ∙ ap (λ (x : Spot). traced v draws (from ∷ (x ∷ rest))) e ∙ ap (λ (ps : List Spot). traced v draws (from ∷ ps)) (sym n) ∙ l
+    sym (traced_more v u draws from q rest t) ∙ ap (λ (x : Spot). traced v draws (from ∷ (x ∷ rest))) e ∙ ap
+    (λ (ps : List Spot). traced v draws (from ∷ ps)) (sym n) ∙ l
 
 -- at a chord that leaves the range
-pub no_chord : (page : Page) (f : Frame) (c : Curve) (draws : Bool) (v w : World) (from q start : Spot) (k : ℕ) → k < chord_count c → q ≡ place page f (curve_point c (k + 1))
+pub no_chord : (page : Page) (f : Frame) (c : Curve) (draws : Bool) (v w : World) (from q start : Spot) (k : ℕ) → k < chord_count c
+    → q ≡ place page f (curve_point c (k + 1))
     → Left page f c draws v from k w start → traced v draws (from ∷ (q ∷ [])) ≡ None → traced w draws (start ∷ curve_places page f c) ≡ None
 no_chord page f c draws v w from q start k h e l t =
     let n = places_next page f c k (chord_count c) h in
     let rest = places_from page f c (k + 1 + 1) (chord_count c - (k + 1)) in
-    sym l ∙ ap (λ (ps : List Spot). traced v draws (from ∷ ps)) n ∙ ap (λ (x : Spot). traced v draws (from ∷ (x ∷ rest))) (sym e) ∙ traced_never v draws from q rest t
+    sym l ∙ ap (λ (ps : List Spot). traced v draws (from ∷ ps)) n ∙ ap (λ (x : Spot). traced v draws (from ∷ (x ∷ rest)))
+    (sym e) ∙ traced_never v draws from q rest t
 
 -- past the last chord
-pub all_chords : (page : Page) (f : Frame) (c : Curve) (draws : Bool) (v w : World) (from start : Spot) (k : ℕ) → k ≡ chord_count c → IsInRange from → Left page f c draws v from k w start
+pub all_chords : (page : Page) (f : Frame) (c : Curve) (draws : Bool) (v w : World) (from start : Spot) (k : ℕ) → k ≡ chord_count c
+    → IsInRange from → Left page f c draws v from k w start
     → traced w draws (start ∷ curve_places page f c) ≡ Some v
 all_chords page f c draws v w from start k e r l =
     let z : chord_count c - k ≡ 0 = omega arith in
     sym l ∙ ap (λ (n : ℕ). traced v draws (from ∷ places_from page f c (k + 1) n)) z ∙ traced_one v draws from r
 
 -- what stops early stops all of it, where the results are of two types
-pub stopped_by : (T : Type 0) {U : Type 0} (o p : Option World) (u v : World) (e : Stop) (r : Result U Stop) → (o ≡ None → p ≡ None) → Runs {U = T} o u (Err e) → IsErrAnd r (λ f. f ≡ e) → Runs p v r
+pub stopped_by : (T : Type 0) {U : Type 0} (o p : Option World) (u v : World) (e : Stop) (r : Result U Stop) → (o ≡ None → p ≡ None)
+    → Runs {U = T} o u (Err e) → IsErrAnd r (λ f. f ≡ e) → Runs p v r
 stopped_by T o p u v e (Ok x) n h i = absurd i
 stopped_by T o p u v Memory (Err f) n h i = rw i tt
 stopped_by T o p u v OffRange (Err f) n h i = rw i (n h)
 
 -- the path of a circle, and of an arc
-pub circle_path_is : (page : Page) (s : State) (c : Circle) (curve : Curve) (q : Spot) → curve ≡ circle_curve s.coordinates c → q ≡ place page s.frame curve.from
+pub circle_path_is : (page : Page) (s : State) (c : Circle) (curve : Curve) (q : Spot) → curve ≡ circle_curve s.coordinates c
+    → q ≡ place page s.frame curve.from
     → path page s (DrawCircle c) ≡ record { places = q ∷ curve_places page s.frame curve; draws = true; ends = position s }
 circle_path_is page s c curve q e h = rw (h, e) refl
 
-pub arc_path_is : (page : Page) (s : State) (relative : Bool) (a : Arc) (curve : Curve) (end : Position) → curve ≡ arc_curve s.coordinates (target relative s.coordinates a.x a.y) a
-    → end ≡ pen_at page s.frame (curve_point curve (chord_count curve)) → path page s (DrawArc relative a) ≡ record { places = s.place ∷ curve_places page s.frame curve; draws = s.is_down; ends = end }
+pub arc_path_is : (page : Page) (s : State) (relative : Bool) (a : Arc) (curve : Curve) (end : Position)
+    → curve ≡ arc_curve s.coordinates (target relative s.coordinates a.x a.y) a
+    → end ≡ pen_at page s.frame (curve_point curve (chord_count curve))
+    → path page s (DrawArc relative a) ≡ record { places = s.place ∷ curve_places page s.frame curve; draws = s.is_down; ends = end }
 arc_path_is page s relative a curve end e h = rw (h, e) refl
 
 placed : (page : Page) (f : Frame) (u : Spot) (end : Position) → end ≡ pen_at page f u → end.place ≡ place page f end.coordinates
 placed page f u end e = rw e refl
 
 -- the pen may move to an arc's end
-pub arc_sound : (w v : World) (axes : Axes) (draws : Bool) (places : List Spot) (u : Spot) (end : Position) → IsSound v.page axes v.state → traced w draws places ≡ Some v
-    → end ≡ pen_at w.page w.state.frame u → IsInRange end.place → IsSound v.page axes (record v.state { place = end.place; coordinates = end.coordinates })
+pub arc_sound : (w v : World) (axes : Axes) (draws : Bool) (places : List Spot) (u : Spot) (end : Position) → IsSound v.page axes v.state
+    → traced w draws places ≡ Some v
+    → end ≡ pen_at w.page w.state.frame u → IsInRange end.place
+    → IsSound v.page axes (record v.state { place = end.place; coordinates = end.coordinates })
 arc_sound w v axes draws places u end h t e r =
     let k = traced_keeps w v draws places t in
-    sound_at v.page axes v.state end.coordinates end.place h (rw (k.page_is, k.state_is) (placed w.page w.state.frame u end e)) (within end.place r)
+    sound_at v.page axes v.state end.coordinates end.place h (rw (k.page_is, k.state_is) (placed w.page w.state.frame u end e))
+    (within end.place r)

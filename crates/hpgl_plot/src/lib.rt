@@ -37,4 +37,6 @@ pub use lines::{Lines, draw_items};
 pub use note::{Note, NoteKind};
 pub use notes::Notes;
 pub use plot::{Plot, draw};
+pub use plot_arc::{Spot, chord_point, sine};
 pub use plot_page::{Colour, MOST_STROKES, Page, PageFault, Stroke, Window};
+pub use stick_font::{GridStroke, glyph};

@@ -28,7 +28,8 @@ whole_in g m t h = elim (cases_Bool (nat_le t 180000)) [
 ]
 
 to_360 : (t : ℕ) → nat_abs (sine_to_360 t) ≤ 10000000
-to_360 t = whole_in (λ (k : ℕ). if nat_le k 90000 then sine_to_90 k else sine_to_90 (180000 - k)) 10000000 t (λ k. half_in sine_to_90 10000000 k to_90)
+to_360 t = whole_in (λ (k : ℕ). if nat_le k 90000 then sine_to_90 k else sine_to_90 (180000 - k)) 10000000 t
+    (λ k. half_in sine_to_90 10000000 k to_90)
 
 pub sine_in : (t : ℤ) → nat_abs (sine_of t) ≤ 10000000
 sine_in t = to_360 (nat_abs (int_rem_euclid t (pos 360000)))
@@ -46,7 +47,8 @@ sum_in x y s k h i =
     let q = product_within y k (nat_abs y) 10000000 (omega arith) i in
     omega (arith, ints)
 
-difference_in : (x y s k : ℤ) → nat_abs s ≤ 10000000 → nat_abs k ≤ 10000000 → nat_abs (x *ℤ k -ℤ y *ℤ s) ≤ (nat_abs x + nat_abs y) * 10000000
+difference_in : (x y s k : ℤ) → nat_abs s ≤ 10000000 → nat_abs k ≤ 10000000
+    → nat_abs (x *ℤ k -ℤ y *ℤ s) ≤ (nat_abs x + nat_abs y) * 10000000
 difference_in x y s k h i =
     let p = product_within x k (nat_abs x) 10000000 (omega arith) i in
     let q = product_within y s (nat_abs y) 10000000 (omega arith) h in
@@ -62,6 +64,8 @@ is_reached centre from t =
     let vx = from.x -ℤ centre.x in
     let vy = from.y -ℤ centre.y in
     record {
-      x = nearest_in (turned_x (vector centre from) t) (nat_abs vx + nat_abs vy) (difference_in vx vy (sine_of t) (cosine_of t) (sine_in t) (sine_in (t +ℤ pos 90000)));
-      y = nearest_in (turned_y (vector centre from) t) (nat_abs vx + nat_abs vy) (sum_in vx vy (sine_of t) (cosine_of t) (sine_in t) (sine_in (t +ℤ pos 90000)));
+      x = nearest_in (turned_x (vector centre from) t) (nat_abs vx + nat_abs vy)
+          (difference_in vx vy (sine_of t) (cosine_of t) (sine_in t) (sine_in (t +ℤ pos 90000)));
+      y = nearest_in (turned_y (vector centre from) t) (nat_abs vx + nat_abs vy)
+          (sum_in vx vy (sine_of t) (cosine_of t) (sine_in t) (sine_in (t +ℤ pos 90000)));
     }

@@ -17,7 +17,8 @@ returns-in_err-end c =
     let end = pen_at w.page s.frame (curve_point curve (chord_count curve)) in
     let p : Path = record { places = s.place ∷ curve_places w.page s.frame curve; draws = s.is_down; ends = end } in
     let e = arc_path_is w.page s c.args.is_relative c.args.arc curve end c.arc_curve-curve.ensures.value refl in
-    stopped_by Position (traced w p.draws p.places) (step w (DrawArc c.args.is_relative c.args.arc)) v v c.in_err-end.field-0.0 c.from_residual.result
+    stopped_by Position (traced w p.draws p.places)
+    (step w (DrawArc c.args.is_relative c.args.arc)) v v c.in_err-end.field-0.0 c.from_residual.result
     (step_out w (DrawArc c.args.is_relative c.args.arc) p e) c.in_err-end.ensures.runs c.from_residual.ensures.1
 
 pub arrive-requires-clause-x_near : goal.arrive-requires-clause-x_near
@@ -25,7 +26,8 @@ arrive-requires-clause-x_near c =
     let w = seen c.args.self.now in
     let s = w.state in
     let curve = c.arc_curve-curve.result in
-    (arc_sound w (seen c.follow_curve.new.self) c.follow_curve.new.self.axes s.is_down (s.place ∷ curve_places w.page s.frame curve) (curve_point curve (chord_count curve)) c.in_ok-end.end c.follow_curve.new.self.sound
+    (arc_sound w (seen c.follow_curve.new.self) c.follow_curve.new.self.axes s.is_down (s.place ∷ curve_places w.page s.frame curve)
+    (curve_point curve (chord_count curve)) c.in_ok-end.end c.follow_curve.new.self.sound
     c.in_ok-end.ensures.runs c.in_ok-end.ensures.end c.in_ok-end.ensures.in_range).x_near
 
 pub arrive-requires-clause-y_near : goal.arrive-requires-clause-y_near
@@ -33,7 +35,8 @@ arrive-requires-clause-y_near c =
     let w = seen c.args.self.now in
     let s = w.state in
     let curve = c.arc_curve-curve.result in
-    (arc_sound w (seen c.follow_curve.new.self) c.follow_curve.new.self.axes s.is_down (s.place ∷ curve_places w.page s.frame curve) (curve_point curve (chord_count curve)) c.in_ok-end.end c.follow_curve.new.self.sound
+    (arc_sound w (seen c.follow_curve.new.self) c.follow_curve.new.self.axes s.is_down (s.place ∷ curve_places w.page s.frame curve)
+    (curve_point curve (chord_count curve)) c.in_ok-end.end c.follow_curve.new.self.sound
     c.in_ok-end.ensures.runs c.in_ok-end.ensures.end c.in_ok-end.ensures.in_range).y_near
 
 pub returns : goal.returns
@@ -44,4 +47,5 @@ returns c =
     let end = c.in_ok-end.end in
     let p : Path = record { places = s.place ∷ curve_places w.page s.frame curve; draws = s.is_down; ends = end } in
     let e = arc_path_is w.page s c.args.is_relative c.args.arc curve end c.arc_curve-curve.ensures.value c.in_ok-end.ensures.end in
-    moved_runs w (seen c.follow_curve.new.self) (seen c.arrive.new.self) (DrawArc c.args.is_relative c.args.arc) p (ap (λ (r : Path). moved s r.ends) e) e c.in_ok-end.ensures.runs c.arrive.ensures
+    moved_runs w (seen c.follow_curve.new.self) (seen c.arrive.new.self) (DrawArc c.args.is_relative c.args.arc) p
+    (ap (λ (r : Path). moved s r.ends) e) e c.in_ok-end.ensures.runs c.arrive.ensures

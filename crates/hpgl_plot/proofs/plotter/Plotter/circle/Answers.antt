@@ -18,7 +18,8 @@ returns-in_err-follow_curve c =
     let q = c.place_of-start.result in
     let p : Path = record { places = q ∷ curve_places w.page s.frame curve; draws = true; ends = position s } in
     let e = circle_path_is w.page s c.args.circle curve q c.circle_curve-curve.ensures.value c.place_of-start.ensures in
-    stopped_by Position (traced w p.draws p.places) (step w (DrawCircle c.args.circle)) v v c.in_err-follow_curve.field-0.0 c.from_residual.result
+    stopped_by Position (traced w p.draws p.places)
+    (step w (DrawCircle c.args.circle)) v v c.in_err-follow_curve.field-0.0 c.from_residual.result
     (step_out w (DrawCircle c.args.circle) p e) c.in_err-follow_curve.ensures.runs c.from_residual.ensures.1
 
 pub returns : goal.returns
@@ -28,5 +29,6 @@ returns c =
     let s = w.state in
     let curve = c.circle_curve-curve.result in
     let q = c.place_of-start.result in
-    still_runs {U = ⊤} w v (DrawCircle c.args.circle) (record { places = q ∷ curve_places w.page s.frame curve; draws = true; ends = position s }) (Ok tt) refl
+    still_runs {U = ⊤} w v (DrawCircle c.args.circle)
+    (record { places = q ∷ curve_places w.page s.frame curve; draws = true; ends = position s }) (Ok tt) refl
     (circle_path_is w.page s c.args.circle curve q c.circle_curve-curve.ensures.value c.place_of-start.ensures) c.in_ok-follow_curve.ensures.runs

@@ -12,7 +12,8 @@ returns-in_err-begin-clause-runs c =
     let w = seen c.args.self.now in
     let draws = c.args.draws in
     let places = curve_places w.page w.state.frame c.args.curve in
-    stopped_by ⊤ (traced w draws (c.args.start ∷ [])) (traced w draws (c.args.start ∷ places)) w w c.in_err-begin.field-0.0 c.from_residual.result
+    stopped_by ⊤ (traced w draws (c.args.start ∷ []))
+    (traced w draws (c.args.start ∷ places)) w w c.in_err-begin.field-0.0 c.from_residual.result
     (traced_out w draws c.args.start places) (c.in_err-begin.ensures.runs draws) c.from_residual.ensures.1
 
 pub place_of-place-requires-clause-x_near : goal.place_of-place-requires-clause-x_near
@@ -43,7 +44,8 @@ returns-in_err-reach-clause-runs c =
     let places = curve_places w.page f c.args.curve in
     let h : k < chord_count c.args.curve = rw (c.chord_count-k-end.ensures) at c.loop-k-test.true in
     let e = rw (i.kept.page_is, i.kept.state_is, c.curve_point-coordinates.ensures) at c.place_of-place.ensures in
-    stopped_by ⊤ (traced v draws (from ∷ (q ∷ []))) (traced w draws (c.args.start ∷ places)) u u c.in_err-reach.field-0.0 c.from_residual-in_err-reach.result
+    stopped_by ⊤ (traced v draws (from ∷ (q ∷ [])))
+    (traced w draws (c.args.start ∷ places)) u u c.in_err-reach.field-0.0 c.from_residual-in_err-reach.result
     (no_chord w.page f c.args.curve draws v w from q c.args.start k h e i.same) c.in_err-reach.ensures.runs c.from_residual-in_err-reach.ensures.1
 
 pub loop-k-preserved : goal.loop-k-preserved
