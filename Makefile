@@ -11,6 +11,7 @@ PROGRAM = crates/plotraster_program/out/plotraster_program
 BIN = $(DESTDIR)$(PREFIX)/bin
 MAN = $(DESTDIR)$(PREFIX)/share/man/man1
 COMPLETIONS = $(DESTDIR)$(PREFIX)/share/bash-completion/completions
+CARDS = rose tide figures characters
 CARD = --width 4000 --height 3000 --dots 600
 
 build:
@@ -21,17 +22,17 @@ build:
 demo: build
 	@echo 'plotraster marks --width 64 --height 64 --dots 127 examples/line.plt'
 	@build/plotraster marks --width 64 --height 64 --dots 127 examples/line.plt
-	@for name in rose tide; do \
+	@for name in $(CARDS); do \
 	    echo "plotraster ppm $(CARD) examples/$$name.plt > build/$$name.ppm"; \
 	    build/plotraster ppm $(CARD) examples/$$name.plt > build/$$name.ppm || exit 1; \
 	done
 	@if command -v pamscale > /dev/null && command -v pnmtopng > /dev/null; then \
-	    for name in rose tide; do \
+	    for name in $(CARDS); do \
 	        echo "pamscale -reduce 4 build/$$name.ppm | pnmtopng > build/$$name.png"; \
 	        pamscale -quiet -reduce 4 build/$$name.ppm | pnmtopng -quiet > build/$$name.png; \
 	    done; \
 	fi
-	@echo 'The pictures are:' build/rose.* build/tide.*
+	@echo 'The pictures are:' $(CARDS:%=build/%.*)
 
 # The cases and the mutants use what rt ci proved and built; its verdict is said again as the last line.
 check:

@@ -25,12 +25,13 @@ def label(x, y, text):
 def circles():
     """Circles by ever longer chords."""
     parts = [pen(BLUE, 0.3)]
-    for i, chord in enumerate((5, 30, 45, 72, 90, 120)):
-        x = 380 + 640 * i
+    places = {chord: 380 + 640 * i for i, chord in enumerate((5, 30, 45, 72, 90, 120))}
+    for chord, x in places.items():
         parts.append(f"PU{x},2560;CI260,{chord};CI200,{chord};CI140,{chord};")
-    parts.append(pen(BLACK, 0.2) + "SI0.13,0.19;")
-    for i, text in enumerate(("CI260", "CI260,30", "CI260,45", "CI260,72", "CI260,90", "CI260,120")):
-        parts.append(label(380 + 640 * i - 40 * len(text), 2170, text))
+    parts.append(pen(BLACK, 0.15) + "SI0.09,0.13;")
+    for chord, x in places.items():
+        text = f"CI260,{chord}"
+        parts.append(label(x - 27 * len(text) + 9, 2180, text))
     return parts
 
 
@@ -55,23 +56,22 @@ def rectangles():
 
 
 def directions():
-    """A text in four directions, and once more on a page that is turned."""
-    parts = [pen(BLACK, 0.25), "SI0.2,0.3;"]
+    """A text in four directions."""
+    parts = [pen(BLACK, 0.25), "SI0.1,0.15;"]
     for run, rise in ((1, 0), (0, 1), (-1, 0), (0, -1)):
-        parts.append(f"DI{run},{rise};" + label(3100, 1350, "   to all sides"))
+        parts.append(f"DI{run},{rise};" + label(3150, 1350, "  four ways"))
     return parts + ["DI;"]
 
 
 def lines():
-    """Lines of text of ever smaller characters."""
+    """Lines of text of ever smaller characters, and a label of three lines."""
     parts = [pen(BLACK, 0.2)]
-    y = 640
-    for width in (0.3, 0.22, 0.16, 0.11):
+    y = 560
+    for width in (0.2, 0.15, 0.11, 0.08):
         parts.append(f"SI{width:g},{1.45 * width:.3g};")
-        parts.append(label(160, y, "The quick brown fox jumps over 1234567890 lazy dogs"[: int(14.5 / width)]))
-        y -= int(width * 700) + 40
-    parts.append("SI0.2,0.3;" + label(2900, 420, "CR and LF\r\nbegin a\r\nnew line"))
-    return parts
+        parts.append(label(160, y, "The quick brown fox"))
+        y -= int(width * 580) + 60
+    return parts + ["SI0.12,0.18;" + label(2800, 460, "CR and LF\r\nbegin a\r\nnew line")]
 
 
 def main():
