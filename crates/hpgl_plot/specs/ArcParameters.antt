@@ -1,4 +1,4 @@
--- The numbers of CI (Circle), AA (Arc Absolute) and AR (Arc Relative), in millionths: what they ask for, or None where
+-- The numbers of CI (Circle), AA (Arc Absolute) and AR (Arc Relative), in millionths: what they ask for, or None if
 -- they are wrong. That angles are rounded to thousandths of a degree before they are tested is our choice.
 use Rattle.std.specs.Prelude.{ℤ, pos, negsuc, nat_abs, Bool, ◌&&◌, List, [], ◌∷◌, Option, Some, None, if◌then◌else◌}
 use Rattle.exact.specs.Fraction.{round}
@@ -10,7 +10,7 @@ use Rattle.hpgl_plot.specs.Parameters.{is_between}
 abbrev pub thousandths_of : ℤ → ℤ
 thousandths_of n = round (record { over = n; under = 1000 })
 
--- a chord has 0.5 to 180 degrees, and 5 where none are named
+-- a chord has 0.5 to 180 degrees, and 5 if none is named
 abbrev pub is_chord : ℤ → Bool
 is_chord n = is_between (pos 500) (pos 180000) n
 

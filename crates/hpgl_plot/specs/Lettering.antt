@@ -1,4 +1,4 @@
--- What SI (Absolute Character Size) and DI (Absolute Direction) set, or None where their numbers are wrong. Numbers are in
+-- What SI (Absolute Character Size) and DI (Absolute Direction) set, or None if their numbers are wrong. Numbers are in
 -- millionths, and tested as written. The limit of 40 cm, and that only the four axes are directions, are our choice.
 use Rattle.std.specs.Prelude.{ℤ, pos, negsuc, ◌*ℤ◌, nat_abs, nat_le, int_lt, Bool, false, not, ◌&&◌, List, [], ◌∷◌, Option, Some, None, if◌then◌else◌}
 use Rattle.std.specs.Ordering.{int_eq}
@@ -23,7 +23,8 @@ abbrev pub size_grains : ℤ → ℤ
 size_grains n = round (record { over = pos 6400 *ℤ n; under = 1000000 })
 
 abbrev pub size_set : ℤ → ℤ → Option Setting
-size_set width height = if is_size width && is_size height then Some (Size (record { width = size_grains width; height = size_grains height })) else None
+size_set width height =
+    if is_size width && is_size height then Some (Size (record { width = size_grains width; height = size_grains height })) else None
 
 -- SI width, height
 abbrev pub character_size : List ℤ → Option Setting
@@ -46,7 +47,7 @@ nearest_axis run rise = if nat_le (nat_abs rise) (nat_abs run) then along_run ru
 abbrev pub direction_set : ℤ → ℤ → Option Setting
 direction_set run rise = if int_eq run (pos 0) && int_eq rise (pos 0) then None else Some (Direction (nearest_axis run rise))
 
--- DI run, rise: to the right where none is named
+-- DI run, rise: to the right if none is named
 abbrev pub direction : List ℤ → Option Setting
 direction [] = Some (Direction rotation.None)
 direction (x ∷ []) = None

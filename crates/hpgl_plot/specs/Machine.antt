@@ -39,7 +39,13 @@ pointed page s p = framed page s (record s.frame { points = p })
 
 abbrev pub set_to : Page → State → Setting → State
 set_to page s Start = state_of page []
-set_to page s Defaults = record (framed page s (record s.frame { scaling = Off })) { is_relative = false; window = page_window page; size = usual_size; direction = rotation.None }
+set_to page s Defaults =
+    record (framed page s (record s.frame { scaling = Off })) {
+      is_relative = false;
+      window = page_window page;
+      size = usual_size;
+      direction = rotation.None;
+    }
 set_to page s PageCorners = pointed page s (corners page s.frame.rotation)
 set_to page s (FirstPoint x y) = pointed page s (moved_points s.frame.points x y)
 set_to page s (BothPoints p) = pointed page s p

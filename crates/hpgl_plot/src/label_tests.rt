@@ -140,6 +140,10 @@ fn sizes(rt: HostRuntime) -> Result<(), Fail> {
 note 34 SI Bad\nnote 49 SI Bad\n",
             ),
             (b"SI.1,.1;SI;LB-\x03".as_slice(), "0,864 to 1216,864\n"),
+            (
+                b"PU1,0;SI.00001,.27;LB-\x03".as_slice(),
+                "16,864 to 16,864\n",
+            ),
         ],
     )?;
     assert_eq!(rt; all.drawn.as_str(), all.wanted.as_str());
@@ -190,6 +194,20 @@ fn the_pen_after_labels(rt: HostRuntime) -> Result<(), Fail> {
                 "0,0 to 0,0\n1824,0 to 0,0\n",
             ),
         ],
+    )?;
+    assert_eq!(rt; all.drawn.as_str(), all.wanted.as_str());
+    Ok(())
+}
+
+// A rectangle after a label begins at the pen's place, and its other corners are placed by coordinates.
+#[test]
+fn a_rectangle_after_a_label(rt: HostRuntime) -> Result<(), Fail> {
+    let all = draw_all(
+        rt.alloc(),
+        &[(
+            b"SC0,3,0,3;SI.1,.1;LB \x03ER1,1;".as_slice(),
+            "960,0 to 1301,0\n1301,0 to 1301,341\n1301,341 to 960,341\n960,341 to 960,0\n",
+        )],
     )?;
     assert_eq!(rt; all.drawn.as_str(), all.wanted.as_str());
     Ok(())

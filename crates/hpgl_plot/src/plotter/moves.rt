@@ -1,12 +1,11 @@
 //! Moves, and the strokes along a path.
-ghost use Rattle.std.specs.Prelude.{◌≡◌, ◌≤◌, ◌^◌, ◌*ℤ◌, Bool, [], ◌∷◌, nat_abs, slice_index, slice_index_or, IfOk, IfErr, Some};
+ghost use Rattle.std.specs.Prelude.{◌≡◌, ◌≤◌, ◌^◌, ◌*ℤ◌, Bool, [], ◌∷◌, nat_abs, IfOk, IfErr, Some};
 ghost use Rattle.plot_frame.specs.Bounds.{IsNear};
-ghost use Rattle.hpgl_plot.specs.Colours.{black};
 ghost use Rattle.hpgl_plot.specs.Bounds.{IsInRange};
 ghost use Rattle.hpgl_plot.specs.Frames as frames;
 ghost use Rattle.hpgl_plot.specs.Machine.{seen, step, Runs, kept_with, full_with, moved, traced, ends_in};
 ghost use Rattle.hpgl_plot.specs.Paths as paths;
-ghost use Rattle.hpgl_plot.specs.Strokes.{drawn};
+ghost use Rattle.hpgl_plot.specs.Strokes.{drawn, stroke};
 ghost use Rattle.hpgl_plot.specs.Steps.{Touch, Move, Go};
 
 use crate::place::{is_place_in_range, place_on, target_of};
@@ -153,7 +152,7 @@ impl Plotter {
         requires pen { 1 ≤ self.now.state.pen }
         requires a_in { IsInRange a }
         requires b_in { IsInRange b }
-        ensures { result ≡ record { pen = self.now.state.pen; colour = slice_index_or self.now.state.colours self.now.state.pen black; width = slice_index self.now.state.widths self.now.state.pen; window = self.now.state.window; ax = a.x; ay = a.y; bx = b.x; by = b.y } }
+        ensures { result ≡ stroke self.now.state a b }
     {
         let state = &self.state;
         let pen = usize::from(state.pen);
