@@ -128,7 +128,7 @@ fn jobs_that_are_refused(rt: HostRuntime) -> Result<(), Fail> {
 }
 
 // A source of so many semicolons, which does not fail.
-fn semicolons(left: usize) -> Semicolons
+fn source_of(left: usize) -> Semicolons
     ensures { result ≡ record { left = left; fails = false; failures = 0; ends = 0 } }
 {
     Semicolons {
@@ -155,7 +155,7 @@ fn converted(
 
 #[test]
 fn the_longest_plot(rt: HostRuntime) -> Result<(), Fail> {
-    let mut source = semicolons(67_108_864);
+    let mut source = source_of(67_108_864);
     let (answer, written) = converted(&rt, &mut source)?;
     let empty = matches!(
         answer,
@@ -173,7 +173,7 @@ fn the_longest_plot(rt: HostRuntime) -> Result<(), Fail> {
 
 #[test]
 fn a_plot_of_one_byte_too_many(rt: HostRuntime) -> Result<(), Fail> {
-    let mut source = semicolons(67_108_865);
+    let mut source = source_of(67_108_865);
     let (answer, written) = converted(&rt, &mut source)?;
     let long = matches!(answer, Err(Fault::TooLong));
     assert!(rt; long);
@@ -185,7 +185,7 @@ fn a_plot_of_one_byte_too_many(rt: HostRuntime) -> Result<(), Fail> {
 // Of a longer plot one byte too many is read, and the rest is left.
 #[test]
 fn the_rest_of_a_plot_too_long(rt: HostRuntime) -> Result<(), Fail> {
-    let mut source = semicolons(67_108_867);
+    let mut source = source_of(67_108_867);
     let (answer, written) = converted(&rt, &mut source)?;
     let long = matches!(answer, Err(Fault::TooLong));
     assert!(rt; long);
