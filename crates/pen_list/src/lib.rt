@@ -1,0 +1,10 @@
+//! Lists of pens as text, such as `1,3,5-7`.
+#![tactic(auto)]
+
+mod list;
+mod number;
+mod range;
+#[cfg(test)]
+mod tests;
+
+pub use list::read_pens;

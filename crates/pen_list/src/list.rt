@@ -1,0 +1,36 @@
+//! A list of pens.
+ghost use Rattle.std.specs.Prelude.{◌≡◌, ◌<◌, ◌||◌, ℕ, IfSome, is_some};
+ghost use Rattle.stroke_raster.specs.Pens.{has_pen};
+ghost use Rattle.pen_list.specs.Lists.{are_items, is_listed, is_pen_list, items_have};
+
+use crate::range::PenRange;
+use stroke_raster::PenSet;
+
+/// The pens that a text lists, if it is a list of pens: `all`, which is the pens 1 to 255, or items
+/// separated by single commas. An item is a pen `n`, or a range `n-m` from a pen to one that is not
+/// less. A pen is 1 to 255, in one to three decimal digits. `1,3,5-7` lists the pens 1, 3, 5, 6 and 7.
+pub fn read_pens(text: &str) -> Option<PenSet>
+    ensures found { is_some result ≡ is_pen_list text.now }
+    ensures pens { IfSome result (λ pens. (pen : ℕ) → pen < 256 → has_pen pens pen ≡ is_listed text.now pen) }
+{
+    if text == "all" {
+        return Some(PenSet::all());
+    }
+    read_items(text.as_bytes())
+}
+
+// The pens of the items of a text.
+fn read_items(text: &[u8]) -> Option<PenSet>
+    ensures found { is_some result ≡ are_items text.now }
+    ensures pens { IfSome result (λ pens. (pen : ℕ) → pen < 256 → has_pen pens pen ≡ items_have text.now pen) }
+{
+    let mut pens = PenSet::none();
+    let mut from = 0;
+    for (at, byte) in text.iter().enumerate() {
+        if *byte == b',' {
+            pens = PenRange::read(&text[from..at])?.added_to(pens);
+            from = at + 1;
+        }
+    }
+    Some(PenRange::read(&text[from..])?.added_to(pens))
+}
