@@ -1,5 +1,5 @@
 //! The number of one pen.
-ghost use Rattle.std.specs.Prelude.{◌≡◌, if◌then◌else◌, Some, None};
+ghost use Rattle.std.specs.Prelude.{◌≡◌, IfSome, is_some};
 ghost use Rattle.pen_list.specs.Lists.{is_pen, number};
 
 /// The most digits that a pen's number is written with.
@@ -10,7 +10,8 @@ pub(crate) const GREATEST_PEN: u16 = 255;
 
 // The pen that digits write.
 pub(crate) fn read_pen(digits: &[u8]) -> Option<u8>
-    ensures { result ≡ (if is_pen digits.now then Some (number digits.now) else None) }
+    ensures found { is_some result ≡ is_pen digits.now }
+    ensures value { IfSome result (λ pen. pen ≡ number digits.now) }
 {
     if digits.len() > MOST_DIGITS {
         return None;

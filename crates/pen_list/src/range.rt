@@ -1,7 +1,7 @@
 //! An item of a list: a pen, or a range of pens.
-ghost use Rattle.std.specs.Prelude.{◌≡◌, ◌<◌, ◌||◌, ℕ, IfSome, is_some};
+ghost use Rattle.std.specs.Prelude.{◌≡◌, ◌<◌, ◌==◌, ◌||◌, ℕ, IfSome, is_some, position};
 ghost use Rattle.stroke_raster.specs.Pens.{has_pen};
-ghost use Rattle.pen_list.specs.Lists.{is_between, is_item, item_has};
+ghost use Rattle.pen_list.specs.Lists.{hyphen, is_between, is_item, item_has};
 
 use crate::number::read_pen;
 use stroke_raster::PenSet;
@@ -19,15 +19,15 @@ impl PenRange {
         ensures found { is_some result ≡ is_item item.now }
         ensures pens { IfSome result (λ range. (pen : ℕ) → item_has item.now pen ≡ is_between range.first pen range.last) }
     {
-        let Some(hyphen) = item.iter().position(|byte| *byte == b'-') else {
+        let Some(at) = first_hyphen(item) else {
             let pen = read_pen(item)?;
             return Some(PenRange {
                 first: pen,
                 last: pen,
             });
         };
-        let first = read_pen(&item[..hyphen])?;
-        let last = read_pen(&item[hyphen + 1..])?;
+        let first = read_pen(&item[..at])?;
+        let last = read_pen(&item[at + 1..])?;
         if first > last {
             return None;
         }
@@ -44,4 +44,11 @@ impl PenRange {
         }
         all
     }
+}
+
+// Where the first hyphen is.
+fn first_hyphen(item: &[u8]) -> Option<usize>
+    ensures { result ≡ position (λ byte. byte == hyphen) item.now }
+{
+    item.iter().position(|byte| *byte == b'-')
 }
