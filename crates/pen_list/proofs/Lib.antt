@@ -1,4 +1,5 @@
 pub mod Cuts
 pub mod Ends
+pub mod Items
 pub mod Numbers
 mod ListExamples

@@ -5,8 +5,9 @@ use Rattle.pen_list.proofs.list.read_items.Given as goal
 
 -- what was read and what is left list the pens of the whole text
 abbrev pub invariant-loop-at : goal.invariant-loop-at
-invariant-loop-at l =
-    (l.from ≤ l.at) ×
-    ((k : ℕ) → l.from ≤ k → k < l.at → (get_or l.text k 0 == comma) ≡ false) ×
-    (are_items (drop l.from l.text) ≡ are_items l.text) ×
-    ((pen : ℕ) → pen < 256 → (has_pen l.pens pen || items_have (drop l.from l.text) pen) ≡ items_have l.text pen)
+invariant-loop-at l = record {
+  from : l.from ≤ l.at;
+  no_comma : (k : ℕ) → l.from ≤ k → k < l.at → (get_or l.text k 0 == comma) ≡ false;
+  good : are_items (drop l.from l.text) ≡ are_items l.text;
+  listed : (pen : ℕ) → pen < 256 → (has_pen l.pens pen || items_have (drop l.from l.text) pen) ≡ items_have l.text pen
+}
