@@ -1,5 +1,5 @@
 -- Lists cut at separators.
-use Rattle.std.proofs.Common.{◌≡◌, ◌<◌, ◌+◌, ◌⊎◌, ℕ, Bool, true, false, Some, None, List, [], ◌∷◌, length, get_or, take, drop, arith, rules, refl, cond}
+use Rattle.std.proofs.Common.{◌≡◌, ◌<◌, ◌+◌, ℕ, Bool, true, false, Some, None, List, [], ◌∷◌, length, get_or, take, drop, arith, cond}
 use Rattle.std.proofs.lemmas.Grind.{common_steps}
 use Rattle.std.proofs.lemmas.List.Elements.{All-from_get_or}
 use Rattle.std.proofs.lemmas.List.Quantifiers.{position-Some}
@@ -8,7 +8,7 @@ use Rattle.std.proofs.lemmas.List.Sums.{fails_before_first, position_or_len_is}
 use Rattle.std.specs.List.{onto_first, position, position_or_len, slice_split}
 
 module _ (separates : ℕ → Bool) (text : List ℕ) where
-  -- the first part ends at the first separator
+  -- the first part bounds at the first separator
   pub cut_at : (at : ℕ) → at < length text → ((k : ℕ) → k < at → separates (get_or text k 0) ≡ false) → separates (get_or text at 0) ≡ true → slice_split separates text ≡ take at text ∷ slice_split separates (drop (at + 1) text)
   cut_at at inside before here =
       let e : position_or_len separates text ≡ at = position_or_len_is separates text at 0 (omega arith) before (λ _. here) in
@@ -23,7 +23,6 @@ module _ (separates : ℕ → Bool) (text : List ℕ) where
   -- without a separator the text is the one part
   pub uncut : ((k : ℕ) → k < length text → separates (get_or text k 0) ≡ false) → slice_split separates text ≡ text ∷ []
   uncut none = slice_split_none separates text (All-from_get_or (λ (x : ℕ). separates x ≡ false) text 0 none)
-
 
   pub uncut_without : position separates text ≡ None → slice_split separates text ≡ text ∷ []
   uncut_without e = uncut (λ k below. grind (arith, common_steps, fails_before_first separates text k 0))

@@ -1,5 +1,5 @@
 pub mod Cuts
-pub mod Ends
-pub mod Items
+pub mod Bounds
+pub mod Ranges
 pub mod Numbers
 mod ListExamples

@@ -1,12 +1,12 @@
 -- Which texts are lists of pens, and which pens they list.
 use Rattle.std.proofs.Common.{◌≡◌, refl, true, false, codes, ◌∷◌, []}
-use Rattle.pen_list.specs.Lists.{ends, is_listed, is_pen, is_pen_list, items, number}
+use Rattle.pen_list.specs.Lists.{bounds, is_listed, is_pen_list, ranges, number}
 
-three_items : items (codes "1,3,5-7") ≡ codes "1" ∷ codes "3" ∷ codes "5-7" ∷ []
-three_items = refl
+three_ranges : ranges (codes "1,3,5-7") ≡ codes "1" ∷ codes "3" ∷ codes "5-7" ∷ []
+three_ranges = refl
 
-two_ends : ends (codes "5-7") ≡ codes "5" ∷ codes "7" ∷ []
-two_ends = refl
+two_bounds : bounds (codes "5-7") ≡ codes "5" ∷ codes "7" ∷ []
+two_bounds = refl
 
 number_of_digits : number (codes "207") ≡ 207
 number_of_digits = refl
@@ -35,7 +35,7 @@ lists_seven = refl
 lists_no_eight : is_listed (codes "1,3,5-7") 8 ≡ false
 lists_no_eight = refl
 
--- an item may be there twice, and a number may begin with zeros
+-- a pen may be listed twice, and a number may begin with zeros
 twice : is_pen_list (codes "1,1") ≡ true
 twice = refl
 
@@ -85,8 +85,8 @@ no_beginning = refl
 two_hyphens : is_pen_list (codes "1--2") ≡ false
 two_hyphens = refl
 
-three_ends : is_pen_list (codes "1-2-3") ≡ false
-three_ends = refl
+three_bounds : is_pen_list (codes "1-2-3") ≡ false
+three_bounds = refl
 
 four_digits : is_pen_list (codes "0001") ≡ false
 four_digits = refl

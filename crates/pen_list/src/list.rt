@@ -1,14 +1,14 @@
 //! A list of pens.
 ghost use Rattle.std.specs.Prelude.{◌≡◌, ◌<◌, ◌||◌, ℕ, IfSome, is_some};
 ghost use Rattle.stroke_raster.specs.Pens.{has_pen};
-ghost use Rattle.pen_list.specs.Lists.{are_items, is_listed, is_pen_list, items_have};
+ghost use Rattle.pen_list.specs.Lists.{are_ranges, is_listed, is_pen_list, ranges_have};
 
 use crate::range::PenRange;
 use stroke_raster::PenSet;
 
-/// The pens that a text lists, if it is a list of pens: `all`, which is the pens 1 to 255, or items
-/// separated by single commas. An item is a pen `n`, or a range `n-m` from a pen to one that is not
-/// less. A pen is 1 to 255, in one to three decimal digits. `1,3,5-7` lists the pens 1, 3, 5, 6 and 7.
+/// The pens that a text lists, or `None` if it is no list of pens. A list is `all`, which is the pens
+/// 1 to 255, or ranges separated by single commas. A range is `n-m`, with n not above m, or `n` alone.
+/// Each of n and m is 1 to 255, in one to three decimal digits, so `1,3,5-7` lists 1, 3, 5, 6 and 7.
 pub fn read_pens(text: &str) -> Option<PenSet>
     ensures found { is_some result ≡ is_pen_list text.now }
     ensures pens { IfSome result (λ pens. (pen : ℕ) → pen < 256 → has_pen pens pen ≡ is_listed text.now pen) }
@@ -16,13 +16,13 @@ pub fn read_pens(text: &str) -> Option<PenSet>
     if text == "all" {
         return Some(PenSet::all());
     }
-    read_items(text.as_bytes())
+    read_ranges(text.as_bytes())
 }
 
-// The pens of the items of a text.
-fn read_items(text: &[u8]) -> Option<PenSet>
-    ensures found { is_some result ≡ are_items text.now }
-    ensures pens { IfSome result (λ pens. (pen : ℕ) → pen < 256 → has_pen pens pen ≡ items_have text.now pen) }
+// The pens of the ranges that commas separate in a text.
+fn read_ranges(text: &[u8]) -> Option<PenSet>
+    ensures found { is_some result ≡ are_ranges text.now }
+    ensures pens { IfSome result (λ pens. (pen : ℕ) → pen < 256 → has_pen pens pen ≡ ranges_have text.now pen) }
 {
     let mut pens = PenSet::none();
     let mut from = 0;

@@ -1,7 +1,7 @@
-//! An item of a list: a pen, or a range of pens.
+//! A range of pens.
 ghost use Rattle.std.specs.Prelude.{◌≡◌, ◌<◌, ◌==◌, ◌||◌, ℕ, IfSome, is_some, position};
 ghost use Rattle.stroke_raster.specs.Pens.{has_pen};
-ghost use Rattle.pen_list.specs.Lists.{hyphen, is_between, is_item, item_has};
+ghost use Rattle.pen_list.specs.Lists.{hyphen, is_between, is_range, range_has};
 
 use crate::number::read_pen;
 use stroke_raster::PenSet;
@@ -14,20 +14,20 @@ pub(crate) struct PenRange {
 }
 
 impl PenRange {
-    // The range that an item of a list asks for: `n`, or `n-m` with n not above m.
-    pub(crate) fn read(item: &[u8]) -> Option<PenRange>
-        ensures found { is_some result ≡ is_item item.now }
-        ensures pens { IfSome result (λ range. (pen : ℕ) → item_has item.now pen ≡ is_between range.first pen range.last) }
+    // The range that a text is: `n-m` with n not above m, or `n`, the range of one pen.
+    pub(crate) fn read(text: &[u8]) -> Option<PenRange>
+        ensures found { is_some result ≡ is_range text.now }
+        ensures pens { IfSome result (λ range. (pen : ℕ) → range_has text.now pen ≡ is_between range.first pen range.last) }
     {
-        let Some(at) = first_hyphen(item) else {
-            let pen = read_pen(item)?;
+        let Some(at) = first_hyphen(text) else {
+            let pen = read_pen(text)?;
             return Some(PenRange {
                 first: pen,
                 last: pen,
             });
         };
-        let first = read_pen(&item[..at])?;
-        let last = read_pen(&item[at + 1..])?;
+        let first = read_pen(&text[..at])?;
+        let last = read_pen(&text[at + 1..])?;
         if first > last {
             return None;
         }
@@ -47,8 +47,8 @@ impl PenRange {
 }
 
 // Where the first hyphen is.
-fn first_hyphen(item: &[u8]) -> Option<usize>
-    ensures { result ≡ position (λ byte. byte == hyphen) item.now }
+fn first_hyphen(text: &[u8]) -> Option<usize>
+    ensures { result ≡ position (λ byte. byte == hyphen) text.now }
 {
-    item.iter().position(|byte| *byte == b'-')
+    text.iter().position(|byte| *byte == b'-')
 }

@@ -13,7 +13,7 @@ fn assert_lists(rt: &impl Abort, text: &str, wanted: &[u8]) {
 }
 
 #[test]
-fn items(rt: HostRuntime) {
+fn ranges(rt: HostRuntime) {
     assert_lists(&rt, "1,3,5-7", &[1, 3, 5, 6, 7]);
     assert_lists(&rt, "7", &[7]);
     assert_lists(&rt, "12,1", &[1, 12]);
@@ -49,9 +49,9 @@ fn all_pens(rt: HostRuntime) -> Result<(), Fail> {
 #[test]
 fn no_lists(rt: HostRuntime) {
     for text in [
-        "", "0", "000", "256", "999", "0001", "1000", "7-5", "0-5", "1-256", "1-", "-1", "-", "1--2",
-        "1-2-3", "1,", ",1", ",", "1,,2", "1,0", "0,1", " 1", "1 ", "1, 2", "+1", "1.5", "a", "ALL",
-        "all,1", "1,all", "al", "alll", "1;2", "1:", "1/", "\u{661}",
+        "", "0", "000", "256", "999", "0001", "1000", "7-5", "0-5", "1-256", "1-", "-1", "-",
+        "1--2", "1-2-3", "1,", ",1", ",", "1,,2", "1,0", "0,1", " 1", "1 ", "1, 2", "+1", "1.5",
+        "a", "ALL", "all,1", "1,all", "al", "alll", "1;2", "1:", "1/", "\u{661}",
     ] {
         assert!(rt; read_pens(text).is_none(), "{text}");
     }

@@ -12,5 +12,5 @@ invariant-loop-digit l = record {
   none : l.digit-index ≤ 0 → l.pen ≤ 0;
   one : l.digit-index ≤ 1 → l.pen ≤ 9;
   two : l.digit-index ≤ 2 → l.pen ≤ 99;
-  three : l.digit-index ≤ 3 → l.pen ≤ 999
+  three : l.digit-index ≤ 3 → l.pen ≤ 999;
 }

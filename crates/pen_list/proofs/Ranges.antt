@@ -1,11 +1,11 @@
--- The items of what is left of a text.
-use Rattle.std.proofs.Common.{◌≡◌, ◌<◌, ◌≤◌, ◌+◌, ◌-◌, ◌==◌, ◌&&◌, ◌||◌, ℕ, Bool, true, false, List, [], ◌∷◌, length, get_or, take, drop, below_more, arith, refl}
+-- The ranges of what is left of a text.
+use Rattle.std.proofs.Common.{◌≡◌, ◌<◌, ◌≤◌, ◌+◌, ◌-◌, ◌==◌, ◌||◌, ℕ, Bool, true, false, List, [], ◌∷◌, length, get_or, take, drop, below_more, arith, refl}
 use Rattle.std.proofs.Math.Bool.{and-true, or-false}
 use Rattle.std.proofs.Math.ListN.{length-drop}
 use Rattle.std.proofs.lemmas.Bool.{and_left, eq-eqb, eqb-true, false_from_ne_true}
 use Rattle.std.proofs.lemmas.List.{drop-drop, get_or-drop, take_rest}
 use Rattle.pen_list.proofs.Cuts.{cut_at, uncut}
-use Rattle.pen_list.specs.Lists.{are_items, comma, is_item, item_has, items, items_have}
+use Rattle.pen_list.specs.Lists.{are_ranges, comma, is_range, range_has, ranges, ranges_have}
 
 abbrev separates : ℕ → Bool
 separates byte = byte == comma
@@ -18,10 +18,10 @@ no_comma_more text from at no_comma other k a b =
     below_more (λ k. from ≤ k → (get_or text k 0 == comma) ≡ false) at (λ k below from_k. no_comma k from_k below)
     (λ _. false_from_ne_true (get_or text at 0 == comma) (λ h. other (eqb-true _ _ h))) k b a
 
--- an item that a comma ends
+-- an range that a comma bounds
 module _ (text : List ℕ) (from at : ℕ) (begun : from ≤ at) (inside : at < length text) (no_comma : (k : ℕ) → from ≤ k → k < at → (get_or text k 0 == comma) ≡ false) (here : get_or text at 0 ≡ 44) where
-  first_item : items (drop from text) ≡ take (at - from) (drop from text) ∷ items (drop (at + 1) text)
-  first_item =
+  first_range : ranges (drop from text) ≡ take (at - from) (drop from text) ∷ ranges (drop (at + 1) text)
+  first_range =
       let within : at - from < length (drop from text) = omega (arith, length-drop from text) in
       let same : from + (at - from) ≡ at = omega arith in
       let comma_here : (get_or text at 0 == comma) ≡ true = eq-eqb _ _ here in
@@ -30,22 +30,22 @@ module _ (text : List ℕ) (from at : ℕ) (begun : from ≤ at) (inside : at < 
       let next : drop (at - from + 1) (drop from text) ≡ drop (at + 1) text = rw (drop-drop (at - from + 1) from text, past) refl in
       rw next at (cut_at separates (drop from text) (at - from) within (no_comma_left text from at no_comma) there)
 
-  pub wrong_item : is_item (take (at - from) (drop from text)) ≡ false → are_items (drop from text) ≡ false
-  wrong_item wrong = rw first_item (and_left (is_item (take (at - from) (drop from text))) (are_items (drop (at + 1) text)) wrong)
+  pub wrong_range : is_range (take (at - from) (drop from text)) ≡ false → are_ranges (drop from text) ≡ false
+  wrong_range wrong = rw first_range (and_left (is_range (take (at - from) (drop from text))) (are_ranges (drop (at + 1) text)) wrong)
 
-  pub good_item : is_item (take (at - from) (drop from text)) ≡ true → are_items (drop (at + 1) text) ≡ are_items (drop from text)
-  good_item good = rw (first_item, good) refl
+  pub good_range : is_range (take (at - from) (drop from text)) ≡ true → are_ranges (drop (at + 1) text) ≡ are_ranges (drop from text)
+  good_range good = rw (first_range, good) refl
 
-  pub listed_by_item : (pen : ℕ) → items_have (drop from text) pen ≡ (item_has (take (at - from) (drop from text)) pen || items_have (drop (at + 1) text) pen)
-  listed_by_item pen = rw first_item refl
+  pub listed_by_range : (pen : ℕ) → ranges_have (drop from text) pen ≡ (range_has (take (at - from) (drop from text)) pen || ranges_have (drop (at + 1) text) pen)
+  listed_by_range pen = rw first_range refl
 
--- the last item
+-- the last range
 module _ (text : List ℕ) (from : ℕ) (no_comma : (k : ℕ) → from ≤ k → k < length text → (get_or text k 0 == comma) ≡ false) where
-  last_item : items (drop from text) ≡ take (length text - from) (drop from text) ∷ []
-  last_item = rw (take_rest text from) (uncut separates (drop from text) (λ k below. no_comma_left text from (length text) no_comma k (omega (arith, length-drop from text))))
+  last_range : ranges (drop from text) ≡ take (length text - from) (drop from text) ∷ []
+  last_range = rw (take_rest text from) (uncut separates (drop from text) (λ k below. no_comma_left text from (length text) no_comma k (omega (arith, length-drop from text))))
 
-  pub last_decides : are_items (drop from text) ≡ is_item (take (length text - from) (drop from text))
-  last_decides = rw last_item (and-true (is_item (take (length text - from) (drop from text))))
+  pub last_decides : are_ranges (drop from text) ≡ is_range (take (length text - from) (drop from text))
+  last_decides = rw last_range (and-true (is_range (take (length text - from) (drop from text))))
 
-  pub listed_by_last : (pen : ℕ) → items_have (drop from text) pen ≡ item_has (take (length text - from) (drop from text)) pen
-  listed_by_last pen = rw last_item (or-false (item_has (take (length text - from) (drop from text)) pen))
+  pub listed_by_last : (pen : ℕ) → ranges_have (drop from text) pen ≡ range_has (take (length text - from) (drop from text)) pen
+  listed_by_last pen = rw last_range (or-false (range_has (take (length text - from) (drop from text)) pen))
