@@ -1,7 +1,8 @@
 -- The bounds of ranges.
-use Rattle.std.proofs.Common.{◌≡◌, ◌==◌, ℕ, true, false, nat_le, Some, None, List, [], ◌∷◌, ◌+◌, take, drop, arith, refl}
+use Rattle.std.proofs.Common.{◌≡◌, ◌==◌, ◌+◌, ◌-◌, ℕ, Bool, true, false, nat_le, Some, None, List, [], ◌∷◌, length, take, drop, arith, refl}
 use Rattle.std.proofs.lemmas.Bool.{and_left, and_parts, and_right}
 use Rattle.std.proofs.lemmas.Bool.Decides.{nat_tests}
+use Rattle.std.proofs.lemmas.List.{take_rest}
 use Rattle.std.specs.Char.{is_ascii_digit}
 use Rattle.std.specs.List.{list_all, position}
 use Rattle.pen_list.proofs.Cuts.{Cut, whole, parted, is_cut, cut_first, uncut_without}
@@ -21,8 +22,9 @@ digits_are_uncut (x ∷ xs) digits =
 pub pen_is_uncut : (text : List ℕ) → is_pen text ≡ true → bounds text ≡ text ∷ []
 pen_is_uncut text pen = digits_are_uncut text (and_parts (list_all is_ascii_digit text) _ pen).0
 
--- what stands before the first hyphen decides, and what follows it
-both_pens : (first last : List ℕ) → is_pen first ≡ true → is_pen last ≡ true → are_bounds (first ∷ bounds last) ≡ nat_le (number first) (number last)
+-- two bounds
+both_pens : (first last : List ℕ) → is_pen first ≡ true → is_pen last ≡ true
+    → are_bounds (first ∷ bounds last) ≡ nat_le (number first) (number last)
 both_pens first last a b =
     let e : bounds last ≡ last ∷ [] = pen_is_uncut last b in
     rw (e, a, b) refl
@@ -39,31 +41,44 @@ last_no_pen first last _ (parted second third others) b = refl
 one_number : (n pen : ℕ) → (n == pen) ≡ is_between n pen n
 one_number n pen = grind (arith, nat_tests)
 
-module _ (range : List ℕ) (none : position (λ byte. byte == hyphen) range ≡ None) where
+abbrev pub is_hyphen : ℕ → Bool
+is_hyphen byte = byte == hyphen
+
+-- a range without a hyphen
+module _ (range : List ℕ) (none : position is_hyphen range ≡ None) where
+  uncut_range : bounds range ≡ range ∷ []
+  uncut_range = uncut_without is_hyphen range none
+
   pub alone : is_range range ≡ is_pen range
-  alone =
-      let e : bounds range ≡ range ∷ [] = uncut_without (λ byte. byte == hyphen) range none in
-      rw e refl
+  alone = rw uncut_range refl
 
   pub alone_has : (pen : ℕ) → range_has range pen ≡ is_between (number range) pen (number range)
-  alone_has pen =
-      let e : bounds range ≡ range ∷ [] = uncut_without (λ byte. byte == hyphen) range none in
-      rw e (one_number (number range) pen)
+  alone_has pen = rw uncut_range (one_number (number range) pen)
 
-module _ (range : List ℕ) (at : ℕ) (first last : List ℕ) (some : position (λ byte. byte == hyphen) range ≡ Some at) (is_first : first ≡ take at range) (is_last : last ≡ drop (at + 1) range) where
-  cut : bounds range ≡ first ∷ bounds last
-  cut = rw (is_first, is_last) (cut_first (λ byte. byte == hyphen) range at some)
+-- what is before a byte, and after it
+abbrev pub before : List ℕ → ℕ → List ℕ
+before text at = take at text
 
-  pub wrong_first : is_pen first ≡ false → is_range range ≡ false
-  wrong_first a = rw cut (first_no_pen first (bounds last) a)
+abbrev pub after : List ℕ → ℕ → List ℕ
+after text at = take (length text - (at + 1)) (drop (at + 1) text)
 
-  pub wrong_last : is_pen last ≡ false → is_range range ≡ false
-  wrong_last b = rw cut (last_no_pen first last (bounds last) (is_cut (λ byte. byte == hyphen) last) b)
+-- a range whose first hyphen is there
+module _ (range : List ℕ) (at : ℕ) (some : position is_hyphen range ≡ Some at) where
+  cut : bounds range ≡ before range at ∷ bounds (after range at)
+  cut = rw (take_rest range (at + 1)) (cut_first is_hyphen range at some)
 
-  pub pair : is_pen first ≡ true → is_pen last ≡ true → is_range range ≡ nat_le (number first) (number last)
-  pair a b = rw cut (both_pens first last a b)
+  pub wrong_first : is_pen (before range at) ≡ false → is_range range ≡ false
+  wrong_first a = rw cut (first_no_pen (before range at) (bounds (after range at)) a)
 
-  pub pair_has : is_pen last ≡ true → (pen : ℕ) → range_has range pen ≡ is_between (number first) pen (number last)
+  pub wrong_last : is_pen (after range at) ≡ false → is_range range ≡ false
+  wrong_last b = rw cut (last_no_pen (before range at) (after range at) _ (is_cut is_hyphen (after range at)) b)
+
+  pub pair : is_pen (before range at) ≡ true → is_pen (after range at) ≡ true
+      → is_range range ≡ nat_le (number (before range at)) (number (after range at))
+  pair a b = rw cut (both_pens (before range at) (after range at) a b)
+
+  pub pair_has : is_pen (after range at) ≡ true → (pen : ℕ)
+      → range_has range pen ≡ is_between (number (before range at)) pen (number (after range at))
   pair_has b pen =
-      let e : bounds last ≡ last ∷ [] = pen_is_uncut last b in
+      let e : bounds (after range at) ≡ after range at ∷ [] = pen_is_uncut (after range at) b in
       rw (cut, e) refl

@@ -8,14 +8,16 @@ use Rattle.std.proofs.lemmas.List.Sums.{fails_before_first, position_or_len_is}
 use Rattle.std.specs.List.{onto_first, position, position_or_len, slice_split}
 
 module _ (separates : ℕ → Bool) (text : List ℕ) where
-  -- the first part bounds at the first separator
-  pub cut_at : (at : ℕ) → at < length text → ((k : ℕ) → k < at → separates (get_or text k 0) ≡ false) → separates (get_or text at 0) ≡ true → slice_split separates text ≡ take at text ∷ slice_split separates (drop (at + 1) text)
+  -- the first part ends at the first separator
+  pub cut_at : (at : ℕ) → at < length text → ((k : ℕ) → k < at → separates (get_or text k 0) ≡ false)
+      → separates (get_or text at 0) ≡ true → slice_split separates text ≡ take at text ∷ slice_split separates (drop (at + 1) text)
   cut_at at inside before here =
       let e : position_or_len separates text ≡ at = position_or_len_is separates text at 0 (omega arith) before (λ _. here) in
       let h : position_or_len separates text < length text = rw e inside in
       rw e at (slice_split_first separates text 0 h)
 
-  pub cut_first : (at : ℕ) → position separates text ≡ Some at → slice_split separates text ≡ take at text ∷ slice_split separates (drop (at + 1) text)
+  pub cut_first : (at : ℕ) → position separates text ≡ Some at
+      → slice_split separates text ≡ take at text ∷ slice_split separates (drop (at + 1) text)
   cut_first at e =
       let h = position-Some separates text at 0 e in
       cut_at at h.0 h.2 h.1
@@ -40,7 +42,8 @@ after_another : (x : ℕ) (xs : List ℕ) (parts : List (List ℕ)) → Cut xs p
 after_another x xs _ whole = whole
 after_another x xs _ (parted first second others) = parted (x ∷ first) second others
 
-by_test : (x : ℕ) (xs : List ℕ) (parts : List (List ℕ)) (separates : Bool) → Cut xs parts → Cut (x ∷ xs) (cond separates ([] ∷ parts) (onto_first x parts))
+by_test : (x : ℕ) (xs : List ℕ) (parts : List (List ℕ)) (separates : Bool) → Cut xs parts
+    → Cut (x ∷ xs) (cond separates ([] ∷ parts) (onto_first x parts))
 by_test x xs parts true cut = after_separator x xs parts cut
 by_test x xs parts false cut = after_another x xs parts cut
 
