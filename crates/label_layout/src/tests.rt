@@ -1,7 +1,11 @@
 // Labels by public calls.
+ghost use Rattle.std.specs.Prelude.{◌≡◌};
+
 use crate::{Cell, CharacterSize, LabelPoint, LabelStroke, Offset, label_stroke};
 
-const fn at(across: i128, upward: i128) -> LabelPoint {
+const fn at(across: i128, upward: i128) -> LabelPoint
+    ensures { result ≡ record { across = across; upward = upward } }
+{
     LabelPoint { across, upward }
 }
 
