@@ -2,7 +2,12 @@
 use Rattle.std.specs.Prelude.{ℕ, suc, Bool, List, [], ◌∷◌, nat_eq, if◌then◌else◌}
 use Rattle.stick_font.specs.Glyphs.{is_between}
 use Rattle.label_layout.specs.declared.cell.Cell.{Cell}
-use Rattle.label_layout.specs.declared.cell.TheConstants.{LINE_FEED, CARRIAGE_RETURN}
+
+abbrev pub line_feed : ℕ
+line_feed = 10
+
+abbrev pub carriage_return : ℕ
+carriage_return = 13
 
 -- a space or a character of the font
 abbrev pub is_printed : ℕ → Bool
@@ -11,12 +16,12 @@ is_printed byte = is_between 32 126 byte
 -- the column: how many bytes were printed since the most recent CR
 abbrev pub column : List ℕ → ℕ
 column [] = 0
-column (byte ∷ before) = if nat_eq byte CARRIAGE_RETURN then 0 else if is_printed byte then suc (column before) else column before
+column (byte ∷ before) = if nat_eq byte carriage_return then 0 else if is_printed byte then suc (column before) else column before
 
 -- the line: how many LF there were
 abbrev pub line : List ℕ → ℕ
 line [] = 0
-line (byte ∷ before) = if nat_eq byte LINE_FEED then suc (line before) else line before
+line (byte ∷ before) = if nat_eq byte line_feed then suc (line before) else line before
 
 abbrev pub cell_after : List ℕ → Cell
 cell_after before = record { column = column before; line = line before }
@@ -24,6 +29,6 @@ cell_after before = record { column = column before; line = line before }
 -- the cell after one more byte
 abbrev pub moved_on : Cell → ℕ → Cell
 moved_on cell byte = record {
-  column = if nat_eq byte CARRIAGE_RETURN then 0 else if is_printed byte then suc cell.column else cell.column;
-  line = if nat_eq byte LINE_FEED then suc cell.line else cell.line;
+  column = if nat_eq byte carriage_return then 0 else if is_printed byte then suc cell.column else cell.column;
+  line = if nat_eq byte line_feed then suc cell.line else cell.line;
 }
