@@ -1,0 +1,138 @@
+-- A plot has at most as many notes as bytes.
+use Rattle.std.proofs.Common.{◌≡◌, ℕ, zero, suc, ◌+◌, ◌-◌, ◌<◌, ◌≤◌, Bool, true, false, ◌&&◌, ◌==◌, nat_lt, if◌then◌else◌, List, [], ◌∷◌, ◌++◌, length, take, drop, Option, Some, None, refl, arith, ap, length-append, length-drop}
+use Rattle.std.specs.List.{flat_map, position_or_len}
+use Rattle.std.specs.Char.{is_ascii_alphabetic}
+use Rattle.std.proofs.lemmas.Bool.Decides.{nat_tests}
+use Rattle.std.proofs.lemmas.List.{length-take}
+use Rattle.hpgl_text.specs.Characters.{end_of_text, semicolon}
+use Rattle.hpgl_text.specs.Cut.{items_from, item_at, next_place, silent_at, terminator_after}
+use Rattle.hpgl_text.specs.Ends.{skip_length}
+use Rattle.hpgl_text.specs.EntryShapes.{EntryShape}
+use Rattle.hpgl_text.specs.Items.{Content, content, content_of, is_label_end, label_end_body, label_end, parameters, polyline, symbol, has_byte, code_of, instruction, item_of, item_length, begins_with_mnemonic}
+use Rattle.hpgl_text.specs.Mnemonics.{kind_of}
+use Rattle.hpgl_text.specs.Parameters.{numbers, past_numbers, is_end}
+use Rattle.hpgl_text.specs.Shapes.{ItemShape, BodyShape, Params, Terminator, Stray}
+use Rattle.hpgl_text.specs.Shapes as shape
+use Rattle.hpgl_text.specs.declared.mnemonic.Kind.{Kind}
+use Rattle.hpgl_text.specs.declared.mnemonic.Kind.TheVariants.{Parameters, LabelText, LabelEnd, Polyline, Symbol, Buffer, Unknown}
+use Rattle.hpgl_text.proofs.EntryCounts.{entries_few}
+use Rattle.hpgl_plot.specs.Laws.{NotesAreFew}
+use Rattle.hpgl_plot.specs.Meanings.{is_wrong_item}
+use Rattle.hpgl_plot.specs.Notes.{noted, open_noted, note_at, part_noted, entry_note, entries_in, notes_of, notes, is_slanted_item}
+use Rattle.hpgl_plot.specs.declared.note.NoteKind.{NoteKind}
+
+-- a place has at most one note of a kind
+one_at : (code : List ℕ) (at : ℕ) (kind : Option NoteKind) → length (note_at code at kind) ≤ 1
+one_at code at None = omega arith
+one_at code at (Some kind) = omega arith
+
+each_once : (code : List ℕ) (es : List EntryShape) → length (flat_map (entry_note code) es) ≤ length es
+each_once code [] = omega arith
+each_once code (e ∷ es) = omega (arith, length-append (entry_note code e) (flat_map (entry_note code) es), one_at code e.at (part_noted e.what), each_once code es)
+
+-- on an item there are at most two notes of its own, besides those within a PE
+few_on : (item : ItemShape) → length (notes_of item) ≤ 2 + length (entries_in item.body)
+few_on item =
+    let own = note_at item.code item.at (noted (is_wrong_item item) (is_slanted_item item) item.body) in
+    let within = flat_map (entry_note item.code) (entries_in item.body) in
+    let ending = note_at item.code item.at (open_noted item.unended) in
+    omega (arith, length-append own (within ++ ending), length-append within ending, one_at item.code item.at (noted (is_wrong_item item) (is_slanted_item item) item.body), each_once item.code (entries_in item.body), one_at item.code item.at (open_noted item.unended))
+
+-- a body that is chosen from two without entries has none
+none_in_either : (b : Bool) (x y : BodyShape) → entries_in x ≡ [] → entries_in y ≡ [] → entries_in (if b then x else y) ≡ []
+none_in_either true x y h k = h
+none_in_either false x y h k = k
+
+none_by : (b : Bool) (x y : Content) → entries_in x.body ≡ [] → entries_in y.body ≡ [] → entries_in (if b then x else y).body ≡ []
+none_by true x y h k = h
+none_by false x y h k = k
+
+none_in_label_end : (text : List ℕ) → entries_in (label_end text).body ≡ []
+none_in_label_end [] = refl
+none_in_label_end (b ∷ text) = none_by (b == semicolon) (content (Terminator end_of_text) false 1) (content (label_end_body b) false (1 + skip_length text)) refl
+    (none_in_either (is_label_end b) (Terminator b) shape.Bad refl refl)
+
+none_in_symbol : (text : List ℕ) → entries_in (symbol text).body ≡ []
+none_in_symbol [] = refl
+none_in_symbol (b ∷ text) = refl
+
+-- what follows a mnemonic has no more entries than bytes
+record Fits (content : Content) (text : List ℕ) : Type 0 where
+  in_content : length (entries_in content.body) ≤ content.bytes
+  in_text : length (entries_in content.body) ≤ length text
+
+none_fits : (content : Content) (text : List ℕ) → entries_in content.body ≡ [] → Fits content text
+none_fits content text e = let n = ap length e in record { in_content = omega (arith, n); in_text = omega (arith, n) }
+
+polyline_fits : (at : ℕ) (text : List ℕ) → Fits (polyline at text) text
+polyline_fits at text =
+    let end = position_or_len (λ b. b == semicolon) text in
+    let few = entries_few (has_byte semicolon text) at (take end text) in
+    record { in_content = omega (arith, few, length-take end text); in_text = omega (arith, few, length-take end text) }
+
+content_fits : (kind : Kind) (terminator at : ℕ) (text : List ℕ) → Fits (content_of kind terminator at text) text
+content_fits Parameters terminator at text =
+    none_fits (parameters text) text (none_in_either (is_end (past_numbers text)) (Params (numbers text)) shape.Bad refl refl)
+content_fits LabelText terminator at text = none_fits _ text refl
+content_fits LabelEnd terminator at text = none_fits (label_end text) text (none_in_label_end text)
+content_fits Polyline terminator at text = polyline_fits at text
+content_fits Symbol terminator at text = none_fits (symbol text) text (none_in_symbol text)
+content_fits Buffer terminator at text = none_fits _ text refl
+content_fits Unknown terminator at text = none_fits _ text refl
+
+-- two letters take two bytes
+not_both : (b : Bool) → (b && false) ≡ true → ⊥
+not_both true e = cc e
+not_both false e = cc e
+
+two_bytes : (text : List ℕ) → begins_with_mnemonic text ≡ true → 2 ≤ length text
+two_bytes [] e = absurd (cc e)
+two_bytes (b ∷ []) e = absurd (not_both (is_ascii_alphabetic b) e)
+two_bytes (b ∷ c ∷ text) e = omega arith
+
+-- an item has no more notes than bytes
+record IsFew (item : ItemShape) (bytes : ℕ) (text : List ℕ) : Type 0 where
+  in_item : length (notes_of item) ≤ bytes
+  in_text : length (notes_of item) ≤ length text
+
+few_by : (mnemonic : Bool) (terminator at : ℕ) (text : List ℕ) → begins_with_mnemonic text ≡ mnemonic → 0 < length text → IsFew (item_of terminator at text) (item_length terminator at text) text
+few_by true terminator at text e h =
+    let fits = content_fits (kind_of (code_of text)) terminator (at + 2) (drop 2 text) in
+    let two = two_bytes text e in
+    let body = (instruction terminator at text).body in
+    let item : ItemShape = record { at = at; code = code_of text; body = body; unended = (instruction terminator at text).unended } in
+    rw (e, item_of, item_length) (record {
+      in_item = omega (arith, few_on item, fits.in_content);
+      in_text = omega (arith, few_on item, fits.in_text, two, length-drop 2 text);
+    })
+few_by false terminator at text e h = rw (e, item_of, item_length) (record { in_item = omega arith; in_text = omega (arith, h) })
+
+few_at : (terminator at : ℕ) (text : List ℕ) → 0 < length text → IsFew (item_of terminator at text) (item_length terminator at text) text
+few_at terminator at text h = few_by (begins_with_mnemonic text) terminator at text refl h
+
+abbrev FewNext : ℕ → Type 0
+FewNext n = (plot : List ℕ) (before : List ItemShape) (at : ℕ) → length (notes (items_from n plot before at)) ≤ length plot - at
+
+few_step : (more silent : Bool) (n : ℕ) → FewNext n → (plot : List ℕ) (before : List ItemShape) (at : ℕ) → nat_lt at (length plot) ≡ more
+    → length (notes (elim more [
+      | false ↦ []
+      | true ↦ elim silent [
+        | true ↦ items_from n plot before (at + silent_at plot at)
+        | false ↦ item_at plot before at ∷ items_from n plot (before ++ item_at plot before at ∷ []) (next_place plot before at)
+      ]
+    ])) ≤ length plot - at
+few_step false silent n next plot before at e = omega arith
+few_step true true n next plot before at e = omega (arith, next plot before (at + silent_at plot at))
+few_step true false n next plot before at e =
+    let inside : at < length plot = grind (arith, nat_tests, e) in
+    let few = few_at (terminator_after before) at (drop at plot) (omega (arith, inside, length-drop at plot)) in
+    let item = item_at plot before at in
+    let rest = items_from n plot (before ++ item ∷ []) (next_place plot before at) in
+    omega (arith, length-append (notes_of item) (notes rest), few.in_item, few.in_text, length-drop at plot, next plot (before ++ item ∷ []) (next_place plot before at))
+
+few_from : (n : ℕ) → FewNext n
+few_from zero plot before at = omega arith
+few_from (suc n) plot before at = few_step (nat_lt at (length plot)) (nat_lt 0 (silent_at plot at)) n (few_from n) plot before at refl
+
+pub notes_few : NotesAreFew
+notes_few plot = omega (arith, few_from (length plot) plot [] 0)
