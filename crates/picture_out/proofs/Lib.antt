@@ -9,3 +9,4 @@ pub mod Coloured
 pub mod Sizes
 pub mod Shown
 mod Examples
+mod PclExamples

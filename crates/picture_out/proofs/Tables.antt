@@ -1,5 +1,5 @@
 -- Lists that are written from the left, over old ones.
-use Rattle.std.proofs.Common.{◌≡◌, ℕ, ◌+◌, ◌-◌, ◌<◌, ◌≤◌, List, ◌++◌, ◌∷◌, [], length, get_or, set, take, drop, map, replicate, ap, ◌∙◌, sym, append_assoc, arith, subst, refl, zero, suc}
+use Rattle.std.proofs.Common.{◌≡◌, ℕ, ◌+◌, ◌-◌, ◌<◌, ◌≤◌, List, ◌++◌, ◌∷◌, [], length, get_or, set, take, drop, map, replicate, ap, ◌∙◌, sym, append_assoc, arith, subst, refl, zero, suc, length-append}
 use borrow.Rule.Slice.PartMut.{put_mid}
 use Rattle.std.specs.List.{range_with_len, flat_map}
 use Rattle.std.proofs.lemmas.List.{drop_more, set_at, set-append_right, take_more, flat_map_more, take_at, drop_at, drop-drop, length-replicate}
@@ -107,3 +107,14 @@ pub filled_to : (xs : List ℕ) (n m y : ℕ) → xs ≡ replicate n y → lengt
 filled_to xs n m y h size =
     let e : n ≡ m = sym (length-replicate {A = ℕ} n y) ∙ sym (ap length h) ∙ size in
     h ∙ ap (λ (k : ℕ). replicate k y) e
+
+-- what a piece begins with after a part is written: the bytes before the part, and those that the part begins with
+pub begins_filled : (out part front bits rest : List ℕ) (a k n : ℕ) → take a out ≡ front → length front ≡ a → part ≡ bits ++ rest → length bits ≡ n → take (a + n) (put_mid a k out part) ≡ front ++ bits
+begins_filled out part front bits rest a k n before size filled long =
+    let after = drop k (drop a out) in
+    let opened : put_mid a k out part ≡ (front ++ bits) ++ (rest ++ after) =
+    ap (λ (z : List ℕ). z ++ (part ++ after)) before
+    ∙ ap (λ (z : List ℕ). front ++ (z ++ after)) filled
+    ∙ ap (λ (z : List ℕ). front ++ z) (append_assoc bits rest after)
+    ∙ sym (append_assoc front bits (rest ++ after)) in
+    ap (take (a + n)) opened ∙ take_at (front ++ bits) (rest ++ after) (a + n) (omega (arith, length-append front bits, size, long))

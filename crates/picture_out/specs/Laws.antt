@@ -1,11 +1,12 @@
 -- What the bytes of a row say of its cells, one column at a time.
-use Rattle.std.specs.Prelude.{◌≡◌, ℕ, ◌-◌, ◌*◌, ◌/◌, ◌%◌, ◌^◌, ◌<◌, Bool, true, false, not, nat_eq, List, [], ◌∷◌, length, get_or, take, drop, filter, flat_map, decimal}
+use Rattle.std.specs.Prelude.{◌≡◌, ℕ, ◌-◌, ◌*◌, ◌/◌, ◌%◌, ◌^◌, ◌<◌, Bool, true, false, not, nat_eq, List, [], ◌∷◌, ◌++◌, length, get_or, take, drop, filter, flat_map, decimal}
 use Rattle.std.specs.List.{range_with_len}
-use Rattle.picture_out.specs.declared.form.Form.TheVariants.{Marks, Pbm, Ppm}
+use Rattle.picture_out.specs.declared.form.Form.TheVariants.{Marks, Pbm, Ppm, Pcl}
 use Rattle.picture_out.specs.declared.inks.Ink.{Ink}
 use Rattle.picture_out.specs.Inks.{ink_at, colour_of}
 use Rattle.picture_out.specs.Marks.{line}
 use Rattle.picture_out.specs.Bits.{bytes_for}
+use Rattle.picture_out.specs.Pcl.{transfer_command}
 use Rattle.picture_out.specs.Forms.{row_bytes}
 
 -- the row has a cell in this column, and it is not 0
@@ -36,6 +37,14 @@ pub record BitsShow (cells bytes : List ℕ) : Type 0 where
 
 abbrev pub PbmShowsInk : Type 0
 PbmShowsInk = (row : ℕ) (inks : List Ink) (cells : List ℕ) → BitsShow cells (row_bytes Pbm row inks cells)
+
+-- a PCL row: the command that transfers bytes, with their number, and then the bytes of the PBM row, whose bits show the ink
+pub record PclShows (row : ℕ) (inks : List Ink) (cells : List ℕ) : Type 0 where
+  pub parts : row_bytes Pcl row inks cells ≡ transfer_command (bytes_for (length cells)) ++ row_bytes Pbm row inks cells
+  pub bits : BitsShow cells (row_bytes Pbm row inks cells)
+
+abbrev pub PclShowsInk : Type 0
+PclShowsInk = (row : ℕ) (inks : List Ink) (cells : List ℕ) → PclShows row inks cells
 
 -- the three bytes of a column: red, green and blue
 abbrev pub bytes_at : List ℕ → ℕ → List ℕ

@@ -3,6 +3,7 @@ pub mod Inks
 pub mod Marks
 pub mod Bits
 pub mod Colours
+pub mod Pcl
 pub mod Forms
 pub mod Sinks
 pub mod Writers

@@ -11,6 +11,7 @@ pub mod laws;
 mod marks;
 mod over_write;
 mod parts;
+mod pcl;
 mod pieces;
 mod sink;
 #[cfg(test)]
@@ -19,7 +20,7 @@ mod tests;
 pub use bits::pack_bits;
 pub use cells::Cells;
 pub use fault::WriteFault;
-pub use form::Form;
+pub use form::{Form, takes_resolution};
 pub use inks::{Ink, Inks};
 pub use over_write::OverWrite;
 pub use parts::{foot, foot_counted, head, head_counted, room, row, row_counted, row_space};

@@ -12,6 +12,9 @@ use crate::fault::WriteFault;
 use crate::form::Form;
 use crate::inks::{Ink, Inks};
 use crate::marks::{LONGEST_LINE, put_marks};
+use crate::pcl::{
+    LONGEST_COMMAND, LONGEST_PCL_HEAD, append_commands_before, put_commands_after, put_transfer,
+};
 use crate::pieces::{append, put_counted};
 use crate::sink::Sink;
 use itoa::Buffer;
@@ -19,8 +22,11 @@ use itoa::Buffer;
 // The longest magic number with the size: three bytes, two numbers of ten digits, a space and the LF.
 const LONGEST_SIZE: usize = 25;
 
-// The longest header: PPM's also has the line `255`.
-const LONGEST_HEAD: usize = LONGEST_SIZE + 4;
+// The longest header: PCL's. PPM's has four bytes more than `LONGEST_SIZE`.
+const LONGEST_HEAD: usize = LONGEST_PCL_HEAD;
+
+// The longest foot, in bytes: PCL's.
+const LONGEST_FOOT: usize = 6;
 
 /// The least length of a buffer that `row` takes for rows of `columns` columns, in bytes.
 pub fn room(form: Form, columns: u32) -> usize
@@ -28,7 +34,7 @@ pub fn room(form: Form, columns: u32) -> usize
 {
     match form {
         Form::Marks => 0,
-        Form::Pbm => packed_length(columns as usize),
+        Form::Pbm | Form::Pcl => packed_length(columns as usize),
         Form::Ppm => 3 * columns as usize,
     }
 }
@@ -38,16 +44,18 @@ pub fn room(form: Form, columns: u32) -> usize
 pub fn row_space(form: Form, columns: u32) -> usize
     ensures room { room_of form columns ≤ result }
     ensures whole { TakesAnyRow form columns result }
-    ensures most { result ≤ LONGEST_LINE * columns }
+    ensures most { result ≤ LONGEST_LINE * columns + LONGEST_COMMAND }
 {
     match form {
         Form::Marks => LONGEST_LINE * columns as usize,
         Form::Pbm | Form::Ppm => room(form, columns),
+        Form::Pcl => room(form, columns) + LONGEST_COMMAND,
     }
 }
 
 /// Writes the header: nothing for marks, for Netpbm's forms the magic number and the size of the
-/// whole picture (pbm(5), ppm(5)). `dots` is the resolution in dots per inch.
+/// whole picture (pbm(5), ppm(5)), for PCL the commands that start raster graphics, with the
+/// resolution and the size. `dots` is the resolution in dots per inch.
 ///
 /// Errors: 7 exactly if the sink fails; it has then taken the first `bytes` bytes.
 pub fn head<K: Sink>(
@@ -85,6 +93,7 @@ pub fn head_counted<K: Sink>(
             let used = append_netpbm(&mut text, b"P6\n", columns, rows);
             append(&mut text, used, b"255\n")
         }
+        Form::Pcl => append_commands_before(&mut text, dots, columns, rows),
     };
     put_counted(sink, &text[..used])
 }
@@ -108,8 +117,8 @@ fn append_netpbm(text: &mut [u8], magic: &[u8], columns: u32, rows: u32) -> usiz
 /// Writes the row with the number `index`, counted from 0 at the top. Each cell is 0 for the
 /// paper, or the position of its ink, from 1 up to and including the count. Marks have a
 /// line `row column pen rrggbb` for each cell that is not 0, the colour in hexadecimal; PBM has a
-/// bit for each cell, PPM three bytes. The buffer is `room` long or longer, and what it holds
-/// afterwards has no meaning.
+/// bit for each cell, PPM three bytes, PCL the bytes of PBM after the command that transfers them.
+/// The buffer is `room` long or longer, and what it holds afterwards has no meaning.
 ///
 /// Errors: 7 exactly if the sink fails; it has then taken the first `bytes` bytes.
 pub fn row<I: Inks, K: Sink>(
@@ -145,7 +154,7 @@ pub fn row_counted<I: Inks, K: Sink>(
     requires room { room_of form (length cells) ≤ length buffer.old }
     ensures writes { Writes K.held K.failed sink.old sink.new (row_bytes form index (I.inks inks.now) cells.entry) result }
     ensures count { IfOk result (λ n. n ≡ length (row_bytes form index (I.inks inks.now) cells.entry)) }
-    ensures small { WritesAtMost (LONGEST_LINE * length cells.entry) result }
+    ensures small { WritesAtMost (LONGEST_LINE * length cells.entry + LONGEST_COMMAND) result }
 {
     let span = cells.span;
     put_row(form, index, cells.cells, span, inks, buffer, sink)
@@ -167,7 +176,7 @@ fn put_row<I: Inks, K: Sink>(
     requires room { room_of form (length cells.now) ≤ length buffer.old }
     ensures writes { Writes K.held K.failed sink.old sink.new (row_bytes form index (I.inks inks.now) cells.now) result }
     ensures count { IfOk result (λ n. n ≡ length (row_bytes form index (I.inks inks.now) cells.now)) }
-    ensures small { WritesAtMost (LONGEST_LINE * length cells.now) result }
+    ensures small { WritesAtMost (LONGEST_LINE * length cells.now + LONGEST_COMMAND) result }
 {
     match form {
         Form::Marks => put_marks(index, cells, span, inks, buffer, sink),
@@ -179,10 +188,12 @@ fn put_row<I: Inks, K: Sink>(
             put_colours(cells, span, inks, buffer);
             put_counted(sink, &buffer[..3 * cells.len()])
         }
+        Form::Pcl => put_transfer(cells, span, buffer, sink),
     }
 }
 
-/// Writes the foot, which follows the rows: it is empty in all of these forms.
+/// Writes the foot, which follows the rows: for PCL the commands that end raster graphics and reset
+/// the printer, for each other form nothing.
 ///
 /// Errors: 7 exactly if the sink fails; it has then taken the first `bytes` bytes.
 pub fn foot<K: Sink>(form: Form, sink: &mut K) -> Result<(), WriteFault>
@@ -198,9 +209,10 @@ pub fn foot_counted<K: Sink>(form: Form, sink: &mut K) -> Result<u64, WriteFault
     requires sound { K.failed sink.old < 2 ^ 64 - 1 }
     ensures writes { Writes K.held K.failed sink.old sink.new (foot_bytes form) result }
     ensures count { IfOk result (λ n. n ≡ length (foot_bytes form)) }
-    ensures small { length (foot_bytes form) ≡ 0 }
+    ensures small { length (foot_bytes form) ≤ LONGEST_FOOT }
 {
     match form {
         Form::Marks | Form::Pbm | Form::Ppm => Ok(0),
+        Form::Pcl => put_commands_after(sink),
     }
 }

@@ -37,6 +37,23 @@ pub(crate) fn put_counted<K: Sink>(sink: &mut K, bytes: &[u8]) -> Result<u64, Wr
     Ok(bytes.len() as u64)
 }
 
+// Writes two pieces, one after the other, with the count of their bytes.
+pub(crate) fn put_both<K: Sink>(
+    sink: &mut K,
+    first: &[u8],
+    second: &[u8],
+) -> Result<u64, WriteFault>
+    requires sound { K.failed sink.old < 2 ^ 64 - 1 }
+    ensures writes { Writes K.held K.failed sink.old sink.new (first.now ++ second.now) result }
+    ensures count { IfOk result (λ n. n ≡ length (first.now ++ second.now)) }
+{
+    let done = put_counted(sink, first)?;
+    match put_counted(sink, second) {
+        Ok(bytes) => Ok(done + bytes),
+        Err(fault) => Err(fault.after(done)),
+    }
+}
+
 // Appends bytes to the first `used` bytes of a piece, and returns how many are used then.
 pub(crate) fn append(piece: &mut [u8], used: usize, bytes: &[u8]) -> usize
     requires { used + length bytes.now ≤ length piece.old }

@@ -1,0 +1,58 @@
+-- PCL 5 raster graphics without compression ("PCL 5 Printer Language Technical Reference Manual", Raster Graphics).
+use Rattle.std.specs.Prelude.{ℕ, Bool, ◌==◌, List, [], ◌∷◌, ◌++◌, length, codes, decimal}
+use Rattle.std.specs.List.{list_any}
+
+-- ESC, the byte that begins a command
+abbrev pub escape : ℕ
+escape = 27
+
+-- printer reset: ESC E
+abbrev pub reset : List ℕ
+reset = escape ∷ codes "E"
+
+-- raster graphics resolution: ESC *t#R, in dots per inch
+abbrev pub set_resolution : ℕ → List ℕ
+set_resolution dots = escape ∷ codes "*t" ++ decimal dots ++ codes "R"
+
+-- source raster width: ESC *r#S, in pixels
+abbrev pub set_width : ℕ → List ℕ
+set_width columns = escape ∷ codes "*r" ++ decimal columns ++ codes "S"
+
+-- raster height: ESC *r#T, in rows
+abbrev pub set_height : ℕ → List ℕ
+set_height rows = escape ∷ codes "*r" ++ decimal rows ++ codes "T"
+
+-- start raster graphics at the left margin: ESC *r0A
+abbrev pub start_raster : List ℕ
+start_raster = escape ∷ codes "*r0A"
+
+-- set compression method, to 0, which is none: ESC *b0M
+abbrev pub set_no_compression : List ℕ
+set_no_compression = escape ∷ codes "*b0M"
+
+-- transfer raster data by row: ESC *b#W, for a number of bytes, which follow it
+abbrev pub transfer_command : ℕ → List ℕ
+transfer_command bytes = escape ∷ codes "*b" ++ decimal bytes ++ codes "W"
+
+-- end raster graphics: ESC *rB
+abbrev pub end_raster : List ℕ
+end_raster = escape ∷ codes "*rB"
+
+-- the commands before the rows
+abbrev pub commands_before : ℕ → ℕ → ℕ → List ℕ
+commands_before dots columns rows = reset ++ set_resolution dots ++ set_width columns ++ set_height rows ++ start_raster ++ set_no_compression
+
+-- a row of these bytes
+abbrev pub transferred : List ℕ → List ℕ
+transferred bytes = transfer_command (length bytes) ++ bytes
+
+-- the commands after the rows
+abbrev pub commands_after : List ℕ
+commands_after = end_raster ++ reset
+
+-- the resolutions of PCL 5, in dots per inch
+abbrev pub resolutions : List ℕ
+resolutions = 75 ∷ 100 ∷ 150 ∷ 200 ∷ 300 ∷ 600 ∷ []
+
+abbrev pub is_resolution : ℕ → Bool
+is_resolution dots = list_any (λ resolution. dots == resolution) resolutions
