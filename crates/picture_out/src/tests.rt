@@ -5,11 +5,12 @@ use crate::{
     Cells, Form, Ink, Inks, OverWrite, Sink, SinkFault, foot, head, pack_bits, put_all, room, row,
     row_counted, row_space,
 };
+use std::alloc::Global;
 use std::io::Write;
 use std::process::Abort;
 use std::test::Fail;
 
-struct Table {
+pub(crate) struct Table {
     inks: [Ink; 4],
 }
 
@@ -53,20 +54,36 @@ const WHITE: Ink = Ink {
     blue: 255,
 };
 
-const TABLE: Table = Table {
+pub(crate) const TABLE: Table = Table {
     inks: [BLACK, DARK, BLACK_TOO, WHITE],
 };
 
 // A sink that takes at most `step` bytes a call and fails after `limit` bytes, by a fault or by
-// taking nothing.
+// taking nothing: from then on, or once.
 #[derive(Drop)]
-struct Narrow {
-    bytes: Vec<u8>,
-    limit: usize,
-    step: usize,
-    faults: bool,
-    failures: u64,
-    puts: u64,
+pub(crate) struct Narrow {
+    pub(crate) bytes: Vec<u8>,
+    pub(crate) limit: usize,
+    pub(crate) step: usize,
+    pub(crate) faults: bool,
+    pub(crate) once: bool,
+    pub(crate) failures: u64,
+    pub(crate) puts: u64,
+}
+
+// A sink that fails after `limit` bytes, by faults from then on.
+pub(crate) fn narrow_sink(alloc: Global, limit: usize, step: usize) -> Narrow
+    ensures { result.failures ≡ 0 }
+{
+    Narrow {
+        bytes: Vec::new(alloc),
+        limit,
+        step,
+        faults: true,
+        once: false,
+        failures: 0,
+        puts: 0,
+    }
 }
 
 impl Sink for Narrow {
@@ -76,7 +93,11 @@ impl Sink for Narrow {
 
     fn put(&mut self, piece: &[u8]) -> Result<usize, SinkFault> {
         self.puts = self.puts.wrapping_add(1);
-        let left = self.limit.saturating_sub(self.bytes.len());
+        let left = if self.once && self.failures > 0 {
+            piece.len()
+        } else {
+            self.limit.saturating_sub(self.bytes.len())
+        };
         let taken = piece.len().min(self.step).min(left);
         if taken == 0 && !piece.is_empty() {
             self.failures += 1;
@@ -96,7 +117,7 @@ impl Sink for Narrow {
     }
 }
 
-const CELLS: [u32; 9] = [0, 1, 2, 0, 0, 3, 0, 1, 4];
+pub(crate) const CELLS: [u32; 9] = [0, 1, 2, 0, 0, 3, 0, 1, 4];
 
 const MARKS: &[u8] =
     b"12 1 1 000000\n12 2 2 0a141e\n12 5 255 000000\n12 7 1 000000\n12 8 7 ffffff\n";
@@ -151,7 +172,7 @@ fn written(rt: &HostRuntime, form: Form, cells: Cells<'_>) -> Result<Vec<u8>, Fa
 
 #[test]
 fn spans(rt: HostRuntime) -> Result<(), Fail> {
-    for form in [Form::Marks, Form::Pbm, Form::Ppm] {
+    for form in [Form::Marks, Form::Pbm, Form::Ppm, Form::Pcl] {
         let want = written(&rt, form, Cells::new(&WIDE))?;
         for cells in [
             Cells::within(&WIDE, 7, 17),
@@ -179,14 +200,7 @@ fn marks_from_each_buffer(rt: HostRuntime) -> Result<(), Fail> {
     let mut buffer = [9; 400];
     let whole = row_space(Form::Marks, 9);
     for (length, puts) in [(0, 5), (5, 5), (50, 3), (whole, 1)] {
-        let mut sink = Narrow {
-            bytes: Vec::new(rt.alloc()),
-            limit: 1000,
-            step: 1000,
-            faults: true,
-            failures: 0,
-            puts: 0,
-        };
+        let mut sink = narrow_sink(rt.alloc(), 1000, 1000);
         if length <= 400 {
             let buffer = &mut buffer[..length];
             head(Form::Marks, 127, 9, 13, &mut sink)?;
@@ -205,14 +219,7 @@ fn marks_from_each_buffer(rt: HostRuntime) -> Result<(), Fail> {
 // A sink that takes one byte a call gets all the bytes, and no empty piece.
 #[test]
 fn one_byte_a_call(rt: HostRuntime) -> Result<(), Fail> {
-    let mut sink = Narrow {
-        bytes: Vec::new(rt.alloc()),
-        limit: 1000,
-        step: 1,
-        faults: true,
-        failures: 0,
-        puts: 0,
-    };
+    let mut sink = narrow_sink(rt.alloc(), 1000, 1);
     put_all(&mut sink, b"")?;
     assert_eq!(rt; sink.puts, 0);
     put_all(&mut sink, MARKS)?;
@@ -227,14 +234,8 @@ fn a_sink_that_fails(rt: HostRuntime) -> Result<(), Fail> {
     for limit in 0..72 {
         for faults in [true, false] {
             for room in [0, 50, 300] {
-                let mut sink = Narrow {
-                    bytes: Vec::new(rt.alloc()),
-                    limit,
-                    step: 11,
-                    faults,
-                    failures: 0,
-                    puts: 0,
-                };
+                let mut sink = narrow_sink(rt.alloc(), limit, 11);
+                sink.faults = faults;
                 let mut buffer = [0; 300];
                 let fault = row(
                     Form::Marks,
@@ -302,7 +303,7 @@ fn bytes_past_the_packed_ones(rt: HostRuntime) {
 }
 
 // Cell by cell.
-fn pack_plain(cells: &[u32], out: &mut [u8]) {
+pub(crate) fn pack_plain(cells: &[u32], out: &mut [u8]) {
     for (column, cell) in cells.iter().enumerate() {
         if let Some(byte) = out.get_mut(column / 8) {
             if *cell != 0 {
