@@ -1,0 +1,2 @@
+pub mod Summaries
+mod ReportExamples

@@ -1,0 +1,120 @@
+-- Worked examples: the lines of some reports.
+use Rattle.std.proofs.Common.{◌≡◌, ℕ, ℤ, pos, negsuc, List, [], ◌∷◌, ◌++◌, refl, codes, lit≤}
+use Rattle.std.specs.Fmt.{digits}
+use Rattle.plot_page.specs.declared.colour.Colour.{Colour}
+use Rattle.plot_page.specs.declared.page.Page.{Page}
+use Rattle.plot_page.specs.declared.window.Window.{Window}
+use Rattle.plot_page.specs.Segments.{Segment}
+use Rattle.hpgl_plot.specs.declared.note.Note.{Note}
+use Rattle.hpgl_plot.specs.declared.note.NoteKind.{NoteKind}
+use Rattle.hpgl_plot.specs.declared.note.NoteKind.TheVariants.{Skipped, Bad, Stray, Axis, Open}
+use Rattle.plot_report.specs.Report.{line, page_line, strokes_line, strokes_of, greatest, least_place, greatest_place, end_xs, end_ys, pen_line, note_line, report_of}
+
+abbrev square : Page
+square = record { width = 64; height = 64; left = 0; below = 0; width_in = (lit≤ tt, lit≤ tt); height_in = (lit≤ tt, lit≤ tt); left_in = lit≤ tt; below_in = lit≤ tt }
+
+-- its corner lies at plotter (-10, -65536)
+abbrev moved : Page
+moved = record { width = 11880; height = 8400; left = 10; below = 65536; width_in = (lit≤ tt, lit≤ tt); height_in = (lit≤ tt, lit≤ tt); left_in = lit≤ tt; below_in = lit≤ tt }
+
+-- a black stroke of a pen, of a width, between two places, in the window of the square page
+abbrev stroke : ℕ → ℕ → ℤ → ℤ → ℤ → ℤ → Segment
+stroke pen width ax ay bx by = record { pen = pen; colour = record { red = 0; green = 0; blue = 0 }; width = width; window = record { x0 = pos 0; y0 = pos 0; x1 = pos 1024; y1 = pos 1024 }; ax = ax; ay = ay; bx = bx; by = by }
+
+-- SP1;PU0,28;PD64,28;
+abbrev across : Segment
+across = stroke 1 224 (pos 0) (pos 448) (pos 1024) (pos 448)
+
+-- one with pen 2, from above the page to left of it and below it
+abbrev falling : Segment
+falling = stroke 2 16 (pos 320) (pos 2000) (negsuc 15) (negsuc 31)
+
+-- one with pen 1, which rises
+abbrev rising : Segment
+rising = stroke 1 300 (pos 512) (pos 0) (pos 2048) (pos 64)
+
+abbrev note : ℕ → List ℕ → NoteKind → Note
+note at code kind = record { at = at; code = code; kind = kind }
+
+-- lines: words with a space between each two
+line_of_words : line (codes "a" ∷ codes "bc" ∷ codes "d" ∷ []) ≡ codes "a bc d\n"
+line_of_words = refl
+
+page_at_the_corner : page_line square ≡ codes "page 64 64 0 0\n"
+unfolding digits
+page_at_the_corner = refl
+
+page_of_a3 : page_line moved ≡ codes "page 11880 8400 10 65536\n"
+unfolding digits
+page_of_a3 = refl
+
+no_strokes : strokes_line [] ≡ codes "strokes 0\n"
+unfolding digits
+no_strokes = refl
+
+-- the strokes of a pen keep their order
+strokes_of_pen_1 : strokes_of 1 (across ∷ falling ∷ rising ∷ []) ≡ across ∷ rising ∷ []
+strokes_of_pen_1 = refl
+
+strokes_of_pen_3 : strokes_of 3 (across ∷ falling ∷ rising ∷ []) ≡ []
+strokes_of_pen_3 = refl
+
+greatest_in_the_middle : greatest (3 ∷ 12800 ∷ 16 ∷ []) ≡ 12800
+greatest_in_the_middle = refl
+
+-- places lie below zero too
+least_below_zero : least_place (pos 5 ∷ negsuc 15 ∷ pos 0 ∷ []) ≡ negsuc 15
+least_below_zero = refl
+
+least_of_positive : least_place (pos 768 ∷ pos 715 ∷ []) ≡ pos 715
+least_of_positive = refl
+
+greatest_below_zero : greatest_place (negsuc 7 ∷ negsuc 15 ∷ []) ≡ negsuc 7
+greatest_below_zero = refl
+
+-- both ends of each stroke count
+xs_of_two : end_xs (across ∷ falling ∷ []) ≡ pos 0 ∷ pos 1024 ∷ pos 320 ∷ negsuc 15 ∷ []
+xs_of_two = refl
+
+ys_of_two : end_ys (across ∷ falling ∷ []) ≡ pos 448 ∷ pos 448 ∷ pos 2000 ∷ negsuc 31 ∷ []
+ys_of_two = refl
+
+pen_without_strokes : pen_line 7 [] ≡ []
+pen_without_strokes = refl
+
+pen_with_one_stroke : pen_line 1 (across ∷ []) ≡ codes "pen 1 strokes 1 widest 224 box 0 448 1024 448\n"
+unfolding digits
+pen_with_one_stroke = refl
+
+-- no window cuts the box
+pen_past_the_page : pen_line 2 (falling ∷ []) ≡ codes "pen 2 strokes 1 widest 16 box -16 -32 320 2000\n"
+unfolding digits
+pen_past_the_page = refl
+
+skipped : note_line (note 0 (codes "ZZ") Skipped) ≡ codes "note 0 skipped ZZ\n"
+unfolding digits
+skipped = refl
+
+stray : note_line (note 12 (0 ∷ 0 ∷ []) (Stray 33)) ≡ codes "note 12 stray 33\n"
+unfolding digits
+stray = refl
+
+-- SP1;PU0,28;PD64,28;
+one_horizontal_line : report_of square (across ∷ []) [] ≡ codes "page 64 64 0 0\nstrokes 1\npen 1 strokes 1 widest 224 box 0 448 1024 448\n"
+unfolding digits
+one_horizontal_line = refl
+
+-- the pens rise, in whatever order they drew
+two_pens : report_of square (falling ∷ across ∷ rising ∷ []) [] ≡ codes "page 64 64 0 0\nstrokes 3\npen 1 strokes 2 widest 300 box 0 0 2048 448\npen 2 strokes 1 widest 16 box -16 -32 320 2000\n"
+unfolding digits
+two_pens = refl
+
+-- ZZ1,2;CO"a;b";PA1
+skipped_and_bad : report_of square [] (note 0 (codes "ZZ") Skipped ∷ note 6 (codes "CO") Skipped ∷ note 14 (codes "PA") Bad ∷ []) ≡ codes "page 64 64 0 0\nstrokes 0\nnote 0 skipped ZZ\nnote 6 skipped CO\nnote 14 bad PA\n"
+unfolding digits
+skipped_and_bad = refl
+
+-- the other notes
+open_and_axis : report_of moved [] (note 3 (codes "DI") Axis ∷ note 9 (codes "LB") Open ∷ []) ≡ codes "page 11880 8400 10 65536\nstrokes 0\nnote 3 axis DI\nnote 9 open LB\n"
+unfolding digits
+open_and_axis = refl

@@ -1,0 +1,83 @@
+-- The report on a plot: lines of text on the page, the strokes of each pen, and the notes.
+use Rattle.std.specs.Prelude.{ℕ, max, ℤ, pos, List, [], ◌∷◌, ◌++◌, length, map, filter, flat_map, nat_eq, codes, decimal}
+use Rattle.std.specs.List.{join_with_byte, range_with_len}
+use Rattle.std.specs.Fmt.{signed_decimal}
+use Rattle.std.specs.Int.{int_max, int_min}
+use Rattle.plot_page.specs.declared.page.Page.{Page}
+use Rattle.plot_page.specs.Segments.{Segment}
+use Rattle.hpgl_plot.specs.declared.note.Note.{Note}
+use Rattle.hpgl_plot.specs.declared.note.NoteKind.{NoteKind}
+use Rattle.hpgl_plot.specs.declared.note.NoteKind.TheVariants.{Skipped, Bad, Stray, Axis, Open}
+
+-- a line: its words, separated by single spaces, and LF
+abbrev pub line : List (List ℕ) → List ℕ
+line words = join_with_byte 32 words ++ codes "\n"
+
+-- the page: its width, its height, and how far its lower left corner is left of (0, 0) and below it, in plotter units
+abbrev pub page_line : Page → List ℕ
+page_line page = line (codes "page" ∷ decimal page.width ∷ decimal page.height ∷ decimal page.left ∷ decimal page.below ∷ [])
+
+-- how many strokes there are
+abbrev pub strokes_line : List Segment → List ℕ
+strokes_line strokes = line (codes "strokes" ∷ decimal (length strokes) ∷ [])
+
+-- the strokes of one pen
+abbrev pub strokes_of : ℕ → List Segment → List Segment
+strokes_of pen strokes = filter (λ s. nat_eq s.pen pen) strokes
+
+-- the greatest of these numbers, or 0 if there are none
+abbrev pub greatest : List ℕ → ℕ
+greatest [] = 0
+greatest (n ∷ ns) = max n (greatest ns)
+
+-- the least of these whole numbers, or 0 if there are none
+abbrev pub least_place : List ℤ → ℤ
+least_place [] = pos 0
+least_place (z ∷ []) = z
+least_place (z ∷ zs) = int_min z (least_place zs)
+
+-- the greatest of these whole numbers, or 0 if there are none
+abbrev pub greatest_place : List ℤ → ℤ
+greatest_place [] = pos 0
+greatest_place (z ∷ []) = z
+greatest_place (z ∷ zs) = int_max z (greatest_place zs)
+
+-- the x of both ends of each stroke, and the y
+abbrev pub end_xs : List Segment → List ℤ
+end_xs strokes = flat_map (λ s. s.ax ∷ s.bx ∷ []) strokes
+
+abbrev pub end_ys : List Segment → List ℤ
+end_ys strokes = flat_map (λ s. s.ay ∷ s.by ∷ []) strokes
+
+-- the least x, the least y, the greatest x and the greatest y of the strokes' ends, in grains; no window cuts them
+abbrev pub box_words : List Segment → List (List ℕ)
+box_words strokes =
+    signed_decimal (least_place (end_xs strokes)) ∷ signed_decimal (least_place (end_ys strokes))
+    ∷ signed_decimal (greatest_place (end_xs strokes)) ∷ signed_decimal (greatest_place (end_ys strokes)) ∷ []
+
+-- the line of a pen with these strokes: how many there are, the greatest width in grains, and the box; no line without strokes
+abbrev pub pen_line : ℕ → List Segment → List ℕ
+pen_line pen [] = []
+pen_line pen (s ∷ ss) =
+    line (codes "pen" ∷ decimal pen ∷ codes "strokes" ∷ decimal (length (s ∷ ss)) ∷ codes "widest" ∷ decimal (greatest (map (λ t. t.width) (s ∷ ss)))
+    ∷ codes "box" ∷ box_words (s ∷ ss))
+
+-- the lines of the pens, 1 to 255
+abbrev pub pen_lines : List Segment → List ℕ
+pen_lines strokes = flat_map (λ pen. pen_line pen (strokes_of pen strokes)) (range_with_len 1 255)
+
+-- what is noted: on the instruction with these two letters, or on a stray byte
+abbrev pub kind_words : NoteKind → List ℕ → List (List ℕ)
+kind_words Skipped code = codes "skipped" ∷ code ∷ []
+kind_words Bad code = codes "bad" ∷ code ∷ []
+kind_words (Stray byte) code = codes "stray" ∷ decimal byte ∷ []
+kind_words Axis code = codes "axis" ∷ code ∷ []
+kind_words Open code = codes "open" ∷ code ∷ []
+
+-- a note: its place, and what is noted there
+abbrev pub note_line : Note → List ℕ
+note_line note = line (codes "note" ∷ decimal note.at ∷ kind_words note.kind note.code)
+
+-- the whole report
+abbrev pub report_of : Page → List Segment → List Note → List ℕ
+report_of page strokes notes = page_line page ++ strokes_line strokes ++ pen_lines strokes ++ flat_map note_line notes

@@ -1,0 +1,11 @@
+//! The report on a plot: lines of text on its page, the strokes of each pen, and its notes.
+#![tactic(auto)]
+
+mod lines;
+mod pieces;
+mod report;
+mod summary;
+#[cfg(test)]
+mod tests;
+
+pub use report::{MOST_NOTES, write_report};

@@ -1,0 +1,56 @@
+//! Words appended to a piece of a report, and pieces written to a sink.
+ghost use Rattle.std.specs.Prelude.{◌≡◌, ◌-◌, ◌+◌, ◌^◌, ◌<◌, ◌≤◌, ◌++◌, ◌∷◌, length, take};
+ghost use Rattle.plot_report.specs.Pieces.{WritesAfter};
+
+use itoa::{Buffer, Integer};
+use picture_out::{Sink, WriteFault, put_all};
+
+// Appends bytes to the first `used` bytes of a piece, and returns how many are used then.
+pub(crate) fn append(piece: &mut [u8], used: usize, bytes: &[u8]) -> usize
+    requires { used + length bytes.now ≤ length piece.old }
+    ensures used { result ≡ used + length bytes.now }
+    ensures piece { take result piece.new ≡ take used piece.old ++ bytes.now }
+    ensures size { length piece.new ≡ length piece.old }
+{
+    let end = used + bytes.len();
+    piece[used..end].copy_from_slice(bytes);
+    end
+}
+
+// Appends a space and a word.
+pub(crate) fn append_word(piece: &mut [u8], used: usize, word: &[u8]) -> usize
+    requires { used + 1 + length word.now ≤ length piece.old }
+    ensures used { result ≡ used + 1 + length word.now }
+    ensures piece { take result piece.new ≡ take used piece.old ++ (32 ∷ word.now) }
+    ensures size { length piece.new ≡ length piece.old }
+{
+    let used = append(piece, used, b" ");
+    append(piece, used, word)
+}
+
+// Appends a space and a number in decimal.
+pub(crate) fn append_number<I: Integer>(piece: &mut [u8], used: usize, number: I) -> usize
+    requires { used + 1 + I.MAX_STR_LEN ≤ length piece.old }
+    ensures most { result ≤ used + 1 + I.MAX_STR_LEN }
+    ensures piece { take result piece.new ≡ take used piece.old ++ (32 ∷ I.text number) }
+    ensures size { length piece.new ≡ length piece.old }
+{
+    let mut digits = Buffer::new();
+    append_word(piece, used, digits.format(number).as_bytes())
+}
+
+// Writes a piece after `done` bytes, and returns how many are written then.
+pub(crate) fn put_piece<K: Sink>(
+    sink: &mut K,
+    piece: &[u8],
+    done: u64,
+) -> Result<u64, WriteFault>
+    requires sound { K.failed sink.old < 2 ^ 64 - 1 }
+    requires count { done + length piece.now < 2 ^ 64 }
+    ensures writes { WritesAfter K.held K.failed sink.old sink.new done piece.now result }
+{
+    match put_all(sink, piece) {
+        Ok(()) => Ok(done + piece.len() as u64),
+        Err(fault) => Err(fault.after(done)),
+    }
+}

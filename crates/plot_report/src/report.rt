@@ -1,0 +1,107 @@
+//! The whole report.
+ghost use Rattle.std.specs.Prelude.{◌≡◌, ◌+◌, ◌-◌, ◌^◌, ◌<◌, ◌≤◌, ◌++◌, ◌*◌, [], length, take, flat_map, slice_index_or, IfOk};
+ghost use Rattle.std.specs.List.{range_with_len};
+ghost use Rattle.plot_page.specs.declared.stroke.TheConstants.{MOST_STROKES};
+ghost use Rattle.picture_out.specs.Sinks.{Writes};
+ghost use Rattle.plot_report.specs.Report.{report_of, page_line, strokes_line, pen_lines, note_line};
+ghost use Rattle.plot_report.specs.Summaries.{summary_of, summary_text};
+
+use crate::lines::{
+    LONGEST_NOTE_LINE, LONGEST_PAGE_LINE, LONGEST_PEN_LINE, LONGEST_STROKES_LINE, append_note_line,
+    append_page_line, append_pen_line, append_strokes_line,
+};
+use crate::pieces::put_piece;
+use crate::summary::{PENS, PenSummary, summarise};
+use hpgl_plot::Note;
+use picture_out::{Sink, WriteFault};
+use plot_page::{Page, Stroke};
+
+/// The most notes of a report: its length in bytes then fits a `u64`.
+pub const MOST_NOTES: usize = 288_230_376_151_711_744;
+
+// The longest lines of the page, of the strokes and of the pens together.
+const LONGEST_HEAD: usize =
+    LONGEST_PAGE_LINE + LONGEST_STROKES_LINE + (PENS - 1) * LONGEST_PEN_LINE;
+
+// The length of a piece, in bytes. It takes all lines but those of the notes, and one of these.
+const PIECE: usize = 32_768;
+
+/// Writes the report on a plot, as lines of text: the page, how many strokes there are, a line for
+/// each pen that has some, and a line for each note.
+///
+/// Returns how many bytes the report has. It asks for no memory.
+///
+/// Errors: 7 exactly if the sink fails; it has then taken the first `bytes` bytes.
+pub fn write_report<K: Sink>(
+    page: &Page,
+    strokes: &[Stroke],
+    notes: &[Note],
+    sink: &mut K,
+) -> Result<u64, WriteFault>
+    requires sound { K.failed sink.old < 2 ^ 64 - 1 }
+    requires strokes { length strokes.now ≤ MOST_STROKES }
+    requires notes { length notes.now ≤ MOST_NOTES }
+    ensures writes { Writes K.held K.failed sink.old sink.new (report_of page.now strokes.now notes.now) result }
+    ensures count { IfOk result (λ n. n ≡ length (report_of page.now strokes.now notes.now)) }
+{
+    let mut piece = [0; PIECE];
+    let used = append_head(&mut piece, page, strokes);
+    put_notes(notes, &mut piece, used, sink)
+}
+
+// Begins a piece with the lines of the page, of the strokes and of the pens.
+fn append_head(piece: &mut [u8], page: &Page, strokes: &[Stroke]) -> usize
+    requires strokes { length strokes.now ≤ MOST_STROKES }
+    requires room { LONGEST_HEAD ≤ length piece.old }
+    ensures lines { take result piece.new ≡ page_line page.now ++ strokes_line strokes.now ++ pen_lines strokes.now }
+    ensures most { result ≤ LONGEST_HEAD }
+    ensures size { length piece.new ≡ length piece.old }
+{
+    let used = append_page_line(piece, 0, page);
+    let used = append_strokes_line(piece, used, strokes.len());
+    append_pen_lines(piece, used, &summarise(strokes))
+}
+
+// Appends a line for each pen that has strokes, from pen 1 on.
+fn append_pen_lines(piece: &mut [u8], used: usize, pens: &[PenSummary; PENS]) -> usize
+    requires { used + 255 * LONGEST_PEN_LINE ≤ length piece.old }
+    ensures lines { take result piece.new ≡ take used piece.old ++ flat_map (λ pen. summary_text pen (slice_index_or pens.now pen (summary_of []))) (range_with_len 1 255) }
+    ensures most { result ≤ used + 255 * LONGEST_PEN_LINE }
+    ensures size { length piece.new ≡ length piece.old }
+{
+    let mut used = used;
+    for pen in 1..PENS {
+        let summary = pens[pen];
+        if summary.strokes > 0 {
+            used = append_pen_line(piece, used, pen as u8, summary);
+        }
+    }
+    used
+}
+
+// Writes the first `used` bytes of a piece and then the lines of the notes, as many at a time as
+// the piece is sure to take.
+fn put_notes<K: Sink>(
+    notes: &[Note],
+    piece: &mut [u8],
+    used: usize,
+    sink: &mut K,
+) -> Result<u64, WriteFault>
+    requires sound { K.failed sink.old < 2 ^ 64 - 1 }
+    requires notes { length notes.now ≤ MOST_NOTES }
+    requires used { used ≤ LONGEST_HEAD }
+    requires room { length piece.old ≡ PIECE }
+    ensures writes { Writes K.held K.failed sink.old sink.new (take used piece.old ++ flat_map note_line notes.now) result }
+    ensures count { IfOk result (λ n. n ≡ length (take used piece.old ++ flat_map note_line notes.now)) }
+{
+    let mut used = used;
+    let mut done = 0;
+    for note in notes {
+        if used + LONGEST_NOTE_LINE > piece.len() {
+            done = put_piece(sink, &piece[..used], done)?;
+            used = 0;
+        }
+        used = append_note_line(piece, used, note);
+    }
+    put_piece(sink, &piece[..used], done)
+}
