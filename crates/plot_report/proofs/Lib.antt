@@ -1,2 +1,5 @@
 pub mod Summaries
+pub mod Table
+pub mod PenLines
+pub mod Written
 mod ReportExamples

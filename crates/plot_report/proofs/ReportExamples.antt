@@ -8,7 +8,7 @@ use Rattle.plot_page.specs.Segments.{Segment}
 use Rattle.hpgl_plot.specs.declared.note.Note.{Note}
 use Rattle.hpgl_plot.specs.declared.note.NoteKind.{NoteKind}
 use Rattle.hpgl_plot.specs.declared.note.NoteKind.TheVariants.{Skipped, Bad, Stray, Axis, Open}
-use Rattle.plot_report.specs.Report.{line, page_line, strokes_line, strokes_of, greatest, least_place, greatest_place, end_xs, end_ys, pen_line, note_line, report_of}
+use Rattle.plot_report.specs.Report.{line, page_line, strokes_line, strokes_of, greatest, least_place, greatest_place, end_xs, end_ys, pen_line, pen_lines, note_line, report_of}
 
 abbrev square : Page
 square = record { width = 64; height = 64; left = 0; below = 0; width_in = (lit≤ tt, lit≤ tt); height_in = (lit≤ tt, lit≤ tt); left_in = lit≤ tt; below_in = lit≤ tt }
@@ -101,20 +101,20 @@ stray = refl
 
 -- SP1;PU0,28;PD64,28;
 one_horizontal_line : report_of square (across ∷ []) [] ≡ codes "page 64 64 0 0\nstrokes 1\npen 1 strokes 1 widest 224 box 0 448 1024 448\n"
-unfolding digits
+unfolding digits pen_lines
 one_horizontal_line = refl
 
 -- the pens rise, in whatever order they drew
 two_pens : report_of square (falling ∷ across ∷ rising ∷ []) [] ≡ codes "page 64 64 0 0\nstrokes 3\npen 1 strokes 2 widest 300 box 0 0 2048 448\npen 2 strokes 1 widest 16 box -16 -32 320 2000\n"
-unfolding digits
+unfolding digits pen_lines
 two_pens = refl
 
 -- ZZ1,2;CO"a;b";PA1
 skipped_and_bad : report_of square [] (note 0 (codes "ZZ") Skipped ∷ note 6 (codes "CO") Skipped ∷ note 14 (codes "PA") Bad ∷ []) ≡ codes "page 64 64 0 0\nstrokes 0\nnote 0 skipped ZZ\nnote 6 skipped CO\nnote 14 bad PA\n"
-unfolding digits
+unfolding digits pen_lines
 skipped_and_bad = refl
 
 -- the other notes
 open_and_axis : report_of moved [] (note 3 (codes "DI") Axis ∷ note 9 (codes "LB") Open ∷ []) ≡ codes "page 11880 8400 10 65536\nstrokes 0\nnote 3 axis DI\nnote 9 open LB\n"
-unfolding digits
+unfolding digits pen_lines
 open_and_axis = refl

@@ -63,7 +63,7 @@ pen_line pen (s ∷ ss) =
     ∷ codes "box" ∷ box_words (s ∷ ss))
 
 -- the lines of the pens, 1 to 255
-abbrev pub pen_lines : List Segment → List ℕ
+unfoldable pub pen_lines : List Segment → List ℕ
 pen_lines strokes = flat_map (λ pen. pen_line pen (strokes_of pen strokes)) (range_with_len 1 255)
 
 -- what is noted: on the instruction with these two letters, or on a stray byte

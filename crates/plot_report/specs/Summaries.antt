@@ -1,5 +1,6 @@
 -- What holds of the strokes of one pen, as the numbers of its line.
-use Rattle.std.specs.Prelude.{ℕ, List, [], ◌∷◌, length, map, codes, decimal, nat_eq, if◌then◌else◌}
+use Rattle.std.specs.Prelude.{ℕ, List, [], ◌∷◌, length, map, flat_map, slice_index_or, codes, decimal, nat_eq, if◌then◌else◌}
+use Rattle.std.specs.List.{range_with_len}
 use Rattle.std.specs.Fmt.{signed_decimal}
 use Rattle.plot_page.specs.Segments.{Segment}
 use Rattle.plot_report.specs.declared.summary.PenSummary.{PenSummary}
@@ -27,3 +28,7 @@ summary_line pen s = line (codes "pen" ∷ decimal pen ∷ codes "strokes" ∷ d
 -- that line, or nothing if there are no strokes
 abbrev pub summary_text : ℕ → PenSummary → List ℕ
 summary_text pen s = if nat_eq s.strokes 0 then [] else summary_line pen s
+
+-- the lines of this many pens from pen 1 on, by their numbers
+unfoldable pub summary_lines : List PenSummary → ℕ → List ℕ
+summary_lines summaries count = flat_map (λ pen. summary_text pen (slice_index_or summaries pen (summary_of []))) (range_with_len 1 count)

@@ -1,10 +1,9 @@
 //! The whole report.
-ghost use Rattle.std.specs.Prelude.{◌≡◌, ◌+◌, ◌-◌, ◌^◌, ◌<◌, ◌≤◌, ◌++◌, ◌*◌, [], length, take, flat_map, slice_index_or, IfOk};
-ghost use Rattle.std.specs.List.{range_with_len};
+ghost use Rattle.std.specs.Prelude.{◌≡◌, ◌+◌, ◌-◌, ◌^◌, ◌<◌, ◌≤◌, ◌++◌, ◌*◌, length, take, flat_map, IfOk};
 ghost use Rattle.plot_page.specs.declared.stroke.TheConstants.{MOST_STROKES};
 ghost use Rattle.picture_out.specs.Sinks.{Writes};
 ghost use Rattle.plot_report.specs.Report.{report_of, page_line, strokes_line, pen_lines, note_line};
-ghost use Rattle.plot_report.specs.Summaries.{summary_of, summary_text};
+ghost use Rattle.plot_report.specs.Summaries.{summary_lines};
 
 use crate::lines::{
     LONGEST_NOTE_LINE, LONGEST_PAGE_LINE, LONGEST_PEN_LINE, LONGEST_STROKES_LINE, append_note_line,
@@ -65,7 +64,7 @@ fn append_head(piece: &mut [u8], page: &Page, strokes: &[Stroke]) -> usize
 // Appends a line for each pen that has strokes, from pen 1 on.
 fn append_pen_lines(piece: &mut [u8], used: usize, pens: &[PenSummary; PENS]) -> usize
     requires { used + 255 * LONGEST_PEN_LINE ≤ length piece.old }
-    ensures lines { take result piece.new ≡ take used piece.old ++ flat_map (λ pen. summary_text pen (slice_index_or pens.now pen (summary_of []))) (range_with_len 1 255) }
+    ensures lines { take result piece.new ≡ take used piece.old ++ summary_lines pens.now 255 }
     ensures most { result ≤ used + 255 * LONGEST_PEN_LINE }
     ensures size { length piece.new ≡ length piece.old }
 {

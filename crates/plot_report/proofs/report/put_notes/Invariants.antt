@@ -1,0 +1,18 @@
+use Rattle.std.proofs.Common.{◌≡◌, ◌+◌, ◌*◌, ◌≤◌, ◌++◌, length, take, drop, flat_map}
+use Rattle.std.specs.Io.KnownBytes.{Appends}
+use Rattle.plot_report.specs.Report.{note_line}
+use Rattle.plot_report.proofs.report.put_notes.Given as goal
+
+-- the first `done` bytes of all the text were appended, and the piece and the lines of the notes that are left follow
+abbrev pub invariant-loop-note : goal.invariant-loop-note
+invariant-loop-note g l =
+    let all = take l.fn.used l.fn.piece ++ flat_map note_line l.notes in
+    record {
+      rest : drop l.done all ≡ take l.used l.piece ++ flat_map note_line (drop l.note-index l.notes);
+      so_far : Appends (g.K.Sink.held l.fn.sink) (g.K.Sink.held l.sink) (take l.done all);
+      within : l.done ≤ length all;
+      quiet : g.K.Sink.failed l.sink ≡ g.K.Sink.failed l.fn.sink;
+      used_in : l.used ≤ length l.piece;
+      size : length l.piece ≡ length l.fn.piece;
+      small : l.done + l.used ≤ l.fn.used + 37 * l.note-index;
+    }
