@@ -13,7 +13,7 @@ use Rattle.conversion.specs.Plots.{strokes, refusal, notes_count}
 use Rattle.conversion.specs.Readings.{WasRead, WasTooLong}
 use Rattle.conversion.specs.Sources.{SourceState}
 use Rattle.conversion.specs.Writings.{Reach, head_of, row_of, boxes_from}
-use Rattle.conversion.specs.declared.convert_plot.Done.{Done}
+use Rattle.conversion.specs.declared.done.Done.{Done}
 use Rattle.conversion.specs.declared.fault.Fault.{Fault}
 use Rattle.conversion.specs.declared.fault.Fault.TheVariants.{TooLong, Memory, Band, Row, Write, Read}
 

@@ -3,6 +3,7 @@ ghost use Rattle.std.specs.Prelude.{◌≡◌, ℕ, ◌+◌, ◌-◌, ◌^◌, �
 ghost use Rattle.std.specs.Io.KnownBytes.{IsAtEnd};
 ghost use Rattle.conversion.specs.Conversions.{HasConverted, is_write};
 
+use crate::done::Done;
 use crate::drawing::draw_source;
 use crate::fault::Fault;
 use crate::reading::buffer_of;
@@ -13,19 +14,6 @@ use picture_job::Job;
 use picture_out::{Sink, row_space};
 use std::alloc::Global;
 use stroke_raster::{Gauge, Painter};
-
-/// What a run has done.
-#[derive(Clone, Copy, Debug, PartialEq, Eq)]
-pub struct Done {
-    /// How many rows were written.
-    pub rows: u32,
-    /// How many bytes were written.
-    pub bytes: u64,
-    /// How many strokes the plot has, those of pens that are not drawn among them.
-    pub strokes: usize,
-    /// How many notes there are on the plot.
-    pub notes: usize,
-}
 
 /// Writes the picture of the plot that the source gives: the head if the job's first row is 0, its
 /// rows from the first row on, the foot. A pixel shows the pen and the colour of the last stroke of

@@ -7,7 +7,7 @@ use Rattle.conversion.specs.Plots.{strokes}
 use Rattle.conversion.specs.Writings.{boxes_from, head_of, row_of}
 use Rattle.conversion.specs.Progress.{WritesPicture}
 use Rattle.conversion.specs.Conversions.{HasConverted, SinkState}
-use Rattle.conversion.specs.declared.convert_plot.Done.{Done}
+use Rattle.conversion.specs.declared.done.Done.{Done}
 use Rattle.conversion.specs.declared.fault.Fault.{Fault}
 use Rattle.conversion.proofs.Refusals.{no_fault, passed_on}
 use Rattle.conversion.proofs.Stops.{move_parts}
