@@ -4,7 +4,7 @@ use Rattle.std.specs.Io.KnownBytes.{Consumes, Appends}
 use Rattle.stroke_raster.specs.Resolutions.{rows_of}
 use Rattle.stroke_raster.specs.Covers.{covers}
 use Rattle.stroke_raster.specs.Painting.{is_band_height}
-use Rattle.picture_out.specs.Forms.{foot_bytes}
+use Rattle.picture_out.specs.Forms.{foot_bytes, takes_resolution}
 use Rattle.hpgl_text.specs.declared.program.TheConstants.{LONGEST_PLOT}
 use Rattle.picture_job.specs.declared.job.Job.{Job}
 use Rattle.conversion.specs.Faults.{of_plot}
@@ -15,7 +15,7 @@ use Rattle.conversion.specs.Sources.{SourceState}
 use Rattle.conversion.specs.Writings.{Reach, head_of, row_of, boxes_from}
 use Rattle.conversion.specs.declared.done.Done.{Done}
 use Rattle.conversion.specs.declared.fault.Fault.{Fault}
-use Rattle.conversion.specs.declared.fault.Fault.TheVariants.{TooLong, Memory, Band, Row, Write, Read}
+use Rattle.conversion.specs.declared.fault.Fault.TheVariants.{TooLong, Memory, Band, Row, Write, Read, Resolution}
 
 -- the gauge that reaches what a stroke covers
 abbrev pub exact : Reach
@@ -33,6 +33,10 @@ job_boxes job plot = boxes_from job.pens (strokes job.page plot) job.page job.do
 abbrev pub picture : Job → Reach → List ℕ → List ℕ
 picture job reaches plot =
     picture_of (head_of job.form job.page job.dots) (job_row job reaches plot) (foot_bytes job.form) (rows_of job.page job.dots) job.first_row
+
+-- the job's form has its resolution; if not, nothing is read
+abbrev pub has_resolution : Job → Bool
+has_resolution job = takes_resolution job.form job.dots.resolution
 
 -- why a job cannot be done on its page, whatever the plot: its band height, and then its first row
 abbrev pub job_fault : Job → Option Fault
@@ -85,6 +89,7 @@ pub record IsRefused (job : Job) (input : List ℕ) (before after : SourceState)
 -- of memory says only that the source did not fail
 abbrev pub Converts : Job → Reach → List ℕ → SourceState → SourceState → SinkState → SinkState → Result Done Fault → Type 0
 Converts job reaches input before after sink sink' (Ok done) = IsWritten job reaches input before after sink sink' done
+Converts job reaches input before after sink sink' (Err Resolution) = after ≡ before
 Converts job reaches input before after sink sink' (Err Read) = after.faults ≡ before.faults + 1
 Converts job reaches input before after sink sink' (Err TooLong) = WasTooLong input before after
 Converts job reaches input before after sink sink' (Err Memory) = after.faults ≡ before.faults
@@ -109,4 +114,5 @@ Refuses job plot TooLong = LONGEST_PLOT < length plot
 Refuses job plot (Write row whole bytes) = ⊥
 Refuses job plot Read = ⊥
 Refuses job plot Memory = ⊤
+Refuses job plot Resolution = has_resolution job ≡ false
 Refuses job plot fault = fault_of job plot ≡ Some fault

@@ -1,7 +1,7 @@
 //! The conversion: read, cut, draw, paint, write.
-ghost use Rattle.std.specs.Prelude.{◌≡◌, ℕ, ◌+◌, ◌-◌, ◌^◌, ◌<◌, IfErr, false};
+ghost use Rattle.std.specs.Prelude.{◌≡◌, ℕ, ◌+◌, ◌-◌, ◌^◌, ◌<◌, ◌↔◌, Err, IfErr, false};
 ghost use Rattle.std.specs.Io.KnownBytes.{IsAtEnd};
-ghost use Rattle.conversion.specs.Conversions.{HasConverted, is_write};
+ghost use Rattle.conversion.specs.Conversions.{HasConverted, has_resolution, is_write};
 
 use crate::done::Done;
 use crate::drawing::draw_source;
@@ -11,7 +11,7 @@ use crate::source::Source;
 use crate::stroke_inks::StrokeInks;
 use crate::writing::write_picture;
 use picture_job::Job;
-use picture_out::{Sink, row_space};
+use picture_out::{Sink, row_space, takes_resolution};
 use std::alloc::Global;
 use stroke_raster::{Gauge, Painter};
 
@@ -20,11 +20,12 @@ use stroke_raster::{Gauge, Painter};
 /// the selected pens that the gauge says reaches it. The gauge makes at most as many tests as the
 /// boxes of those strokes have pixels, whatever the band height.
 ///
-/// Errors, in this order: those of reading and drawing the plot (`Read`, `TooLong`,
-/// `OffRange`, `TooManyStrokes`); `Band` and `Row` for a band height and a first row out of range;
-/// `Write` if the sink fails. `Memory` comes when memory is refused. After every error but `Write`
-/// the sink is as it was; after `Write` it has taken the first `bytes` bytes of the picture, and the
-/// job from row `row` writes what follows the first `whole` of them.
+/// Errors, in this order: `Resolution` if the form does not have the job's resolution, and then the
+/// source is not read; those of reading and drawing the plot (`Read`, `TooLong`, `OffRange`,
+/// `TooManyStrokes`); `Band` and `Row` for a band height and a first row out of range; `Write` if the
+/// sink fails. `Memory` comes when memory is refused. After every error but `Write` the sink is as
+/// it was; after `Write` it has taken the first `bytes` bytes of the picture, and the job from row
+/// `row` writes what follows the first `whole` of them.
 pub fn convert<G: Gauge, S: Source, K: Sink>(
     alloc: Global,
     job: &Job,
@@ -35,6 +36,7 @@ pub fn convert<G: Gauge, S: Source, K: Sink>(
     requires failing { S.failed source.old < 2 ^ 64 - 1 }
     requires ending { S.ended source.old < 2 ^ 64 - 1 }
     requires sinking { K.failed sink.old < 2 ^ 64 - 1 }
+    ensures resolution { (result ≡ Err Fault.Resolution) ↔ (has_resolution job.now ≡ false) }
     ensures converts { HasConverted job.now (G.reaches gauge.old)
         (record { left = S.left source.old; faults = S.failed source.old; ends = S.ended source.old })
         (record { left = S.left source.new; faults = S.failed source.new; ends = S.ended source.new })
@@ -44,6 +46,9 @@ pub fn convert<G: Gauge, S: Source, K: Sink>(
     ensures same { G.reaches gauge.new ≡ G.reaches gauge.old }
     ensures untouched { IfErr result (λ fault. is_write fault ≡ false → sink.new ≡ sink.old) }
 {
+    if !takes_resolution(job.form, job.dots.per_inch()) {
+        return Err(Fault::Resolution);
+    }
     let lines = draw_source(alloc, &job.page, source)?;
     let strokes = lines.strokes.as_slice();
     let mut painter = Painter::new(

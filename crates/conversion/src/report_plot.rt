@@ -1,5 +1,5 @@
 //! The report: read, cut, draw, describe.
-ghost use Rattle.std.specs.Prelude.{◌≡◌, ◌-◌, ◌+◌, ◌^◌, ◌<◌, IfErr, IfOk, false};
+ghost use Rattle.std.specs.Prelude.{◌≡◌, ◌-◌, ◌+◌, ◌^◌, ◌<◌, ◌≤◌, length, IfErr, IfOk, false};
 ghost use Rattle.std.specs.Io.KnownBytes.{IsAtEnd};
 ghost use Rattle.hpgl_text.specs.Cut.{cut};
 ghost use Rattle.hpgl_plot.specs.Notes as noting;
@@ -61,7 +61,8 @@ pub fn report<S: Source, K: Sink>(
 
 // The notes on a plot, of which there are `count`.
 fn notes_on(alloc: Global, plot: &[u8], count: usize) -> Result<Vec<Note>, AllocError>
-    ensures { IfOk result (λ told. told.items ≡ noting.notes (cut plot.now)) }
+    ensures notes { IfOk result (λ told. told.items ≡ noting.notes (cut plot.now)) }
+    ensures few { IfOk result (λ told. length told.items ≤ length plot.now) }
 {
     let mut told = Vec::with_capacity(alloc, count)?;
     let mut notes = Notes::new(alloc, Items::new(alloc, plot));

@@ -1,4 +1,4 @@
-use Rattle.std.proofs.Common.{arith, ◌≡◌, ◌<◌, ◌≤◌, ◌+◌, ◌-◌, ◌*◌, ◌++◌, List, [], length, ℕ, take, drop, refl, subst, sym, ap, ap₂, ◌∙◌, append_assoc, append-nil, length-drop, map, Err}
+use Rattle.std.proofs.Common.{arith, ◌≡◌, ◌<◌, ◌≤◌, ◌+◌, ◌-◌, ◌*◌, ◌++◌, List, [], length, ℕ, take, drop, refl, subst, sym, ap, ap₂, ◌∙◌, append_assoc, append-nil, length-drop, map, nat_eq, if◌then◌else◌, Err}
 use Rattle.std.specs.Io.KnownBytes.{Appends}
 use Rattle.std.specs.List.{range_with_len}
 use Rattle.plot_page.specs.Segments.{Segment}
@@ -13,12 +13,13 @@ use Rattle.stroke_raster.proofs.BoxCounts.{boxes_after, boxes_fewer}
 use Rattle.stroke_raster.specs.Painting.{rows_next}
 use Rattle.picture_out.specs.declared.inks.Ink.{Ink}
 use Rattle.picture_out.specs.Forms.{foot_bytes, row_bytes}
+use Rattle.picture_out.specs.Sinks.{taken_of}
 use Rattle.picture_out.proofs.KnownBytes.{written_next, cut_next, written_all}
 use Rattle.conversion.specs.Picture.{rows_bytes, picture_of, bytes_before}
 use Rattle.conversion.specs.Writings.{head_of, row_of}
 use Rattle.conversion.specs.Progress.{rows_text, WritesRows}
 use Rattle.conversion.specs.Conversions.{SinkState}
-use Rattle.conversion.proofs.Pictures.{rows_join, before_rows}
+use Rattle.conversion.proofs.Pictures.{rows_join, before_rows, stopped_at}
 use Rattle.conversion.proofs.RowTexts.{text_is}
 use Rattle.conversion.proofs.Stops.{band_stop, same_rows, move_parts}
 use Rattle.conversion.proofs.writing.write_picture.Goals as goal
@@ -167,4 +168,33 @@ returns-in-Ok-foot_counted g c =
         count = omega (arith, count, next.3, ap length next.2, length-drop (c.bands.done + length foot) all);
         sound = next.1;
       };
+    }
+
+pub returns-in-Err-foot_counted-clause-writes : goal.returns-in-Err-foot_counted-clause-writes
+returns-in-Err-foot_counted-clause-writes g c =
+    let p = c.args.painter.now in
+    let q = c.bands.painter in
+    let inv = c.bands.invariant in
+    let form = c.args.form in
+    let head = head_of form p.page p.dots in
+    let row = row_of form (g.G.Gauge.reaches c.args.gauge.now) p.pens p.strokes p.page p.dots in
+    let foot = foot_bytes form in
+    let rows = rows_of p.page p.dots in
+    let all = picture_of head row foot rows p.next in
+    let at = c.bands.at in
+    let taken = c.bytes-in-Err-foot_counted.result in
+    let page_rows : rows_of q.page q.dots ≡ rows = ap (λ (z : Page). rows_of z q.dots) inv.page ∙ ap (λ (d : Dots). rows_of p.page d) inv.dots in
+    let none : q.next < rows_of q.page q.dots → ⊥ = λ lt. cc (c.in_default.ensures.left.1 lt) in
+    let last : rows ≤ at = omega (arith, none, page_rows, inv.next) in
+    let done : rows - at ≡ 0 = omega (arith, last) in
+    let split : drop c.bands.done all ≡ foot ++ [] = inv.rest ∙ ap (λ (k : ℕ). rows_bytes row at k ++ foot) done ∙ sym (append-nil foot) in
+    let moved : c.bands.done + taken ≡ c.bands.done + taken_of c.in-Err-foot_counted.fault = ap (λ (k : ℕ). c.bands.done + k) c.bytes-in-Err-foot_counted.ensures in
+    let cut = cut_next _ _ _ _ _ _ all foot [] c.bands.done _ _ split inv.within inv.so_far inv.quiet c.in-Err-foot_counted.ensures.writes moved in
+    let first : c.next_row-first.result ≡ p.next = c.next_row-first.ensures.next in
+    let whole : c.whole_before.result ≡ (if nat_eq at p.next then 0 else c.bands.done) = c.whole_before.ensures ∙ ap (λ (k : ℕ). if nat_eq at k then 0 else c.bands.done) first in
+    record {
+      written = cut.0;
+      within = cut.1;
+      failed = cut.2;
+      stopped = stopped_at head row rows p.next (c.bands.done + taken) at c.bands.done c.whole_before.result inv.from inv.to inv.before whole (omega arith) (λ lt. absurd (omega (arith, lt, last)));
     }
