@@ -7,11 +7,11 @@ use Rattle.clap.specs.Faults.{fault_of}
 use Rattle.clap.specs.Kinds.{FailsBy}
 use Rattle.clap.specs.declared.error.Error.{Error}
 use Rattle.clap.specs.declared.parser.matches.ArgMatches.{ArgMatches}
-use Rattle.command_line.specs.Options.{picture_app, plot_app}
+use Rattle.command_line.specs.Options.{picture_app, plot_app, report_app}
 use Rattle.clap_parses.specs.Parses.{HasGoodMatches, IsSingleShape}
 use Rattle.clap_parses.proofs.ParseLaw.{parse_good}
 
--- width, height, left, below, dots, band, from and FILE take one value each; the last one is help
+-- width, height, left, below, dots, pens, band, from and FILE take one value each; the last one is help
 picture_single : (name : Text) → IsSingleShape (built_leaf (picture_app name).top)
 picture_single name = record {
   single = (
@@ -30,7 +30,10 @@ picture_single name = record {
                 record { found = refl; kind = inl (refl, refl); defaults = search rules },
                 (
                   record { found = refl; kind = inl (refl, refl); defaults = search rules },
-                  (record { found = refl; kind = inr refl; defaults = search rules }, tt),
+                  (
+                    record { found = refl; kind = inl (refl, refl); defaults = search rules },
+                    (record { found = refl; kind = inr refl; defaults = search rules }, tt),
+                  ),
                 ),
               ),
             ),
@@ -42,8 +45,30 @@ picture_single name = record {
   no_again = refl;
 }
 
+-- width, height, left, below and FILE take one value each; the last one is help
+report_single : IsSingleShape (built_leaf report_app.top)
+report_single = record {
+  single = (
+    record { found = refl; kind = inl (refl, refl); defaults = search rules },
+    (
+      record { found = refl; kind = inl (refl, refl); defaults = search rules },
+      (
+        record { found = refl; kind = inl (refl, refl); defaults = search rules },
+        (
+          record { found = refl; kind = inl (refl, refl); defaults = search rules },
+          (
+            record { found = refl; kind = inl (refl, refl); defaults = search rules },
+            (record { found = refl; kind = inr refl; defaults = search rules }, tt),
+          ),
+        ),
+      ),
+    ),
+  );
+  no_again = refl;
+}
+
 all_single : AllByRecursion IsSingleShape (built plot_app).subs
-all_single = (picture_single _, (picture_single _, (picture_single _, tt)))
+all_single = (picture_single _, (picture_single _, (picture_single _, (report_single, tt))))
 
 pub plot_parses : (words : List Text) (m : ArgMatches) → fault_of plot_app words ≡ [] → HasMatchesOf plot_app words m → HasGoodMatches plot_app words m
 plot_parses words m none given =

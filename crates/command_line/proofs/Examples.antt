@@ -1,11 +1,12 @@
 -- What the command takes, and what it asks for, at some words.
-use Rattle.std.proofs.Common.{◌≡◌, ◌∷◌, [], List, Option, Some, None, ℕ, true, codes, refl}
-use Rattle.std.specs.Prelude.{option_and_then}
+use Rattle.std.proofs.Common.{◌≡◌, ◌∷◌, [], Bool, List, Option, Some, None, ℕ, true, codes, refl}
+use Rattle.std.specs.Prelude.{option_and_then, false}
+use Rattle.std.specs.Option.{option_map_or}
 use Rattle.clap.specs.Words.{Kinds, Text, fault_of, subcommand_of, takes}
 use Rattle.clap.proofs.OnLiterals.{clap_on_literals}
 use Rattle.clap.specs.declared.error.kind.ErrorKind.TheVariants as kind
 use Rattle.picture_out.specs.declared.form.Form.TheVariants as form
-use Rattle.command_line.specs.Lines.{form_named, number_in}
+use Rattle.command_line.specs.Lines.{form_named, has_bad_list, is_report, number_in, pens_text}
 use Rattle.command_line.specs.Options.{plot_app}
 use Rattle.command_line.specs.Statuses.{parse_status_of}
 
@@ -23,6 +24,9 @@ ppm_is_a_pixmap = refl
 
 report_has_no_form : form_named (codes "report") ≡ None
 report_has_no_form = refl
+
+report_describes : is_report (codes "report") ≡ true
+report_describes = refl
 
 -- the words of a command line, the program's name before them
 abbrev after_name : List Text → List Text
@@ -44,6 +48,34 @@ plus_sign : number_on (codes "ppm" ∷ codes "--from=+7" ∷ []) (codes "from") 
 unfolding clap_on_literals
 plus_sign = refl
 
+-- the text that the option for the list of pens has on a command line
+abbrev pens_on : List Text → Option Text
+pens_on words = option_and_then (λ p. pens_text p.1) (subcommand_of plot_app (after_name words))
+
+pens_left_out : pens_on (codes "pbm" ∷ []) ≡ Some (codes "all")
+unfolding clap_on_literals
+pens_left_out = refl
+
+pens_given : pens_on (codes "pbm" ∷ codes "--pens" ∷ codes "1,3" ∷ []) ≡ Some (codes "1,3")
+unfolding clap_on_literals
+pens_given = refl
+
+-- a command line asks for a picture by a text that is no list of pens
+abbrev bad_list_on : List Text → Bool
+bad_list_on words = option_map_or has_bad_list (subcommand_of plot_app (after_name words)) false
+
+falling_range : bad_list_on (codes "pbm" ∷ codes "--pens=7-5" ∷ []) ≡ true
+unfolding clap_on_literals
+falling_range = refl
+
+rising_range : bad_list_on (codes "pbm" ∷ codes "--pens=5-7" ∷ []) ≡ false
+unfolding clap_on_literals
+rising_range = refl
+
+report_has_no_list : bad_list_on (codes "report" ∷ []) ≡ false
+unfolding clap_on_literals
+report_has_no_list = refl
+
 file_takes_no_option : takes plot_app (after_name (codes "marks" ∷ codes "plan.plt" ∷ [])) ≡ true
 unfolding clap_on_literals
 file_takes_no_option = refl
@@ -63,6 +95,10 @@ dots_too_few = refl
 band_twice : faults_on (codes "pbm" ∷ codes "--band" ∷ codes "8" ∷ codes "--band" ∷ codes "8" ∷ []) ≡ kind.ArgumentConflict ∷ []
 unfolding clap_on_literals
 band_twice = refl
+
+report_has_no_dots : faults_on (codes "report" ∷ codes "--dots" ∷ codes "100" ∷ []) ≡ kind.UnknownArgument ∷ []
+unfolding clap_on_literals
+report_has_no_dots = refl
 
 asked_for_help : faults_on (codes "pbm" ∷ codes "-h" ∷ []) ≡ kind.DisplayHelp ∷ []
 unfolding clap_on_literals

@@ -1,19 +1,28 @@
 -- What the matches of a command line ask for.
-use Rattle.std.specs.Prelude.{◌≡◌, ◌<◌, ℕ, List, Option, Some, None, option_map, codes, nat_le, if◌then◌else◌}
+use Rattle.std.specs.Prelude.{◌≡◌, ◌<◌, ◌&&◌, ℕ, Bool, true, false, not, List, Option, Some, None, is_some, option_map, codes, if◌then◌else◌}
+use Rattle.std.specs.Option.{option_map_or}
 use Rattle.std.specs.Str.{bytes_eq}
 use Rattle.std.specs.Str.Parse.{digits_value, without_leading_plus}
 use Rattle.clap.specs.Words.{Row, Text, first_of, one_of, subcommand_rows_of}
 use Rattle.clap.specs.declared.parser.matches.ArgMatches.{ArgMatches}
 use Rattle.picture_out.specs.declared.form.Form.{Form}
 use Rattle.picture_out.specs.declared.form.Form.TheVariants.{Marks, Pbm, Ppm}
+use Rattle.plot_page.specs.declared.page.Page.{Page}
+use Rattle.stroke_raster.specs.declared.pens.PenSet.{PenSet}
 use Rattle.stroke_raster.specs.Pens.{has_pen}
+use Rattle.pen_list.specs.Lists.{is_listed, is_pen_list}
 use Rattle.picture_job.specs.declared.job.Job.{Job}
 use Rattle.command_line.specs.declared.line.Line.{Line}
-use Rattle.command_line.specs.declared.line.Task.TheVariants.{Picture}
+use Rattle.command_line.specs.declared.line.Task.{Task}
+use Rattle.command_line.specs.declared.line.Task.TheVariants.{Picture, Report}
 
 -- the whole number that an option has, in decimal, a plus sign before it or not
 abbrev pub number_in : List Row → Text → Option ℕ
 number_in rows name = option_map (λ t. digits_value 10 (without_leading_plus t)) (one_of name rows)
+
+-- the text of the option for the list of pens
+abbrev pub pens_text : List Row → Option Text
+pens_text rows = first_of (codes "pens") rows
 
 -- the form that a subcommand writes
 abbrev pub form_named : Text → Option Form
@@ -23,24 +32,53 @@ form_named name =
     else if bytes_eq name (codes "ppm") then Some Ppm
     else None
 
--- each number of the job is its option's, and all pens are drawn
+-- the subcommand describes a plot
+abbrev pub is_report : Text → Bool
+is_report name = bytes_eq name (codes "report")
+
+-- each number of the page is its option's
+pub record IsPageOf (rows : List Row) (page : Page) : Type 0 where
+  pub width : number_in rows (codes "width") ≡ Some page.width
+  pub height : number_in rows (codes "height") ≡ Some page.height
+  pub left : number_in rows (codes "left") ≡ Some page.left
+  pub below : number_in rows (codes "below") ≡ Some page.below
+
+-- the pens are those that the option's text lists
+pub record ArePensOf (rows : List Row) (pens : PenSet) : Type 0 where
+  pub list : Text
+  pub text : pens_text rows ≡ Some list
+  pub is_list : is_pen_list list ≡ true
+  pub listed : (pen : ℕ) → pen < 256 → has_pen pens pen ≡ is_listed list pen
+
+-- the page, each number and the pens of the job are those of the options
 pub record IsJobOf (rows : List Row) (job : Job) : Type 0 where
-  pub width : number_in rows (codes "width") ≡ Some job.page.width
-  pub height : number_in rows (codes "height") ≡ Some job.page.height
-  pub left : number_in rows (codes "left") ≡ Some job.page.left
-  pub below : number_in rows (codes "below") ≡ Some job.page.below
+  pub page : IsPageOf rows job.page
   pub dots : number_in rows (codes "dots") ≡ Some job.dots.resolution
+  pub pens : ArePensOf rows job.pens
   pub band : number_in rows (codes "band") ≡ Some job.band
   pub first_row : number_in rows (codes "from") ≡ Some job.first_row
-  pub pens : (pen : ℕ) → pen < 256 → has_pen job.pens pen ≡ nat_le 1 pen
+
+-- the task is what the subcommand of this name does, by its options
+abbrev pub IsTaskOf : Text → List Row → Task → Type 0
+IsTaskOf name rows (Picture job) = (form_named name ≡ Some job.form) × IsJobOf rows job
+IsTaskOf name rows (Report page) = (is_report name ≡ true) × IsPageOf rows page
 
 -- the line is what the matches m ask for: by the subcommand, its options and FILE
 pub record IsLineOf (m : ArgMatches) (line : Line) : Type 0 where
   pub name : Text
   pub rows : List Row
   pub matches : subcommand_rows_of m ≡ Some (name, rows)
-  pub job : Job
-  pub task : line.task ≡ Picture job
-  pub form : form_named name ≡ Some job.form
-  pub numbers : IsJobOf rows job
+  pub task : IsTaskOf name rows line.task
   pub file : option_map (λ s. s.now) line.file ≡ first_of (codes "FILE") rows
+
+-- the option for the list of pens has a text, and it is no list of pens
+abbrev pub lists_no_pens : List Row → Bool
+lists_no_pens rows = option_map_or (λ text. not (is_pen_list text)) (pens_text rows) false
+
+-- a picture is asked for, by a text that is no list of pens
+abbrev pub has_bad_list : Text × List Row → Bool
+has_bad_list (name, rows) = is_some (form_named name) && lists_no_pens rows
+
+-- the matches ask for it
+abbrev pub asks_bad_list : ArgMatches → Bool
+asks_bad_list m = option_map_or has_bad_list (subcommand_rows_of m) false

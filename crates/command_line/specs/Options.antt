@@ -37,16 +37,21 @@ with_page a = with_rule (with_rule (with_rule (with_rule a
     (number_rule (codes "left") 0 65536 (codes "0")))
     (number_rule (codes "below") 0 65536 (codes "0"))
 
--- how a picture is made: dots per inch, rows in a band, first row
+-- how a picture is made: dots per inch, pens, rows in a band, first row
 abbrev pub with_picture : App → App
-with_picture a = with_rule (with_rule (with_rule a
+with_picture a = with_rule (with_rule (with_rule (with_rule a
     (number_rule (codes "dots") 10 1200 (codes "100")))
+    (option_rule (codes "pens") vp.String (codes "all")))
     (number_rule (codes "band") 1 4096 (codes "64")))
     (number_rule (codes "from") 0 99999 (codes "0"))
 
 -- a subcommand that writes a picture
 abbrev pub picture_app : Text → App
 picture_app name = with_rule (with_picture (with_page (new_app name))) file_rule
+
+-- the subcommand that describes a plot
+abbrev pub report_app : App
+report_app = with_rule (with_page (new_app (codes "report"))) file_rule
 
 -- a subcommand has to be named, and `help` is none
 abbrev pub needing_subcommand : App → App
@@ -55,11 +60,12 @@ needing_subcommand a =
 
 -- `plotraster`
 abbrev pub plot_app : App
-plot_app = with_subcommand (with_subcommand (with_subcommand
+plot_app = with_subcommand (with_subcommand (with_subcommand (with_subcommand
     (needing_subcommand (new_app (codes "plotraster")))
     (picture_app (codes "marks")).top)
     (picture_app (codes "pbm")).top)
-    (picture_app (codes "ppm")).top
+    (picture_app (codes "ppm")).top)
+    report_app.top
 
 -- the command is a, and has no global argument
 pub record IsOf (a : App) (c : Command) : Type 0 where

@@ -20,6 +20,9 @@ pub enum LineFault {
     /// They are the matches of another command, or words that are no text.
     #[error("words not understood")]
     Words,
+    /// The list of pens is none.
+    #[error("bad pen list")]
+    Pens,
 }
 
 /// The exit status if words gave no matches: 0 if help was asked for, 4 if memory ran

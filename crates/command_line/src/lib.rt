@@ -2,6 +2,7 @@
 #![tactic(auto)]
 
 mod fault;
+mod help;
 mod line;
 mod options;
 

@@ -1,10 +1,12 @@
 //! What a command line asks for.
-ghost use Rattle.std.specs.Prelude.{◌≡◌, Some, IfOk, codes};
+ghost use Rattle.std.specs.Prelude.{◌≡◌, ◌↔◌, Some, Err, IfOk, IfErr, true, is_some, codes};
 ghost use Rattle.clap.specs.Words.{found_of, rows_of};
-ghost use Rattle.command_line.specs.Lines.{number_in, form_named, IsJobOf, IsLineOf};
+ghost use Rattle.command_line.specs.Lines.{number_in, form_named, lists_no_pens, has_bad_list, asks_bad_list};
+ghost use Rattle.command_line.specs.Lines.{ArePensOf, IsPageOf, IsJobOf, IsTaskOf, IsLineOf};
 
 use crate::fault::LineFault;
 use clap::ArgMatches;
+use pen_list::read_pens;
 use picture_job::Job;
 use picture_out::Form;
 use plot_page::Page;
@@ -15,33 +17,8 @@ use stroke_raster::{Dots, PenSet};
 pub enum Task {
     /// A picture of a plot.
     Picture(Job),
-}
-
-impl Task {
-    /// The job of the picture.
-    pub fn job(self) -> Job
-        ensures { self ≡ Task.Picture result }
-    {
-        // An enum's only variant can't yet be bound whole if a field of it has ghost fields.
-        let Task::Picture(
-            Job {
-                page,
-                dots,
-                pens,
-                band,
-                first_row,
-                form,
-            },
-        ) = self;
-        Job {
-            page,
-            dots,
-            pens,
-            band,
-            first_row,
-            form,
-        }
-    }
+    /// A description of a plot, on a page.
+    Report(Page),
 }
 
 /// What is to be done, and with which plot.
@@ -53,16 +30,28 @@ pub struct Line<'a> {
     pub file: Option<&'a str>,
 }
 
-/// The values of the matches of `command`'s command, or `Words` if they are of another.
+/// The values of the matches of `command`'s command. It fails by `Pens` exactly if a picture is asked
+/// for by a text that is no list of pens, and by `Words` if the matches are of another command.
 pub fn settle<'a>(matches: &ArgMatches<'a>) -> Result<Line<'a>, LineFault>
     ensures line { IfOk result (IsLineOf matches.now) }
+    ensures pens { (result ≡ Err LineFault.Pens) ↔ (asks_bad_list matches.now ≡ true) }
 {
     let (name, options) = matches.subcommand().ok_or(LineFault::Words)?;
-    let form = form_of(name).ok_or(LineFault::Words)?;
     Ok(Line {
-        task: Task::Picture(job_of(options, form)?),
+        task: task_of(name, options)?,
         file: options.get_str("FILE"),
     })
+}
+
+fn task_of(name: &str, options: &ArgMatches<'_>) -> Result<Task, LineFault>
+    ensures task { IfOk result (IsTaskOf name.now (rows_of (found_of options.now))) }
+    ensures pens { (result ≡ Err LineFault.Pens) ↔ (has_bad_list (name.now, rows_of (found_of options.now)) ≡ true) }
+{
+    if name == "report" {
+        return Ok(Task::Report(page_of(options)?));
+    }
+    let form = form_of(name).ok_or(LineFault::Words)?;
+    Ok(Task::Picture(job_of(options, form)?))
 }
 
 // The form that a subcommand writes.
@@ -80,22 +69,32 @@ fn form_of(name: &str) -> Option<Form>
 fn job_of(options: &ArgMatches<'_>, form: Form) -> Result<Job, LineFault>
     ensures job { IfOk result (IsJobOf (rows_of (found_of options.now))) }
     ensures form { IfOk result (λ job. job.form ≡ form) }
+    ensures pens { (result ≡ Err LineFault.Pens) ↔ (lists_no_pens (rows_of (found_of options.now)) ≡ true) }
 {
+    let pens = pens_of(options)?;
     Ok(Job {
         page: page_of(options)?,
         dots: Dots::new(number_of(options, "dots")?).ok_or(LineFault::Words)?,
-        pens: PenSet::all(),
+        pens,
         band: number_of(options, "band")?,
         first_row: number_of(options, "from")?,
         form,
     })
 }
 
+fn pens_of(options: &ArgMatches<'_>) -> Result<PenSet, LineFault>
+    ensures pens { IfOk result (ArePensOf (rows_of (found_of options.now))) }
+    ensures fault { (result ≡ Err LineFault.Pens) ↔ (lists_no_pens (rows_of (found_of options.now)) ≡ true) }
+{
+    let Some(text) = options.get_str("pens") else {
+        return Err(LineFault::Words);
+    };
+    read_pens(text).ok_or(LineFault::Pens)
+}
+
 fn page_of(options: &ArgMatches<'_>) -> Result<Page, LineFault>
-    ensures width { IfOk result (λ page. number_in (rows_of (found_of options.now)) (codes "width") ≡ Some page.width) }
-    ensures height { IfOk result (λ page. number_in (rows_of (found_of options.now)) (codes "height") ≡ Some page.height) }
-    ensures left { IfOk result (λ page. number_in (rows_of (found_of options.now)) (codes "left") ≡ Some page.left) }
-    ensures below { IfOk result (λ page. number_in (rows_of (found_of options.now)) (codes "below") ≡ Some page.below) }
+    ensures page { IfOk result (IsPageOf (rows_of (found_of options.now))) }
+    ensures fault { IfErr result (λ fault. fault ≡ LineFault.Words) }
 {
     let width = number_of(options, "width")?;
     let height = number_of(options, "height")?;
@@ -105,7 +104,8 @@ fn page_of(options: &ArgMatches<'_>) -> Result<Page, LineFault>
 }
 
 fn number_of(options: &ArgMatches<'_>, name: &str) -> Result<u32, LineFault>
-    ensures { IfOk result (λ n. number_in (rows_of (found_of options.now)) name.now ≡ Some n) }
+    ensures number { IfOk result (λ n. number_in (rows_of (found_of options.now)) name.now ≡ Some n) }
+    ensures fault { IfErr result (λ fault. fault ≡ LineFault.Words) }
 {
     options.get_one::<u32>(name).ok_or(LineFault::Words)
 }

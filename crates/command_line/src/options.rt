@@ -6,83 +6,18 @@ ghost use Rattle.clap.specs.declared.parser.matches.ArgMatches.{ArgMatches};
 ghost use Rattle.clap.specs.Words.{app_of, rule_of, is_simple_and_free, new_app, with_rule, with_subcommand};
 ghost use Rattle.clap.specs.declared.builder.command.Command.TheViews.{out-Command as fields_of};
 ghost use Rattle.command_line.specs.Options.{option_rule, number_rule, file_rule, plot_app, with_page};
-ghost use Rattle.command_line.specs.Options.{with_picture, picture_app, needing_subcommand, IsOf};
+ghost use Rattle.command_line.specs.Options.{with_picture, picture_app, report_app, needing_subcommand, IsOf};
 ghost use Rattle.clap_parses.specs.Parses.{HasGoodMatches};
 
 use crate::fault::BuildFault;
+use crate::help::{
+    BAND, BELOW, DOTS, FILE, FROM, HEIGHT, HelpLine, HelpPage, LEFT, MARKS, PBM, PENS, PPM, REPORT,
+    TOP, WIDTH,
+};
 use clap::builder::ValueParser;
 use clap::{Arg, ArgAction, ArgMatches, Command};
 use std::alloc::{AllocError, Global};
 use std::convert::AsStr;
-
-// What help says of an option: the name of its value, and what it means.
-#[derive(Clone, Copy)]
-struct HelpLine<'a> {
-    value: &'a str,
-    help: &'a str,
-}
-
-// What help says of a subcommand, and an example of its use.
-#[derive(Clone, Copy)]
-struct HelpPage<'a> {
-    about: &'a str,
-    example: &'a str,
-}
-
-const WIDTH: HelpLine<'static> = HelpLine {
-    value: "UNITS",
-    help: "Width of the page in plotter units of 1/40 mm, 64 to 65536 (11880 is A4's 297 mm)",
-};
-
-const HEIGHT: HelpLine<'static> = HelpLine {
-    value: "UNITS",
-    help: "Height of the page in plotter units of 1/40 mm, 64 to 65536 (8400 is A4's 210 mm)",
-};
-
-const LEFT: HelpLine<'static> = HelpLine {
-    value: "UNITS",
-    help: "How far the page reaches left of the plot's (0,0), in plotter units, 0 to 65536",
-};
-
-const BELOW: HelpLine<'static> = HelpLine {
-    value: "UNITS",
-    help: "How far the page reaches below the plot's (0,0), in plotter units, 0 to 65536",
-};
-
-const DOTS: HelpLine<'static> = HelpLine {
-    value: "DPI",
-    help: "Resolution in dots per inch, 10 to 1200",
-};
-
-const BAND: HelpLine<'static> = HelpLine {
-    value: "ROWS",
-    help: "Rows of pixels painted at a time, 1 to 4096; the output is the same for each",
-};
-
-const FROM: HelpLine<'static> = HelpLine {
-    value: "ROW",
-    help: "First row of pixels to write, counted from 0 at the top, 0 to 99999; only row 0 comes with a header",
-};
-
-const TOP: HelpPage<'static> = HelpPage {
-    about: "Turn an HP-GL or HP-GL/2 plot into a raster picture with exact pixels",
-    example: "Example:\n  plotraster pbm --dots 300 plan.plt > plan.pbm\n\n'plotraster pbm --help' lists the options of pbm, and so for each command.",
-};
-
-const MARKS: HelpPage<'static> = HelpPage {
-    about: "Write a line for each pixel that is drawn: its row, its column, its pen and its colour",
-    example: "Example, a page of 64 by 64 units, 8 by 8 pixels:\n  printf 'SP1;PU0,28;PD64,28;' | plotraster marks --width 64 --height 64 --dots 127",
-};
-
-const PBM: HelpPage<'static> = HelpPage {
-    about: "Write a black and white picture, Netpbm's portable bitmap (P4)",
-    example: "Example:\n  plotraster pbm --dots 300 plan.plt > plan.pbm",
-};
-
-const PPM: HelpPage<'static> = HelpPage {
-    about: "Write a colour picture, Netpbm's portable pixmap (P6)",
-    example: "Example, on to PNG by Netpbm:\n  plotraster ppm --dots 150 plan.plt | pnmtopng > plan.png",
-};
 
 // `--name VALUE`, at most once.
 fn option_of<'a>(
@@ -124,9 +59,7 @@ fn file_of<'a>(alloc: Global) -> Arg<'a>
     ensures rule { rule_of result ≡ file_rule }
     ensures local { result.global ≡ false }
 {
-    Arg::new(alloc, "FILE").action(ArgAction::Set).help(
-        "The plot file; without one the plot is read from standard input",
-    )
+    Arg::new(alloc, "FILE").action(ArgAction::Set).help(FILE)
 }
 
 fn bare<'a>(alloc: Global, name: &'a str, page: HelpPage<'a>) -> Command<'a>
@@ -164,9 +97,11 @@ fn add_picture<'a>(alloc: Global, command: Command<'a>) -> Result<Command<'a>, A
     ensures { IfOk result (IsOf (with_picture (app_of command.entry))) }
 {
     let dots = number_of(alloc, "dots", 10, 1200, "100", DOTS);
+    let pens = option_of(alloc, "pens", ValueParser::string(), "all", PENS);
     let band = number_of(alloc, "band", 1, 4096, "64", BAND);
     let from = number_of(alloc, "from", 0, 99999, "0", FROM);
     let command = add(command, dots)?;
+    let command = add(command, pens)?;
     let command = add(command, band)?;
     add(command, from)
 }
@@ -180,6 +115,13 @@ fn picture_command<'a>(
 {
     let command = add_page(alloc, bare(alloc, name, page))?;
     let command = add_picture(alloc, command)?;
+    add(command, file_of(alloc))
+}
+
+fn report_command<'a>(alloc: Global) -> Result<Command<'a>, AllocError>
+    ensures { IfOk result (IsOf report_app) }
+{
+    let command = add_page(alloc, bare(alloc, "report", REPORT))?;
     add(command, file_of(alloc))
 }
 
@@ -205,9 +147,11 @@ fn whole_command<'a>(alloc: Global) -> Result<Command<'a>, AllocError>
     let marks = picture_command(alloc, "marks", MARKS)?;
     let pbm = picture_command(alloc, "pbm", PBM)?;
     let ppm = picture_command(alloc, "ppm", PPM)?;
+    let report = report_command(alloc)?;
     let command = add_command(top_command(alloc), marks)?;
     let command = add_command(command, pbm)?;
-    add_command(command, ppm)
+    let command = add_command(command, ppm)?;
+    add_command(command, report)
 }
 
 /// The command line of `plotraster`, with its subcommands and their options. It fails only for want

@@ -23,8 +23,8 @@ read_number fault text None none value = tt
 read_number fault None (Some n) none value = let e : Some n ≡ None = none refl in absurd (cc)
 read_number fault (Some t) (Some n) none value = ap Some (sym (value t refl).0.1)
 
-pub returns : goal.returns
-returns c =
+pub returns-clause-number : goal.returns-clause-number
+returns-clause-number c =
     let F = found_of c.args.options.now in
     let read = read_number LineFault.Words (one_text F c.args.name.now) c.get_one.result c.get_one.ensures.none c.get_one.ensures.value in
     let same = subst (λ (t : Option (List ℕ)). IfOk (ok_or c.get_one.result LineFault.Words) (λ n. option_map value_of t ≡ Some n)) (one_text-rows F c.args.name.now) read in

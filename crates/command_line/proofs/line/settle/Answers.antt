@@ -1,4 +1,4 @@
-use Rattle.std.proofs.Common.{◌≡◌, ◌∙◌, ap, ap₂, sym, refl, Option, Some, None, Ok, codes}
+use Rattle.std.proofs.Common.{◌≡◌, ◌∙◌, ap, ap₂, sym, Option, Some, None, Ok, codes}
 use Rattle.std.specs.Prelude.{option_map}
 use Rattle.std.specs.Option.{ok_or}
 use Rattle.clap.specs.Words.{found_of, rows_of}
@@ -23,20 +23,14 @@ paired {X} {A} {B} f g (Some x) a b first second =
     let two : g x ≡ b = cc in
     ap Some (ap₂ (λ (l : A) (r : B). pair l r) one two)
 
-pub returns : goal.returns
-returns c =
+pub returns-clause-line : goal.returns-clause-line
+returns-clause-line c =
     let met = was_some c.subcommand.result _ _ (sym c.ok_or.ensures.value ∙ c.in_ok-name.was) in
-    let form = was_some c.form_of.result _ _ (sym c.ok_or-2.ensures.value ∙ c.in_ok-form.was) in
     record {
-      line = record {
-        name = c.in_ok-name.name.now;
-        rows = rows_of (found_of c.in_ok-name.options.now);
-        matches = paired _ _ _ _ _ (sym c.subcommand.ensures.name ∙ ap (option_map (λ p. p.0.now)) met)
-            (sym c.subcommand.ensures.rows ∙ ap (option_map (λ p. rows_of (found_of p.1.now))) met);
-        job = c.in_ok-job_of.field-0;
-        task = refl;
-        form = sym c.form_of.ensures ∙ form ∙ ap Some (sym c.in_ok-job_of.ensures.form);
-        numbers = c.in_ok-job_of.ensures.job;
-        file = c.get_str.ensures ∙ first_value-rows (found_of c.in_ok-name.options.now) (codes "FILE");
-      };
+      name = c.in_ok-name.name.now;
+      rows = rows_of (found_of c.in_ok-name.options.now);
+      matches = paired _ _ _ _ _ (sym c.subcommand.ensures.name ∙ ap (option_map (λ p. p.0.now)) met)
+          (sym c.subcommand.ensures.rows ∙ ap (option_map (λ p. rows_of (found_of p.1.now))) met);
+      task = c.in_ok-task_of.ensures.task;
+      file = c.get_str.ensures ∙ first_value-rows (found_of c.in_ok-name.options.now) (codes "FILE");
     }

@@ -1,0 +1,82 @@
+//! What help says of the command, its subcommands and their options.
+
+/// What help says of an option: the name of its value, and what it means.
+#[derive(Clone, Copy)]
+pub(crate) struct HelpLine<'a> {
+    pub(crate) value: &'a str,
+    pub(crate) help: &'a str,
+}
+
+/// What help says of a command, and an example of its use.
+#[derive(Clone, Copy)]
+pub(crate) struct HelpPage<'a> {
+    pub(crate) about: &'a str,
+    pub(crate) example: &'a str,
+}
+
+pub(crate) const WIDTH: HelpLine<'static> = HelpLine {
+    value: "UNITS",
+    help: "Width of the page in plotter units of 1/40 mm, 64 to 65536 (11880 is A4's 297 mm)",
+};
+
+pub(crate) const HEIGHT: HelpLine<'static> = HelpLine {
+    value: "UNITS",
+    help: "Height of the page in plotter units of 1/40 mm, 64 to 65536 (8400 is A4's 210 mm)",
+};
+
+pub(crate) const LEFT: HelpLine<'static> = HelpLine {
+    value: "UNITS",
+    help: "How far the page reaches left of the plot's (0,0), in plotter units, 0 to 65536",
+};
+
+pub(crate) const BELOW: HelpLine<'static> = HelpLine {
+    value: "UNITS",
+    help: "How far the page reaches below the plot's (0,0), in plotter units, 0 to 65536",
+};
+
+pub(crate) const DOTS: HelpLine<'static> = HelpLine {
+    value: "DPI",
+    help: "Resolution in dots per inch, 10 to 1200",
+};
+
+pub(crate) const PENS: HelpLine<'static> = HelpLine {
+    value: "LIST",
+    help: "Pens to draw, each 1 to 255: 'all', or pens and ranges separated by commas, as 1,3,5-7",
+};
+
+pub(crate) const BAND: HelpLine<'static> = HelpLine {
+    value: "ROWS",
+    help: "Rows of pixels painted at a time, 1 to 4096; the output is the same for each",
+};
+
+pub(crate) const FROM: HelpLine<'static> = HelpLine {
+    value: "ROW",
+    help: "First row of pixels to write, counted from 0 at the top, 0 to 99999; only row 0 comes with a header",
+};
+
+pub(crate) const FILE: &str = "The plot file; without one the plot is read from standard input";
+
+pub(crate) const TOP: HelpPage<'static> = HelpPage {
+    about: "Turn an HP-GL or HP-GL/2 plot into a raster picture with exact pixels, or describe it",
+    example: "Example:\n  plotraster pbm --dots 300 plan.plt > plan.pbm\n\n'plotraster pbm --help' lists the options of pbm, and so for each command.",
+};
+
+pub(crate) const MARKS: HelpPage<'static> = HelpPage {
+    about: "Write a line for each pixel that is drawn: its row, its column, its pen and its colour",
+    example: "Example, a page of 64 by 64 units, 8 by 8 pixels:\n  printf 'SP1;PU0,28;PD64,28;' | plotraster marks --width 64 --height 64 --dots 127",
+};
+
+pub(crate) const PBM: HelpPage<'static> = HelpPage {
+    about: "Write a black and white picture, Netpbm's portable bitmap (P4)",
+    example: "Example:\n  plotraster pbm --dots 300 plan.plt > plan.pbm",
+};
+
+pub(crate) const PPM: HelpPage<'static> = HelpPage {
+    about: "Write a colour picture, Netpbm's portable pixmap (P6)",
+    example: "Example, on to PNG by Netpbm:\n  plotraster ppm --dots 150 plan.plt | pnmtopng > plan.png",
+};
+
+pub(crate) const REPORT: HelpPage<'static> = HelpPage {
+    about: "Describe a plot: its page, its strokes pen by pen with their boxes, and what was skipped or bad",
+    example: "Example, how far pen 2 draws, in sixteenths of a plotter unit:\n  plotraster report plan.plt | grep '^pen 2 '",
+};
