@@ -68,7 +68,7 @@ report_single = record {
 }
 
 all_single : AllByRecursion IsSingleShape (built plot_app).subs
-all_single = (picture_single _, (picture_single _, (picture_single _, (report_single, tt))))
+all_single = (picture_single _, (picture_single _, (picture_single _, (picture_single _, (report_single, tt)))))
 
 pub plot_parses : (words : List Text) (m : ArgMatches) → fault_of plot_app words ≡ [] → HasMatchesOf plot_app words m → HasGoodMatches plot_app words m
 plot_parses words m none given =

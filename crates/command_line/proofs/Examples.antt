@@ -22,6 +22,9 @@ unknown_option = refl
 ppm_is_a_pixmap : form_named (codes "ppm") ≡ Some form.Ppm
 ppm_is_a_pixmap = refl
 
+pcl_is_for_a_printer : form_named (codes "pcl") ≡ Some form.Pcl
+pcl_is_for_a_printer = refl
+
 report_has_no_form : form_named (codes "report") ≡ None
 report_has_no_form = refl
 
@@ -43,6 +46,10 @@ width_left_out = refl
 dots_given : number_on (codes "pbm" ∷ codes "--dots" ∷ codes "300" ∷ []) (codes "dots") ≡ Some 300
 unfolding clap_on_literals
 dots_given = refl
+
+pcl_is_a_subcommand : number_on (codes "pcl" ∷ codes "--dots" ∷ codes "600" ∷ []) (codes "dots") ≡ Some 600
+unfolding clap_on_literals
+pcl_is_a_subcommand = refl
 
 plus_sign : number_on (codes "ppm" ∷ codes "--from=+7" ∷ []) (codes "from") ≡ Some 7
 unfolding clap_on_literals

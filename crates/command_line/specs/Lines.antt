@@ -6,7 +6,7 @@ use Rattle.std.specs.Str.Parse.{digits_value, without_leading_plus}
 use Rattle.clap.specs.Words.{Row, Text, first_of, one_of, subcommand_rows_of}
 use Rattle.clap.specs.declared.parser.matches.ArgMatches.{ArgMatches}
 use Rattle.picture_out.specs.declared.form.Form.{Form}
-use Rattle.picture_out.specs.declared.form.Form.TheVariants.{Marks, Pbm, Ppm}
+use Rattle.picture_out.specs.declared.form.Form.TheVariants.{Marks, Pbm, Ppm, Pcl}
 use Rattle.plot_page.specs.declared.page.Page.{Page}
 use Rattle.stroke_raster.specs.declared.pens.PenSet.{PenSet}
 use Rattle.stroke_raster.specs.Pens.{has_pen}
@@ -30,6 +30,7 @@ form_named name =
     if bytes_eq name (codes "marks") then Some Marks
     else if bytes_eq name (codes "pbm") then Some Pbm
     else if bytes_eq name (codes "ppm") then Some Ppm
+    else if bytes_eq name (codes "pcl") then Some Pcl
     else None
 
 -- the subcommand describes a plot

@@ -60,11 +60,12 @@ needing_subcommand a =
 
 -- `plotraster`
 abbrev pub plot_app : App
-plot_app = with_subcommand (with_subcommand (with_subcommand (with_subcommand
+plot_app = with_subcommand (with_subcommand (with_subcommand (with_subcommand (with_subcommand
     (needing_subcommand (new_app (codes "plotraster")))
     (picture_app (codes "marks")).top)
     (picture_app (codes "pbm")).top)
     (picture_app (codes "ppm")).top)
+    (picture_app (codes "pcl")).top)
     report_app.top
 
 -- the command is a, and has no global argument

@@ -39,6 +39,11 @@ pub(crate) const DOTS: HelpLine<'static> = HelpLine {
     help: "Resolution in dots per inch, 10 to 1200",
 };
 
+pub(crate) const PCL_DOTS: HelpLine<'static> = HelpLine {
+    value: "DPI",
+    help: "Resolution in dots per inch: 75, 100, 150, 200, 300 or 600",
+};
+
 pub(crate) const PENS: HelpLine<'static> = HelpLine {
     value: "LIST",
     help: "Pens to draw, each 1 to 255: 'all', or pens and ranges separated by commas, as 1,3,5-7",
@@ -74,6 +79,11 @@ pub(crate) const PBM: HelpPage<'static> = HelpPage {
 pub(crate) const PPM: HelpPage<'static> = HelpPage {
     about: "Write a colour picture, Netpbm's portable pixmap (P6)",
     example: "Example, on to PNG by Netpbm:\n  plotraster ppm --dots 150 plan.plt | pnmtopng > plan.png",
+};
+
+pub(crate) const PCL: HelpPage<'static> = HelpPage {
+    about: "Write a black and white picture for a printer, PCL 5 raster graphics",
+    example: "Example, to a printer that knows PCL:\n  plotraster pcl --dots 300 plan.plt | lp -o raw",
 };
 
 pub(crate) const REPORT: HelpPage<'static> = HelpPage {

@@ -62,6 +62,7 @@ fn form_of(name: &str) -> Option<Form>
         "marks" => Some(Form::Marks),
         "pbm" => Some(Form::Pbm),
         "ppm" => Some(Form::Ppm),
+        "pcl" => Some(Form::Pcl),
         _ => None,
     }
 }

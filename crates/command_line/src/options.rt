@@ -11,8 +11,8 @@ ghost use Rattle.clap_parses.specs.Parses.{HasGoodMatches};
 
 use crate::fault::BuildFault;
 use crate::help::{
-    BAND, BELOW, DOTS, FILE, FROM, HEIGHT, HelpLine, HelpPage, LEFT, MARKS, PBM, PENS, PPM, REPORT,
-    TOP, WIDTH,
+    BAND, BELOW, DOTS, FILE, FROM, HEIGHT, HelpLine, HelpPage, LEFT, MARKS, PBM, PCL, PCL_DOTS,
+    PENS, PPM, REPORT, TOP, WIDTH,
 };
 use clap::builder::ValueParser;
 use clap::{Arg, ArgAction, ArgMatches, Command};
@@ -92,11 +92,15 @@ fn add_page<'a>(alloc: Global, command: Command<'a>) -> Result<Command<'a>, Allo
     add(command, below)
 }
 
-fn add_picture<'a>(alloc: Global, command: Command<'a>) -> Result<Command<'a>, AllocError>
+fn add_picture<'a>(
+    alloc: Global,
+    command: Command<'a>,
+    dots_line: HelpLine<'a>,
+) -> Result<Command<'a>, AllocError>
     requires { (fields_of command).has_globals ≡ false }
     ensures { IfOk result (IsOf (with_picture (app_of command.entry))) }
 {
-    let dots = number_of(alloc, "dots", 10, 1200, "100", DOTS);
+    let dots = number_of(alloc, "dots", 10, 1200, "100", dots_line);
     let pens = option_of(alloc, "pens", ValueParser::string(), "all", PENS);
     let band = number_of(alloc, "band", 1, 4096, "64", BAND);
     let from = number_of(alloc, "from", 0, 99999, "0", FROM);
@@ -110,11 +114,12 @@ fn picture_command<'a>(
     alloc: Global,
     name: &'a str,
     page: HelpPage<'a>,
+    dots_line: HelpLine<'a>,
 ) -> Result<Command<'a>, AllocError>
     ensures { IfOk result (IsOf (picture_app name.entry.now)) }
 {
     let command = add_page(alloc, bare(alloc, name, page))?;
-    let command = add_picture(alloc, command)?;
+    let command = add_picture(alloc, command, dots_line)?;
     add(command, file_of(alloc))
 }
 
@@ -144,13 +149,15 @@ fn add_command<'a>(command: Command<'a>, below: Command<'a>) -> Result<Command<'
 fn whole_command<'a>(alloc: Global) -> Result<Command<'a>, AllocError>
     ensures { IfOk result (IsOf plot_app) }
 {
-    let marks = picture_command(alloc, "marks", MARKS)?;
-    let pbm = picture_command(alloc, "pbm", PBM)?;
-    let ppm = picture_command(alloc, "ppm", PPM)?;
+    let marks = picture_command(alloc, "marks", MARKS, DOTS)?;
+    let pbm = picture_command(alloc, "pbm", PBM, DOTS)?;
+    let ppm = picture_command(alloc, "ppm", PPM, DOTS)?;
+    let pcl = picture_command(alloc, "pcl", PCL, PCL_DOTS)?;
     let report = report_command(alloc)?;
     let command = add_command(top_command(alloc), marks)?;
     let command = add_command(command, pbm)?;
     let command = add_command(command, ppm)?;
+    let command = add_command(command, pcl)?;
     add_command(command, report)
 }
 

@@ -7,10 +7,11 @@ use std::alloc::{AllocError, Global};
 use std::test::Fail;
 
 // The subcommands that write a picture.
-const PICTURES: [(&str, Form); 3] = [
+const PICTURES: [(&str, Form); 4] = [
     ("marks", Form::Marks),
     ("pbm", Form::Pbm),
     ("ppm", Form::Ppm),
+    ("pcl", Form::Pcl),
 ];
 
 // The options with a number, each with another number than its default. A report has the first four.
@@ -282,12 +283,13 @@ fn refuses_numbers_out_of_range(rt: HostRuntime) -> Result<(), Fail> {
 
 #[test]
 fn asks_for_help(rt: HostRuntime) -> Result<(), Fail> {
-    let cases: [&[&str]; 7] = [
+    let cases: [&[&str]; 8] = [
         &["plotraster", "--help"],
         &["plotraster", "-h", "ppm"],
         &["plotraster", "marks", "--help"],
         &["plotraster", "pbm", "-h"],
         &["plotraster", "ppm", "plan.plt", "--help"],
+        &["plotraster", "pcl", "--help"],
         &["plotraster", "report", "--help"],
         &["plotraster", "report", "--left", "1", "-h"],
     ];
