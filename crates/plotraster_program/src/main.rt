@@ -1,10 +1,10 @@
-//! `plotraster`: reads a plot and writes its picture, as the command line asks.
+//! `plotraster`: reads a plot and writes its picture or a report on it, as the command line asks.
 #![tactic(auto)]
 
 use clap::ArgMatches;
 use plotraster::{
-    Exact, Fault, Job, LineFault, OverRead, OverWrite, command, convert, parse, parse_status,
-    settle, status,
+    Exact, Fault, LineFault, OverRead, OverWrite, Task, command, convert, parse, parse_status,
+    report, settle, status,
 };
 use std::fs::File;
 use std::io::{ErrorKind, Read};
@@ -60,11 +60,10 @@ fn work(rt: &HostRuntime, matches: &ArgMatches<'_>) -> u8 {
         Ok(line) => line,
         Err(fault) => return refuse_words(rt, fault),
     };
-    let job = line.task.job();
     match line.file {
-        None => draw(rt, &job, rt.stdin()),
+        None => perform(rt, &line.task, rt.stdin()),
         Some(path) => match File::open(rt, path) {
-            Ok(file) => draw(rt, &job, file),
+            Ok(file) => perform(rt, &line.task, file),
             Err(_) => {
                 let _ = eprintln!(rt; "plotraster: cannot open {path}");
                 DEVICE
@@ -73,12 +72,16 @@ fn work(rt: &HostRuntime, matches: &ArgMatches<'_>) -> u8 {
     }
 }
 
-// Writes the picture of the plot that the reader gives to standard output, which has no buffer:
-// so a fault's count of bytes is what the device took.
-fn draw<R: Read + Drop>(rt: &HostRuntime, job: &Job, plot: R) -> u8 {
+// Writes what the task asks of the plot that the reader gives to standard output, which has no
+// buffer: so a fault's count of bytes is what the device took.
+fn perform<R: Read + Drop>(rt: &HostRuntime, task: &Task, plot: R) -> u8 {
     let mut source = OverRead::new(plot);
     let mut sink = OverWrite::new(rt.stdout());
-    match convert(rt.alloc(), job, &mut Exact::new(), &mut source, &mut sink) {
+    let done = match task {
+        Task::Picture(job) => convert(rt.alloc(), job, &mut Exact::new(), &mut source, &mut sink),
+        Task::Report(page) => report(rt.alloc(), page, &mut source, &mut sink),
+    };
+    match done {
         Ok(_) => 0,
         Err(fault) => refuse(rt, &fault),
     }
