@@ -7,12 +7,12 @@ use std::test::Fail;
 
 /// A sink that takes `piece` bytes a call and `room` in all, and then fails, or takes nothing.
 #[derive(Drop)]
-struct Limited {
-    bytes: Vec<u8>,
-    piece: usize,
-    room: usize,
-    takes_nothing: bool,
-    failures: u64,
+pub struct Limited {
+    pub bytes: Vec<u8>,
+    pub piece: usize,
+    pub room: usize,
+    pub takes_nothing: bool,
+    pub failures: u64,
 }
 
 impl Sink for Limited {

@@ -23,6 +23,7 @@ fn numbers_statuses_and_texts(rt: HostRuntime) -> Result<(), Fail> {
         (Fault::Row, 6, 2, "first row is past the last row"),
         (write, 7, 3, "write failed: go on from row 5 after byte 131"),
         (Fault::Read, 8, 3, "read failed"),
+        (Fault::Resolution, 9, 2, "resolution is not one of PCL's"),
     ];
     for (fault, its_number, its_status, text) in cases {
         assert_eq!(rt; number(&fault), its_number);
@@ -31,5 +32,7 @@ fn numbers_statuses_and_texts(rt: HostRuntime) -> Result<(), Fail> {
     }
     let words = format!(in rt.alloc(); "{}", LineFault::Words)?;
     assert_eq!(rt; words.as_str(), "words not understood");
+    let pens = format!(in rt.alloc(); "{}", LineFault::Pens)?;
+    assert_eq!(rt; pens.as_str(), "bad pen list");
     Ok(())
 }

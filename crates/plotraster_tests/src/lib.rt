@@ -20,8 +20,14 @@ mod pages;
 #[cfg(test)]
 mod pictures;
 #[cfg(test)]
+mod printer;
+#[cfg(test)]
 mod random;
 #[cfg(test)]
 mod refusals;
 #[cfg(test)]
+mod reports;
+#[cfg(test)]
 mod settings;
+#[cfg(test)]
+mod sources;

@@ -1,6 +1,6 @@
 //! Whole pictures.
 use crate::pages::{CROSSING, LINE, eight_by_eight};
-use plotraster::{Form, Job, PenSet, picture_bytes};
+use plotraster::{Dots, Form, Job, PenSet, picture_bytes};
 use std::test::Fail;
 
 const LINE_MARKS: &[u8] =
@@ -105,10 +105,12 @@ fn colours(rt: HostRuntime) -> Result<(), Fail> {
 
 #[test]
 fn bands_change_nothing(rt: HostRuntime) -> Result<(), Fail> {
-    for form in [Form::Marks, Form::Pbm, Form::Ppm] {
-        let whole = picture_bytes(rt.alloc(), &job(form)?, CROSSING)?;
+    for form in [Form::Marks, Form::Pbm, Form::Ppm, Form::Pcl] {
+        let mut once = job(form)?;
+        once.dots = Dots::new(150).ok_or("150 dots per inch")?;
+        let whole = picture_bytes(rt.alloc(), &once, CROSSING)?;
         for band in [1, 3, 8, 4096] {
-            let mut banded = job(form)?;
+            let mut banded = once;
             banded.band = band;
             let picture = picture_bytes(rt.alloc(), &banded, CROSSING)?;
             assert_eq!(rt; picture.as_slice(), whole.as_slice());

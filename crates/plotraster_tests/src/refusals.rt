@@ -1,56 +1,16 @@
 //! Plots and jobs that are refused, and what that leaves.
-ghost use Rattle.std.specs.Prelude.{◌≡◌, ◌-◌, ◌^◌, ◌<◌, None, false};
+ghost use Rattle.std.specs.Prelude.{◌≡◌, ◌-◌, ◌^◌, ◌<◌, false};
 
 use crate::pages::{BLACK, CROSSING, LINE, eight_by_eight};
+use crate::sources::Semicolons;
 use plotraster::{
-    Done, Exact, Fault, Form, Gauge, Job, OverRead, OverWrite, Page, PageFault, Source,
-    SourceFault, Stroke, Window, convert, picture_bytes,
+    Done, Exact, Fault, Form, Gauge, Job, OverRead, OverWrite, Page, PageFault, Source, Stroke,
+    Window, convert, picture_bytes,
 };
 use std::test::Fail;
 
 fn marks() -> Result<Job, Fail> {
     Ok(eight_by_eight(Form::Marks).ok_or("a job")?)
-}
-
-/// A source of so many bytes `;`, or one that fails.
-#[derive(Drop)]
-struct Semicolons {
-    left: usize,
-    fails: bool,
-    failures: u64,
-    ends: u64,
-}
-
-impl Source for Semicolons {
-    ghost left = { λ _. None };
-
-    ghost failed = { λ s. s.failures };
-
-    ghost ended = { λ s. s.ends };
-
-    fn get(&mut self, buffer: &mut [u8]) -> Result<usize, SourceFault> {
-        if self.fails {
-            self.failures += 1;
-            return Err(SourceFault);
-        }
-        let given = self.left.min(buffer.len());
-        if given == 0 && !buffer.is_empty() {
-            self.ends += 1;
-        }
-        for byte in buffer[..given].iter_mut() {
-            *byte = b';';
-        }
-        self.left -= given;
-        Ok(given)
-    }
-
-    fn failures(&self) -> u64 {
-        self.failures
-    }
-
-    fn ends(&self) -> u64 {
-        self.ends
-    }
 }
 
 #[test]

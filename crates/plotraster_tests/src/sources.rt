@@ -1,0 +1,45 @@
+//! A source that gives semicolons, or fails.
+ghost use Rattle.std.specs.Prelude.{◌≡◌, None};
+
+use plotraster::{Source, SourceFault};
+
+/// A source of `left` bytes `;`, or one that fails.
+#[derive(Drop)]
+pub struct Semicolons {
+    pub left: usize,
+    pub fails: bool,
+    pub failures: u64,
+    pub ends: u64,
+}
+
+impl Source for Semicolons {
+    ghost left = { λ _. None };
+
+    ghost failed = { λ s. s.failures };
+
+    ghost ended = { λ s. s.ends };
+
+    fn get(&mut self, buffer: &mut [u8]) -> Result<usize, SourceFault> {
+        if self.fails {
+            self.failures += 1;
+            return Err(SourceFault);
+        }
+        let given = self.left.min(buffer.len());
+        if given == 0 && !buffer.is_empty() {
+            self.ends += 1;
+        }
+        for byte in buffer[..given].iter_mut() {
+            *byte = b';';
+        }
+        self.left -= given;
+        Ok(given)
+    }
+
+    fn failures(&self) -> u64 {
+        self.failures
+    }
+
+    fn ends(&self) -> u64 {
+        self.ends
+    }
+}
