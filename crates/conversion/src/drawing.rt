@@ -1,4 +1,4 @@
-//! Reading a plot and drawing it: what every task begins with.
+//! Reading a plot and drawing it, of which only the strokes are kept.
 ghost use Rattle.std.specs.Prelude.{◌≡◌, ℕ, ◌+◌, ◌-◌, ◌^◌, ◌<◌};
 ghost use Rattle.std.specs.Io.KnownBytes.{IsAtEnd};
 ghost use Rattle.conversion.specs.Drawings.{HasDrawn};
