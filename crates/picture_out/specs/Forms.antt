@@ -33,17 +33,17 @@ foot_bytes Pbm = []
 foot_bytes Ppm = []
 foot_bytes Pcl = commands_after
 
+-- whether a picture in this form may have this resolution, in dots per inch
+abbrev pub takes_resolution : Form → ℕ → Bool
+takes_resolution Pcl dots = is_resolution dots
+takes_resolution _ dots = true
+
 -- the least length of a buffer for rows of a number of columns
 abbrev pub room_of : Form → ℕ → ℕ
 room_of Marks columns = 0
 room_of Pbm columns = bytes_for columns
 room_of Ppm columns = 3 * columns
 room_of Pcl columns = bytes_for columns
-
--- whether a picture in this form may have this resolution, in dots per inch
-abbrev pub takes_resolution : Form → ℕ → Bool
-takes_resolution Pcl dots = is_resolution dots
-takes_resolution _ dots = true
 
 -- a buffer of this length takes any row of at most this number of columns, whatever its inks
 abbrev pub TakesAnyRow : Form → ℕ → ℕ → Type 0

@@ -16,8 +16,8 @@ pub fn ppm_shows_colours()
     ensures { PpmShowsColours }
 {}
 
-/// A PCL row is the transfer command, with the number of the bytes that follow it, and the bytes of
-/// the PBM row.
+/// A PCL row is the transfer command, with the number of the bytes that follow it, and then the
+/// bytes of the PBM row, whose bits show the ink.
 pub fn pcl_shows_ink()
     ensures { PclShowsInk }
 {}
