@@ -4,8 +4,8 @@ use Rattle.std.proofs.lemmas.Bool.Decides.{nat_tests}
 use Rattle.std.specs.List.{range_with_len}
 use Rattle.plot_page.specs.Segments.{Segment}
 use Rattle.plot_report.specs.declared.summary.PenSummary.{PenSummary}
-use Rattle.plot_report.specs.Report.{strokes_of, pen_line, pen_lines}
-use Rattle.plot_report.specs.Summaries.{summary_of, summary_line, summary_text, summary_lines}
+use Rattle.plot_report.specs.Report.{strokes_of, pen_line, pen_lines, summary_of, summary_line}
+use Rattle.plot_report.specs.Summaries.{summary_text, summary_lines}
 
 range_more : (f : ℕ → List ℕ) (a n : ℕ) → flat_map f (range_with_len a (suc n)) ≡ flat_map f (range_with_len a n) ++ f (a + n)
 range_more f a zero = append-nil (f a) ∙ ap f (sym (add-zero a))

@@ -1,13 +1,12 @@
 -- The numbers of some strokes and one more.
-use Rattle.std.proofs.Common.{◌≡◌, ℕ, ◌+◌, ◌<◌, max, ℤ, List, [], ◌∷◌, ◌++◌, length, map, flat_map, refl, ap, sym, ◌∙◌, arith, length-append}
+use Rattle.std.proofs.Common.{◌≡◌, ℕ, ◌+◌, ◌<◌, max, ℤ, List, [], ◌∷◌, ◌++◌, length, map, refl, ap, sym, ◌∙◌, arith, length-append}
 use Rattle.std.proofs.lemmas.List.{map-append}
 use Rattle.std.proofs.lemmas.List.Concat.{flat_map-append}
 use Rattle.std.proofs.lemmas.Int.{ints}
 use Rattle.std.specs.Int.{int_max, int_min}
 use Rattle.plot_page.specs.Segments.{Segment}
 use Rattle.plot_report.specs.declared.summary.PenSummary.{PenSummary}
-use Rattle.plot_report.specs.Report.{greatest, least_place, greatest_place, end_xs, end_ys}
-use Rattle.plot_report.specs.Summaries.{summary_of}
+use Rattle.plot_report.specs.Report.{greatest, least_place, greatest_place, end_xs, end_ys, summary_of}
 
 min_assoc : (x y z : ℤ) → int_min x (int_min y z) ≡ int_min (int_min x y) z
 min_assoc x y z = grind (arith, ints)

@@ -1,13 +1,12 @@
 -- The table of the pens, after one more stroke.
-use Rattle.std.proofs.Common.{◌≡◌, ℕ, ◌+◌, ◌<◌, ◌≤◌, List, [], ◌∷◌, ◌++◌, length, filter, take, get_or, set, nat_eq, cond, Bool, true, false, inl, inr, refl, ap, sym, ◌∙◌, arith, append-nil, length-append}
+use Rattle.std.proofs.Common.{◌≡◌, ℕ, ◌+◌, ◌<◌, ◌≤◌, List, [], ◌∷◌, ◌++◌, length, filter, take, get_or, set, nat_eq, cond, Bool, true, false, inl, inr, refl, ap, sym, ◌∙◌, arith, append-nil}
 use Rattle.std.proofs.lemmas.Bool.{cases_eq, eq-eqb}
 use Rattle.std.proofs.lemmas.Bool.Decides.{nat_tests}
 use Rattle.std.proofs.lemmas.List.{get_or-set_same, get_or-set_other}
 use Rattle.std.proofs.lemmas.List.Elements.{filter_more}
 use Rattle.plot_page.specs.Segments.{Segment}
 use Rattle.plot_report.specs.declared.summary.PenSummary.{PenSummary}
-use Rattle.plot_report.specs.Report.{strokes_of}
-use Rattle.plot_report.specs.Summaries.{summary_of}
+use Rattle.plot_report.specs.Report.{strokes_of, summary_of}
 
 strokes_more : (pen : ℕ) (strokes : List Segment) (i : ℕ) (s : Segment) → i < length strokes → s ≡ get_or strokes i s → strokes_of pen (take (i + 1) strokes) ≡ strokes_of pen (take i strokes) ++ cond (nat_eq s.pen pen) (s ∷ []) []
 strokes_more pen strokes i s lt is =

@@ -5,6 +5,7 @@ use Rattle.std.specs.Fmt.{signed_decimal}
 use Rattle.std.specs.Int.{int_max, int_min}
 use Rattle.plot_page.specs.declared.page.Page.{Page}
 use Rattle.plot_page.specs.Segments.{Segment}
+use Rattle.plot_report.specs.declared.summary.PenSummary.{PenSummary}
 use Rattle.hpgl_plot.specs.declared.note.Note.{Note}
 use Rattle.hpgl_plot.specs.declared.note.NoteKind.{NoteKind}
 use Rattle.hpgl_plot.specs.declared.note.NoteKind.TheVariants.{Skipped, Bad, Stray, Axis, Open}
@@ -49,18 +50,30 @@ end_xs strokes = flat_map (λ s. s.ax ∷ s.bx ∷ []) strokes
 abbrev pub end_ys : List Segment → List ℤ
 end_ys strokes = flat_map (λ s. s.ay ∷ s.by ∷ []) strokes
 
--- the least x, the least y, the greatest x and the greatest y of the strokes' ends, in grains; no window cuts them
-abbrev pub box_words : List Segment → List (List ℕ)
-box_words strokes =
-    signed_decimal (least_place (end_xs strokes)) ∷ signed_decimal (least_place (end_ys strokes))
-    ∷ signed_decimal (greatest_place (end_xs strokes)) ∷ signed_decimal (greatest_place (end_ys strokes)) ∷ []
+-- how many strokes these are, the greatest width, and the least and the greatest x and y of their ends, in grains; no
+-- window cuts them
+abbrev pub summary_of : List Segment → PenSummary
+summary_of strokes = record {
+  strokes = length strokes;
+  widest = greatest (map (λ s. s.width) strokes);
+  least_x = least_place (end_xs strokes);
+  least_y = least_place (end_ys strokes);
+  greatest_x = greatest_place (end_xs strokes);
+  greatest_y = greatest_place (end_ys strokes);
+}
 
--- the line of a pen with these strokes: how many there are, the greatest width in grains, and the box; no line without strokes
+-- the corners of the box of these numbers
+abbrev pub corner_words : PenSummary → List (List ℕ)
+corner_words s = signed_decimal s.least_x ∷ signed_decimal s.least_y ∷ signed_decimal s.greatest_x ∷ signed_decimal s.greatest_y ∷ []
+
+-- the line of a pen with these numbers
+abbrev pub summary_line : ℕ → PenSummary → List ℕ
+summary_line pen s = line (codes "pen" ∷ decimal pen ∷ codes "strokes" ∷ decimal s.strokes ∷ codes "widest" ∷ decimal s.widest ∷ codes "box" ∷ corner_words s)
+
+-- the line of a pen with these strokes; a pen without strokes has none
 abbrev pub pen_line : ℕ → List Segment → List ℕ
 pen_line pen [] = []
-pen_line pen (s ∷ ss) =
-    line (codes "pen" ∷ decimal pen ∷ codes "strokes" ∷ decimal (length (s ∷ ss)) ∷ codes "widest" ∷ decimal (greatest (map (λ t. t.width) (s ∷ ss)))
-    ∷ codes "box" ∷ box_words (s ∷ ss))
+pen_line pen (s ∷ ss) = summary_line pen (summary_of (s ∷ ss))
 
 -- the lines of the pens, 1 to 255
 unfoldable pub pen_lines : List Segment → List ℕ

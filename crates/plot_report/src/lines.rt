@@ -1,8 +1,7 @@
 //! The lines of a report, each appended to a piece of it.
 ghost use Rattle.std.specs.Prelude.{◌≡◌, ◌+◌, ◌≤◌, ◌++◌, ◌∷◌, [], length, take, codes, decimal};
 ghost use Rattle.std.specs.List.{join_with_byte};
-ghost use Rattle.plot_report.specs.Report.{line, page_line, kind_words, note_line};
-ghost use Rattle.plot_report.specs.Summaries.{corner_words, summary_line};
+ghost use Rattle.plot_report.specs.Report.{line, page_line, kind_words, note_line, corner_words, summary_line};
 
 use crate::pieces::{append, append_number, append_word};
 use crate::summary::PenSummary;
@@ -20,6 +19,12 @@ pub(crate) const LONGEST_PEN_LINE: usize = 97;
 
 /// The longest line of a note: a place of twenty digits, and the longest word with two letters.
 pub(crate) const LONGEST_NOTE_LINE: usize = 37;
+
+/// The longest box: four places of eleven characters.
+const LONGEST_BOX: usize = 52;
+
+/// The longest word of a note with what follows it: `skipped` and two letters.
+const LONGEST_KIND: usize = 11;
 
 // `page W H left below`
 pub(crate) fn append_page_line(piece: &mut [u8], used: usize, page: &Page) -> usize
@@ -57,22 +62,31 @@ pub(crate) fn append_pen_line(piece: &mut [u8], used: usize, pen: u8, of: PenSum
 {
     let used = append(piece, used, b"pen");
     let used = append_number(piece, used, pen);
-    let used = append_word(piece, used, b"strokes");
-    let used = append_number(piece, used, of.strokes);
-    let used = append_word(piece, used, b"widest");
-    let used = append_number(piece, used, of.widest);
-    let used = append_word(piece, used, b"box");
+    let used = append_count(piece, used, b"strokes", of.strokes);
+    let used = append_count(piece, used, b"widest", of.widest);
     let used = append_box(piece, used, of);
     append(piece, used, b"\n")
 }
 
-// The corners of the box: the least x and y, and then the greatest.
-fn append_box(piece: &mut [u8], used: usize, of: PenSummary) -> usize
-    requires { used + 48 ≤ length piece.old }
-    ensures line { take result piece.new ≡ take used piece.old ++ (32 ∷ join_with_byte 32 (corner_words of)) }
-    ensures most { result ≤ used + 48 }
+// A word and its number.
+fn append_count(piece: &mut [u8], used: usize, word: &[u8], count: u32) -> usize
+    requires { used + length word.now + 12 ≤ length piece.old }
+    ensures words { take result piece.new ≡ take used piece.old ++ (32 ∷ (word.now ++ (32 ∷ decimal count))) }
+    ensures most { result ≤ used + length word.now + 12 }
     ensures size { length piece.new ≡ length piece.old }
 {
+    let used = append_word(piece, used, word);
+    append_number(piece, used, count)
+}
+
+// `box` and its corners.
+fn append_box(piece: &mut [u8], used: usize, of: PenSummary) -> usize
+    requires { used + LONGEST_BOX ≤ length piece.old }
+    ensures words { take result piece.new ≡ take used piece.old ++ (32 ∷ join_with_byte 32 (codes "box" ∷ corner_words of)) }
+    ensures most { result ≤ used + LONGEST_BOX }
+    ensures size { length piece.new ≡ length piece.old }
+{
+    let used = append_word(piece, used, b"box");
     let used = append_number(piece, used, of.least_x);
     let used = append_number(piece, used, of.least_y);
     let used = append_number(piece, used, of.greatest_x);
@@ -94,9 +108,9 @@ pub(crate) fn append_note_line(piece: &mut [u8], used: usize, note: &Note) -> us
 
 // The word of what is noted, and then the two letters or the stray byte.
 fn append_kind(piece: &mut [u8], used: usize, note: &Note) -> usize
-    requires { used + 11 ≤ length piece.old }
-    ensures line { take result piece.new ≡ take used piece.old ++ (32 ∷ join_with_byte 32 (kind_words note.now.kind note.now.code)) }
-    ensures most { result ≤ used + 11 }
+    requires { used + LONGEST_KIND ≤ length piece.old }
+    ensures words { take result piece.new ≡ take used piece.old ++ (32 ∷ join_with_byte 32 (kind_words note.now.kind note.now.code)) }
+    ensures most { result ≤ used + LONGEST_KIND }
     ensures size { length piece.new ≡ length piece.old }
 {
     let word: &[u8] = match note.kind {

@@ -40,11 +40,7 @@ pub(crate) fn append_number<I: Integer>(piece: &mut [u8], used: usize, number: I
 }
 
 // Writes a piece after `done` bytes, and returns how many are written then.
-pub(crate) fn put_piece<K: Sink>(
-    sink: &mut K,
-    piece: &[u8],
-    done: u64,
-) -> Result<u64, WriteFault>
+pub(crate) fn put_piece<K: Sink>(sink: &mut K, piece: &[u8], done: u64) -> Result<u64, WriteFault>
     requires sound { K.failed sink.old < 2 ^ 64 - 1 }
     requires count { done + length piece.now < 2 ^ 64 }
     ensures writes { WritesAfter K.held K.failed sink.old sink.new done piece.now result }

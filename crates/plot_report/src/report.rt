@@ -19,8 +19,9 @@ use plot_page::{Page, Stroke};
 pub const MOST_NOTES: usize = 288_230_376_151_711_744;
 
 // The longest lines of the page, of the strokes and of the pens together.
-const LONGEST_HEAD: usize =
-    LONGEST_PAGE_LINE + LONGEST_STROKES_LINE + (PENS - 1) * LONGEST_PEN_LINE;
+const LONGEST_HEAD: usize = LONGEST_PAGE_LINE
+    + LONGEST_STROKES_LINE
+    + (PENS - 1) * LONGEST_PEN_LINE;
 
 // The length of a piece, in bytes. It takes all lines but those of the notes, and one of these.
 const PIECE: usize = 32_768;

@@ -3,8 +3,7 @@ ghost use Rattle.std.specs.Prelude.{◌≡◌, ℕ, ◌-◌, ◌^◌, ◌<◌, �
 ghost use Rattle.plot_page.specs.Segments.{Segment};
 ghost use Rattle.plot_page.specs.declared.stroke.TheConstants.{MOST_STROKES};
 ghost use Rattle.plot_report.specs.declared.summary.PenSummary.{PenSummary};
-ghost use Rattle.plot_report.specs.Report.{strokes_of};
-ghost use Rattle.plot_report.specs.Summaries.{summary_of};
+ghost use Rattle.plot_report.specs.Report.{strokes_of, summary_of};
 
 use plot_page::Stroke;
 

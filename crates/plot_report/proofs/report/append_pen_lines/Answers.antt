@@ -1,5 +1,6 @@
 use Rattle.std.proofs.Common.{◌≡◌, ℕ, ◌+◌, ◌-◌, ◌++◌, ◌∙◌, [], List, take, get_or, ap, sym, arith, append_assoc, append-nil}
-use Rattle.plot_report.specs.Summaries.{summary_of, summary_text, summary_lines}
+use Rattle.plot_report.specs.Report.{summary_of}
+use Rattle.plot_report.specs.Summaries.{summary_text, summary_lines}
 use Rattle.plot_report.proofs.PenLines.{no_lines, lines_more, text_of_some, text_of_none}
 use Rattle.plot_report.proofs.report.append_pen_lines.Goals as goal
 use Rattle.plot_report.proofs.report.append_pen_lines.Goals.{then-summary-gt0, else-summary-gt0}
@@ -19,7 +20,7 @@ loop-pen-preserved c =
     let earlier : (pen - 1) + 1 ≡ pen = omega arith in
     let now : (pen - 1) + 1 ≡ pen + 1 - 1 = omega arith in
     let more : summary_lines pens (pen + 1 - 1) ≡ summary_lines pens (pen - 1) ++ summary_text pen (get_or pens pen (summary_of [])) =
-        ap (λ (n : ℕ). summary_lines pens n) (sym now) ∙ lines_more pens (pen - 1) ∙ ap (λ (n : ℕ). summary_lines pens (pen - 1) ++ summary_text n (get_or pens n (summary_of []))) earlier in
+    ap (λ (n : ℕ). summary_lines pens n) (sym now) ∙ lines_more pens (pen - 1) ∙ ap (λ (n : ℕ). summary_lines pens (pen - 1) ++ summary_text n (get_or pens n (summary_of []))) earlier in
     elim c.if-summary-gt0.branch [
       | then-summary-gt0 w ↦
           let text = text_of_some pen (get_or pens pen (summary_of [])) w.if-summary-gt0.true in

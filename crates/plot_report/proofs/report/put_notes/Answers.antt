@@ -1,4 +1,4 @@
-use Rattle.std.proofs.Common.{◌≡◌, ℕ, ◌+◌, ◌*◌, ◌≤◌, ◌<◌, ◌++◌, [], List, take, drop, flat_map, length, arith, ap, sym, ◌∙◌}
+use Rattle.std.proofs.Common.{◌≡◌, ◌+◌, ◌++◌, [], List, take, drop, flat_map, length, arith, ap, ◌∙◌}
 use Rattle.std.proofs.lemmas.List.{length-take-le}
 use Rattle.std.proofs.lemmas.Result.{err_from_is_err_and}
 use Rattle.std.proofs.Math.ListN.{drop_of_length-le}
@@ -14,7 +14,7 @@ returns-in_err-done-clause-writes g c =
     let l = c.loop-note in
     let p = err_from_is_err_and c.from_residual.result c.from_residual.ensures.1 in
     rw (p.1, p.2) (broken_off g.K.Sink.held g.K.Sink.failed c.args.sink.now l.sink c.put_piece.new.sink all (take l.used l.piece) (flat_map note_line (drop l.note-index c.args.notes.now)) l.done c.in_err-done.field-0.0
-      l.invariant.rest l.invariant.within l.invariant.so_far l.invariant.quiet (c.in_err-done.ensures {u = tt}).writes)
+    l.invariant.rest l.invariant.within l.invariant.so_far l.invariant.quiet (c.in_err-done.ensures {u = tt}).writes)
 
 pub loop-note-preserved : goal.loop-note-preserved
 loop-note-preserved g c =
@@ -26,7 +26,7 @@ loop-note-preserved g c =
     elim c.if-used-piece.branch [
       | then-used-piece+in_ok-done w ↦
           let next = piece_written g.K.Sink.held g.K.Sink.failed c.args.sink.now l.sink w.put_piece.new.sink all (take l.used l.piece) rest l.done w.in_ok-done.done
-              l.invariant.rest l.invariant.within l.invariant.so_far l.invariant.quiet (w.in_ok-done.ensures {u = tt}).writes in
+          l.invariant.rest l.invariant.within l.invariant.so_far l.invariant.quiet (w.in_ok-done.ensures {u = tt}).writes in
           let whole : length (take l.used l.piece) ≡ l.used = length-take-le l.used l.piece l.invariant.used_in in
           let count : w.in_ok-done.done ≡ l.done + length (take l.used l.piece) = (w.in_ok-done.ensures {u = tt}).writes.2 in
           record {
@@ -39,14 +39,14 @@ loop-note-preserved g c =
             small = omega (arith, whole, count);
           }
       | else-used-piece w ↦ record {
-            rest = rw w.done-is (note_appended all l.piece c.append_note_line-used.new.piece notes l.done l.used c.append_note_line-used.result l.note-index _ c.loop-note-test.true l.invariant.rest (rw w.used-is at line));
-            so_far = rw (w.sink-is, w.done-is) l.invariant.so_far;
-            within = rw w.done-is l.invariant.within;
-            quiet = rw w.sink-is l.invariant.quiet;
-            used_in = omega arith;
-            size = omega arith;
-            small = omega arith;
-          }
+        rest = rw w.done-is (note_appended all l.piece c.append_note_line-used.new.piece notes l.done l.used c.append_note_line-used.result l.note-index _ c.loop-note-test.true l.invariant.rest (rw w.used-is at line));
+        so_far = rw (w.sink-is, w.done-is) l.invariant.so_far;
+        within = rw w.done-is l.invariant.within;
+        quiet = rw w.sink-is l.invariant.quiet;
+        used_in = omega arith;
+        size = omega arith;
+        small = omega arith;
+      }
     ]
 
 pub returns-clause-writes : goal.returns-clause-writes
@@ -57,4 +57,4 @@ returns-clause-writes g c =
     let none : drop l.note-index notes ≡ [] = drop_of_length-le notes (omega arith) in
     let split : drop l.done all ≡ take l.used l.piece ++ [] = l.invariant.rest ∙ ap (λ (ns : List Note). take l.used l.piece ++ flat_map note_line ns) none in
     last_piece g.K.Sink.held g.K.Sink.failed c.args.sink.now l.sink c.put_piece-2.new.sink all (take l.used l.piece) l.done c.put_piece-2.result
-      split l.invariant.within l.invariant.so_far l.invariant.quiet c.put_piece-2.ensures.writes
+    split l.invariant.within l.invariant.so_far l.invariant.quiet c.put_piece-2.ensures.writes

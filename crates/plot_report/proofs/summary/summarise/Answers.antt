@@ -1,9 +1,8 @@
-use Rattle.std.proofs.Common.{◌<◌, ◌≡◌, ◌≤◌, ◌+◌, ◌∙◌, [], ap, arith, rules, take, length, set, get_or, sym}
+use Rattle.std.proofs.Common.{◌<◌, ◌≡◌, ◌∙◌, [], ap, arith, rules, take, length, get_or}
 use Rattle.std.proofs.lemmas.List.{get_or-replicate, length-replicate, length-set, take_all, length-take}
 use Rattle.plot_page.specs.Segments.{Segment}
 use Rattle.plot_report.specs.declared.summary.PenSummary.{PenSummary}
-use Rattle.plot_report.specs.Report.{strokes_of}
-use Rattle.plot_report.specs.Summaries.{summary_of}
+use Rattle.plot_report.specs.Report.{strokes_of, summary_of}
 use Rattle.plot_report.proofs.Table.{table_more, few_strokes}
 use Rattle.plot_report.proofs.summary.summarise.Goals as goal
 

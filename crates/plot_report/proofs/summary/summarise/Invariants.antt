@@ -1,7 +1,6 @@
 use Rattle.std.proofs.Common.{◌≡◌, ℕ, ◌<◌, get_or, length, take}
 use Rattle.plot_report.specs.declared.summary.PenSummary.{PenSummary}
-use Rattle.plot_report.specs.Report.{strokes_of}
-use Rattle.plot_report.specs.Summaries.{summary_of}
+use Rattle.plot_report.specs.Report.{strokes_of, summary_of}
 use Rattle.plot_report.proofs.summary.summarise.Given as goal
 
 -- each pen has the numbers of its strokes so far

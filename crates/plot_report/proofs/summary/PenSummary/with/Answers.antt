@@ -4,7 +4,7 @@ use Rattle.std.proofs.lemmas.Int.{to_z-of_z}
 use mir.Syntax.{w32}
 use mir.Val.{SFits}
 use Rattle.plot_report.specs.declared.summary.PenSummary.{PenSummary}
-use Rattle.plot_report.proofs.Summaries.{together, with_one}
+use Rattle.plot_report.proofs.Summaries.{with_one}
 use Rattle.plot_report.proofs.summary.PenSummary.with.Goals as goal
 
 pub returns : goal.returns
