@@ -84,6 +84,25 @@ pen_with_one_stroke : pen_line 1 (across ∷ []) ≡ codes "pen 1 strokes 1 wide
 unfolding digits
 pen_with_one_stroke = refl
 
+-- PU48,32;PD;AA32,32,37.5; is a dot and eight chords
+arc : pen_line 1 (
+    stroke 1 224 (pos 768) (pos 512) (pos 768) (pos 512) ∷ stroke 1 224 (pos 768) (pos 512) (pos 767) (pos 534) ∷ stroke 1 224 (pos 767) (pos 534) (pos 764) (pos 556)
+    ∷ stroke 1 224 (pos 764) (pos 556) (pos 759) (pos 578) ∷ stroke 1 224 (pos 759) (pos 578) (pos 753) (pos 600) ∷ stroke 1 224 (pos 753) (pos 600) (pos 744) (pos 620)
+    ∷ stroke 1 224 (pos 744) (pos 620) (pos 734) (pos 640) ∷ stroke 1 224 (pos 734) (pos 640) (pos 722) (pos 659) ∷ stroke 1 224 (pos 722) (pos 659) (pos 715) (pos 668) ∷ []
+  ) ≡ codes "pen 1 strokes 9 widest 224 box 715 512 768 668\n"
+unfolding digits
+arc = refl
+
+-- a letter of two strokes
+letter : pen_line 1 (stroke 1 224 (pos 405) (pos 1600) (pos 405) (pos 448) ∷ stroke 1 224 (pos 0) (pos 448) (pos 811) (pos 448) ∷ []) ≡ codes "pen 1 strokes 2 widest 224 box 0 448 811 1600\n"
+unfolding digits
+letter = refl
+
+-- SC0,3,0,8;PU0,3.5;PR;PD1,0,1,0,1,0;
+relative_moves : pen_line 1 (stroke 1 224 (pos 0) (pos 448) (pos 341) (pos 448) ∷ stroke 1 224 (pos 341) (pos 448) (pos 683) (pos 448) ∷ stroke 1 224 (pos 683) (pos 448) (pos 1024) (pos 448) ∷ []) ≡ codes "pen 1 strokes 3 widest 224 box 0 448 1024 448\n"
+unfolding digits
+relative_moves = refl
+
 -- no window cuts the box
 pen_past_the_page : pen_line 2 (falling ∷ []) ≡ codes "pen 2 strokes 1 widest 16 box -16 -32 320 2000\n"
 unfolding digits
