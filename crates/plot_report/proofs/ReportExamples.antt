@@ -89,7 +89,7 @@ arc : pen_line 1 (
     stroke 1 224 (pos 768) (pos 512) (pos 768) (pos 512) ∷ stroke 1 224 (pos 768) (pos 512) (pos 767) (pos 534) ∷ stroke 1 224 (pos 767) (pos 534) (pos 764) (pos 556)
     ∷ stroke 1 224 (pos 764) (pos 556) (pos 759) (pos 578) ∷ stroke 1 224 (pos 759) (pos 578) (pos 753) (pos 600) ∷ stroke 1 224 (pos 753) (pos 600) (pos 744) (pos 620)
     ∷ stroke 1 224 (pos 744) (pos 620) (pos 734) (pos 640) ∷ stroke 1 224 (pos 734) (pos 640) (pos 722) (pos 659) ∷ stroke 1 224 (pos 722) (pos 659) (pos 715) (pos 668) ∷ []
-  ) ≡ codes "pen 1 strokes 9 widest 224 box 715 512 768 668\n"
+    ) ≡ codes "pen 1 strokes 9 widest 224 box 715 512 768 668\n"
 unfolding digits
 arc = refl
 

@@ -10,9 +10,13 @@ use Rattle.hpgl_plot.specs.declared.note.Note.{Note}
 use Rattle.hpgl_plot.specs.declared.note.NoteKind.{NoteKind}
 use Rattle.hpgl_plot.specs.declared.note.NoteKind.TheVariants.{Skipped, Bad, Stray, Axis, Open}
 
+-- what separates two words
+abbrev pub space : ℕ
+space = 32
+
 -- a line: its words, separated by single spaces, and LF
 abbrev pub line : List (List ℕ) → List ℕ
-line words = join_with_byte 32 words ++ codes "\n"
+line words = join_with_byte space words ++ codes "\n"
 
 -- the page: its width, its height, and how far its lower left corner is left of (0, 0) and below it, in plotter units
 abbrev pub page_line : Page → List ℕ

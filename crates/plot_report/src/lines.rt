@@ -1,7 +1,7 @@
 //! The lines of a report, each appended to a piece of it.
 ghost use Rattle.std.specs.Prelude.{◌≡◌, ◌+◌, ◌≤◌, ◌++◌, ◌∷◌, [], length, take, codes, decimal};
 ghost use Rattle.std.specs.List.{join_with_byte};
-ghost use Rattle.plot_report.specs.Report.{line, page_line, kind_words, note_line, corner_words, summary_line};
+ghost use Rattle.plot_report.specs.Report.{space, line, page_line, kind_words, note_line, corner_words, summary_line};
 
 use crate::pieces::{append, append_number, append_word};
 use crate::summary::PenSummary;
@@ -71,7 +71,7 @@ pub(crate) fn append_pen_line(piece: &mut [u8], used: usize, pen: u8, of: PenSum
 // A word and its number.
 fn append_count(piece: &mut [u8], used: usize, word: &[u8], count: u32) -> usize
     requires { used + length word.now + 12 ≤ length piece.old }
-    ensures words { take result piece.new ≡ take used piece.old ++ (32 ∷ (word.now ++ (32 ∷ decimal count))) }
+    ensures words { take result piece.new ≡ take used piece.old ++ (space ∷ (word.now ++ (space ∷ decimal count))) }
     ensures most { result ≤ used + length word.now + 12 }
     ensures size { length piece.new ≡ length piece.old }
 {
@@ -82,7 +82,7 @@ fn append_count(piece: &mut [u8], used: usize, word: &[u8], count: u32) -> usize
 // `box` and its corners.
 fn append_box(piece: &mut [u8], used: usize, of: PenSummary) -> usize
     requires { used + LONGEST_BOX ≤ length piece.old }
-    ensures words { take result piece.new ≡ take used piece.old ++ (32 ∷ join_with_byte 32 (codes "box" ∷ corner_words of)) }
+    ensures words { take result piece.new ≡ take used piece.old ++ (space ∷ join_with_byte space (codes "box" ∷ corner_words of)) }
     ensures most { result ≤ used + LONGEST_BOX }
     ensures size { length piece.new ≡ length piece.old }
 {
@@ -109,7 +109,7 @@ pub(crate) fn append_note_line(piece: &mut [u8], used: usize, note: &Note) -> us
 // The word of what is noted, and then the two letters or the stray byte.
 fn append_kind(piece: &mut [u8], used: usize, note: &Note) -> usize
     requires { used + LONGEST_KIND ≤ length piece.old }
-    ensures words { take result piece.new ≡ take used piece.old ++ (32 ∷ join_with_byte 32 (kind_words note.now.kind note.now.code)) }
+    ensures words { take result piece.new ≡ take used piece.old ++ (space ∷ join_with_byte space (kind_words note.now.kind note.now.code)) }
     ensures most { result ≤ used + LONGEST_KIND }
     ensures size { length piece.new ≡ length piece.old }
 {

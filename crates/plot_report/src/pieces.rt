@@ -1,5 +1,6 @@
 //! Words appended to a piece of a report, and pieces written to a sink.
 ghost use Rattle.std.specs.Prelude.{◌≡◌, ◌-◌, ◌+◌, ◌^◌, ◌<◌, ◌≤◌, ◌++◌, ◌∷◌, length, take};
+ghost use Rattle.plot_report.specs.Report.{space};
 ghost use Rattle.plot_report.specs.Pieces.{WritesAfter};
 
 use itoa::{Buffer, Integer};
@@ -21,7 +22,7 @@ pub(crate) fn append(piece: &mut [u8], used: usize, bytes: &[u8]) -> usize
 pub(crate) fn append_word(piece: &mut [u8], used: usize, word: &[u8]) -> usize
     requires { used + 1 + length word.now ≤ length piece.old }
     ensures used { result ≡ used + 1 + length word.now }
-    ensures piece { take result piece.new ≡ take used piece.old ++ (32 ∷ word.now) }
+    ensures piece { take result piece.new ≡ take used piece.old ++ (space ∷ word.now) }
     ensures size { length piece.new ≡ length piece.old }
 {
     let used = append(piece, used, b" ");
@@ -32,7 +33,7 @@ pub(crate) fn append_word(piece: &mut [u8], used: usize, word: &[u8]) -> usize
 pub(crate) fn append_number<I: Integer>(piece: &mut [u8], used: usize, number: I) -> usize
     requires { used + 1 + I.MAX_STR_LEN ≤ length piece.old }
     ensures most { result ≤ used + 1 + I.MAX_STR_LEN }
-    ensures piece { take result piece.new ≡ take used piece.old ++ (32 ∷ I.text number) }
+    ensures piece { take result piece.new ≡ take used piece.old ++ (space ∷ I.text number) }
     ensures size { length piece.new ≡ length piece.old }
 {
     let mut digits = Buffer::new();
