@@ -39,6 +39,7 @@ check:
 	@mkdir -p build
 	rt ci 2>&1 | tee build/verdict
 	tests/run $(PROGRAM)
+	tests/options $(PROGRAM)
 	tools/mutants
 	@tail -n 1 build/verdict
 

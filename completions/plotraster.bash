@@ -1,22 +1,35 @@
 # Bash completion of plotraster: its commands, their options, and the names of files.
 _plotraster() {
     local word="${COMP_WORDS[COMP_CWORD]}" before="${COMP_WORDS[COMP_CWORD - 1]}"
+    local command="${COMP_WORDS[1]}" options="--width --height --left --below"
     COMPREPLY=()
     if [ "$COMP_CWORD" -eq 1 ]; then
-        COMPREPLY=($(compgen -W "marks pbm ppm --help" -- "$word"))
+        COMPREPLY=($(compgen -W "marks pbm ppm pcl report --help" -- "$word"))
         return
     fi
+    if [ "$command" != report ]; then
+        options="$options --dots --pens --band --from"
+        case "$before" in
+            --dots)
+                local dots="75 100 150 200 300 600 1200"
+                if [ "$command" = pcl ]; then
+                    dots="75 100 150 200 300 600"
+                fi
+                COMPREPLY=($(compgen -W "$dots" -- "$word"))
+                return
+                ;;
+            --pens)
+                COMPREPLY=($(compgen -W "all" -- "$word"))
+                return
+                ;;
+            --band | --from) return ;;
+        esac
+    fi
     case "$before" in
-        --width | --height | --left | --below | --band | --from) return ;;
-        --dots)
-            COMPREPLY=($(compgen -W "75 100 150 200 300 600 1200" -- "$word"))
-            return
-            ;;
+        --width | --height | --left | --below) return ;;
     esac
     case "$word" in
-        -*)
-            COMPREPLY=($(compgen -W "--width --height --left --below --dots --band --from --help" -- "$word"))
-            ;;
+        -*) COMPREPLY=($(compgen -W "$options --help" -- "$word")) ;;
         *) COMPREPLY=($(compgen -f -- "$word")) ;;
     esac
 }
