@@ -1,6 +1,6 @@
 # make            proves and builds the command
 # make demo       builds it and runs it on the plots of examples/
-# make check      every proof and test (rt ci), then the command-line cases of tests/, and a test on each mutant
+# make check      every proof and test (rt ci), then the tests of the built command in tests/, and a test on each mutant
 # make install    copies the command, its manual page and its completion under PREFIX (/usr/local)
 # make uninstall  removes them
 # make clean      removes all that was built; the next build proves everything again
@@ -40,6 +40,7 @@ check:
 	rt ci 2>&1 | tee build/verdict
 	tests/run $(PROGRAM)
 	tests/options $(PROGRAM)
+	tests/words $(PROGRAM)
 	tools/mutants
 	@tail -n 1 build/verdict
 
