@@ -1,5 +1,5 @@
 -- A parse with no fault gives rows that pass.
-use Rattle.std.proofs.Common.{◌≡◌, ◌<◌, ◌≤◌, ℕ, zero, suc, true, false, Bool, List, [], ◌∷◌, ◌++◌, Option, Some, None, length, refl, ap, sym, ◌∙◌, subst, inl, inr, ◌⊎◌, arith, cond, ◌&&◌, ◌||◌, drop}
+use Rattle.std.proofs.Common.{◌≡◌, ◌<◌, ◌≤◌, ℕ, zero, suc, true, false, Bool, List, [], ◌∷◌, ◌++◌, Option, Some, None, length, refl, ap, sym, ◌∙◌, subst, inl, inr, arith, cond, ◌&&◌, ◌||◌, drop}
 use Rattle.std.specs.List.{AllByRecursion}
 use Rattle.std.specs.Prelude.{◌==◌, not, nat_eq}
 use Rattle.std.specs.Option.{option_map_or}
@@ -18,7 +18,6 @@ use Rattle.clap.specs.Kinds.{Kinds, or_else, range_kinds, request_kinds, check_k
 use Rattle.clap.specs.Faults.{use_fault, action_fault, set_fault, settle_fault, react_fault, values_fault, repeat_fault, option_fault, long_fault, short_fault, bundle_step_fault, flags_fault, bundle_fault, flag_word_fault, other_fault, word_fault, positional_fault, step_fault, turn_fault, walk_fault, default_fault, given_default_fault, defaults_fault, level_fault, stray_fault, entered_fault, fault_of}
 use Rattle.clap.specs.declared.builder.action.ArgAction.{ArgAction}
 use Rattle.clap.specs.declared.builder.action.ArgAction.TheVariants.{Set, Help}
-use Rattle.clap.specs.declared.builder.range.ValueRange.{ValueRange}
 use Rattle.clap.specs.declared.error.kind.ErrorKind.{ErrorKind}
 use Rattle.clap.specs.declared.error.kind.ErrorKind.TheVariants.{InvalidValue, WrongNumberOfValues, ArgumentConflict, TooManyValues}
 use Rattle.clap.specs.declared.parser.matches.ValueSource.TheVariants.{DefaultValue, CommandLine}
@@ -127,7 +126,7 @@ module _ (c : List Rule) (single : AllByRecursion (IsSingle c) c) where
       let same = some_values a vs parts.0 in
       let made : used a vs rows ≡ rows ++ set_row a.id (reading_by a) vs ∷ [] =
       rw same (used_is (action_of a) a.id (reading_by a) vs rows action_is parts.1) in
-      let here : RowOf c (set_row a.id (reading_by a) vs) = record { rule = a; found = found; one = parts.0; passes = parts.2; given = λ e. absurd (cc) } in
+      let here : RowOf c (set_row a.id (reading_by a) vs) = record { rule = a; found = found; one = parts.0; passes = parts.2; reading = refl; given = λ e. absurd (cc) } in
       rw made (all_append (RowOf c) rows (set_row a.id (reading_by a) vs ∷ []) good (here, tt))
 
   help_used : (a : Rule) (vs : List Text) (rows : List Row) → a.action ≡ Some Help → rows ≡ used a vs rows
@@ -246,7 +245,7 @@ module _ (c : List Rule) (single : AllByRecursion (IsSingle c) c) where
       let both = or_none (request_kinds (action_of a)) (values_fault a (v ∷ [])) none in
       let taken = values_taken a (v ∷ []) both.1 in
       let row : Row = record { id = a.id; values = v ∷ []; count = None; source = Some DefaultValue; reading = reading_by a } in
-      let here : RowOf c row = record { rule = a; found = s.found; one = refl; passes = taken; given = λ e. is } in
+      let here : RowOf c row = record { rule = a; found = s.found; one = refl; passes = taken; reading = refl; given = λ e. is } in
       let made : default_rows a.id (reading_by a) (v ∷ []) rows ≡ rows ++ row ∷ [] = no_at_row a.id (more_values DefaultValue (v ∷ [])) (row ∷ []) rows absent in
       subst Good (sym made) (all_append (RowOf c) rows (row ∷ []) good (here, tt))
   default_good a (v ∷ u ∷ vs) rows s is absent none good =

@@ -1,2 +1,3 @@
 pub mod CommandLaw
+pub mod ReadingLaw
 mod Examples

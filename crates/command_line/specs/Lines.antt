@@ -10,6 +10,8 @@ use Rattle.picture_out.specs.declared.form.Form.TheVariants.{Marks, Pbm, Ppm, Pc
 use Rattle.plot_page.specs.declared.page.Page.{Page}
 use Rattle.stroke_raster.specs.declared.pens.PenSet.{PenSet}
 use Rattle.stroke_raster.specs.Pens.{has_pen}
+use Rattle.clap_parses.specs.Parses.{HasGoodMatches}
+use Rattle.command_line.specs.Options.{plot_app}
 use Rattle.pen_list.specs.Lists.{is_listed, is_pen_list}
 use Rattle.picture_job.specs.declared.job.Job.{Job}
 use Rattle.command_line.specs.declared.line.Line.{Line}
@@ -71,6 +73,10 @@ pub record IsLineOf (m : ArgMatches) (line : Line) : Type 0 where
   pub matches : subcommand_rows_of m ≡ Some (name, rows)
   pub task : IsTaskOf name rows line.task
   pub file : option_map (λ s. s.now) line.file ≡ first_of (codes "FILE") rows
+
+-- the matches are those of a command line in which `plotraster` finds no fault
+abbrev pub AreOfThisCommand : ArgMatches → Type 0
+AreOfThisCommand m = (words : List Text) × HasGoodMatches plot_app words m
 
 -- the option for the list of pens has a text, and it is no list of pens
 abbrev pub lists_no_pens : List Row → Bool

@@ -1,8 +1,9 @@
 //! What a command line asks for.
-ghost use Rattle.std.specs.Prelude.{◌≡◌, ◌↔◌, Some, Err, IfOk, IfErr, true, is_some, codes};
+ghost use Rattle.std.specs.Prelude.{◌≡◌, ◌↔◌, ◌<◌, ◌≤◌, ◌^◌, ℕ, Some, Err, IfOk, IfErr, IsOk, IsOkAnd, true, is_some, codes};
 ghost use Rattle.clap.specs.Words.{found_of, rows_of};
 ghost use Rattle.command_line.specs.Lines.{number_in, form_named, lists_no_pens, has_bad_list, asks_bad_list};
-ghost use Rattle.command_line.specs.Lines.{ArePensOf, IsPageOf, IsJobOf, IsTaskOf, IsLineOf};
+ghost use Rattle.command_line.specs.Lines.{ArePensOf, IsPageOf, IsJobOf, IsTaskOf, IsLineOf, AreOfThisCommand, pens_text};
+ghost use Rattle.command_line.specs.Readings.{HasNumber, HasPageNumbers, HasPictureValues, HasValues};
 
 use crate::fault::LineFault;
 use clap::ArgMatches;
@@ -31,10 +32,12 @@ pub struct Line<'a> {
 }
 
 /// The values of the matches of `command`'s command. It fails by `Pens` exactly if a picture is asked
-/// for by a text that is no list of pens, and by `Words` if the matches are of another command.
+/// for by a text that is no list of pens. It fails by `Words` only if the matches are of another
+/// command, so never after a `parse` that succeeded.
 pub fn settle<'a>(matches: &ArgMatches<'a>) -> Result<Line<'a>, LineFault>
     ensures line { IfOk result (IsLineOf matches.now) }
     ensures pens { (result ≡ Err LineFault.Pens) ↔ (asks_bad_list matches.now ≡ true) }
+    ensures understood { AreOfThisCommand matches.now → IfErr result (λ fault. fault ≡ LineFault.Pens) }
 {
     let (name, options) = matches.subcommand().ok_or(LineFault::Words)?;
     Ok(Line {
@@ -46,6 +49,7 @@ pub fn settle<'a>(matches: &ArgMatches<'a>) -> Result<Line<'a>, LineFault>
 fn task_of(name: &str, options: &ArgMatches<'_>) -> Result<Task, LineFault>
     ensures task { IfOk result (IsTaskOf name.now (rows_of (found_of options.now))) }
     ensures pens { (result ≡ Err LineFault.Pens) ↔ (has_bad_list (name.now, rows_of (found_of options.now)) ≡ true) }
+    ensures understood { HasValues name.now (rows_of (found_of options.now)) → IfErr result (λ fault. fault ≡ LineFault.Pens) }
 {
     if name == "report" {
         return Ok(Task::Report(page_of(options)?));
@@ -71,6 +75,7 @@ fn job_of(options: &ArgMatches<'_>, form: Form) -> Result<Job, LineFault>
     ensures job { IfOk result (IsJobOf (rows_of (found_of options.now))) }
     ensures form { IfOk result (λ job. job.form ≡ form) }
     ensures pens { (result ≡ Err LineFault.Pens) ↔ (lists_no_pens (rows_of (found_of options.now)) ≡ true) }
+    ensures understood { HasPictureValues (rows_of (found_of options.now)) → IfErr result (λ fault. fault ≡ LineFault.Pens) }
 {
     let pens = pens_of(options)?;
     Ok(Job {
@@ -86,6 +91,7 @@ fn job_of(options: &ArgMatches<'_>, form: Form) -> Result<Job, LineFault>
 fn pens_of(options: &ArgMatches<'_>) -> Result<PenSet, LineFault>
     ensures pens { IfOk result (ArePensOf (rows_of (found_of options.now))) }
     ensures fault { (result ≡ Err LineFault.Pens) ↔ (lists_no_pens (rows_of (found_of options.now)) ≡ true) }
+    ensures understood { is_some (pens_text (rows_of (found_of options.now))) ≡ true → IfErr result (λ fault. fault ≡ LineFault.Pens) }
 {
     let Some(text) = options.get_str("pens") else {
         return Err(LineFault::Words);
@@ -95,6 +101,7 @@ fn pens_of(options: &ArgMatches<'_>) -> Result<PenSet, LineFault>
 
 fn page_of(options: &ArgMatches<'_>) -> Result<Page, LineFault>
     ensures page { IfOk result (IsPageOf (rows_of (found_of options.now))) }
+    ensures understood { HasPageNumbers (rows_of (found_of options.now)) → IsOk result }
     ensures fault { IfErr result (λ fault. fault ≡ LineFault.Words) }
 {
     let width = number_of(options, "width")?;
@@ -106,6 +113,7 @@ fn page_of(options: &ArgMatches<'_>) -> Result<Page, LineFault>
 
 fn number_of(options: &ArgMatches<'_>, name: &str) -> Result<u32, LineFault>
     ensures number { IfOk result (λ n. number_in (rows_of (found_of options.now)) name.now ≡ Some n) }
+    ensures understood { (low high : ℕ) → high < 2 ^ 32 → HasNumber (rows_of (found_of options.now)) name.now low high → IsOkAnd result (λ n. (low ≤ n) × (n ≤ high)) }
     ensures fault { IfErr result (λ fault. fault ≡ LineFault.Words) }
 {
     options.get_one::<u32>(name).ok_or(LineFault::Words)

@@ -35,6 +35,13 @@ returns-in_default-clause-fault c =
     let none = no_text (rows_of F) (sym (c.in_default.ensures ∙ first_value-rows F (codes "pens"))) in
     (λ fault. absurd (cc), λ bad. absurd (cc))
 
+pub returns-in_default-clause-understood : goal.returns-in_default-clause-understood
+returns-in_default-clause-understood c = λ given.
+    let F = found_of c.args.options.now in
+    let none : pens_text (rows_of F) ≡ None = sym (c.in_default.ensures ∙ first_value-rows F (codes "pens")) in
+    let bad : false ≡ true = rw none at given in
+    absurd (cc)
+
 pub returns-clause-pens : goal.returns-clause-pens
 returns-clause-pens c =
     let F = found_of c.args.options.now in

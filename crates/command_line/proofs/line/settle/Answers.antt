@@ -1,8 +1,9 @@
-use Rattle.std.proofs.Common.{◌≡◌, ◌∙◌, ap, ap₂, sym, Option, Some, None, Ok, codes}
+use Rattle.std.proofs.Common.{◌≡◌, ◌∙◌, ap, ap₂, sym, Option, Some, None, Ok, codes, rules}
 use Rattle.std.specs.Prelude.{option_map}
 use Rattle.std.specs.Option.{ok_or}
 use Rattle.clap.specs.Words.{found_of, rows_of}
 use Rattle.clap.proofs.WalkLemmas.{first_value-rows}
+use Rattle.command_line.proofs.ReadingLaw.{values_there}
 use Rattle.command_line.proofs.line.settle.Goals as goal
 
 was_some : {X E : Type 0} (o : Option X) (e : E) (x : X) → ok_or o e ≡ Ok x → o ≡ Some x
@@ -34,3 +35,11 @@ returns-clause-line c =
       task = c.in_ok-task_of.ensures.task;
       file = c.get_str.ensures ∙ first_value-rows (found_of c.in_ok-name.options.now) (codes "FILE");
     }
+
+pub returns-in_err-task_of-clause-understood : goal.returns-in_err-task_of-clause-understood
+returns-in_err-task_of-clause-understood c = λ of.
+    let met = was_some c.subcommand.result _ _ (sym c.ok_or.ensures.value ∙ c.in_ok-name.was) in
+    let matches = paired _ _ _ _ _ (sym c.subcommand.ensures.name ∙ ap (option_map (λ p. p.0.now)) met)
+    (sym c.subcommand.ensures.rows ∙ ap (option_map (λ p. rows_of (found_of p.1.now))) met) in
+    let pens = c.in_err-task_of.ensures.understood (values_there of.0 c.args.matches.now _ _ of.1 matches) in
+    search rules

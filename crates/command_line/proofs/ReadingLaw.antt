@@ -1,0 +1,137 @@
+-- A faultless parse leaves a value for each option of this command.
+use Rattle.std.proofs.Common.{◌≡◌, ◌∙◌, ℕ, Bool, List, [], ◌∷◌, Option, Some, true, false, length, refl, ap, sym, subst, inl, inr, arith, codes}
+use Rattle.std.specs.Prelude.{find, is_some, pos, ◌&&◌, ◌||◌}
+use Rattle.std.specs.List.{AllByRecursion}
+use Rattle.std.specs.Str.{bytes_eq}
+use Rattle.std.proofs.lemmas.Slice.Eq.{bytes_eq-Decides}
+use Rattle.clap.specs.Simple.{Shape, built, built_leaf, subcommand_rows_of}
+use Rattle.clap.specs.Takes.{values_pass}
+use Rattle.clap.specs.Facts.{parser_of_value}
+use Rattle.clap.specs.ValueTests.{accepts}
+use Rattle.clap.specs.Values.{IsSignedIn}
+use Rattle.clap.specs.declared.builder.value_parser.ValueParser.{ValueParser}
+use Rattle.clap.specs.Walk.{Row, Rule, Text, arg_by_id, has_row, reading_by}
+use Rattle.clap.specs.declared.parser.matches.ArgMatches.{ArgMatches}
+use Rattle.clap.specs.declared.builder.value_parser.Reading.TheVariants as reading
+use Rattle.clap.specs.declared.builder.value_parser.ValueParser.TheVariants as vp
+use Rattle.clap.proofs.ValueTestLemmas.{accepts-Accepts}
+use Rattle.clap_parses.specs.Parses.{HasGoodMatches, IsIn, RowOf, RowsOf, first, past}
+use Rattle.command_line.specs.Lines.{pens_text}
+use Rattle.command_line.specs.Options.{picture_app, plot_app, report_app}
+use Rattle.command_line.specs.Readings.{HasNumber, HasPageNumbers, HasPictureValues, HasValues}
+
+-- a row of an argument: its value passes, and is read as the argument's parser says
+record IsRowOf (a : Rule) (r : Row) : Type 0 where
+  text : Text
+  values : r.values ≡ text ∷ []
+  passes : values_pass a (text ∷ []) ≡ true
+  reading : r.reading ≡ reading_by a
+
+one_value : (a : Rule) (r : Row) (vs : List Text) → r.values ≡ vs → length vs ≡ 1 → values_pass a vs ≡ true → r.reading ≡ reading_by a → IsRowOf a r
+one_value a r [] is one passes reading = absurd (omega arith)
+one_value a r (t ∷ []) is one passes reading = record { text = t; values = is; passes = passes; reading = reading }
+one_value a r (t ∷ u ∷ vs) is one passes reading = absurd (omega arith)
+
+row_of_rule : (c : List Rule) (a : Rule) (name : Text) (r : Row) → arg_by_id c name ≡ Some a → bytes_eq r.id name ≡ true → RowOf c r → IsRowOf a r
+row_of_rule c a name r found same row =
+    let named : r.id ≡ name = (bytes_eq-Decides r.id name).0 same in
+    let both : Some row.rule ≡ Some a = sym row.found ∙ ap (arg_by_id c) named ∙ found in
+    let is : row.rule ≡ a = cc in
+    one_value a r r.values refl row.one (subst (λ (x : Rule). values_pass x r.values ≡ true) is row.passes) (row.reading ∙ ap reading_by is)
+
+-- the first row of an argument
+record FirstRow (a : Rule) (name : Text) (rows : List Row) : Type 0 where
+  row : Row
+  found : find (λ (r : Row). bytes_eq r.id name) rows ≡ Some row
+  good : IsRowOf a row
+
+first_row : (c : List Rule) (a : Rule) (name : Text) (rows : List Row) → arg_by_id c name ≡ Some a → AllByRecursion (RowOf c) rows → has_row name rows ≡ true → FirstRow a name rows
+first_row c a name [] found all has = absurd (cc)
+first_row c a name (r ∷ rest) found all has =
+    branch (bytes_eq r.id name) refl has (λ more. first_row c a name rest found all.1 more)
+  where
+    branch : (b : Bool) → bytes_eq r.id name ≡ b → (b || has_row name rest) ≡ true → (has_row name rest ≡ true → FirstRow a name rest) → FirstRow a name (r ∷ rest)
+    branch true same has later = record { row = r; found = rw same refl; good = row_of_rule c a name r found same all.0 }
+    branch false other has later =
+        let next = later has in
+        record { row = next.row; found = rw other next.found; good = next.good }
+
+only_value : (b : Bool) → (b && true) ≡ true → b ≡ true
+only_value true passes = refl
+only_value false passes = absurd (cc)
+
+-- the only value of an argument with this parser is a number in the parser's range
+within_range : (ignore_case : Bool) (parser : Option ValueParser) (low high : ℕ) (text : Text) → parser ≡ Some (vp.Signed (pos low) (pos high))
+    → (accepts ignore_case (parser_of_value parser) text && true) ≡ true → IsSignedIn (pos low) (pos high) text
+within_range ignore_case parser low high text is passes =
+    accepts-Accepts ignore_case (vp.Signed (pos low) (pos high)) text (only_value _ (rw is at passes))
+
+number_there : (c : List Rule) (a : Rule) (name : Text) (rows : List Row) (low high : ℕ) → arg_by_id c name ≡ Some a → a.parser ≡ Some (vp.Signed (pos low) (pos high))
+    → AllByRecursion (RowOf c) rows → has_row name rows ≡ true → HasNumber rows name low high
+number_there c a name rows low high found parser all has =
+    let met = first_row c a name rows found all has in
+    let text = met.good.text in
+    let how : met.row.reading ≡ reading.WithoutMinus = met.good.reading ∙ rw parser refl in
+    record {
+      text = text;
+      given = rw (met.found, met.good.values, how) refl;
+      within = within_range a.ignore_case a.parser low high text parser met.good.passes;
+    }
+
+text_there : (c : List Rule) (a : Rule) (rows : List Row) → arg_by_id c (codes "pens") ≡ Some a → AllByRecursion (RowOf c) rows → has_row (codes "pens") rows ≡ true
+    → is_some (pens_text rows) ≡ true
+text_there c a rows found all has =
+    let met = first_row c a (codes "pens") rows found all has in
+    rw (met.found, met.good.values) refl
+
+report_numbers : (rows : List Row) → RowsOf (built_leaf report_app.top).rules rows → HasPageNumbers rows
+report_numbers rows good = record {
+  width = number_there _ _ (codes "width") rows 64 65536 refl refl good.each (good.defaults.0 (omega arith));
+  height = number_there _ _ (codes "height") rows 64 65536 refl refl good.each (good.defaults.1.0 (omega arith));
+  left = number_there _ _ (codes "left") rows 0 65536 refl refl good.each (good.defaults.1.1.0 (omega arith));
+  below = number_there _ _ (codes "below") rows 0 65536 refl refl good.each (good.defaults.1.1.1.0 (omega arith));
+}
+
+picture_values : (name : Text) (rows : List Row) → RowsOf (built_leaf (picture_app name).top).rules rows → HasPictureValues rows
+picture_values name rows good = record {
+  page = record {
+    width = number_there _ _ (codes "width") rows 64 65536 refl refl good.each (good.defaults.0 (omega arith));
+    height = number_there _ _ (codes "height") rows 64 65536 refl refl good.each (good.defaults.1.0 (omega arith));
+    left = number_there _ _ (codes "left") rows 0 65536 refl refl good.each (good.defaults.1.1.0 (omega arith));
+    below = number_there _ _ (codes "below") rows 0 65536 refl refl good.each (good.defaults.1.1.1.0 (omega arith));
+  };
+  dots = number_there _ _ (codes "dots") rows 10 1200 refl refl good.each (good.defaults.1.1.1.1.0 (omega arith));
+  pens = text_there _ _ rows refl good.each (good.defaults.1.1.1.1.1.0 (omega arith));
+  band = number_there _ _ (codes "band") rows 1 4096 refl refl good.each (good.defaults.1.1.1.1.1.1.0 (omega arith));
+  first_row = number_there _ _ (codes "from") rows 0 99999 refl refl good.each (good.defaults.1.1.1.1.1.1.1.0 (omega arith));
+}
+
+-- the rows of a subcommand give its options values
+abbrev Reads : Shape → Type 0
+Reads command = (rows : List Row) → RowsOf command.rules rows → HasValues command.name rows
+
+each_reads : AllByRecursion Reads (built plot_app).subs
+each_reads = (
+  λ rows good. inl (refl, picture_values (codes "marks") rows good),
+  (
+    λ rows good. inl (refl, picture_values (codes "pbm") rows good),
+    (
+      λ rows good. inl (refl, picture_values (codes "ppm") rows good),
+      (λ rows good. inl (refl, picture_values (codes "pcl") rows good), (λ rows good. inr (refl, report_numbers rows good), tt)),
+    ),
+  ),
+)
+
+in_all : {X : Type 0} (P : X → Type 0) (x : X) (xs : List X) → IsIn x xs → AllByRecursion P xs → P x
+in_all P x _ (first xs) all = all.0
+in_all P x _ (past y xs at) all = in_all P x xs at all.1
+
+same_pair : (p q : Text × List Row) → Some p ≡ Some q → p ≡ q
+same_pair p q same = cc
+
+pub values_there : (words : List Text) (m : ArgMatches) (name : Text) (rows : List Row) → HasGoodMatches plot_app words m
+    → subcommand_rows_of m ≡ Some (name, rows) → HasValues name rows
+values_there words m name rows good are =
+    let to = good.to in
+    let here = in_all Reads to.command (built plot_app).subs to.known each_reads to.rows to.good in
+    subst (λ (p : Text × List Row). HasValues p.0 p.1) (same_pair _ _ (sym good.rows_are ∙ are)) here
