@@ -86,6 +86,6 @@ lists_no_pens rows = option_map_or (λ text. not (is_pen_list text)) (pens_text 
 abbrev pub has_bad_list : Text × List Row → Bool
 has_bad_list (name, rows) = is_some (form_named name) && lists_no_pens rows
 
--- the matches ask for it
+-- the matches ask for a picture by such a text
 abbrev pub asks_bad_list : ArgMatches → Bool
 asks_bad_list m = option_map_or has_bad_list (subcommand_rows_of m) false
