@@ -6,8 +6,7 @@ ghost use Rattle.conversion.specs.Drawings.{HasDrawn};
 use crate::fault::Fault;
 use crate::reading::read_plot;
 use crate::source::Source;
-use hpgl_plot::{Lines, draw_items};
-use hpgl_text::Items;
+use hpgl_plot::{Lines, draw_text};
 use plot_page::Page;
 use std::alloc::Global;
 
@@ -27,6 +26,6 @@ pub fn draw_source<S: Source>(alloc: Global, page: &Page, source: &mut S) -> Res
     ensures end { S.ended source.new ≡ S.ended source.old + 1 → IsAtEnd (S.left source.new) }
 {
     let plot = read_plot(alloc, source)?;
-    let lines = draw_items(alloc, Items::new(alloc, plot.as_slice()), page)?;
+    let lines = draw_text(alloc, plot.as_slice(), page)?;
     Ok(lines)
 }

@@ -10,7 +10,7 @@ use crate::done::Done;
 use crate::fault::Fault;
 use crate::reading::read_plot;
 use crate::source::Source;
-use hpgl_plot::{Note, Notes, draw_items};
+use hpgl_plot::{Note, Notes, draw_text};
 use hpgl_text::Items;
 use picture_out::Sink;
 use plot_page::Page;
@@ -41,7 +41,7 @@ pub fn report<S: Source, K: Sink>(
     ensures untouched { IfErr result (λ fault. is_write fault ≡ false → sink.new ≡ sink.old) }
 {
     let plot = read_plot(alloc, source)?;
-    let lines = draw_items(alloc, Items::new(alloc, plot.as_slice()), page)?;
+    let lines = draw_text(alloc, plot.as_slice(), page)?;
     let strokes = lines.strokes.as_slice();
     let notes = notes_on(alloc, plot.as_slice(), lines.notes)?;
     match write_report(page, strokes, notes.as_slice(), sink) {

@@ -1,8 +1,7 @@
 // Circles and arcs. The drawings that are wanted come from a plotter that was written apart from
 // this one.
 use crate::tests::{drawing_of, square};
-use crate::{PlotFault, draw_items};
-use hpgl_text::Items;
+use crate::{PlotFault, draw_text};
 use std::test::Fail;
 
 #[test]
@@ -157,8 +156,7 @@ fn circles_that_are_refused(rt: HostRuntime) -> Result<(), Fail> {
         ),
     ];
     for (text, wanted) in plots {
-        let items = Items::new(rt.alloc(), text);
-        match draw_items(rt.alloc(), items, &square()?) {
+        match draw_text(rt.alloc(), text, &square()?) {
             Ok(_) => assert!(rt; false),
             Err(fault) => assert_eq!(rt; fault, wanted),
         }

@@ -33,7 +33,7 @@ mod window;
 mod wrong;
 
 pub use fault::PlotFault;
-pub use lines::{Lines, draw_items};
+pub use lines::{Lines, draw_text};
 pub use note::{Note, NoteKind};
 pub use notes::Notes;
 pub use plot::{Plot, draw};

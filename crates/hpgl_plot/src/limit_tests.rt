@@ -1,7 +1,6 @@
 // A plot may have 4,194,304 strokes. These tests take seconds.
 use crate::tests::square;
-use crate::{PlotFault, draw_items};
-use hpgl_text::Items;
+use crate::{PlotFault, draw_text};
 use std::alloc::Global;
 use std::test::Fail;
 
@@ -21,8 +20,7 @@ fn longest_and(alloc: Global, last: &[u8]) -> Result<Vec<u8>, Fail> {
 #[test]
 fn as_many_strokes_as_there_may_be(rt: HostRuntime) -> Result<(), Fail> {
     let text = longest_and(rt.alloc(), b"")?;
-    let items = Items::new(rt.alloc(), text.as_slice());
-    let lines = draw_items(rt.alloc(), items, &square()?)?;
+    let lines = draw_text(rt.alloc(), text.as_slice(), &square()?)?;
     assert_eq!(rt; lines.strokes.len(), 4 * RECTANGLES);
     Ok(())
 }
@@ -30,8 +28,7 @@ fn as_many_strokes_as_there_may_be(rt: HostRuntime) -> Result<(), Fail> {
 #[test]
 fn a_stroke_too_many(rt: HostRuntime) -> Result<(), Fail> {
     let text = longest_and(rt.alloc(), b"PD;")?;
-    let items = Items::new(rt.alloc(), text.as_slice());
-    let answer = draw_items(rt.alloc(), items, &square()?);
+    let answer = draw_text(rt.alloc(), text.as_slice(), &square()?);
     let too_many = matches!(answer, Err(PlotFault::TooManyStrokes { at: 6_291_456 }));
     assert!(rt; too_many);
     Ok(())
@@ -41,8 +38,7 @@ fn a_stroke_too_many(rt: HostRuntime) -> Result<(), Fail> {
 #[test]
 fn a_stroke_too_many_and_a_place_out_of_range(rt: HostRuntime) -> Result<(), Fail> {
     let text = longest_and(rt.alloc(), b"PD0,0,70000,0;")?;
-    let items = Items::new(rt.alloc(), text.as_slice());
-    let answer = draw_items(rt.alloc(), items, &square()?);
+    let answer = draw_text(rt.alloc(), text.as_slice(), &square()?);
     let off_range = matches!(answer, Err(PlotFault::OffRange { at: 6_291_456 }));
     assert!(rt; off_range);
     Ok(())

@@ -1,7 +1,6 @@
 // What instructions set, what stays as it was, and the edges of rectangles.
-use crate::draw_items;
+use crate::draw_text;
 use crate::tests::{drawing_of, square, wide};
-use hpgl_text::Items;
 use std::test::Fail;
 
 #[test]
@@ -97,8 +96,7 @@ note 29 PD Bad\n",
 
 #[test]
 fn notes_within_a_polyline(rt: HostRuntime) -> Result<(), Fail> {
-    let items = Items::new(rt.alloc(), b"PE!#;");
-    let lines = draw_items(rt.alloc(), items, &square()?)?;
+    let lines = draw_text(rt.alloc(), b"PE!#;", &square()?)?;
     assert_eq!(rt; lines.notes, 2);
     Ok(())
 }
