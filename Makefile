@@ -41,6 +41,8 @@ check:
 	tests/run $(PROGRAM)
 	tests/options $(PROGRAM)
 	tests/words $(PROGRAM)
+	tests/printer $(PROGRAM)
+	tests/recipes $(PROGRAM)
 	tools/mutants
 	@tail -n 1 build/verdict
 
