@@ -26,5 +26,5 @@ pub use form::{Form, takes_resolution};
 pub use inks::{Ink, Inks};
 pub use over_write::OverWrite;
 pub use parts::{foot, foot_counted, head, head_counted, room, row, row_counted, row_space};
-pub use pieces::put_all;
+pub use pieces::{append, put_all};
 pub use sink::{Sink, SinkFault};

@@ -54,8 +54,8 @@ pub(crate) fn put_both<K: Sink>(
     }
 }
 
-// Appends bytes to the first `used` bytes of a piece, and returns how many are used then.
-pub(crate) fn append(piece: &mut [u8], used: usize, bytes: &[u8]) -> usize
+/// Appends bytes to the first `used` bytes of a piece, and returns how many are used then.
+pub fn append(piece: &mut [u8], used: usize, bytes: &[u8]) -> usize
     requires { used + length bytes.now ≤ length piece.old }
     ensures used { result ≡ used + length bytes.now }
     ensures piece { take result piece.new ≡ take used piece.old ++ bytes.now }

@@ -3,9 +3,10 @@ ghost use Rattle.std.specs.Prelude.{◌≡◌, ◌+◌, ◌≤◌, ◌++◌, ◌
 ghost use Rattle.std.specs.List.{join_with_byte};
 ghost use Rattle.plot_report.specs.Report.{space, line, page_line, kind_words, note_line, corner_words, summary_line};
 
-use crate::pieces::{append, append_number, append_word};
+use crate::pieces::{append_number, append_word};
 use crate::summary::PenSummary;
 use hpgl_plot::{Note, NoteKind};
+use picture_out::append;
 use plot_page::Page;
 
 /// The longest line of a page: four numbers of ten digits.

@@ -4,19 +4,7 @@ ghost use Rattle.plot_report.specs.Report.{space};
 ghost use Rattle.plot_report.specs.Pieces.{WritesAfter};
 
 use itoa::{Buffer, Integer};
-use picture_out::{Sink, WriteFault, put_all};
-
-// Appends bytes to the first `used` bytes of a piece, and returns how many are used then.
-pub(crate) fn append(piece: &mut [u8], used: usize, bytes: &[u8]) -> usize
-    requires { used + length bytes.now ≤ length piece.old }
-    ensures used { result ≡ used + length bytes.now }
-    ensures piece { take result piece.new ≡ take used piece.old ++ bytes.now }
-    ensures size { length piece.new ≡ length piece.old }
-{
-    let end = used + bytes.len();
-    piece[used..end].copy_from_slice(bytes);
-    end
-}
+use picture_out::{Sink, WriteFault, append, put_all};
 
 // Appends a space and a word.
 pub(crate) fn append_word(piece: &mut [u8], used: usize, word: &[u8]) -> usize
