@@ -1,4 +1,4 @@
-//! Pictures at 1200 dots per inch.
+//! Pictures at 1200 dots per inch, and of the largest page.
 use crate::pages::{LINE, eight_by_eight};
 use plotraster::{
     Dots, Exact, Form, Gauge, Job, OverRead, OverWrite, Page, convert, picture_bytes,
@@ -43,14 +43,19 @@ fn a_line_at_1200_dots(rt: HostRuntime) -> Result<(), Fail> {
 
 #[test]
 fn the_last_row_of_the_largest_page(rt: HostRuntime) -> Result<(), Fail> {
-    let mut job = fine(Form::Pbm)?;
-    job.page = Page::new(65536, 65536, 0, 0)?;
-    job.first_row = 77404;
-    job.band = 1;
-    let bits = picture_bytes(rt.alloc(), &job, b"PU0,0;PD65536,0;")?;
-    assert_eq!(rt; bits.len(), 9676);
-    let (last, rest) = bits.as_slice().split_last().ok_or("no bytes")?;
-    assert_eq!(rt; *last, 0xf8);
-    assert!(rt; rest.iter().all(|byte| *byte == 255));
+    for (dots, side, bytes, last_byte) in [(600, 38702, 4838, 0xfc), (1200, 77405, 9676, 0xf8)] {
+        let mut job = fine(Form::Pbm)?;
+        job.page = Page::new(65536, 65536, 0, 0)?;
+        job.dots = Dots::new(dots).ok_or("a resolution")?;
+        assert_eq!(rt; job.dots.columns(&job.page), side);
+        assert_eq!(rt; job.dots.rows(&job.page), side);
+        job.first_row = side - 1;
+        job.band = 1;
+        let bits = picture_bytes(rt.alloc(), &job, b"PU0,0;PD65536,0;")?;
+        assert_eq!(rt; bits.len(), bytes);
+        let (last, rest) = bits.as_slice().split_last().ok_or("no bytes")?;
+        assert_eq!(rt; *last, last_byte);
+        assert!(rt; rest.iter().all(|byte| *byte == 255));
+    }
     Ok(())
 }

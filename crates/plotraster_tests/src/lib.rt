@@ -4,6 +4,8 @@
 #[cfg(test)]
 mod colours;
 #[cfg(test)]
+mod cut_off;
+#[cfg(test)]
 mod devices;
 #[cfg(test)]
 mod faults;
@@ -17,6 +19,8 @@ mod lexed;
 mod once;
 #[cfg(test)]
 mod pages;
+#[cfg(test)]
+mod parts;
 #[cfg(test)]
 mod pictures;
 #[cfg(test)]
