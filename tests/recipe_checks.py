@@ -1,0 +1,466 @@
+"""What the recipes must have made: sample plots, readers of pictures, and CHECKS for tests/recipes."""
+
+import collections
+import functools
+import importlib.machinery
+import importlib.util
+import os
+import re
+import resource
+import signal
+import struct
+import subprocess
+
+HERE = os.path.dirname(os.path.abspath(__file__))
+SECONDS = 300
+A4, A4_PORTRAIT, A0 = (11880, 8400), (8400, 11880), (47560, 33640)
+
+
+def load(name):
+    """A script of tests/ that has no suffix, as a module."""
+    loader = importlib.machinery.SourceFileLoader(name, os.path.join(HERE, name))
+    module = importlib.util.module_from_spec(importlib.util.spec_from_loader(name, loader))
+    loader.exec_module(module)
+    return module
+
+
+def write(path, data, mode=0o644):
+    """Makes a file, and the folders that it is in."""
+    os.makedirs(os.path.dirname(path), exist_ok=True)
+    with open(path, "wb") as file:
+        file.write(data)
+    os.chmod(path, mode)
+
+
+# Sample plots.
+
+def plan(width, height):
+    """A plot for a page of this size: a frame, crossing lines, a circle and a label, by five pens."""
+    right, top = width - 400, height - 400
+    return (f"IN;SP1;PW0.5,1;PU400,400;PD{right},400,{right},{top},400,{top},400,400;PU;"
+            f"SP2;PU400,400;PD{right},{top};PU;SP3;PU{right},400;PD400,{top};PU;"
+            f"SP5;PW1.2,5;PU{width // 2},{height // 2};CI{height // 4},3;"
+            f"SP8;SI0.5,0.8;PU1000,1000;LBplan of {width}\x03SP0;").encode()
+
+
+CENTRED = b"SP1;PU-3000,0;PD3000,0;PU0,-2000;PD0,2000;PU0,0;CI1500;"
+OFF_RANGE = b"IN;PU0,0;PD70000,0;"
+NO_PLOT = b"%!\n1 2 3\n"
+ARCHIVE = {
+    "plots/first.plt": plan(*A4),
+    "plots/with blanks, and a comma.plt": b"PU100,100;PD5000,4000;",
+    "plots/a folder/it's \"quoted\".plt": b"SP2;PU100,100;PD3000,100;",
+    "plots/a folder/first.plt": b"SP3;PU100,100;PD100,3000;",
+    "plots/off range.plt": OFF_RANGE,
+    "plots/a folder/-off.plt": b"PD0,0," + b"1,1," * 9 + b"0,99999;",
+    "plots/no plot.plt": NO_PLOT,
+}
+REFUSED = {
+    "plots/off range.plt": "plotraster: place off range at byte 9",
+    "plots/a folder/-off.plt": "plotraster: place off range at byte 0",
+}
+
+
+def samples():
+    return {"plan.plt": plan(*A4), "portrait.plt": plan(*A4_PORTRAIT), "centred.plt": CENTRED}
+
+
+# Pictures.
+
+# A line of a bitmap is a number: its bits are the pixels, the leftmost is the highest.
+Bitmap = collections.namedtuple("Bitmap", "columns rows lines")
+
+
+def read_bitmap(data):
+    """The bitmap of a raw PBM."""
+    magic, size, bits = data.split(b"\n", 2)
+    columns, rows = map(int, size.split())
+    wide = (columns + 7) // 8
+    if magic != b"P4" or len(bits) != rows * wide:
+        raise ValueError(f"no bitmap: {magic!r}, {columns} by {rows}, {len(bits)} bytes")
+    spare = 8 * wide - columns
+    return Bitmap(columns, rows, [int.from_bytes(bits[at:at + wide], "big") >> spare
+                                  for at in range(0, len(bits), wide)])
+
+
+def ink(bitmap):
+    """How many pixels are black."""
+    return sum(bin(line).count("1") for line in bitmap.lines)
+
+
+def margins(bitmap):
+    """How many rows and columns are white on the left, at the bottom, on the right and at the top."""
+    inked = [row for row, line in enumerate(bitmap.lines) if line]
+    every = functools.reduce(int.__or__, bitmap.lines)
+    trailing = (every & -every).bit_length() - 1
+    return bitmap.columns - every.bit_length(), bitmap.rows - 1 - inked[-1], trailing, inked[0]
+
+
+def pixels(units, dots):
+    """How many pixels a side of the page has."""
+    return (units * dots + 508) // 1016
+
+
+class Made:
+    """What a block made: its folder, its standard output, and the words and data of each job that it printed."""
+
+    def __init__(self, program, top, section, block, output):
+        self.program, self.section, self.block, self.output = program, section, block, output
+        self.folder, self.commands = os.path.join(top, "work"), os.path.join(top, "commands")
+        printed = os.path.join(top, "printed")
+        self.printed = [(self.read(os.path.join(printed, job, "words")).decode().strip(),
+                         self.read(os.path.join(printed, job, "data")))
+                        for job in sorted(os.listdir(printed), key=int)]
+
+    def path(self, name):
+        """A file of the block's folder, or one named in full."""
+        return os.path.join(self.folder, name)
+
+    def read(self, name):
+        with open(self.path(name), "rb") as file:
+            return file.read()
+
+    def lines(self, name):
+        return self.read(name).decode().splitlines()
+
+    def files(self, suffix):
+        """All files with this suffix, by their names from the folder on."""
+        found = (os.path.relpath(os.path.join(at, name), self.folder)
+                 for at, _, names in os.walk(self.folder) for name in names)
+        return {name for name in found if name.endswith(suffix) and not name.startswith("examples/")}
+
+    def run(self, *words, plot=None):
+        """What the program writes, for a plot on standard input if one is given."""
+        return subprocess.run([self.program, *words], input=plot, cwd=self.folder, stdout=subprocess.PIPE,
+                              check=True, timeout=SECONDS).stdout
+
+    def of_png(self, name):
+        """A PNG file as Netpbm reads it."""
+        return netpbm(["pngtopam", self.path(name)], None)
+
+
+def netpbm(command, data):
+    return subprocess.run(command, input=data, capture_output=True, check=True, timeout=SECONDS).stdout
+
+
+# What the blocks must have made. Each check gives what is wrong, a line each.
+
+def smoothed_png(made):
+    magic, size, most, data = made.of_png("plan.png").split(b"\n", 3)
+    wanted = tuple(pixels(units, 100) for units in A4)
+    if magic != b"P6" or tuple(map(int, size.split())) != wanted or most != b"255":
+        yield f"{magic!r}, {size!r} instead of {wanted}, {most!r}"
+    values = set(data)
+    if not {0, 255} <= values or len(values) < 10:
+        yield f"not smoothed: {len(values)} values"
+
+
+def black_png(made):
+    if made.of_png("plan.png") != made.run("pbm", "--dots", "300", "plan.plt"):
+        yield "another bitmap"
+    data = made.read("plan.png")
+    at = data.index(b"pHYs")
+    across, upward, unit = struct.unpack(">IIB", data[at + 4:at + 13])
+    if (across, upward, unit) != (round(300 / 0.0254), round(300 / 0.0254), 1):
+        yield f"{across} by {upward} pixels a unit {unit}"
+
+
+def postscript(made):
+    (words, data), = made.printed
+    text = data.decode()
+    whole = read_bitmap(made.run("pbm", "--dots", "300", "plan.plt"))
+    if words != "lpr" or not text.startswith("%!PS-Adobe"):
+        yield f"{words}: {text[:20]!r}"
+    if "\n%%BoundingBox: 0 0 595 841\n" not in text or "90 rotate" not in text:
+        yield "not on A4 in portrait"
+    scale = tuple(map(float, re.search(r"^([0-9.]+) ([0-9.]+) scale$", text, re.M).groups()))
+    true = whole.rows / 300 * 72, whole.columns / 300 * 72
+    if any(abs(given - wanted) > 0.01 for given, wanted in zip(scale, true)):
+        yield f"{scale} points instead of {true}"
+    shown = bytes.fromhex(re.search(r"\nimage\n((?:[0-9a-f]+\n)+)", text).group(1))
+    # White is 1, and unused bits are 0.
+    black = 8 * len(shown) - bin(int.from_bytes(shown, "big")).count("1") - whole.rows * (-whole.columns % 8)
+    if black != ink(whole):
+        yield f"{black} black pixels instead of {ink(whole)}"
+
+
+def of_pbmtolj(data, columns):
+    """The PBM that pbmtolj made a picture in PCL of: it writes each row up to its last byte that is not 0."""
+    head, foot = b"\x1bE\x1b&l0E\x1b*t300R\x1b*r1A", b"\x1b*rB\x1bE"
+    if not data.startswith(head) or not data.endswith(foot):
+        raise ValueError(f"{data[:20]!r} .. {data[-6:]!r}")
+    rows, at, wide = [], len(head), (columns + 7) // 8
+    while at < len(data) - len(foot):
+        found = re.compile(rb"(?:\x1b\*b0M)?\x1b\*b([0-9]+)W").match(data, at)
+        at = found.end() + int(found.group(1))
+        rows.append(data[found.end():at].ljust(wide, b"\0"))
+    return b"P4\n%d %d\n" % (columns, len(rows)) + b"".join(rows)
+
+
+def pcl(made):
+    if [words for words, _ in made.printed] != ["lp -o raw"] * 2:
+        yield f"printed by {[words for words, _ in made.printed]}"
+    (_, upright), (_, turned) = made.printed
+    columns, rows, data = load("printer").bitmap_of(upright)
+    wanted = made.run("pbm", "--width", "8400", "--height", "11880", "--dots", "300", "portrait.plt")
+    if b"P4\n%d %d\n" % (columns, rows) + data != wanted or columns != pixels(8400, 300):
+        yield "another bitmap in portrait"
+    portrait = of_pbmtolj(turned, pixels(8400, 300))
+    if netpbm(["pamflip", "-r270"], portrait) != made.run("pbm", "--dots", "300", "plan.plt"):
+        yield "another bitmap in landscape"
+
+
+def fit(made, plot):
+    """The words, standard error and status of examples/fit."""
+    search = made.commands + os.pathsep + os.environ["PATH"]
+    ran = subprocess.run(["examples/fit", plot], cwd=made.folder, env=dict(os.environ, PATH=search),
+                         capture_output=True, text=True, timeout=SECONDS)
+    return ran.stdout.split(), ran.stderr, ran.returncode
+
+
+def fitted(made, plot):
+    """What is wrong with the page for a plot, by pictures with a pixel a unit."""
+    words, errors, status = fit(made, plot)
+    if status or errors:
+        yield f"{plot}: status {status}: {errors}"
+        return
+    more = 500
+    width, height, left, below = map(int, words[1::2])
+    larger = ["--width", str(width + 2 * more), "--height", str(height + 2 * more),
+              "--left", str(left + more), "--below", str(below + more)]
+    page = read_bitmap(made.run("pbm", *words, "--dots", "1016", plot))
+    around = read_bitmap(made.run("pbm", *larger, "--dots", "1016", plot))
+    if min(margins(around)) <= more or ink(page) != ink(around):
+        yield f"{plot}: {ink(page)} pixels of {ink(around)} are on the page"
+    free = [left == 0, below == 0, False, False]
+    for side, may, margin in zip(("left", "below", "right", "above"), free, margins(page)):
+        # A millimetre, and more if the outermost line is not the pen's widest.
+        if margin < 40 or (margin > 50 and not may):
+            yield f"{plot}: {margin} units are free {side}"
+
+
+FITTED = {
+    "left.plt": b"PW20;PU-5000,-3000;PD-4000,-2000;",
+    "right.plt": b"PU3000,2000;CI100;",
+    "dot.plt": b"PW0.1;PD;",
+    "scaled.plt": b"IP-1000,-1000,1000,1000;SC0,1,0,1;SP2;PA.5,.5;CI.5;",
+}
+# Plots that have no such page, and the status of examples/fit.
+NOT_FITTED = {
+    "scale.plt": (b"SC0,9,0,9;PD5,5;", 1),
+    "corners.plt": (b"IP;SC0,9,0,9;PD5,5;", 1),
+    "turned.plt": (b"RO90;PD5,5;", 1),
+    "none.plt": (b"PU5,5;", 1),
+    "off.plt": (OFF_RANGE, 1),
+    "wide.plt": (b"PU-60000,0;PD60000,0;", 2),
+}
+
+
+def fitted_page(made):
+    words, *_ = fit(made, "examples/centred.plt")
+    fine = made.run("ppm", *words, "--dots", "600", "examples/centred.plt")
+    if made.of_png("centred.png") != netpbm(["pamscale", "-reduce", "4"], fine):
+        yield "another picture"
+    for name in ("centred", "figures", "rose", "line"):
+        yield from fitted(made, f"examples/{name}.plt")
+    for name, plot in FITTED.items():
+        write(made.path(name), plot)
+        yield from fitted(made, name)
+    for name, (plot, status) in NOT_FITTED.items():
+        write(made.path(name), plot)
+        given = fit(made, name)
+        if given[0] or not given[1] or given[2] != status:
+            yield f"{name}: {given}"
+
+
+def archive(made):
+    drawn = set(ARCHIVE) - set(REFUSED)
+    if made.files(".png") != {name[:-4] + ".png" for name in drawn} or made.files(".pbm"):
+        yield f"made {sorted(made.files('.png') | made.files('.pbm'))}"
+    for name in drawn:
+        if made.of_png(name[:-4] + ".png") != made.run("pbm", "--dots", "300", name):
+            yield f"{name}: another picture"
+    wanted = sorted(f"{name}: {why}" for name, why in REFUSED.items())
+    if sorted(made.lines("refused.txt")) != wanted:
+        yield f"refused.txt has {made.lines('refused.txt')}"
+
+
+def blank_plots(made):
+    if made.lines("empty.txt") != ["plots/no plot.plt"]:
+        yield f"empty.txt has {made.lines('empty.txt')}"
+
+
+def archive_by_parallel(made):
+    for name in set(ARCHIVE) - set(REFUSED):
+        if made.read(name[:-4] + ".pbm") != made.run("pbm", "--dots", "300", name):
+            yield f"{name}: another picture"
+    wanted = sorted(f"{name}\t{why}" for name, why in REFUSED.items())
+    if sorted(made.lines("refused.txt")) != wanted:
+        yield f"refused.txt has {made.lines('refused.txt')}"
+
+
+def parts(made):
+    page = ["--width", str(A0[0]), "--height", str(A0[1]), "--dots", "600"]
+    if made.read("plan.pbm") != made.run("pbm", *page, "plan.plt"):
+        yield "the joined picture is not the whole one"
+    if made.output or any(name.startswith("part.") for name in os.listdir(made.folder)):
+        yield f"left {os.listdir(made.folder)}, and said {made.output!r}"
+
+
+def pens(made):
+    whole = read_bitmap(made.run("pbm", "--dots", "300", "plan.plt"))
+    if made.files(".pbm") != {f"plan.{pen}.pbm" for pen in (1, 2, 3, 5, 8)}:
+        yield f"made {made.files('.pbm')}"
+    for pen in (1, 2, 3, 5, 8):
+        others = re.compile(rb"SP(?!%d;)\d+;" % pen)
+        alone = others.sub(b"SP0;", plan(*A4))
+        if made.read(f"plan.{pen}.pbm") != made.run("pbm", "--dots", "300", plot=alone):
+            yield f"pen {pen}: another picture"
+    each = [read_bitmap(made.read(name)) for name in made.files(".pbm")]
+    together = [functools.reduce(int.__or__, lines) for lines in zip(*(bitmap.lines for bitmap in each))]
+    if together != whole.lines or sum(map(ink, each)) <= ink(whole):
+        yield "the pens' pictures are not the whole one"
+
+
+def cut_off(program, folder, words, name, room):
+    """Writes a picture to a disk that has room for so many bytes, and gives the message."""
+    def limit():
+        signal.signal(signal.SIGXFSZ, signal.SIG_IGN)
+        resource.setrlimit(resource.RLIMIT_FSIZE, (room, room))
+    with open(os.path.join(folder, name), "wb") as to:
+        ran = subprocess.run([program, *words, "plan.plt"], cwd=folder, stdout=to, stderr=subprocess.PIPE,
+                             text=True, preexec_fn=limit, timeout=SECONDS)
+    return ran.stderr
+
+
+def failed_write(program, folder, section):
+    """Fills the disk as the recipe says, and compares the message."""
+    command, message = section["text"][0].splitlines()
+    words = re.fullmatch(r"\$ plotraster (.+) plan\.plt > plan\.pbm", command).group(1).split()
+    os.mkdir(os.path.join(folder, "large"))
+    room = int(message.split()[-1]) + 100
+    said = cut_off(program, folder, words, "plan.pbm", room)
+    return [] if said == message + "\n" else [f"the message is {said!r}"]
+
+
+def continued(made):
+    if made.read("large/plan.pbm") != made.run("pbm", "--dots", "300", "plan.plt"):
+        yield "the continued picture is not the whole one"
+    for form, room in (("ppm", 1000000), ("pcl", 100000), ("marks", 123456), ("pcl", 10)):
+        whole = made.run(form, "plan.plt")
+        said = cut_off(made.program, made.folder, [form], "cut", room)
+        row, good = re.fullmatch(r"plotraster: write failed: go on from row (\d+) after byte (\d+)\n",
+                                 said).groups()
+        if made.read("cut")[:int(good)] + made.run(form, "--from", row, "plan.plt") != whole:
+            yield f"{form}: the continued picture is not the whole one"
+
+
+# A plot and a page for each row of the table of causes, what the report has, and the remedy that is run.
+CAUSES = [
+    (b"IN;SP0;PU100,100;PD5000,5000;", r"strokes 0\n\Z", "sed"),
+    (b"%PDF-1.4\n1 0 obj\n<< /Type /Catalog >>\n" * 9, r"strokes 1\n.*\n(note \d+ (stray|skipped) \S+\n){9}", "head"),
+    (b"PU-9000,-9000;PD-100,-100;", r"box -144000 -144000 -1600 -1600\n\Z", "fit"),
+    (b"PU20000,20000;PD30000,30000;", r"box 320000 320000 480000 480000\n\Z", "fit"),
+    (b"IN;SC0,0,0,9;PA1,1;PD5,5;", r"box 16 16 80 80\nnote 3 bad SC\n\Z", "tail"),
+    (b"IW90000,90000,90001,90001;PD5000,5000;", r"box 0 0 80000 80000\n\Z", "sed"),
+    (b"PC1,255,255,255;PD5000,5000;", r"box 0 0 80000 80000\n\Z", "pbm"),
+    (b"LBa text;PU0,0;PD5000,5000;", r"note 0 open LB\n\Z", None),
+    (b"RA5000,5000;", r"strokes 0\nnote 0 skipped RA\n\Z", None),
+]
+
+
+def remedied(made, cell, remedy, note):
+    """What a row's remedy gives: a picture, or the text that it shows."""
+    command = next((span for span in re.findall(r"`([^`]+)`", cell) if span.startswith(remedy)), "")
+    run = functools.partial(subprocess.run, cwd=made.folder, capture_output=True, check=True, timeout=SECONDS)
+    if remedy == "fit":
+        return made.run("pbm", *fit(made, "plan.plt")[0], "plan.plt")
+    if remedy == "pbm":
+        return made.run("pbm", "plan.plt")
+    shown = run(["bash", "-c", command.replace("\\|", "|")], env=dict(os.environ, AT=note)).stdout
+    return made.run("pbm", plot=shown) if remedy == "sed" else shown
+
+
+def is_blank(made, *words):
+    """Is a picture of plan.plt white?"""
+    data = made.run(*words, "plan.plt")
+    if words[0] == "ppm":
+        return not data.split(b"\n", 3)[3].strip(b"\xff")
+    return ink(read_bitmap(data)) == 0
+
+
+def causes(made):
+    if not re.match(r"page 11880 8400 0 0\nstrokes [1-9]\d*\npen 1 ", made.output):
+        yield f"the report is {made.output!r}"
+    rows = [row for row in made.section["rows"] if row[0] != "The report"]
+    if len(rows) != len(CAUSES):
+        yield f"{len(rows)} rows instead of {len(CAUSES)}"
+    for row, (plot, has, remedy) in zip(rows, CAUSES):
+        write(made.path("plan.plt"), plot)
+        report = made.run("report", "plan.plt").decode()
+        if not re.search(has, report):
+            yield f"{row[1]}: the report is {report!r}"
+        form = "ppm" if remedy == "pbm" else "pbm"
+        if not re.match("few strokes|all boxes small|`note AT open", row[0]) and not is_blank(made, form):
+            yield f"{row[1]}: the picture is not empty"
+        note = re.search(r"note (\d+)", report)
+        gives = remedied(made, row[2], remedy, note.group(1) if note else "") if remedy else b""
+        wanted = {"head": plot.startswith(gives) and gives, "tail": gives.startswith(b"SC0,0,0,9;")}
+        if remedy and not wanted.get(remedy, gives.startswith(b"P4") and ink(read_bitmap(gives))):
+            yield f"{row[1]}: the remedy gives {gives[:60]!r}"
+
+
+def sizes(made):
+    bitmap = read_bitmap(made.read("plan.pbm"))
+    if (bitmap.columns, bitmap.rows) != (pixels(A0[1], 200), pixels(A0[0], 200)):
+        yield f"{bitmap.columns} by {bitmap.rows} pixels"
+    rows = [row for row in made.section["rows"] if row[0] != "Size"]
+    if len(rows) != 10:
+        yield f"{len(rows)} sizes"
+    for name, landscape, portrait in rows:
+        (long, unit), (short, _) = re.findall(r"([0-9.]+) (mm|in)", name)
+        long, short = (round(float(side) * {"mm": 40, "in": 1016}[unit]) for side in (long, short))
+        wanted = f"`--width {long} --height {short}`", f"`--width {short} --height {long}`"
+        if (landscape, portrait) != wanted:
+            yield f"{name}: {landscape}, {portrait}"
+
+
+def pictures(made):
+    """Each file that the block names as output is a picture, and what is printed is for a printer."""
+    named = set(re.findall(r"> (\S+)", made.block))
+    for name in named:
+        data = made.of_png(name) if name.endswith(".png") else made.read(name)
+        about = netpbm(["pamfile", "-"], data)
+        if len(data) < 1000 or re.search(rb"P[BGP]M raw, \d{3,} by \d{3,}", about) is None:
+            yield f"{name}: {about!r}"
+    for words, data in made.printed:
+        if not data.startswith((b"%!PS", b"\x1bE")) or len(data) < 1000:
+            yield f"{words}: {data[:20]!r}"
+    if not named and not made.printed:
+        yield "made nothing"
+
+
+# `made` gives what is wrong with what a block made, `needs` are commands, `plots` are files that the block needs
+# beside the usual samples, and `prepare` goes before the block.
+Check = collections.namedtuple("Check", "made needs plots prepare", defaults=((), {}, None))
+PNG = ("pnmtopng", "pngtopam")
+CHECKS = {
+    "docs/RECIPES.md": {
+        "PNG, smoothed": [Check(smoothed_png, (*PNG, "pamscale"))],
+        "PNG, black and white": [Check(black_png, PNG)],
+        "A PostScript printer, true to size": [Check(postscript, ("pnmtops",))],
+        "A PCL printer": [Check(pcl, ("pamflip", "pbmtolj"))],
+        "A page that fits the drawing": [Check(fitted_page, (*PNG, "pamscale"))],
+        "An archive of plots": [Check(archive, PNG, ARCHIVE), Check(blank_plots, (), ARCHIVE),
+                                Check(archive_by_parallel, ("parallel",), ARCHIVE)],
+        "A large page in parts": [Check(parts, (), {"plan.plt": plan(*A0)})],
+        "A picture for each pen": [Check(pens)],
+        "Go on after a failed write": [Check(continued, (), {}, failed_write)],
+        "An empty picture": [Check(causes)],
+        "Page sizes": [Check(sizes)],
+    },
+    "README.md": {
+        "plotraster": [Check(pictures, (*PNG, "pamscale", "pamfile"))] * 2,
+        "Use": [Check(pictures, (*PNG, "pamscale", "pamfile", "pnmtops"))],
+    },
+}
