@@ -52,12 +52,12 @@ ARCHIVE = {
     "plots/a folder/it's \"quoted\".plt": b"SP2;PU100,100;PD3000,100;",
     "plots/a folder/first.plt": b"SP3;PU100,100;PD100,3000;",
     "plots/off range.plt": OFF_RANGE,
-    "plots/a folder/-off.plt": b"PD0,0," + b"1,1," * 9 + b"0,99999;",
+    "plots/a folder/-off\\new.plt": b"PD0,0," + b"1,1," * 9 + b"0,99999;",
     "plots/no plot.plt": NO_PLOT,
 }
 REFUSED = {
     "plots/off range.plt": "plotraster: place off range at byte 9",
-    "plots/a folder/-off.plt": "plotraster: place off range at byte 0",
+    "plots/a folder/-off\\new.plt": "plotraster: place off range at byte 0",
 }
 
 
