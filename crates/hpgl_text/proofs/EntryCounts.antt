@@ -64,11 +64,11 @@ gap_inside base text = omega (arith, length-take (gap_length base text) text)
 flag_fits : (f : Flag) (base : Base) (closed : Bool) (text : List ℕ) → 0 < length text → Fits text (flag_piece f base closed (drop 1 text))
 flag_fits f base closed text h = fits_if text (begins_with_coded base (past_gap base (drop 1 text))) _ _
     (λ _. fits_if text (is_within (most_after f) (coded_value base (past_gap base (drop 1 text)))) _ _
-      (λ _. record {
-        in_text = omega (arith, gap_inside base (drop 1 text), length-drop 1 text);
-        in_piece = omega (arith, gap_short base (drop 1 text));
-      })
-      (plain_fits text Bad 1 h (omega arith)))
+    (λ _. record {
+      in_text = omega (arith, gap_inside base (drop 1 text), length-drop 1 text);
+      in_piece = omega (arith, gap_short base (drop 1 text));
+    })
+    (plain_fits text Bad 1 h (omega arith)))
     (plain_fits text (without_number base closed (past_gap base (drop 1 text))) 1 h (omega arith))
 
 pair_fits : (x : ℤ) (bytes : ℕ) (base : Base) (closed : Bool) (text : List ℕ) → 0 < length text → 0 < bytes → Fits text (pair_piece x bytes base closed (drop bytes text))
@@ -136,7 +136,7 @@ few_step true n next closed earlier text before at e =
     let some : 0 < length text = grind (arith, nat_tests, e) in
     let fits = piece_fits (base_after earlier) closed text some in
     let rest = rest_few (is_final piece.mark) (piece ∷ before) (at + piece.bytes) (length text - piece.bytes) left
-        (omega (arith, next closed (piece ∷ earlier) (drop piece.bytes text) (piece ∷ before) (at + piece.bytes), length-drop piece.bytes text)) in
+    (omega (arith, next closed (piece ∷ earlier) (drop piece.bytes text) (piece ∷ before) (at + piece.bytes), length-drop piece.bytes text)) in
     omega (arith, length-append (entries_of (coding_after before) at piece) (entries_from (piece ∷ before) (at + piece.bytes) (elim (is_final piece.mark) [ true ↦ [] | false ↦ left ])), piece_few (coding_after before) at piece, fits.in_text, fits.in_piece, rest)
 
 few_from : (n : ℕ) → FewNext n
