@@ -4,7 +4,6 @@ use crate::pages::{CROSSING, LINE, eight_by_eight};
 use plotraster::{
     Dots, Exact, Fault, Form, Job, OverRead, OverWrite, Page, convert, picture_bytes, report,
 };
-use std::alloc::Global;
 use std::io::{Error, ErrorKind, Read};
 use std::test::Fail;
 
@@ -43,33 +42,23 @@ fn job(form: Form) -> Result<Job, Fail> {
     Ok(job)
 }
 
-// A sink that takes one byte a call.
-fn narrow(alloc: Global) -> Limited {
-    Limited {
-        bytes: Vec::new(alloc),
-        piece: 1,
-        room: usize::MAX,
-        takes_nothing: false,
-        failures: 0,
-    }
-}
-
-// A source that gives one byte a call.
-fn slow(rest: &[u8]) -> OverRead<Drip<'_>> {
-    OverRead::new(Drip {
-        rest,
-        most: usize::MAX,
-    })
-}
-
 #[test]
 fn pictures_byte_by_byte(rt: HostRuntime) -> Result<(), Fail> {
     for plot in PLOTS {
         for form in [Form::Marks, Form::Pbm, Form::Ppm, Form::Pcl] {
             let job = job(form)?;
             let wanted = picture_bytes(rt.alloc(), &job, plot)?;
-            let mut source = slow(plot);
-            let mut sink = narrow(rt.alloc());
+            let mut source = OverRead::new(Drip {
+                rest: plot,
+                most: usize::MAX,
+            });
+            let mut sink = Limited {
+                bytes: Vec::new(rt.alloc()),
+                piece: 1,
+                room: usize::MAX,
+                takes_nothing: false,
+                failures: 0,
+            };
             convert(rt.alloc(), &job, &mut Exact::new(), &mut source, &mut sink)?;
             assert_eq!(rt; sink.bytes.as_slice(), wanted.as_slice());
         }
@@ -83,8 +72,17 @@ fn reports_byte_by_byte(rt: HostRuntime) -> Result<(), Fail> {
     for plot in PLOTS {
         let mut whole = OverWrite::new(Vec::new(rt.alloc()));
         report(rt.alloc(), &page, &mut OverRead::new(plot), &mut whole)?;
-        let mut source = slow(plot);
-        let mut sink = narrow(rt.alloc());
+        let mut source = OverRead::new(Drip {
+            rest: plot,
+            most: usize::MAX,
+        });
+        let mut sink = Limited {
+            bytes: Vec::new(rt.alloc()),
+            piece: 1,
+            room: usize::MAX,
+            takes_nothing: false,
+            failures: 0,
+        };
         report(rt.alloc(), &page, &mut source, &mut sink)?;
         assert_eq!(rt; sink.bytes.as_slice(), whole.into_inner().as_slice());
     }
@@ -109,8 +107,13 @@ fn a_source_that_fails_anywhere(rt: HostRuntime) -> Result<(), Fail> {
 // The rows above the first mark have no bytes, so they count as written.
 #[test]
 fn marks_broken_off_in_their_first_line(rt: HostRuntime) -> Result<(), Fail> {
-    let mut sink = narrow(rt.alloc());
-    sink.room = 9;
+    let mut sink = Limited {
+        bytes: Vec::new(rt.alloc()),
+        piece: 1,
+        room: 9,
+        takes_nothing: false,
+        failures: 0,
+    };
     let marks = eight_by_eight(Form::Marks).ok_or("a job")?;
     let mut source = OverRead::new(LINE);
     let answer = convert(
