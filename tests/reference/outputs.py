@@ -1,0 +1,147 @@
+"""The five outputs, from the words of the command line and the bytes of a plot.
+
+docs/FORMATS.md.
+"""
+
+import re
+from typing import NamedTuple
+
+from . import raster
+from .plotter import Page, Refused, draw
+
+ESC = b"\x1b"
+DOTS_OF_PCL = (75, 100, 150, 200, 300, 600)
+# Each option's range and what it is by default.
+PAGE_OPTIONS = {"width": (64, 65536, 11880), "height": (64, 65536, 8400), "left": (0, 65536, 0), "below": (0, 65536, 0)}
+PICTURE_OPTIONS = {"dots": (10, 1200, 100), "band": (1, 4096, 64), "from": (0, 99999, 0)}
+
+
+class Answer(NamedTuple):
+    """What the program answers. A mistake in usage has a text of its own, which is not compared."""
+
+    status: int
+    output: bytes
+    error: str
+
+
+USAGE = Answer(2, b"", "error: ")
+
+
+def fault(status, text):
+    return Answer(status, b"", f"plotraster: {text}\n")
+
+
+def answer(form, options, plot):
+    """What the program answers; options are texts by their names."""
+    ranges = PAGE_OPTIONS if form == "report" else {**PAGE_OPTIONS, **PICTURE_OPTIONS}
+    numbers = {}
+    for name, (least, most, default) in ranges.items():
+        text = options.get(name, str(default))
+        if not re.fullmatch(r"\+?[0-9]+", text) or not least <= int(text) <= most:
+            return USAGE
+        numbers[name] = int(text)
+    if any(name not in ranges and not (name == "pens" and form != "report") for name in options):
+        return USAGE
+    page = Page(*(numbers[name] for name in PAGE_OPTIONS))
+    if form == "report":
+        return described(plot, page)
+    return pictured(form, numbers, options.get("pens", "all"), page, plot)
+
+
+def described(plot, page):
+    """A report on a plot."""
+    try:
+        strokes, notes = draw(plot, page)
+    except Refused as refusal:
+        return fault(1, refusal)
+    return Answer(0, report(strokes, notes, page), "")
+
+
+def pictured(form, numbers, pens, page, plot):
+    """A picture of a plot, in a form."""
+    pens, dots = pens_of(pens), numbers["dots"]
+    if pens is None:
+        return fault(2, "bad pen list")
+    if form == "pcl" and dots not in DOTS_OF_PCL:
+        return fault(2, "resolution is not one of PCL's")
+    try:
+        strokes, _ = draw(plot, page)
+    except Refused as refusal:
+        return fault(1, refusal)
+    if numbers["from"] > raster.count(page.height, dots):
+        return fault(2, "first row is past the last row")
+    rows = raster.rows(strokes, page, dots, pens, numbers["from"])
+    return Answer(0, picture(form, page, dots, rows, numbers["from"] == 0), "")
+
+
+def pens_of(text):
+    """The pens of a list such as 1,3,5-7, or None if it is no list."""
+    if text == "all":
+        return set(range(1, 256))
+    pens = set()
+    for part in text.split(","):
+        ends = part.split("-")
+        if len(ends) > 2 or not all(re.fullmatch("[0-9]{1,3}", end) for end in ends):
+            return None
+        first, last = int(ends[0]), int(ends[-1])
+        if not 1 <= first <= last <= 255:
+            return None
+        pens.update(range(first, last + 1))
+    return pens
+
+
+def picture(form, page, dots, rows, has_header):
+    """The bytes of a picture, by its rows."""
+    columns, height = raster.count(page.width, dots), raster.count(page.height, dots)
+    header, row_of, foot = {
+        "marks": (b"", marks, b""),
+        "pbm": (b"P4\n%d %d\n" % (columns, height), bits, b""),
+        "ppm": (b"P6\n%d %d\n255\n" % (columns, height), colours, b""),
+        "pcl": (
+            ESC + b"E" + ESC + b"*t%dR" % dots + ESC + b"*r%dS" % columns + ESC + b"*r%dT" % height
+            + ESC + b"*r0A" + ESC + b"*b0M",
+            transfer,
+            ESC + b"*rB" + ESC + b"E",
+        ),
+    }[form]
+    return (header if has_header else b"") + b"".join(row_of(*row) for row in rows) + foot
+
+
+def marks(row, cells):
+    """A line for each pixel that shows a stroke."""
+    return b"".join(
+        b"%d %d %d %s\n" % (row, column, stroke.pen, bytes(stroke.colour).hex().encode())
+        for column, stroke in enumerate(cells)
+        if stroke
+    )
+
+
+def bits(_, cells):
+    """Eight pixels a byte, the leftmost one in the highest bit."""
+    cells = cells + [None] * (-len(cells) % 8)
+    return bytes(sum(128 >> i for i in range(8) if cells[at + i]) for at in range(0, len(cells), 8))
+
+
+def colours(_, cells):
+    """Three bytes a pixel; the paper is white."""
+    return b"".join(bytes(stroke.colour) if stroke else b"\xff\xff\xff" for stroke in cells)
+
+
+def transfer(row, cells):
+    """A row of PCL: the command that says how many bytes follow, and the row as bits."""
+    packed = bits(row, cells)
+    return ESC + b"*b%dW" % len(packed) + packed
+
+
+def report(strokes, notes, page):
+    """The lines of a report: the page, the strokes of each pen, and the notes."""
+    lines = ["page %d %d %d %d" % page, f"strokes {len(strokes)}"]
+    for pen in sorted({stroke.pen for stroke in strokes}):
+        own = [stroke for stroke in strokes if stroke.pen == pen]
+        x = [end[0] for stroke in own for end in (stroke.a, stroke.b)]
+        y = [end[1] for stroke in own for end in (stroke.a, stroke.b)]
+        widest = max(stroke.width for stroke in own)
+        box = f"{min(x)} {min(y)} {max(x)} {max(y)}"
+        lines.append(f"pen {pen} strokes {len(own)} widest {widest} box {box}")
+    lines += [f"note {note.at} {note.kind} {note.has}" for note in notes]
+    return "".join(line + "\n" for line in lines).encode()

@@ -1,0 +1,524 @@
+"""From items to strokes and notes: what each instruction does.
+
+docs/INSTRUCTIONS.md, "What is drawn". Each instruction that is followed by numbers has a method of its
+name. Coordinates and numbers are in millionths, places on the page in grains.
+"""
+
+import math
+from fractions import Fraction
+from typing import NamedTuple
+
+from . import lettering
+from .cutting import MILLION, items, rounded
+
+LONGEST_PLOT = 67_108_864
+MOST_STROKES = 4_194_304
+FARTHEST = 65_536 * 16
+USUAL_WIDTH = 224
+USUAL_SIZE = (1216, 1728)
+NO_WINDOW = (1, 1, 0, 0)
+BLACK = (0, 0, 0)
+COLOURS = {2: (255, 0, 0), 3: (0, 255, 0), 4: (255, 255, 0), 5: (0, 0, 255), 6: (255, 0, 255), 7: (0, 255, 255)}
+SINES = [round(10_000 * math.sin(math.radians(degrees))) for degrees in range(91)]
+
+
+class Page(NamedTuple):
+    """A page in plotter units."""
+
+    width: int
+    height: int
+    left: int
+    below: int
+
+
+class Stroke(NamedTuple):
+    """A line to draw; its width, its window and its ends in grains."""
+
+    pen: int
+    colour: tuple
+    width: int
+    window: tuple
+    a: tuple
+    b: tuple
+
+
+class Note(NamedTuple):
+    """A record that something was skipped, bad, stray, open, or along no axis."""
+
+    at: int
+    kind: str
+    has: object  # the instruction's letters, or the stray byte
+
+
+class Refused(Exception):
+    """The plot is refused, for this reason."""
+
+
+class Bad(Exception):
+    """The numbers of an instruction are bad."""
+
+
+def draw(plot, page):
+    """The strokes and the notes of a plot."""
+    if len(plot) > LONGEST_PLOT:
+        raise Refused(f"plot is longer than {LONGEST_PLOT} bytes")
+    plotter = Plotter(page)
+    for item in items(plot):
+        plotter.obey(item)
+        if len(plotter.strokes) > MOST_STROKES:
+            raise Refused(f"too many strokes at byte {item.at}")
+    return plotter.strokes, plotter.notes
+
+
+# Numbers
+
+
+def listed(numbers, *counts):
+    """The numbers of an instruction that takes so many; those past the greatest count are ignored."""
+    numbers = numbers[: counts[-1]]
+    if len(numbers) not in counts:
+        raise Bad
+    return numbers
+
+
+def whole(number, least, most):
+    """A number rounded to a whole one, which has a range."""
+    return within(rounded(number, MILLION), least, most)
+
+
+def within(number, least, most):
+    if not least <= number <= most:
+        raise Bad
+    return number
+
+
+def chord_of(numbers):
+    """The angle of a chord in thousandths of a degree; 5 degrees if none is given."""
+    return within(rounded(numbers[0], 1000), 500, 180_000) if numbers else 5_000
+
+
+# Scaling, rotation and windows
+
+
+class Axis(NamedTuple):
+    """How coordinates of one axis lie in plotter units: coordinate zero at origin, and the slope from there."""
+
+    origin: Fraction
+    zero: int
+    slope: Fraction
+
+    def units(self, coordinate):
+        return self.origin + (coordinate - self.zero) * self.slope
+
+    def coordinate(self, units):
+        return nearest(self.zero + (units - self.origin) / self.slope)
+
+
+UNSCALED = Axis(Fraction(0), 0, Fraction(1, MILLION))
+
+
+def nearest(fraction):
+    return rounded(fraction.numerator, fraction.denominator)
+
+
+def sign(number):
+    return (number > 0) - (number < 0)
+
+
+def anisotropic(p1, p2, least, most):
+    """Type 0: least lies at P1 and most at P2."""
+    return Axis(Fraction(p1), least, Fraction(p2 - p1, most - least))
+
+
+def isotropic(p1, p2, least, most, size, percent):
+    """Type 1: a millionth has this size; this percentage of the space that is left over lies next to P1."""
+    left_over = abs(p2 - p1) - size * abs(most - least)
+    origin = p1 + sign(p2 - p1) * left_over * percent / (100 * MILLION)
+    return Axis(origin, least, sign(p2 - p1) * sign(most - least) * size)
+
+
+def point_factor(p1, least, factor):
+    """Type 2: least lies at P1, and a unit is so many plotter units."""
+    return Axis(Fraction(p1), least, Fraction(factor, MILLION * MILLION))
+
+
+def turned(dx, dy, degrees):
+    """An offset, turned counterclockwise."""
+    return {0: (dx, dy), 90: (-dy, dx), 180: (-dx, -dy), 270: (dy, -dx)}[degrees % 360]
+
+
+def on_the_page(page, x, y, degrees):
+    """The place of a point of the rotated page, whose lower left corner is a corner of the page."""
+    corner = {0: (0, 0), 90: (page.width, 0), 180: (page.width, page.height), 270: (0, page.height)}[degrees]
+    dx, dy = turned(x, y, degrees)
+    return 16 * corner[0] + dx, 16 * corner[1] + dy
+
+
+def on_the_rotated_page(page, place, degrees):
+    """The point of the rotated page at a place."""
+    corner = on_the_page(page, 0, 0, degrees)
+    return turned(place[0] - corner[0], place[1] - corner[1], -degrees)
+
+
+def window_of(page, a, b):
+    """The window with these two corners, cut to the page; its edges belong to it."""
+    left, right = max(0, min(a[0], b[0])), min(16 * page.width, max(a[0], b[0]))
+    bottom, top = max(0, min(a[1], b[1])), min(16 * page.height, max(a[1], b[1]))
+    return (left, bottom, right, top) if left <= right and bottom <= top else NO_WINDOW
+
+
+# Circles and arcs
+
+
+def sine(angle):
+    """The sine of thousandths of a degree, in ten-millionths."""
+    angle %= 360_000
+    if angle > 180_000:
+        return -sine(angle - 180_000)
+    if angle > 90_000:
+        return sine(180_000 - angle)
+    degree, rest = divmod(angle, 1000)
+    return SINES[degree] * (1000 - rest) + (SINES[degree + 1] * rest if rest else 0)
+
+
+def turned_about(centre, point, angle):
+    """A point, turned about a centre by thousandths of a degree."""
+    x, y = point[0] - centre[0], point[1] - centre[1]
+    cosine, its_sine = sine(angle + 90_000), sine(angle)
+    return (
+        centre[0] + rounded(x * cosine - y * its_sine, 10 * MILLION),
+        centre[1] + rounded(x * its_sine + y * cosine, 10 * MILLION),
+    )
+
+
+def chord_ends(centre, start, sweep, chord):
+    """The ends of the chords of an arc."""
+    count = max(1, -(-abs(sweep) // chord))
+    for k in range(1, count + 1):
+        yield turned_about(centre, start, sign(sweep) * min(k * chord, abs(sweep)))
+
+
+class Plotter:
+    """A plotter: what is set, where its pen is, and what it has drawn and noted."""
+
+    def __init__(self, page):
+        self.page, self.strokes, self.notes = page, [], []
+        self.rotation = 0
+        self.IN([])
+
+    def obey(self, item):
+        """Does what an item asks for, and notes what there is to note."""
+        self.at = item.at
+        if item.kind == "stray":
+            self.note(item.at, "stray", item.has)
+        elif item.kind in ("skipped", "bad"):
+            self.note(item.at, item.kind, item.code)
+        elif item.kind == "label":
+            self.write(item.has)
+        elif item.kind == "polyline":
+            self.follow(item.has)
+        elif item.kind == "numbers":
+            try:
+                worth_a_note = getattr(self, item.code)(item.has)
+            except Bad:
+                worth_a_note = "bad"
+            if worth_a_note:
+                self.note(item.at, worth_a_note, item.code)
+        if item.is_open:
+            self.note(item.at, "open", item.code)
+
+    def note(self, at, kind, has):
+        self.notes.append(Note(at, kind, has))
+
+    # Settings
+
+    def IN(self, _):
+        """All settings are those at the start, and the pen is up at (0,0)."""
+        self.rotation = 0
+        self.pen, self.is_down = 1, False
+        self.widths = [USUAL_WIDTH] * 256
+        self.colours = [COLOURS.get(pen, BLACK) for pen in range(256)]
+        self.set_corners_of_the_page()
+        self.set_defaults()
+        self.coordinates = (0, 0)
+        self.place = self.place_of(0, 0)
+
+    def DF(self, _):
+        """The defaults that leave rotation, P1, P2, pen, widths and colours as they are."""
+        self.set_defaults()
+        self.recompute()
+
+    def set_defaults(self):
+        self.is_absolute = True
+        self.scaling = None
+        self.window = (0, 0, 16 * self.page.width, 16 * self.page.height)
+        self.size, self.direction = USUAL_SIZE, 0
+        self.set_axes()
+
+    def IP(self, numbers):
+        """P1 and P2; with one pair P2 keeps its distance; without any they are the rotated page's corners."""
+        numbers = [rounded(n, MILLION) for n in listed(numbers, 0, 2, 4)]
+        if not numbers:
+            self.set_corners_of_the_page()
+        else:
+            x, y = numbers[:2]
+            x2, y2 = numbers[2:] or (x + self.p2[0] - self.p1[0], y + self.p2[1] - self.p1[1])
+            self.p1, self.p2 = (x, y), (x2 + (x2 == x), y2 + (y2 == y))
+        self.recompute()
+
+    def set_corners_of_the_page(self):
+        page = self.page
+        width, height = (page.width, page.height) if self.rotation % 180 == 0 else (page.height, page.width)
+        self.p1, self.p2 = (-page.left, -page.below), (width - page.left, height - page.below)
+
+    def SC(self, numbers):
+        """Scaling, of three types; without numbers it is off."""
+        if numbers:
+            numbers = listed(numbers, 4, 5, 6, 7)
+            x, x2, y, y2 = numbers[:4]
+            kind = whole(numbers[4], 0, 2) if len(numbers) > 4 else 0
+            if kind == 2 and (x2 == 0 or y2 == 0) or kind != 2 and (x == x2 or y == y2):
+                raise Bad
+            percents = (numbers[5:7] + [50 * MILLION] * 2)[:2] if len(numbers) < 7 else numbers[5:7]
+            if kind == 1:
+                percents = [within(percent, 0, 100 * MILLION) for percent in percents]
+            self.scaling = (kind, x, x2, y, y2, percents)
+        else:
+            self.scaling = None
+        self.recompute()
+
+    def set_axes(self):
+        """The axes of P1, P2 and the scaling."""
+        if self.scaling is None:
+            self.axes = (UNSCALED, UNSCALED)
+            return
+        kind, x, x2, y, y2, percents = self.scaling
+        (left, bottom), (right, top) = self.p1, self.p2
+        if kind == 0:
+            self.axes = (anisotropic(left, right, x, x2), anisotropic(bottom, top, y, y2))
+        elif kind == 1:
+            size = min(Fraction(abs(right - left), abs(x2 - x)), Fraction(abs(top - bottom), abs(y2 - y)))
+            self.axes = (
+                isotropic(left, right, x, x2, size, percents[0]),
+                isotropic(bottom, top, y, y2, size, percents[1]),
+            )
+        else:
+            self.axes = (point_factor(left, x, x2), point_factor(bottom, y, y2))
+
+    def RO(self, numbers):
+        """The rotation of the coordinate system."""
+        numbers = listed(numbers, 0, 1)
+        degrees = rounded(numbers[0], MILLION) if numbers else 0
+        if degrees not in (0, 90, 180, 270):
+            raise Bad
+        self.rotation = degrees
+        self.recompute()
+
+    def IW(self, numbers):
+        """The window, by two corners; without numbers the page."""
+        numbers = listed(numbers, 0, 4)
+        page = self.page
+        corners = (self.place_of(*numbers[:2]), self.place_of(*numbers[2:])) if numbers else None
+        self.window = window_of(page, *corners or ((0, 0), (16 * page.width, 16 * page.height)))
+
+    def SP(self, numbers):
+        """The pen; without a number pen 0, which draws nothing."""
+        numbers = listed(numbers, 0, 1)
+        self.pen = whole(numbers[0], 0, 255) if numbers else 0
+
+    def PW(self, numbers):
+        """The width in millimetres of one pen, or of all."""
+        numbers = listed(numbers, 0, 1, 2)
+        width = rounded(640 * within(numbers[0], 0, 20 * MILLION), MILLION) if numbers else USUAL_WIDTH
+        if len(numbers) == 2:
+            self.widths[whole(numbers[1], 0, 255)] = width
+        else:
+            self.widths = [width] * 256
+
+    def PC(self, numbers):
+        """The colour of one pen; without a colour its default, without a pen the defaults of all."""
+        numbers = [whole(n, 0, 255) for n in listed(numbers, 0, 1, 4)]
+        if not numbers:
+            self.colours = [COLOURS.get(pen, BLACK) for pen in range(256)]
+        else:
+            pen, *colour = numbers
+            self.colours[pen] = tuple(colour) or COLOURS.get(pen, BLACK)
+
+    def SI(self, numbers):
+        """The size of characters in centimetres, kept in grains."""
+        width, height = listed(numbers, 0, 2) or (None, None)
+        if width is None:
+            self.size = USUAL_SIZE
+            return
+        for length in (width, height):
+            if length == 0:
+                raise Bad
+            within(length, -40 * MILLION, 40 * MILLION)
+        self.size = (rounded(6400 * width, MILLION), rounded(6400 * height, MILLION))
+
+    def DI(self, numbers):
+        """The direction of labels: the nearest axis, the run's if both are as near."""
+        run, rise = listed(numbers, 0, 2) or (MILLION, 0)
+        if run == rise == 0:
+            raise Bad
+        if abs(run) >= abs(rise):
+            self.direction = 0 if run > 0 else 180
+        else:
+            self.direction = 90 if rise > 0 else 270
+        return "axis" if run and rise else None
+
+    # Places
+
+    def place_of(self, x, y):
+        """The place of coordinates: rounded once to grains, and then turned."""
+        page = self.page
+        across = nearest(16 * (self.axes[0].units(x) + page.left))
+        up = nearest(16 * (self.axes[1].units(y) + page.below))
+        return on_the_page(page, across, up, self.rotation)
+
+    def recompute(self):
+        """Recomputes the pen's coordinates from its place, by the frame as it is now."""
+        self.set_axes()
+        page = self.page
+        across, up = on_the_rotated_page(page, self.place, self.rotation)
+        self.coordinates = (
+            self.axes[0].coordinate(Fraction(across, 16) - page.left),
+            self.axes[1].coordinate(Fraction(up, 16) - page.below),
+        )
+
+    def in_range(self, place):
+        if max(abs(place[0]), abs(place[1])) > FARTHEST:
+            raise Refused(f"place off range at byte {self.at}")
+        return place
+
+    def stroke(self, a, b):
+        """Draws a stroke, if the pen is not pen 0; one more than may be is enough."""
+        if self.pen and len(self.strokes) <= MOST_STROKES:
+            self.strokes.append(Stroke(self.pen, self.colours[self.pen], self.widths[self.pen], self.window, a, b))
+
+    def trace(self, places, is_drawn=True):
+        """Draws a path; all of its places must be in range."""
+        for place in places:
+            self.in_range(place)
+        for a, b in zip(places, places[1:]):
+            if is_drawn:
+                self.stroke(a, b)
+
+    # Moves
+
+    def move(self, x, y):
+        """Moves the pen to coordinates, and draws if it is down."""
+        place = self.place_of(x, y)
+        self.trace([self.place, place], self.is_down)
+        self.place, self.coordinates = place, (x, y)
+
+    def offset(self, x, y):
+        """Coordinates, given relative to the pen's."""
+        return self.coordinates[0] + x, self.coordinates[1] + y
+
+    def moves(self, numbers):
+        """Moves by pairs; a last coordinate without its partner is dropped and noted."""
+        for x, y in zip(numbers[::2], numbers[1::2]):
+            self.move(*(x, y) if self.is_absolute else self.offset(x, y))
+        return "bad" if len(numbers) % 2 else None
+
+    def PU(self, numbers):
+        """The pen goes up."""
+        self.is_down = False
+        return self.moves(numbers)
+
+    def PD(self, numbers):
+        """The pen goes down; if it was up and does not move, it draws a dot."""
+        if not self.is_down and len(numbers) < 2:
+            self.stroke(self.place, self.place)
+        self.is_down = True
+        return self.moves(numbers)
+
+    def PA(self, numbers):
+        """Coordinates are absolute."""
+        self.is_absolute = True
+        return self.moves(numbers)
+
+    def PR(self, numbers):
+        """Coordinates are relative."""
+        self.is_absolute = False
+        return self.moves(numbers)
+
+    def follow(self, entries):
+        """PE: the pen goes down or up for each pair, and stays so."""
+        for entry in entries:
+            if entry.kind == "pen":
+                self.pen = entry.has
+            elif entry.kind == "pair":
+                pair = entry.has
+                self.is_down = not pair.is_up
+                self.move(*(pair.x, pair.y) if pair.is_absolute else self.offset(pair.x, pair.y))
+            else:
+                self.note(entry.at, entry.kind, "PE" if entry.kind == "bad" else entry.has)
+
+    # Figures
+
+    def EA(self, numbers):
+        """The edge of a rectangle, up to a corner."""
+        self.edge(*listed(numbers, 2))
+
+    def ER(self, numbers):
+        """The edge of a rectangle, up to a corner relative to the pen."""
+        self.edge(*self.offset(*listed(numbers, 2)))
+
+    def edge(self, x, y):
+        own_x, own_y = self.coordinates
+        corners = [self.place_of(x, own_y), self.place_of(x, y), self.place_of(own_x, y)]
+        self.trace([self.place, *corners, self.place])
+
+    def CI(self, numbers):
+        """A circle about the pen, from the point on its right on."""
+        radius, *rest = listed(numbers, 1, 2)
+        start = self.offset(radius, 0)
+        ends = chord_ends(self.coordinates, start, 360_000, chord_of(rest))
+        self.trace([self.place_of(*point) for point in (start, *ends)])
+
+    def AA(self, numbers):
+        """An arc about a centre, from the pen on."""
+        x, y, *rest = listed(numbers, 3, 4)
+        self.arc((x, y), rest)
+
+    def AR(self, numbers):
+        """An arc about a centre relative to the pen."""
+        x, y, *rest = listed(numbers, 3, 4)
+        self.arc(self.offset(x, y), rest)
+
+    def arc(self, centre, numbers):
+        sweep, *rest = numbers
+        sweep = within(rounded(sweep, 1000), -360_000, 360_000)
+        ends = list(chord_ends(centre, self.coordinates, sweep, chord_of(rest)))
+        places = [self.place, *(self.place_of(*point) for point in ends)]
+        self.trace(places, self.is_down)
+        self.place, self.coordinates = places[-1], ends[-1]
+
+    # Labels
+
+    def write(self, text):
+        """LB: the strokes of each character; the pen ends where the next one would begin."""
+        column = line = 0
+        for byte in text:
+            if byte == 13:
+                column = 0
+            elif byte == 10:
+                line += 1
+            elif 32 <= byte <= 126:
+                # Grid points are a quarter of the width and a sixth of the height apart; a small
+                # letter has two thirds of this.
+                part = 2 if chr(byte).islower() else 3
+                for ends in lettering.strokes(byte):
+                    self.trace([self.spot(column, line, part * i, part * j) for i, j in ends])
+                column += 1
+        self.place = self.in_range(self.spot(column, line, 0, 0))
+        self.recompute()
+
+    def spot(self, column, line, i, j):
+        """The place of a point of a character: i twelfths of the width and j eighteenths of the height from its start."""
+        dx = rounded((18 * column + i) * self.size[0], 12)
+        dy = rounded((j - 36 * line) * self.size[1], 18)
+        dx, dy = turned(dx, dy, self.direction + self.rotation)
+        return self.place[0] + dx, self.place[1] + dy

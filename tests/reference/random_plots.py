@@ -1,0 +1,417 @@
+"""Random plots of every kind, with random options.
+
+A case follows from its seed alone. Most plots are mostly good and mostly on the page, since what is bad
+or off the page shows little.
+"""
+
+import random
+from typing import NamedTuple
+
+from .cutting import MILLION
+from .raster import PIXEL, count
+
+FORMS = ("marks", "marks", "marks", "pbm", "ppm", "pcl", "report", "report", "report")
+# Pixels whose centres are whole grains, and others.
+DOTS = (127, 127, 127, 254, 508, 1016, 100, 75, 150, 300, 10, 33, 64, 96, 600, 1200)
+MOST_PIXELS = 1200
+WIDTHS_OF_LINES = (0, 0, 1, 100_000, 350_000, 400_000, 1_000_000, 3_000_000, 20_000_000)
+# Directions of whole length: a line beside a pixel is a whole number of grains away.
+DIRECTIONS = ((1, 0, 1), (0, 1, 1), (3, 4, 5), (4, 3, 5), (5, 12, 13), (8, 15, 17), (4, -3, 5), (12, -5, 13))
+BETWEEN = (
+    b";", b" ", b"\r\n", b"\t", b";;", b"\x1b%-1B", b"\x1b%0A", b"\x1b%b", b"\x1b.(", b"\x1b.I80;;17:", b"\x1b.;;",
+    b"\x1bE", b"\x1be", b"\x1b", b"\x1b%-", b"\x1b.", b"@PJL SET\n", b"@PJL", b"!", b",", b"5", b"\xff", b"\0", b"A1",
+)
+SKIPPED = (
+    b"ZZ1,2;", b'CO"a;b";', b'CO"PD5;', b'CO"a"b;', b"SM*;", b'SM";', b"SM;", b"SMP;", b"SM", b"BLabc\x03", b"BL",
+    b"LT2,4;", b"PG;", b"VS", b"bp5,1", b"FT3\x1bE", b"PM0;PM2;EP", b"WU0", b"CR0,9",
+)
+CONTROLS = b"\r\r\n\n\x08\0\x1b\x7f\x80\xff\x0e"
+LETTERS = b"PUDASCIRWELBTO0123456789,;.-:<=\""
+KNOWN = b"IN DF IP SC RO IW SP PW PC PU PD PA PR PE EA ER CI AA AR LB DT SI DI BL SM".split()
+
+
+class Case(NamedTuple):
+    """What a program is given."""
+
+    form: str
+    options: dict
+    plot: bytes
+
+
+def random_case(seed):
+    """The case of a seed."""
+    return Writer(seed).case()
+
+
+def spelled(number):
+    """A number of millionths, in its shortest spelling."""
+    whole, decimals = divmod(abs(number), MILLION)
+    text = f"{whole}.{decimals:06}".rstrip("0").rstrip(".")
+    return "-" + text if number < 0 else text
+
+
+def coded(number, base):
+    """A whole number, coded for a PE."""
+    code, digits = 2 * abs(number) + (number < 0), []
+    while code >= base:
+        digits.append(63 + code % base)
+        code //= base
+    return bytes([*digits, (191 if base == 64 else 95) + code])
+
+
+class Writer:
+    """Writes one case."""
+
+    def __init__(self, seed):
+        self.random = random.Random(seed)
+        self.scale = None  # the numbers of the most recent SC: coordinates lie between them
+
+    def chance(self, percent):
+        return self.random.random() * 100 < percent
+
+    def pick(self, *choices):
+        return self.random.choice(choices)
+
+    def upto(self, most):
+        return self.random.randint(0, most)
+
+    def case(self):
+        form, options = self.settings()
+        kind = self.upto(99)
+        if kind < 3:
+            plot = self.random.randbytes(self.upto(120))
+        elif kind < 7:
+            plot = bytes(self.random.choice(LETTERS) for _ in range(self.upto(200)))
+        else:
+            plot = self.plot(self.upto(14) + 1)
+            if kind < 32:
+                plot = self.mutated(plot)
+        return Case(form, options, plot)
+
+    # Options
+
+    def settings(self):
+        form = self.pick(*FORMS)
+        self.dots = self.pick(75, 75, 150, 600) if form == "pcl" else self.pick(*DOTS)
+        if form == "report":
+            self.width, self.height = self.length(), self.length()
+        else:
+            self.width, self.height = self.side(), self.side()
+        self.left, self.below = (self.pick(0, 0, 0, 1, 20, 100, self.upto(65536)) for _ in range(2))
+        options = {"width": self.width, "height": self.height, "left": self.left, "below": self.below}
+        if form != "report":
+            options.update(self.picture_settings(form))
+        if self.chance(0.5):
+            options[self.pick("width", "left", "dots", "from", "band")] = self.pick("0", "-1", "+70", "65537", "x", "")
+        return form, {name: str(value) for name, value in options.items() if str(value) != "0" or self.chance(20)}
+
+    def length(self):
+        """A side of a page, in plotter units."""
+        return self.pick(64, 65, 100, 128, 200, 1000, 11880, 65535, 65536, 64 + self.upto(2000))
+
+    def side(self):
+        """A side of a page of a few pixels."""
+        pixels = self.pick(1, 4, 8, 8, 8, 9, 10, 15, 16, 17, 30)
+        return min(65536, max(64, pixels * 1016 // self.dots + self.pick(0, 0, 0, 1, self.upto(40))))
+
+    def picture_settings(self, form):
+        options = {"dots": self.dots}
+        columns, rows = count(self.width, self.dots), count(self.height, self.dots)
+        most = max(1, MOST_PIXELS // max(1, columns))
+        if rows > most:
+            options["from"] = self.random.randint(rows - most, rows)
+        elif self.chance(15):
+            options["from"] = min(99999, self.upto(rows + 1))
+        if self.chance(25):
+            options["band"] = self.pick(1, 2, 3, 5, 64, 4096)
+        if self.chance(15):
+            options["pens"] = self.pick("all", "1", "2", "1,3", "2-255", "001-003,9", "1,1,2", "5-5", "3-1", "0-2", "1,", "256", "")
+        if form == "pcl" and self.chance(4):
+            options["dots"] = self.pick(*DOTS)
+        return options
+
+    # Numbers
+
+    def coordinate(self, axis):
+        """A coordinate in millionths, along x or y."""
+        side, margin = ((self.width, self.left), (self.height, self.below))[axis]
+        if self.scale and self.chance(85):
+            first, last = self.scale[axis]
+            return self.pick(first, last, (first + last) // 2, first + (last - first) * self.upto(24) // 16)
+        kind = self.upto(99)
+        if kind < 35:
+            units = MILLION * self.upto(side)
+        elif kind < 60:
+            units = self.upto(16 * side) * 62_500
+        elif kind < 68:
+            units = (2 * self.upto(16 * side) + 1) * 31_250 + self.pick(0, 0, -1, 1)
+        elif kind < 76:
+            units = self.pick(0, side, side // 2, -1, side + 1) * MILLION
+        elif kind < 88:
+            units = self.random.randint(-20 * MILLION, (side + 20) * MILLION)
+        elif kind < 97:
+            units = MILLION * self.random.randint(-side, 2 * side)
+        elif kind < 99:
+            units = self.pick(-1, 1) * 65_536 * MILLION + self.pick(0, 0, 1, -1, 31_249, 31_250, 31_251, -31_250)
+        else:
+            return self.random.randint(-8_388_607, 8_388_607) * MILLION + self.pick(0, 999_999)
+        return units - margin * MILLION
+
+    def place(self):
+        return [self.coordinate(0), self.coordinate(1)]
+
+    def number(self, number):
+        """A number of millionths as text, sometimes in an odd spelling."""
+        text = spelled(number)
+        if self.chance(90):
+            return text
+        if "." in text:
+            return text.replace("0.", ".", 1) if self.chance(50) else text.ljust(12, "0") + self.pick("", "9")
+        return self.pick("+" + text if number >= 0 else text, text + ".", text + ".0", text.replace("-", "-00"))
+
+    def numbers(self, numbers):
+        """The numbers of an instruction as text, sometimes too few, too many or not well written."""
+        numbers = list(numbers)
+        if self.chance(5):
+            numbers = numbers[: self.upto(len(numbers))]
+        elif self.chance(3):
+            numbers += [MILLION * self.upto(9) for _ in range(self.upto(3))]
+        text = ""
+        for number in numbers:
+            word = self.number(number)
+            gap = self.pick(",", ",", ",", " ", ", ", "\n", ",,", " ,\t") if text else self.pick("", "", "", " ", ",")
+            text += ("" if text and word[0] in "-+" and self.chance(30) else gap) + word
+        if self.chance(3):
+            text += self.pick(",", " ", "-", ".", "+", "e3", "!", ",8388608", ",8388607", '"', "..5", ",\x1b", "@", ",1,2")
+        return text.encode() + self.pick(b";", b";", b";", b";", b"", b"\n")
+
+    # Plots
+
+    def plot(self, instructions):
+        return b"".join(self.piece() for _ in range(instructions))
+
+    def piece(self):
+        kind = self.upto(99)
+        if kind < 4:
+            return self.pick(*BETWEEN)
+        if kind < 6:
+            return self.pick(*SKIPPED)
+        if kind < 10:
+            return self.tie()
+        if kind < 12:
+            return self.edge_of_the_window()
+        name = self.pick(*KNOWN) if kind < 40 else self.pick(b"PU", b"PD", b"PD", b"PA", b"PR", b"PE", b"PE", b"LB", b"CI", b"AA")
+        code = name.lower() if self.chance(5) else name
+        special = {
+            b"PE": self.polyline, b"LB": self.label, b"DT": self.terminator, b"BL": lambda: b"ab\x03", b"SM": lambda: b"*;",
+        }
+        if name in special:
+            return code + special[name]()
+        return code + self.numbers(getattr(self, "of_" + name.decode())())
+
+    def of_IN(self):
+        self.scale = None
+        return []
+
+    of_DF = of_IN
+
+    def of_IP(self):
+        if self.chance(30):
+            return []
+        if self.chance(30):
+            return self.plotter_units()
+        corner = self.plotter_units()
+        return corner + (corner if self.chance(5) else self.plotter_units())
+
+    def plotter_units(self):
+        return [MILLION * self.upto(self.width) + self.pick(0, 0, 0, 500_000, 499_999), MILLION * self.upto(self.height)]
+
+    def of_SC(self):
+        if self.chance(15):
+            self.scale = None
+            return []
+        x, y = self.span(), self.span()
+        numbers = [*x, *y]
+        kind = self.pick(0, 0, 1, 1, 2)
+        if kind == 2:
+            factors = [self.pick(1, 2, 8, -4, 16) * MILLION // self.pick(1, 1, 2, 3) for _ in range(2)]
+            numbers = [x[0], factors[0], y[0], factors[1]]
+            x, y = ((at, at + side * MILLION * MILLION // factor) for at, side, factor in
+                    ((x[0], self.width, factors[0]), (y[0], self.height, factors[1])))
+        self.scale = (x, y)
+        if kind or self.chance(30):
+            numbers.append(kind * MILLION if self.chance(95) else self.pick(-1, 3, 500_000, 1_499_999, -500_000, -500_001))
+            if self.chance(50):
+                numbers += [self.pick(0, 100, 50, 33, 101, -1, 7) * MILLION for _ in range(self.pick(1, 2, 2))]
+        return numbers
+
+    def span(self):
+        """The coordinates of two corners on an axis."""
+        if self.chance(70):
+            first = self.pick(0, 0, 0, -1, 5) * MILLION
+            return first, first + self.pick(8, 3, 7, 100, 1, -8, -3, 1000, 0) * MILLION
+        return self.pick(
+            (-8_388_607_000_000, 8_388_607_000_000), (0, 1), (1, 0), (-500_000, 250_000), (0, 123_456_789), (MILLION, 1),
+        )
+
+    def of_RO(self):
+        return self.pick([], [0], [90], [90], [180], [270], [270], [45], [360], [-90], [89]) and [
+            self.pick(0, 90, 90, 180, 180, 270, 270, 45, 360, -90) * MILLION + self.pick(0, 0, 0, 499_999, -500_000, 500_000)
+        ]
+
+    def of_IW(self):
+        return [] if self.chance(20) else self.place() + self.place()
+
+    def of_SP(self):
+        return self.pen_number() if self.chance(90) else []
+
+    def pen_number(self):
+        pen = self.pick(1, 1, 2, 2, 3, 4, 5, 6, 7, 8, 0, 255, 256, -1)
+        return [pen * MILLION + self.pick(0, 0, 0, 0, 0, 499_999, 500_000, -500_000)]
+
+    def of_PW(self):
+        width = self.pick(*WIDTHS_OF_LINES, self.upto(2 * MILLION), self.pick(20_000_001, -1, 781, 782))
+        return self.pick([], [width], [width], [width] + self.pen_number())
+
+    def of_PC(self):
+        colour = [self.pick(0, 255, 10, 128, self.upto(255), 256, -1) * MILLION + self.pick(0, 0, 499_999) for _ in range(3)]
+        return self.pick([], self.pen_number(), self.pen_number() + colour, self.pen_number() + colour)
+
+    def moves(self):
+        pairs = [self.pick(self.place, self.place, self.step)() for _ in range(self.pick(0, 1, 1, 1, 2, 3))]
+        return sum(pairs, [])
+
+    of_PU = of_PD = of_PA = of_PR = moves
+
+    def step(self):
+        """A small relative move."""
+        if self.scale:
+            return [(self.scale[i][1] - self.scale[i][0]) // self.pick(1, 2, 3, 8, -3) for i in range(2)]
+        return [self.random.randint(-300, 300) * self.pick(62_500, 100_000, 31_250, 333_333) for _ in range(2)]
+
+    def of_EA(self):
+        return self.place()
+
+    def of_ER(self):
+        return self.step()
+
+    def length_of_chord(self):
+        angle = self.pick(45, 60, 30, 90, 180, 7, 0, 181) * MILLION + self.pick(0, 0, 0, 499, 500, -500)
+        return self.pick([], [angle], [angle], [self.pick(499_500, 499_499, 500_000, 3_333_333)] if self.chance(10) else [angle])
+
+    def of_CI(self):
+        return [self.pick(*self.step(), 0, 16 * MILLION, 7_500_000)] + self.length_of_chord()
+
+    def of_AA(self):
+        return self.place() + self.sweep() + self.length_of_chord()
+
+    def of_AR(self):
+        return self.step() + self.sweep() + self.length_of_chord()
+
+    def sweep(self):
+        angle = self.pick(90, -90, 37, 180, 270, 360, -360, 0, 1, 361) * MILLION
+        return [angle + self.pick(0, 0, 0, 500_000, 499, 500, 12_345, self.upto(MILLION))]
+
+    def of_SI(self):
+        size = [self.pick(190_000, 270_000, 100_000, -100_000, 30_000, 78, 79, 1, 0, 40_000_000, 40_000_001, 33_333) for _ in range(2)]
+        return [] if self.chance(15) else size
+
+    def of_DI(self):
+        return self.pick([], [0, 1], [1, 0], [0, -1], [-1, 0], [1, 1], [-3, 2], [2, -3], [0, 0]) and [
+            self.pick(0, 1, -1, 2, 0, 300_000) * self.pick(1, MILLION) for _ in range(2)
+        ]
+
+    def terminator(self):
+        byte = self.pick(b"$", b"$", b"\x03", b"A", b'"', b"5", b";", b"\0", b"\n", b"\x1b", b"", b" ")
+        return byte + self.pick(b"", b";", b",1;", b"5", b'"x;y";')
+
+    def label(self):
+        size = self.pick(0, 1, 1, 2, 3, 5)
+        text = bytes(self.random.choice(CONTROLS) if self.chance(20) else self.random.randint(32, 126) for _ in range(size))
+        return text + self.pick(b"\x03", b"\x03", b"\x03", b"\x03$", b"$", b'"', b"")
+
+    # Encoded polylines
+
+    def polyline(self):
+        base = 64
+        text = b""
+        fraction = 0
+        for _ in range(self.pick(0, 1, 1, 2, 4)):
+            kind = self.upto(99)
+            if kind < 12:
+                base, text = 32, text + b"7"
+            elif kind < 22:
+                fraction = self.pick(0, 1, 4, 5, 10, 26, 27, -1)
+                text += b">" + self.stray() + coded(fraction, base)
+                fraction = min(26, max(0, fraction))
+            elif kind < 32:
+                text += b":" + self.stray() + coded(self.pick(1, 2, 3, 0, 255, 256, -1), base)
+            elif kind < 40:
+                text += self.stray() or self.pick(b":", b">", b"_", b"?", b"~", b"\xbf", b"A" * 6, b"A" * 7, b"?" * 7 + b"_")
+            text += self.pick(b"", b"", b"<", b"=", b"<=", b"=<") + self.pair(base, fraction)
+        return text + self.pick(b";", b";", b";", b";", b";", b"", b"\x03;")
+
+    def pair(self, base, fraction):
+        """Two numbers: a place or a step."""
+        numbers = self.pick(self.place, self.step, self.step)()
+        whole = [min(2**33, max(-(2**33), number * 2**fraction // MILLION)) for number in numbers]
+        return coded(whole[0], base) + self.stray() + coded(whole[1], base)
+
+    def stray(self):
+        return self.pick(b" ", b"\n", b"!", b"5", b"\x7f", b"\xff", b"@", b"\xb0", b'"', b"7") if self.chance(4) else b""
+
+    # What is hard to hit by chance
+
+    def centre(self):
+        """The centre of a pixel in grains, if it is whole."""
+        columns, rows = count(self.width, self.dots), count(self.height, self.dots)
+        column, row = self.upto(max(0, columns - 1)), self.upto(max(0, rows - 1))
+        return (2 * column + 1) * PIXEL // 2 // self.dots, 16 * self.height - (2 * row + 1) * PIXEL // 2 // self.dots
+
+    def pair_of(self, place):
+        """A place on the page as a pair of plotter units."""
+        x, y = place
+        return f"{spelled(x * 62_500 - self.left * MILLION)},{spelled(y * 62_500 - self.below * MILLION)}".encode()
+
+    def tie(self):
+        """A line whose edge goes through the centre of a pixel, or misses it by a grain."""
+        dx, dy, length = self.pick(*DIRECTIONS)
+        least = -(-12192 // self.dots)
+        half = self.pick(least, length * (self.upto(12) + 1), length * (-(-least // length)))
+        aside = half // length
+        x, y = self.centre()
+        x, y = x - dy * aside + self.pick(0, 0, 0, 1, -1), y + dx * aside
+        first, last = self.pick((-20, 20), (0, 20), (0, 0), (-20, 0), (1, 30), (-400, 400))
+        if self.chance(30):
+            # The line's round end reaches the centre.
+            dx, dy, first, last = -dy, dx, 0, abs(last)
+        width = spelled(2 * half * MILLION // 640).encode()
+        ends = [self.pair_of((x + k * dx, y + k * dy)) for k in (first, last)]
+        scaling = b"" if self.scale is None else b"SC;"
+        self.scale = None
+        return scaling + b"PW" + width + b";PA;PU" + ends[0] + b";PD" + ends[1] + b";"
+
+    def edge_of_the_window(self):
+        """A window whose edges go through centres of pixels."""
+        self.scale = None
+        return b"SC;IW" + self.pair_of(self.centre()) + b"," + self.pair_of(self.centre()) + b";"
+
+    # Mutations
+
+    def mutated(self, plot):
+        for _ in range(self.pick(1, 1, 2, 5)):
+            at, to = sorted((self.upto(len(plot)), self.upto(len(plot))))
+            kind = self.upto(5)
+            if kind == 0:
+                plot = plot[:at]
+            elif kind == 1:
+                plot = plot[:at] + self.random.randbytes(1) + plot[at + 1 :]
+            elif kind == 2:
+                plot = plot[:at] + bytes([self.random.choice(LETTERS)]) + plot[at:]
+            elif kind == 3:
+                plot = plot[:at] + plot[at + 1 :]
+            elif kind == 4:
+                plot = plot[:to] + plot[at:]
+            else:
+                plot = plot[:at] + self.pick(*BETWEEN, *SKIPPED) + plot[at:]
+        return plot
