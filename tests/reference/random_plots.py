@@ -19,7 +19,7 @@ WIDTHS_OF_LINES = (0, 0, 1, 100_000, 350_000, 400_000, 1_000_000, 3_000_000, 20_
 DIRECTIONS = ((1, 0, 1), (0, 1, 1), (3, 4, 5), (4, 3, 5), (5, 12, 13), (8, 15, 17), (4, -3, 5), (12, -5, 13))
 BETWEEN = (
     b";", b" ", b"\r\n", b"\t", b";;", b"\x1b%-1B", b"\x1b%0A", b"\x1b%b", b"\x1b.(", b"\x1b.I80;;17:", b"\x1b.;;",
-    b"\x1bE", b"\x1be", b"\x1b", b"\x1b%-", b"\x1b.", b"@PJL SET\n", b"@PJL", b"!", b",", b"5", b"\xff", b"\0", b"A1",
+    b"\x1bE", b"\x1be", b"\x1b", b"\x1b%-", b"\x1b.", b"@PJL SET\n", b"@PJL", b"@A\rPD;\n", b"!", b",", b"5", b"\xff", b"\0", b"A1",
 )
 SKIPPED = (
     b"ZZ1,2;", b'CO"a;b";', b'CO"PD5;', b'CO"a"b;', b"SM*;", b'SM";', b"SM;", b"SMP;", b"SM", b"BLabc\x03", b"BL",
@@ -27,7 +27,25 @@ SKIPPED = (
 )
 CONTROLS = b"\r\r\n\n\x08\0\x1b\x7f\x80\xff\x0e"
 LETTERS = b"PUDASCIRWELBTO0123456789,;.-:<=\""
-KNOWN = b"IN DF IP SC RO IW SP PW PC PU PD PA PR PE EA ER CI AA AR LB DT SI DI BL SM".split()
+# What a plot is about: its instructions come from one of these lists. Words in small letters are pieces of
+# other kinds.
+THEMES = [
+    theme.split()
+    for theme in (
+        "IP IP SC SC SC RO RO IW DF PU PD PD PA PR EA CI AA LB",
+        "IP SC PU PD PR PR PD PR PD AR ER CI",
+        "LB LB LB LB SI SI DI DI DT DT RO DF IN SC PU PD PR PE BL",
+        "PC PC PC SP PW PD PD PU IN DF LB EA tie",
+        "PE PE PE PE PD PU PR SC SP",
+        "CI CI AA AA AR AR EA ER PU PD SC RO PE",
+        "IW IW IP RO SC PD PD PU EA tie tie edge",
+        "tie tie tie tie tie PC SP edge",
+        "between between skipped PD PD PU PA SP DT LB IN",
+        "IN DF IP SC RO IW SP PW PC PU PD PA PR PE EA ER CI AA AR LB DT SI DI BL SM",
+        "IN DF IP SC RO IW SP PW PC PU PD PA PR PE EA ER CI AA AR LB DT SI DI BL SM",
+    )
+]
+DRAWING = ("PD", "PD", "PD", "PR", "PE", "EA", "ER", "CI", "AA", "AR", "LB")
 
 
 class Case(NamedTuple):
@@ -65,6 +83,10 @@ class Writer:
     def __init__(self, seed):
         self.random = random.Random(seed)
         self.scale = None  # the numbers of the most recent SC: coordinates lie between them
+        self.is_relative = False  # coordinates of moves
+        self.terminator = b"\x03"  # of labels
+        self.is_wild = self.chance(45)  # whether the plot has what is bad
+        self.is_far = self.chance(8)  # whether it has places near the edge of the range
 
     def chance(self, percent):
         return self.random.random() * 100 < percent
@@ -97,7 +119,7 @@ class Writer:
             self.width, self.height = self.length(), self.length()
         else:
             self.width, self.height = self.side(), self.side()
-        self.left, self.below = (self.pick(0, 0, 0, 1, 20, 100, self.upto(65536)) for _ in range(2))
+        self.left, self.below = (self.pick(0, 0, 0, 0, 0, 1, 20, 32, 100, self.upto(65536)) for _ in range(2))
         options = {"width": self.width, "height": self.height, "left": self.left, "below": self.below}
         if form != "report":
             options.update(self.picture_settings(form))
@@ -125,7 +147,9 @@ class Writer:
         if self.chance(25):
             options["band"] = self.pick(1, 2, 3, 5, 64, 4096)
         if self.chance(15):
-            options["pens"] = self.pick("all", "1", "2", "1,3", "2-255", "001-003,9", "1,1,2", "5-5", "3-1", "0-2", "1,", "256", "")
+            options["pens"] = self.pick("all", "1", "2", "1,3", "2-255", "001-003,9", "1,1,2", "1-4,250-255")
+        if self.chance(1.5):
+            options["pens"] = self.pick("3-1", "0-2", "1,", "256", "", "1-2-3", "-1", " 1", "1 ", "0001", "ALL", "+1")
         if form == "pcl" and self.chance(4):
             options["dots"] = self.pick(*DOTS)
         return options
@@ -138,7 +162,9 @@ class Writer:
         if self.scale and self.chance(85):
             first, last = self.scale[axis]
             return self.pick(first, last, (first + last) // 2, first + (last - first) * self.upto(24) // 16)
-        kind = self.upto(99)
+        if self.is_far and self.chance(15):
+            return self.far_coordinate() - margin * MILLION
+        kind = self.upto(96 if self.is_wild else 82)
         if kind < 35:
             units = MILLION * self.upto(side)
         elif kind < 60:
@@ -149,13 +175,15 @@ class Writer:
             units = self.pick(0, side, side // 2, -1, side + 1) * MILLION
         elif kind < 88:
             units = self.random.randint(-20 * MILLION, (side + 20) * MILLION)
-        elif kind < 97:
-            units = MILLION * self.random.randint(-side, 2 * side)
-        elif kind < 99:
-            units = self.pick(-1, 1) * 65_536 * MILLION + self.pick(0, 0, 1, -1, 31_249, 31_250, 31_251, -31_250)
         else:
-            return self.random.randint(-8_388_607, 8_388_607) * MILLION + self.pick(0, 999_999)
+            units = MILLION * self.random.randint(-side, 2 * side)
         return units - margin * MILLION
+
+    def far_coordinate(self):
+        """A coordinate near the edge of the range, or beyond it."""
+        if self.chance(20):
+            return self.random.randint(-8_388_607, 8_388_607) * MILLION + self.pick(0, 999_999)
+        return self.pick(-1, 1) * 65_536 * MILLION + self.pick(0, 0, 1, -1, 31_249, 31_250, 31_251, -31_250)
 
     def place(self):
         return [self.coordinate(0), self.coordinate(1)]
@@ -172,45 +200,56 @@ class Writer:
     def numbers(self, numbers):
         """The numbers of an instruction as text, sometimes too few, too many or not well written."""
         numbers = list(numbers)
-        if self.chance(5):
+        if self.is_wild and self.chance(6):
             numbers = numbers[: self.upto(len(numbers))]
-        elif self.chance(3):
+        elif self.is_wild and self.chance(4):
             numbers += [MILLION * self.upto(9) for _ in range(self.upto(3))]
         text = ""
         for number in numbers:
             word = self.number(number)
             gap = self.pick(",", ",", ",", " ", ", ", "\n", ",,", " ,\t") if text else self.pick("", "", "", " ", ",")
             text += ("" if text and word[0] in "-+" and self.chance(30) else gap) + word
-        if self.chance(3):
+        if self.is_wild and self.chance(4):
             text += self.pick(",", " ", "-", ".", "+", "e3", "!", ",8388608", ",8388607", '"', "..5", ",\x1b", "@", ",1,2")
         return text.encode() + self.pick(b";", b";", b";", b";", b"", b"\n")
 
     # Plots
 
-    def plot(self, instructions):
-        return b"".join(self.piece() for _ in range(instructions))
+    def plot(self, pieces):
+        theme = self.random.choice(THEMES)
+        self.pen, has_pens = 0, self.chance(40)
+        plot = b"PU" + self.pair_of(self.centre()) + b";" if self.chance(70) else b""
+        for _ in range(pieces):
+            if self.is_wild and self.chance(5):
+                plot += self.piece(self.pick("between", "skipped"))
+            if has_pens:
+                # A report tells strokes of different pens from one another.
+                self.pen = self.pen % 255 + 1
+                plot += b"SP%d;" % self.pen
+            plot += self.piece(self.random.choice(theme))
+            if self.chance(40):
+                plot += self.piece(self.pick(*DRAWING))
+        return plot
 
-    def piece(self):
-        kind = self.upto(99)
-        if kind < 4:
-            return self.pick(*BETWEEN)
-        if kind < 6:
-            return self.pick(*SKIPPED)
-        if kind < 10:
-            return self.tie()
-        if kind < 12:
-            return self.edge_of_the_window()
-        name = self.pick(*KNOWN) if kind < 40 else self.pick(b"PU", b"PD", b"PD", b"PA", b"PR", b"PE", b"PE", b"LB", b"CI", b"AA")
-        code = name.lower() if self.chance(5) else name
-        special = {
-            b"PE": self.polyline, b"LB": self.label, b"DT": self.terminator, b"BL": lambda: b"ab\x03", b"SM": lambda: b"*;",
+    def piece(self, name):
+        """An instruction, or a piece of another kind."""
+        others = {
+            "between": lambda: self.pick(*BETWEEN), "skipped": lambda: self.pick(*SKIPPED), "tie": self.tie,
+            "edge": self.edge_of_the_window,
         }
-        if name in special:
-            return code + special[name]()
-        return code + self.numbers(getattr(self, "of_" + name.decode())())
+        if name in others:
+            return others[name]()
+        code = (name.lower() if self.chance(5) else name).encode()
+        texts = {
+            "PE": self.polyline, "LB": self.label, "DT": self.new_terminator,
+            "BL": lambda: b"ab" + self.pick(self.terminator, b"\x03"), "SM": lambda: b"*;",
+        }
+        if name in texts:
+            return code + texts[name]()
+        return code + self.numbers(getattr(self, "of_" + name)())
 
     def of_IN(self):
-        self.scale = None
+        self.scale, self.is_relative, self.terminator = None, False, b"\x03"
         return []
 
     of_DF = of_IN
@@ -247,17 +286,19 @@ class Writer:
 
     def span(self):
         """The coordinates of two corners on an axis."""
-        if self.chance(70):
+        if self.chance(85) or not self.is_wild:
             first = self.pick(0, 0, 0, -1, 5) * MILLION
-            return first, first + self.pick(8, 3, 7, 100, 1, -8, -3, 1000, 0) * MILLION
+            return first, first + self.pick(8, 3, 7, 100, 1, -8, -3, 1000) * MILLION
         return self.pick(
-            (-8_388_607_000_000, 8_388_607_000_000), (0, 1), (1, 0), (-500_000, 250_000), (0, 123_456_789), (MILLION, 1),
+            (-8_388_607_000_000, 8_388_607_000_000), (0, 1), (1, 0), (5, 5), (-500_000, 250_000), (0, 123_456_789), (MILLION, 1),
         )
 
     def of_RO(self):
-        return self.pick([], [0], [90], [90], [180], [270], [270], [45], [360], [-90], [89]) and [
-            self.pick(0, 90, 90, 180, 180, 270, 270, 45, 360, -90) * MILLION + self.pick(0, 0, 0, 499_999, -500_000, 500_000)
-        ]
+        if self.chance(10):
+            return []
+        if self.is_wild and self.chance(15):
+            return [self.pick(0, 90, 270, 45, 360, -90) * MILLION + self.pick(0, 499_999, -500_000, 500_000)]
+        return [self.pick(0, 90, 90, 180, 270, 270) * MILLION]
 
     def of_IW(self):
         return [] if self.chance(20) else self.place() + self.place()
@@ -266,7 +307,7 @@ class Writer:
         return self.pen_number() if self.chance(90) else []
 
     def pen_number(self):
-        pen = self.pick(1, 1, 2, 2, 3, 4, 5, 6, 7, 8, 0, 255, 256, -1)
+        pen = self.pick(1, 1, 2, 2, 3, 4, 5, 6, 7, 8, 255, *((0, 256, -1) if self.is_wild else ()))
         return [pen * MILLION + self.pick(0, 0, 0, 0, 0, 499_999, 500_000, -500_000)]
 
     def of_PW(self):
@@ -277,11 +318,19 @@ class Writer:
         colour = [self.pick(0, 255, 10, 128, self.upto(255), 256, -1) * MILLION + self.pick(0, 0, 499_999) for _ in range(3)]
         return self.pick([], self.pen_number(), self.pen_number() + colour, self.pen_number() + colour)
 
-    def moves(self):
-        pairs = [self.pick(self.place, self.place, self.step)() for _ in range(self.pick(0, 1, 1, 1, 2, 3))]
-        return sum(pairs, [])
+    def of_PD(self):
+        pair = self.step if self.is_relative != self.chance(4) else self.place
+        return sum((pair() for _ in range(self.pick(0, 1, 1, 1, 2, 3))), [])
 
-    of_PU = of_PD = of_PA = of_PR = moves
+    of_PU = of_PD
+
+    def of_PA(self):
+        self.is_relative = False
+        return self.of_PD()
+
+    def of_PR(self):
+        self.is_relative = True
+        return self.of_PD()
 
     def step(self):
         """A small relative move."""
@@ -296,8 +345,10 @@ class Writer:
         return self.step()
 
     def length_of_chord(self):
-        angle = self.pick(45, 60, 30, 90, 180, 7, 0, 181) * MILLION + self.pick(0, 0, 0, 499, 500, -500)
-        return self.pick([], [angle], [angle], [self.pick(499_500, 499_499, 500_000, 3_333_333)] if self.chance(10) else [angle])
+        angle = self.pick(45, 60, 30, 90, 180, 7) * MILLION + self.pick(0, 0, 0, 499, 500, -500)
+        if self.is_wild and self.chance(20):
+            angle = self.pick(499_500, 499_499, 500_000, 180_000_499, 180_000_500, 0)
+        return [] if self.chance(20) else [angle]
 
     def of_CI(self):
         return [self.pick(*self.step(), 0, 16 * MILLION, 7_500_000)] + self.length_of_chord()
@@ -309,26 +360,33 @@ class Writer:
         return self.step() + self.sweep() + self.length_of_chord()
 
     def sweep(self):
-        angle = self.pick(90, -90, 37, 180, 270, 360, -360, 0, 1, 361) * MILLION
+        angle = self.pick(90, -90, 37, 180, 270, 359, -359, 0, 1, *((360, -360) if self.is_wild else ())) * MILLION
         return [angle + self.pick(0, 0, 0, 500_000, 499, 500, 12_345, self.upto(MILLION))]
 
     def of_SI(self):
-        size = [self.pick(190_000, 270_000, 100_000, -100_000, 30_000, 78, 79, 1, 0, 40_000_000, 40_000_001, 33_333) for _ in range(2)]
-        return [] if self.chance(15) else size
+        sizes = (190_000, 100_000, -100_000, self.upto(300_000), self.upto(300_000), -self.upto(200_000))
+        if self.is_wild:
+            sizes += (78, 79, 1, 0, 40_000_000, 40_000_001)
+        return [] if self.chance(15) else [self.pick(*sizes), self.pick(*sizes)]
 
     def of_DI(self):
-        return self.pick([], [0, 1], [1, 0], [0, -1], [-1, 0], [1, 1], [-3, 2], [2, -3], [0, 0]) and [
-            self.pick(0, 1, -1, 2, 0, 300_000) * self.pick(1, MILLION) for _ in range(2)
-        ]
+        if self.chance(10):
+            return []
+        along = self.pick((1, 0), (0, 1), (-1, 0), (0, -1), (1, 1), (-1, 1), (1, -1), (-1, -1), (-3, 2), (2, -3), (0, 0))
+        return [part * self.pick(1, MILLION) for part in along] if self.chance(20) else [part * MILLION for part in along]
 
-    def terminator(self):
-        byte = self.pick(b"$", b"$", b"\x03", b"A", b'"', b"5", b";", b"\0", b"\n", b"\x1b", b"", b" ")
-        return byte + self.pick(b"", b";", b",1;", b"5", b'"x;y";')
+    def new_terminator(self):
+        byte = self.pick(b"$", b"$", b"\x03", b"A", b'"', b"5", b";", b" ")
+        if self.is_wild and self.chance(30):
+            byte = self.pick(b"\0", b"\n", b"\x1b", b"")
+        elif self.chance(70):
+            self.terminator = b"\x03" if byte == b";" else byte
+        return byte + self.pick(b"", b";", b";", b",1;", b"5", b'"x;y";')
 
     def label(self):
-        size = self.pick(0, 1, 1, 2, 3, 5)
-        text = bytes(self.random.choice(CONTROLS) if self.chance(20) else self.random.randint(32, 126) for _ in range(size))
-        return text + self.pick(b"\x03", b"\x03", b"\x03", b"\x03$", b"$", b'"', b"")
+        size = self.pick(0, 1, 1, 2, 2, 3, 4, 6)
+        text = bytes(self.random.choice(CONTROLS) if self.chance(15) else self.random.randint(32, 126) for _ in range(size))
+        return text + (self.pick(b"\x03", b"\x03$", b"$", b"") if self.chance(15) else self.terminator)
 
     # Encoded polylines
 
@@ -358,7 +416,9 @@ class Writer:
         return coded(whole[0], base) + self.stray() + coded(whole[1], base)
 
     def stray(self):
-        return self.pick(b" ", b"\n", b"!", b"5", b"\x7f", b"\xff", b"@", b"\xb0", b'"', b"7") if self.chance(4) else b""
+        if not self.is_wild:
+            return b""
+        return self.pick(b" ", b"\n", b"!", b"5", b"\x7f", b"\xff", b"@", b"\xb0", b'"', b"7") if self.chance(8) else b""
 
     # What is hard to hit by chance
 
@@ -388,7 +448,7 @@ class Writer:
         width = spelled(2 * half * MILLION // 640).encode()
         ends = [self.pair_of((x + k * dx, y + k * dy)) for k in (first, last)]
         scaling = b"" if self.scale is None else b"SC;"
-        self.scale = None
+        self.scale, self.is_relative = None, False
         return scaling + b"PW" + width + b";PA;PU" + ends[0] + b";PD" + ends[1] + b";"
 
     def edge_of_the_window(self):
