@@ -106,7 +106,7 @@ class Writer:
             plot = bytes(self.random.choice(LETTERS) for _ in range(self.upto(200)))
         else:
             plot = self.plot(self.upto(14) + 1)
-            if kind < 32:
+            if self.is_wild and self.chance(50):
                 plot = self.mutated(plot)
         return Case(form, options, plot)
 
@@ -255,9 +255,9 @@ class Writer:
     of_DF = of_IN
 
     def of_IP(self):
-        if self.chance(30):
+        if self.chance(40):
             return []
-        if self.chance(30):
+        if self.chance(35):
             return self.plotter_units()
         corner = self.plotter_units()
         return corner + (corner if self.chance(5) else self.plotter_units())
@@ -274,6 +274,8 @@ class Writer:
         kind = self.pick(0, 0, 1, 1, 2)
         if kind == 2:
             factors = [self.pick(1, 2, 8, -4, 16) * MILLION // self.pick(1, 1, 2, 3) for _ in range(2)]
+            if self.chance(20):
+                factors[0] = x[0] or factors[0]
             numbers = [x[0], factors[0], y[0], factors[1]]
             x, y = ((at, at + side * MILLION * MILLION // factor) for at, side, factor in
                     ((x[0], self.width, factors[0]), (y[0], self.height, factors[1])))
@@ -286,9 +288,14 @@ class Writer:
 
     def span(self):
         """The coordinates of two corners on an axis."""
-        if self.chance(85) or not self.is_wild:
+        kind = self.upto(99)
+        if kind < 70 or kind >= 85 and not self.is_wild:
             first = self.pick(0, 0, 0, -1, 5) * MILLION
             return first, first + self.pick(8, 3, 7, 100, 1, -8, -3, 1000) * MILLION
+        if kind < 85:
+            # A millionth is about a grain.
+            first = self.pick(0, 0, -300, MILLION)
+            return first, first + self.width * self.pick(16, 10, 5, 35, -12)
         return self.pick(
             (-8_388_607_000_000, 8_388_607_000_000), (0, 1), (1, 0), (5, 5), (-500_000, 250_000), (0, 123_456_789), (MILLION, 1),
         )
@@ -311,7 +318,9 @@ class Writer:
         return [pen * MILLION + self.pick(0, 0, 0, 0, 0, 499_999, 500_000, -500_000)]
 
     def of_PW(self):
-        width = self.pick(*WIDTHS_OF_LINES, self.upto(2 * MILLION), self.pick(20_000_001, -1, 781, 782))
+        width = self.pick(*WIDTHS_OF_LINES, self.upto(2 * MILLION))
+        if self.is_wild and self.chance(20):
+            width = self.pick(20_000_001, -1, 781, 782)
         return self.pick([], [width], [width], [width] + self.pen_number())
 
     def of_PC(self):
@@ -385,6 +394,8 @@ class Writer:
 
     def label(self):
         size = self.pick(0, 1, 1, 2, 2, 3, 4, 6)
+        if self.chance(5):
+            return b" " * size + self.terminator
         text = bytes(self.random.choice(CONTROLS) if self.chance(15) else self.random.randint(32, 126) for _ in range(size))
         return text + (self.pick(b"\x03", b"\x03$", b"$", b"") if self.chance(15) else self.terminator)
 
@@ -405,7 +416,8 @@ class Writer:
             elif kind < 32:
                 text += b":" + self.stray() + coded(self.pick(1, 2, 3, 0, 255, 256, -1), base)
             elif kind < 40:
-                text += self.stray() or self.pick(b":", b">", b"_", b"?", b"~", b"\xbf", b"A" * 6, b"A" * 7, b"?" * 7 + b"_")
+                text += self.stray() + self.pick(b":", b">", b"_", b"?", b"~", b"\xbf", b"A" * 6, b"A" * 7, b"?" * 7 + b"_")
+                text += self.stray()
             text += self.pick(b"", b"", b"<", b"=", b"<=", b"=<") + self.pair(base, fraction)
         return text + self.pick(b";", b";", b";", b";", b";", b"", b"\x03;")
 
@@ -418,7 +430,7 @@ class Writer:
     def stray(self):
         if not self.is_wild:
             return b""
-        return self.pick(b" ", b"\n", b"!", b"5", b"\x7f", b"\xff", b"@", b"\xb0", b'"', b"7") if self.chance(8) else b""
+        return self.pick(b" ", b"\n", b"!", b"5", b"\x7f", b"\xff", b"@", b"\xb0", b'"', b"7") if self.chance(15) else b""
 
     # What is hard to hit by chance
 
