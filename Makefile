@@ -1,6 +1,7 @@
 # make            proves and builds the command
 # make demo       builds it and runs it on the plots of examples/
 # make check      every proof and test (rt ci), then the tests of the built command in tests/, and a test on each mutant
+# make fuzz       compares the built command with tests/reference on new random plots, for SECONDS=600
 # make install    copies the command, its manual page and its completion under PREFIX (/usr/local)
 # make uninstall  removes them
 # make clean      removes all that was built; the next build proves everything again
@@ -11,6 +12,7 @@ PROGRAM = crates/plotraster_program/out/plotraster_program
 BIN = $(DESTDIR)$(PREFIX)/bin
 MAN = $(DESTDIR)$(PREFIX)/share/man/man1
 COMPLETIONS = $(DESTDIR)$(PREFIX)/share/bash-completion/completions
+SECONDS = 600
 CARDS = rose tide figures characters
 CARD = --width 4000 --height 3000 --dots 600
 
@@ -43,8 +45,12 @@ check:
 	tests/words $(PROGRAM)
 	tests/printer $(PROGRAM)
 	tests/recipes $(PROGRAM)
+	tests/compare $(PROGRAM)
 	tools/mutants
 	@tail -n 1 build/verdict
+
+fuzz: build
+	tests/compare build/plotraster --seconds $(SECONDS) --processes 4
 
 install: build
 	install -D -m 755 $(PROGRAM) $(BIN)/plotraster
@@ -57,4 +63,4 @@ uninstall:
 clean:
 	rm -rf build crates/*/out
 
-.PHONY: build demo check install uninstall clean
+.PHONY: build demo check fuzz install uninstall clean

@@ -183,63 +183,76 @@ def coded(plot, at, coding):
 
 def polyline(plot, place):
     """The entries of a PE, by place; the place after its `;`; and whether there is none."""
-    entries = []
+    reader = PolylineReader()
     try:
-        end = pieces(plot, place, entries)
+        end = reader.read(plot, place)
     except Cut:
         end = -1
     except BadPart as bad:
         # What follows the bad place is dropped.
-        entries[:] = [entry for entry in entries if entry.at < bad.args[0]]
-        entries.append(Entry(bad.args[0], "bad"))
-        end = plot.find(b";", bad.args[0])
-    entries.sort(key=lambda entry: entry.at)
+        at = bad.args[0]
+        reader.entries = [entry for entry in reader.entries if entry.at < at] + [Entry(at, "bad")]
+        end = plot.find(b";", at)
+    entries = sorted(reader.entries, key=lambda entry: entry.at)
     return (entries, len(plot), True) if end < 0 else (entries, end + 1, False)
 
 
-def pieces(plot, place, entries):
-    """Reads the pieces of a PE into entries, and gives the place of its `;`, or -1."""
-    coding, fraction, is_up, is_absolute = SIXTY_FOUR, 0, False, False
-    flag = first = None  # what waits: a `>` or `:` for its number, a number for its partner
-    while place < len(plot):
-        byte, at = plot[place], place
-        place += 1
-        sign = chr(byte)
-        if sign in BLANKS:
-            continue
-        if sign in ";7><:=":
-            if flag is not None or first is not None:
-                raise BadPart(flag if flag is not None else first[0])
-            if sign == ";":
-                return at
-            if sign == "7":
-                coding = THIRTY_TWO
-            elif sign == "<":
-                is_up = True
-            elif sign == "=":
-                is_absolute = True
-            else:
-                flag = at
-        elif not begins_number(byte, coding):
-            entries.append(Entry(at, "stray", byte))
+class PolylineReader:
+    """Reads the text of a PE, piece by piece."""
+
+    def __init__(self):
+        self.entries = []
+        self.coding, self.fraction = SIXTY_FOUR, 0
+        self.is_up = self.is_absolute = False
+        # What waits: a flag and its place for its number, or a number and its place for its partner.
+        self.flag = self.first = None
+
+    def read(self, plot, place):
+        """Reads up to the `;`, and gives its place; -1 if there is none."""
+        while place < len(plot):
+            at, byte, sign = place, plot[place], chr(plot[place])
+            place += 1
+            if sign in ";7><:=":
+                waits = self.flag or self.first
+                if waits:
+                    raise BadPart(waits[0])
+                if sign == ";":
+                    return at
+                self.take_flag(at, sign)
+            elif begins_number(byte, self.coding):
+                number, place = coded(plot, at, self.coding)
+                self.take_number(at, number)
+            elif sign not in BLANKS:
+                self.entries.append(Entry(at, "stray", byte))
+        return -1
+
+    def take_flag(self, at, sign):
+        if sign == "7":
+            self.coding = THIRTY_TWO
+        elif sign == "<":
+            self.is_up = True
+        elif sign == "=":
+            self.is_absolute = True
         else:
-            number, place = coded(plot, at, coding)
-            if flag is not None:
-                is_pen = plot[flag : flag + 1] == b":"
-                if not 0 <= number <= (255 if is_pen else 26):
-                    raise BadPart(flag)
-                if is_pen:
-                    entries.append(Entry(flag, "pen", number))
-                else:
-                    fraction = number
-                flag = None
-            elif first is None:
-                first = (at, number)
+            self.flag = (at, sign)
+
+    def take_number(self, at, number):
+        if self.flag:
+            flag_at, sign = self.flag
+            if not 0 <= number <= (255 if sign == ":" else 26):
+                raise BadPart(flag_at)
+            if sign == ":":
+                self.entries.append(Entry(flag_at, "pen", number))
             else:
-                x, y = (rounded(n * MILLION, 2**fraction) for n in (first[1], number))
-                entries.append(Entry(first[0], "pair", Pair(x, y, is_up, is_absolute)))
-                first, is_up, is_absolute = None, False, False
-    return -1
+                self.fraction = number
+            self.flag = None
+        elif not self.first:
+            self.first = (at, number)
+        else:
+            at, x = self.first
+            x, y = (rounded(n * MILLION, 2**self.fraction) for n in (x, number))
+            self.entries.append(Entry(at, "pair", Pair(x, y, self.is_up, self.is_absolute)))
+            self.first, self.is_up, self.is_absolute = None, False, False
 
 
 def rounded(dividend, divisor):

@@ -7,12 +7,15 @@ import re
 from typing import NamedTuple
 
 from . import raster
-from .plotter import Page, Refused, draw
+from .geometry import Page
+from .plotter import Refused, draw
 
 ESC = b"\x1b"
 DOTS_OF_PCL = (75, 100, 150, 200, 300, 600)
 # Each option's range and what it is by default.
-PAGE_OPTIONS = {"width": (64, 65536, 11880), "height": (64, 65536, 8400), "left": (0, 65536, 0), "below": (0, 65536, 0)}
+PAGE_OPTIONS = {
+    "width": (64, 65536, 11880), "height": (64, 65536, 8400), "left": (0, 65536, 0), "below": (0, 65536, 0),
+}
 PICTURE_OPTIONS = {"dots": (10, 1200, 100), "band": (1, 4096, 64), "from": (0, 99999, 0)}
 
 

@@ -4,31 +4,25 @@ docs/INSTRUCTIONS.md, "What is drawn". Each instruction that is followed by numb
 name. Coordinates and numbers are in millionths, places on the page in grains.
 """
 
-import math
 from fractions import Fraction
 from typing import NamedTuple
 
 from . import lettering
 from .cutting import MILLION, items, rounded
+from .geometry import (
+    UNSCALED, Page, anisotropic, chord_ends, isotropic, nearest, on_the_page, on_the_rotated_page, point_factor, turned,
+    whole_page, window_of,
+)
 
 LONGEST_PLOT = 67_108_864
 MOST_STROKES = 4_194_304
 FARTHEST = 65_536 * 16
 USUAL_WIDTH = 224
 USUAL_SIZE = (1216, 1728)
-NO_WINDOW = (1, 1, 0, 0)
 BLACK = (0, 0, 0)
-COLOURS = {2: (255, 0, 0), 3: (0, 255, 0), 4: (255, 255, 0), 5: (0, 0, 255), 6: (255, 0, 255), 7: (0, 255, 255)}
-SINES = [round(10_000 * math.sin(math.radians(degrees))) for degrees in range(91)]
-
-
-class Page(NamedTuple):
-    """A page in plotter units."""
-
-    width: int
-    height: int
-    left: int
-    below: int
+COLOURS = {
+    2: (255, 0, 0), 3: (0, 255, 0), 4: (255, 255, 0), 5: (0, 0, 255), 6: (255, 0, 255), 7: (0, 255, 255),
+}
 
 
 class Stroke(NamedTuple):
@@ -70,9 +64,6 @@ def draw(plot, page):
     return plotter.strokes, plotter.notes
 
 
-# Numbers
-
-
 def listed(numbers, *counts):
     """The numbers of an instruction that takes so many; those past the greatest count are ignored."""
     numbers = numbers[: counts[-1]]
@@ -95,107 +86,6 @@ def within(number, least, most):
 def chord_of(numbers):
     """The angle of a chord in thousandths of a degree; 5 degrees if none is given."""
     return within(rounded(numbers[0], 1000), 500, 180_000) if numbers else 5_000
-
-
-# Scaling, rotation and windows
-
-
-class Axis(NamedTuple):
-    """How coordinates of one axis lie in plotter units: coordinate zero at origin, and the slope from there."""
-
-    origin: Fraction
-    zero: int
-    slope: Fraction
-
-    def units(self, coordinate):
-        return self.origin + (coordinate - self.zero) * self.slope
-
-    def coordinate(self, units):
-        return nearest(self.zero + (units - self.origin) / self.slope)
-
-
-UNSCALED = Axis(Fraction(0), 0, Fraction(1, MILLION))
-
-
-def nearest(fraction):
-    return rounded(fraction.numerator, fraction.denominator)
-
-
-def sign(number):
-    return (number > 0) - (number < 0)
-
-
-def anisotropic(p1, p2, least, most):
-    """Type 0: least lies at P1 and most at P2."""
-    return Axis(Fraction(p1), least, Fraction(p2 - p1, most - least))
-
-
-def isotropic(p1, p2, least, most, size, percent):
-    """Type 1: a millionth has this size; this percentage of the space that is left over lies next to P1."""
-    left_over = abs(p2 - p1) - size * abs(most - least)
-    origin = p1 + sign(p2 - p1) * left_over * percent / (100 * MILLION)
-    return Axis(origin, least, sign(p2 - p1) * sign(most - least) * size)
-
-
-def point_factor(p1, least, factor):
-    """Type 2: least lies at P1, and a unit is so many plotter units."""
-    return Axis(Fraction(p1), least, Fraction(factor, MILLION * MILLION))
-
-
-def turned(dx, dy, degrees):
-    """An offset, turned counterclockwise."""
-    return {0: (dx, dy), 90: (-dy, dx), 180: (-dx, -dy), 270: (dy, -dx)}[degrees % 360]
-
-
-def on_the_page(page, x, y, degrees):
-    """The place of a point of the rotated page, whose lower left corner is a corner of the page."""
-    corner = {0: (0, 0), 90: (page.width, 0), 180: (page.width, page.height), 270: (0, page.height)}[degrees]
-    dx, dy = turned(x, y, degrees)
-    return 16 * corner[0] + dx, 16 * corner[1] + dy
-
-
-def on_the_rotated_page(page, place, degrees):
-    """The point of the rotated page at a place."""
-    corner = on_the_page(page, 0, 0, degrees)
-    return turned(place[0] - corner[0], place[1] - corner[1], -degrees)
-
-
-def window_of(page, a, b):
-    """The window with these two corners, cut to the page; its edges belong to it."""
-    left, right = max(0, min(a[0], b[0])), min(16 * page.width, max(a[0], b[0]))
-    bottom, top = max(0, min(a[1], b[1])), min(16 * page.height, max(a[1], b[1]))
-    return (left, bottom, right, top) if left <= right and bottom <= top else NO_WINDOW
-
-
-# Circles and arcs
-
-
-def sine(angle):
-    """The sine of thousandths of a degree, in ten-millionths."""
-    angle %= 360_000
-    if angle > 180_000:
-        return -sine(angle - 180_000)
-    if angle > 90_000:
-        return sine(180_000 - angle)
-    degree, rest = divmod(angle, 1000)
-    return SINES[degree] * (1000 - rest) + (SINES[degree + 1] * rest if rest else 0)
-
-
-def turned_about(centre, point, angle):
-    """A point, turned about a centre by thousandths of a degree."""
-    x, y = point[0] - centre[0], point[1] - centre[1]
-    cosine, its_sine = sine(angle + 90_000), sine(angle)
-    return (
-        centre[0] + rounded(x * cosine - y * its_sine, 10 * MILLION),
-        centre[1] + rounded(x * its_sine + y * cosine, 10 * MILLION),
-    )
-
-
-def chord_ends(centre, start, sweep, chord):
-    """The ends of the chords of an arc."""
-    count = max(1, -(-abs(sweep) // chord))
-    for k in range(1, count + 1):
-        yield turned_about(centre, start, sign(sweep) * min(k * chord, abs(sweep)))
 
 
 class Plotter:
@@ -251,12 +141,12 @@ class Plotter:
     def set_defaults(self):
         self.is_absolute = True
         self.scaling = None
-        self.window = (0, 0, 16 * self.page.width, 16 * self.page.height)
+        self.window = whole_page(self.page)
         self.size, self.direction = USUAL_SIZE, 0
         self.set_axes()
 
     def IP(self, numbers):
-        """P1 and P2; with one pair P2 keeps its distance; without any they are the rotated page's corners."""
+        """P1 and P2; with one pair P2 keeps its distance; without any they are corners of the rotated page."""
         numbers = [rounded(n, MILLION) for n in listed(numbers, 0, 2, 4)]
         if not numbers:
             self.set_corners_of_the_page()
@@ -279,7 +169,7 @@ class Plotter:
             kind = whole(numbers[4], 0, 2) if len(numbers) > 4 else 0
             if kind == 2 and (x2 == 0 or y2 == 0) or kind != 2 and (x == x2 or y == y2):
                 raise Bad
-            percents = (numbers[5:7] + [50 * MILLION] * 2)[:2] if len(numbers) < 7 else numbers[5:7]
+            percents = (numbers[5:] + [50 * MILLION] * 2)[:2]
             if kind == 1:
                 percents = [within(percent, 0, 100 * MILLION) for percent in percents]
             self.scaling = (kind, x, x2, y, y2, percents)
@@ -317,9 +207,10 @@ class Plotter:
     def IW(self, numbers):
         """The window, by two corners; without numbers the page."""
         numbers = listed(numbers, 0, 4)
-        page = self.page
-        corners = (self.place_of(*numbers[:2]), self.place_of(*numbers[2:])) if numbers else None
-        self.window = window_of(page, *corners or ((0, 0), (16 * page.width, 16 * page.height)))
+        if numbers:
+            self.window = window_of(self.page, self.place_of(*numbers[:2]), self.place_of(*numbers[2:]))
+        else:
+            self.window = whole_page(self.page)
 
     def SP(self, numbers):
         """The pen; without a number pen 0, which draws nothing."""
@@ -394,7 +285,8 @@ class Plotter:
     def stroke(self, a, b):
         """Draws a stroke, if the pen is not pen 0; one more than may be is enough."""
         if self.pen and len(self.strokes) <= MOST_STROKES:
-            self.strokes.append(Stroke(self.pen, self.colours[self.pen], self.widths[self.pen], self.window, a, b))
+            colour, width = self.colours[self.pen], self.widths[self.pen]
+            self.strokes.append(Stroke(self.pen, colour, width, self.window, a, b))
 
     def trace(self, places, is_drawn=True):
         """Draws a path; all of its places must be in range."""
@@ -517,7 +409,7 @@ class Plotter:
         self.recompute()
 
     def spot(self, column, line, i, j):
-        """The place of a point of a character: i twelfths of the width and j eighteenths of the height from its start."""
+        """The place of a point, i twelfths of the width and j eighteenths of the height from a character's start."""
         dx = rounded((18 * column + i) * self.size[0], 12)
         dy = rounded((j - 36 * line) * self.size[1], 18)
         dx, dy = turned(dx, dy, self.direction + self.rotation)

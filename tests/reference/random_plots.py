@@ -19,7 +19,8 @@ WIDTHS_OF_LINES = (0, 0, 1, 100_000, 350_000, 400_000, 1_000_000, 3_000_000, 20_
 DIRECTIONS = ((1, 0, 1), (0, 1, 1), (3, 4, 5), (4, 3, 5), (5, 12, 13), (8, 15, 17), (4, -3, 5), (12, -5, 13))
 BETWEEN = (
     b";", b" ", b"\r\n", b"\t", b";;", b"\x1b%-1B", b"\x1b%0A", b"\x1b%b", b"\x1b.(", b"\x1b.I80;;17:", b"\x1b.;;",
-    b"\x1bE", b"\x1be", b"\x1b", b"\x1b%-", b"\x1b.", b"@PJL SET\n", b"@PJL", b"@A\rPD;\n", b"!", b",", b"5", b"\xff", b"\0", b"A1",
+    b"\x1bE", b"\x1be", b"\x1b", b"\x1b%-", b"\x1b.", b"@PJL SET\n", b"@PJL", b"@A\rPD;\n", b"!", b",", b"5", b"\xff",
+    b"\0", b"A1",
 )
 SKIPPED = (
     b"ZZ1,2;", b'CO"a;b";', b'CO"PD5;', b'CO"a"b;', b"SM*;", b'SM";', b"SM;", b"SMP;", b"SM", b"BLabc\x03", b"BL",
@@ -32,9 +33,10 @@ LETTERS = b"PUDASCIRWELBTO0123456789,;.-:<=\""
 THEMES = [
     theme.split()
     for theme in (
-        "IP IP SC SC SC RO RO IW DF PU PD PD PA PR EA CI AA LB",
-        "IP SC PU PD PR PR PD PR PD AR ER CI",
+        "IP SC RO IW DF PU PD PD PA PR EA CI AA LB units units units",
+        "PD PR PR AR ER CI IW LB units units bad",
         "LB LB LB LB SI SI DI DI DT DT RO DF IN SC PU PD PR PE BL",
+        "LB LB LB LB SI SI DI RO",
         "PC PC PC SP PW PD PD PU IN DF LB EA tie",
         "PE PE PE PE PD PU PR SC SP",
         "CI CI AA AA AR AR EA ER PU PD SC RO PE",
@@ -68,10 +70,10 @@ def spelled(number):
     return "-" + text if number < 0 else text
 
 
-def coded(number, base):
-    """A whole number, coded for a PE."""
+def coded(number, base, length=1):
+    """A whole number, coded for a PE by so many digits at least."""
     code, digits = 2 * abs(number) + (number < 0), []
-    while code >= base:
+    while code >= base or len(digits) + 1 < length:
         digits.append(63 + code % base)
         code //= base
     return bytes([*digits, (191 if base == 64 else 95) + code])
@@ -234,19 +236,31 @@ class Writer:
     def piece(self, name):
         """An instruction, or a piece of another kind."""
         others = {
-            "between": lambda: self.pick(*BETWEEN), "skipped": lambda: self.pick(*SKIPPED), "tie": self.tie,
+            "between": lambda: self.pick(*BETWEEN),
+            "skipped": lambda: self.pick(*SKIPPED),
+            "bad": lambda: self.pick(b"SP256;", b"RO5;", b"IW1;", b"DI0,0;"),
+            "units": self.units,
+            "tie": self.tie,
             "edge": self.edge_of_the_window,
         }
         if name in others:
             return others[name]()
         code = (name.lower() if self.chance(5) else name).encode()
         texts = {
-            "PE": self.polyline, "LB": self.label, "DT": self.new_terminator,
-            "BL": lambda: b"ab" + self.pick(self.terminator, b"\x03"), "SM": lambda: b"*;",
+            "PE": self.polyline,
+            "LB": self.label,
+            "DT": self.new_terminator,
+            "BL": lambda: b"ab" + self.pick(self.terminator, b"\x03"),
+            "SM": lambda: b"*;",
         }
         if name in texts:
             return code + texts[name]()
         return code + self.numbers(getattr(self, "of_" + name)())
+
+    def units(self):
+        """Units of the plot's own, with a line."""
+        names = self.pick("IP SC", "RO IP", "RO IP SC", "SC RO", "SC IP", "IP IP SC", "SC LB", "SC DF").split()
+        return b"".join(self.piece(name) for name in (*names, self.pick("PD", "PU"), "PR", "PD"))
 
     def of_IN(self):
         self.scale, self.is_relative, self.terminator = None, False, b"\x03"
@@ -260,10 +274,11 @@ class Writer:
         if self.chance(35):
             return self.plotter_units()
         corner = self.plotter_units()
-        return corner + (corner if self.chance(5) else self.plotter_units())
+        return corner + ([corner[0], self.plotter_units()[1]] if self.chance(15) else self.plotter_units())
 
     def plotter_units(self):
-        return [MILLION * self.upto(self.width) + self.pick(0, 0, 0, 500_000, 499_999), MILLION * self.upto(self.height)]
+        x, y = self.upto(self.width), self.upto(self.height)
+        return [MILLION * x + self.pick(0, 0, 0, 500_000, 499_999), MILLION * y]
 
     def of_SC(self):
         if self.chance(15):
@@ -297,7 +312,8 @@ class Writer:
             first = self.pick(0, 0, -300, MILLION)
             return first, first + self.width * self.pick(16, 10, 5, 35, -12)
         return self.pick(
-            (-8_388_607_000_000, 8_388_607_000_000), (0, 1), (1, 0), (5, 5), (-500_000, 250_000), (0, 123_456_789), (MILLION, 1),
+            (-8_388_607_000_000, 8_388_607_000_000), (0, 1), (1, 0), (5, 5), (-500_000, 250_000), (0, 123_456_789),
+            (MILLION, 1),
         )
 
     def of_RO(self):
@@ -324,8 +340,13 @@ class Writer:
         return self.pick([], [width], [width], [width] + self.pen_number())
 
     def of_PC(self):
-        colour = [self.pick(0, 255, 10, 128, self.upto(255), 256, -1) * MILLION + self.pick(0, 0, 499_999) for _ in range(3)]
+        colour = [self.part_of_colour() for _ in range(3)]
         return self.pick([], self.pen_number(), self.pen_number() + colour, self.pen_number() + colour)
+
+    def part_of_colour(self):
+        if self.is_wild and self.chance(10):
+            return self.pick(-1_000_000, 256_000_000, 255_500_000, -500_000)
+        return self.pick(0, 255, 10, 128, self.upto(255)) * MILLION + self.pick(0, 0, 499_999)
 
     def of_PD(self):
         pair = self.step if self.is_relative != self.chance(4) else self.place
@@ -374,15 +395,15 @@ class Writer:
 
     def of_SI(self):
         sizes = (190_000, 100_000, -100_000, self.upto(300_000), self.upto(300_000), -self.upto(200_000))
-        if self.is_wild:
-            sizes += (78, 79, 1, 0, 40_000_000, 40_000_001)
+        if self.is_wild and self.chance(20):
+            sizes = (100_000, 78, 79, 1, 0, 40_000_000, 40_000_001)
         return [] if self.chance(15) else [self.pick(*sizes), self.pick(*sizes)]
 
     def of_DI(self):
         if self.chance(10):
             return []
-        along = self.pick((1, 0), (0, 1), (-1, 0), (0, -1), (1, 1), (-1, 1), (1, -1), (-1, -1), (-3, 2), (2, -3), (0, 0))
-        return [part * self.pick(1, MILLION) for part in along] if self.chance(20) else [part * MILLION for part in along]
+        run, rise = self.pick(-3, -1, 0, 0, 1, 1), self.pick(-1, -1, 0, 0, 1, 2)
+        return [run * self.pick(1, MILLION), rise * MILLION]
 
     def new_terminator(self):
         byte = self.pick(b"$", b"$", b"\x03", b"A", b'"', b"5", b";", b" ")
@@ -396,7 +417,7 @@ class Writer:
         size = self.pick(0, 1, 1, 2, 2, 3, 4, 6)
         if self.chance(5):
             return b" " * size + self.terminator
-        text = bytes(self.random.choice(CONTROLS) if self.chance(15) else self.random.randint(32, 126) for _ in range(size))
+        text = bytes(self.pick(*CONTROLS) if self.chance(15) else self.random.randint(32, 126) for _ in range(size))
         return text + (self.pick(b"\x03", b"\x03$", b"$", b"") if self.chance(15) else self.terminator)
 
     # Encoded polylines
@@ -416,8 +437,7 @@ class Writer:
             elif kind < 32:
                 text += b":" + self.stray() + coded(self.pick(1, 2, 3, 0, 255, 256, -1), base)
             elif kind < 40:
-                text += self.stray() + self.pick(b":", b">", b"_", b"?", b"~", b"\xbf", b"A" * 6, b"A" * 7, b"?" * 7 + b"_")
-                text += self.stray()
+                text += self.stray() + self.pick(b":", b">", b"_", b"?", b"~", b"\xbf", b"A" * 6, b"A" * 7) + self.stray()
             text += self.pick(b"", b"", b"<", b"=", b"<=", b"=<") + self.pair(base, fraction)
         return text + self.pick(b";", b";", b";", b";", b";", b"", b"\x03;")
 
@@ -425,12 +445,13 @@ class Writer:
         """Two numbers: a place or a step."""
         numbers = self.pick(self.place, self.step, self.step)()
         whole = [min(2**33, max(-(2**33), number * 2**fraction // MILLION)) for number in numbers]
-        return coded(whole[0], base) + self.stray() + coded(whole[1], base)
+        length = self.pick(3, 5, 6, 7, 8) if self.is_wild and self.chance(20) else 1
+        return coded(whole[0], base, length) + self.stray() + coded(whole[1], base)
 
     def stray(self):
-        if not self.is_wild:
+        if not self.is_wild or self.chance(85):
             return b""
-        return self.pick(b" ", b"\n", b"!", b"5", b"\x7f", b"\xff", b"@", b"\xb0", b'"', b"7") if self.chance(15) else b""
+        return self.pick(b" ", b"\n", b"!", b"5", b"\x7f", b"\xff", b"@", b"\xb0", b'"', b"7")
 
     # What is hard to hit by chance
 
@@ -438,7 +459,8 @@ class Writer:
         """The centre of a pixel in grains, if it is whole."""
         columns, rows = count(self.width, self.dots), count(self.height, self.dots)
         column, row = self.upto(max(0, columns - 1)), self.upto(max(0, rows - 1))
-        return (2 * column + 1) * PIXEL // 2 // self.dots, 16 * self.height - (2 * row + 1) * PIXEL // 2 // self.dots
+        right, down = ((2 * at + 1) * PIXEL // 2 // self.dots for at in (column, row))
+        return right, 16 * self.height - down
 
     def pair_of(self, place):
         """A place on the page as a pair of plotter units."""
