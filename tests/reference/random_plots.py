@@ -26,6 +26,11 @@ SKIPPED = (
     b"ZZ1,2;", b'CO"a;b";', b'CO"PD5;', b'CO"a"b;', b"SM*;", b'SM";', b"SM;", b"SMP;", b"SM", b"BLabc\x03", b"BL",
     b"LT2,4;", b"PG;", b"VS", b"bp5,1", b"FT3\x1bE", b"PM0;PM2;EP", b"WU0", b"CR0,9",
 )
+# How a plot may break off.
+ENDS = (
+    b"DT", b"DT$", b"LB", b"LBa", b"SM", b"BL", b"PE", b"PE:", b"PE>!", b"PE<?", b"PE\xc1 ", b"PE\xc1!\xc1", b"PE??????",
+    b"PE7???????", b"PE7??????", b"\x1b", b"\x1b%", b"\x1b%-1", b"\x1b.", b"@", b'CO"', b"P", b"PD1", b"PD1,2,-", b"PU.",
+)
 CONTROLS = b"\r\r\n\n\x08\0\x1b\x7f\x80\xff\x0e"
 LETTERS = b"PUDASCIRWELBTO0123456789,;.-:<=\""
 # What a plot is about: its instructions come from one of these lists. Words in small letters are pieces of
@@ -110,6 +115,8 @@ class Writer:
             plot = self.plot(self.upto(14) + 1)
             if self.is_wild and self.chance(50):
                 plot = self.mutated(plot)
+            if self.is_wild and self.chance(12):
+                plot += self.pick(*ENDS)
         return Case(form, options, plot)
 
     # Options
@@ -238,7 +245,7 @@ class Writer:
         others = {
             "between": lambda: self.pick(*BETWEEN),
             "skipped": lambda: self.pick(*SKIPPED),
-            "bad": lambda: self.pick(b"SP256;", b"RO5;", b"IW1;", b"DI0,0;"),
+            "bad": lambda: self.pick(b"SP256;", b"RO5;", b"IW1;", b"DI0,0;", b"RO360;", b"SI0,1;"),
             "units": self.units,
             "tie": self.tie,
             "edge": self.edge_of_the_window,
