@@ -4,10 +4,10 @@ A case follows from its seed alone. Most plots are mostly good and mostly on the
 or off the page shows little.
 """
 
-import random
 from typing import NamedTuple
 
 from .cutting import MILLION
+from .random_numbers import Numbers, coded, spelled
 from .raster import PIXEL, count
 
 FORMS = ("marks", "marks", "marks", "pbm", "ppm", "pcl", "report", "report", "report")
@@ -42,6 +42,7 @@ THEMES = [
         "PD PR PR AR ER CI IW LB units units bad",
         "LB LB LB LB SI SI DI DI DT DT RO DF IN SC PU PD PR PE BL",
         "LB LB LB LB SI SI DI RO",
+        "coarse coarse LB IP RO DF EA ER AA AR CI PR",
         "PC PC PC SP PW PD PD PU IN DF LB EA tie",
         "PE PE PE PE PD PU PR SC SP",
         "CI CI AA AA AR AR EA ER PU PD SC RO PE",
@@ -68,41 +69,13 @@ def random_case(seed):
     return Writer(seed).case()
 
 
-def spelled(number):
-    """A number of millionths, in its shortest spelling."""
-    whole, decimals = divmod(abs(number), MILLION)
-    text = f"{whole}.{decimals:06}".rstrip("0").rstrip(".")
-    return "-" + text if number < 0 else text
-
-
-def coded(number, base, length=1):
-    """A whole number, coded for a PE by so many digits at least."""
-    code, digits = 2 * abs(number) + (number < 0), []
-    while code >= base or len(digits) + 1 < length:
-        digits.append(63 + code % base)
-        code //= base
-    return bytes([*digits, (191 if base == 64 else 95) + code])
-
-
-class Writer:
+class Writer(Numbers):
     """Writes one case."""
 
     def __init__(self, seed):
-        self.random = random.Random(seed)
-        self.scale = None  # the numbers of the most recent SC: coordinates lie between them
+        super().__init__(seed)
         self.is_relative = False  # coordinates of moves
         self.terminator = b"\x03"  # of labels
-        self.is_wild = self.chance(45)  # whether the plot has what is bad
-        self.is_far = self.chance(8)  # whether it has places near the edge of the range
-
-    def chance(self, percent):
-        return self.random.random() * 100 < percent
-
-    def pick(self, *choices):
-        return self.random.choice(choices)
-
-    def upto(self, most):
-        return self.random.randint(0, most)
 
     def case(self):
         form, options = self.settings()
@@ -163,65 +136,6 @@ class Writer:
             options["dots"] = self.pick(*DOTS)
         return options
 
-    # Numbers
-
-    def coordinate(self, axis):
-        """A coordinate in millionths, along x or y."""
-        side, margin = ((self.width, self.left), (self.height, self.below))[axis]
-        if self.scale and self.chance(85):
-            first, last = self.scale[axis]
-            return self.pick(first, last, (first + last) // 2, first + (last - first) * self.upto(24) // 16)
-        if self.is_far and self.chance(15):
-            return self.far_coordinate() - margin * MILLION
-        kind = self.upto(96 if self.is_wild else 82)
-        if kind < 35:
-            units = MILLION * self.upto(side)
-        elif kind < 60:
-            units = self.upto(16 * side) * 62_500
-        elif kind < 68:
-            units = (2 * self.upto(16 * side) + 1) * 31_250 + self.pick(0, 0, -1, 1)
-        elif kind < 76:
-            units = self.pick(0, side, side // 2, -1, side + 1) * MILLION
-        elif kind < 88:
-            units = self.random.randint(-20 * MILLION, (side + 20) * MILLION)
-        else:
-            units = MILLION * self.random.randint(-side, 2 * side)
-        return units - margin * MILLION
-
-    def far_coordinate(self):
-        """A coordinate near the edge of the range, or beyond it."""
-        if self.chance(20):
-            return self.random.randint(-8_388_607, 8_388_607) * MILLION + self.pick(0, 999_999)
-        return self.pick(-1, 1) * 65_536 * MILLION + self.pick(0, 0, 1, -1, 31_249, 31_250, 31_251, -31_250)
-
-    def place(self):
-        return [self.coordinate(0), self.coordinate(1)]
-
-    def number(self, number):
-        """A number of millionths as text, sometimes in an odd spelling."""
-        text = spelled(number)
-        if self.chance(90):
-            return text
-        if "." in text:
-            return text.replace("0.", ".", 1) if self.chance(50) else text.ljust(12, "0") + self.pick("", "9")
-        return self.pick("+" + text if number >= 0 else text, text + ".", text + ".0", text.replace("-", "-00"))
-
-    def numbers(self, numbers):
-        """The numbers of an instruction as text, sometimes too few, too many or not well written."""
-        numbers = list(numbers)
-        if self.is_wild and self.chance(6):
-            numbers = numbers[: self.upto(len(numbers))]
-        elif self.is_wild and self.chance(4):
-            numbers += [MILLION * self.upto(9) for _ in range(self.upto(3))]
-        text = ""
-        for number in numbers:
-            word = self.number(number)
-            gap = self.pick(",", ",", ",", " ", ", ", "\n", ",,", " ,\t") if text else self.pick("", "", "", " ", ",")
-            text += ("" if text and word[0] in "-+" and self.chance(30) else gap) + word
-        if self.is_wild and self.chance(4):
-            text += self.pick(",", " ", "-", ".", "+", "e3", "!", ",8388608", ",8388607", '"', "..5", ",\x1b", "@", ",1,2")
-        return text.encode() + self.pick(b";", b";", b";", b";", b"", b"\n")
-
     # Plots
 
     def plot(self, pieces):
@@ -236,6 +150,8 @@ class Writer:
                 self.pen = self.pen % 255 + 1
                 plot += b"SP%d;" % self.pen
             plot += self.piece(self.random.choice(theme))
+            if self.is_far and self.chance(5):
+                plot += self.piece("far")
             if self.chance(40):
                 plot += self.piece(self.pick(*DRAWING))
         return plot
@@ -247,6 +163,8 @@ class Writer:
             "skipped": lambda: self.pick(*SKIPPED),
             "bad": lambda: self.pick(b"SP256;", b"RO5;", b"IW1;", b"DI0,0;", b"RO360;", b"SI0,1;"),
             "units": self.units,
+            "coarse": self.coarse_units,
+            "far": self.far_label,
             "tie": self.tie,
             "edge": self.edge_of_the_window,
         }
@@ -268,6 +186,20 @@ class Writer:
         """Units of the plot's own, with a line."""
         names = self.pick("IP SC", "RO IP", "RO IP SC", "SC RO", "SC IP", "IP IP SC", "SC LB", "SC DF").split()
         return b"".join(self.piece(name) for name in (*names, self.pick("PD", "PU"), "PR", "PD"))
+
+    def coarse_units(self):
+        """Units in which a millionth is some grains, and a figure from a place that has no coordinates."""
+        self.scale = ((0, self.pick(1, 3, 5) * self.width), (0, self.pick(1, 3, 7) * self.height))
+        scaling = [number for ends in self.scale for number in ends]
+        figure = self.piece(self.pick("EA", "ER", "AA", "AR", "CI", "PR"))
+        label = b"SI.101,.103;LB " + self.terminator
+        return b"SC" + self.numbers(scaling) + label + b"SP%d;" % self.pick(9, 10, 11) + figure
+
+    def far_label(self):
+        """A label that ends near the edge of the range."""
+        self.scale, self.is_relative = None, False
+        x, y = (self.pick(-1, 1) * (1_048_576 - self.pick(0, 1823, 1824, 1825, 3456)) for _ in range(2))
+        return b"SC;PA;PU" + self.pair_of((x, y)) + b";" + self.pick(b"", b"SI;") + b"LB" + self.label()
 
     def of_IN(self):
         self.scale, self.is_relative, self.terminator = None, False, b"\x03"
