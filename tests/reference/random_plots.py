@@ -42,7 +42,7 @@ THEMES = [
         "PD PR PR AR ER CI IW LB units units bad",
         "LB LB LB LB SI SI DI DI DT DT RO DF IN SC PU PD PR PE BL",
         "LB LB LB LB SI SI DI RO",
-        "coarse coarse LB IP RO DF EA ER AA AR CI PR",
+        "coarse coarse coarse RO DF EA ER AA PR",
         "PC PC PC SP PW PD PD PU IN DF LB EA tie",
         "PE PE PE PE PD PU PR SC SP",
         "CI CI AA AA AR AR EA ER PU PD SC RO PE",
@@ -193,7 +193,7 @@ class Writer(Numbers):
         scaling = [number for ends in self.scale for number in ends]
         figure = self.piece(self.pick("EA", "ER", "AA", "AR", "CI", "PR"))
         label = b"SI.101,.103;LB " + self.terminator
-        return b"SC" + self.numbers(scaling) + label + b"SP%d;" % self.pick(9, 10, 11) + figure
+        return b"SC" + self.numbers(scaling) + label + b"SP%d;" % (255 - self.upto(200)) + figure
 
     def far_label(self):
         """A label that ends near the edge of the range."""
