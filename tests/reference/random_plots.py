@@ -193,7 +193,8 @@ class Writer(Numbers):
         scaling = [number for ends in self.scale for number in ends]
         figure = self.piece(self.pick("EA", "ER", "AA", "AR", "CI", "PR"))
         label = b"SI.101,.103;LB " + self.terminator
-        return b"SC" + self.numbers(scaling) + label + b"SP%d;" % (255 - self.upto(200)) + figure
+        self.scale = None
+        return b"SC" + self.numbers(scaling) + label + b"SP%d;" % (255 - self.upto(200)) + figure + b"SC;"
 
     def far_label(self):
         """A label that ends near the edge of the range."""
