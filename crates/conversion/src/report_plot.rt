@@ -1,8 +1,6 @@
 //! The report: read, cut, draw, describe.
-ghost use Rattle.std.specs.Prelude.{◌≡◌, ◌-◌, ◌+◌, ◌^◌, ◌<◌, ◌≤◌, length, IfErr, IfOk, false};
+ghost use Rattle.std.specs.Prelude.{◌≡◌, ◌-◌, ◌+◌, ◌^◌, ◌<◌, IfErr, false};
 ghost use Rattle.std.specs.Io.KnownBytes.{IsAtEnd};
-ghost use Rattle.hpgl_text.specs.Cut.{cut};
-ghost use Rattle.hpgl_plot.specs.Notes as noting;
 ghost use Rattle.conversion.specs.Conversions.{is_write};
 ghost use Rattle.conversion.specs.Reports.{HasReported};
 
@@ -10,12 +8,11 @@ use crate::done::Done;
 use crate::fault::Fault;
 use crate::reading::read_plot;
 use crate::source::Source;
-use hpgl_plot::{Note, Notes, draw_text};
-use hpgl_text::Items;
+use hpgl_plot::{Notes, draw_text};
 use picture_out::Sink;
 use plot_page::Page;
 use plot_report::write_report;
-use std::alloc::{AllocError, Global};
+use std::alloc::Global;
 
 /// Writes the report on the plot that the source gives, drawn on a page: the page, how many strokes
 /// there are, the strokes of each pen with their box, and each note.
@@ -43,8 +40,7 @@ pub fn report<S: Source, K: Sink>(
     let plot = read_plot(alloc, source)?;
     let lines = draw_text(alloc, plot.as_slice(), page)?;
     let strokes = lines.strokes.as_slice();
-    let notes = notes_on(alloc, plot.as_slice(), lines.notes)?;
-    match write_report(page, strokes, notes.as_slice(), sink) {
+    match write_report(page, strokes, Notes::new(plot.as_slice()), sink) {
         Ok(bytes) => Ok(Done {
             rows: 0,
             bytes,
@@ -57,17 +53,4 @@ pub fn report<S: Source, K: Sink>(
             bytes: fault.bytes(),
         }),
     }
-}
-
-// The notes on a plot, of which there are `count`.
-fn notes_on(alloc: Global, plot: &[u8], count: usize) -> Result<Vec<Note>, AllocError>
-    ensures notes { IfOk result (λ told. told.items ≡ noting.notes (cut plot.now)) }
-    ensures few { IfOk result (λ told. length told.items ≤ length plot.now) }
-{
-    let mut told = Vec::with_capacity(alloc, count)?;
-    let mut notes = Notes::new(alloc, Items::new(alloc, plot));
-    'notes: while let Some(next) = notes.next() {
-        told.push(next?)?;
-    }
-    Ok(told)
 }

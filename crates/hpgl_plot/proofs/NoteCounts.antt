@@ -17,8 +17,7 @@ use Rattle.hpgl_text.specs.declared.mnemonic.Kind.{Kind}
 use Rattle.hpgl_text.specs.declared.mnemonic.Kind.TheVariants.{Parameters, LabelText, LabelEnd, Polyline, Symbol, Buffer, Unknown}
 use Rattle.hpgl_text.proofs.EntryCounts.{entries_few}
 use Rattle.hpgl_plot.specs.Laws.{NotesAreFew}
-use Rattle.hpgl_plot.specs.Meanings.{is_wrong_item}
-use Rattle.hpgl_plot.specs.Notes.{noted, open_noted, note_at, part_noted, entry_note, entries_in, notes_of, notes, is_slanted_item}
+use Rattle.hpgl_plot.specs.Notes.{item_noted, open_noted, note_at, part_noted, entry_note, entries_in, notes_of, notes}
 use Rattle.hpgl_plot.specs.declared.note.NoteKind.{NoteKind}
 
 -- a place has at most one note of a kind
@@ -33,10 +32,10 @@ each_once code (e ∷ es) = omega (arith, length-append (entry_note code e) (fla
 -- on an item there are at most two notes of its own, besides those within a PE
 few_on : (item : ItemShape) → length (notes_of item) ≤ 2 + length (entries_in item.body)
 few_on item =
-    let own = note_at item.code item.at (noted (is_wrong_item item) (is_slanted_item item) item.body) in
+    let own = note_at item.code item.at (item_noted item) in
     let within = flat_map (entry_note item.code) (entries_in item.body) in
     let ending = note_at item.code item.at (open_noted item.unended) in
-    omega (arith, length-append own (within ++ ending), length-append within ending, one_at item.code item.at (noted (is_wrong_item item) (is_slanted_item item) item.body), each_once item.code (entries_in item.body), one_at item.code item.at (open_noted item.unended))
+    omega (arith, length-append own (within ++ ending), length-append within ending, one_at item.code item.at (item_noted item), each_once item.code (entries_in item.body), one_at item.code item.at (open_noted item.unended))
 
 -- a body that is chosen from two without entries has none
 none_in_either : (b : Bool) (x y : BodyShape) → entries_in x ≡ [] → entries_in y ≡ [] → entries_in (if b then x else y) ≡ []

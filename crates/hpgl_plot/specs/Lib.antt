@@ -16,7 +16,6 @@ pub mod States
 pub mod Strokes
 pub mod Notes
 pub mod Plots
-pub mod Noting
 pub mod Laws
 -- What contracts of private functions need.
 pub mod Bounds

@@ -49,6 +49,14 @@ abbrev pub arcs : Bool → Option arc.Arc → Meaning
 arcs relative (Some a) = record { steps = DrawArc relative a ∷ []; is_wrong = false }
 arcs relative None = wrong
 
+-- PU, PD, PA and PR make a move to each pair of their numbers; each other instruction looks at its first numbers
+abbrev pub plots_pairs : Instruction → Bool
+plots_pairs PenUp = true
+plots_pairs PenDown = true
+plots_pairs PlotAbsolute = true
+plots_pairs PlotRelative = true
+plots_pairs _ = false
+
 -- PE, LB and DT are followed by no list of numbers
 abbrev pub meaning : Instruction → List ℤ → Meaning
 meaning Initialize ns = sets (Some Start)
@@ -86,11 +94,3 @@ body_steps instruction _ = []
 -- the steps of an item
 abbrev pub steps_of : ItemShape → List Step
 steps_of item = body_steps (instruction_of item.code) item.body
-
-abbrev pub is_wrong_body : Option Instruction → BodyShape → Bool
-is_wrong_body instruction (Params ns) = (meaning_if_known instruction ns).is_wrong
-is_wrong_body instruction _ = false
-
--- the item is an instruction with wrong numbers
-abbrev pub is_wrong_item : ItemShape → Bool
-is_wrong_item item = is_wrong_body (instruction_of item.code) item.body

@@ -1,15 +1,12 @@
 //! Noting what is skipped, wrong or open.
-ghost use Rattle.std.specs.Prelude.{◌≡◌, ◌≤◌, ◌++◌, IfOk, length};
+ghost use Rattle.std.specs.Prelude.{◌≡◌, ◌<◌, ◌^◌, ◌++◌, [], ◌∷◌, IfOk, MatchOption, length};
 ghost use Rattle.std.specs.List.{flat_map};
 ghost use Rattle.hpgl_text.specs.SeenEntries.{part_shape};
-ghost use Rattle.hpgl_plot.specs.Notes.{noted, notes_of, entry_note, part_noted, is_slanted_item};
-ghost use Rattle.hpgl_plot.specs.Notes as notes;
-ghost use Rattle.hpgl_plot.specs.Meanings.{is_wrong_item};
+ghost use Rattle.hpgl_plot.specs.Notes.{notes_of, item_noted, entries_in, entry_note, part_noted};
 
-use crate::lettering::is_slanted;
 use crate::note::{Note, NoteKind};
-use crate::wrong::has_wrong_numbers;
-use hpgl_text::{Body, Entry, Instruction, Item, Part, instruction_of_code};
+use crate::wrong::noted_parameters;
+use hpgl_text::{Body, Entries, Item, Part, instruction_of_code};
 use std::alloc::AllocError;
 
 /// Appends to the notes what is noted on an item.
@@ -19,8 +16,9 @@ pub fn note_item(item: &Item<'_>, notes: &mut Vec<Note>) -> Result<(), AllocErro
     if let Some(kind) = noted_kind(item) {
         notes.push(note_on(item.code, item.at, kind))?;
     }
-    if let Body::Coded(entries) = &item.body {
-        note_entries(item.code, entries.as_slice(), notes)?;
+    let mut entries = entries_of(item);
+    'entries: while let Some(note) = next_noted(item.code, &mut entries) {
+        notes.push(note)?;
     }
     if item.unended {
         notes.push(note_on(item.code, item.at, NoteKind::Open))?;
@@ -30,40 +28,37 @@ pub fn note_item(item: &Item<'_>, notes: &mut Vec<Note>) -> Result<(), AllocErro
 
 /// How many notes there are on an item.
 pub fn count_notes(item: &Item<'_>) -> usize
+    requires { length (notes_of item.now) < 2 ^ 63 }
     ensures { result ≡ length (notes_of item.now) }
 {
-    let within = match &item.body {
-        Body::Coded(entries) => count_entry_notes(item.code, entries.as_slice()),
-        _ => 0,
-    };
-    let own = usize::from(noted_kind(item).is_some());
-    own + within + usize::from(item.unended)
-}
-
-// How many notes there are within a PE.
-fn count_entry_notes(code: [u8; 2], entries: &[Entry]) -> usize
-    ensures count { result ≡ length (flat_map (entry_note code) entries.now) }
-    ensures within { result ≤ length entries.now }
-{
-    let mut count = 0;
-    for entry in entries {
-        if part_kind(entry.what).is_some() {
-            count += 1;
-        }
+    let mut count = usize::from(noted_kind(item).is_some()) + usize::from(item.unended);
+    let mut entries = entries_of(item);
+    'entries: while let Some(_) = next_noted(item.code, &mut entries) {
+        count += 1;
     }
     count
 }
 
-// What is noted within a PE.
-fn note_entries(code: [u8; 2], entries: &[Entry], notes: &mut Vec<Note>) -> Result<(), AllocError>
-    ensures { IfOk result (λ _. notes.new.items ≡ notes.old.items ++ flat_map (entry_note code) entries.now) }
+/// The entries of an item that is a PE; another has none.
+pub fn entries_of<'a>(item: &Item<'a>) -> Entries<'a>
+    ensures { result ≡ entries_in item.now.body }
 {
-    for entry in entries {
+    match &item.body {
+        Body::Coded(polyline) => polyline.entries(),
+        _ => Entries::none(),
+    }
+}
+
+/// The next note within a PE, whose letters are given; `None` if there are no more.
+pub fn next_noted(code: [u8; 2], entries: &mut Entries<'_>) -> Option<Note>
+    ensures { MatchOption result ((flat_map (entry_note code) entries.old ≡ []) × (entries.new ≡ [])) (λ note. flat_map (entry_note code) entries.old ≡ note ∷ flat_map (entry_note code) entries.new) }
+{
+    'entries: while let Some(entry) = entries.next() {
         if let Some(kind) = part_kind(entry.what) {
-            notes.push(note_on(code, entry.at, kind))?;
+            return Some(note_on(code, entry.at, kind));
         }
     }
-    Ok(())
+    None
 }
 
 fn part_kind(part: Part) -> Option<NoteKind>
@@ -76,43 +71,25 @@ fn part_kind(part: Part) -> Option<NoteKind>
     }
 }
 
-fn note_on(code: [u8; 2], at: usize, kind: NoteKind) -> Note
+/// A note on what stands at a place.
+pub fn note_on(code: [u8; 2], at: usize, kind: NoteKind) -> Note
     ensures { result ≡ record { at = at; code = code; kind = kind } }
 {
     Note { at, code, kind }
 }
 
-// What is noted on an item besides that it is open.
-fn noted_kind(item: &Item<'_>) -> Option<NoteKind>
-    ensures { result ≡ noted (is_wrong_item item.now) (is_slanted_item item.now) item.now.body }
+/// What is noted on an item besides that it is open.
+pub fn noted_kind(item: &Item<'_>) -> Option<NoteKind>
+    ensures { result ≡ item_noted item.now }
 {
     match &item.body {
-        Body::Params(_) => {
-            if has_wrong_numbers(item) {
-                Some(NoteKind::Bad)
-            } else if is_slanted_item(item) {
-                Some(NoteKind::Axis)
-            } else {
-                None
-            }
-        }
+        Body::Params(numbers) => match instruction_of_code(item.code) {
+            Some(instruction) => noted_parameters(instruction, numbers),
+            None => None,
+        },
         Body::Coded(_) | Body::Label(_) | Body::Terminator(_) => None,
         Body::Skipped => Some(NoteKind::Skipped),
         Body::Bad => Some(NoteKind::Bad),
         Body::Stray(byte) => Some(NoteKind::Stray(*byte)),
-    }
-}
-
-// Whether the item is a DI whose direction is along no axis.
-fn is_slanted_item(item: &Item<'_>) -> bool
-    ensures { result ≡ notes.is_slanted_item item.now }
-{
-    match &item.body {
-        Body::Params(numbers) => match instruction_of_code(item.code) {
-            Some(Instruction::Direction) => is_slanted(numbers.as_slice()),
-            _ => false,
-        },
-        Body::Coded(_) | Body::Label(_) | Body::Terminator(_) => false,
-        Body::Skipped | Body::Bad | Body::Stray(_) => false,
     }
 }

@@ -19,7 +19,10 @@ use crate::parameters::{
 use crate::place::{start_axes, start_of};
 use crate::setting::Setting;
 use crate::state::State;
-use hpgl_text::{Body, Entry, Instruction, Item, Number, Part, instruction_of_code};
+use crate::wrong::does_plot;
+use hpgl_text::{
+    Body, Entries, Entry, Instruction, Item, Number, Numbers, Part, instruction_of_code,
+};
 use plot_page::{Page, Stroke};
 use std::alloc::Global;
 
@@ -45,11 +48,11 @@ pub struct Plotter {
 }
 
 impl Plotter {
-    ghost use Rattle.std.specs.Prelude.{◌≡◌, All, Some};
+    ghost use Rattle.std.specs.Prelude.{◌≡◌, All, Some, true, false};
     ghost use Rattle.hpgl_text.specs.Numbers.{IsNumber};
     ghost use Rattle.hpgl_plot.specs.Machine.{seen, at_start, step, run, Runs, CarriesOut};
     ghost use Rattle.hpgl_plot.specs.Steps.{Lower, Relate, moves, lowered_then, part_steps, entry_steps};
-    ghost use Rattle.hpgl_plot.specs.Meanings.{meaning, steps_of};
+    ghost use Rattle.hpgl_plot.specs.Meanings.{plots_pairs, meaning, steps_of};
 
     /// A plotter on a page, before the first item.
     pub fn new(alloc: Global, page: &Page) -> Plotter
@@ -71,10 +74,10 @@ impl Plotter {
     {
         match &item.body {
             Body::Params(numbers) => match instruction_of_code(item.code) {
-                Some(instruction) => self.obey(instruction, numbers.as_slice()),
+                Some(instruction) => self.obey(instruction, numbers),
                 None => Ok(()),
             },
-            Body::Coded(entries) => self.follow_entries(entries.as_slice()),
+            Body::Coded(polyline) => self.follow_entries(polyline.entries()),
             Body::Label(bytes) => self.write(bytes),
             Body::Terminator(_) | Body::Skipped | Body::Bad | Body::Stray(_) => Ok(()),
         }
@@ -97,9 +100,46 @@ impl Plotter {
         }
     }
 
-    // Carries out an instruction with its numbers. PE, LB and DT have none, and do nothing here.
-    fn obey(&mut self, instruction: Instruction, numbers: &[Number]) -> Result<(), Stop>
+    // Carries out an instruction with its numbers.
+    fn obey(&mut self, instruction: Instruction, numbers: &Numbers<'_>) -> Result<(), Stop>
+        ensures { Runs (run (seen self.old) (meaning instruction numbers.now).steps) (seen self.new) result }
+    {
+        if does_plot(instruction) {
+            self.plot(instruction, numbers)
+        } else {
+            let (list, count) = numbers.leading();
+            self.apply(instruction, &list[..count])
+        }
+    }
+
+    // Carries out an instruction that makes a move to each pair of its numbers.
+    fn plot(&mut self, instruction: Instruction, numbers: &Numbers<'_>) -> Result<(), Stop>
+        requires { plots_pairs instruction ≡ true }
+        ensures { Runs (run (seen self.old) (meaning instruction numbers.now).steps) (seen self.new) result }
+    {
+        match instruction {
+            Instruction::PenUp => {
+                self.set_down(false);
+                self.follow(numbers)
+            }
+            Instruction::PenDown => self.lower(numbers),
+            Instruction::PlotAbsolute => {
+                self.set_relative(false);
+                self.follow(numbers)
+            }
+            Instruction::PlotRelative => {
+                self.set_relative(true);
+                self.follow(numbers)
+            }
+            _ => Ok(()),
+        }
+    }
+
+    // Carries out another instruction with its first numbers. PE, LB and DT have none, and do nothing
+    // here.
+    fn apply(&mut self, instruction: Instruction, numbers: &[Number]) -> Result<(), Stop>
         requires small { All IsNumber numbers.now }
+        requires other { plots_pairs instruction ≡ false }
         ensures { Runs (run (seen self.old) (meaning instruction numbers.now).steps) (seen self.new) result }
     {
         match instruction {
@@ -112,19 +152,6 @@ impl Plotter {
             Instruction::SelectPen => self.set_named(named_pen(numbers)),
             Instruction::PenWidth => self.set_named(named_width(numbers)),
             Instruction::PenColour => self.set_named(named_colour(numbers)),
-            Instruction::PenUp => {
-                self.set_down(false);
-                self.follow(numbers)?;
-            }
-            Instruction::PenDown => self.lower(numbers)?,
-            Instruction::PlotAbsolute => {
-                self.set_relative(false);
-                self.follow(numbers)?;
-            }
-            Instruction::PlotRelative => {
-                self.set_relative(true);
-                self.follow(numbers)?;
-            }
             Instruction::EdgeAbsolute => self.edge_by(false, numbers)?,
             Instruction::EdgeRelative => self.edge_by(true, numbers)?,
             Instruction::Circle => self.circle_by(named_circle(numbers))?,
@@ -138,7 +165,7 @@ impl Plotter {
     }
 
     // PD: a dot if it makes no move, and its moves.
-    fn lower(&mut self, numbers: &[Number]) -> Result<(), Stop>
+    fn lower(&mut self, numbers: &Numbers<'_>) -> Result<(), Stop>
         ensures { Runs (run (seen self.old) (lowered_then (moves numbers.now))) (seen self.new) result }
     {
         if numbers.len() < 2 {
@@ -149,23 +176,26 @@ impl Plotter {
     }
 
     // A move to each pair.
-    fn follow(&mut self, numbers: &[Number]) -> Result<(), Stop>
+    fn follow(&mut self, numbers: &Numbers<'_>) -> Result<(), Stop>
         ensures { Runs (run (seen self.old) (moves numbers.now)) (seen self.new) result }
     {
-        let mut rest = numbers;
-        'pairs: while let [x, y, tail @ ..] = rest {
-            self.move_to(*x, *y)?;
-            rest = tail;
+        let mut rest = numbers.iter();
+        'pairs: while let Some(x) = rest.next() {
+            let Some(y) = rest.next() else {
+                return Ok(());
+            };
+            self.move_to(x, y)?;
         }
         Ok(())
     }
 
     // What each entry of a PE asks for.
-    fn follow_entries(&mut self, entries: &[Entry]) -> Result<(), Stop>
-        ensures { Runs (run (seen self.old) (entry_steps entries.now)) (seen self.new) result }
+    fn follow_entries(&mut self, entries: Entries<'_>) -> Result<(), Stop>
+        ensures { Runs (run (seen self.old) (entry_steps entries.entry)) (seen self.new) result }
     {
-        for entry in entries {
-            self.follow_entry(entry)?;
+        let mut rest = entries;
+        'entries: while let Some(entry) = rest.next() {
+            self.follow_entry(&entry)?;
         }
         Ok(())
     }

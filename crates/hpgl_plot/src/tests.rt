@@ -1,7 +1,7 @@
 // What plots draw, by their text. The drawings that are wanted come from a plotter that was written
 // apart from this one.
 use crate::{Colour, Notes, Page, PlotFault, Stroke, Window, draw, draw_text};
-use hpgl_text::{Items, lex};
+use hpgl_text::lex;
 use std::alloc::Global;
 use std::test::Fail;
 
@@ -399,8 +399,8 @@ fn one_item_at_a_time(rt: HostRuntime) -> Result<(), Fail> {
     assert_eq!(rt; lines.strokes.len(), plot.strokes().len());
     assert_eq!(rt; lines.notes, plot.notes().len());
     let mut told = Vec::new(rt.alloc());
-    for note in Notes::new(rt.alloc(), Items::new(rt.alloc(), text)) {
-        told.push(note?)?;
+    for note in Notes::new(text) {
+        told.push(note)?;
     }
     assert_eq!(rt; told.as_slice(), plot.notes());
     Ok(())

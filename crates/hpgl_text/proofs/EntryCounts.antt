@@ -95,6 +95,9 @@ piece_fits base closed text h =
     (fits_if text (starts_number base first) _ _ (λ _. number_fits base closed text h)
     (plain_fits text (if is_blank first then Blank else Stray first) 1 h (omega arith)))))))
 
+pub piece_takes : (base : Base) (closed : Bool) (text : List ℕ) → 0 < length text → 0 < (piece_at base closed text).bytes
+piece_takes base closed text h = omega (arith, (piece_fits base closed text h).in_piece)
+
 -- strays are bytes of the gap
 stray_more : (blank : Bool) (e : EntryShape) (es : List EntryShape) (n : ℕ) → length es ≤ n → length (if blank then es else e ∷ es) ≤ suc n
 stray_more true e es n h = omega arith

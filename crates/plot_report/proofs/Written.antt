@@ -1,6 +1,5 @@
 -- Pieces that are written one after another are the bytes of the whole.
-use Rattle.std.proofs.Common.{◌≡◌, ℕ, ◌+◌, ◌-◌, ◌<◌, ◌≤◌, List, [], ◌++◌, length, take, drop, Option, Result, Ok, Err, arith, ◌∙◌, sym, ap, subst, get_or, flat_map, ◌∷◌, append_assoc, add-one}
-use Rattle.std.proofs.Math.Seq.{drop-cons}
+use Rattle.std.proofs.Common.{◌≡◌, ℕ, ◌+◌, ◌-◌, ◌<◌, ◌≤◌, List, [], ◌++◌, length, take, drop, Option, Result, Ok, Err, arith, ◌∙◌, sym, ap, subst, flat_map, ◌∷◌, append_assoc}
 use Rattle.hpgl_plot.specs.declared.note.Note.{Note}
 use Rattle.plot_report.specs.Report.{note_line}
 use Rattle.std.specs.Io.KnownBytes.{Appends}
@@ -33,8 +32,8 @@ piece_written held failed first before after all piece rest done n split within 
     subst P (sym wrote.2) (written_next _ _ _ _ _ _ all piece rest done split within so_far quiet (wrote.0, wrote.1))
 
 -- the line of the next note was appended to the piece
-pub note_appended : (all p p' : List ℕ) (notes : List Note) (done u u' i : ℕ) (d : Note) → i < length notes → drop done all ≡ take u p ++ flat_map note_line (drop i notes) → take u' p' ≡ take u p ++ note_line (get_or notes i d) → drop done all ≡ take u' p' ++ flat_map note_line (drop (i + 1) notes)
-note_appended all p p' notes done u u' i d lt rest line =
-    let next : drop i notes ≡ get_or notes i d ∷ drop (i + 1) notes = drop-cons notes i d lt ∙ ap (λ (k : ℕ). get_or notes i d ∷ drop k notes) (sym (add-one i)) in
-    rest ∙ ap (λ (ns : List Note). take u p ++ flat_map note_line ns) next ∙ sym (append_assoc (take u p) (note_line (get_or notes i d)) (flat_map note_line (drop (i + 1) notes)))
-    ∙ ap (λ (zs : List ℕ). zs ++ flat_map note_line (drop (i + 1) notes)) (sym line)
+pub note_appended : (all p p' : List ℕ) (done u u' : ℕ) (note : Note) (notes notes' : List Note) → notes ≡ note ∷ notes' → drop done all ≡ take u p ++ flat_map note_line notes → take u' p' ≡ take u p ++ note_line note
+    → drop done all ≡ take u' p' ++ flat_map note_line notes'
+note_appended all p p' done u u' note notes notes' next rest line =
+    rest ∙ ap (λ (ns : List Note). take u p ++ flat_map note_line ns) next ∙ sym (append_assoc (take u p) (note_line note) (flat_map note_line notes'))
+    ∙ ap (λ (zs : List ℕ). zs ++ flat_map note_line notes') (sym line)

@@ -11,12 +11,12 @@ use crate::lines::{
 };
 use crate::pieces::put_piece;
 use crate::summary::{PENS, PenSummary, summarise};
-use hpgl_plot::Note;
+use hpgl_plot::Notes;
 use picture_out::{Sink, WriteFault};
 use plot_page::{Page, Stroke};
 
-/// The most notes of a report: its length in bytes then fits a `u64`.
-pub const MOST_NOTES: usize = 288_230_376_151_711_744;
+/// The most notes of a report: as many as the longest plot has bytes.
+pub const MOST_NOTES: usize = 67_108_864;
 
 // The longest lines of the page, of the strokes and of the pens together.
 const LONGEST_HEAD: usize = LONGEST_PAGE_LINE
@@ -35,14 +35,14 @@ const PIECE: usize = 32_768;
 pub fn write_report<K: Sink>(
     page: &Page,
     strokes: &[Stroke],
-    notes: &[Note],
+    notes: Notes<'_>,
     sink: &mut K,
 ) -> Result<u64, WriteFault>
     requires sound { K.failed sink.old < 2 ^ 64 - 1 }
     requires strokes { length strokes.now ≤ MOST_STROKES }
-    requires notes { length notes.now ≤ MOST_NOTES }
-    ensures writes { Writes K.held K.failed sink.old sink.new (report_of page.now strokes.now notes.now) result }
-    ensures count { IfOk result (λ n. n ≡ length (report_of page.now strokes.now notes.now)) }
+    requires notes { length notes ≤ MOST_NOTES }
+    ensures writes { Writes K.held K.failed sink.old sink.new (report_of page.now strokes.now notes.entry) result }
+    ensures count { IfOk result (λ n. n ≡ length (report_of page.now strokes.now notes.entry)) }
 {
     let mut piece = [0; PIECE];
     let used = append_head(&mut piece, page, strokes);
@@ -82,26 +82,27 @@ fn append_pen_lines(piece: &mut [u8], used: usize, pens: &[PenSummary; PENS]) ->
 // Writes the first `used` bytes of a piece and then the lines of the notes, as many at a time as
 // the piece is sure to take.
 fn put_notes<K: Sink>(
-    notes: &[Note],
+    notes: Notes<'_>,
     piece: &mut [u8],
     used: usize,
     sink: &mut K,
 ) -> Result<u64, WriteFault>
     requires sound { K.failed sink.old < 2 ^ 64 - 1 }
-    requires notes { length notes.now ≤ MOST_NOTES }
+    requires notes { length notes ≤ MOST_NOTES }
     requires used { used ≤ LONGEST_HEAD }
     requires room { length piece.old ≡ PIECE }
-    ensures writes { Writes K.held K.failed sink.old sink.new (take used piece.old ++ flat_map note_line notes.now) result }
-    ensures count { IfOk result (λ n. n ≡ length (take used piece.old ++ flat_map note_line notes.now)) }
+    ensures writes { Writes K.held K.failed sink.old sink.new (take used piece.old ++ flat_map note_line notes.entry) result }
+    ensures count { IfOk result (λ n. n ≡ length (take used piece.old ++ flat_map note_line notes.entry)) }
 {
+    let mut rest = notes;
     let mut used = used;
     let mut done = 0;
-    for note in notes {
+    'notes: while let Some(note) = rest.next() {
         if used + LONGEST_NOTE_LINE > piece.len() {
             done = put_piece(sink, &piece[..used], done)?;
             used = 0;
         }
-        used = append_note_line(piece, used, note);
+        used = append_note_line(piece, used, &note);
     }
     put_piece(sink, &piece[..used], done)
 }

@@ -1,8 +1,9 @@
 // Reports over a `Vec`, and over sinks that take little or fail.
 ghost use Rattle.std.specs.Prelude.{◌≡◌, ◌<◌, ◌≤◌, Some, length};
 
+use crate::lines::append_note_line;
 use crate::write_report;
-use hpgl_plot::{Note, NoteKind};
+use hpgl_plot::{Note, NoteKind, Notes};
 use picture_out::{OverWrite, Sink, SinkFault};
 use plot_page::{Colour, Page, Stroke, Window};
 use std::process::Abort;
@@ -63,27 +64,20 @@ fn stroke(pen: u8, width: u32, ends: [i32; 4]) -> Result<Stroke, &'static str> {
     Stroke::new(pen, BLACK, width, window, ax, ay, bx, by).ok_or("no stroke")
 }
 
-fn note(at: usize, code: &[u8; 2], kind: NoteKind) -> Note {
-    Note {
-        at,
-        code: *code,
-        kind,
-    }
-}
-
-// Writes a report into a `Vec`, and compares it with a text.
+// Writes a report with these strokes, and with the notes on a plot, into a `Vec`, and compares it with
+// a text.
 fn reports(
     rt: &(impl Abort + AllocGlobal),
     page: &Page,
     strokes: &[Stroke],
-    notes: &[Note],
+    plot: &[u8],
     want: &[u8],
 ) -> Result<(), Fail>
     requires strokes { length strokes.now ≤ 255 }
-    requires notes { length notes.now ≤ 5000 }
+    requires notes { length plot.now ≤ 10000 }
 {
     let mut sink = OverWrite::new(Vec::new(rt.alloc()));
-    let bytes = write_report(page, strokes, notes, &mut sink)?;
+    let bytes = write_report(page, strokes, Notes::new(plot), &mut sink)?;
     assert_eq!(rt; bytes, want.len() as u64);
     assert_eq!(rt; sink.failures(), 0);
     assert_eq!(rt; sink.into_inner().as_slice(), want);
@@ -96,7 +90,7 @@ fn one_horizontal_line(rt: HostRuntime) -> Result<(), Fail> {
     let page = Page::new(64, 64, 0, 0)?;
     let strokes = [stroke(1, 224, [0, 448, 1024, 448])?];
     let want = b"page 64 64 0 0\nstrokes 1\npen 1 strokes 1 widest 224 box 0 448 1024 448\n";
-    reports(&rt, &page, &strokes, &[], want)
+    reports(&rt, &page, &strokes, b"", want)
 }
 
 // The plot PU48,32;PD;AA32,32,37.5; of a dot and eight chords.
@@ -115,7 +109,7 @@ fn an_arc(rt: HostRuntime) -> Result<(), Fail> {
         stroke(1, 224, [722, 659, 715, 668])?,
     ];
     let want = b"page 64 64 0 0\nstrokes 9\npen 1 strokes 9 widest 224 box 715 512 768 668\n";
-    reports(&rt, &page, &strokes, &[], want)
+    reports(&rt, &page, &strokes, b"", want)
 }
 
 // A label of one character with two strokes.
@@ -127,7 +121,7 @@ fn a_letter(rt: HostRuntime) -> Result<(), Fail> {
         stroke(1, 224, [0, 448, 811, 448])?,
     ];
     let want = b"page 64 64 0 0\nstrokes 2\npen 1 strokes 2 widest 224 box 0 448 811 1600\n";
-    reports(&rt, &page, &strokes, &[], want)
+    reports(&rt, &page, &strokes, b"", want)
 }
 
 // The plot SC0,3,0,8;PU0,3.5;PR;PD1,0,1,0,1,0;
@@ -140,36 +134,36 @@ fn relative_moves(rt: HostRuntime) -> Result<(), Fail> {
         stroke(1, 224, [683, 448, 1024, 448])?,
     ];
     let want = b"page 64 64 0 0\nstrokes 3\npen 1 strokes 3 widest 224 box 0 448 1024 448\n";
-    reports(&rt, &page, &strokes, &[], want)
+    reports(&rt, &page, &strokes, b"", want)
 }
 
-// The plot ZZ1,2;CO"a;b";PA1
 #[test]
 fn skipped_and_bad(rt: HostRuntime) -> Result<(), Fail> {
     let page = Page::new(64, 64, 0, 0)?;
-    let notes = [
-        note(0, b"ZZ", NoteKind::Skipped),
-        note(6, b"CO", NoteKind::Skipped),
-        note(14, b"PA", NoteKind::Bad),
-    ];
     let want = b"page 64 64 0 0\nstrokes 0\nnote 0 skipped ZZ\nnote 6 skipped CO\nnote 14 bad PA\n";
-    reports(&rt, &page, &[], &notes, want)
+    reports(&rt, &page, &[], b"ZZ1,2;CO\"a;b\";PA1", want)
 }
 
 #[test]
 fn each_kind_of_note(rt: HostRuntime) -> Result<(), Fail> {
     let page = Page::new(65_536, 11_880, 65_536, 10)?;
-    let notes = [
-        note(usize::MAX, b"ZZ", NoteKind::Skipped),
-        note(9, b"PA", NoteKind::Bad),
-        note(9, b"\0\0", NoteKind::Stray(255)),
-        note(0, b"PE", NoteKind::Stray(0)),
-        note(10, b"DI", NoteKind::Axis),
-        note(67_108_863, b"LB", NoteKind::Open),
-    ];
-    let want = b"page 65536 11880 65536 10\nstrokes 0\nnote 18446744073709551615 skipped ZZ\n\
-        note 9 bad PA\nnote 9 stray 255\nnote 0 stray 0\nnote 10 axis DI\nnote 67108863 open LB\n";
-    reports(&rt, &page, &[], &notes, want)
+    let plot = b"ZZ;PA1;\xff;PE\x00;DI1,1;LBx";
+    let want = b"page 65536 11880 65536 10\nstrokes 0\nnote 0 skipped ZZ\nnote 3 bad PA\n\
+        note 7 stray 255\nnote 11 stray 0\nnote 13 axis DI\nnote 19 open LB\n";
+    reports(&rt, &page, &[], plot, want)
+}
+
+// The longest line of a note.
+#[test]
+fn a_note_at_the_last_place(rt: HostRuntime) {
+    let note = Note {
+        at: usize::MAX,
+        code: *b"ZZ",
+        kind: NoteKind::Skipped,
+    };
+    let mut piece = [0; 64];
+    let used = append_note_line(&mut piece, 0, &note);
+    assert_eq!(rt; &piece[..used], b"note 18446744073709551615 skipped ZZ\n");
 }
 
 // Two pens by turns: the last stroke of each is neither its widest nor at an edge of its box.
@@ -190,7 +184,7 @@ const TWO_PENS: &[u8] = b"page 64 64 0 0\nstrokes 6\n\
 
 #[test]
 fn boxes_and_widths_of_two_pens(rt: HostRuntime) -> Result<(), Fail> {
-    reports(&rt, &Page::new(64, 64, 0, 0)?, &two_pens()?, &[], TWO_PENS)
+    reports(&rt, &Page::new(64, 64, 0, 0)?, &two_pens()?, b"", TWO_PENS)
 }
 
 // No box reaches to 0 unless an end does.
@@ -204,7 +198,7 @@ fn boxes_away_from_zero(rt: HostRuntime) -> Result<(), Fail> {
     ];
     let want = b"page 64 64 0 0\nstrokes 3\npen 2 strokes 1 widest 3 box 5 8 6 40\n\
         pen 3 strokes 2 widest 2 box -9 -8 -5 -4\n";
-    reports(&rt, &page, &strokes, &[], want)
+    reports(&rt, &page, &strokes, b"", want)
 }
 
 // Each pen has the longest line that it can have with one stroke.
@@ -221,7 +215,7 @@ fn all_pens(rt: HostRuntime) -> Result<(), Fail> {
         want.extend_from_slice(line.as_bytes())?;
     }
     let page = Page::new(64, 64, 0, 0)?;
-    reports(&rt, &page, &strokes, &[], want.as_slice())
+    reports(&rt, &page, &strokes, b"", want.as_slice())
 }
 
 // A small report is put whole.
@@ -235,7 +229,7 @@ fn one_put(rt: HostRuntime) -> Result<(), Fail> {
         puts: 0,
     };
     let page = Page::new(64, 64, 0, 0)?;
-    let bytes = write_report(&page, &two_pens()?, &[], &mut sink)?;
+    let bytes = write_report(&page, &two_pens()?, Notes::new(b""), &mut sink)?;
     assert_eq!(rt; bytes, TWO_PENS.len() as u64);
     assert_eq!(rt; sink.bytes.as_slice(), TWO_PENS);
     assert_eq!(rt; sink.puts, 1);
@@ -246,12 +240,12 @@ fn one_put(rt: HostRuntime) -> Result<(), Fail> {
 fn breaks_off(
     rt: &(impl Abort + AllocGlobal),
     strokes: &[Stroke],
-    notes: &[Note],
+    plot: &[u8],
     whole: &[u8],
     limit: usize,
 ) -> Result<(), Fail>
     requires strokes { length strokes.now ≤ 255 }
-    requires notes { length notes.now ≤ 5000 }
+    requires notes { length plot.now ≤ 10000 }
 {
     let mut sink = Narrow {
         bytes: Vec::new(rt.alloc()),
@@ -261,7 +255,7 @@ fn breaks_off(
         puts: 0,
     };
     let page = Page::new(64, 64, 0, 0)?;
-    let fault = write_report(&page, strokes, notes, &mut sink)
+    let fault = write_report(&page, strokes, Notes::new(plot), &mut sink)
         .err()
         .ok_or("written")?;
     assert_eq!(rt; fault.bytes(), limit as u64);
@@ -275,28 +269,26 @@ fn breaks_off(
 #[test]
 fn failing_sinks(rt: HostRuntime) -> Result<(), Fail> {
     for limit in 0..TWO_PENS.len() {
-        breaks_off(&rt, &two_pens()?, &[], TWO_PENS, limit)?;
+        breaks_off(&rt, &two_pens()?, b"", TWO_PENS, limit)?;
     }
     Ok(())
 }
 
-// A report of more than one piece: the notes, and its text.
-fn long_report(rt: &HostRuntime) -> Result<([Note; 5000], Vec<u8>), Fail> {
-    let mut notes = [note(0, b"ZZ", NoteKind::Skipped); 5000];
+// A plot whose report has more than one piece, and that report.
+fn long_report(rt: &HostRuntime) -> Result<([u8; 10_000], Vec<u8>), Fail> {
     let mut text = Vec::from_slice(rt.alloc(), b"page 64 64 0 0\nstrokes 0\n")?;
-    for (at, note) in notes.iter_mut().enumerate() {
-        note.at = at;
-        let line = format!(in rt.alloc(); "note {at} skipped ZZ\n")?;
+    for at in 0..5000 {
+        let line = format!(in rt.alloc(); "note {} skipped ZZ\n", 2 * at)?;
         text.extend_from_slice(line.as_bytes())?;
     }
-    Ok((notes, text))
+    Ok(([b'Z'; 10_000], text))
 }
 
 // The pieces are of whole lines, and no line is lost where they meet.
 #[test]
 fn more_than_a_piece(rt: HostRuntime) -> Result<(), Fail> {
     let page = Page::new(64, 64, 0, 0)?;
-    let (notes, text) = long_report(&rt)?;
+    let (plot, text) = long_report(&rt)?;
     let mut sink = Narrow {
         bytes: Vec::new(rt.alloc()),
         limit: usize::MAX,
@@ -304,7 +296,7 @@ fn more_than_a_piece(rt: HostRuntime) -> Result<(), Fail> {
         failures: 0,
         puts: 0,
     };
-    let bytes = write_report(&page, &[], &notes, &mut sink)?;
+    let bytes = write_report(&page, &[], Notes::new(&plot), &mut sink)?;
     assert_eq!(rt; bytes, text.len() as u64);
     assert!(rt; sink.bytes.as_slice() == text.as_slice());
     assert_eq!(rt; sink.puts, 4);
@@ -313,9 +305,9 @@ fn more_than_a_piece(rt: HostRuntime) -> Result<(), Fail> {
 
 #[test]
 fn failing_within_later_pieces(rt: HostRuntime) -> Result<(), Fail> {
-    let (notes, text) = long_report(&rt)?;
+    let (plot, text) = long_report(&rt)?;
     for limit in [32_000, 32_768, 33_000, 65_535, 70_000] {
-        breaks_off(&rt, &[], &notes, text.as_slice(), limit)?;
+        breaks_off(&rt, &[], &plot, text.as_slice(), limit)?;
     }
     Ok(())
 }
@@ -330,7 +322,7 @@ fn one_byte_a_call(rt: HostRuntime) -> Result<(), Fail> {
         failures: 0,
         puts: 0,
     };
-    let bytes = write_report(&page, &two_pens()?, &[], &mut sink)?;
+    let bytes = write_report(&page, &two_pens()?, Notes::new(b""), &mut sink)?;
     assert_eq!(rt; bytes, TWO_PENS.len() as u64);
     assert_eq!(rt; sink.bytes.as_slice(), TWO_PENS);
     assert_eq!(rt; sink.puts, bytes);

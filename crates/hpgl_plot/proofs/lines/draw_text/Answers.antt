@@ -6,22 +6,32 @@ use Rattle.hpgl_plot.proofs.Ends.{refused_at, all_drawn}
 use Rattle.hpgl_plot.proofs.NoteCounts.{notes_few}
 use Rattle.hpgl_plot.proofs.lines.draw_text.Goals as goal
 
--- the notes so far are some of those on the plot, which has fewer than 2^64 bytes
+-- the notes so far and those on this item are some of those on the plot, which has fewer than 2^63 bytes
+pub count_notes-noted-requires : goal.count_notes-noted-requires
+count_notes-noted-requires c =
+    omega (
+      arith,
+      c.items.invariant.noted,
+      ap (λ is. length (notes is)) c.in-Some.ensures.steps,
+      length-append (notes_of c.in-Some.item) (notes c.next.new.self),
+      notes_few c.args.text.now,
+    )
+
 pub overflow_add-noted : goal.overflow_add-noted
 overflow_add-noted c =
     omega (
       arith,
       c.items.invariant.noted,
-      ap (λ is. length (notes is)) (rw c.in-Ok.is at c.in-Some.ensures.steps),
-      length-append (notes_of c.in-Ok.item) (notes c.next.new.self),
+      ap (λ is. length (notes is)) c.in-Some.ensures.steps,
+      length-append (notes_of c.in-Some.item) (notes c.next.new.self),
       c.count_notes-noted.ensures,
       notes_few c.args.text.now,
     )
 
 pub returns-in-Err-clause-refused : goal.returns-in-Err-clause-refused
 returns-in-Err-clause-refused c =
-    refused_at c.args.page.now (cut c.args.text.now) c.items.items (seen c.items.plotter) c.in-Ok.item c.next.new.self c.items.noted c.in-Err.fault
-    c.items.invariant (rw c.in-Ok.is at c.in-Some.ensures.steps) c.in-Err.ensures
+    refused_at c.args.page.now (cut c.args.text.now) c.items.items (seen c.items.plotter) c.in-Some.item c.next.new.self c.items.noted c.in-Err.fault
+    c.items.invariant c.in-Some.ensures.steps c.in-Err.ensures
 
 pub returns-clause-accepted : goal.returns-clause-accepted
 returns-clause-accepted c = (all_drawn c.args.page.now (cut c.args.text.now) c.items.items (seen c.items.plotter) c.items.noted c.items.invariant c.in_default.ensures.steps.0).0

@@ -4,15 +4,18 @@ use Rattle.plot_report.specs.Report.{note_line}
 use Rattle.plot_report.proofs.report.put_notes.Given as goal
 
 -- the first `done` bytes of all the text were appended, and the piece and the lines of the notes that are left follow
-abbrev pub invariant-loop-note : goal.invariant-loop-note
-invariant-loop-note g l =
-    let all = take l.fn.used l.fn.piece ++ flat_map note_line l.notes in
+abbrev pub invariant-notes : goal.invariant-notes
+invariant-notes g l =
+    let all = take l.fn.used l.fn.piece ++ flat_map note_line l.fn.notes in
     record {
-      rest : drop l.done all ≡ take l.used l.piece ++ flat_map note_line (drop l.note-index l.notes);
+      rest : drop l.done all ≡ take l.used l.piece ++ flat_map note_line l.rest;
       so_far : Appends (g.K.Sink.held l.fn.sink) (g.K.Sink.held l.sink) (take l.done all);
       within : l.done ≤ length all;
       quiet : g.K.Sink.failed l.sink ≡ g.K.Sink.failed l.fn.sink;
       used_in : l.used ≤ length l.piece;
       size : length l.piece ≡ length l.fn.piece;
-      small : l.done + l.used ≤ l.fn.used + 37 * l.note-index;
+      small : l.done + l.used + 37 * length l.rest ≤ l.fn.used + 37 * length l.fn.notes;
     }
+
+abbrev pub decreases-notes : goal.decreases-notes
+decreases-notes g l = length l.rest

@@ -1,0 +1,14 @@
+use Rattle.std.proofs.Common.{◌≡◌, ◌+◌, ◌-◌, ◌≤◌, length, drop}
+use Rattle.hpgl_text.specs.Parameters.{numbers, past_numbers}
+use Rattle.hpgl_text.proofs.parameters.count_numbers.Given as goal
+
+-- those that were counted, and those that are left, are all
+abbrev pub invariant-numbers : goal.invariant-numbers
+invariant-numbers l = record {
+  counted : l.count + length (numbers (drop l.at l.text)) ≡ length (numbers l.text);
+  past : past_numbers (drop l.at l.text) ≡ past_numbers l.text;
+  within : l.at ≤ length l.text;
+}
+
+abbrev pub decreases-numbers : goal.decreases-numbers
+decreases-numbers l = length l.text - l.at
