@@ -4,6 +4,7 @@
 # make fuzz       compares the built command with tests/reference on new random plots, for SECONDS=600
 # make install    copies the command, its manual page and its completion under PREFIX (/usr/local)
 # make uninstall  removes them
+# make dist       makes build/plotraster-VERSION-x86_64-linux.tar.gz and build/plotraster_VERSION_amd64.deb
 # make clean      removes all that was built; the next build proves everything again
 SHELL = /bin/bash
 .SHELLFLAGS = -o pipefail -c
@@ -45,6 +46,7 @@ check:
 	tests/words $(PROGRAM)
 	tests/printer $(PROGRAM)
 	tests/recipes $(PROGRAM)
+	tests/dist $(PROGRAM)
 	tests/compare $(PROGRAM)
 	tools/mutants
 	@tail -n 1 build/verdict
@@ -60,7 +62,10 @@ install: build
 uninstall:
 	rm -f $(BIN)/plotraster $(MAN)/plotraster.1 $(COMPLETIONS)/plotraster
 
+dist: build
+	tools/dist $(PROGRAM) build
+
 clean:
 	rm -rf build crates/*/out
 
-.PHONY: build demo check fuzz install uninstall clean
+.PHONY: build demo check fuzz install uninstall dist clean
