@@ -1,4 +1,4 @@
-"""What the recipes must have made: sample plots, readers of pictures, and CHECKS for tests/recipes."""
+"""What the recipes must have made: sample plots, readers of pictures, and CHECKS of docs/RECIPES.md for tests/recipes."""
 
 import collections
 import functools
@@ -458,9 +458,5 @@ CHECKS = {
         "Go on after a failed write": [Check(continued, (), {}, failed_write)],
         "An empty picture": [Check(causes)],
         "Page sizes": [Check(sizes)],
-    },
-    "README.md": {
-        "plotraster": [Check(pictures, (*PNG, "pamscale", "pamfile"))] * 2,
-        "Use": [Check(pictures, (*PNG, "pamscale", "pamfile", "pnmtops"))],
     },
 }

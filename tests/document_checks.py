@@ -1,0 +1,115 @@
+"""What commands in the documents must have made, beside those of docs/RECIPES.md, and which commands are not run."""
+
+import os
+import re
+import subprocess
+import sys
+
+from recipe_checks import A4, PNG, SECONDS, Check, ink, netpbm, pictures, pixels, plan, read_bitmap
+
+TOP = os.path.dirname(os.path.dirname(os.path.abspath(__file__)))
+
+# Commands that stand in documents and are not run by tests/recipes, each with the reason.
+NOT_RUN = {
+    r"make( (demo|check|fuzz|install|dist)\b.*)?": "proves and builds for minutes, or installs; make check itself runs the tests",
+    r"rt( .*)?": "the toolchain: make check runs it",
+    r"bench/\S+( .*)?": "measurements, which take minutes and need other programs",
+    r"tools/mutants( .*)?": "takes minutes; make check runs it",
+    r"sudo apt install \./build/\S+": "changes the machine; tests/dist unpacks the package",
+    r"tar xzf build/\S+ --strip-components=1 -C \S+": "tests/dist runs it",
+    r"trap '' XFSZ": "a case of tests/cases ignores the signal",
+    r"plotraster report": "a name, as in `plotraster report plan.plt`",
+}
+# Commands within sentences that another check runs: those of the table of causes, by recipe_checks.py.
+RUN_ELSEWHERE = {"docs/RECIPES.md": r"(sed|head|tail) .*"}
+
+
+def leaves_out(block):
+    """Are all commands of a block such as are not run?"""
+    lines = [re.sub(r" +#.*", "", line) for line in block.splitlines()]
+    return all(is_not_run(line) for line in lines if line)
+
+
+def is_not_run(command):
+    return any(re.fullmatch(pattern, command) for pattern in NOT_RUN)
+
+
+COMMANDS = r"(plotraster|make|rt|tools/\w+(\.py)?|examples/\w+|sed|head|tail|trap|tar|sudo|lpr?|pnm\w+|pam\w+|ppm\w+|pbm\w+) \S.*"
+
+
+def commands_in_sentences(path, text):
+    """The commands with arguments in the sentences of a document, without those that other checks run."""
+    sentences = re.sub(r"^```.*?^```", "", text, flags=re.M | re.S)
+    for command in re.findall(r"`([^`\n]+)`", sentences):
+        elsewhere = RUN_ELSEWHERE.get(path)
+        if re.fullmatch(COMMANDS, command) and not (elsewhere and re.fullmatch(elsewhere, command)):
+            yield command
+
+
+def transcript(text):
+    """The commands of a block that shows a terminal, each with what it printed."""
+    for part in re.split(r"^\$ ", text, flags=re.M)[1:]:
+        command, _, output = part.partition("\n")
+        yield command, output
+
+
+def stored(made):
+    """The picture is the one in docs/, the text shows it, and the plot is what its script writes."""
+    name, = re.findall(r"> (\S+)", made.block)
+    plot, = re.findall(r"examples/(\w+)\.plt", made.block)
+    if made.of_png(name) != netpbm(["pngtopam", os.path.join(TOP, "docs", name)], None):
+        yield f"docs/{name} is another picture"
+    with open(os.path.join(TOP, "docs", "GALLERY.md"), encoding="utf-8") as text:
+        if f"]({name})" not in text.read():
+            yield f"{name} is not shown"
+    script = os.path.join(TOP, "tools", f"draw_{plot}.py")
+    if os.path.exists(script):
+        written = subprocess.run([sys.executable, script], stdout=subprocess.PIPE, check=True, timeout=SECONDS).stdout
+        if written != made.read(f"examples/{plot}.plt"):
+            yield f"tools/draw_{plot}.py writes another plot"
+
+
+def rose(made):
+    """The picture at the top of the README."""
+    yield from pictures(made)
+    if made.of_png("rose.png") != netpbm(["pngtopam", os.path.join(TOP, "docs", "rose.png")], None):
+        yield "docs/rose.png is another picture"
+
+
+def centred(made):
+    """A page about (0,0): what is drawn there, and not only its quarter."""
+    whole = read_bitmap(made.run("pbm", "--left", "5940", "--below", "4200", "plan.plt"))
+    given = read_bitmap(made.read("plan.pbm"))
+    if given != whole or ink(given) == 0 or (given.columns, given.rows) != tuple(pixels(units, 100) for units in A4):
+        yield f"{given.columns} by {given.rows} pixels, {ink(given)} are black"
+
+
+def notes(made):
+    if made.output != "note 0 skipped WU\nnote 5 bad SC\n":
+        yield f"printed {made.output!r}"
+
+
+def eight_marks(made):
+    if made.output != "".join(f"4 {column} 1 000000\n" for column in range(8)):
+        yield f"printed {made.output!r}"
+
+
+SCALED = (*PNG, "pamscale")
+GALLERY = {
+    heading: [Check(stored, (*SCALED, "pnmquant"))]
+    for heading in ("A part drawing", "A map", "A chart by gnuplot", "Text in four directions", "Isotropic scaling", "Windows",
+                    "Wide pens", "Encoded polylines", "Colours of the plot's own")
+}
+GALLERY["A detail at 1200 dots per inch"] = [Check(stored, (*PNG, "pamcut"))]
+DOCUMENT_CHECKS = {
+    "docs/GALLERY.md": GALLERY,
+    "README.md": {
+        "plotraster": [Check(pictures, PNG), Check(rose, SCALED)],
+        "Use": [Check(pictures, (*SCALED, "pamfile", "pnmtops"))],
+    },
+    "man/plotraster.1": {
+        "EXAMPLES": [Check(pictures, ("pamfile",)), Check(pictures, (*SCALED, "pamfile")), Check(pictures, ("pamfile",)),
+                     Check(pictures), Check(notes, (), {"plan.plt": b"WU1;;SC0,0,0,9;" + plan(*A4)}),
+                     Check(centred, ()), Check(eight_marks)],
+    },
+}
