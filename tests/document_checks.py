@@ -5,7 +5,7 @@ import re
 import subprocess
 import sys
 
-from recipe_checks import A4, PNG, SECONDS, Check, ink, netpbm, pictures, pixels, plan, read_bitmap
+from recipe_checks import A4, PNG, SECONDS, Check, ink, netpbm, pixels, plan, read_bitmap
 
 TOP = os.path.dirname(os.path.dirname(os.path.abspath(__file__)))
 
@@ -51,6 +51,21 @@ def transcript(text):
     for part in re.split(r"^\$ ", text, flags=re.M)[1:]:
         command, _, output = part.partition("\n")
         yield command, output
+
+
+def pictures(made):
+    """Each file that the block names as output is a picture, and what is printed is for a printer."""
+    named = set(re.findall(r"> (\S+)", made.block))
+    for name in named:
+        data = made.of_png(name) if name.endswith(".png") else made.read(name)
+        about = netpbm(["pamfile", "-"], data)
+        if len(data) < 1000 or re.search(rb"P[BGP]M raw, \d{3,} by \d{3,}", about) is None:
+            yield f"{name}: {about!r}"
+    for words, data in made.printed:
+        if not data.startswith((b"%!PS", b"\x1bE")) or len(data) < 1000:
+            yield f"{words}: {data[:20]!r}"
+    if not named and not made.printed:
+        yield "made nothing"
 
 
 def stored(made):

@@ -139,8 +139,10 @@ class Made:
         return netpbm(["pngtopam", self.path(name)], None)
 
 
-def netpbm(command, data):
-    return subprocess.run(command, input=data, capture_output=True, check=True, timeout=SECONDS).stdout
+def netpbm(command, data, errors=False):
+    """What a command writes to standard output, or to standard error."""
+    ran = subprocess.run(command, input=data, capture_output=True, check=True, timeout=SECONDS)
+    return ran.stderr if errors else ran.stdout
 
 
 # What the blocks must have made. Each check gives what is wrong, a line each.
@@ -163,6 +165,36 @@ def black_png(made):
     across, upward, unit = struct.unpack(">IIB", data[at + 4:at + 13])
     if (across, upward, unit) != (round(300 / 0.0254), round(300 / 0.0254), 1):
         yield f"{across} by {upward} pixels a unit {unit}"
+
+
+def pdf(made):
+    """The page, and its pixels as Ghostscript draws them; the box in the PDF is in whole points."""
+    data = made.read("plan.pdf")
+    if not data.startswith(b"%PDF-") or b"/MediaBox [0 0 841 595]" not in data or b"/CCITTFaxDecode" not in data:
+        yield f"{data[:200]!r}"
+    shown = netpbm(["gs", "-q", "-sDEVICE=pbmraw", "-r300", "-o", "-", made.path("plan.pdf")], None)
+    drawn = read_bitmap(re.sub(rb"\n#[^\n]*", b"", shown, count=1))
+    whole = read_bitmap(made.run("pbm", "--dots", "300", "plan.plt"))
+    if ink(drawn) != ink(whole):
+        yield f"{ink(drawn)} black pixels instead of {ink(whole)}"
+
+
+def tiff(made):
+    if netpbm(["tifftopnm", made.path("plan.tiff")], None) != made.run("pbm", "--dots", "400", "plan.plt"):
+        yield "another bitmap"
+    about = netpbm(["tifftopnm", "-headerdump", made.path("plan.tiff")], None, errors=True)
+    if b"Resolution: 400, 400 pixels/inch" not in about or b"CCITT Group 4" not in about:
+        yield f"{about!r}"
+
+
+def recoloured(made):
+    """Two pictures: the first of a plot with IN, the second of one without."""
+    settings = b"PC2,0,90,180;PW0.7,2;"
+    for name, plot in (("plan.ppm", plan(*A4).replace(b"IN;", b"IN;" + settings)), ("centred.ppm", settings + CENTRED)):
+        if made.read(name) != made.run("ppm", plot=plot):
+            yield f"{name}: another picture"
+    if b"\x00\x5a\xb4" not in made.read("plan.ppm"):
+        yield "nothing has the new colour"
 
 
 def postscript(made):
@@ -278,7 +310,10 @@ def archive(made):
     if made.files(".png") != {name[:-4] + ".png" for name in drawn} or made.files(".pbm"):
         yield f"made {sorted(made.files('.png') | made.files('.pbm'))}"
     for name in drawn:
-        if made.of_png(name[:-4] + ".png") != made.run("pbm", "--dots", "300", name):
+        page, _, status = fit(made, name)
+        if (status == 0) == (name == "plots/no plot.plt"):
+            yield f"{name}: examples/fit ends with {status}"
+        if made.of_png(name[:-4] + ".png") != made.run("pbm", *page, "--dots", "300", "--", name):
             yield f"{name}: another picture"
     wanted = sorted(f"{name}: {why}" for name, why in REFUSED.items())
     if sorted(made.lines("refused.txt")) != wanted:
@@ -425,21 +460,6 @@ def sizes(made):
             yield f"{name}: {landscape}, {portrait}"
 
 
-def pictures(made):
-    """Each file that the block names as output is a picture, and what is printed is for a printer."""
-    named = set(re.findall(r"> (\S+)", made.block))
-    for name in named:
-        data = made.of_png(name) if name.endswith(".png") else made.read(name)
-        about = netpbm(["pamfile", "-"], data)
-        if len(data) < 1000 or re.search(rb"P[BGP]M raw, \d{3,} by \d{3,}", about) is None:
-            yield f"{name}: {about!r}"
-    for words, data in made.printed:
-        if not data.startswith((b"%!PS", b"\x1bE")) or len(data) < 1000:
-            yield f"{words}: {data[:20]!r}"
-    if not named and not made.printed:
-        yield "made nothing"
-
-
 # `made` gives what is wrong with what a block made, `needs` are commands, `plots` are files that the block needs
 # beside the usual samples, and `prepare` goes before the block.
 Check = collections.namedtuple("Check", "made needs plots prepare", defaults=((), {}, None))
@@ -448,9 +468,11 @@ CHECKS = {
     "docs/RECIPES.md": {
         "PNG, smoothed": [Check(smoothed_png, (*PNG, "pamscale"))],
         "PNG, black and white": [Check(black_png, PNG)],
+        "PDF and TIFF, true to size": [Check(pdf, ("pnmtops", "ps2pdf")), Check(tiff, ("pamtotiff", "tifftopnm"))],
         "A PostScript printer, true to size": [Check(postscript, ("pnmtops",))],
         "A PCL printer": [Check(pcl, ("pamflip", "pbmtolj"))],
         "A page that fits the drawing": [Check(fitted_page, (*PNG, "pamscale"))],
+        "Other colours and widths": [Check(recoloured)],
         "An archive of plots": [Check(archive, PNG, ARCHIVE), Check(blank_plots, (), ARCHIVE),
                                 Check(archive_by_parallel, ("parallel",), ARCHIVE)],
         "A large page in parts": [Check(parts, (), {"plan.plt": plan(*A0)})],
