@@ -2,7 +2,7 @@
 # make demo       builds it and runs it on the plots of examples/
 # make check      every proof and test (rt ci), then the tests of the built command in tests/, and a test on each mutant
 # make fuzz       compares the built command with tests/reference on new random plots, for SECONDS=600
-# make install    copies the command, its manual page and its completion under PREFIX (/usr/local)
+# make install    copies the command, its manual page and its completion under PREFIX (/usr/local), below DESTDIR if it is set
 # make uninstall  removes them
 # make dist       makes build/plotraster-VERSION-x86_64-linux.tar.gz and build/plotraster_VERSION_amd64.deb
 # make clean      removes all that was built; the next build proves everything again

@@ -68,12 +68,24 @@ def pictures(made):
         yield "made nothing"
 
 
+# The Netpbm that made the pictures in docs/. Another version may choose colours in another way.
+PICTURES_BY = b"Netpbm 11.1.0\n"
+
+
+def another_picture(made, name):
+    """A picture must be the one in docs/, or, by another version of Netpbm, be near it."""
+    given, kept = made.of_png(name), netpbm(["pngtopam", os.path.join(TOP, "docs", name)], None)
+    by = netpbm(["pngtopam", "--version"], None, errors=True)
+    apart = sum(abs(one - other) for one, other in zip(given, kept)) / len(kept)
+    if given != kept and (PICTURES_BY in by or len(given) != len(kept) or apart > 2):
+        yield f"docs/{name} is another picture: {apart:.2f} apart"
+
+
 def stored(made):
     """The picture is the one in docs/, the text shows it, and the plot is what its script writes."""
     name, = re.findall(r"> (\S+)", made.block)
     plot, = re.findall(r"examples/(\w+)\.plt", made.block)
-    if made.of_png(name) != netpbm(["pngtopam", os.path.join(TOP, "docs", name)], None):
-        yield f"docs/{name} is another picture"
+    yield from another_picture(made, name)
     with open(os.path.join(TOP, "docs", "GALLERY.md"), encoding="utf-8") as text:
         if f"]({name})" not in text.read():
             yield f"{name} is not shown"
@@ -87,8 +99,7 @@ def stored(made):
 def rose(made):
     """The picture at the top of the README."""
     yield from pictures(made)
-    if made.of_png("rose.png") != netpbm(["pngtopam", os.path.join(TOP, "docs", "rose.png")], None):
-        yield "docs/rose.png is another picture"
+    yield from another_picture(made, "rose.png")
 
 
 def centred(made):
