@@ -1,5 +1,6 @@
 """What commands in the documents must have made, beside those of docs/RECIPES.md, and which commands are not run."""
 
+import glob
 import os
 import re
 import subprocess
@@ -44,6 +45,24 @@ def commands_in_sentences(path, text):
         elsewhere = RUN_ELSEWHERE.get(path)
         if re.fullmatch(COMMANDS, command) and not (elsewhere and re.fullmatch(elsewhere, command)):
             yield command
+
+
+FOLDERS = ("bench", "completions", "crates", "docs", "examples", "man", "packaging", "tests", "tools")
+
+
+def missing_files(path):
+    """The files that a document names and that are not there: links, and names from a top folder or a crate on."""
+    with open(os.path.join(TOP, path), encoding="utf-8") as document:
+        sentences = re.sub(r"^```.*?^```", "", document.read(), flags=re.M | re.S)
+    links = re.findall(r"\]\(([^)#:]+)\)", sentences)
+    names = [os.path.normpath(os.path.join(os.path.dirname(path), link)) for link in links]
+    crates = os.listdir(os.path.join(TOP, "crates"))
+    for name in re.findall(r"`(\w+/[^`\s]*)`", sentences):
+        first = name.split("/")[0]
+        # CRATE and NAME stand for any.
+        if "NAME" not in name and "CRATE" not in name and first in (*FOLDERS, *crates):
+            names.append(os.path.join("crates", name) if first in crates else name)
+    return [name for name in dict.fromkeys(names) if not glob.glob(os.path.join(TOP, name))]
 
 
 def transcript(text):
