@@ -12,7 +12,7 @@ TOP = os.path.dirname(os.path.dirname(os.path.abspath(__file__)))
 
 # Commands that stand in documents and are not run by tests/recipes, each with the reason.
 NOT_RUN = {
-    r"make( (demo|check|fuzz|install|dist)\b.*)?": "proves and builds for minutes, or installs; make check itself runs the tests",
+    r"make( (demo|check|fuzz|install|dist)\b.*)?": "takes minutes, or installs; make check runs the tests",
     r"rt( .*)?": "the toolchain: make check runs it",
     r"bench/\S+( .*)?": "measurements, which take minutes and need other programs",
     r"tools/mutants( .*)?": "takes minutes; make check runs it",
@@ -35,7 +35,8 @@ def is_not_run(command):
     return any(re.fullmatch(pattern, command) for pattern in NOT_RUN)
 
 
-COMMANDS = r"(plotraster|make|rt|tools/\w+(\.py)?|examples/\w+|sed|head|tail|trap|tar|sudo|lpr?|pnm\w+|pam\w+|ppm\w+|pbm\w+) \S.*"
+COMMANDS = (r"(plotraster|make|rt|tools/\w+(\.py)?|examples/\w+|sed|head|tail|trap|tar|sudo|lpr?|(pnm|pam|ppm|pbm)\w+)"
+            r" \S.*")
 
 
 def commands_in_sentences(path, text):
@@ -142,8 +143,8 @@ def eight_marks(made):
 SCALED = (*PNG, "pamscale")
 GALLERY = {
     heading: [Check(stored, (*SCALED, "pnmquant"))]
-    for heading in ("A part drawing", "A map", "A chart by gnuplot", "Text in four directions", "Isotropic scaling", "Windows",
-                    "Wide pens", "Encoded polylines", "Colours of the plot's own")
+    for heading in ("A part drawing", "A map", "A chart by gnuplot", "Text in four directions", "Isotropic scaling",
+                    "Windows", "Wide pens", "Encoded polylines", "Colours of the plot's own")
 }
 GALLERY["A detail at 1200 dots per inch"] = [Check(stored, (*PNG, "pamcut"))]
 DOCUMENT_CHECKS = {
@@ -153,8 +154,8 @@ DOCUMENT_CHECKS = {
         "Use": [Check(pictures, (*SCALED, "pamfile", "pnmtops"))],
     },
     "man/plotraster.1": {
-        "EXAMPLES": [Check(pictures, ("pamfile",)), Check(pictures, (*SCALED, "pamfile")), Check(pictures, ("pamfile",)),
-                     Check(pictures), Check(notes, (), {"plan.plt": b"WU1;;SC0,0,0,9;" + plan(*A4)}),
+        "EXAMPLES": [Check(pictures, ("pamfile",)), Check(pictures, (*SCALED, "pamfile")),
+                     Check(pictures, ("pamfile",)), Check(pictures), Check(notes, (), {"plan.plt": b"WU1;;SC0,0,0,9;" + plan(*A4)}),
                      Check(centred, ()), Check(eight_marks)],
     },
 }

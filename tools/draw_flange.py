@@ -148,7 +148,8 @@ def sheet():
     parts = pen(OUTLINE) + rectangle(80, 80, right, 2920) + rectangle(left, 80, right, top)
     parts += pen(THIN) + line((left, 320), (right, 320)) + "".join(line((x, 80), (x, 320)) for x in (2500, 2960, 3420))
     parts += pen(TEXT) + text(2910, 440, "Flange 80 x 26, bore 28", 0.12)
-    for x, name, value in ((2200, "material", "S235JR"), (2730, "scale", "1:2"), (3190, "unit", "mm"), (3670, "sheet", "1 of 1")):
+    entries = (2200, "material", "S235JR"), (2730, "scale", "1:2"), (3190, "unit", "mm"), (3670, "sheet", "1 of 1")
+    for x, name, value in entries:
         parts += text(x, 265, name, 0.07) + text(x, 165, value, 0.11)
     return parts + text(970, 170, "Edges broken 0.5 x 45 degrees", 0.08)
 

@@ -12,16 +12,17 @@ import math
 import sys
 
 COAST, INDEX, CONTOUR, DEPTH, GRID, WATER, TEXT = 5, 2, 3, 7, 8, 6, 1
-COLOURS = {COAST: (20, 70, 140), INDEX: (150, 85, 30), CONTOUR: (190, 135, 85), DEPTH: (130, 180, 215), GRID: (205, 205, 205),
-           WATER: (20, 70, 140), TEXT: (30, 30, 30)}
+COLOURS = {COAST: (20, 70, 140), INDEX: (150, 85, 30), CONTOUR: (190, 135, 85), DEPTH: (130, 180, 215),
+           GRID: (205, 205, 205), WATER: (20, 70, 140), TEXT: (30, 30, 30)}
 WIDTHS = {COAST: 0.4, INDEX: 0.25, CONTOUR: 0.13, DEPTH: 0.15, GRID: 0.1, WATER: 0.18, TEXT: 0.2}
 WIDE, HIGH, STEP = 180, 120, 2
 
 # Hills: where they are, how high, and how far they reach in x and in y.
-HILLS = [(62, 66, 620, 22, 15), (96, 52, 820, 17, 21), (118, 74, 430, 20, 12), (136, 44, 330, 13, 14), (42, 44, 260, 14, 10),
-         (84, 84, 240, 10, 9), (158, 88, 210, 7, 6), (75, 27, -160, 12, 9), (112, 33, -120, 9, 7)]
+HILLS = [(62, 66, 620, 22, 15), (96, 52, 820, 17, 21), (118, 74, 430, 20, 12), (136, 44, 330, 13, 14),
+         (42, 44, 260, 14, 10), (84, 84, 240, 10, 9), (158, 88, 210, 7, 6), (75, 27, -160, 12, 9), (112, 33, -120, 9, 7)]
 PEAKS = [(96, 52, "Mount Plume"), (61, 66, "Penhead")]
-NAMES = [(12, 106, "West Sound", WATER), (132, 14, "Pixel Bay", WATER), (130, 104, "Raster Rocks", WATER), (97, 78, "Feltwick", TEXT)]
+NAMES = [(12, 106, "West Sound", WATER), (132, 14, "Pixel Bay", WATER), (130, 104, "Raster Rocks", WATER),
+         (97, 78, "Feltwick", TEXT)]
 
 
 def height(x, y):
@@ -32,7 +33,7 @@ def height(x, y):
 
 
 def crossings(level):
-    """For each side of the grid that the level crosses, the two squares' partners: sides that a line joins."""
+    """The heights of the grid above a level, and for each of its sides that the level crosses those that it leads to."""
     grid = {(x, y): height(x, y) - level for x in range(0, WIDE + 1, STEP) for y in range(0, HIGH + 1, STEP)}
     joined = collections.defaultdict(list)
     for x, y in ((x, y) for x in range(0, WIDE, STEP) for y in range(0, HIGH, STEP)):
@@ -86,7 +87,8 @@ def lettering():
         yield f"{select(pen)}PU{x},{y};LB{name}\x03"
     yield select(TEXT) + "SI0.08,0.12;"
     for x, y, name in PEAKS:
-        yield f"PU{x - 1},{y - 1};PD{x + 1},{y - 1},{x},{y + 1},{x - 1},{y - 1};PU{x + 2.5},{y - .5};LB{name}\r\n{height(x, y):.0f} m\x03"
+        yield f"PU{x - 1},{y - 1};PD{x + 1},{y - 1},{x},{y + 1},{x - 1},{y - 1};"
+        yield f"PU{x + 2.5},{y - .5};LB{name}\r\n{height(x, y):.0f} m\x03"
 
 
 def margin():

@@ -29,7 +29,7 @@ def circles(x, y, left, bottom):
 
 
 def main():
-    parts = "IN;" + "".join("PC%d,%d,%d,%d;PW0.6,%d;" % (number, *parts, number) for number, parts in COLOURS.items()) + "\n"
+    parts = "IN;PW0.6;" + "".join("PC%d,%d,%d,%d;" % (number, *parts) for number, parts in COLOURS.items()) + "\n"
     for number, (x, y) in CENTRES.items():
         parts += f"SP{number};PU{x},{y};\n"
         for row in range(ROWS):
