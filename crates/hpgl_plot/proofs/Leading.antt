@@ -4,7 +4,8 @@ use Rattle.hpgl_text.specs.declared.instruction.Instruction.{Instruction}
 use Rattle.hpgl_text.specs.declared.instruction.Instruction.TheVariants.{Initialize, DefaultValues, InputPoints, Scale, Rotate, InputWindow, SelectPen, PenWidth, PenColour, PenUp, PenDown, PlotAbsolute, PlotRelative, PolylineEncoded, EdgeAbsolute, EdgeRelative, Circle, ArcAbsolute, ArcRelative, Label, LabelTerminator, CharacterSize, Direction}
 use Rattle.hpgl_plot.specs.ArcParameters.{circled, arced}
 use Rattle.hpgl_plot.specs.Lettering.{character_size, direction, is_slanted}
-use Rattle.hpgl_plot.specs.Meanings.{Meaning, sets, edges, circles, arcs, plots_pairs, meaning}
+use Rattle.hpgl_plot.specs.Machine.{plots_pairs}
+use Rattle.hpgl_plot.specs.Meanings.{Meaning, sets, edges, circles, arcs, meaning}
 use Rattle.hpgl_plot.specs.Notes.{is_direction, parameters_noted}
 use Rattle.hpgl_plot.specs.Parameters.{scaling_points, scaled, rotated, window_corners, selected_pen, pen_width, pen_colour}
 use Rattle.hpgl_plot.specs.declared.note.NoteKind.TheVariants.{Bad, Axis}

@@ -22,6 +22,8 @@ use Rattle.hpgl_plot.specs.Lettering.{usual_size}
 use Rattle.plot_page.specs.Segments.{Segment}
 use Rattle.hpgl_plot.specs.Settings.{all_pens}
 use Rattle.hpgl_plot.specs.Steps.{Step, Set, Lower, Relate}
+use Rattle.hpgl_text.specs.declared.instruction.Instruction.{Instruction}
+use Rattle.hpgl_text.specs.declared.instruction.Instruction.TheVariants.{PenUp, PenDown, PlotAbsolute, PlotRelative}
 use Rattle.hpgl_plot.specs.Meanings.{steps_of}
 use Rattle.hpgl_plot.specs.Frames.{back, moved_points, corner_window}
 use Rattle.hpgl_plot.specs.Paths.{path}
@@ -29,6 +31,14 @@ use Rattle.hpgl_plot.specs.States.{state_of}
 use Rattle.hpgl_plot.specs.Turns.{corners}
 use Rattle.hpgl_plot.specs.Windows.{page_window}
 use Rattle.hpgl_plot.specs.Strokes.{are_in_range, joined, path_strokes}
+
+-- PU, PD, PA and PR make a move to each pair of their numbers; each other instruction looks at its first numbers
+abbrev pub plots_pairs : Instruction → Bool
+plots_pairs PenUp = true
+plots_pairs PenDown = true
+plots_pairs PlotAbsolute = true
+plots_pairs PlotRelative = true
+plots_pairs _ = false
 
 -- another frame: the coordinates are recomputed
 abbrev pub framed : Page → State → Frame → State

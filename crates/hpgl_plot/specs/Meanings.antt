@@ -49,14 +49,6 @@ abbrev pub arcs : Bool → Option arc.Arc → Meaning
 arcs relative (Some a) = record { steps = DrawArc relative a ∷ []; is_wrong = false }
 arcs relative None = wrong
 
--- PU, PD, PA and PR make a move to each pair of their numbers; each other instruction looks at its first numbers
-abbrev pub plots_pairs : Instruction → Bool
-plots_pairs PenUp = true
-plots_pairs PenDown = true
-plots_pairs PlotAbsolute = true
-plots_pairs PlotRelative = true
-plots_pairs _ = false
-
 -- PE, LB and DT are followed by no list of numbers
 abbrev pub meaning : Instruction → List ℤ → Meaning
 meaning Initialize ns = sets (Some Start)

@@ -50,9 +50,9 @@ pub struct Plotter {
 impl Plotter {
     ghost use Rattle.std.specs.Prelude.{◌≡◌, All, Some, true, false};
     ghost use Rattle.hpgl_text.specs.Numbers.{IsNumber};
-    ghost use Rattle.hpgl_plot.specs.Machine.{seen, at_start, step, run, Runs, CarriesOut};
+    ghost use Rattle.hpgl_plot.specs.Machine.{plots_pairs, seen, at_start, step, run, Runs, CarriesOut};
     ghost use Rattle.hpgl_plot.specs.Steps.{Lower, Relate, moves, lowered_then, part_steps, entry_steps};
-    ghost use Rattle.hpgl_plot.specs.Meanings.{plots_pairs, meaning, steps_of};
+    ghost use Rattle.hpgl_plot.specs.Meanings.{meaning, steps_of};
 
     /// A plotter on a page, before the first item.
     pub fn new(alloc: Global, page: &Page) -> Plotter

@@ -1,7 +1,8 @@
 //! Instructions with wrong numbers, and directions along no axis.
 ghost use Rattle.std.specs.Prelude.{◌≡◌, All, true, false};
 ghost use Rattle.hpgl_text.specs.Numbers.{IsNumber};
-ghost use Rattle.hpgl_plot.specs.Meanings.{plots_pairs, meaning};
+ghost use Rattle.hpgl_plot.specs.Machine.{plots_pairs};
+ghost use Rattle.hpgl_plot.specs.Meanings.{meaning};
 ghost use Rattle.hpgl_plot.specs.Notes.{parameters_noted};
 
 use crate::arc_parameters::{named_arc, named_circle};
