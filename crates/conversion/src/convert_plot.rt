@@ -6,12 +6,13 @@ ghost use Rattle.conversion.specs.Conversions.{HasConverted, has_resolution, is_
 use crate::done::Done;
 use crate::drawing::draw_source;
 use crate::fault::Fault;
+use crate::gathering::band_space;
 use crate::reading::buffer_of;
 use crate::source::Source;
 use crate::stroke_inks::StrokeInks;
 use crate::writing::write_picture;
 use picture_job::Job;
-use picture_out::{Sink, row_space, takes_resolution};
+use picture_out::{Sink, takes_resolution};
 use std::alloc::Global;
 use stroke_raster::{Gauge, Painter};
 
@@ -60,7 +61,9 @@ pub fn convert<G: Gauge, S: Source, K: Sink>(
         job.band,
         job.first_row,
     )?;
-    let mut buffer = buffer_of(alloc, row_space(job.form, painter.columns()))?;
+    let rows = job.dots.rows(&job.page) - job.first_row;
+    let space = band_space(job.form, painter.columns(), rows.min(job.band));
+    let mut buffer = buffer_of(alloc, space)?;
     let inks = StrokeInks::new(strokes);
     let bytes = write_picture(
         job.form,
@@ -71,7 +74,7 @@ pub fn convert<G: Gauge, S: Source, K: Sink>(
         sink,
     )?;
     Ok(Done {
-        rows: job.dots.rows(&job.page) - job.first_row,
+        rows,
         bytes,
         strokes: strokes.len(),
         notes: lines.notes,

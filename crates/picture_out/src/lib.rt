@@ -19,7 +19,7 @@ mod sink;
 #[cfg(test)]
 mod tests;
 
-pub use bits::pack_bits;
+pub use bits::{append_bits, pack_bits};
 pub use cells::Cells;
 pub use fault::WriteFault;
 pub use form::{Form, takes_resolution};

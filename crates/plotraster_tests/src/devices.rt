@@ -1,8 +1,12 @@
 //! Devices that take or give a part, or fail.
-ghost use Rattle.std.specs.Prelude.{Some, ◌≡◌};
+ghost use Rattle.std.specs.Prelude.{Some, ◌≡◌, ◌<◌, ◌≤◌};
 
 use crate::pages::{CROSSING, eight_by_eight};
-use plotraster::{Exact, Fault, Form, OverRead, Sink, SinkFault, convert, picture_bytes};
+use plotraster::{
+    Dots, Exact, Fault, Form, Job, OverRead, Sink, SinkFault, convert, picture_bytes,
+};
+use std::alloc::Global;
+use std::process::Abort;
 use std::test::Fail;
 
 /// A sink that takes `piece` bytes a call and `room` in all, and then fails, or takes nothing.
@@ -46,31 +50,43 @@ impl Sink for Limited {
     }
 }
 
-#[test]
-fn a_pixmap_broken_off_anywhere(rt: HostRuntime) -> Result<(), Fail> {
-    let job = eight_by_eight(Form::Ppm).ok_or("a job")?;
-    let whole_picture = picture_bytes(rt.alloc(), &job, CROSSING)?;
-    assert_eq!(rt; whole_picture.len(), 203);
-    for room in 0..203usize {
+// Breaks a picture of `size` bytes off after each number of them, and goes on from the row that the
+// fault names.
+fn broken_off_anywhere(
+    rt: &impl Abort,
+    alloc: Global,
+    job: &Job,
+    size: usize,
+    head: usize,
+    row_bytes: usize,
+) -> Result<(), Fail>
+    requires size { size ≤ 1000 }
+    requires head { head ≤ 100 }
+    requires some { 0 < row_bytes }
+    requires few { row_bytes ≤ 100 }
+{
+    let whole_picture = picture_bytes(alloc, job, CROSSING)?;
+    assert_eq!(rt; whole_picture.len(), size);
+    for room in 0..size {
         let mut sink = Limited {
-            bytes: Vec::new(rt.alloc()),
+            bytes: Vec::new(alloc),
             piece: if room % 2 == 0 { 1 } else { 50 },
             room,
             takes_nothing: room % 3 == 0,
             failures: 0,
         };
         let answer = convert(
-            rt.alloc(),
-            &job,
+            alloc,
+            job,
             &mut Exact::new(),
             &mut OverRead::new(CROSSING),
             &mut sink,
         );
-        let (row, whole) = if room < 35 {
+        let (row, whole) = if room < head + row_bytes {
             (0, 0)
         } else {
-            let row = (room - 11) / 24;
-            (row, 11 + 24 * row)
+            let rows = room - head;
+            (rows / row_bytes, room - rows % row_bytes)
         };
         let wanted = Fault::Write {
             row: row as u32,
@@ -81,10 +97,28 @@ fn a_pixmap_broken_off_anywhere(rt: HostRuntime) -> Result<(), Fail> {
         assert!(rt; stopped, "{room}");
         assert_eq!(rt; sink.bytes.as_slice(), &whole_picture.as_slice()[..room]);
         assert_eq!(rt; sink.failures, 1);
-        let mut rest = job;
+        let mut rest = *job;
         rest.first_row = row as u32;
-        let rest = picture_bytes(rt.alloc(), &rest, CROSSING)?;
+        let rest = picture_bytes(alloc, &rest, CROSSING)?;
         assert_eq!(rt; rest.as_slice(), &whole_picture.as_slice()[whole..]);
+    }
+    Ok(())
+}
+
+#[test]
+fn a_pixmap_broken_off_anywhere(rt: HostRuntime) -> Result<(), Fail> {
+    let job = eight_by_eight(Form::Ppm).ok_or("a job")?;
+    broken_off_anywhere(&rt, rt.alloc(), &job, 203, 11, 24)
+}
+
+// Three bytes a row, and bands of one row, of several and a last one of fewer, and of all.
+#[test]
+fn a_bitmap_broken_off_anywhere(rt: HostRuntime) -> Result<(), Fail> {
+    let mut job = eight_by_eight(Form::Pbm).ok_or("a job")?;
+    job.dots = Dots::new(381).ok_or("381 dots per inch")?;
+    for band in [1, 7, 64] {
+        job.band = band;
+        broken_off_anywhere(&rt, rt.alloc(), &job, 81, 9, 3)?;
     }
     Ok(())
 }
