@@ -1,0 +1,44 @@
+"""One run of a command that writes a picture: its processor time and its greatest memory (Linux)."""
+
+import collections
+import ctypes
+import os
+import signal
+
+from sampled_pixels import read_pbm
+
+# Processor seconds after which a run is ended.
+MOST_SECONDS = 300
+
+Run = collections.namedtuple("Run", "failure seconds memory")
+
+
+def adopt_orphans():
+    """Makes this process wait for the children that its children leave behind."""
+    PR_SET_CHILD_SUBREAPER = 36
+    ctypes.CDLL(None).prctl(PR_SET_CHILD_SUBREAPER, 1, 0, 0, 0)
+
+
+def run(words, picture):
+    """One run that writes a PBM: what went wrong or None, the seconds, and the bytes of memory.
+
+    A shell starts it and ends. The greatest memory that is reported for a process is at least that of
+    the process that started it, and a shell has less than a script in Python."""
+    script = f'ulimit -t {MOST_SECONDS}; "$@" > "$0" 2> /dev/null &'
+    shell = os.posix_spawn("/bin/sh", ["sh", "-c", script, picture, *words], os.environ)
+    ended = {child: (status, used) for child, status, used in (os.wait4(-1, 0), os.wait4(-1, 0))}
+    del ended[shell]
+    ((status, used),) = ended.values()
+    code = os.waitstatus_to_exitcode(status)
+    failure = None
+    if code != 0:
+        failure = f"status {code}" if code > 0 else signal.Signals(-code).name
+    elif read_pbm(picture) is None:
+        failure = "no picture"
+    return Run(failure, used.ru_utime + used.ru_stime, used.ru_maxrss * 1024)
+
+
+def best(runs):
+    """What several runs took: the first failure, the least seconds and the greatest memory."""
+    failures, seconds, memory = zip(*runs)
+    return Run(next(filter(None, failures), None), min(seconds), max(memory))
