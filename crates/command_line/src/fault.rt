@@ -20,7 +20,7 @@ pub enum LineFault {
     /// They are the matches of another command, or words that are no text.
     #[error("words not understood")]
     Words,
-    /// The list of pens is none.
+    /// The text after `--pens` is no list of pens.
     #[error("bad pen list")]
     Pens,
 }
