@@ -19,6 +19,32 @@ pub struct Limited {
     pub failures: u64,
 }
 
+impl Limited {
+    /// One that takes `piece` bytes a call and `room` in all, and then fails.
+    pub fn new(alloc: Global, piece: usize, room: usize) -> Limited
+        ensures { result.failures ≡ 0 }
+    {
+        Limited {
+            bytes: Vec::new(alloc),
+            piece,
+            room,
+            takes_nothing: false,
+            failures: 0,
+        }
+    }
+
+    /// One that fails after `room` bytes. By this number it takes one byte a call or up to 50, and
+    /// fails by a fault or by taking nothing.
+    pub fn ending_after(alloc: Global, room: usize) -> Limited
+        ensures { result.failures ≡ 0 }
+    {
+        Limited {
+            takes_nothing: room % 3 == 0,
+            ..Limited::new(alloc, if room % 2 == 0 { 1 } else { 50 }, room)
+        }
+    }
+}
+
 impl Sink for Limited {
     ghost held = { λ s. Some s.bytes.items };
 
@@ -68,13 +94,7 @@ fn broken_off_anywhere(
     let whole_picture = picture_bytes(alloc, job, CROSSING)?;
     assert_eq!(rt; whole_picture.len(), size);
     for room in 0..size {
-        let mut sink = Limited {
-            bytes: Vec::new(alloc),
-            piece: if room % 2 == 0 { 1 } else { 50 },
-            room,
-            takes_nothing: room % 3 == 0,
-            failures: 0,
-        };
+        let mut sink = Limited::ending_after(alloc, room);
         let answer = convert(
             alloc,
             job,

@@ -52,13 +52,7 @@ fn pictures_byte_by_byte(rt: HostRuntime) -> Result<(), Fail> {
                 rest: plot,
                 most: usize::MAX,
             });
-            let mut sink = Limited {
-                bytes: Vec::new(rt.alloc()),
-                piece: 1,
-                room: usize::MAX,
-                takes_nothing: false,
-                failures: 0,
-            };
+            let mut sink = Limited::new(rt.alloc(), 1, usize::MAX);
             convert(rt.alloc(), &job, &mut Exact::new(), &mut source, &mut sink)?;
             assert_eq!(rt; sink.bytes.as_slice(), wanted.as_slice());
         }
@@ -76,13 +70,7 @@ fn reports_byte_by_byte(rt: HostRuntime) -> Result<(), Fail> {
             rest: plot,
             most: usize::MAX,
         });
-        let mut sink = Limited {
-            bytes: Vec::new(rt.alloc()),
-            piece: 1,
-            room: usize::MAX,
-            takes_nothing: false,
-            failures: 0,
-        };
+        let mut sink = Limited::new(rt.alloc(), 1, usize::MAX);
         report(rt.alloc(), &page, &mut source, &mut sink)?;
         assert_eq!(rt; sink.bytes.as_slice(), whole.into_inner().as_slice());
     }
@@ -107,13 +95,7 @@ fn a_source_that_fails_anywhere(rt: HostRuntime) -> Result<(), Fail> {
 // The rows above the first mark have no bytes, so they count as written.
 #[test]
 fn marks_broken_off_in_their_first_line(rt: HostRuntime) -> Result<(), Fail> {
-    let mut sink = Limited {
-        bytes: Vec::new(rt.alloc()),
-        piece: 1,
-        room: 9,
-        takes_nothing: false,
-        failures: 0,
-    };
+    let mut sink = Limited::new(rt.alloc(), 1, 9);
     let marks = eight_by_eight(Form::Marks).ok_or("a job")?;
     let mut source = OverRead::new(LINE);
     let answer = convert(

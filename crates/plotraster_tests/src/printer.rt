@@ -41,12 +41,7 @@ fn resolutions_of_pcl(rt: HostRuntime) -> Result<(), Fail> {
 // The resolution comes before all else: the source, which fails, is not asked.
 #[test]
 fn the_resolution_is_judged_first(rt: HostRuntime) -> Result<(), Fail> {
-    let mut source = Semicolons {
-        left: 10,
-        fails: true,
-        failures: 0,
-        ends: 0,
-    };
+    let mut source = Semicolons::failing();
     let mut wrong = job(127)?;
     wrong.band = 0;
     let mut sink = OverWrite::new(Vec::new(rt.alloc()));
@@ -68,13 +63,7 @@ fn the_resolution_is_judged_first(rt: HostRuntime) -> Result<(), Fail> {
 #[test]
 fn a_printer_that_stops_anywhere(rt: HostRuntime) -> Result<(), Fail> {
     for room in 0..64usize {
-        let mut sink = Limited {
-            bytes: Vec::new(rt.alloc()),
-            piece: if room % 2 == 0 { 1 } else { 50 },
-            room,
-            takes_nothing: room % 3 == 0,
-            failures: 0,
-        };
+        let mut sink = Limited::ending_after(rt.alloc(), room);
         let answer = convert(
             rt.alloc(),
             &job(75)?,

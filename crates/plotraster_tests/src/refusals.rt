@@ -1,5 +1,5 @@
 //! Plots and jobs that are refused, and what that leaves.
-ghost use Rattle.std.specs.Prelude.{◌≡◌, ◌-◌, ◌^◌, ◌<◌, false};
+ghost use Rattle.std.specs.Prelude.{◌-◌, ◌^◌, ◌<◌};
 
 use crate::pages::{BLACK, CROSSING, LINE, eight_by_eight};
 use crate::sources::Semicolons;
@@ -87,18 +87,6 @@ fn jobs_that_are_refused(rt: HostRuntime) -> Result<(), Fail> {
     Ok(())
 }
 
-// A source of so many semicolons, which does not fail.
-fn source_of(left: usize) -> Semicolons
-    ensures { result ≡ record { left = left; fails = false; failures = 0; ends = 0 } }
-{
-    Semicolons {
-        left,
-        fails: false,
-        failures: 0,
-        ends: 0,
-    }
-}
-
 // What comes of a source, and how many bytes were written.
 fn converted(
     rt: &HostRuntime,
@@ -115,7 +103,7 @@ fn converted(
 
 #[test]
 fn the_longest_plot(rt: HostRuntime) -> Result<(), Fail> {
-    let mut source = source_of(67_108_864);
+    let mut source = Semicolons::new(67_108_864);
     let (answer, written) = converted(&rt, &mut source)?;
     let empty = matches!(
         answer,
@@ -133,7 +121,7 @@ fn the_longest_plot(rt: HostRuntime) -> Result<(), Fail> {
 
 #[test]
 fn a_plot_of_one_byte_too_many(rt: HostRuntime) -> Result<(), Fail> {
-    let mut source = source_of(67_108_865);
+    let mut source = Semicolons::new(67_108_865);
     let (answer, written) = converted(&rt, &mut source)?;
     let long = matches!(answer, Err(Fault::TooLong));
     assert!(rt; long);
@@ -145,7 +133,7 @@ fn a_plot_of_one_byte_too_many(rt: HostRuntime) -> Result<(), Fail> {
 // Of a longer plot one byte too many is read, and the rest is left.
 #[test]
 fn the_rest_of_a_plot_too_long(rt: HostRuntime) -> Result<(), Fail> {
-    let mut source = source_of(67_108_867);
+    let mut source = Semicolons::new(67_108_867);
     let (answer, written) = converted(&rt, &mut source)?;
     let long = matches!(answer, Err(Fault::TooLong));
     assert!(rt; long);
@@ -156,12 +144,7 @@ fn the_rest_of_a_plot_too_long(rt: HostRuntime) -> Result<(), Fail> {
 
 #[test]
 fn a_source_that_fails(rt: HostRuntime) -> Result<(), Fail> {
-    let mut source = Semicolons {
-        left: 10,
-        fails: true,
-        failures: 0,
-        ends: 0,
-    };
+    let mut source = Semicolons::failing();
     let (answer, written) = converted(&rt, &mut source)?;
     let failed = matches!(answer, Err(Fault::Read));
     assert!(rt; failed);

@@ -1,6 +1,4 @@
 //! Reports on plots.
-ghost use Rattle.std.specs.Prelude.{◌≡◌, ◌-◌, ◌^◌, ◌<◌};
-
 use crate::devices::Limited;
 use crate::sources::Semicolons;
 use plotraster::{Done, Fault, OverRead, OverWrite, Page, Source, report};
@@ -89,13 +87,7 @@ fn the_page_of_a_report(rt: HostRuntime) -> Result<(), Fail> {
 #[test]
 fn a_report_broken_off_anywhere(rt: HostRuntime) -> Result<(), Fail> {
     for room in 0..SKIPPED_REPORT.len() {
-        let mut sink = Limited {
-            bytes: Vec::new(rt.alloc()),
-            piece: if room % 2 == 0 { 1 } else { 50 },
-            room,
-            takes_nothing: room % 3 == 0,
-            failures: 0,
-        };
+        let mut sink = Limited::ending_after(rt.alloc(), room);
         let answer = report(
             rt.alloc(),
             &square()?,
@@ -134,12 +126,7 @@ fn plots_without_a_report(rt: HostRuntime) -> Result<(), Fail> {
 
 #[test]
 fn a_report_on_a_source_that_fails(rt: HostRuntime) -> Result<(), Fail> {
-    let mut source = Semicolons {
-        left: 10,
-        fails: true,
-        failures: 0,
-        ends: 0,
-    };
+    let mut source = Semicolons::failing();
     let mut sink = OverWrite::new(Vec::new(rt.alloc()));
     let answer = report(rt.alloc(), &square()?, &mut source, &mut sink);
     let failed = matches!(answer, Err(Fault::Read));

@@ -12,6 +12,32 @@ pub struct Semicolons {
     pub ends: u64,
 }
 
+impl Semicolons {
+    /// One of `left` bytes, which does not fail.
+    pub fn new(left: usize) -> Semicolons
+        ensures failures { result.failures ≡ 0 }
+        ensures ends { result.ends ≡ 0 }
+    {
+        Semicolons {
+            left,
+            fails: false,
+            failures: 0,
+            ends: 0,
+        }
+    }
+
+    /// One that fails whenever it is asked.
+    pub fn failing() -> Semicolons
+        ensures failures { result.failures ≡ 0 }
+        ensures ends { result.ends ≡ 0 }
+    {
+        Semicolons {
+            fails: true,
+            ..Semicolons::new(10)
+        }
+    }
+}
+
 impl Source for Semicolons {
     ghost left = { λ _. None };
 
