@@ -47,6 +47,7 @@ check:
 	tests/printer $(PROGRAM)
 	tests/recipes $(PROGRAM)
 	tests/dist $(PROGRAM)
+	tests/library
 	tests/compare $(PROGRAM)
 	tools/mutants
 	@tail -n 1 build/verdict
