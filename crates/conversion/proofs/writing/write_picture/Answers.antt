@@ -1,4 +1,4 @@
-use Rattle.std.proofs.Common.{arith, ◌≡◌, ◌<◌, ◌≤◌, ◌+◌, ◌-◌, ◌*◌, ◌++◌, List, [], length, ℕ, take, drop, refl, subst, sym, ap, ap₂, ◌∙◌, append_assoc, append-nil, length-drop, map, nat_eq, if◌then◌else◌, Err}
+use Rattle.std.proofs.Common.{arith, ◌≡◌, ◌<◌, ◌≤◌, ◌+◌, ◌-◌, ◌*◌, ◌++◌, List, [], length, ℕ, take, drop, refl, subst, sym, ap, ap₂, ◌∙◌, append-nil, length-drop, map, nat_eq, if◌then◌else◌, Err}
 use Rattle.std.specs.Io.KnownBytes.{Appends}
 use Rattle.std.specs.List.{range_with_len}
 use Rattle.plot_page.specs.Segments.{Segment}
@@ -19,8 +19,8 @@ use Rattle.conversion.specs.Picture.{rows_bytes, picture_of, bytes_before}
 use Rattle.conversion.specs.Writings.{head_of, row_of}
 use Rattle.conversion.specs.Progress.{rows_text, WritesRows}
 use Rattle.conversion.specs.Conversions.{SinkState}
-use Rattle.conversion.proofs.Pictures.{rows_join, before_rows, stopped_at}
-use Rattle.conversion.proofs.RowTexts.{text_is}
+use Rattle.conversion.proofs.Pictures.{before_rows, stopped_at}
+use Rattle.conversion.proofs.RowTexts.{text_is, band_next}
 use Rattle.conversion.proofs.Stops.{band_stop, same_rows, move_parts}
 use Rattle.conversion.proofs.writing.write_picture.Goals as goal
 
@@ -43,18 +43,14 @@ bands-preserved g c =
     let shown : rows_of_band c.in-Some.band ≡ map pens (range_with_len at n) =
     c.in-Some.ensures.rows ∙ same_rows (λ f l ss pg d r. rows_shown (λ s. f s pg d) l ss (columns_of pg d) r n) _ _ _ _ _ _ _ _ _ _ _ _ inv.same inv.pens inv.strokes inv.page inv.dots inv.next in
     let first : first_of c.in-Some.band ≡ at = c.in-Some.ensures.first ∙ inv.next in
-    let text : rows_text form inks (first_of c.in-Some.band) (rows_of_band c.in-Some.band) ≡ rows_bytes row at n =
-    ap₂ (rows_text form inks) first shown ∙ text_is form inks row pens at n made in
+    let shows : rows_text form inks (first_of c.in-Some.band) (rows_of_band c.in-Some.band) ≡ rows_text form inks at (map pens (range_with_len at n)) = ap₂ (rows_text form inks) first shown in
+    let text : rows_text form inks (first_of c.in-Some.band) (rows_of_band c.in-Some.band) ≡ rows_bytes row at n = shows ∙ text_is form inks row pens at n made in
     let page_rows : rows_of q.page q.dots ≡ rows = ap (λ (z : Page). rows_of z q.dots) inv.page ∙ ap (λ (d : Dots). rows_of p.page d) inv.dots in
     let left : q.next < rows_of q.page q.dots = c.in-Some.ensures.left.0 refl in
     let fit : at + n ≤ rows = omega (arith, left, page_rows, inv.next) in
     let rest = rows_bytes row (at + n) (rows - (at + n)) ++ foot in
-    let parts : rows - at ≡ n + (rows - (at + n)) = omega (arith, fit) in
     let split : drop c.bands.done all ≡ rows_text form inks (first_of c.in-Some.band) (rows_of_band c.in-Some.band) ++ rest =
-    inv.rest
-    ∙ ap (λ (z : List ℕ). z ++ foot) (ap (rows_bytes row at) parts ∙ rows_join row at n (rows - (at + n)))
-    ∙ append_assoc (rows_bytes row at n) (rows_bytes row (at + n) (rows - (at + n))) foot
-    ∙ ap (λ (z : List ℕ). z ++ rest) (sym text) in
+    inv.rest ∙ band_next form inks row pens foot rows at n made fit ∙ ap (λ (z : List ℕ). z ++ rest) (sym shows) in
     let wrote = c.in-Ok-write_band.ensures.rows in
     let next = written_next _ _ _ _ _ _ all (rows_text form inks (first_of c.in-Some.band) (rows_of_band c.in-Some.band)) rest c.bands.done split inv.within inv.so_far inv.quiet (wrote.written, wrote.sound) in
     let count : c.in-Ok-write_band.bytes ≡ c.bands.done + length (rows_text form inks (first_of c.in-Some.band) (rows_of_band c.in-Some.band)) = wrote.count in
@@ -109,17 +105,11 @@ returns-in-Err-write_band g c =
     c.in-Some.ensures.rows ∙ same_rows (λ f l ss pg d r. rows_shown (λ s. f s pg d) l ss (columns_of pg d) r n) _ _ _ _ _ _ _ _ _ _ _ _ inv.same inv.pens inv.strokes inv.page inv.dots inv.next in
     let first : first_of c.in-Some.band ≡ at = c.in-Some.ensures.first ∙ inv.next in
     let list = map pens (range_with_len at n) in
-    let text : rows_text form inks at list ≡ rows_bytes row at n = text_is form inks row pens at n made in
     let page_rows : rows_of q.page q.dots ≡ rows = ap (λ (z : Page). rows_of z q.dots) inv.page ∙ ap (λ (d : Dots). rows_of p.page d) inv.dots in
     let left : q.next < rows_of q.page q.dots = c.in-Some.ensures.left.0 refl in
     let fit : at + n ≤ rows = omega (arith, left, page_rows, inv.next) in
     let rest = rows_bytes row (at + n) (rows - (at + n)) ++ foot in
-    let parts : rows - at ≡ n + (rows - (at + n)) = omega (arith, fit) in
-    let split : drop c.bands.done all ≡ rows_text form inks at list ++ rest =
-    inv.rest
-    ∙ ap (λ (z : List ℕ). z ++ foot) (ap (rows_bytes row at) parts ∙ rows_join row at n (rows - (at + n)))
-    ∙ append_assoc (rows_bytes row at n) (rows_bytes row (at + n) (rows - (at + n))) foot
-    ∙ ap (λ (z : List ℕ). z ++ rest) (sym text) in
+    let split : drop c.bands.done all ≡ rows_text form inks at list ++ rest = inv.rest ∙ band_next form inks row pens foot rows at n made fit in
     let was : SinkState = record { held = g.K.Sink.held c.bands.sink; faults = g.K.Sink.failed c.bands.sink } in
     let is : SinkState = record { held = g.K.Sink.held c.write_band.new.sink; faults = g.K.Sink.failed c.write_band.new.sink } in
     let P : ℕ → Type 0 = λ k. WritesRows form inks c.next_row-first.result k (rows_of_band c.in-Some.band) c.bands.done was is (Err c.in-Err-write_band.stop) in
