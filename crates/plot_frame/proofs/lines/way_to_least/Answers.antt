@@ -31,8 +31,8 @@ overflow_mul-result-2 c =
     let g6 : FitsSigned w128 (unit *ℤ least) = omega (arith, ints) in
     simp to_z-of_z (omega (arith, ints))
 
-pub returns-clause-value : goal.returns-clause-value
-returns-clause-value c =
+pub returns : goal.returns
+returns c =
     let unit = c.args.unit in
     let least = c.from.result in
     let side = c.requires.side in
@@ -44,19 +44,7 @@ returns-clause-value c =
     let p6 = product_within unit least _ _ c.requires.unit_in k6 in
     let g6 : FitsSigned w128 (unit *ℤ least) = omega (arith, ints) in
     let g7 : FitsSigned w128 (pos (10 ^ 8) *ℤ (unit *ℤ least)) = omega (arith, ints) in
-    simp to_z-of_z (rw e6 refl)
-
-pub returns-clause-bound : goal.returns-clause-bound
-returns-clause-bound c =
-    let unit = c.args.unit in
-    let least = c.from.result in
-    let side = c.requires.side in
-    let r6 : FitsSigned w64 c.args.side.least = search rules in
-    let e6 = simp to_z-of_z at c.from.ensures in
-    let f1 = c.ranges.unit in
-    let f6 : FitsSigned w128 least = search rules in
-    let k6 : nat_abs least ≤ 2 ^ 43 = rw e6 side.least_in in
-    let p6 = product_within unit least _ _ c.requires.unit_in k6 in
-    let g6 : FitsSigned w128 (unit *ℤ least) = omega (arith, ints) in
-    let g7 : FitsSigned w128 (pos (10 ^ 8) *ℤ (unit *ℤ least)) = omega (arith, ints) in
-    simp to_z-of_z (omega (arith, ints))
+    record {
+      value = simp to_z-of_z (rw e6 refl);
+      bound = simp to_z-of_z (omega (arith, ints));
+    }
