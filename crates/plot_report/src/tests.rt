@@ -163,7 +163,8 @@ fn a_note_at_the_last_place(rt: HostRuntime) {
     };
     let mut piece = [0; 64];
     let used = append_note_line(&mut piece, 0, &note);
-    assert_eq!(rt; &piece[..used], b"note 18446744073709551615 skipped ZZ\n");
+    let want = b"note 18446744073709551615 skipped ZZ\n";
+    assert_eq!(rt; &piece[..used], want.as_slice());
 }
 
 // Two pens by turns: the last stroke of each is neither its widest nor at an edge of its box.
@@ -277,8 +278,8 @@ fn failing_sinks(rt: HostRuntime) -> Result<(), Fail> {
 // A plot whose report has more than one piece, and that report.
 fn long_report(rt: &HostRuntime) -> Result<([u8; 10_000], Vec<u8>), Fail> {
     let mut text = Vec::from_slice(rt.alloc(), b"page 64 64 0 0\nstrokes 0\n")?;
-    for at in 0..5000 {
-        let line = format!(in rt.alloc(); "note {} skipped ZZ\n", 2 * at)?;
+    for at in (0..10_000u64).step_by(2) {
+        let line = format!(in rt.alloc(); "note {at} skipped ZZ\n")?;
         text.extend_from_slice(line.as_bytes())?;
     }
     Ok(([b'Z'; 10_000], text))
