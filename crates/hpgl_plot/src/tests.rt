@@ -392,7 +392,7 @@ fn refused(rt: HostRuntime) -> Result<(), Fail> {
 // One item at a time, the strokes and the notes are those of the whole program.
 #[test]
 fn one_item_at_a_time(rt: HostRuntime) -> Result<(), Fail> {
-    let text = b"SP1;PD9,9,9;!WU1;PE<=7!;PU1;EA5,5;PE!".as_slice();
+    let text = b"SP1;PD9,9,9;!WU1;PE<=7!!;PU1;EA5,5;PE!".as_slice();
     let program = lex(rt.alloc(), text)?;
     let plot = draw(rt.alloc(), &program, &square()?)?;
     let lines = draw_text(rt.alloc(), text, &square()?)?;
