@@ -1,9 +1,13 @@
 //! An axis of a frame, as a line.
-ghost use Rattle.std.specs.Prelude.{◌≡◌, ◌≤◌, ◌^◌, nat_abs, ◌+ℤ◌, ◌*ℤ◌, if◌then◌else◌};
+ghost use Rattle.std.specs.Prelude.{◌≡◌, ◌≤◌, ◌^◌, pos, nat_abs, ◌+ℤ◌, ◌*ℤ◌, ◌<ℤ◌, if◌then◌else◌};
+ghost use Rattle.exact.specs.Fraction.{round, quotient};
 ghost use Rattle.plot_frame.specs.Bounds.{IsLine, IsNear};
 ghost use Rattle.plot_frame.specs.Line.{place, back};
 
 use exact::rounded;
+
+// The `under` of an axis on which coordinates are plotter units.
+const UNSCALED_UNDER: i128 = 1_000_000;
 
 /// One axis of a frame: a coordinate u, in millionths of the current unit, lies at
 /// (`slope` * u + `offset`) / `under` grains of 1/16 plotter unit from the page's edge.
@@ -22,7 +26,7 @@ impl Axis {
         ensures value { result ≡ place self.now u }
         ensures bound { nat_abs result ≤ 2 ^ 120 }
     {
-        rounded(self.slope * u + self.offset, self.under)
+        rounded_place(self.slope * u + self.offset, self.under)
     }
 
     /// The coordinate of a place, in millionths of the current unit.
@@ -53,5 +57,21 @@ impl Axis {
         } else {
             i128::from(n)
         }
+    }
+}
+
+// The place nearest to over / under. A division by a number that the compiler knows is faster, and
+// most plots have no other.
+#[inline]
+fn rounded_place(over: i128, under: i128) -> i128
+    requires over_in { nat_abs over ≤ 2 ^ 125 }
+    requires under_in { nat_abs under ≤ 2 ^ 125 }
+    requires under_above { pos 0 <ℤ under }
+    ensures { result ≡ round (quotient over under) }
+{
+    if under == UNSCALED_UNDER {
+        rounded(over, UNSCALED_UNDER)
+    } else {
+        rounded(over, under)
     }
 }

@@ -1,5 +1,5 @@
 -- The covered pixels of a row form a run.
-use Rattle.std.proofs.Common.{◌≡◌, ℕ, ◌+◌, ◌-◌, ◌*◌, ◌<◌, ◌≤◌, inl, inr, sym, ap, ap₂, ◌∙◌, arith, ℤ, pos, negsuc, ◌+ℤ◌, ◌-ℤ◌, ◌*ℤ◌, ◌≤ℤ◌, ◌<ℤ◌, nat_abs, true, false, int_le}
+use Rattle.std.proofs.Common.{◌≡◌, ℕ, ◌+◌, ◌-◌, ◌*◌, ◌<◌, ◌≤◌, inl, inr, refl, sym, ap, ap₂, ◌∙◌, arith, ℤ, pos, negsuc, ◌+ℤ◌, ◌-ℤ◌, ◌*ℤ◌, ◌≤ℤ◌, ◌<ℤ◌, nat_abs, true, false, int_le}
 use Rattle.std.proofs.lemmas.Int.{ints}
 use Rattle.std.proofs.lemmas.Bool.{cases_Bool, cases_lt, and_parts, and_from}
 use Rattle.std.proofs.lemmas.Nat.{mul-le}
@@ -7,7 +7,10 @@ use Rattle.std.proofs.Math.Nat.{mul-le-mul_left}
 use Rattle.exact.proofs.Ring.{mul_assoc_z, mul-add_z, add-mul_z, mul-sub_z, mul_mul_comm_z, square-add, square_is}
 use Rattle.stroke_raster.specs.declared.vector.Vector.{Vector}
 use Rattle.stroke_raster.specs.Gap.{way, scaled, dot, cross, gap_met, off, IsNear}
-use Rattle.stroke_raster.specs.Covers.{between, in_window, drawn_width, centre, first_end, last_end, is_gap_met, covers_place, covers, RowsHoldRuns}
+use Rattle.stroke_raster.specs.Covers.{between, in_window, in_box, drawn_width, centre, first_end, last_end, is_gap_met, covers_place, covers, RowsHoldRuns}
+use Rattle.stroke_raster.specs.declared.trace.Trace.{Trace}
+use Rattle.stroke_raster.specs.Traces.{is_near, is_met, rightward}
+use Rattle.stroke_raster.proofs.Scaling.{way-scaled}
 use Rattle.plot_page.specs.Segments.{Segment}
 use Rattle.plot_page.specs.declared.page.Page.{Page}
 use Rattle.stroke_raster.specs.declared.dots.Dots.{Dots}
@@ -211,16 +214,68 @@ covered_run s page dots row a b c f g h k = elim (cases_lt c b) [
   | inr l ↦ (let e : b ≡ c = omega (arith, l, k) in sym (ap (λ (n : ℕ). covers s page dots row n) e) ∙ g)
 ]
 
--- before a pixel that is not covered, with one that is after it, none is
-pub uncovered_before : (s : Segment) (page : Page) (dots : Dots) (row from i j k : ℕ) → i ≤ j → j ≤ k → covers s page dots row (from + j) ≡ false → covers s page dots row (from + k) ≡ true → covers s page dots row (from + i) ≡ false
-uncovered_before s page dots row from i j k u v n h = elim (cases_Bool (covers s page dots row (from + i))) [
-  | inl e ↦ (let t = covered_run s page dots row (from + i) (from + k) (from + j) e h (omega (arith, u)) (omega (arith, v)) in cc)
+met_from : (t : Trace) (start : Vector) (a j i : ℕ) → 0 < i → is_met t start a ≡ true → is_met t start (a + (j + i)) ≡ true → is_met t start (a + j) ≡ true
+met_from t start a j i some f g =
+    let x = start.x +ℤ pos (16256 * a) in
+    let e1 : start.x +ℤ pos (16256 * (a + (j + i))) ≡ x +ℤ pos ((j + i) * 16256) = omega (arith, ints) in
+    let e2 : start.x +ℤ pos (16256 * (a + j)) ≡ x +ℤ pos (j * 16256) = omega (arith, ints) in
+    let g' : is_near t (point (x +ℤ pos ((j + i) * 16256)) start.y) ≡ true = sym (ap (λ (z : ℤ). is_near t (point z start.y)) e1) ∙ g in
+    let m = met_between (scaled (pos t.dots.resolution) t.course) x start.y (drawn_width t.stroke.now.width t.dots.resolution) i j 16256 some f g' in
+    ap (λ (z : ℤ). is_near t (point z start.y)) e2 ∙ m
+
+-- between two pixels of a row that are met each is met
+pub met_run : (t : Trace) (start : Vector) (a b c : ℕ) → is_met t start a ≡ true → is_met t start b ≡ true → a ≤ c → c ≤ b → is_met t start c ≡ true
+met_run t start a b c f g h k = elim (cases_lt c b) [
+  | inl l ↦ (let e : b ≡ a + ((c - a) + (b - c)) = omega (arith, h, k) in
+      let d : a + (c - a) ≡ c = omega (arith, h) in
+      let g' : is_met t start (a + ((c - a) + (b - c))) ≡ true = sym (ap (λ (n : ℕ). is_met t start n) e) ∙ g in
+      let r : is_met t start (a + (c - a)) ≡ true = met_from t start a (c - a) (b - c) (omega (arith, l)) f g' in
+      sym (ap (λ (n : ℕ). is_met t start n) d) ∙ r)
+  | inr l ↦ (let e : b ≡ c = omega (arith, l, k) in sym (ap (λ (n : ℕ). is_met t start n) e) ∙ g)
+]
+
+-- before a pixel that is not met, with one that is after it, none is
+pub unmet_before : (t : Trace) (start : Vector) (i j k : ℕ) → i ≤ j → j ≤ k → is_met t start j ≡ false → is_met t start k ≡ true → is_met t start i ≡ false
+unmet_before t start i j k u v n h = elim (cases_Bool (is_met t start i)) [
+  | inl e ↦ (let m = met_run t start i k j e h u v in cc)
   | inr e ↦ e
 ]
 
--- after a pixel that is not covered, with one that is before it, none is
-pub uncovered_after : (s : Segment) (page : Page) (dots : Dots) (row from i j k : ℕ) → j ≤ i → k ≤ j → covers s page dots row (from + j) ≡ false → covers s page dots row (from + k) ≡ true → covers s page dots row (from + i) ≡ false
-uncovered_after s page dots row from i j k u v n h = elim (cases_Bool (covers s page dots row (from + i))) [
-  | inl e ↦ (let t = covered_run s page dots row (from + k) (from + i) (from + j) h e (omega (arith, v)) (omega (arith, u)) in cc)
+-- after a pixel that is not met, with one that is before it, none is
+pub unmet_after : (t : Trace) (start : Vector) (i j k : ℕ) → j ≤ i → k ≤ j → is_met t start j ≡ false → is_met t start k ≡ true → is_met t start i ≡ false
+unmet_after t start i j k u v n h = elim (cases_Bool (is_met t start i)) [
+  | inl e ↦ (let m = met_run t start k i j h e v u in cc)
   | inr e ↦ e
 ]
+
+-- in the window a pixel is covered if and only if the way to it from the first end is near the stroke
+pub covered_is_met : (t : Trace) (page : Page) (row from i : ℕ) (start : Vector)
+    → start ≡ way (scaled (pos t.dots.resolution) (first_end t.stroke.now)) (centre page.height t.dots.resolution row from)
+    → in_box t.stroke.now page t.dots row (from + i) ≡ true → covers t.stroke.now page t.dots row (from + i) ≡ is_met t start i
+covered_is_met t page row from i start es b =
+    let r = t.dots.resolution in
+    let s = t.stroke.now in
+    let p = centre page.height r row (from + i) in
+    let o = scaled (pos r) (first_end s) in
+    let d = drawn_width s.width r in
+    let w = and_parts (in_window s.window r p) _ b in
+    let x : (way o p).x ≡ (way o (centre page.height r row from)).x +ℤ pos (16256 * i) = omega (arith, ints) in
+    let m : way o p ≡ rightward (way o (centre page.height r row from)) i = ap (λ (z : ℤ). point z (way o p).y) x in
+    let n : way o (scaled (pos r) (last_end s)) ≡ scaled (pos r) t.course = way-scaled (pos r) (first_end s) (last_end s) ∙ ap (λ (z : Vector). scaled (pos r) z) (sym t.sound.course_is) in
+    let g : is_gap_met s r p ≡ is_met t start i = ap₂ (λ (a z : Vector). gap_met a z d) n (m ∙ ap (λ (z : Vector). rightward z i) (sym es)) in
+    rw (w.0) g
+
+-- a place in the window is covered if and only if the way to it from the first end is near the stroke
+pub near_place : (t : Trace) (s : Segment) (dots : Dots) (p : Vector) → t.stroke.now ≡ s → t.dots ≡ dots → in_window s.window dots.resolution p ≡ true
+    → is_near t (way t.first p) ≡ covers_place s dots.resolution p
+near_place t s dots p es ed w =
+    let r = pos t.dots.resolution in
+    let d = drawn_width t.stroke.now.width t.dots.resolution in
+    let f = first_end t.stroke.now in
+    let l = last_end t.stroke.now in
+    let a : scaled r t.course ≡ way (scaled r f) (scaled r l) = ap (λ (z : Vector). scaled r z) t.sound.course_is ∙ sym (way-scaled r f l) in
+    let b : way t.first p ≡ way (scaled r f) p = ap (λ (z : Vector). way z p) t.sound.first_is in
+    let n : is_near t (way t.first p) ≡ is_gap_met t.stroke.now t.dots.resolution p = ap₂ (λ (x y : Vector). gap_met x y d) a b in
+    let m : is_gap_met t.stroke.now t.dots.resolution p ≡ is_gap_met s dots.resolution p = ap₂ (λ (x : Segment) (y : Dots). is_gap_met x y.resolution p) es ed in
+    let c : covers_place s dots.resolution p ≡ is_gap_met s dots.resolution p = rw w refl in
+    n ∙ m ∙ sym c

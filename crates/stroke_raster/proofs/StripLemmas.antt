@@ -6,12 +6,14 @@ use Rattle.std.proofs.lemmas.Bool.{cases_Bool, cases_lt, and_parts}
 use Rattle.std.proofs.lemmas.Nat.{mul-le}
 use Rattle.std.proofs.Math.Nat.{mul-le-mul_left, le_of_mul-le-mul_left, mul-lt-mul_of_pos_left, lt_of_mul-lt-mul_right, div-lt_iff_lt-mul, le-div_iff_mul-le}
 use Rattle.exact.proofs.Ring.{mul_comm_z, mul_left_comm_z, mul-add_z, mul-sub_z, square_is}
-use Rattle.plot_page.specs.Segments.{Segment}
 use Rattle.stroke_raster.specs.declared.vector.Vector.{Vector}
-use Rattle.stroke_raster.specs.Gap.{way, scaled, dot, cross, gap_met}
-use Rattle.stroke_raster.specs.Covers.{drawn_width, centre, first_end, last_end, in_window, is_gap_met, covers_place}
+use Rattle.stroke_raster.specs.Gap.{way, scaled, dot, cross}
+use Rattle.stroke_raster.specs.Covers.{drawn_width}
+use Rattle.stroke_raster.specs.declared.trace.Trace.{Trace}
+use Rattle.stroke_raster.specs.TraceNumbers.{IsSlope}
+use Rattle.stroke_raster.specs.Traces.{is_met, rightward}
 use Rattle.stroke_raster.proofs.GapLemmas.{cross_is, size, size_is}
-use Rattle.stroke_raster.proofs.Scaling.{gap_met_unscaled, gap_met-scaled, way-scaled}
+use Rattle.stroke_raster.proofs.Scaling.{gap_met_unscaled, gap_met-scaled}
 use Rattle.stroke_raster.proofs.Squares.{two_squares}
 use Rattle.stroke_raster.proofs.BoxLemmas.{roots}
 
@@ -43,13 +45,6 @@ before_inverse a v g w i h k l =
     let r : g * (i * w) ≤ g * (a * v) = mul-le-mul_left g p in
     let s : w * (i * g) ≤ w * a = omega (arith, q, r) in
     le_of_mul-le-mul_left s h
-
--- a reciprocal rounded down, and the next number
-pub inverse_sides : (w g : ℕ) → 0 < g → ((w - 1) / g * g ≤ w) × (w ≤ ((w - 1) / g + 1) * g)
-inverse_sides w g h =
-    let a : (w - 1) / g * g ≤ w - 1 = (le-div_iff_mul-le h).0 (omega arith) in
-    let b : w - 1 < ((w - 1) / g + 1) * g = (div-lt_iff_lt-mul h).0 (omega arith) in
-    (omega (arith, a), omega (arith, b))
 
 -- before the gap's two ends, by Lagrange's identity
 near_core : (x y a b d : ℕ) → x * x + y * y ≡ b * a → 4 * b ≤ d * d → 4 * (x * x) ≤ d * d * a
@@ -111,22 +106,15 @@ cross_on v w u i e f =
     let c = mul-add_z v.y w.x (pos (16256 * i)) in
     omega (arith, ints, a, b, c)
 
-covered_is_beside : (s : Segment) (h r row from i l : ℕ) → 0 < r → covers_place s r (centre h r row (from + i)) ≡ true
-    → dot (way (first_end s) (last_end s)) (way (first_end s) (last_end s)) ≤ℤ pos (l * l)
-    → nat_abs (pos 2 *ℤ cross (way (first_end s) (last_end s)) (way (scaled (pos r) (first_end s)) (centre h r row from)) -ℤ pos (32512 * i) *ℤ (s.by -ℤ s.ay)) ≤ drawn_width s.width r * l
-covered_is_beside s h r row from i l pr c k =
-    let p = and_parts (in_window s.window r (centre h r row (from + i))) (is_gap_met s r (centre h r row (from + i))) c in
-    let d = drawn_width s.width r in
-    let v = way (first_end s) (last_end s) in
-    let w = way (scaled (pos r) (first_end s)) (centre h r row from) in
-    let u = way (scaled (pos r) (first_end s)) (centre h r row (from + i)) in
-    let g : gap_met (way (scaled (pos r) (first_end s)) (scaled (pos r) (last_end s))) u d ≡ true = p.1 in
-    let g' : gap_met (scaled (pos r) v) u d ≡ true = sym (ap (λ (z : Vector). gap_met z u d) (way-scaled (pos r) (first_end s) (last_end s))) ∙ g in
-    let m : gap_met_unscaled v u r d ≡ true = sym (gap_met-scaled r d v u pr) ∙ g' in
-    let b = beside_line v u r d l m k in
-    let e : u.x ≡ w.x +ℤ pos (16256 * i) = omega (arith, ints) in
-    let o = cross_on v w u i e refl in
-    let z : nat_abs (pos 2 *ℤ cross v u) ≤ d * l = omega (arith, ints, b) in
+met_is_beside : (t : Trace) (start : Vector) (i l : ℕ) → 0 < t.dots.resolution → is_met t start i ≡ true → dot t.course t.course ≤ℤ pos (l * l)
+    → nat_abs (pos 2 *ℤ cross t.course start -ℤ pos (32512 * i) *ℤ t.course.y) ≤ drawn_width t.stroke.now.width t.dots.resolution * l
+met_is_beside t start i l some met enough =
+    let d = drawn_width t.stroke.now.width t.dots.resolution in
+    let u = rightward start i in
+    let m : gap_met_unscaled t.course u t.dots.resolution d ≡ true = sym (gap_met-scaled t.dots.resolution d t.course u some) ∙ met in
+    let b = beside_line t.course u t.dots.resolution d l m enough in
+    let o = cross_on t.course start u i refl refl in
+    let z : nat_abs (pos 2 *ℤ cross t.course u) ≤ d * l = omega (arith, ints, b) in
     rw o at z
 
 -- a turned number against the multiples of a size
@@ -138,40 +126,32 @@ turn_core (pos n) b i m h =
 turn_core (negsuc n) b i m h = (omega (arith, ints, h), omega (arith, ints, h))
 
 -- the numbers of a strip's code
-pub record Strip (s : Segment) (h r row from l : ℕ) (v w : Vector) (k most : ℤ) (step : ℕ) : Type 0 where
-  pub some : 0 < r
-  pub led : v ≡ way (first_end s) (last_end s)
-  pub place : w ≡ way (scaled (pos r) (first_end s)) (centre h r row from)
-  pub enough : dot v v ≤ℤ pos (l * l)
-  pub turned : k ≡ cond (int_le (pos 0) v.y) (pos 2 *ℤ cross v w) (neg_ℤ (pos 2 *ℤ cross v w))
-  pub reach : most ≡ pos (drawn_width s.width r * l)
-  pub steps : step ≡ 32512 * nat_abs v.y
+pub record Strip (t : Trace) (start : Vector) (k : ℤ) : Type 0 where
+  pub some : 0 < t.dots.resolution
+  pub slope : IsSlope t.course (drawn_width t.stroke.now.width t.dots.resolution) t.slope
+  pub turned : k ≡ cond (int_le (pos 0) t.course.y) (pos 2 *ℤ cross t.course start) (neg_ℤ (pos 2 *ℤ cross t.course start))
 
-sides : (s : Segment) (h r row from l : ℕ) (v w : Vector) (k most : ℤ) (step i : ℕ) → Strip s h r row from l v w k most step → covers_place s r (centre h r row (from + i)) ≡ true
-    → ((pos (i * step) -ℤ k) ≤ℤ most) × ((k -ℤ pos (i * step)) ≤ℤ most)
-sides s h r row from l v w k most step i t c =
-    let e : dot (way (first_end s) (last_end s)) (way (first_end s) (last_end s)) ≤ℤ pos (l * l) = subst (λ (z : Vector). dot z z ≤ℤ pos (l * l)) t.led t.enough in
-    let b = covered_is_beside s h r row from i l t.some c e in
-    let q = turn_core (s.by -ℤ s.ay) (pos 2 *ℤ cross (way (first_end s) (last_end s)) (way (scaled (pos r) (first_end s)) (centre h r row from))) i (drawn_width s.width r * l) b in
-    let y : v.y ≡ s.by -ℤ s.ay = ap (λ (z : Vector). z.y) t.led in
-    let x : cross v w ≡ cross (way (first_end s) (last_end s)) (way (scaled (pos r) (first_end s)) (centre h r row from)) = ap₂ cross t.led t.place in
-    let k' : k ≡ cond (int_le (pos 0) (s.by -ℤ s.ay)) (pos 2 *ℤ cross (way (first_end s) (last_end s)) (way (scaled (pos r) (first_end s)) (centre h r row from))) (neg_ℤ (pos 2 *ℤ cross (way (first_end s) (last_end s)) (way (scaled (pos r) (first_end s)) (centre h r row from)))) =
-    t.turned ∙ ap₂ (λ (a b : ℤ). cond (int_le (pos 0) a) (pos 2 *ℤ b) (neg_ℤ (pos 2 *ℤ b))) y x in
-    let step' : step ≡ 32512 * nat_abs (s.by -ℤ s.ay) = t.steps ∙ ap (λ (z : ℤ). 32512 * nat_abs z) y in
-    let f = subst (λ (z : ℤ). ((pos (i * (32512 * nat_abs (s.by -ℤ s.ay))) -ℤ z) ≤ℤ pos (drawn_width s.width r * l)) × ((z -ℤ pos (i * (32512 * nat_abs (s.by -ℤ s.ay)))) ≤ℤ pos (drawn_width s.width r * l))) (sym k') q in
-    let g = subst (λ (z : ℕ). ((pos (i * z) -ℤ k) ≤ℤ pos (drawn_width s.width r * l)) × ((k -ℤ pos (i * z)) ≤ℤ pos (drawn_width s.width r * l))) (sym step') f in
-    subst (λ (z : ℤ). ((pos (i * step) -ℤ k) ≤ℤ z) × ((k -ℤ pos (i * step)) ≤ℤ z)) (sym t.reach) g
+sides : (t : Trace) (start : Vector) (k : ℤ) (i : ℕ) → Strip t start k → is_met t start i ≡ true
+    → ((pos (i * t.slope.step) -ℤ k) ≤ℤ t.slope.most) × ((k -ℤ pos (i * t.slope.step)) ≤ℤ t.slope.most)
+sides t start k i p c =
+    let m = drawn_width t.stroke.now.width t.dots.resolution * t.slope.length in
+    let step = 32512 * nat_abs t.course.y in
+    let b = met_is_beside t start i t.slope.length p.some c p.slope.enough in
+    let q = turn_core t.course.y (pos 2 *ℤ cross t.course start) i m b in
+    let f = subst (λ (z : ℤ). ((pos (i * step) -ℤ z) ≤ℤ pos m) × ((z -ℤ pos (i * step)) ≤ℤ pos m)) (sym p.turned) q in
+    let g = subst (λ (n : ℕ). ((pos (i * n) -ℤ k) ≤ℤ pos m) × ((k -ℤ pos (i * n)) ≤ℤ pos m)) (sym p.slope.step) f in
+    subst (λ (z : ℤ). ((pos (i * t.slope.step) -ℤ k) ≤ℤ z) × ((k -ℤ pos (i * t.slope.step)) ≤ℤ z)) (sym p.slope.most) g
 
--- a pixel before or after the strip is not covered
-pub outside_before : (s : Segment) (h r row from l : ℕ) (v w : Vector) (k most : ℤ) (step i : ℕ) → Strip s h r row from l v w k most step → most <ℤ (k -ℤ pos (i * step)) → covers_place s r (centre h r row (from + i)) ≡ false
-outside_before s h r row from l v w k most step i t u = elim (cases_Bool (covers_place s r (centre h r row (from + i)))) [
-  | inl e ↦ (let q = (sides s h r row from l v w k most step i t e).1 in absurd (omega (arith, ints, q, u)))
+-- a pixel before or after the strip is not met
+pub outside_before : (t : Trace) (start : Vector) (k : ℤ) (i : ℕ) → Strip t start k → t.slope.most <ℤ (k -ℤ pos (i * t.slope.step)) → is_met t start i ≡ false
+outside_before t start k i p u = elim (cases_Bool (is_met t start i)) [
+  | inl e ↦ (let q = (sides t start k i p e).1 in absurd (omega (arith, ints, q, u)))
   | inr e ↦ e
 ]
 
-pub outside_after : (s : Segment) (h r row from l : ℕ) (v w : Vector) (k most : ℤ) (step i : ℕ) → Strip s h r row from l v w k most step → most <ℤ (pos (i * step) -ℤ k) → covers_place s r (centre h r row (from + i)) ≡ false
-outside_after s h r row from l v w k most step i t u = elim (cases_Bool (covers_place s r (centre h r row (from + i)))) [
-  | inl e ↦ (let q = (sides s h r row from l v w k most step i t e).0 in absurd (omega (arith, ints, q, u)))
+pub outside_after : (t : Trace) (start : Vector) (k : ℤ) (i : ℕ) → Strip t start k → t.slope.most <ℤ (pos (i * t.slope.step) -ℤ k) → is_met t start i ≡ false
+outside_after t start k i p u = elim (cases_Bool (is_met t start i)) [
+  | inl e ↦ (let q = (sides t start k i p e).0 in absurd (omega (arith, ints, q, u)))
   | inr e ↦ e
 ]
 

@@ -1,15 +1,18 @@
 //! Gauges decide whether a stroke reaches a pixel, and count the tests.
-ghost use Rattle.std.specs.Prelude.{◌≡◌, ℕ, ◌+◌, ◌<◌, ◌≤◌, Bool, false, cond, get_or, length, min};
+ghost use Rattle.std.specs.Prelude.{◌≡◌, ℕ, ◌+◌, ◌<◌, ◌≤◌, Bool, true, false, cond, get_or, length, min};
 ghost use Rattle.plot_page.specs.Segments.{Segment};
 ghost use Rattle.plot_page.specs.declared.page.Page.{Page};
 ghost use Rattle.stroke_raster.specs.declared.dots.Dots.{Dots};
 ghost use Rattle.stroke_raster.specs.Resolutions.{columns_of, rows_of};
 ghost use Rattle.stroke_raster.specs.Tests.{next_count, reached, MOST_TESTS};
-ghost use Rattle.stroke_raster.specs.Covers.{covers, BoxHolds};
+ghost use Rattle.stroke_raster.specs.Covers.{covers, in_box, BoxHolds};
 
 use crate::dots::Dots;
-use crate::pixel::near;
-use crate::strip::{Span, fill, run};
+use crate::fill::fill;
+use crate::nearness::near;
+use crate::run::run;
+use crate::strip::Span;
+use crate::trace::Trace;
 use plot_page::{Page, Stroke};
 use std::marker::Model;
 
@@ -37,36 +40,36 @@ pub trait Gauge {
     fn keeps_to_boxes(&self)
         ensures { BoxHolds (reaches self.now) };
 
-    /// Paints a stroke's part of a row: each cell whose pixel the stroke reaches becomes the
+    /// Paints a part of a row of a stroke's box: each cell whose pixel the stroke reaches becomes the
     /// position; the first cell is that of column `from`. The count rises by at least the pixels
     /// reached and at most the cells, or to 2^64 - 1, where it stays. Returns a span of the cells,
     /// outside which none is reached.
     #[inline(always)]
     fn paint(
         &mut self,
-        stroke: &Stroke,
+        trace: &Trace<'_>,
         page: &Page,
-        dots: Dots,
         row: u32,
         from: u32,
         position: u32,
         cells: &mut [u32],
     ) -> Span
-        requires row_in { row < rows_of page.now dots }
-        requires columns_in { from + length cells.old ≤ columns_of page.now dots }
-        ensures cells { (i : ℕ) → i < length cells.old → get_or cells.new i 0 ≡ cond (reaches self.old stroke.now page.now dots row (from + i)) position (get_or cells.old i 0) }
+        requires row_in { row < rows_of page.now trace.now.dots }
+        requires columns_in { from + length cells.old ≤ columns_of page.now trace.now.dots }
+        requires boxed { (i : ℕ) → i < length cells.old → in_box trace.now.stroke.now page.now trace.now.dots row (from + i) ≡ true }
+        ensures cells { (i : ℕ) → i < length cells.old → get_or cells.new i 0 ≡ cond (reaches self.old trace.now.stroke.now page.now trace.now.dots row (from + i)) position (get_or cells.old i 0) }
         ensures same { reaches self.new ≡ reaches self.old }
-        ensures least { min (count self.old + reached (reaches self.old stroke.now page.now dots row) from (length cells.old)) MOST_TESTS ≤ count self.new }
+        ensures least { min (count self.old + reached (reaches self.old trace.now.stroke.now page.now trace.now.dots row) from (length cells.old)) MOST_TESTS ≤ count self.new }
         ensures most { count self.new ≤ count self.old + length cells.old }
         ensures grows { count self.old ≤ count self.new }
         ensures order { result.low ≤ result.end }
         ensures high { result.end ≤ length cells.old }
-        ensures before { (i : ℕ) → i < result.low → reaches self.old stroke.now page.now dots row (from + i) ≡ false }
-        ensures after { (i : ℕ) → result.end ≤ i → i < length cells.old → reaches self.old stroke.now page.now dots row (from + i) ≡ false }
+        ensures before { (i : ℕ) → i < result.low → reaches self.old trace.now.stroke.now page.now trace.now.dots row (from + i) ≡ false }
+        ensures after { (i : ℕ) → result.end ≤ i → i < length cells.old → reaches self.old trace.now.stroke.now page.now trace.now.dots row (from + i) ≡ false }
     {
         for (i, cell) in cells.iter_mut().enumerate() {
             let old = *cell;
-            let is_met = self.meets(stroke, page, dots, row, from + i as u32);
+            let is_met = self.meets(trace.stroke, page, trace.dots, row, from + i as u32);
             *cell = if is_met { position } else { old };
         }
         Span {
@@ -117,17 +120,14 @@ impl Gauge for Exact {
     #[inline(always)]
     fn paint(
         &mut self,
-        stroke: &Stroke,
+        trace: &Trace<'_>,
         page: &Page,
-        dots: Dots,
         row: u32,
         from: u32,
         position: u32,
         cells: &mut [u32],
     ) -> Span {
-        let stroke = *stroke;
-        let page = *page;
-        let run = run(&stroke, &page, dots, row, from, cells.len() as u32);
+        let run = run(trace, page, row, from, cells.len() as u32);
         fill(cells, run, position);
         self.tests = self.tests.saturating_add(u64::from(run.end - run.low));
         run

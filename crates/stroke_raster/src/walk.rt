@@ -21,6 +21,7 @@ use crate::extent::extent_of;
 use crate::gauge::Gauge;
 use crate::scene::Scene;
 use crate::strip::Span;
+use crate::trace::trace_of;
 use plot_page::{Page, Stroke};
 
 // The least span that holds all that two spans hold.
@@ -75,11 +76,12 @@ fn paint_stroke<G: Gauge>(
     let upto = extent.columns.end;
     let bottom = extent.rows.end.min(first + rows).max(first);
     let top = extent.rows.low.max(first).min(bottom);
+    let trace = trace_of(stroke, dots);
     for row in top..bottom {
         let at = (row - first) as usize;
         let start = at * columns as usize;
         let line = &mut cells[start + from as usize..start + upto as usize];
-        let run = gauge.paint(stroke, page, dots, row, from, position, line);
+        let run = gauge.paint(&trace, page, row, from, position, line);
         let painted = Span {
             low: from + run.low,
             end: from + run.end,

@@ -18,8 +18,8 @@ returns c =
     let fa = c.ranges.u in
     let fp : FitsSigned w128 (axis.slope *ℤ c.args.u) = omega (arith, ints) in
     let fq : FitsSigned w128 (axis.slope *ℤ c.args.u +ℤ axis.offset) = omega (arith, ints) in
-    let fr : FitsSigned w128 c.rounded.result = search rules in
-    let e = simp to_z-of_z at c.rounded.ensures in
+    let fr : FitsSigned w128 c.rounded_place.result = search rules in
+    let e = simp to_z-of_z at c.rounded_place.ensures in
     let h : nat_abs (axis.slope *ℤ c.args.u +ℤ axis.offset) ≤ 2 ^ 119 = omega (arith, ints) in
     record {
       value = simp to_z-of_z e;

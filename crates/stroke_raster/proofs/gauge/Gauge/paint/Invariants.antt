@@ -8,10 +8,10 @@ invariant-loop-i g l =
     let reaches = g.Self.Gauge.reaches in
     let count = g.Self.Gauge.count in
     record {
-      done : (k : ℕ) → k < l.i → get_or l.cells k 0 ≡ cond (reaches l.fn.self l.stroke l.page l.dots l.row (l.from + k)) l.position (get_or l.fn.cells k 0);
+      done : (k : ℕ) → k < l.i → get_or l.cells k 0 ≡ cond (reaches l.fn.self l.trace.stroke.now l.page l.trace.dots l.row (l.from + k)) l.position (get_or l.fn.cells k 0);
       rest : (k : ℕ) → l.i ≤ k → get_or l.cells k 0 ≡ get_or l.fn.cells k 0;
       same : reaches l.self ≡ reaches l.fn.self;
-      least : min (count l.fn.self + reached (reaches l.fn.self l.stroke l.page l.dots l.row) l.from l.i) MOST_TESTS ≤ count l.self;
+      least : min (count l.fn.self + reached (reaches l.fn.self l.trace.stroke.now l.page l.trace.dots l.row) l.from l.i) MOST_TESTS ≤ count l.self;
       most : count l.self ≤ count l.fn.self + l.i;
       grows : count l.fn.self ≤ count l.self;
     }

@@ -1,0 +1,222 @@
+//! The run of pixels that a stroke covers in a row.
+ghost use Rattle.std.specs.Prelude.{◌≡◌, ℕ, ◌+◌, ◌-◌, ◌<◌, ◌≤◌, ◌^◌, true, false};
+ghost use Rattle.stroke_raster.specs.Bounds.{Within};
+ghost use Rattle.stroke_raster.specs.Covers.{covers, in_box};
+ghost use Rattle.stroke_raster.specs.Resolutions.{columns_of, rows_of};
+ghost use Rattle.stroke_raster.specs.Traces.{rightward, is_met};
+
+use crate::nearness::{meets, meets_beside};
+use crate::pixel::{centre_of, way_between};
+use crate::strip::{Span, strip};
+use crate::trace::Trace;
+use crate::vector::Vector;
+use plot_page::Page;
+
+// A strip of at most this many columns is scanned from both ends.
+const FEW: u32 = 16;
+
+/// The run of pixels that the stroke covers, among `length` pixels of a row of its box from column
+/// `from` on.
+#[inline(always)]
+pub fn run(trace: &Trace<'_>, page: &Page, row: u32, from: u32, length: u32) -> Span
+    requires row_in { row < rows_of page.now trace.now.dots }
+    requires columns_in { from + length ≤ columns_of page.now trace.now.dots }
+    requires boxed { (i : ℕ) → i < length → in_box trace.now.stroke.now page.now trace.now.dots row (from + i) ≡ true }
+    ensures order { result.low ≤ result.end }
+    ensures high { result.end ≤ length }
+    ensures before { (i : ℕ) → i < result.low → covers trace.now.stroke.now page.now trace.now.dots row (from + i) ≡ false }
+    ensures inside { (i : ℕ) → result.low ≤ i → i < result.end → covers trace.now.stroke.now page.now trace.now.dots row (from + i) ≡ true }
+    ensures after { (i : ℕ) → result.end ≤ i → i < length → covers trace.now.stroke.now page.now trace.now.dots row (from + i) ≡ false }
+{
+    let start = way_between(trace.first, centre_of(page, trace.dots, row, from));
+    run_from(trace, start, length)
+}
+
+// The run among `length` pixels from the one to which `start` leads. The strip is the run, if both of
+// its ends are beside the line.
+#[inline(always)]
+fn run_from(trace: &Trace<'_>, start: Vector, length: u32) -> Span
+    requires start_in { Within (2 ^ 32) start }
+    requires length_in { length ≤ 2 ^ 17 }
+    ensures order { result.low ≤ result.end }
+    ensures high { result.end ≤ length }
+    ensures before { (i : ℕ) → i < result.low → is_met trace.now start i ≡ false }
+    ensures inside { (i : ℕ) → result.low ≤ i → i < result.end → is_met trace.now start i ≡ true }
+    ensures after { (i : ℕ) → result.end ≤ i → i < length → is_met trace.now start i ≡ false }
+{
+    let span = strip(trace, start, length);
+    if lies_beside(trace, start, span) {
+        return span;
+    }
+    searched(trace, start, span)
+}
+
+// Whether the first and the last pixel of a span are near the stroke, and beside it.
+#[inline(always)]
+fn lies_beside(trace: &Trace<'_>, start: Vector, span: Span) -> bool
+    requires start_in { Within (2 ^ 32) start }
+    requires order { span.low ≤ span.end }
+    requires end_in { span.end ≤ 2 ^ 17 }
+    ensures some { result ≡ true → span.low < span.end }
+    ensures first { result ≡ true → is_met trace.now start span.low ≡ true }
+    ensures last { result ≡ true → is_met trace.now start (span.end - 1) ≡ true }
+{
+    span.low < span.end
+        && meets_beside(trace, pixel_at(start, span.low))
+        && meets_beside(trace, pixel_at(start, span.end - 1))
+}
+
+// The way to the pixel i columns to the right of the one to which `start` leads.
+#[inline(always)]
+fn pixel_at(start: Vector, i: u32) -> Vector
+    requires start_in { Within (2 ^ 32) start }
+    requires i_in { i ≤ 2 ^ 17 }
+    ensures value { result ≡ rightward start i }
+    ensures small { Within (2 ^ 33) result }
+{
+    Vector {
+        x: start.x + 16256 * i64::from(i),
+        y: start.y,
+    }
+}
+
+// Whether the stroke is near the pixel i columns to the right.
+#[inline(always)]
+fn meets_pixel(trace: &Trace<'_>, start: Vector, i: u32) -> bool
+    requires start_in { Within (2 ^ 32) start }
+    requires i_in { i ≤ 2 ^ 17 }
+    ensures { result ≡ is_met trace.now start i }
+{
+    meets(trace, pixel_at(start, i))
+}
+
+// The run in a span, by tests from the span's ends or, in a long one, from its middle.
+fn searched(trace: &Trace<'_>, start: Vector, span: Span) -> Span
+    requires start_in { Within (2 ^ 32) start }
+    requires order { span.low ≤ span.end }
+    requires end_in { span.end ≤ 2 ^ 17 }
+    ensures low { span.low ≤ result.low }
+    ensures order { result.low ≤ result.end }
+    ensures high { result.end ≤ span.end }
+    ensures before { (i : ℕ) → span.low ≤ i → i < result.low → is_met trace.now start i ≡ false }
+    ensures inside { (i : ℕ) → result.low ≤ i → i < result.end → is_met trace.now start i ≡ true }
+    ensures after { (i : ℕ) → result.end ≤ i → i < span.end → is_met trace.now start i ≡ false }
+{
+    let middle = span.low + (span.end - span.low) / 2;
+    if span.end - span.low > FEW && meets_pixel(trace, start, middle) {
+        let left = Span {
+            low: span.low,
+            end: middle,
+        };
+        let right = Span {
+            low: middle,
+            end: span.end,
+        };
+        return Span {
+            low: start_of_run(trace, start, left),
+            end: end_of_run(trace, start, right),
+        };
+    }
+    let low = first_covered(trace, start, span);
+    let end = end_of_covered(trace, start, Span { low, end: span.end });
+    Span { low, end }
+}
+
+// The first column of a run that holds the span's end and begins in the span. The search steps from
+// the span's first column, since the run usually begins near it: each step is twice as long as the
+// one before, and at most half of what is left.
+#[inline(always)]
+fn start_of_run(trace: &Trace<'_>, start: Vector, span: Span) -> u32
+    requires start_in { Within (2 ^ 32) start }
+    requires order { span.low ≤ span.end }
+    requires end_in { span.end ≤ 2 ^ 17 }
+    requires held { is_met trace.now start span.end ≡ true }
+    ensures low { span.low ≤ result }
+    ensures high { result ≤ span.end }
+    ensures before { (i : ℕ) → span.low ≤ i → i < result → is_met trace.now start i ≡ false }
+    ensures at { is_met trace.now start result ≡ true }
+{
+    let mut low = span.low;
+    let mut end = span.end;
+    let mut step = 0u32;
+    'parts: while low < end {
+        let at = low + ((end - low) / 2).min(step);
+        if meets_pixel(trace, start, at) {
+            end = at;
+        } else {
+            low = at + 1;
+            step = step << 1 | 1;
+        }
+    }
+    end
+}
+
+// The column after the last one of a run that holds the span's first column and ends in the span,
+// searched in the same way from the span's end.
+#[inline(always)]
+fn end_of_run(trace: &Trace<'_>, start: Vector, span: Span) -> u32
+    requires start_in { Within (2 ^ 32) start }
+    requires order { span.low < span.end }
+    requires end_in { span.end ≤ 2 ^ 17 }
+    requires held { is_met trace.now start span.low ≡ true }
+    ensures low { span.low < result }
+    ensures high { result ≤ span.end }
+    ensures after { (i : ℕ) → result ≤ i → i < span.end → is_met trace.now start i ≡ false }
+    ensures at { is_met trace.now start (result - 1) ≡ true }
+{
+    let mut last = span.low;
+    let mut end = span.end;
+    let mut step = 0u32;
+    'parts: while last + 1 < end {
+        let at = end - 1 - ((end - 1 - last) / 2).min(step);
+        if meets_pixel(trace, start, at) {
+            last = at;
+        } else {
+            end = at;
+            step = step << 1 | 1;
+        }
+    }
+    end
+}
+
+// The first column of the span whose pixel is met, or the span's end.
+#[inline(always)]
+fn first_covered(trace: &Trace<'_>, start: Vector, span: Span) -> u32
+    requires start_in { Within (2 ^ 32) start }
+    requires order { span.low ≤ span.end }
+    requires end_in { span.end ≤ 2 ^ 17 }
+    ensures low { span.low ≤ result }
+    ensures high { result ≤ span.end }
+    ensures before { (i : ℕ) → span.low ≤ i → i < result → is_met trace.now start i ≡ false }
+    ensures at { result < span.end → is_met trace.now start result ≡ true }
+{
+    let mut at = span.low;
+    'columns: while at < span.end {
+        if meets_pixel(trace, start, at) {
+            return at;
+        }
+        at += 1;
+    }
+    at
+}
+
+// The column after the last one of the span whose pixel is met, or the span's first.
+#[inline(always)]
+fn end_of_covered(trace: &Trace<'_>, start: Vector, span: Span) -> u32
+    requires start_in { Within (2 ^ 32) start }
+    requires order { span.low ≤ span.end }
+    requires end_in { span.end ≤ 2 ^ 17 }
+    ensures low { span.low ≤ result }
+    ensures high { result ≤ span.end }
+    ensures after { (i : ℕ) → result ≤ i → i < span.end → is_met trace.now start i ≡ false }
+    ensures at { span.low < result → is_met trace.now start (result - 1) ≡ true }
+{
+    let mut at = span.end;
+    'columns: while span.low < at {
+        if meets_pixel(trace, start, at - 1) {
+            return at;
+        }
+        at -= 1;
+    }
+    at
+}

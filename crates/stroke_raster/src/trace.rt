@@ -1,0 +1,60 @@
+//! Traces: strokes with the numbers that all of their rows share.
+ghost use Rattle.std.specs.Prelude.{◌≡◌};
+ghost use Rattle.stroke_raster.specs.TraceNumbers.{IsTrace};
+
+use crate::dots::Dots;
+use crate::pixel::{drawn_width_of, first_end_of, last_end_of, squared_length, times, way_between};
+use crate::slope::{Slope, slope_of};
+use crate::vector::Vector;
+use plot_page::Stroke;
+
+/// A stroke at a resolution, with what the test of a pixel needs and all of its pixels share.
+///
+/// Places, and the ways to them, are in grains divided by the resolution, where all of them are
+/// whole. The course stays in grains, so that all products but those of two comparisons fit 64 bits.
+#[derive(Clone, Copy, Debug)]
+pub struct Trace<'s> {
+    /// The stroke.
+    pub stroke: &'s Stroke,
+    /// The resolution.
+    pub dots: Dots,
+    /// The place of the stroke's first end.
+    pub first: Vector,
+    /// The way from the stroke's first end to its last end, in grains.
+    pub course: Vector,
+    /// The course, in grains divided by the resolution.
+    pub scaled_course: Vector,
+    /// The dot product of the course with the way to its end: the resolution times the squared length.
+    pub along: i64,
+    /// The square of the drawn width.
+    pub reach: i128,
+    /// The product of the square of the drawn width and the course's squared length.
+    pub limit: i128,
+    /// How the stroke's line crosses rows.
+    pub slope: Slope,
+    pub ghost sound: { IsTrace stroke.now dots first course scaled_course along reach limit slope },
+}
+
+/// The trace of a stroke.
+#[inline(always)]
+pub fn trace_of<'s>(stroke: &'s Stroke, dots: Dots) -> Trace<'s>
+    ensures stroke { result.stroke.now ≡ stroke.entry.now }
+    ensures dots { result.dots ≡ dots }
+{
+    let from = first_end_of(stroke);
+    let course = way_between(from, last_end_of(stroke));
+    let width = drawn_width_of(stroke, dots);
+    let squared = squared_length(course);
+    let reach = i128::from(u64::from(width) * u64::from(width));
+    Trace {
+        stroke,
+        dots,
+        first: times(dots.resolution, from),
+        course,
+        scaled_course: times(dots.resolution, course),
+        along: i64::from(dots.resolution) * squared,
+        reach,
+        limit: reach * i128::from(squared),
+        slope: slope_of(course, width),
+    }
+}
