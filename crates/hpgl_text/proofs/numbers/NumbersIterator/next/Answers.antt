@@ -1,18 +1,18 @@
 use Rattle.std.proofs.Common.{arith, ◌≡◌, ◌∙◌, sym, ap, ℕ, length, List, ℤ, ◌∷◌, drop}
 use Rattle.hpgl_text.specs.Parameters.{numbers}
-use Rattle.hpgl_text.proofs.ParameterLists.{none_read, one_read}
+use Rattle.hpgl_text.proofs.ParameterLists.{listed, none_read, one_read}
 use Rattle.hpgl_text.proofs.numbers.NumbersIterator.next.Goals as goal
 use Rattle.hpgl_text.proofs.numbers.NumbersIterator.next.Goals.{In_ok-number}
 
 pub returns-in_err-number-clause-steps : goal.returns-in_err-number-clause-steps
 returns-in_err-number-clause-steps c =
-    let none = ap (λ (zs : List ℤ). length zs) (none_read c.self.inside.text.now c.after-text.result.now c.separator_count.result c.separator_count.ensures.value c.after-text.ensures c.in_err-number.ensures.found) in
+    let none = ap length (listed (none_read c.self.inside.text.now c.after-text.result.now c.separator_count.result c.separator_count.ensures.value c.after-text.ensures c.in_err-number.ensures.found)) in
     absurd (omega (arith, none, c.self.invariant, c.if-self-eq0.false))
 
 -- the number that is read, and those after it
 first : (c : In_ok-number) (rest : List ℕ) → rest ≡ drop c.in_ok-number.bytes c.after-text.result.now → numbers c.self.inside.text.now ≡ c.in_ok-number.number ∷ numbers rest
-first c rest e = one_read c.self.inside.text.now c.after-text.result.now rest c.separator_count.result c.in_ok-number.bytes c.in_ok-number.number
-    c.separator_count.ensures.value c.after-text.ensures c.in_ok-number.ensures.found e
+first c rest e = listed (one_read c.self.inside.text.now c.after-text.result.now rest c.separator_count.result c.in_ok-number.bytes c.in_ok-number.number
+    c.separator_count.ensures.value c.after-text.ensures c.in_ok-number.ensures.found e)
 
 pub invariant_of-self : goal.invariant_of-self
 invariant_of-self c =
