@@ -150,7 +150,7 @@ GALLERY["A detail at 1200 dots per inch"] = [Check(stored, (*PNG, "pamcut"))]
 DOCUMENT_CHECKS = {
     "docs/GALLERY.md": GALLERY,
     "README.md": {
-        "plotraster": [Check(pictures, PNG), Check(rose, SCALED)],
+        "plotraster": [Check(pictures, PNG), Check(rose, (*SCALED, "pnmquant"))],
         "Use": [Check(pictures, (*SCALED, "pamfile", "pnmtops"))],
     },
     "man/plotraster.1": {

@@ -291,7 +291,8 @@ NOT_FITTED = {
 def fitted_page(made):
     words, *_ = fit(made, "examples/centred.plt")
     fine = made.run("ppm", *words, "--dots", "600", "examples/centred.plt")
-    if made.of_png("centred.png") != netpbm(["pamscale", "-reduce", "4"], fine):
+    reduced = netpbm(["pamscale", "-reduce", "4"], fine)
+    if made.of_png("centred.png") != netpbm(["pnmquant", "64"], reduced):
         yield "another picture"
     for name in ("centred", "figures", "rose", "line"):
         yield from fitted(made, f"examples/{name}.plt")
@@ -471,7 +472,7 @@ CHECKS = {
         "PDF and TIFF, true to size": [Check(pdf, ("pnmtops", "ps2pdf")), Check(tiff, ("pamtotiff", "tifftopnm"))],
         "A PostScript printer, true to size": [Check(postscript, ("pnmtops",))],
         "A PCL printer": [Check(pcl, ("pamflip", "pbmtolj"))],
-        "A page that fits the drawing": [Check(fitted_page, (*PNG, "pamscale"))],
+        "A page that fits the drawing": [Check(fitted_page, (*PNG, "pamscale", "pnmquant"))],
         "Other colours and widths": [Check(recoloured)],
         "An archive of plots": [Check(archive, PNG, ARCHIVE), Check(blank_plots, (), ARCHIVE),
                                 Check(archive_by_parallel, ("parallel",), ARCHIVE)],
