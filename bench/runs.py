@@ -1,4 +1,4 @@
-"""One run of a command that writes a picture: its processor time and its greatest memory (Linux)."""
+"""One run of a command: its processor time and its greatest memory (Linux)."""
 
 import collections
 import ctypes
@@ -36,6 +36,21 @@ def run(words, picture):
     elif read_pbm(picture) is None:
         failure = "no picture"
     return Run(failure, used.ru_utime + used.ru_stime, used.ru_maxrss * 1024)
+
+
+def run_on(words, plot):
+    """One run that reads a plot from standard input and whose output is thrown away, without a limit.
+
+    Its greatest memory is at least that of this process, so it says something of large plots only."""
+    child = os.fork()
+    if child == 0:
+        with open(plot, "rb") as text, open(os.devnull, "wb") as nothing:
+            os.dup2(text.fileno(), 0)
+            os.dup2(nothing.fileno(), 1)
+            os.execvp(words[0], words)
+    _, status, used = os.wait4(child, 0)
+    code = os.waitstatus_to_exitcode(status)
+    return Run(f"status {code}" if code else None, used.ru_utime + used.ru_stime, used.ru_maxrss * 1024)
 
 
 def best(runs):
