@@ -8,11 +8,10 @@ use Rattle.hpgl_plot.specs.declared.fault.PlotFault.TheVariants.{OffRange}
 use Rattle.hpgl_plot.specs.declared.note.Note.{Note}
 use Rattle.hpgl_plot.specs.declared.note.NoteKind.{NoteKind}
 use Rattle.hpgl_plot.specs.declared.note.NoteKind.TheVariants.{Bad}
-use Rattle.hpgl_plot.specs.ArcParameters.{circled, arced}
 use Rattle.hpgl_plot.specs.Arcs.{circle_curve, chord_count, curve_point}
 use Rattle.hpgl_plot.specs.Frames.{across_place, upward_place, across_back, upward_back}
-use Rattle.hpgl_plot.specs.Colours.{default_colours}
-use Rattle.hpgl_plot.specs.Settings.{all_pens}
+use Rattle.plot_settings.specs.Colours.{default_colours}
+use Rattle.plot_settings.specs.Settings.{all_pens}
 use Rattle.hpgl_plot.specs.Notes.{notes}
 use Rattle.hpgl_plot.specs.Plots.{strokes, refusal}
 use Rattle.hpgl_plot.proofs.ExamplePages.{square, line}
@@ -82,25 +81,7 @@ rotated_circle : strokes square (cut (codes "RO90;SC0,8,0,8;PU4,4;CI2,180;")) �
 unfolding across_place upward_place across_back upward_back all_pens default_colours curve_point
 rotated_circle = refl
 
--- 0.4995 degrees are rounded to 0.5, and 0.4994 are not
-least_chord : circled (pos 1000000 ∷ (pos 499500 ∷ [])) ≡ Some (record { radius = pos 1000000; chord = 500 })
-least_chord = refl
-
-small_chord : circled (pos 1000000 ∷ (pos 499499 ∷ [])) ≡ None
-small_chord = refl
-
--- 5 degrees where none are named
-default_chord : circled (pos 1000000 ∷ []) ≡ Some (record { radius = pos 1000000; chord = 5000 })
-default_chord = refl
-
--- -360.0005 degrees are rounded up to -360
-greatest_sweep : arced (pos 1 ∷ (pos 2 ∷ (neg_ℤ (pos 360000500) ∷ [])))
-    ≡ Some (record { x = pos 1; y = pos 2; sweep = neg_ℤ (pos 360000); chord = 5000 })
-greatest_sweep = refl
-
-large_sweep : arced (pos 1 ∷ (pos 2 ∷ (pos 360000500 ∷ []))) ≡ None
-large_sweep = refl
-
+-- chords and sweeps out of their range, and numbers that are missing
 wrong_arcs : notes (cut (codes "CI;CI16,0.4;AA0,0,361;AR1,1;")) ≡ note 0 (codes "CI") Bad ∷ note 3 (codes "CI") Bad
     ∷ note 12 (codes "AA") Bad ∷ note 22 (codes "AR") Bad ∷ []
 wrong_arcs = refl

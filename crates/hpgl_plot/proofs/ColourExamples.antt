@@ -1,13 +1,13 @@
 -- The colours of pens: what small plots draw and what is noted on them, by their text.
 use Rattle.std.proofs.Common.{◌≡◌, ℕ, refl, pos, List, [], ◌∷◌}
-use Rattle.std.specs.Prelude.{codes, map}
+use Rattle.std.specs.Prelude.{codes}
 use Rattle.hpgl_text.specs.Cut.{cut}
 use Rattle.hpgl_plot.specs.declared.note.Note.{Note}
 use Rattle.hpgl_plot.specs.declared.note.NoteKind.{NoteKind}
 use Rattle.hpgl_plot.specs.declared.note.NoteKind.TheVariants.{Bad}
 use Rattle.hpgl_plot.specs.Frames.{across_place, upward_place, across_back, upward_back}
-use Rattle.hpgl_plot.specs.Colours.{rgb, default_colour, default_colours}
-use Rattle.hpgl_plot.specs.Settings.{all_pens}
+use Rattle.plot_settings.specs.Colours.{rgb, default_colours}
+use Rattle.plot_settings.specs.Settings.{all_pens}
 use Rattle.hpgl_plot.specs.Notes.{notes}
 use Rattle.hpgl_plot.specs.Plots.{strokes}
 use Rattle.hpgl_plot.proofs.ExamplePages.{square, colour_line}
@@ -15,10 +15,6 @@ use Rattle.hpgl_plot.proofs.ExamplePages.{square, colour_line}
 -- a note on the item at a place
 abbrev note : ℕ → List ℕ → NoteKind → Note
 note at code kind = record { at = at; code = code; kind = kind }
-
--- white, black, red, green, yellow, blue, magenta, cyan, and then black
-colours_of_pens : map default_colour (0 ∷ 1 ∷ 2 ∷ 3 ∷ 4 ∷ 5 ∷ 6 ∷ 7 ∷ 8 ∷ 255 ∷ []) ≡ rgb 255 255 255 ∷ rgb 0 0 0 ∷ rgb 255 0 0 ∷ rgb 0 255 0 ∷ rgb 255 255 0 ∷ rgb 0 0 255 ∷ rgb 255 0 255 ∷ rgb 0 255 255 ∷ rgb 0 0 0 ∷ rgb 0 0 0 ∷ []
-colours_of_pens = refl
 
 -- PC sets the colour of a pen, or gives it its default colour again; a stroke keeps the one that it was drawn in
 a_colour : strokes square (cut (codes "PC2,10,20,30;SP2;PU0,28;PD64,28;PC2;PU0,12;PD64,12;")) ≡ colour_line 2 (rgb 10 20 30) (pos 0) (pos 448) (pos 1024) (pos 448) ∷ colour_line 2 (rgb 255 0 0) (pos 0) (pos 192) (pos 1024) (pos 192) ∷ []

@@ -17,8 +17,8 @@ use Rattle.plot_arc.specs.declared.spot.Spot.{Spot}
 use Rattle.plot_arc.proofs.Reach.{is_reached}
 use Rattle.plot_page.specs.declared.page.Page.{Page}
 use Rattle.hpgl_plot.specs.declared.axes.Axes.{Axes}
-use Rattle.hpgl_plot.specs.declared.curve.Arc.{Arc}
-use Rattle.hpgl_plot.specs.declared.curve.Circle.{Circle}
+use Rattle.plot_settings.specs.declared.figure.Arc.{Arc}
+use Rattle.plot_settings.specs.declared.figure.Circle.{Circle}
 use Rattle.hpgl_plot.specs.declared.curve.Curve.{Curve}
 use Rattle.hpgl_plot.specs.declared.plotter.Stop.{Stop}
 use Rattle.hpgl_plot.specs.declared.plotter.Stop.TheVariants.{Memory, OffRange}
@@ -30,7 +30,7 @@ use Rattle.hpgl_plot.specs.Bounds.{AreAxes, IsSound, IsInRange, IsSmallIn, AreSm
 use Rattle.hpgl_plot.specs.Frames.{place}
 use Rattle.hpgl_plot.specs.Machine.{World, traced, Runs}
 use Rattle.hpgl_plot.specs.Paths.{path, position, pen_at, target}
-use Rattle.hpgl_plot.specs.Steps.{DrawCircle, DrawArc}
+use Rattle.plot_settings.specs.Steps.{DrawCircle, DrawArc}
 use Rattle.hpgl_plot.proofs.Fed.{traced_more, traced_never, traced_one, within}
 use Rattle.hpgl_plot.proofs.Sound.{sound_at}
 use Rattle.hpgl_plot.proofs.Traces.{traced_keeps}

@@ -8,8 +8,8 @@ use Rattle.hpgl_plot.specs.declared.note.Note.{Note}
 use Rattle.hpgl_plot.specs.declared.note.NoteKind.{NoteKind}
 use Rattle.hpgl_plot.specs.declared.note.NoteKind.TheVariants.{Bad, Axis, Open}
 use Rattle.hpgl_plot.specs.Frames.{across_place, upward_place, across_back, upward_back}
-use Rattle.hpgl_plot.specs.Colours.{default_colours}
-use Rattle.hpgl_plot.specs.Settings.{all_pens}
+use Rattle.plot_settings.specs.Colours.{default_colours}
+use Rattle.plot_settings.specs.Settings.{all_pens}
 use Rattle.hpgl_plot.specs.Notes.{notes}
 use Rattle.hpgl_plot.specs.Plots.{strokes, refusal}
 use Rattle.hpgl_plot.proofs.ExamplePages.{square, line}

@@ -14,9 +14,11 @@ use Rattle.label_layout.specs.Points.{corner, character_strokes, strokes_after, 
 use Rattle.plot_page.specs.declared.page.Page.{Page}
 use Rattle.plot_arc.specs.declared.spot.Spot.{Spot}
 use Rattle.hpgl_plot.specs.declared.state.State.{State}
-use Rattle.hpgl_plot.specs.Steps.{Step, Write, EndLabel}
+use Rattle.plot_settings.specs.Steps.{Step, Write, EndLabel}
 use Rattle.hpgl_plot.specs.Frames.{back}
-use Rattle.hpgl_plot.specs.Labels.{label_steps, label_place, turned_offset}
+use Rattle.plot_settings.specs.Steps.{label_steps}
+use Rattle.hpgl_plot.specs.Labels.{label_place}
+use Rattle.plot_settings.specs.Lettering.{turned_offset}
 use Rattle.hpgl_plot.specs.Paths.{Path, path, position}
 use Rattle.hpgl_plot.proofs.ItemLists.{next_item}
 

@@ -8,7 +8,7 @@ use Rattle.hpgl_plot.specs.declared.plotter.Stop.{Stop}
 use Rattle.hpgl_plot.specs.declared.plotter.Stop.TheVariants.{Memory, OffRange}
 use Rattle.plot_arc.specs.declared.spot.Spot.{Spot}
 use Rattle.hpgl_plot.specs.declared.state.State.{State}
-use Rattle.hpgl_plot.specs.Steps.{Step, Go, Edge}
+use Rattle.plot_settings.specs.Steps.{Step, Go, Edge}
 use Rattle.hpgl_plot.specs.Frames.{place}
 use Rattle.hpgl_plot.specs.Paths.{Path, path, position, target}
 use Rattle.hpgl_plot.specs.Strokes.{are_in_range}

@@ -6,8 +6,8 @@ use Rattle.plot_arc.specs.declared.spot.Spot.{Spot}
 use Rattle.plot_arc.specs.Chords.{chord_point_of}
 use Rattle.plot_arc.specs.Turns.{chords_of, turn_after}
 use Rattle.plot_page.specs.declared.page.Page.{Page}
-use Rattle.hpgl_plot.specs.declared.curve.Arc.{Arc}
-use Rattle.hpgl_plot.specs.declared.curve.Circle.{Circle}
+use Rattle.plot_settings.specs.declared.figure.Arc.{Arc}
+use Rattle.plot_settings.specs.declared.figure.Circle.{Circle}
 use Rattle.hpgl_plot.specs.declared.curve.Curve.{Curve}
 use Rattle.hpgl_plot.specs.declared.state.Frame.{Frame}
 use Rattle.hpgl_plot.specs.Frames.{place}

@@ -1,11 +1,4 @@
--- What a reader must believe: what instructions mean, what holds before a step, strokes, notes and refusals.
-pub mod Parameters
-pub mod ArcParameters
-pub mod Lettering
-pub mod Steps
-pub mod Meanings
-pub mod Colours
-pub mod Settings
+-- What a reader must believe: places, paths and what holds before a step, strokes, notes and refusals.
 pub mod Turns
 pub mod Windows
 pub mod Frames

@@ -10,35 +10,26 @@ use Rattle.plot_page.specs.declared.page.Page.{Page}
 use Rattle.hpgl_plot.specs.declared.plotter.Plotter.{Plotter}
 use Rattle.hpgl_plot.specs.declared.plotter.Stop.{Stop}
 use Rattle.hpgl_plot.specs.declared.plotter.Stop.TheVariants.{Memory, OffRange}
-use Rattle.hpgl_plot.specs.declared.setting.Rotation.TheVariants as rotation
-use Rattle.hpgl_plot.specs.declared.setting.Setting.{Setting}
-use Rattle.hpgl_plot.specs.declared.setting.Setting.TheVariants.{Start, Defaults, PageCorners, FirstPoint, BothPoints, Scale, Rotate, PageWindow, CornerWindow, Pen, Width, WidthOfAll, PenColour, DefaultColours, Size, Direction}
+use Rattle.plot_settings.specs.declared.setting.Rotation.TheVariants as rotation
+use Rattle.plot_settings.specs.declared.setting.Setting.{Setting}
+use Rattle.plot_settings.specs.declared.setting.Setting.TheVariants.{Start, Defaults, PageCorners, FirstPoint, BothPoints, Scale, Rotate, PageWindow, CornerWindow, Pen, Width, WidthOfAll, PenColour, DefaultColours, Size, Direction}
 use Rattle.hpgl_plot.specs.declared.state.Frame.{Frame}
 use Rattle.hpgl_plot.specs.declared.state.Position.{Position}
 use Rattle.plot_arc.specs.declared.spot.Spot.{Spot}
 use Rattle.hpgl_plot.specs.declared.state.State.{State}
-use Rattle.hpgl_plot.specs.Colours.{default_colours}
-use Rattle.hpgl_plot.specs.Lettering.{usual_size}
+use Rattle.plot_settings.specs.Colours.{default_colours}
+use Rattle.plot_settings.specs.Lettering.{usual_size}
 use Rattle.plot_page.specs.Segments.{Segment}
-use Rattle.hpgl_plot.specs.Settings.{all_pens}
-use Rattle.hpgl_plot.specs.Steps.{Step, Set, Lower, Relate}
-use Rattle.hpgl_text.specs.declared.instruction.Instruction.{Instruction}
-use Rattle.hpgl_text.specs.declared.instruction.Instruction.TheVariants.{PenUp, PenDown, PlotAbsolute, PlotRelative}
-use Rattle.hpgl_plot.specs.Meanings.{steps_of}
-use Rattle.hpgl_plot.specs.Frames.{back, moved_points, corner_window}
+use Rattle.plot_settings.specs.Settings.{all_pens}
+use Rattle.plot_settings.specs.Steps.{Step, Set, Lower, Relate}
+use Rattle.plot_settings.specs.Meanings.{steps_of}
+use Rattle.hpgl_plot.specs.Frames.{back, corner_window}
+use Rattle.plot_settings.specs.Parameters.{moved_points}
 use Rattle.hpgl_plot.specs.Paths.{path}
 use Rattle.hpgl_plot.specs.States.{state_of}
 use Rattle.hpgl_plot.specs.Turns.{corners}
 use Rattle.hpgl_plot.specs.Windows.{page_window}
 use Rattle.hpgl_plot.specs.Strokes.{are_in_range, joined, path_strokes}
-
--- PU, PD, PA and PR make a move to each pair of their numbers; each other instruction looks at its first numbers
-abbrev pub plots_pairs : Instruction → Bool
-plots_pairs PenUp = true
-plots_pairs PenDown = true
-plots_pairs PlotAbsolute = true
-plots_pairs PlotRelative = true
-plots_pairs _ = false
 
 -- another frame: the coordinates are recomputed
 abbrev pub framed : Page → State → Frame → State

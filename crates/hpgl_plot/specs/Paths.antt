@@ -9,7 +9,7 @@ use Rattle.hpgl_plot.specs.declared.state.Frame.{Frame}
 use Rattle.hpgl_plot.specs.declared.state.Position.{Position}
 use Rattle.plot_arc.specs.declared.spot.Spot.{Spot}
 use Rattle.hpgl_plot.specs.declared.state.State.{State}
-use Rattle.hpgl_plot.specs.Steps.{Step, Touch, Move, Go, Edge, DrawCircle, DrawArc, Write, EndLabel}
+use Rattle.plot_settings.specs.Steps.{Step, Touch, Move, Go, Edge, DrawCircle, DrawArc, Write, EndLabel}
 use Rattle.hpgl_plot.specs.Frames.{place, back}
 use Rattle.hpgl_plot.specs.Arcs.{circle_curve, arc_curve, chord_count, curve_point, curve_places}
 use Rattle.hpgl_plot.specs.declared.curve.Curve.{Curve}

@@ -7,10 +7,10 @@ use Rattle.hpgl_plot.specs.declared.state.Frame.{Frame}
 use Rattle.hpgl_plot.specs.declared.state.Position.{Position}
 use Rattle.plot_arc.specs.declared.spot.Spot.{Spot}
 use Rattle.hpgl_plot.specs.declared.state.State.{State}
-use Rattle.hpgl_plot.specs.declared.setting.Setting.{Setting}
-use Rattle.hpgl_plot.specs.declared.setting.Setting.TheVariants.{Start, Defaults, PageCorners, FirstPoint, BothPoints, Scale, Rotate}
-use Rattle.hpgl_plot.specs.Steps.{Step, Set}
-use Rattle.hpgl_plot.specs.Settings.{pen, is_down, is_relative, widths, colours, size, direction}
+use Rattle.plot_settings.specs.declared.setting.Setting.{Setting}
+use Rattle.plot_settings.specs.declared.setting.Setting.TheVariants.{Start, Defaults, PageCorners, FirstPoint, BothPoints, Scale, Rotate}
+use Rattle.plot_settings.specs.Steps.{Step, Set}
+use Rattle.plot_settings.specs.Settings.{pen, is_down, is_relative, widths, colours, size, direction}
 use Rattle.hpgl_plot.specs.Frames.{frame, window, back}
 use Rattle.hpgl_plot.specs.Paths.{pen_at, path}
 

@@ -5,24 +5,6 @@ ghost use Rattle.hpgl_plot.specs.Arcs as curves;
 
 use plot_arc::{Spot, chord_point, turn, turn_count};
 
-/// What CI asks for: the radius in millionths of the current unit, and the angle of a chord, 500 to
-/// 180,000 thousandths of a degree.
-#[derive(Clone, Copy, Debug)]
-pub struct Circle {
-    pub radius: i64,
-    pub chord: u32,
-}
-
-/// What AA and AR ask for: the centre in millionths of the current unit, and in thousandths of a
-/// degree the sweep, -360,000 to 360,000, and the angle of a chord, 500 to 180,000.
-#[derive(Clone, Copy, Debug)]
-pub struct Arc {
-    pub x: i64,
-    pub y: i64,
-    pub sweep: i32,
-    pub chord: u32,
-}
-
 /// A circle or an arc: its centre and its first point in millionths of the current unit, its sweep
 /// and the angle of a chord in thousandths of a degree.
 #[derive(Clone, Copy, Debug)]

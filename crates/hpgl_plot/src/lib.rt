@@ -1,7 +1,6 @@
-//! What a plot draws: the page that it is drawn on, what its instructions set, and its strokes.
+//! What a plot draws on a page: its strokes, and what is noted on it.
 #![tactic(auto)]
 
-mod arc_parameters;
 #[cfg(test)]
 mod arc_tests;
 mod axes;
@@ -10,19 +9,15 @@ mod fault;
 #[cfg(test)]
 mod label_tests;
 pub mod laws;
-mod lettering;
 #[cfg(test)]
 mod limit_tests;
 mod lines;
 mod note;
 mod notes;
 mod noting;
-mod palette;
-mod parameters;
 mod place;
 mod plot;
 mod plotter;
-mod setting;
 #[cfg(test)]
 mod settings_tests;
 mod state;

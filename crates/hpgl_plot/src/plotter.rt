@@ -9,21 +9,18 @@ mod labels;
 mod moves;
 mod settings;
 
-use crate::arc_parameters::{named_arc, named_circle};
 use crate::axes::Axes;
 use crate::fault::PlotFault;
-use crate::lettering::{named_direction, named_size};
-use crate::parameters::{
-    named_colour, named_pen, named_points, named_rotation, named_scaling, named_width, named_window,
-};
 use crate::place::{start_axes, start_of};
-use crate::setting::Setting;
 use crate::state::State;
-use crate::wrong::does_plot;
 use hpgl_text::{
     Body, Entries, Entry, Instruction, Item, Number, Numbers, Part, instruction_of_code,
 };
 use plot_page::{Page, Stroke};
+use plot_settings::{
+    Setting, does_plot, named_arc, named_circle, named_colour, named_direction, named_pen,
+    named_points, named_rotation, named_scaling, named_size, named_width, named_window,
+};
 use std::alloc::Global;
 
 /// Why an instruction is not carried out.
@@ -50,9 +47,10 @@ pub struct Plotter {
 impl Plotter {
     ghost use Rattle.std.specs.Prelude.{◌≡◌, All, Some, true, false};
     ghost use Rattle.hpgl_text.specs.Numbers.{IsNumber};
-    ghost use Rattle.hpgl_plot.specs.Machine.{plots_pairs, seen, at_start, step, run, Runs, CarriesOut};
-    ghost use Rattle.hpgl_plot.specs.Steps.{Lower, Relate, moves, lowered_then, part_steps, entry_steps};
-    ghost use Rattle.hpgl_plot.specs.Meanings.{meaning, steps_of};
+    ghost use Rattle.plot_settings.specs.Pairs.{plots_pairs};
+    ghost use Rattle.hpgl_plot.specs.Machine.{seen, at_start, step, run, Runs, CarriesOut};
+    ghost use Rattle.plot_settings.specs.Steps.{Lower, Relate, moves, lowered_then, part_steps, entry_steps};
+    ghost use Rattle.plot_settings.specs.Meanings.{meaning, steps_of};
 
     /// A plotter on a page, before the first item.
     pub fn new(alloc: Global, page: &Page) -> Plotter

@@ -1,17 +1,19 @@
 //! Circles and arcs.
 ghost use Rattle.std.specs.Prelude.{◌≡◌, ◌∷◌, IfOk, IfSome};
 ghost use Rattle.hpgl_plot.specs.Arcs as curves;
-ghost use Rattle.hpgl_plot.specs.Bounds.{IsInRange, IsCircle, IsArc, IsCurve};
+ghost use Rattle.hpgl_plot.specs.Bounds.{IsInRange, IsCurve};
+ghost use Rattle.plot_settings.specs.Bounds.{IsCircle, IsArc};
 ghost use Rattle.hpgl_plot.specs.Machine.{seen, step, run, Runs, traced};
-ghost use Rattle.hpgl_plot.specs.Meanings.{circles, arcs};
+ghost use Rattle.plot_settings.specs.Meanings.{circles, arcs};
 ghost use Rattle.hpgl_plot.specs.Paths.{pen_at, target};
-ghost use Rattle.hpgl_plot.specs.Steps.{DrawCircle, DrawArc};
+ghost use Rattle.plot_settings.specs.Steps.{DrawCircle, DrawArc};
 
-use crate::curve::{Arc, Circle, Curve, chord_count, curve_point};
+use crate::curve::{Curve, chord_count, curve_point};
 use crate::place::target_of;
 use crate::plotter::{Plotter, Stop};
 use crate::state::Position;
 use plot_arc::Spot;
+use plot_settings::{Arc, Circle};
 
 impl Plotter {
     /// A circle, if its parameters are not wrong.

@@ -1,22 +1,22 @@
 //! Labels, stroke by stroke.
-ghost use Rattle.std.specs.Prelude.{◌≡◌, ◌≤◌, ◌^◌, nat_abs, map};
+ghost use Rattle.std.specs.Prelude.{◌≡◌, map};
 ghost use Rattle.label_layout.specs.Points.{IsLabelPoint, IsLabelStroke, character_strokes};
 ghost use Rattle.hpgl_plot.specs.Labels as labels;
 ghost use Rattle.hpgl_plot.specs.Machine.{seen, step, run, Runs};
-ghost use Rattle.hpgl_plot.specs.Steps.{Write, EndLabel};
+ghost use Rattle.plot_settings.specs.Steps.{Write, EndLabel, label_steps};
 
 use crate::place::coordinates_at;
 use crate::plotter::{Plotter, Stop};
-use crate::setting::Rotation;
 use crate::state::Position;
-use label_layout::{Cell, LabelPoint, LabelStroke, Offset, label_stroke};
+use label_layout::{Cell, LabelPoint, LabelStroke, label_stroke};
 use plot_arc::Spot;
+use plot_settings::turned_offset;
 
 impl Plotter {
     /// LB: writes the bytes from the pen's place on, and leaves the pen where the next character would
     /// begin.
     pub fn write(&mut self, bytes: &[u8]) -> Result<(), Stop>
-        ensures { Runs (run (seen self.old) (labels.label_steps bytes.now)) (seen self.new) result }
+        ensures { Runs (run (seen self.old) (label_steps bytes.now)) (seen self.new) result }
     {
         let mut cell = Cell::FIRST;
         for byte in bytes {
@@ -74,30 +74,5 @@ impl Plotter {
             x: state.place.x + on_page.x,
             y: state.place.y + on_page.y,
         }
-    }
-}
-
-// An offset, turned counterclockwise.
-fn turned_offset(rotation: Rotation, offset: Offset) -> Offset
-    requires x_in { nat_abs offset.x ≤ 2 ^ 104 }
-    requires y_in { nat_abs offset.y ≤ 2 ^ 104 }
-    ensures value { result ≡ labels.turned_offset rotation offset }
-    ensures x_in { nat_abs result.x ≤ 2 ^ 104 }
-    ensures y_in { nat_abs result.y ≤ 2 ^ 104 }
-{
-    match rotation {
-        Rotation::None => offset,
-        Rotation::Quarter => Offset {
-            x: 0 - offset.y,
-            y: offset.x,
-        },
-        Rotation::Half => Offset {
-            x: 0 - offset.x,
-            y: 0 - offset.y,
-        },
-        Rotation::ThreeQuarters => Offset {
-            x: offset.y,
-            y: 0 - offset.x,
-        },
     }
 }

@@ -1,4 +1,4 @@
-use Rattle.hpgl_plot.proofs.Named.{named_points_sound, named_scaling_sound, named_rotation_sound, named_window_sound, named_colour_sound, named_size_sound, named_direction_sound}
+use Rattle.plot_settings.proofs.Named.{named_points_sound, named_scaling_sound, named_rotation_sound, named_window_sound, named_colour_sound, named_size_sound, named_direction_sound}
 use Rattle.hpgl_plot.proofs.plotter.Plotter.apply.Goals as goal
 
 pub set_named-requires-in-InputPoints : goal.set_named-requires-in-InputPoints

@@ -1,7 +1,7 @@
 use Rattle.std.proofs.Common.{◌∷◌, ap, refl}
 use Rattle.hpgl_plot.specs.declared.state.Position.{Position}
 use Rattle.hpgl_plot.specs.Arcs.{chord_count, curve_point, curve_places}
-use Rattle.hpgl_plot.specs.Steps.{DrawArc}
+use Rattle.plot_settings.specs.Steps.{DrawArc}
 use Rattle.hpgl_plot.specs.Paths.{Path, pen_at}
 use Rattle.hpgl_plot.specs.Machine.{seen, step, moved, traced}
 use Rattle.hpgl_plot.proofs.Curves.{arc_path_is, arc_sound, stopped_by}

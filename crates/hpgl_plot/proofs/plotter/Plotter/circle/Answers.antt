@@ -2,7 +2,7 @@ use Rattle.std.proofs.Common.{◌∷◌, refl, true, Ok}
 use Rattle.std.specs.Bool.{⊤}
 use Rattle.hpgl_plot.specs.declared.state.Position.{Position}
 use Rattle.hpgl_plot.specs.Arcs.{curve_places}
-use Rattle.hpgl_plot.specs.Steps.{DrawCircle}
+use Rattle.plot_settings.specs.Steps.{DrawCircle}
 use Rattle.hpgl_plot.specs.Paths.{Path, position}
 use Rattle.hpgl_plot.specs.Machine.{seen, step, traced}
 use Rattle.hpgl_plot.proofs.Curves.{circle_path_is, stopped_by}

@@ -1,5 +1,5 @@
 use Rattle.std.proofs.Common.{◌∷◌, [], refl, ap, false}
-use Rattle.hpgl_plot.specs.Steps.{EndLabel}
+use Rattle.plot_settings.specs.Steps.{EndLabel}
 use Rattle.hpgl_plot.specs.Paths.{Path}
 use Rattle.hpgl_plot.specs.Frames.{back}
 use Rattle.hpgl_plot.specs.Machine.{seen, step, moved, traced}

@@ -1,7 +1,7 @@
 use Rattle.std.proofs.Common.{◌∙◌, sym, ap, subst}
 use Rattle.hpgl_plot.specs.Machine.{seen, run, Runs}
-use Rattle.hpgl_plot.specs.Meanings.{Meaning, meaning}
-use Rattle.hpgl_plot.proofs.Leading.{same_meaning}
+use Rattle.plot_settings.specs.Meanings.{Meaning, meaning}
+use Rattle.plot_settings.proofs.Leading.{same_meaning}
 use Rattle.hpgl_plot.proofs.plotter.Plotter.obey.Goals as goal
 
 pub returns-else-does_plot : goal.returns-else-does_plot

@@ -1,5 +1,5 @@
 use Rattle.std.proofs.Common.{refl}
-use Rattle.hpgl_plot.specs.Steps.{Touch}
+use Rattle.plot_settings.specs.Steps.{Touch}
 use Rattle.hpgl_plot.specs.Machine.{seen}
 use Rattle.hpgl_plot.proofs.Traces.{still_runs}
 use Rattle.hpgl_plot.proofs.plotter.Plotter.touch.Goals as goal

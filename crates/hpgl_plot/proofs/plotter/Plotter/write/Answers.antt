@@ -3,8 +3,8 @@ use Rattle.std.proofs.lemmas.List.{drop_more}
 use Rattle.label_layout.specs.declared.cell.Cell.{Cell}
 use Rattle.label_layout.specs.Cells.{moved_on}
 use Rattle.label_layout.specs.Points.{character_strokes}
-use Rattle.hpgl_plot.specs.Steps.{Step, Write}
-use Rattle.hpgl_plot.specs.Labels.{label_steps}
+use Rattle.plot_settings.specs.Steps.{Step, Write}
+use Rattle.plot_settings.specs.Steps.{label_steps}
 use Rattle.hpgl_plot.specs.Machine.{seen, run}
 use Rattle.hpgl_plot.proofs.Letters.{steps_from, steps_of_label, next_column, next_line}
 use Rattle.hpgl_plot.proofs.Runs.{run_then, run_out}

@@ -1,6 +1,6 @@
 use Rattle.std.proofs.Common.{◌≡◌, ◌≤◌, drop}
 use Rattle.hpgl_plot.specs.Machine.{seen, run}
-use Rattle.hpgl_plot.specs.Labels.{label_steps}
+use Rattle.plot_settings.specs.Steps.{label_steps}
 use Rattle.hpgl_plot.proofs.Letters.{steps_from}
 use Rattle.hpgl_plot.proofs.plotter.Plotter.write.Given as goal
 

@@ -1,7 +1,7 @@
 use Rattle.std.proofs.Common.{◌∙◌, ◌+◌, ap, sym, arith, List, drop, map}
 use Rattle.std.proofs.lemmas.Option.{slice_get_within}
 use Rattle.label_layout.specs.Points.{character_strokes}
-use Rattle.hpgl_plot.specs.Steps.{Step, Write}
+use Rattle.plot_settings.specs.Steps.{Step, Write}
 use Rattle.hpgl_plot.specs.Machine.{seen, step, run}
 use Rattle.hpgl_plot.proofs.Letters.{one_stroke, no_more_strokes}
 use Rattle.hpgl_plot.proofs.Pairs.{run_more}

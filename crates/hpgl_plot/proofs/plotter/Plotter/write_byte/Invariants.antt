@@ -1,7 +1,7 @@
 use Rattle.std.proofs.Common.{◌≡◌, ◌≤◌, ◌-◌, drop, length, map}
 use Rattle.label_layout.specs.Points.{character_strokes}
 use Rattle.hpgl_plot.specs.Machine.{seen, run}
-use Rattle.hpgl_plot.specs.Steps.{Write}
+use Rattle.plot_settings.specs.Steps.{Write}
 use Rattle.hpgl_plot.proofs.plotter.Plotter.write_byte.Given as goal
 
 -- the strokes that are left come to what all of them come to

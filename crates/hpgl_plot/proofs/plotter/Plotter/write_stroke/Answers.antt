@@ -1,6 +1,6 @@
 use Rattle.std.proofs.Common.{refl}
 use Rattle.hpgl_plot.specs.Machine.{seen}
-use Rattle.hpgl_plot.specs.Steps.{Write}
+use Rattle.plot_settings.specs.Steps.{Write}
 use Rattle.hpgl_plot.proofs.Letters.{write_path_is}
 use Rattle.hpgl_plot.proofs.Traces.{still_runs}
 use Rattle.hpgl_plot.proofs.plotter.Plotter.write_stroke.Goals as goal

@@ -1,7 +1,0 @@
-use Rattle.std.proofs.Common.{refl}
-use Rattle.hpgl_plot.specs.Colours.{default_colours}
-use Rattle.hpgl_plot.proofs.palette.default_colours.Goals as goal
-
-pub returns : goal.returns
-unfolding default_colours
-returns c = rw c.copy_from_slice.ensures.after refl

@@ -1,0 +1,6 @@
+pub mod Named
+pub mod Leading
+pub mod Moved
+pub mod Widths
+pub mod Colours
+mod Examples

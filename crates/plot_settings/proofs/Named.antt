@@ -1,0 +1,256 @@
+-- What parameters set, by their count, and that it is in its range.
+use Rattle.std.proofs.Common.{◌⊎◌, inl, inr, ◌≡◌, ◌≢◌, ◌≤◌, ◌^◌, ◌-◌, refl, suc, false, ◌&&◌, ◌||◌, not, List, [], ◌∷◌, length, take, drop, get_or, All, Some, IfSome, ℤ, pos, ◌-ℤ◌, ◌+ℤ◌, ◌≤ℤ◌, int_le, nat_abs, arith}
+use Rattle.std.proofs.lemmas.List.{take_all}
+use Rattle.std.proofs.lemmas.Int.{ints}
+use Rattle.std.proofs.lemmas.Bool.{and_parts, or_parts, cases_Bool, not-false}
+use Rattle.std.proofs.lemmas.List.Elements.{All-head, All-tail}
+use Rattle.std.proofs.lemmas.Bool.Decides.{not_from_Decides, Decides-int_eq}
+use Rattle.std.specs.Ordering.{int_eq}
+use Rattle.exact.specs.Fraction.{Fraction}
+use Rattle.exact.proofs.Rounding.{meets_lem}
+use Rattle.plot_frame.specs.declared.scaling.Ranges.{Ranges}
+use Rattle.plot_frame.specs.Bounds.{IsPoints, IsRanges}
+use Rattle.plot_settings.specs.declared.setting.Setting.TheVariants.{BothPoints}
+use Rattle.plot_settings.specs.Parameters.{whole_of, apart, points_at, scaling_points, window_corners, rotation_set, rotated, isotropic, isotropic_by, scaling_of_type, ranges_of, scaled, anisotropic, point_factor, has_empty_range, is_percent, is_pen, is_primary, default_colour_set, colour_set, pen_colour}
+use Rattle.plot_settings.specs.Lettering.{is_size, size_set, character_size, direction_set, direction}
+use Rattle.plot_settings.specs.Bounds.{IsSetting}
+
+pub isotropic_two : (r : Ranges) (ns : List ℤ) (l b : ℤ) → 2 ≤ length ns → l ≡ get_or ns 0 l → b ≡ get_or ns 1 b → isotropic_by r ns ≡ isotropic r l b
+isotropic_two r [] l b h p q = absurd (omega arith)
+isotropic_two r (x ∷ []) l b h p q = absurd (omega arith)
+isotropic_two r (x ∷ (y ∷ ns)) l b h p q = rw (p, q) refl
+
+pub points_by : (a b c d a' b' c' d' : ℤ) → a ≡ a' → b ≡ b' → c ≡ c' → d ≡ d' → points_at a b c d ≡ points_at a' b' c' d'
+points_by a b c d a' b' c' d' e f g h = rw (e, f, g, h) refl
+
+pub points_four : (ns : List ℤ) (a b c d : ℤ) → 4 ≤ length ns → a ≡ get_or ns 0 a → b ≡ get_or ns 1 b → c ≡ get_or ns 2 c → d ≡ get_or ns 3 d
+    → scaling_points ns ≡ Some (BothPoints (points_at (whole_of a) (whole_of b) (whole_of c) (whole_of d)))
+points_four [] a b c d h p q r s = absurd (omega arith)
+points_four (x ∷ []) a b c d h p q r s = absurd (omega arith)
+points_four (x ∷ (y ∷ [])) a b c d h p q r s = absurd (omega arith)
+points_four (x ∷ (y ∷ (z ∷ []))) a b c d h p q r s = absurd (omega arith)
+points_four (x ∷ (y ∷ (z ∷ (w ∷ ns)))) a b c d h p q r s = rw (p, q, r, s) refl
+
+pub colours_by : (p r g b p' r' g' b' : ℤ) → p ≡ p' → r ≡ r' → g ≡ g' → b ≡ b' → colour_set p r g b ≡ colour_set p' r' g' b'
+colours_by p r g b p' r' g' b' e f h i = rw (e, f, h, i) refl
+
+pub colour_four : (ns : List ℤ) (a b c d : ℤ) → 4 ≤ length ns → a ≡ get_or ns 0 a → b ≡ get_or ns 1 b → c ≡ get_or ns 2 c → d ≡ get_or ns 3 d
+    → pen_colour ns ≡ colour_set (whole_of a) (whole_of b) (whole_of c) (whole_of d)
+colour_four [] a b c d h p q r s = absurd (omega arith)
+colour_four (x ∷ []) a b c d h p q r s = absurd (omega arith)
+colour_four (x ∷ (y ∷ [])) a b c d h p q r s = absurd (omega arith)
+colour_four (x ∷ (y ∷ (z ∷ []))) a b c d h p q r s = absurd (omega arith)
+colour_four (x ∷ (y ∷ (z ∷ (w ∷ ns)))) a b c d h p q r s = rw (p, q, r, s) refl
+
+pub scaled_five : (ns : List ℤ) (a b c d t : ℤ) → 5 ≤ length ns → a ≡ get_or ns 0 a → b ≡ get_or ns 1 b → c ≡ get_or ns 2 c → d ≡ get_or ns 3 d → t ≡ get_or ns 4 t
+    → scaled ns ≡ scaling_of_type (whole_of t) (ranges_of a b c d) (take (length ns - 5) (drop 5 ns))
+scaled_five [] a b c d t h p q r s u = absurd (omega arith)
+scaled_five (x ∷ []) a b c d t h p q r s u = absurd (omega arith)
+scaled_five (x ∷ (y ∷ [])) a b c d t h p q r s u = absurd (omega arith)
+scaled_five (x ∷ (y ∷ (z ∷ []))) a b c d t h p q r s u = absurd (omega arith)
+scaled_five (x ∷ (y ∷ (z ∷ (w ∷ [])))) a b c d t h p q r s u = absurd (omega arith)
+scaled_five (x ∷ (y ∷ (z ∷ (w ∷ (v ∷ ns))))) a b c d t h p q r s u =
+    rw (p, q, r, s, u, take_all (suc (suc (suc (suc (suc (length ns))))) - 5) ns (omega arith)) refl
+
+abbrev pub IsParameter : ℤ → Type 0
+IsParameter z = nat_abs z ≤ 8388607999999
+
+-- the four numbers of an SC, IP or IW
+pub record AreParameters (r : Ranges) : Type 0 where
+  pub xmin : IsParameter r.xmin
+  pub xmax : IsParameter r.xmax
+  pub ymin : IsParameter r.ymin
+  pub ymax : IsParameter r.ymax
+
+four_of : (a b c d : ℤ) (ns : List ℤ) → All IsParameter (a ∷ (b ∷ (c ∷ (d ∷ ns)))) → AreParameters (ranges_of a b c d)
+four_of a b c d ns h =
+    let t = All-tail IsParameter a (b ∷ (c ∷ (d ∷ ns))) h in
+    let u = All-tail IsParameter b (c ∷ (d ∷ ns)) t in
+    let v = All-tail IsParameter c (d ∷ ns) u in
+    record { xmin = All-head IsParameter a (b ∷ (c ∷ (d ∷ ns))) h; xmax = All-head IsParameter b (c ∷ (d ∷ ns)) t; ymin = All-head IsParameter c (d ∷ ns) u; ymax = All-head IsParameter d ns v }
+
+whole_bound : (n : ℤ) → IsParameter n → nat_abs (whole_of n) ≤ 8388608
+whole_bound n h =
+    let f : Fraction = record { over = n; under = 1000000 } in
+    let m = meets_lem f (omega arith) in
+    let a = m.least in
+    let b = m.most in
+    omega (arith, ints)
+
+apart_is : (a b : ℤ) → ((apart a b ≡ b +ℤ pos 1) × (a ≡ b)) ⊎ ((apart a b ≡ b) × (a ≢ b))
+apart_is a b = elim (cases_Bool (int_eq a b)) [
+  | inl t ↦ inl (rw t refl, (Decides-int_eq a b).0 t)
+  | inr t ↦ inr (rw t refl, not_from_Decides _ (Decides-int_eq a b) t)
+]
+
+apart_by : (a b : ℤ) → nat_abs a ≤ 8388608 → nat_abs b ≤ 8388608 → (nat_abs (apart a b -ℤ a) ≤ 2 ^ 25) × ((apart a b -ℤ a) ≢ pos 0)
+apart_by a b h k = elim (apart_is a b) [
+  | inl e ↦ rw e.0 (let i = e.1 in (omega (arith, ints), λ z. omega (arith, ints)))
+  | inr e ↦ rw e.0 (let i = e.1 in (omega (arith, ints), λ z. i (omega (arith, ints))))
+]
+
+points_sound : (a b c d : ℤ) → IsParameter a → IsParameter b → IsParameter c → IsParameter d → IsPoints (points_at (whole_of a) (whole_of b) (whole_of c) (whole_of d))
+points_sound a b c d h i j k =
+    let wa = whole_bound a h in
+    let wb = whole_bound b i in
+    let wc = whole_bound c j in
+    let wd = whole_bound d k in
+    let x = apart_by (whole_of a) (whole_of c) wa wc in
+    let y = apart_by (whole_of b) (whole_of d) wb wd in
+    record { x_in = omega arith; y_in = omega arith; dx_in = x.0; dy_in = y.0; dx_not_0 = x.1; dy_not_0 = y.1 }
+
+pub named_points_sound : (ns : List ℤ) → All IsParameter ns → IfSome (scaling_points ns) IsSetting
+named_points_sound [] h = tt
+named_points_sound (x ∷ []) h = tt
+named_points_sound (x ∷ (y ∷ [])) h =
+    let wx = whole_bound x (All-head IsParameter x (y ∷ []) h) in
+    let wy = whole_bound y (All-head IsParameter y [] (All-tail IsParameter x (y ∷ []) h)) in
+    (omega arith, omega arith)
+named_points_sound (x ∷ (y ∷ (z ∷ []))) h = tt
+named_points_sound (a ∷ (b ∷ (c ∷ (d ∷ ns)))) h = let p = four_of a b c d ns h in points_sound a b c d p.xmin p.xmax p.ymin p.ymax
+
+pub named_window_sound : (ns : List ℤ) → All IsParameter ns → IfSome (window_corners ns) IsSetting
+named_window_sound [] h = tt
+named_window_sound (x ∷ []) h = tt
+named_window_sound (x ∷ (y ∷ [])) h = tt
+named_window_sound (x ∷ (y ∷ (z ∷ []))) h = tt
+named_window_sound (a ∷ (b ∷ (c ∷ (d ∷ ns)))) h =
+    let p = four_of a b c d ns h in
+    let ha = p.xmin in
+    let hb = p.xmax in
+    let hc = p.ymin in
+    let hd = p.ymax in
+    (omega arith, omega arith, omega arith, omega arith)
+
+rotation_sound : (n : ℤ) → IfSome (rotation_set n) IsSetting
+rotation_sound n = elim (cases_Bool (int_eq n (pos 0))) [
+  | inl t ↦ rw t tt
+  | inr t ↦ rw t (elim (cases_Bool (int_eq n (pos 90))) [
+    | inl u ↦ rw u tt
+    | inr u ↦ rw u (elim (cases_Bool (int_eq n (pos 180))) [
+      | inl v ↦ rw v tt
+      | inr v ↦ rw v (elim (cases_Bool (int_eq n (pos 270))) [
+        | inl w ↦ rw w tt
+        | inr w ↦ rw w tt
+      ])
+    ])
+  ])
+]
+
+pub named_rotation_sound : (ns : List ℤ) → IfSome (rotated ns) IsSetting
+named_rotation_sound [] = tt
+named_rotation_sound (n ∷ ns) = rotation_sound (whole_of n)
+
+default_colour_sound : (p : ℤ) → IfSome (default_colour_set p) IsSetting
+default_colour_sound p = elim (cases_Bool (is_pen p)) [
+  | inl t ↦ rw t tt
+  | inr t ↦ rw t tt
+]
+
+colour_sound : (p r g b : ℤ) → IfSome (colour_set p r g b) IsSetting
+colour_sound p r g b = elim (cases_Bool (is_pen p && (is_primary r && (is_primary g && is_primary b)))) [
+  | inl t ↦ rw t tt
+  | inr t ↦ rw t tt
+]
+
+pub named_colour_sound : (ns : List ℤ) → IfSome (pen_colour ns) IsSetting
+named_colour_sound [] = tt
+named_colour_sound (p ∷ []) = default_colour_sound (whole_of p)
+named_colour_sound (p ∷ (r ∷ [])) = tt
+named_colour_sound (p ∷ (r ∷ (g ∷ []))) = tt
+named_colour_sound (p ∷ (r ∷ (g ∷ (b ∷ ns)))) = colour_sound (whole_of p) (whole_of r) (whole_of g) (whole_of b)
+
+spread : (a b : ℤ) → int_eq a b ≡ false → (b -ℤ a) ≢ pos 0
+spread a b h = let n = not_from_Decides _ (Decides-int_eq a b) h in λ z. n (omega (arith, ints))
+
+ranges_sound : (r : Ranges) → AreParameters r → has_empty_range r ≡ false → IsRanges r
+ranges_sound r h e =
+    let n = or_parts (int_eq r.xmin r.xmax) (int_eq r.ymin r.ymax) e in
+    let a = h.xmin in
+    let b = h.xmax in
+    let c = h.ymin in
+    let d = h.ymax in
+    record { xmin_in = omega arith; xmax_in = omega arith; ymin_in = omega arith; ymax_in = omega arith; x_apart = spread r.xmin r.xmax n.0; y_apart = spread r.ymin r.ymax n.1 }
+
+anisotropic_sound : (r : Ranges) → AreParameters r → IfSome (anisotropic r) IsSetting
+anisotropic_sound r h = elim (cases_Bool (has_empty_range r)) [
+  | inl t ↦ rw t tt
+  | inr t ↦ rw t (ranges_sound r h t)
+]
+
+percent_is : (n : ℤ) → not (is_percent n) ≡ false → (pos 0 ≤ℤ n) × (nat_abs n ≤ 10 ^ 8)
+percent_is n h =
+    let p = and_parts (int_le (pos 0) n) (int_le n (pos 100000000)) (not-false (is_percent n) h) in
+    (omega (arith, ints), omega (arith, ints))
+
+isotropic_sound : (r : Ranges) (l b : ℤ) → AreParameters r → IfSome (isotropic r l b) IsSetting
+isotropic_sound r l b h = elim (cases_Bool (has_empty_range r || (not (is_percent l) || not (is_percent b)))) [
+  | inl t ↦ rw t tt
+  | inr t ↦ rw t (let n = or_parts (has_empty_range r) _ t in
+      let m = or_parts (not (is_percent l)) (not (is_percent b)) n.1 in
+      let p = percent_is l m.0 in
+      let q = percent_is b m.1 in
+      record { ranges = ranges_sound r h n.0; left_from = p.0; left_in = p.1; bottom_from = q.0; bottom_in = q.1 })
+]
+
+isotropic_by_sound : (r : Ranges) (ns : List ℤ) → AreParameters r → IfSome (isotropic_by r ns) IsSetting
+isotropic_by_sound r [] h = isotropic_sound r (pos 50000000) (pos 50000000) h
+isotropic_by_sound r (l ∷ []) h = isotropic_sound r l (pos 50000000) h
+isotropic_by_sound r (l ∷ (b ∷ ns)) h = isotropic_sound r l b h
+
+factor_sound : (r : Ranges) → AreParameters r → IfSome (point_factor r) IsSetting
+factor_sound r h = elim (cases_Bool (int_eq r.xmax (pos 0) || int_eq r.ymax (pos 0))) [
+  | inl t ↦ rw t tt
+  | inr t ↦ rw t (let n = or_parts (int_eq r.xmax (pos 0)) (int_eq r.ymax (pos 0)) t in
+      let a = h.xmin in
+      let b = h.xmax in
+      let c = h.ymin in
+      let d = h.ymax in
+      let x = not_from_Decides _ (Decides-int_eq r.xmax (pos 0)) n.0 in
+      let y = not_from_Decides _ (Decides-int_eq r.ymax (pos 0)) n.1 in
+      record { xmin_in = omega arith; xfactor_in = omega arith; ymin_in = omega arith; yfactor_in = omega arith; xfactor_not_0 = x; yfactor_not_0 = y })
+]
+
+typed_sound : (k : ℤ) (r : Ranges) (ns : List ℤ) → AreParameters r → IfSome (scaling_of_type k r ns) IsSetting
+typed_sound k r ns h = elim (cases_Bool (int_eq k (pos 0))) [
+  | inl t ↦ rw t (anisotropic_sound r h)
+  | inr t ↦ rw t (elim (cases_Bool (int_eq k (pos 1))) [
+    | inl u ↦ rw u (isotropic_by_sound r ns h)
+    | inr u ↦ rw u (elim (cases_Bool (int_eq k (pos 2))) [
+      | inl v ↦ rw v (factor_sound r h)
+      | inr v ↦ rw v tt
+    ])
+  ])
+]
+
+pub named_scaling_sound : (ns : List ℤ) → All IsParameter ns → IfSome (scaled ns) IsSetting
+named_scaling_sound [] h = tt
+named_scaling_sound (x ∷ []) h = tt
+named_scaling_sound (x ∷ (y ∷ [])) h = tt
+named_scaling_sound (x ∷ (y ∷ (z ∷ []))) h = tt
+named_scaling_sound (a ∷ (b ∷ (c ∷ (d ∷ [])))) h =
+    anisotropic_sound (ranges_of a b c d) (four_of a b c d [] h)
+named_scaling_sound (a ∷ (b ∷ (c ∷ (d ∷ (t ∷ ns))))) h =
+    typed_sound (whole_of t) (ranges_of a b c d) ns (four_of a b c d (t ∷ ns) h)
+
+size_set_sound : (w h : ℤ) → IfSome (size_set w h) IsSetting
+size_set_sound w h = elim (cases_Bool (is_size w && is_size h)) [
+  | inl t ↦ rw t tt
+  | inr t ↦ rw t tt
+]
+
+pub named_size_sound : (ns : List ℤ) → IfSome (character_size ns) IsSetting
+named_size_sound [] = tt
+named_size_sound (w ∷ []) = tt
+named_size_sound (w ∷ (h ∷ ns)) = size_set_sound w h
+
+direction_set_sound : (x y : ℤ) → IfSome (direction_set x y) IsSetting
+direction_set_sound x y = elim (cases_Bool (int_eq x (pos 0) && int_eq y (pos 0))) [
+  | inl t ↦ rw t tt
+  | inr t ↦ rw t tt
+]
+
+pub named_direction_sound : (ns : List ℤ) → IfSome (direction ns) IsSetting
+named_direction_sound [] = tt
+named_direction_sound (x ∷ []) = tt
+named_direction_sound (x ∷ (y ∷ ns)) = direction_set_sound x y

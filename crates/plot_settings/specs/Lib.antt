@@ -1,0 +1,12 @@
+-- What a reader must believe: what the numbers of instructions set, the steps of items, and what holds before a step.
+pub mod Parameters
+pub mod ArcParameters
+pub mod Lettering
+pub mod Colours
+pub mod Steps
+pub mod Meanings
+pub mod Settings
+pub mod Laws
+-- What contracts need: the ranges of what is set, and which instructions make moves.
+pub mod Bounds
+pub mod Pairs

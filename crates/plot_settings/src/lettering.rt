@@ -1,0 +1,128 @@
+//! What SI and DI set, or `None` if their parameters are wrong, and how a label is turned.
+ghost use Rattle.std.specs.Prelude.{◌≡◌, ◌≤◌, ◌^◌, nat_abs, true};
+ghost use Rattle.plot_settings.specs.Lettering as lettering;
+
+use crate::setting::{Rotation, Setting};
+use exact::rounded;
+use hpgl_text::Number;
+use label_layout::{CharacterSize, Offset};
+
+// The greatest width and height of characters, in millionths of a centimetre.
+const GREATEST_SIZE: i64 = 40_000_000;
+
+/// SI width, height (Absolute Character Size): the size of characters, in grains of 1/16 plotter
+/// unit, or `CharacterSize::DEFAULT` if no number is there. `None` if the height is missing, or a
+/// number is 0 or over 40 centimetres either side of 0.
+pub fn named_size(numbers: &[Number]) -> Option<Setting>
+    ensures { result ≡ lettering.character_size numbers.now }
+{
+    match numbers {
+        [] => Some(Setting::Size(CharacterSize::DEFAULT)),
+        [_] => None,
+        [width, height, ..] => size_by(*width, *height),
+    }
+}
+
+fn size_by(width: Number, height: Number) -> Option<Setting>
+    ensures { result ≡ lettering.size_set width height }
+{
+    if is_size(width) && is_size(height) {
+        Some(Setting::Size(CharacterSize {
+            width: grains_of_size(width),
+            height: grains_of_size(height),
+        }))
+    } else {
+        None
+    }
+}
+
+fn is_size(size: Number) -> bool
+    ensures { result ≡ lettering.is_size size }
+{
+    let millionths = size.millionths();
+    millionths != 0 && -GREATEST_SIZE <= millionths && millionths <= GREATEST_SIZE
+}
+
+// Millionths of a centimetre as grains.
+fn grains_of_size(size: Number) -> i32
+    requires { lettering.is_size size ≡ true }
+    ensures { result ≡ lettering.size_grains size }
+{
+    rounded(i128::from(6400 * size.millionths()), 1_000_000) as i32
+}
+
+/// DI run, rise (Absolute Direction): how labels are turned: along the axis that is nearest to the
+/// direction, that of the run if both are as near, or to the right if no number is there. `None` if
+/// the rise is missing, or both are 0.
+pub fn named_direction(numbers: &[Number]) -> Option<Setting>
+    ensures { result ≡ lettering.direction numbers.now }
+{
+    match numbers {
+        [] => Some(Setting::Direction(Rotation::None)),
+        [_] => None,
+        [run, rise, ..] => direction_by(run.millionths(), rise.millionths()),
+    }
+}
+
+fn direction_by(run: i64, rise: i64) -> Option<Setting>
+    ensures { result ≡ lettering.direction_set run rise }
+{
+    if run == 0 && rise == 0 {
+        None
+    } else {
+        Some(Setting::Direction(nearest_axis(run, rise)))
+    }
+}
+
+// The axis that is nearest to a direction: the run's, if both are as near.
+fn nearest_axis(run: i64, rise: i64) -> Rotation
+    ensures { result ≡ lettering.nearest_axis run rise }
+{
+    if rise.unsigned_abs() <= run.unsigned_abs() {
+        if run < 0 {
+            Rotation::Half
+        } else {
+            Rotation::None
+        }
+    } else if rise < 0 {
+        Rotation::ThreeQuarters
+    } else {
+        Rotation::Quarter
+    }
+}
+
+/// Whether the direction of a DI is along no axis.
+pub fn is_slanted(numbers: &[Number]) -> bool
+    ensures { result ≡ lettering.is_slanted numbers.now }
+{
+    match numbers {
+        [] => false,
+        [_] => false,
+        [run, rise, ..] => run.millionths() != 0 && rise.millionths() != 0,
+    }
+}
+
+/// An offset from a label's start, in grains of 1/16 plotter unit, turned counterclockwise.
+pub fn turned_offset(rotation: Rotation, offset: Offset) -> Offset
+    requires x_in { nat_abs offset.x ≤ 2 ^ 104 }
+    requires y_in { nat_abs offset.y ≤ 2 ^ 104 }
+    ensures value { result ≡ lettering.turned_offset rotation offset }
+    ensures x_in { nat_abs result.x ≤ 2 ^ 104 }
+    ensures y_in { nat_abs result.y ≤ 2 ^ 104 }
+{
+    match rotation {
+        Rotation::None => offset,
+        Rotation::Quarter => Offset {
+            x: 0 - offset.y,
+            y: offset.x,
+        },
+        Rotation::Half => Offset {
+            x: 0 - offset.x,
+            y: 0 - offset.y,
+        },
+        Rotation::ThreeQuarters => Offset {
+            x: offset.y,
+            y: 0 - offset.x,
+        },
+    }
+}

@@ -1,0 +1,27 @@
+//! What the instructions of a plot mean, whatever its page is and wherever the pen is: what their
+//! numbers set or ask for, which numbers are wrong, and what is set at the start. The instructions are
+//! those of the HP-GL/2 and HP RTL Reference Guide.
+#![tactic(auto)]
+
+mod arc_parameters;
+mod figure;
+pub mod laws;
+mod lettering;
+mod palette;
+mod parameters;
+mod points;
+mod setting;
+#[cfg(test)]
+mod tests;
+mod wrong;
+
+pub use arc_parameters::{named_arc, named_circle};
+pub use figure::{Arc, Circle};
+pub use lettering::{named_direction, named_size, turned_offset};
+pub use palette::{FIRST_WIDTH, default_colour, default_colours, width_of_all};
+pub use parameters::{
+    named_colour, named_pen, named_points, named_rotation, named_scaling, named_width, named_window,
+};
+pub use points::points_moved_to;
+pub use setting::{Corners, Rotation, Setting};
+pub use wrong::{does_plot, has_wrong_numbers, is_off_axis};

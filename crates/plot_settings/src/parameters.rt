@@ -1,0 +1,346 @@
+//! What the parameters of an instruction set, or `None` if they are wrong. A parameter that is a whole
+//! number in the guide is rounded before it is tested; every other one is tested as written.
+ghost use Rattle.std.specs.Prelude.{◌≡◌, ◌≤◌, ◌^◌, pos, nat_abs, true};
+ghost use Rattle.plot_settings.specs.Parameters as parameters;
+
+use crate::palette::{FIRST_WIDTH, default_colour};
+use crate::setting::{Corners, Rotation, Setting};
+use exact::rounded;
+use hpgl_text::Number;
+use plot_frame::{Factors, Fitting, Points, Ranges, Scaling};
+use plot_page::Colour;
+
+// Half of all that is left over, in millionths of a percent.
+const HALF: i64 = 50_000_000;
+
+// A number rounded to a whole one, the upper one of two.
+fn whole_number(number: Number) -> i64
+    ensures value { result ≡ parameters.whole_of number }
+    ensures bound { nat_abs result ≤ 2 ^ 36 }
+{
+    rounded(i128::from(number.millionths()), 1_000_000) as i64
+}
+
+/// SP pen (Select Pen): the pen, 0 to 255, or 0 if none is named. `None` if the number is out of
+/// range.
+pub fn named_pen(numbers: &[Number]) -> Option<Setting>
+    ensures { result ≡ parameters.selected_pen numbers.now }
+{
+    match numbers {
+        [] => Some(Setting::Pen(0)),
+        [pen, ..] => pen_of(whole_number(*pen)),
+    }
+}
+
+fn pen_of(pen: i64) -> Option<Setting>
+    ensures { result ≡ parameters.pen_set pen }
+{
+    if is_pen_number(pen) {
+        Some(Setting::Pen(pen as u8))
+    } else {
+        None
+    }
+}
+
+fn is_pen_number(pen: i64) -> bool
+    ensures { result ≡ parameters.is_pen pen }
+{
+    0 <= pen && pen <= 255
+}
+
+/// PW width, pen (Pen Width): the width, 0 to 20 millimetres, in grains of 1/16 plotter unit, for
+/// one pen, 0 to 255, or for all if none is named. Without a width all pens get `FIRST_WIDTH`.
+/// `None` if a number is out of range.
+pub fn named_width(numbers: &[Number]) -> Option<Setting>
+    ensures { result ≡ parameters.pen_width numbers.now }
+{
+    match numbers {
+        [] => Some(Setting::WidthOfAll(FIRST_WIDTH)),
+        [width] => width_of_all(*width),
+        [width, pen, ..] => width_of_pen(*width, whole_number(*pen)),
+    }
+}
+
+fn width_of_all(width: Number) -> Option<Setting>
+    ensures { result ≡ parameters.all_widths_set width }
+{
+    if is_width_number(width) {
+        Some(Setting::WidthOfAll(grains_of_width(width)))
+    } else {
+        None
+    }
+}
+
+fn width_of_pen(width: Number, pen: i64) -> Option<Setting>
+    ensures { result ≡ parameters.width_set width pen }
+{
+    if is_width_number(width) && is_pen_number(pen) {
+        Some(Setting::Width(pen as u8, grains_of_width(width)))
+    } else {
+        None
+    }
+}
+
+fn is_width_number(width: Number) -> bool
+    ensures { result ≡ parameters.is_width width }
+{
+    let millionths = width.millionths();
+    0 <= millionths && millionths <= 20_000_000
+}
+
+// Millionths of a millimetre as grains.
+fn grains_of_width(width: Number) -> u32
+    requires { parameters.is_width width ≡ true }
+    ensures { result ≡ parameters.width_grains width }
+{
+    rounded(i128::from(640 * width.millionths()), 1_000_000) as u32
+}
+
+/// PC pen, red, green, blue (Pen Color Assignment): the colour of a pen, each number 0 to 255.
+/// Without a colour the pen gets its default colour, and without a pen all pens get theirs. `None`
+/// if a number is out of range, or if the colour has one or two numbers.
+pub fn named_colour(numbers: &[Number]) -> Option<Setting>
+    ensures { result ≡ parameters.pen_colour numbers.now }
+{
+    match numbers {
+        [] => Some(Setting::DefaultColours),
+        [pen] => default_colour_of_pen(whole_number(*pen)),
+        [_, _] => None,
+        [_, _, _] => None,
+        [pen, red, green, blue, ..] => colour_of_pen(
+            whole_number(*pen),
+            whole_number(*red),
+            whole_number(*green),
+            whole_number(*blue),
+        ),
+    }
+}
+
+fn default_colour_of_pen(pen: i64) -> Option<Setting>
+    ensures { result ≡ parameters.default_colour_set pen }
+{
+    if is_pen_number(pen) {
+        Some(Setting::PenColour(pen as u8, default_colour(pen as u8)))
+    } else {
+        None
+    }
+}
+
+fn colour_of_pen(pen: i64, red: i64, green: i64, blue: i64) -> Option<Setting>
+    ensures { result ≡ parameters.colour_set pen red green blue }
+{
+    if is_pen_number(pen) && is_primary(red) && is_primary(green) && is_primary(blue) {
+        Some(Setting::PenColour(pen as u8, colour_by(red, green, blue)))
+    } else {
+        None
+    }
+}
+
+fn colour_by(red: i64, green: i64, blue: i64) -> Colour
+    requires red_in { parameters.is_primary red ≡ true }
+    requires green_in { parameters.is_primary green ≡ true }
+    requires blue_in { parameters.is_primary blue ≡ true }
+    ensures { result ≡ parameters.colour_by red green blue }
+{
+    Colour {
+        red: red as u8,
+        green: green as u8,
+        blue: blue as u8,
+    }
+}
+
+// Whether red, green or blue may have this value.
+fn is_primary(value: i64) -> bool
+    ensures { result ≡ parameters.is_primary value }
+{
+    0 <= value && value <= 255
+}
+
+/// RO angle (Rotate Coordinate System): 0, 90, 180 or 270 degrees, or 0 if none is named. `None`
+/// for any other angle.
+pub fn named_rotation(numbers: &[Number]) -> Option<Setting>
+    ensures { result ≡ parameters.rotated numbers.now }
+{
+    match numbers {
+        [] => Some(Setting::Rotate(Rotation::None)),
+        [angle, ..] => rotation_by(whole_number(*angle)),
+    }
+}
+
+fn rotation_by(degrees: i64) -> Option<Setting>
+    ensures { result ≡ parameters.rotation_set degrees }
+{
+    match degrees {
+        0 => Some(Setting::Rotate(Rotation::None)),
+        90 => Some(Setting::Rotate(Rotation::Quarter)),
+        180 => Some(Setting::Rotate(Rotation::Half)),
+        270 => Some(Setting::Rotate(Rotation::ThreeQuarters)),
+        _ => None,
+    }
+}
+
+/// IP x, y, x, y (Input P1 and P2): P1, or P1 and P2, in plotter units, or the corners of the page
+/// if no number is there. If both have the same x or y, P2 gets one plotter unit more. `None` if
+/// there are one or three numbers.
+pub fn named_points(numbers: &[Number]) -> Option<Setting>
+    ensures { result ≡ parameters.scaling_points numbers.now }
+{
+    match numbers {
+        [] => Some(Setting::PageCorners),
+        [_] => None,
+        [x, y] => Some(Setting::FirstPoint(whole_number(*x), whole_number(*y))),
+        [_, _, _] => None,
+        [ax, ay, bx, by, ..] => Some(Setting::BothPoints(points_at(
+            whole_number(*ax),
+            whole_number(*ay),
+            whole_number(*bx),
+            whole_number(*by),
+        ))),
+    }
+}
+
+fn points_at(ax: i64, ay: i64, bx: i64, by: i64) -> Points
+    requires bx_in { nat_abs bx ≤ 2 ^ 36 }
+    requires by_in { nat_abs by ≤ 2 ^ 36 }
+    ensures { result ≡ parameters.points_at ax ay bx by }
+{
+    Points {
+        x1: ax,
+        y1: ay,
+        x2: apart(ax, bx),
+        y2: apart(ay, by),
+    }
+}
+
+// A number apart from the first: the second, or one more where both are the same.
+fn apart(a: i64, b: i64) -> i64
+    requires { nat_abs b ≤ 2 ^ 36 }
+    ensures { result ≡ parameters.apart a b }
+{
+    if a == b { b + 1 } else { b }
+}
+
+/// IW x, y, x, y (Input Window): two opposite corners, in millionths of the current unit, or the
+/// page if no number is there. `None` if there are one to three numbers.
+pub fn named_window(numbers: &[Number]) -> Option<Setting>
+    ensures { result ≡ parameters.window_corners numbers.now }
+{
+    match numbers {
+        [] => Some(Setting::PageWindow),
+        [_] => None,
+        [_, _] => None,
+        [_, _, _] => None,
+        [ax, ay, bx, by, ..] => Some(Setting::CornerWindow(Corners {
+            ax: ax.millionths(),
+            ay: ay.millionths(),
+            bx: bx.millionths(),
+            by: by.millionths(),
+        })),
+    }
+}
+
+/// SC xmin, xmax, ymin, ymax, type, left, bottom (Scale): the scaling of type 0, 1 or 2, with
+/// coordinates and percentages in millionths, or none if no number is there. The type is 0 and a
+/// percentage 50 if it is not named. `None` if there are one to three numbers, a range is empty, a
+/// factor is 0, a percentage is not 0 to 100, or the type is another.
+pub fn named_scaling(numbers: &[Number]) -> Option<Setting>
+    ensures { result ≡ parameters.scaled numbers.now }
+{
+    match numbers {
+        [] => Some(Setting::Scale(Scaling::Off)),
+        [_] => None,
+        [_, _] => None,
+        [_, _, _] => None,
+        [a, b, c, d] => anisotropic(ranges_of(*a, *b, *c, *d)),
+        [a, b, c, d, kind, rest @ ..] => {
+            scaling_of_type(whole_number(*kind), ranges_of(*a, *b, *c, *d), rest)
+        }
+    }
+}
+
+fn scaling_of_type(kind: i64, ranges: Ranges, percents: &[Number]) -> Option<Setting>
+    ensures { result ≡ parameters.scaling_of_type kind ranges percents.now }
+{
+    match kind {
+        0 => anisotropic(ranges),
+        1 => isotropic(ranges, percents),
+        2 => point_factor(ranges),
+        _ => None,
+    }
+}
+
+fn ranges_of(xmin: Number, xmax: Number, ymin: Number, ymax: Number) -> Ranges
+    ensures { result ≡ record { xmin = xmin; xmax = xmax; ymin = ymin; ymax = ymax } }
+{
+    Ranges {
+        xmin: xmin.millionths(),
+        xmax: xmax.millionths(),
+        ymin: ymin.millionths(),
+        ymax: ymax.millionths(),
+    }
+}
+
+// Type 0.
+fn anisotropic(ranges: Ranges) -> Option<Setting>
+    ensures { result ≡ parameters.anisotropic ranges }
+{
+    if has_empty_range(ranges) {
+        None
+    } else {
+        Some(Setting::Scale(Scaling::Anisotropic(ranges)))
+    }
+}
+
+// Whether the least coordinate is the greatest, in x or in y.
+fn has_empty_range(ranges: Ranges) -> bool
+    ensures { result ≡ parameters.has_empty_range ranges }
+{
+    ranges.xmin == ranges.xmax || ranges.ymin == ranges.ymax
+}
+
+// Type 1, with the percents that follow.
+fn isotropic(ranges: Ranges, percents: &[Number]) -> Option<Setting>
+    ensures { result ≡ parameters.isotropic_by ranges percents.now }
+{
+    match percents {
+        [] => fitted(ranges, HALF, HALF),
+        [left] => fitted(ranges, left.millionths(), HALF),
+        [left, bottom, ..] => fitted(ranges, left.millionths(), bottom.millionths()),
+    }
+}
+
+fn fitted(ranges: Ranges, left: i64, bottom: i64) -> Option<Setting>
+    ensures { result ≡ parameters.isotropic ranges left bottom }
+{
+    if has_empty_range(ranges) || !is_percent(left) || !is_percent(bottom) {
+        None
+    } else {
+        Some(Setting::Scale(Scaling::Isotropic(Fitting {
+            ranges,
+            left,
+            bottom,
+        })))
+    }
+}
+
+fn is_percent(millionths: i64) -> bool
+    ensures { result ≡ parameters.is_percent millionths }
+{
+    0 <= millionths && millionths <= 100_000_000
+}
+
+// Type 2, which has factors where the others have the greatest coordinates.
+fn point_factor(numbers: Ranges) -> Option<Setting>
+    ensures { result ≡ parameters.point_factor numbers }
+{
+    if numbers.xmax == 0 || numbers.ymax == 0 {
+        None
+    } else {
+        Some(Setting::Scale(Scaling::PointFactor(Factors {
+            xmin: numbers.xmin,
+            xfactor: numbers.xmax,
+            ymin: numbers.ymin,
+            yfactor: numbers.ymax,
+        })))
+    }
+}
