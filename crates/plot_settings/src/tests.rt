@@ -1,9 +1,9 @@
 // What numbers set and ask for, by their text.
 use crate::{
-    FIRST_WIDTH, Rotation, Setting, default_colour, default_colours, does_plot, has_wrong_numbers,
-    is_off_axis, named_arc, named_circle, named_colour, named_direction, named_pen, named_points,
-    named_rotation, named_scaling, named_size, named_width, named_window, points_moved_to,
-    turned_offset, width_of_all,
+    Circle, FIRST_WIDTH, Rotation, Setting, default_colour, default_colours, does_plot,
+    has_wrong_numbers, is_off_axis, named_arc, named_circle, named_colour, named_direction,
+    named_pen, named_points, named_rotation, named_scaling, named_size, named_width, named_window,
+    points_moved_to, turned_offset, width_of_all,
 };
 use hpgl_text::{Body, Instruction, Items, Number, instruction_of_code};
 use label_layout::Offset;
@@ -27,6 +27,14 @@ fn set_by(instruction: Instruction, numbers: &[Number]) -> Option<Setting> {
     }
 }
 
+// The circle that an instruction with these numbers asks for.
+fn circle_by(instruction: Instruction, numbers: &[Number]) -> Option<Circle> {
+    match instruction {
+        Instruction::Circle => named_circle(numbers),
+        _ => None,
+    }
+}
+
 // What each instruction of a text sets or asks for, a line each, and what is wrong.
 fn settings_of(alloc: Global, text: &[u8]) -> Result<String, Fail> {
     let mut lines = String::new(alloc);
@@ -43,7 +51,7 @@ fn settings_of(alloc: Global, text: &[u8]) -> Result<String, Fail> {
             format!(in alloc; "wrong\n")?
         } else if let Some(setting) = set_by(instruction, first) {
             format!(in alloc; "{setting:?}\n")?
-        } else if let Some(circle) = named_circle(first) {
+        } else if let Some(circle) = circle_by(instruction, first) {
             format!(in alloc; "{circle:?}\n")?
         } else {
             format!(in alloc; "moves {}\n", does_plot(instruction))?
