@@ -1,5 +1,5 @@
 -- Circles and arcs: what small plots draw and what is noted on them, by their text.
-use Rattle.std.proofs.Common.{◌≡◌, ℕ, refl, pos, neg_ℤ, List, [], ◌∷◌, length, Some, None}
+use Rattle.std.proofs.Common.{◌≡◌, ℕ, refl, pos, List, [], ◌∷◌, length, Some, None}
 use Rattle.std.specs.Prelude.{codes}
 use Rattle.hpgl_text.specs.Cut.{cut}
 use Rattle.plot_arc.specs.declared.spot.Spot.{Spot}
