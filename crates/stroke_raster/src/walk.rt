@@ -71,6 +71,9 @@ fn paint_stroke<G: Gauge>(
     ensures grows { G.count gauge.old ≤ G.count gauge.new }
 {
     let extent = extent_of(stroke, page, dots);
+    if extent.columns.low == extent.columns.end {
+        return extent.rows.end;
+    }
     let columns = dots.columns(page);
     let from = extent.columns.low;
     let upto = extent.columns.end;

@@ -1,7 +1,7 @@
 use Rattle.std.proofs.Common.{rules, drop, ◌≡◌, ℕ, ◌+◌, ◌-◌, ◌*◌, ◌/◌, ◌%◌, ◌<◌, ◌≤◌, true, false, nat_lt, length, get_or, cond, refl, sym, ap, ap₂, ◌∙◌, arith, inl, inr}
 use Rattle.std.proofs.lemmas.Bool.Decides.{nat_tests}
 use Rattle.std.proofs.lemmas.Bool.{cases_lt}
-use Rattle.std.proofs.Math.Nat.{div-lt_iff_lt-mul}
+use Rattle.std.proofs.Math.Nat.{div-lt_iff_lt-mul, mod-lt}
 use Rattle.std.proofs.lemmas.Nat.{mul-le}
 use borrow.Rule.Slice.PartMut.{put_mid, mid_of, same_len_mid}
 use Rattle.plot_page.specs.Segments.{Segment}
@@ -147,3 +147,13 @@ loop-row-init g c =
       spanned = c.requires.spanned;
       grows = omega arith;
     }
+
+pub returns-then-extent-clause-cells : goal.returns-then-extent-clause-cells
+returns-then-extent-clause-cells g c =
+    let wide : 0 < columns_of c.args.page.now c.args.dots = wide_page c.args.page.now.width c.args.dots.resolution (omega (arith, c.args.page.now.width_in)) (omega (arith, c.args.dots.at_least)) in
+    λ q u.
+    let e = c.extent_of-extent.ensures.column_in (c.args.first + q / columns_of c.args.page.now c.args.dots) (q % columns_of c.args.page.now c.args.dots) (mod-lt q wide) in
+    let f : g.G.Gauge.reaches c.args.gauge.now c.args.stroke.now c.args.page.now c.args.dots (c.args.first + q / columns_of c.args.page.now c.args.dots) (q % columns_of c.args.page.now c.args.dots) ≡ false =
+    beside _ _ (c.requires.boxed c.args.stroke.now c.args.page.now c.args.dots (c.args.first + q / columns_of c.args.page.now c.args.dots) (q % columns_of c.args.page.now c.args.dots))
+    (λ b. let x = e b in absurd (omega (arith, x.0, x.1, c.if-extent.true))) in
+    sym (rw f refl)
