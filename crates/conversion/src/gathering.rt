@@ -17,7 +17,8 @@ pub const MOST_BYTES_A_ROW: u64 = 9676;
 /// The length of a buffer for a band of rows, in bytes: all rows of a PBM, or one row of another form.
 pub fn band_space(form: Form, columns: u32, rows: u32) -> usize
     requires { columns ≤ MOST_PIXELS_A_SIDE }
-    ensures { room_of form columns ≤ result }
+    ensures row { room_of form columns ≤ result }
+    ensures rows { form ≡ Pbm → rows * room_of Pbm columns ≤ result }
 {
     let row = row_space(form, columns);
     match form {
@@ -26,8 +27,8 @@ pub fn band_space(form: Form, columns: u32, rows: u32) -> usize
     }
 }
 
-/// Writes the rows of a band into the buffer, as PBM has them, and returns how many bytes they take;
-/// `None` if the buffer is too short.
+/// Writes the rows of a band into the buffer, as PBM has them, and returns how many bytes they take.
+/// `None` promises nothing: the rows are then still to be written.
 pub fn gather(band: &Band<'_>, buffer: &mut [u8]) -> Option<usize>
     requires columns { All (λ row. length row ≤ MOST_PIXELS_A_SIDE) (rows_of_band band.now) }
     ensures few { IfSome result (λ end. end ≤ length (rows_of_band band.now) * MOST_BYTES_A_ROW) }
