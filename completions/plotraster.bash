@@ -4,7 +4,7 @@ _plotraster() {
     local command="${COMP_WORDS[1]}" options="--width --height --left --below"
     COMPREPLY=()
     if [ "$COMP_CWORD" -eq 1 ]; then
-        COMPREPLY=($(compgen -W "marks pbm ppm pcl report --help" -- "$word"))
+        COMPREPLY=($(compgen -W "marks pbm ppm pcl report --help --version" -- "$word"))
         return
     fi
     if [ "$command" != report ]; then

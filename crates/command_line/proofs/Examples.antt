@@ -13,6 +13,9 @@ use Rattle.command_line.specs.Statuses.{parse_status_of}
 help_is_no_fault : parse_status_of kind.DisplayHelp ≡ 0
 help_is_no_fault = refl
 
+version_is_no_fault : parse_status_of kind.DisplayVersion ≡ 0
+version_is_no_fault = refl
+
 no_memory : parse_status_of kind.OutOfMemory ≡ 4
 no_memory = refl
 
@@ -110,3 +113,11 @@ report_has_no_dots = refl
 asked_for_help : faults_on (codes "pbm" ∷ codes "-h" ∷ []) ≡ kind.DisplayHelp ∷ []
 unfolding clap_on_literals
 asked_for_help = refl
+
+asked_for_the_version : faults_on (codes "--version" ∷ []) ≡ kind.DisplayVersion ∷ []
+unfolding clap_on_literals
+asked_for_the_version = refl
+
+subcommand_has_no_version : faults_on (codes "pbm" ∷ codes "--version" ∷ []) ≡ kind.UnknownArgument ∷ []
+unfolding clap_on_literals
+subcommand_has_no_version = refl

@@ -53,15 +53,16 @@ picture_app name = with_rule (with_picture (with_page (new_app name))) file_rule
 abbrev pub report_app : App
 report_app = with_rule (with_page (new_app (codes "report"))) file_rule
 
--- a subcommand has to be named, and `help` is none
-abbrev pub needing_subcommand : App → App
-needing_subcommand a =
-    record a { top = record a.top { subcommand_required = true; disable_help_subcommand = true } }
+-- `plotraster` alone: it has a version, a subcommand has to be named, and `help` is none
+abbrev pub top_app : App
+top_app =
+    let a = new_app (codes "plotraster") in
+    record a { top = record a.top { has_version = true; subcommand_required = true; disable_help_subcommand = true } }
 
 -- `plotraster`
 abbrev pub plot_app : App
 plot_app = with_subcommand (with_subcommand (with_subcommand (with_subcommand (with_subcommand
-    (needing_subcommand (new_app (codes "plotraster")))
+    top_app
     (picture_app (codes "marks")).top)
     (picture_app (codes "pbm")).top)
     (picture_app (codes "ppm")).top)

@@ -25,13 +25,13 @@ pub enum LineFault {
     Pens,
 }
 
-/// The exit status if words gave no matches: 0 if help was asked for, 4 if memory ran
-/// out, and 2 for any other fault, which is one of usage.
+/// The exit status if words gave no matches: 0 if help or the version was asked for, 4 if memory
+/// ran out, and 2 for any other fault, which is one of usage.
 pub fn parse_status(error: &clap::Error) -> u8
     ensures { result ≡ parse_status_of (kind_of error.now) }
 {
     match error.kind() {
-        ErrorKind::DisplayHelp => 0,
+        ErrorKind::DisplayHelp | ErrorKind::DisplayVersion => 0,
         ErrorKind::OutOfMemory => 4,
         _ => 2,
     }

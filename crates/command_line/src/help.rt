@@ -7,6 +7,9 @@ pub(crate) struct HelpLine<'a> {
     pub(crate) help: &'a str,
 }
 
+/// The version that `--version` prints, which is the changelog's.
+pub(crate) const VERSION: &str = "0.1.0";
+
 /// What help says of a command, and an example of its use.
 #[derive(Clone, Copy)]
 pub(crate) struct HelpPage<'a> {

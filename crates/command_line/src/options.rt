@@ -6,13 +6,13 @@ ghost use Rattle.clap.specs.declared.parser.matches.ArgMatches.{ArgMatches};
 ghost use Rattle.clap.specs.Words.{app_of, rule_of, is_simple_and_free, new_app, with_rule, with_subcommand};
 ghost use Rattle.clap.specs.declared.builder.command.Command.TheViews.{out-Command as fields_of};
 ghost use Rattle.command_line.specs.Options.{option_rule, number_rule, file_rule, plot_app, with_page};
-ghost use Rattle.command_line.specs.Options.{with_picture, picture_app, report_app, needing_subcommand, IsOf};
+ghost use Rattle.command_line.specs.Options.{with_picture, picture_app, report_app, top_app, IsOf};
 ghost use Rattle.clap_parses.specs.Parses.{HasGoodMatches};
 
 use crate::fault::BuildFault;
 use crate::help::{
     BAND, BELOW, DOTS, FILE, FROM, HEIGHT, HelpLine, HelpPage, LEFT, MARKS, PBM, PCL, PCL_DOTS,
-    PENS, PPM, REPORT, TOP, WIDTH,
+    PENS, PPM, REPORT, TOP, VERSION, WIDTH,
 };
 use clap::builder::ValueParser;
 use clap::{Arg, ArgAction, ArgMatches, Command};
@@ -131,9 +131,10 @@ fn report_command<'a>(alloc: Global) -> Result<Command<'a>, AllocError>
 }
 
 fn top_command<'a>(alloc: Global) -> Command<'a>
-    ensures { IsOf (needing_subcommand (new_app (codes "plotraster"))) result }
+    ensures { IsOf top_app result }
 {
     bare(alloc, "plotraster", TOP)
+        .version(VERSION)
         .subcommand_required(true)
         .disable_help_subcommand(true)
 }

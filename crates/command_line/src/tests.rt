@@ -207,11 +207,12 @@ fn fault_of(alloc: Global, words: &[&str]) -> Result<Option<(ErrorKind, u8)>, Fa
 
 #[test]
 fn refuses_words(rt: HostRuntime) -> Result<(), Fail> {
-    let cases: [(&[&str], ErrorKind); 14] = [
+    let cases: [(&[&str], ErrorKind); 15] = [
         (&["plotraster"], ErrorKind::MissingSubcommand),
         (&["plotraster", "mark"], ErrorKind::InvalidSubcommand),
         (&["plotraster", "help"], ErrorKind::InvalidSubcommand),
-        (&["plotraster", "-V"], ErrorKind::UnknownArgument),
+        (&["plotraster", "version"], ErrorKind::InvalidSubcommand),
+        (&["plotraster", "pbm", "-V"], ErrorKind::UnknownArgument),
         (
             &["plotraster", "--dots", "100", "pbm"],
             ErrorKind::UnknownArgument,
@@ -297,6 +298,23 @@ fn asks_for_help(rt: HostRuntime) -> Result<(), Fail> {
         assert_eq!(rt;
             fault_of(rt.alloc(), words)?,
             Some((ErrorKind::DisplayHelp, 0)),
+            "{words:?}"
+        );
+    }
+    Ok(())
+}
+
+#[test]
+fn asks_for_the_version(rt: HostRuntime) -> Result<(), Fail> {
+    let cases: [&[&str]; 3] = [
+        &["plotraster", "--version"],
+        &["plotraster", "-V"],
+        &["plotraster", "-V", "pbm"],
+    ];
+    for words in cases {
+        assert_eq!(rt;
+            fault_of(rt.alloc(), words)?,
+            Some((ErrorKind::DisplayVersion, 0)),
             "{words:?}"
         );
     }

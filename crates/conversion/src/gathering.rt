@@ -14,7 +14,8 @@ use stroke_raster::Band;
 /// The most bytes that a row of bits has: one for eight of 77,405 pixels.
 pub const MOST_BYTES_A_ROW: u64 = 9676;
 
-/// The length of a buffer for a band of rows, in bytes: all rows of a PBM, or one row of another form.
+/// The length of a buffer, in bytes, that takes a row of the picture, or all rows of a band if it is a
+/// PBM.
 pub fn band_space(form: Form, columns: u32, rows: u32) -> usize
     requires { columns ≤ MOST_PIXELS_A_SIDE }
     ensures row { room_of form columns ≤ result }

@@ -28,12 +28,12 @@ use Rattle.hpgl_plot.specs.declared.state.State.{State}
 use Rattle.hpgl_plot.specs.Arcs.{circle_curve, arc_curve, chord_count, curve_point, curve_places}
 use Rattle.hpgl_plot.specs.Bounds.{AreAxes, IsSound, IsInRange, IsSmallIn, AreSmall, IsCurve}
 use Rattle.hpgl_plot.specs.Frames.{place}
-use Rattle.hpgl_plot.specs.Machine.{World, traced, Runs}
+use Rattle.hpgl_plot.specs.Machine.{World, travelled, Runs}
 use Rattle.hpgl_plot.specs.Paths.{path, position, pen_at, target}
 use Rattle.plot_settings.specs.Steps.{DrawCircle, DrawArc}
-use Rattle.hpgl_plot.proofs.Fed.{traced_more, traced_never, traced_one, within}
+use Rattle.hpgl_plot.proofs.Fed.{travelled_more, travelled_never, travelled_one, within}
 use Rattle.hpgl_plot.proofs.Sound.{sound_at}
-use Rattle.hpgl_plot.proofs.Traces.{traced_keeps}
+use Rattle.hpgl_plot.proofs.Travels.{travelled_keeps}
 
 small_right : (page : Page) (axes : Axes) (s : State) (n : ℤ) → IsSound page axes s → nat_abs n ≤ 2 ^ 55
     → IsSmallIn page s.frame (s.coordinates.x +ℤ n)
@@ -140,36 +140,36 @@ has_chord c = let h = le-max_right (nat_abs c.sweep / c.chord + min 1 (nat_abs c
 
 -- what is left of a curve's path, from a place on, comes to what all of it comes to
 abbrev pub Left : Page → Frame → Curve → Bool → World → Spot → ℕ → World → Spot → Type 0
-Left page f c draws v from k w start = traced v draws (from ∷ places_from page f c (k + 1) (chord_count c - k)) ≡ traced w draws
+Left page f c draws v from k w start = travelled v draws (from ∷ places_from page f c (k + 1) (chord_count c - k)) ≡ travelled w draws
     (start ∷ curve_places page f c)
 
 -- after one chord more
 pub one_chord : (page : Page) (f : Frame) (c : Curve) (draws : Bool) (v u w : World) (from q start : Spot) (k : ℕ) → k < chord_count c
     → q ≡ place page f (curve_point c (k + 1))
-    → Left page f c draws v from k w start → traced v draws (from ∷ (q ∷ [])) ≡ Some u → Left page f c draws u q (k + 1) w start
+    → Left page f c draws v from k w start → travelled v draws (from ∷ (q ∷ [])) ≡ Some u → Left page f c draws u q (k + 1) w start
 one_chord page f c draws v u w from q start k h e l t =
     let n = places_next page f c k (chord_count c) h in
     let rest = places_from page f c (k + 1 + 1) (chord_count c - (k + 1)) in
-    sym (traced_more v u draws from q rest t) ∙ ap (λ (x : Spot). traced v draws (from ∷ (x ∷ rest))) e ∙ ap
-    (λ (ps : List Spot). traced v draws (from ∷ ps)) (sym n) ∙ l
+    sym (travelled_more v u draws from q rest t) ∙ ap (λ (x : Spot). travelled v draws (from ∷ (x ∷ rest))) e ∙ ap
+    (λ (ps : List Spot). travelled v draws (from ∷ ps)) (sym n) ∙ l
 
 -- at a chord that leaves the range
 pub no_chord : (page : Page) (f : Frame) (c : Curve) (draws : Bool) (v w : World) (from q start : Spot) (k : ℕ) → k < chord_count c
     → q ≡ place page f (curve_point c (k + 1))
-    → Left page f c draws v from k w start → traced v draws (from ∷ (q ∷ [])) ≡ None → traced w draws (start ∷ curve_places page f c) ≡ None
+    → Left page f c draws v from k w start → travelled v draws (from ∷ (q ∷ [])) ≡ None → travelled w draws (start ∷ curve_places page f c) ≡ None
 no_chord page f c draws v w from q start k h e l t =
     let n = places_next page f c k (chord_count c) h in
     let rest = places_from page f c (k + 1 + 1) (chord_count c - (k + 1)) in
-    sym l ∙ ap (λ (ps : List Spot). traced v draws (from ∷ ps)) n ∙ ap (λ (x : Spot). traced v draws (from ∷ (x ∷ rest)))
-    (sym e) ∙ traced_never v draws from q rest t
+    sym l ∙ ap (λ (ps : List Spot). travelled v draws (from ∷ ps)) n ∙ ap (λ (x : Spot). travelled v draws (from ∷ (x ∷ rest)))
+    (sym e) ∙ travelled_never v draws from q rest t
 
 -- past the last chord
 pub all_chords : (page : Page) (f : Frame) (c : Curve) (draws : Bool) (v w : World) (from start : Spot) (k : ℕ) → k ≡ chord_count c
     → IsInRange from → Left page f c draws v from k w start
-    → traced w draws (start ∷ curve_places page f c) ≡ Some v
+    → travelled w draws (start ∷ curve_places page f c) ≡ Some v
 all_chords page f c draws v w from start k e r l =
     let z : chord_count c - k ≡ 0 = omega arith in
-    sym l ∙ ap (λ (n : ℕ). traced v draws (from ∷ places_from page f c (k + 1) n)) z ∙ traced_one v draws from r
+    sym l ∙ ap (λ (n : ℕ). travelled v draws (from ∷ places_from page f c (k + 1) n)) z ∙ travelled_one v draws from r
 
 -- what stops early stops all of it, where the results are of two types
 pub stopped_by : (T : Type 0) {U : Type 0} (o p : Option World) (u v : World) (e : Stop) (r : Result U Stop) → (o ≡ None → p ≡ None)
@@ -195,10 +195,10 @@ placed page f u end e = rw e refl
 
 -- the pen may move to an arc's end
 pub arc_sound : (w v : World) (axes : Axes) (draws : Bool) (places : List Spot) (u : Spot) (end : Position) → IsSound v.page axes v.state
-    → traced w draws places ≡ Some v
+    → travelled w draws places ≡ Some v
     → end ≡ pen_at w.page w.state.frame u → IsInRange end.place
     → IsSound v.page axes (record v.state { place = end.place; coordinates = end.coordinates })
 arc_sound w v axes draws places u end h t e r =
-    let k = traced_keeps w v draws places t in
+    let k = travelled_keeps w v draws places t in
     sound_at v.page axes v.state end.coordinates end.place h (rw (k.page_is, k.state_is) (placed w.page w.state.frame u end e))
     (within end.place r)

@@ -8,7 +8,7 @@ use Rattle.std.proofs.lemmas.Bool.Decides.{nat_tests}
 use Rattle.plot_arc.specs.declared.spot.Spot.{Spot}
 use Rattle.hpgl_plot.specs.Bounds.{IsInRange}
 use Rattle.hpgl_plot.specs.Strokes.{is_in_range, are_in_range, drawn, joined}
-use Rattle.hpgl_plot.specs.Machine.{World, with_strokes, traced}
+use Rattle.hpgl_plot.specs.Machine.{World, with_strokes, travelled}
 use Rattle.hpgl_plot.proofs.Bridge.{kept_with-append, full_with-append}
 
 pub within : (q : Spot) → IsInRange q → is_in_range q ≡ true
@@ -32,22 +32,22 @@ more_strokes w true a b rest = rw (append-nil (drawn w.state a b)) (with_more w 
 more_strokes w false a b rest = refl
 
 -- the first line of a path, and then the rest of it
-pub traced_more : (w v : World) (draws : Bool) (a b : Spot) (rest : List Spot) → traced w draws (a ∷ (b ∷ [])) ≡ Some v
-    → traced w draws (a ∷ (b ∷ rest)) ≡ traced v draws (b ∷ rest)
-traced_more w v draws a b rest h = elim (cases_Bool (is_in_range a)) [
+pub travelled_more : (w v : World) (draws : Bool) (a b : Spot) (rest : List Spot) → travelled w draws (a ∷ (b ∷ [])) ≡ Some v
+    → travelled w draws (a ∷ (b ∷ rest)) ≡ travelled v draws (b ∷ rest)
+travelled_more w v draws a b rest h = elim (cases_Bool (is_in_range a)) [
   | inr s ↦ absurd (none-some v (rw s at h))
   | inl s ↦ elim (cases_Bool (is_in_range b)) [
     | inr t ↦ absurd (none-some v (rw (s, t) at h))
     | inl t ↦ (let e = same_Some _ _ (rw (s, t) at h) in
-        subst (λ (u : World). traced w draws (a ∷ (b ∷ rest)) ≡ traced u draws (b ∷ rest)) e
+        subst (λ (u : World). travelled w draws (a ∷ (b ∷ rest)) ≡ travelled u draws (b ∷ rest)) e
         (rw (s, t) (ap (λ (u : World). if are_in_range rest then Some u else None) (more_strokes w draws a b rest))))
   ]
 ]
 
 -- the first line of a path that leaves the range, and the whole path
-pub traced_never : (w : World) (draws : Bool) (a b : Spot) (rest : List Spot) → traced w draws (a ∷ (b ∷ [])) ≡ None
-    → traced w draws (a ∷ (b ∷ rest)) ≡ None
-traced_never w draws a b rest h = elim (cases_Bool (is_in_range a)) [
+pub travelled_never : (w : World) (draws : Bool) (a b : Spot) (rest : List Spot) → travelled w draws (a ∷ (b ∷ [])) ≡ None
+    → travelled w draws (a ∷ (b ∷ rest)) ≡ None
+travelled_never w draws a b rest h = elim (cases_Bool (is_in_range a)) [
   | inr s ↦ rw s refl
   | inl s ↦ elim (cases_Bool (is_in_range b)) [
     | inr t ↦ rw (s, t) refl
@@ -56,14 +56,14 @@ traced_never w draws a b rest h = elim (cases_Bool (is_in_range a)) [
 ]
 
 -- a path of one place
-pub traced_one : (w : World) (draws : Bool) (a : Spot) → IsInRange a → traced w draws (a ∷ []) ≡ Some w
-traced_one w true a h = rw (within a h) refl
-traced_one w false a h = rw (within a h) refl
+pub travelled_one : (w : World) (draws : Bool) (a : Spot) → IsInRange a → travelled w draws (a ∷ []) ≡ Some w
+travelled_one w true a h = rw (within a h) refl
+travelled_one w false a h = rw (within a h) refl
 
--- a path that was traced is in range
-pub traced_within : (w v : World) (draws : Bool) (a : Spot) (rest : List Spot) → traced w draws (a ∷ rest) ≡ Some v
+-- a path that was travelled is in range
+pub travelled_within : (w v : World) (draws : Bool) (a : Spot) (rest : List Spot) → travelled w draws (a ∷ rest) ≡ Some v
     → are_in_range rest ≡ true
-traced_within w v draws a rest h = elim (cases_Bool (is_in_range a)) [
+travelled_within w v draws a rest h = elim (cases_Bool (is_in_range a)) [
   | inr s ↦ absurd (none-some v (rw s at h))
   | inl s ↦ elim (cases_Bool (are_in_range rest)) [
     | inl t ↦ t
@@ -72,9 +72,9 @@ traced_within w v draws a rest h = elim (cases_Bool (is_in_range a)) [
 ]
 
 -- a path that does not begin, and the whole path
-pub traced_out : (w : World) (draws : Bool) (a : Spot) (rest : List Spot) → traced w draws (a ∷ []) ≡ None
-    → traced w draws (a ∷ rest) ≡ None
-traced_out w draws a rest h = elim (cases_Bool (is_in_range a)) [
+pub travelled_out : (w : World) (draws : Bool) (a : Spot) (rest : List Spot) → travelled w draws (a ∷ []) ≡ None
+    → travelled w draws (a ∷ rest) ≡ None
+travelled_out w draws a rest h = elim (cases_Bool (is_in_range a)) [
   | inl t ↦ absurd (none-some _ (sym (rw t at h)))
   | inr t ↦ rw t refl
 ]

@@ -92,8 +92,8 @@ abbrev pub with_strokes : World → State → List Segment → World
 with_strokes w s ss = record { page = w.page; state = s; kept = kept_with w.kept w.full ss; full = full_with w.kept w.full ss }
 
 -- what a path over these places leaves: None if one of them is out of range
-abbrev pub traced : World → Bool → List Spot → Option World
-traced w draws places = if are_in_range places then Some (with_strokes w w.state (if draws then joined w.state places else [])) else None
+abbrev pub travelled : World → Bool → List Spot → Option World
+travelled w draws places = if are_in_range places then Some (with_strokes w w.state (if draws then joined w.state places else [])) else None
 
 -- with another state
 abbrev pub ends_in : State → Option World → Option World

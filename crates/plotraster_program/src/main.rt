@@ -46,7 +46,7 @@ fn run(rt: &HostRuntime, words: &[String]) -> u8 {
     }
 }
 
-// Prints help, or what is wrong with the words.
+// Prints help, the version, or what is wrong with the words.
 fn tell(rt: &HostRuntime, error: &clap::Error) -> u8 {
     if error.kind() == clap::error::ErrorKind::OutOfMemory {
         return refuse(rt, &Fault::Memory);

@@ -1,5 +1,5 @@
 -- A span of cells that was filled.
-use Rattle.std.specs.Prelude.{◌≡◌, ℕ, ◌<◌, ◌≤◌, List, length, get_or}
+use Rattle.std.specs.Prelude.{◌≡◌, ℕ, ◌<◌, ◌≤◌, List, get_or}
 
 -- of the cells, those from `low` up to `end` have become the position, and the others are as they were
 pub record IsFilled (low end position : ℕ) (old new : List ℕ) : Type 0 where

@@ -1,7 +1,7 @@
 //! Fills a run of cells.
 //!
-//! Most runs are a few cells long, and no two in a row are equally long. A loop over single cells
-//! would cost a wrong guess of the processor in each row.
+//! Most runs are a few cells long, and their lengths change from row to row. A loop over single cells
+//! would often cost the processor a wrong guess at its end.
 ghost use Rattle.std.specs.Prelude.{◌≤◌, ◌+◌, length};
 ghost use Rattle.stroke_raster.specs.Filling.{IsFilled};
 

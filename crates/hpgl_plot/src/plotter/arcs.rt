@@ -3,7 +3,7 @@ ghost use Rattle.std.specs.Prelude.{◌≡◌, ◌∷◌, IfOk, IfSome};
 ghost use Rattle.hpgl_plot.specs.Arcs as curves;
 ghost use Rattle.hpgl_plot.specs.Bounds.{IsInRange, IsCurve};
 ghost use Rattle.plot_settings.specs.Bounds.{IsCircle, IsArc};
-ghost use Rattle.hpgl_plot.specs.Machine.{seen, step, run, Runs, traced};
+ghost use Rattle.hpgl_plot.specs.Machine.{seen, step, run, Runs, travelled};
 ghost use Rattle.plot_settings.specs.Meanings.{circles, arcs};
 ghost use Rattle.hpgl_plot.specs.Paths.{pen_at, target};
 ghost use Rattle.plot_settings.specs.Steps.{DrawCircle, DrawArc};
@@ -102,7 +102,7 @@ impl Plotter {
         requires { IsCurve self.old.page self.old.state.frame curve }
         ensures end { IfOk result (λ end. end ≡ pen_at self.old.page self.old.state.frame (curves.curve_point curve (curves.chord_count curve))) }
         ensures in_range { IfOk result (λ end. IsInRange end.place) }
-        ensures runs { Runs (traced (seen self.old) draws (start ∷ curves.curve_places self.old.page self.old.state.frame curve)) (seen self.new) result }
+        ensures runs { Runs (travelled (seen self.old) draws (start ∷ curves.curve_places self.old.page self.old.state.frame curve)) (seen self.new) result }
     {
         self.begin(start)?;
         let mut end = Position {

@@ -46,7 +46,7 @@ impl Plotter {
     {
         let from = self.label_place(stroke.from);
         let to = self.label_place(stroke.to);
-        self.trace(from, &[to], true)
+        self.travel(from, &[to], true)
     }
 
     // The pen goes to the end of the label.

@@ -3,7 +3,7 @@ ghost use Rattle.std.specs.Prelude.{◌≡◌, ◌≤◌, ◌^◌, ◌*ℤ◌, B
 ghost use Rattle.plot_frame.specs.Bounds.{IsNear};
 ghost use Rattle.hpgl_plot.specs.Bounds.{IsInRange};
 ghost use Rattle.hpgl_plot.specs.Frames as frames;
-ghost use Rattle.hpgl_plot.specs.Machine.{seen, step, Runs, kept_with, full_with, moved, traced, ends_in};
+ghost use Rattle.hpgl_plot.specs.Machine.{seen, step, Runs, kept_with, full_with, moved, travelled, ends_in};
 ghost use Rattle.hpgl_plot.specs.Paths as paths;
 ghost use Rattle.hpgl_plot.specs.Strokes.{drawn, stroke};
 ghost use Rattle.plot_settings.specs.Steps.{Touch, Move, Go};
@@ -34,7 +34,7 @@ impl Plotter {
         let place = self.place_of(coordinates);
         let start = self.state.place;
         let draws = self.state.is_down;
-        self.trace(start, &[place], draws)?;
+        self.travel(start, &[place], draws)?;
         self.arrive(Position { place, coordinates });
         Ok(())
     }
@@ -45,7 +45,7 @@ impl Plotter {
     {
         let pen = self.state.place;
         let draws = !self.state.is_down;
-        self.trace(pen, &[pen], draws)
+        self.travel(pen, &[pen], draws)
     }
 
     /// Where a move ends, in coordinates.
@@ -73,10 +73,10 @@ impl Plotter {
         place_on(&self.page, &self.state.frame, &self.axes, coordinates)
     }
 
-    /// Follows a path: from its start to each of these places in turn, in strokes if it draws. The pen
+    /// Travels a path: from its start to each of these places in turn, in strokes if it draws. The pen
     /// stays where it is.
-    pub fn trace(&mut self, start: Spot, places: &[Spot], draws: bool) -> Result<(), Stop>
-        ensures { Runs (traced (seen self.old) draws (start ∷ places.now)) (seen self.new) result }
+    pub fn travel(&mut self, start: Spot, places: &[Spot], draws: bool) -> Result<(), Stop>
+        ensures { Runs (travelled (seen self.old) draws (start ∷ places.now)) (seen self.new) result }
     {
         self.begin(start)?;
         let mut from = start;
@@ -90,7 +90,7 @@ impl Plotter {
     /// Begins a path at a place, which need not be the pen's.
     pub fn begin(&self, place: Spot) -> Result<(), Stop>
         ensures in_range { IfOk result (λ _. IsInRange place) }
-        ensures runs { (draws : Bool) → Runs (traced (seen self.now) draws (place ∷ [])) (seen self.now) result }
+        ensures runs { (draws : Bool) → Runs (travelled (seen self.now) draws (place ∷ [])) (seen self.now) result }
     {
         if is_place_in_range(place) {
             Ok(())
@@ -103,7 +103,7 @@ impl Plotter {
     pub fn reach(&mut self, from: Spot, place: Spot, draws: bool) -> Result<(), Stop>
         requires from_in { IsInRange from }
         ensures in_range { IfOk result (λ _. IsInRange place) }
-        ensures runs { Runs (traced (seen self.old) draws (from ∷ (place ∷ []))) (seen self.new) result }
+        ensures runs { Runs (travelled (seen self.old) draws (from ∷ (place ∷ []))) (seen self.new) result }
     {
         if !is_place_in_range(place) {
             return Err(Stop::OffRange);

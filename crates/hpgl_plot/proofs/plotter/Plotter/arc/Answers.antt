@@ -3,9 +3,9 @@ use Rattle.hpgl_plot.specs.declared.state.Position.{Position}
 use Rattle.hpgl_plot.specs.Arcs.{chord_count, curve_point, curve_places}
 use Rattle.plot_settings.specs.Steps.{DrawArc}
 use Rattle.hpgl_plot.specs.Paths.{Path, pen_at}
-use Rattle.hpgl_plot.specs.Machine.{seen, step, moved, traced}
+use Rattle.hpgl_plot.specs.Machine.{seen, step, moved, travelled}
 use Rattle.hpgl_plot.proofs.Curves.{arc_path_is, arc_sound, stopped_by}
-use Rattle.hpgl_plot.proofs.Traces.{moved_runs, step_out}
+use Rattle.hpgl_plot.proofs.Travels.{moved_runs, step_out}
 use Rattle.hpgl_plot.proofs.plotter.Plotter.arc.Goals as goal
 
 pub returns-in_err-end : goal.returns-in_err-end
@@ -17,7 +17,7 @@ returns-in_err-end c =
     let end = pen_at w.page s.frame (curve_point curve (chord_count curve)) in
     let p : Path = record { places = s.place ∷ curve_places w.page s.frame curve; draws = s.is_down; ends = end } in
     let e = arc_path_is w.page s c.args.is_relative c.args.arc curve end c.arc_curve-curve.ensures.value refl in
-    stopped_by Position (traced w p.draws p.places)
+    stopped_by Position (travelled w p.draws p.places)
     (step w (DrawArc c.args.is_relative c.args.arc)) v v c.in_err-end.field-0.0 c.from_residual.result
     (step_out w (DrawArc c.args.is_relative c.args.arc) p e) c.in_err-end.ensures.runs c.from_residual.ensures.1
 

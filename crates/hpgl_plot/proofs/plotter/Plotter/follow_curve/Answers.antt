@@ -1,10 +1,10 @@
 use Rattle.std.proofs.Common.{◌∙◌, ◌+◌, ◌<◌, ◌∷◌, [], refl}
 use Rattle.std.specs.Bool.{⊤}
 use Rattle.hpgl_plot.specs.Arcs.{chord_count, curve_places}
-use Rattle.hpgl_plot.specs.Machine.{seen, traced}
+use Rattle.hpgl_plot.specs.Machine.{seen, travelled}
 use Rattle.hpgl_plot.proofs.Curves.{point_right, point_above, one_chord, no_chord, stopped_by}
-use Rattle.hpgl_plot.proofs.Fed.{traced_out}
-use Rattle.hpgl_plot.proofs.Traces.{traced_keeps}
+use Rattle.hpgl_plot.proofs.Fed.{travelled_out}
+use Rattle.hpgl_plot.proofs.Travels.{travelled_keeps}
 use Rattle.hpgl_plot.proofs.plotter.Plotter.follow_curve.Goals as goal
 
 pub returns-in_err-begin-clause-runs : goal.returns-in_err-begin-clause-runs
@@ -12,9 +12,9 @@ returns-in_err-begin-clause-runs c =
     let w = seen c.args.self.now in
     let draws = c.args.draws in
     let places = curve_places w.page w.state.frame c.args.curve in
-    stopped_by ⊤ (traced w draws (c.args.start ∷ []))
-    (traced w draws (c.args.start ∷ places)) w w c.in_err-begin.field-0.0 c.from_residual.result
-    (traced_out w draws c.args.start places) (c.in_err-begin.ensures.runs draws) c.from_residual.ensures.1
+    stopped_by ⊤ (travelled w draws (c.args.start ∷ []))
+    (travelled w draws (c.args.start ∷ places)) w w c.in_err-begin.field-0.0 c.from_residual.result
+    (travelled_out w draws c.args.start places) (c.in_err-begin.ensures.runs draws) c.from_residual.ensures.1
 
 pub place_of-place-requires-clause-x_near : goal.place_of-place-requires-clause-x_near
 place_of-place-requires-clause-x_near c =
@@ -44,8 +44,8 @@ returns-in_err-reach-clause-runs c =
     let places = curve_places w.page f c.args.curve in
     let h : k < chord_count c.args.curve = rw (c.chord_count-k-end.ensures) at c.loop-k-test.true in
     let e = rw (i.kept.page_is, i.kept.state_is, c.curve_point-coordinates.ensures) at c.place_of-place.ensures in
-    stopped_by ⊤ (traced v draws (from ∷ (q ∷ [])))
-    (traced w draws (c.args.start ∷ places)) u u c.in_err-reach.field-0.0 c.from_residual-in_err-reach.result
+    stopped_by ⊤ (travelled v draws (from ∷ (q ∷ [])))
+    (travelled w draws (c.args.start ∷ places)) u u c.in_err-reach.field-0.0 c.from_residual-in_err-reach.result
     (no_chord w.page f c.args.curve draws v w from q c.args.start k h e i.same) c.in_err-reach.ensures.runs c.from_residual-in_err-reach.ensures.1
 
 pub loop-k-preserved : goal.loop-k-preserved
@@ -59,7 +59,7 @@ loop-k-preserved c =
     let q = c.place_of-place.result in
     let h : k < chord_count c.args.curve = rw (c.chord_count-k-end.ensures) at c.loop-k-test.true in
     let e = rw (i.kept.page_is, i.kept.state_is, c.curve_point-coordinates.ensures) at c.place_of-place.ensures in
-    let t = traced_keeps v u c.args.draws (c.loop-k.end.place ∷ (q ∷ [])) c.in_ok-reach.ensures.runs in
+    let t = travelled_keeps v u c.args.draws (c.loop-k.end.place ∷ (q ∷ [])) c.in_ok-reach.ensures.runs in
     record {
       kept = record { page_is = t.page_is ∙ i.kept.page_is; state_is = t.state_is ∙ i.kept.state_is };
       place_in = c.in_ok-reach.ensures.in_range;

@@ -4,7 +4,7 @@ use Rattle.hpgl_plot.specs.Bounds.{IsInRange}
 use Rattle.hpgl_plot.specs.Machine.{seen}
 use Rattle.hpgl_plot.specs.Paths.{pen_at}
 use Rattle.hpgl_plot.proofs.Curves.{Left}
-use Rattle.hpgl_plot.proofs.Traces.{IsKept}
+use Rattle.hpgl_plot.proofs.Travels.{IsKept}
 use Rattle.hpgl_plot.proofs.plotter.Plotter.follow_curve.Given as goal
 
 -- what is left of the path comes to what all of it comes to, and `end` is the end of the last chord

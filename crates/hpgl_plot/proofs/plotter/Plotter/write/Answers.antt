@@ -8,7 +8,7 @@ use Rattle.plot_settings.specs.Steps.{label_steps}
 use Rattle.hpgl_plot.specs.Machine.{seen, run}
 use Rattle.hpgl_plot.proofs.Letters.{steps_from, steps_of_label, next_column, next_line}
 use Rattle.hpgl_plot.proofs.Runs.{run_then, run_out}
-use Rattle.hpgl_plot.proofs.Traces.{stopped}
+use Rattle.hpgl_plot.proofs.Travels.{stopped}
 use Rattle.hpgl_plot.proofs.plotter.Plotter.write.Goals as goal
 
 pub loop-byte-init : goal.loop-byte-init

@@ -6,7 +6,7 @@ use Rattle.hpgl_plot.specs.Machine.{seen, step, run}
 use Rattle.hpgl_plot.proofs.Letters.{one_stroke, no_more_strokes}
 use Rattle.hpgl_plot.proofs.Pairs.{run_more}
 use Rattle.hpgl_plot.proofs.Runs.{step_first_out}
-use Rattle.hpgl_plot.proofs.Traces.{stopped}
+use Rattle.hpgl_plot.proofs.Travels.{stopped}
 use Rattle.hpgl_plot.proofs.plotter.Plotter.write_byte.Goals as goal
 
 pub returns-in_err-write_stroke : goal.returns-in_err-write_stroke

@@ -12,10 +12,10 @@ use Rattle.plot_settings.specs.Steps.{Step, Go, Edge}
 use Rattle.hpgl_plot.specs.Frames.{place}
 use Rattle.hpgl_plot.specs.Paths.{Path, path, position, target}
 use Rattle.hpgl_plot.specs.Strokes.{are_in_range}
-use Rattle.hpgl_plot.specs.Machine.{World, step, after, moved, traced, ends_in, Runs}
+use Rattle.hpgl_plot.specs.Machine.{World, step, after, moved, travelled, ends_in, Runs}
 
 step_is : (w : World) (s : Step)
-    → step w s ≡ ends_in (after w.page w.state s) (traced w (path w.page w.state s).draws (path w.page w.state s).places)
+    → step w s ≡ ends_in (after w.page w.state s) (travelled w (path w.page w.state s).draws (path w.page w.state s).places)
 unfolding step
 step_is w s = elim (cases_Bool (are_in_range (path w.page w.state s).places)) [
   | inl t ↦ rw t refl
@@ -23,12 +23,12 @@ step_is w s = elim (cases_Bool (are_in_range (path w.page w.state s).places)) [
 ]
 
 step_by : (w : World) (s : Step) (p : Path) → path w.page w.state s ≡ p
-    → step w s ≡ ends_in (after w.page w.state s) (traced w p.draws p.places)
-step_by w s p e = step_is w s ∙ ap (λ (q : Path). ends_in (after w.page w.state s) (traced w q.draws q.places)) e
+    → step w s ≡ ends_in (after w.page w.state s) (travelled w p.draws p.places)
+step_by w s p e = step_is w s ∙ ap (λ (q : Path). ends_in (after w.page w.state s) (travelled w q.draws q.places)) e
 
 -- a path changes neither the page nor what is set
-traced_stays : (w : World) (draws : Bool) (places : List Spot) → ends_in w.state (traced w draws places) ≡ traced w draws places
-traced_stays w draws places = elim (cases_Bool (are_in_range places)) [
+travelled_stays : (w : World) (draws : Bool) (places : List Spot) → ends_in w.state (travelled w draws places) ≡ travelled w draws places
+travelled_stays w draws places = elim (cases_Bool (are_in_range places)) [
   | inl t ↦ rw t refl
   | inr t ↦ rw t refl
 ]
@@ -37,33 +37,33 @@ pub record IsKept (w u : World) : Type 0 where
   pub page_is : u.page ≡ w.page
   pub state_is : u.state ≡ w.state
 
-pub traced_keeps : (w u : World) (draws : Bool) (places : List Spot) → traced w draws places ≡ Some u → IsKept w u
-traced_keeps w u draws places h = elim (cases_Bool (are_in_range places)) [
+pub travelled_keeps : (w u : World) (draws : Bool) (places : List Spot) → travelled w draws places ≡ Some u → IsKept w u
+travelled_keeps w u draws places h = elim (cases_Bool (are_in_range places)) [
   | inl t ↦ (let e = sym (same_Some _ _ (rw t at h)) in
       record { page_is = ap (λ (v : World). v.page) e; state_is = ap (λ (v : World). v.state) e })
   | inr t ↦ absurd (none-some u (rw t at h))
 ]
 
--- a step after which the pen is where it was has run if its path was traced
+-- a step after which the pen is where it was has run if its path was travelled
 pub still_runs : {U : Type 0} (w v : World) (s : Step) (p : Path) (r : Result U Stop)
-    → after w.page w.state s ≡ w.state → path w.page w.state s ≡ p → Runs (traced w p.draws p.places) v r → Runs (step w s) v r
+    → after w.page w.state s ≡ w.state → path w.page w.state s ≡ p → Runs (travelled w p.draws p.places) v r → Runs (step w s) v r
 still_runs {U} w v s p r a e h =
-    let k : step w s ≡ traced w p.draws p.places =
-    step_by w s p e ∙ ap (λ (t : State). ends_in t (traced w p.draws p.places)) a ∙ traced_stays w p.draws p.places in
+    let k : step w s ≡ travelled w p.draws p.places =
+    step_by w s p e ∙ ap (λ (t : State). ends_in t (travelled w p.draws p.places)) a ∙ travelled_stays w p.draws p.places in
     subst (λ (o : Option World). Runs o v r) (sym k) h
 
--- any other has run if its path was traced, and then the pen came to its end
+-- any other has run if its path was travelled, and then the pen came to its end
 pub moved_runs : (w u v : World) (s : Step) (p : Path) → after w.page w.state s ≡ moved w.state p.ends → path w.page w.state s ≡ p
-    → traced w p.draws p.places ≡ Some u → ends_in (moved u.state p.ends) (Some u) ≡ Some v → step w s ≡ Some v
+    → travelled w p.draws p.places ≡ Some u → ends_in (moved u.state p.ends) (Some u) ≡ Some v → step w s ≡ Some v
 moved_runs w u v s p a e h m =
     step_by w s p e
-    ∙ ap (λ (t : State). ends_in t (traced w p.draws p.places)) a
-    ∙ ap (λ (t : State). ends_in (moved t p.ends) (traced w p.draws p.places)) (sym (traced_keeps w u p.draws p.places h).state_is)
+    ∙ ap (λ (t : State). ends_in t (travelled w p.draws p.places)) a
+    ∙ ap (λ (t : State). ends_in (moved t p.ends) (travelled w p.draws p.places)) (sym (travelled_keeps w u p.draws p.places h).state_is)
     ∙ ap (λ (o : Option World). ends_in (moved u.state p.ends) o) h
     ∙ m
 
 -- a step whose path leaves the range
-pub step_out : (w : World) (s : Step) (p : Path) → path w.page w.state s ≡ p → traced w p.draws p.places ≡ None → step w s ≡ None
+pub step_out : (w : World) (s : Step) (p : Path) → path w.page w.state s ≡ p → travelled w p.draws p.places ≡ None → step w s ≡ None
 step_out w s p e h = step_by w s p e ∙ ap (λ (o : Option World). ends_in (after w.page w.state s) o) h
 
 -- what stops early stops all of it
