@@ -9,6 +9,3 @@ mod options;
 pub use fault::{BuildFault, LineFault, parse_status};
 pub use line::{Line, Task, settle};
 pub use options::{command, parse};
-
-#[cfg(test)]
-mod tests;

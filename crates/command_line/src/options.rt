@@ -5,6 +5,7 @@ ghost use Rattle.clap.specs.Words.{Text, FailsBy, fault_of, HasMatchesOf};
 ghost use Rattle.clap.specs.declared.parser.matches.ArgMatches.{ArgMatches};
 ghost use Rattle.clap.specs.Words.{app_of, rule_of, is_simple_and_free, new_app, with_rule, with_subcommand};
 ghost use Rattle.clap.specs.declared.builder.command.Command.TheViews.{out-Command as fields_of};
+ghost use Rattle.clap.specs.declared.builder.value_parser.ValueParser.TheVariants as ValueParser;
 ghost use Rattle.command_line.specs.Options.{option_rule, number_rule, file_rule, plot_app, with_page};
 ghost use Rattle.command_line.specs.Options.{with_picture, picture_app, report_app, top_app, IsOf};
 ghost use Rattle.clap_parses.specs.Parses.{HasGoodMatches};
@@ -55,6 +56,14 @@ fn number_of<'a>(
     option_of(alloc, name, parser, given, line)
 }
 
+// `--pens LIST`
+fn pens_of<'a>(alloc: Global) -> Arg<'a>
+    ensures rule { rule_of result ≡ option_rule (codes "pens") ValueParser.String (codes "all") }
+    ensures local { result.global ≡ false }
+{
+    option_of(alloc, "pens", ValueParser::string(), "all", PENS)
+}
+
 fn file_of<'a>(alloc: Global) -> Arg<'a>
     ensures rule { rule_of result ≡ file_rule }
     ensures local { result.global ≡ false }
@@ -101,7 +110,7 @@ fn add_picture<'a>(
     ensures { IfOk result (IsOf (with_picture (app_of command.entry))) }
 {
     let dots = number_of(alloc, "dots", 10, 1200, "100", dots_line);
-    let pens = option_of(alloc, "pens", ValueParser::string(), "all", PENS);
+    let pens = pens_of(alloc);
     let band = number_of(alloc, "band", 1, 4096, "64", BAND);
     let from = number_of(alloc, "from", 0, 99999, "0", FROM);
     let command = add(command, dots)?;

@@ -55,6 +55,11 @@ first_fault None later = later
 abbrev pub fault_of : Job → List ℕ → Option Fault
 fault_of job plot = first_fault (option_map of_plot (refusal job.page plot)) (job_fault job)
 
+-- a plot has a picture of a job: it is not too long, and nothing refuses it
+pub record HasPicture (job : Job) (plot : List ℕ) : Type 0 where
+  pub within : length plot ≤ LONGEST_PLOT
+  pub accepted : fault_of job plot ≡ None
+
 -- a sink at a moment: the bytes that it has, if they are known, and how often it failed
 pub record SinkState : Type 0 where
   pub held : Option (List ℕ)

@@ -1,16 +1,10 @@
 //! What a plot draws on a page: its strokes, and what is noted on it.
 #![tactic(auto)]
 
-#[cfg(test)]
-mod arc_tests;
 mod axes;
 mod curve;
 mod fault;
-#[cfg(test)]
-mod label_tests;
 pub mod laws;
-#[cfg(test)]
-mod limit_tests;
 mod lines;
 mod note;
 mod notes;
@@ -18,11 +12,7 @@ mod noting;
 mod place;
 mod plot;
 mod plotter;
-#[cfg(test)]
-mod settings_tests;
 mod state;
-#[cfg(test)]
-mod tests;
 mod turn;
 mod window;
 mod wrong;

@@ -1,5 +1,6 @@
 -- Where the characters of some labels lie: theorems that compute.
 use Rattle.std.proofs.Common.{◌≡◌, refl, ℤ, pos, negsuc, [], ◌∷◌, ◌++◌}
+use Rattle.std.specs.List.{range_with_len}
 use Rattle.std.specs.Prelude.{codes}
 use Rattle.stick_font.specs.Glyphs.{first_rows, last_rows}
 use Rattle.label_layout.specs.declared.size.CharacterSize.{CharacterSize}
@@ -34,8 +35,8 @@ lines : label_strokes (codes "-" ++ 10 ∷ codes "-" ++ 13 ∷ codes "-") ≡ fr
 unfolding first_rows last_rows
 lines = refl
 
--- bytes that are not printed take no room
-ignored : label_strokes (0 ∷ 9 ∷ 31 ∷ 127 ∷ 255 ∷ codes "-") ≡ from_to (pos 0) (pos 9) (pos 12) (pos 9) ∷ []
+-- all bytes that are not printed take no room, but CR and LF move
+ignored : label_strokes (range_with_len 0 10 ++ 11 ∷ 12 ∷ range_with_len 14 18 ++ range_with_len 127 129 ++ codes "-") ≡ from_to (pos 0) (pos 9) (pos 12) (pos 9) ∷ []
 unfolding first_rows last_rows
 ignored = refl
 

@@ -5,8 +5,6 @@
 mod cell;
 mod size;
 mod strokes;
-#[cfg(test)]
-mod tests;
 
 pub use cell::Cell;
 pub use size::{CharacterSize, Offset};

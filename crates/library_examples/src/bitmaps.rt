@@ -1,6 +1,6 @@
 //! From the bytes of a plot to the bytes of a bitmap.
 ghost use Rattle.std.specs.Prelude.{◌≡◌, IfOk, IfErr};
-ghost use Rattle.conversion.specs.Conversions.{picture, exact};
+ghost use Rattle.conversion.specs.Conversions.{picture, exact, HasPicture};
 ghost use Rattle.library_examples.specs.Bitmaps.{bitmap_job};
 ghost use Rattle.library_examples.specs.Refusals.{HasNoDrawing};
 
@@ -16,6 +16,7 @@ pub fn bitmap(
     plot: &[u8],
 ) -> Result<Vec<u8>, Fault>
     ensures picture { IfOk result (λ bytes. bytes.items ≡ picture (bitmap_job page dots pens) exact plot.now) }
+    ensures accepted { IfOk result (λ _. HasPicture (bitmap_job page dots pens) plot.now) }
     ensures refused { IfErr result (HasNoDrawing page plot.now) }
 {
     let job = Job {

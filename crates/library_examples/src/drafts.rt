@@ -1,6 +1,6 @@
 //! A gauge of our own: it leaves out every second pixel, and counts its distance tests.
 ghost use Rattle.std.specs.Prelude.{◌≤◌, IfOk, IfErr};
-ghost use Rattle.conversion.specs.Conversions.{picture, job_boxes, Refuses};
+ghost use Rattle.conversion.specs.Conversions.{picture, job_boxes, HasPicture, Refuses};
 ghost use Rattle.library_examples.specs.Drafts.{every_second};
 ghost use Rattle.library_examples.specs.Previews.{IsPreviewOf};
 
@@ -43,6 +43,7 @@ pub fn draft_picture(
     room: usize,
 ) -> Result<(Preview, u64), Fault>
     ensures draft { IfOk result (λ made. IsPreviewOf (picture job.now every_second plot.now) made.0) }
+    ensures accepted { IfOk result (λ _. HasPicture job.now plot.now) }
     ensures refused { IfErr result (Refuses job.now plot.now) }
     ensures tests { IfOk result (λ made. made.1 ≤ job_boxes job.now plot.now) }
 {

@@ -1,6 +1,6 @@
 //! A sink of our own: it keeps the first bytes of a picture, and then takes no more.
 ghost use Rattle.std.specs.Prelude.{◌+◌, ◌≤◌, IfOk, IfErr, Some};
-ghost use Rattle.conversion.specs.Conversions.{picture, job_boxes, Refuses};
+ghost use Rattle.conversion.specs.Conversions.{picture, job_boxes, HasPicture, Refuses};
 ghost use Rattle.library_examples.specs.Previews.{IsPreviewOf};
 
 use plotraster::{Fault, Gauge, Job, OverRead, Sink, SinkFault, convert};
@@ -53,6 +53,7 @@ pub fn preview_picture<G: Gauge>(
     room: usize,
 ) -> Result<Preview, Fault>
     ensures preview { IfOk result (IsPreviewOf (picture job.now (G.reaches gauge.old) plot.now)) }
+    ensures accepted { IfOk result (λ _. HasPicture job.now plot.now) }
     ensures refused { IfErr result (Refuses job.now plot.now) }
     ensures tests { IfOk result (λ _. G.count gauge.new ≤ G.count gauge.old + job_boxes job.now plot.now) }
 {

@@ -4,7 +4,5 @@
 mod list;
 mod number;
 mod range;
-#[cfg(test)]
-mod tests;
 
 pub use list::read_pens;

@@ -12,12 +12,8 @@ mod marks;
 mod over_write;
 mod parts;
 mod pcl;
-#[cfg(test)]
-mod pcl_tests;
 mod pieces;
 mod sink;
-#[cfg(test)]
-mod tests;
 
 pub use bits::{append_bits, pack_bits};
 pub use cells::Cells;

@@ -6,8 +6,6 @@ mod chords;
 pub mod laws;
 mod sines;
 mod spot;
-#[cfg(test)]
-mod tests;
 mod turns;
 
 pub use chords::chord_point;

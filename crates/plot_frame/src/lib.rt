@@ -7,8 +7,6 @@ pub mod laws;
 mod lines;
 mod scaling;
 mod sides;
-#[cfg(test)]
-mod tests;
 
 pub use axis::Axis;
 pub use lines::{axis_across, axis_upward, unscaled_axis};

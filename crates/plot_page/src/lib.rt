@@ -4,8 +4,6 @@
 mod colour;
 mod page;
 mod stroke;
-#[cfg(test)]
-mod tests;
 mod window;
 
 pub use colour::Colour;

@@ -5,7 +5,5 @@ mod lines;
 mod pieces;
 mod report;
 mod summary;
-#[cfg(test)]
-mod tests;
 
 pub use report::{MOST_NOTES, write_report};

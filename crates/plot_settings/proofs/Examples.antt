@@ -2,12 +2,12 @@
 use Rattle.std.proofs.Common.{◌≡◌, refl, pos, neg_ℤ, true, false, [], ◌∷◌, Some, None}
 use Rattle.std.specs.Prelude.{map}
 use Rattle.plot_settings.specs.declared.setting.Rotation.TheVariants as rotation
-use Rattle.plot_settings.specs.declared.setting.Setting.TheVariants.{Start, Defaults, BothPoints, Rotate, Pen, Width, WidthOfAll, PenColour, Size, Direction}
+use Rattle.plot_settings.specs.declared.setting.Setting.TheVariants.{Start, Defaults, FirstPoint, BothPoints, Rotate, Pen, Width, WidthOfAll, PenColour, Size, Direction}
 use Rattle.plot_settings.specs.ArcParameters.{circled, arced}
 use Rattle.plot_settings.specs.Colours.{rgb, default_colour}
 use Rattle.plot_settings.specs.Lettering.{character_size, direction, is_slanted, usual_size, turned_offset}
 use Rattle.plot_settings.specs.Meanings.{sets, wrong}
-use Rattle.plot_settings.specs.Parameters.{moved_points, pen_colour, pen_width, rotated, scaled, scaling_points, selected_pen}
+use Rattle.plot_settings.specs.Parameters.{isotropic, moved_points, pen_colour, pen_width, rotated, scaled, scaling_points, ranges_of, selected_pen}
 use Rattle.plot_settings.specs.Settings.{colour, pen, rotation_before, size, width}
 use Rattle.plot_settings.specs.Steps.{Set, Lower, Touch, Move, lowered_then, moves}
 
@@ -50,9 +50,23 @@ no_quarter = refl
 points_apart : scaling_points (pos 1000000 ∷ (pos 2000000 ∷ (pos 1000000 ∷ (pos 5000000 ∷ [])))) ≡ Some (BothPoints (record { x1 = pos 1; y1 = pos 2; x2 = pos 2; y2 = pos 5 }))
 points_apart = refl
 
+points_apart_above : scaling_points (pos 1000000 ∷ (pos 5000000 ∷ (pos 9000000 ∷ (pos 5000000 ∷ [])))) ≡ Some (BothPoints (record { x1 = pos 1; y1 = pos 5; x2 = pos 9; y2 = pos 6 }))
+points_apart_above = refl
+
+one_point : scaling_points (pos 4000000 ∷ (pos 4000000 ∷ (pos 4000000 ∷ (pos 4000000 ∷ [])))) ≡ Some (BothPoints (record { x1 = pos 4; y1 = pos 4; x2 = pos 5; y2 = pos 5 }))
+one_point = refl
+
+-- halves are rounded up, below 0 too
+first_point_at_halves : scaling_points (neg_ℤ (pos 500000) ∷ (neg_ℤ (pos 1500000) ∷ [])) ≡ Some (FirstPoint (pos 0) (neg_ℤ (pos 1)))
+first_point_at_halves = refl
+
 -- and keeps its distance
 points_moved : moved_points (record { x1 = pos 1; y1 = pos 2; x2 = pos 11; y2 = pos 7 }) (pos 100) (neg_ℤ (pos 3)) ≡ record { x1 = pos 100; y1 = neg_ℤ (pos 3); x2 = pos 110; y2 = pos 2 }
 points_moved = refl
+
+-- a percent is in range as written
+no_percent : isotropic (ranges_of (pos 0) (pos 8000000) (pos 0) (pos 8000000)) (pos 100000001) (pos 0) ≡ None
+no_percent = refl
 
 -- x has no range
 empty_range : scaled (pos 5 ∷ (pos 5 ∷ (pos 0 ∷ (pos 9 ∷ [])))) ≡ None

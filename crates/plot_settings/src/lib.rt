@@ -11,8 +11,6 @@ mod palette;
 mod parameters;
 mod points;
 mod setting;
-#[cfg(test)]
-mod tests;
 mod wrong;
 
 pub use arc_parameters::{named_arc, named_circle};

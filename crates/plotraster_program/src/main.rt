@@ -3,8 +3,8 @@
 
 use clap::ArgMatches;
 use plotraster::{
-    Exact, Fault, LineFault, OverRead, OverWrite, Task, command, convert, parse, parse_status,
-    report, settle, status,
+    Fault, LineFault, OverRead, OverWrite, Task, command, exit_status, parse, parse_status,
+    run_task, settle, status,
 };
 use std::fs::File;
 use std::io::{ErrorKind, Read};
@@ -77,14 +77,11 @@ fn work(rt: &HostRuntime, matches: &ArgMatches<'_>) -> u8 {
 fn perform<R: Read + Drop>(rt: &HostRuntime, task: &Task, plot: R) -> u8 {
     let mut source = OverRead::new(plot);
     let mut sink = OverWrite::new(rt.stdout());
-    let done = match task {
-        Task::Picture(job) => convert(rt.alloc(), job, &mut Exact::new(), &mut source, &mut sink),
-        Task::Report(page) => report(rt.alloc(), page, &mut source, &mut sink),
-    };
-    match done {
-        Ok(_) => 0,
-        Err(fault) => refuse(rt, &fault),
+    let outcome = run_task(rt.alloc(), task, &mut source, &mut sink);
+    if let Err(fault) = &outcome {
+        let _ = eprintln!(rt; "plotraster: {fault}");
     }
+    exit_status(&outcome)
 }
 
 fn refuse(rt: &HostRuntime, fault: &Fault) -> u8 {

@@ -1,6 +1,10 @@
 //! Faults with their numbers, statuses and texts.
-use plotraster::{Fault, LineFault, number, status};
+use hpgl_plot::PlotFault;
+use hpgl_text::TextFault;
+use plotraster::{BuildFault, Done, Fault, LineFault, PageFault, SinkFault};
+use plotraster::{exit_status, number, status};
 use std::test::Fail;
+use stroke_raster::PaintFault;
 
 #[test]
 fn numbers_statuses_and_texts(rt: HostRuntime) -> Result<(), Fail> {
@@ -28,11 +32,47 @@ fn numbers_statuses_and_texts(rt: HostRuntime) -> Result<(), Fail> {
     for (fault, its_number, its_status, text) in cases {
         assert_eq!(rt; number(&fault), its_number);
         assert_eq!(rt; status(&fault), its_status);
+        assert_eq!(rt; exit_status(&Err(fault)), its_status);
         assert_eq!(rt; format!(in rt.alloc(); "{fault}")?.as_str(), text);
     }
-    let words = format!(in rt.alloc(); "{}", LineFault::Words)?;
-    assert_eq!(rt; words.as_str(), "words not understood");
-    let pens = format!(in rt.alloc(); "{}", LineFault::Pens)?;
-    assert_eq!(rt; pens.as_str(), "bad pen list");
+    let done = Done {
+        rows: 8,
+        bytes: 15,
+        strokes: 2,
+        notes: 0,
+    };
+    assert_eq!(rt; exit_status(&Ok(done)), 0);
+    Ok(())
+}
+
+// The text of a fault.
+macro_rules! reads {
+    ($rt:expr, $fault:expr, $wanted:expr) => {
+        let text = format!(in $rt.alloc(); "{}", $fault)?;
+        assert_eq!($rt; text.as_str(), $wanted);
+    };
+}
+
+#[test]
+fn texts_of_a_command_line(rt: HostRuntime) -> Result<(), Fail> {
+    reads!(rt, LineFault::Words, "words not understood");
+    reads!(rt, LineFault::Pens, "bad pen list");
+    reads!(rt, BuildFault::Memory, "out of memory");
+    Ok(())
+}
+
+#[test]
+fn texts_of_the_faults_of_each_step(rt: HostRuntime) -> Result<(), Fail> {
+    reads!(rt, PageFault::Size, "page width and height must be 64 to 65536");
+    reads!(rt, PageFault::Corner, "page corner must be 0 to 65536 left and below");
+    reads!(rt, TextFault::TooLong, "plot is longer than 67108864 bytes");
+    reads!(rt, TextFault::Memory, "out of memory");
+    reads!(rt, PlotFault::Memory, "out of memory");
+    reads!(rt, PlotFault::OffRange { at: 7 }, "place off range at byte 7");
+    reads!(rt, PlotFault::TooManyStrokes { at: 40775 }, "too many strokes at byte 40775");
+    reads!(rt, PaintFault::Band, "band height must be 1 to 4096");
+    reads!(rt, PaintFault::Row, "first row is past the last row");
+    reads!(rt, PaintFault::Memory, "out of memory");
+    reads!(rt, SinkFault, "the sink takes no bytes");
     Ok(())
 }

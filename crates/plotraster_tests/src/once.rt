@@ -1,13 +1,16 @@
 //! A reader and a writer that fail once, in the middle, and would then go on.
 use crate::pages::{CROSSING, eight_by_eight};
 use plotraster::{Exact, Fault, Form, OverRead, OverWrite, Sink, Source, convert, picture_bytes};
+use std::alloc::Global;
 use std::io::{Error, ErrorKind, Read, Write};
+use std::process::Abort;
 use std::test::Fail;
 
 // Gives ten bytes a call; the third call fails.
 #[derive(Drop)]
 struct Reader<'a> {
     rest: &'a [u8],
+    kind: ErrorKind,
     calls: u32,
 }
 
@@ -15,7 +18,7 @@ impl<'a> Read for Reader<'a> {
     fn read(&mut self, buf: &mut [u8]) -> std::io::Result<usize> {
         self.calls = self.calls.wrapping_add(1);
         if self.calls == 3 {
-            return Err(Error::from(ErrorKind::Other));
+            return Err(Error::from(self.kind));
         }
         let n = self.rest.len().min(buf.len()).min(10);
         buf[..n].copy_from_slice(&self.rest[..n]);
@@ -28,6 +31,7 @@ impl<'a> Read for Reader<'a> {
 #[derive(Drop)]
 struct Writer {
     bytes: Vec<u8>,
+    kind: ErrorKind,
     calls: u32,
 }
 
@@ -35,7 +39,7 @@ impl Write for Writer {
     fn write(&mut self, buf: &[u8]) -> std::io::Result<usize> {
         self.calls = self.calls.wrapping_add(1);
         if self.calls == 3 {
-            return Err(Error::from(ErrorKind::Other));
+            return Err(Error::from(self.kind));
         }
         let n = buf.len().min(10);
         match self.bytes.extend_from_slice(&buf[..n]) {
@@ -49,15 +53,26 @@ impl Write for Writer {
     }
 }
 
+// Every error counts, also one after which other programs ask again.
+const KINDS: [ErrorKind; 2] = [ErrorKind::Other, ErrorKind::Interrupted];
+
 #[test]
 fn a_reader_is_not_asked_again(rt: HostRuntime) -> Result<(), Fail> {
+    for kind in KINDS {
+        reads_fail_once(&rt, rt.alloc(), kind)?;
+    }
+    Ok(())
+}
+
+fn reads_fail_once(rt: &impl Abort, alloc: Global, kind: ErrorKind) -> Result<(), Fail> {
     let job = eight_by_eight(Form::Pbm).ok_or("a job")?;
     let mut source = OverRead::new(Reader {
         rest: CROSSING,
+        kind,
         calls: 0,
     });
-    let mut sink = OverWrite::new(Vec::new(rt.alloc()));
-    let answer = convert(rt.alloc(), &job, &mut Exact::new(), &mut source, &mut sink);
+    let mut sink = OverWrite::new(Vec::new(alloc));
+    let answer = convert(alloc, &job, &mut Exact::new(), &mut source, &mut sink);
     let is_refused = matches!(answer, Err(Fault::Read));
     assert!(rt; is_refused);
     assert_eq!(rt; source.failures(), 1);
@@ -68,14 +83,22 @@ fn a_reader_is_not_asked_again(rt: HostRuntime) -> Result<(), Fail> {
 
 #[test]
 fn a_writer_is_not_asked_again(rt: HostRuntime) -> Result<(), Fail> {
+    for kind in KINDS {
+        writes_fail_once(&rt, rt.alloc(), kind)?;
+    }
+    Ok(())
+}
+
+fn writes_fail_once(rt: &impl Abort, alloc: Global, kind: ErrorKind) -> Result<(), Fail> {
     let job = eight_by_eight(Form::Ppm).ok_or("a job")?;
-    let whole = picture_bytes(rt.alloc(), &job, CROSSING)?;
+    let whole = picture_bytes(alloc, &job, CROSSING)?;
     let mut sink = OverWrite::new(Writer {
-        bytes: Vec::new(rt.alloc()),
+        bytes: Vec::new(alloc),
+        kind,
         calls: 0,
     });
     let mut source = OverRead::new(CROSSING);
-    let answer = convert(rt.alloc(), &job, &mut Exact::new(), &mut source, &mut sink);
+    let answer = convert(alloc, &job, &mut Exact::new(), &mut source, &mut sink);
     let wanted = Fault::Write {
         row: 0,
         whole: 0,

@@ -5,8 +5,6 @@ mod characters;
 mod font;
 mod grid;
 pub mod laws;
-#[cfg(test)]
-mod tests;
 
 pub use characters::{column_width, glyph};
 pub use grid::GridStroke;

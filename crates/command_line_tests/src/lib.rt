@@ -1,0 +1,7 @@
+//! Tests of command lines and of lists of pens, by public calls.
+#![tactic(auto)]
+
+#[cfg(test)]
+mod options;
+#[cfg(test)]
+mod pens;

@@ -1,0 +1,13 @@
+//! Tests of what plots draw and of what is noted on them, by public calls.
+#![tactic(auto)]
+
+#[cfg(test)]
+mod arcs;
+#[cfg(test)]
+mod drawings;
+#[cfg(test)]
+mod labels;
+#[cfg(test)]
+mod limits;
+#[cfg(test)]
+mod settings;

@@ -1,0 +1,275 @@
+// Plots and what they are cut into, by the printed forms of their items.
+use hpgl_text::{Base, Number, TextFault, lex, read_coded, read_number};
+use std::alloc::Global;
+use std::test::Fail;
+
+// The items of a plot, a line each.
+fn items_of(alloc: Global, plot: &[u8]) -> Result<String, Fail> {
+    let program = lex(alloc, plot)?;
+    let mut lines = String::new(alloc);
+    for item in program.items() {
+        let line = format!(in alloc; "{item:?}\n")?;
+        lines.push_str(line.as_str())?;
+    }
+    Ok(lines)
+}
+
+#[test]
+fn small_letters(rt: HostRuntime) -> Result<(), Fail> {
+    let items = items_of(rt.alloc(), b"pu0,28pd-64.5,.25")?;
+    assert_eq!(rt;
+        items.as_str(),
+        "\
+Item { at: 0, body: Params([Number { millionths: 0 }, Number { millionths: 28000000 }]), code: [80, 85], unended: false }
+Item { at: 6, body: Params([Number { millionths: -64500000 }, Number { millionths: 250000 }]), code: [80, 68], unended: false }
+"
+    );
+    Ok(())
+}
+
+#[test]
+fn lists_of_each_length(rt: HostRuntime) -> Result<(), Fail> {
+    let items = items_of(rt.alloc(), b"PU;SP3;AA4,5,6")?;
+    assert_eq!(rt;
+        items.as_str(),
+        "\
+Item { at: 0, body: Params([]), code: [80, 85], unended: false }
+Item { at: 3, body: Params([Number { millionths: 3000000 }]), code: [83, 80], unended: false }
+Item { at: 7, body: Params([Number { millionths: 4000000 }, Number { millionths: 5000000 }, Number { millionths: 6000000 }]), code: [65, 65], unended: false }
+"
+    );
+    Ok(())
+}
+
+#[test]
+fn labels(rt: HostRuntime) -> Result<(), Fail> {
+    let items = items_of(rt.alloc(), b"DT$;LBL$")?;
+    assert_eq!(rt;
+        items.as_str(),
+        "\
+Item { at: 0, body: Terminator(36), code: [68, 84], unended: false }
+Item { at: 4, body: Label([76]), code: [76, 66], unended: false }
+"
+    );
+    let items = items_of(rt.alloc(), b"LBL")?;
+    assert_eq!(rt;
+        items.as_str(),
+        "Item { at: 0, body: Label([76]), code: [76, 66], unended: true }\n"
+    );
+    Ok(())
+}
+
+// A terminator holds until another is defined, or until IN or DF.
+#[test]
+fn terminators(rt: HostRuntime) -> Result<(), Fail> {
+    let items = items_of(rt.alloc(), b"DT$;PU;LBA$")?;
+    assert_eq!(rt;
+        items.as_str(),
+        "\
+Item { at: 0, body: Terminator(36), code: [68, 84], unended: false }
+Item { at: 4, body: Params([]), code: [80, 85], unended: false }
+Item { at: 7, body: Label([65]), code: [76, 66], unended: false }
+"
+    );
+    let items = items_of(rt.alloc(), b"DT$;IN;LB$\x03")?;
+    assert_eq!(rt;
+        items.as_str(),
+        "\
+Item { at: 0, body: Terminator(36), code: [68, 84], unended: false }
+Item { at: 4, body: Params([]), code: [73, 78], unended: false }
+Item { at: 7, body: Label([36]), code: [76, 66], unended: false }
+"
+    );
+    Ok(())
+}
+
+// The byte after SM is the symbol, also a quote.
+#[test]
+fn symbols(rt: HostRuntime) -> Result<(), Fail> {
+    let items = items_of(rt.alloc(), b"SM\";PU")?;
+    assert_eq!(rt;
+        items.as_str(),
+        "\
+Item { at: 0, body: Skipped, code: [83, 77], unended: false }
+Item { at: 4, body: Params([]), code: [80, 85], unended: false }
+"
+    );
+    Ok(())
+}
+
+#[test]
+fn skipped_and_stray(rt: HostRuntime) -> Result<(), Fail> {
+    let items = items_of(rt.alloc(), b"ZZ1,2;CO\"a;b\";PA1:\x1b%-1B\x1b.(;!\x1bE")?;
+    assert_eq!(rt;
+        items.as_str(),
+        "\
+Item { at: 0, body: Skipped, code: [90, 90], unended: false }
+Item { at: 6, body: Skipped, code: [67, 79], unended: false }
+Item { at: 14, body: Bad, code: [80, 65], unended: false }
+Item { at: 27, body: Stray(33), code: [0, 0], unended: false }
+"
+    );
+    Ok(())
+}
+
+#[test]
+fn mnemonics(rt: HostRuntime) -> Result<(), Fail> {
+    let known = b"INDFIPSCROIWSPPWPCPUPDPAPREAERCIAAARSIDI";
+    let program = lex(rt.alloc(), known)?;
+    assert_eq!(rt; program.items().len(), 20);
+    for item in program.items() {
+        assert!(rt; matches!(&item.body, hpgl_text::Body::Params(_)));
+    }
+    Ok(())
+}
+
+#[test]
+fn numbers(rt: HostRuntime) {
+    let millionths = |found: Option<(Number, usize)>| found.map(|(number, next)| (
+        number.millionths(),
+        next,
+    ));
+    assert_eq!(rt;
+        millionths(read_number(b"PA-1.5,7", 2)),
+        Some((-1_500_000, 6))
+    );
+    assert_eq!(rt; millionths(read_number(b"8388608", 0)), None);
+    assert_eq!(rt; millionths(read_number(b"12", 3)), None);
+}
+
+#[test]
+fn encoded_lines(rt: HostRuntime) -> Result<(), Fail> {
+    let items = items_of(rt.alloc(), b"PU0,28;PE\x3f\xc1\xbf;")?;
+    assert_eq!(rt;
+        items.as_str(),
+        "\
+Item { at: 0, body: Params([Number { millionths: 0 }, Number { millionths: 28000000 }]), code: [80, 85], unended: false }
+Item { at: 7, body: Coded([Entry { at: 9, what: Pair { up: false, absolute: false, x: Number { millionths: 64000000 }, y: Number { millionths: 0 } } }]), code: [80, 69], unended: false }
+"
+    );
+    let items = items_of(rt.alloc(), b"PU0,28;PE7?c_;")?;
+    assert_eq!(rt;
+        items.as_str(),
+        "\
+Item { at: 0, body: Params([Number { millionths: 0 }, Number { millionths: 28000000 }]), code: [80, 85], unended: false }
+Item { at: 7, body: Coded([Entry { at: 10, what: Pair { up: false, absolute: false, x: Number { millionths: 64000000 }, y: Number { millionths: 0 } } }]), code: [80, 69], unended: false }
+"
+    );
+    let items = items_of(rt.alloc(), b"PU0,28;PE7>c?o_;")?;
+    assert_eq!(rt;
+        items.as_str(),
+        "\
+Item { at: 0, body: Params([Number { millionths: 0 }, Number { millionths: 28000000 }]), code: [80, 85], unended: false }
+Item { at: 7, body: Coded([Entry { at: 12, what: Pair { up: false, absolute: false, x: Number { millionths: 64000000 }, y: Number { millionths: 0 } } }]), code: [80, 69], unended: false }
+"
+    );
+    let items = items_of(rt.alloc(), b"PU0,28;PE7:c?c_;")?;
+    assert_eq!(rt;
+        items.as_str(),
+        "\
+Item { at: 0, body: Params([Number { millionths: 0 }, Number { millionths: 28000000 }]), code: [80, 85], unended: false }
+Item { at: 7, body: Coded([Entry { at: 10, what: Pen(2) }, Entry { at: 12, what: Pair { up: false, absolute: false, x: Number { millionths: 64000000 }, y: Number { millionths: 0 } } }]), code: [80, 69], unended: false }
+"
+    );
+    let items = items_of(rt.alloc(), b"PU0,28;PE7<=_w?c_;")?;
+    assert_eq!(rt;
+        items.as_str(),
+        "\
+Item { at: 0, body: Params([Number { millionths: 0 }, Number { millionths: 28000000 }]), code: [80, 85], unended: false }
+Item { at: 7, body: Coded([Entry { at: 12, what: Pair { up: true, absolute: true, x: Number { millionths: 0 }, y: Number { millionths: 12000000 } } }, Entry { at: 14, what: Pair { up: false, absolute: false, x: Number { millionths: 64000000 }, y: Number { millionths: 0 } } }]), code: [80, 69], unended: false }
+"
+    );
+    Ok(())
+}
+
+#[test]
+fn wrong_polylines(rt: HostRuntime) -> Result<(), Fail> {
+    let items = items_of(rt.alloc(), b"PU0,28;PE:;")?;
+    assert_eq!(rt;
+        items.as_str(),
+        "\
+Item { at: 0, body: Params([Number { millionths: 0 }, Number { millionths: 28000000 }]), code: [80, 85], unended: false }
+Item { at: 7, body: Coded([Entry { at: 9, what: Bad }]), code: [80, 69], unended: false }
+"
+    );
+    let items = items_of(rt.alloc(), b"PU0,28;PE\x3f\xc1;")?;
+    assert_eq!(rt;
+        items.as_str(),
+        "\
+Item { at: 0, body: Params([Number { millionths: 0 }, Number { millionths: 28000000 }]), code: [80, 85], unended: false }
+Item { at: 7, body: Coded([Entry { at: 9, what: Bad }]), code: [80, 69], unended: false }
+"
+    );
+    let items = items_of(rt.alloc(), b"PU0,28;PE7?c!_#_!;")?;
+    assert_eq!(rt;
+        items.as_str(),
+        "\
+Item { at: 0, body: Params([Number { millionths: 0 }, Number { millionths: 28000000 }]), code: [80, 85], unended: false }
+Item { at: 7, body: Coded([Entry { at: 10, what: Pair { up: false, absolute: false, x: Number { millionths: 64000000 }, y: Number { millionths: 0 } } }, Entry { at: 12, what: Stray(33) }, Entry { at: 14, what: Stray(35) }, Entry { at: 15, what: Bad }]), code: [80, 69], unended: false }
+"
+    );
+    Ok(())
+}
+
+// Two bits of each coordinate are a fraction.
+#[test]
+fn fractions(rt: HostRuntime) -> Result<(), Fail> {
+    let items = items_of(rt.alloc(), b"PE7>c_?o;")?;
+    assert_eq!(rt;
+        items.as_str(),
+        "Item { at: 0, body: Coded([Entry { at: 5, what: Pair { up: false, absolute: false, x: Number { millionths: 0 }, y: Number { millionths: 64000000 } } }]), code: [80, 69], unended: false }\n"
+    );
+    Ok(())
+}
+
+// A number without its last digit is bad if the polyline has its end.
+#[test]
+fn broken_numbers(rt: HostRuntime) -> Result<(), Fail> {
+    let items = items_of(rt.alloc(), b"PE??;")?;
+    assert_eq!(rt;
+        items.as_str(),
+        "Item { at: 0, body: Coded([Entry { at: 2, what: Bad }]), code: [80, 69], unended: false }\n"
+    );
+    Ok(())
+}
+
+#[test]
+fn cut_polylines(rt: HostRuntime) -> Result<(), Fail> {
+    let items = items_of(rt.alloc(), b"PEG")?;
+    assert_eq!(rt;
+        items.as_str(),
+        "Item { at: 0, body: Coded([]), code: [80, 69], unended: true }\n"
+    );
+    let items = items_of(rt.alloc(), b"PE??????")?;
+    assert_eq!(rt;
+        items.as_str(),
+        "Item { at: 0, body: Coded([Entry { at: 2, what: Bad }]), code: [80, 69], unended: true }\n"
+    );
+    Ok(())
+}
+
+#[test]
+fn coded_numbers(rt: HostRuntime) {
+    assert_eq!(rt; read_coded(b"G\xc2", 0, Base::SixtyFour), Some((100, 2)));
+    assert_eq!(rt; read_coded(b"Ge", 0, Base::ThirtyTwo), Some((100, 2)));
+    assert_eq!(rt; read_coded(b"PE\xc6", 2, Base::SixtyFour), Some((-3, 3)));
+    assert_eq!(rt; read_coded(b"?????\xbf", 0, Base::SixtyFour), Some((0, 6)));
+    assert_eq!(rt; read_coded(b"??????\xbf", 0, Base::SixtyFour), None);
+    assert_eq!(rt; read_coded(b"??????_", 0, Base::ThirtyTwo), Some((0, 7)));
+    assert_eq!(rt; read_coded(b"???????_", 0, Base::ThirtyTwo), None);
+    assert_eq!(rt; read_coded(b"_", 1, Base::ThirtyTwo), None);
+}
+
+#[test]
+fn items_are_small(rt: HostRuntime) {
+    assert_eq!(rt; std::mem::size_of::<hpgl_text::Item<'static>>(), 56);
+}
+
+#[test]
+fn longest_plots(rt: HostRuntime) -> Result<(), Fail> {
+    let mut plot = vec![in rt.alloc(); b';'; 67_108_864]?;
+    assert_eq!(rt; lex(rt.alloc(), plot.as_slice())?.items().len(), 0);
+    plot.push(b';')?;
+    assert!(rt; matches!(lex(rt.alloc(), plot.as_slice()), Err(TextFault::TooLong)));
+    Ok(())
+}

@@ -1,0 +1,7 @@
+//! Tests of the cut of plots, of numbers and of real plots, by public calls.
+#![tactic(auto)]
+
+#[cfg(test)]
+mod items;
+#[cfg(test)]
+mod real_plots;

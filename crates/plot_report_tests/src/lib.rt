@@ -1,0 +1,5 @@
+//! Tests of reports, by public calls.
+#![tactic(auto)]
+
+#[cfg(test)]
+mod reports;

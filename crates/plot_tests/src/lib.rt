@@ -1,0 +1,15 @@
+//! Tests of what plots are made of, by public calls: pages, frames, arcs, characters, labels and settings.
+#![tactic(auto)]
+
+#[cfg(test)]
+mod arcs;
+#[cfg(test)]
+mod font;
+#[cfg(test)]
+mod frames;
+#[cfg(test)]
+mod labels;
+#[cfg(test)]
+mod pages;
+#[cfg(test)]
+mod settings;

@@ -1,0 +1,55 @@
+// Pages and strokes by public calls.
+use plot_page::{Colour, Page, PageFault, Stroke, Window};
+
+const RED: Colour = Colour {
+    red: 255,
+    green: 0,
+    blue: 0,
+};
+
+const WINDOW: Window = Window {
+    x0: 0,
+    y0: 0,
+    x1: 1_048_576,
+    y1: 1_048_576,
+};
+
+// The size is judged before the corner.
+#[test]
+fn sizes_and_corners(rt: HostRuntime) {
+    assert!(rt; Page::new(64, 65_536, 0, 65_536).is_ok());
+    let cases = [
+        (63, 64, 0, 0, PageFault::Size),
+        (64, 65_537, 0, 0, PageFault::Size),
+        (64, 64, 65_537, 0, PageFault::Corner),
+        (64, 64, 0, 65_537, PageFault::Corner),
+        (63, 64, 65_537, 0, PageFault::Size),
+    ];
+    for (width, height, left, below, wanted) in cases {
+        let fault = Page::new(width, height, left, below).err();
+        assert_eq!(rt; fault, Some(wanted));
+    }
+}
+
+// A plot may have 4,194,304 strokes, so their size counts.
+#[test]
+fn strokes_of_40_bytes(rt: HostRuntime) {
+    let stroke = Stroke::new(255, RED, 12_800, WINDOW, 0, 0, 1_048_576, -1_048_576);
+    assert!(rt; stroke.is_some_and(|s| s.colour == RED));
+    assert_eq!(rt; size_of::<Stroke>(), 40);
+}
+
+#[test]
+fn ranges_of_strokes(rt: HostRuntime) {
+    let low = Window { x0: -1, ..WINDOW };
+    let high = Window {
+        y1: 1_048_577,
+        ..WINDOW
+    };
+    assert!(rt; Stroke::new(0, RED, 224, WINDOW, 0, 0, 1, 1).is_none());
+    assert!(rt; Stroke::new(1, RED, 12_801, WINDOW, 0, 0, 1, 1).is_none());
+    assert!(rt; Stroke::new(1, RED, 224, low, 0, 0, 1, 1).is_none());
+    assert!(rt; Stroke::new(1, RED, 224, high, 0, 0, 1, 1).is_none());
+    assert!(rt; Stroke::new(1, RED, 224, WINDOW, -1_048_577, 0, 1, 1).is_none());
+    assert!(rt; Stroke::new(1, RED, 224, WINDOW, 0, 0, 1, 1_048_577).is_none());
+}

@@ -1,0 +1,200 @@
+// What numbers set and ask for, by their text.
+use hpgl_text::{Body, Instruction, Items, Number, instruction_of_code};
+use label_layout::Offset;
+use plot_frame::Points;
+use plot_settings::{
+    Circle, FIRST_WIDTH, Rotation, Setting, default_colour, default_colours, does_plot,
+    has_wrong_numbers, is_off_axis, named_arc, named_circle, named_colour, named_direction,
+    named_pen, named_points, named_rotation, named_scaling, named_size, named_width, named_window,
+    points_moved_to, turned_offset, width_of_all,
+};
+use std::alloc::Global;
+use std::test::Fail;
+
+// What an instruction with these numbers sets.
+fn set_by(instruction: Instruction, numbers: &[Number]) -> Option<Setting> {
+    match instruction {
+        Instruction::SelectPen => named_pen(numbers),
+        Instruction::PenWidth => named_width(numbers),
+        Instruction::PenColour => named_colour(numbers),
+        Instruction::Rotate => named_rotation(numbers),
+        Instruction::InputPoints => named_points(numbers),
+        Instruction::InputWindow => named_window(numbers),
+        Instruction::Scale => named_scaling(numbers),
+        Instruction::CharacterSize => named_size(numbers),
+        Instruction::Direction => named_direction(numbers),
+        _ => None,
+    }
+}
+
+// The circle that an instruction with these numbers asks for.
+fn circle_by(instruction: Instruction, numbers: &[Number]) -> Option<Circle> {
+    match instruction {
+        Instruction::Circle => named_circle(numbers),
+        _ => None,
+    }
+}
+
+// What each instruction of a text sets or asks for, a line each, and what is wrong.
+fn settings_of(alloc: Global, text: &[u8]) -> Result<String, Fail> {
+    let mut lines = String::new(alloc);
+    for item in Items::new(text) {
+        let Body::Params(numbers) = &item.body else {
+            continue;
+        };
+        let Some(instruction) = instruction_of_code(item.code) else {
+            continue;
+        };
+        let (list, count) = numbers.leading();
+        let first = &list[..count];
+        let line = if has_wrong_numbers(instruction, numbers) {
+            format!(in alloc; "wrong\n")?
+        } else if let Some(setting) = set_by(instruction, first) {
+            format!(in alloc; "{setting:?}\n")?
+        } else if let Some(circle) = circle_by(instruction, first) {
+            format!(in alloc; "{circle:?}\n")?
+        } else {
+            format!(in alloc; "moves {}\n", does_plot(instruction))?
+        };
+        lines.push_str(line.as_str())?;
+        if is_off_axis(instruction, numbers) {
+            lines.push_str("off axis\n")?;
+        }
+    }
+    Ok(lines)
+}
+
+#[test]
+fn settings(rt: HostRuntime) -> Result<(), Fail> {
+    let plots = [
+        (
+            b"SP;SP254.5;SP255.5".as_slice(),
+            "Pen(0)\nPen(255)\nwrong\n",
+        ),
+        (
+            b"PW;PW20;PW0.4,2;PW20.000001;PW1,256".as_slice(),
+            "WidthOfAll(224)\nWidthOfAll(12800)\nWidth(2, 256)\nwrong\nwrong\n",
+        ),
+        (
+            b"PC;PC2;PC9,1,2,255,4;PC1,2;PC1,2,3,256".as_slice(),
+            "DefaultColours\n\
+PenColour(2, Colour { red: 255, green: 0, blue: 0 })\n\
+PenColour(9, Colour { red: 1, green: 2, blue: 255 })\n\
+wrong\nwrong\n",
+        ),
+        (
+            b"RO;RO90;RO180;RO269.5;RO45".as_slice(),
+            "Rotate(None)\nRotate(Quarter)\nRotate(Half)\nRotate(ThreeQuarters)\nwrong\n",
+        ),
+        (
+            b"IP;IP1,2;IP1,2,1,5;IP1".as_slice(),
+            "PageCorners\nFirstPoint(1, 2)\n\
+BothPoints(Points { x1: 1, y1: 2, x2: 2, y2: 5 })\n\
+wrong\n",
+        ),
+        (
+            b"IW;IW1,2,3,4.5;IW1,2".as_slice(),
+            "PageWindow\n\
+CornerWindow(Corners { ax: 1000000, ay: 2000000, bx: 3000000, by: 4500000 })\n\
+wrong\n",
+        ),
+        (
+            b"SI;SI1,-40;SI1,0;SI1".as_slice(),
+            "Size(CharacterSize { width: 1216, height: 1728 })\n\
+Size(CharacterSize { width: 6400, height: -256000 })\n\
+wrong\nwrong\n",
+        ),
+        (
+            b"DI;DI0,1;DI-2,1;DI-1,-2;DI0,0".as_slice(),
+            "Direction(None)\nDirection(Quarter)\n\
+Direction(Half)\noff axis\n\
+Direction(ThreeQuarters)\noff axis\n\
+wrong\n",
+        ),
+    ];
+    for (plot, wanted) in plots {
+        assert_eq!(rt; settings_of(rt.alloc(), plot)?.as_str(), wanted);
+    }
+    Ok(())
+}
+
+#[test]
+fn scalings(rt: HostRuntime) -> Result<(), Fail> {
+    let wanted = "Scale(Off)\n\
+Scale(Anisotropic(Ranges { xmin: 0, xmax: 1000000, ymin: 0, ymax: 2000000 }))\n\
+Scale(Isotropic(Fitting { ranges: Ranges { xmin: 0, xmax: 1000000, ymin: 0, ymax: 2000000 }, left: 25000000, bottom: 50000000 }))\n\
+Scale(PointFactor(Factors { xmin: 0, xfactor: 1000000, ymin: 0, yfactor: 2000000 }))\n\
+wrong\nwrong\nwrong\nwrong\n";
+    let plot =
+        b"SC;SC0,1,0,2;SC0,1,0,2,1,25;SC0,1,0,2,2;SC1,1,0,2;SC0,1,0,0,2;SC0,1,0,2,3;SC0,1,0,2,1,101";
+    assert_eq!(rt; settings_of(rt.alloc(), plot)?.as_str(), wanted);
+    Ok(())
+}
+
+#[test]
+fn figures(rt: HostRuntime) -> Result<(), Fail> {
+    let wanted = "Circle { radius: 16000000, chord: 5000 }\n\
+Circle { radius: -1500000, chord: 180000 }\n\
+wrong\nwrong\nmoves true\nwrong\nmoves false\nwrong\n";
+    let plot = b"CI16;CI-1.5,180,3;CI1,0.4994;CI;PU1,2;PD1;EA1,2;ER1";
+    assert_eq!(rt; settings_of(rt.alloc(), plot)?.as_str(), wanted);
+    Ok(())
+}
+
+#[test]
+fn arcs(rt: HostRuntime) -> Result<(), Fail> {
+    let mut found = String::new(rt.alloc());
+    for item in Items::new(b"AA1,2,-90.0006;AR1,2,360,0.5;AR1,2,360.0005") {
+        if let Body::Params(numbers) = &item.body {
+            let (list, count) = numbers.leading();
+            let arc = named_arc(&list[..count]);
+            found.push_str(format!(in rt.alloc(); "{arc:?}\n")?.as_str())?;
+        }
+    }
+    let wanted = "Some(Arc { x: 1000000, y: 2000000, sweep: -90001, chord: 5000 })\n\
+Some(Arc { x: 1000000, y: 2000000, sweep: 360000, chord: 500 })\n\
+None\n";
+    assert_eq!(rt; found.as_str(), wanted);
+    Ok(())
+}
+
+#[test]
+fn moved_points(rt: HostRuntime) -> Result<(), Fail> {
+    let points = Points {
+        x1: 1,
+        y1: 2,
+        x2: 11,
+        y2: 7,
+    };
+    let moved = points_moved_to(points, 100, -3);
+    assert_eq!(rt; (moved.x1, moved.y1, moved.x2, moved.y2), (100, -3, 110, 2));
+    Ok(())
+}
+
+#[test]
+fn turned_offsets(rt: HostRuntime) -> Result<(), Fail> {
+    let offset = Offset { x: 12, y: 5 };
+    let turns = [
+        (Rotation::None, Offset { x: 12, y: 5 }),
+        (Rotation::Quarter, Offset { x: -5, y: 12 }),
+        (Rotation::Half, Offset { x: -12, y: -5 }),
+        (Rotation::ThreeQuarters, Offset { x: 5, y: -12 }),
+    ];
+    for (rotation, wanted) in turns {
+        assert_eq!(rt; turned_offset(rotation, offset), wanted);
+    }
+    Ok(())
+}
+
+#[test]
+fn all_pens(rt: HostRuntime) -> Result<(), Fail> {
+    let widths = width_of_all(FIRST_WIDTH);
+    assert_eq!(rt; (widths[0], widths[255]), (224, 224));
+    let colours = default_colours();
+    for (pen, colour) in colours.iter().enumerate() {
+        assert_eq!(rt; *colour, default_colour(pen as u8));
+    }
+    let yellow = default_colour(4);
+    assert_eq!(rt; (yellow.red, yellow.green, yellow.blue), (255, 255, 0));
+    Ok(())
+}

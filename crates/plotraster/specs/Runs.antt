@@ -1,0 +1,25 @@
+-- What a task does, and the status that a run of it ends with.
+use Rattle.std.specs.Prelude.{◌≡◌, ℕ, Bool, true, Result, Ok, Err}
+use Rattle.command_line.specs.declared.line.Task.{Task}
+use Rattle.command_line.specs.declared.line.Task.TheVariants.{Picture, Report}
+use Rattle.conversion.specs.Conversions.{HasConverted, SinkState, exact, has_resolution}
+use Rattle.conversion.specs.Faults.{status_of}
+use Rattle.conversion.specs.Reports.{HasReported}
+use Rattle.conversion.specs.Sources.{SourceState}
+use Rattle.conversion.specs.declared.done.Done.{Done}
+use Rattle.conversion.specs.declared.fault.Fault.{Fault}
+
+-- a picture is converted by the exact gauge, after no tests; a report is written
+abbrev pub HasRun : Task → SourceState → SourceState → SinkState → SinkState → Result Done Fault → Type 0
+HasRun (Picture job) before after sink sink' answer = (tests : ℕ) × HasConverted job exact before after sink sink' 0 tests answer
+HasRun (Report page) before after sink sink' answer = HasReported page before after sink sink' answer
+
+-- the form of a picture has its resolution; a report needs none
+abbrev pub task_has_resolution : Task → Bool
+task_has_resolution (Picture job) = has_resolution job
+task_has_resolution (Report page) = true
+
+-- 0 if all was written, else the status of the fault
+abbrev pub exit_status_of : Result Done Fault → ℕ
+exit_status_of (Ok _) = 0
+exit_status_of (Err fault) = status_of fault
