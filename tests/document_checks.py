@@ -6,18 +6,18 @@ import re
 import subprocess
 import sys
 
-from recipe_checks import A4, PNG, SECONDS, Check, ink, netpbm, pixels, plan, read_bitmap
+from recipe_checks import A4, PNG, SECONDS, Check, netpbm, plan
+from shared import TOP, ink, pixels, read_bitmap
 
-TOP = os.path.dirname(os.path.dirname(os.path.abspath(__file__)))
-
-# Commands that stand in documents and are not run by tests/recipes, each with the reason.
+# Commands that stand in documents and are not run by tests/test_documents.py, each with the reason.
 NOT_RUN = {
-    r"make( (demo|check|fuzz|install|dist)\b.*)?": "takes minutes, or installs; make check runs the tests",
+    r"make( (first|demo|test|prove|mutants|audit|check|fuzz|install|dist|clean)\b.*)?": "takes minutes, or installs",
     r"rt( .*)?": "the toolchain: make check runs it",
+    r"tests/(fuzz|campaign)( .*)?": "takes minutes; a maintainer runs it",
     r"bench/\S+( .*)?": "measurements, which take minutes and need other programs",
-    r"tools/mutants( .*)?": "takes minutes; make check runs it",
-    r"sudo apt install \./build/\S+": "changes the machine; tests/dist unpacks the package",
-    r"tar xzf build/\S+ --strip-components=1 -C \S+": "tests/dist runs it",
+    r"tools/(mutants|audit|setup)( .*)?": "takes minutes; make check runs it, or a maintainer does",
+    r"sudo apt install \./build/\S+": "changes the machine; tests/test_packages.py unpacks the package",
+    r"tar xzf build/\S+ --strip-components=1 -C \S+": "tests/test_packages.py runs it",
     r"trap '' XFSZ": "a case of tests/cases ignores the signal",
     r"plotraster report": "a name, as in `plotraster report plan.plt`",
 }
@@ -48,7 +48,7 @@ def commands_in_sentences(path, text):
             yield command
 
 
-FOLDERS = ("bench", "completions", "crates", "docs", "examples", "man", "packaging", "tests", "tools")
+FOLDERS = ("bench", "completions", "crates", "docs", "examples", "man", "mutants", "packaging", "tests", "tools")
 
 
 def missing_files(path):
@@ -109,17 +109,11 @@ def stored(made):
     with open(os.path.join(TOP, "docs", "GALLERY.md"), encoding="utf-8") as text:
         if f"]({name})" not in text.read():
             yield f"{name} is not shown"
-    script = os.path.join(TOP, "tools", f"draw_{plot}.py")
+    script = os.path.join(TOP, "examples", f"{plot}.py")
     if os.path.exists(script):
         written = subprocess.run([sys.executable, script], stdout=subprocess.PIPE, check=True, timeout=SECONDS).stdout
         if written != made.read(f"examples/{plot}.plt"):
-            yield f"tools/draw_{plot}.py writes another plot"
-
-
-def rose(made):
-    """The picture at the top of the README."""
-    yield from pictures(made)
-    yield from another_picture(made, "rose.png")
+            yield f"examples/{plot}.py writes another plot"
 
 
 def centred(made):
@@ -140,17 +134,22 @@ def eight_marks(made):
         yield f"printed {made.output!r}"
 
 
+def box_of_pen_2(made):
+    if not made.output.startswith("pen 2 strokes 1 widest 224 box 0 0 1600 3200"):
+        yield f"printed {made.output!r}"
+
+
 SCALED = (*PNG, "pamscale")
 GALLERY = {
     heading: [Check(stored, (*SCALED, "pnmquant"))]
-    for heading in ("A part drawing", "A map", "A chart by gnuplot", "Text in four directions", "Isotropic scaling",
-                    "Windows", "Wide pens", "Encoded polylines", "Colours of the plot's own")
+    for heading in ("Lines in six colours", "A part drawing", "A map", "A chart by gnuplot", "Text in four directions",
+                    "Isotropic scaling", "Windows", "Wide pens", "Encoded polylines", "Colours set by the plot")
 }
 GALLERY["A detail at 1200 dots per inch"] = [Check(stored, (*PNG, "pamcut"))]
 DOCUMENT_CHECKS = {
     "docs/GALLERY.md": GALLERY,
     "README.md": {
-        "plotraster": [Check(pictures, PNG), Check(rose, (*SCALED, "pnmquant"))],
+        "plotraster": [Check(pictures, PNG)],
         "Use": [Check(pictures, (*SCALED, "pamfile", "pnmtops"))],
     },
     "man/plotraster.1": {

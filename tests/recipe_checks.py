@@ -1,9 +1,7 @@
-"""What the recipes must have made: sample plots, readers of pictures, and CHECKS of docs/RECIPES.md for tests/recipes."""
+"""What the recipes must have made: sample plots, readers of pictures, and CHECKS of docs/RECIPES.md for tests/test_documents.py."""
 
 import collections
 import functools
-import importlib.machinery
-import importlib.util
 import os
 import re
 import resource
@@ -11,25 +9,11 @@ import signal
 import struct
 import subprocess
 
-HERE = os.path.dirname(os.path.abspath(__file__))
+from shared import ink, pixels, read_bitmap, write
+from test_printer import bitmap_of
+
 SECONDS = 300
 A4, A4_PORTRAIT, A0 = (11880, 8400), (8400, 11880), (47560, 33640)
-
-
-def load(name):
-    """A script of tests/ that has no suffix, as a module."""
-    loader = importlib.machinery.SourceFileLoader(name, os.path.join(HERE, name))
-    module = importlib.util.module_from_spec(importlib.util.spec_from_loader(name, loader))
-    loader.exec_module(module)
-    return module
-
-
-def write(path, data, mode=0o644):
-    """Makes a file, and the folders that it is in."""
-    os.makedirs(os.path.dirname(path), exist_ok=True)
-    with open(path, "wb") as file:
-        file.write(data)
-    os.chmod(path, mode)
 
 
 # Sample plots.
@@ -67,38 +51,12 @@ def samples():
 
 # Pictures.
 
-# A line of a bitmap is a number: its bits are the pixels, the leftmost is the highest.
-Bitmap = collections.namedtuple("Bitmap", "columns rows lines")
-
-
-def read_bitmap(data):
-    """The bitmap of a raw PBM."""
-    magic, size, bits = data.split(b"\n", 2)
-    columns, rows = map(int, size.split())
-    wide = (columns + 7) // 8
-    if magic != b"P4" or len(bits) != rows * wide:
-        raise ValueError(f"no bitmap: {magic!r}, {columns} by {rows}, {len(bits)} bytes")
-    spare = 8 * wide - columns
-    return Bitmap(columns, rows, [int.from_bytes(bits[at:at + wide], "big") >> spare
-                                  for at in range(0, len(bits), wide)])
-
-
-def ink(bitmap):
-    """How many pixels are black."""
-    return sum(bin(line).count("1") for line in bitmap.lines)
-
-
 def margins(bitmap):
     """How many rows and columns are white on the left, at the bottom, on the right and at the top."""
     inked = [row for row, line in enumerate(bitmap.lines) if line]
     every = functools.reduce(int.__or__, bitmap.lines)
     trailing = (every & -every).bit_length() - 1
     return bitmap.columns - every.bit_length(), bitmap.rows - 1 - inked[-1], trailing, inked[0]
-
-
-def pixels(units, dots):
-    """How many pixels a side of the page has."""
-    return (units * dots + 508) // 1016
 
 
 class Made:
@@ -233,7 +191,7 @@ def pcl(made):
     if [words for words, _ in made.printed] != ["lp -o raw"] * 2:
         yield f"printed by {[words for words, _ in made.printed]}"
     (_, upright), (_, turned) = made.printed
-    columns, rows, data = load("printer").bitmap_of(upright)
+    columns, rows, data = bitmap_of(upright)
     wanted = made.run("pbm", "--width", "8400", "--height", "11880", "--dots", "300", "portrait.plt")
     if b"P4\n%d %d\n" % (columns, rows) + data != wanted or columns != pixels(8400, 300):
         yield "another bitmap in portrait"
@@ -260,8 +218,8 @@ def fitted(made, plot):
     width, height, left, below = map(int, words[1::2])
     larger = ["--width", str(width + 2 * more), "--height", str(height + 2 * more),
               "--left", str(left + more), "--below", str(below + more)]
-    page = read_bitmap(made.run("pbm", *words, "--dots", "1016", plot))
-    around = read_bitmap(made.run("pbm", *larger, "--dots", "1016", plot))
+    page = read_bitmap(made.run("pbm", *words, "--dots", "1016", "--", plot))
+    around = read_bitmap(made.run("pbm", *larger, "--dots", "1016", "--", plot))
     if min(margins(around)) <= more or ink(page) != ink(around):
         yield f"{plot}: {ink(page)} pixels of {ink(around)} are on the page"
     free = [left == 0, below == 0, False, False]
@@ -275,8 +233,12 @@ FITTED = {
     "left.plt": b"PW20;PU-5000,-3000;PD-4000,-2000;",
     "right.plt": b"PU3000,2000;CI100;",
     "dot.plt": b"PW0.1;PD;",
+    "-x.plt": b"PW1;PD100,100;",
     "scaled.plt": b"IP-1000,-1000,1000,1000;SC0,1,0,1;SP2;PA.5,.5;CI.5;",
 }
+# A plot with half a unit at each side, and its page: half units count as whole ones.
+HALVES = b"PW0;PU-10.5,-20.5;PD30.5,40.5;"
+PAGE_OF_HALVES = "--width 122 --height 142 --left 51 --below 61".split()
 # Plots that have no such page, and the status of examples/fit.
 NOT_FITTED = {
     "scale.plt": (b"SC0,9,0,9;PD5,5;", 1),
@@ -299,6 +261,9 @@ def fitted_page(made):
     for name, plot in FITTED.items():
         write(made.path(name), plot)
         yield from fitted(made, name)
+    write(made.path("halves.plt"), HALVES)
+    if fit(made, "halves.plt")[0] != PAGE_OF_HALVES:
+        yield f"halves.plt: {fit(made, 'halves.plt')}"
     for name, (plot, status) in NOT_FITTED.items():
         write(made.path(name), plot)
         given = fit(made, name)
@@ -478,7 +443,7 @@ CHECKS = {
                                 Check(archive_by_parallel, ("parallel",), ARCHIVE)],
         "A large page in parts": [Check(parts, (), {"plan.plt": plan(*A0)})],
         "A picture for each pen": [Check(pens)],
-        "Go on after a failed write": [Check(continued, (), {}, failed_write)],
+        "Resume after a failed write": [Check(continued, (), {}, failed_write)],
         "An empty picture": [Check(causes)],
         "Page sizes": [Check(sizes)],
     },

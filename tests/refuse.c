@@ -1,7 +1,7 @@
 /* A machine that refuses once. Preloaded before the program, it lets one call fail: the read of
    standard input whose number is READ_FAILS, the write to standard output whose number is
    WRITE_FAILS, or the allocation whose number is MEMORY_FAILS, each counted from 1. All other calls
-   go through. tests/run builds it. */
+   go through. tests/conftest.py has it built. */
 #define _GNU_SOURCE
 #include <dlfcn.h>
 #include <errno.h>

@@ -10,7 +10,7 @@ from typing import NamedTuple
 from . import lettering
 from .cutting import MILLION, items, rounded
 from .geometry import (
-    UNSCALED, Page, anisotropic, chord_ends, isotropic, nearest, on_the_page, on_the_rotated_page, point_factor, turned,
+    UNSCALED, anisotropic, chord_ends, isotropic, nearest, on_the_page, on_the_rotated_page, point_factor, turned,
     whole_page, window_of,
 )
 

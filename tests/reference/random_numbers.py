@@ -81,7 +81,10 @@ class Numbers:
             return text
         if "." in text:
             return text.replace("0.", ".", 1) if self.chance(50) else text.ljust(12, "0") + self.pick("", "9")
-        return self.pick("+" + text if number >= 0 else text, text + ".", text + ".0", text.replace("-", "-00"))
+        sign, digits = ("-", text[1:]) if number < 0 else (self.pick("", "+"), text)
+        if self.is_wild and self.chance(5):
+            sign += self.pick("+", "-")
+        return sign + self.pick("", "00", "0" * 9) + digits + self.pick("", ".", ".0", ".0000009")
 
     def numbers(self, numbers):
         """The numbers of an instruction as text, sometimes too few, too many or not well written."""

@@ -19,8 +19,8 @@ WIDTHS_OF_LINES = (0, 0, 1, 100_000, 350_000, 400_000, 1_000_000, 3_000_000, 20_
 DIRECTIONS = ((1, 0, 1), (0, 1, 1), (3, 4, 5), (4, 3, 5), (5, 12, 13), (8, 15, 17), (4, -3, 5), (12, -5, 13))
 BETWEEN = (
     b";", b" ", b"\r\n", b"\t", b";;", b"\x1b%-1B", b"\x1b%0A", b"\x1b%b", b"\x1b.(", b"\x1b.I80;;17:", b"\x1b.;;",
-    b"\x1bE", b"\x1be", b"\x1b", b"\x1b%-", b"\x1b.", b"@PJL SET\n", b"@PJL", b"@A\rPD;\n", b"!", b",", b"5", b"\xff",
-    b"\0", b"A1",
+    b"\x1bE", b"\x1be", b"\x1b", b"\x1b%-", b"\x1b%-12345X", b"\x1b%+1A", b"\x1b.", b"@PJL SET\n", b"@PJL",
+    b"@A\rPD;\n", b"!", b",", b"5", b"\xff", b"\0", b"\x0b", b"\x0c", b"A1",
 )
 SKIPPED = (
     b"ZZ1,2;", b'CO"a;b";', b'CO"PD5;', b'CO"a"b;', b"SM*;", b'SM";', b"SM;", b"SMP;", b"SM", b"BLabc\x03", b"BL",
@@ -31,7 +31,7 @@ ENDS = (
     b"DT", b"DT$", b"LB", b"LBa", b"SM", b"BL", b"PE", b"PE:", b"PE>!", b"PE<?", b"PE\xc1 ", b"PE\xc1!\xc1", b"PE??????",
     b"PE7???????", b"PE7??????", b"\x1b", b"\x1b%", b"\x1b%-1", b"\x1b.", b"@", b'CO"', b"P", b"PD1", b"PD1,2,-", b"PU.",
 )
-CONTROLS = b"\r\r\n\n\x08\0\x1b\x7f\x80\xff\x0e"
+CONTROLS = b"\r" * 8 + b"\n" * 8 + bytes(range(32)) + b"\x7f\x80\xff"
 LETTERS = b"PUDASCIRWELBTO0123456789,;.-:<=\""
 # What a plot is about: its instructions come from one of these lists. Words in small letters are pieces of
 # other kinds.
@@ -214,11 +214,15 @@ class Writer(Numbers):
         if self.chance(35):
             return self.plotter_units()
         corner = self.plotter_units()
-        return corner + ([corner[0], self.plotter_units()[1]] if self.chance(15) else self.plotter_units())
+        other = self.plotter_units()
+        if self.chance(25):
+            # P2 on a level with P1, or above it, or both.
+            other = [self.pick(corner[0], other[0]), self.pick(corner[1], other[1])]
+        return corner + other
 
     def plotter_units(self):
         x, y = self.upto(self.width), self.upto(self.height)
-        return [MILLION * x + self.pick(0, 0, 0, 500_000, 499_999), MILLION * y]
+        return [MILLION * x + self.pick(0, 0, 0, 500_000, 499_999), self.pick(MILLION * y, MILLION * y, -500_000, -1_500_000)]
 
     def of_SC(self):
         if self.chance(15):
@@ -238,8 +242,13 @@ class Writer(Numbers):
         if kind or self.chance(30):
             numbers.append(kind * MILLION if self.chance(95) else self.pick(-1, 3, 500_000, 1_499_999, -500_000, -500_001))
             if self.chance(50):
-                numbers += [self.pick(0, 100, 50, 33, 101, -1, 7) * MILLION for _ in range(self.pick(1, 2, 2))]
+                numbers += [self.percent() for _ in range(self.pick(1, 2, 2))]
         return numbers
+
+    def percent(self):
+        if self.is_wild and self.chance(30):
+            return self.pick(100_400_000, 100_000_001, -400_000, -1, 101 * MILLION, -MILLION)
+        return self.pick(0, 100, 50, 33, 7) * MILLION
 
     def span(self):
         """The coordinates of two corners on an axis."""
@@ -260,7 +269,7 @@ class Writer(Numbers):
         if self.chance(10):
             return []
         if self.is_wild and self.chance(15):
-            return [self.pick(0, 90, 270, 45, 360, -90) * MILLION + self.pick(0, 499_999, -500_000, 500_000)]
+            return [self.pick(0, 90, 270, 45, 360, -90, -180) * MILLION + self.pick(0, 499_999, -500_000, 500_000)]
         return [self.pick(0, 90, 90, 180, 270, 270) * MILLION]
 
     def of_IW(self):
@@ -346,7 +355,7 @@ class Writer(Numbers):
         return [run * self.pick(1, MILLION), rise * MILLION]
 
     def new_terminator(self):
-        byte = self.pick(b"$", b"$", b"\x03", b"A", b'"', b"5", b";", b" ")
+        byte = self.pick(b"$", b"$", b"\x03", b"A", b'"', b"5", b";", b" ", b"\r", b"\t")
         if self.is_wild and self.chance(30):
             byte = self.pick(b"\0", b"\n", b"\x1b", b"")
         elif self.chance(70):
@@ -371,7 +380,7 @@ class Writer(Numbers):
             if kind < 12:
                 base, text = 32, text + b"7"
             elif kind < 22:
-                fraction = self.pick(0, 1, 4, 5, 10, 26, 27, -1)
+                fraction = self.pick(0, 1, 4, 5, 7, 10, 26, 27, -1)
                 text += b">" + self.stray() + coded(fraction, base)
                 fraction = min(26, max(0, fraction))
             elif kind < 32:
@@ -385,6 +394,12 @@ class Writer(Numbers):
         """Two numbers: a place or a step."""
         numbers = self.pick(self.place, self.step, self.step)()
         whole = [min(2**33, max(-(2**33), number * 2**fraction // MILLION)) for number in numbers]
+        if self.chance(15):
+            # With 7 bits after the point these are ties between millionths, on both sides of 0.
+            whole = [self.pick(-1, 1, -3, 3) for _ in whole]
+        if base == 64 and self.chance(3):
+            # The code 1 is 0 too.
+            return b"\xc0" + self.stray() + coded(whole[1], base)
         length = self.pick(3, 5, 6, 7, 8) if self.is_wild and self.chance(20) else 1
         return coded(whole[0], base, length) + self.stray() + coded(whole[1], base)
 

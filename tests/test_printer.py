@@ -1,25 +1,23 @@
-#!/usr/bin/env python3
 """Is what `plotraster pcl` writes the picture that `plotraster pbm` writes?
-
-    tests/printer PROGRAM
 
 Two readers give back the bitmap of a file in PCL. One is below: it knows the commands of PCL 5 raster
 graphics, by the PCL 5 Printer Language Technical Reference Manual, and refuses all others. The other is
 Netpbm's thinkjettopbm, which reads the raster graphics of an older printer. That printer has neither a
 compression method nor the 0 of "start raster graphics"; these are taken out of the file for it, and
-its rows are whole bytes. Without Netpbm only the first reader is asked.
+its rows are whole bytes.
 """
 
 import os
 import re
-import shutil
 import subprocess
-import sys
 import tempfile
+
+import pytest
+
+from shared import EXAMPLES, assert_nothing, need, read_bytes, read_pbm
 
 COMMAND = re.compile(rb"\x1b(?:(E)|\*([trb])([0-9]*)([A-Z]))")
 RESOLUTIONS = (75, 100, 150, 200, 300, 600)
-EXAMPLES = os.path.join(os.path.dirname(os.path.dirname(os.path.abspath(__file__))), "examples")
 LINES = b"SP1;PW1;PU0,28;PD700,28;SP2;PW0.1;PU3,3;PD501,402;PU20,300;PD20,300;"
 
 
@@ -65,10 +63,9 @@ def bitmap_by_thinkjettopbm(pcl, columns):
         file.write(older)
         file.flush()
         read = subprocess.run(["thinkjettopbm", file.name], capture_output=True, check=True).stdout
-    magic, size, data = read.split(b"\n", 2)
-    wide, rows = map(int, size.split())
-    if magic != b"P4" or wide != 8 * ((columns + 7) // 8):
-        raise ValueError(f"thinkjettopbm writes {magic!r} of {wide} columns")
+    wide, rows, data = read_pbm(read)
+    if wide != 8 * ((columns + 7) // 8):
+        raise ValueError(f"thinkjettopbm writes {wide} columns")
     return columns, rows, data
 
 
@@ -77,17 +74,14 @@ def run(program, form, page, plot):
     return subprocess.run(words, input=plot, capture_output=True, check=True, timeout=60).stdout
 
 
-def differences(program, page, plot, by_netpbm):
+def differences(program, page, plot):
     """What is wrong with the picture of a plot on a page, a line each."""
-    magic, size, data = run(program, "pbm", page, plot).split(b"\n", 2)
-    columns, rows = map(int, size.split())
-    wanted = (columns, rows, data)
+    wanted = read_pbm(run(program, "pbm", page, plot))
     pcl = run(program, "pcl", page, plot)
     try:
         if bitmap_of(pcl) != wanted:
             yield f"{' '.join(page)}: another bitmap"
-        # Netpbm's reader does not write a picture without rows.
-        if by_netpbm and bitmap_by_thinkjettopbm(pcl, columns) != wanted:
+        if bitmap_by_thinkjettopbm(pcl, wanted[0]) != wanted:
             yield f"{' '.join(page)}: another bitmap by thinkjettopbm"
     except (ValueError, subprocess.CalledProcessError) as wrong:
         yield f"{' '.join(page)}: {wrong}"
@@ -102,23 +96,13 @@ def pages():
     yield ["--dots", "150"]
 
 
-def main():
-    if len(sys.argv) != 2:
-        sys.exit(__doc__)
-    program = os.path.abspath(sys.argv[1])
-    by_netpbm = shutil.which("thinkjettopbm") is not None
-    rose = open(os.path.join(EXAMPLES, "rose.plt"), "rb").read()
-    passed, failed = 0, 0
-    for page in pages():
-        for plot in (b"", LINES, rose):
-            wrong = list(differences(program, page, plot, by_netpbm))
-            passed, failed = (passed, failed + 1) if wrong else (passed + 1, failed)
-            for line in wrong:
-                print("FAILED", line)
-    readers = "two readers" if by_netpbm else "one reader; there is no thinkjettopbm"
-    print(f"pictures in PCL: {passed} passed, {failed} failed, by {readers}")
-    sys.exit(1 if failed else 0)
+@pytest.mark.parametrize("page", pages(), ids=" ".join)
+def test_same_bitmap(page, program, pytestconfig):
+    need(pytestconfig, "thinkjettopbm")
+    rose = read_bytes(os.path.join(EXAMPLES, "rose.plt"))
+    for plot in (b"", LINES, rose):
+        assert_nothing(differences(program, page, plot))
 
 
-if __name__ == "__main__":
-    main()
+def test_number_of_pages():
+    assert len(list(pages())) == 49

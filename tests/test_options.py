@@ -1,27 +1,25 @@
-#!/usr/bin/env python3
 """Compares what the program, its manual page and its completion say of commands and options.
-
-    tests/options PROGRAM
 
 The program says it by `--help`, the page man/plotraster.1 in its sections COMMANDS and OPTIONS, and
 completions/plotraster.bash by what it completes. Each must name the same commands and, for each
 command, the same options, in the same order. The page and the program must give an option the same
 name of its value, the same range and the same default, and the program must take the ends of each
-range and nothing beyond them. Every difference is printed.
+range and nothing beyond them.
 """
 
 import os
 import re
 import subprocess
-import sys
 
-TOP = os.path.dirname(os.path.dirname(os.path.abspath(__file__)))
+from shared import TOP, assert_nothing, run
+
 PAGE = os.path.join(TOP, "man", "plotraster.1")
 COMPLETION = os.path.join(TOP, "completions", "plotraster.bash")
 SECONDS = 10
 HELP = "--help"
 VERSION = "--version"
 EVERY_COMMAND = "All commands"
+PICTURES = ("marks", "pbm", "ppm", "pcl")
 
 
 def range_in(text):
@@ -36,12 +34,8 @@ def range_in(text):
 
 def help_of(program, words):
     """The lines of the help that the program prints."""
-    done = subprocess.run(
-        ["plotraster", *words, HELP], executable=program, stdin=subprocess.DEVNULL,
-        capture_output=True, text=True, timeout=SECONDS,
-    )
-    if done.returncode != 0 or done.stderr:
-        sys.exit(f"{' '.join(words)} {HELP}: status {done.returncode}: {done.stderr}")
+    done = run(program, [*words, HELP], SECONDS, text=True)
+    assert (done.returncode, done.stderr) == (0, ""), f"{' '.join(words)} {HELP}"
     return done.stdout.splitlines()
 
 
@@ -60,8 +54,7 @@ def options_in_help(program, command):
         if name is None or name[1] == HELP:
             continue
         says = re.fullmatch(r" +--[a-z]+ <([A-Z]+)> +(.*) \[default: (.*)\]", line)
-        if says is None:
-            sys.exit(f"{command} {HELP}: no value or no default: {line}")
+        assert says is not None, f"{command} {HELP}: no value or no default: {line}"
         found[name[1]] = (says[1], range_in(says[2]), says[3])
     return found
 
@@ -78,10 +71,7 @@ def ends(values):
 def takes(program, command, option):
     """Whether the program takes an option, written with its value, on a small page and an empty plot."""
     small = [it for it in ["--width=64", "--height=64"] if it.split("=")[0] != option.split("=")[0]]
-    done = subprocess.run(
-        ["plotraster", command, *small, option], executable=program, stdin=subprocess.DEVNULL,
-        stdout=subprocess.DEVNULL, stderr=subprocess.PIPE, timeout=SECONDS,
-    )
+    done = run(program, [command, *small, option], SECONDS)
     return not done.stderr.startswith((b"error: ", b"plotraster: resolution is not"))
 
 
@@ -151,15 +141,14 @@ def options_in_page(command, commands):
 # ---- what the completion says
 
 
-def completed(*words):
+def completed(*words, folder=None):
     """What the completion offers for the last of these words."""
     script = 'source "$0"; COMP_WORDS=("$@"); COMP_CWORD=$(($# - 1)); _plotraster; printf "%s\\n" "${COMPREPLY[@]}"'
     done = subprocess.run(
         ["bash", "-c", script, COMPLETION, "plotraster", *words],
-        stdin=subprocess.DEVNULL, capture_output=True, text=True, timeout=SECONDS,
+        stdin=subprocess.DEVNULL, capture_output=True, text=True, timeout=SECONDS, cwd=folder,
     )
-    if done.returncode != 0 or done.stderr:
-        sys.exit(f"{COMPLETION}: status {done.returncode}: {done.stderr}")
+    assert (done.returncode, done.stderr) == (0, ""), COMPLETION
     return done.stdout.split()
 
 
@@ -203,25 +192,66 @@ def wrong_values(command, options):
             yield from differ(f"{command} {name}", "the program", wanted, "the completion", offered)
 
 
-def differences(program):
+def test_commands(program):
     commands = commands_in_help(program)
-    yield from wrong_commands(program, commands)
+    assert len(commands) == 5
+    assert_nothing(wrong_commands(program, commands))
+
+
+def test_options(program):
+    commands = commands_in_help(program)
     for command in commands:
         options = options_in_help(program, command)
-        yield from wrong_ranges(program, command, options)
-        yield from wrong_options(command, options, commands)
-        yield from wrong_values(command, options)
+        assert len(options) >= 4
+        assert_nothing(wrong_ranges(program, command, options))
+        assert_nothing(wrong_options(command, options, commands))
+        assert_nothing(wrong_values(command, options))
 
 
-def main():
-    if len(sys.argv) != 2:
-        sys.exit(__doc__)
-    wrong = list(differences(os.path.abspath(sys.argv[1])))
-    for line in wrong:
-        print(f"FAILED options: {line}")
-    print(f"commands and options: {len(wrong)} differences")
-    sys.exit(1 if wrong else 0)
+def sentences_of_help(program, commands):
+    """What help says of each command and of each option, but for the resolutions of pcl, by their names."""
+    for line in help_of(program, []):
+        found = re.fullmatch(r"  ([a-z]+)  +(.+)", line)
+        if found and found[1] in commands:
+            yield "COMMANDS", found[1], found[2]
+    for command in ("pbm", "report"):
+        for line in help_of(program, [command]):
+            found = re.fullmatch(r" +(--[a-z]+) <[A-Z]+> +(.*) \[default: .*\]", line)
+            if found:
+                yield "OPTIONS", found[1], found[2]
 
 
-if __name__ == "__main__":
-    main()
+def test_page_begins_with_the_sentences_of_help(program):
+    """Each entry of the page begins with what the program's help says, as a sentence."""
+    commands = commands_in_help(program)
+    page = {(name, head.split()[0]): text for name in ("COMMANDS", "OPTIONS")
+            for _, head, text in entries(section(name))}
+    sentences = list(sentences_of_help(program, commands))
+    assert len(sentences) == len(commands) + 8 + 4
+    assert_nothing(f"{name}: the page has {page[part, name]!r}, the help {says!r}"
+                   for part, name, says in sentences if not page[part, name].startswith(says + ". "))
+
+
+def test_quoted_values_of_help(program):
+    """A value in quotes is taken, as 'all' for the list of pens."""
+    words = [(option, word) for command in PICTURES for line in help_of(program, [command])
+             for option in re.findall(r"^ +(--[a-z]+) <", line) for word in re.findall(r"'(\w+)'", line)]
+    assert len(words) == len(PICTURES)
+    assert all(takes(program, "pbm", f"{option}={word}") for option, word in words)
+
+
+def test_completion_is_registered():
+    """Once bash has read the file, it completes the words of `plotraster`, and file names too."""
+    words = ["bash", "-c", 'source "$0" && complete -p plotraster', COMPLETION]
+    done = subprocess.run(words, capture_output=True, text=True, timeout=SECONDS)
+    assert done.stdout.startswith("complete "), done.stderr
+    assert "-F _plotraster plotraster" in done.stdout
+    assert "-o filenames" in done.stdout or "-o default" in done.stdout
+
+
+def test_completion_offers_files(tmp_path):
+    (tmp_path / "example.plt").touch()
+    (tmp_path / "other.plt").touch()
+    for command in ("pbm", "report"):
+        assert completed(command, "ex", folder=tmp_path) == ["example.plt"]
+        assert sorted(completed(command, "--left", "5", "", folder=tmp_path)) == ["example.plt", "other.plt"]

@@ -1,26 +1,25 @@
-#!/usr/bin/env python3
-"""Makes the packages of a built program, and uses what is in them.
-
-    tests/dist PROGRAM
+"""Makes the packages of the built program, and uses what is in them.
 
 `tools/dist` makes them twice, and the bytes must be the same. Each package is unpacked into an empty folder,
 where the command, the manual page and the documents must be those of the repository; the command draws the
 first plot there, and `man` shows the page. Copies of the repository with another version or without a file,
-and a command that needs more than the C library, must be refused. What needs a missing command is skipped.
+and a command that needs more than the C library, must be refused.
 """
 
 import filecmp
+import glob
 import gzip
 import os
 import re
 import shutil
 import subprocess
-import sys
 import tarfile
-import tempfile
 import time
 
-TOP = os.path.dirname(os.path.dirname(os.path.abspath(__file__)))
+import pytest
+
+from shared import TOP, assert_nothing, need
+
 SECONDS = 60
 MOMENT = 1700000000
 DOCUMENTS = ("CHANGELOG.md", "LICENSE-APACHE", "LICENSE-MIT", "README.md")
@@ -89,9 +88,6 @@ def wrong_use(command, page, folder):
     drawn = subprocess.run([command, *first.split()], cwd=folder, capture_output=True, timeout=SECONDS)
     if drawn.returncode or not drawn.stdout.startswith(b"P6\n1754 1240\n255\n") or b"\0\0\0" not in drawn.stdout:
         yield f"{first}: status {drawn.returncode}, {drawn.stdout[:20]!r}, {drawn.stderr!r}"
-    if shutil.which("man") is None:
-        print("skipped the manual page: there is no man")
-        return
     shown = run(["man", "--warnings", "-l", page], folder, MANWIDTH="100", LC_ALL="C.UTF-8")
     if shown.returncode or shown.stderr or "draw an HP-GL or HP-GL/2 plot" not in shown.stdout:
         yield f"man: status {shown.returncode}, {shown.stderr!r}"
@@ -138,6 +134,11 @@ def wrong_package(program, made, number, folder):
     fields = dict(re.findall(r"^([\w-]+): (.+)$", read(control, "control").decode(), re.M))
     if fields["Version"] != number or not re.fullmatch(r"libc6 \(>= 2\.\d+\)", fields["Depends"]) or "@" in str(fields):
         yield f"control: {fields}"
+    if (fields["Package"], fields["Architecture"]) != ("plotraster", "amd64"):
+        yield f"control: {fields}"
+    size = sum(os.path.getsize(os.path.join(root, name)) for name in listed(root)) / 1024
+    if abs(int(fields["Installed-Size"]) - size) > max(size / 10, 4 * len(wanted)):
+        yield f"Installed-Size is {fields['Installed-Size']}, the files have {size:.0f} KiB"
     yield from wrong_use(f"{root}/usr/bin/plotraster", f"{root}/usr/share/man/man1/plotraster.1.gz", f"{folder}/use")
 
 
@@ -156,7 +157,7 @@ def wrong_refusals(program, number, folder):
     if status:
         yield f"an unchanged copy is refused: {said}"
     for name in SOURCES:
-        if name != "tools/dist" and (shutil.which("dpkg-deb") or not name.startswith("packaging/")):
+        if name != "tools/dist":
             status, _ = make(program, copy_of_sources(f"{folder}/{name}", name), f"{folder}/of/{name}")
             if status == 0:
                 yield f"without {name} nothing is refused"
@@ -175,45 +176,63 @@ def wrong_refusals(program, number, folder):
         yield f"a command with more libraries: status {status}, {said}"
 
 
-def judge(program, number, folder):
-    """What is wrong, a line each."""
-    made = [os.path.join(folder, name) for name in ("first", "second")]
-    for each, umask in zip(made, (0o022, 0o077)):
-        status, said = make(program, TOP, each, umask)
-        if status:
-            yield f"status {status}: {said}"
-            return
+@pytest.fixture(scope="module")
+def number():
+    """The version that the changelog names first."""
+    return re.search(r"^## (\S+) \(", read(TOP, "CHANGELOG.md").decode(), re.M)[1]
+
+
+@pytest.fixture(scope="module")
+def made(program, pytestconfig, tmp_path_factory):
+    """The packages, made twice under different masks."""
+    need(pytestconfig, "readelf", "dpkg-deb", "man")
+    folders = [str(tmp_path_factory.mktemp("packages") / name) for name in ("first", "second")]
+    for folder, umask in zip(folders, (0o022, 0o077)):
+        status, said = make(program, TOP, folder, umask)
+        assert status == 0, said
         time.sleep(1.1)  # so that a time of its own would differ
-    for name in sorted(os.listdir(made[0])):
-        if not filecmp.cmp(os.path.join(made[0], name), os.path.join(made[1], name), shallow=False):
-            yield f"{name} has other bytes the second time"
-    for check in (wrong_archive, wrong_package):
-        if check == wrong_package and shutil.which("dpkg-deb") is None:
-            print("skipped the package for Debian: there is no dpkg-deb")
-            continue
-        own = os.path.join(folder, check.__name__)
-        os.mkdir(own)
-        try:
-            yield from (f"{check.__name__}: {wrong}" for wrong in check(program, made[0], number, own))
-        except (OSError, LookupError, subprocess.SubprocessError) as wrong:
-            yield f"{check.__name__}: {type(wrong).__name__}: {wrong}"
-    yield from wrong_refusals(program, number, os.path.join(folder, "refusals"))
+    return folders
 
 
-def main():
-    if len(sys.argv) != 2:
-        sys.exit(__doc__)
-    if shutil.which("readelf") is None:
-        print("skipped the packages: there is no readelf; on Debian, apt-get install binutils brings it")
-        return
-    number = re.search(r"^## (\S+) \(", read(TOP, "CHANGELOG.md").decode(), re.M)[1]
-    with tempfile.TemporaryDirectory() as folder:
-        wrong = list(judge(os.path.abspath(sys.argv[1]), number, folder))
-    for line in wrong:
-        print(f"FAILED {line}")
-    print(f"packages of version {number}: {len(wrong)} failures")
-    sys.exit(1 if wrong else 0)
+def test_same_bytes_each_time(made):
+    first, second = made
+    assert len(os.listdir(first)) == 2
+    for name in sorted(os.listdir(first)):
+        assert filecmp.cmp(os.path.join(first, name), os.path.join(second, name), shallow=False), name
 
 
-if __name__ == "__main__":
-    main()
+@pytest.mark.parametrize("wrong", [wrong_archive, wrong_package])
+def test_package(wrong, program, made, number, tmp_path):
+    assert_nothing(wrong(program, made[0], number, str(tmp_path)))
+
+
+def test_times_are_those_of_the_commit(program, made, tmp_path):
+    """Without SOURCE_DATE_EPOCH all entries have the time of the last commit."""
+    said = run(["git", "log", "-1", "--format=%ct"], TOP)
+    if said.returncode:
+        pytest.skip("this is no checkout of git, so there is no commit")
+    surroundings = {key: value for key, value in os.environ.items() if key != "SOURCE_DATE_EPOCH"}
+    subprocess.run([os.path.join(TOP, "tools", "dist"), program, tmp_path], env=surroundings, check=True, timeout=SECONDS,
+                   stdout=subprocess.DEVNULL)
+    archive, = glob.glob(os.path.join(tmp_path, "*.tar.gz"))
+    with tarfile.open(archive) as entries:
+        assert {entry.mtime for entry in entries} == {int(said.stdout)}
+
+
+def test_install_and_uninstall(program, tmp_path):
+    """What `make install` copies is there, and `make uninstall` removes all of it."""
+    place = [f"PROGRAM={program}", f"DESTDIR={tmp_path}", "PREFIX=/usr"]
+    for target, wanted in (("install", 3), ("uninstall", 0)):
+        done = run(["make", "--silent", target, *place], TOP)
+        assert done.returncode == 0, done.stderr
+        assert len(listed(tmp_path)) == wanted, target
+
+
+def test_install_says_what_to_run_first(tmp_path):
+    done = run(["make", "--silent", "install", f"PROGRAM={tmp_path}/none", f"DESTDIR={tmp_path}"], TOP)
+    assert done.returncode and "nothing is built yet: type make" in done.stderr
+    assert not listed(tmp_path)
+
+
+def test_refusals(program, made, number, tmp_path):
+    assert_nothing(wrong_refusals(program, number, str(tmp_path)))

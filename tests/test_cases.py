@@ -1,7 +1,4 @@
-#!/usr/bin/env python3
-"""Runs the command-line cases of tests/cases on a built program.
-
-    tests/run PROGRAM [CASE..]
+"""Runs the command-line cases of tests/cases on the built program.
 
 A case is a text file `cases/NAME.case`. A line `key: value` gives one thing; a key with nothing
 after its colon takes the indented lines below it, without their first four blanks. A line that
@@ -14,9 +11,10 @@ starts with `#` is a comment. The keys:
     read fails      the number of the read of standard input that fails, once
     write fails     the number of the write to standard output that fails, once
     memory fails    `each`: the program runs again and again, and another allocation is refused each
-                    time; it must say `out of memory` with status 4 and nothing on standard output,
-                    until it does what the case says
-    input           standard input, a text; by default empty
+                    time, until ten refusals in a row have no effect; each run must either say `out of
+                    memory` with status 4 and nothing on standard output, or do what the case says
+    input           standard input, a text; by default empty. The case also runs with the text in a
+                    file that is named after the words, unless it is about standard input
     input from      standard input is the output of this shell command
     input device    standard input is this device
     output to       standard output is this device, `a closed pipe`, or `a pipe that closes after N
@@ -29,7 +27,7 @@ starts with `#` is a comment. The keys:
     output begins   how standard output must begin
     error           what standard error must be: one line
     error begins    how standard error must begin
-    then            a command that reads the output and must accept it; without it the case is skipped
+    then            a command that reads the output and must accept it
     then says       a text that its output must contain
     then hex        how its output must begin, in hexadecimal
 
@@ -42,15 +40,20 @@ import itertools
 import os
 import resource
 import shlex
-import shutil
 import signal
 import subprocess
-import sys
 import tempfile
 
-HERE = os.path.dirname(os.path.abspath(__file__))
+import pytest
+
+from shared import HERE, assert_nothing, need
+
 CASES = os.path.join(HERE, "cases")
 SECONDS = 120
+# How many refused allocations in a row must have no effect.
+WITHOUT_EFFECT = 10
+# The file that has a case's input in the second run.
+PLOT = "plot.plt"
 
 
 def read_case(path):
@@ -67,7 +70,7 @@ def read_case(path):
                 continue
             key, colon, value = line.partition(":")
             if not colon:
-                sys.exit(f"{path}:{number}: no key")
+                raise ValueError(f"{path}:{number}: no key")
             if value.strip() == "":
                 open_key, value = key, ""
             case.setdefault(key, []).append(value[1:] if value.startswith(" ") else value)
@@ -155,11 +158,11 @@ def prepare(case):
     return begin
 
 
-def run(program, words, case, folder, refusals):
+def run(program, words, case, folder, refusals, refuse):
     """The exit status, standard output and standard error of one run."""
     source, feeder = source_of(case)
     sink, taken = sink_of(case)
-    surroundings = dict(os.environ, LD_PRELOAD=REFUSE, **refusals) if refusals else None
+    surroundings = dict(os.environ, LD_PRELOAD=refuse, **refusals) if refusals else None
     with source, sink, tempfile.TemporaryFile() as errors:
         ran = subprocess.run(
             ["plotraster"] + shlex.split(words), executable=program, env=surroundings,
@@ -223,76 +226,71 @@ def read_on(case, output):
 OUT_OF_MEMORY = (4, b"", b"plotraster: out of memory\n")
 
 
-def settled(program, words, case, folder):
-    """What a run gives when no allocation is refused any more, and how many were refused before."""
+def answers(program, words, case, folder, refuse):
+    """What the runs give, each after how many refusals it is wrong to say `out of memory`: for a case
+    without refused allocations, one run; else one for each refusal that has no other effect."""
     if "memory fails" not in case:
-        return run(program, words, case, folder, refusals_of(case)), None
-    for refused in itertools.count():
-        answer = run(program, words, case, folder, {"MEMORY_FAILS": str(refused + 1)})
-        if answer != OUT_OF_MEMORY:
-            return answer, refused
-
-
-def judge(program, case):
-    """What is wrong with a case, a line each."""
-    for words in words_of(case):
-        with tempfile.TemporaryDirectory() as folder:
-            set_up(case, folder)
-            try:
-                (status, output, errors), refused = settled(program, words, case, folder)
-            except subprocess.TimeoutExpired:
-                yield f"{words}: still running after {SECONDS} seconds"
-                continue
-        if refused == 0:
-            yield f"{words}: no allocation was refused"
-        for wrong in compare(case, status, output, errors):
-            yield f"{words}: {wrong}"
-        if "then" in case:
-            for wrong in read_on(case, output):
-                yield f"{words}: {wrong}"
-
-
-def lacks(case):
-    """The command that a case needs and that is missing, if there is one."""
-    needed = [shlex.split(one(case, "then"))[0]] if "then" in case else []
-    if is_refusing(case):
-        needed.append("cc")
-    return next((command for command in needed if shutil.which(command) is None), None)
-
-
-def build_refuse(folder):
-    """Builds tests/refuse.c, if there is a compiler."""
-    if shutil.which("cc") is not None:
-        library = os.path.join(folder, "refuse.so")
-        source = os.path.join(HERE, "refuse.c")
-        subprocess.run(["cc", "-O1", "-shared", "-fPIC", "-o", library, source, "-ldl"], check=True)
-        return library
-    return None
-
-
-def main():
-    if len(sys.argv) < 2:
-        sys.exit(__doc__)
-    program = os.path.abspath(sys.argv[1])
-    names = sys.argv[2:] or sorted(n[:-5] for n in os.listdir(CASES) if n.endswith(".case"))
-    cases = {name: read_case(os.path.join(CASES, name + ".case")) for name in names}
-    passed, failed, skipped = 0, 0, 0
-    for name, case in cases.items():
-        if lacks(case) is not None:
-            skipped += 1
-            print(f"skipped {name}: there is no {lacks(case)}")
+        yield run(program, words, case, folder, refusals_of(case), refuse)
+        return
+    refused, without_effect = 0, 0
+    for number in itertools.count(1):
+        answer = run(program, words, case, folder, {"MEMORY_FAILS": str(number)}, refuse)
+        if answer == OUT_OF_MEMORY:
+            refused, without_effect = refused + 1, 0
             continue
-        wrong = list(judge(program, case))
-        failed, passed = (failed + 1, passed) if wrong else (failed, passed + 1)
-        for line in wrong:
-            print(f"FAILED {name}: {line}")
-    if skipped:
-        print("on Debian, apt-get install netpbm gcc brings the missing commands")
-    print(f"command-line cases: {passed} passed, {failed} failed, {skipped} skipped")
-    sys.exit(1 if failed else 0)
+        yield answer
+        without_effect += 1
+        if without_effect == WITHOUT_EFFECT:
+            break
+    assert refused, f"{words}: no allocation was refused"
 
 
-if __name__ == "__main__":
-    with tempfile.TemporaryDirectory() as built:
-        REFUSE = build_refuse(built)
-        main()
+def judge(program, case, words, refuse):
+    """What is wrong with the runs of a case with these words, a line each."""
+    with tempfile.TemporaryDirectory() as folder:
+        set_up(case, folder)
+        for status, output, errors in answers(program, words, case, folder, refuse):
+            for wrong in compare(case, status, output, errors):
+                yield f"{words}: {wrong}"
+            if "then" in case:
+                for wrong in read_on(case, output):
+                    yield f"{words}: {wrong}"
+
+
+def by_file(case):
+    """The case with its input in a file that its words name, if it can be read from there too."""
+    is_about_input = {"read fails", "input from", "input device"} & set(case)
+    words = words_of(case)
+    if "input" not in case or is_about_input or any(names_a_file(it) for it in words):
+        return None
+    named = "\n".join(f"{it} {PLOT}" for it in words)
+    rest = {key: values for key, values in case.items() if key != "input"}
+    return {**rest, "words": [named], f"file {PLOT}": case["input"]}
+
+
+def names_a_file(words):
+    """Whether the words of a run name a file, or are no subcommand's."""
+    split = shlex.split(words)
+    if not split or split[0].startswith("-"):
+        return True
+    takes_value = {"--width", "--height", "--left", "--below", "--dots", "--pens", "--band", "--from"}
+    free = [it for before, it in zip(split, split[1:]) if not it.startswith("-") and before not in takes_value]
+    return bool(free) or "--help" in split
+
+
+def all_cases():
+    """Each case by its name, once with its input on standard input and once, where it can be, in a file."""
+    for file in sorted(os.listdir(CASES)):
+        if file.endswith(".case"):
+            case = read_case(os.path.join(CASES, file))
+            yield pytest.param(case, id=file[:-len(".case")])
+            if by_file(case):
+                yield pytest.param(by_file(case), id=f"{file[:-len('.case')]}-by-file")
+
+
+@pytest.mark.parametrize("case", all_cases())
+def test_case(case, program, pytestconfig, request):
+    if "then" in case:
+        need(pytestconfig, shlex.split(one(case, "then"))[0])
+    refuse = request.getfixturevalue("refuse") if is_refusing(case) else None
+    assert_nothing(wrong for words in words_of(case) for wrong in judge(program, case, words, refuse))

@@ -1,33 +1,28 @@
-#!/usr/bin/env python3
 """Runs the commands of README.md, docs/ and the manual page, and looks at what they made.
-
-    tests/recipes PROGRAM [HEADING..]
 
 Each `sh` block, and each example of the manual page, runs by bash, with -e and pipefail, in a folder of its
 own that has sample plots under the names of the recipes and a copy of examples/. `plotraster` is PROGRAM; `lp`
 and `lpr` keep what they get. CHECKS of tests/recipe_checks.py and DOCUMENT_CHECKS of tests/document_checks.py
 say what each block must have made. A block without a check fails, and so does a check without a block. A block
-that needs a missing command is skipped. A `text` block that shows a terminal must show what its commands print,
+that needs a missing command fails, or is skipped. A `text` block that shows a terminal must show what its commands print,
 and a command within a sentence must run. NOT_RUN of tests/document_checks.py has the commands that are left out.
 Instructions that docs/INSTRUCTIONS.md lists as skipped must be skipped, and files that a document names must be there.
 """
 
 import glob
-
 import itertools
 import os
 import re
 import shutil
 import subprocess
-import sys
 import tempfile
 
-sys.dont_write_bytecode = True  # leaves no folder in tests/
+import pytest
 
-from document_checks import DOCUMENT_CHECKS, commands_in_sentences, is_not_run, leaves_out, missing_files, transcript
-from recipe_checks import CHECKS, SECONDS, Check, Made, samples, write
-
-TOP = os.path.dirname(os.path.dirname(os.path.abspath(__file__)))
+from document_checks import DOCUMENT_CHECKS, box_of_pen_2, commands_in_sentences, eight_marks, is_not_run, leaves_out
+from document_checks import missing_files, pictures, transcript
+from recipe_checks import CHECKS, PNG, SECONDS, Check, Made, samples
+from shared import TOP, assert_nothing, need, write
 
 STUB = """#!/bin/sh
 job=$PRINTED/$(ls "$PRINTED" | wc -l)
@@ -166,41 +161,43 @@ def all_blocks(path):
                 yield "sentences", command, {}, in_full, Check(lambda ran: (), needs)
 
 
-def lacks(check):
-    """The command that a check needs and that is missing, if there is one."""
-    return next((need for need in check.needs if shutil.which(need) is None), None)
-
-
-def main():
-    if len(sys.argv) < 2:
-        sys.exit(__doc__)
-    program, chosen = os.path.abspath(sys.argv[1]), sys.argv[2:]
-    passed, failed, skipped = 0, 0, 0
+def blocks_of_documents():
+    """What is run of each document, by its name."""
     for path in documents():
-        missing = missing_files(path)
-        failed, passed = (failed + 1, passed) if missing else (failed, passed + 1)
-        for file in missing:
-            print(f"FAILED {path}: there is no {file}")
         for heading, number, section, block, check in all_blocks(path):
-            name = f"{path}, {heading}, block {number}"
-            if chosen and heading not in chosen:
-                continue
-            if block is None or check is None:
-                wrong = ["there is no block" if block is None else "there is no check"]
-            elif lacks(check) is not None:
-                skipped += 1
-                print(f"skipped {name}: there is no {lacks(check)}")
-                continue
-            else:
-                wrong = list(judge(program, check, section, block))
-            failed, passed = (failed + 1, passed) if wrong else (failed, passed + 1)
-            for line in wrong:
-                print(f"FAILED {name}: {line}")
-    if skipped:
-        print("on Debian, apt-get install netpbm parallel ghostscript brings the missing commands")
-    print(f"recipes: {passed} passed, {failed} failed, {skipped} skipped")
-    sys.exit(1 if failed else 0)
+            name = f"{path}, {heading}, {number}".replace("::", ":")
+            yield pytest.param(section, block, check, id=name)
 
 
-if __name__ == "__main__":
-    main()
+@pytest.mark.parametrize("path", documents())
+def test_files_are_there(path):
+    assert_nothing(f"there is no {file}" for file in missing_files(path))
+
+
+@pytest.mark.parametrize("section, block, check", blocks_of_documents())
+def test_block(section, block, check, program, pytestconfig):
+    assert block is not None, "there is no block for this check"
+    assert check is not None, "there is no check for this block"
+    need(pytestconfig, *check.needs)
+    assert_nothing(judge(program, check, section, block))
+
+
+HELP_CHECKS = {
+    "": Check(pictures), "marks": Check(eight_marks), "pbm": Check(pictures), "ppm": Check(pictures, PNG),
+    "pcl": Check(pictures), "report": Check(box_of_pen_2, (), {"plan.plt": b"SP2;PU0,0;PD100,200;"}),
+}
+
+
+@pytest.mark.parametrize("command", HELP_CHECKS)
+def test_example_of_help(command, program, pytestconfig):
+    """The example that ends each page of help."""
+    words = [program, *([command] if command else []), "--help"]
+    shown = subprocess.run(words, capture_output=True, text=True, check=True, timeout=SECONDS).stdout
+    examples = re.findall(r"^Example.*:\n  (.+)$", shown, re.M)
+    assert len(examples) == 1
+    need(pytestconfig, *HELP_CHECKS[command].needs)
+    assert_nothing(judge(program, HELP_CHECKS[command], {}, examples[0]))
+
+
+def test_number_of_blocks():
+    assert len(list(blocks_of_documents())) > 90

@@ -1,25 +1,26 @@
-#!/usr/bin/env python3
-"""Runs odd command lines on a built program.
-
-    tests/words PROGRAM
+"""Runs odd command lines on the built program.
 
 Each generator below gives command lines and what each must end with: an exit status and how standard
 error begins, as the manual page says. Beside that, each run ends by itself within some seconds and
 without a signal, standard output is empty unless the status is 0, and standard error is empty exactly
-if it is 0. Each run that goes wrong is printed.
+if it is 0.
 
-The program runs in a folder with these files: `line.plt` and `--left`, a plot of one line; `far.plt`,
-a plot that goes too far; `folder`, which is none. Standard input is an empty plot.
+The program runs in a folder with these files: `line.plt`, `--left`, ` line.plt` and `line.plt `, a plot of
+one line; `far.plt`, a plot that goes too far; `folder`, which is none. Standard input is an empty plot.
 """
 
 import os
+import shutil
 import subprocess
-import sys
 import tempfile
+
+import pytest
+
+from shared import assert_nothing, run, write
 
 SECONDS = 10
 LINE = b"SP1;PU0,28;PD64,28;"
-FILES = {"line.plt": LINE, "--left": LINE, "far.plt": b"PA70000,0;"}
+FILES = {"line.plt": LINE, "--left": LINE, " line.plt": LINE, "line.plt ": LINE, "far.plt": b"PA70000,0;"}
 
 # What a run must end with: the exit status, and how standard error begins.
 DONE = (0, b"")
@@ -178,11 +179,15 @@ def resolutions_of_pcl():
 def files():
     """Files that are there or not, and more files than one."""
     for command in COMMANDS:
-        for name in ["missing.plt", "", "-", " ", "line.plt/", "folder/none", "pbm", "report", "\u00e9.plt", "=", "+1", "n" * LONG]:
+        for name in [
+            "missing.plt", "", "-", " ", "line.plt/", "folder/none", "pbm", "report", "\u00e9.plt", "=", "+1", "far.plt ",
+            "n" * LONG,
+        ]:
             yield [command, name], NOT_OPENED
         for name in ["folder", ".", "..", "/"]:
             yield [command, name], NOT_READ
-        yield [command, "./line.plt"], DONE
+        for name in ["./line.plt", " line.plt", "line.plt "]:
+            yield [command, name], DONE
         yield [command, "line.plt", "line.plt"], USAGE
         yield [command, "line.plt", ""], USAGE
         yield [command, *["line.plt"] * 2000], USAGE
@@ -274,10 +279,7 @@ def wrong_run(program, words, ends, folder):
     """What is wrong with a run, or None."""
     status, begins = ends
     try:
-        done = subprocess.run(
-            ["plotraster", *words], executable=program, cwd=folder, stdin=subprocess.DEVNULL, capture_output=True,
-            timeout=SECONDS,
-        )
+        done = run(program, words, SECONDS, cwd=folder)
     except subprocess.TimeoutExpired:
         return f"still running after {SECONDS} seconds"
     if done.returncode != status:
@@ -294,22 +296,25 @@ def shown(words):
     return " ".join(repr(it) if len(it) <= 40 else f"{it[:20]!r}.. of {len(it)}" for it in words[:8])
 
 
-def main():
-    if len(sys.argv) != 2:
-        sys.exit(__doc__)
-    program, count, failed = os.path.abspath(sys.argv[1]), 0, 0
+@pytest.mark.parametrize("generator", GENERATORS)
+def test_words(generator, program, tmp_path):
+    set_up(tmp_path)
+    lines = list(generator())
+    runs = ((words, wrong_run(program, words, ends, tmp_path)) for words, ends in lines)
+    assert_nothing(f"{shown(words)}: {wrong}" for words, wrong in runs if wrong is not None)
+
+
+def test_number_of_command_lines():
+    assert sum(1 for generator in GENERATORS for _ in generator()) == 879
+
+
+def test_unreadable_file(program):
+    """A file that may not be read. Root may read all, so root runs the program as another user."""
+    another = {"user": 65534} if os.geteuid() == 0 else {}
     with tempfile.TemporaryDirectory() as folder:
-        set_up(folder)
-        for generator in GENERATORS:
-            for words, ends in generator():
-                wrong = wrong_run(program, words, ends, folder)
-                count += 1
-                if wrong is not None:
-                    failed += 1
-                    print(f"FAILED {generator.__name__}: {shown(words)}: {wrong}")
-    print(f"odd command lines: {count - failed} passed, {failed} failed")
-    sys.exit(1 if failed else 0)
-
-
-if __name__ == "__main__":
-    main()
+        os.chmod(folder, 0o755)
+        copy = shutil.copy(program, folder)
+        write(os.path.join(folder, "locked.plt"), LINE, 0)
+        for command in COMMANDS:
+            done = run(copy, [command, "locked.plt"], SECONDS, cwd=folder, **another)
+            assert (done.returncode, done.stdout, done.stderr) == (3, b"", b"plotraster: cannot open locked.plt\n")

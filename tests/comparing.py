@@ -1,0 +1,75 @@
+"""The built program beside tests/reference, a plain plotter: do they answer a case alike?
+
+Standard output, status and standard error must be the same. Of a mistake in usage only the status and
+the beginning of the text are compared. The longest plot and the most strokes take the reference too
+long; tests/cases has them.
+"""
+
+import subprocess
+
+from reference.outputs import USAGE, Answer, answer
+
+TIMEOUT = 20
+
+
+def words_of(case):
+    """The words of the command line. A value may begin with a minus sign, so it follows an equals sign."""
+    return [case.form] + [f"--{name}={value}" for name, value in case.options.items()]
+
+
+def answer_of(program, case):
+    """What the program answers."""
+    try:
+        ran = subprocess.run([program, *words_of(case)], input=case.plot, capture_output=True, timeout=TIMEOUT)
+    except subprocess.TimeoutExpired:
+        return Answer(-1, b"", f"no end after {TIMEOUT} seconds")
+    return Answer(ran.returncode, ran.stdout, ran.stderr.decode(errors="replace"))
+
+
+def answers(program, case):
+    """What the program and the reference answer, and whether they agree."""
+    got = answer_of(program, case)
+    try:
+        wanted = answer(*case)
+    except Exception as mistake:
+        wanted = Answer(-1, b"", f"the reference fails: {mistake!r}")
+    if wanted is USAGE:
+        return got, wanted, got[:2] == wanted[:2] and got.error.startswith(wanted.error)
+    return got, wanted, got == wanted
+
+
+def differs(program, case):
+    return not answers(program, case)[2]
+
+
+def smaller(program, case):
+    """A case that differs too, with as little as can be left out."""
+    # A picture of the usual page takes the reference too long.
+    needed = () if case.form == "report" else ("width", "height", "dots")
+    for name in case.options:
+        fewer = case._replace(options={other: case.options[other] for other in case.options if other != name})
+        if name not in needed and differs(program, fewer):
+            case = fewer
+    size = max(1, len(case.plot) // 2)
+    while size:
+        at, is_shorter = 0, False
+        while at < len(case.plot):
+            rest = case._replace(plot=case.plot[:at] + case.plot[at + size:])
+            if differs(program, rest):
+                case, is_shorter = rest, True
+            else:
+                at += size
+        size = size if is_shorter and size == 1 else size // 2
+    return case
+
+
+def difference(name, program, case):
+    """A text on a case that differs, made smaller."""
+    case = smaller(program, case)
+    got, wanted, _ = answers(program, case)
+    lines = [f"{name}: plotraster {' '.join(words_of(case))}", f"    plot       {case.plot!r}"]
+    for by, answered in (("program", got), ("reference", wanted)):
+        lines.append(f"    {by:10} status {answered.status}, {len(answered.output)} bytes: {answered.output[:300]!r}")
+        if answered.error:
+            lines.append(f"    {'':10} {answered.error.splitlines()[0]!r}")
+    return "\n".join(lines)

@@ -1,0 +1,65 @@
+"""Compares the built program with tests/reference on plots that are the same each time: the examples, all
+characters, all whole angles, and 3,000 random plots. `make fuzz` compares new ones."""
+
+import glob
+import os
+
+import pytest
+
+from comparing import difference, differs
+from reference.random_plots import Case, random_case
+from shared import EXAMPLES, assert_nothing, read_bytes
+
+COUNT = 3000
+PARTS = 12
+
+
+def examples():
+    """The plots of examples/, each as a report and as a small picture."""
+    page = {"width": "4000", "height": "3000"}
+    for path in sorted(glob.glob(os.path.join(EXAMPLES, "*.plt"))):
+        plot = read_bytes(path)
+        yield os.path.basename(path), Case("report", page, plot)
+        yield os.path.basename(path), Case("ppm", {**page, "dots": "10"}, plot)
+
+
+def characters():
+    """Each character, large and thin."""
+    for byte in range(32, 127):
+        plot = b"PW0;PU12,4;SI.1,.14;LB%c\x03" % byte
+        yield f"character {byte}", Case("marks", {"width": "64", "height": "64", "dots": "508"}, plot)
+
+
+def angles():
+    """An arc of one chord by each whole angle, each by a pen of its own, so that a report tells its end."""
+    for turn in ("", "-"):
+        plot = "".join(f"SP{angle + 1};PU60000,0;PD;AA0,0,{turn}{angle},180;" for angle in range(181))
+        yield f"angles {turn}0 to {turn}180", Case("report", {}, plot.encode())
+
+
+def random_plots(part):
+    """A part of the random plots, by their seeds."""
+    for seed in range(part, COUNT, PARTS):
+        yield f"seed {seed}", random_case(seed)
+
+
+def assert_same(program, cases):
+    assert_nothing(difference(name, program, case) for name, case in cases if differs(program, case))
+
+
+@pytest.mark.parametrize("name, case", examples())
+def test_examples(name, case, program):
+    assert_same(program, [(name, case)])
+
+
+def test_characters(program):
+    assert_same(program, characters())
+
+
+def test_angles(program):
+    assert_same(program, angles())
+
+
+@pytest.mark.parametrize("part", range(PARTS))
+def test_random_plots(part, program):
+    assert_same(program, random_plots(part))

@@ -1,0 +1,63 @@
+"""The scripts by flake8 and shellcheck, and the names that two things must not share."""
+
+import os
+import re
+import subprocess
+
+import pytest
+
+from shared import TOP, need
+
+SECONDS = 60
+
+
+def first_line(path):
+    with open(os.path.join(TOP, path), "rb") as file:
+        return file.readline()
+
+
+def scripts(*marks):
+    """The files of the repository whose first line, or whose ending, is one of these."""
+    listed = subprocess.run(["git", "ls-files"], cwd=TOP, capture_output=True, text=True, check=True).stdout
+    for path in listed.splitlines():
+        if os.path.isfile(os.path.join(TOP, path)):
+            if path.endswith(marks) or first_line(path).strip().endswith(tuple(it.encode() for it in marks)):
+                yield path
+
+
+@pytest.mark.parametrize("command, files", [
+    (["flake8"], sorted(scripts(".py", "env python3"))),
+    (["shellcheck"], sorted(scripts(".sh", "bin/sh", "bin/bash"))),
+], ids=["flake8", "shellcheck"])
+def test_scripts(command, files, pytestconfig):
+    need(pytestconfig, *command)
+    assert len(files) > 3
+    done = subprocess.run([*command, *files], cwd=TOP, capture_output=True, text=True, timeout=SECONDS)
+    assert done.returncode == 0, done.stdout + done.stderr
+
+
+def test_names_of_scripts():
+    """A script of one folder has not the name of another folder's."""
+    listed = [name for folder in ("bench", "tests", "tools") for name in os.listdir(os.path.join(TOP, folder))]
+    names = [name for name in listed if name != "__pycache__"]
+    assert len(names) == len(set(names)), sorted(it for it in names if names.count(it) > 1)
+
+
+def test_options_that_make_passes():
+    """`make fuzz` calls its script with options that the script has."""
+    made = subprocess.run(["make", "-n", "fuzz"], cwd=TOP, capture_output=True, text=True, check=True, timeout=SECONDS)
+    called = re.search(r"^tests/fuzz .*", made.stdout, re.M)[0]
+    helped = subprocess.run([os.path.join(TOP, "tests", "fuzz"), "--help"], capture_output=True, text=True, timeout=SECONDS)
+    assert helped.returncode == 0, helped.stderr
+    options = re.findall(r"--\w+", called)
+    assert options and all(it in helped.stdout for it in options), called
+
+
+def test_targets_of_make():
+    """Each target that the Makefile names at its top has a recipe that make can read."""
+    with open(os.path.join(TOP, "Makefile"), encoding="utf-8") as file:
+        targets = re.findall(r"^# make (\w+)  ", file.read(), re.M)
+    assert len(targets) > 10
+    for target in targets:
+        done = subprocess.run(["make", "-n", target], cwd=TOP, capture_output=True, text=True, timeout=SECONDS)
+        assert done.returncode == 0, done.stderr
