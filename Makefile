@@ -1,6 +1,11 @@
+# make first      draws a first plot in about a minute; proves nothing
 # make            proves and builds the command
 # make demo       builds it and runs it on the plots of examples/
-# make check      every proof and test (rt ci), then the tests of the built command in tests/, and a test on each mutant
+# make test       every test of the built command
+# make mutants    a test on each mutant, with nothing proved
+# make prove      every proof, the tests of the crates, and the mutants of crates/*/must-fail (rt ci)
+# make check      all of these: what fails early comes first
+# make audit      hands every mutant to the prover, for a release or after a change of a contract
 # make fuzz       compares the built command with tests/reference on new random plots, for SECONDS=600
 # make install    copies the command, its manual page and its completion under PREFIX (/usr/local), below DESTDIR if it is set
 # make uninstall  removes them
@@ -16,11 +21,19 @@ COMPLETIONS = $(DESTDIR)$(PREFIX)/share/bash-completion/completions
 SECONDS = 600
 CARDS = rose tide figures characters
 CARD = --width 4000 --height 3000 --dots 600
+# Debian's Python, which has Debian's pytest.
+PYTEST = PYTHONDONTWRITEBYTECODE=1 /usr/bin/python3 -m pytest -q -p no:cacheprovider --no-skips
+# The tests that need no built command.
+SOURCE_TESTS = tests/test_style.py tests/test_quotations.py
 
 build:
 	cd crates/plotraster_program && rt run -- --help > /dev/null
 	@mkdir -p build
 	@cp $(PROGRAM) build/plotraster
+
+first:
+	@tools/setup
+	@tools/first
 
 demo: build
 	@echo 'plotraster marks --width 64 --height 64 --dots 127 examples/line.plt'
@@ -37,25 +50,40 @@ demo: build
 	fi
 	@echo 'The pictures are:' $(CARDS:%=build/%.*)
 
-# The cases and the mutants use what rt ci proved and built; its verdict is said again as the last line.
-check:
+setup:
+	@tools/setup
+
+style: setup
+	$(PYTEST) $(SOURCE_TESTS)
+
+mutants: setup
+	tools/mutants
+
+prove: setup
 	@mkdir -p build
 	rt ci 2>&1 | tee build/verdict
-	tests/run $(PROGRAM)
-	tests/options $(PROGRAM)
-	tests/words $(PROGRAM)
-	tests/printer $(PROGRAM)
-	tests/recipes $(PROGRAM)
-	tests/dist $(PROGRAM)
-	tests/library
-	tests/compare $(PROGRAM)
-	tools/mutants
+
+test: setup built
+	$(PYTEST) -n auto tests
+
+# Each part by itself, so that they come one after the other. The verdict of rt ci is said again as the last line.
+check:
+	@$(MAKE) --no-print-directory style
+	@$(MAKE) --no-print-directory mutants
+	@$(MAKE) --no-print-directory prove
+	@$(MAKE) --no-print-directory test
 	@tail -n 1 build/verdict
 
-fuzz: build
-	tests/compare build/plotraster --seconds $(SECONDS) --processes 4
+audit: setup
+	tools/audit
 
-install: build
+fuzz: built
+	tests/fuzz $(PROGRAM) --seconds $(SECONDS) --processes 4
+
+built:
+	@test -x $(PROGRAM) || { echo 'nothing is built yet: type make, which proves and builds the command' >&2; exit 1; }
+
+install: built
 	install -D -m 755 $(PROGRAM) $(BIN)/plotraster
 	install -D -m 644 man/plotraster.1 $(MAN)/plotraster.1
 	install -D -m 644 completions/plotraster.bash $(COMPLETIONS)/plotraster
@@ -63,10 +91,10 @@ install: build
 uninstall:
 	rm -f $(BIN)/plotraster $(MAN)/plotraster.1 $(COMPLETIONS)/plotraster
 
-dist: build
+dist: built
 	tools/dist $(PROGRAM) build
 
 clean:
 	rm -rf build crates/*/out
 
-.PHONY: build demo check fuzz install uninstall dist clean
+.PHONY: build first demo setup style mutants prove test check audit fuzz built install uninstall dist clean
