@@ -1,4 +1,4 @@
-"""The scripts by flake8 and shellcheck, and the names that two things must not share."""
+"""The format of the code, the scripts by flake8 and shellcheck, and the names that two things must not share."""
 
 import os
 import re
@@ -16,10 +16,15 @@ def first_line(path):
         return file.readline()
 
 
+def listed(*patterns):
+    """The files of the repository, or those that these patterns match."""
+    done = subprocess.run(["git", "ls-files", *patterns], cwd=TOP, capture_output=True, text=True, check=True)
+    return done.stdout.splitlines()
+
+
 def scripts(*marks):
     """The files of the repository whose first line, or whose ending, is one of these."""
-    listed = subprocess.run(["git", "ls-files"], cwd=TOP, capture_output=True, text=True, check=True).stdout
-    for path in listed.splitlines():
+    for path in listed():
         if os.path.isfile(os.path.join(TOP, path)):
             if path.endswith(marks) or first_line(path).strip().endswith(tuple(it.encode() for it in marks)):
                 yield path
@@ -36,10 +41,18 @@ def test_scripts(command, files, pytestconfig):
     assert done.returncode == 0, done.stdout + done.stderr
 
 
+def test_format():
+    """All code and all definitions stand as `rt fmt` writes them, which rt ci asks for, but only after a long time."""
+    files = listed("*.rt", "*.antt")
+    assert len(files) > 300
+    done = subprocess.run(["rattle", "fmt", "--check", *files], cwd=TOP, capture_output=True, text=True, timeout=5 * SECONDS)
+    assert done.returncode == 0, done.stdout + done.stderr
+
+
 def test_names_of_scripts():
     """A script of one folder has not the name of another folder's."""
-    listed = [name for folder in ("bench", "tests", "tools") for name in os.listdir(os.path.join(TOP, folder))]
-    names = [name for name in listed if name != "__pycache__"]
+    names = [name for folder in ("bench", "tests", "tools") for name in os.listdir(os.path.join(TOP, folder))]
+    names = [it for it in names if it != "__pycache__"]
     assert len(names) == len(set(names)), sorted(it for it in names if names.count(it) > 1)
 
 

@@ -71,13 +71,7 @@ fn a_plot_is_read_in_large_pieces(rt: HostRuntime) -> Result<(), Fail> {
         calls: 0,
     });
     let mut sink = OverWrite::new(Writer { bytes: 0, calls: 0 });
-    convert(
-        rt.alloc(),
-        &job,
-        &mut Exact::new(),
-        &mut source,
-        &mut sink,
-    )?;
+    convert(rt.alloc(), &job, &mut Exact::new(), &mut source, &mut sink)?;
     // 65,536 bytes, what is left of them, and the end.
     assert_eq!(rt; source.into_inner().calls, 3);
     Ok(())

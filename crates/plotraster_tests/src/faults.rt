@@ -1,8 +1,9 @@
 //! Faults with their numbers, statuses and texts.
 use hpgl_plot::PlotFault;
 use hpgl_text::TextFault;
-use plotraster::{BuildFault, Done, Fault, LineFault, PageFault, SinkFault};
-use plotraster::{exit_status, number, status};
+use plotraster::{
+    BuildFault, Done, Fault, LineFault, PageFault, SinkFault, exit_status, number, status,
+};
 use std::test::Fail;
 use stroke_raster::PaintFault;
 
@@ -63,13 +64,29 @@ fn texts_of_a_command_line(rt: HostRuntime) -> Result<(), Fail> {
 
 #[test]
 fn texts_of_the_faults_of_each_step(rt: HostRuntime) -> Result<(), Fail> {
-    reads!(rt, PageFault::Size, "page width and height must be 64 to 65536");
-    reads!(rt, PageFault::Corner, "page corner must be 0 to 65536 left and below");
+    reads!(
+        rt,
+        PageFault::Size,
+        "page width and height must be 64 to 65536"
+    );
+    reads!(
+        rt,
+        PageFault::Corner,
+        "page corner must be 0 to 65536 left and below"
+    );
     reads!(rt, TextFault::TooLong, "plot is longer than 67108864 bytes");
     reads!(rt, TextFault::Memory, "out of memory");
     reads!(rt, PlotFault::Memory, "out of memory");
-    reads!(rt, PlotFault::OffRange { at: 7 }, "place off range at byte 7");
-    reads!(rt, PlotFault::TooManyStrokes { at: 40775 }, "too many strokes at byte 40775");
+    reads!(
+        rt,
+        PlotFault::OffRange { at: 7 },
+        "place off range at byte 7"
+    );
+    reads!(
+        rt,
+        PlotFault::TooManyStrokes { at: 40775 },
+        "too many strokes at byte 40775"
+    );
     reads!(rt, PaintFault::Band, "band height must be 1 to 4096");
     reads!(rt, PaintFault::Row, "first row is past the last row");
     reads!(rt, PaintFault::Memory, "out of memory");
