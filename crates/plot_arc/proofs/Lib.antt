@@ -2,5 +2,6 @@ pub mod SineRange
 pub mod Angles
 pub mod Nearest
 pub mod Reach
+pub mod SineLaw
 mod SineExamples
 mod ArcExamples

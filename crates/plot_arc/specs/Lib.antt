@@ -1,4 +1,5 @@
 pub mod Sines
 pub mod Chords
 pub mod Turns
+pub mod SineBounds
 pub mod Laws

@@ -1,5 +1,12 @@
 //! What holds of sines, of the ends of chords and of turns.
 ghost use Rattle.plot_arc.specs.Laws.{SineSymmetries, ChordsAreRounded, WholeTurnsLeadBack, LastTurnIsSweep};
+ghost use Rattle.plot_arc.specs.SineBounds.{SinesAreNearest};
+
+/// Each sine of whole degrees in the table is the number of ten-thousandths that is nearest to the
+/// sine.
+pub fn sines_are_nearest()
+    ensures { SinesAreNearest }
+{}
 
 /// The sine has a period of 360 degrees, is odd, and is symmetric about 90 degrees.
 pub fn sine_symmetries()

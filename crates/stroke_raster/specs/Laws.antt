@@ -1,6 +1,13 @@
--- The bands that a painter lends, one call of `next_band` after another.
-use Rattle.std.specs.Prelude.{◌≡◌, ℕ, ◌-◌, ◌<◌, ◌≤◌, List, [], ◌∷◌, flat_map}
+-- What holds of the bands that a painter lends, one call of `next_band` after another, and of pixels.
+use Rattle.std.specs.Prelude.{◌≡◌, ℕ, ◌+◌, ◌-◌, ◌*◌, ◌<◌, ◌≤◌, ℤ, pos, ◌*ℤ◌, int_le, Bool, true, false, ◌&&◌, List, [], ◌∷◌, ◌++◌, flat_map, length}
+use Rattle.plot_page.specs.Segments.{Segment}
+use Rattle.stroke_raster.specs.declared.pens.PenSet.{PenSet}
+use Rattle.stroke_raster.specs.declared.vector.Vector.{Vector}
+use Rattle.stroke_raster.specs.Covers.{in_window, first_end, drawn_width, covers_place}
+use Rattle.stroke_raster.specs.Gap.{way, scaled, dot}
+use Rattle.stroke_raster.specs.Pens.{has_pen}
 use Rattle.stroke_raster.specs.Resolutions.{rows_of}
+use Rattle.stroke_raster.specs.Shown.{shown}
 use Rattle.stroke_raster.specs.Painting.{Painting, Reaches, painted_rows, rows_next, Moves}
 
 -- a painter lends a band of these rows, and is `new` afterwards: the clauses of `next_band`
@@ -18,3 +25,26 @@ LendsAll reaches p (rows ∷ bands) = (new : Painting) × Lends reaches p rows n
 abbrev pub BandsAreTheRows : Type 0
 BandsAreTheRows = (reaches : Reaches) (p : Painting) (bands : List (List (List ℕ))) → LendsAll reaches p bands →
     flat_map (λ rows. rows) bands ≡ painted_rows reaches p p.next (rows_of p.page p.dots - p.next)
+
+-- a stroke covers nothing outside its window
+abbrev pub WindowsClip : Type 0
+WindowsClip = (s : Segment) (r : ℕ) (p : Vector) → in_window s.window r p ≡ false → covers_place s r p ≡ false
+
+-- what a vector leads to is within half of d
+abbrev pub is_in_disc : Vector → ℕ → Bool
+is_in_disc v d = int_le (pos 4 *ℤ dot v v) (pos (d * d))
+
+-- a stroke of length zero covers the disc about its place, within its window
+abbrev pub DotsAreDiscs : Type 0
+DotsAreDiscs = (s : Segment) (r : ℕ) (p : Vector) → s.bx ≡ s.ax → s.by ≡ s.ay →
+    covers_place s r p ≡ (in_window s.window r p && is_in_disc (way (scaled (pos r) (first_end s)) p) (drawn_width s.width r))
+
+-- where one more stroke of a selected pen covers a pixel, the pixel shows it; elsewhere, or for another pen, it shows
+-- what it showed
+pub record LaterStrokesCover : Type 0 where
+  pub covered : (covers : Segment → ℕ → ℕ → Bool) (pens : PenSet) (strokes : List Segment) (s : Segment) (row column : ℕ) →
+    has_pen pens s.pen ≡ true → covers s row column ≡ true → shown covers pens (strokes ++ (s ∷ [])) row column ≡ length strokes + 1
+  pub elsewhere : (covers : Segment → ℕ → ℕ → Bool) (pens : PenSet) (strokes : List Segment) (s : Segment) (row column : ℕ) →
+    covers s row column ≡ false → shown covers pens (strokes ++ (s ∷ [])) row column ≡ shown covers pens strokes row column
+  pub other_pen : (covers : Segment → ℕ → ℕ → Bool) (pens : PenSet) (strokes : List Segment) (s : Segment) (row column : ℕ) →
+    has_pen pens s.pen ≡ false → shown covers pens (strokes ++ (s ∷ [])) row column ≡ shown covers pens strokes row column
