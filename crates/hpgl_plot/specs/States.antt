@@ -8,7 +8,7 @@ use Rattle.hpgl_plot.specs.declared.state.Position.{Position}
 use Rattle.plot_arc.specs.declared.spot.Spot.{Spot}
 use Rattle.hpgl_plot.specs.declared.state.State.{State}
 use Rattle.plot_settings.specs.declared.setting.Setting.{Setting}
-use Rattle.plot_settings.specs.declared.setting.Setting.TheVariants.{Start, Defaults, PageCorners, FirstPoint, BothPoints, Scale, Rotate}
+use Rattle.plot_settings.specs.declared.setting.Setting.TheVariants.{Start, Defaults, PageCorners, FirstPoint, BothPoints, Scale, Rotate, PageWindow, CornerWindow, Pen, Width, WidthOfAll, PenColour, DefaultColours, Size, Direction}
 use Rattle.plot_settings.specs.Steps.{Step, Set}
 use Rattle.plot_settings.specs.Settings.{pen, is_down, is_relative, widths, colours, size, direction}
 use Rattle.hpgl_plot.specs.Frames.{frame, window, back}
@@ -30,7 +30,15 @@ pen_with page f (FirstPoint x y) p = recomputed page f p
 pen_with page f (BothPoints q) p = recomputed page f p
 pen_with page f (Scale s) p = recomputed page f p
 pen_with page f (Rotate r) p = recomputed page f p
-pen_with page f _ p = p
+pen_with page f PageWindow p = p
+pen_with page f (CornerWindow c) p = p
+pen_with page f (Pen n) p = p
+pen_with page f (Width n w) p = p
+pen_with page f (WidthOfAll w) p = p
+pen_with page f (PenColour n c) p = p
+pen_with page f DefaultColours p = p
+pen_with page f (Size s) p = p
+pen_with page f (Direction d) p = p
 
 -- all that holds before a step, with the pen at a position
 abbrev pub state_with : Page → List Step → Position → State

@@ -14,13 +14,10 @@ use crate::fault::PlotFault;
 use crate::place::{start_axes, start_of};
 use crate::state::State;
 use hpgl_text::{
-    Body, Entries, Entry, Instruction, Item, Number, Numbers, Part, instruction_of_code,
+    Body, Entries, Entry, Instruction, Item, Numbers, Part, instruction_of_code,
 };
 use plot_page::{Page, Stroke};
-use plot_settings::{
-    Setting, does_plot, named_arc, named_circle, named_colour, named_direction, named_pen,
-    named_points, named_rotation, named_scaling, named_size, named_width, named_window,
-};
+use plot_settings::{Moves, Request, request_of};
 use std::alloc::Global;
 
 /// Why an instruction is not carried out.
@@ -45,9 +42,8 @@ pub struct Plotter {
 }
 
 impl Plotter {
-    ghost use Rattle.std.specs.Prelude.{◌≡◌, All, Some, true, false};
-    ghost use Rattle.hpgl_text.specs.Numbers.{IsNumber};
-    ghost use Rattle.plot_settings.specs.Pairs.{plots_pairs};
+    ghost use Rattle.std.specs.Prelude.{◌≡◌, Some};
+    ghost use Rattle.plot_settings.specs.Requests.{request_meaning, move_steps, IsRequest};
     ghost use Rattle.hpgl_plot.specs.Machine.{seen, at_start, step, run, Runs, CarriesOut};
     ghost use Rattle.plot_settings.specs.Steps.{Lower, Relate, moves, lowered_then, part_steps, entry_steps};
     ghost use Rattle.plot_settings.specs.Meanings.{meaning, steps_of};
@@ -102,64 +98,55 @@ impl Plotter {
     fn obey(&mut self, instruction: Instruction, numbers: &Numbers<'_>) -> Result<(), Stop>
         ensures { Runs (run (seen self.old) (meaning instruction numbers.now).steps) (seen self.new) result }
     {
-        if does_plot(instruction) {
-            self.plot(instruction, numbers)
-        } else {
-            let (list, count) = numbers.leading();
-            self.apply(instruction, &list[..count])
+        self.do_request(request_of(instruction, numbers), numbers)
+    }
+
+    // Does what an instruction with these numbers asks for.
+    fn do_request(&mut self, request: Request, numbers: &Numbers<'_>) -> Result<(), Stop>
+        requires { IsRequest request }
+        ensures { Runs (run (seen self.old) (request_meaning request numbers.now).steps) (seen self.new) result }
+    {
+        match request {
+            Request::Nothing | Request::Wrong => Ok(()),
+            Request::Set(setting) => {
+                self.set(setting);
+                Ok(())
+            }
+            Request::Move(moves) => self.move_by(moves, numbers),
+            Request::Edge(is_relative, corner) => {
+                self.edge(is_relative, corner)?;
+                Ok(())
+            }
+            Request::Circle(circle) => {
+                self.circle(circle)?;
+                Ok(())
+            }
+            Request::Arc(is_relative, arc) => {
+                self.arc(is_relative, arc)?;
+                Ok(())
+            }
         }
     }
 
-    // Carries out an instruction that makes a move to each pair of its numbers.
-    fn plot(&mut self, instruction: Instruction, numbers: &Numbers<'_>) -> Result<(), Stop>
-        requires { plots_pairs instruction ≡ true }
-        ensures { Runs (run (seen self.old) (meaning instruction numbers.now).steps) (seen self.new) result }
+    // PU, PD, PA or PR: a move to each pair of its numbers.
+    fn move_by(&mut self, moves: Moves, numbers: &Numbers<'_>) -> Result<(), Stop>
+        ensures { Runs (run (seen self.old) (move_steps moves numbers.now)) (seen self.new) result }
     {
-        match instruction {
-            Instruction::PenUp => {
+        match moves {
+            Moves::Up => {
                 self.set_down(false);
                 self.follow(numbers)
             }
-            Instruction::PenDown => self.lower(numbers),
-            Instruction::PlotAbsolute => {
+            Moves::Down => self.lower(numbers),
+            Moves::Absolute => {
                 self.set_relative(false);
                 self.follow(numbers)
             }
-            Instruction::PlotRelative => {
+            Moves::Relative => {
                 self.set_relative(true);
                 self.follow(numbers)
             }
-            _ => Ok(()),
         }
-    }
-
-    // Carries out another instruction with its first numbers. PE, LB and DT have none, and do nothing
-    // here.
-    fn apply(&mut self, instruction: Instruction, numbers: &[Number]) -> Result<(), Stop>
-        requires small { All IsNumber numbers.now }
-        requires other { plots_pairs instruction ≡ false }
-        ensures { Runs (run (seen self.old) (meaning instruction numbers.now).steps) (seen self.new) result }
-    {
-        match instruction {
-            Instruction::Initialize => self.set_named(Some(Setting::Start)),
-            Instruction::DefaultValues => self.set_named(Some(Setting::Defaults)),
-            Instruction::InputPoints => self.set_named(named_points(numbers)),
-            Instruction::Scale => self.set_named(named_scaling(numbers)),
-            Instruction::Rotate => self.set_named(named_rotation(numbers)),
-            Instruction::InputWindow => self.set_named(named_window(numbers)),
-            Instruction::SelectPen => self.set_named(named_pen(numbers)),
-            Instruction::PenWidth => self.set_named(named_width(numbers)),
-            Instruction::PenColour => self.set_named(named_colour(numbers)),
-            Instruction::EdgeAbsolute => self.edge_by(false, numbers)?,
-            Instruction::EdgeRelative => self.edge_by(true, numbers)?,
-            Instruction::Circle => self.circle_by(named_circle(numbers))?,
-            Instruction::ArcAbsolute => self.arc_by(false, named_arc(numbers))?,
-            Instruction::ArcRelative => self.arc_by(true, named_arc(numbers))?,
-            Instruction::CharacterSize => self.set_named(named_size(numbers)),
-            Instruction::Direction => self.set_named(named_direction(numbers)),
-            _ => {}
-        }
-        Ok(())
     }
 
     // PD: a dot if it makes no move, and its moves.

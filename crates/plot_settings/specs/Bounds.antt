@@ -4,6 +4,7 @@ use Rattle.plot_frame.specs.Bounds.{IsPoints, IsScaling}
 use Rattle.plot_page.specs.declared.stroke.TheConstants.{GREATEST_WIDTH}
 use Rattle.plot_settings.specs.declared.figure.Arc.{Arc}
 use Rattle.plot_settings.specs.declared.figure.Circle.{Circle}
+use Rattle.plot_settings.specs.declared.figure.Corner.{Corner}
 use Rattle.plot_settings.specs.declared.setting.Setting.{Setting}
 use Rattle.plot_settings.specs.declared.setting.Setting.TheVariants.{FirstPoint, BothPoints, Scale, CornerWindow, Width, WidthOfAll}
 
@@ -29,7 +30,11 @@ IsSetting _ = ⊤
 abbrev pub AreWidths : List ℕ → Type 0
 AreWidths ws = All (λ w. w ≤ GREATEST_WIDTH) ws
 
--- a circle and an arc that are asked for
+-- a corner, a circle and an arc that are asked for
+pub record IsCorner (c : Corner) : Type 0 where
+  pub x_in : nat_abs c.x ≤ 2 ^ 55
+  pub y_in : nat_abs c.y ≤ 2 ^ 55
+
 pub record IsCircle (c : Circle) : Type 0 where
   pub radius_in : nat_abs c.radius ≤ 2 ^ 55
   pub chord_above : 0 < c.chord

@@ -7,6 +7,7 @@ pub mod Steps
 pub mod Meanings
 pub mod Settings
 pub mod Laws
--- What contracts need: the ranges of what is set, and which instructions make moves.
+-- What contracts need: the ranges of what is set, which instructions make moves, and what they ask for.
 pub mod Bounds
 pub mod Pairs
+pub mod Requests

@@ -2,7 +2,8 @@
 use Rattle.std.specs.Prelude.{ℤ, ◌%◌, ◌==◌, Bool, true, false, List, [], ◌∷◌, Option, Some, None, length}
 use Rattle.hpgl_text.specs.Shapes.{ItemShape, BodyShape, Params, Coded, Label}
 use Rattle.hpgl_text.specs.declared.instruction.Instruction.{Instruction}
-use Rattle.hpgl_text.specs.declared.instruction.Instruction.TheVariants.{Initialize, DefaultValues, InputPoints, Scale, Rotate, InputWindow, SelectPen, PenWidth, PenColour, PenUp, PenDown, PlotAbsolute, PlotRelative, EdgeAbsolute, EdgeRelative, Circle, ArcAbsolute, ArcRelative, CharacterSize, Direction}
+use Rattle.hpgl_text.specs.declared.instruction.Instruction.TheVariants as instruction
+use Rattle.hpgl_text.specs.declared.instruction.Instruction.TheVariants.{Initialize, DefaultValues, InputPoints, Scale, Rotate, InputWindow, SelectPen, PenWidth, PenColour, PenUp, PenDown, PlotAbsolute, PlotRelative, PolylineEncoded, EdgeAbsolute, EdgeRelative, Circle, ArcAbsolute, ArcRelative, LabelTerminator, CharacterSize, Direction}
 use Rattle.hpgl_text.specs.Instructions.{instruction_of}
 use Rattle.plot_settings.specs.ArcParameters.{circled, arced}
 use Rattle.plot_settings.specs.declared.figure.Arc as arc
@@ -63,14 +64,16 @@ meaning PenUp ns = plots (Lower false ∷ moves ns) ns
 meaning PenDown ns = plots (lowered_then (moves ns)) ns
 meaning PlotAbsolute ns = plots (Relate false ∷ moves ns) ns
 meaning PlotRelative ns = plots (Relate true ∷ moves ns) ns
+meaning PolylineEncoded ns = nothing
 meaning EdgeAbsolute ns = edges false ns
 meaning EdgeRelative ns = edges true ns
 meaning Circle ns = circles (circled ns)
 meaning ArcAbsolute ns = arcs false (arced ns)
 meaning ArcRelative ns = arcs true (arced ns)
+meaning instruction.Label ns = nothing
+meaning LabelTerminator ns = nothing
 meaning CharacterSize ns = sets (character_size ns)
 meaning Direction ns = sets (direction ns)
-meaning _ ns = nothing
 
 -- whether the instruction sets a direction along no axis
 abbrev pub is_off_axis : Instruction → List ℤ → Bool

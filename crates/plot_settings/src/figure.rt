@@ -1,4 +1,11 @@
-//! Circles and arcs, as the instructions ask for them.
+//! Rectangles, circles and arcs, as the instructions ask for them.
+
+/// What EA and ER ask for: the corner of a rectangle opposite the pen, in millionths of the current unit.
+#[derive(Clone, Copy, Debug)]
+pub struct Corner {
+    pub x: i64,
+    pub y: i64,
+}
 
 /// What CI asks for: the radius in millionths of the current unit, and the angle of a chord, 500 to
 /// 180,000 thousandths of a degree.

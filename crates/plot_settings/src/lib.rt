@@ -10,16 +10,14 @@ mod lettering;
 mod palette;
 mod parameters;
 mod points;
+mod request;
 mod setting;
 mod wrong;
 
-pub use arc_parameters::{named_arc, named_circle};
-pub use figure::{Arc, Circle};
-pub use lettering::{named_direction, named_size, turned_offset};
+pub use figure::{Arc, Circle, Corner};
+pub use lettering::turned_offset;
 pub use palette::{FIRST_WIDTH, default_colour, default_colours, width_of_all};
-pub use parameters::{
-    named_colour, named_pen, named_points, named_rotation, named_scaling, named_width, named_window,
-};
 pub use points::points_moved_to;
+pub use request::{Moves, Request, request_of};
 pub use setting::{Corners, Rotation, Setting};
-pub use wrong::{does_plot, has_wrong_numbers, is_off_axis};
+pub use wrong::{has_wrong_numbers, is_off_axis};

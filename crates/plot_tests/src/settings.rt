@@ -1,41 +1,30 @@
 // What numbers set and ask for, by their text.
-use hpgl_text::{Body, Instruction, Items, Number, instruction_of_code};
+use hpgl_text::{Body, Items, instruction_of_code};
 use label_layout::Offset;
 use plot_frame::Points;
 use plot_settings::{
-    Circle, FIRST_WIDTH, Rotation, Setting, default_colour, default_colours, does_plot,
-    has_wrong_numbers, is_off_axis, named_arc, named_circle, named_colour, named_direction,
-    named_pen, named_points, named_rotation, named_scaling, named_size, named_width, named_window,
-    points_moved_to, turned_offset, width_of_all,
+    FIRST_WIDTH, Request, Rotation, default_colour, default_colours, has_wrong_numbers,
+    is_off_axis, points_moved_to, request_of, turned_offset, width_of_all,
 };
 use std::alloc::Global;
 use std::test::Fail;
 
-// What an instruction with these numbers sets.
-fn set_by(instruction: Instruction, numbers: &[Number]) -> Option<Setting> {
-    match instruction {
-        Instruction::SelectPen => named_pen(numbers),
-        Instruction::PenWidth => named_width(numbers),
-        Instruction::PenColour => named_colour(numbers),
-        Instruction::Rotate => named_rotation(numbers),
-        Instruction::InputPoints => named_points(numbers),
-        Instruction::InputWindow => named_window(numbers),
-        Instruction::Scale => named_scaling(numbers),
-        Instruction::CharacterSize => named_size(numbers),
-        Instruction::Direction => named_direction(numbers),
-        _ => None,
+// What is asked for, as a line.
+fn line(alloc: Global, request: Request) -> Result<String, Fail> {
+    match request {
+        Request::Nothing => Ok(format!(in alloc; "nothing\n")?),
+        Request::Set(setting) => Ok(format!(in alloc; "{setting:?}\n")?),
+        Request::Move(moves) => Ok(format!(in alloc; "moves {moves:?}\n")?),
+        Request::Edge(is_relative, corner) => {
+            Ok(format!(in alloc; "edge {is_relative} {corner:?}\n")?)
+        }
+        Request::Circle(circle) => Ok(format!(in alloc; "{circle:?}\n")?),
+        Request::Arc(is_relative, arc) => Ok(format!(in alloc; "{arc:?} {is_relative}\n")?),
+        Request::Wrong => Ok(format!(in alloc; "wrong\n")?),
     }
 }
 
-// The circle that an instruction with these numbers asks for.
-fn circle_by(instruction: Instruction, numbers: &[Number]) -> Option<Circle> {
-    match instruction {
-        Instruction::Circle => named_circle(numbers),
-        _ => None,
-    }
-}
-
-// What each instruction of a text sets or asks for, a line each, and what is wrong.
+// What each instruction of a text asks for, a line each, and what is wrong.
 fn settings_of(alloc: Global, text: &[u8]) -> Result<String, Fail> {
     let mut lines = String::new(alloc);
     for item in Items::new(text) {
@@ -45,18 +34,11 @@ fn settings_of(alloc: Global, text: &[u8]) -> Result<String, Fail> {
         let Some(instruction) = instruction_of_code(item.code) else {
             continue;
         };
-        let (list, count) = numbers.leading();
-        let first = &list[..count];
-        let line = if has_wrong_numbers(instruction, numbers) {
-            format!(in alloc; "wrong\n")?
-        } else if let Some(setting) = set_by(instruction, first) {
-            format!(in alloc; "{setting:?}\n")?
-        } else if let Some(circle) = circle_by(instruction, first) {
-            format!(in alloc; "{circle:?}\n")?
-        } else {
-            format!(in alloc; "moves {}\n", does_plot(instruction))?
-        };
+        let line = line(alloc, request_of(instruction, numbers))?;
         lines.push_str(line.as_str())?;
+        if has_wrong_numbers(instruction, numbers) {
+            lines.push_str("!\n")?;
+        }
         if is_off_axis(instruction, numbers) {
             lines.push_str("off axis\n")?;
         }
@@ -69,47 +51,47 @@ fn settings(rt: HostRuntime) -> Result<(), Fail> {
     let plots = [
         (
             b"SP;SP254.5;SP255.5".as_slice(),
-            "Pen(0)\nPen(255)\nwrong\n",
+            "Pen(0)\nPen(255)\nwrong\n!\n",
         ),
         (
             b"PW;PW20;PW0.4,2;PW20.000001;PW1,256".as_slice(),
-            "WidthOfAll(224)\nWidthOfAll(12800)\nWidth(2, 256)\nwrong\nwrong\n",
+            "WidthOfAll(224)\nWidthOfAll(12800)\nWidth(2, 256)\nwrong\n!\nwrong\n!\n",
         ),
         (
             b"PC;PC2;PC9,1,2,255,4;PC1,2;PC1,2,3,256".as_slice(),
             "DefaultColours\n\
 PenColour(2, Colour { red: 255, green: 0, blue: 0 })\n\
 PenColour(9, Colour { red: 1, green: 2, blue: 255 })\n\
-wrong\nwrong\n",
+wrong\n!\nwrong\n!\n",
         ),
         (
             b"RO;RO90;RO180;RO269.5;RO45".as_slice(),
-            "Rotate(None)\nRotate(Quarter)\nRotate(Half)\nRotate(ThreeQuarters)\nwrong\n",
+            "Rotate(None)\nRotate(Quarter)\nRotate(Half)\nRotate(ThreeQuarters)\nwrong\n!\n",
         ),
         (
             b"IP;IP1,2;IP1,2,1,5;IP1".as_slice(),
             "PageCorners\nFirstPoint(1, 2)\n\
 BothPoints(Points { x1: 1, y1: 2, x2: 2, y2: 5 })\n\
-wrong\n",
+wrong\n!\n",
         ),
         (
             b"IW;IW1,2,3,4.5;IW1,2".as_slice(),
             "PageWindow\n\
 CornerWindow(Corners { ax: 1000000, ay: 2000000, bx: 3000000, by: 4500000 })\n\
-wrong\n",
+wrong\n!\n",
         ),
         (
             b"SI;SI1,-40;SI1,0;SI1".as_slice(),
             "Size(CharacterSize { width: 1216, height: 1728 })\n\
 Size(CharacterSize { width: 6400, height: -256000 })\n\
-wrong\nwrong\n",
+wrong\n!\nwrong\n!\n",
         ),
         (
             b"DI;DI0,1;DI-2,1;DI-1,-2;DI0,0".as_slice(),
             "Direction(None)\nDirection(Quarter)\n\
 Direction(Half)\noff axis\n\
 Direction(ThreeQuarters)\noff axis\n\
-wrong\n",
+wrong\n!\n",
         ),
     ];
     for (plot, wanted) in plots {
@@ -124,7 +106,7 @@ fn scalings(rt: HostRuntime) -> Result<(), Fail> {
 Scale(Anisotropic(Ranges { xmin: 0, xmax: 1000000, ymin: 0, ymax: 2000000 }))\n\
 Scale(Isotropic(Fitting { ranges: Ranges { xmin: 0, xmax: 1000000, ymin: 0, ymax: 2000000 }, left: 25000000, bottom: 50000000 }))\n\
 Scale(PointFactor(Factors { xmin: 0, xfactor: 1000000, ymin: 0, yfactor: 2000000 }))\n\
-wrong\nwrong\nwrong\nwrong\n";
+wrong\n!\nwrong\n!\nwrong\n!\nwrong\n!\n";
     let plot =
         b"SC;SC0,1,0,2;SC0,1,0,2,1,25;SC0,1,0,2,2;SC1,1,0,2;SC0,1,0,0,2;SC0,1,0,2,3;SC0,1,0,2,1,101";
     assert_eq!(rt; settings_of(rt.alloc(), plot)?.as_str(), wanted);
@@ -135,7 +117,7 @@ wrong\nwrong\nwrong\nwrong\n";
 fn figures(rt: HostRuntime) -> Result<(), Fail> {
     let wanted = "Circle { radius: 16000000, chord: 5000 }\n\
 Circle { radius: -1500000, chord: 180000 }\n\
-wrong\nwrong\nmoves true\nwrong\nmoves false\nwrong\n";
+wrong\n!\nwrong\n!\nmoves Up\nmoves Down\n!\nedge false Corner { x: 1000000, y: 2000000 }\nwrong\n!\n";
     let plot = b"CI16;CI-1.5,180,3;CI1,0.4994;CI;PU1,2;PD1;EA1,2;ER1";
     assert_eq!(rt; settings_of(rt.alloc(), plot)?.as_str(), wanted);
     Ok(())
@@ -143,18 +125,11 @@ wrong\nwrong\nmoves true\nwrong\nmoves false\nwrong\n";
 
 #[test]
 fn arcs(rt: HostRuntime) -> Result<(), Fail> {
-    let mut found = String::new(rt.alloc());
-    for item in Items::new(b"AA1,2,-90.0006;AR1,2,360,0.5;AR1,2,360.0005") {
-        if let Body::Params(numbers) = &item.body {
-            let (list, count) = numbers.leading();
-            let arc = named_arc(&list[..count]);
-            found.push_str(format!(in rt.alloc(); "{arc:?}\n")?.as_str())?;
-        }
-    }
-    let wanted = "Some(Arc { x: 1000000, y: 2000000, sweep: -90001, chord: 5000 })\n\
-Some(Arc { x: 1000000, y: 2000000, sweep: 360000, chord: 500 })\n\
-None\n";
-    assert_eq!(rt; found.as_str(), wanted);
+    let wanted = "Arc { x: 1000000, y: 2000000, sweep: -90001, chord: 5000 } false\n\
+Arc { x: 1000000, y: 2000000, sweep: 360000, chord: 500 } true\n\
+wrong\n!\n";
+    let plot = b"AA1,2,-90.0006;AR1,2,360,0.5;AR1,2,360.0005";
+    assert_eq!(rt; settings_of(rt.alloc(), plot)?.as_str(), wanted);
     Ok(())
 }
 

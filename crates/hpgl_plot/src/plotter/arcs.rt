@@ -1,10 +1,9 @@
 //! Circles and arcs.
-ghost use Rattle.std.specs.Prelude.{◌≡◌, ◌∷◌, IfOk, IfSome};
+ghost use Rattle.std.specs.Prelude.{◌≡◌, ◌∷◌, IfOk};
 ghost use Rattle.hpgl_plot.specs.Arcs as curves;
 ghost use Rattle.hpgl_plot.specs.Bounds.{IsInRange, IsCurve};
 ghost use Rattle.plot_settings.specs.Bounds.{IsCircle, IsArc};
-ghost use Rattle.hpgl_plot.specs.Machine.{seen, step, run, Runs, travelled};
-ghost use Rattle.plot_settings.specs.Meanings.{circles, arcs};
+ghost use Rattle.hpgl_plot.specs.Machine.{seen, step, Runs, travelled};
 ghost use Rattle.hpgl_plot.specs.Paths.{pen_at, target};
 ghost use Rattle.plot_settings.specs.Steps.{DrawCircle, DrawArc};
 
@@ -16,30 +15,8 @@ use plot_arc::Spot;
 use plot_settings::{Arc, Circle};
 
 impl Plotter {
-    /// A circle, if its parameters are not wrong.
-    pub fn circle_by(&mut self, named: Option<Circle>) -> Result<(), Stop>
-        requires { IfSome named (λ c. IsCircle c) }
-        ensures { Runs (run (seen self.old) (circles named).steps) (seen self.new) result }
-    {
-        if let Some(circle) = named {
-            self.circle(circle)?;
-        }
-        Ok(())
-    }
-
-    /// An arc, if its parameters are not wrong.
-    pub fn arc_by(&mut self, is_relative: bool, named: Option<Arc>) -> Result<(), Stop>
-        requires { IfSome named (λ a. IsArc a) }
-        ensures { Runs (run (seen self.old) (arcs is_relative named).steps) (seen self.new) result }
-    {
-        if let Some(arc) = named {
-            self.arc(is_relative, arc)?;
-        }
-        Ok(())
-    }
-
-    // A circle about the pen, which stays where it is.
-    fn circle(&mut self, circle: Circle) -> Result<(), Stop>
+    /// A circle about the pen, which stays where it is.
+    pub fn circle(&mut self, circle: Circle) -> Result<(), Stop>
         requires { IsCircle circle }
         ensures { Runs (step (seen self.old) (DrawCircle circle)) (seen self.new) result }
     {
@@ -49,8 +26,8 @@ impl Plotter {
         Ok(())
     }
 
-    // An arc from the pen on, which moves to its end.
-    fn arc(&mut self, is_relative: bool, arc: Arc) -> Result<(), Stop>
+    /// An arc from the pen on, which moves to its end.
+    pub fn arc(&mut self, is_relative: bool, arc: Arc) -> Result<(), Stop>
         requires { IsArc arc }
         ensures { Runs (step (seen self.old) (DrawArc is_relative arc)) (seen self.new) result }
     {

@@ -1,0 +1,159 @@
+//! What an instruction asks for by its numbers: the one table that says it.
+ghost use Rattle.std.specs.Prelude.{◌≡◌, List, ℤ, All, IfSome, MatchOption, true, false};
+ghost use Rattle.hpgl_text.specs.Numbers.{IsNumber};
+ghost use Rattle.plot_settings.specs.Requests.{request_meaning, move_steps, IsRequest};
+ghost use Rattle.plot_settings.specs.Bounds.{IsSetting, IsCircle, IsArc};
+ghost use Rattle.plot_settings.specs.Meanings.{meaning, sets, plots, edges, circles, arcs};
+ghost use Rattle.plot_settings.specs.Pairs.{plots_pairs};
+
+use crate::arc_parameters::{named_arc, named_circle};
+use crate::figure::{Arc, Circle, Corner};
+use crate::lettering::{named_direction, named_size};
+use crate::parameters::{
+    named_colour, named_pen, named_points, named_rotation, named_scaling, named_width, named_window,
+};
+use crate::setting::Setting;
+use hpgl_text::{Instruction, Number, Numbers};
+
+/// The instructions that move the pen to each pair of their numbers.
+#[derive(Clone, Copy, Debug, PartialEq, Eq)]
+pub enum Moves {
+    /// PU: with the pen up.
+    Up,
+    /// PD: with the pen down.
+    Down,
+    /// PA: to absolute coordinates.
+    Absolute,
+    /// PR: to relative coordinates.
+    Relative,
+}
+
+/// What an instruction asks for. Coordinates are in millionths of the current unit.
+#[derive(Clone, Copy, Debug)]
+pub enum Request {
+    /// Nothing: PE, LB and DT have no list of numbers.
+    Nothing,
+    /// A setting.
+    Set(Setting),
+    /// A move to each pair of the numbers.
+    Move(Moves),
+    /// EA and ER: the edge of a rectangle, by whether the corner opposite the pen is relative to it.
+    Edge(bool, Corner),
+    /// CI: a circle about the pen.
+    Circle(Circle),
+    /// AA and AR: an arc, by whether its centre is relative to the pen.
+    Arc(bool, Arc),
+    /// Nothing, since the numbers are invalid.
+    Wrong,
+}
+
+/// What an instruction asks for by its numbers. Numbers after the last that it has are ignored. Of the
+/// instructions with moves the numbers themselves are the coordinates, and one without its pair is
+/// invalid, but changes nothing for the pairs before it.
+pub fn request_of(instruction: Instruction, numbers: &Numbers<'_>) -> Request
+    ensures meaning { request_meaning result numbers.now ≡ meaning instruction numbers.now }
+    ensures sound { IsRequest result }
+{
+    match moves_of(instruction) {
+        Some(moves) => Request::Move(moves),
+        None => {
+            let (list, count) = numbers.leading();
+            request_by_first(instruction, &list[..count])
+        }
+    }
+}
+
+// The moves of PU, PD, PA and PR.
+fn moves_of(instruction: Instruction) -> Option<Moves>
+    ensures { MatchOption result (plots_pairs instruction ≡ false) (λ kind. (ns : List ℤ) → plots (move_steps kind ns) ns ≡ meaning instruction ns) }
+{
+    match instruction {
+        Instruction::PenUp => Some(Moves::Up),
+        Instruction::PenDown => Some(Moves::Down),
+        Instruction::PlotAbsolute => Some(Moves::Absolute),
+        Instruction::PlotRelative => Some(Moves::Relative),
+        _ => None,
+    }
+}
+
+// What each other instruction asks for by its first numbers.
+fn request_by_first(instruction: Instruction, numbers: &[Number]) -> Request
+    requires small { All IsNumber numbers.now }
+    requires other { plots_pairs instruction ≡ false }
+    ensures meaning { (ns : List ℤ) → request_meaning result ns ≡ meaning instruction numbers.now }
+    ensures sound { IsRequest result }
+{
+    match instruction {
+        Instruction::Initialize => Request::Set(Setting::Start),
+        Instruction::DefaultValues => Request::Set(Setting::Defaults),
+        Instruction::InputPoints => set_by(named_points(numbers)),
+        Instruction::Scale => set_by(named_scaling(numbers)),
+        Instruction::Rotate => set_by(named_rotation(numbers)),
+        Instruction::InputWindow => set_by(named_window(numbers)),
+        Instruction::SelectPen => set_by(named_pen(numbers)),
+        Instruction::PenWidth => set_by(named_width(numbers)),
+        Instruction::PenColour => set_by(named_colour(numbers)),
+        Instruction::EdgeAbsolute => edge_by(false, numbers),
+        Instruction::EdgeRelative => edge_by(true, numbers),
+        Instruction::Circle => circle_by(named_circle(numbers)),
+        Instruction::ArcAbsolute => arc_by(false, named_arc(numbers)),
+        Instruction::ArcRelative => arc_by(true, named_arc(numbers)),
+        Instruction::CharacterSize => set_by(named_size(numbers)),
+        Instruction::Direction => set_by(named_direction(numbers)),
+        Instruction::PolylineEncoded | Instruction::Label => Request::Nothing,
+        Instruction::LabelTerminator => Request::Nothing,
+        // These have moves.
+        Instruction::PenUp | Instruction::PenDown => Request::Nothing,
+        Instruction::PlotAbsolute | Instruction::PlotRelative => Request::Nothing,
+    }
+}
+
+fn set_by(named: Option<Setting>) -> Request
+    requires { IfSome named (λ setting. IsSetting setting) }
+    ensures meaning { (ns : List ℤ) → request_meaning result ns ≡ sets named }
+    ensures sound { IsRequest result }
+{
+    match named {
+        Some(setting) => Request::Set(setting),
+        None => Request::Wrong,
+    }
+}
+
+fn edge_by(is_relative: bool, numbers: &[Number]) -> Request
+    ensures meaning { (ns : List ℤ) → request_meaning result ns ≡ edges is_relative numbers.now }
+    ensures sound { IsRequest result }
+{
+    match numbers {
+        [] => Request::Wrong,
+        [_] => Request::Wrong,
+        [x, y, ..] => {
+            let corner = Corner {
+                x: x.millionths(),
+                y: y.millionths(),
+            };
+            Request::Edge(is_relative, corner)
+        }
+    }
+}
+
+fn circle_by(named: Option<Circle>) -> Request
+    requires { IfSome named (λ circle. IsCircle circle) }
+    ensures meaning { (ns : List ℤ) → request_meaning result ns ≡ circles named }
+    ensures sound { IsRequest result }
+{
+    match named {
+        Some(circle) => Request::Circle(circle),
+        None => Request::Wrong,
+    }
+}
+
+fn arc_by(is_relative: bool, named: Option<Arc>) -> Request
+    requires { IfSome named (λ arc. IsArc arc) }
+    ensures meaning { (ns : List ℤ) → request_meaning result ns ≡ arcs is_relative named }
+    ensures sound { IsRequest result }
+{
+    match named {
+        Some(arc) => Request::Arc(is_relative, arc),
+        None => Request::Wrong,
+    }
+}
