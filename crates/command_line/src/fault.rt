@@ -6,7 +6,7 @@ ghost use Rattle.command_line.specs.Statuses.{parse_status_of};
 use clap::error::ErrorKind;
 use thiserror::Error;
 
-/// Why there is no command.
+/// Why the command could not be made.
 #[derive(Clone, Copy, Debug, PartialEq, Eq, Drop, Error)]
 pub enum BuildFault {
     /// The heap gave no memory.

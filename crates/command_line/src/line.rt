@@ -31,9 +31,10 @@ pub struct Line<'a> {
     pub file: Option<&'a str>,
 }
 
-/// The values of the matches of `command`'s command. It fails by `Pens` exactly if a picture is asked
-/// for by a text that is no list of pens. It fails by `Words` only if the matches are of another
-/// command, so never after a `parse` that succeeded.
+/// The values of the matches of `command`'s command.
+///
+/// Errors: `Pens` if and only if a picture is asked for and `--pens` is not a valid list; `Words` only
+/// if the matches are of another command, so never after a `parse` that succeeded.
 pub fn settle<'a>(matches: &ArgMatches<'a>) -> Result<Line<'a>, LineFault>
     ensures line { IfOk result (IsLineOf matches.now) }
     ensures pens { (result ≡ Err LineFault.Pens) ↔ (asks_bad_list matches.now ≡ true) }

@@ -1,4 +1,4 @@
-//! The command line, as `clap` is told it.
+//! The command line, as it is declared to `clap`.
 ghost use Rattle.std.specs.Prelude.{◌≡◌, IfOk, true, false, codes};
 ghost use Rattle.std.specs.Prelude.{List, [], map};
 ghost use Rattle.clap.specs.Words.{Text, FailsBy, fault_of, HasMatchesOf};
@@ -185,8 +185,7 @@ pub fn command<'a>(alloc: Global) -> Result<Command<'a>, BuildFault>
 }
 
 /// The matches of the words, of which the first is the program's name and the others are its
-/// arguments. It fails for a fault of the words, a call for help among them, and for want of
-/// memory.
+/// arguments. Fails on invalid arguments, on a call for help or the version, and if memory runs out.
 pub fn parse<'a, S: AsStr>(
     command: Command<'a>,
     words: &'a [S],

@@ -29,7 +29,7 @@ pub fn band_space(form: Form, columns: u32, rows: u32) -> usize
 }
 
 /// Writes the rows of a band into the buffer, as PBM has them, and returns how many bytes they take.
-/// `None` promises nothing: the rows are then still to be written.
+/// `None` if the buffer is too small; the rows are then still to be written.
 pub fn gather(band: &Band<'_>, buffer: &mut [u8]) -> Option<usize>
     requires columns { All (λ row. length row ≤ MOST_PIXELS_A_SIDE) (rows_of_band band.now) }
     ensures few { IfSome result (λ end. end ≤ length (rows_of_band band.now) * MOST_BYTES_A_ROW) }

@@ -13,9 +13,7 @@ use crate::axes::Axes;
 use crate::fault::PlotFault;
 use crate::place::{start_axes, start_of};
 use crate::state::State;
-use hpgl_text::{
-    Body, Entries, Entry, Instruction, Item, Numbers, Part, instruction_of_code,
-};
+use hpgl_text::{Body, Entries, Entry, Instruction, Item, Numbers, Part, instruction_of_code};
 use plot_page::{Page, Stroke};
 use plot_settings::{Moves, Request, request_of};
 use std::alloc::Global;

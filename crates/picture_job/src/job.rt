@@ -1,9 +1,9 @@
-//! A picture that is asked for.
+//! A request for a picture.
 use picture_out::Form;
 use plot_page::Page;
 use stroke_raster::{Dots, PenSet};
 
-/// A picture that is asked for: of which page, how fine, in which form.
+/// A request for a picture: page, resolution, pens, band height, first row and form.
 #[derive(Clone, Copy)]
 pub struct Job {
     /// The page, in plotter units of 0.025 mm.

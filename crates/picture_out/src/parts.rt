@@ -57,7 +57,7 @@ pub fn row_space(form: Form, columns: u32) -> usize
 /// whole picture (pbm(5), ppm(5)), for PCL the commands that start raster graphics, with the
 /// resolution and the size. `dots` is the resolution in dots per inch.
 ///
-/// Errors: 7 exactly if the sink fails; it has then taken the first `bytes` bytes.
+/// Errors: a `WriteFault` if and only if the sink fails; it has then taken the first `bytes` bytes.
 pub fn head<K: Sink>(
     form: Form,
     dots: u32,
@@ -120,7 +120,7 @@ fn append_netpbm(text: &mut [u8], magic: &[u8], columns: u32, rows: u32) -> usiz
 /// bit for each cell, PPM three bytes, PCL the bytes of PBM after the command that transfers them.
 /// The buffer is `room` long or longer, and what it holds afterwards has no meaning.
 ///
-/// Errors: 7 exactly if the sink fails; it has then taken the first `bytes` bytes.
+/// Errors: a `WriteFault` if and only if the sink fails; it has then taken the first `bytes` bytes.
 pub fn row<I: Inks, K: Sink>(
     form: Form,
     index: u32,
@@ -195,7 +195,7 @@ fn put_row<I: Inks, K: Sink>(
 /// Writes the foot, which follows the rows: for PCL the commands that end raster graphics and reset
 /// the printer, for each other form nothing.
 ///
-/// Errors: 7 exactly if the sink fails; it has then taken the first `bytes` bytes.
+/// Errors: a `WriteFault` if and only if the sink fails; it has then taken the first `bytes` bytes.
 pub fn foot<K: Sink>(form: Form, sink: &mut K) -> Result<(), WriteFault>
     requires sound { K.failed sink.old < 2 ^ 64 - 1 }
     ensures writes { Writes K.held K.failed sink.old sink.new (foot_bytes form) result }

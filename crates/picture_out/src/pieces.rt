@@ -7,7 +7,7 @@ use crate::sink::Sink;
 
 /// Writes all the bytes, in as many pieces as the sink needs. An empty piece is never put.
 ///
-/// Errors: 7 exactly if the sink fails; it has then taken the first `bytes` bytes.
+/// Errors: a `WriteFault` if and only if the sink fails; it has then taken the first `bytes` bytes.
 pub fn put_all<K: Sink>(sink: &mut K, bytes: &[u8]) -> Result<(), WriteFault>
     requires sound { K.failed sink.old < 2 ^ 64 - 1 }
     ensures writes { Writes K.held K.failed sink.old sink.new bytes.now result }

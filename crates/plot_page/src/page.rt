@@ -13,7 +13,7 @@ pub const LONGEST_SIDE: u32 = 65_536;
 /// How far the lower left corner of a page may be left of (0, 0) and below it, in plotter units.
 pub const FARTHEST_CORNER: u32 = 65_536;
 
-/// Why there is no such page.
+/// Why a page could not be made.
 #[derive(Clone, Copy, Debug, PartialEq, Eq, Drop, Error)]
 pub enum PageFault {
     /// The width or the height is not 64 to 65,536 plotter units.

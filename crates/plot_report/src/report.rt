@@ -31,7 +31,7 @@ const PIECE: usize = 32_768;
 ///
 /// Returns how many bytes the report has. It asks for no memory.
 ///
-/// Errors: 7 exactly if the sink fails; it has then taken the first `bytes` bytes.
+/// Errors: a `WriteFault` if and only if the sink fails; it has then taken the first `bytes` bytes.
 pub fn write_report<K: Sink>(
     page: &Page,
     strokes: &[Stroke],

@@ -3,8 +3,8 @@ ghost use Rattle.std.specs.Prelude.{◌≡◌};
 ghost use Rattle.plot_settings.specs.Lettering as lettering;
 ghost use Rattle.plot_settings.specs.Meanings as meanings;
 
-use crate::request::{Request, request_of};
 use crate::lettering::is_slanted;
+use crate::request::{Request, request_of};
 use hpgl_text::{Instruction, Numbers};
 
 /// Whether the numbers of an instruction are invalid: out of their range, too few, or, if it makes a

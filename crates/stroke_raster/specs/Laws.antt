@@ -43,8 +43,8 @@ DotsAreDiscs = (s : Segment) (r : ℕ) (p : Vector) → s.bx ≡ s.ax → s.by �
 -- what it showed
 pub record LaterStrokesCover : Type 0 where
   pub covered : (covers : Segment → ℕ → ℕ → Bool) (pens : PenSet) (strokes : List Segment) (s : Segment) (row column : ℕ) →
-    has_pen pens s.pen ≡ true → covers s row column ≡ true → shown covers pens (strokes ++ (s ∷ [])) row column ≡ length strokes + 1
+      has_pen pens s.pen ≡ true → covers s row column ≡ true → shown covers pens (strokes ++ (s ∷ [])) row column ≡ length strokes + 1
   pub elsewhere : (covers : Segment → ℕ → ℕ → Bool) (pens : PenSet) (strokes : List Segment) (s : Segment) (row column : ℕ) →
-    covers s row column ≡ false → shown covers pens (strokes ++ (s ∷ [])) row column ≡ shown covers pens strokes row column
+      covers s row column ≡ false → shown covers pens (strokes ++ (s ∷ [])) row column ≡ shown covers pens strokes row column
   pub other_pen : (covers : Segment → ℕ → ℕ → Bool) (pens : PenSet) (strokes : List Segment) (s : Segment) (row column : ℕ) →
-    has_pen pens s.pen ≡ false → shown covers pens (strokes ++ (s ∷ [])) row column ≡ shown covers pens strokes row column
+      has_pen pens s.pen ≡ false → shown covers pens (strokes ++ (s ∷ [])) row column ≡ shown covers pens strokes row column

@@ -23,7 +23,7 @@ pub struct Slope {
     pub inverse: Inverse,
 }
 
-/// 2^64 divided by a number, rounded down and up, each by perhaps more than 1.
+/// A lower and an upper bound of 2^64 divided by a number.
 #[derive(Clone, Copy, Debug)]
 pub struct Inverse {
     pub under: u64,
