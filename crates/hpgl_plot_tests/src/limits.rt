@@ -1,18 +1,23 @@
-// A plot may have 4,194,304 strokes. These tests take seconds.
+// A plot may have 4,194,304 strokes.
 use crate::drawings::square;
 use hpgl_plot::{PlotFault, draw_text};
 use std::alloc::Global;
 use std::test::Fail;
 
-// A rectangle's edge has four strokes.
-const RECTANGLES: usize = 1_048_576;
+// An 8 has 15 strokes, and a # has 4.
+const EIGHTS: usize = 279_620;
 
-// As many strokes as a plot may have, and this text after them, which begins at byte 6,291,456.
+const STROKES: usize = 15 * EIGHTS + 4;
+
+// A label with as many strokes as a plot may have, all in the place of its first character, and this text after it,
+// which begins at byte 559,244.
 fn longest_and(alloc: Global, last: &[u8]) -> Result<Vec<u8>, Fail> {
     let mut text = Vec::new(alloc);
-    for _ in 0..RECTANGLES {
-        text.extend_from_slice(b"ER1,1;")?;
+    text.extend_from_slice(b"LB")?;
+    for _ in 0..EIGHTS {
+        text.extend_from_slice(b"8\r")?;
     }
+    text.extend_from_slice(b"#\x03")?;
     text.extend_from_slice(last)?;
     Ok(text)
 }
@@ -21,7 +26,7 @@ fn longest_and(alloc: Global, last: &[u8]) -> Result<Vec<u8>, Fail> {
 fn as_many_strokes_as_there_may_be(rt: HostRuntime) -> Result<(), Fail> {
     let text = longest_and(rt.alloc(), b"")?;
     let lines = draw_text(rt.alloc(), text.as_slice(), &square()?)?;
-    assert_eq!(rt; lines.strokes.len(), 4 * RECTANGLES);
+    assert_eq!(rt; lines.strokes.len(), STROKES);
     Ok(())
 }
 
@@ -29,7 +34,7 @@ fn as_many_strokes_as_there_may_be(rt: HostRuntime) -> Result<(), Fail> {
 fn a_stroke_too_many(rt: HostRuntime) -> Result<(), Fail> {
     let text = longest_and(rt.alloc(), b"PD;")?;
     let answer = draw_text(rt.alloc(), text.as_slice(), &square()?);
-    let too_many = matches!(answer, Err(PlotFault::TooManyStrokes { at: 6_291_456 }));
+    let too_many = matches!(answer, Err(PlotFault::TooManyStrokes { at: 559_244 }));
     assert!(rt; too_many);
     Ok(())
 }
@@ -39,7 +44,7 @@ fn a_stroke_too_many(rt: HostRuntime) -> Result<(), Fail> {
 fn a_stroke_too_many_and_a_place_out_of_range(rt: HostRuntime) -> Result<(), Fail> {
     let text = longest_and(rt.alloc(), b"PD0,0,70000,0;")?;
     let answer = draw_text(rt.alloc(), text.as_slice(), &square()?);
-    let off_range = matches!(answer, Err(PlotFault::OffRange { at: 6_291_456 }));
+    let off_range = matches!(answer, Err(PlotFault::OffRange { at: 559_244 }));
     assert!(rt; off_range);
     Ok(())
 }
