@@ -21,6 +21,6 @@ pub use fault::WriteFault;
 pub use form::{Form, takes_resolution};
 pub use inks::{Ink, Inks};
 pub use over_write::OverWrite;
-pub use parts::{foot, foot_counted, head, head_counted, room, row, row_counted, row_space};
+pub use parts::{put_foot, put_head, put_row, room, row_space};
 pub use pieces::{append, put_all};
 pub use sink::{Sink, SinkFault};

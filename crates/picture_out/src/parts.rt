@@ -28,7 +28,7 @@ const LONGEST_HEAD: usize = LONGEST_PCL_HEAD;
 // The longest foot, in bytes: PCL's.
 const LONGEST_FOOT: usize = 6;
 
-/// The least length of a buffer that `row` takes for rows of `columns` columns, in bytes.
+/// The least length of a buffer that `put_row` takes for rows of `columns` columns, in bytes.
 pub fn room(form: Form, columns: u32) -> usize
     ensures { result ≡ room_of form columns }
 {
@@ -40,7 +40,7 @@ pub fn room(form: Form, columns: u32) -> usize
 }
 
 /// The length of a buffer, in bytes, that takes any row of `columns` columns whole, whatever its
-/// inks, so that `row` writes it in one piece.
+/// inks, so that `put_row` writes it in one piece.
 pub fn row_space(form: Form, columns: u32) -> usize
     ensures room { room_of form columns ≤ result }
     ensures whole { TakesAnyRow form columns result }
@@ -53,27 +53,12 @@ pub fn row_space(form: Form, columns: u32) -> usize
     }
 }
 
-/// Writes the header: nothing for marks, for Netpbm's forms the magic number and the size of the
-/// whole picture (pbm(5), ppm(5)), for PCL the commands that start raster graphics, with the
-/// resolution and the size. `dots` is the resolution in dots per inch.
+/// Writes the header, and returns how many bytes it has: nothing for marks, for Netpbm's forms the
+/// magic number and the size of the whole picture (pbm(5), ppm(5)), for PCL the commands that start
+/// raster graphics, with the resolution and the size. `dots` is the resolution in dots per inch.
 ///
 /// Errors: a `WriteFault` if and only if the sink fails; it has then taken the first `bytes` bytes.
-pub fn head<K: Sink>(
-    form: Form,
-    dots: u32,
-    columns: u32,
-    rows: u32,
-    sink: &mut K,
-) -> Result<(), WriteFault>
-    requires sound { K.failed sink.old < 2 ^ 64 - 1 }
-    ensures writes { Writes K.held K.failed sink.old sink.new (head_bytes form dots columns rows) result }
-{
-    head_counted(form, dots, columns, rows, sink)?;
-    Ok(())
-}
-
-/// `head`, with the count of the bytes written.
-pub fn head_counted<K: Sink>(
+pub fn put_head<K: Sink>(
     form: Form,
     dots: u32,
     columns: u32,
@@ -114,33 +99,15 @@ fn append_netpbm(text: &mut [u8], magic: &[u8], columns: u32, rows: u32) -> usiz
     append(text, used, b"\n")
 }
 
-/// Writes the row with the number `index`, counted from 0 at the top. Each cell is 0 for the
-/// paper, or the position of its ink, from 1 up to and including the count. Marks have a
-/// line `row column pen rrggbb` for each cell that is not 0, the colour in hexadecimal; PBM has a
-/// bit for each cell, PPM three bytes, PCL the bytes of PBM after the command that transfers them.
+/// Writes the row with the number `index`, counted from 0 at the top, and returns how many bytes it
+/// has. Each cell is 0 for the paper, or the position of its ink, from 1 up to and including the
+/// count. Marks have a line `row column pen rrggbb` for each cell that is not 0, the colour in
+/// hexadecimal; PBM has a bit for each cell, PPM three bytes, PCL the bytes of PBM after the command
+/// that transfers them.
 /// The buffer is `room` long or longer, and what it holds afterwards has no meaning.
 ///
 /// Errors: a `WriteFault` if and only if the sink fails; it has then taken the first `bytes` bytes.
-pub fn row<I: Inks, K: Sink>(
-    form: Form,
-    index: u32,
-    cells: &[u32],
-    inks: &I,
-    buffer: &mut [u8],
-    sink: &mut K,
-) -> Result<(), WriteFault>
-    requires sound { K.failed sink.old < 2 ^ 64 - 1 }
-    requires columns { length cells.now < 2 ^ 32 }
-    requires inked { AreInked (I.inks inks.now) cells.now }
-    requires room { room_of form (length cells.now) ≤ length buffer.old }
-    ensures writes { Writes K.held K.failed sink.old sink.new (row_bytes form index (I.inks inks.now) cells.now) result }
-{
-    row_counted(form, index, Cells::new(cells), inks, buffer, sink)?;
-    Ok(())
-}
-
-/// `row` for cells that may know a span, with the count of the bytes written.
-pub fn row_counted<I: Inks, K: Sink>(
+pub fn put_row<I: Inks, K: Sink>(
     form: Form,
     index: u32,
     cells: Cells<'_>,
@@ -157,10 +124,10 @@ pub fn row_counted<I: Inks, K: Sink>(
     ensures small { WritesAtMost (LONGEST_LINE * length cells.entry + LONGEST_COMMAND) result }
 {
     let span = cells.span;
-    put_row(form, index, cells.cells, span, inks, buffer, sink)
+    put_cells(form, index, cells.cells, span, inks, buffer, sink)
 }
 
-fn put_row<I: Inks, K: Sink>(
+fn put_cells<I: Inks, K: Sink>(
     form: Form,
     index: u32,
     cells: &[u32],
@@ -192,20 +159,11 @@ fn put_row<I: Inks, K: Sink>(
     }
 }
 
-/// Writes the foot, which follows the rows: for PCL the commands that end raster graphics and reset
-/// the printer, for each other form nothing.
+/// Writes the foot, which follows the rows, and returns how many bytes it has: for PCL the commands
+/// that end raster graphics and reset the printer, for each other form nothing.
 ///
 /// Errors: a `WriteFault` if and only if the sink fails; it has then taken the first `bytes` bytes.
-pub fn foot<K: Sink>(form: Form, sink: &mut K) -> Result<(), WriteFault>
-    requires sound { K.failed sink.old < 2 ^ 64 - 1 }
-    ensures writes { Writes K.held K.failed sink.old sink.new (foot_bytes form) result }
-{
-    foot_counted(form, sink)?;
-    Ok(())
-}
-
-/// `foot`, with the count of the bytes written.
-pub fn foot_counted<K: Sink>(form: Form, sink: &mut K) -> Result<u64, WriteFault>
+pub fn put_foot<K: Sink>(form: Form, sink: &mut K) -> Result<u64, WriteFault>
     requires sound { K.failed sink.old < 2 ^ 64 - 1 }
     ensures writes { Writes K.held K.failed sink.old sink.new (foot_bytes form) result }
     ensures count { IfOk result (λ n. n ≡ length (foot_bytes form)) }

@@ -2,8 +2,8 @@
 ghost use Rattle.std.specs.Prelude.{◌≡◌, ◌-◌, ◌+◌, ◌^◌, ◌<◌, ◌≤◌, All, Some, length};
 
 use picture_out::{
-    Cells, Form, Ink, Inks, OverWrite, Sink, SinkFault, append_bits, foot, head, pack_bits,
-    put_all, room, row, row_counted, row_space,
+    Cells, Form, Ink, Inks, OverWrite, Sink, SinkFault, append_bits, pack_bits, put_all, put_foot,
+    put_head, put_row, room, row_space,
 };
 use std::alloc::Global;
 use std::io::Write;
@@ -127,10 +127,24 @@ fn a_bitmap(rt: HostRuntime) -> Result<(), Fail> {
     let mut sink = OverWrite::new(Vec::new(rt.alloc()));
     let mut buffer = [255; 2];
     assert_eq!(rt; room(Form::Pbm, 9), 2);
-    head(Form::Pbm, 127, 9, 2, &mut sink)?;
-    row(Form::Pbm, 0, &CELLS, &TABLE, &mut buffer, &mut sink)?;
-    row(Form::Pbm, 1, &[0; 9], &TABLE, &mut buffer, &mut sink)?;
-    foot(Form::Pbm, &mut sink)?;
+    put_head(Form::Pbm, 127, 9, 2, &mut sink)?;
+    put_row(
+        Form::Pbm,
+        0,
+        Cells::new(&CELLS),
+        &TABLE,
+        &mut buffer,
+        &mut sink,
+    )?;
+    put_row(
+        Form::Pbm,
+        1,
+        Cells::new(&[0; 9]),
+        &TABLE,
+        &mut buffer,
+        &mut sink,
+    )?;
+    put_foot(Form::Pbm, &mut sink)?;
     assert_eq!(rt; sink.failures(), 0);
     assert_eq!(rt;
         sink.into_inner().as_slice(),
@@ -145,10 +159,17 @@ fn a_pixmap(rt: HostRuntime) -> Result<(), Fail> {
     let mut sink = OverWrite::new(Vec::new(rt.alloc()));
     let mut buffer = [9; 40];
     assert_eq!(rt; room(Form::Ppm, 10), 30);
-    head(Form::Ppm, 600, 10, 12345, &mut sink)?;
+    put_head(Form::Ppm, 600, 10, 12345, &mut sink)?;
     let cells = [0, 1, 1, 3, 2, 2, 4, 0, 0, 1];
-    row(Form::Ppm, 0, &cells, &TABLE, &mut buffer, &mut sink)?;
-    foot(Form::Ppm, &mut sink)?;
+    put_row(
+        Form::Ppm,
+        0,
+        Cells::new(&cells),
+        &TABLE,
+        &mut buffer,
+        &mut sink,
+    )?;
+    put_foot(Form::Ppm, &mut sink)?;
     let mut want = Vec::from_slice(rt.alloc(), b"P6\n10 12345\n255\n")?;
     want.extend_from_slice(b"\xff\xff\xff\x00\x00\x00\x00\x00\x00\x00\x00\x00\x0a\x14\x1e")?;
     want.extend_from_slice(b"\x0a\x14\x1e\xff\xff\xff\xff\xff\xff\xff\xff\xff\x00\x00\x00")?;
@@ -166,7 +187,7 @@ fn written(rt: &HostRuntime, form: Form, cells: Cells<'_>) -> Result<Vec<u8>, Fa
 {
     let mut sink = OverWrite::new(Vec::new(rt.alloc()));
     let mut buffer = [9; 60];
-    row_counted(form, 5, cells, &TABLE, &mut buffer, &mut sink)?;
+    put_row(form, 5, cells, &TABLE, &mut buffer, &mut sink)?;
     Ok(sink.into_inner())
 }
 
@@ -203,11 +224,18 @@ fn marks_from_each_buffer(rt: HostRuntime) -> Result<(), Fail> {
         let mut sink = narrow_sink(rt.alloc(), 1000, 1000);
         if length <= 400 {
             let buffer = &mut buffer[..length];
-            head(Form::Marks, 127, 9, 13, &mut sink)?;
+            put_head(Form::Marks, 127, 9, 13, &mut sink)?;
             let cells = Cells::new(&CELLS);
-            let count = row_counted(Form::Marks, 12, cells, &TABLE, buffer, &mut sink)?;
-            row(Form::Marks, 13, &[0; 9], &TABLE, buffer, &mut sink)?;
-            foot(Form::Marks, &mut sink)?;
+            let count = put_row(Form::Marks, 12, cells, &TABLE, buffer, &mut sink)?;
+            put_row(
+                Form::Marks,
+                13,
+                Cells::new(&[0; 9]),
+                &TABLE,
+                buffer,
+                &mut sink,
+            )?;
+            put_foot(Form::Marks, &mut sink)?;
             assert_eq!(rt; count, 72, "length {length}");
         }
         assert_eq!(rt; sink.bytes.as_slice(), MARKS, "length {length}");
@@ -237,10 +265,10 @@ fn a_sink_that_fails(rt: HostRuntime) -> Result<(), Fail> {
                 let mut sink = narrow_sink(rt.alloc(), limit, 11);
                 sink.faults = faults;
                 let mut buffer = [0; 300];
-                let fault = row(
+                let fault = put_row(
                     Form::Marks,
                     12,
-                    &CELLS,
+                    Cells::new(&CELLS),
                     &TABLE,
                     &mut buffer[..room],
                     &mut sink,

@@ -5,7 +5,7 @@ ghost use Rattle.picture_out.specs.Forms.{room_of};
 
 use crate::forms::{CELLS, TABLE, narrow_sink, pack_plain};
 use picture_out::{
-    Cells, Form, OverWrite, Sink, WriteFault, foot, head, room, row, row_counted, row_space,
+    Cells, Form, OverWrite, Sink, WriteFault, put_foot, put_head, put_row, room, row_space,
     takes_resolution,
 };
 use std::test::Fail;
@@ -38,13 +38,21 @@ fn write_five<K: Sink>(buffer: &mut [u8], sink: &mut K) -> Result<(), WriteFault
     requires sound { K.failed sink.old < 2 ^ 64 - 1 }
     requires room { 1 ≤ length buffer.old }
 {
-    head(Form::Pcl, 75, 5, 5, sink)?;
-    row(Form::Pcl, 0, &[0; 5], &TABLE, buffer, sink)?;
-    row(Form::Pcl, 1, &[0; 5], &TABLE, buffer, sink)?;
-    row(Form::Pcl, 2, &[1, 1, 2, 4, 1], &TABLE, buffer, sink)?;
-    row(Form::Pcl, 3, &[0; 5], &TABLE, buffer, sink)?;
-    row(Form::Pcl, 4, &[0; 5], &TABLE, buffer, sink)?;
-    foot(Form::Pcl, sink)
+    put_head(Form::Pcl, 75, 5, 5, sink)?;
+    put_row(Form::Pcl, 0, Cells::new(&[0; 5]), &TABLE, buffer, sink)?;
+    put_row(Form::Pcl, 1, Cells::new(&[0; 5]), &TABLE, buffer, sink)?;
+    put_row(
+        Form::Pcl,
+        2,
+        Cells::new(&[1, 1, 2, 4, 1]),
+        &TABLE,
+        buffer,
+        sink,
+    )?;
+    put_row(Form::Pcl, 3, Cells::new(&[0; 5]), &TABLE, buffer, sink)?;
+    put_row(Form::Pcl, 4, Cells::new(&[0; 5]), &TABLE, buffer, sink)?;
+    put_foot(Form::Pcl, sink)?;
+    Ok(())
 }
 
 #[test]
@@ -133,7 +141,14 @@ fn a_row_of_two_bytes(rt: HostRuntime) -> Result<(), Fail> {
     let mut buffer = [9; 20];
     for size in [2, 20] {
         let mut sink = OverWrite::new(Vec::new(rt.alloc()));
-        row(Form::Pcl, 7, &CELLS, &TABLE, &mut buffer[..size], &mut sink)?;
+        put_row(
+            Form::Pcl,
+            7,
+            Cells::new(&CELLS),
+            &TABLE,
+            &mut buffer[..size],
+            &mut sink,
+        )?;
         assert_eq!(rt;
             sink.into_inner().as_slice(),
             b"\x1b*b2W\x65\x80".as_slice()
@@ -151,7 +166,7 @@ fn written(rt: &HostRuntime, cells: &[u32], size: usize) -> Result<(Vec<u8>, u64
     let mut buffer = vec![in rt.alloc(); 9u8; size]?;
     let mut sink = OverWrite::new(Vec::new(rt.alloc()));
     let row = Cells::new(cells);
-    let count = row_counted(Form::Pcl, 9, row, &TABLE, buffer.as_mut_slice(), &mut sink)?;
+    let count = put_row(Form::Pcl, 9, row, &TABLE, buffer.as_mut_slice(), &mut sink)?;
     Ok((sink.into_inner(), count))
 }
 
@@ -180,7 +195,7 @@ fn widths(rt: HostRuntime) -> Result<(), Fail> {
 #[test]
 fn the_longest_head(rt: HostRuntime) -> Result<(), Fail> {
     let mut sink = OverWrite::new(Vec::new(rt.alloc()));
-    head(
+    put_head(
         Form::Pcl,
         4_294_967_295,
         4_294_967_294,

@@ -130,8 +130,8 @@ returns-in-Err-write_band g c =
       writes = record { written = cut.0; within = cut.1; failed = cut.2; stopped = stop.at };
     }
 
-pub returns-in-Ok-foot_counted : goal.returns-in-Ok-foot_counted
-returns-in-Ok-foot_counted g c =
+pub returns-in-Ok-put_foot : goal.returns-in-Ok-put_foot
+returns-in-Ok-put_foot g c =
     let p = c.args.painter.now in
     let q = c.bands.painter in
     let inv = c.bands.invariant in
@@ -146,8 +146,8 @@ returns-in-Ok-foot_counted g c =
     let none : q.next < rows_of q.page q.dots → ⊥ = λ lt. cc (c.in_default.ensures.left.1 lt) in
     let done : rows - at ≡ 0 = omega (arith, none, page_rows, inv.next) in
     let split : drop c.bands.done all ≡ foot ++ [] = inv.rest ∙ ap (λ (k : ℕ). rows_bytes row at k ++ foot) done ∙ sym (append-nil foot) in
-    let next = written_next _ _ _ _ _ _ all foot [] c.bands.done split inv.within inv.so_far inv.quiet c.in-Ok-foot_counted.ensures.writes in
-    let count : c.in-Ok-foot_counted.bytes ≡ length foot = c.in-Ok-foot_counted.ensures.count in
+    let next = written_next _ _ _ _ _ _ all foot [] c.bands.done split inv.within inv.so_far inv.quiet c.in-Ok-put_foot.ensures.writes in
+    let count : c.in-Ok-put_foot.bytes ≡ length foot = c.in-Ok-put_foot.ensures.count in
     let inside = λ (s : Segment). in_box s p.page p.dots in
     let fewer = boxes_fewer inside (selected p.pens p.strokes) p.next (at - p.next) (rows - p.next) (columns_of p.page p.dots) (omega (arith, inv.to)) in
     record {
@@ -160,8 +160,8 @@ returns-in-Ok-foot_counted g c =
       };
     }
 
-pub returns-in-Err-foot_counted-clause-writes : goal.returns-in-Err-foot_counted-clause-writes
-returns-in-Err-foot_counted-clause-writes g c =
+pub returns-in-Err-put_foot-clause-writes : goal.returns-in-Err-put_foot-clause-writes
+returns-in-Err-put_foot-clause-writes g c =
     let p = c.args.painter.now in
     let q = c.bands.painter in
     let inv = c.bands.invariant in
@@ -172,14 +172,14 @@ returns-in-Err-foot_counted-clause-writes g c =
     let rows = rows_of p.page p.dots in
     let all = picture_of head row foot rows p.next in
     let at = c.bands.at in
-    let taken = c.bytes-in-Err-foot_counted.result in
+    let taken = c.bytes-in-Err-put_foot.result in
     let page_rows : rows_of q.page q.dots ≡ rows = ap (λ (z : Page). rows_of z q.dots) inv.page ∙ ap (λ (d : Dots). rows_of p.page d) inv.dots in
     let none : q.next < rows_of q.page q.dots → ⊥ = λ lt. cc (c.in_default.ensures.left.1 lt) in
     let last : rows ≤ at = omega (arith, none, page_rows, inv.next) in
     let done : rows - at ≡ 0 = omega (arith, last) in
     let split : drop c.bands.done all ≡ foot ++ [] = inv.rest ∙ ap (λ (k : ℕ). rows_bytes row at k ++ foot) done ∙ sym (append-nil foot) in
-    let moved : c.bands.done + taken ≡ c.bands.done + taken_of c.in-Err-foot_counted.fault = ap (λ (k : ℕ). c.bands.done + k) c.bytes-in-Err-foot_counted.ensures in
-    let cut = cut_next _ _ _ _ _ _ all foot [] c.bands.done _ _ split inv.within inv.so_far inv.quiet c.in-Err-foot_counted.ensures.writes moved in
+    let moved : c.bands.done + taken ≡ c.bands.done + taken_of c.in-Err-put_foot.fault = ap (λ (k : ℕ). c.bands.done + k) c.bytes-in-Err-put_foot.ensures in
+    let cut = cut_next _ _ _ _ _ _ all foot [] c.bands.done _ _ split inv.within inv.so_far inv.quiet c.in-Err-put_foot.ensures.writes moved in
     let first : c.next_row-first.result ≡ p.next = c.next_row-first.ensures.next in
     let whole : c.whole_before.result ≡ (if nat_eq at p.next then 0 else c.bands.done) = c.whole_before.ensures ∙ ap (λ (k : ℕ). if nat_eq at k then 0 else c.bands.done) first in
     record {
