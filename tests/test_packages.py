@@ -22,7 +22,8 @@ from shared import TOP, assert_nothing, need
 
 SECONDS = 60
 MOMENT = 1700000000
-DOCUMENTS = ("CHANGELOG.md", "LICENSE-APACHE", "LICENSE-MIT", "README.md")
+DOCUMENTS = ("CHANGELOG.md", "LICENSE-APACHE", "LICENSE-MIT", "README.md", "docs/FORMATS.md", "docs/INSTRUCTIONS.md",
+             "docs/RECIPES.md")
 # What `make dist` reads. Each of these must be there.
 SOURCES = ("Makefile", "man/plotraster.1", "completions/plotraster.bash", "packaging/control", "packaging/copyright",
            "tools/dist", *DOCUMENTS)
