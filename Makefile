@@ -3,7 +3,7 @@
 # make demo       builds it and runs it on the plots of examples/
 # make test       every test of the built command
 # make mutants    a test on each mutant, with nothing proved
-# make prove      every proof, the tests of the crates, and the mutants of crates/*/must-fail (rt ci)
+# make prove      every proof and the tests of the crates (rt ci), and the mutants of mutants/gate.txt
 # make check      all of these: what fails early comes first
 # make audit      hands every mutant to the prover, for a release or after a change of a contract
 # make fuzz       compares the built command with tests/reference on new random plots, for SECONDS=600
@@ -62,6 +62,7 @@ mutants: setup
 prove: setup
 	@mkdir -p build
 	rt ci 2>&1 | tee build/verdict
+	tools/audit --gate
 
 test: setup built
 	$(PYTEST) -n auto tests
@@ -74,7 +75,7 @@ check:
 	@$(MAKE) --no-print-directory test
 	@tail -n 1 build/verdict
 
-audit: setup
+audit: setup built
 	tools/audit
 
 fuzz: built

@@ -1,9 +1,8 @@
 """The mutants: what they are called, where they are, and what they change.
 
 A mutant is an edit of a crate that turns its meaning, in a file NAME.edit: a line `file: PATH` and then
-pairs of lines `old: TEXT` and `new: TEXT`, where each old text is in that file once. Most are in
-mutants/CRATE. The few in crates/CRATE/must-fail are those that `rt ci` hands to the prover. A mutant is
-called CRATE/NAME.
+pairs of lines `old: TEXT` and `new: TEXT`, where each old text is in that file once. If all of this changes
+one function, a line `function: NAME` comes first. A mutant is in mutants/CRATE, and is called CRATE/NAME.
 """
 
 import os
@@ -35,22 +34,11 @@ def below(crate, uses):
     return found
 
 
-def folders_of(crate):
-    """The folders that may have mutants of a crate."""
-    return [os.path.join(CRATES, crate, "must-fail"), os.path.join(MUTANTS, crate)]
-
-
 def files_of(crate, ending):
     """The files of a crate's mutants, or of what else goes by its ending, by name."""
-    found = {}
-    for folder in folders_of(crate):
-        for file in sorted(os.listdir(folder)) if os.path.isdir(folder) else []:
-            if file.endswith(ending):
-                name = file[:-len(ending)]
-                if name in found:
-                    sys.exit(f"{crate}/{name} is in {found[name]} and in {folder}")
-                found[name] = os.path.join(folder, file)
-    return dict(sorted(found.items()))
+    folder = os.path.join(MUTANTS, crate)
+    files = sorted(os.listdir(folder)) if os.path.isdir(folder) else []
+    return {it.removesuffix(ending): os.path.join(folder, it) for it in files if it.endswith(ending)}
 
 
 def all_edits(crates):
@@ -70,6 +58,13 @@ def changes(path):
                 old = text
             elif key == "new":
                 yield file, old, text
+
+
+def function_of(path):
+    """The function that a mutant names, or None."""
+    with open(path, encoding="utf-8") as lines:
+        key, _, name = lines.readline().strip().partition(": ")
+    return name if key == "function" else None
 
 
 def apply(path, folder):
