@@ -75,7 +75,7 @@ check:
 	@$(MAKE) --no-print-directory test
 	@tail -n 1 build/verdict
 
-audit: setup built
+audit: setup build
 	tools/audit
 
 fuzz: built
