@@ -8,8 +8,8 @@ use Rattle.clap.specs.declared.parser.matches.ArgMatches.{ArgMatches}
 use Rattle.picture_out.specs.declared.form.Form.{Form}
 use Rattle.picture_out.specs.declared.form.Form.TheVariants.{Marks, Pbm, Ppm, Pcl}
 use Rattle.plot_page.specs.declared.page.Page.{Page}
-use Rattle.stroke_raster.specs.declared.pens.PenSet.{PenSet}
-use Rattle.stroke_raster.specs.Pens.{has_pen}
+use Rattle.plot_page.specs.declared.pens.PenSet.{PenSet}
+use Rattle.plot_page.specs.Pens.{has_pen}
 use Rattle.clap_parses.specs.Parses.{HasGoodMatches}
 use Rattle.command_line.specs.Options.{plot_app}
 use Rattle.pen_list.specs.Lists.{is_listed, is_pen_list}

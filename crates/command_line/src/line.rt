@@ -10,8 +10,7 @@ use clap::ArgMatches;
 use pen_list::read_pens;
 use picture_job::Job;
 use picture_out::Form;
-use plot_page::Page;
-use stroke_raster::{Dots, PenSet};
+use plot_page::{Dots, Page, PenSet};
 
 /// What is to be done.
 #[derive(Clone, Copy)]

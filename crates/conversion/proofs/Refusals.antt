@@ -3,7 +3,7 @@ use Rattle.std.proofs.Common.{◌≡◌, ◌<◌, ◌≤◌, ℕ, List, true, fa
 use Rattle.std.specs.Result.{IsErrAnd}
 use Rattle.std.specs.Prelude.{option_map}
 use Rattle.std.proofs.lemmas.Bool.Decides.{nat_tests}
-use Rattle.stroke_raster.specs.Resolutions.{rows_of}
+use Rattle.plot_page.specs.Resolutions.{rows_of}
 use Rattle.stroke_raster.specs.Painting.{is_band_height}
 use Rattle.picture_job.specs.declared.job.Job.{Job}
 use Rattle.conversion.specs.Conversions.{fault_of}

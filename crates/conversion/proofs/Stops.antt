@@ -5,8 +5,8 @@ use Rattle.std.proofs.lemmas.List.FromFn.{take-map-range_with_len, get_or-map-ra
 use Rattle.std.specs.List.{range_with_len}
 use Rattle.plot_page.specs.Segments.{Segment}
 use Rattle.plot_page.specs.declared.page.Page.{Page}
-use Rattle.stroke_raster.specs.declared.dots.Dots.{Dots}
-use Rattle.stroke_raster.specs.declared.pens.PenSet.{PenSet}
+use Rattle.plot_page.specs.declared.dots.Dots.{Dots}
+use Rattle.plot_page.specs.declared.pens.PenSet.{PenSet}
 use Rattle.picture_out.specs.declared.form.Form.{Form}
 use Rattle.picture_out.specs.declared.inks.Ink.{Ink}
 use Rattle.picture_out.specs.Forms.{row_bytes}

@@ -1,7 +1,7 @@
 -- The picture of a plot, and what a conversion answers, from what it read.
 use Rattle.std.specs.Prelude.{◌≡◌, ℕ, ◌+◌, ◌-◌, ◌<◌, ◌≤◌, nat_lt, Bool, true, false, not, List, Option, Some, None, option_map, length, take, Result, Ok, Err, if◌then◌else◌, ⊤}
 use Rattle.std.specs.Io.KnownBytes.{Consumes, Appends}
-use Rattle.stroke_raster.specs.Resolutions.{rows_of}
+use Rattle.plot_page.specs.Resolutions.{rows_of}
 use Rattle.stroke_raster.specs.Covers.{covers}
 use Rattle.stroke_raster.specs.Painting.{is_band_height}
 use Rattle.picture_out.specs.Forms.{foot_bytes, takes_resolution}
@@ -11,7 +11,8 @@ use Rattle.conversion.specs.Faults.{of_plot}
 use Rattle.conversion.specs.Picture.{picture_of, IsStoppedAt}
 use Rattle.conversion.specs.Plots.{strokes, refusal, notes_count}
 use Rattle.conversion.specs.Readings.{WasRead, WasTooLong}
-use Rattle.conversion.specs.Sources.{SourceState}
+use Rattle.devices.specs.Sinks.{SinkState}
+use Rattle.devices.specs.Sources.{SourceState}
 use Rattle.conversion.specs.Writings.{Reach, head_of, row_of, boxes_from}
 use Rattle.conversion.specs.declared.done.Done.{Done}
 use Rattle.conversion.specs.declared.fault.Fault.{Fault}
@@ -59,11 +60,6 @@ fault_of job plot = first_fault (option_map of_plot (refusal job.page plot)) (jo
 pub record HasPicture (job : Job) (plot : List ℕ) : Type 0 where
   pub within : length plot ≤ LONGEST_PLOT
   pub accepted : fault_of job plot ≡ None
-
--- a sink at a moment: the bytes that it has, if they are known, and how often it failed
-pub record SinkState : Type 0 where
-  pub held : Option (List ℕ)
-  pub faults : ℕ
 
 -- the whole picture was written
 pub record IsWritten (job : Job) (reaches : Reach) (input : List ℕ) (before after : SourceState) (sink sink' : SinkState) (done : Done) : Type 0 where

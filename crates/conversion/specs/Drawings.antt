@@ -7,7 +7,7 @@ use Rattle.plot_page.specs.declared.stroke.TheConstants.{MOST_STROKES}
 use Rattle.conversion.specs.Faults.{of_plot}
 use Rattle.conversion.specs.Plots.{strokes, refusal, notes_count}
 use Rattle.conversion.specs.Readings.{WasRead, WasTooLong}
-use Rattle.conversion.specs.Sources.{SourceState}
+use Rattle.devices.specs.Sources.{SourceState}
 use Rattle.conversion.specs.declared.fault.Fault.{Fault}
 use Rattle.conversion.specs.declared.fault.Fault.TheVariants.{TooLong, Memory, Read}
 

@@ -4,7 +4,7 @@ use Rattle.std.specs.Io.KnownBytes.{Appends}
 use Rattle.picture_out.specs.declared.form.Form.{Form}
 use Rattle.picture_out.specs.declared.inks.Ink.{Ink}
 use Rattle.picture_out.specs.Forms.{row_bytes}
-use Rattle.conversion.specs.Conversions.{SinkState}
+use Rattle.devices.specs.Sinks.{SinkState}
 use Rattle.conversion.specs.Picture.{picture_of, IsStoppedAt}
 use Rattle.conversion.specs.declared.writing.Stop.{Stop}
 

@@ -5,11 +5,11 @@ use Rattle.hpgl_text.specs.Cut.{cut}
 use Rattle.hpgl_plot.specs.Notes.{notes}
 use Rattle.plot_page.specs.declared.page.Page.{Page}
 use Rattle.plot_report.specs.Report.{report_of}
-use Rattle.conversion.specs.Conversions.{SinkState}
+use Rattle.devices.specs.Sinks.{SinkState}
 use Rattle.conversion.specs.Drawings.{IsNotDrawn}
 use Rattle.conversion.specs.Plots.{strokes, refusal, notes_count}
 use Rattle.conversion.specs.Readings.{WasRead, WasTooLong}
-use Rattle.conversion.specs.Sources.{SourceState}
+use Rattle.devices.specs.Sources.{SourceState}
 use Rattle.conversion.specs.declared.done.Done.{Done}
 use Rattle.conversion.specs.declared.fault.Fault.{Fault}
 use Rattle.conversion.specs.declared.fault.Fault.TheVariants.{TooLong, Memory, Write, Read}

@@ -2,9 +2,9 @@
 use Rattle.std.specs.Prelude.{ℕ, ◌-◌, Bool, List, map}
 use Rattle.plot_page.specs.Segments.{Segment}
 use Rattle.plot_page.specs.declared.page.Page.{Page}
-use Rattle.stroke_raster.specs.declared.dots.Dots.{Dots}
-use Rattle.stroke_raster.specs.declared.pens.PenSet.{PenSet}
-use Rattle.stroke_raster.specs.Resolutions.{columns_of, rows_of}
+use Rattle.plot_page.specs.declared.dots.Dots.{Dots}
+use Rattle.plot_page.specs.declared.pens.PenSet.{PenSet}
+use Rattle.plot_page.specs.Resolutions.{columns_of, rows_of}
 use Rattle.stroke_raster.specs.Boxes.{boxes, selected}
 use Rattle.stroke_raster.specs.Covers.{in_box}
 use Rattle.stroke_raster.specs.Shown.{row_shown}

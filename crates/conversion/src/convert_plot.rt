@@ -8,11 +8,11 @@ use crate::drawing::draw_source;
 use crate::fault::Fault;
 use crate::gathering::band_space;
 use crate::reading::buffer_of;
-use crate::source::Source;
 use crate::stroke_inks::StrokeInks;
 use crate::writing::write_picture;
+use devices::{Sink, Source};
 use picture_job::Job;
-use picture_out::{Sink, takes_resolution};
+use picture_out::takes_resolution;
 use std::alloc::Global;
 use stroke_raster::{Gauge, Painter};
 
@@ -34,16 +34,14 @@ pub fn convert<G: Gauge, S: Source, K: Sink>(
     source: &mut S,
     sink: &mut K,
 ) -> Result<Done, Fault>
-    requires failing { S.failed source.old < 2 ^ 64 - 1 }
-    requires ending { S.ended source.old < 2 ^ 64 - 1 }
-    requires sinking { K.failed sink.old < 2 ^ 64 - 1 }
+    requires failing { (S.state source.old).faults < 2 ^ 64 - 1 }
+    requires ending { (S.state source.old).ends < 2 ^ 64 - 1 }
+    requires sinking { (K.state sink.old).faults < 2 ^ 64 - 1 }
     ensures resolution { (result ≡ Err Fault.Resolution) ↔ (has_resolution job.now ≡ false) }
     ensures converts { HasConverted job.now (G.reaches gauge.old)
-        (record { left = S.left source.old; faults = S.failed source.old; ends = S.ended source.old })
-        (record { left = S.left source.new; faults = S.failed source.new; ends = S.ended source.new })
-        (record { held = K.held sink.old; faults = K.failed sink.old }) (record { held = K.held sink.new; faults = K.failed sink.new })
+        (S.state source.old) (S.state source.new) (K.state sink.old) (K.state sink.new)
         (G.count gauge.old) (G.count gauge.new) result }
-    ensures end { S.ended source.new ≡ S.ended source.old + 1 → IsAtEnd (S.left source.new) }
+    ensures end { (S.state source.new).ends ≡ (S.state source.old).ends + 1 → IsAtEnd (S.state source.new).left }
     ensures same { G.reaches gauge.new ≡ G.reaches gauge.old }
     ensures untouched { IfErr result (λ fault. is_write fault ≡ false → sink.new ≡ sink.old) }
 {

@@ -5,7 +5,7 @@ ghost use Rattle.conversion.specs.Drawings.{HasDrawn};
 
 use crate::fault::Fault;
 use crate::reading::read_plot;
-use crate::source::Source;
+use devices::Source;
 use hpgl_plot::{Lines, draw_text};
 use plot_page::Page;
 use std::alloc::Global;
@@ -18,12 +18,10 @@ use std::alloc::Global;
 /// stroke too many.
 /// `Memory` comes when memory is refused.
 pub fn draw_source<S: Source>(alloc: Global, page: &Page, source: &mut S) -> Result<Lines, Fault>
-    requires failing { S.failed source.old < 2 ^ 64 - 1 }
-    requires ending { S.ended source.old < 2 ^ 64 - 1 }
-    ensures draws { HasDrawn page.now
-        (record { left = S.left source.old; faults = S.failed source.old; ends = S.ended source.old })
-        (record { left = S.left source.new; faults = S.failed source.new; ends = S.ended source.new }) result }
-    ensures end { S.ended source.new ≡ S.ended source.old + 1 → IsAtEnd (S.left source.new) }
+    requires failing { (S.state source.old).faults < 2 ^ 64 - 1 }
+    requires ending { (S.state source.old).ends < 2 ^ 64 - 1 }
+    ensures draws { HasDrawn page.now (S.state source.old) (S.state source.new) result }
+    ensures end { (S.state source.new).ends ≡ (S.state source.old).ends + 1 → IsAtEnd (S.state source.new).left }
 {
     let plot = read_plot(alloc, source)?;
     let lines = draw_text(alloc, plot.as_slice(), page)?;

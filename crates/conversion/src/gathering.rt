@@ -1,6 +1,6 @@
 //! The rows of a band as bits, gathered so that one write takes them all.
 ghost use Rattle.std.specs.Prelude.{◌≡◌, List, [], ◌+◌, ◌*◌, ◌≤◌, ◌<◌, All, length, take, get_or, IfSome};
-ghost use Rattle.stroke_raster.specs.declared.dots.TheConstants.{MOST_PIXELS_A_SIDE};
+ghost use Rattle.plot_page.specs.declared.dots.TheConstants.{MOST_PIXELS_A_SIDE};
 ghost use Rattle.stroke_raster.specs.Bands.{first_of, rows_of_band};
 ghost use Rattle.picture_out.specs.declared.form.Form.TheVariants.{Pbm};
 ghost use Rattle.picture_out.specs.declared.inks.Ink.{Ink};

@@ -7,9 +7,8 @@ ghost use Rattle.conversion.specs.Reports.{HasReported};
 use crate::done::Done;
 use crate::fault::Fault;
 use crate::reading::read_plot;
-use crate::source::Source;
+use devices::{Sink, Source};
 use hpgl_plot::{Notes, draw_text};
-use picture_out::Sink;
 use plot_page::Page;
 use plot_report::write_report;
 use std::alloc::Global;
@@ -27,14 +26,12 @@ pub fn report<S: Source, K: Sink>(
     source: &mut S,
     sink: &mut K,
 ) -> Result<Done, Fault>
-    requires failing { S.failed source.old < 2 ^ 64 - 1 }
-    requires ending { S.ended source.old < 2 ^ 64 - 1 }
-    requires sinking { K.failed sink.old < 2 ^ 64 - 1 }
+    requires failing { (S.state source.old).faults < 2 ^ 64 - 1 }
+    requires ending { (S.state source.old).ends < 2 ^ 64 - 1 }
+    requires sinking { (K.state sink.old).faults < 2 ^ 64 - 1 }
     ensures reports { HasReported page.now
-        (record { left = S.left source.old; faults = S.failed source.old; ends = S.ended source.old })
-        (record { left = S.left source.new; faults = S.failed source.new; ends = S.ended source.new })
-        (record { held = K.held sink.old; faults = K.failed sink.old }) (record { held = K.held sink.new; faults = K.failed sink.new }) result }
-    ensures end { S.ended source.new ≡ S.ended source.old + 1 → IsAtEnd (S.left source.new) }
+        (S.state source.old) (S.state source.new) (K.state sink.old) (K.state sink.new) result }
+    ensures end { (S.state source.new).ends ≡ (S.state source.old).ends + 1 → IsAtEnd (S.state source.new).left }
     ensures untouched { IfErr result (λ fault. is_write fault ≡ false → sink.new ≡ sink.old) }
 {
     let plot = read_plot(alloc, source)?;

@@ -1,7 +1,7 @@
 -- The job of a bitmap.
 use Rattle.plot_page.specs.declared.page.Page.{Page}
-use Rattle.stroke_raster.specs.declared.dots.Dots.{Dots}
-use Rattle.stroke_raster.specs.declared.pens.PenSet.{PenSet}
+use Rattle.plot_page.specs.declared.dots.Dots.{Dots}
+use Rattle.plot_page.specs.declared.pens.PenSet.{PenSet}
 use Rattle.picture_out.specs.declared.form.Form.TheVariants.{Pbm}
 use Rattle.picture_job.specs.declared.job.Job.{Job}
 

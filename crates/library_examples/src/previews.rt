@@ -15,9 +15,7 @@ struct Limited {
 }
 
 impl Sink for Limited {
-    ghost held = { λ s. Some s.bytes.items };
-
-    ghost failed = { λ s. s.failures };
+    ghost state = { λ s. record { held = Some s.bytes.items; faults = s.failures } };
 
     fn put(&mut self, piece: &[u8]) -> Result<usize, SinkFault> {
         let taken = piece.len().min(self.room);

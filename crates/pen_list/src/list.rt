@@ -1,10 +1,10 @@
 //! A list of pens.
 ghost use Rattle.std.specs.Prelude.{◌≡◌, ◌<◌, ◌||◌, ℕ, IfSome, is_some};
-ghost use Rattle.stroke_raster.specs.Pens.{has_pen};
+ghost use Rattle.plot_page.specs.Pens.{has_pen};
 ghost use Rattle.pen_list.specs.Lists.{are_ranges, is_listed, is_pen_list, ranges_have};
 
 use crate::range::PenRange;
-use stroke_raster::PenSet;
+use plot_page::PenSet;
 
 /// The pens that a text lists, or `None` if it is no list of pens. A list is `all`, which is the pens
 /// 1 to 255, or ranges separated by single commas. A range is `n-m`, with n not above m, or `n` alone.

@@ -1,10 +1,10 @@
 //! A range of pens.
 ghost use Rattle.std.specs.Prelude.{◌≡◌, ◌<◌, ◌==◌, ◌||◌, ℕ, IfSome, is_some, position};
-ghost use Rattle.stroke_raster.specs.Pens.{has_pen};
+ghost use Rattle.plot_page.specs.Pens.{has_pen};
 ghost use Rattle.pen_list.specs.Lists.{hyphen, is_between, is_range, range_has};
 
 use crate::number::read_pen;
-use stroke_raster::PenSet;
+use plot_page::PenSet;
 
 /// The pens from the first to the last.
 #[derive(Clone, Copy)]

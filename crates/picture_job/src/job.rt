@@ -1,7 +1,6 @@
 //! A request for a picture.
 use picture_out::Form;
-use plot_page::Page;
-use stroke_raster::{Dots, PenSet};
+use plot_page::{Dots, Page, PenSet};
 
 /// A request for a picture: page, resolution, pens, band height, first row and form.
 #[derive(Clone, Copy)]

@@ -1,4 +1,3 @@
-pub mod KnownBytes
 pub mod Spans
 pub mod Lines
 pub mod Tables

@@ -1,16 +1,14 @@
 //! Marks: a line of text for each cell that is not 0.
 ghost use Rattle.std.specs.Prelude.{◌≡◌, ◌-◌, ◌+◌, ◌*◌, ◌^◌, ◌<◌, ◌≤◌, ◌++◌, length, take, IfOk, false};
 ghost use Rattle.std.specs.Fmt.{digit_glyph};
-ghost use Rattle.picture_out.specs.Sinks.{Writes, WritesAtMost};
+ghost use Rattle.devices.specs.Sinks.{Writes, WritesAtMost};
 ghost use Rattle.picture_out.specs.Marks.{colour_digits, line, marks_from, marks, lines_on};
 ghost use Rattle.picture_out.specs.Inks.{AreInked};
 ghost use Rattle.picture_out.specs.Spans.{IsBlankOutside};
 
 use crate::cells::Span;
-use crate::fault::WriteFault;
 use crate::inks::{Ink, Inks};
-use crate::pieces::{append, put_all};
-use crate::sink::Sink;
+use devices::{Sink, WriteFault, append, put_all};
 use itoa::Buffer;
 
 /// The most digits that a row or a column has.
@@ -29,11 +27,11 @@ pub(crate) fn put_marks<I: Inks, K: Sink>(
     buffer: &mut [u8],
     sink: &mut K,
 ) -> Result<u64, WriteFault>
-    requires sound { K.failed sink.old < 2 ^ 64 - 1 }
+    requires sound { (K.state sink.old).faults < 2 ^ 64 - 1 }
     requires columns { length cells.now < 2 ^ 32 }
     requires span { IsBlankOutside cells.now span.low span.end }
     requires inked { AreInked (I.inks inks.now) cells.now }
-    ensures writes { Writes K.held K.failed sink.old sink.new (marks row (I.inks inks.now) cells.now) result }
+    ensures writes { Writes (K.state sink.old) (K.state sink.new) (marks row (I.inks inks.now) cells.now) result }
     ensures count { IfOk result (λ n. n ≡ length (marks row (I.inks inks.now) cells.now)) }
     ensures small { WritesAtMost (LONGEST_LINE * length cells.now) result }
 {
@@ -56,13 +54,13 @@ fn put_lines<I: Inks, K: Sink>(
     piece: &mut [u8],
     sink: &mut K,
 ) -> Result<u64, WriteFault>
-    requires sound { K.failed sink.old < 2 ^ 64 - 1 }
+    requires sound { (K.state sink.old).faults < 2 ^ 64 - 1 }
     requires columns { length cells.now < 2 ^ 32 }
     requires span { IsBlankOutside cells.now span.low span.end }
     requires inked { AreInked (I.inks inks.now) cells.now }
     requires row { length row.now ≤ LONGEST_NUMBER }
     requires piece { LONGEST_LINE ≤ length piece.old }
-    ensures writes { Writes K.held K.failed sink.old sink.new (marks_from row.now 0 (I.inks inks.now) cells.now) result }
+    ensures writes { Writes (K.state sink.old) (K.state sink.new) (marks_from row.now 0 (I.inks inks.now) cells.now) result }
     ensures count { IfOk result (λ n. n ≡ length (marks_from row.now 0 (I.inks inks.now) cells.now)) }
     ensures small { WritesAtMost (LONGEST_LINE * length cells.now) result }
 {

@@ -1,6 +1,6 @@
 //! The parts of a picture in each form: the header, the rows and the foot.
 ghost use Rattle.std.specs.Prelude.{◌≡◌, ℕ, ◌-◌, ◌+◌, ◌*◌, ◌^◌, ◌<◌, ◌≤◌, ◌++◌, List, All, length, take, IfOk};
-ghost use Rattle.picture_out.specs.Sinks.{Writes, WritesAtMost};
+ghost use Rattle.devices.specs.Sinks.{Writes, WritesAtMost};
 ghost use Rattle.picture_out.specs.Spans.{IsBlankOutside};
 ghost use Rattle.picture_out.specs.Forms.{head_bytes, row_bytes, foot_bytes, room_of, TakesAnyRow, size_line};
 ghost use Rattle.picture_out.specs.Inks.{AreInked};
@@ -8,15 +8,14 @@ ghost use Rattle.picture_out.specs.Inks.{AreInked};
 use crate::bits::{pack_row, packed_length};
 use crate::cells::{Cells, Span};
 use crate::colours::put_colours;
-use crate::fault::WriteFault;
 use crate::form::Form;
 use crate::inks::{Ink, Inks};
 use crate::marks::{LONGEST_LINE, put_marks};
 use crate::pcl::{
     LONGEST_COMMAND, LONGEST_PCL_HEAD, append_commands_before, put_commands_after, put_transfer,
 };
-use crate::pieces::{append, put_counted};
-use crate::sink::Sink;
+use crate::pieces::put_counted;
+use devices::{Sink, WriteFault, append};
 use itoa::Buffer;
 
 // The longest magic number with the size: three bytes, two numbers of ten digits, a space and the LF.
@@ -65,8 +64,8 @@ pub fn put_head<K: Sink>(
     rows: u32,
     sink: &mut K,
 ) -> Result<u64, WriteFault>
-    requires sound { K.failed sink.old < 2 ^ 64 - 1 }
-    ensures writes { Writes K.held K.failed sink.old sink.new (head_bytes form dots columns rows) result }
+    requires sound { (K.state sink.old).faults < 2 ^ 64 - 1 }
+    ensures writes { Writes (K.state sink.old) (K.state sink.new) (head_bytes form dots columns rows) result }
     ensures count { IfOk result (λ n. n ≡ length (head_bytes form dots columns rows)) }
     ensures small { length (head_bytes form dots columns rows) ≤ LONGEST_HEAD }
 {
@@ -115,11 +114,11 @@ pub fn put_row<I: Inks, K: Sink>(
     buffer: &mut [u8],
     sink: &mut K,
 ) -> Result<u64, WriteFault>
-    requires sound { K.failed sink.old < 2 ^ 64 - 1 }
+    requires sound { (K.state sink.old).faults < 2 ^ 64 - 1 }
     requires columns { length cells < 2 ^ 32 }
     requires inked { AreInked (I.inks inks.now) cells }
     requires room { room_of form (length cells) ≤ length buffer.old }
-    ensures writes { Writes K.held K.failed sink.old sink.new (row_bytes form index (I.inks inks.now) cells.entry) result }
+    ensures writes { Writes (K.state sink.old) (K.state sink.new) (row_bytes form index (I.inks inks.now) cells.entry) result }
     ensures count { IfOk result (λ n. n ≡ length (row_bytes form index (I.inks inks.now) cells.entry)) }
     ensures small { WritesAtMost (LONGEST_LINE * length cells.entry + LONGEST_COMMAND) result }
 {
@@ -136,12 +135,12 @@ fn put_cells<I: Inks, K: Sink>(
     buffer: &mut [u8],
     sink: &mut K,
 ) -> Result<u64, WriteFault>
-    requires sound { K.failed sink.old < 2 ^ 64 - 1 }
+    requires sound { (K.state sink.old).faults < 2 ^ 64 - 1 }
     requires columns { length cells.now < 2 ^ 32 }
     requires span { IsBlankOutside cells.now span.low span.end }
     requires inked { AreInked (I.inks inks.now) cells.now }
     requires room { room_of form (length cells.now) ≤ length buffer.old }
-    ensures writes { Writes K.held K.failed sink.old sink.new (row_bytes form index (I.inks inks.now) cells.now) result }
+    ensures writes { Writes (K.state sink.old) (K.state sink.new) (row_bytes form index (I.inks inks.now) cells.now) result }
     ensures count { IfOk result (λ n. n ≡ length (row_bytes form index (I.inks inks.now) cells.now)) }
     ensures small { WritesAtMost (LONGEST_LINE * length cells.now + LONGEST_COMMAND) result }
 {
@@ -164,8 +163,8 @@ fn put_cells<I: Inks, K: Sink>(
 ///
 /// Errors: a `WriteFault` if and only if the sink fails; it has then taken the first `bytes` bytes.
 pub fn put_foot<K: Sink>(form: Form, sink: &mut K) -> Result<u64, WriteFault>
-    requires sound { K.failed sink.old < 2 ^ 64 - 1 }
-    ensures writes { Writes K.held K.failed sink.old sink.new (foot_bytes form) result }
+    requires sound { (K.state sink.old).faults < 2 ^ 64 - 1 }
+    ensures writes { Writes (K.state sink.old) (K.state sink.new) (foot_bytes form) result }
     ensures count { IfOk result (λ n. n ≡ length (foot_bytes form)) }
     ensures small { length (foot_bytes form) ≤ LONGEST_FOOT }
 {

@@ -1,15 +1,14 @@
 //! PCL 5 raster graphics without compression.
 ghost use Rattle.std.specs.Prelude.{◌≡◌, ◌-◌, ◌+◌, ◌*◌, ◌^◌, ◌<◌, ◌≤◌, ◌++◌, length, take, IfOk, decimal};
-ghost use Rattle.picture_out.specs.Sinks.{Writes};
+ghost use Rattle.devices.specs.Sinks.{Writes};
 ghost use Rattle.picture_out.specs.Bits.{bytes_for, packed};
 ghost use Rattle.picture_out.specs.Pcl.{commands_before, commands_after, transfer_command, transferred};
 ghost use Rattle.picture_out.specs.Spans.{IsBlankOutside};
 
 use crate::bits::{pack_row, packed_length};
 use crate::cells::Span;
-use crate::fault::WriteFault;
-use crate::pieces::{append, put_both, put_counted};
-use crate::sink::Sink;
+use crate::pieces::{put_both, put_counted};
+use devices::{Sink, WriteFault, append};
 use itoa::Buffer;
 
 /// The longest command with a value: ESC, two letters, ten digits and a letter.
@@ -55,11 +54,11 @@ pub(crate) fn put_transfer<K: Sink>(
     buffer: &mut [u8],
     sink: &mut K,
 ) -> Result<u64, WriteFault>
-    requires sound { K.failed sink.old < 2 ^ 64 - 1 }
+    requires sound { (K.state sink.old).faults < 2 ^ 64 - 1 }
     requires columns { length cells.now < 2 ^ 32 }
     requires span { IsBlankOutside cells.now span.low span.end }
     requires room { bytes_for (length cells.now) ≤ length buffer.old }
-    ensures writes { Writes K.held K.failed sink.old sink.new (transferred (packed cells.now)) result }
+    ensures writes { Writes (K.state sink.old) (K.state sink.new) (transferred (packed cells.now)) result }
     ensures count { IfOk result (λ n. n ≡ length (transferred (packed cells.now))) }
     ensures most { length (transferred (packed cells.now)) ≤ LONGEST_COMMAND + bytes_for (length cells.now) }
 {
@@ -79,8 +78,8 @@ pub(crate) fn put_transfer<K: Sink>(
 
 // Writes the commands after the rows.
 pub(crate) fn put_commands_after<K: Sink>(sink: &mut K) -> Result<u64, WriteFault>
-    requires sound { K.failed sink.old < 2 ^ 64 - 1 }
-    ensures writes { Writes K.held K.failed sink.old sink.new commands_after result }
+    requires sound { (K.state sink.old).faults < 2 ^ 64 - 1 }
+    ensures writes { Writes (K.state sink.old) (K.state sink.new) commands_after result }
     ensures count { IfOk result (λ n. n ≡ length commands_after) }
 {
     put_counted(sink, b"\x1b*rB\x1bE")

@@ -1,9 +1,9 @@
 // What the forms write, byte by byte, over a `Vec` and over sinks that take little or fail.
 ghost use Rattle.std.specs.Prelude.{◌≡◌, ◌-◌, ◌+◌, ◌^◌, ◌<◌, ◌≤◌, All, Some, length};
 
+use devices::{OverWrite, Sink, SinkFault, put_all};
 use picture_out::{
-    Cells, Form, Ink, Inks, OverWrite, Sink, SinkFault, append_bits, pack_bits, put_all, put_foot,
-    put_head, put_row, room, row_space,
+    Cells, Form, Ink, Inks, append_bits, pack_bits, put_foot, put_head, put_row, room, row_space,
 };
 use std::alloc::Global;
 use std::io::Write;
@@ -87,9 +87,7 @@ pub(crate) fn narrow_sink(alloc: Global, limit: usize, step: usize) -> Narrow
 }
 
 impl Sink for Narrow {
-    ghost held = { λ s. Some s.bytes.items };
-
-    ghost failed = { λ s. s.failures };
+    ghost state = { λ s. record { held = Some s.bytes.items; faults = s.failures } };
 
     fn put(&mut self, piece: &[u8]) -> Result<usize, SinkFault> {
         self.puts = self.puts.wrapping_add(1);

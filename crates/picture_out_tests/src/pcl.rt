@@ -4,9 +4,9 @@ ghost use Rattle.picture_out.specs.declared.form.Form.TheVariants.{Pcl};
 ghost use Rattle.picture_out.specs.Forms.{room_of};
 
 use crate::forms::{CELLS, TABLE, narrow_sink, pack_plain};
+use devices::{OverWrite, Sink, WriteFault};
 use picture_out::{
-    Cells, Form, OverWrite, Sink, WriteFault, put_foot, put_head, put_row, room, row_space,
-    takes_resolution,
+    Cells, Form, put_foot, put_head, put_row, room, row_space, takes_resolution,
 };
 use std::test::Fail;
 
@@ -35,7 +35,7 @@ const FOOT: usize = 6;
 
 // Writes that picture.
 fn write_five<K: Sink>(buffer: &mut [u8], sink: &mut K) -> Result<(), WriteFault>
-    requires sound { K.failed sink.old < 2 ^ 64 - 1 }
+    requires sound { (K.state sink.old).faults < 2 ^ 64 - 1 }
     requires room { 1 ≤ length buffer.old }
 {
     put_head(Form::Pcl, 75, 5, 5, sink)?;

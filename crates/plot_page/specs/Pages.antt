@@ -1,4 +1,4 @@
--- Pages, in plotter units.
+-- The sizes of pages, in plotter units, and resolutions, in dots per inch.
 use Rattle.std.specs.Prelude.{ℕ, Bool, nat_le, ◌&&◌}
 use Rattle.plot_page.specs.declared.page.TheConstants.{SHORTEST_SIDE, LONGEST_SIDE, FARTHEST_CORNER}
 
@@ -10,3 +10,7 @@ has_page_size width height = is_page_side width && is_page_side height
 
 abbrev pub has_page_corner : ℕ → ℕ → Bool
 has_page_corner left below = nat_le left FARTHEST_CORNER && nat_le below FARTHEST_CORNER
+
+-- 10 to 1200 dots per inch
+abbrev pub is_resolution : ℕ → Bool
+is_resolution r = nat_le 10 r && nat_le r 1200

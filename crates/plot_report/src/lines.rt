@@ -5,8 +5,8 @@ ghost use Rattle.plot_report.specs.Report.{space, line, page_line, kind_words, n
 
 use crate::pieces::{append_number, append_word};
 use crate::summary::PenSummary;
+use devices::append;
 use hpgl_plot::{Note, NoteKind};
-use picture_out::append;
 use plot_page::Page;
 
 /// The longest line of a page: four numbers of ten digits.

@@ -3,8 +3,8 @@ ghost use Rattle.std.specs.Prelude.{◌≡◌, ◌-◌, ◌+◌, ◌^◌, ◌<�
 ghost use Rattle.plot_report.specs.Report.{space};
 ghost use Rattle.plot_report.specs.Pieces.{WritesAfter};
 
+use devices::{Sink, WriteFault, append, put_all};
 use itoa::{Buffer, Integer};
-use picture_out::{Sink, WriteFault, append, put_all};
 
 // Appends a space and a word.
 pub(crate) fn append_word(piece: &mut [u8], used: usize, word: &[u8]) -> usize
@@ -30,9 +30,9 @@ pub(crate) fn append_number<I: Integer>(piece: &mut [u8], used: usize, number: I
 
 // Writes a piece after `done` bytes, and returns how many are written then.
 pub(crate) fn put_piece<K: Sink>(sink: &mut K, piece: &[u8], done: u64) -> Result<u64, WriteFault>
-    requires sound { K.failed sink.old < 2 ^ 64 - 1 }
+    requires sound { (K.state sink.old).faults < 2 ^ 64 - 1 }
     requires count { done + length piece.now < 2 ^ 64 }
-    ensures writes { WritesAfter K.held K.failed sink.old sink.new done piece.now result }
+    ensures writes { WritesAfter (K.state sink.old) (K.state sink.new) done piece.now result }
 {
     match put_all(sink, piece) {
         Ok(()) => Ok(done + piece.len() as u64),

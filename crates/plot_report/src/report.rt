@@ -1,7 +1,7 @@
 //! The whole report.
 ghost use Rattle.std.specs.Prelude.{◌≡◌, ◌+◌, ◌-◌, ◌^◌, ◌<◌, ◌≤◌, ◌++◌, ◌*◌, length, take, flat_map, IfOk};
 ghost use Rattle.plot_page.specs.declared.stroke.TheConstants.{MOST_STROKES};
-ghost use Rattle.picture_out.specs.Sinks.{Writes};
+ghost use Rattle.devices.specs.Sinks.{Writes};
 ghost use Rattle.plot_report.specs.Report.{report_of, page_line, strokes_line, pen_lines, note_line};
 ghost use Rattle.plot_report.specs.Summaries.{summary_lines};
 
@@ -11,8 +11,8 @@ use crate::lines::{
 };
 use crate::pieces::put_piece;
 use crate::summary::{PENS, PenSummary, summarise};
+use devices::{Sink, WriteFault};
 use hpgl_plot::Notes;
-use picture_out::{Sink, WriteFault};
 use plot_page::{Page, Stroke};
 
 /// The most notes of a report: as many as the longest plot has bytes.
@@ -38,10 +38,10 @@ pub fn write_report<K: Sink>(
     notes: Notes<'_>,
     sink: &mut K,
 ) -> Result<u64, WriteFault>
-    requires sound { K.failed sink.old < 2 ^ 64 - 1 }
+    requires sound { (K.state sink.old).faults < 2 ^ 64 - 1 }
     requires strokes { length strokes.now ≤ MOST_STROKES }
     requires notes { length notes ≤ MOST_NOTES }
-    ensures writes { Writes K.held K.failed sink.old sink.new (report_of page.now strokes.now notes.entry) result }
+    ensures writes { Writes (K.state sink.old) (K.state sink.new) (report_of page.now strokes.now notes.entry) result }
     ensures count { IfOk result (λ n. n ≡ length (report_of page.now strokes.now notes.entry)) }
 {
     let mut piece = [0; PIECE];
@@ -87,11 +87,11 @@ fn put_notes<K: Sink>(
     used: usize,
     sink: &mut K,
 ) -> Result<u64, WriteFault>
-    requires sound { K.failed sink.old < 2 ^ 64 - 1 }
+    requires sound { (K.state sink.old).faults < 2 ^ 64 - 1 }
     requires notes { length notes ≤ MOST_NOTES }
     requires used { used ≤ LONGEST_HEAD }
     requires room { length piece.old ≡ PIECE }
-    ensures writes { Writes K.held K.failed sink.old sink.new (take used piece.old ++ flat_map note_line notes.entry) result }
+    ensures writes { Writes (K.state sink.old) (K.state sink.new) (take used piece.old ++ flat_map note_line notes.entry) result }
     ensures count { IfOk result (λ n. n ≡ length (take used piece.old ++ flat_map note_line notes.entry)) }
 {
     let mut rest = notes;

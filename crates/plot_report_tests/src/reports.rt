@@ -2,7 +2,7 @@
 ghost use Rattle.std.specs.Prelude.{◌≡◌, ◌<◌, ◌≤◌, Some, length};
 
 use hpgl_plot::Notes;
-use picture_out::{OverWrite, Sink, SinkFault};
+use devices::{OverWrite, Sink, SinkFault};
 use plot_page::{Colour, Page, Stroke, Window};
 use plot_report::write_report;
 use std::process::Abort;
@@ -19,9 +19,7 @@ struct Narrow {
 }
 
 impl Sink for Narrow {
-    ghost held = { λ s. Some s.bytes.items };
-
-    ghost failed = { λ s. s.failures };
+    ghost state = { λ s. record { held = Some s.bytes.items; faults = s.failures } };
 
     fn put(&mut self, piece: &[u8]) -> Result<usize, SinkFault> {
         self.puts = self.puts.wrapping_add(1);

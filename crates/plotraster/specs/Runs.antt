@@ -2,10 +2,11 @@
 use Rattle.std.specs.Prelude.{◌≡◌, ℕ, Bool, true, Result, Ok, Err}
 use Rattle.command_line.specs.declared.line.Task.{Task}
 use Rattle.command_line.specs.declared.line.Task.TheVariants.{Picture, Report}
-use Rattle.conversion.specs.Conversions.{HasConverted, SinkState, exact, has_resolution}
+use Rattle.conversion.specs.Conversions.{HasConverted, exact, has_resolution}
 use Rattle.conversion.specs.Faults.{status_of}
 use Rattle.conversion.specs.Reports.{HasReported}
-use Rattle.conversion.specs.Sources.{SourceState}
+use Rattle.devices.specs.Sinks.{SinkState}
+use Rattle.devices.specs.Sources.{SourceState}
 use Rattle.conversion.specs.declared.done.Done.{Done}
 use Rattle.conversion.specs.declared.fault.Fault.{Fault}
 

@@ -5,8 +5,8 @@ ghost use Rattle.conversion.specs.Conversions.{is_write};
 ghost use Rattle.plotraster.specs.Runs.{HasRun, task_has_resolution, exit_status_of};
 
 use command_line::Task;
-use conversion::{Done, Fault, Source, convert, report, status};
-use picture_out::Sink;
+use conversion::{Done, Fault, convert, report, status};
+use devices::{Sink, Source};
 use std::alloc::Global;
 use stroke_raster::Exact;
 
@@ -18,15 +18,13 @@ pub fn run_task<S: Source, K: Sink>(
     source: &mut S,
     sink: &mut K,
 ) -> Result<Done, Fault>
-    requires failing { S.failed source.old < 2 ^ 64 - 1 }
-    requires ending { S.ended source.old < 2 ^ 64 - 1 }
-    requires sinking { K.failed sink.old < 2 ^ 64 - 1 }
+    requires failing { (S.state source.old).faults < 2 ^ 64 - 1 }
+    requires ending { (S.state source.old).ends < 2 ^ 64 - 1 }
+    requires sinking { (K.state sink.old).faults < 2 ^ 64 - 1 }
     ensures resolution { (result ≡ Err Fault.Resolution) ↔ (task_has_resolution task.now ≡ false) }
     ensures runs { HasRun task.now
-        (record { left = S.left source.old; faults = S.failed source.old; ends = S.ended source.old })
-        (record { left = S.left source.new; faults = S.failed source.new; ends = S.ended source.new })
-        (record { held = K.held sink.old; faults = K.failed sink.old }) (record { held = K.held sink.new; faults = K.failed sink.new }) result }
-    ensures end { S.ended source.new ≡ S.ended source.old + 1 → IsAtEnd (S.left source.new) }
+        (S.state source.old) (S.state source.new) (K.state sink.old) (K.state sink.new) result }
+    ensures end { (S.state source.new).ends ≡ (S.state source.old).ends + 1 → IsAtEnd (S.state source.new).left }
     ensures untouched { IfErr result (λ fault. is_write fault ≡ false → sink.new ≡ sink.old) }
 {
     match task {

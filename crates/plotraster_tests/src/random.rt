@@ -1,6 +1,6 @@
 //! Plots of random bytes, and of random signs of instructions, against the pixel test itself.
 ghost use Rattle.std.specs.Prelude.{◌<◌};
-ghost use Rattle.stroke_raster.specs.Resolutions.{columns_of, rows_of};
+ghost use Rattle.plot_page.specs.Resolutions.{columns_of, rows_of};
 
 use crate::pages::eight_by_eight;
 use hpgl_plot::{Stroke, draw_text};

@@ -39,11 +39,7 @@ impl Semicolons {
 }
 
 impl Source for Semicolons {
-    ghost left = { λ _. None };
-
-    ghost failed = { λ s. s.failures };
-
-    ghost ended = { λ s. s.ends };
+    ghost state = { λ s. record { left = None; faults = s.failures; ends = s.ends } };
 
     fn get(&mut self, buffer: &mut [u8]) -> Result<usize, SourceFault> {
         if self.fails {

@@ -1,7 +1,7 @@
 -- The rows of a painter's bands, joined.
 use Rattle.std.proofs.Common.{◌≡◌, ℕ, ◌+◌, ◌-◌, List, [], ◌∷◌, ◌++◌, flat_map, map, ap, ◌∙◌, arith, refl, zero, suc}
 use Rattle.std.specs.List.{range_with_len}
-use Rattle.stroke_raster.specs.Resolutions.{rows_of}
+use Rattle.plot_page.specs.Resolutions.{rows_of}
 use Rattle.stroke_raster.specs.Painting.{Painting, Reaches, painted_rows, Moves, rows_next}
 use Rattle.stroke_raster.specs.Laws.{LendsAll}
 

@@ -13,7 +13,7 @@ use Rattle.stroke_raster.specs.Traces.{is_near, is_met, rightward}
 use Rattle.stroke_raster.proofs.Scaling.{way-scaled}
 use Rattle.plot_page.specs.Segments.{Segment}
 use Rattle.plot_page.specs.declared.page.Page.{Page}
-use Rattle.stroke_raster.specs.declared.dots.Dots.{Dots}
+use Rattle.plot_page.specs.declared.dots.Dots.{Dots}
 use Rattle.stroke_raster.proofs.GapLemmas.{near_first, near_last, near_between, far, cross_is, size, size_is}
 use Rattle.stroke_raster.proofs.BoxLemmas.{roots}
 

@@ -1,12 +1,12 @@
 -- What holds of the bands that a painter lends, one call of `next_band` after another, and of pixels.
 use Rattle.std.specs.Prelude.{◌≡◌, ℕ, ◌+◌, ◌-◌, ◌*◌, ◌<◌, ◌≤◌, ℤ, pos, ◌*ℤ◌, int_le, Bool, true, false, ◌&&◌, List, [], ◌∷◌, ◌++◌, flat_map, length}
 use Rattle.plot_page.specs.Segments.{Segment}
-use Rattle.stroke_raster.specs.declared.pens.PenSet.{PenSet}
+use Rattle.plot_page.specs.declared.pens.PenSet.{PenSet}
 use Rattle.stroke_raster.specs.declared.vector.Vector.{Vector}
 use Rattle.stroke_raster.specs.Covers.{in_window, first_end, drawn_width, covers_place}
 use Rattle.stroke_raster.specs.Gap.{way, scaled, dot}
-use Rattle.stroke_raster.specs.Pens.{has_pen}
-use Rattle.stroke_raster.specs.Resolutions.{rows_of}
+use Rattle.plot_page.specs.Pens.{has_pen}
+use Rattle.plot_page.specs.Resolutions.{rows_of}
 use Rattle.stroke_raster.specs.Shown.{shown}
 use Rattle.stroke_raster.specs.Painting.{Painting, Reaches, painted_rows, rows_next, Moves}
 

@@ -2,7 +2,7 @@
 use Rattle.std.specs.Prelude.{◌≡◌, ℕ, ◌+◌, ◌-◌, ◌*◌, ◌<◌, ◌≤◌, List, length, min}
 use Rattle.stroke_raster.specs.declared.scene.Scene.{Scene}
 use Rattle.stroke_raster.specs.declared.strip.Span.{Span}
-use Rattle.stroke_raster.specs.Resolutions.{rows_of}
+use Rattle.plot_page.specs.Resolutions.{rows_of}
 use Rattle.stroke_raster.specs.Scenes.{AreChained, width_of}
 use Rattle.stroke_raster.specs.Spans.{Spanned}
 

@@ -2,7 +2,7 @@
 use Rattle.std.specs.Prelude.{◌≡◌, ℕ, ◌+◌, ◌*◌, ◌<◌, ◌≤◌, List, length}
 use Rattle.stroke_raster.specs.declared.scene.Scene.{Scene}
 use Rattle.stroke_raster.specs.Chains.{Linked}
-use Rattle.stroke_raster.specs.Resolutions.{columns_of, rows_of}
+use Rattle.plot_page.specs.Resolutions.{columns_of, rows_of}
 use Rattle.stroke_raster.specs.Covers.{in_box}
 use Rattle.stroke_raster.specs.Boxes.{selected, boxes}
 use Rattle.stroke_raster.specs.Shown.{rows_shown}

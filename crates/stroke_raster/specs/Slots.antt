@@ -2,9 +2,9 @@
 use Rattle.std.specs.Prelude.{◌≡◌, ℕ, ◌+◌, ◌-◌, ◌*◌, ◌/◌, ◌%◌, ◌<◌, Bool, nat_lt, ◌&&◌, if◌then◌else◌, max, List, get_or, length, pos}
 use Rattle.plot_page.specs.declared.page.Page.{Page}
 use Rattle.plot_page.specs.Segments.{Segment}
-use Rattle.stroke_raster.specs.declared.dots.Dots.{Dots}
-use Rattle.stroke_raster.specs.declared.pens.PenSet.{PenSet}
-use Rattle.stroke_raster.specs.Pens.{has_pen}
+use Rattle.plot_page.specs.declared.dots.Dots.{Dots}
+use Rattle.plot_page.specs.declared.pens.PenSet.{PenSet}
+use Rattle.plot_page.specs.Pens.{has_pen}
 use Rattle.stroke_raster.specs.Extents.{first_row_of, end_row_of}
 use Rattle.stroke_raster.specs.Shown.{shown}
 

@@ -1,7 +1,7 @@
 -- The numbers of a trace: what they are for a stroke at a resolution.
 use Rattle.std.specs.Prelude.{◌≡◌, ℕ, ℤ, ◌*◌, ◌^◌, ◌<◌, ◌≤◌, pos, nat_abs, ◌*ℤ◌, ◌≤ℤ◌}
 use Rattle.plot_page.specs.Segments.{Segment}
-use Rattle.stroke_raster.specs.declared.dots.Dots.{Dots}
+use Rattle.plot_page.specs.declared.dots.Dots.{Dots}
 use Rattle.stroke_raster.specs.declared.vector.Vector.{Vector}
 use Rattle.stroke_raster.specs.declared.slope.Slope.{Slope}
 use Rattle.stroke_raster.specs.declared.slope.Inverse.{Inverse}

@@ -1,13 +1,12 @@
 //! The rows and the columns of a stroke's box.
 ghost use Rattle.std.specs.Prelude.{◌≡◌, ℕ, ℤ, ◌+◌, ◌*◌, ◌<◌, ◌≤◌, ◌^◌, pos, nat_abs, ◌+ℤ◌, ◌-ℤ◌, ◌*ℤ◌, ◌≤ℤ◌, true};
 ghost use Rattle.std.specs.Int.{int_min, int_max};
-ghost use Rattle.stroke_raster.specs.Resolutions.{columns_of, rows_of};
+ghost use Rattle.plot_page.specs.Resolutions.{columns_of, rows_of};
 ghost use Rattle.stroke_raster.specs.Extents.{first_place, end_place, first_row_of, end_row_of, HoldRows, HoldColumns, AreBoxed};
 
-use crate::dots::Dots;
 use crate::pixel::drawn_width_of;
 use crate::strip::Span;
-use plot_page::{Page, Stroke};
+use plot_page::{Dots, Page, Stroke};
 
 /// The rows and the columns whose pixels lie in a stroke's box.
 #[derive(Clone, Copy, Debug)]

@@ -2,18 +2,17 @@
 ghost use Rattle.std.specs.Prelude.{◌≡◌, ℕ, ◌+◌, ◌<◌, ◌≤◌, Bool, true, false, cond, get_or, length, min};
 ghost use Rattle.plot_page.specs.Segments.{Segment};
 ghost use Rattle.plot_page.specs.declared.page.Page.{Page};
-ghost use Rattle.stroke_raster.specs.declared.dots.Dots.{Dots};
-ghost use Rattle.stroke_raster.specs.Resolutions.{columns_of, rows_of};
+ghost use Rattle.plot_page.specs.declared.dots.Dots.{Dots};
+ghost use Rattle.plot_page.specs.Resolutions.{columns_of, rows_of};
 ghost use Rattle.stroke_raster.specs.Tests.{next_count, reached, MOST_TESTS};
 ghost use Rattle.stroke_raster.specs.Covers.{covers, in_box, BoxHolds};
 
-use crate::dots::Dots;
 use crate::fill::fill;
 use crate::nearness::near;
 use crate::run::run;
 use crate::strip::Span;
 use crate::trace::Trace;
-use plot_page::{Page, Stroke};
+use plot_page::{Dots, Page, Stroke};
 use std::marker::Model;
 
 /// Decides which pixels a stroke reaches, and counts how often it was asked.

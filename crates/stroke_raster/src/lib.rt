@@ -2,7 +2,6 @@
 #![tactic(auto)]
 
 mod band;
-mod dots;
 mod extent;
 mod fill;
 mod gauge;
@@ -10,7 +9,6 @@ pub mod laws;
 mod marks;
 mod nearness;
 mod painter;
-mod pens;
 mod pixel;
 mod run;
 mod scene;
@@ -21,12 +19,10 @@ mod vector;
 mod walk;
 
 pub use band::Band;
-pub use dots::{Dots, MOST_PIXELS_A_SIDE};
 pub use gauge::{Exact, Gauge};
 pub use marks::Marks;
 pub use nearness::near;
 pub use painter::{PaintFault, Painter};
-pub use pens::PenSet;
 pub use slope::{Inverse, Slope};
 pub use strip::Span;
 pub use trace::Trace;

@@ -2,14 +2,13 @@
 ghost use Rattle.std.specs.Prelude.{◌≡◌, ◌<◌, ◌^◌, true};
 ghost use Rattle.stroke_raster.specs.Bounds.{Within};
 ghost use Rattle.stroke_raster.specs.Covers.{covers};
-ghost use Rattle.stroke_raster.specs.Resolutions.{columns_of, rows_of};
+ghost use Rattle.plot_page.specs.Resolutions.{columns_of, rows_of};
 ghost use Rattle.stroke_raster.specs.Traces.{is_near};
 
-use crate::dots::Dots;
 use crate::pixel::{centre_of, dot_product, is_beside, is_in_window, is_short, way_between};
 use crate::trace::{Trace, trace_of};
 use crate::vector::Vector;
-use plot_page::{Page, Stroke};
+use plot_page::{Dots, Page, Stroke};
 
 /// Whether the stroke covers the pixel: the pixel's centre lies in the stroke's window, edges
 /// included, and within half of the drawn width of some point of the stroke, equality included.

@@ -6,11 +6,10 @@ ghost use Rattle.std.specs.Prelude.{◌≡◌, ◌≤◌, ◌<◌, ◌^◌, ◌*
 ghost use Rattle.stroke_raster.specs.Bounds.{Within};
 ghost use Rattle.stroke_raster.specs.Gap.{way, scaled, dot, cross, gap_met};
 ghost use Rattle.stroke_raster.specs.Covers.{between, in_window, first_end, last_end, drawn_width, is_gap_met, centre, covers};
-ghost use Rattle.stroke_raster.specs.Resolutions.{columns_of, rows_of};
+ghost use Rattle.plot_page.specs.Resolutions.{columns_of, rows_of};
 
-use crate::dots::Dots;
 use crate::vector::Vector;
-use plot_page::{Page, Stroke, Window};
+use plot_page::{Dots, Page, Stroke, Window};
 
 // The least width that is drawn, one and a half pixels. A pixel is 16,256 grains divided by the
 // resolution wide: an inch has 1016 plotter units of 16 grains.

@@ -2,7 +2,7 @@
 ghost use Rattle.std.specs.Prelude.{◌≡◌, ℕ, ◌+◌, ◌-◌, ◌<◌, ◌≤◌, ◌^◌, true, false};
 ghost use Rattle.stroke_raster.specs.Bounds.{Within};
 ghost use Rattle.stroke_raster.specs.Covers.{covers, in_box};
-ghost use Rattle.stroke_raster.specs.Resolutions.{columns_of, rows_of};
+ghost use Rattle.plot_page.specs.Resolutions.{columns_of, rows_of};
 ghost use Rattle.stroke_raster.specs.Traces.{rightward, is_met};
 
 use crate::nearness::{meets, meets_beside};

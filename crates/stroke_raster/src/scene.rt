@@ -2,9 +2,7 @@
 ghost use Rattle.std.specs.Prelude.{◌≤◌, length};
 ghost use Rattle.plot_page.specs.declared.stroke.TheConstants.{MOST_STROKES};
 
-use crate::dots::Dots;
-use crate::pens::PenSet;
-use plot_page::{Page, Stroke};
+use plot_page::{Dots, Page, PenSet, Stroke};
 
 /// The strokes of a picture, each later one over the earlier ones, of which those of the selected
 /// pens are drawn; and how the rows of its page are split into bands: from the first row on,

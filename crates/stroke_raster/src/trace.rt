@@ -2,11 +2,10 @@
 ghost use Rattle.std.specs.Prelude.{◌≡◌};
 ghost use Rattle.stroke_raster.specs.TraceNumbers.{IsTrace};
 
-use crate::dots::Dots;
 use crate::pixel::{drawn_width_of, first_end_of, last_end_of, squared_length, times, way_between};
 use crate::slope::{Slope, slope_of};
 use crate::vector::Vector;
-use plot_page::Stroke;
+use plot_page::{Dots, Stroke};
 
 /// A stroke at a resolution, with what the test of a pixel needs and all of its pixels share.
 ///

@@ -9,20 +9,19 @@ ghost use Rattle.stroke_raster.specs.Boxes.{box_pixels};
 ghost use Rattle.stroke_raster.specs.Scenes.{AreChained, IsNext, ShowsScene, scene_boxes, scene_rows, width_of};
 ghost use Rattle.stroke_raster.specs.Covers.{in_box, BoxHolds};
 ghost use Rattle.stroke_raster.specs.Extents.{end_row_of};
-ghost use Rattle.stroke_raster.specs.Resolutions.{columns_of, rows_of};
+ghost use Rattle.plot_page.specs.Resolutions.{columns_of, rows_of};
 ghost use Rattle.stroke_raster.specs.Shown.{marked, marked_in_rows};
 ghost use Rattle.stroke_raster.specs.Rows.{split_rows};
 ghost use Rattle.stroke_raster.specs.Slots.{band_from, reaches_cell};
 ghost use Rattle.stroke_raster.specs.Spans.{Spanned, holds, none};
 ghost use Rattle.stroke_raster.specs.Tests.{MOST_TESTS};
 
-use crate::dots::Dots;
 use crate::extent::extent_of;
 use crate::gauge::Gauge;
 use crate::scene::Scene;
 use crate::strip::Span;
 use crate::trace::trace_of;
-use plot_page::{Page, Stroke};
+use plot_page::{Dots, Page, Stroke};
 
 // The least span that holds all that two spans hold.
 fn joined(a: Span, b: Span) -> Span

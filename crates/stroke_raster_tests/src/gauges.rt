@@ -3,9 +3,9 @@ ghost use Rattle.std.specs.Prelude.{◌≡◌, ◌%◌, ◌&&◌, nat_eq};
 ghost use Rattle.stroke_raster.specs.Covers.{covers};
 
 use crate::strokes::{BLACK, WHOLE, cells_by};
-use plot_page::{Page, Stroke};
+use plot_page::{Dots, Page, PenSet, Stroke};
 use std::test::Fail;
-use stroke_raster::{Dots, Exact, Gauge, PenSet, laws, near};
+use stroke_raster::{Exact, Gauge, laws, near};
 
 /// A gauge by which a stroke reaches the odd columns of the pixels that it covers.
 #[derive(Drop)]

@@ -1,9 +1,9 @@
 //! Strokes from a generator, painted in bands, against the pixel test itself.
 use crate::strokes::{BLACK, WHOLE, cells_by};
-use plot_page::{Page, Stroke, Window};
+use plot_page::{Dots, Page, PenSet, Stroke, Window};
 use std::alloc::Global;
 use std::test::Fail;
-use stroke_raster::{Dots, Exact, PenSet, near};
+use stroke_raster::{Exact, near};
 
 // A linear congruential generator.
 #[derive(Drop)]

@@ -1,10 +1,10 @@
 //! Bands, rows and marks of a painter.
 
 use crate::strokes::{BLACK, WHOLE};
-use plot_page::{Page, Stroke, Window};
+use plot_page::{Dots, Page, PenSet, Stroke, Window};
 use std::alloc::Global;
 use std::test::Fail;
-use stroke_raster::{Dots, Exact, PaintFault, Painter, PenSet, near};
+use stroke_raster::{Exact, PaintFault, Painter, near};
 
 // A stroke of pen 1 in row 4 and one of pen 2 in column 3, on a page of 8 by 8 pixels.
 fn cross() -> Option<[Stroke; 2]> {

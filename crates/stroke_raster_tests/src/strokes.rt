@@ -1,10 +1,10 @@
 //! What the tests paint, and what is painted.
 ghost use Rattle.std.specs.Prelude.{◌≤◌, length};
 
-use plot_page::{Colour, Page, Stroke, Window};
+use plot_page::{Colour, Dots, Page, PenSet, Stroke, Window};
 use std::alloc::Global;
 use std::test::Fail;
-use stroke_raster::{Dots, Gauge, Painter, PenSet};
+use stroke_raster::{Gauge, Painter};
 
 pub const BLACK: Colour = Colour {
     red: 0,

@@ -1,6 +1,6 @@
 use Rattle.std.proofs.Common.{◌≡◌, ◌∙◌, ◌≤◌, ℕ, true, false, arith}
 use Rattle.std.proofs.lemmas.Bool.Decides.{nat_tests}
-use Rattle.stroke_raster.specs.Counts.{is_resolution}
+use Rattle.plot_page.specs.Pages.{is_resolution}
 use Rattle.command_line.proofs.line.job_of.Goals as goal
 
 pub returns-in_err-number_of-clause-understood : goal.returns-in_err-number_of-clause-understood

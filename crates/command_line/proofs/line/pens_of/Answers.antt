@@ -3,8 +3,8 @@ use Rattle.std.specs.Prelude.{is_some, codes, IfSome}
 use Rattle.std.specs.Option.{ok_or}
 use Rattle.clap.specs.Words.{Row, Text, found_of, rows_of}
 use Rattle.clap.proofs.WalkLemmas.{first_value-rows}
-use Rattle.stroke_raster.specs.declared.pens.PenSet.{PenSet}
-use Rattle.stroke_raster.specs.Pens.{has_pen}
+use Rattle.plot_page.specs.declared.pens.PenSet.{PenSet}
+use Rattle.plot_page.specs.Pens.{has_pen}
 use Rattle.pen_list.specs.Lists.{is_listed, is_pen_list}
 use Rattle.command_line.specs.declared.fault.LineFault.{LineFault}
 use Rattle.command_line.specs.Lines.{ArePensOf, lists_no_pens, pens_text}

@@ -1,6 +1,6 @@
 use Rattle.std.proofs.Common.{◌≡◌, ◌<◌, ◌≤◌, ◌+◌, List, length, ℕ, sym, ap, subst, ◌∙◌, ◌-◌, Bool, Result, Ok, Err, true, false, refl, inl, inr}
 use Rattle.std.proofs.lemmas.Bool.{cases_lt}
-use Rattle.stroke_raster.specs.Resolutions.{rows_of}
+use Rattle.plot_page.specs.Resolutions.{rows_of}
 use Rattle.stroke_raster.specs.Painting.{is_band_height}
 use Rattle.picture_out.specs.Forms.{foot_bytes}
 use Rattle.conversion.specs.Plots.{strokes}
@@ -27,8 +27,8 @@ returns-clause-converts g c =
     let input : List ℕ = drawing.input in
     let made = c.in_ok-painter.ensures in
     let drawn : c.in_ok-painter.painter.strokes ≡ strokes job.page input = made.strokes ∙ c.as_slice-strokes.ensures.value ∙ drawing.draws.strokes_are in
-    let was : SinkState = record { held = g.K.Sink.held c.args.sink.now; faults = g.K.Sink.failed c.args.sink.now } in
-    let is : SinkState = record { held = g.K.Sink.held c.write_picture.new.sink; faults = g.K.Sink.failed c.write_picture.new.sink } in
+    let was : SinkState = g.K.Sink.state c.args.sink.now in
+    let is : SinkState = g.K.Sink.state c.write_picture.new.sink in
     let wrote = move_parts (λ l ss p d r. WritesPicture (head_of job.form p d) (row_of job.form (g.G.Gauge.reaches c.args.gauge.now) l ss p d) (foot_bytes job.form) (rows_of p d) r was is (Ok c.in_ok-bytes.bytes))
     _ _ _ _ _ _ _ _ _ _ made.pens drawn made.page made.dots made.first c.in_ok-bytes.ensures.writes in
     let tests = move_parts (λ l ss p d r. g.G.Gauge.count c.write_picture.new.gauge ≤ g.G.Gauge.count c.args.gauge.now + boxes_from l ss p d r) _ _ _ _ _ _ _ _ _ _ made.pens drawn made.page made.dots made.first c.in_ok-bytes.ensures.tests in
@@ -57,8 +57,8 @@ returns-in_err-bytes-clause-converts g c =
     let input : List ℕ = drawing.input in
     let made = c.in_ok-painter.ensures in
     let drawn : c.in_ok-painter.painter.strokes ≡ strokes job.page input = made.strokes ∙ c.as_slice-strokes.ensures.value ∙ drawing.draws.strokes_are in
-    let was : SinkState = record { held = g.K.Sink.held c.args.sink.now; faults = g.K.Sink.failed c.args.sink.now } in
-    let is : SinkState = record { held = g.K.Sink.held c.write_picture.new.sink; faults = g.K.Sink.failed c.write_picture.new.sink } in
+    let was : SinkState = g.K.Sink.state c.args.sink.now in
+    let is : SinkState = g.K.Sink.state c.write_picture.new.sink in
     let stop = c.in_err-bytes.field-0.0 in
     let wrote = move_parts (λ l ss p d r. WritesPicture (head_of job.form p d) (row_of job.form (g.G.Gauge.reaches c.args.gauge.now) l ss p d) (foot_bytes job.form) (rows_of p d) r was is (Err stop))
     _ _ _ _ _ _ _ _ _ _ made.pens drawn made.page made.dots made.first c.in_err-bytes.ensures.writes in
@@ -66,8 +66,8 @@ returns-in_err-bytes-clause-converts g c =
     let height : is_band_height job.band ≡ true = true_unless _ (λ h. cc (made.band.1 h)) in
     let row : job.first_row ≤ rows_of job.page job.dots = within_unless _ _ (λ h. cc (made.row.1 (height, h))) in
     let Answered : Result Done Fault → Type 0 = λ r. HasConverted job (g.G.Gauge.reaches c.args.gauge.now)
-    (record { left = g.S.Source.left c.args.source.now; faults = g.S.Source.failed c.args.source.now; ends = g.S.Source.ended c.args.source.now })
-    (record { left = g.S.Source.left c.draw_source.new.source; faults = g.S.Source.failed c.draw_source.new.source; ends = g.S.Source.ended c.draw_source.new.source })
+    (g.S.Source.state c.args.source.now)
+    (g.S.Source.state c.draw_source.new.source)
     was is (g.G.Gauge.count c.args.gauge.now) (g.G.Gauge.count c.write_picture.new.gauge) r in
     subst Answered (sym (passed_on _ _ c.from_residual-in_err-bytes.ensures.1)) (record {
       input = input;

@@ -3,8 +3,8 @@ use Rattle.std.specs.Io.KnownBytes.{Appends}
 use Rattle.std.specs.List.{range_with_len}
 use Rattle.plot_page.specs.Segments.{Segment}
 use Rattle.plot_page.specs.declared.page.Page.{Page}
-use Rattle.stroke_raster.specs.declared.dots.Dots.{Dots}
-use Rattle.stroke_raster.specs.Resolutions.{columns_of, rows_of}
+use Rattle.plot_page.specs.declared.dots.Dots.{Dots}
+use Rattle.plot_page.specs.Resolutions.{columns_of, rows_of}
 use Rattle.stroke_raster.specs.Shown.{row_shown, rows_shown}
 use Rattle.stroke_raster.specs.Bands.{first_of, rows_of_band}
 use Rattle.stroke_raster.specs.Boxes.{boxes, selected}
@@ -13,12 +13,12 @@ use Rattle.stroke_raster.proofs.BoxCounts.{boxes_after, boxes_fewer}
 use Rattle.stroke_raster.specs.Painting.{rows_next}
 use Rattle.picture_out.specs.declared.inks.Ink.{Ink}
 use Rattle.picture_out.specs.Forms.{foot_bytes, row_bytes}
-use Rattle.picture_out.specs.Sinks.{taken_of}
-use Rattle.picture_out.proofs.KnownBytes.{written_next, cut_next, written_all}
+use Rattle.devices.specs.Sinks.{taken_of}
+use Rattle.devices.proofs.KnownBytes.{written_next, cut_next, written_all}
 use Rattle.conversion.specs.Picture.{rows_bytes, picture_of, bytes_before}
 use Rattle.conversion.specs.Writings.{head_of, row_of}
 use Rattle.conversion.specs.Progress.{rows_text, WritesRows}
-use Rattle.conversion.specs.Conversions.{SinkState}
+use Rattle.devices.specs.Sinks.{SinkState}
 use Rattle.conversion.proofs.Pictures.{before_rows, stopped_at}
 use Rattle.conversion.proofs.RowTexts.{text_is, band_next}
 use Rattle.conversion.proofs.Stops.{band_stop, same_rows, move_parts}
@@ -60,7 +60,7 @@ bands-preserved g c =
     let moved = c.next_band.follows.holds-at-none in
     let before : c.in-Ok-write_band.bytes ≡ bytes_before head row p.next (at + n) = omega (arith, count, inv.before, ap length text, before_rows head row p.next at n inv.from) in
     let size : c.in-Ok-write_band.bytes ≤ c.bands.done + c.rows-at.result * 4194304 = rw c.rows-at.ensures c.in-Ok-write_band.ensures.small in
-    let P : ℕ → Type 0 = λ k. Appends (g.K.Sink.held c.args.sink.now) (g.K.Sink.held c.write_band.new.sink) (take k all) in
+    let P : ℕ → Type 0 = λ k. Appends (g.K.Sink.state c.args.sink.now).held (g.K.Sink.state c.write_band.new.sink).held (take k all) in
     record {
       rest = ap (λ (k : ℕ). drop k all) count ∙ next.2 ∙ ap (λ (k : ℕ). rows_bytes row k (rows - k) ++ foot) (sym there);
       so_far = subst P (sym count) next.0;
@@ -110,8 +110,8 @@ returns-in-Err-write_band g c =
     let fit : at + n ≤ rows = omega (arith, left, page_rows, inv.next) in
     let rest = rows_bytes row (at + n) (rows - (at + n)) ++ foot in
     let split : drop c.bands.done all ≡ rows_text form inks at list ++ rest = inv.rest ∙ band_next form inks row pens foot rows at n made fit in
-    let was : SinkState = record { held = g.K.Sink.held c.bands.sink; faults = g.K.Sink.failed c.bands.sink } in
-    let is : SinkState = record { held = g.K.Sink.held c.write_band.new.sink; faults = g.K.Sink.failed c.write_band.new.sink } in
+    let was : SinkState = g.K.Sink.state c.bands.sink in
+    let is : SinkState = g.K.Sink.state c.write_band.new.sink in
     let P : ℕ → Type 0 = λ k. WritesRows form inks c.next_row-first.result k (rows_of_band c.in-Some.band) c.bands.done was is (Err c.in-Err-write_band.stop) in
     let Q : List (List ℕ) → Type 0 = λ z. WritesRows form inks c.next_row-first.result at z c.bands.done was is (Err c.in-Err-write_band.stop) in
     let R : ℕ → Type 0 = λ k. WritesRows form inks k at list c.bands.done was is (Err c.in-Err-write_band.stop) in

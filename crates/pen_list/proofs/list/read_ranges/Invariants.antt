@@ -1,5 +1,5 @@
 use Rattle.std.proofs.Common.{◌≡◌, ◌<◌, ◌≤◌, ◌||◌, ℕ, drop}
-use Rattle.stroke_raster.specs.Pens.{has_pen}
+use Rattle.plot_page.specs.Pens.{has_pen}
 use Rattle.pen_list.proofs.Ranges.{NoComma}
 use Rattle.pen_list.specs.Lists.{are_ranges, ranges_have}
 use Rattle.pen_list.proofs.list.read_ranges.Given as goal

@@ -1,7 +1,7 @@
 use Rattle.std.proofs.Common.{◌≡◌, ◌++◌, ◌≤◌, ◌∙◌, [], length, take, drop, ap, arith, refl}
 use Rattle.std.proofs.lemmas.List.{length-drop, length-take-le}
 use Rattle.picture_out.specs.Marks.{marks_from}
-use Rattle.picture_out.proofs.KnownBytes.{written_part, cut_next, written_all, begins_with, Appends-none}
+use Rattle.devices.proofs.KnownBytes.{written_part, cut_next, written_all, begins_with, Appends-none}
 use Rattle.picture_out.proofs.Lines.{marks_before, marks_after}
 use Rattle.picture_out.proofs.marks.put_lines.Goals as goal
 
@@ -12,7 +12,7 @@ loop-column-init g c =
       column_in = c.requires.span.order;
       size = refl;
       rest = marks_before c.args.row.now inks c.args.cells.now c.args.span.low c.args.span.end c.requires.span;
-      so_far = Appends-none (g.K.Sink.held c.args.sink.now) [] refl;
+      so_far = Appends-none (g.K.Sink.state c.args.sink.now).held [] refl;
       within = omega arith;
       small = omega arith;
       quiet = refl;

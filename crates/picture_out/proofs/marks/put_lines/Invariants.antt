@@ -12,10 +12,10 @@ invariant-loop-column g l =
       column_in : l.column ≤ l.span.end;
       size : length l.piece ≡ length l.fn.piece;
       rest : drop l.done all ≡ marks_from l.row l.column inks (drop l.column l.cells);
-      so_far : Appends (g.K.Sink.held l.fn.sink) (g.K.Sink.held l.sink) (take l.done all);
+      so_far : Appends (g.K.Sink.state l.fn.sink).held (g.K.Sink.state l.sink).held (take l.done all);
       within : l.done ≤ length all;
       small : l.done ≤ 33 * l.column;
-      quiet : g.K.Sink.failed l.sink ≡ g.K.Sink.failed l.fn.sink;
+      quiet : (g.K.Sink.state l.sink).faults ≡ (g.K.Sink.state l.fn.sink).faults;
     }
 
 abbrev pub decreases-loop-column : goal.decreases-loop-column

@@ -1,6 +1,6 @@
 use Rattle.std.proofs.Common.{◌≡◌, ◌+◌, ◌-◌, ◌++◌, ◌∙◌, List, ℕ, length, take, IfOk, sym, ap, subst, arith}
 use borrow.Rule.Slice.PartMut.{put_mid}
-use Rattle.picture_out.specs.Sinks.{Writes}
+use Rattle.devices.specs.Sinks.{Writes}
 use Rattle.picture_out.specs.Bits.{packed}
 use Rattle.picture_out.specs.Pcl.{transfer_command, transferred}
 use Rattle.picture_out.proofs.Sizes.{packed_size, transferred_size}
@@ -26,7 +26,7 @@ returns-else-buffer-bytes g c =
     ∙ ap (λ (z : List ℕ). z ++ packed cells) c.append_command-used.ensures.text
     ∙ ap (λ (n : ℕ). transfer_command n ++ packed cells) size in
     record {
-      writes = subst (λ (z : List ℕ). Writes g.K.Sink.held g.K.Sink.failed c.args.sink.now c.put_counted.new.sink z c.put_counted.result) whole c.put_counted.ensures.writes;
+      writes = subst (λ (z : List ℕ). Writes (g.K.Sink.state c.args.sink.now) (g.K.Sink.state c.put_counted.new.sink) z c.put_counted.result) whole c.put_counted.ensures.writes;
       count = subst (λ (z : List ℕ). IfOk c.put_counted.result (λ n. n ≡ length z)) whole c.put_counted.ensures.count;
       most = transferred_size cells c.requires.columns;
     }

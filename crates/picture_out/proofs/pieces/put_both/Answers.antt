@@ -1,6 +1,6 @@
 use Rattle.std.proofs.Common.{◌+◌, ◌≡◌, length, arith}
-use Rattle.picture_out.specs.Sinks.{taken_of}
-use Rattle.picture_out.proofs.KnownBytes.{cut_second}
+use Rattle.devices.specs.Sinks.{taken_of}
+use Rattle.devices.proofs.KnownBytes.{cut_second}
 use Rattle.picture_out.proofs.pieces.put_both.Goals as goal
 
 pub returns-in-Err-clause-writes : goal.returns-in-Err-clause-writes

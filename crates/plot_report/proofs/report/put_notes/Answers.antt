@@ -12,7 +12,7 @@ returns-in_err-done-clause-writes g c =
     let all = take c.args.used c.args.piece.now ++ flat_map note_line c.args.notes in
     let l = c.notes in
     let p = err_from_is_err_and c.from_residual.result c.from_residual.ensures.1 in
-    rw (p.1, p.2) (broken_off g.K.Sink.held g.K.Sink.failed c.args.sink.now l.sink c.put_piece.new.sink all (take l.used l.piece) (flat_map note_line l.rest) l.done c.in_err-done.field-0.0
+    rw (p.1, p.2) (broken_off (g.K.Sink.state c.args.sink.now) (g.K.Sink.state l.sink) (g.K.Sink.state c.put_piece.new.sink) all (take l.used l.piece) (flat_map note_line l.rest) l.done c.in_err-done.field-0.0
     l.invariant.rest l.invariant.within l.invariant.so_far l.invariant.quiet (c.in_err-done.ensures {u = tt}).writes)
 
 pub notes-preserved : goal.notes-preserved
@@ -24,7 +24,7 @@ notes-preserved g c =
     let line = c.append_note_line-used.ensures.line in
     elim c.if-used-piece.branch [
       | then-used-piece+in_ok-done w ↦
-          let put = piece_written g.K.Sink.held g.K.Sink.failed c.args.sink.now l.sink w.put_piece.new.sink all (take l.used l.piece) (flat_map note_line l.rest) l.done w.in_ok-done.done
+          let put = piece_written (g.K.Sink.state c.args.sink.now) (g.K.Sink.state l.sink) (g.K.Sink.state w.put_piece.new.sink) all (take l.used l.piece) (flat_map note_line l.rest) l.done w.in_ok-done.done
           l.invariant.rest l.invariant.within l.invariant.so_far l.invariant.quiet (w.in_ok-done.ensures {u = tt}).writes in
           let whole : length (take l.used l.piece) ≡ l.used = length-take-le l.used l.piece l.invariant.used_in in
           let count : w.in_ok-done.done ≡ l.done + length (take l.used l.piece) = (w.in_ok-done.ensures {u = tt}).writes.2 in
@@ -53,5 +53,5 @@ returns-clause-writes g c =
     let all = take c.args.used c.args.piece.now ++ flat_map note_line c.args.notes in
     let l = c.notes in
     let split : drop l.done all ≡ take l.used l.piece ++ [] = l.invariant.rest ∙ ap (λ (ns : List Note). take l.used l.piece ++ flat_map note_line ns) c.in_default.ensures.steps.0 in
-    last_piece g.K.Sink.held g.K.Sink.failed c.args.sink.now l.sink c.put_piece-2.new.sink all (take l.used l.piece) l.done c.put_piece-2.result
+    last_piece (g.K.Sink.state c.args.sink.now) (g.K.Sink.state l.sink) (g.K.Sink.state c.put_piece-2.new.sink) all (take l.used l.piece) l.done c.put_piece-2.result
     split l.invariant.within l.invariant.so_far l.invariant.quiet c.put_piece-2.ensures.writes

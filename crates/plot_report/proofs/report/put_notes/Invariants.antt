@@ -9,9 +9,9 @@ invariant-notes g l =
     let all = take l.fn.used l.fn.piece ++ flat_map note_line l.fn.notes in
     record {
       rest : drop l.done all ≡ take l.used l.piece ++ flat_map note_line l.rest;
-      so_far : Appends (g.K.Sink.held l.fn.sink) (g.K.Sink.held l.sink) (take l.done all);
+      so_far : Appends (g.K.Sink.state l.fn.sink).held (g.K.Sink.state l.sink).held (take l.done all);
       within : l.done ≤ length all;
-      quiet : g.K.Sink.failed l.sink ≡ g.K.Sink.failed l.fn.sink;
+      quiet : (g.K.Sink.state l.sink).faults ≡ (g.K.Sink.state l.fn.sink).faults;
       used_in : l.used ≤ length l.piece;
       size : length l.piece ≡ length l.fn.piece;
       small : l.done + l.used + 37 * length l.rest ≤ l.fn.used + 37 * length l.fn.notes;

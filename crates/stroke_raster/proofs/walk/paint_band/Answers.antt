@@ -2,7 +2,7 @@ use Rattle.std.proofs.Common.{◌≡◌, ℕ, ◌<◌, ◌≤◌, length, ◌*�
 use Rattle.std.proofs.lemmas.List.{length-take-le}
 use Rattle.std.proofs.lemmas.Nat.{mul-le}
 use Rattle.plot_page.specs.Segments.{Segment}
-use Rattle.stroke_raster.specs.Resolutions.{columns_of}
+use Rattle.plot_page.specs.Resolutions.{columns_of}
 use Rattle.stroke_raster.specs.Shown.{marked_in_rows}
 use Rattle.stroke_raster.proofs.Rows.{split_rows_first, painted_rows, marked_split_rows}
 use Rattle.stroke_raster.proofs.Slots.{wide_page}

@@ -5,9 +5,9 @@ use Rattle.std.proofs.Math.Nat.{div-lt_iff_lt-mul, mod-lt}
 use Rattle.std.proofs.lemmas.Nat.{mul-le}
 use borrow.Rule.Slice.PartMut.{put_mid, mid_of, same_len_mid}
 use Rattle.plot_page.specs.Segments.{Segment}
-use Rattle.stroke_raster.specs.declared.dots.Dots.{Dots}
+use Rattle.plot_page.specs.declared.dots.Dots.{Dots}
 use Rattle.stroke_raster.specs.Covers.{in_box}
-use Rattle.stroke_raster.specs.Resolutions.{columns_of}
+use Rattle.plot_page.specs.Resolutions.{columns_of}
 use Rattle.stroke_raster.specs.Shown.{marked}
 use Rattle.stroke_raster.proofs.Slots.{wide_page, line_as, beside, told}
 use Rattle.stroke_raster.proofs.Spans.{part_step, unpainted, spanned_painted}

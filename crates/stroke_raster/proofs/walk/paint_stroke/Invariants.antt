@@ -2,7 +2,7 @@ use Rattle.std.proofs.Common.{◌≡◌, ℕ, ◌+◌, ◌-◌, ◌/◌, ◌%◌
 use Rattle.plot_page.specs.Segments.{Segment}
 use Rattle.stroke_raster.specs.Boxes.{box_pixels}
 use Rattle.stroke_raster.specs.Covers.{in_box}
-use Rattle.stroke_raster.specs.Resolutions.{columns_of}
+use Rattle.plot_page.specs.Resolutions.{columns_of}
 use Rattle.stroke_raster.specs.Shown.{marked}
 use Rattle.stroke_raster.specs.Spans.{Spanned}
 use Rattle.stroke_raster.specs.Tests.{MOST_TESTS}

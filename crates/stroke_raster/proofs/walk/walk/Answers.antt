@@ -2,8 +2,8 @@ use Rattle.std.proofs.Common.{◌≡◌, ℕ, ◌+◌, ◌-◌, ◌<◌, ◌≤�
 use Rattle.plot_page.specs.Segments.{Segment}
 use Rattle.stroke_raster.specs.Covers.{in_box}
 use Rattle.stroke_raster.specs.Extents.{end_row_of}
-use Rattle.stroke_raster.specs.Pens.{has_pen}
-use Rattle.stroke_raster.specs.Resolutions.{columns_of}
+use Rattle.plot_page.specs.Pens.{has_pen}
+use Rattle.plot_page.specs.Resolutions.{columns_of}
 use Rattle.stroke_raster.specs.Boxes.{box_pixels}
 use Rattle.stroke_raster.specs.Slots.{band_of, goes_on, stroke_at}
 use Rattle.stroke_raster.proofs.Chains.{start, step, finish, due_began}

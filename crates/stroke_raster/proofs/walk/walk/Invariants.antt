@@ -1,7 +1,7 @@
 use Rattle.std.proofs.Common.{◌≡◌, ◌≤◌, ◌+◌, ◌-◌, min, take, length}
 use Rattle.plot_page.specs.Segments.{Segment}
 use Rattle.stroke_raster.specs.Covers.{in_box}
-use Rattle.stroke_raster.specs.Resolutions.{columns_of}
+use Rattle.plot_page.specs.Resolutions.{columns_of}
 use Rattle.stroke_raster.specs.Boxes.{selected, boxes}
 use Rattle.stroke_raster.specs.Shown.{marked}
 use Rattle.stroke_raster.specs.Spans.{Spanned}

@@ -1,5 +1,5 @@
 use Rattle.std.proofs.Common.{◌≡◌, ◌<◌, ◌||◌, ◌&&◌, ℕ, nat_lt}
-use Rattle.stroke_raster.specs.Pens.{has_pen}
+use Rattle.plot_page.specs.Pens.{has_pen}
 use Rattle.pen_list.specs.Lists.{is_between}
 use Rattle.pen_list.proofs.range.PenRange.added_to.Given as goal
 

@@ -1,7 +1,7 @@
 use Rattle.std.proofs.Common.{◌≡◌, ℕ, ◌+◌, ◌<◌, ◌≢◌, Bool, cond, get_or, length, arith, sym, ap, ◌∙◌, below_more, get_or-set_other, get_or-set_same}
 use Rattle.plot_page.specs.Segments.{Segment}
 use Rattle.plot_page.specs.declared.page.Page.{Page}
-use Rattle.stroke_raster.specs.declared.dots.Dots.{Dots}
+use Rattle.plot_page.specs.declared.dots.Dots.{Dots}
 use Rattle.stroke_raster.proofs.Reached.{least_more, most_more, grows_more}
 use Rattle.stroke_raster.proofs.gauge.Gauge.paint.Goals.{then-is_met, else-is_met}
 use Rattle.stroke_raster.proofs.gauge.Gauge.paint.Goals as goal

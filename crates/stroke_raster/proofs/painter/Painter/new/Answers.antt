@@ -1,7 +1,7 @@
 use Rattle.std.proofs.Common.{rules, ◌≡◌, ◌<◌, ◌≤◌, ◌+◌, ◌-◌, ◌*◌, ◌/◌, ℕ, zero, suc, List, length, get_or, replicate, drop, refl, ap, ◌∙◌, arith}
 use Rattle.std.proofs.Math.Nat.{div-lt_iff_lt-mul}
 use Rattle.stroke_raster.specs.declared.strip.Span.{Span}
-use Rattle.stroke_raster.specs.Resolutions.{rows_of}
+use Rattle.plot_page.specs.Resolutions.{rows_of}
 use Rattle.stroke_raster.specs.Spans.{none}
 use Rattle.stroke_raster.proofs.Spans.{spanned_blank}
 use Rattle.stroke_raster.proofs.Written.{whole}
