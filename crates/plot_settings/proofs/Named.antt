@@ -1,8 +1,8 @@
 -- What parameters set, by their count, and that it is in its range.
-use Rattle.std.proofs.Common.{◌⊎◌, inl, inr, ◌≡◌, ◌≢◌, ◌≤◌, ◌^◌, ◌-◌, refl, suc, false, ◌&&◌, ◌||◌, not, List, [], ◌∷◌, length, take, drop, get_or, All, Some, IfSome, ℤ, pos, ◌-ℤ◌, ◌+ℤ◌, ◌≤ℤ◌, int_le, nat_abs, arith}
+use Rattle.std.proofs.Common.{◌⊎◌, inl, inr, ◌≡◌, ◌≢◌, ◌≤◌, ◌^◌, ◌-◌, refl, suc, Bool, true, false, ◌&&◌, ◌||◌, not, List, [], ◌∷◌, length, take, drop, get_or, All, Some, IfSome, ℤ, pos, ◌-ℤ◌, ◌+ℤ◌, ◌≤ℤ◌, int_le, nat_abs, arith}
 use Rattle.std.proofs.lemmas.List.{take_all}
 use Rattle.std.proofs.lemmas.Int.{ints}
-use Rattle.std.proofs.lemmas.Bool.{and_parts, or_parts, cases_Bool, not-false}
+use Rattle.std.proofs.lemmas.Bool.{and_parts, or_parts, cases_Bool, not-true}
 use Rattle.std.proofs.lemmas.List.Elements.{All-head, All-tail}
 use Rattle.std.proofs.lemmas.Bool.Decides.{not_from_Decides, Decides-int_eq}
 use Rattle.std.specs.Ordering.{int_eq}
@@ -10,9 +10,11 @@ use Rattle.exact.specs.Fraction.{Fraction}
 use Rattle.exact.proofs.Rounding.{meets_lem}
 use Rattle.plot_frame.specs.declared.scaling.Ranges.{Ranges}
 use Rattle.plot_frame.specs.Bounds.{IsPoints, IsRanges}
-use Rattle.plot_settings.specs.declared.setting.Setting.TheVariants.{BothPoints}
-use Rattle.plot_settings.specs.Parameters.{whole_of, apart, points_at, scaling_points, window_corners, rotation_set, rotated, isotropic, isotropic_by, scaling_of_type, ranges_of, scaled, anisotropic, point_factor, has_empty_range, is_percent, is_pen, is_primary, default_colour_set, colour_set, pen_colour}
-use Rattle.plot_settings.specs.Lettering.{is_size, size_set, character_size, direction_set, direction}
+use Rattle.plot_settings.specs.declared.setting.Setting.{Setting}
+use Rattle.plot_settings.specs.declared.setting.Setting.TheVariants.{BothPoints, PenColour, Size, Direction}
+use Rattle.plot_settings.specs.Colours.{rgb, default_colour}
+use Rattle.plot_settings.specs.Parameters.{when, whole_of, apart, points_at, scaling_points, window_corners, rotation_set, rotated, isotropic, isotropic_by, scaling_of_type, ranges_of, scaled, anisotropic, point_factor, has_empty_range, is_percent, is_byte, coloured, pen_colour}
+use Rattle.plot_settings.specs.Lettering.{is_size, size_grains, character_size, nearest_axis, direction}
 use Rattle.plot_settings.specs.Bounds.{IsSetting}
 
 pub isotropic_two : (r : Ranges) (ns : List ℤ) (l b : ℤ) → 2 ≤ length ns → l ≡ get_or ns 0 l → b ≡ get_or ns 1 b → isotropic_by r ns ≡ isotropic r l b
@@ -31,11 +33,11 @@ points_four (x ∷ (y ∷ [])) a b c d h p q r s = absurd (omega arith)
 points_four (x ∷ (y ∷ (z ∷ []))) a b c d h p q r s = absurd (omega arith)
 points_four (x ∷ (y ∷ (z ∷ (w ∷ ns)))) a b c d h p q r s = rw (p, q, r, s) refl
 
-pub colours_by : (p r g b p' r' g' b' : ℤ) → p ≡ p' → r ≡ r' → g ≡ g' → b ≡ b' → colour_set p r g b ≡ colour_set p' r' g' b'
+pub colours_by : (p r g b p' r' g' b' : ℤ) → p ≡ p' → r ≡ r' → g ≡ g' → b ≡ b' → coloured p r g b ≡ coloured p' r' g' b'
 colours_by p r g b p' r' g' b' e f h i = rw (e, f, h, i) refl
 
 pub colour_four : (ns : List ℤ) (a b c d : ℤ) → 4 ≤ length ns → a ≡ get_or ns 0 a → b ≡ get_or ns 1 b → c ≡ get_or ns 2 c → d ≡ get_or ns 3 d
-    → pen_colour ns ≡ colour_set (whole_of a) (whole_of b) (whole_of c) (whole_of d)
+    → pen_colour ns ≡ coloured (whole_of a) (whole_of b) (whole_of c) (whole_of d)
 colour_four [] a b c d h p q r s = absurd (omega arith)
 colour_four (x ∷ []) a b c d h p q r s = absurd (omega arith)
 colour_four (x ∷ (y ∷ [])) a b c d h p q r s = absurd (omega arith)
@@ -141,17 +143,18 @@ pub named_rotation_sound : (ns : List ℤ) → IfSome (rotated ns) IsSetting
 named_rotation_sound [] = tt
 named_rotation_sound (n ∷ ns) = rotation_sound (whole_of n)
 
-default_colour_sound : (p : ℤ) → IfSome (default_colour_set p) IsSetting
-default_colour_sound p = elim (cases_Bool (is_pen p)) [
-  | inl t ↦ rw t tt
-  | inr t ↦ rw t tt
-]
+-- what is set under a test is in its range, if it is so without the test
+under_test : (test : Bool) (s : Setting) → IsSetting s → IfSome (when test s) IsSetting
+under_test true s h = h
+under_test false s h = tt
 
-colour_sound : (p r g b : ℤ) → IfSome (colour_set p r g b) IsSetting
-colour_sound p r g b = elim (cases_Bool (is_pen p && (is_primary r && (is_primary g && is_primary b)))) [
-  | inl t ↦ rw t tt
-  | inr t ↦ rw t tt
-]
+default_colour_sound : (p : ℤ) → IfSome (when (is_byte p) (PenColour (nat_abs p) (default_colour (nat_abs p)))) IsSetting
+default_colour_sound p = under_test (is_byte p) (PenColour (nat_abs p) (default_colour (nat_abs p))) tt
+
+colour_sound : (p r g b : ℤ) → IfSome (coloured p r g b) IsSetting
+colour_sound p r g b =
+    under_test (is_byte p && (is_byte r && (is_byte g && is_byte b)))
+      (PenColour (nat_abs p) (rgb (nat_abs r) (nat_abs g) (nat_abs b))) tt
 
 pub named_colour_sound : (ns : List ℤ) → IfSome (pen_colour ns) IsSetting
 named_colour_sound [] = tt
@@ -178,19 +181,20 @@ anisotropic_sound r h = elim (cases_Bool (has_empty_range r)) [
   | inr t ↦ rw t (ranges_sound r h t)
 ]
 
-percent_is : (n : ℤ) → not (is_percent n) ≡ false → (pos 0 ≤ℤ n) × (nat_abs n ≤ 10 ^ 8)
+percent_is : (n : ℤ) → is_percent n ≡ true → (pos 0 ≤ℤ n) × (nat_abs n ≤ 10 ^ 8)
 percent_is n h =
-    let p = and_parts (int_le (pos 0) n) (int_le n (pos 100000000)) (not-false (is_percent n) h) in
+    let p = and_parts (int_le (pos 0) n) (int_le n (pos 100000000)) h in
     (omega (arith, ints), omega (arith, ints))
 
 isotropic_sound : (r : Ranges) (l b : ℤ) → AreParameters r → IfSome (isotropic r l b) IsSetting
-isotropic_sound r l b h = elim (cases_Bool (has_empty_range r || (not (is_percent l) || not (is_percent b)))) [
-  | inl t ↦ rw t tt
-  | inr t ↦ rw t (let n = or_parts (has_empty_range r) _ t in
-      let m = or_parts (not (is_percent l)) (not (is_percent b)) n.1 in
+isotropic_sound r l b h = elim (cases_Bool (not (has_empty_range r) && (is_percent l && is_percent b))) [
+  | inr t ↦ rw t tt
+  | inl t ↦ rw t (let n = and_parts (not (has_empty_range r)) _ t in
+      let m = and_parts (is_percent l) (is_percent b) n.1 in
       let p = percent_is l m.0 in
       let q = percent_is b m.1 in
-      record { ranges = ranges_sound r h n.0; left_from = p.0; left_in = p.1; bottom_from = q.0; bottom_in = q.1 })
+      let e = not-true (has_empty_range r) n.0 in
+      record { ranges = ranges_sound r h e; left_from = p.0; left_in = p.1; bottom_from = q.0; bottom_in = q.1 })
 ]
 
 isotropic_by_sound : (r : Ranges) (ns : List ℤ) → AreParameters r → IfSome (isotropic_by r ns) IsSetting
@@ -233,24 +237,14 @@ named_scaling_sound (a ∷ (b ∷ (c ∷ (d ∷ [])))) h =
 named_scaling_sound (a ∷ (b ∷ (c ∷ (d ∷ (t ∷ ns))))) h =
     typed_sound (whole_of t) (ranges_of a b c d) ns (four_of a b c d (t ∷ ns) h)
 
-size_set_sound : (w h : ℤ) → IfSome (size_set w h) IsSetting
-size_set_sound w h = elim (cases_Bool (is_size w && is_size h)) [
-  | inl t ↦ rw t tt
-  | inr t ↦ rw t tt
-]
-
 pub named_size_sound : (ns : List ℤ) → IfSome (character_size ns) IsSetting
 named_size_sound [] = tt
 named_size_sound (w ∷ []) = tt
-named_size_sound (w ∷ (h ∷ ns)) = size_set_sound w h
-
-direction_set_sound : (x y : ℤ) → IfSome (direction_set x y) IsSetting
-direction_set_sound x y = elim (cases_Bool (int_eq x (pos 0) && int_eq y (pos 0))) [
-  | inl t ↦ rw t tt
-  | inr t ↦ rw t tt
-]
+named_size_sound (w ∷ (h ∷ ns)) =
+    under_test (is_size w && is_size h) (Size (record { width = size_grains w; height = size_grains h })) tt
 
 pub named_direction_sound : (ns : List ℤ) → IfSome (direction ns) IsSetting
 named_direction_sound [] = tt
 named_direction_sound (x ∷ []) = tt
-named_direction_sound (x ∷ (y ∷ ns)) = direction_set_sound x y
+named_direction_sound (x ∷ (y ∷ ns)) =
+    under_test (not (int_eq x (pos 0) && int_eq y (pos 0))) (Direction (nearest_axis x y)) tt

@@ -1,10 +1,10 @@
 -- The numbers of CI (Circle), AA (Arc Absolute) and AR (Arc Relative), in millionths: what they ask for, or None if
 -- they are wrong. That angles are rounded to thousandths of a degree before they are tested is our choice.
-use Rattle.std.specs.Prelude.{ℤ, pos, negsuc, nat_abs, Bool, ◌&&◌, List, [], ◌∷◌, Option, Some, None, if◌then◌else◌}
+use Rattle.std.specs.Prelude.{ℤ, pos, negsuc, nat_abs, Bool, ◌&&◌, List, [], ◌∷◌, Option, None}
 use Rattle.exact.specs.Fraction.{round}
 use Rattle.plot_settings.specs.declared.figure.Arc.{Arc}
 use Rattle.plot_settings.specs.declared.figure.Circle.{Circle}
-use Rattle.plot_settings.specs.Parameters.{is_between}
+use Rattle.plot_settings.specs.Parameters.{is_between, when}
 
 -- rounded to thousandths
 abbrev pub thousandths_of : ℤ → ℤ
@@ -22,7 +22,7 @@ abbrev pub is_sweep : ℤ → Bool
 is_sweep n = is_between (negsuc 359999) (pos 360000) n
 
 abbrev pub circle_of : ℤ → ℤ → Option Circle
-circle_of radius chord = if is_chord chord then Some (record { radius = radius; chord = nat_abs chord }) else None
+circle_of radius chord = when (is_chord chord) (record { radius = radius; chord = nat_abs chord })
 
 -- CI radius, chord
 abbrev pub circled : List ℤ → Option Circle
@@ -32,12 +32,10 @@ circled (r ∷ (c ∷ ns)) = circle_of r (thousandths_of c)
 
 abbrev pub arc_of : ℤ → ℤ → ℤ → ℤ → Option Arc
 arc_of x y sweep chord =
-    if is_sweep sweep && is_chord chord then Some (record { x = x; y = y; sweep = sweep; chord = nat_abs chord }) else None
+    when (is_sweep sweep && is_chord chord) (record { x = x; y = y; sweep = sweep; chord = nat_abs chord })
 
 -- AA and AR x, y, sweep, chord: x and y are the centre
 abbrev pub arced : List ℤ → Option Arc
-arced [] = None
-arced (x ∷ []) = None
-arced (x ∷ (y ∷ [])) = None
 arced (x ∷ (y ∷ (s ∷ []))) = arc_of x y (thousandths_of s) default_chord
 arced (x ∷ (y ∷ (s ∷ (c ∷ ns)))) = arc_of x y (thousandths_of s) (thousandths_of c)
+arced _ = None

@@ -1,6 +1,7 @@
 -- What SI (Absolute Character Size) and DI (Absolute Direction) set, or None if their numbers are wrong. Numbers are in
 -- millionths, and tested as written. The limit of 40 cm, and that only the four axes are directions, are our choice.
-use Rattle.std.specs.Prelude.{ℤ, pos, negsuc, ◌-ℤ◌, ◌*ℤ◌, nat_abs, nat_le, int_lt, Bool, false, not, ◌&&◌, List, [], ◌∷◌, Option, Some, None, if◌then◌else◌}
+use Rattle.std.specs.Prelude.{ℤ, pos, negsuc, ◌-ℤ◌, ◌*ℤ◌, nat_abs, nat_le, int_lt, Bool, false, not, ◌&&◌}
+use Rattle.std.specs.Prelude.{List, [], ◌∷◌, Option, Some, None, if◌then◌else◌}
 use Rattle.std.specs.Ordering.{int_eq}
 use Rattle.exact.specs.Fraction.{round}
 use Rattle.label_layout.specs.declared.size.CharacterSize.{CharacterSize}
@@ -9,7 +10,7 @@ use Rattle.plot_settings.specs.declared.setting.Rotation.{Rotation}
 use Rattle.plot_settings.specs.declared.setting.Rotation.TheVariants as rotation
 use Rattle.plot_settings.specs.declared.setting.Setting.{Setting}
 use Rattle.plot_settings.specs.declared.setting.Setting.TheVariants.{Size, Direction}
-use Rattle.plot_settings.specs.Parameters.{is_between}
+use Rattle.plot_settings.specs.Parameters.{is_between, when}
 
 -- 0.19 by 0.27 cm, in grains
 abbrev pub usual_size : CharacterSize
@@ -23,36 +24,23 @@ is_size n = not (int_eq n (pos 0)) && is_between (negsuc 39999999) (pos 40000000
 abbrev pub size_grains : ℤ → ℤ
 size_grains n = round (record { over = pos 6400 *ℤ n; under = 1000000 })
 
-abbrev pub size_set : ℤ → ℤ → Option Setting
-size_set width height =
-    if is_size width && is_size height then Some (Size (record { width = size_grains width; height = size_grains height })) else None
-
 -- SI width, height
 abbrev pub character_size : List ℤ → Option Setting
 character_size [] = Some (Size usual_size)
 character_size (w ∷ []) = None
-character_size (w ∷ (h ∷ ns)) = size_set w h
+character_size (w ∷ (h ∷ ns)) = when (is_size w && is_size h) (Size (record { width = size_grains w; height = size_grains h }))
 
--- right or left
-abbrev pub along_run : ℤ → Rotation
-along_run run = if int_lt run (pos 0) then rotation.Half else rotation.None
-
--- up or down
-abbrev pub along_rise : ℤ → Rotation
-along_rise rise = if int_lt rise (pos 0) then rotation.ThreeQuarters else rotation.Quarter
-
--- the axis that is nearest to a direction; the run's, if both are as near
+-- the axis that is nearest to a direction: right or left, or up or down; the run's, if both are as near
 abbrev pub nearest_axis : ℤ → ℤ → Rotation
-nearest_axis run rise = if nat_le (nat_abs rise) (nat_abs run) then along_run run else along_rise rise
-
-abbrev pub direction_set : ℤ → ℤ → Option Setting
-direction_set run rise = if int_eq run (pos 0) && int_eq rise (pos 0) then None else Some (Direction (nearest_axis run rise))
+nearest_axis run rise =
+    if nat_le (nat_abs rise) (nat_abs run) then (if int_lt run (pos 0) then rotation.Half else rotation.None) else
+    if int_lt rise (pos 0) then rotation.ThreeQuarters else rotation.Quarter
 
 -- DI run, rise: to the right if none is named
 abbrev pub direction : List ℤ → Option Setting
 direction [] = Some (Direction rotation.None)
 direction (x ∷ []) = None
-direction (x ∷ (y ∷ ns)) = direction_set x y
+direction (x ∷ (y ∷ ns)) = when (not (int_eq x (pos 0) && int_eq y (pos 0))) (Direction (nearest_axis x y))
 
 -- an offset, turned counterclockwise
 abbrev pub turned_offset : Rotation → Offset → Offset

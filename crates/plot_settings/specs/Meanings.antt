@@ -35,9 +35,8 @@ plots steps ns = record { steps = steps; is_wrong = length ns % 2 == 1 }
 
 -- EA (Edge Rectangle Absolute) and ER (Edge Rectangle Relative)
 abbrev pub edges : Bool → List ℤ → Meaning
-edges relative [] = wrong
-edges relative (x ∷ []) = wrong
 edges relative (x ∷ (y ∷ ns)) = record { steps = Edge relative x y ∷ []; is_wrong = false }
+edges relative _ = wrong
 
 -- CI (Circle), or wrong numbers
 abbrev pub circles : Option circle.Circle → Meaning

@@ -102,12 +102,8 @@ abbrev pub direction : List Step → Rotation
 direction before = newest (by_setting sets_direction) rotation.None before
 
 -- whether the pen is down: up at the start
-abbrev pub raises : Setting → Option Bool
-raises Start = Some false
-raises _ = None
-
 abbrev pub sets_down : Step → Option Bool
-sets_down (Set s) = raises s
+sets_down (Set Start) = Some false
 sets_down (Lower b) = Some b
 sets_down _ = None
 
@@ -115,13 +111,9 @@ abbrev pub is_down : List Step → Bool
 is_down before = newest sets_down false before
 
 -- whether coordinates are relative: absolute at the start and after DF
-abbrev pub makes_absolute : Setting → Option Bool
-makes_absolute Start = Some false
-makes_absolute Defaults = Some false
-makes_absolute _ = None
-
 abbrev pub sets_relative : Step → Option Bool
-sets_relative (Set s) = makes_absolute s
+sets_relative (Set Start) = Some false
+sets_relative (Set Defaults) = Some false
 sets_relative (Relate b) = Some b
 sets_relative _ = None
 
@@ -133,31 +125,17 @@ unfoldable pub all_pens : ℕ → List ℕ
 all_pens w = replicate 256 w
 
 -- the widths of all pens in a list: the law `widths_are_looked_back_for` says that it has each pen's
-abbrev pub widths_with : Setting → List ℕ → List ℕ
-widths_with Start ws = all_pens 224
-widths_with (Width q w) ws = set ws q w
-widths_with (WidthOfAll w) ws = all_pens w
-widths_with _ ws = ws
-
-abbrev pub widths_after : Step → List ℕ → List ℕ
-widths_after (Set s) ws = widths_with s ws
-widths_after _ ws = ws
-
 abbrev pub widths : List Step → List ℕ
 widths [] = all_pens 224
-widths (s ∷ before) = widths_after s (widths before)
+widths (Set Start ∷ before) = all_pens 224
+widths (Set (Width q w) ∷ before) = set (widths before) q w
+widths (Set (WidthOfAll w) ∷ before) = all_pens w
+widths (s ∷ before) = widths before
 
 -- the colours of all pens in a list: the law `colours_are_looked_back_for` says that it has each pen's
-abbrev pub colours_with : Setting → List Colour → List Colour
-colours_with Start cs = default_colours
-colours_with (PenColour q c) cs = set cs q c
-colours_with DefaultColours cs = default_colours
-colours_with _ cs = cs
-
-abbrev pub colours_after : Step → List Colour → List Colour
-colours_after (Set s) cs = colours_with s cs
-colours_after _ cs = cs
-
 abbrev pub colours : List Step → List Colour
 colours [] = default_colours
-colours (s ∷ before) = colours_after s (colours before)
+colours (Set Start ∷ before) = default_colours
+colours (Set (PenColour q c) ∷ before) = set (colours before) q c
+colours (Set DefaultColours ∷ before) = default_colours
+colours (s ∷ before) = colours before

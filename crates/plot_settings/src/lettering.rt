@@ -1,6 +1,9 @@
 //! What SI and DI set, or `None` if their parameters are wrong, and how a label is turned.
-ghost use Rattle.std.specs.Prelude.{◌≡◌, ◌≤◌, ◌^◌, nat_abs, true};
+ghost use Rattle.std.specs.Prelude.{◌≡◌, ◌≤◌, ◌^◌, ◌&&◌, not, pos, nat_abs, true};
+ghost use Rattle.std.specs.Ordering.{int_eq};
 ghost use Rattle.plot_settings.specs.Lettering as lettering;
+ghost use Rattle.plot_settings.specs.Parameters.{when};
+ghost use Rattle.plot_settings.specs.declared.setting.Setting.TheVariants.{Size, Direction};
 
 use crate::setting::{Rotation, Setting};
 use exact::rounded;
@@ -24,7 +27,9 @@ pub fn named_size(numbers: &[Number]) -> Option<Setting>
 }
 
 fn size_by(width: Number, height: Number) -> Option<Setting>
-    ensures { result ≡ lettering.size_set width height }
+    ensures { result ≡
+        when (lettering.is_size width && lettering.is_size height)
+        (Size (record { width = lettering.size_grains width; height = lettering.size_grains height })) }
 {
     if is_size(width) && is_size(height) {
         Some(Setting::Size(CharacterSize {
@@ -65,7 +70,8 @@ pub fn named_direction(numbers: &[Number]) -> Option<Setting>
 }
 
 fn direction_by(run: i64, rise: i64) -> Option<Setting>
-    ensures { result ≡ lettering.direction_set run rise }
+    ensures { result ≡
+        when (not (int_eq run (pos 0) && int_eq rise (pos 0))) (Direction (lettering.nearest_axis run rise)) }
 {
     if run == 0 && rise == 0 {
         None

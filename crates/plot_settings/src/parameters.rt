@@ -1,7 +1,10 @@
 //! What the parameters of an instruction set, or `None` if they are wrong. A parameter that is a whole
 //! number in the guide is rounded before it is tested; every other one is tested as written.
-ghost use Rattle.std.specs.Prelude.{◌≡◌, ◌≤◌, ◌^◌, pos, nat_abs, true};
+ghost use Rattle.std.specs.Prelude.{◌≡◌, ◌≤◌, ◌^◌, ◌&&◌, pos, nat_abs, true};
+ghost use Rattle.plot_settings.specs.Colours.{rgb};
+ghost use Rattle.plot_settings.specs.Colours as colours;
 ghost use Rattle.plot_settings.specs.Parameters as parameters;
+ghost use Rattle.plot_settings.specs.declared.setting.Setting.TheVariants as setting;
 
 use crate::palette::{FIRST_WIDTH, default_colour};
 use crate::setting::{Corners, Rotation, Setting};
@@ -33,19 +36,20 @@ pub fn named_pen(numbers: &[Number]) -> Option<Setting>
 }
 
 fn pen_of(pen: i64) -> Option<Setting>
-    ensures { result ≡ parameters.pen_set pen }
+    ensures { result ≡ parameters.when (parameters.is_byte pen) (setting.Pen (nat_abs pen)) }
 {
-    if is_pen_number(pen) {
+    if is_byte(pen) {
         Some(Setting::Pen(pen as u8))
     } else {
         None
     }
 }
 
-fn is_pen_number(pen: i64) -> bool
-    ensures { result ≡ parameters.is_pen pen }
+// Whether a pen, or the red, green or blue of a colour, may have this number.
+fn is_byte(number: i64) -> bool
+    ensures { result ≡ parameters.is_byte number }
 {
-    0 <= pen && pen <= 255
+    0 <= number && number <= 255
 }
 
 /// PW width, pen (Pen Width): the width, 0 to 20 millimetres, in grains of 1/16 plotter unit, for
@@ -62,7 +66,7 @@ pub fn named_width(numbers: &[Number]) -> Option<Setting>
 }
 
 fn width_of_all(width: Number) -> Option<Setting>
-    ensures { result ≡ parameters.all_widths_set width }
+    ensures { result ≡ parameters.when (parameters.is_width width) (setting.WidthOfAll (parameters.width_grains width)) }
 {
     if is_width_number(width) {
         Some(Setting::WidthOfAll(grains_of_width(width)))
@@ -72,9 +76,11 @@ fn width_of_all(width: Number) -> Option<Setting>
 }
 
 fn width_of_pen(width: Number, pen: i64) -> Option<Setting>
-    ensures { result ≡ parameters.width_set width pen }
+    ensures { result ≡
+        parameters.when (parameters.is_width width && parameters.is_byte pen)
+        (setting.Width (nat_abs pen) (parameters.width_grains width)) }
 {
-    if is_width_number(width) && is_pen_number(pen) {
+    if is_width_number(width) && is_byte(pen) {
         Some(Setting::Width(pen as u8, grains_of_width(width)))
     } else {
         None
@@ -117,9 +123,11 @@ pub fn named_colour(numbers: &[Number]) -> Option<Setting>
 }
 
 fn default_colour_of_pen(pen: i64) -> Option<Setting>
-    ensures { result ≡ parameters.default_colour_set pen }
+    ensures { result ≡
+        parameters.when (parameters.is_byte pen)
+        (setting.PenColour (nat_abs pen) (colours.default_colour (nat_abs pen))) }
 {
-    if is_pen_number(pen) {
+    if is_byte(pen) {
         Some(Setting::PenColour(pen as u8, default_colour(pen as u8)))
     } else {
         None
@@ -127,9 +135,9 @@ fn default_colour_of_pen(pen: i64) -> Option<Setting>
 }
 
 fn colour_of_pen(pen: i64, red: i64, green: i64, blue: i64) -> Option<Setting>
-    ensures { result ≡ parameters.colour_set pen red green blue }
+    ensures { result ≡ parameters.coloured pen red green blue }
 {
-    if is_pen_number(pen) && is_primary(red) && is_primary(green) && is_primary(blue) {
+    if is_byte(pen) && is_byte(red) && is_byte(green) && is_byte(blue) {
         Some(Setting::PenColour(pen as u8, colour_by(red, green, blue)))
     } else {
         None
@@ -137,23 +145,16 @@ fn colour_of_pen(pen: i64, red: i64, green: i64, blue: i64) -> Option<Setting>
 }
 
 fn colour_by(red: i64, green: i64, blue: i64) -> Colour
-    requires red_in { parameters.is_primary red ≡ true }
-    requires green_in { parameters.is_primary green ≡ true }
-    requires blue_in { parameters.is_primary blue ≡ true }
-    ensures { result ≡ parameters.colour_by red green blue }
+    requires red_in { parameters.is_byte red ≡ true }
+    requires green_in { parameters.is_byte green ≡ true }
+    requires blue_in { parameters.is_byte blue ≡ true }
+    ensures { result ≡ rgb (nat_abs red) (nat_abs green) (nat_abs blue) }
 {
     Colour {
         red: red as u8,
         green: green as u8,
         blue: blue as u8,
     }
-}
-
-// Whether red, green or blue may have this value.
-fn is_primary(value: i64) -> bool
-    ensures { result ≡ parameters.is_primary value }
-{
-    0 <= value && value <= 255
 }
 
 /// RO angle (Rotate Coordinate System): 0, 90, 180 or 270 degrees, or 0 if none is named. `None`
@@ -312,14 +313,14 @@ fn isotropic(ranges: Ranges, percents: &[Number]) -> Option<Setting>
 fn fitted(ranges: Ranges, left: i64, bottom: i64) -> Option<Setting>
     ensures { result ≡ parameters.isotropic ranges left bottom }
 {
-    if has_empty_range(ranges) || !is_percent(left) || !is_percent(bottom) {
-        None
-    } else {
+    if !has_empty_range(ranges) && is_percent(left) && is_percent(bottom) {
         Some(Setting::Scale(Scaling::Isotropic(Fitting {
             ranges,
             left,
             bottom,
         })))
+    } else {
+        None
     }
 }
 
