@@ -9,8 +9,8 @@ use Rattle.plot_page.specs.declared.colour.Colour.{Colour}
 use Rattle.plot_settings.specs.declared.setting.Setting.TheVariants.{Start, Defaults, PageCorners, FirstPoint, BothPoints, Scale, Rotate, PageWindow, CornerWindow, Pen, Width, WidthOfAll, PenColour, DefaultColours, Size, Direction}
 use Rattle.plot_settings.specs.Colours.{black, default_colour, default_colours}
 use Rattle.plot_settings.specs.Steps.{Step, Set, Touch, Lower, Relate, Move, Go, Edge, DrawCircle, DrawArc, Write, EndLabel}
-use Rattle.plot_settings.specs.Settings.{colours, colour, newer}
-use Rattle.plot_settings.specs.Laws.{ColoursAreLookedBackFor}
+use Rattle.plot_settings.specs.Settings.{colours, newer}
+use Rattle.plot_settings.specs.Laws.{ColoursAreLookedBackFor, colour}
 
 length_default : length default_colours ≡ 256
 unfolding default_colours

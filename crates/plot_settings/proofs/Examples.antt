@@ -5,10 +5,12 @@ use Rattle.plot_settings.specs.declared.setting.Rotation.TheVariants as rotation
 use Rattle.plot_settings.specs.declared.setting.Setting.TheVariants.{Start, Defaults, FirstPoint, BothPoints, Rotate, Pen, Width, WidthOfAll, PenColour, Size, Direction}
 use Rattle.plot_settings.specs.ArcParameters.{circled, arced}
 use Rattle.plot_settings.specs.Colours.{rgb, default_colour}
-use Rattle.plot_settings.specs.Lettering.{character_size, direction, is_slanted, usual_size, turned_offset}
+use Rattle.plot_settings.specs.Lettering.{character_size, label_direction, usual_size, turned_offset}
+use Rattle.plot_settings.specs.Slants.{is_slanted}
 use Rattle.plot_settings.specs.Meanings.{sets, wrong}
-use Rattle.plot_settings.specs.Parameters.{isotropic, moved_points, pen_colour, pen_width, rotated, scaled, scaling_points, ranges_of, selected_pen}
-use Rattle.plot_settings.specs.Settings.{colour, pen, rotation_before, size, width}
+use Rattle.plot_settings.specs.Parameters.{isotropic, moved_points, pen_colour, pen_width, rotated, user_scaling, scaling_points, ranges_of, selected_pen}
+use Rattle.plot_settings.specs.Settings.{pen, rotation_before, size}
+use Rattle.plot_settings.specs.Laws.{width, colour}
 use Rattle.plot_settings.specs.Steps.{Set, Lower, Touch, Move, lowered_then, moves}
 
 -- pen 254.5 is rounded to pen 255, and 255.5 to no pen
@@ -69,7 +71,7 @@ no_percent : isotropic (ranges_of (pos 0) (pos 8000000) (pos 0) (pos 8000000)) (
 no_percent = refl
 
 -- x has no range
-empty_range : scaled (pos 5 ∷ (pos 5 ∷ (pos 0 ∷ (pos 9 ∷ [])))) ≡ None
+empty_range : user_scaling (pos 5 ∷ (pos 5 ∷ (pos 0 ∷ (pos 9 ∷ [])))) ≡ None
 empty_range = refl
 
 -- a size of 40 cm is 256,000 grains, and 0 is none
@@ -80,7 +82,7 @@ no_size : character_size (pos 1000000 ∷ (pos 0 ∷ [])) ≡ None
 no_size = refl
 
 -- as near to both axes, so along the run, and noted
-diagonal : direction (neg_ℤ (pos 1) ∷ (pos 1 ∷ [])) ≡ Some (Direction rotation.Half)
+diagonal : label_direction (neg_ℤ (pos 1) ∷ (pos 1 ∷ [])) ≡ Some (Direction rotation.Half)
 diagonal = refl
 
 slanted : is_slanted (neg_ℤ (pos 1) ∷ (pos 1 ∷ [])) ≡ true

@@ -3,10 +3,11 @@ use Rattle.std.proofs.Common.{◌≡◌, refl, ap, true, false, List, [], ◌∷
 use Rattle.hpgl_text.specs.declared.instruction.Instruction.{Instruction}
 use Rattle.hpgl_text.specs.declared.instruction.Instruction.TheVariants.{Initialize, DefaultValues, InputPoints, Scale, Rotate, InputWindow, SelectPen, PenWidth, PenColour, PenUp, PenDown, PlotAbsolute, PlotRelative, PolylineEncoded, EdgeAbsolute, EdgeRelative, Circle, ArcAbsolute, ArcRelative, Label, LabelTerminator, CharacterSize, Direction}
 use Rattle.plot_settings.specs.ArcParameters.{circled, arced}
-use Rattle.plot_settings.specs.Lettering.{character_size, direction, is_slanted}
+use Rattle.plot_settings.specs.Lettering.{character_size, label_direction}
+use Rattle.plot_settings.specs.Slants.{is_slanted}
 use Rattle.plot_settings.specs.Pairs.{plots_pairs}
 use Rattle.plot_settings.specs.Meanings.{sets, edges, circles, arcs, meaning}
-use Rattle.plot_settings.specs.Parameters.{scaling_points, scaled, rotated, window_corners, selected_pen, pen_width, pen_colour}
+use Rattle.plot_settings.specs.Parameters.{scaling_points, user_scaling, rotated, window_corners, selected_pen, pen_width, pen_colour}
 
 first_one : {T : Type 0} (f : List ℤ → T) → ((n : ℤ) (ns : List ℤ) → f (n ∷ take 6 ns) ≡ f (n ∷ ns)) → (ns : List ℤ) → f (take 7 ns) ≡ f ns
 first_one f h [] = refl
@@ -24,7 +25,7 @@ first_four f h (a ∷ (b ∷ [])) = refl
 first_four f h (a ∷ (b ∷ (c ∷ []))) = refl
 first_four f h (a ∷ (b ∷ (c ∷ (d ∷ ns)))) = h a b c d ns
 
-first_seven : (a b c d : ℤ) (ns : List ℤ) → scaled (a ∷ (b ∷ (c ∷ (d ∷ take 3 ns)))) ≡ scaled (a ∷ (b ∷ (c ∷ (d ∷ ns))))
+first_seven : (a b c d : ℤ) (ns : List ℤ) → user_scaling (a ∷ (b ∷ (c ∷ (d ∷ take 3 ns)))) ≡ user_scaling (a ∷ (b ∷ (c ∷ (d ∷ ns))))
 first_seven a b c d [] = refl
 first_seven a b c d (t ∷ []) = refl
 first_seven a b c d (t ∷ (l ∷ [])) = refl
@@ -35,7 +36,7 @@ pub same_meaning : (i : Instruction) → plots_pairs i ≡ false → (ns : List 
 same_meaning Initialize h ns = refl
 same_meaning DefaultValues h ns = refl
 same_meaning InputPoints h ns = ap sets (first_four scaling_points (λ a b c d ms. refl) ns)
-same_meaning Scale h ns = ap sets (first_four scaled first_seven ns)
+same_meaning Scale h ns = ap sets (first_four user_scaling first_seven ns)
 same_meaning Rotate h ns = ap sets (first_one rotated (λ n ms. refl) ns)
 same_meaning InputWindow h ns = ap sets (first_four window_corners (λ a b c d ms. refl) ns)
 same_meaning SelectPen h ns = ap sets (first_one selected_pen (λ n ms. refl) ns)
@@ -54,7 +55,7 @@ same_meaning ArcRelative h ns = ap (arcs true) (first_four arced (λ a b c d ms.
 same_meaning Label h ns = refl
 same_meaning LabelTerminator h ns = refl
 same_meaning CharacterSize h ns = ap sets (first_two character_size (λ a b ms. refl) ns)
-same_meaning Direction h ns = ap sets (first_two direction (λ a b ms. refl) ns)
+same_meaning Direction h ns = ap sets (first_two label_direction (λ a b ms. refl) ns)
 
 -- whether a direction is along no axis
 pub same_slant : (ns : List ℤ) → is_slanted (take 7 ns) ≡ is_slanted ns

@@ -1,4 +1,4 @@
-pub mod Named
+pub mod SettingRanges
 pub mod Leading
 pub mod Moved
 pub mod Widths

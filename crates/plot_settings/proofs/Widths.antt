@@ -8,9 +8,9 @@ use Rattle.std.proofs.lemmas.List.Elements.{All-head, All-tail, All-replicate}
 use Rattle.std.proofs.lemmas.Bool.Decides.{nat_tests}
 use Rattle.plot_settings.specs.declared.setting.Setting.TheVariants.{Start, Defaults, PageCorners, FirstPoint, BothPoints, Scale, Rotate, PageWindow, CornerWindow, Pen, Width, WidthOfAll, PenColour, DefaultColours, Size, Direction}
 use Rattle.plot_settings.specs.Steps.{Step, Set, Touch, Lower, Relate, Move, Go, Edge, DrawCircle, DrawArc, Write, EndLabel}
-use Rattle.plot_settings.specs.Settings.{widths, width, all_pens, newer}
+use Rattle.plot_settings.specs.Settings.{widths, all_pens, newer}
 use Rattle.plot_settings.specs.Bounds.{AreWidths}
-use Rattle.plot_settings.specs.Laws.{WidthsAreLookedBackFor}
+use Rattle.plot_settings.specs.Laws.{WidthsAreLookedBackFor, width}
 
 length_all : (w : ℕ) → length (all_pens w) ≡ 256
 unfolding all_pens

@@ -1,6 +1,6 @@
 -- What SI (Absolute Character Size) and DI (Absolute Direction) set, or None if their numbers are wrong. Numbers are in
 -- millionths, and tested as written. The limit of 40 cm, and that only the four axes are directions, are our choice.
-use Rattle.std.specs.Prelude.{ℤ, pos, negsuc, ◌-ℤ◌, ◌*ℤ◌, nat_abs, nat_le, int_lt, Bool, false, not, ◌&&◌}
+use Rattle.std.specs.Prelude.{ℤ, pos, negsuc, ◌-ℤ◌, ◌*ℤ◌, nat_abs, nat_le, int_lt, Bool, not, ◌&&◌}
 use Rattle.std.specs.Prelude.{List, [], ◌∷◌, Option, Some, None, if◌then◌else◌}
 use Rattle.std.specs.Ordering.{int_eq}
 use Rattle.exact.specs.Fraction.{round}
@@ -37,10 +37,10 @@ nearest_axis run rise =
     if int_lt rise (pos 0) then rotation.ThreeQuarters else rotation.Quarter
 
 -- DI run, rise: to the right if none is named
-abbrev pub direction : List ℤ → Option Setting
-direction [] = Some (Direction rotation.None)
-direction (x ∷ []) = None
-direction (x ∷ (y ∷ ns)) = when (not (int_eq x (pos 0) && int_eq y (pos 0))) (Direction (nearest_axis x y))
+abbrev pub label_direction : List ℤ → Option Setting
+label_direction [] = Some (Direction rotation.None)
+label_direction (x ∷ []) = None
+label_direction (x ∷ (y ∷ ns)) = when (not (int_eq x (pos 0) && int_eq y (pos 0))) (Direction (nearest_axis x y))
 
 -- an offset, turned counterclockwise
 abbrev pub turned_offset : Rotation → Offset → Offset
@@ -48,9 +48,3 @@ turned_offset rotation.None o = o
 turned_offset rotation.Quarter o = record { x = pos 0 -ℤ o.y; y = o.x }
 turned_offset rotation.Half o = record { x = pos 0 -ℤ o.x; y = pos 0 -ℤ o.y }
 turned_offset rotation.ThreeQuarters o = record { x = o.y; y = pos 0 -ℤ o.x }
-
--- a direction along no axis
-abbrev pub is_slanted : List ℤ → Bool
-is_slanted [] = false
-is_slanted (x ∷ []) = false
-is_slanted (x ∷ (y ∷ ns)) = not (int_eq x (pos 0)) && not (int_eq y (pos 0))

@@ -6,6 +6,7 @@ pub mod Colours
 pub mod Steps
 pub mod Meanings
 pub mod Settings
+pub mod Slants
 pub mod Laws
 -- What contracts need: the ranges of what is set, which instructions make moves, and what they ask for.
 pub mod Bounds

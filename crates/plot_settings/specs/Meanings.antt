@@ -10,9 +10,9 @@ use Rattle.plot_settings.specs.declared.figure.Arc as arc
 use Rattle.plot_settings.specs.declared.figure.Circle as circle
 use Rattle.plot_settings.specs.declared.setting.Setting.{Setting}
 use Rattle.plot_settings.specs.declared.setting.Setting.TheVariants.{Start, Defaults}
-use Rattle.plot_settings.specs.Parameters.{scaling_points, scaled, rotated, window_corners, selected_pen, pen_width, pen_colour}
+use Rattle.plot_settings.specs.Parameters.{scaling_points, user_scaling, rotated, window_corners, selected_pen, pen_width, pen_colour}
 use Rattle.plot_settings.specs.Steps.{Step, Set, Lower, Relate, Edge, DrawCircle, DrawArc, moves, lowered_then, entry_steps, label_steps}
-use Rattle.plot_settings.specs.Lettering.{character_size, direction, is_slanted}
+use Rattle.plot_settings.specs.Lettering.{character_size, label_direction}
 
 pub record Meaning : Type 0 where
   pub steps : List Step
@@ -53,7 +53,7 @@ abbrev pub meaning : Instruction → List ℤ → Meaning
 meaning Initialize ns = sets (Some Start)
 meaning DefaultValues ns = sets (Some Defaults)
 meaning InputPoints ns = sets (scaling_points ns)
-meaning Scale ns = sets (scaled ns)
+meaning Scale ns = sets (user_scaling ns)
 meaning Rotate ns = sets (rotated ns)
 meaning InputWindow ns = sets (window_corners ns)
 meaning SelectPen ns = sets (selected_pen ns)
@@ -72,12 +72,7 @@ meaning ArcRelative ns = arcs true (arced ns)
 meaning instruction.Label ns = nothing
 meaning LabelTerminator ns = nothing
 meaning CharacterSize ns = sets (character_size ns)
-meaning Direction ns = sets (direction ns)
-
--- whether the instruction sets a direction along no axis
-abbrev pub is_off_axis : Instruction → List ℤ → Bool
-is_off_axis Direction ns = is_slanted ns
-is_off_axis _ ns = false
+meaning Direction ns = sets (label_direction ns)
 
 abbrev pub meaning_if_known : Option Instruction → List ℤ → Meaning
 meaning_if_known (Some instruction) ns = meaning instruction ns

@@ -49,8 +49,8 @@ pen_width [] = Some (WidthOfAll 224)
 pen_width (n ∷ []) = when (is_width n) (WidthOfAll (width_grains n))
 pen_width (n ∷ (p ∷ ns)) = when (is_width n && is_byte (whole_of p)) (Width (nat_abs (whole_of p)) (width_grains n))
 
-abbrev pub coloured : ℤ → ℤ → ℤ → ℤ → Option Setting
-coloured pen red green blue =
+abbrev pub given_colour : ℤ → ℤ → ℤ → ℤ → Option Setting
+given_colour pen red green blue =
     when (is_byte pen && (is_byte red && (is_byte green && is_byte blue)))
     (PenColour (nat_abs pen) (rgb (nat_abs red) (nat_abs green) (nat_abs blue)))
 
@@ -59,7 +59,7 @@ coloured pen red green blue =
 abbrev pub pen_colour : List ℤ → Option Setting
 pen_colour [] = Some DefaultColours
 pen_colour (p ∷ []) = when (is_byte (whole_of p)) (PenColour (nat_abs (whole_of p)) (default_colour (nat_abs (whole_of p))))
-pen_colour (p ∷ (r ∷ (g ∷ (b ∷ ns)))) = coloured (whole_of p) (whole_of r) (whole_of g) (whole_of b)
+pen_colour (p ∷ (r ∷ (g ∷ (b ∷ ns)))) = given_colour (whole_of p) (whole_of r) (whole_of g) (whole_of b)
 pen_colour _ = None
 
 -- RO (Rotate Coordinate System) angle: 0, 90, 180 or 270 degrees
@@ -142,8 +142,8 @@ scaling_of_type kind r ns =
     None
 
 -- SC: off, or by four numbers, a type and two percents
-abbrev pub scaled : List ℤ → Option Setting
-scaled [] = Some (Scale Off)
-scaled (a ∷ (b ∷ (c ∷ (d ∷ [])))) = anisotropic (ranges_of a b c d)
-scaled (a ∷ (b ∷ (c ∷ (d ∷ (t ∷ ns))))) = scaling_of_type (whole_of t) (ranges_of a b c d) ns
-scaled _ = None
+abbrev pub user_scaling : List ℤ → Option Setting
+user_scaling [] = Some (Scale Off)
+user_scaling (a ∷ (b ∷ (c ∷ (d ∷ [])))) = anisotropic (ranges_of a b c d)
+user_scaling (a ∷ (b ∷ (c ∷ (d ∷ (t ∷ ns))))) = scaling_of_type (whole_of t) (ranges_of a b c d) ns
+user_scaling _ = None

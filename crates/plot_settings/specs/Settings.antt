@@ -42,26 +42,6 @@ sets_pen _ = None
 abbrev pub pen : List Step → ℕ
 pen before = newest (by_setting sets_pen) 1 before
 
--- the width of pen p in grains: 224 at the start
-abbrev pub sets_width : ℕ → Setting → Option ℕ
-sets_width p Start = Some 224
-sets_width p (Width q w) = if nat_eq p q then Some w else None
-sets_width p (WidthOfAll w) = Some w
-sets_width p _ = None
-
-abbrev pub width : ℕ → List Step → ℕ
-width p before = newest (by_setting (sets_width p)) 224 before
-
--- the colour of pen p: its default colour at the start; DF leaves it
-abbrev pub sets_colour : ℕ → Setting → Option Colour
-sets_colour p Start = Some (default_colour p)
-sets_colour p (PenColour q c) = if nat_eq p q then Some c else None
-sets_colour p DefaultColours = Some (default_colour p)
-sets_colour p _ = None
-
-abbrev pub colour : ℕ → List Step → Colour
-colour p before = newest (by_setting (sets_colour p)) (default_colour p) before
-
 -- the scaling: off at the start and after DF
 abbrev pub sets_scaling : Setting → Option Scaling
 sets_scaling Start = Some Off

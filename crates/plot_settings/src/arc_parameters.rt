@@ -32,7 +32,7 @@ fn is_sweep(thousandths: i64) -> bool
 /// CI radius, chord (Circle): the circle, with its radius in millionths of the current unit. A
 /// chord has 0.5 to 180 degrees, rounded to thousandths before they are tested, and 5 if none is
 /// named. `None` if the radius is missing, or the chord is out of range.
-pub fn named_circle(numbers: &[Number]) -> Option<Circle>
+pub fn circle_from(numbers: &[Number]) -> Option<Circle>
     ensures value { result ≡ arcs.circled numbers.now }
     ensures sound { IfSome result (λ c. IsCircle c) }
 {
@@ -61,7 +61,7 @@ fn circle_of(radius: Number, chord: i64) -> Option<Circle>
 /// millionths of the current unit. The sweep is -360 to 360 degrees and a chord 0.5 to 180, rounded
 /// to thousandths before they are tested; a chord has 5 if none is named. `None` if a number before
 /// the chord is missing, or an angle is out of range.
-pub fn named_arc(numbers: &[Number]) -> Option<Arc>
+pub fn arc_from(numbers: &[Number]) -> Option<Arc>
     ensures value { result ≡ arcs.arced numbers.now }
     ensures sound { IfSome result (λ a. IsArc a) }
 {

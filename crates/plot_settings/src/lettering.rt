@@ -3,6 +3,7 @@ ghost use Rattle.std.specs.Prelude.{◌≡◌, ◌≤◌, ◌^◌, ◌&&◌, not
 ghost use Rattle.std.specs.Ordering.{int_eq};
 ghost use Rattle.plot_settings.specs.Lettering as lettering;
 ghost use Rattle.plot_settings.specs.Parameters.{when};
+ghost use Rattle.plot_settings.specs.Slants.{is_slanted};
 ghost use Rattle.plot_settings.specs.declared.setting.Setting.TheVariants.{Size, Direction};
 
 use crate::setting::{Rotation, Setting};
@@ -16,7 +17,7 @@ const GREATEST_SIZE: i64 = 40_000_000;
 /// SI width, height (Absolute Character Size): the size of characters, in grains of 1/16 plotter
 /// unit, or `CharacterSize::DEFAULT` if no number is there. `None` if the height is missing, or a
 /// number is 0 or over 40 centimetres either side of 0.
-pub fn named_size(numbers: &[Number]) -> Option<Setting>
+pub fn size_setting(numbers: &[Number]) -> Option<Setting>
     ensures { result ≡ lettering.character_size numbers.now }
 {
     match numbers {
@@ -59,8 +60,8 @@ fn grains_of_size(size: Number) -> i32
 /// DI run, rise (Absolute Direction): how labels are turned: along the axis that is nearest to the
 /// direction, that of the run if both are as near, or to the right if no number is there. `None` if
 /// the rise is missing, or both are 0.
-pub fn named_direction(numbers: &[Number]) -> Option<Setting>
-    ensures { result ≡ lettering.direction numbers.now }
+pub fn direction_setting(numbers: &[Number]) -> Option<Setting>
+    ensures { result ≡ lettering.label_direction numbers.now }
 {
     match numbers {
         [] => Some(Setting::Direction(Rotation::None)),
@@ -99,7 +100,7 @@ fn nearest_axis(run: i64, rise: i64) -> Rotation
 
 /// Whether the direction of a DI is along no axis.
 pub fn is_slanted(numbers: &[Number]) -> bool
-    ensures { result ≡ lettering.is_slanted numbers.now }
+    ensures { result ≡ is_slanted numbers.now }
 {
     match numbers {
         [] => false,

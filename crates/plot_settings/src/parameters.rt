@@ -26,7 +26,7 @@ fn whole_number(number: Number) -> i64
 
 /// SP pen (Select Pen): the pen, 0 to 255, or 0 if none is named. `None` if the number is out of
 /// range.
-pub fn named_pen(numbers: &[Number]) -> Option<Setting>
+pub fn pen_setting(numbers: &[Number]) -> Option<Setting>
     ensures { result ≡ parameters.selected_pen numbers.now }
 {
     match numbers {
@@ -55,7 +55,7 @@ fn is_byte(number: i64) -> bool
 /// PW width, pen (Pen Width): the width, 0 to 20 millimetres, in grains of 1/16 plotter unit, for
 /// one pen, 0 to 255, or for all if none is named. Without a width all pens get `FIRST_WIDTH`.
 /// `None` if a number is out of range.
-pub fn named_width(numbers: &[Number]) -> Option<Setting>
+pub fn width_setting(numbers: &[Number]) -> Option<Setting>
     ensures { result ≡ parameters.pen_width numbers.now }
 {
     match numbers {
@@ -105,7 +105,7 @@ fn grains_of_width(width: Number) -> u32
 /// PC pen, red, green, blue (Pen Color Assignment): the colour of a pen, each number 0 to 255.
 /// Without a colour the pen gets its default colour, and without a pen all pens get theirs. `None`
 /// if a number is out of range, or if the colour has one or two numbers.
-pub fn named_colour(numbers: &[Number]) -> Option<Setting>
+pub fn colour_setting(numbers: &[Number]) -> Option<Setting>
     ensures { result ≡ parameters.pen_colour numbers.now }
 {
     match numbers {
@@ -135,7 +135,7 @@ fn default_colour_of_pen(pen: i64) -> Option<Setting>
 }
 
 fn colour_of_pen(pen: i64, red: i64, green: i64, blue: i64) -> Option<Setting>
-    ensures { result ≡ parameters.coloured pen red green blue }
+    ensures { result ≡ parameters.given_colour pen red green blue }
 {
     if is_byte(pen) && is_byte(red) && is_byte(green) && is_byte(blue) {
         Some(Setting::PenColour(pen as u8, colour_by(red, green, blue)))
@@ -159,7 +159,7 @@ fn colour_by(red: i64, green: i64, blue: i64) -> Colour
 
 /// RO angle (Rotate Coordinate System): 0, 90, 180 or 270 degrees, or 0 if none is named. `None`
 /// for any other angle.
-pub fn named_rotation(numbers: &[Number]) -> Option<Setting>
+pub fn rotation_setting(numbers: &[Number]) -> Option<Setting>
     ensures { result ≡ parameters.rotated numbers.now }
 {
     match numbers {
@@ -183,7 +183,7 @@ fn rotation_by(degrees: i64) -> Option<Setting>
 /// IP x, y, x, y (Input P1 and P2): P1, or P1 and P2, in plotter units, or the corners of the page
 /// if no number is there. If both have the same x or y, P2 gets one plotter unit more. `None` if
 /// there are one or three numbers.
-pub fn named_points(numbers: &[Number]) -> Option<Setting>
+pub fn points_setting(numbers: &[Number]) -> Option<Setting>
     ensures { result ≡ parameters.scaling_points numbers.now }
 {
     match numbers {
@@ -223,7 +223,7 @@ fn apart(a: i64, b: i64) -> i64
 
 /// IW x, y, x, y (Input Window): two opposite corners, in millionths of the current unit, or the
 /// page if no number is there. `None` if there are one to three numbers.
-pub fn named_window(numbers: &[Number]) -> Option<Setting>
+pub fn window_setting(numbers: &[Number]) -> Option<Setting>
     ensures { result ≡ parameters.window_corners numbers.now }
 {
     match numbers {
@@ -244,8 +244,8 @@ pub fn named_window(numbers: &[Number]) -> Option<Setting>
 /// coordinates and percentages in millionths, or none if no number is there. The type is 0 and a
 /// percentage 50 if it is not named. `None` if there are one to three numbers, a range is empty, a
 /// factor is 0, a percentage is not 0 to 100, or the type is another.
-pub fn named_scaling(numbers: &[Number]) -> Option<Setting>
-    ensures { result ≡ parameters.scaled numbers.now }
+pub fn scaling_setting(numbers: &[Number]) -> Option<Setting>
+    ensures { result ≡ parameters.user_scaling numbers.now }
 {
     match numbers {
         [] => Some(Setting::Scale(Scaling::Off)),

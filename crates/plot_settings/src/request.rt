@@ -6,11 +6,12 @@ ghost use Rattle.plot_settings.specs.Bounds.{IsSetting, IsCircle, IsArc};
 ghost use Rattle.plot_settings.specs.Meanings.{meaning, sets, plots, edges, circles, arcs};
 ghost use Rattle.plot_settings.specs.Pairs.{plots_pairs};
 
-use crate::arc_parameters::{named_arc, named_circle};
+use crate::arc_parameters::{arc_from, circle_from};
 use crate::figure::{Arc, Circle, Corner};
-use crate::lettering::{named_direction, named_size};
+use crate::lettering::{direction_setting, size_setting};
 use crate::parameters::{
-    named_colour, named_pen, named_points, named_rotation, named_scaling, named_width, named_window,
+    colour_setting, pen_setting, points_setting, rotation_setting, scaling_setting, width_setting,
+    window_setting,
 };
 use crate::setting::Setting;
 use hpgl_text::{Instruction, Number, Numbers};
@@ -86,20 +87,20 @@ fn request_by_first(instruction: Instruction, numbers: &[Number]) -> Request
     match instruction {
         Instruction::Initialize => Request::Set(Setting::Start),
         Instruction::DefaultValues => Request::Set(Setting::Defaults),
-        Instruction::InputPoints => set_by(named_points(numbers)),
-        Instruction::Scale => set_by(named_scaling(numbers)),
-        Instruction::Rotate => set_by(named_rotation(numbers)),
-        Instruction::InputWindow => set_by(named_window(numbers)),
-        Instruction::SelectPen => set_by(named_pen(numbers)),
-        Instruction::PenWidth => set_by(named_width(numbers)),
-        Instruction::PenColour => set_by(named_colour(numbers)),
+        Instruction::InputPoints => set_by(points_setting(numbers)),
+        Instruction::Scale => set_by(scaling_setting(numbers)),
+        Instruction::Rotate => set_by(rotation_setting(numbers)),
+        Instruction::InputWindow => set_by(window_setting(numbers)),
+        Instruction::SelectPen => set_by(pen_setting(numbers)),
+        Instruction::PenWidth => set_by(width_setting(numbers)),
+        Instruction::PenColour => set_by(colour_setting(numbers)),
         Instruction::EdgeAbsolute => edge_by(false, numbers),
         Instruction::EdgeRelative => edge_by(true, numbers),
-        Instruction::Circle => circle_by(named_circle(numbers)),
-        Instruction::ArcAbsolute => arc_by(false, named_arc(numbers)),
-        Instruction::ArcRelative => arc_by(true, named_arc(numbers)),
-        Instruction::CharacterSize => set_by(named_size(numbers)),
-        Instruction::Direction => set_by(named_direction(numbers)),
+        Instruction::Circle => circle_by(circle_from(numbers)),
+        Instruction::ArcAbsolute => arc_by(false, arc_from(numbers)),
+        Instruction::ArcRelative => arc_by(true, arc_from(numbers)),
+        Instruction::CharacterSize => set_by(size_setting(numbers)),
+        Instruction::Direction => set_by(direction_setting(numbers)),
         Instruction::PolylineEncoded | Instruction::Label => Request::Nothing,
         Instruction::LabelTerminator => Request::Nothing,
         // These have moves.

@@ -1,6 +1,6 @@
 //! Instructions with invalid numbers, and directions along no axis.
 ghost use Rattle.std.specs.Prelude.{◌≡◌};
-ghost use Rattle.plot_settings.specs.Lettering as lettering;
+ghost use Rattle.plot_settings.specs.Slants as slants;
 ghost use Rattle.plot_settings.specs.Meanings as meanings;
 
 use crate::lettering::is_slanted;
@@ -23,17 +23,17 @@ pub fn has_wrong_numbers(instruction: Instruction, numbers: &Numbers<'_>) -> boo
 
 /// Whether the instruction is a DI (Absolute Direction) whose direction is along no axis.
 pub fn is_off_axis(instruction: Instruction, numbers: &Numbers<'_>) -> bool
-    ensures { result ≡ meanings.is_off_axis instruction numbers.now }
+    ensures { result ≡ slants.is_off_axis instruction numbers.now }
 {
     match instruction {
-        Instruction::Direction => do_slant(numbers),
+        Instruction::Direction => has_slant(numbers),
         _ => false,
     }
 }
 
 // Whether the run and the rise of a direction are both other than 0.
-fn do_slant(numbers: &Numbers<'_>) -> bool
-    ensures { result ≡ lettering.is_slanted numbers.now }
+fn has_slant(numbers: &Numbers<'_>) -> bool
+    ensures { result ≡ slants.is_slanted numbers.now }
 {
     let (list, count) = numbers.leading();
     is_slanted(&list[..count])

@@ -2,7 +2,7 @@ use Rattle.std.proofs.Common.{rules, ◌∙◌, ap₂, sym, ℤ, FitsSigned}
 use mir.Syntax.{w64}
 use Rattle.std.proofs.lemmas.Int.{to_z-of_z}
 use Rattle.plot_settings.specs.Parameters.{isotropic}
-use Rattle.plot_settings.proofs.Named.{isotropic_two}
+use Rattle.plot_settings.proofs.SettingRanges.{isotropic_two}
 use Rattle.plot_settings.proofs.parameters.isotropic.Goals as goal
 
 pub returns-in-len2-up : goal.returns-in-len2-up

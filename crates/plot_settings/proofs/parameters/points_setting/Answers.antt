@@ -3,8 +3,8 @@ use mir.Syntax.{w64}
 use Rattle.std.proofs.lemmas.Int.{to_z-of_z}
 use Rattle.plot_frame.specs.declared.scaling.Points.{Points}
 use Rattle.plot_settings.specs.declared.setting.Setting.TheVariants.{BothPoints}
-use Rattle.plot_settings.proofs.Named.{points_by, points_four}
-use Rattle.plot_settings.proofs.parameters.named_points.Goals as goal
+use Rattle.plot_settings.proofs.SettingRanges.{points_by, points_four}
+use Rattle.plot_settings.proofs.parameters.points_setting.Goals as goal
 
 pub returns-in-len4-up : goal.returns-in-len4-up
 returns-in-len4-up c =

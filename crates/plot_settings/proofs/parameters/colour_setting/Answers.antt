@@ -1,8 +1,8 @@
 use Rattle.std.proofs.Common.{rules, ◌∙◌, sym, FitsSigned}
 use mir.Syntax.{w64}
 use Rattle.std.proofs.lemmas.Int.{to_z-of_z}
-use Rattle.plot_settings.proofs.Named.{colours_by, colour_four}
-use Rattle.plot_settings.proofs.parameters.named_colour.Goals as goal
+use Rattle.plot_settings.proofs.SettingRanges.{colours_by, colour_four}
+use Rattle.plot_settings.proofs.parameters.colour_setting.Goals as goal
 
 pub returns-in-len4-up : goal.returns-in-len4-up
 returns-in-len4-up c =

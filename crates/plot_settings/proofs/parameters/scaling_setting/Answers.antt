@@ -3,8 +3,8 @@ use mir.Syntax.{w64}
 use Rattle.std.proofs.lemmas.Int.{to_z-of_z}
 use Rattle.plot_frame.specs.declared.scaling.Ranges.{Ranges}
 use Rattle.plot_settings.specs.Parameters.{scaling_of_type}
-use Rattle.plot_settings.proofs.Named.{scaled_five}
-use Rattle.plot_settings.proofs.parameters.named_scaling.Goals as goal
+use Rattle.plot_settings.proofs.SettingRanges.{scaled_five}
+use Rattle.plot_settings.proofs.parameters.scaling_setting.Goals as goal
 
 pub returns-in-len5-up : goal.returns-in-len5-up
 returns-in-len5-up c =

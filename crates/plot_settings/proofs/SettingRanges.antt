@@ -13,8 +13,8 @@ use Rattle.plot_frame.specs.Bounds.{IsPoints, IsRanges}
 use Rattle.plot_settings.specs.declared.setting.Setting.{Setting}
 use Rattle.plot_settings.specs.declared.setting.Setting.TheVariants.{BothPoints, PenColour, Size, Direction}
 use Rattle.plot_settings.specs.Colours.{rgb, default_colour}
-use Rattle.plot_settings.specs.Parameters.{when, whole_of, apart, points_at, scaling_points, window_corners, rotation_set, rotated, isotropic, isotropic_by, scaling_of_type, ranges_of, scaled, anisotropic, point_factor, has_empty_range, is_percent, is_byte, coloured, pen_colour}
-use Rattle.plot_settings.specs.Lettering.{is_size, size_grains, character_size, nearest_axis, direction}
+use Rattle.plot_settings.specs.Parameters.{when, whole_of, apart, points_at, scaling_points, window_corners, rotation_set, rotated, isotropic, isotropic_by, scaling_of_type, ranges_of, user_scaling, anisotropic, point_factor, has_empty_range, is_percent, is_byte, given_colour, pen_colour}
+use Rattle.plot_settings.specs.Lettering.{is_size, size_grains, character_size, nearest_axis, label_direction}
 use Rattle.plot_settings.specs.Bounds.{IsSetting}
 
 pub isotropic_two : (r : Ranges) (ns : List ℤ) (l b : ℤ) → 2 ≤ length ns → l ≡ get_or ns 0 l → b ≡ get_or ns 1 b → isotropic_by r ns ≡ isotropic r l b
@@ -33,11 +33,11 @@ points_four (x ∷ (y ∷ [])) a b c d h p q r s = absurd (omega arith)
 points_four (x ∷ (y ∷ (z ∷ []))) a b c d h p q r s = absurd (omega arith)
 points_four (x ∷ (y ∷ (z ∷ (w ∷ ns)))) a b c d h p q r s = rw (p, q, r, s) refl
 
-pub colours_by : (p r g b p' r' g' b' : ℤ) → p ≡ p' → r ≡ r' → g ≡ g' → b ≡ b' → coloured p r g b ≡ coloured p' r' g' b'
+pub colours_by : (p r g b p' r' g' b' : ℤ) → p ≡ p' → r ≡ r' → g ≡ g' → b ≡ b' → given_colour p r g b ≡ given_colour p' r' g' b'
 colours_by p r g b p' r' g' b' e f h i = rw (e, f, h, i) refl
 
 pub colour_four : (ns : List ℤ) (a b c d : ℤ) → 4 ≤ length ns → a ≡ get_or ns 0 a → b ≡ get_or ns 1 b → c ≡ get_or ns 2 c → d ≡ get_or ns 3 d
-    → pen_colour ns ≡ coloured (whole_of a) (whole_of b) (whole_of c) (whole_of d)
+    → pen_colour ns ≡ given_colour (whole_of a) (whole_of b) (whole_of c) (whole_of d)
 colour_four [] a b c d h p q r s = absurd (omega arith)
 colour_four (x ∷ []) a b c d h p q r s = absurd (omega arith)
 colour_four (x ∷ (y ∷ [])) a b c d h p q r s = absurd (omega arith)
@@ -45,7 +45,7 @@ colour_four (x ∷ (y ∷ (z ∷ []))) a b c d h p q r s = absurd (omega arith)
 colour_four (x ∷ (y ∷ (z ∷ (w ∷ ns)))) a b c d h p q r s = rw (p, q, r, s) refl
 
 pub scaled_five : (ns : List ℤ) (a b c d t : ℤ) → 5 ≤ length ns → a ≡ get_or ns 0 a → b ≡ get_or ns 1 b → c ≡ get_or ns 2 c → d ≡ get_or ns 3 d → t ≡ get_or ns 4 t
-    → scaled ns ≡ scaling_of_type (whole_of t) (ranges_of a b c d) (take (length ns - 5) (drop 5 ns))
+    → user_scaling ns ≡ scaling_of_type (whole_of t) (ranges_of a b c d) (take (length ns - 5) (drop 5 ns))
 scaled_five [] a b c d t h p q r s u = absurd (omega arith)
 scaled_five (x ∷ []) a b c d t h p q r s u = absurd (omega arith)
 scaled_five (x ∷ (y ∷ [])) a b c d t h p q r s u = absurd (omega arith)
@@ -101,22 +101,22 @@ points_sound a b c d h i j k =
     let y = apart_by (whole_of b) (whole_of d) wb wd in
     record { x_in = omega arith; y_in = omega arith; dx_in = x.0; dy_in = y.0; dx_not_0 = x.1; dy_not_0 = y.1 }
 
-pub named_points_sound : (ns : List ℤ) → All IsParameter ns → IfSome (scaling_points ns) IsSetting
-named_points_sound [] h = tt
-named_points_sound (x ∷ []) h = tt
-named_points_sound (x ∷ (y ∷ [])) h =
+pub points_setting_sound : (ns : List ℤ) → All IsParameter ns → IfSome (scaling_points ns) IsSetting
+points_setting_sound [] h = tt
+points_setting_sound (x ∷ []) h = tt
+points_setting_sound (x ∷ (y ∷ [])) h =
     let wx = whole_bound x (All-head IsParameter x (y ∷ []) h) in
     let wy = whole_bound y (All-head IsParameter y [] (All-tail IsParameter x (y ∷ []) h)) in
     (omega arith, omega arith)
-named_points_sound (x ∷ (y ∷ (z ∷ []))) h = tt
-named_points_sound (a ∷ (b ∷ (c ∷ (d ∷ ns)))) h = let p = four_of a b c d ns h in points_sound a b c d p.xmin p.xmax p.ymin p.ymax
+points_setting_sound (x ∷ (y ∷ (z ∷ []))) h = tt
+points_setting_sound (a ∷ (b ∷ (c ∷ (d ∷ ns)))) h = let p = four_of a b c d ns h in points_sound a b c d p.xmin p.xmax p.ymin p.ymax
 
-pub named_window_sound : (ns : List ℤ) → All IsParameter ns → IfSome (window_corners ns) IsSetting
-named_window_sound [] h = tt
-named_window_sound (x ∷ []) h = tt
-named_window_sound (x ∷ (y ∷ [])) h = tt
-named_window_sound (x ∷ (y ∷ (z ∷ []))) h = tt
-named_window_sound (a ∷ (b ∷ (c ∷ (d ∷ ns)))) h =
+pub window_setting_sound : (ns : List ℤ) → All IsParameter ns → IfSome (window_corners ns) IsSetting
+window_setting_sound [] h = tt
+window_setting_sound (x ∷ []) h = tt
+window_setting_sound (x ∷ (y ∷ [])) h = tt
+window_setting_sound (x ∷ (y ∷ (z ∷ []))) h = tt
+window_setting_sound (a ∷ (b ∷ (c ∷ (d ∷ ns)))) h =
     let p = four_of a b c d ns h in
     let ha = p.xmin in
     let hb = p.xmax in
@@ -139,9 +139,9 @@ rotation_sound n = elim (cases_Bool (int_eq n (pos 0))) [
   ])
 ]
 
-pub named_rotation_sound : (ns : List ℤ) → IfSome (rotated ns) IsSetting
-named_rotation_sound [] = tt
-named_rotation_sound (n ∷ ns) = rotation_sound (whole_of n)
+pub rotation_setting_sound : (ns : List ℤ) → IfSome (rotated ns) IsSetting
+rotation_setting_sound [] = tt
+rotation_setting_sound (n ∷ ns) = rotation_sound (whole_of n)
 
 -- what is set under a test is in its range, if it is so without the test
 under_test : (test : Bool) (s : Setting) → IsSetting s → IfSome (when test s) IsSetting
@@ -151,17 +151,17 @@ under_test false s h = tt
 default_colour_sound : (p : ℤ) → IfSome (when (is_byte p) (PenColour (nat_abs p) (default_colour (nat_abs p)))) IsSetting
 default_colour_sound p = under_test (is_byte p) (PenColour (nat_abs p) (default_colour (nat_abs p))) tt
 
-colour_sound : (p r g b : ℤ) → IfSome (coloured p r g b) IsSetting
+colour_sound : (p r g b : ℤ) → IfSome (given_colour p r g b) IsSetting
 colour_sound p r g b =
     under_test (is_byte p && (is_byte r && (is_byte g && is_byte b)))
-      (PenColour (nat_abs p) (rgb (nat_abs r) (nat_abs g) (nat_abs b))) tt
+    (PenColour (nat_abs p) (rgb (nat_abs r) (nat_abs g) (nat_abs b))) tt
 
-pub named_colour_sound : (ns : List ℤ) → IfSome (pen_colour ns) IsSetting
-named_colour_sound [] = tt
-named_colour_sound (p ∷ []) = default_colour_sound (whole_of p)
-named_colour_sound (p ∷ (r ∷ [])) = tt
-named_colour_sound (p ∷ (r ∷ (g ∷ []))) = tt
-named_colour_sound (p ∷ (r ∷ (g ∷ (b ∷ ns)))) = colour_sound (whole_of p) (whole_of r) (whole_of g) (whole_of b)
+pub colour_setting_sound : (ns : List ℤ) → IfSome (pen_colour ns) IsSetting
+colour_setting_sound [] = tt
+colour_setting_sound (p ∷ []) = default_colour_sound (whole_of p)
+colour_setting_sound (p ∷ (r ∷ [])) = tt
+colour_setting_sound (p ∷ (r ∷ (g ∷ []))) = tt
+colour_setting_sound (p ∷ (r ∷ (g ∷ (b ∷ ns)))) = colour_sound (whole_of p) (whole_of r) (whole_of g) (whole_of b)
 
 spread : (a b : ℤ) → int_eq a b ≡ false → (b -ℤ a) ≢ pos 0
 spread a b h = let n = not_from_Decides _ (Decides-int_eq a b) h in λ z. n (omega (arith, ints))
@@ -227,24 +227,24 @@ typed_sound k r ns h = elim (cases_Bool (int_eq k (pos 0))) [
   ])
 ]
 
-pub named_scaling_sound : (ns : List ℤ) → All IsParameter ns → IfSome (scaled ns) IsSetting
-named_scaling_sound [] h = tt
-named_scaling_sound (x ∷ []) h = tt
-named_scaling_sound (x ∷ (y ∷ [])) h = tt
-named_scaling_sound (x ∷ (y ∷ (z ∷ []))) h = tt
-named_scaling_sound (a ∷ (b ∷ (c ∷ (d ∷ [])))) h =
+pub scaling_setting_sound : (ns : List ℤ) → All IsParameter ns → IfSome (user_scaling ns) IsSetting
+scaling_setting_sound [] h = tt
+scaling_setting_sound (x ∷ []) h = tt
+scaling_setting_sound (x ∷ (y ∷ [])) h = tt
+scaling_setting_sound (x ∷ (y ∷ (z ∷ []))) h = tt
+scaling_setting_sound (a ∷ (b ∷ (c ∷ (d ∷ [])))) h =
     anisotropic_sound (ranges_of a b c d) (four_of a b c d [] h)
-named_scaling_sound (a ∷ (b ∷ (c ∷ (d ∷ (t ∷ ns))))) h =
+scaling_setting_sound (a ∷ (b ∷ (c ∷ (d ∷ (t ∷ ns))))) h =
     typed_sound (whole_of t) (ranges_of a b c d) ns (four_of a b c d (t ∷ ns) h)
 
-pub named_size_sound : (ns : List ℤ) → IfSome (character_size ns) IsSetting
-named_size_sound [] = tt
-named_size_sound (w ∷ []) = tt
-named_size_sound (w ∷ (h ∷ ns)) =
+pub size_setting_sound : (ns : List ℤ) → IfSome (character_size ns) IsSetting
+size_setting_sound [] = tt
+size_setting_sound (w ∷ []) = tt
+size_setting_sound (w ∷ (h ∷ ns)) =
     under_test (is_size w && is_size h) (Size (record { width = size_grains w; height = size_grains h })) tt
 
-pub named_direction_sound : (ns : List ℤ) → IfSome (direction ns) IsSetting
-named_direction_sound [] = tt
-named_direction_sound (x ∷ []) = tt
-named_direction_sound (x ∷ (y ∷ ns)) =
+pub direction_setting_sound : (ns : List ℤ) → IfSome (label_direction ns) IsSetting
+direction_setting_sound [] = tt
+direction_setting_sound (x ∷ []) = tt
+direction_setting_sound (x ∷ (y ∷ ns)) =
     under_test (not (int_eq x (pos 0) && int_eq y (pos 0))) (Direction (nearest_axis x y)) tt
