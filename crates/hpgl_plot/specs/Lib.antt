@@ -9,6 +9,7 @@ pub mod States
 pub mod Strokes
 pub mod Notes
 pub mod Plots
+pub mod Drawings
 pub mod Laws
 -- What contracts of private functions need.
 pub mod Bounds

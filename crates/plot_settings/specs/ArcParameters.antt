@@ -2,9 +2,10 @@
 -- they are wrong. That angles are rounded to thousandths of a degree before they are tested is our choice.
 use Rattle.std.specs.Prelude.{ℤ, pos, negsuc, nat_abs, Bool, ◌&&◌, List, [], ◌∷◌, Option, None}
 use Rattle.exact.specs.Fraction.{round}
+use Rattle.exact.specs.Ranges.{is_between}
 use Rattle.plot_settings.specs.declared.figure.Arc.{Arc}
 use Rattle.plot_settings.specs.declared.figure.Circle.{Circle}
-use Rattle.plot_settings.specs.Parameters.{is_between, when}
+use Rattle.plot_settings.specs.Parameters.{when}
 
 -- rounded to thousandths
 abbrev pub thousandths_of : ℤ → ℤ

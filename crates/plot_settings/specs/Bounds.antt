@@ -6,7 +6,8 @@ use Rattle.plot_settings.specs.declared.figure.Arc.{Arc}
 use Rattle.plot_settings.specs.declared.figure.Circle.{Circle}
 use Rattle.plot_settings.specs.declared.figure.Corner.{Corner}
 use Rattle.plot_settings.specs.declared.setting.Setting.{Setting}
-use Rattle.plot_settings.specs.declared.setting.Setting.TheVariants.{FirstPoint, BothPoints, Scale, CornerWindow, Width, WidthOfAll}
+use Rattle.plot_settings.specs.declared.setting.Setting.TheVariants.{FirstPoint, BothPoints, Scale, CornerWindow, Width}
+use Rattle.plot_settings.specs.declared.setting.Setting.TheVariants.{WidthOfAll}
 
 -- a number of an IP, rounded
 abbrev pub IsPlotterUnit : ℤ → Type 0

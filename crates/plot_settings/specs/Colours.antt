@@ -12,7 +12,8 @@ black = rgb 0 0 0
 -- pens 0 to 7: white, black, red, green, yellow, blue, magenta and cyan
 abbrev pub first_colours : List Colour
 first_colours =
-    rgb 255 255 255 ∷ rgb 0 0 0 ∷ rgb 255 0 0 ∷ rgb 0 255 0 ∷ rgb 255 255 0 ∷ rgb 0 0 255 ∷ rgb 255 0 255 ∷ rgb 0 255 255 ∷ []
+    rgb 255 255 255 ∷ rgb 0 0 0 ∷ rgb 255 0 0 ∷ rgb 0 255 0
+    ∷ rgb 255 255 0 ∷ rgb 0 0 255 ∷ rgb 255 0 255 ∷ rgb 0 255 255 ∷ []
 
 -- the default colour of a pen
 abbrev pub default_colour : ℕ → Colour

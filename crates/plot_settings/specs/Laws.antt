@@ -2,7 +2,8 @@
 use Rattle.std.specs.Prelude.{◌≡◌, ◌<◌, ℕ, List, Option, Some, None, nat_eq, slice_index, slice_index_or, if◌then◌else◌}
 use Rattle.plot_page.specs.declared.colour.Colour.{Colour}
 use Rattle.plot_settings.specs.declared.setting.Setting.{Setting}
-use Rattle.plot_settings.specs.declared.setting.Setting.TheVariants.{Start, Width, WidthOfAll, PenColour, DefaultColours}
+use Rattle.plot_settings.specs.declared.setting.Setting.TheVariants.{Start, Width, WidthOfAll, PenColour}
+use Rattle.plot_settings.specs.declared.setting.Setting.TheVariants.{DefaultColours}
 use Rattle.plot_settings.specs.Colours.{black, default_colour}
 use Rattle.plot_settings.specs.Settings.{newest, by_setting, widths, colours}
 use Rattle.plot_settings.specs.Steps.{Step}
@@ -33,4 +34,5 @@ WidthsAreLookedBackFor = (before : List Step) (p : ℕ) → p < 256 → slice_in
 
 -- and so has the list of colours
 abbrev pub ColoursAreLookedBackFor : Type 0
-ColoursAreLookedBackFor = (before : List Step) (p : ℕ) → p < 256 → slice_index_or (colours before) p black ≡ colour p before
+ColoursAreLookedBackFor =
+    (before : List Step) (p : ℕ) → p < 256 → slice_index_or (colours before) p black ≡ colour p before

@@ -4,13 +4,14 @@ use Rattle.std.specs.Prelude.{ℤ, pos, negsuc, ◌-ℤ◌, ◌*ℤ◌, nat_abs,
 use Rattle.std.specs.Prelude.{List, [], ◌∷◌, Option, Some, None, if◌then◌else◌}
 use Rattle.std.specs.Ordering.{int_eq}
 use Rattle.exact.specs.Fraction.{round}
+use Rattle.exact.specs.Ranges.{is_between}
 use Rattle.label_layout.specs.declared.size.CharacterSize.{CharacterSize}
 use Rattle.label_layout.specs.declared.size.Offset.{Offset}
 use Rattle.plot_settings.specs.declared.setting.Rotation.{Rotation}
 use Rattle.plot_settings.specs.declared.setting.Rotation.TheVariants as rotation
 use Rattle.plot_settings.specs.declared.setting.Setting.{Setting}
 use Rattle.plot_settings.specs.declared.setting.Setting.TheVariants.{Size, Direction}
-use Rattle.plot_settings.specs.Parameters.{is_between, when}
+use Rattle.plot_settings.specs.Parameters.{when}
 
 -- 0.19 by 0.27 cm, in grains
 abbrev pub usual_size : CharacterSize
@@ -28,7 +29,8 @@ size_grains n = round (record { over = pos 6400 *ℤ n; under = 1000000 })
 abbrev pub character_size : List ℤ → Option Setting
 character_size [] = Some (Size usual_size)
 character_size (w ∷ []) = None
-character_size (w ∷ (h ∷ ns)) = when (is_size w && is_size h) (Size (record { width = size_grains w; height = size_grains h }))
+character_size (w ∷ (h ∷ ns)) =
+    when (is_size w && is_size h) (Size (record { width = size_grains w; height = size_grains h }))
 
 -- the axis that is nearest to a direction: right or left, or up or down; the run's, if both are as near
 abbrev pub nearest_axis : ℤ → ℤ → Rotation

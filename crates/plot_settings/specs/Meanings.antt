@@ -3,15 +3,22 @@ use Rattle.std.specs.Prelude.{ℤ, ◌%◌, ◌==◌, Bool, true, false, List, [
 use Rattle.hpgl_text.specs.Shapes.{ItemShape, BodyShape, Params, Coded, Label}
 use Rattle.hpgl_text.specs.declared.instruction.Instruction.{Instruction}
 use Rattle.hpgl_text.specs.declared.instruction.Instruction.TheVariants as instruction
-use Rattle.hpgl_text.specs.declared.instruction.Instruction.TheVariants.{Initialize, DefaultValues, InputPoints, Scale, Rotate, InputWindow, SelectPen, PenWidth, PenColour, PenUp, PenDown, PlotAbsolute, PlotRelative, PolylineEncoded, EdgeAbsolute, EdgeRelative, Circle, ArcAbsolute, ArcRelative, LabelTerminator, CharacterSize, Direction}
+use Rattle.hpgl_text.specs.declared.instruction.Instruction.TheVariants.{Initialize, DefaultValues, InputPoints, Scale}
+use Rattle.hpgl_text.specs.declared.instruction.Instruction.TheVariants.{Rotate, InputWindow, SelectPen, PenWidth}
+use Rattle.hpgl_text.specs.declared.instruction.Instruction.TheVariants.{PenColour, PenUp, PenDown, PlotAbsolute}
+use Rattle.hpgl_text.specs.declared.instruction.Instruction.TheVariants.{PlotRelative, PolylineEncoded, EdgeAbsolute}
+use Rattle.hpgl_text.specs.declared.instruction.Instruction.TheVariants.{EdgeRelative, Circle, ArcAbsolute, ArcRelative}
+use Rattle.hpgl_text.specs.declared.instruction.Instruction.TheVariants.{LabelTerminator, CharacterSize, Direction}
 use Rattle.hpgl_text.specs.Instructions.{instruction_of}
 use Rattle.plot_settings.specs.ArcParameters.{circled, arced}
 use Rattle.plot_settings.specs.declared.figure.Arc as arc
 use Rattle.plot_settings.specs.declared.figure.Circle as circle
 use Rattle.plot_settings.specs.declared.setting.Setting.{Setting}
 use Rattle.plot_settings.specs.declared.setting.Setting.TheVariants.{Start, Defaults}
-use Rattle.plot_settings.specs.Parameters.{scaling_points, user_scaling, rotated, window_corners, selected_pen, pen_width, pen_colour}
-use Rattle.plot_settings.specs.Steps.{Step, Set, Lower, Relate, Edge, DrawCircle, DrawArc, moves, lowered_then, entry_steps, label_steps}
+use Rattle.plot_settings.specs.Parameters.{scaling_points, user_scaling, rotated, window_corners, selected_pen}
+use Rattle.plot_settings.specs.Parameters.{pen_width, pen_colour}
+use Rattle.plot_settings.specs.Steps.{Step, Set, Lower, Relate, Edge, DrawCircle, DrawArc, moves, lowered_then}
+use Rattle.plot_settings.specs.Steps.{entry_steps, label_steps}
 use Rattle.plot_settings.specs.Lettering.{character_size, label_direction}
 
 pub record Meaning : Type 0 where

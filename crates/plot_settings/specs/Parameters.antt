@@ -1,26 +1,24 @@
 -- What the parameters of an instruction set, or None where they are wrong. Numbers are in millionths. The instructions
 -- are those of the HP-GL/2 and HP RTL Reference Guide, each under its name; that whole numbers are rounded before they
 -- are tested, and all others tested as written, is our choice.
-use Rattle.std.specs.Prelude.{ℕ, ℤ, pos, ◌+ℤ◌, ◌-ℤ◌, ◌*ℤ◌, nat_abs, Bool, not, ◌&&◌, ◌||◌, int_le}
+use Rattle.std.specs.Prelude.{ℕ, ℤ, pos, ◌+ℤ◌, ◌-ℤ◌, ◌*ℤ◌, nat_abs, Bool, not, ◌&&◌, ◌||◌}
 use Rattle.std.specs.Prelude.{List, [], ◌∷◌, Option, Some, None, if◌then◌else◌}
 use Rattle.std.specs.Ordering.{int_eq}
 use Rattle.exact.specs.Fraction.{round}
+use Rattle.exact.specs.Ranges.{is_between}
 use Rattle.plot_frame.specs.declared.scaling.Points.{Points}
 use Rattle.plot_frame.specs.declared.scaling.Ranges.{Ranges}
 use Rattle.plot_frame.specs.declared.scaling.Scaling.TheVariants.{Off, Anisotropic, Isotropic, PointFactor}
 use Rattle.plot_settings.specs.declared.setting.Rotation.TheVariants as rotation
 use Rattle.plot_settings.specs.declared.setting.Setting.{Setting}
 use Rattle.plot_settings.specs.declared.setting.Setting.TheVariants.{PageCorners, FirstPoint, BothPoints, Scale, Rotate}
-use Rattle.plot_settings.specs.declared.setting.Setting.TheVariants.{PageWindow, CornerWindow, Pen, Width, WidthOfAll, PenColour, DefaultColours}
+use Rattle.plot_settings.specs.declared.setting.Setting.TheVariants.{PageWindow, CornerWindow, Pen, Width, WidthOfAll}
+use Rattle.plot_settings.specs.declared.setting.Setting.TheVariants.{PenColour, DefaultColours}
 use Rattle.plot_settings.specs.Colours.{rgb, default_colour}
 
 -- rounded to a whole number
 abbrev pub whole_of : ℤ → ℤ
 whole_of n = round (record { over = n; under = 1000000 })
-
--- from one number to another
-abbrev pub is_between : ℤ → ℤ → ℤ → Bool
-is_between least greatest n = int_le least n && int_le n greatest
 
 -- a value, if a test holds
 abbrev pub when : {A : Type 0} → Bool → A → Option A
@@ -58,7 +56,7 @@ given_colour pen red green blue =
 -- all pens get theirs
 abbrev pub pen_colour : List ℤ → Option Setting
 pen_colour [] = Some DefaultColours
-pen_colour (p ∷ []) = when (is_byte (whole_of p)) (PenColour (nat_abs (whole_of p)) (default_colour (nat_abs (whole_of p))))
+pen_colour (p ∷ []) = let n = whole_of p in when (is_byte n) (PenColour (nat_abs n) (default_colour (nat_abs n)))
 pen_colour (p ∷ (r ∷ (g ∷ (b ∷ ns)))) = given_colour (whole_of p) (whole_of r) (whole_of g) (whole_of b)
 pen_colour _ = None
 
@@ -87,7 +85,8 @@ points_at ax ay bx by = record { x1 = ax; y1 = ay; x2 = apart ax bx; y2 = apart 
 abbrev pub scaling_points : List ℤ → Option Setting
 scaling_points [] = Some PageCorners
 scaling_points (x ∷ (y ∷ [])) = Some (FirstPoint (whole_of x) (whole_of y))
-scaling_points (a ∷ (b ∷ (c ∷ (d ∷ ns)))) = Some (BothPoints (points_at (whole_of a) (whole_of b) (whole_of c) (whole_of d)))
+scaling_points (a ∷ (b ∷ (c ∷ (d ∷ ns)))) =
+    Some (BothPoints (points_at (whole_of a) (whole_of b) (whole_of c) (whole_of d)))
 scaling_points _ = None
 
 -- P1 elsewhere, and P2 as far from it as before
@@ -116,7 +115,7 @@ anisotropic r = when (not (has_empty_range r)) (Scale (Anisotropic r))
 abbrev pub is_percent : ℤ → Bool
 is_percent n = is_between (pos 0) (pos 100000000) n
 
--- type 1, isotropic: both axes have one unit, and what is left over lies on the left and at the bottom by these percents
+-- type 1, isotropic: both axes have one unit; of what is left over these percents are on the left and at the bottom
 abbrev pub isotropic : Ranges → ℤ → ℤ → Option Setting
 isotropic r left bottom =
     when (not (has_empty_range r) && (is_percent left && is_percent bottom))

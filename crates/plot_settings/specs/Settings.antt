@@ -1,5 +1,6 @@
--- The settings that hold before a step, by the most recent step that sets each: `before` has the steps, the newest first. What IN
--- (Initialize) and DF (Default Values) set is the guide's; that pen 1 is selected at the start is our choice.
+-- The settings that hold before a step, by the most recent step that sets each: `before` has the steps, the newest
+-- first. What IN (Initialize) and DF (Default Values) set is the guide's; that pen 1 is selected at the start is our
+-- choice.
 use Rattle.std.specs.Prelude.{ℕ, Bool, false, List, [], ◌∷◌, Option, Some, None, nat_eq, if◌then◌else◌, replicate, set}
 use Rattle.label_layout.specs.declared.size.CharacterSize.{CharacterSize}
 use Rattle.plot_frame.specs.declared.scaling.Scaling.{Scaling}
@@ -8,7 +9,9 @@ use Rattle.plot_page.specs.declared.colour.Colour.{Colour}
 use Rattle.plot_settings.specs.declared.setting.Rotation.{Rotation}
 use Rattle.plot_settings.specs.declared.setting.Rotation.TheVariants as rotation
 use Rattle.plot_settings.specs.declared.setting.Setting.{Setting}
-use Rattle.plot_settings.specs.declared.setting.Setting.TheVariants.{Start, Defaults, Scale, Rotate, Pen, Width, WidthOfAll, PenColour, DefaultColours, Size, Direction}
+use Rattle.plot_settings.specs.declared.setting.Setting.TheVariants.{Start, Defaults, Scale, Rotate, Pen, Width}
+use Rattle.plot_settings.specs.declared.setting.Setting.TheVariants.{WidthOfAll, PenColour, DefaultColours, Size}
+use Rattle.plot_settings.specs.declared.setting.Setting.TheVariants.{Direction}
 use Rattle.plot_settings.specs.Colours.{default_colour, default_colours}
 use Rattle.plot_settings.specs.Lettering.{usual_size}
 use Rattle.plot_settings.specs.Steps.{Step, Set, Lower, Relate}

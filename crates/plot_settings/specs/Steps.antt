@@ -39,7 +39,7 @@ abbrev pub lowered_then : List Step → List Step
 lowered_then [] = Touch ∷ (Lower true ∷ [])
 lowered_then (s ∷ ss) = Lower true ∷ (s ∷ ss)
 
--- the steps of an entry of a PE: a pair lowers the pen or raises it, and its place is relative or absolute by its own flag
+-- the steps of an entry of a PE: a pair lowers the pen or raises it, and is relative or absolute by its own flag
 abbrev pub part_steps : PartShape → List Step
 part_steps (part.Pen n) = Set (Pen n) ∷ []
 part_steps (part.Pair up absolute x y) = Lower (not up) ∷ (Go (not absolute) x y ∷ [])

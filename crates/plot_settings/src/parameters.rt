@@ -66,7 +66,8 @@ pub fn width_setting(numbers: &[Number]) -> Option<Setting>
 }
 
 fn width_of_all(width: Number) -> Option<Setting>
-    ensures { result ≡ parameters.when (parameters.is_width width) (setting.WidthOfAll (parameters.width_grains width)) }
+    ensures { result ≡
+        parameters.when (parameters.is_width width) (setting.WidthOfAll (parameters.width_grains width)) }
 {
     if is_width_number(width) {
         Some(Setting::WidthOfAll(grains_of_width(width)))

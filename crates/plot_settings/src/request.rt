@@ -66,7 +66,8 @@ pub fn request_of(instruction: Instruction, numbers: &Numbers<'_>) -> Request
 
 // The moves of PU, PD, PA and PR.
 fn moves_of(instruction: Instruction) -> Option<Moves>
-    ensures { MatchOption result (plots_pairs instruction ≡ false) (λ kind. (ns : List ℤ) → plots (move_steps kind ns) ns ≡ meaning instruction ns) }
+    ensures { MatchOption result (plots_pairs instruction ≡ false)
+        (λ kind. (ns : List ℤ) → plots (move_steps kind ns) ns ≡ meaning instruction ns) }
 {
     match instruction {
         Instruction::PenUp => Some(Moves::Up),
