@@ -29,7 +29,7 @@ use Rattle.hpgl_plot.specs.Arcs.{circle_curve, arc_curve, chord_count, curve_poi
 use Rattle.hpgl_plot.specs.Bounds.{AreAxes, IsSound, IsInRange, IsSmallIn, AreSmall, IsCurve}
 use Rattle.hpgl_plot.specs.Frames.{place}
 use Rattle.hpgl_plot.specs.Machine.{World, travelled, Runs}
-use Rattle.hpgl_plot.specs.Paths.{path, position, pen_at, target}
+use Rattle.hpgl_plot.specs.Paths.{path, along, position, pen_at, target}
 use Rattle.plot_settings.specs.Steps.{DrawCircle, DrawArc}
 use Rattle.hpgl_plot.proofs.Fed.{travelled_more, travelled_never, travelled_one, within}
 use Rattle.hpgl_plot.proofs.Sound.{sound_at}
@@ -181,13 +181,13 @@ stopped_by T o p u v OffRange (Err f) n h i = rw i (n h)
 -- the path of a circle, and of an arc
 pub circle_path_is : (page : Page) (s : State) (c : Circle) (curve : Curve) (q : Spot) → curve ≡ circle_curve s.coordinates c
     → q ≡ place page s.frame curve.from
-    → path page s (DrawCircle c) ≡ record { places = q ∷ curve_places page s.frame curve; draws = true; ends = position s }
+    → path page s (DrawCircle c) ≡ along (q ∷ curve_places page s.frame curve) true (position s)
 circle_path_is page s c curve q e h = rw (h, e) refl
 
 pub arc_path_is : (page : Page) (s : State) (relative : Bool) (a : Arc) (curve : Curve) (end : Position)
     → curve ≡ arc_curve s.coordinates (target relative s.coordinates a.x a.y) a
     → end ≡ pen_at page s.frame (curve_point curve (chord_count curve))
-    → path page s (DrawArc relative a) ≡ record { places = s.place ∷ curve_places page s.frame curve; draws = s.is_down; ends = end }
+    → path page s (DrawArc relative a) ≡ along (s.place ∷ curve_places page s.frame curve) s.is_down end
 arc_path_is page s relative a curve end e h = rw (h, e) refl
 
 placed : (page : Page) (f : Frame) (u : Spot) (end : Position) → end ≡ pen_at page f u → end.place ≡ place page f end.coordinates

@@ -18,7 +18,7 @@ within q h =
     grind (arith, nat_tests)
 
 -- strokes, and then others
-with_more : (w : World) (a b : List Segment) → with_strokes w w.state (a ++ b) ≡ with_strokes (with_strokes w w.state a) w.state b
+pub with_more : (w : World) (a b : List Segment) → with_strokes w w.state (a ++ b) ≡ with_strokes (with_strokes w w.state a) w.state b
 with_more w a b =
     ap₂ (λ (k : List Segment) (f : Bool). record { page = w.page; state = w.state; kept = k; full = f })
     (sym (kept_with-append w.kept w.full a b)) (sym (full_with-append w.kept w.full a b))

@@ -2,31 +2,53 @@
 use Rattle.std.proofs.Common.{◌≡◌, ◌∙◌, ap, sym, subst, refl, inl, inr, Bool, true, ℤ, List, [], ◌∷◌, Option, Some, None, Result, Ok, Err}
 use Rattle.std.proofs.lemmas.Bool.{cases_Bool}
 use Rattle.std.proofs.lemmas.Option.{none-some, same_Some}
+use Rattle.std.specs.List.{list_all}
+use Rattle.std.specs.Prelude.{if◌then◌else◌}
 use Rattle.std.specs.Result.{IsErrAnd}
 use Rattle.plot_page.specs.declared.page.Page.{Page}
 use Rattle.hpgl_plot.specs.declared.plotter.Stop.{Stop}
 use Rattle.hpgl_plot.specs.declared.plotter.Stop.TheVariants.{Memory, OffRange}
 use Rattle.plot_arc.specs.declared.spot.Spot.{Spot}
+use Rattle.hpgl_plot.specs.declared.state.Position.{Position}
 use Rattle.hpgl_plot.specs.declared.state.State.{State}
 use Rattle.plot_settings.specs.Steps.{Step, Go, Edge}
 use Rattle.hpgl_plot.specs.Frames.{place}
-use Rattle.hpgl_plot.specs.Paths.{Path, path, position, target}
-use Rattle.hpgl_plot.specs.Strokes.{are_in_range}
-use Rattle.hpgl_plot.specs.Machine.{World, step, after, moved, travelled, ends_in, Runs}
+use Rattle.hpgl_plot.specs.Paths.{Path, path, along, position, target}
+use Rattle.hpgl_plot.specs.Strokes.{are_in_range, path_strokes}
+use Rattle.hpgl_plot.specs.Machine.{World, with_strokes, step, after, moved, travelled, travelled_all, ends_in, Runs}
+use Rattle.hpgl_plot.proofs.Polylines.{lines_are, one_line}
 
 step_is : (w : World) (s : Step)
-    → step w s ≡ ends_in (after w.page w.state s) (travelled w (path w.page w.state s).draws (path w.page w.state s).places)
+    → step w s ≡ ends_in (after w.page w.state s) (travelled_all w (path w.page w.state s).draws (path w.page w.state s).lines)
 unfolding step
-step_is w s = elim (cases_Bool (are_in_range (path w.page w.state s).places)) [
-  | inl t ↦ rw t refl
-  | inr t ↦ rw t refl
-]
+step_is w s =
+    let p = path w.page w.state s in
+    let e : step w s
+    ≡ ends_in (after w.page w.state s)
+    (if list_all are_in_range p.lines then Some (with_strokes w w.state (path_strokes w.state p)) else None) =
+    elim (cases_Bool (list_all are_in_range p.lines)) [
+      | inl t ↦ rw t refl
+      | inr t ↦ rw t refl
+    ] in
+    e ∙ ap (λ (o : Option World). ends_in (after w.page w.state s) o) (sym (lines_are w p.draws p.lines))
 
-step_by : (w : World) (s : Step) (p : Path) → path w.page w.state s ≡ p
+pub step_by : (w : World) (s : Step) (p : Path) → path w.page w.state s ≡ p
+    → step w s ≡ ends_in (after w.page w.state s) (travelled_all w p.draws p.lines)
+step_by w s p e = step_is w s ∙ ap (λ (q : Path). ends_in (after w.page w.state s) (travelled_all w q.draws q.lines)) e
+
+-- a path of one line
+pub record Line : Type 0 where
+  pub places : List Spot
+  pub draws : Bool
+  pub ends : Position
+
+step_along : (w : World) (s : Step) (p : Line) → path w.page w.state s ≡ along p.places p.draws p.ends
     → step w s ≡ ends_in (after w.page w.state s) (travelled w p.draws p.places)
-step_by w s p e = step_is w s ∙ ap (λ (q : Path). ends_in (after w.page w.state s) (travelled w q.draws q.places)) e
+step_along w s p e =
+    step_by w s (along p.places p.draws p.ends) e
+    ∙ ap (λ (o : Option World). ends_in (after w.page w.state s) o) (one_line w p.draws p.places)
 
--- a path changes neither the page nor what is set
+-- a line changes neither the page nor what is set
 travelled_stays : (w : World) (draws : Bool) (places : List Spot) → ends_in w.state (travelled w draws places) ≡ travelled w draws places
 travelled_stays w draws places = elim (cases_Bool (are_in_range places)) [
   | inl t ↦ rw t refl
@@ -44,27 +66,38 @@ travelled_keeps w u draws places h = elim (cases_Bool (are_in_range places)) [
   | inr t ↦ absurd (none-some u (rw t at h))
 ]
 
+-- nor do several lines
+pub lines_keep : (w u : World) (draws : Bool) (ls : List (List Spot)) → travelled_all w draws ls ≡ Some u → IsKept w u
+lines_keep w u draws [] h =
+    let e = sym (same_Some _ _ h) in
+    record { page_is = ap (λ (v : World). v.page) e; state_is = ap (λ (v : World). v.state) e }
+lines_keep w u draws (l ∷ ls) h = elim (cases_Bool (list_all are_in_range (l ∷ ls))) [
+  | inl t ↦ (let e = sym (same_Some _ _ (rw t at (sym (lines_are w draws (l ∷ ls)) ∙ h))) in
+      record { page_is = ap (λ (v : World). v.page) e; state_is = ap (λ (v : World). v.state) e })
+  | inr t ↦ absurd (none-some u (rw t at (sym (lines_are w draws (l ∷ ls)) ∙ h)))
+]
+
 -- a step after which the pen is where it was has run if its path was travelled
-pub still_runs : {U : Type 0} (w v : World) (s : Step) (p : Path) (r : Result U Stop)
-    → after w.page w.state s ≡ w.state → path w.page w.state s ≡ p → Runs (travelled w p.draws p.places) v r → Runs (step w s) v r
+pub still_runs : {U : Type 0} (w v : World) (s : Step) (p : Line) (r : Result U Stop)
+    → after w.page w.state s ≡ w.state → path w.page w.state s ≡ along p.places p.draws p.ends → Runs (travelled w p.draws p.places) v r → Runs (step w s) v r
 still_runs {U} w v s p r a e h =
     let k : step w s ≡ travelled w p.draws p.places =
-    step_by w s p e ∙ ap (λ (t : State). ends_in t (travelled w p.draws p.places)) a ∙ travelled_stays w p.draws p.places in
+    step_along w s p e ∙ ap (λ (t : State). ends_in t (travelled w p.draws p.places)) a ∙ travelled_stays w p.draws p.places in
     subst (λ (o : Option World). Runs o v r) (sym k) h
 
 -- any other has run if its path was travelled, and then the pen came to its end
-pub moved_runs : (w u v : World) (s : Step) (p : Path) → after w.page w.state s ≡ moved w.state p.ends → path w.page w.state s ≡ p
+pub moved_runs : (w u v : World) (s : Step) (p : Line) → after w.page w.state s ≡ moved w.state p.ends → path w.page w.state s ≡ along p.places p.draws p.ends
     → travelled w p.draws p.places ≡ Some u → ends_in (moved u.state p.ends) (Some u) ≡ Some v → step w s ≡ Some v
 moved_runs w u v s p a e h m =
-    step_by w s p e
+    step_along w s p e
     ∙ ap (λ (t : State). ends_in t (travelled w p.draws p.places)) a
     ∙ ap (λ (t : State). ends_in (moved t p.ends) (travelled w p.draws p.places)) (sym (travelled_keeps w u p.draws p.places h).state_is)
     ∙ ap (λ (o : Option World). ends_in (moved u.state p.ends) o) h
     ∙ m
 
 -- a step whose path leaves the range
-pub step_out : (w : World) (s : Step) (p : Path) → path w.page w.state s ≡ p → travelled w p.draws p.places ≡ None → step w s ≡ None
-step_out w s p e h = step_by w s p e ∙ ap (λ (o : Option World). ends_in (after w.page w.state s) o) h
+pub step_out : (w : World) (s : Step) (p : Line) → path w.page w.state s ≡ along p.places p.draws p.ends → travelled w p.draws p.places ≡ None → step w s ≡ None
+step_out w s p e h = step_along w s p e ∙ ap (λ (o : Option World). ends_in (after w.page w.state s) o) h
 
 -- what stops early stops all of it
 pub stopped : {U : Type 0} (o p : Option World) (u v : World) (e : Stop) (r : Result U Stop) → (o ≡ None → p ≡ None)
@@ -76,8 +109,7 @@ stopped o p u v OffRange (Err f) n h i = rw i (n h)
 -- the path of a move
 pub go_path : (page : Page) (s : State) (relative : Bool) (x y : ℤ) (u q : Spot)
     → u ≡ target relative s.coordinates x y → q ≡ place page s.frame u
-    → path page s (Go relative x y)
-    ≡ record { places = s.place ∷ (q ∷ []); draws = s.is_down; ends = record { place = q; coordinates = u } }
+    → path page s (Go relative x y) ≡ along (s.place ∷ (q ∷ [])) s.is_down (record { place = q; coordinates = u })
 go_path page s relative x y u q eu eq = rw (eq, eu) refl
 
 -- the corners b, c and d of a rectangle, from the coordinates t opposite of the pen and p and q beside it
@@ -90,5 +122,5 @@ pub record AreCorners (page : Page) (s : State) (relative : Bool) (x y : ℤ) (t
   pub d_is : d ≡ place page s.frame q
 
 pub edge_path_is : (page : Page) (s : State) (relative : Bool) (x y : ℤ) (t p q b c d : Spot) → AreCorners page s relative x y t p q b c d
-    → path page s (Edge relative x y) ≡ record { places = s.place ∷ (b ∷ (c ∷ (d ∷ (s.place ∷ [])))); draws = true; ends = position s }
+    → path page s (Edge relative x y) ≡ along (s.place ∷ (b ∷ (c ∷ (d ∷ (s.place ∷ []))))) true (position s)
 edge_path_is page s relative x y t p q b c d h = rw (h.b_is, h.c_is, h.d_is, h.beside, h.above, h.opposite) refl

@@ -1,5 +1,6 @@
 -- The same, one step at a time, as the code does it: `proofs/Bridge.antt` shows that it is equivalent to the definitions.
 use Rattle.std.specs.Prelude.{◌≡◌, ℕ, Bool, true, false, List, [], ◌∷◌, ◌++◌, Option, Some, None, Result, Ok, Err, length, nat_lt, set, if◌then◌else◌, ⊤}
+use Rattle.std.specs.List.{list_all}
 use Rattle.plot_frame.specs.declared.scaling.Points.{Points}
 use Rattle.plot_frame.specs.declared.scaling.Scaling.TheVariants.{Off}
 use Rattle.hpgl_text.specs.Shapes.{ItemShape}
@@ -91,24 +92,33 @@ full_with kept full (s ∷ ss) = if nat_lt (length kept) MOST_STROKES then full_
 abbrev pub with_strokes : World → State → List Segment → World
 with_strokes w s ss = record { page = w.page; state = s; kept = kept_with w.kept w.full ss; full = full_with w.kept w.full ss }
 
--- what a path over these places leaves: None if one of them is out of range
+-- what a line over these places leaves: None if one of them is out of range
 abbrev pub travelled : World → Bool → List Spot → Option World
 travelled w draws places = if are_in_range places then Some (with_strokes w w.state (if draws then joined w.state places else [])) else None
+
+abbrev pub followed : Option World → (World → Option World) → Option World
+followed None f = None
+followed (Some w) f = f w
+
+-- and what several lines leave
+abbrev pub travelled_all : World → Bool → List (List Spot) → Option World
+travelled_all w draws [] = Some w
+travelled_all w draws (l ∷ ls) = followed (travelled w draws l) (λ (v : World). travelled_all v draws ls)
 
 -- with another state
 abbrev pub ends_in : State → Option World → Option World
 ends_in s None = None
 ends_in s (Some w) = Some (record w { state = s })
 
+-- the pen is put somewhere
+abbrev pub put_at : World → Position → Option World
+put_at w p = ends_in (moved w.state p) (travelled w true (p.place ∷ []))
+
 -- None if a place is out of range
 unfoldable pub step : World → Step → Option World
 step w s =
     let p = path w.page w.state s in
-    if are_in_range p.places then Some (with_strokes w (after w.page w.state s) (path_strokes w.state p)) else None
-
-abbrev pub followed : Option World → (World → Option World) → Option World
-followed None f = None
-followed (Some w) f = f w
+    if list_all are_in_range p.lines then Some (with_strokes w (after w.page w.state s) (path_strokes w.state p)) else None
 
 abbrev pub run : World → List Step → Option World
 run w [] = Some w

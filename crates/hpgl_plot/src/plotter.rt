@@ -70,7 +70,10 @@ impl Plotter {
                 None => Ok(()),
             },
             Body::Coded(polyline) => self.follow_entries(polyline.entries()),
-            Body::Label(bytes) => self.write(bytes),
+            Body::Label(bytes) => {
+                self.write(bytes)?;
+                Ok(())
+            }
             Body::Terminator(_) | Body::Skipped | Body::Bad | Body::Stray(_) => Ok(()),
         }
     }

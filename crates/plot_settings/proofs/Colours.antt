@@ -8,7 +8,7 @@ use Rattle.std.proofs.lemmas.Bool.Decides.{nat_tests}
 use Rattle.plot_page.specs.declared.colour.Colour.{Colour}
 use Rattle.plot_settings.specs.declared.setting.Setting.TheVariants.{Start, Defaults, PageCorners, FirstPoint, BothPoints, Scale, Rotate, PageWindow, CornerWindow, Pen, Width, WidthOfAll, PenColour, DefaultColours, Size, Direction}
 use Rattle.plot_settings.specs.Colours.{black, default_colour, default_colours}
-use Rattle.plot_settings.specs.Steps.{Step, Set, Touch, Lower, Relate, Move, Go, Edge, DrawCircle, DrawArc, Write, EndLabel}
+use Rattle.plot_settings.specs.Steps.{Step, Set, Touch, Lower, Relate, Move, Go, Edge, DrawCircle, DrawArc, Write}
 use Rattle.plot_settings.specs.Settings.{colours, newer}
 use Rattle.plot_settings.specs.Laws.{ColoursAreLookedBackFor, colour}
 
@@ -43,7 +43,6 @@ colours_length (Edge r x y ∷ before) = colours_length before
 colours_length (DrawCircle c ∷ before) = colours_length before
 colours_length (DrawArc r a ∷ before) = colours_length before
 colours_length (Write t ∷ before) = colours_length before
-colours_length (EndLabel q ∷ before) = colours_length before
 
 -- the list of the default colours has each pen's
 default_tells : (p : ℕ) → p < 256 → get_or default_colours p black ≡ default_colour p
@@ -92,4 +91,3 @@ colours_tell (Edge r x y ∷ before) p h = colours_tell before p h
 colours_tell (DrawCircle c ∷ before) p h = colours_tell before p h
 colours_tell (DrawArc r a ∷ before) p h = colours_tell before p h
 colours_tell (Write t ∷ before) p h = colours_tell before p h
-colours_tell (EndLabel q ∷ before) p h = colours_tell before p h

@@ -7,7 +7,7 @@ use Rattle.std.proofs.lemmas.List.{get_or-replicate}
 use Rattle.std.proofs.lemmas.List.Elements.{All-head, All-tail, All-replicate}
 use Rattle.std.proofs.lemmas.Bool.Decides.{nat_tests}
 use Rattle.plot_settings.specs.declared.setting.Setting.TheVariants.{Start, Defaults, PageCorners, FirstPoint, BothPoints, Scale, Rotate, PageWindow, CornerWindow, Pen, Width, WidthOfAll, PenColour, DefaultColours, Size, Direction}
-use Rattle.plot_settings.specs.Steps.{Step, Set, Touch, Lower, Relate, Move, Go, Edge, DrawCircle, DrawArc, Write, EndLabel}
+use Rattle.plot_settings.specs.Steps.{Step, Set, Touch, Lower, Relate, Move, Go, Edge, DrawCircle, DrawArc, Write}
 use Rattle.plot_settings.specs.Settings.{widths, all_pens, newer}
 use Rattle.plot_settings.specs.Bounds.{AreWidths}
 use Rattle.plot_settings.specs.Laws.{WidthsAreLookedBackFor, width}
@@ -43,7 +43,6 @@ widths_length (Edge r x y ∷ before) = widths_length before
 widths_length (DrawCircle c ∷ before) = widths_length before
 widths_length (DrawArc r a ∷ before) = widths_length before
 widths_length (Write t ∷ before) = widths_length before
-widths_length (EndLabel q ∷ before) = widths_length before
 
 all_tell : (w p : ℕ) → p < 256 → get_or (all_pens w) p 0 ≡ w
 unfolding all_pens
@@ -83,7 +82,6 @@ widths_tell (Edge r x y ∷ before) p h = widths_tell before p h
 widths_tell (DrawCircle c ∷ before) p h = widths_tell before p h
 widths_tell (DrawArc r a ∷ before) p h = widths_tell before p h
 widths_tell (Write t ∷ before) p h = widths_tell before p h
-widths_tell (EndLabel q ∷ before) p h = widths_tell before p h
 
 -- widths within the range
 pub all_within : (w : ℕ) → w ≤ 12800 → AreWidths (all_pens w)

@@ -17,8 +17,8 @@ use Rattle.plot_settings.specs.declared.setting.Setting.{Setting}
 use Rattle.plot_settings.specs.declared.setting.Setting.TheVariants.{Start, Defaults}
 use Rattle.plot_settings.specs.Parameters.{scaling_points, user_scaling, rotated, window_corners, selected_pen}
 use Rattle.plot_settings.specs.Parameters.{pen_width, pen_colour}
-use Rattle.plot_settings.specs.Steps.{Step, Set, Lower, Relate, Edge, DrawCircle, DrawArc, moves, lowered_then}
-use Rattle.plot_settings.specs.Steps.{entry_steps, label_steps}
+use Rattle.plot_settings.specs.Steps.{Step, Set, Lower, Relate, Edge, DrawCircle, DrawArc, Write}
+use Rattle.plot_settings.specs.Steps.{moves, lowered_then, entry_steps}
 use Rattle.plot_settings.specs.Lettering.{character_size, label_direction}
 
 pub record Meaning : Type 0 where
@@ -88,7 +88,7 @@ meaning_if_known None ns = nothing
 abbrev pub body_steps : Option Instruction → BodyShape → List Step
 body_steps instruction (Params ns) = (meaning_if_known instruction ns).steps
 body_steps instruction (Coded entries) = entry_steps entries
-body_steps instruction (Label bytes) = label_steps bytes
+body_steps instruction (Label bytes) = Write bytes ∷ []
 body_steps instruction _ = []
 
 -- the steps of an item

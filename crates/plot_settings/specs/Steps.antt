@@ -1,20 +1,17 @@
 -- Steps: what items ask for, one thing at a time.
 use Rattle.std.specs.List.{flat_map}
-use Rattle.std.specs.Prelude.{ℕ, ℤ, Bool, true, not, List, [], ◌∷◌, ◌++◌, map}
+use Rattle.std.specs.Prelude.{ℕ, ℤ, Bool, true, not, List, [], ◌∷◌}
 use Rattle.hpgl_text.specs.EntryShapes.{PartShape, EntryShape}
 use Rattle.hpgl_text.specs.EntryShapes as part
 use Rattle.plot_settings.specs.declared.figure.Arc.{Arc}
 use Rattle.plot_settings.specs.declared.figure.Circle.{Circle}
-use Rattle.label_layout.specs.declared.strokes.LabelPoint.{LabelPoint}
-use Rattle.label_layout.specs.declared.strokes.LabelStroke.{LabelStroke}
-use Rattle.label_layout.specs.Points.{label_strokes, label_end}
 use Rattle.plot_settings.specs.declared.setting.Setting.{Setting}
 use Rattle.plot_settings.specs.declared.setting.Setting.TheVariants.{Pen}
 
 -- something is set; the pen touches the paper where it is, goes down or up, or moves to coordinates in millionths,
 -- which are relative or absolute as PA or PR said last, or as is said with them; the edge of a rectangle is drawn, by
 -- the coordinates of the corner that lies opposite; a circle is drawn, or an arc, whose centre is relative or absolute;
--- a stroke of a label is written, or the label ends at a point
+-- the bytes of a label are written
 pub data Step : Type 0 where
   Set : Setting → Step
   Touch : Step
@@ -25,8 +22,7 @@ pub data Step : Type 0 where
   Edge : Bool → ℤ → ℤ → Step
   DrawCircle : Circle → Step
   DrawArc : Bool → Arc → Step
-  Write : LabelStroke → Step
-  EndLabel : LabelPoint → Step
+  Write : List ℕ → Step
 
 -- a move to each pair; an unpaired last coordinate makes none
 abbrev pub moves : List ℤ → List Step
@@ -48,7 +44,3 @@ part_steps (part.Stray byte) = []
 
 abbrev pub entry_steps : List EntryShape → List Step
 entry_steps entries = flat_map (λ (e : EntryShape). part_steps e.what) entries
-
--- the steps of an LB (Label): the strokes of all its characters, and then its end
-abbrev pub label_steps : List ℕ → List Step
-label_steps bytes = map Write (label_strokes bytes) ++ (EndLabel (label_end bytes) ∷ [])

@@ -1,9 +1,9 @@
 //! Labels, stroke by stroke.
-ghost use Rattle.std.specs.Prelude.{◌≡◌, map};
+ghost use Rattle.std.specs.Prelude.{◌≡◌, true, map};
 ghost use Rattle.label_layout.specs.Points.{IsLabelPoint, IsLabelStroke, character_strokes};
 ghost use Rattle.hpgl_plot.specs.Labels as labels;
-ghost use Rattle.hpgl_plot.specs.Machine.{seen, step, run, Runs};
-ghost use Rattle.plot_settings.specs.Steps.{Write, EndLabel, label_steps};
+ghost use Rattle.hpgl_plot.specs.Machine.{seen, step, Runs, travelled, travelled_all, put_at};
+ghost use Rattle.plot_settings.specs.Steps.{Write};
 
 use crate::place::coordinates_at;
 use crate::plotter::{Plotter, Stop};
@@ -16,20 +16,19 @@ impl Plotter {
     /// LB: writes the bytes from the pen's place on, and leaves the pen where the next character would
     /// begin.
     pub fn write(&mut self, bytes: &[u8]) -> Result<(), Stop>
-        ensures { Runs (run (seen self.old) (label_steps bytes.now)) (seen self.new) result }
+        ensures { Runs (step (seen self.old) (Write bytes.now)) (seen self.new) result }
     {
         let mut cell = Cell::FIRST;
         for byte in bytes {
             self.write_byte(cell, *byte)?;
             cell = cell.after(*byte);
         }
-        self.end_label(cell.corner())?;
-        Ok(())
+        self.end_label(cell.corner())
     }
 
     // The strokes of a byte in a cell.
     fn write_byte(&mut self, cell: Cell, byte: u8) -> Result<(), Stop>
-        ensures { Runs (run (seen self.old) (map Write (character_strokes cell byte))) (seen self.new) result }
+        ensures { Runs (travelled_all (seen self.old) true (map (labels.stroke_places self.old.state) (character_strokes cell byte))) (seen self.new) result }
     {
         let mut k = 0;
         'strokes: while let Some(stroke) = label_stroke(cell, byte, k) {
@@ -42,7 +41,7 @@ impl Plotter {
     // A stroke, drawn whether the pen is down or not. The pen stays at the label's start.
     fn write_stroke(&mut self, stroke: LabelStroke) -> Result<(), Stop>
         requires { IsLabelStroke stroke }
-        ensures { Runs (step (seen self.old) (Write stroke)) (seen self.new) result }
+        ensures { Runs (travelled (seen self.old) true (labels.stroke_places self.old.state stroke)) (seen self.new) result }
     {
         let from = self.label_place(stroke.from);
         let to = self.label_place(stroke.to);
@@ -52,7 +51,7 @@ impl Plotter {
     // The pen goes to the end of the label.
     fn end_label(&mut self, end: LabelPoint) -> Result<(), Stop>
         requires { IsLabelPoint end }
-        ensures { Runs (step (seen self.old) (EndLabel end)) (seen self.new) result }
+        ensures { Runs (put_at (seen self.old) (labels.pen_at_point self.old.page self.old.state end)) (seen self.new) result }
     {
         let place = self.label_place(end);
         self.begin(place)?;

@@ -5,7 +5,7 @@ use Rattle.plot_settings.specs.Steps.{DrawArc}
 use Rattle.hpgl_plot.specs.Paths.{Path, pen_at}
 use Rattle.hpgl_plot.specs.Machine.{seen, step, moved, travelled}
 use Rattle.hpgl_plot.proofs.Curves.{arc_path_is, arc_sound, stopped_by}
-use Rattle.hpgl_plot.proofs.Travels.{moved_runs, step_out}
+use Rattle.hpgl_plot.proofs.Travels.{Line, moved_runs, step_out}
 use Rattle.hpgl_plot.proofs.plotter.Plotter.arc.Goals as goal
 
 pub returns-in_err-end : goal.returns-in_err-end
@@ -15,7 +15,7 @@ returns-in_err-end c =
     let s = w.state in
     let curve = c.arc_curve-curve.result in
     let end = pen_at w.page s.frame (curve_point curve (chord_count curve)) in
-    let p : Path = record { places = s.place ∷ curve_places w.page s.frame curve; draws = s.is_down; ends = end } in
+    let p : Line = record { places = s.place ∷ curve_places w.page s.frame curve; draws = s.is_down; ends = end } in
     let e = arc_path_is w.page s c.args.is_relative c.args.arc curve end c.arc_curve-curve.ensures.value refl in
     stopped_by Position (travelled w p.draws p.places)
     (step w (DrawArc c.args.is_relative c.args.arc)) v v c.in_err-end.field-0.0 c.from_residual.result
@@ -45,7 +45,7 @@ returns c =
     let s = w.state in
     let curve = c.arc_curve-curve.result in
     let end = c.in_ok-end.end in
-    let p : Path = record { places = s.place ∷ curve_places w.page s.frame curve; draws = s.is_down; ends = end } in
+    let p : Line = record { places = s.place ∷ curve_places w.page s.frame curve; draws = s.is_down; ends = end } in
     let e = arc_path_is w.page s c.args.is_relative c.args.arc curve end c.arc_curve-curve.ensures.value c.in_ok-end.ensures.end in
     moved_runs w (seen c.follow_curve.new.self) (seen c.arrive.new.self) (DrawArc c.args.is_relative c.args.arc) p
     (ap (λ (r : Path). moved s r.ends) e) e c.in_ok-end.ensures.runs c.arrive.ensures

@@ -3,10 +3,10 @@ use Rattle.std.specs.Bool.{⊤}
 use Rattle.hpgl_plot.specs.declared.state.Position.{Position}
 use Rattle.hpgl_plot.specs.Arcs.{curve_places}
 use Rattle.plot_settings.specs.Steps.{DrawCircle}
-use Rattle.hpgl_plot.specs.Paths.{Path, position}
+use Rattle.hpgl_plot.specs.Paths.{position}
 use Rattle.hpgl_plot.specs.Machine.{seen, step, travelled}
 use Rattle.hpgl_plot.proofs.Curves.{circle_path_is, stopped_by}
-use Rattle.hpgl_plot.proofs.Travels.{still_runs, step_out}
+use Rattle.hpgl_plot.proofs.Travels.{Line, still_runs, step_out}
 use Rattle.hpgl_plot.proofs.plotter.Plotter.circle.Goals as goal
 
 pub returns-in_err-follow_curve : goal.returns-in_err-follow_curve
@@ -16,7 +16,7 @@ returns-in_err-follow_curve c =
     let s = w.state in
     let curve = c.circle_curve-curve.result in
     let q = c.place_of-start.result in
-    let p : Path = record { places = q ∷ curve_places w.page s.frame curve; draws = true; ends = position s } in
+    let p : Line = record { places = q ∷ curve_places w.page s.frame curve; draws = true; ends = position s } in
     let e = circle_path_is w.page s c.args.circle curve q c.circle_curve-curve.ensures.value c.place_of-start.ensures in
     stopped_by Position (travelled w p.draws p.places)
     (step w (DrawCircle c.args.circle)) v v c.in_err-follow_curve.field-0.0 c.from_residual.result

@@ -1,8 +1,13 @@
-use Rattle.std.proofs.Common.{refl}
+use Rattle.std.proofs.Common.{refl, not, [], ◌∷◌}
 use Rattle.plot_settings.specs.Steps.{Touch}
 use Rattle.hpgl_plot.specs.Machine.{seen}
-use Rattle.hpgl_plot.proofs.Travels.{still_runs}
+use Rattle.hpgl_plot.specs.Paths.{position}
+use Rattle.hpgl_plot.proofs.Travels.{Line, still_runs}
 use Rattle.hpgl_plot.proofs.plotter.Plotter.touch.Goals as goal
 
 pub returns : goal.returns
-returns c = still_runs (seen c.args.self.now) (seen c.travel.new.self) Touch _ c.travel.result refl refl c.travel.ensures
+returns c =
+    let w = seen c.args.self.now in
+    let s = w.state in
+    let p : Line = record { places = s.place ∷ (s.place ∷ []); draws = not s.is_down; ends = position s } in
+    still_runs w (seen c.travel.new.self) Touch p c.travel.result refl refl c.travel.ensures

@@ -1,12 +1,13 @@
-use Rattle.std.proofs.Common.{◌∙◌, ◌+◌, ap, sym, arith, List, drop, map}
+use Rattle.std.proofs.Common.{◌≡◌, ◌∙◌, ◌+◌, ap, sym, subst, arith, true, List, drop, map, None, Some}
 use Rattle.std.proofs.lemmas.Option.{slice_get_within}
 use Rattle.label_layout.specs.Points.{character_strokes}
-use Rattle.plot_settings.specs.Steps.{Step, Write}
-use Rattle.hpgl_plot.specs.Machine.{seen, step, run}
+use Rattle.plot_arc.specs.declared.spot.Spot.{Spot}
+use Rattle.hpgl_plot.specs.declared.state.State.{State}
+use Rattle.hpgl_plot.specs.Labels.{stroke_places}
+use Rattle.hpgl_plot.specs.Machine.{seen, travelled, travelled_all}
 use Rattle.hpgl_plot.proofs.Letters.{one_stroke, no_more_strokes}
-use Rattle.hpgl_plot.proofs.Pairs.{run_more}
-use Rattle.hpgl_plot.proofs.Runs.{step_first_out}
-use Rattle.hpgl_plot.proofs.Travels.{stopped}
+use Rattle.hpgl_plot.proofs.Polylines.{lines_more, lines_out}
+use Rattle.hpgl_plot.proofs.Travels.{stopped, travelled_keeps}
 use Rattle.hpgl_plot.proofs.plotter.Plotter.write_byte.Goals as goal
 
 pub returns-in_err-write_stroke : goal.returns-in_err-write_stroke
@@ -14,12 +15,17 @@ returns-in_err-write_stroke c =
     let strokes = character_strokes c.args.cell c.args.byte in
     let k = c.strokes.k in
     let t = c.in-Some.stroke in
+    let s = c.args.self.now.state in
     let w = seen c.strokes.self in
     let v = seen c.write_stroke.new.self in
-    let o = one_stroke strokes k t (sym c.in-Some.ensures.value) in
-    let all = sym c.strokes.invariant.same ∙ ap (λ (ss : List Step). run w ss) o in
-    stopped (step w (Write t)) (run (seen c.args.self.now) (map Write strokes)) v v c.in_err-write_stroke.field-0.0 c.from_residual.result
-    (λ h. all ∙ step_first_out w (Write t) (map Write (drop (k + 1) strokes)) h) c.in_err-write_stroke.ensures c.from_residual.ensures.1
+    let i = c.strokes.invariant in
+    let rest = map (stroke_places s) (drop (k + 1) strokes) in
+    let o = one_stroke s strokes k t (sym c.in-Some.ensures.value) in
+    let all = sym i.same ∙ ap (λ (ls : List (List Spot)). travelled_all w true ls) o in
+    stopped (travelled w true (stroke_places w.state t)) (travelled_all (seen c.args.self.now) true (map (stroke_places s) strokes)) v v
+    c.in_err-write_stroke.field-0.0 c.from_residual.result
+    (λ h. all ∙ lines_out w true (stroke_places s t) rest (subst (λ (x : State). travelled w true (stroke_places x t) ≡ None) i.kept.state_is h))
+    c.in_err-write_stroke.ensures c.from_residual.ensures.1
 
 pub overflow_add-k : goal.overflow_add-k
 overflow_add-k c = let few = c.in-Some.ensures.few in omega (arith, few)
@@ -35,17 +41,23 @@ strokes-preserved c =
     let strokes = character_strokes c.args.cell c.args.byte in
     let k = c.strokes.k in
     let t = c.in-Some.stroke in
+    let s = c.args.self.now.state in
     let w = seen c.strokes.self in
+    let v = seen c.write_stroke.new.self in
+    let i = c.strokes.invariant in
+    let rest = map (stroke_places s) (drop (k + 1) strokes) in
     let h = slice_get_within strokes k t (sym c.in-Some.ensures.value) in
-    let o = one_stroke strokes k t (sym c.in-Some.ensures.value) in
-    let r = run_more w (seen c.write_stroke.new.self) (Write t) (map Write (drop (k + 1) strokes)) c.in_ok-write_stroke.ensures in
+    let o = one_stroke s strokes k t (sym c.in-Some.ensures.value) in
+    let e = subst (λ (x : State). travelled w true (stroke_places x t) ≡ Some v) i.kept.state_is c.in_ok-write_stroke.ensures in
+    let n = travelled_keeps w v true (stroke_places s t) e in
     record {
+      kept = record { page_is = n.page_is ∙ i.kept.page_is; state_is = n.state_is ∙ i.kept.state_is };
       within = omega (arith, h);
-      same = sym r ∙ sym (ap (λ (ss : List Step). run w ss) o) ∙ c.strokes.invariant.same;
+      same = sym (lines_more w v true (stroke_places s t) rest e) ∙ sym (ap (λ (ls : List (List Spot)). travelled_all w true ls) o) ∙ i.same;
     }
 
 pub returns : goal.returns
 returns c =
     let strokes = character_strokes c.args.cell c.args.byte in
-    let d = no_more_strokes strokes c.strokes.k (sym c.in_default.ensures.value) in
-    sym c.strokes.invariant.same ∙ ap (λ (ss : List Step). run (seen c.strokes.self) ss) d
+    let d = no_more_strokes c.args.self.now.state strokes c.strokes.k (sym c.in_default.ensures.value) in
+    sym c.strokes.invariant.same ∙ ap (λ (ls : List (List Spot)). travelled_all (seen c.strokes.self) true ls) d
