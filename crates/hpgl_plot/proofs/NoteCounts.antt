@@ -70,8 +70,8 @@ polyline_fits at text =
     record { in_content = omega (arith, few, length-take end text); in_text = omega (arith, few, length-take end text) }
 
 content_fits : (kind : Kind) (terminator at : ℕ) (text : List ℕ) → Fits (content_of kind terminator at text) text
-content_fits Parameters terminator at text =
-    none_fits (parameters text) text (none_in_either (is_end (past_numbers text)) (Params (numbers text)) shape.Bad refl refl)
+content_fits (Parameters instruction) terminator at text =
+    none_fits (parameters instruction text) text (none_in_either (is_end (past_numbers text)) (Params instruction (numbers text)) shape.Bad refl refl)
 content_fits LabelText terminator at text = none_fits _ text refl
 content_fits LabelEnd terminator at text = none_fits (label_end text) text (none_in_label_end text)
 content_fits Polyline terminator at text = polyline_fits at text

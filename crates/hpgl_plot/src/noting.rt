@@ -6,7 +6,7 @@ ghost use Rattle.hpgl_plot.specs.Notes.{notes_of, item_noted, entries_in, entry_
 
 use crate::note::{Note, NoteKind};
 use crate::wrong::noted_parameters;
-use hpgl_text::{Body, Entries, Item, Part, instruction_of_code};
+use hpgl_text::{Body, Entries, Item, Part};
 use std::alloc::AllocError;
 
 /// Appends to the notes what is noted on an item.
@@ -83,10 +83,7 @@ pub fn noted_kind(item: &Item<'_>) -> Option<NoteKind>
     ensures { result ≡ item_noted item.now }
 {
     match &item.body {
-        Body::Params(numbers) => match instruction_of_code(item.code) {
-            Some(instruction) => noted_parameters(instruction, numbers),
-            None => None,
-        },
+        Body::Params(instruction, numbers) => noted_parameters(*instruction, numbers),
         Body::Coded(_) | Body::Label(_) | Body::Terminator(_) => None,
         Body::Skipped => Some(NoteKind::Skipped),
         Body::Bad => Some(NoteKind::Bad),

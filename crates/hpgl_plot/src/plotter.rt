@@ -13,7 +13,7 @@ use crate::axes::Axes;
 use crate::fault::PlotFault;
 use crate::place::{start_axes, start_of};
 use crate::state::State;
-use hpgl_text::{Body, Entries, Entry, Instruction, Item, Numbers, Part, instruction_of_code};
+use hpgl_text::{Body, Entries, Entry, Instruction, Item, Numbers, Part};
 use plot_page::{Page, Stroke};
 use plot_settings::{Moves, Request, request_of};
 use std::alloc::Global;
@@ -65,10 +65,7 @@ impl Plotter {
         ensures { Runs (run (seen self.old) (steps_of item.now)) (seen self.new) result }
     {
         match &item.body {
-            Body::Params(numbers) => match instruction_of_code(item.code) {
-                Some(instruction) => self.obey(instruction, numbers),
-                None => Ok(()),
-            },
+            Body::Params(instruction, numbers) => self.obey(*instruction, numbers),
             Body::Coded(polyline) => self.follow_entries(polyline.entries()),
             Body::Label(bytes) => {
                 self.write(bytes)?;
@@ -108,7 +105,7 @@ impl Plotter {
         ensures { Runs (run (seen self.old) (request_meaning request numbers.now).steps) (seen self.new) result }
     {
         match request {
-            Request::Nothing | Request::Wrong => Ok(()),
+            Request::Wrong => Ok(()),
             Request::Set(setting) => {
                 self.set(setting);
                 Ok(())

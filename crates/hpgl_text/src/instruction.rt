@@ -1,8 +1,6 @@
-//! The instructions that are known, by their two letters.
-ghost use Rattle.std.specs.Prelude.{◌≡◌};
-ghost use Rattle.hpgl_text.specs.Instructions.{instruction_of};
+//! The known instructions that numbers follow.
 
-/// A known instruction.
+/// A known instruction that numbers follow.
 #[derive(Clone, Copy, Debug, PartialEq, Eq)]
 pub enum Instruction {
     /// IN, Initialize: all settings are those of the start.
@@ -31,8 +29,6 @@ pub enum Instruction {
     PlotAbsolute,
     /// PR, Plot Relative: coordinates are relative from here on, and the pen moves.
     PlotRelative,
-    /// PE, Polyline Encoded: pens and moves in coded numbers.
-    PolylineEncoded,
     /// EA, Edge Rectangle Absolute: the edge of a rectangle, by an absolute corner.
     EdgeAbsolute,
     /// ER, Edge Rectangle Relative: the edge of a rectangle, by a relative corner.
@@ -43,44 +39,8 @@ pub enum Instruction {
     ArcAbsolute,
     /// AR, Arc Relative: by a relative centre.
     ArcRelative,
-    /// LB, Label: a text.
-    Label,
-    /// DT, Define Label Terminator: the byte that ends labels.
-    LabelTerminator,
     /// SI, Absolute Character Size.
     CharacterSize,
     /// DI, Absolute Direction: of labels.
     Direction,
-}
-
-/// The instruction with these two letters in capitals, if it is known.
-pub fn instruction_of_code(code: [u8; 2]) -> Option<Instruction>
-    ensures { result ≡ instruction_of code }
-{
-    match &code {
-        b"IN" => Some(Instruction::Initialize),
-        b"DF" => Some(Instruction::DefaultValues),
-        b"IP" => Some(Instruction::InputPoints),
-        b"SC" => Some(Instruction::Scale),
-        b"RO" => Some(Instruction::Rotate),
-        b"IW" => Some(Instruction::InputWindow),
-        b"SP" => Some(Instruction::SelectPen),
-        b"PW" => Some(Instruction::PenWidth),
-        b"PC" => Some(Instruction::PenColour),
-        b"PU" => Some(Instruction::PenUp),
-        b"PD" => Some(Instruction::PenDown),
-        b"PA" => Some(Instruction::PlotAbsolute),
-        b"PR" => Some(Instruction::PlotRelative),
-        b"PE" => Some(Instruction::PolylineEncoded),
-        b"EA" => Some(Instruction::EdgeAbsolute),
-        b"ER" => Some(Instruction::EdgeRelative),
-        b"CI" => Some(Instruction::Circle),
-        b"AA" => Some(Instruction::ArcAbsolute),
-        b"AR" => Some(Instruction::ArcRelative),
-        b"LB" => Some(Instruction::Label),
-        b"DT" => Some(Instruction::LabelTerminator),
-        b"SI" => Some(Instruction::CharacterSize),
-        b"DI" => Some(Instruction::Direction),
-        _ => None,
-    }
 }

@@ -20,8 +20,8 @@ fn small_letters(rt: HostRuntime) -> Result<(), Fail> {
     assert_eq!(rt;
         items.as_str(),
         "\
-Item { at: 0, body: Params([Number { millionths: 0 }, Number { millionths: 28000000 }]), code: [80, 85], unended: false }
-Item { at: 6, body: Params([Number { millionths: -64500000 }, Number { millionths: 250000 }]), code: [80, 68], unended: false }
+Item { at: 0, body: Params(PenUp, [Number { millionths: 0 }, Number { millionths: 28000000 }]), code: [80, 85], unended: false }
+Item { at: 6, body: Params(PenDown, [Number { millionths: -64500000 }, Number { millionths: 250000 }]), code: [80, 68], unended: false }
 "
     );
     Ok(())
@@ -33,9 +33,9 @@ fn lists_of_each_length(rt: HostRuntime) -> Result<(), Fail> {
     assert_eq!(rt;
         items.as_str(),
         "\
-Item { at: 0, body: Params([]), code: [80, 85], unended: false }
-Item { at: 3, body: Params([Number { millionths: 3000000 }]), code: [83, 80], unended: false }
-Item { at: 7, body: Params([Number { millionths: 4000000 }, Number { millionths: 5000000 }, Number { millionths: 6000000 }]), code: [65, 65], unended: false }
+Item { at: 0, body: Params(PenUp, []), code: [80, 85], unended: false }
+Item { at: 3, body: Params(SelectPen, [Number { millionths: 3000000 }]), code: [83, 80], unended: false }
+Item { at: 7, body: Params(ArcAbsolute, [Number { millionths: 4000000 }, Number { millionths: 5000000 }, Number { millionths: 6000000 }]), code: [65, 65], unended: false }
 "
     );
     Ok(())
@@ -67,7 +67,7 @@ fn terminators(rt: HostRuntime) -> Result<(), Fail> {
         items.as_str(),
         "\
 Item { at: 0, body: Terminator(36), code: [68, 84], unended: false }
-Item { at: 4, body: Params([]), code: [80, 85], unended: false }
+Item { at: 4, body: Params(PenUp, []), code: [80, 85], unended: false }
 Item { at: 7, body: Label([65]), code: [76, 66], unended: false }
 "
     );
@@ -76,7 +76,7 @@ Item { at: 7, body: Label([65]), code: [76, 66], unended: false }
         items.as_str(),
         "\
 Item { at: 0, body: Terminator(36), code: [68, 84], unended: false }
-Item { at: 4, body: Params([]), code: [73, 78], unended: false }
+Item { at: 4, body: Params(Initialize, []), code: [73, 78], unended: false }
 Item { at: 7, body: Label([36]), code: [76, 66], unended: false }
 "
     );
@@ -91,7 +91,7 @@ fn symbols(rt: HostRuntime) -> Result<(), Fail> {
         items.as_str(),
         "\
 Item { at: 0, body: Skipped, code: [83, 77], unended: false }
-Item { at: 4, body: Params([]), code: [80, 85], unended: false }
+Item { at: 4, body: Params(PenUp, []), code: [80, 85], unended: false }
 "
     );
     Ok(())
@@ -118,7 +118,7 @@ fn mnemonics(rt: HostRuntime) -> Result<(), Fail> {
     let program = lex(rt.alloc(), known)?;
     assert_eq!(rt; program.items().len(), 20);
     for item in program.items() {
-        assert!(rt; matches!(&item.body, hpgl_text::Body::Params(_)));
+        assert!(rt; matches!(&item.body, hpgl_text::Body::Params(_, _)));
     }
     Ok(())
 }
@@ -143,7 +143,7 @@ fn encoded_lines(rt: HostRuntime) -> Result<(), Fail> {
     assert_eq!(rt;
         items.as_str(),
         "\
-Item { at: 0, body: Params([Number { millionths: 0 }, Number { millionths: 28000000 }]), code: [80, 85], unended: false }
+Item { at: 0, body: Params(PenUp, [Number { millionths: 0 }, Number { millionths: 28000000 }]), code: [80, 85], unended: false }
 Item { at: 7, body: Coded([Entry { at: 9, what: Pair { up: false, absolute: false, x: Number { millionths: 64000000 }, y: Number { millionths: 0 } } }]), code: [80, 69], unended: false }
 "
     );
@@ -151,7 +151,7 @@ Item { at: 7, body: Coded([Entry { at: 9, what: Pair { up: false, absolute: fals
     assert_eq!(rt;
         items.as_str(),
         "\
-Item { at: 0, body: Params([Number { millionths: 0 }, Number { millionths: 28000000 }]), code: [80, 85], unended: false }
+Item { at: 0, body: Params(PenUp, [Number { millionths: 0 }, Number { millionths: 28000000 }]), code: [80, 85], unended: false }
 Item { at: 7, body: Coded([Entry { at: 10, what: Pair { up: false, absolute: false, x: Number { millionths: 64000000 }, y: Number { millionths: 0 } } }]), code: [80, 69], unended: false }
 "
     );
@@ -159,7 +159,7 @@ Item { at: 7, body: Coded([Entry { at: 10, what: Pair { up: false, absolute: fal
     assert_eq!(rt;
         items.as_str(),
         "\
-Item { at: 0, body: Params([Number { millionths: 0 }, Number { millionths: 28000000 }]), code: [80, 85], unended: false }
+Item { at: 0, body: Params(PenUp, [Number { millionths: 0 }, Number { millionths: 28000000 }]), code: [80, 85], unended: false }
 Item { at: 7, body: Coded([Entry { at: 12, what: Pair { up: false, absolute: false, x: Number { millionths: 64000000 }, y: Number { millionths: 0 } } }]), code: [80, 69], unended: false }
 "
     );
@@ -167,7 +167,7 @@ Item { at: 7, body: Coded([Entry { at: 12, what: Pair { up: false, absolute: fal
     assert_eq!(rt;
         items.as_str(),
         "\
-Item { at: 0, body: Params([Number { millionths: 0 }, Number { millionths: 28000000 }]), code: [80, 85], unended: false }
+Item { at: 0, body: Params(PenUp, [Number { millionths: 0 }, Number { millionths: 28000000 }]), code: [80, 85], unended: false }
 Item { at: 7, body: Coded([Entry { at: 10, what: Pen(2) }, Entry { at: 12, what: Pair { up: false, absolute: false, x: Number { millionths: 64000000 }, y: Number { millionths: 0 } } }]), code: [80, 69], unended: false }
 "
     );
@@ -175,7 +175,7 @@ Item { at: 7, body: Coded([Entry { at: 10, what: Pen(2) }, Entry { at: 12, what:
     assert_eq!(rt;
         items.as_str(),
         "\
-Item { at: 0, body: Params([Number { millionths: 0 }, Number { millionths: 28000000 }]), code: [80, 85], unended: false }
+Item { at: 0, body: Params(PenUp, [Number { millionths: 0 }, Number { millionths: 28000000 }]), code: [80, 85], unended: false }
 Item { at: 7, body: Coded([Entry { at: 12, what: Pair { up: true, absolute: true, x: Number { millionths: 0 }, y: Number { millionths: 12000000 } } }, Entry { at: 14, what: Pair { up: false, absolute: false, x: Number { millionths: 64000000 }, y: Number { millionths: 0 } } }]), code: [80, 69], unended: false }
 "
     );
@@ -188,7 +188,7 @@ fn wrong_polylines(rt: HostRuntime) -> Result<(), Fail> {
     assert_eq!(rt;
         items.as_str(),
         "\
-Item { at: 0, body: Params([Number { millionths: 0 }, Number { millionths: 28000000 }]), code: [80, 85], unended: false }
+Item { at: 0, body: Params(PenUp, [Number { millionths: 0 }, Number { millionths: 28000000 }]), code: [80, 85], unended: false }
 Item { at: 7, body: Coded([Entry { at: 9, what: Bad }]), code: [80, 69], unended: false }
 "
     );
@@ -196,7 +196,7 @@ Item { at: 7, body: Coded([Entry { at: 9, what: Bad }]), code: [80, 69], unended
     assert_eq!(rt;
         items.as_str(),
         "\
-Item { at: 0, body: Params([Number { millionths: 0 }, Number { millionths: 28000000 }]), code: [80, 85], unended: false }
+Item { at: 0, body: Params(PenUp, [Number { millionths: 0 }, Number { millionths: 28000000 }]), code: [80, 85], unended: false }
 Item { at: 7, body: Coded([Entry { at: 9, what: Bad }]), code: [80, 69], unended: false }
 "
     );
@@ -204,7 +204,7 @@ Item { at: 7, body: Coded([Entry { at: 9, what: Bad }]), code: [80, 69], unended
     assert_eq!(rt;
         items.as_str(),
         "\
-Item { at: 0, body: Params([Number { millionths: 0 }, Number { millionths: 28000000 }]), code: [80, 85], unended: false }
+Item { at: 0, body: Params(PenUp, [Number { millionths: 0 }, Number { millionths: 28000000 }]), code: [80, 85], unended: false }
 Item { at: 7, body: Coded([Entry { at: 10, what: Pair { up: false, absolute: false, x: Number { millionths: 64000000 }, y: Number { millionths: 0 } } }, Entry { at: 12, what: Stray(33) }, Entry { at: 14, what: Stray(35) }, Entry { at: 15, what: Bad }]), code: [80, 69], unended: false }
 "
     );

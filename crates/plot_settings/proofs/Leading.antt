@@ -1,7 +1,7 @@
 -- Instructions that make no moves look at their first numbers only.
 use Rattle.std.proofs.Common.{◌≡◌, refl, ap, true, false, List, [], ◌∷◌, take, ℤ}
 use Rattle.hpgl_text.specs.declared.instruction.Instruction.{Instruction}
-use Rattle.hpgl_text.specs.declared.instruction.Instruction.TheVariants.{Initialize, DefaultValues, InputPoints, Scale, Rotate, InputWindow, SelectPen, PenWidth, PenColour, PenUp, PenDown, PlotAbsolute, PlotRelative, PolylineEncoded, EdgeAbsolute, EdgeRelative, Circle, ArcAbsolute, ArcRelative, Label, LabelTerminator, CharacterSize, Direction}
+use Rattle.hpgl_text.specs.declared.instruction.Instruction.TheVariants.{Initialize, DefaultValues, InputPoints, Scale, Rotate, InputWindow, SelectPen, PenWidth, PenColour, PenUp, PenDown, PlotAbsolute, PlotRelative, EdgeAbsolute, EdgeRelative, Circle, ArcAbsolute, ArcRelative, CharacterSize, Direction}
 use Rattle.plot_settings.specs.ArcParameters.{circled, arced}
 use Rattle.plot_settings.specs.Lettering.{character_size, label_direction}
 use Rattle.plot_settings.specs.Slants.{is_slanted}
@@ -46,14 +46,11 @@ same_meaning PenUp h ns = absurd (cc h)
 same_meaning PenDown h ns = absurd (cc h)
 same_meaning PlotAbsolute h ns = absurd (cc h)
 same_meaning PlotRelative h ns = absurd (cc h)
-same_meaning PolylineEncoded h ns = refl
 same_meaning EdgeAbsolute h ns = first_two (edges false) (λ a b ms. refl) ns
 same_meaning EdgeRelative h ns = first_two (edges true) (λ a b ms. refl) ns
 same_meaning Circle h ns = ap circles (first_two circled (λ a b ms. refl) ns)
 same_meaning ArcAbsolute h ns = ap (arcs false) (first_four arced (λ a b c d ms. refl) ns)
 same_meaning ArcRelative h ns = ap (arcs true) (first_four arced (λ a b c d ms. refl) ns)
-same_meaning Label h ns = refl
-same_meaning LabelTerminator h ns = refl
 same_meaning CharacterSize h ns = ap sets (first_two character_size (λ a b ms. refl) ns)
 same_meaning Direction h ns = ap sets (first_two label_direction (λ a b ms. refl) ns)
 

@@ -2,14 +2,12 @@
 use Rattle.std.specs.Prelude.{ℤ, ◌%◌, ◌==◌, Bool, true, false, List, [], ◌∷◌, Option, Some, None, length}
 use Rattle.hpgl_text.specs.Shapes.{ItemShape, BodyShape, Params, Coded, Label}
 use Rattle.hpgl_text.specs.declared.instruction.Instruction.{Instruction}
-use Rattle.hpgl_text.specs.declared.instruction.Instruction.TheVariants as instruction
 use Rattle.hpgl_text.specs.declared.instruction.Instruction.TheVariants.{Initialize, DefaultValues, InputPoints, Scale}
 use Rattle.hpgl_text.specs.declared.instruction.Instruction.TheVariants.{Rotate, InputWindow, SelectPen, PenWidth}
 use Rattle.hpgl_text.specs.declared.instruction.Instruction.TheVariants.{PenColour, PenUp, PenDown, PlotAbsolute}
-use Rattle.hpgl_text.specs.declared.instruction.Instruction.TheVariants.{PlotRelative, PolylineEncoded, EdgeAbsolute}
-use Rattle.hpgl_text.specs.declared.instruction.Instruction.TheVariants.{EdgeRelative, Circle, ArcAbsolute, ArcRelative}
-use Rattle.hpgl_text.specs.declared.instruction.Instruction.TheVariants.{LabelTerminator, CharacterSize, Direction}
-use Rattle.hpgl_text.specs.Instructions.{instruction_of}
+use Rattle.hpgl_text.specs.declared.instruction.Instruction.TheVariants.{PlotRelative, EdgeAbsolute, EdgeRelative}
+use Rattle.hpgl_text.specs.declared.instruction.Instruction.TheVariants.{Circle, ArcAbsolute, ArcRelative}
+use Rattle.hpgl_text.specs.declared.instruction.Instruction.TheVariants.{CharacterSize, Direction}
 use Rattle.plot_settings.specs.ArcParameters.{circled, arced}
 use Rattle.plot_settings.specs.declared.figure.Arc as arc
 use Rattle.plot_settings.specs.declared.figure.Circle as circle
@@ -24,9 +22,6 @@ use Rattle.plot_settings.specs.Lettering.{character_size, label_direction}
 pub record Meaning : Type 0 where
   pub steps : List Step
   pub is_wrong : Bool
-
-abbrev pub nothing : Meaning
-nothing = record { steps = []; is_wrong = false }
 
 abbrev pub wrong : Meaning
 wrong = record { steps = []; is_wrong = true }
@@ -55,7 +50,7 @@ abbrev pub arcs : Bool → Option arc.Arc → Meaning
 arcs relative (Some a) = record { steps = DrawArc relative a ∷ []; is_wrong = false }
 arcs relative None = wrong
 
--- PE, LB and DT are followed by no list of numbers
+-- what each instruction means with its numbers
 abbrev pub meaning : Instruction → List ℤ → Meaning
 meaning Initialize ns = sets (Some Start)
 meaning DefaultValues ns = sets (Some Defaults)
@@ -70,27 +65,20 @@ meaning PenUp ns = plots (Lower false ∷ moves ns) ns
 meaning PenDown ns = plots (lowered_then (moves ns)) ns
 meaning PlotAbsolute ns = plots (Relate false ∷ moves ns) ns
 meaning PlotRelative ns = plots (Relate true ∷ moves ns) ns
-meaning PolylineEncoded ns = nothing
 meaning EdgeAbsolute ns = edges false ns
 meaning EdgeRelative ns = edges true ns
 meaning Circle ns = circles (circled ns)
 meaning ArcAbsolute ns = arcs false (arced ns)
 meaning ArcRelative ns = arcs true (arced ns)
-meaning instruction.Label ns = nothing
-meaning LabelTerminator ns = nothing
 meaning CharacterSize ns = sets (character_size ns)
 meaning Direction ns = sets (label_direction ns)
 
-abbrev pub meaning_if_known : Option Instruction → List ℤ → Meaning
-meaning_if_known (Some instruction) ns = meaning instruction ns
-meaning_if_known None ns = nothing
-
-abbrev pub body_steps : Option Instruction → BodyShape → List Step
-body_steps instruction (Params ns) = (meaning_if_known instruction ns).steps
-body_steps instruction (Coded entries) = entry_steps entries
-body_steps instruction (Label bytes) = Write bytes ∷ []
-body_steps instruction _ = []
+abbrev pub body_steps : BodyShape → List Step
+body_steps (Params instruction ns) = (meaning instruction ns).steps
+body_steps (Coded entries) = entry_steps entries
+body_steps (Label bytes) = Write bytes ∷ []
+body_steps _ = []
 
 -- the steps of an item
 abbrev pub steps_of : ItemShape → List Step
-steps_of item = body_steps (instruction_of item.code) item.body
+steps_of item = body_steps item.body

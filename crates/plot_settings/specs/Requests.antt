@@ -1,10 +1,10 @@
 -- What an instruction asks for by its numbers, as the code has it: its meaning, and that it is in its range.
 use Rattle.std.specs.Prelude.{ℤ, List, [], ◌∷◌, Some, true, false, ⊤}
 use Rattle.plot_settings.specs.Bounds.{IsSetting, IsCorner, IsCircle, IsArc}
-use Rattle.plot_settings.specs.Meanings.{Meaning, nothing, wrong, sets, plots, edges, circles, arcs}
+use Rattle.plot_settings.specs.Meanings.{Meaning, wrong, sets, plots, edges, circles, arcs}
 use Rattle.plot_settings.specs.Steps.{Step, Lower, Relate, moves, lowered_then}
 use Rattle.plot_settings.specs.declared.request.Request.{Request}
-use Rattle.plot_settings.specs.declared.request.Request.TheVariants.{Nothing, Set, Move, Edge, Circle, Arc, Wrong}
+use Rattle.plot_settings.specs.declared.request.Request.TheVariants.{Set, Move, Edge, Circle, Arc, Wrong}
 use Rattle.plot_settings.specs.declared.request.Moves.{Moves}
 use Rattle.plot_settings.specs.declared.request.Moves.TheVariants.{Up, Down, Absolute, Relative}
 
@@ -17,7 +17,6 @@ move_steps Relative ns = Relate true ∷ moves ns
 
 -- what is asked for of an instruction with these numbers
 abbrev pub request_meaning : Request → List ℤ → Meaning
-request_meaning Nothing ns = nothing
 request_meaning (Set setting) ns = sets (Some setting)
 request_meaning (Move kind) ns = plots (move_steps kind ns) ns
 request_meaning (Edge relative corner) ns = edges relative (corner.x ∷ (corner.y ∷ []))

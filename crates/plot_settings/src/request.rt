@@ -32,8 +32,6 @@ pub enum Moves {
 /// What an instruction asks for. Coordinates are in millionths of the current unit.
 #[derive(Clone, Copy, Debug)]
 pub enum Request {
-    /// Nothing: PE, LB and DT have no list of numbers.
-    Nothing,
     /// A setting.
     Set(Setting),
     /// A move to each pair of the numbers.
@@ -102,11 +100,9 @@ fn request_by_first(instruction: Instruction, numbers: &[Number]) -> Request
         Instruction::ArcRelative => arc_by(true, arc_from(numbers)),
         Instruction::CharacterSize => set_by(size_setting(numbers)),
         Instruction::Direction => set_by(direction_setting(numbers)),
-        Instruction::PolylineEncoded | Instruction::Label => Request::Nothing,
-        Instruction::LabelTerminator => Request::Nothing,
         // These have moves.
-        Instruction::PenUp | Instruction::PenDown => Request::Nothing,
-        Instruction::PlotAbsolute | Instruction::PlotRelative => Request::Nothing,
+        Instruction::PenUp | Instruction::PenDown => unreachable!(),
+        Instruction::PlotAbsolute | Instruction::PlotRelative => unreachable!(),
     }
 }
 

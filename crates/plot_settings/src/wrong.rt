@@ -16,8 +16,7 @@ pub fn has_wrong_numbers(instruction: Instruction, numbers: &Numbers<'_>) -> boo
     match request_of(instruction, numbers) {
         Request::Wrong => true,
         Request::Move(_) => numbers.len() % 2 == 1,
-        Request::Nothing | Request::Set(_) => false,
-        Request::Edge(..) | Request::Circle(_) | Request::Arc(..) => false,
+        Request::Set(_) | Request::Edge(..) | Request::Circle(_) | Request::Arc(..) => false,
     }
 }
 

@@ -1,5 +1,5 @@
 // What numbers set and ask for, by their text.
-use hpgl_text::{Body, Items, instruction_of_code};
+use hpgl_text::{Body, Items};
 use label_layout::Offset;
 use plot_frame::Points;
 use plot_settings::{
@@ -12,7 +12,6 @@ use std::test::Fail;
 // What is asked for, as a line.
 fn line(alloc: Global, request: Request) -> Result<String, Fail> {
     match request {
-        Request::Nothing => Ok(format!(in alloc; "nothing\n")?),
         Request::Set(setting) => Ok(format!(in alloc; "{setting:?}\n")?),
         Request::Move(moves) => Ok(format!(in alloc; "moves {moves:?}\n")?),
         Request::Edge(is_relative, corner) => {
@@ -28,12 +27,10 @@ fn line(alloc: Global, request: Request) -> Result<String, Fail> {
 fn settings_of(alloc: Global, text: &[u8]) -> Result<String, Fail> {
     let mut lines = String::new(alloc);
     for item in Items::new(text) {
-        let Body::Params(numbers) = &item.body else {
+        let Body::Params(instruction, numbers) = &item.body else {
             continue;
         };
-        let Some(instruction) = instruction_of_code(item.code) else {
-            continue;
-        };
+        let instruction = *instruction;
         let line = line(alloc, request_of(instruction, numbers))?;
         lines.push_str(line.as_str())?;
         if has_wrong_numbers(instruction, numbers) {
