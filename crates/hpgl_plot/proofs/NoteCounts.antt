@@ -1,14 +1,14 @@
 -- A plot has at most as many notes as bytes.
-use Rattle.std.proofs.Common.{◌≡◌, ℕ, zero, suc, ◌+◌, ◌-◌, ◌<◌, ◌≤◌, Bool, true, false, ◌&&◌, ◌==◌, nat_lt, if◌then◌else◌, List, [], ◌∷◌, ◌++◌, length, take, drop, Option, Some, None, refl, arith, ap, length-append, length-drop}
-use Rattle.std.specs.List.{flat_map, position_or_len}
+use Rattle.std.proofs.Common.{◌≡◌, ℕ, zero, suc, ◌+◌, ◌-◌, ◌<◌, ◌≤◌, Bool, true, false, ◌&&◌, ◌||◌, ◌==◌, nat_lt, if◌then◌else◌, List, [], ◌∷◌, ◌++◌, length, take, drop, Option, Some, None, refl, arith, ap, length-append, length-drop}
+use Rattle.std.specs.List.{flat_map}
 use Rattle.std.specs.Char.{is_ascii_alphabetic}
 use Rattle.std.proofs.lemmas.Bool.Decides.{nat_tests}
 use Rattle.std.proofs.lemmas.List.{length-take}
-use Rattle.hpgl_text.specs.Characters.{end_of_text, semicolon}
+use Rattle.hpgl_text.specs.Bytes.{byte, end_of_text, escape}
 use Rattle.hpgl_text.specs.Cut.{items_from, item_at, next_place, silent_at, terminator_after}
-use Rattle.hpgl_text.specs.Ends.{skip_length}
+use Rattle.hpgl_text.specs.Ends.{place_of, has_byte}
 use Rattle.hpgl_text.specs.EntryShapes.{EntryShape}
-use Rattle.hpgl_text.specs.Items.{Content, content, content_of, is_label_end, label_end_body, label_end, parameters, polyline, symbol, has_byte, code_of, instruction, item_of, item_length, begins_with_mnemonic}
+use Rattle.hpgl_text.specs.Items.{Content, content, content_of, label_end, one_byte_length, parameters, polyline, code_of, first_item, begins_with_mnemonic}
 use Rattle.hpgl_text.specs.Mnemonics.{kind_of}
 use Rattle.hpgl_text.specs.Parameters.{numbers, past_numbers, is_end}
 use Rattle.hpgl_text.specs.Shapes.{ItemShape, BodyShape, Params, Terminator, Stray}
@@ -42,18 +42,10 @@ none_in_either : (b : Bool) (x y : BodyShape) → entries_in x ≡ [] → entrie
 none_in_either true x y h k = h
 none_in_either false x y h k = k
 
-none_by : (b : Bool) (x y : Content) → entries_in x.body ≡ [] → entries_in y.body ≡ [] → entries_in (if b then x else y).body ≡ []
-none_by true x y h k = h
-none_by false x y h k = k
-
-none_in_label_end : (text : List ℕ) → entries_in (label_end text).body ≡ []
+none_in_label_end : (text : List ℕ) → entries_in (label_end text) ≡ []
 none_in_label_end [] = refl
-none_in_label_end (b ∷ text) = none_by (b == semicolon) (content (Terminator end_of_text) false 1) (content (label_end_body b) false (1 + skip_length text)) refl
-    (none_in_either (is_label_end b) (Terminator b) shape.Bad refl refl)
-
-none_in_symbol : (text : List ℕ) → entries_in (symbol text).body ≡ []
-none_in_symbol [] = refl
-none_in_symbol (b ∷ text) = refl
+none_in_label_end (b ∷ text) = none_in_either (b == byte ";") (Terminator end_of_text) _ refl
+    (none_in_either (b == byte "\0" || b == byte "\n" || b == escape) shape.Bad (Terminator b) refl refl)
 
 -- what follows a mnemonic has no more entries than bytes
 record Fits (content : Content) (text : List ℕ) : Type 0 where
@@ -65,17 +57,17 @@ none_fits content text e = let n = ap length e in record { in_content = omega (a
 
 polyline_fits : (at : ℕ) (text : List ℕ) → Fits (polyline at text) text
 polyline_fits at text =
-    let end = position_or_len (λ b. b == semicolon) text in
-    let few = entries_few (has_byte semicolon text) at (take end text) in
+    let end = place_of (byte ";") text in
+    let few = entries_few (has_byte (byte ";") text) at (take end text) in
     record { in_content = omega (arith, few, length-take end text); in_text = omega (arith, few, length-take end text) }
 
 content_fits : (kind : Kind) (terminator at : ℕ) (text : List ℕ) → Fits (content_of kind terminator at text) text
 content_fits (Parameters instruction) terminator at text =
     none_fits (parameters instruction text) text (none_in_either (is_end (past_numbers text)) (Params instruction (numbers text)) shape.Bad refl refl)
 content_fits LabelText terminator at text = none_fits _ text refl
-content_fits LabelEnd terminator at text = none_fits (label_end text) text (none_in_label_end text)
+content_fits LabelEnd terminator at text = none_fits (content (label_end text) false (one_byte_length text)) text (none_in_label_end text)
 content_fits Polyline terminator at text = polyline_fits at text
-content_fits Symbol terminator at text = none_fits (symbol text) text (none_in_symbol text)
+content_fits Symbol terminator at text = none_fits _ text refl
 content_fits Buffer terminator at text = none_fits _ text refl
 content_fits Unknown terminator at text = none_fits _ text refl
 
@@ -94,19 +86,19 @@ record IsFew (item : ItemShape) (bytes : ℕ) (text : List ℕ) : Type 0 where
   in_item : length (notes_of item) ≤ bytes
   in_text : length (notes_of item) ≤ length text
 
-few_by : (mnemonic : Bool) (terminator at : ℕ) (text : List ℕ) → begins_with_mnemonic text ≡ mnemonic → 0 < length text → IsFew (item_of terminator at text) (item_length terminator at text) text
+few_by : (mnemonic : Bool) (terminator at : ℕ) (text : List ℕ) → begins_with_mnemonic text ≡ mnemonic → 0 < length text → IsFew (first_item terminator at text).item (first_item terminator at text).bytes text
 few_by true terminator at text e h =
     let fits = content_fits (kind_of (code_of text)) terminator (at + 2) (drop 2 text) in
     let two = two_bytes text e in
-    let body = (instruction terminator at text).body in
-    let item : ItemShape = record { at = at; code = code_of text; body = body; unended = (instruction terminator at text).unended } in
-    rw (e, item_of, item_length) (record {
+    let content = content_of (kind_of (code_of text)) terminator (at + 2) (drop 2 text) in
+    let item : ItemShape = record { at = at; code = code_of text; body = content.body; unended = content.unended } in
+    rw (e, first_item) (record {
       in_item = omega (arith, few_on item, fits.in_content);
       in_text = omega (arith, few_on item, fits.in_text, two, length-drop 2 text);
     })
-few_by false terminator at text e h = rw (e, item_of, item_length) (record { in_item = omega arith; in_text = omega (arith, h) })
+few_by false terminator at text e h = rw (e, first_item) (record { in_item = omega arith; in_text = omega (arith, h) })
 
-few_at : (terminator at : ℕ) (text : List ℕ) → 0 < length text → IsFew (item_of terminator at text) (item_length terminator at text) text
+few_at : (terminator at : ℕ) (text : List ℕ) → 0 < length text → IsFew (first_item terminator at text).item (first_item terminator at text).bytes text
 few_at terminator at text h = few_by (begins_with_mnemonic text) terminator at text refl h
 
 abbrev FewNext : ℕ → Type 0

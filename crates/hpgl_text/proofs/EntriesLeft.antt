@@ -1,5 +1,5 @@
 -- What is left of the entries of a polyline, a piece at a time.
-use Rattle.std.proofs.Common.{◌≡◌, ℕ, zero, suc, ◌+◌, ◌<◌, ◌≤◌, Bool, true, false, not, nat_lt, List, [], ◌∷◌, ◌++◌, length, drop, Option, Some, None, inl, inr, refl, ap, ap₂, sym, ◌∙◌, arith, append-nil, length-drop}
+use Rattle.std.proofs.Common.{◌≡◌, ℕ, zero, suc, ◌+◌, ◌<◌, ◌≤◌, Bool, true, false, not, nat_lt, List, [], ◌∷◌, ◌++◌, length, drop, Option, option_map, Some, None, inl, inr, refl, ap, ap₂, sym, ◌∙◌, arith, append-nil, length-drop}
 use Rattle.std.proofs.lemmas.Bool.{cases_lt}
 use Rattle.std.proofs.lemmas.Bool.Decides.{nat_tests}
 use Rattle.std.proofs.lemmas.List.Sums.{take_while-cons}
@@ -9,7 +9,7 @@ use Rattle.hpgl_text.specs.declared.mark.Mark.{Mark}
 use Rattle.hpgl_text.specs.declared.mark.Mark.TheVariants.{Blank, Narrow, Up, Absolute, FractionBits, Pen, Pair, Stray, Dropped, Bad, Cut}
 use Rattle.hpgl_text.specs.EntryShapes.{PartShape, EntryShape}
 use Rattle.hpgl_text.specs.Polylines.{Piece, piece_at, is_final, base_after, pieces_from}
-use Rattle.hpgl_text.specs.Entries.{bits_after, is_pair, is_up, is_absolute, since_pair, coding_after, part_of, placed, strays, entries_of, entries_from, entries}
+use Rattle.hpgl_text.specs.Entries.{bits_after, is_pair, is_up, is_absolute, since_pair, coding_after, part_of, entry, strays, entries_of, entries_from, entries}
 use Rattle.hpgl_text.specs.Carried.{next_coding, entries_by, entries_left}
 use Rattle.hpgl_text.proofs.EntryCounts.{piece_takes}
 
@@ -112,25 +112,25 @@ next_left closed coding coding' at text piece h p f c =
     ∙ ap (λ (x : Coding). entries_left closed x (at + piece.bytes) (drop piece.bytes text)) (sym c)))
 
 -- the entry of a piece, if it has one of its own, its strays, and what follows them
-with_rest : (part : Option PartShape) (at : ℕ) (within rest : List EntryShape) → cons_option (placed at part) within ++ rest ≡ cons_option (placed at part) (within ++ rest)
+with_rest : (part : Option PartShape) (at : ℕ) (within rest : List EntryShape) → cons_option (option_map (entry at) part) within ++ rest ≡ cons_option (option_map (entry at) part) (within ++ rest)
 with_rest None at within rest = refl
 with_rest (Some what) at within rest = refl
 
 pub last_read : (closed : Bool) (coding : Coding) (at : ℕ) (text : List ℕ) (piece : Piece) (part : Option PartShape) (within : List EntryShape) (at' : ℕ) → 0 < length text
     → piece ≡ piece_at coding.base closed text → is_final piece.mark ≡ true → part_of coding piece.mark ≡ part → within ≡ strays (at + piece.gap_at) piece.gap
-    → entries_left closed coding at text ≡ cons_option (placed at part) (within ++ entries_left closed coding at' [])
+    → entries_left closed coding at text ≡ cons_option (option_map (entry at) part) (within ++ entries_left closed coding at' [])
 last_read closed coding at text piece part within at' h p f e w =
     last_left closed coding at text piece h p f
-    ∙ ap₂ (λ (x : Option PartShape) (es : List EntryShape). cons_option (placed at x) es) e (sym w ∙ sym (append-nil within))
+    ∙ ap₂ (λ (x : Option PartShape) (es : List EntryShape). cons_option (option_map (entry at) x) es) e (sym w ∙ sym (append-nil within))
 
 pub next_read : (closed : Bool) (coding coding' : Coding) (at at' : ℕ) (text text' : List ℕ) (piece : Piece) (part : Option PartShape) (within : List EntryShape) → 0 < length text
     → piece ≡ piece_at coding.base closed text → is_final piece.mark ≡ false → part_of coding piece.mark ≡ part → within ≡ strays (at + piece.gap_at) piece.gap
     → coding' ≡ next_coding coding piece.mark → at' ≡ at + piece.bytes → text' ≡ drop piece.bytes text
-    → entries_left closed coding at text ≡ cons_option (placed at part) (within ++ entries_left closed coding' at' text')
+    → entries_left closed coding at text ≡ cons_option (option_map (entry at) part) (within ++ entries_left closed coding' at' text')
 next_read closed coding coding' at at' text text' piece part within h p f e w c a t =
     next_left closed coding coding' at text piece h p f c
-    ∙ ap₂ (λ (x : Option PartShape) (es : List EntryShape). cons_option (placed at x) es ++ entries_left closed coding' (at + piece.bytes) (drop piece.bytes text)) e (sym w)
-    ∙ ap₂ (λ (n : ℕ) (t : List ℕ). cons_option (placed at part) within ++ entries_left closed coding' n t) (sym a) (sym t)
+    ∙ ap₂ (λ (x : Option PartShape) (es : List EntryShape). cons_option (option_map (entry at) x) es ++ entries_left closed coding' (at + piece.bytes) (drop piece.bytes text)) e (sym w)
+    ∙ ap₂ (λ (n : ℕ) (t : List ℕ). cons_option (option_map (entry at) part) within ++ entries_left closed coding' n t) (sym a) (sym t)
     ∙ with_rest part at within (entries_left closed coding' at' text')
 
 -- looking back comes to the same

@@ -1,22 +1,20 @@
 -- A polyline has at most as many entries as bytes: a piece has one of its own, and one for each stray in its gap.
-use Rattle.std.proofs.Common.{◌≡◌, ℕ, zero, suc, ◌+◌, ◌-◌, ◌<◌, ◌≤◌, Bool, true, false, ◌==◌, nat_lt, if◌then◌else◌, List, [], ◌∷◌, length, drop, slice_index, Option, Some, None, is_some, refl, arith, ℤ}
+use Rattle.std.proofs.Common.{◌≡◌, ℕ, zero, suc, ◌+◌, ◌-◌, ◌<◌, ◌≤◌, Bool, true, false, ◌==◌, nat_lt, if◌then◌else◌, List, [], ◌∷◌, length, drop, slice_index, Option, option_map, Some, None, refl, arith, nat_abs}
 use Rattle.std.specs.Bool.{⊤}
 use Rattle.std.specs.List.{cons_option}
 use Rattle.std.proofs.Common.{length-drop, length-append}
 use Rattle.std.proofs.lemmas.Bool.Decides.{nat_tests}
 use Rattle.std.proofs.lemmas.List.{length-take}
-use Rattle.hpgl_text.specs.Bytes.{is_blank}
-use Rattle.hpgl_text.specs.Coded.{Digits, Code, with_digit, read_code, code_at, code_or_0, coded_value, coded_length, begins_with_coded, digits_of, is_inner, is_last}
+use Rattle.hpgl_text.specs.Bytes.{is_blank, begins_with}
+use Rattle.hpgl_text.specs.Coded.{Digits, Code, with_digit, read_code, CodedNumber, decoded_number, coded_number, digits_of, is_inner, is_last}
 use Rattle.hpgl_text.specs.EntryShapes.{PartShape, EntryShape}
-use Rattle.hpgl_text.specs.Polylines.{Piece, plain, gap_length, gap_of, past_gap, is_within, most_after, flag_piece, without_number, pair_piece, is_cut, number_piece, piece_at, starts_number, is_final, base_after, pieces_from}
-use Rattle.hpgl_text.specs.Entries.{placed, strays, entries_of, entries_from, part_of, coding_after, EntriesAreFew}
+use Rattle.hpgl_text.specs.Polylines.{Piece, plain, gap_length, gap_of, past_gap, completed, is_within, flag_piece, without_number, pair_piece, is_cut, number_piece, piece_at, starts_number, is_final, base_after, pieces_from}
+use Rattle.hpgl_text.specs.Entries.{entry, strays, entries_of, entries_from, part_of, coding_after}
+use Rattle.hpgl_text.specs.Laws.{EntriesAreFew}
 use Rattle.hpgl_text.specs.declared.base.Base.{Base}
 use Rattle.hpgl_text.specs.declared.coding.Coding.{Coding}
-use Rattle.hpgl_text.specs.declared.mark.Flag.{Flag}
 use Rattle.hpgl_text.specs.declared.mark.Mark.{Mark}
-use Rattle.hpgl_text.specs.declared.mark.Flag.TheVariants as flag
-use Rattle.hpgl_text.specs.declared.mark.Mark.TheVariants.{Blank, Narrow, Up, Absolute, Stray, Bad, Cut}
-use Rattle.hpgl_text.specs.Characters.{colon, digit_seven, equals, greater_than, less_than}
+use Rattle.hpgl_text.specs.declared.mark.Mark.TheVariants.{Blank, Narrow, Up, Absolute, FractionBits, Pen, Pair, Stray, Bad, Cut}
 
 -- a code takes a byte at least
 abbrev Takes : Option Code → Type 0
@@ -36,12 +34,17 @@ takes digits zero bs = tt
 takes digits (suc k) [] = tt
 takes digits (suc k) (b ∷ bs) = takes_if (is_last digits b) _ _ (omega arith) (takes_if (is_inner digits b) _ _ (takes_more digits _ (read_code digits k bs)) tt)
 
-takes_some : (x : Option Code) → Takes x → is_some x ≡ true → 0 < (code_or_0 x).bytes
-takes_some None h e = absurd (cc e)
-takes_some (Some n) h e = h
+abbrev NumberTakes : Option CodedNumber → Type 0
+NumberTakes None = ⊤
+NumberTakes (Some n) = 0 < n.bytes
 
-coded_takes : (base : Base) (text : List ℕ) → begins_with_coded base text ≡ true → 0 < coded_length base text
-coded_takes base text = takes_some (code_at base text) (takes (digits_of base) (digits_of base).most text)
+number_takes : (x : Option Code) → Takes x → NumberTakes (decoded_number x)
+number_takes None h = tt
+number_takes (Some n) h = h
+
+coded_takes : (base : Base) (text : List ℕ) → NumberTakes (coded_number base text)
+coded_takes base text =
+    number_takes (read_code (digits_of base) (digits_of base).most text) (takes (digits_of base) (digits_of base).most text)
 
 -- the gap of a piece leaves a byte of the text and of the piece
 record Fits (text : List ℕ) (piece : Piece) : Type 0 where
@@ -61,37 +64,52 @@ gap_short base text = omega (arith, length-take (gap_length base text) text)
 gap_inside : (base : Base) (text : List ℕ) → length (gap_of base text) ≤ length text
 gap_inside base text = omega (arith, length-take (gap_length base text) text)
 
-flag_fits : (f : Flag) (base : Base) (closed : Bool) (text : List ℕ) → 0 < length text → Fits text (flag_piece f base closed (drop 1 text))
-flag_fits f base closed text h = fits_if text (begins_with_coded base (past_gap base (drop 1 text))) _ _
-    (λ _. fits_if text (is_within (most_after f) (coded_value base (past_gap base (drop 1 text)))) _ _
-    (λ _. record {
-      in_text = omega (arith, gap_inside base (drop 1 text), length-drop 1 text);
-      in_piece = omega (arith, gap_short base (drop 1 text));
-    })
-    (plain_fits text Bad 1 h (omega arith)))
-    (plain_fits text (without_number base closed (past_gap base (drop 1 text))) 1 h (omega arith))
+completed_fits : (mark : Mark) (bytes : ℕ) (base : Base) (text : List ℕ) (n : CodedNumber) → 0 < length text → 0 < bytes
+    → Fits text (completed mark bytes base (drop bytes text) n)
+completed_fits mark bytes base text n h k = record {
+  in_text = omega (arith, gap_inside base (drop bytes text), length-drop bytes text);
+  in_piece = omega (arith, gap_short base (drop bytes text));
+}
 
-pair_fits : (x : ℤ) (bytes : ℕ) (base : Base) (closed : Bool) (text : List ℕ) → 0 < length text → 0 < bytes → Fits text (pair_piece x bytes base closed (drop bytes text))
-pair_fits x bytes base closed text h k = fits_if text (begins_with_coded base (past_gap base (drop bytes text))) _ _
-    (λ _. record {
-      in_text = omega (arith, gap_inside base (drop bytes text), length-drop bytes text);
-      in_piece = omega (arith, gap_short base (drop bytes text));
-    })
-    (plain_fits text (without_number base closed (past_gap base (drop bytes text))) bytes h k)
+flag_by : (mark : ℕ → Mark) (most : ℕ) (base : Base) (closed : Bool) (text : List ℕ) (o : Option CodedNumber) → 0 < length text
+    → Fits text (elim o [
+      | None ↦ plain (without_number base closed (past_gap base (drop 1 text))) 1
+      | Some n ↦ if is_within most n.value then completed (mark (nat_abs n.value)) 1 base (drop 1 text) n else plain Bad 1
+    ])
+flag_by mark most base closed text None h = plain_fits text (without_number base closed (past_gap base (drop 1 text))) 1 h (omega arith)
+flag_by mark most base closed text (Some n) h = fits_if text (is_within most n.value) _ _
+    (λ _. completed_fits (mark (nat_abs n.value)) 1 base text n h (omega arith)) (plain_fits text Bad 1 h (omega arith))
+
+flag_fits : (mark : ℕ → Mark) (most : ℕ) (base : Base) (closed : Bool) (text : List ℕ) → 0 < length text → Fits text (flag_piece mark most base closed (drop 1 text))
+flag_fits mark most base closed text h = flag_by mark most base closed text (coded_number base (past_gap base (drop 1 text))) h
+
+pair_by : (x : CodedNumber) (base : Base) (closed : Bool) (text : List ℕ) (o : Option CodedNumber) → 0 < length text → 0 < x.bytes
+    → Fits text (elim o [
+      | None ↦ plain (without_number base closed (past_gap base (drop x.bytes text))) x.bytes
+      | Some y ↦ completed (Pair x.value y.value) x.bytes base (drop x.bytes text) y
+    ])
+pair_by x base closed text None h k = plain_fits text (without_number base closed (past_gap base (drop x.bytes text))) x.bytes h k
+pair_by x base closed text (Some y) h k = completed_fits (Pair x.value y.value) x.bytes base text y h k
+
+number_by : (base : Base) (closed : Bool) (text : List ℕ) (o : Option CodedNumber) → NumberTakes o → 0 < length text
+    → Fits text (elim o [
+      | None ↦ plain (if is_cut base closed text then Cut else Bad) 1
+      | Some x ↦ pair_piece x base closed (drop x.bytes text)
+    ])
+number_by base closed text None t h = plain_fits text (if is_cut base closed text then Cut else Bad) 1 h (omega arith)
+number_by base closed text (Some x) t h = pair_by x base closed text (coded_number base (past_gap base (drop x.bytes text))) h t
 
 number_fits : (base : Base) (closed : Bool) (text : List ℕ) → 0 < length text → Fits text (number_piece base closed text)
-number_fits base closed text h = fits_if text (begins_with_coded base text) _ _
-    (λ e. pair_fits (coded_value base text) (coded_length base text) base closed text h (coded_takes base text e))
-    (plain_fits text (if is_cut base closed text then Cut else Bad) 1 h (omega arith))
+number_fits base closed text h = number_by base closed text (coded_number base text) (coded_takes base text) h
 
 piece_fits : (base : Base) (closed : Bool) (text : List ℕ) → 0 < length text → Fits text (piece_at base closed text)
 piece_fits base closed text h =
     let first = slice_index text 0 in
-    fits_if text (first == digit_seven) _ _ (λ _. plain_fits text Narrow 1 h (omega arith))
-    (fits_if text (first == colon) _ _ (λ _. flag_fits flag.Pen base closed text h)
-    (fits_if text (first == less_than) _ _ (λ _. plain_fits text Up 1 h (omega arith))
-    (fits_if text (first == equals) _ _ (λ _. plain_fits text Absolute 1 h (omega arith))
-    (fits_if text (first == greater_than) _ _ (λ _. flag_fits flag.FractionBits base closed text h)
+    fits_if text (begins_with "7" text) _ _ (λ _. plain_fits text Narrow 1 h (omega arith))
+    (fits_if text (begins_with ":" text) _ _ (λ _. flag_fits Pen 255 base closed text h)
+    (fits_if text (begins_with "<" text) _ _ (λ _. plain_fits text Up 1 h (omega arith))
+    (fits_if text (begins_with "=" text) _ _ (λ _. plain_fits text Absolute 1 h (omega arith))
+    (fits_if text (begins_with ">" text) _ _ (λ _. flag_fits FractionBits 26 base closed text h)
     (fits_if text (starts_number base first) _ _ (λ _. number_fits base closed text h)
     (plain_fits text (if is_blank first then Blank else Stray first) 1 h (omega arith)))))))
 
@@ -107,7 +125,7 @@ strays_few : (at : ℕ) (gap : List ℕ) → length (strays at gap) ≤ length g
 strays_few at [] = omega arith
 strays_few at (b ∷ bs) = stray_more (is_blank b) _ (strays (at + 1) bs) (length bs) (strays_few (at + 1) bs)
 
-one_more : (at : ℕ) (what : Option PartShape) (es : List EntryShape) → length (cons_option (placed at what) es) ≤ 1 + length es
+one_more : (at : ℕ) (what : Option PartShape) (es : List EntryShape) → length (cons_option (option_map (entry at) what) es) ≤ 1 + length es
 one_more at None es = omega arith
 one_more at (Some p) es = omega arith
 

@@ -1,7 +1,7 @@
-use Rattle.std.proofs.Common.{arith, ◌≡◌, ◌∙◌, ◌+◌, ◌<◌, ◌++◌, ap, sym, refl, List, ℕ, length, Option, None, length-drop}
+use Rattle.std.proofs.Common.{arith, ◌≡◌, ◌∙◌, ◌+◌, ◌<◌, ◌++◌, ap, sym, refl, List, ℕ, length, Option, option_map, None, length-drop}
 use Rattle.std.specs.List.{cons_option}
 use Rattle.hpgl_text.specs.EntryShapes.{PartShape, EntryShape}
-use Rattle.hpgl_text.specs.Entries.{part_of, placed}
+use Rattle.hpgl_text.specs.Entries.{part_of, entry}
 use Rattle.hpgl_text.specs.Polylines.{Piece}
 use Rattle.hpgl_text.specs.Carried.{entries_left}
 use Rattle.hpgl_text.proofs.EntriesLeft.{last_read, next_read}
@@ -10,7 +10,7 @@ use Rattle.hpgl_text.proofs.entries.EntriesIterator.next.Goals.{then-is_final_ma
 
 -- the entry of the piece that was read, if it has one, and what is left
 read : (c : Joined-is_final_mark) (part : Option PartShape) → part_of c.pieces.self-inside.coding c.piece.inside.mark ≡ part
-    → c.args.self.now ≡ cons_option (placed c.pieces.self-inside.at part) (c.if-is_final_mark.self-inside.strays
+    → c.args.self.now ≡ cons_option (option_map (entry c.pieces.self-inside.at) part) (c.if-is_final_mark.self-inside.strays
     ++ entries_left c.if-is_final_mark.self-inside.closed c.if-is_final_mark.self-inside.coding c.if-is_final_mark.self-inside.at c.if-is_final_mark.self-inside.text.now)
 read c part is_part =
     let s = c.pieces.self-inside in

@@ -1,6 +1,6 @@
-use Rattle.std.proofs.Common.{arith, ◌≡◌, ◌∙◌, ◌+◌, ◌<◌, ◌∷◌, List, length, ap, sym}
+use Rattle.std.proofs.Common.{arith, ◌≡◌, ◌∙◌, ◌+◌, ◌<◌, ◌∷◌, ℕ, List, length, ap, sym}
 use Rattle.hpgl_text.specs.Shapes.{ItemShape}
-use Rattle.hpgl_text.specs.Items.{item_of, item_length}
+use Rattle.hpgl_text.specs.Items.{first_item}
 use Rattle.hpgl_text.specs.Left.{left_from}
 use Rattle.hpgl_text.proofs.Lefts.{found_next}
 use Rattle.hpgl_text.proofs.items.ItemsIterator.next.Goals as goal
@@ -16,7 +16,7 @@ first c =
     let here : at < length plot = omega arith in
     sym c.self.view_is ∙ c.past_silence-at.ensures.left s.terminator
     ∙ found_next plot s.terminator c.terminator_left_by-self-inside.result at c.read_item-item.result.1 c.read_item-item.result.0 here (c.past_silence-at.ensures.loud here)
-    (c.read_item-item.ensures.item ∙ ap (item_of s.terminator at) c.after.ensures) (c.read_item-item.ensures.bytes ∙ ap (item_length s.terminator at) c.after.ensures)
+    (c.read_item-item.ensures.item ∙ ap (λ (t : List ℕ). (first_item s.terminator at t).item) c.after.ensures) (c.read_item-item.ensures.bytes ∙ ap (λ (t : List ℕ). (first_item s.terminator at t).bytes) c.after.ensures)
     c.terminator_left_by-self-inside.ensures
 
 pub returns-clause-steps : goal.returns-clause-steps

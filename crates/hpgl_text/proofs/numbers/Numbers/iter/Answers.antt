@@ -1,5 +1,5 @@
 use Rattle.std.proofs.Common.{All, subst, List, ℤ}
-use Rattle.hpgl_text.specs.Numbers.{IsNumber}
+use Rattle.hpgl_text.specs.Bounds.{IsNumber}
 use Rattle.hpgl_text.proofs.ParameterLists.{all_small}
 use Rattle.hpgl_text.proofs.numbers.Numbers.iter.Goals as goal
 
