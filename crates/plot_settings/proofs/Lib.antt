@@ -1,6 +1,5 @@
 pub mod SettingRanges
 pub mod Leading
 pub mod Moved
-pub mod Widths
-pub mod Colours
+pub mod PenTables
 mod Examples
