@@ -6,11 +6,11 @@ use Rattle.std.proofs.lemmas.Bool.Decides.{nat_tests}
 use Rattle.std.proofs.lemmas.List.{length-take}
 use Rattle.hpgl_text.specs.Bytes.{byte, end_of_text, escape}
 use Rattle.hpgl_text.specs.Cut.{items_from, item_at, next_place, silent_at, terminator_after}
-use Rattle.hpgl_text.specs.Ends.{place_of, has_byte}
+use Rattle.hpgl_text.specs.Bytes.{place_of, has_byte}
 use Rattle.hpgl_text.specs.EntryShapes.{EntryShape}
 use Rattle.hpgl_text.specs.Items.{Content, content, content_of, label_end, one_byte_length, parameters, polyline, code_of, first_item, begins_with_mnemonic}
 use Rattle.hpgl_text.specs.Mnemonics.{kind_of}
-use Rattle.hpgl_text.specs.Parameters.{numbers, past_numbers, is_end}
+use Rattle.hpgl_text.specs.Numbers.{numbers, past_numbers, is_end}
 use Rattle.hpgl_text.specs.Shapes.{ItemShape, BodyShape, Params, Terminator, Stray}
 use Rattle.hpgl_text.specs.Shapes as shape
 use Rattle.hpgl_text.specs.declared.mnemonic.Kind.{Kind}

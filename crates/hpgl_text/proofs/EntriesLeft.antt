@@ -9,7 +9,7 @@ use Rattle.hpgl_text.specs.declared.mark.Mark.{Mark}
 use Rattle.hpgl_text.specs.declared.mark.Mark.TheVariants.{Blank, Narrow, Up, Absolute, FractionBits, Pen, Pair, Stray, Dropped, Bad, Cut}
 use Rattle.hpgl_text.specs.EntryShapes.{PartShape, EntryShape}
 use Rattle.hpgl_text.specs.Polylines.{Piece, piece_at, is_final, base_after, pieces_from}
-use Rattle.hpgl_text.specs.Entries.{bits_after, is_pair, is_up, is_absolute, since_pair, coding_after, part_of, entry, strays, entries_of, entries_from, entries}
+use Rattle.hpgl_text.specs.Polylines.{bits_after, is_pair, is_up, is_absolute, since_pair, coding_after, part_of, entry, strays, entries_of, entries_from, entries}
 use Rattle.hpgl_text.specs.Carried.{next_coding, entries_by, entries_left}
 use Rattle.hpgl_text.proofs.EntryCounts.{piece_takes}
 

@@ -6,10 +6,10 @@ use Rattle.std.proofs.Common.{length-drop, length-append}
 use Rattle.std.proofs.lemmas.Bool.Decides.{nat_tests}
 use Rattle.std.proofs.lemmas.List.{length-take}
 use Rattle.hpgl_text.specs.Bytes.{is_blank, begins_with}
-use Rattle.hpgl_text.specs.Coded.{Digits, Code, with_digit, read_code, CodedNumber, decoded_number, coded_number, digits_of, is_inner, is_last}
+use Rattle.hpgl_text.specs.Coded.{Digits, Code, with_digit, read_code, CodedNumber, decoded, coded_number, digits_of, is_inner, is_last}
 use Rattle.hpgl_text.specs.EntryShapes.{PartShape, EntryShape}
 use Rattle.hpgl_text.specs.Polylines.{Piece, plain, gap_length, gap_of, past_gap, completed, is_within, flag_piece, without_number, pair_piece, is_cut, number_piece, piece_at, starts_number, is_final, base_after, pieces_from}
-use Rattle.hpgl_text.specs.Entries.{entry, strays, entries_of, entries_from, part_of, coding_after}
+use Rattle.hpgl_text.specs.Polylines.{entry, strays, entries_of, entries_from, part_of, coding_after}
 use Rattle.hpgl_text.specs.Laws.{EntriesAreFew}
 use Rattle.hpgl_text.specs.declared.base.Base.{Base}
 use Rattle.hpgl_text.specs.declared.coding.Coding.{Coding}
@@ -38,7 +38,7 @@ abbrev NumberTakes : Option CodedNumber → Type 0
 NumberTakes None = ⊤
 NumberTakes (Some n) = 0 < n.bytes
 
-number_takes : (x : Option Code) → Takes x → NumberTakes (decoded_number x)
+number_takes : (x : Option Code) → Takes x → NumberTakes (option_map decoded x)
 number_takes None h = tt
 number_takes (Some n) h = h
 

@@ -2,7 +2,7 @@
 use Rattle.std.specs.Prelude.{◌≡◌, ◌↔◌, ℕ, ◌+◌, ◌<◌, ◌≤◌, Bool, List, [], ◌∷◌, ◌++◌, length}
 use Rattle.hpgl_text.specs.Shapes.{ItemShape}
 use Rattle.hpgl_text.specs.Cut.{item_at, next_place, silent_at, cut}
-use Rattle.hpgl_text.specs.Entries.{entries}
+use Rattle.hpgl_text.specs.Polylines.{entries}
 
 -- The cut of a plot from a place on, after these items: nothing at the end, what follows what is silent, or an item and
 -- what follows it.

@@ -1,7 +1,7 @@
 //! The strays within a piece of a PE.
 ghost use Rattle.std.specs.Prelude.{◌≡◌, ◌+◌, ◌<◌, ◌^◌, length};
 ghost use Rattle.std.specs.Iterator.{YieldsFirst, item_count};
-ghost use Rattle.hpgl_text.specs.Entries.{strays};
+ghost use Rattle.hpgl_text.specs.Polylines.{strays};
 
 use crate::bytes::is_blank_byte;
 use crate::entry::{Entry, Part};
@@ -18,7 +18,7 @@ pub struct Strays<'a> {
 impl<'a> Model for Strays<'a> {
     ghost use Rattle.std.specs.Prelude.{◌+◌, ◌<◌, ◌^◌, List, length};
     ghost use Rattle.hpgl_text.specs.EntryShapes.{EntryShape};
-    ghost use Rattle.hpgl_text.specs.Entries.{strays};
+    ghost use Rattle.hpgl_text.specs.Polylines.{strays};
 
     ghost Value = { List EntryShape };
 

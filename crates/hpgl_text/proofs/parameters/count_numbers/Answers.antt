@@ -1,5 +1,5 @@
 use Rattle.std.proofs.Common.{arith, ◌≡◌, ◌+◌, ◌∙◌, [], sym, ap, ℕ, List, drop, length, length-drop}
-use Rattle.hpgl_text.specs.Parameters.{with_number}
+use Rattle.hpgl_text.specs.Numbers.{with_number}
 use Rattle.hpgl_text.proofs.ParameterLists.{found, listed, left, one_more_at, none_more_at, numbers_few}
 use Rattle.hpgl_text.proofs.parameters.count_numbers.Goals as goal
 use Rattle.hpgl_text.proofs.parameters.count_numbers.Goals.{In-Some, In_default}

@@ -1,5 +1,5 @@
 use Rattle.std.proofs.Common.{◌≡◌, ◌+◌, ◌-◌, ◌≤◌, length, drop}
-use Rattle.hpgl_text.specs.Parameters.{numbers, past_numbers}
+use Rattle.hpgl_text.specs.Numbers.{numbers, past_numbers}
 use Rattle.hpgl_text.proofs.parameters.count_numbers.Given as goal
 
 -- those that were counted, and those that are left, are all

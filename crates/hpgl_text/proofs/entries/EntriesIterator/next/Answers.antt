@@ -1,7 +1,7 @@
 use Rattle.std.proofs.Common.{arith, ◌≡◌, ◌∙◌, ◌+◌, ◌<◌, ◌++◌, ap, sym, refl, List, ℕ, length, Option, option_map, None, length-drop}
 use Rattle.std.specs.List.{cons_option}
 use Rattle.hpgl_text.specs.EntryShapes.{PartShape, EntryShape}
-use Rattle.hpgl_text.specs.Entries.{part_of, entry}
+use Rattle.hpgl_text.specs.Polylines.{part_of, entry}
 use Rattle.hpgl_text.specs.Polylines.{Piece}
 use Rattle.hpgl_text.specs.Carried.{entries_left}
 use Rattle.hpgl_text.proofs.EntriesLeft.{last_read, next_read}

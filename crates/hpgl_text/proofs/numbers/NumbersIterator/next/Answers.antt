@@ -1,5 +1,5 @@
 use Rattle.std.proofs.Common.{arith, ◌≡◌, ◌∙◌, sym, ap, ℕ, length, List, ℤ, ◌∷◌, drop}
-use Rattle.hpgl_text.specs.Parameters.{numbers}
+use Rattle.hpgl_text.specs.Numbers.{numbers}
 use Rattle.hpgl_text.proofs.ParameterLists.{listed, none_read, one_read}
 use Rattle.hpgl_text.proofs.numbers.NumbersIterator.next.Goals as goal
 use Rattle.hpgl_text.proofs.numbers.NumbersIterator.next.Goals.{In_ok-number}

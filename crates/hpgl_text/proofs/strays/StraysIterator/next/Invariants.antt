@@ -1,5 +1,5 @@
 use Rattle.std.proofs.Common.{◌≡◌, ◌+◌, ◌<◌, ◌^◌, length}
-use Rattle.hpgl_text.specs.Entries.{strays}
+use Rattle.hpgl_text.specs.Polylines.{strays}
 use Rattle.hpgl_text.proofs.strays.StraysIterator.next.Given as goal
 
 -- what is left of the gap has all the strays that are to come
