@@ -1,6 +1,6 @@
 //! What an instruction asks for by its numbers: the one table that says it.
 ghost use Rattle.std.specs.Prelude.{◌≡◌, List, ℤ, All, IfSome, MatchOption, true, false};
-ghost use Rattle.hpgl_text.specs.Numbers.{IsNumber};
+ghost use Rattle.hpgl_text.specs.Bounds.{IsNumber};
 ghost use Rattle.plot_settings.specs.Requests.{request_meaning, move_steps, IsRequest};
 ghost use Rattle.plot_settings.specs.Bounds.{IsSetting, IsCircle, IsArc};
 ghost use Rattle.plot_settings.specs.Meanings.{meaning, sets, plots, edges, circles, arcs};
