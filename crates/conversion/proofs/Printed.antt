@@ -1,6 +1,6 @@
 -- The bytes of a row of marks are its printed marks.
 use Rattle.std.proofs.Common.{◌≡◌, ℕ, ◌+◌, List, ◌++◌, ◌∷◌, [], true, false, cond, nat_eq, flat_map, decimal, ap, refl}
-use Rattle.stroke_raster.specs.Shown.{row_marks}
+use Rattle.stroke_raster.specs.Marks.{row_marks}
 use Rattle.picture_out.specs.declared.inks.Ink.{Ink}
 use Rattle.picture_out.specs.Inks.{ink_at}
 use Rattle.picture_out.specs.Marks.{line, marks_from}

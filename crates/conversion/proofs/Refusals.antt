@@ -4,9 +4,9 @@ use Rattle.std.specs.Result.{IsErrAnd}
 use Rattle.std.specs.Prelude.{option_map}
 use Rattle.std.proofs.lemmas.Bool.Decides.{nat_tests}
 use Rattle.plot_page.specs.Resolutions.{rows_of}
-use Rattle.stroke_raster.specs.Painting.{is_band_height}
+use Rattle.stroke_raster.specs.BandHeights.{is_band_height}
 use Rattle.picture_job.specs.declared.job.Job.{Job}
-use Rattle.conversion.specs.Conversions.{fault_of}
+use Rattle.conversion.specs.Pictures.{fault_of}
 use Rattle.conversion.specs.Faults.{of_plot}
 use Rattle.conversion.specs.Plots.{refusal}
 use Rattle.conversion.specs.declared.fault.Fault.{Fault}

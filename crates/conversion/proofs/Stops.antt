@@ -1,5 +1,6 @@
 -- Where the writing of a band stopped, the writing of the picture stopped.
-use Rattle.std.proofs.Common.{◌≡◌, ℕ, ◌+◌, ◌-◌, ◌<◌, ◌≤◌, List, [], length, take, drop, map, get_or, refl, sym, ap, ◌∙◌, subst, arith, length-append}
+use Rattle.std.proofs.Common.{◌≡◌, ℕ, ◌+◌, ◌-◌, ◌<◌, ◌≤◌, List, [], length, take, drop, map, get_or, refl, sym, ap, ◌∙◌}
+use Rattle.std.proofs.Common.{subst, arith, length-append}
 use Rattle.std.proofs.lemmas.List.{take-append-drop}
 use Rattle.std.proofs.lemmas.List.FromFn.{take-map-range_with_len, get_or-map-range_with_len, length-map-range_with_len}
 use Rattle.std.specs.List.{range_with_len}
@@ -11,8 +12,8 @@ use Rattle.picture_out.specs.declared.form.Form.{Form}
 use Rattle.picture_out.specs.declared.inks.Ink.{Ink}
 use Rattle.picture_out.specs.Forms.{row_bytes}
 use Rattle.conversion.specs.declared.writing.Stop.{Stop}
-use Rattle.conversion.specs.Picture.{rows_bytes, bytes_before, IsStoppedAt}
-use Rattle.conversion.specs.Writings.{Reach}
+use Rattle.conversion.specs.Pictures.{rows_bytes, Reach}
+use Rattle.conversion.specs.Stops.{bytes_before, IsStoppedAt}
 use Rattle.conversion.specs.Progress.{rows_text, StopsIn}
 use Rattle.conversion.proofs.RowTexts.{text_is, text_more, text-append}
 use Rattle.conversion.proofs.Pictures.{before_rows, stopped_at}

@@ -5,11 +5,17 @@ use Rattle.hpgl_plot.specs.declared.lines.Lines.{Lines}
 use Rattle.plot_page.specs.declared.page.Page.{Page}
 use Rattle.plot_page.specs.declared.stroke.TheConstants.{MOST_STROKES}
 use Rattle.conversion.specs.Faults.{of_plot}
-use Rattle.conversion.specs.Plots.{strokes, refusal, notes_count}
+use Rattle.conversion.specs.Plots.{strokes, refusal}
 use Rattle.conversion.specs.Readings.{WasRead, WasTooLong}
 use Rattle.devices.specs.Sources.{SourceState}
 use Rattle.conversion.specs.declared.fault.Fault.{Fault}
 use Rattle.conversion.specs.declared.fault.Fault.TheVariants.{TooLong, Memory, Read}
+use Rattle.hpgl_plot.specs.Notes as noting
+use Rattle.hpgl_text.specs.Cut.{cut}
+
+-- how many notes there are on it
+abbrev pub notes_count : List ℕ → ℕ
+notes_count plot = length (noting.notes (cut plot))
 
 -- the plot was read whole and is accepted for the page; these are its strokes, and how many notes there are on it
 pub record IsDrawn (page : Page) (input : List ℕ) (before after : SourceState) (lines : Lines) : Type 0 where

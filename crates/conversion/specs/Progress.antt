@@ -1,11 +1,13 @@
 -- How far the writing of rows and of a picture came, as contracts of private functions say it.
-use Rattle.std.specs.Prelude.{◌≡◌, ℕ, ◌+◌, ◌-◌, ◌<◌, ◌≤◌, List, [], ◌∷◌, ◌++◌, length, take, get_or, nat_eq, if◌then◌else◌, Result, Ok, Err}
+use Rattle.std.specs.Prelude.{◌≡◌, ℕ, ◌+◌, ◌-◌, ◌<◌, ◌≤◌, List, [], ◌∷◌, ◌++◌, length, take, get_or, nat_eq}
+use Rattle.std.specs.Prelude.{if◌then◌else◌, Result, Ok, Err}
 use Rattle.std.specs.Io.KnownBytes.{Appends}
 use Rattle.picture_out.specs.declared.form.Form.{Form}
 use Rattle.picture_out.specs.declared.inks.Ink.{Ink}
 use Rattle.picture_out.specs.Forms.{row_bytes}
 use Rattle.devices.specs.Sinks.{SinkState}
-use Rattle.conversion.specs.Picture.{picture_of, IsStoppedAt}
+use Rattle.conversion.specs.Pictures.{picture_of}
+use Rattle.conversion.specs.Stops.{IsStoppedAt}
 use Rattle.conversion.specs.declared.writing.Stop.{Stop}
 
 -- the bytes of a list of rows, the first of which has this number

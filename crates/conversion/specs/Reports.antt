@@ -6,8 +6,8 @@ use Rattle.hpgl_plot.specs.Notes.{notes}
 use Rattle.plot_page.specs.declared.page.Page.{Page}
 use Rattle.plot_report.specs.Report.{report_of}
 use Rattle.devices.specs.Sinks.{SinkState}
-use Rattle.conversion.specs.Drawings.{IsNotDrawn}
-use Rattle.conversion.specs.Plots.{strokes, refusal, notes_count}
+use Rattle.conversion.specs.Drawings.{IsNotDrawn, notes_count}
+use Rattle.conversion.specs.Plots.{strokes, refusal}
 use Rattle.conversion.specs.Readings.{WasRead, WasTooLong}
 use Rattle.devices.specs.Sources.{SourceState}
 use Rattle.conversion.specs.declared.done.Done.{Done}

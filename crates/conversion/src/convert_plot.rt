@@ -1,7 +1,8 @@
 //! The conversion: read, cut, draw, paint, write.
 ghost use Rattle.std.specs.Prelude.{◌≡◌, ℕ, ◌+◌, ◌-◌, ◌^◌, ◌<◌, ◌↔◌, Err, IfErr, false};
 ghost use Rattle.std.specs.Io.KnownBytes.{IsAtEnd};
-ghost use Rattle.conversion.specs.Conversions.{HasConverted, has_resolution, is_write};
+ghost use Rattle.conversion.specs.Conversions.{HasConverted, is_write};
+ghost use Rattle.conversion.specs.Pictures.{has_resolution};
 
 use crate::done::Done;
 use crate::drawing::draw_source;

@@ -4,7 +4,8 @@ ghost use Rattle.plot_page.specs.declared.dots.TheConstants.{MOST_PIXELS_A_SIDE}
 ghost use Rattle.stroke_raster.specs.Bands.{first_of, rows_of_band};
 ghost use Rattle.picture_out.specs.declared.form.Form.TheVariants.{Pbm};
 ghost use Rattle.picture_out.specs.declared.inks.Ink.{Ink};
-ghost use Rattle.picture_out.specs.Forms.{row_bytes, room_of};
+ghost use Rattle.picture_out.specs.Forms.{row_bytes};
+ghost use Rattle.picture_out.specs.Rooms.{room_of};
 ghost use Rattle.conversion.specs.Progress.{rows_text};
 ghost use Rattle.conversion.specs.declared.gathering.TheConstants.{MOST_BYTES_A_ROW};
 

@@ -14,7 +14,7 @@ pub struct StrokeInks<'a> {
 }
 
 impl<'a> StrokeInks<'a> {
-    ghost use Rattle.conversion.specs.Writings.{inks_of};
+    ghost use Rattle.conversion.specs.Pictures.{inks_of};
     ghost use Rattle.conversion.specs.Inks.{inks_held};
 
     /// The inks of these strokes, in their order.

@@ -1,5 +1,6 @@
 -- Lists of pens as text: `all`, or ranges separated by single commas. A range is n-m, or n alone.
-use Rattle.std.specs.Prelude.{ℕ, ◌+◌, ◌-◌, ◌*◌, ◌^◌, Bool, false, ◌&&◌, ◌||◌, ◌==◌, nat_le, if◌then◌else◌, List, [], ◌∷◌, length, codes}
+use Rattle.std.specs.Prelude.{ℕ, ◌+◌, ◌-◌, ◌*◌, ◌^◌, Bool, false, ◌&&◌, ◌||◌, ◌==◌, nat_le, if◌then◌else◌, List, []}
+use Rattle.std.specs.Prelude.{◌∷◌, length, codes}
 use Rattle.std.specs.Char.{is_ascii_digit}
 use Rattle.std.specs.List.{list_all, list_any, slice_split}
 use Rattle.std.specs.Str.{bytes_eq}
@@ -24,7 +25,8 @@ number (digit ∷ digits) = (digit - digit_zero) * 10 ^ length digits + number d
 
 -- a pen is written with one to three digits, and is 1 to 255
 abbrev pub is_pen : List ℕ → Bool
-is_pen text = list_all is_ascii_digit text && (is_between 1 (length text) MOST_DIGITS && is_between 1 (number text) GREATEST_PEN)
+is_pen text =
+    list_all is_ascii_digit text && (is_between 1 (length text) MOST_DIGITS && is_between 1 (number text) GREATEST_PEN)
 
 -- what hyphens separate in a range: n and m, or n alone
 abbrev pub bounds : List ℕ → List (List ℕ)

@@ -17,7 +17,8 @@ impl PenRange {
     // The range that a text is: `n-m` with n not above m, or `n`, the range of one pen.
     pub(crate) fn read(text: &[u8]) -> Option<PenRange>
         ensures found { is_some result ≡ is_range text.now }
-        ensures pens { IfSome result (λ range. (pen : ℕ) → range_has text.now pen ≡ is_between range.first pen range.last) }
+        ensures pens { IfSome result (λ range. (pen : ℕ) → range_has text.now pen
+            ≡ is_between range.first pen range.last) }
     {
         let Some(at) = first_hyphen(text) else {
             let pen = read_pen(text)?;
@@ -36,7 +37,8 @@ impl PenRange {
 
     // A set of pens and those of the range.
     pub(crate) fn added_to(self, pens: PenSet) -> PenSet
-        ensures { (pen : ℕ) → pen < 256 → has_pen result pen ≡ (has_pen pens pen || is_between self.first pen self.last) }
+        ensures { (pen : ℕ) → pen < 256 → has_pen result pen
+            ≡ (has_pen pens pen || is_between self.first pen self.last) }
     {
         let mut all = pens;
         for pen in self.first..=self.last {

@@ -6,7 +6,8 @@ use Rattle.picture_out.specs.declared.inks.Ink.{Ink}
 use Rattle.picture_out.specs.Bits.{byte_of, packed}
 use Rattle.picture_out.specs.Inks.{paper, ink_at, cell_colour}
 use Rattle.picture_out.specs.Marks.{two_digits, colour_digits, marks, marks_from}
-use Rattle.picture_out.specs.Forms.{head_bytes, row_bytes, foot_bytes, room_of}
+use Rattle.picture_out.specs.Forms.{head_bytes, row_bytes, foot_bytes}
+use Rattle.picture_out.specs.Rooms.{room_of}
 
 -- black with pen 1, a dark blue with pen 2, a red with pen 255
 abbrev black : Ink

@@ -2,7 +2,8 @@
 use Rattle.std.proofs.Common.{◌≡◌, ◌∷◌, ◌++◌, [], List, ℕ, refl, codes, true, false}
 use Rattle.std.specs.Fmt.{digits}
 use Rattle.picture_out.specs.declared.form.Form.TheVariants.{Marks, Ppm, Pcl}
-use Rattle.picture_out.specs.Forms.{head_bytes, row_bytes, foot_bytes, room_of, takes_resolution}
+use Rattle.picture_out.specs.Forms.{head_bytes, row_bytes, foot_bytes, takes_resolution}
+use Rattle.picture_out.specs.Rooms.{room_of}
 use Rattle.picture_out.specs.Pcl.{escape, set_resolution, set_width, set_height, transfer_command}
 
 -- a picture of five by five pixels at 75 dots per inch: only its row 2 has ink

@@ -1,11 +1,11 @@
 -- The bytes of a picture's parts.
-use Rattle.std.specs.Prelude.{ℕ, ◌*◌, ◌^◌, ◌<◌, ◌≤◌, Bool, true, List, [], ◌++◌, All, length, codes, decimal}
+use Rattle.std.specs.Prelude.{ℕ, Bool, true, List, [], ◌++◌, codes, decimal}
 use Rattle.picture_out.specs.declared.form.Form.{Form}
 use Rattle.picture_out.specs.declared.form.Form.TheVariants.{Marks, Pbm, Ppm, Pcl}
 use Rattle.picture_out.specs.declared.inks.Ink.{Ink}
 use Rattle.picture_out.specs.Marks.{marks}
-use Rattle.picture_out.specs.Bits.{bytes_for, packed}
-use Rattle.picture_out.specs.Colours.{coloured}
+use Rattle.picture_out.specs.Bits.{packed}
+use Rattle.picture_out.specs.Inks.{coloured}
 use Rattle.picture_out.specs.Pcl.{commands_before, commands_after, transferred, is_resolution}
 
 -- the size line of Netpbm's forms: the columns, then the rows
@@ -37,15 +37,3 @@ foot_bytes Pcl = commands_after
 abbrev pub takes_resolution : Form → ℕ → Bool
 takes_resolution Pcl dots = is_resolution dots
 takes_resolution _ dots = true
-
--- the least length of a buffer for rows of a number of columns
-abbrev pub room_of : Form → ℕ → ℕ
-room_of Marks columns = 0
-room_of Pbm columns = bytes_for columns
-room_of Ppm columns = 3 * columns
-room_of Pcl columns = bytes_for columns
-
--- a buffer of this length takes any row of at most this number of columns, whatever its inks
-abbrev pub TakesAnyRow : Form → ℕ → ℕ → Type 0
-TakesAnyRow form columns space = (index : ℕ) (inks : List Ink) (cells : List ℕ) → index < 2 ^ 32 → All (λ ink. ink.pen < 256) inks → length cells ≤ columns →
-    length (row_bytes form index inks cells) ≤ space

@@ -1,5 +1,5 @@
--- Inks: the pen and the colour of each position.
-use Rattle.std.specs.Prelude.{ℕ, ◌-◌, ◌≤◌, List, [], ◌∷◌, All, length, get_or, nat_eq, if◌then◌else◌}
+-- Inks: the pen and the colour of each position, and cells as colours, as in a row of Netpbm's P6 (ppm).
+use Rattle.std.specs.Prelude.{ℕ, ◌-◌, List, [], ◌∷◌, get_or, nat_eq, if◌then◌else◌, flat_map}
 use Rattle.picture_out.specs.declared.inks.Ink.{Ink}
 
 -- pen 0, white
@@ -10,10 +10,6 @@ paper = record { pen = 0; red = 255; green = 255; blue = 255 }
 abbrev pub ink_at : List Ink → ℕ → Ink
 ink_at inks n = get_or inks (n - 1) paper
 
--- each of these cells is 0 or the position of an ink
-abbrev pub AreInked : List Ink → List ℕ → Type 0
-AreInked inks cells = All (λ cell. cell ≤ length inks) cells
-
 -- red, green and blue
 abbrev pub colour_of : Ink → List ℕ
 colour_of ink = ink.red ∷ ink.green ∷ ink.blue ∷ []
@@ -21,3 +17,7 @@ colour_of ink = ink.red ∷ ink.green ∷ ink.blue ∷ []
 -- the colour of a cell: the paper's for 0, otherwise that of the ink at its position
 abbrev pub cell_colour : List Ink → ℕ → List ℕ
 cell_colour inks cell = if nat_eq cell 0 then colour_of paper else colour_of (ink_at inks cell)
+
+-- three bytes for each cell, from the left
+abbrev pub coloured : List Ink → List ℕ → List ℕ
+coloured inks cells = flat_map (cell_colour inks) cells

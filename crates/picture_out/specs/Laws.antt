@@ -1,5 +1,6 @@
 -- What the bytes of a row say of its cells, one column at a time.
-use Rattle.std.specs.Prelude.{◌≡◌, ℕ, ◌-◌, ◌*◌, ◌/◌, ◌%◌, ◌^◌, ◌<◌, Bool, true, false, not, nat_eq, List, [], ◌∷◌, ◌++◌, length, get_or, take, drop, filter, flat_map, decimal}
+use Rattle.std.specs.Prelude.{◌≡◌, ℕ, ◌-◌, ◌*◌, ◌/◌, ◌%◌, ◌^◌, ◌<◌, Bool, true, false, not, nat_eq, List, [], ◌∷◌, ◌++◌}
+use Rattle.std.specs.Prelude.{length, get_or, take, drop, filter, flat_map, decimal}
 use Rattle.std.specs.List.{range_with_len}
 use Rattle.picture_out.specs.declared.form.Form.TheVariants.{Marks, Pbm, Ppm, Pcl}
 use Rattle.picture_out.specs.declared.inks.Ink.{Ink}
@@ -23,7 +24,9 @@ inked_columns cells = filter (is_inked cells) (range_with_len 0 (length cells))
 
 -- Marks prints a line for each column with ink, from left to right, and nothing else
 abbrev pub MarksPrintsMarks : Type 0
-MarksPrintsMarks = (row : ℕ) (inks : List Ink) (cells : List ℕ) → row_bytes Marks row inks cells ≡ flat_map (λ column. line (decimal row) column (ink_of inks cells column)) (inked_columns cells)
+MarksPrintsMarks =
+    (row : ℕ) (inks : List Ink) (cells : List ℕ) → row_bytes Marks row inks cells
+    ≡ flat_map (λ column. line (decimal row) column (ink_of inks cells column)) (inked_columns cells)
 
 -- the bit of a column, where the highest bit of a byte comes first
 abbrev pub bit_at : List ℕ → ℕ → ℕ
@@ -38,7 +41,8 @@ pub record BitsShow (cells bytes : List ℕ) : Type 0 where
 abbrev pub PbmShowsInk : Type 0
 PbmShowsInk = (row : ℕ) (inks : List Ink) (cells : List ℕ) → BitsShow cells (row_bytes Pbm row inks cells)
 
--- a PCL row: the command that transfers bytes, with their number, and then the bytes of the PBM row, whose bits show the ink
+-- a PCL row: the command that transfers bytes, with their number, and then the bytes of the PBM row, whose bits show
+-- the ink
 pub record PclShows (row : ℕ) (inks : List Ink) (cells : List ℕ) : Type 0 where
   pub parts : row_bytes Pcl row inks cells ≡ transfer_command (bytes_for (length cells)) ++ row_bytes Pbm row inks cells
   pub bits : BitsShow cells (row_bytes Pbm row inks cells)
@@ -54,7 +58,8 @@ bytes_at bytes column = take 3 (drop (3 * column) bytes)
 pub record ColoursShow (inks : List Ink) (cells bytes : List ℕ) : Type 0 where
   pub size : length bytes ≡ 3 * length cells
   pub inked : (column : ℕ) → is_inked cells column ≡ true → bytes_at bytes column ≡ colour_of (ink_of inks cells column)
-  pub white : (column : ℕ) → column < length cells → is_inked cells column ≡ false → bytes_at bytes column ≡ 255 ∷ 255 ∷ 255 ∷ []
+  pub white : (column : ℕ) → column < length cells → is_inked cells column ≡ false → bytes_at bytes column
+      ≡ 255 ∷ 255 ∷ 255 ∷ []
 
 abbrev pub PpmShowsColours : Type 0
 PpmShowsColours = (row : ℕ) (inks : List Ink) (cells : List ℕ) → ColoursShow inks cells (row_bytes Ppm row inks cells)

@@ -1,10 +1,12 @@
--- What a reader must believe: the bytes of each form, and what they say of the cells.
+-- What a reader must believe: the bytes of each form.
 pub mod Inks
 pub mod Marks
 pub mod Bits
-pub mod Colours
 pub mod Pcl
 pub mod Forms
+-- What the other public clauses and the laws cite: the buffer, and what the bytes say of the cells.
+pub mod Rooms
 pub mod Laws
 -- What contracts of private functions need.
+pub mod Lines
 pub mod Spans

@@ -1,5 +1,5 @@
 -- Marks: a line of text for each cell that is not 0.
-use Rattle.std.specs.Prelude.{ℕ, ◌+◌, ◌/◌, ◌%◌, List, [], ◌∷◌, ◌++◌, drop, nat_eq, if◌then◌else◌, false, codes, decimal}
+use Rattle.std.specs.Prelude.{ℕ, ◌+◌, ◌/◌, ◌%◌, List, [], ◌∷◌, ◌++◌, nat_eq, if◌then◌else◌, false, codes, decimal}
 use Rattle.std.specs.Fmt.{digit_glyph}
 use Rattle.picture_out.specs.declared.inks.Ink.{Ink}
 use Rattle.picture_out.specs.Inks.{ink_at}
@@ -14,7 +14,8 @@ colour_digits ink = two_digits ink.red ++ two_digits ink.green ++ two_digits ink
 
 -- a line: the row as text, the column, the pen and the colour, separated by spaces
 abbrev pub line : List ℕ → ℕ → Ink → List ℕ
-line row column ink = row ++ codes " " ++ decimal column ++ codes " " ++ decimal ink.pen ++ codes " " ++ colour_digits ink ++ codes "\n"
+line row column ink =
+    row ++ codes " " ++ decimal column ++ codes " " ++ decimal ink.pen ++ codes " " ++ colour_digits ink ++ codes "\n"
 
 -- the line of one cell; nothing for 0
 abbrev pub mark : List ℕ → ℕ → List Ink → ℕ → List ℕ
@@ -24,10 +25,6 @@ mark row column inks cell = if nat_eq cell 0 then [] else line row column (ink_a
 abbrev pub marks_from : List ℕ → ℕ → List Ink → List ℕ → List ℕ
 marks_from row column inks [] = []
 marks_from row column inks (cell ∷ cells) = mark row column inks cell ++ marks_from row (column + 1) inks cells
-
--- the lines of a row's cells from a column on
-abbrev pub lines_on : List ℕ → List Ink → List ℕ → ℕ → List ℕ
-lines_on row inks cells column = marks_from row column inks (drop column cells)
 
 -- the lines of a whole row
 abbrev pub marks : ℕ → List Ink → List ℕ → List ℕ

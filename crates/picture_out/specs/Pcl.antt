@@ -40,7 +40,8 @@ end_raster = escape ∷ codes "*rB"
 
 -- the commands before the rows
 abbrev pub commands_before : ℕ → ℕ → ℕ → List ℕ
-commands_before dots columns rows = reset ++ set_resolution dots ++ set_width columns ++ set_height rows ++ start_raster ++ set_no_compression
+commands_before dots columns rows =
+    reset ++ set_resolution dots ++ set_width columns ++ set_height rows ++ start_raster ++ set_no_compression
 
 -- a row of these bytes
 abbrev pub transferred : List ℕ → List ℕ

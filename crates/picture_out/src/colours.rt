@@ -1,8 +1,8 @@
 //! Cells as colours.
 ghost use Rattle.std.specs.Prelude.{◌≡◌, ℕ, ◌<◌, ◌≤◌, ◌++◌, ◌*◌, ◌/◌, ◌%◌, length, drop, get_or, flat_map};
 ghost use Rattle.std.specs.List.{range_with_len};
-ghost use Rattle.picture_out.specs.Inks.{AreInked, cell_colour, colour_of};
-ghost use Rattle.picture_out.specs.Colours.{coloured};
+ghost use Rattle.picture_out.specs.Rooms.{AreInked};
+ghost use Rattle.picture_out.specs.Inks.{cell_colour, colour_of, coloured};
 ghost use Rattle.picture_out.specs.Spans.{IsBlankOutside};
 
 use crate::cells::Span;

@@ -2,8 +2,9 @@
 ghost use Rattle.std.specs.Prelude.{◌≡◌, ◌-◌, ◌+◌, ◌*◌, ◌^◌, ◌<◌, ◌≤◌, ◌++◌, length, take, IfOk, false};
 ghost use Rattle.std.specs.Fmt.{digit_glyph};
 ghost use Rattle.devices.specs.Sinks.{Writes, WritesAtMost};
-ghost use Rattle.picture_out.specs.Marks.{colour_digits, line, marks_from, marks, lines_on};
-ghost use Rattle.picture_out.specs.Inks.{AreInked};
+ghost use Rattle.picture_out.specs.Marks.{colour_digits, line, marks_from, marks};
+ghost use Rattle.picture_out.specs.Lines.{lines_on};
+ghost use Rattle.picture_out.specs.Rooms.{AreInked};
 ghost use Rattle.picture_out.specs.Spans.{IsBlankOutside};
 
 use crate::cells::Span;
@@ -60,7 +61,8 @@ fn put_lines<I: Inks, K: Sink>(
     requires inked { AreInked (I.inks inks.now) cells.now }
     requires row { length row.now ≤ LONGEST_NUMBER }
     requires piece { LONGEST_LINE ≤ length piece.old }
-    ensures writes { Writes (K.state sink.old) (K.state sink.new) (marks_from row.now 0 (I.inks inks.now) cells.now) result }
+    ensures writes { Writes (K.state sink.old) (K.state sink.new)
+        (marks_from row.now 0 (I.inks inks.now) cells.now) result }
     ensures count { IfOk result (λ n. n ≡ length (marks_from row.now 0 (I.inks inks.now) cells.now)) }
     ensures small { WritesAtMost (LONGEST_LINE * length cells.now) result }
 {
@@ -104,7 +106,8 @@ fn fill<I: Inks>(
     ensures onward { from < result.next }
     ensures within { result.next ≤ end }
     ensures most { result.length + LONGEST_LINE * from ≤ LONGEST_LINE * result.next }
-    ensures lines { take result.length piece.new ++ lines_on row.now (I.inks inks.now) cells.now result.next ≡ lines_on row.now (I.inks inks.now) cells.now from }
+    ensures lines { take result.length piece.new ++ lines_on row.now (I.inks inks.now) cells.now result.next
+        ≡ lines_on row.now (I.inks inks.now) cells.now from }
     ensures size { length piece.new ≡ length piece.old }
 {
     let mut length = 0;

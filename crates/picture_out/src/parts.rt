@@ -2,8 +2,8 @@
 ghost use Rattle.std.specs.Prelude.{◌≡◌, ℕ, ◌-◌, ◌+◌, ◌*◌, ◌^◌, ◌<◌, ◌≤◌, ◌++◌, List, All, length, take, IfOk};
 ghost use Rattle.devices.specs.Sinks.{Writes, WritesAtMost};
 ghost use Rattle.picture_out.specs.Spans.{IsBlankOutside};
-ghost use Rattle.picture_out.specs.Forms.{head_bytes, row_bytes, foot_bytes, room_of, TakesAnyRow, size_line};
-ghost use Rattle.picture_out.specs.Inks.{AreInked};
+ghost use Rattle.picture_out.specs.Forms.{head_bytes, row_bytes, foot_bytes, size_line};
+ghost use Rattle.picture_out.specs.Rooms.{room_of, TakesAnyRow, AreInked};
 
 use crate::bits::{pack_row, packed_length};
 use crate::cells::{Cells, Span};
@@ -118,7 +118,8 @@ pub fn put_row<I: Inks, K: Sink>(
     requires columns { length cells < 2 ^ 32 }
     requires inked { AreInked (I.inks inks.now) cells }
     requires room { room_of form (length cells) ≤ length buffer.old }
-    ensures writes { Writes (K.state sink.old) (K.state sink.new) (row_bytes form index (I.inks inks.now) cells.entry) result }
+    ensures writes { Writes (K.state sink.old) (K.state sink.new)
+        (row_bytes form index (I.inks inks.now) cells.entry) result }
     ensures count { IfOk result (λ n. n ≡ length (row_bytes form index (I.inks inks.now) cells.entry)) }
     ensures small { WritesAtMost (LONGEST_LINE * length cells.entry + LONGEST_COMMAND) result }
 {
@@ -140,7 +141,8 @@ fn put_cells<I: Inks, K: Sink>(
     requires span { IsBlankOutside cells.now span.low span.end }
     requires inked { AreInked (I.inks inks.now) cells.now }
     requires room { room_of form (length cells.now) ≤ length buffer.old }
-    ensures writes { Writes (K.state sink.old) (K.state sink.new) (row_bytes form index (I.inks inks.now) cells.now) result }
+    ensures writes { Writes (K.state sink.old) (K.state sink.new)
+        (row_bytes form index (I.inks inks.now) cells.now) result }
     ensures count { IfOk result (λ n. n ≡ length (row_bytes form index (I.inks inks.now) cells.now)) }
     ensures small { WritesAtMost (LONGEST_LINE * length cells.now + LONGEST_COMMAND) result }
 {

@@ -1,7 +1,7 @@
 // PCL pictures, byte by byte: whole, from buffers of each length, and over sinks that fail.
 ghost use Rattle.std.specs.Prelude.{◌≡◌, ◌-◌, ◌^◌, ◌<◌, ◌≤◌, All, length};
 ghost use Rattle.picture_out.specs.declared.form.Form.TheVariants.{Pcl};
-ghost use Rattle.picture_out.specs.Forms.{room_of};
+ghost use Rattle.picture_out.specs.Rooms.{room_of};
 
 use crate::forms::{CELLS, TABLE, narrow_sink, pack_plain};
 use devices::{OverWrite, Sink, WriteFault};

@@ -2,7 +2,8 @@
 use Rattle.std.proofs.Common.{rules, ◌≡◌, ◌≤◌, ℤ, pos, nat_abs, nat_le, int_le, Bool, true, ◌&&◌, ◌≤ℤ◌, arith, refl}
 use Rattle.std.proofs.lemmas.Int.{ints}
 use Rattle.std.proofs.lemmas.Bool.{and_parts}
-use Rattle.plot_page.specs.Segments.{Segment, IsStroke, is_stroke, is_drawn_with, is_window, is_corner, is_on_page, is_end}
+use Rattle.plot_page.specs.Segments.{Segment, is_end}
+use Rattle.plot_page.specs.Strokes.{IsStroke, is_stroke, is_drawn_with, is_window, is_corner, is_on_page}
 
 pub all_three : (a b c x : Bool) → a ≡ true → b ≡ true → c ≡ x → (a && (b && c)) ≡ x
 all_three a b c x p q r = rw (p, q, r) refl

@@ -1,5 +1,7 @@
--- What a reader must believe: pages and their pixels, sets of pens, and the strokes that are painted.
-pub mod Pages
+-- What a reader must believe: how many pixels a page has, sets of pens, and the strokes that are painted.
 pub mod Resolutions
 pub mod Pens
 pub mod Segments
+-- What the other clauses cite: the ranges of pages, of resolutions and of strokes.
+pub mod Pages
+pub mod Strokes

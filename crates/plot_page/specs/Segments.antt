@@ -1,7 +1,7 @@
 -- Strokes as contracts see them: whole numbers, places in grains (1/16 plotter unit) from the page's lower left corner.
-use Rattle.std.specs.Prelude.{ℕ, ◌≤◌, ℤ, pos, int_le, nat_abs, nat_le, Bool, ◌&&◌, ◌≤ℤ◌}
+use Rattle.std.specs.Prelude.{ℕ, ℤ, nat_abs, nat_le, Bool, ◌&&◌}
 use Rattle.plot_page.specs.declared.colour.Colour.{Colour}
-use Rattle.plot_page.specs.declared.stroke.TheConstants.{GREATEST_WIDTH, FARTHEST_PLACE}
+use Rattle.plot_page.specs.declared.stroke.TheConstants.{FARTHEST_PLACE}
 use Rattle.plot_page.specs.declared.window.Window.{Window}
 
 -- a straight line from one end to the other, with its pen, its colour, its width in grains and the window that it is
@@ -16,41 +16,6 @@ pub record Segment : Type 0 where
   pub bx : ℤ
   pub by : ℤ
 
--- a corner of a window lies on the greatest page
-abbrev pub is_on_page : ℤ → Bool
-is_on_page z = int_le (pos 0) z && int_le z (pos FARTHEST_PLACE)
-
-abbrev pub is_corner : ℤ → ℤ → Bool
-is_corner x y = is_on_page x && is_on_page y
-
-abbrev pub is_window : Window → Bool
-is_window w = is_corner w.x0 w.y0 && is_corner w.x1 w.y1
-
 -- a place within 65,536 plotter units of the page's lower left corner, in x and in y
 abbrev pub is_end : ℤ → ℤ → Bool
 is_end x y = nat_le (nat_abs x) FARTHEST_PLACE && nat_le (nat_abs y) FARTHEST_PLACE
-
--- a pen from 1 on, and a width of at most 20 mm (12,800 grains)
-abbrev pub is_drawn_with : ℕ → ℕ → Bool
-is_drawn_with pen width = nat_le 1 pen && nat_le width GREATEST_WIDTH
-
--- the numbers make a stroke
-abbrev pub is_stroke : Segment → Bool
-is_stroke s = is_drawn_with s.pen s.width && (is_window s.window && (is_end s.ax s.ay && is_end s.bx s.by))
-
--- the same, fact by fact
-pub record IsStroke (s : Segment) : Type 0 where
-  pub pen : 1 ≤ s.pen
-  pub width : s.width ≤ 12800
-  pub x0 : nat_abs s.window.x0 ≤ 1048576
-  pub y0 : nat_abs s.window.y0 ≤ 1048576
-  pub x1 : nat_abs s.window.x1 ≤ 1048576
-  pub y1 : nat_abs s.window.y1 ≤ 1048576
-  pub x0_from : pos 0 ≤ℤ s.window.x0
-  pub y0_from : pos 0 ≤ℤ s.window.y0
-  pub x1_from : pos 0 ≤ℤ s.window.x1
-  pub y1_from : pos 0 ≤ℤ s.window.y1
-  pub ax : nat_abs s.ax ≤ 1048576
-  pub ay : nat_abs s.ay ≤ 1048576
-  pub bx : nat_abs s.bx ≤ 1048576
-  pub by : nat_abs s.by ≤ 1048576

@@ -42,7 +42,8 @@ impl Page {
     /// The page, or its first fault: its size is judged before its corner.
     pub fn new(width: u32, height: u32, left: u32, below: u32) -> Result<Page, PageFault>
         ensures size { (result ≡ Err PageFault.Size) ↔ (has_page_size width height ≡ false) }
-        ensures corner { (result ≡ Err PageFault.Corner) ↔ ((has_page_size width height ≡ true) × (has_page_corner left below ≡ false)) }
+        ensures corner { (result ≡ Err PageFault.Corner)
+            ↔ ((has_page_size width height ≡ true) × (has_page_corner left below ≡ false)) }
         ensures width { IfOk result (λ page. page.width ≡ width) }
         ensures height { IfOk result (λ page. page.height ≡ height) }
         ensures left { IfOk result (λ page. page.left ≡ left) }

@@ -1,6 +1,7 @@
 //! Strokes: what a plot is made of once it has been drawn.
 ghost use Rattle.std.specs.Prelude.{◌≡◌, ◌≤◌, is_some, IfSome, ◌&&◌};
-ghost use Rattle.plot_page.specs.Segments.{is_on_page, is_corner, is_window, is_end, is_drawn_with, is_stroke};
+ghost use Rattle.plot_page.specs.Strokes.{is_on_page, is_corner, is_window, is_drawn_with, is_stroke};
+ghost use Rattle.plot_page.specs.Segments.{is_end};
 
 use crate::colour::Colour;
 use crate::window::Window;
@@ -33,15 +34,43 @@ pub struct Stroke {
 }
 
 impl Model for Stroke {
-    ghost use Rattle.plot_page.specs.Segments.{Segment, IsStroke};
+    ghost use Rattle.plot_page.specs.Segments.{Segment};
+    ghost use Rattle.plot_page.specs.Strokes.{IsStroke};
 
     ghost Value = { Segment };
 
-    ghost view = { λ s. record { pen = s.pen; colour = s.colour; width = s.width; window = s.window; ax = s.ax; ay = s.ay; bx = s.bx; by = s.by } };
+    ghost view = { λ s. record {
+      pen = s.pen;
+      colour = s.colour;
+      width = s.width;
+      window = s.window;
+      ax = s.ax;
+      ay = s.ay;
+      bx = s.bx;
+      by = s.by;
+    } };
 
-    ghost invariant = { λ s. IsStroke (record { pen = s.pen; colour = s.colour; width = s.width; window = s.window; ax = s.ax; ay = s.ay; bx = s.bx; by = s.by }) };
+    ghost invariant = { λ s. IsStroke (record {
+      pen = s.pen;
+      colour = s.colour;
+      width = s.width;
+      window = s.window;
+      ax = s.ax;
+      ay = s.ay;
+      bx = s.bx;
+      by = s.by;
+    }) };
 
-    ghost inverse = { λ s. record { pen = s.pen; colour = s.colour; width = s.width; window = s.window; ax = s.ax; ay = s.ay; bx = s.bx; by = s.by } };
+    ghost inverse = { λ s. record {
+      pen = s.pen;
+      colour = s.colour;
+      width = s.width;
+      window = s.window;
+      ax = s.ax;
+      ay = s.ay;
+      bx = s.bx;
+      by = s.by;
+    } };
 }
 
 impl Stroke {
@@ -56,8 +85,26 @@ impl Stroke {
         bx: i32,
         by: i32,
     ) -> Option<Stroke>
-        ensures given { is_some result ≡ is_stroke (record { pen = pen; colour = colour; width = width; window = window; ax = ax; ay = ay; bx = bx; by = by }) }
-        ensures stroke { IfSome result (λ s. s ≡ record { pen = pen; colour = colour; width = width; window = window; ax = ax; ay = ay; bx = bx; by = by }) }
+        ensures given { is_some result ≡ is_stroke (record {
+          pen = pen;
+          colour = colour;
+          width = width;
+          window = window;
+          ax = ax;
+          ay = ay;
+          bx = bx;
+          by = by;
+        }) }
+        ensures stroke { IfSome result (λ s. s ≡ record {
+          pen = pen;
+          colour = colour;
+          width = width;
+          window = window;
+          ax = ax;
+          ay = ay;
+          bx = bx;
+          by = by;
+        }) }
     {
         if !has_pen_and_width(pen, width) {
             return None;

@@ -2,7 +2,8 @@
 use Rattle.std.specs.Prelude.{◌≡◌, ℕ, Bool, true, Result, Ok, Err}
 use Rattle.command_line.specs.declared.line.Task.{Task}
 use Rattle.command_line.specs.declared.line.Task.TheVariants.{Picture, Report}
-use Rattle.conversion.specs.Conversions.{HasConverted, exact, has_resolution}
+use Rattle.conversion.specs.Conversions.{HasConverted}
+use Rattle.conversion.specs.Pictures.{exact, has_resolution}
 use Rattle.conversion.specs.Faults.{status_of}
 use Rattle.conversion.specs.Reports.{HasReported}
 use Rattle.devices.specs.Sinks.{SinkState}

@@ -4,11 +4,11 @@ use Rattle.std.proofs.lemmas.Int.{ints}
 use Rattle.plot_page.specs.Segments.{Segment}
 use Rattle.plot_page.specs.declared.pens.PenSet.{PenSet}
 use Rattle.stroke_raster.specs.declared.vector.Vector.{Vector}
-use Rattle.stroke_raster.specs.Covers.{in_window, first_end, last_end, drawn_width, is_gap_met, covers_place}
+use Rattle.stroke_raster.specs.Covers.{in_window, first_end, last_end, drawn_width, covers_place}
 use Rattle.stroke_raster.specs.Gap.{way, scaled, dot, cross, gap_met}
 use Rattle.stroke_raster.specs.Laws.{is_in_disc, LaterStrokesCover}
 use Rattle.plot_page.specs.Pens.{has_pen}
-use Rattle.stroke_raster.specs.Shown.{last_position, shown}
+use Rattle.stroke_raster.specs.Shown.{last_position}
 use Rattle.stroke_raster.proofs.Tops.{last_position-push}
 
 pub clipped : (s : Segment) (r : ℕ) (p : Vector) → in_window s.window r p ≡ false → covers_place s r p ≡ false

@@ -1,13 +1,17 @@
 -- The covered pixels of a row form a run.
-use Rattle.std.proofs.Common.{◌≡◌, ℕ, ◌+◌, ◌-◌, ◌*◌, ◌<◌, ◌≤◌, inl, inr, refl, sym, ap, ap₂, ◌∙◌, arith, ℤ, pos, negsuc, ◌+ℤ◌, ◌-ℤ◌, ◌*ℤ◌, ◌≤ℤ◌, ◌<ℤ◌, nat_abs, true, false, int_le}
+use Rattle.std.proofs.Common.{◌≡◌, ℕ, ◌+◌, ◌-◌, ◌*◌, ◌<◌, ◌≤◌, inl, inr, refl, sym, ap, ap₂, ◌∙◌, arith, ℤ, pos, negsuc}
+use Rattle.std.proofs.Common.{◌+ℤ◌, ◌-ℤ◌, ◌*ℤ◌, ◌≤ℤ◌, ◌<ℤ◌, nat_abs, true, false, int_le}
 use Rattle.std.proofs.lemmas.Int.{ints}
 use Rattle.std.proofs.lemmas.Bool.{cases_Bool, cases_lt, and_parts, and_from}
 use Rattle.std.proofs.lemmas.Nat.{mul-le}
 use Rattle.std.proofs.Math.Nat.{mul-le-mul_left}
 use Rattle.exact.proofs.Ring.{mul_assoc_z, mul-add_z, add-mul_z, mul-sub_z, mul_mul_comm_z, square-add, square_is}
 use Rattle.stroke_raster.specs.declared.vector.Vector.{Vector}
-use Rattle.stroke_raster.specs.Gap.{way, scaled, dot, cross, gap_met, off, IsNear}
-use Rattle.stroke_raster.specs.Covers.{between, in_window, in_box, drawn_width, centre, first_end, last_end, is_gap_met, covers_place, covers, RowsHoldRuns}
+use Rattle.stroke_raster.specs.Gap.{way, scaled, dot, cross, gap_met}
+use Rattle.stroke_raster.specs.Nearness.{off, IsNear}
+use Rattle.stroke_raster.specs.Covers.{between, in_window, drawn_width, centre, first_end, last_end, is_gap_met}
+use Rattle.stroke_raster.specs.Covers.{covers_place, covers}
+use Rattle.stroke_raster.specs.Boxes.{in_box, RowsHoldRuns}
 use Rattle.stroke_raster.specs.declared.trace.Trace.{Trace}
 use Rattle.stroke_raster.specs.Traces.{is_near, is_met, rightward}
 use Rattle.stroke_raster.proofs.Scaling.{way-scaled}

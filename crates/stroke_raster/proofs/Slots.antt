@@ -1,5 +1,7 @@
 -- What a band's strokes show, with those left out that cannot reach it.
-use Rattle.std.proofs.Common.{◌≡◌, ℕ, zero, suc, ◌+◌, ◌-◌, ◌*◌, ◌/◌, ◌%◌, ◌<◌, ◌≤◌, Bool, true, false, nat_lt, nat_eq, ◌&&◌, max, List, [], ◌∷◌, ◌++◌, length, get_or, take, add-zero, refl, sym, ap, ◌∙◌, arith, inl, inr, cond}
+use Rattle.std.proofs.Common.{◌≡◌, ℕ, zero, suc, ◌+◌, ◌-◌, ◌*◌, ◌/◌, ◌%◌, ◌<◌, ◌≤◌, Bool, true, false, nat_lt, nat_eq}
+use Rattle.std.proofs.Common.{◌&&◌, max, List, [], ◌∷◌, ◌++◌, length, get_or, take, add-zero, refl, sym, ap, ◌∙◌, arith}
+use Rattle.std.proofs.Common.{inl, inr, cond}
 use Rattle.std.proofs.lemmas.Bool.Decides.{nat_tests}
 use Rattle.std.proofs.lemmas.Bool.{cases_Bool}
 use Rattle.std.proofs.lemmas.Grind.{take_at_read}
@@ -11,7 +13,7 @@ use Rattle.plot_page.specs.declared.page.Page.{Page}
 use Rattle.plot_page.specs.declared.dots.Dots.{Dots}
 use Rattle.plot_page.specs.declared.pens.PenSet.{PenSet}
 use Rattle.plot_page.specs.Pens.{has_pen}
-use Rattle.stroke_raster.specs.Covers.{in_box}
+use Rattle.stroke_raster.specs.Boxes.{in_box}
 use Rattle.plot_page.specs.Resolutions.{rows_of}
 use Rattle.stroke_raster.specs.Extents.{first_row_of, end_row_of}
 use Rattle.stroke_raster.specs.Shown.{last_position, shown}

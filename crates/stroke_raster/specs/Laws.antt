@@ -1,5 +1,6 @@
 -- What holds of the bands that a painter lends, one call of `next_band` after another, and of pixels.
-use Rattle.std.specs.Prelude.{◌≡◌, ℕ, ◌+◌, ◌-◌, ◌*◌, ◌<◌, ◌≤◌, ℤ, pos, ◌*ℤ◌, int_le, Bool, true, false, ◌&&◌, List, [], ◌∷◌, ◌++◌, flat_map, length}
+use Rattle.std.specs.Prelude.{◌≡◌, ℕ, ◌+◌, ◌-◌, ◌*◌, ◌<◌, ◌≤◌, pos, ◌*ℤ◌, int_le, Bool, true, false, ◌&&◌, List, []}
+use Rattle.std.specs.Prelude.{◌∷◌, ◌++◌, flat_map, length}
 use Rattle.plot_page.specs.Segments.{Segment}
 use Rattle.plot_page.specs.declared.pens.PenSet.{PenSet}
 use Rattle.stroke_raster.specs.declared.vector.Vector.{Vector}
@@ -37,14 +38,21 @@ is_in_disc v d = int_le (pos 4 *ℤ dot v v) (pos (d * d))
 -- a stroke of length zero covers the disc about its place, within its window
 abbrev pub DotsAreDiscs : Type 0
 DotsAreDiscs = (s : Segment) (r : ℕ) (p : Vector) → s.bx ≡ s.ax → s.by ≡ s.ay →
-    covers_place s r p ≡ (in_window s.window r p && is_in_disc (way (scaled (pos r) (first_end s)) p) (drawn_width s.width r))
+    covers_place s r p
+    ≡ (in_window s.window r p && is_in_disc (way (scaled (pos r) (first_end s)) p) (drawn_width s.width r))
 
 -- where one more stroke of a selected pen covers a pixel, the pixel shows it; elsewhere, or for another pen, it shows
 -- what it showed
 pub record LaterStrokesCover : Type 0 where
-  pub covered : (covers : Segment → ℕ → ℕ → Bool) (pens : PenSet) (strokes : List Segment) (s : Segment) (row column : ℕ) →
-      has_pen pens s.pen ≡ true → covers s row column ≡ true → shown covers pens (strokes ++ (s ∷ [])) row column ≡ length strokes + 1
-  pub elsewhere : (covers : Segment → ℕ → ℕ → Bool) (pens : PenSet) (strokes : List Segment) (s : Segment) (row column : ℕ) →
-      covers s row column ≡ false → shown covers pens (strokes ++ (s ∷ [])) row column ≡ shown covers pens strokes row column
-  pub other_pen : (covers : Segment → ℕ → ℕ → Bool) (pens : PenSet) (strokes : List Segment) (s : Segment) (row column : ℕ) →
-      has_pen pens s.pen ≡ false → shown covers pens (strokes ++ (s ∷ [])) row column ≡ shown covers pens strokes row column
+  pub covered : (covers : Segment → ℕ → ℕ → Bool) (pens : PenSet) (strokes : List Segment) (s : Segment)
+      (row column : ℕ) →
+      has_pen pens s.pen ≡ true → covers s row column ≡ true →
+      shown covers pens (strokes ++ (s ∷ [])) row column ≡ length strokes + 1
+  pub elsewhere : (covers : Segment → ℕ → ℕ → Bool) (pens : PenSet) (strokes : List Segment) (s : Segment)
+      (row column : ℕ) →
+      covers s row column ≡ false →
+      shown covers pens (strokes ++ (s ∷ [])) row column ≡ shown covers pens strokes row column
+  pub other_pen : (covers : Segment → ℕ → ℕ → Bool) (pens : PenSet) (strokes : List Segment) (s : Segment)
+      (row column : ℕ) →
+      has_pen pens s.pen ≡ false →
+      shown covers pens (strokes ++ (s ∷ [])) row column ≡ shown covers pens strokes row column

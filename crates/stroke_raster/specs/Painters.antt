@@ -11,7 +11,8 @@ abbrev pub rows_ahead : Scene → ℕ → ℕ
 rows_ahead scene next = min scene.band_rows (rows_of scene.page scene.dots - next)
 
 -- the next row and its band, the number of rows that were painted last, the chains, and the rows' spans and cells
-pub record IsSound (scene : Scene) (next band painted : ℕ) (heads links : List ℕ) (spans : List Span) (cells : List ℕ) : Type 0 where
+pub record IsSound (scene : Scene) (next band painted : ℕ) (heads links : List ℕ) (spans : List Span)
+    (cells : List ℕ) : Type 0 where
   -- the next row is on the page or right after it, and begins its band
   pub next_in : next ≤ rows_of scene.page scene.dots
   pub next_at : next < rows_of scene.page scene.dots → next ≡ scene.first_row + band * scene.band_rows

@@ -3,9 +3,8 @@ use Rattle.std.specs.Prelude.{◌≡◌, ℕ, ◌+◌, ◌*◌, ◌<◌, ◌≤�
 use Rattle.stroke_raster.specs.declared.scene.Scene.{Scene}
 use Rattle.stroke_raster.specs.Chains.{Linked}
 use Rattle.plot_page.specs.Resolutions.{columns_of, rows_of}
-use Rattle.stroke_raster.specs.Covers.{in_box}
-use Rattle.stroke_raster.specs.Boxes.{selected, boxes}
-use Rattle.stroke_raster.specs.Shown.{rows_shown}
+use Rattle.stroke_raster.specs.Boxes.{in_box, selected, boxes}
+use Rattle.stroke_raster.specs.Rows.{rows_shown}
 use Rattle.stroke_raster.specs.Painting.{Reaches}
 use Rattle.stroke_raster.specs.Slots.{band_of, goes_on, IsPainted}
 
@@ -15,15 +14,18 @@ width_of scene = columns_of scene.page scene.dots
 
 -- each cell of a band shows what the scene's strokes make its pixel show
 abbrev pub ShowsScene : Reaches → Scene → ℕ → List ℕ → Type 0
-ShowsScene reaches scene first cells = IsPainted (λ s. reaches s scene.page scene.dots) scene.pens scene.strokes.now first (width_of scene) cells
+ShowsScene reaches scene first cells =
+    IsPainted (λ s. reaches s scene.page scene.dots) scene.pens scene.strokes.now first (width_of scene) cells
 
 -- what a number of its rows show, from a row on
 abbrev pub scene_rows : Reaches → Scene → ℕ → ℕ → List (List ℕ)
-scene_rows reaches scene first count = rows_shown (λ s. reaches s scene.page scene.dots) scene.pens scene.strokes.now (width_of scene) first count
+scene_rows reaches scene first count =
+    rows_shown (λ s. reaches s scene.page scene.dots) scene.pens scene.strokes.now (width_of scene) first count
 
 -- how many pixels of these rows lie in the boxes of the strokes that are drawn
 abbrev pub scene_boxes : Scene → ℕ → ℕ → ℕ
-scene_boxes scene first count = boxes (λ s. in_box s scene.page scene.dots) (selected scene.pens scene.strokes.now) first count (width_of scene)
+scene_boxes scene first count =
+    boxes (λ s. in_box s scene.page scene.dots) (selected scene.pens scene.strokes.now) first count (width_of scene)
 
 -- before a band: the strokes that go on in it are chained, and for each band from it on those that begin there
 abbrev pub AreChained : Scene → ℕ → List ℕ → List ℕ → Type 0

@@ -1,5 +1,6 @@
 -- The strokes of a list by slots from 1 on, and the bands in which they begin and go on.
-use Rattle.std.specs.Prelude.{◌≡◌, ℕ, ◌+◌, ◌-◌, ◌*◌, ◌/◌, ◌%◌, ◌<◌, Bool, nat_lt, ◌&&◌, if◌then◌else◌, max, List, get_or, length, pos}
+use Rattle.std.specs.Prelude.{◌≡◌, ℕ, ◌+◌, ◌-◌, ◌*◌, ◌/◌, ◌%◌, ◌<◌, Bool, nat_lt, ◌&&◌, if◌then◌else◌, max, List}
+use Rattle.std.specs.Prelude.{get_or, length, pos}
 use Rattle.plot_page.specs.declared.page.Page.{Page}
 use Rattle.plot_page.specs.Segments.{Segment}
 use Rattle.plot_page.specs.declared.dots.Dots.{Dots}
@@ -9,7 +10,17 @@ use Rattle.stroke_raster.specs.Extents.{first_row_of, end_row_of}
 use Rattle.stroke_raster.specs.Shown.{shown}
 
 abbrev pub nobody : Segment
-nobody = record { pen = 0; colour = record { red = 0; green = 0; blue = 0 }; width = 0; window = record { x0 = pos 0; y0 = pos 0; x1 = pos 0; y1 = pos 0 }; ax = pos 0; ay = pos 0; bx = pos 0; by = pos 0 }
+nobody =
+    record {
+      pen = 0;
+      colour = record { red = 0; green = 0; blue = 0 };
+      width = 0;
+      window = record { x0 = pos 0; y0 = pos 0; x1 = pos 0; y1 = pos 0 };
+      ax = pos 0;
+      ay = pos 0;
+      bx = pos 0;
+      by = pos 0;
+    }
 
 -- the stroke of a slot
 abbrev pub stroke_at : List Segment → ℕ → Segment
@@ -17,7 +28,9 @@ stroke_at strokes slot = get_or strokes (slot - 1) nobody
 
 -- the band in which a stroke's box begins, in bands of h rows from row r0 on; the number of bands if it begins in none
 abbrev pub band_from : PenSet → Page → Dots → ℕ → ℕ → ℕ → Segment → ℕ
-band_from pens page dots r0 h bands s = if has_pen pens s.pen && nat_lt (max (first_row_of s page dots) r0) (end_row_of s page dots) then (max (first_row_of s page dots) r0 - r0) / h else bands
+band_from pens page dots r0 h bands s =
+    if has_pen pens s.pen && nat_lt (max (first_row_of s page dots) r0) (end_row_of s page dots) then
+    (max (first_row_of s page dots) r0 - r0) / h else bands
 
 abbrev pub band_of : PenSet → Page → Dots → ℕ → ℕ → ℕ → List Segment → ℕ → ℕ
 band_of pens page dots r0 h bands strokes slot = band_from pens page dots r0 h bands (stroke_at strokes slot)
@@ -32,4 +45,5 @@ reaches_cell reaches first columns q = reaches (first + q / columns) (q % column
 
 -- each cell of a band shows what these strokes make its pixel show
 abbrev pub IsPainted : (Segment → ℕ → ℕ → Bool) → PenSet → List Segment → ℕ → ℕ → List ℕ → Type 0
-IsPainted covers pens strokes first columns cells = (q : ℕ) → q < length cells → get_or cells q 0 ≡ shown covers pens strokes (first + q / columns) (q % columns)
+IsPainted covers pens strokes first columns cells =
+    (q : ℕ) → q < length cells → get_or cells q 0 ≡ shown covers pens strokes (first + q / columns) (q % columns)

@@ -23,7 +23,8 @@ pub record IsSlope (course : Vector) (d : ℕ) (slope : Slope) : Type 0 where
   pub inverse : IsInverse slope.step slope.inverse
 
 -- the numbers of a stroke's trace
-pub record IsTrace (s : Segment) (dots : Dots) (first course scaled_course : Vector) (along reach limit : ℤ) (slope : Slope) : Type 0 where
+pub record IsTrace (s : Segment) (dots : Dots) (first course scaled_course : Vector) (along reach limit : ℤ)
+    (slope : Slope) : Type 0 where
   pub first_is : first ≡ scaled (pos dots.resolution) (first_end s)
   pub first_in : Within (2 ^ 31) first
   pub course_is : course ≡ way (first_end s) (last_end s)

@@ -11,7 +11,9 @@ rightward w i = record { x = w.x +ℤ pos (16256 * i); y = w.y }
 
 -- the place to which w leads from the stroke's first end is within half of the drawn width of the stroke
 abbrev pub is_near : Trace → Vector → Bool
-is_near trace w = gap_met (scaled (pos trace.dots.resolution) trace.course) w (drawn_width trace.stroke.now.width trace.dots.resolution)
+is_near trace w =
+    gap_met (scaled (pos trace.dots.resolution) trace.course) w
+    (drawn_width trace.stroke.now.width trace.dots.resolution)
 
 -- so is the centre of the pixel i columns to the right of the one to which `start` leads
 abbrev pub is_met : Trace → Vector → ℕ → Bool

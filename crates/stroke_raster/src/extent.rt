@@ -2,7 +2,8 @@
 ghost use Rattle.std.specs.Prelude.{◌≡◌, ℕ, ℤ, ◌+◌, ◌*◌, ◌<◌, ◌≤◌, ◌^◌, pos, nat_abs, ◌+ℤ◌, ◌-ℤ◌, ◌*ℤ◌, ◌≤ℤ◌, true};
 ghost use Rattle.std.specs.Int.{int_min, int_max};
 ghost use Rattle.plot_page.specs.Resolutions.{columns_of, rows_of};
-ghost use Rattle.stroke_raster.specs.Extents.{first_place, end_place, first_row_of, end_row_of, HoldRows, HoldColumns, AreBoxed};
+ghost use Rattle.stroke_raster.specs.Extents.{first_place, end_place, first_row_of, end_row_of, HoldRows, HoldColumns};
+ghost use Rattle.stroke_raster.specs.Extents.{AreBoxed};
 
 use crate::pixel::drawn_width_of;
 use crate::strip::Span;
@@ -82,7 +83,8 @@ fn places_between(low: i64, high: i64, count: u32) -> Span
     ensures end { result.end ≤ count }
     ensures low_is { result.low ≡ first_place low high count }
     ensures end_is { result.end ≡ end_place high count }
-    ensures holds { (i : ℕ) → i < count → low ≤ℤ pos ((2 * i + 1) * 16256) → pos ((2 * i + 1) * 16256) ≤ℤ high → (result.low ≤ i) × (i < result.end) }
+    ensures holds { (i : ℕ) → i < count → low ≤ℤ pos ((2 * i + 1) * 16256) → pos ((2 * i + 1) * 16256) ≤ℤ high →
+        (result.low ≤ i) × (i < result.end) }
     ensures from { (i : ℕ) → result.low ≤ i → i < result.end → low ≤ℤ pos ((2 * i + 1) * 16256) }
     ensures to { (i : ℕ) → i < result.end → pos ((2 * i + 1) * 16256) ≤ℤ high }
 {

@@ -5,7 +5,8 @@ ghost use Rattle.plot_page.specs.declared.page.Page.{Page};
 ghost use Rattle.plot_page.specs.declared.dots.Dots.{Dots};
 ghost use Rattle.plot_page.specs.Resolutions.{columns_of, rows_of};
 ghost use Rattle.stroke_raster.specs.Tests.{next_count, reached, MOST_TESTS};
-ghost use Rattle.stroke_raster.specs.Covers.{covers, in_box, BoxHolds};
+ghost use Rattle.stroke_raster.specs.Covers.{covers};
+ghost use Rattle.stroke_raster.specs.Boxes.{in_box, BoxHolds};
 
 use crate::fill::fill;
 use crate::nearness::near;
@@ -55,16 +56,23 @@ pub trait Gauge {
     ) -> Span
         requires row_in { row < rows_of page.now trace.now.dots }
         requires columns_in { from + length cells.old ≤ columns_of page.now trace.now.dots }
-        requires boxed { (i : ℕ) → i < length cells.old → in_box trace.now.stroke.now page.now trace.now.dots row (from + i) ≡ true }
-        ensures cells { (i : ℕ) → i < length cells.old → get_or cells.new i 0 ≡ cond (reaches self.old trace.now.stroke.now page.now trace.now.dots row (from + i)) position (get_or cells.old i 0) }
+        requires boxed { (i : ℕ) → i < length cells.old →
+            in_box trace.now.stroke.now page.now trace.now.dots row (from + i) ≡ true }
+        ensures cells { (i : ℕ) → i < length cells.old → get_or cells.new i 0 ≡ cond
+            (reaches self.old trace.now.stroke.now page.now trace.now.dots row (from + i)) position
+            (get_or cells.old i 0) }
         ensures same { reaches self.new ≡ reaches self.old }
-        ensures least { min (count self.old + reached (reaches self.old trace.now.stroke.now page.now trace.now.dots row) from (length cells.old)) MOST_TESTS ≤ count self.new }
+        ensures least { min (count self.old + reached
+            (reaches self.old trace.now.stroke.now page.now trace.now.dots row) from
+            (length cells.old)) MOST_TESTS ≤ count self.new }
         ensures most { count self.new ≤ count self.old + length cells.old }
         ensures grows { count self.old ≤ count self.new }
         ensures order { result.low ≤ result.end }
         ensures high { result.end ≤ length cells.old }
-        ensures before { (i : ℕ) → i < result.low → reaches self.old trace.now.stroke.now page.now trace.now.dots row (from + i) ≡ false }
-        ensures after { (i : ℕ) → result.end ≤ i → i < length cells.old → reaches self.old trace.now.stroke.now page.now trace.now.dots row (from + i) ≡ false }
+        ensures before { (i : ℕ) → i < result.low →
+            reaches self.old trace.now.stroke.now page.now trace.now.dots row (from + i) ≡ false }
+        ensures after { (i : ℕ) → result.end ≤ i → i < length cells.old →
+            reaches self.old trace.now.stroke.now page.now trace.now.dots row (from + i) ≡ false }
     {
         for (i, cell) in cells.iter_mut().enumerate() {
             let old = *cell;

@@ -5,7 +5,8 @@
 ghost use Rattle.std.specs.Prelude.{◌≡◌, ◌≤◌, ◌<◌, ◌^◌, ◌*◌, pos, nat_abs, ◌*ℤ◌, ◌&&◌, int_le, neg_ℤ};
 ghost use Rattle.stroke_raster.specs.Bounds.{Within};
 ghost use Rattle.stroke_raster.specs.Gap.{way, scaled, dot, cross, gap_met};
-ghost use Rattle.stroke_raster.specs.Covers.{between, in_window, first_end, last_end, drawn_width, is_gap_met, centre, covers};
+ghost use Rattle.stroke_raster.specs.Covers.{between, in_window, first_end, last_end, drawn_width, is_gap_met, centre};
+ghost use Rattle.stroke_raster.specs.Covers.{covers};
 ghost use Rattle.plot_page.specs.Resolutions.{columns_of, rows_of};
 
 use crate::vector::Vector;

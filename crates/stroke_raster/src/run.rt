@@ -1,7 +1,8 @@
 //! The run of pixels that a stroke covers in a row.
 ghost use Rattle.std.specs.Prelude.{◌≡◌, ℕ, ◌+◌, ◌-◌, ◌<◌, ◌≤◌, ◌^◌, true, false};
 ghost use Rattle.stroke_raster.specs.Bounds.{Within};
-ghost use Rattle.stroke_raster.specs.Covers.{covers, in_box};
+ghost use Rattle.stroke_raster.specs.Covers.{covers};
+ghost use Rattle.stroke_raster.specs.Boxes.{in_box};
 ghost use Rattle.plot_page.specs.Resolutions.{columns_of, rows_of};
 ghost use Rattle.stroke_raster.specs.Traces.{rightward, is_met};
 
@@ -24,9 +25,12 @@ pub fn run(trace: &Trace<'_>, page: &Page, row: u32, from: u32, length: u32) -> 
     requires boxed { (i : ℕ) → i < length → in_box trace.now.stroke.now page.now trace.now.dots row (from + i) ≡ true }
     ensures order { result.low ≤ result.end }
     ensures high { result.end ≤ length }
-    ensures before { (i : ℕ) → i < result.low → covers trace.now.stroke.now page.now trace.now.dots row (from + i) ≡ false }
-    ensures inside { (i : ℕ) → result.low ≤ i → i < result.end → covers trace.now.stroke.now page.now trace.now.dots row (from + i) ≡ true }
-    ensures after { (i : ℕ) → result.end ≤ i → i < length → covers trace.now.stroke.now page.now trace.now.dots row (from + i) ≡ false }
+    ensures before { (i : ℕ) → i < result.low →
+        covers trace.now.stroke.now page.now trace.now.dots row (from + i) ≡ false }
+    ensures inside { (i : ℕ) → result.low ≤ i → i < result.end →
+        covers trace.now.stroke.now page.now trace.now.dots row (from + i) ≡ true }
+    ensures after { (i : ℕ) → result.end ≤ i → i < length →
+        covers trace.now.stroke.now page.now trace.now.dots row (from + i) ≡ false }
 {
     let start = way_between(trace.first, centre_of(page, trace.dots, row, from));
     run_from(trace, start, length)

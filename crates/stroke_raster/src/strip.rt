@@ -1,5 +1,6 @@
 //! The strip of a row outside which no pixel is near a stroke's line.
-ghost use Rattle.std.specs.Prelude.{◌≡◌, ℕ, ◌+◌, ◌*◌, ◌/◌, ◌<◌, ◌≤◌, ◌^◌, pos, nat_abs, ◌-ℤ◌, ◌<ℤ◌, neg_ℤ, int_le, cond, false};
+ghost use Rattle.std.specs.Prelude.{◌≡◌, ℕ, ◌+◌, ◌*◌, ◌/◌, ◌<◌, ◌≤◌, ◌^◌, pos, nat_abs, ◌-ℤ◌, ◌<ℤ◌, neg_ℤ, int_le};
+ghost use Rattle.std.specs.Prelude.{cond, false};
 ghost use Rattle.stroke_raster.specs.Bounds.{Within};
 ghost use Rattle.stroke_raster.specs.TraceNumbers.{IsInverse};
 ghost use Rattle.stroke_raster.specs.Traces.{is_met};

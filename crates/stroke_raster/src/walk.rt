@@ -4,14 +4,13 @@
 //! 0 leads to the first stroke that began in an earlier band and goes on, and each of these to the
 //! next of them. The head of a later band leads to the first stroke that begins in it, and each of
 //! those to the next that does. The number after the last slot is the end of each chain.
-ghost use Rattle.std.specs.Prelude.{◌≡◌, ℕ, ◌+◌, ◌*◌, ◌/◌, ◌%◌, ◌<◌, ◌≤◌, ◌^◌, Bool, cond, nat_eq, nat_lt, length, get_or, set, min, max, false};
-ghost use Rattle.stroke_raster.specs.Boxes.{box_pixels};
+ghost use Rattle.std.specs.Prelude.{◌≡◌, ℕ, ◌+◌, ◌*◌, ◌/◌, ◌%◌, ◌<◌, ◌≤◌, ◌^◌, Bool, cond, nat_eq, nat_lt, length};
+ghost use Rattle.std.specs.Prelude.{get_or, set, min, max, false};
+ghost use Rattle.stroke_raster.specs.Boxes.{box_pixels, in_box, BoxHolds};
 ghost use Rattle.stroke_raster.specs.Scenes.{AreChained, IsNext, ShowsScene, scene_boxes, scene_rows, width_of};
-ghost use Rattle.stroke_raster.specs.Covers.{in_box, BoxHolds};
 ghost use Rattle.stroke_raster.specs.Extents.{end_row_of};
 ghost use Rattle.plot_page.specs.Resolutions.{columns_of, rows_of};
-ghost use Rattle.stroke_raster.specs.Shown.{marked, marked_in_rows};
-ghost use Rattle.stroke_raster.specs.Rows.{split_rows};
+ghost use Rattle.stroke_raster.specs.Rows.{marked, marked_in_rows, split_rows};
 ghost use Rattle.stroke_raster.specs.Slots.{band_from, reaches_cell};
 ghost use Rattle.stroke_raster.specs.Spans.{Spanned, holds, none};
 ghost use Rattle.stroke_raster.specs.Tests.{MOST_TESTS};
@@ -63,10 +62,14 @@ fn paint_stroke<G: Gauge>(
     requires spanned { Spanned (columns_of page.now dots) spans.old cells.old }
     ensures spanned { Spanned (columns_of page.now dots) spans.new cells.new }
     ensures end { result ≡ end_row_of stroke.now page.now dots }
-    ensures cells { (q : ℕ) → q < length cells.old → get_or cells.new q 0 ≡ cond (reaches_cell (G.reaches gauge.old stroke.now page.now dots) first (columns_of page.now dots) q) position (get_or cells.old q 0) }
+    ensures cells { (q : ℕ) → q < length cells.old → get_or cells.new q 0 ≡ cond
+        (reaches_cell (G.reaches gauge.old stroke.now page.now dots) first (columns_of page.now dots) q)
+        position (get_or cells.old q 0) }
     ensures same { G.reaches gauge.new ≡ G.reaches gauge.old }
-    ensures least { (m : ℕ) → min (m + marked cells.old) MOST_TESTS ≤ G.count gauge.old → min (m + marked cells.new) MOST_TESTS ≤ G.count gauge.new }
-    ensures most { G.count gauge.new ≤ G.count gauge.old + box_pixels (λ s. in_box s page.now dots) stroke.now first rows (columns_of page.now dots) }
+    ensures least { (m : ℕ) → min (m + marked cells.old) MOST_TESTS ≤ G.count gauge.old →
+        min (m + marked cells.new) MOST_TESTS ≤ G.count gauge.new }
+    ensures most { G.count gauge.new ≤ G.count gauge.old + box_pixels
+        (λ s. in_box s page.now dots) stroke.now first rows (columns_of page.now dots) }
     ensures grows { G.count gauge.old ≤ G.count gauge.new }
 {
     let extent = extent_of(stroke, page, dots);
@@ -163,7 +166,8 @@ fn walk<G: Gauge>(
 
 // The band in which a stroke's box begins, or the number of bands.
 fn band_of_stroke(stroke: &Stroke, scene: &Scene<'_>, bands: u32) -> u32
-    ensures { result ≡ band_from scene.now.pens scene.now.page scene.now.dots scene.now.first_row scene.now.band_rows bands stroke.now }
+    ensures { result ≡ band_from scene.now.pens scene.now.page scene.now.dots
+        scene.now.first_row scene.now.band_rows bands stroke.now }
 {
     let rows = extent_of(stroke, &scene.page, scene.dots).rows;
     let begin = rows.low.max(scene.first_row);
@@ -178,7 +182,8 @@ fn band_of_stroke(stroke: &Stroke, scene: &Scene<'_>, bands: u32) -> u32
 fn link(heads: &mut [u32], links: &mut [u32], band: u32, slot: u32)
     requires { slot < length links.old }
     ensures heads { heads.new ≡ cond (nat_lt band (length heads.old)) (set heads.old band slot) heads.old }
-    ensures links { links.new ≡ cond (nat_lt band (length heads.old)) (set links.old slot (get_or heads.old band 0)) links.old }
+    ensures links { links.new ≡ cond (nat_lt band (length heads.old))
+        (set links.old slot (get_or heads.old band 0)) links.old }
 {
     if (band as usize) < heads.len() {
         links[slot as usize] = heads[band as usize];
@@ -249,9 +254,11 @@ pub fn paint_band<G: Gauge>(
     requires spanned { Spanned (width_of scene.now) spans.old cells.old }
     ensures linked { AreChained scene.now (band + 1) heads.now links.new }
     ensures spanned { Spanned (width_of scene.now) spans.new cells.new }
-    ensures rows { split_rows (width_of scene.now) rows cells.new ≡ scene_rows (G.reaches gauge.old) scene.now first rows }
+    ensures rows { split_rows (width_of scene.now) rows cells.new
+        ≡ scene_rows (G.reaches gauge.old) scene.now first rows }
     ensures same { G.reaches gauge.new ≡ G.reaches gauge.old }
-    ensures least { min (G.count gauge.old + marked_in_rows (split_rows (width_of scene.now) rows cells.new)) MOST_TESTS ≤ G.count gauge.new }
+    ensures least { min (G.count gauge.old + marked_in_rows
+        (split_rows (width_of scene.now) rows cells.new)) MOST_TESTS ≤ G.count gauge.new }
     ensures most { G.count gauge.new ≤ G.count gauge.old + scene_boxes scene.now first rows }
     ensures grows { G.count gauge.old ≤ G.count gauge.new }
 {

@@ -1,10 +1,12 @@
-use Rattle.std.proofs.Common.{◌≡◌, ◌<◌, ◌≤◌, ◌+◌, List, length, ℕ, sym, ap, subst, ◌∙◌, ◌-◌, Bool, Result, Ok, Err, true, false, refl, inl, inr}
+use Rattle.std.proofs.Common.{◌≡◌, ◌<◌, ◌≤◌, ◌+◌, List, length, ℕ, sym, ap, subst, ◌∙◌, ◌-◌, Bool, Result, Ok, Err}
+use Rattle.std.proofs.Common.{true, false, refl, inl, inr}
 use Rattle.std.proofs.lemmas.Bool.{cases_lt}
 use Rattle.plot_page.specs.Resolutions.{rows_of}
-use Rattle.stroke_raster.specs.Painting.{is_band_height}
+use Rattle.stroke_raster.specs.BandHeights.{is_band_height}
 use Rattle.picture_out.specs.Forms.{foot_bytes}
 use Rattle.conversion.specs.Plots.{strokes}
-use Rattle.conversion.specs.Writings.{boxes_from, head_of, row_of}
+use Rattle.conversion.specs.Boxes.{boxes_from}
+use Rattle.conversion.specs.Pictures.{head_of, row_of}
 use Rattle.conversion.specs.Progress.{WritesPicture}
 use Rattle.conversion.specs.Conversions.{HasConverted, SinkState}
 use Rattle.conversion.specs.declared.done.Done.{Done}

@@ -1,24 +1,24 @@
-use Rattle.std.proofs.Common.{arith, ◌≡◌, ◌<◌, ◌≤◌, ◌+◌, ◌-◌, ◌*◌, ◌++◌, List, [], length, ℕ, take, drop, refl, subst, sym, ap, ap₂, ◌∙◌, append-nil, length-drop, map, nat_eq, if◌then◌else◌, Err}
+use Rattle.std.proofs.Common.{arith, ◌≡◌, ◌<◌, ◌≤◌, ◌+◌, ◌-◌, ◌*◌, ◌++◌, List, [], length, ℕ, take, drop, refl, subst}
+use Rattle.std.proofs.Common.{sym, ap, ap₂, ◌∙◌, append-nil, length-drop, map, nat_eq, if◌then◌else◌, Err}
 use Rattle.std.specs.Io.KnownBytes.{Appends}
 use Rattle.std.specs.List.{range_with_len}
 use Rattle.plot_page.specs.Segments.{Segment}
 use Rattle.plot_page.specs.declared.page.Page.{Page}
 use Rattle.plot_page.specs.declared.dots.Dots.{Dots}
 use Rattle.plot_page.specs.Resolutions.{columns_of, rows_of}
-use Rattle.stroke_raster.specs.Shown.{row_shown, rows_shown}
+use Rattle.stroke_raster.specs.Shown.{row_shown}
+use Rattle.stroke_raster.specs.Rows.{rows_shown}
 use Rattle.stroke_raster.specs.Bands.{first_of, rows_of_band}
-use Rattle.stroke_raster.specs.Boxes.{boxes, selected}
-use Rattle.stroke_raster.specs.Covers.{in_box}
+use Rattle.stroke_raster.specs.Boxes.{boxes, selected, in_box}
 use Rattle.stroke_raster.proofs.BoxCounts.{boxes_after, boxes_fewer}
 use Rattle.stroke_raster.specs.Painting.{rows_next}
 use Rattle.picture_out.specs.declared.inks.Ink.{Ink}
 use Rattle.picture_out.specs.Forms.{foot_bytes, row_bytes}
-use Rattle.devices.specs.Sinks.{taken_of}
+use Rattle.devices.specs.Sinks.{taken_of, SinkState}
 use Rattle.devices.proofs.KnownBytes.{written_next, cut_next, written_all}
-use Rattle.conversion.specs.Picture.{rows_bytes, picture_of, bytes_before}
-use Rattle.conversion.specs.Writings.{head_of, row_of}
+use Rattle.conversion.specs.Pictures.{rows_bytes, picture_of, head_of, row_of}
+use Rattle.conversion.specs.Stops.{bytes_before}
 use Rattle.conversion.specs.Progress.{rows_text, WritesRows}
-use Rattle.devices.specs.Sinks.{SinkState}
 use Rattle.conversion.proofs.Pictures.{before_rows, stopped_at}
 use Rattle.conversion.proofs.RowTexts.{text_is, band_next}
 use Rattle.conversion.proofs.Stops.{band_stop, same_rows, move_parts}

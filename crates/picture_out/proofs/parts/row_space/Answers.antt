@@ -5,7 +5,8 @@ use Rattle.picture_out.specs.declared.inks.Ink.{Ink}
 use Rattle.picture_out.specs.declared.marks.TheConstants.{LONGEST_LINE}
 use Rattle.picture_out.specs.declared.pcl.TheConstants.{LONGEST_COMMAND}
 use Rattle.picture_out.specs.Bits.{bytes_for}
-use Rattle.picture_out.specs.Forms.{row_bytes, room_of}
+use Rattle.picture_out.specs.Forms.{row_bytes}
+use Rattle.picture_out.specs.Rooms.{room_of}
 use Rattle.picture_out.specs.Marks.{marks}
 use Rattle.picture_out.proofs.Sizes.{packed_size, coloured_size, transferred_size}
 use Rattle.picture_out.proofs.Lines.{marks_row_size, pens_are_bytes}

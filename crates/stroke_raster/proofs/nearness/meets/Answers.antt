@@ -1,6 +1,6 @@
-use Rattle.std.proofs.Common.{rules, ◌≡◌, FitsSigned, arith}
+use Rattle.std.proofs.Common.{rules, FitsSigned, arith}
 use mir.Syntax.{w64, w128}
-use Rattle.std.proofs.lemmas.Int.{ints, to_z-of_z}
+use Rattle.std.proofs.lemmas.Int.{to_z-of_z}
 use Rattle.stroke_raster.proofs.Scaling.{first_is_near, last_is_near, beside_is_near}
 use Rattle.stroke_raster.proofs.nearness.meets.Goals as goal
 

@@ -2,7 +2,6 @@ use Rattle.std.proofs.Common.{rules, ◌≡◌, FitsSigned, arith, sym, ◌∙�
 use mir.Syntax.{w64, w128}
 use Rattle.std.proofs.lemmas.Int.{ints, to_z-of_z}
 use Rattle.stroke_raster.specs.Gap.{dot}
-use Rattle.stroke_raster.specs.Traces.{is_near}
 use Rattle.stroke_raster.proofs.Scaling.{beside_is_near}
 use Rattle.stroke_raster.proofs.nearness.meets_beside.Goals.{then-along-gt0, else-along-gt0}
 use Rattle.stroke_raster.proofs.nearness.meets_beside.Goals as goal

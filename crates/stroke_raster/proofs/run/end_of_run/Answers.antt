@@ -1,4 +1,4 @@
-use Rattle.std.proofs.Common.{◌≡◌, ℕ, ◌+◌, ◌-◌, ◌<◌, arith, sym, ap, ◌∙◌}
+use Rattle.std.proofs.Common.{◌≡◌, ℕ, ◌-◌, ◌<◌, arith, sym, ap, ◌∙◌}
 use Rattle.stroke_raster.specs.Traces.{is_met}
 use Rattle.stroke_raster.proofs.RunLemmas.{unmet_after}
 use Rattle.stroke_raster.proofs.run.end_of_run.Goals as goal

@@ -1,4 +1,4 @@
-use Rattle.std.proofs.Common.{◌≡◌, ℕ, ◌+◌, arith, inl, inr, sym, ap, ◌∙◌}
+use Rattle.std.proofs.Common.{◌≡◌, ℕ, arith, inl, inr, sym, ap, ◌∙◌}
 use Rattle.std.proofs.lemmas.Bool.{cases_lt}
 use Rattle.stroke_raster.specs.Traces.{is_met}
 use Rattle.stroke_raster.proofs.run.first_covered.Goals as goal

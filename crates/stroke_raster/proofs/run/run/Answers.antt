@@ -1,4 +1,4 @@
-use Rattle.std.proofs.Common.{◌≡◌, ◌+◌, ◌<◌, ◌≤◌, ℕ, arith, ap₂, ◌∙◌, pos}
+use Rattle.std.proofs.Common.{◌≡◌, ◌+◌, ◌<◌, ℕ, arith, ap₂, ◌∙◌, pos}
 use Rattle.stroke_raster.specs.Gap.{way, scaled}
 use Rattle.stroke_raster.specs.Covers.{centre, covers, first_end}
 use Rattle.stroke_raster.specs.Traces.{is_met}

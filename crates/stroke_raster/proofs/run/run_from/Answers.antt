@@ -1,4 +1,4 @@
-use Rattle.std.proofs.Common.{◌-◌, arith, refl}
+use Rattle.std.proofs.Common.{◌-◌, arith}
 use Rattle.stroke_raster.proofs.RunLemmas.{met_run}
 use Rattle.stroke_raster.proofs.run.run_from.Goals as goal
 

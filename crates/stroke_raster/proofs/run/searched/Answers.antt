@@ -1,4 +1,4 @@
-use Rattle.std.proofs.Common.{◌+◌, ◌-◌, arith}
+use Rattle.std.proofs.Common.{◌-◌, arith}
 use Rattle.stroke_raster.proofs.RunLemmas.{met_run}
 use Rattle.stroke_raster.proofs.run.searched.Goals as goal
 

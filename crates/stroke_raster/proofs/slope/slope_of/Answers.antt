@@ -1,4 +1,4 @@
-use Rattle.std.proofs.Common.{◌≡◌, ◌*◌, ◌^◌, ◌≤◌, arith, nat_abs, pos, ◌*ℤ◌, ap, ap₂, sym, subst, ◌∙◌, FitsSigned, ℕ, ℤ}
+use Rattle.std.proofs.Common.{◌≡◌, ◌*◌, ◌^◌, ◌≤◌, arith, nat_abs, pos, ◌*ℤ◌, ap, ap₂, sym, subst, ◌∙◌, FitsSigned, ℕ}
 use mir.Syntax.{w64}
 use Rattle.std.proofs.lemmas.Int.{ints, to_z-of_z}
 use Rattle.exact.proofs.Fit.{product_within}

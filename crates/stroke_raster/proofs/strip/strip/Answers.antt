@@ -1,4 +1,4 @@
-use Rattle.std.proofs.Common.{rules, ℤ, ◌^◌, ◌≤◌, arith, nat_abs, pos, neg_ℤ, ◌*ℤ◌, FitsSigned, cond, int_le, ap, ◌∙◌}
+use Rattle.std.proofs.Common.{rules, ℤ, arith, pos, neg_ℤ, ◌*ℤ◌, FitsSigned, cond, int_le, ap, ◌∙◌}
 use mir.Syntax.{w64}
 use Rattle.std.proofs.lemmas.Int.{ints, to_z-of_z}
 use Rattle.stroke_raster.proofs.StripLemmas.{Strip, outside_before, outside_after}

@@ -1,4 +1,4 @@
-use Rattle.std.proofs.Common.{rules, arith, ◌+ℤ◌, ◌-ℤ◌, ◌+◌, ◌*◌, ◌^◌, ◌<◌, ◌≤◌, FitsSigned}
+use Rattle.std.proofs.Common.{rules, arith, ◌+ℤ◌, ◌-ℤ◌, ◌^◌, ◌<◌, FitsSigned}
 use mir.Syntax.{w64}
 use Rattle.std.proofs.lemmas.Int.{ints, to_z-of_z}
 use Rattle.stroke_raster.proofs.StripLemmas.{after_core, before_core, size_from, size_past, size_some}

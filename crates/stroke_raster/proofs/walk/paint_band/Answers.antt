@@ -3,7 +3,7 @@ use Rattle.std.proofs.lemmas.List.{length-take-le}
 use Rattle.std.proofs.lemmas.Nat.{mul-le}
 use Rattle.plot_page.specs.Segments.{Segment}
 use Rattle.plot_page.specs.Resolutions.{columns_of}
-use Rattle.stroke_raster.specs.Shown.{marked_in_rows}
+use Rattle.stroke_raster.specs.Rows.{marked_in_rows}
 use Rattle.stroke_raster.proofs.Rows.{split_rows_first, painted_rows, marked_split_rows}
 use Rattle.stroke_raster.proofs.Slots.{wide_page}
 use Rattle.stroke_raster.proofs.Spans.{spanned_append, drop_spans, drop_cells, spans_length, cells_length}

@@ -1,9 +1,8 @@
 use Rattle.std.proofs.Common.{◌≡◌, ℕ, ◌+◌, ◌-◌, ◌/◌, ◌%◌, ◌<◌, ◌≤◌, ◌&&◌, nat_lt, cond, length, get_or, min}
 use Rattle.plot_page.specs.Segments.{Segment}
-use Rattle.stroke_raster.specs.Boxes.{box_pixels}
-use Rattle.stroke_raster.specs.Covers.{in_box}
+use Rattle.stroke_raster.specs.Boxes.{box_pixels, in_box}
 use Rattle.plot_page.specs.Resolutions.{columns_of}
-use Rattle.stroke_raster.specs.Shown.{marked}
+use Rattle.stroke_raster.specs.Rows.{marked}
 use Rattle.stroke_raster.specs.Spans.{Spanned}
 use Rattle.stroke_raster.specs.Tests.{MOST_TESTS}
 use Rattle.stroke_raster.proofs.walk.paint_stroke.Given as goal

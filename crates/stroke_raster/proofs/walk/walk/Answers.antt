@@ -1,15 +1,15 @@
 use Rattle.std.proofs.Common.{◌≡◌, ℕ, ◌+◌, ◌-◌, ◌<◌, ◌≤◌, true, nat_lt, length, get_or, take, refl, sym, ap, ◌∙◌, arith}
 use Rattle.plot_page.specs.Segments.{Segment}
-use Rattle.stroke_raster.specs.Covers.{in_box}
+use Rattle.stroke_raster.specs.Boxes.{in_box, box_pixels}
 use Rattle.stroke_raster.specs.Extents.{end_row_of}
 use Rattle.plot_page.specs.Pens.{has_pen}
 use Rattle.plot_page.specs.Resolutions.{columns_of}
-use Rattle.stroke_raster.specs.Boxes.{box_pixels}
 use Rattle.stroke_raster.specs.Slots.{band_of, goes_on, stroke_at}
 use Rattle.stroke_raster.proofs.Chains.{start, step, finish, due_began}
 use Rattle.stroke_raster.proofs.Middle.{marked_blank}
 use Rattle.stroke_raster.proofs.BoxCounts.{boxes_slot, boxes_grow}
-use Rattle.stroke_raster.proofs.Slots.{goes_on_falls, goes_is, slot_is, quiet, painted_start, painted_step, due_selected, wide_page, take_whole, painted_as}
+use Rattle.stroke_raster.proofs.Slots.{goes_on_falls, goes_is, slot_is, quiet, painted_start, painted_step}
+use Rattle.stroke_raster.proofs.Slots.{due_selected, wide_page, take_whole, painted_as}
 use Rattle.stroke_raster.proofs.walk.walk.Goals as goal
 
 pub slots-init : goal.slots-init

@@ -1,9 +1,8 @@
 use Rattle.std.proofs.Common.{◌≡◌, ◌≤◌, ◌+◌, ◌-◌, min, take, length}
 use Rattle.plot_page.specs.Segments.{Segment}
-use Rattle.stroke_raster.specs.Covers.{in_box}
+use Rattle.stroke_raster.specs.Boxes.{in_box, selected, boxes}
 use Rattle.plot_page.specs.Resolutions.{columns_of}
-use Rattle.stroke_raster.specs.Boxes.{selected, boxes}
-use Rattle.stroke_raster.specs.Shown.{marked}
+use Rattle.stroke_raster.specs.Rows.{marked}
 use Rattle.stroke_raster.specs.Spans.{Spanned}
 use Rattle.stroke_raster.specs.Tests.{MOST_TESTS}
 use Rattle.stroke_raster.specs.Chains.{Ahead, Kept}

@@ -1,0 +1,100 @@
+-- The picture of a plot: its head if it begins with row 0, its rows, its foot. Why a plot has none.
+use Rattle.std.specs.Prelude.{◌≡◌, ℕ, zero, suc, ◌+◌, ◌-◌, ◌<◌, ◌≤◌, List, [], ◌++◌, length, nat_eq, if◌then◌else◌}
+use Rattle.std.specs.Prelude.{Bool, map, nat_lt, false, not, Option, Some, None, option_map, ⊤}
+use Rattle.plot_page.specs.Segments.{Segment}
+use Rattle.plot_page.specs.declared.page.Page.{Page}
+use Rattle.plot_page.specs.declared.dots.Dots.{Dots}
+use Rattle.plot_page.specs.declared.pens.PenSet.{PenSet}
+use Rattle.plot_page.specs.Resolutions.{columns_of, rows_of}
+use Rattle.stroke_raster.specs.Shown.{row_shown}
+use Rattle.picture_out.specs.declared.form.Form.{Form}
+use Rattle.picture_out.specs.declared.inks.Ink.{Ink}
+use Rattle.picture_out.specs.Forms.{head_bytes, row_bytes, foot_bytes, takes_resolution}
+use Rattle.stroke_raster.specs.Covers.{covers}
+use Rattle.stroke_raster.specs.BandHeights.{is_band_height}
+use Rattle.hpgl_text.specs.declared.program.TheConstants.{LONGEST_PLOT}
+use Rattle.picture_job.specs.declared.job.Job.{Job}
+use Rattle.conversion.specs.Faults.{of_plot}
+use Rattle.conversion.specs.Plots.{strokes, refusal}
+use Rattle.conversion.specs.declared.fault.Fault.{Fault}
+use Rattle.conversion.specs.declared.fault.Fault.TheVariants.{TooLong, Memory, Band, Row, Write, Read, Resolution}
+
+-- this many rows, from one on
+abbrev pub rows_bytes : (ℕ → List ℕ) → ℕ → ℕ → List ℕ
+rows_bytes row r zero = []
+rows_bytes row r (suc n) = row r ++ rows_bytes row (r + 1) n
+
+-- only a picture from row 0 on has the head
+abbrev pub head_if : List ℕ → ℕ → List ℕ
+head_if head first = if nat_eq first 0 then head else []
+
+abbrev pub picture_of : List ℕ → (ℕ → List ℕ) → List ℕ → ℕ → ℕ → List ℕ
+picture_of head row foot rows first = head_if head first ++ (rows_bytes row first (rows - first) ++ foot)
+
+-- what a gauge reaches: whether a stroke does a pixel of a page
+abbrev pub Reach : Type 0
+Reach = Segment → Page → Dots → ℕ → ℕ → Bool
+
+-- the pen and the colour of a stroke
+abbrev pub ink_of : Segment → Ink
+ink_of s = record { pen = s.pen; red = s.colour.red; green = s.colour.green; blue = s.colour.blue }
+
+-- those of each stroke of a list, in order
+abbrev pub inks_of : List Segment → List Ink
+inks_of strokes = map ink_of strokes
+
+-- the bytes of each row of the picture of strokes, by what a gauge reaches
+abbrev pub row_of : Form → Reach → PenSet → List Segment → Page → Dots → ℕ → List ℕ
+row_of form reaches pens strokes page dots row =
+    row_bytes form row (inks_of strokes) (row_shown (λ s. reaches s page dots) pens strokes (columns_of page dots) row)
+
+abbrev pub head_of : Form → Page → Dots → List ℕ
+head_of form page dots = head_bytes form dots.resolution (columns_of page dots) (rows_of page dots)
+
+-- the gauge that reaches what a stroke covers
+abbrev pub exact : Reach
+exact s page dots row column = covers s page dots row column
+
+-- the rows of a job's picture, by what a gauge reaches
+abbrev pub job_row : Job → Reach → List ℕ → ℕ → List ℕ
+job_row job reaches plot row = row_of job.form reaches job.pens (strokes job.page plot) job.page job.dots row
+
+-- the picture of a job and a plot: the head if it begins with row 0, the rows from its first row on, the foot
+abbrev pub picture : Job → Reach → List ℕ → List ℕ
+picture job reaches plot =
+    picture_of (head_of job.form job.page job.dots) (job_row job reaches plot) (foot_bytes job.form) (rows_of job.page job.dots) job.first_row
+
+-- the job's form has its resolution; if not, nothing is read
+abbrev pub has_resolution : Job → Bool
+has_resolution job = takes_resolution job.form job.dots.resolution
+
+-- why a job cannot be done on its page, whatever the plot: its band height, and then its first row
+abbrev pub job_fault : Job → Option Fault
+job_fault job =
+    if not (is_band_height job.band) then Some Band else
+    if nat_lt (rows_of job.page job.dots) job.first_row then Some Row else
+    None
+
+-- the first of two, if there is one
+abbrev pub first_fault : Option Fault → Option Fault → Option Fault
+first_fault (Some fault) later = Some fault
+first_fault None later = later
+
+-- why a plot that was read whole has no picture of a job, or None if it has one: the plot's refusal for the page, and
+-- then the job's fault
+abbrev pub fault_of : Job → List ℕ → Option Fault
+fault_of job plot = first_fault (option_map of_plot (refusal job.page plot)) (job_fault job)
+
+-- a plot has a picture of a job: it is not too long, and nothing refuses it
+pub record HasPicture (job : Job) (plot : List ℕ) : Type 0 where
+  pub within : length plot ≤ LONGEST_PLOT
+  pub accepted : fault_of job plot ≡ None
+
+-- why a plot in memory has no picture of a job. No device fails; what memory does is left open
+abbrev pub Refuses : Job → List ℕ → Fault → Type 0
+Refuses job plot TooLong = LONGEST_PLOT < length plot
+Refuses job plot (Write row whole bytes) = ⊥
+Refuses job plot Read = ⊥
+Refuses job plot Memory = ⊤
+Refuses job plot Resolution = has_resolution job ≡ false
+Refuses job plot fault = fault_of job plot ≡ Some fault
