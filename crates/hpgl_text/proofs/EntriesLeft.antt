@@ -4,58 +4,58 @@ use Rattle.std.proofs.lemmas.Bool.{cases_lt}
 use Rattle.std.proofs.lemmas.Bool.Decides.{nat_tests}
 use Rattle.std.proofs.lemmas.List.Sums.{take_while-cons}
 use Rattle.std.specs.List.{list_any, cons_option}
-use Rattle.hpgl_text.specs.declared.coding.Coding.{Coding}
-use Rattle.hpgl_text.specs.declared.mark.Mark.{Mark}
-use Rattle.hpgl_text.specs.declared.mark.Mark.TheVariants.{Blank, Narrow, Up, Absolute, FractionBits, Pen, Pair, Stray, Dropped, Bad, Cut}
+use Rattle.hpgl_text.specs.declared.polyline.coding.Coding.{Coding}
+use Rattle.hpgl_text.specs.declared.polyline.kind.PieceKind.{PieceKind}
+use Rattle.hpgl_text.specs.declared.polyline.kind.PieceKind.TheVariants.{Blank, Narrow, Up, Absolute, FractionBits, Pen, Pair, Stray, Dropped, Bad, Cut}
 use Rattle.hpgl_text.specs.EntryShapes.{PartShape, EntryShape}
 use Rattle.hpgl_text.specs.Polylines.{Piece, piece_at, is_final, base_after, pieces_from}
 use Rattle.hpgl_text.specs.Polylines.{bits_after, is_pair, is_up, is_absolute, since_pair, coding_after, part_of, entry, strays, entries_of, entries_from, entries}
 use Rattle.hpgl_text.specs.Carried.{next_coding, entries_by, entries_left}
 use Rattle.hpgl_text.proofs.EntryCounts.{piece_takes}
 
-abbrev piece_by : Mark → ℕ → List ℕ → ℕ → Piece
-piece_by mark gap_at gap bytes = record { mark = mark; gap_at = gap_at; gap = gap; bytes = bytes }
+abbrev piece_by : PieceKind → ℕ → List ℕ → ℕ → Piece
+piece_by kind gap_at gap bytes = record { kind = kind; gap_at = gap_at; gap = gap; bytes = bytes }
 
 -- the pieces since the last pair, with one more
-kept : (before : List Piece) (piece : Piece) → is_pair piece.mark ≡ false → since_pair (piece ∷ before) ≡ piece ∷ since_pair before
-kept before piece h = take_while-cons (λ (p : Piece). not (is_pair p.mark)) piece before ∙ rw h refl
+kept : (before : List Piece) (piece : Piece) → is_pair piece.kind ≡ false → since_pair (piece ∷ before) ≡ piece ∷ since_pair before
+kept before piece h = take_while-cons (λ (p : Piece). not (is_pair p.kind)) piece before ∙ rw h refl
 
-begun : (before : List Piece) (piece : Piece) → is_pair piece.mark ≡ true → since_pair (piece ∷ before) ≡ []
-begun before piece h = take_while-cons (λ (p : Piece). not (is_pair p.mark)) piece before ∙ rw h refl
+begun : (before : List Piece) (piece : Piece) → is_pair piece.kind ≡ true → since_pair (piece ∷ before) ≡ []
+begun before piece h = take_while-cons (λ (p : Piece). not (is_pair p.kind)) piece before ∙ rw h refl
 
 -- the flags are those of these pieces
 abbrev coding_with : List Piece → List Piece → Coding
 coding_with before since = record {
   base = base_after before;
   bits = bits_after before;
-  up = list_any (λ (p : Piece). is_up p.mark) since;
-  absolute = list_any (λ (p : Piece). is_absolute p.mark) since;
+  up = list_any (λ (p : Piece). is_up p.kind) since;
+  absolute = list_any (λ (p : Piece). is_absolute p.kind) since;
 }
 
-unpaired : (before : List Piece) (piece : Piece) → is_pair piece.mark ≡ false → coding_with (piece ∷ before) (piece ∷ since_pair before) ≡ coding_after (piece ∷ before)
+unpaired : (before : List Piece) (piece : Piece) → is_pair piece.kind ≡ false → coding_with (piece ∷ before) (piece ∷ since_pair before) ≡ coding_after (piece ∷ before)
 unpaired before piece h = ap (coding_with (piece ∷ before)) (sym (kept before piece h))
 
-one_more_mark : (before : List Piece) (mark : Mark) (gap_at : ℕ) (gap : List ℕ) (bytes : ℕ) → next_coding (coding_after before) mark ≡ coding_after (piece_by mark gap_at gap bytes ∷ before)
-one_more_mark before Blank gap_at gap bytes = unpaired before (piece_by Blank gap_at gap bytes) refl
-one_more_mark before Narrow gap_at gap bytes = unpaired before (piece_by Narrow gap_at gap bytes) refl
-one_more_mark before Up gap_at gap bytes = unpaired before (piece_by Up gap_at gap bytes) refl
-one_more_mark before Absolute gap_at gap bytes = unpaired before (piece_by Absolute gap_at gap bytes) refl
-one_more_mark before (FractionBits n) gap_at gap bytes = unpaired before (piece_by (FractionBits n) gap_at gap bytes) refl
-one_more_mark before (Pen n) gap_at gap bytes = unpaired before (piece_by (Pen n) gap_at gap bytes) refl
-one_more_mark before (Pair x y) gap_at gap bytes = ap (coding_with (piece_by (Pair x y) gap_at gap bytes ∷ before)) (sym (begun before (piece_by (Pair x y) gap_at gap bytes) refl))
-one_more_mark before (Stray b) gap_at gap bytes = unpaired before (piece_by (Stray b) gap_at gap bytes) refl
-one_more_mark before Dropped gap_at gap bytes = unpaired before (piece_by Dropped gap_at gap bytes) refl
-one_more_mark before Bad gap_at gap bytes = unpaired before (piece_by Bad gap_at gap bytes) refl
-one_more_mark before Cut gap_at gap bytes = unpaired before (piece_by Cut gap_at gap bytes) refl
+one_more_kind : (before : List Piece) (kind : PieceKind) (gap_at : ℕ) (gap : List ℕ) (bytes : ℕ) → next_coding (coding_after before) kind ≡ coding_after (piece_by kind gap_at gap bytes ∷ before)
+one_more_kind before Blank gap_at gap bytes = unpaired before (piece_by Blank gap_at gap bytes) refl
+one_more_kind before Narrow gap_at gap bytes = unpaired before (piece_by Narrow gap_at gap bytes) refl
+one_more_kind before Up gap_at gap bytes = unpaired before (piece_by Up gap_at gap bytes) refl
+one_more_kind before Absolute gap_at gap bytes = unpaired before (piece_by Absolute gap_at gap bytes) refl
+one_more_kind before (FractionBits n) gap_at gap bytes = unpaired before (piece_by (FractionBits n) gap_at gap bytes) refl
+one_more_kind before (Pen n) gap_at gap bytes = unpaired before (piece_by (Pen n) gap_at gap bytes) refl
+one_more_kind before (Pair x y) gap_at gap bytes = ap (coding_with (piece_by (Pair x y) gap_at gap bytes ∷ before)) (sym (begun before (piece_by (Pair x y) gap_at gap bytes) refl))
+one_more_kind before (Stray b) gap_at gap bytes = unpaired before (piece_by (Stray b) gap_at gap bytes) refl
+one_more_kind before Dropped gap_at gap bytes = unpaired before (piece_by Dropped gap_at gap bytes) refl
+one_more_kind before Bad gap_at gap bytes = unpaired before (piece_by Bad gap_at gap bytes) refl
+one_more_kind before Cut gap_at gap bytes = unpaired before (piece_by Cut gap_at gap bytes) refl
 
-one_more : (before : List Piece) (piece : Piece) → next_coding (coding_after before) piece.mark ≡ coding_after (piece ∷ before)
-one_more before piece = one_more_mark before piece.mark piece.gap_at piece.gap piece.bytes
+one_more : (before : List Piece) (piece : Piece) → next_coding (coding_after before) piece.kind ≡ coding_after (piece ∷ before)
+one_more before piece = one_more_kind before piece.kind piece.gap_at piece.gap piece.bytes
 
 -- a piece, and the entries after it
 abbrev then_left : ℕ → Bool → Coding → ℕ → List ℕ → Piece → List EntryShape
-then_left n closed coding at text piece = entries_of coding at piece ++ (elim (is_final piece.mark) [
+then_left n closed coding at text piece = entries_of coding at piece ++ (elim (is_final piece.kind) [
   | true ↦ []
-  | false ↦ entries_by n closed (next_coding coding piece.mark) (at + piece.bytes) (drop piece.bytes text)
+  | false ↦ entries_by n closed (next_coding coding piece.kind) (at + piece.bytes) (drop piece.bytes text)
 ])
 
 is_more : (n : ℕ) → 0 < n → nat_lt 0 n ≡ true
@@ -82,8 +82,8 @@ same_left (suc n) (suc m) closed coding at text h k = elim (cases_lt 0 (length t
       let takes = piece_takes coding.base closed text some in
       let l = length-drop piece.bytes text in
       by_piece n closed coding at text some
-      ∙ ap (λ (es : List EntryShape). entries_of coding at piece ++ (elim (is_final piece.mark) [ true ↦ [] | false ↦ es ]))
-      (same_left n m closed (next_coding coding piece.mark) (at + piece.bytes) (drop piece.bytes text) (omega (arith, takes, l)) (omega (arith, takes, l)))
+      ∙ ap (λ (es : List EntryShape). entries_of coding at piece ++ (elim (is_final piece.kind) [ true ↦ [] | false ↦ es ]))
+      (same_left n m closed (next_coding coding piece.kind) (at + piece.bytes) (drop piece.bytes text) (omega (arith, takes, l)) (omega (arith, takes, l)))
       ∙ sym (by_piece m closed coding at text some))
 ]
 
@@ -96,19 +96,19 @@ first_left : (closed : Bool) (coding : Coding) (at : ℕ) (text : List ℕ) → 
 first_left closed coding at text h = same_left (length text) (suc (length text)) closed coding at text (omega arith) (omega arith) ∙ by_piece (length text) closed coding at text h
 
 -- the last piece
-last_left : (closed : Bool) (coding : Coding) (at : ℕ) (text : List ℕ) (piece : Piece) → 0 < length text → piece ≡ piece_at coding.base closed text → is_final piece.mark ≡ true
+last_left : (closed : Bool) (coding : Coding) (at : ℕ) (text : List ℕ) (piece : Piece) → 0 < length text → piece ≡ piece_at coding.base closed text → is_final piece.kind ≡ true
     → entries_left closed coding at text ≡ entries_of coding at piece
 last_left closed coding at text piece h p f =
     first_left closed coding at text h ∙ ap (then_left (length text) closed coding at text) (sym p) ∙ rw f (append-nil (entries_of coding at piece))
 
 -- a piece that is not the last
-next_left : (closed : Bool) (coding coding' : Coding) (at : ℕ) (text : List ℕ) (piece : Piece) → 0 < length text → piece ≡ piece_at coding.base closed text → is_final piece.mark ≡ false
-    → coding' ≡ next_coding coding piece.mark → entries_left closed coding at text ≡ entries_of coding at piece ++ entries_left closed coding' (at + piece.bytes) (drop piece.bytes text)
+next_left : (closed : Bool) (coding coding' : Coding) (at : ℕ) (text : List ℕ) (piece : Piece) → 0 < length text → piece ≡ piece_at coding.base closed text → is_final piece.kind ≡ false
+    → coding' ≡ next_coding coding piece.kind → entries_left closed coding at text ≡ entries_of coding at piece ++ entries_left closed coding' (at + piece.bytes) (drop piece.bytes text)
 next_left closed coding coding' at text piece h p f c =
     let takes = ap (λ (x : Piece). x.bytes) p in
     first_left closed coding at text h ∙ ap (then_left (length text) closed coding at text) (sym p)
     ∙ rw f (ap (λ (es : List EntryShape). entries_of coding at piece ++ es)
-    (same_left (length text) (length (drop piece.bytes text)) closed (next_coding coding piece.mark) (at + piece.bytes) (drop piece.bytes text) (omega (arith, length-drop piece.bytes text)) (omega arith)
+    (same_left (length text) (length (drop piece.bytes text)) closed (next_coding coding piece.kind) (at + piece.bytes) (drop piece.bytes text) (omega (arith, length-drop piece.bytes text)) (omega arith)
     ∙ ap (λ (x : Coding). entries_left closed x (at + piece.bytes) (drop piece.bytes text)) (sym c)))
 
 -- the entry of a piece, if it has one of its own, its strays, and what follows them
@@ -117,15 +117,15 @@ with_rest None at within rest = refl
 with_rest (Some what) at within rest = refl
 
 pub last_read : (closed : Bool) (coding : Coding) (at : ℕ) (text : List ℕ) (piece : Piece) (part : Option PartShape) (within : List EntryShape) (at' : ℕ) → 0 < length text
-    → piece ≡ piece_at coding.base closed text → is_final piece.mark ≡ true → part_of coding piece.mark ≡ part → within ≡ strays (at + piece.gap_at) piece.gap
+    → piece ≡ piece_at coding.base closed text → is_final piece.kind ≡ true → part_of coding piece.kind ≡ part → within ≡ strays (at + piece.gap_at) piece.gap
     → entries_left closed coding at text ≡ cons_option (option_map (entry at) part) (within ++ entries_left closed coding at' [])
 last_read closed coding at text piece part within at' h p f e w =
     last_left closed coding at text piece h p f
     ∙ ap₂ (λ (x : Option PartShape) (es : List EntryShape). cons_option (option_map (entry at) x) es) e (sym w ∙ sym (append-nil within))
 
 pub next_read : (closed : Bool) (coding coding' : Coding) (at at' : ℕ) (text text' : List ℕ) (piece : Piece) (part : Option PartShape) (within : List EntryShape) → 0 < length text
-    → piece ≡ piece_at coding.base closed text → is_final piece.mark ≡ false → part_of coding piece.mark ≡ part → within ≡ strays (at + piece.gap_at) piece.gap
-    → coding' ≡ next_coding coding piece.mark → at' ≡ at + piece.bytes → text' ≡ drop piece.bytes text
+    → piece ≡ piece_at coding.base closed text → is_final piece.kind ≡ false → part_of coding piece.kind ≡ part → within ≡ strays (at + piece.gap_at) piece.gap
+    → coding' ≡ next_coding coding piece.kind → at' ≡ at + piece.bytes → text' ≡ drop piece.bytes text
     → entries_left closed coding at text ≡ cons_option (option_map (entry at) part) (within ++ entries_left closed coding' at' text')
 next_read closed coding coding' at at' text text' piece part within h p f e w c a t =
     next_left closed coding coding' at text piece h p f c
@@ -146,9 +146,9 @@ looks_back (suc n) closed before at text = elim (cases_lt 0 (length text)) [
   | inl some ↦ (let e = is_more (length text) some in
       let piece = piece_at (base_after before) closed text in
       let rest = drop piece.bytes text in
-      let next : entries_from (piece ∷ before) (at + piece.bytes) (pieces_from n closed (piece ∷ before) rest) ≡ entries_by n closed (next_coding (coding_after before) piece.mark) (at + piece.bytes) rest =
+      let next : entries_from (piece ∷ before) (at + piece.bytes) (pieces_from n closed (piece ∷ before) rest) ≡ entries_by n closed (next_coding (coding_after before) piece.kind) (at + piece.bytes) rest =
       looks_back n closed (piece ∷ before) (at + piece.bytes) rest ∙ ap (λ (x : Coding). entries_by n closed x (at + piece.bytes) rest) (sym (one_more before piece)) in
-      rw (e, pieces_from, entries_by) (ap (λ (es : List EntryShape). entries_of (coding_after before) at piece ++ es) (after_piece (is_final piece.mark) (piece ∷ before) (at + piece.bytes) _ _ next)))
+      rw (e, pieces_from, entries_by) (ap (λ (es : List EntryShape). entries_of (coding_after before) at piece ++ es) (after_piece (is_final piece.kind) (piece ∷ before) (at + piece.bytes) _ _ next)))
 ]
 
 -- all the entries are left at the beginning

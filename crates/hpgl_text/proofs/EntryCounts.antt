@@ -11,10 +11,10 @@ use Rattle.hpgl_text.specs.EntryShapes.{PartShape, EntryShape}
 use Rattle.hpgl_text.specs.Polylines.{Piece, plain, gap_length, gap_of, past_gap, completed, is_within, flag_piece, without_number, pair_piece, is_cut, number_piece, piece_at, starts_number, is_final, base_after, pieces_from}
 use Rattle.hpgl_text.specs.Polylines.{entry, strays, entries_of, entries_from, part_of, coding_after}
 use Rattle.hpgl_text.specs.Laws.{EntriesAreFew}
-use Rattle.hpgl_text.specs.declared.base.Base.{Base}
-use Rattle.hpgl_text.specs.declared.coding.Coding.{Coding}
-use Rattle.hpgl_text.specs.declared.mark.Mark.{Mark}
-use Rattle.hpgl_text.specs.declared.mark.Mark.TheVariants.{Blank, Narrow, Up, Absolute, FractionBits, Pen, Pair, Stray, Bad, Cut}
+use Rattle.hpgl_text.specs.declared.polyline.base.Base.{Base}
+use Rattle.hpgl_text.specs.declared.polyline.coding.Coding.{Coding}
+use Rattle.hpgl_text.specs.declared.polyline.kind.PieceKind.{PieceKind}
+use Rattle.hpgl_text.specs.declared.polyline.kind.PieceKind.TheVariants.{Blank, Narrow, Up, Absolute, FractionBits, Pen, Pair, Stray, Bad, Cut}
 
 -- a code takes a byte at least
 abbrev Takes : Option Code → Type 0
@@ -55,8 +55,8 @@ fits_if : (text : List ℕ) (b : Bool) (p q : Piece) → (b ≡ true → Fits te
 fits_if text true p q h k = h refl
 fits_if text false p q h k = k
 
-plain_fits : (text : List ℕ) (mark : Mark) (bytes : ℕ) → 0 < length text → 0 < bytes → Fits text (plain mark bytes)
-plain_fits text mark bytes h k = record { in_text = omega arith; in_piece = omega arith }
+plain_fits : (text : List ℕ) (kind : PieceKind) (bytes : ℕ) → 0 < length text → 0 < bytes → Fits text (plain kind bytes)
+plain_fits text kind bytes h k = record { in_text = omega arith; in_piece = omega arith }
 
 gap_short : (base : Base) (text : List ℕ) → length (gap_of base text) ≤ gap_length base text
 gap_short base text = omega (arith, length-take (gap_length base text) text)
@@ -64,24 +64,24 @@ gap_short base text = omega (arith, length-take (gap_length base text) text)
 gap_inside : (base : Base) (text : List ℕ) → length (gap_of base text) ≤ length text
 gap_inside base text = omega (arith, length-take (gap_length base text) text)
 
-completed_fits : (mark : Mark) (bytes : ℕ) (base : Base) (text : List ℕ) (n : CodedNumber) → 0 < length text → 0 < bytes
-    → Fits text (completed mark bytes base (drop bytes text) n)
-completed_fits mark bytes base text n h k = record {
+completed_fits : (kind : PieceKind) (bytes : ℕ) (base : Base) (text : List ℕ) (n : CodedNumber) → 0 < length text → 0 < bytes
+    → Fits text (completed kind bytes base (drop bytes text) n)
+completed_fits kind bytes base text n h k = record {
   in_text = omega (arith, gap_inside base (drop bytes text), length-drop bytes text);
   in_piece = omega (arith, gap_short base (drop bytes text));
 }
 
-flag_by : (mark : ℕ → Mark) (most : ℕ) (base : Base) (closed : Bool) (text : List ℕ) (o : Option CodedNumber) → 0 < length text
+flag_by : (kind : ℕ → PieceKind) (most : ℕ) (base : Base) (closed : Bool) (text : List ℕ) (o : Option CodedNumber) → 0 < length text
     → Fits text (elim o [
       | None ↦ plain (without_number base closed (past_gap base (drop 1 text))) 1
-      | Some n ↦ if is_within most n.value then completed (mark (nat_abs n.value)) 1 base (drop 1 text) n else plain Bad 1
+      | Some n ↦ if is_within most n.value then completed (kind (nat_abs n.value)) 1 base (drop 1 text) n else plain Bad 1
     ])
-flag_by mark most base closed text None h = plain_fits text (without_number base closed (past_gap base (drop 1 text))) 1 h (omega arith)
-flag_by mark most base closed text (Some n) h = fits_if text (is_within most n.value) _ _
-    (λ _. completed_fits (mark (nat_abs n.value)) 1 base text n h (omega arith)) (plain_fits text Bad 1 h (omega arith))
+flag_by kind most base closed text None h = plain_fits text (without_number base closed (past_gap base (drop 1 text))) 1 h (omega arith)
+flag_by kind most base closed text (Some n) h = fits_if text (is_within most n.value) _ _
+    (λ _. completed_fits (kind (nat_abs n.value)) 1 base text n h (omega arith)) (plain_fits text Bad 1 h (omega arith))
 
-flag_fits : (mark : ℕ → Mark) (most : ℕ) (base : Base) (closed : Bool) (text : List ℕ) → 0 < length text → Fits text (flag_piece mark most base closed (drop 1 text))
-flag_fits mark most base closed text h = flag_by mark most base closed text (coded_number base (past_gap base (drop 1 text))) h
+flag_fits : (kind : ℕ → PieceKind) (most : ℕ) (base : Base) (closed : Bool) (text : List ℕ) → 0 < length text → Fits text (flag_piece kind most base closed (drop 1 text))
+flag_fits kind most base closed text h = flag_by kind most base closed text (coded_number base (past_gap base (drop 1 text))) h
 
 pair_by : (x : CodedNumber) (base : Base) (closed : Bool) (text : List ℕ) (o : Option CodedNumber) → 0 < length text → 0 < x.bytes
     → Fits text (elim o [
@@ -130,7 +130,7 @@ one_more at None es = omega arith
 one_more at (Some p) es = omega arith
 
 piece_few : (coding : Coding) (at : ℕ) (piece : Piece) → length (entries_of coding at piece) ≤ 1 + length piece.gap
-piece_few coding at piece = omega (arith, one_more at (part_of coding piece.mark) (strays (at + piece.gap_at) piece.gap), strays_few (at + piece.gap_at) piece.gap)
+piece_few coding at piece = omega (arith, one_more at (part_of coding piece.kind) (strays (at + piece.gap_at) piece.gap), strays_few (at + piece.gap_at) piece.gap)
 
 -- the pieces after a final one are none
 rest_few : (final : Bool) (before : List Piece) (at n : ℕ) (pieces : List Piece) → length (entries_from before at pieces) ≤ n
@@ -145,7 +145,7 @@ FewNext n = (closed : Bool) (earlier : List Piece) (text : List ℕ) (before : L
 few_step : (more : Bool) (n : ℕ) → FewNext n → (closed : Bool) (earlier : List Piece) (text : List ℕ) (before : List Piece) (at : ℕ) → nat_lt 0 (length text) ≡ more
     → length (entries_from before at (elim more [
       | false ↦ []
-      | true ↦ piece_at (base_after earlier) closed text ∷ (elim (is_final (piece_at (base_after earlier) closed text).mark) [
+      | true ↦ piece_at (base_after earlier) closed text ∷ (elim (is_final (piece_at (base_after earlier) closed text).kind) [
         | true ↦ []
         | false ↦ pieces_from n closed (piece_at (base_after earlier) closed text ∷ earlier) (drop (piece_at (base_after earlier) closed text).bytes text)
       ])
@@ -156,9 +156,9 @@ few_step true n next closed earlier text before at e =
     let left = pieces_from n closed (piece ∷ earlier) (drop piece.bytes text) in
     let some : 0 < length text = grind (arith, nat_tests, e) in
     let fits = piece_fits (base_after earlier) closed text some in
-    let rest = rest_few (is_final piece.mark) (piece ∷ before) (at + piece.bytes) (length text - piece.bytes) left
+    let rest = rest_few (is_final piece.kind) (piece ∷ before) (at + piece.bytes) (length text - piece.bytes) left
     (omega (arith, next closed (piece ∷ earlier) (drop piece.bytes text) (piece ∷ before) (at + piece.bytes), length-drop piece.bytes text)) in
-    omega (arith, length-append (entries_of (coding_after before) at piece) (entries_from (piece ∷ before) (at + piece.bytes) (elim (is_final piece.mark) [ true ↦ [] | false ↦ left ])), piece_few (coding_after before) at piece, fits.in_text, fits.in_piece, rest)
+    omega (arith, length-append (entries_of (coding_after before) at piece) (entries_from (piece ∷ before) (at + piece.bytes) (elim (is_final piece.kind) [ true ↦ [] | false ↦ left ])), piece_few (coding_after before) at piece, fits.in_text, fits.in_piece, rest)
 
 few_from : (n : ℕ) → FewNext n
 few_from zero closed earlier text before at = omega arith

@@ -1,6 +1,6 @@
 use Rattle.std.proofs.Common.{◌≡◌, ◌+◌, ◌<◌, ◌^◌, length}
 use Rattle.hpgl_text.specs.Polylines.{strays}
-use Rattle.hpgl_text.proofs.strays.StraysIterator.next.Given as goal
+use Rattle.hpgl_text.proofs.polyline.strays.StraysIterator.next.Given as goal
 
 -- what is left of the gap has all the strays that are to come
 abbrev pub invariant-blanks : goal.invariant-blanks

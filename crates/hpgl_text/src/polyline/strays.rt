@@ -4,7 +4,7 @@ ghost use Rattle.std.specs.Iterator.{YieldsFirst, item_count};
 ghost use Rattle.hpgl_text.specs.Polylines.{strays};
 
 use crate::bytes::is_blank_byte;
-use crate::entry::{Entry, Part};
+use crate::polyline::entry::{Entry, Part};
 use std::marker::Model;
 
 /// The strays that are to come among the blanks and strays of a gap, whose first byte has a place in

@@ -1,9 +1,9 @@
 use Rattle.std.proofs.Common.{◌∙◌, ap, List, ◌++◌}
-use Rattle.hpgl_text.specs.declared.coding.Coding.{Coding}
+use Rattle.hpgl_text.specs.declared.polyline.coding.Coding.{Coding}
 use Rattle.hpgl_text.specs.EntryShapes.{EntryShape}
 use Rattle.hpgl_text.specs.Carried.{entries_left}
 use Rattle.hpgl_text.proofs.EntriesLeft.{all_left}
-use Rattle.hpgl_text.proofs.entries.Entries.new.Goals as goal
+use Rattle.hpgl_text.proofs.polyline.entries.Entries.new.Goals as goal
 
 pub returns : goal.returns
 returns c =
