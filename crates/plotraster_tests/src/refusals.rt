@@ -142,6 +142,17 @@ fn the_rest_of_a_plot_too_long(rt: HostRuntime) -> Result<(), Fail> {
     Ok(())
 }
 
+// A plot is read 65,536 bytes at a time.
+#[test]
+fn the_pieces_of_a_plot(rt: HostRuntime) -> Result<(), Fail> {
+    let mut source = Semicolons::new(200_000);
+    let (answer, written) = converted(&rt, &mut source)?;
+    assert!(rt; answer.is_ok());
+    assert_eq!(rt; written, 0);
+    assert_eq!(rt; (source.left, source.most_asked), (0, 65_536));
+    Ok(())
+}
+
 #[test]
 fn a_source_that_fails(rt: HostRuntime) -> Result<(), Fail> {
     let mut source = Semicolons::failing();

@@ -3,10 +3,12 @@ ghost use Rattle.std.specs.Prelude.{◌≡◌, None};
 
 use plotraster::{Source, SourceFault};
 
-/// A source of `left` bytes `;`, or one that fails.
+/// A source of `left` bytes `;`, or one that fails. `most_asked` is the greatest number of bytes that it
+/// was asked for at once.
 #[derive(Drop)]
 pub struct Semicolons {
     pub left: usize,
+    pub most_asked: usize,
     pub fails: bool,
     pub failures: u64,
     pub ends: u64,
@@ -20,6 +22,7 @@ impl Semicolons {
     {
         Semicolons {
             left,
+            most_asked: 0,
             fails: false,
             failures: 0,
             ends: 0,
@@ -42,6 +45,7 @@ impl Source for Semicolons {
     ghost state = { λ s. record { left = None; faults = s.failures; ends = s.ends } };
 
     fn get(&mut self, buffer: &mut [u8]) -> Result<usize, SourceFault> {
+        self.most_asked = self.most_asked.max(buffer.len());
         if self.fails {
             self.failures += 1;
             return Err(SourceFault);
