@@ -20,8 +20,10 @@ fn small_letters(rt: HostRuntime) -> Result<(), Fail> {
     assert_eq!(rt;
         items.as_str(),
         "\
-Item { at: 0, body: Params(PenUp, [Number { millionths: 0 }, Number { millionths: 28000000 }]), code: [80, 85], unended: false }
-Item { at: 6, body: Params(PenDown, [Number { millionths: -64500000 }, Number { millionths: 250000 }]), code: [80, 68], unended: false }
+Item { at: 0, body: Params(PenUp, [Number { millionths: 0 }, Number { millionths: 28000000 }]), \
+    code: [80, 85], unended: false }
+Item { at: 6, body: Params(PenDown, [Number { millionths: -64500000 }, Number { millionths: 250000 }]), \
+    code: [80, 68], unended: false }
 "
     );
     Ok(())
@@ -35,7 +37,8 @@ fn lists_of_each_length(rt: HostRuntime) -> Result<(), Fail> {
         "\
 Item { at: 0, body: Params(PenUp, []), code: [80, 85], unended: false }
 Item { at: 3, body: Params(SelectPen, [Number { millionths: 3000000 }]), code: [83, 80], unended: false }
-Item { at: 7, body: Params(ArcAbsolute, [Number { millionths: 4000000 }, Number { millionths: 5000000 }, Number { millionths: 6000000 }]), code: [65, 65], unended: false }
+Item { at: 7, body: Params(ArcAbsolute, [Number { millionths: 4000000 }, Number { millionths: 5000000 }, \
+    Number { millionths: 6000000 }]), code: [65, 65], unended: false }
 "
     );
     Ok(())
@@ -143,40 +146,53 @@ fn encoded_lines(rt: HostRuntime) -> Result<(), Fail> {
     assert_eq!(rt;
         items.as_str(),
         "\
-Item { at: 0, body: Params(PenUp, [Number { millionths: 0 }, Number { millionths: 28000000 }]), code: [80, 85], unended: false }
-Item { at: 7, body: Coded([Entry { at: 9, what: Pair { up: false, absolute: false, x: Number { millionths: 64000000 }, y: Number { millionths: 0 } } }]), code: [80, 69], unended: false }
+Item { at: 0, body: Params(PenUp, [Number { millionths: 0 }, Number { millionths: 28000000 }]), \
+    code: [80, 85], unended: false }
+Item { at: 7, body: Coded([Entry { at: 9, what: Pair { up: false, absolute: false, \
+    x: Number { millionths: 64000000 }, y: Number { millionths: 0 } } }]), code: [80, 69], unended: false }
 "
     );
     let items = items_of(rt.alloc(), b"PU0,28;PE7?c_;")?;
     assert_eq!(rt;
         items.as_str(),
         "\
-Item { at: 0, body: Params(PenUp, [Number { millionths: 0 }, Number { millionths: 28000000 }]), code: [80, 85], unended: false }
-Item { at: 7, body: Coded([Entry { at: 10, what: Pair { up: false, absolute: false, x: Number { millionths: 64000000 }, y: Number { millionths: 0 } } }]), code: [80, 69], unended: false }
+Item { at: 0, body: Params(PenUp, [Number { millionths: 0 }, Number { millionths: 28000000 }]), \
+    code: [80, 85], unended: false }
+Item { at: 7, body: Coded([Entry { at: 10, what: Pair { up: false, absolute: false, \
+    x: Number { millionths: 64000000 }, y: Number { millionths: 0 } } }]), code: [80, 69], unended: false }
 "
     );
     let items = items_of(rt.alloc(), b"PU0,28;PE7>c?o_;")?;
     assert_eq!(rt;
         items.as_str(),
         "\
-Item { at: 0, body: Params(PenUp, [Number { millionths: 0 }, Number { millionths: 28000000 }]), code: [80, 85], unended: false }
-Item { at: 7, body: Coded([Entry { at: 12, what: Pair { up: false, absolute: false, x: Number { millionths: 64000000 }, y: Number { millionths: 0 } } }]), code: [80, 69], unended: false }
+Item { at: 0, body: Params(PenUp, [Number { millionths: 0 }, Number { millionths: 28000000 }]), \
+    code: [80, 85], unended: false }
+Item { at: 7, body: Coded([Entry { at: 12, what: Pair { up: false, absolute: false, \
+    x: Number { millionths: 64000000 }, y: Number { millionths: 0 } } }]), code: [80, 69], unended: false }
 "
     );
     let items = items_of(rt.alloc(), b"PU0,28;PE7:c?c_;")?;
     assert_eq!(rt;
         items.as_str(),
         "\
-Item { at: 0, body: Params(PenUp, [Number { millionths: 0 }, Number { millionths: 28000000 }]), code: [80, 85], unended: false }
-Item { at: 7, body: Coded([Entry { at: 10, what: Pen(2) }, Entry { at: 12, what: Pair { up: false, absolute: false, x: Number { millionths: 64000000 }, y: Number { millionths: 0 } } }]), code: [80, 69], unended: false }
+Item { at: 0, body: Params(PenUp, [Number { millionths: 0 }, Number { millionths: 28000000 }]), \
+    code: [80, 85], unended: false }
+Item { at: 7, body: Coded([Entry { at: 10, what: Pen(2) }, \
+    Entry { at: 12, what: Pair { up: false, absolute: false, x: Number { millionths: 64000000 }, \
+    y: Number { millionths: 0 } } }]), code: [80, 69], unended: false }
 "
     );
     let items = items_of(rt.alloc(), b"PU0,28;PE7<=_w?c_;")?;
     assert_eq!(rt;
         items.as_str(),
         "\
-Item { at: 0, body: Params(PenUp, [Number { millionths: 0 }, Number { millionths: 28000000 }]), code: [80, 85], unended: false }
-Item { at: 7, body: Coded([Entry { at: 12, what: Pair { up: true, absolute: true, x: Number { millionths: 0 }, y: Number { millionths: 12000000 } } }, Entry { at: 14, what: Pair { up: false, absolute: false, x: Number { millionths: 64000000 }, y: Number { millionths: 0 } } }]), code: [80, 69], unended: false }
+Item { at: 0, body: Params(PenUp, [Number { millionths: 0 }, Number { millionths: 28000000 }]), \
+    code: [80, 85], unended: false }
+Item { at: 7, body: Coded([Entry { at: 12, what: Pair { up: true, absolute: true, x: Number { millionths: 0 }, \
+    y: Number { millionths: 12000000 } } }, \
+    Entry { at: 14, what: Pair { up: false, absolute: false, x: Number { millionths: 64000000 }, \
+    y: Number { millionths: 0 } } }]), code: [80, 69], unended: false }
 "
     );
     Ok(())
@@ -188,7 +204,8 @@ fn wrong_polylines(rt: HostRuntime) -> Result<(), Fail> {
     assert_eq!(rt;
         items.as_str(),
         "\
-Item { at: 0, body: Params(PenUp, [Number { millionths: 0 }, Number { millionths: 28000000 }]), code: [80, 85], unended: false }
+Item { at: 0, body: Params(PenUp, [Number { millionths: 0 }, Number { millionths: 28000000 }]), \
+    code: [80, 85], unended: false }
 Item { at: 7, body: Coded([Entry { at: 9, what: Bad }]), code: [80, 69], unended: false }
 "
     );
@@ -196,7 +213,8 @@ Item { at: 7, body: Coded([Entry { at: 9, what: Bad }]), code: [80, 69], unended
     assert_eq!(rt;
         items.as_str(),
         "\
-Item { at: 0, body: Params(PenUp, [Number { millionths: 0 }, Number { millionths: 28000000 }]), code: [80, 85], unended: false }
+Item { at: 0, body: Params(PenUp, [Number { millionths: 0 }, Number { millionths: 28000000 }]), \
+    code: [80, 85], unended: false }
 Item { at: 7, body: Coded([Entry { at: 9, what: Bad }]), code: [80, 69], unended: false }
 "
     );
@@ -204,8 +222,11 @@ Item { at: 7, body: Coded([Entry { at: 9, what: Bad }]), code: [80, 69], unended
     assert_eq!(rt;
         items.as_str(),
         "\
-Item { at: 0, body: Params(PenUp, [Number { millionths: 0 }, Number { millionths: 28000000 }]), code: [80, 85], unended: false }
-Item { at: 7, body: Coded([Entry { at: 10, what: Pair { up: false, absolute: false, x: Number { millionths: 64000000 }, y: Number { millionths: 0 } } }, Entry { at: 12, what: Stray(33) }, Entry { at: 14, what: Stray(35) }, Entry { at: 15, what: Bad }]), code: [80, 69], unended: false }
+Item { at: 0, body: Params(PenUp, [Number { millionths: 0 }, Number { millionths: 28000000 }]), \
+    code: [80, 85], unended: false }
+Item { at: 7, body: Coded([Entry { at: 10, what: Pair { up: false, absolute: false, \
+    x: Number { millionths: 64000000 }, y: Number { millionths: 0 } } }, Entry { at: 12, what: Stray(33) }, \
+    Entry { at: 14, what: Stray(35) }, Entry { at: 15, what: Bad }]), code: [80, 69], unended: false }
 "
     );
     Ok(())
@@ -217,7 +238,9 @@ fn fractions(rt: HostRuntime) -> Result<(), Fail> {
     let items = items_of(rt.alloc(), b"PE7>c_?o;")?;
     assert_eq!(rt;
         items.as_str(),
-        "Item { at: 0, body: Coded([Entry { at: 5, what: Pair { up: false, absolute: false, x: Number { millionths: 0 }, y: Number { millionths: 64000000 } } }]), code: [80, 69], unended: false }\n"
+        "Item { at: 0, body: Coded([Entry { at: 5, what: Pair { up: false, absolute: false, \
+             x: Number { millionths: 0 }, y: Number { millionths: 64000000 } } }]), \
+             code: [80, 69], unended: false }\n"
     );
     Ok(())
 }
