@@ -10,10 +10,9 @@ use Rattle.plot_frame.specs.Bounds.{IsLine, IsNear}
 use Rattle.plot_frame.specs.Line.{across_line, upward_line}
 use Rattle.plot_frame.specs.declared.axis.Axis.{Axis}
 use Rattle.plot_frame.proofs.Crossing.{across_small, upward_small, number_small}
-use Rattle.plot_arc.specs.Chords as chords
-use Rattle.plot_arc.specs.Chords.{vector, nearest, turned_x, turned_y}
-use Rattle.plot_arc.specs.Turns.{turn_after}
-use Rattle.plot_arc.specs.declared.spot.Spot.{Spot}
+use Rattle.plot_arc.specs.Bounds as arc
+use Rattle.plot_arc.specs.Arcs.{vector, nearest, turned_x, turned_y, turn_after}
+use Rattle.exact.specs.declared.spot.Spot.{Spot}
 use Rattle.plot_arc.proofs.Reach.{is_reached}
 use Rattle.plot_page.specs.declared.page.Page.{Page}
 use Rattle.hpgl_plot.specs.declared.axes.Axes.{Axes}
@@ -75,7 +74,7 @@ target_small page axes s true x y h k l = record { x_in = small_right page axes 
 target_small page axes s false x y h k l = record { x_in = small_number page axes s x h k; y_in = small_number page axes s y h l }
 
 -- such coordinates are near enough for a turn
-pub small_spot : (page : Page) (f : Frame) (u : Spot) → AreSmall page f u → chords.IsNear u
+pub small_spot : (page : Page) (f : Frame) (u : Spot) → AreSmall page f u → arc.IsNear u
 small_spot page f u h =
     let x = h.x_in.size in
     let y = h.y_in.size in

@@ -5,19 +5,18 @@ use Rattle.std.proofs.lemmas.List.{map-append, reverse-append}
 use Rattle.std.proofs.Math.ListN.{drop_of_length-le}
 use Rattle.std.proofs.lemmas.Bool.{cases_Bool, cases_lt}
 use Rattle.std.proofs.lemmas.Option.{none-some, slice_get_within, slice_get-get_or, get_or_from_slice_get}
-use Rattle.label_layout.specs.declared.cell.Cell.{Cell}
-use Rattle.label_layout.specs.declared.size.Offset.{Offset}
-use Rattle.label_layout.specs.declared.strokes.LabelPoint.{LabelPoint}
-use Rattle.label_layout.specs.declared.strokes.LabelStroke.{LabelStroke}
-use Rattle.label_layout.specs.Cells.{cell_after, moved_on, is_printed}
-use Rattle.label_layout.specs.Points.{corner, character_strokes, strokes_after, label_strokes, label_end, offset}
-use Rattle.plot_arc.specs.declared.spot.Spot.{Spot}
+use Rattle.stick_font.specs.declared.cell.Cell.{Cell}
+use Rattle.stick_font.specs.declared.label.LabelStroke.{LabelStroke}
+use Rattle.stick_font.specs.Cells.{cell_after, is_printed}
+use Rattle.stick_font.specs.Bounds.{moved_on}
+use Rattle.stick_font.specs.Points.{corner, character_strokes, strokes_after, label_strokes, label_end, offset}
+use Rattle.exact.specs.declared.spot.Spot.{Spot}
 use Rattle.hpgl_plot.specs.declared.state.State.{State}
 use Rattle.hpgl_plot.specs.declared.state.Position.{Position}
 use Rattle.plot_settings.specs.Steps.{Write}
 use Rattle.hpgl_plot.specs.Frames.{back}
 use Rattle.hpgl_plot.specs.Labels.{label_place, stroke_places, pen_at_point}
-use Rattle.plot_settings.specs.Lettering.{turned_offset}
+use Rattle.hpgl_plot.specs.Turns.{turned_vector}
 use Rattle.hpgl_plot.specs.Paths.{path}
 use Rattle.hpgl_plot.specs.Machine.{World, step, moved, travelled, travelled_all, ends_in, put_at}
 use Rattle.hpgl_plot.proofs.ItemLists.{next_item}
@@ -35,7 +34,7 @@ cell_from cell [] = cell
 cell_from cell (byte ∷ bytes) = cell_from (moved_on cell byte) bytes
 
 -- the lines of strokes and of an end, and those of a label
-abbrev pub write_lines : State → List LabelStroke → LabelPoint → List (List Spot)
+abbrev pub write_lines : State → List LabelStroke → Spot → List (List Spot)
 write_lines s strokes end = map (stroke_places s) strokes ++ ((label_place s end ∷ []) ∷ [])
 
 abbrev pub label_lines : State → List ℕ → List (List Spot)
@@ -90,7 +89,7 @@ next_line cell byte = elim (cases_Bool (nat_eq byte 10)) [
 ]
 
 -- where a point of a label lies, turned by one and then by the other
-pub place_is : (s : State) (p : LabelPoint) (u a o : Offset) → u ≡ offset s.size p → a ≡ turned_offset s.direction u → o ≡ turned_offset s.frame.rotation a
+pub place_is : (s : State) (p : Spot) (u a o : Spot) → u ≡ offset s.size p → a ≡ turned_vector s.direction u → o ≡ turned_vector s.frame.rotation a
     → record { x = s.place.x +ℤ o.x; y = s.place.y +ℤ o.y } ≡ label_place s p
 place_is s p u a o e f g = rw (g, f, e) refl
 
@@ -100,14 +99,14 @@ pub stroke_is : (s : State) (t : LabelStroke) (a b : Spot) → a ≡ label_place
 stroke_is s t a b e f = rw (e, f) refl
 
 -- the pen is not put where its place is out of range
-pub end_out : (w : World) (p : LabelPoint) (q : Spot) → q ≡ label_place w.state p → travelled w true (q ∷ []) ≡ None
+pub end_out : (w : World) (p : Spot) (q : Spot) → q ≡ label_place w.state p → travelled w true (q ∷ []) ≡ None
     → put_at w (pen_at_point w.page w.state p) ≡ None
 end_out w p q e h =
     ap (λ (o : Option World). ends_in (moved w.state (pen_at_point w.page w.state p)) o)
     (subst (λ (x : Spot). travelled w true (x ∷ []) ≡ None) e h)
 
 -- the pen is put at the end of a label
-pub end_put : (w v : World) (p : LabelPoint) (q u : Spot) → q ≡ label_place w.state p → u ≡ back w.page w.state.frame q
+pub end_put : (w v : World) (p : Spot) (q u : Spot) → q ≡ label_place w.state p → u ≡ back w.page w.state.frame q
     → travelled w true (q ∷ []) ≡ Some w → ends_in (moved w.state (record { place = q; coordinates = u })) (Some w) ≡ Some v
     → put_at w (pen_at_point w.page w.state p) ≡ Some v
 end_put w v p q u e f t m =
@@ -122,17 +121,17 @@ label_out w bytes h =
     ∙ ap (λ (o : Option World). ends_in (moved w.state (pen_at_point w.page w.state (label_end bytes))) o) h
 
 -- after the last byte the pen is put at the end
-pub label_ends : (w u : World) (bytes : List ℕ) (cell : Cell) (p : LabelPoint) → IsKept w u → p ≡ corner cell → corner cell ≡ label_end bytes
+pub label_ends : (w u : World) (bytes : List ℕ) (cell : Cell) (p : Spot) → IsKept w u → p ≡ corner cell → corner cell ≡ label_end bytes
     → travelled_all u true (lines_from w.state cell []) ≡ travelled_all w true (label_lines w.state bytes)
     → step w (Write bytes) ≡ put_at u (pen_at_point u.page u.state p)
 label_ends w u bytes cell p k e f same =
-    let last : LabelPoint → LabelPoint → Option World =
-    λ (x y : LabelPoint). ends_in (moved w.state (pen_at_point w.page w.state x)) (travelled u true (label_place w.state y ∷ [])) in
+    let last : Spot → Spot → Option World =
+    λ (x y : Spot). ends_in (moved w.state (pen_at_point w.page w.state x)) (travelled u true (label_place w.state y ∷ [])) in
     step_by w (Write bytes) (path w.page w.state (Write bytes)) refl
     ∙ ap (λ (o : Option World). ends_in (moved w.state (pen_at_point w.page w.state (label_end bytes))) o)
     (sym same ∙ one_line u true (label_place w.state (corner cell) ∷ []))
-    ∙ ap (λ (x : LabelPoint). last x (corner cell)) (sym f)
-    ∙ ap (λ (x : LabelPoint). last x x) (sym e)
+    ∙ ap (λ (x : Spot). last x (corner cell)) (sym f)
+    ∙ ap (λ (x : Spot). last x x) (sym e)
     ∙ rw (k.page_is, k.state_is) refl
 
 -- the lines of strokes, from one of them on

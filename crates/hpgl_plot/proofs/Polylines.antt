@@ -3,7 +3,7 @@ use Rattle.std.proofs.Common.{◌≡◌, ◌∙◌, ap, sym, refl, inl, inr, Boo
 use Rattle.std.proofs.lemmas.Bool.{cases_Bool}
 use Rattle.std.specs.List.{flat_map, list_all}
 use Rattle.std.specs.Prelude.{if◌then◌else◌}
-use Rattle.plot_arc.specs.declared.spot.Spot.{Spot}
+use Rattle.exact.specs.declared.spot.Spot.{Spot}
 use Rattle.hpgl_plot.specs.Strokes.{are_in_range, joined}
 use Rattle.hpgl_plot.specs.Machine.{World, with_strokes, travelled, travelled_all, followed}
 use Rattle.hpgl_plot.proofs.Fed.{with_more}

@@ -8,7 +8,7 @@ use Rattle.std.specs.Result.{IsErrAnd}
 use Rattle.plot_page.specs.declared.page.Page.{Page}
 use Rattle.hpgl_plot.specs.declared.plotter.Stop.{Stop}
 use Rattle.hpgl_plot.specs.declared.plotter.Stop.TheVariants.{Memory, OffRange}
-use Rattle.plot_arc.specs.declared.spot.Spot.{Spot}
+use Rattle.exact.specs.declared.spot.Spot.{Spot}
 use Rattle.hpgl_plot.specs.declared.state.Position.{Position}
 use Rattle.hpgl_plot.specs.declared.state.State.{State}
 use Rattle.plot_settings.specs.Steps.{Step, Go, Edge}

@@ -2,9 +2,8 @@
 -- turned from the first point, so roundings do not add up.
 use Rattle.std.specs.Prelude.{ℕ, pos, ◌+ℤ◌, List, map}
 use Rattle.std.specs.List.{range_with_len}
-use Rattle.plot_arc.specs.declared.spot.Spot.{Spot}
-use Rattle.plot_arc.specs.Chords.{chord_point_of}
-use Rattle.plot_arc.specs.Turns.{chords_of, turn_after}
+use Rattle.exact.specs.declared.spot.Spot.{Spot}
+use Rattle.plot_arc.specs.Arcs.{chord_point_of, chords_of, turn_after}
 use Rattle.plot_page.specs.declared.page.Page.{Page}
 use Rattle.plot_settings.specs.declared.figure.Arc.{Arc}
 use Rattle.plot_settings.specs.declared.figure.Circle.{Circle}

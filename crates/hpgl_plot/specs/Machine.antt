@@ -1,5 +1,7 @@
--- The same, one step at a time, as the code does it: `proofs/Bridge.antt` shows that it is equivalent to the definitions.
-use Rattle.std.specs.Prelude.{◌≡◌, ℕ, Bool, true, false, List, [], ◌∷◌, ◌++◌, Option, Some, None, Result, Ok, Err, length, nat_lt, set, if◌then◌else◌, ⊤}
+-- The same, one step at a time, as the code does it: `proofs/Bridge.antt` shows that it is equivalent to the
+-- definitions.
+use Rattle.std.specs.Prelude.{◌≡◌, ℕ, Bool, true, false, List, [], ◌∷◌, ◌++◌, length, set, nat_lt, if◌then◌else◌}
+use Rattle.std.specs.Prelude.{Option, Some, None, Result, Ok, Err, ⊤}
 use Rattle.std.specs.List.{list_all}
 use Rattle.plot_frame.specs.declared.scaling.Points.{Points}
 use Rattle.plot_frame.specs.declared.scaling.Scaling.TheVariants.{Off}
@@ -13,10 +15,12 @@ use Rattle.hpgl_plot.specs.declared.plotter.Stop.{Stop}
 use Rattle.hpgl_plot.specs.declared.plotter.Stop.TheVariants.{Memory, OffRange}
 use Rattle.plot_settings.specs.declared.setting.Rotation.TheVariants as rotation
 use Rattle.plot_settings.specs.declared.setting.Setting.{Setting}
-use Rattle.plot_settings.specs.declared.setting.Setting.TheVariants.{Start, Defaults, PageCorners, FirstPoint, BothPoints, Scale, Rotate, PageWindow, CornerWindow, Pen, Width, WidthOfAll, PenColour, DefaultColours, Size, Direction}
+use Rattle.plot_settings.specs.declared.setting.Setting.TheVariants.{Start, Defaults, PageCorners, FirstPoint, BothPoints, Scale, Rotate}
+use Rattle.plot_settings.specs.declared.setting.Setting.TheVariants.{PageWindow, CornerWindow, Pen, Width, WidthOfAll, PenColour, DefaultColours}
+use Rattle.plot_settings.specs.declared.setting.Setting.TheVariants.{Size, Direction}
 use Rattle.hpgl_plot.specs.declared.state.Frame.{Frame}
 use Rattle.hpgl_plot.specs.declared.state.Position.{Position}
-use Rattle.plot_arc.specs.declared.spot.Spot.{Spot}
+use Rattle.exact.specs.declared.spot.Spot.{Spot}
 use Rattle.hpgl_plot.specs.declared.state.State.{State}
 use Rattle.plot_settings.specs.Colours.{default_colours}
 use Rattle.plot_settings.specs.Lettering.{usual_size}
@@ -83,18 +87,22 @@ pub record World : Type 0 where
 -- strokes appended to those that are kept, while there is room
 abbrev pub kept_with : List Segment → Bool → List Segment → List Segment
 kept_with kept full [] = kept
-kept_with kept full (s ∷ ss) = if nat_lt (length kept) MOST_STROKES then kept_with (kept ++ (s ∷ [])) full ss else kept_with kept true ss
+kept_with kept full (s ∷ ss) =
+    if nat_lt (length kept) MOST_STROKES then kept_with (kept ++ (s ∷ [])) full ss else kept_with kept true ss
 
 abbrev pub full_with : List Segment → Bool → List Segment → Bool
 full_with kept full [] = full
-full_with kept full (s ∷ ss) = if nat_lt (length kept) MOST_STROKES then full_with (kept ++ (s ∷ [])) full ss else full_with kept true ss
+full_with kept full (s ∷ ss) =
+    if nat_lt (length kept) MOST_STROKES then full_with (kept ++ (s ∷ [])) full ss else full_with kept true ss
 
 abbrev pub with_strokes : World → State → List Segment → World
-with_strokes w s ss = record { page = w.page; state = s; kept = kept_with w.kept w.full ss; full = full_with w.kept w.full ss }
+with_strokes w s ss =
+    record { page = w.page; state = s; kept = kept_with w.kept w.full ss; full = full_with w.kept w.full ss }
 
 -- what a line over these places leaves: None if one of them is out of range
 abbrev pub travelled : World → Bool → List Spot → Option World
-travelled w draws places = if are_in_range places then Some (with_strokes w w.state (if draws then joined w.state places else [])) else None
+travelled w draws places =
+    if are_in_range places then Some (with_strokes w w.state (if draws then joined w.state places else [])) else None
 
 abbrev pub followed : Option World → (World → Option World) → Option World
 followed None f = None
@@ -118,7 +126,8 @@ put_at w p = ends_in (moved w.state p) (travelled w true (p.place ∷ []))
 unfoldable pub step : World → Step → Option World
 step w s =
     let p = path w.page w.state s in
-    if list_all are_in_range p.lines then Some (with_strokes w (after w.page w.state s) (path_strokes w.state p)) else None
+    let new = with_strokes w (after w.page w.state s) (path_strokes w.state p) in
+    if list_all are_in_range p.lines then Some new else None
 
 abbrev pub run : World → List Step → Option World
 run w [] = Some w

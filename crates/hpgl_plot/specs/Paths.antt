@@ -1,12 +1,12 @@
--- The path of a step: the places that it passes, whether it draws, and where the pen is after it. PA (Plot Absolute), PR
--- (Plot Relative), EA (Edge Rectangle Absolute), ER (Edge Rectangle Relative), CI (Circle), AA (Arc Absolute), AR
--- (Arc Relative), LB (Label).
+-- The path of a step: the places that it passes, whether it draws, and where the pen is after it. PA (Plot Absolute),
+-- PR (Plot Relative), EA (Edge Rectangle Absolute), ER (Edge Rectangle Relative), CI (Circle), AA (Arc Absolute),
+-- AR (Arc Relative), LB (Label).
 use Rattle.std.specs.Prelude.{ℕ, ℤ, ◌+ℤ◌, Bool, true, false, not, List, [], ◌∷◌, ◌++◌, map, if◌then◌else◌}
 use Rattle.plot_page.specs.declared.page.Page.{Page}
-use Rattle.label_layout.specs.Points.{label_strokes, label_end}
+use Rattle.stick_font.specs.Points.{label_strokes, label_end}
 use Rattle.hpgl_plot.specs.declared.state.Frame.{Frame}
 use Rattle.hpgl_plot.specs.declared.state.Position.{Position}
-use Rattle.plot_arc.specs.declared.spot.Spot.{Spot}
+use Rattle.exact.specs.declared.spot.Spot.{Spot}
 use Rattle.hpgl_plot.specs.declared.state.State.{State}
 use Rattle.plot_settings.specs.Steps.{Step, Touch, Move, Go, Edge, DrawCircle, DrawArc, Write}
 use Rattle.hpgl_plot.specs.Frames.{place}
@@ -28,8 +28,8 @@ target relative u x y = record {
   y = if relative then u.y +ℤ y else y;
 }
 
--- its lines, each a list of places, one after another; whether strokes join each place of a line to the next; and where the
--- pen ends
+-- its lines, each a list of places, one after another; whether strokes join each place of a line to the next; and where
+-- the pen ends
 pub record Path : Type 0 where
   pub lines : List (List Spot)
   pub draws : Bool
@@ -58,7 +58,9 @@ circle_path page s c = along (place page s.frame c.from ∷ curve_places page s.
 
 -- from the pen over the ends of an arc's chords to the last one, drawn if the pen is down
 abbrev pub arc_path : Page → State → Curve → Path
-arc_path page s c = along (s.place ∷ curve_places page s.frame c) s.is_down (pen_at page s.frame (curve_point c (chord_count c)))
+arc_path page s c =
+    let end = pen_at page s.frame (curve_point c (chord_count c)) in
+    along (s.place ∷ curve_places page s.frame c) s.is_down end
 
 -- from the pen to where it is: a dot, if the pen is up
 abbrev pub touch_path : State → Path

@@ -1,9 +1,10 @@
 //! Circles and arcs in coordinates.
 ghost use Rattle.std.specs.Prelude.{◌≡◌, ◌<◌};
-ghost use Rattle.plot_arc.specs.Chords.{IsNear};
+ghost use Rattle.plot_arc.specs.Bounds.{IsNear};
 ghost use Rattle.hpgl_plot.specs.Arcs as curves;
 
-use plot_arc::{Spot, chord_point, turn, turn_count};
+use exact::Spot;
+use plot_arc::{chord_point, turn, turn_count};
 
 /// A circle or an arc: its centre and its first point in millionths of the current unit, its sweep
 /// and the angle of a chord in thousandths of a degree.

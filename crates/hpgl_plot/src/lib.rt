@@ -17,11 +17,12 @@ mod turn;
 mod window;
 mod wrong;
 
+pub use exact::Spot;
 pub use fault::PlotFault;
 pub use lines::{Lines, draw_text};
 pub use note::{Note, NoteKind};
 pub use notes::Notes;
 pub use plot::{Plot, draw};
-pub use plot_arc::{Spot, chord_point, sine};
+pub use plot_arc::{chord_point, sine};
 pub use plot_page::{Colour, MOST_STROKES, Page, PageFault, Stroke, Window};
 pub use stick_font::{GridStroke, glyph};

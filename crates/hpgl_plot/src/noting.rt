@@ -51,7 +51,9 @@ pub fn entries_of<'a>(item: &Item<'a>) -> Entries<'a>
 
 /// The next note within a PE, whose letters are given; `None` if there are no more.
 pub fn next_noted(code: [u8; 2], entries: &mut Entries<'_>) -> Option<Note>
-    ensures { MatchOption result ((flat_map (entry_note code) entries.old ≡ []) × (entries.new ≡ [])) (λ note. flat_map (entry_note code) entries.old ≡ note ∷ flat_map (entry_note code) entries.new) }
+    ensures { MatchOption result
+        ((flat_map (entry_note code) entries.old ≡ []) × (entries.new ≡ []))
+        (λ note. flat_map (entry_note code) entries.old ≡ note ∷ flat_map (entry_note code) entries.new) }
 {
     'entries: while let Some(entry) = entries.next() {
         if let Some(kind) = part_kind(entry.what) {

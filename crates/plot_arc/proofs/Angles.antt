@@ -4,7 +4,7 @@ use Rattle.std.proofs.lemmas.Bool.{cases_lt}
 use Rattle.std.proofs.lemmas.Bool.Decides.{nat_tests}
 use Rattle.std.proofs.lemmas.Int.{ints, int_rem_euclid_is}
 use Rattle.std.specs.Int.{int_rem_euclid}
-use Rattle.plot_arc.specs.Sines.{sine_to_90, sine_to_360, sine_of, cosine_of}
+use Rattle.plot_arc.specs.Arcs.{sine_to_90, sine_to_360, sine_of, cosine_of}
 use Rattle.plot_arc.specs.Laws.{SineSymmetries}
 
 -- an angle and whole turns, which is not below 0

@@ -1,8 +1,7 @@
 -- Ends of chords, and turns, of some arcs.
 use Rattle.std.proofs.Common.{◌≡◌, refl, ℤ, pos, neg_ℤ}
-use Rattle.plot_arc.specs.declared.spot.Spot.{Spot}
-use Rattle.plot_arc.specs.Chords.{chord_point_of}
-use Rattle.plot_arc.specs.Turns.{chords_of, turn_after}
+use Rattle.exact.specs.declared.spot.Spot.{Spot}
+use Rattle.plot_arc.specs.Arcs.{chord_point_of, chords_of, turn_after}
 
 abbrev spot : ℤ → ℤ → Spot
 spot x y = record { x = x; y = y }

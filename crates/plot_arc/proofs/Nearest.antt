@@ -3,10 +3,9 @@ use Rattle.std.proofs.Common.{refl, sym, ap₂, ◌∙◌, ◌≡◌, arith, ℤ
 use Rattle.std.proofs.lemmas.Int.{ints}
 use Rattle.plot_arc.proofs.Angles.{symmetries}
 use Rattle.exact.proofs.Rounding.{meets_lem, one_lem}
-use Rattle.exact.specs.Fraction.{IsRounded}
-use Rattle.plot_arc.specs.declared.spot.Spot.{Spot}
-use Rattle.plot_arc.specs.Sines.{sine_of, cosine_of}
-use Rattle.plot_arc.specs.Chords.{nearest, vector, turned_x, turned_y, chord_point_of}
+use Rattle.exact.specs.Rounding.{IsRounded}
+use Rattle.exact.specs.declared.spot.Spot.{Spot}
+use Rattle.plot_arc.specs.Arcs.{sine_of, cosine_of, nearest, vector, turned_x, turned_y, chord_point_of}
 use Rattle.plot_arc.specs.Laws.{ChordsAreRounded, WholeTurnsLeadBack, ten_millionths}
 
 nearest_meets : (z : ℤ) → IsRounded (ten_millionths z) (nearest z)

@@ -5,9 +5,8 @@ use Rattle.std.proofs.lemmas.Int.{ints}
 use Rattle.std.specs.Int.{int_rem_euclid}
 use Rattle.exact.proofs.Fit.{product_within}
 use Rattle.exact.proofs.Rounding.{meets_lem}
-use Rattle.plot_arc.specs.declared.spot.Spot.{Spot}
-use Rattle.plot_arc.specs.Sines.{sine_to_90, sine_to_360, sine_of, cosine_of}
-use Rattle.plot_arc.specs.Chords.{vector, nearest, turned_x, turned_y}
+use Rattle.exact.specs.declared.spot.Spot.{Spot}
+use Rattle.plot_arc.specs.Arcs.{sine_to_90, sine_to_360, sine_of, cosine_of, vector, nearest, turned_x, turned_y}
 use Rattle.plot_arc.specs.Laws.{ten_millionths}
 use Rattle.plot_arc.proofs.SineRange.{to_90}
 

@@ -1,6 +1,6 @@
 -- Sines and cosines at some angles.
 use Rattle.std.proofs.Common.{◌≡◌, refl, pos, neg_ℤ}
-use Rattle.plot_arc.specs.Sines.{sine_of, cosine_of}
+use Rattle.plot_arc.specs.Arcs.{sine_of, cosine_of}
 
 at_0 : sine_of (pos 0) ≡ pos 0
 at_0 = refl

@@ -2,7 +2,7 @@
 use Rattle.std.proofs.Common.{◌≡◌, ◌<◌, ◌≤◌, ◌+◌, ℕ, Bool, true, map, get_or, refl, sym, ap, ◌∙◌, arith}
 use Rattle.std.proofs.lemmas.List.FromFn.{get_or-map-range_with_len}
 use Rattle.std.specs.List.{range_with_len}
-use Rattle.plot_arc.specs.Sines.{sine_of_degrees}
+use Rattle.plot_arc.specs.Arcs.{sine_of_degrees}
 use Rattle.plot_arc.specs.SineBounds.{is_sine}
 
 abbrev is_right : ℕ → Bool

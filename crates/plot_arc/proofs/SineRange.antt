@@ -4,7 +4,7 @@ use Rattle.std.proofs.lemmas.Bool.{and_parts}
 use Rattle.std.proofs.lemmas.Bool.Decides.{nat_tests}
 use Rattle.std.proofs.Math.Nat.{mul-le-mul_right}
 use Rattle.plot_arc.specs.declared.sines.TheConstants.{SINES}
-use Rattle.plot_arc.specs.Sines.{sine_of_degrees, sine_to_90}
+use Rattle.plot_arc.specs.Arcs.{sine_of_degrees, sine_to_90}
 
 all_at_most : ℕ → List ℕ → Bool
 all_at_most m [] = true

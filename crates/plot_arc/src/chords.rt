@@ -1,10 +1,10 @@
 //! The ends of the chords of an arc.
 ghost use Rattle.std.specs.Prelude.{◌≡◌, ◌≤◌, ◌*◌, ◌^◌, nat_abs, ◌*ℤ◌};
-ghost use Rattle.plot_arc.specs.Chords.{IsNear, vector, nearest, chord_point_of};
+ghost use Rattle.plot_arc.specs.Bounds.{IsNear};
+ghost use Rattle.plot_arc.specs.Arcs.{vector, nearest, chord_point_of};
 
 use crate::sines::{cosine, sine};
-use crate::spot::Spot;
-use exact::rounded;
+use exact::{Spot, rounded};
 
 // The vector that leads from the centre to a point.
 fn vector(centre: Spot, from: Spot) -> Spot

@@ -5,10 +5,8 @@
 mod chords;
 pub mod laws;
 mod sines;
-mod spot;
 mod turns;
 
 pub use chords::chord_point;
 pub use sines::sine;
-pub use spot::Spot;
 pub use turns::{turn, turn_count};

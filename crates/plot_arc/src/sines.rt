@@ -1,6 +1,6 @@
 //! Sines and cosines. Angles are in thousandths of a degree, sines in ten-millionths.
 ghost use Rattle.std.specs.Prelude.{◌≡◌, ◌≤◌, nat_abs};
-ghost use Rattle.plot_arc.specs.Sines.{sine_to_90, sine_to_180, sine_of, cosine_of};
+ghost use Rattle.plot_arc.specs.Arcs.{sine_to_90, sine_to_180, sine_of, cosine_of};
 
 // The sines of 0, 1, .. 90 degrees in ten-thousandths, rounded to the nearest. `tools/sine_table`
 // computes and prints them in this form.

@@ -1,6 +1,6 @@
 //! The angles at which the chords of an arc end.
 ghost use Rattle.std.specs.Prelude.{◌≡◌, ◌<◌};
-ghost use Rattle.plot_arc.specs.Turns.{chords_of, turn_after};
+ghost use Rattle.plot_arc.specs.Arcs.{chords_of, turn_after};
 
 /// How many chords an arc has: one for each chord's angle in the sweep, one more for what is left
 /// over, and at least one. Both angles are in thousandths of a degree.

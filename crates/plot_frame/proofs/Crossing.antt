@@ -131,10 +131,10 @@ across_crossed p (Isotropic f) left below u h k l m n =
     let a = across_line p (Isotropic f) left in
     let b = upward_line p (Isotropic f) below in
     let z = size_above (across_side p f.ranges) (upward_side p f.ranges) h.dx_not_0 h.dy_not_0 k.ranges.x_apart k.ranges.y_apart in
-    even_small (unit_size (across_side p f.ranges) (upward_side p f.ranges)) z.0 a b u
-    (slope_even (unit_size (across_side p f.ranges) (upward_side p f.ranges))
+    even_small (unit_size p f.ranges) z.0 a b u
+    (slope_even (unit_size p f.ranges)
     (across_side p f.ranges) f.left left h.dx_not_0 k.ranges.x_apart)
-    (slope_even (unit_size (across_side p f.ranges) (upward_side p f.ranges))
+    (slope_even (unit_size p f.ranges)
     (upward_side p f.ranges) f.bottom below h.dy_not_0 k.ranges.y_apart)
     (near_product a u (across_line_in p (Isotropic f) left h k l) n)
 
@@ -160,10 +160,10 @@ upward_crossed p (Isotropic f) left below u h k l m n =
     let a = across_line p (Isotropic f) left in
     let b = upward_line p (Isotropic f) below in
     let z = size_above (across_side p f.ranges) (upward_side p f.ranges) h.dx_not_0 h.dy_not_0 k.ranges.x_apart k.ranges.y_apart in
-    exchanged b a u (even_small (unit_size (across_side p f.ranges) (upward_side p f.ranges)) z.0 b a u
-    (slope_even (unit_size (across_side p f.ranges) (upward_side p f.ranges))
+    exchanged b a u (even_small (unit_size p f.ranges) z.0 b a u
+    (slope_even (unit_size p f.ranges)
     (upward_side p f.ranges) f.bottom below h.dy_not_0 k.ranges.y_apart)
-    (slope_even (unit_size (across_side p f.ranges) (upward_side p f.ranges))
+    (slope_even (unit_size p f.ranges)
     (across_side p f.ranges) f.left left h.dx_not_0 k.ranges.x_apart)
     (near_product b u (upward_line_in p (Isotropic f) below h k m) n))
 

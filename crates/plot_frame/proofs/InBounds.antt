@@ -9,7 +9,7 @@ use Rattle.plot_frame.specs.declared.scaling.Ranges.{Ranges}
 use Rattle.plot_frame.specs.declared.scaling.Scaling.{Scaling}
 use Rattle.plot_frame.specs.declared.scaling.Scaling.TheVariants.{Off, Anisotropic, Isotropic, PointFactor}
 use Rattle.plot_frame.specs.Bounds.{IsLine, IsSide, IsPoints, IsRanges, IsScaling}
-use Rattle.plot_frame.specs.Frame.{sign, ratio, unit_size, across_side, upward_side}
+use Rattle.plot_frame.specs.Frame.{sign, lesser, ratio, unit_size, across_side, upward_side}
 use Rattle.plot_frame.specs.Line.{unit_along, even_offset, line_of_even, line_of_stretched, unscaled_line, factor_side_across, factor_side_upward, across_line, upward_line}
 use Rattle.plot_frame.proofs.Turned.{stretched_in}
 use Rattle.plot_frame.proofs.Values.{above_0, product_not_0}
@@ -53,7 +53,7 @@ even_in size s percent margin h i j k l d p m =
 
 -- the size of the unit is one of the two ratios
 size_in : (across upward : Side) → nat_abs across.distance ≤ 2 ^ 25 → nat_abs upward.distance ≤ 2 ^ 25 → nat_abs across.extent ≤ 2 ^ 44 → nat_abs upward.extent ≤ 2 ^ 44
-    → (nat_abs (unit_size across upward).over ≤ 2 ^ 25) × ((unit_size across upward).under ≤ 2 ^ 44)
+    → (nat_abs (lesser (ratio across) (ratio upward)).over ≤ 2 ^ 25) × ((lesser (ratio across) (ratio upward)).under ≤ 2 ^ 44)
 size_in across upward h i j k = chosen (int_le (pos (nat_abs across.distance) *ℤ pos (nat_abs upward.extent)) (pos (nat_abs upward.distance) *ℤ pos (nat_abs across.extent)))
   where
     chosen : (b : Bool) → (nat_abs (if b then ratio across else ratio upward).over ≤ 2 ^ 25) × ((if b then ratio across else ratio upward).under ≤ 2 ^ 44)
@@ -90,7 +90,7 @@ across_line_in p (Isotropic f) margin h k m =
     let b = upward_side_in p f.ranges h k.ranges in
     let i = size_in (across_side p f.ranges) (upward_side p f.ranges) h.dx_in h.dy_in a.extent_in b.extent_in in
     let j = size_above (across_side p f.ranges) (upward_side p f.ranges) h.dx_not_0 h.dy_not_0 a.extent_not_0 b.extent_not_0 in
-    even_in (unit_size (across_side p f.ranges) (upward_side p f.ranges)) (across_side p f.ranges) f.left margin i.0 j.0 i.1 j.1 a h.dx_in k.left_in m
+    even_in (unit_size p f.ranges) (across_side p f.ranges) f.left margin i.0 j.0 i.1 j.1 a h.dx_in k.left_in m
 across_line_in p (PointFactor f) margin h k m = side_line_in (factor_side_across p f) margin (record { start_in = h.x_in; distance_in = k.xfactor_in; least_in = k.xmin_in; extent_in = omega arith; distance_not_0 = k.xfactor_not_0; extent_not_0 = above_0 (10 ^ 12) (omega arith) }) m
 
 pub upward_line_in : (p : Points) (s : Scaling) (margin : ℕ) → IsPoints p → IsScaling s → margin ≤ 65536 → IsLine (upward_line p s margin)
@@ -101,5 +101,5 @@ upward_line_in p (Isotropic f) margin h k m =
     let b = upward_side_in p f.ranges h k.ranges in
     let i = size_in (across_side p f.ranges) (upward_side p f.ranges) h.dx_in h.dy_in a.extent_in b.extent_in in
     let j = size_above (across_side p f.ranges) (upward_side p f.ranges) h.dx_not_0 h.dy_not_0 a.extent_not_0 b.extent_not_0 in
-    even_in (unit_size (across_side p f.ranges) (upward_side p f.ranges)) (upward_side p f.ranges) f.bottom margin i.0 j.0 i.1 j.1 b h.dy_in k.bottom_in m
+    even_in (unit_size p f.ranges) (upward_side p f.ranges) f.bottom margin i.0 j.0 i.1 j.1 b h.dy_in k.bottom_in m
 upward_line_in p (PointFactor f) margin h k m = side_line_in (factor_side_upward p f) margin (record { start_in = h.y_in; distance_in = k.yfactor_in; least_in = k.ymin_in; extent_in = omega arith; distance_not_0 = k.yfactor_not_0; extent_not_0 = above_0 (10 ^ 12) (omega arith) }) m

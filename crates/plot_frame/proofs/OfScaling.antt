@@ -8,7 +8,7 @@ use Rattle.plot_frame.specs.declared.scaling.Points.{Points}
 use Rattle.plot_frame.specs.declared.scaling.Scaling.{Scaling}
 use Rattle.plot_frame.specs.declared.scaling.Scaling.TheVariants.{Off, Anisotropic, Isotropic, PointFactor}
 use Rattle.plot_frame.specs.Bounds.{IsPoints, IsScaling}
-use Rattle.plot_frame.specs.Frame.{minus, sign, unscaled, stretched, evenly_scaled, ratio, unit_size, across_side, upward_side, across_at, upward_at}
+use Rattle.plot_frame.specs.Frame.{minus, sign, unscaled, stretched, evenly_scaled, lesser, ratio, unit_size, across_side, upward_side, across_at, upward_at}
 use Rattle.plot_frame.specs.Line.{line_of, line_of_stretched, line_of_even, unit_along, unscaled_line, across_line, upward_line}
 use Rattle.plot_frame.proofs.Values.{Is, is_whole, is_times_both, is_plus, is_times, is_minus, is_as, above_0, product_not_0, product_above}
 use Rattle.plot_frame.proofs.OnLine.{OnLine, rest}
@@ -227,7 +227,7 @@ even_on_line size s percent margin h k i j = record {
 
 -- the size of the unit is a number above 0
 pub size_above : (across upward : Side) → across.distance ≢ pos 0 → upward.distance ≢ pos 0 → across.extent ≢ pos 0 → upward.extent ≢ pos 0
-    → ((unit_size across upward).over ≢ pos 0) × (0 < (unit_size across upward).under)
+    → ((lesser (ratio across) (ratio upward)).over ≢ pos 0) × (0 < (lesser (ratio across) (ratio upward)).under)
 size_above across upward h i j k = chosen (int_le (pos (nat_abs across.distance) *ℤ pos (nat_abs upward.extent)) (pos (nat_abs upward.distance) *ℤ pos (nat_abs across.extent)))
   where
     sized : (d : ℤ) → d ≢ pos 0 → 0 < nat_abs d
@@ -244,7 +244,7 @@ across_on_line p Off margin h k = unscaled_on_line margin
 across_on_line p (Anisotropic r) margin h k = stretched_on_line p.x1 (p.x2 -ℤ p.x1) r.xmin (r.xmax -ℤ r.xmin) margin h.dx_not_0 k.x_apart
 across_on_line p (Isotropic f) margin h k =
     let z = size_above (across_side p f.ranges) (upward_side p f.ranges) h.dx_not_0 h.dy_not_0 k.ranges.x_apart k.ranges.y_apart in
-    even_on_line (unit_size (across_side p f.ranges) (upward_side p f.ranges)) (across_side p f.ranges) f.left margin z.0 z.1 h.dx_not_0 k.ranges.x_apart
+    even_on_line (unit_size p f.ranges) (across_side p f.ranges) f.left margin z.0 z.1 h.dx_not_0 k.ranges.x_apart
 across_on_line p (PointFactor f) margin h k = stretched_on_line p.x1 f.xfactor f.xmin (pos (10 ^ 12)) margin k.xfactor_not_0 (above_0 (10 ^ 12) (omega arith))
 
 pub upward_on_line : (p : Points) (s : Scaling) (margin : ℕ) → IsPoints p → IsScaling s → OnLine (upward_at p s) (upward_line p s margin) margin
@@ -252,5 +252,5 @@ upward_on_line p Off margin h k = unscaled_on_line margin
 upward_on_line p (Anisotropic r) margin h k = stretched_on_line p.y1 (p.y2 -ℤ p.y1) r.ymin (r.ymax -ℤ r.ymin) margin h.dy_not_0 k.y_apart
 upward_on_line p (Isotropic f) margin h k =
     let z = size_above (across_side p f.ranges) (upward_side p f.ranges) h.dx_not_0 h.dy_not_0 k.ranges.x_apart k.ranges.y_apart in
-    even_on_line (unit_size (across_side p f.ranges) (upward_side p f.ranges)) (upward_side p f.ranges) f.bottom margin z.0 z.1 h.dy_not_0 k.ranges.y_apart
+    even_on_line (unit_size p f.ranges) (upward_side p f.ranges) f.bottom margin z.0 z.1 h.dy_not_0 k.ranges.y_apart
 upward_on_line p (PointFactor f) margin h k = stretched_on_line p.y1 f.yfactor f.ymin (pos (10 ^ 12)) margin k.yfactor_not_0 (above_0 (10 ^ 12) (omega arith))

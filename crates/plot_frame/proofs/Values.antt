@@ -3,7 +3,8 @@ use Rattle.std.proofs.Common.{◌≡◌, ◌≢◌, ◌<◌, ℕ, zero, suc, ◌
 use Rattle.std.proofs.lemmas.Int.{ints}
 use Rattle.exact.proofs.Ring.{mul_assoc_z, mul_comm_z, mul_left_comm_z, mul_mul_comm_z, add-mul_z, mul-neg_z, neg-mul_z}
 use Rattle.exact.proofs.Rounding.{same_lem, le_unscale}
-use Rattle.exact.specs.Fraction.{Fraction, SameNumber, whole, quotient, plus, times, round}
+use Rattle.exact.specs.Fraction.{Fraction, whole, quotient, plus, times, round}
+use Rattle.exact.specs.Rounding.{SameNumber}
 use Rattle.plot_frame.specs.Frame.{minus, divided}
 
 abbrev pub Is : Fraction → ℤ → ℤ → Type 0

@@ -1,4 +1,5 @@
--- What keeps the arithmetic in 128 bits: the sizes of P1, P2 and SC's numbers, of the lines, and of the coordinates on them.
+-- What keeps the arithmetic in 128 bits: the sizes of P1, P2 and SC's numbers, of the lines, and of the coordinates on
+-- them.
 use Rattle.std.specs.Prelude.{◌≢◌, ◌<◌, ◌+◌, ◌*◌, ◌^◌, ◌≤◌, ℤ, pos, ◌+ℤ◌, ◌*ℤ◌, ◌<ℤ◌, ◌≤ℤ◌, ◌-ℤ◌, nat_abs, ⊤}
 use Rattle.plot_frame.specs.declared.axis.Axis.{Axis}
 use Rattle.plot_frame.specs.declared.scaling.Points.{Points}

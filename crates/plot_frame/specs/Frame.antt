@@ -42,14 +42,15 @@ unscaled u = times u (quotient (pos 1) (pos (10 ^ 6)))
 abbrev pub stretched : Side → Fraction → Fraction
 stretched s u = plus (whole s.start) (times (minus u (whole s.least)) (quotient s.distance s.extent))
 
--- how many plotter units a millionth takes on a side, and the smaller of two sides
+-- how many plotter units a millionth takes on a side, and the smaller size of both sides
 abbrev pub ratio : Side → Fraction
 ratio s = quotient (pos (nat_abs s.distance)) (pos (nat_abs s.extent))
 
-abbrev pub unit_size : Side → Side → Fraction
-unit_size across upward = lesser (ratio across) (ratio upward)
+abbrev pub unit_size : Points → Ranges → Fraction
+unit_size p r = lesser (ratio (across_side p r)) (ratio (upward_side p r))
 
--- type 1, isotropic: a millionth takes size units, and the share percent / 10^8 of what is left over lies before the range
+-- type 1, isotropic: a millionth takes size units, and the share percent / 10^8 of what is left over lies before the
+-- range
 abbrev pub evenly_scaled : Fraction → Side → ℤ → Fraction → Fraction
 evenly_scaled size s percent u =
     let left_over = minus (whole (pos (nat_abs s.distance))) (times size (whole (pos (nat_abs s.extent)))) in
@@ -65,14 +66,14 @@ by_factor start least factor u = plus (whole start) (times (minus u (whole least
 abbrev pub across_at : Points → Scaling → Fraction → Fraction
 across_at p Off u = unscaled u
 across_at p (Anisotropic r) u = stretched (across_side p r) u
-across_at p (Isotropic f) u = evenly_scaled (unit_size (across_side p f.ranges) (upward_side p f.ranges)) (across_side p f.ranges) f.left u
+across_at p (Isotropic f) u = evenly_scaled (unit_size p f.ranges) (across_side p f.ranges) f.left u
 across_at p (PointFactor f) u = by_factor p.x1 f.xmin f.xfactor u
 
 -- Y(u)
 abbrev pub upward_at : Points → Scaling → Fraction → Fraction
 upward_at p Off u = unscaled u
 upward_at p (Anisotropic r) u = stretched (upward_side p r) u
-upward_at p (Isotropic f) u = evenly_scaled (unit_size (across_side p f.ranges) (upward_side p f.ranges)) (upward_side p f.ranges) f.bottom u
+upward_at p (Isotropic f) u = evenly_scaled (unit_size p f.ranges) (upward_side p f.ranges) f.bottom u
 upward_at p (PointFactor f) u = by_factor p.y1 f.ymin f.yfactor u
 
 -- the place in grains of a plotter coordinate, on a page whose edge lies margin units before 0

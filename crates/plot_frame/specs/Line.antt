@@ -45,7 +45,8 @@ unit_along size s = sign s.distance *ℤ (sign s.extent *ℤ size.over)
 
 abbrev pub even_offset : ℤ → ℤ → ℤ → Side → ℤ → ℤ
 even_offset unit under origin s percent =
-    pos 16 *ℤ ((origin *ℤ (pos (10 ^ 8) *ℤ under) +ℤ percent *ℤ (s.distance *ℤ under -ℤ unit *ℤ s.extent)) -ℤ pos (10 ^ 8) *ℤ (unit *ℤ s.least))
+    let share = percent *ℤ (s.distance *ℤ under -ℤ unit *ℤ s.extent) in
+    pos 16 *ℤ ((origin *ℤ (pos (10 ^ 8) *ℤ under) +ℤ share) -ℤ pos (10 ^ 8) *ℤ (unit *ℤ s.least))
 
 abbrev pub line_of_even : Fraction → Side → ℤ → ℕ → Axis
 line_of_even size s percent margin = record {
@@ -64,11 +65,11 @@ factor_side_upward p f = record { start = p.y1; distance = f.yfactor; least = f.
 abbrev pub across_line : Points → Scaling → ℕ → Axis
 across_line p Off margin = unscaled_line margin
 across_line p (Anisotropic r) margin = line_of_stretched (across_side p r) margin
-across_line p (Isotropic f) margin = line_of_even (unit_size (across_side p f.ranges) (upward_side p f.ranges)) (across_side p f.ranges) f.left margin
+across_line p (Isotropic f) margin = line_of_even (unit_size p f.ranges) (across_side p f.ranges) f.left margin
 across_line p (PointFactor f) margin = line_of_stretched (factor_side_across p f) margin
 
 abbrev pub upward_line : Points → Scaling → ℕ → Axis
 upward_line p Off margin = unscaled_line margin
 upward_line p (Anisotropic r) margin = line_of_stretched (upward_side p r) margin
-upward_line p (Isotropic f) margin = line_of_even (unit_size (across_side p f.ranges) (upward_side p f.ranges)) (upward_side p f.ranges) f.bottom margin
+upward_line p (Isotropic f) margin = line_of_even (unit_size p f.ranges) (upward_side p f.ranges) f.bottom margin
 upward_line p (PointFactor f) margin = line_of_stretched (factor_side_upward p f) margin

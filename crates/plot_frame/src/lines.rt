@@ -2,7 +2,8 @@
 ghost use Rattle.std.specs.Prelude.{◌≡◌, ◌≤◌, ◌^◌, nat_abs, pos, ◌+ℤ◌, ◌-ℤ◌, ◌*ℤ◌};
 ghost use Rattle.plot_frame.specs.declared.scaling.Scaling.TheVariants.{Isotropic};
 ghost use Rattle.plot_frame.specs.Bounds.{IsLine, IsPoints, IsScaling, IsFitting, IsSide, IsSize};
-ghost use Rattle.plot_frame.specs.Line.{seen, line_of, line_of_stretched, line_of_even, even_offset, unit_along, across_line, upward_line, unscaled_line};
+ghost use Rattle.plot_frame.specs.Line.{seen, line_of, line_of_stretched, line_of_even, even_offset};
+ghost use Rattle.plot_frame.specs.Line.{unit_along, across_line, upward_line, unscaled_line};
 
 use crate::axis::Axis;
 use crate::scaling::{Fitting, Points, Scaling};

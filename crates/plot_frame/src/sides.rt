@@ -104,7 +104,7 @@ pub fn unit_size(across: Side, upward: Side) -> Ratio
     requires upward { IsSide upward }
     requires across_short { nat_abs across.distance ≤ 2 ^ 25 }
     requires upward_short { nat_abs upward.distance ≤ 2 ^ 25 }
-    ensures value { seen result ≡ frame.unit_size across upward }
+    ensures value { seen result ≡ frame.lesser (frame.ratio across) (frame.ratio upward) }
     ensures size { IsSize result }
 {
     let wide = ratio_of(across);

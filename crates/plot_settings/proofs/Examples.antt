@@ -5,7 +5,7 @@ use Rattle.plot_settings.specs.declared.setting.Rotation.TheVariants as rotation
 use Rattle.plot_settings.specs.declared.setting.Setting.TheVariants.{Start, Defaults, FirstPoint, BothPoints, Rotate, Pen, Width, WidthOfAll, PenColour, Size, Direction}
 use Rattle.plot_settings.specs.ArcParameters.{circled, arced}
 use Rattle.plot_settings.specs.Colours.{rgb, default_colour}
-use Rattle.plot_settings.specs.Lettering.{character_size, label_direction, usual_size, turned_offset}
+use Rattle.plot_settings.specs.Lettering.{character_size, label_direction, usual_size}
 use Rattle.plot_settings.specs.Slants.{is_slanted}
 use Rattle.plot_settings.specs.Meanings.{sets, wrong}
 use Rattle.plot_settings.specs.Parameters.{isotropic, moved_points, pen_colour, pen_width, rotated, user_scaling, scaling_points, ranges_of, selected_pen}
@@ -90,9 +90,6 @@ slanted = refl
 
 upright : is_slanted (pos 0 ∷ (pos 1 ∷ [])) ≡ false
 upright = refl
-
-quarter_turn : turned_offset rotation.Quarter (record { x = pos 12; y = pos 5 }) ≡ record { x = neg_ℤ (pos 5); y = pos 12 }
-quarter_turn = refl
 
 -- 0.4995 degrees are rounded to 0.5, and 0.4994 are not
 least_chord : circled (pos 1000000 ∷ (pos 499500 ∷ [])) ≡ Some (record { radius = pos 1000000; chord = 500 })

@@ -44,7 +44,7 @@ widths_length (Go r x y ∷ before) = widths_length before
 widths_length (Edge r x y ∷ before) = widths_length before
 widths_length (DrawCircle c ∷ before) = widths_length before
 widths_length (DrawArc r a ∷ before) = widths_length before
-widths_length (Write t ∷ before) = widths_length before
+widths_length (Write bytes ∷ before) = widths_length before
 
 all_tell : (w p : ℕ) → p < 256 → get_or (all_pens w) p 0 ≡ w
 unfolding all_pens
@@ -83,7 +83,7 @@ widths_tell (Go r x y ∷ before) p h = widths_tell before p h
 widths_tell (Edge r x y ∷ before) p h = widths_tell before p h
 widths_tell (DrawCircle c ∷ before) p h = widths_tell before p h
 widths_tell (DrawArc r a ∷ before) p h = widths_tell before p h
-widths_tell (Write t ∷ before) p h = widths_tell before p h
+widths_tell (Write bytes ∷ before) p h = widths_tell before p h
 
 -- widths within the range
 pub all_within : (w : ℕ) → w ≤ 12800 → AreWidths (all_pens w)
@@ -125,7 +125,7 @@ colours_length (Go r x y ∷ before) = colours_length before
 colours_length (Edge r x y ∷ before) = colours_length before
 colours_length (DrawCircle c ∷ before) = colours_length before
 colours_length (DrawArc r a ∷ before) = colours_length before
-colours_length (Write t ∷ before) = colours_length before
+colours_length (Write bytes ∷ before) = colours_length before
 
 -- the list of the default colours has each pen's
 default_tells : (p : ℕ) → p < 256 → get_or default_colours p black ≡ default_colour p
@@ -173,4 +173,4 @@ colours_tell (Go r x y ∷ before) p h = colours_tell before p h
 colours_tell (Edge r x y ∷ before) p h = colours_tell before p h
 colours_tell (DrawCircle c ∷ before) p h = colours_tell before p h
 colours_tell (DrawArc r a ∷ before) p h = colours_tell before p h
-colours_tell (Write t ∷ before) p h = colours_tell before p h
+colours_tell (Write bytes ∷ before) p h = colours_tell before p h

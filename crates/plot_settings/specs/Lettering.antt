@@ -1,12 +1,11 @@
 -- What SI (Absolute Character Size) and DI (Absolute Direction) set, or None if their numbers are wrong. Numbers are in
 -- millionths, and tested as written. The limit of 40 cm, and that only the four axes are directions, are our choice.
-use Rattle.std.specs.Prelude.{ℤ, pos, negsuc, ◌-ℤ◌, ◌*ℤ◌, nat_abs, nat_le, int_lt, Bool, not, ◌&&◌}
+use Rattle.std.specs.Prelude.{ℤ, pos, negsuc, ◌*ℤ◌, nat_abs, nat_le, int_lt, Bool, not, ◌&&◌}
 use Rattle.std.specs.Prelude.{List, [], ◌∷◌, Option, Some, None, if◌then◌else◌}
 use Rattle.std.specs.Ordering.{int_eq}
 use Rattle.exact.specs.Fraction.{round}
 use Rattle.exact.specs.Ranges.{is_between}
-use Rattle.label_layout.specs.declared.size.CharacterSize.{CharacterSize}
-use Rattle.label_layout.specs.declared.size.Offset.{Offset}
+use Rattle.stick_font.specs.declared.size.CharacterSize.{CharacterSize}
 use Rattle.plot_settings.specs.declared.setting.Rotation.{Rotation}
 use Rattle.plot_settings.specs.declared.setting.Rotation.TheVariants as rotation
 use Rattle.plot_settings.specs.declared.setting.Setting.{Setting}
@@ -43,10 +42,3 @@ abbrev pub label_direction : List ℤ → Option Setting
 label_direction [] = Some (Direction rotation.None)
 label_direction (x ∷ []) = None
 label_direction (x ∷ (y ∷ ns)) = when (not (int_eq x (pos 0) && int_eq y (pos 0))) (Direction (nearest_axis x y))
-
--- an offset, turned counterclockwise
-abbrev pub turned_offset : Rotation → Offset → Offset
-turned_offset rotation.None o = o
-turned_offset rotation.Quarter o = record { x = pos 0 -ℤ o.y; y = o.x }
-turned_offset rotation.Half o = record { x = pos 0 -ℤ o.x; y = pos 0 -ℤ o.y }
-turned_offset rotation.ThreeQuarters o = record { x = o.y; y = pos 0 -ℤ o.x }

@@ -2,7 +2,7 @@
 -- first. What IN (Initialize) and DF (Default Values) set is the guide's; that pen 1 is selected at the start is our
 -- choice.
 use Rattle.std.specs.Prelude.{ℕ, Bool, false, List, [], ◌∷◌, Option, Some, None, nat_eq, if◌then◌else◌, replicate, set}
-use Rattle.label_layout.specs.declared.size.CharacterSize.{CharacterSize}
+use Rattle.stick_font.specs.declared.size.CharacterSize.{CharacterSize}
 use Rattle.plot_frame.specs.declared.scaling.Scaling.{Scaling}
 use Rattle.plot_frame.specs.declared.scaling.Scaling.TheVariants.{Off}
 use Rattle.plot_page.specs.declared.colour.Colour.{Colour}

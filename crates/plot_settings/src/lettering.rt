@@ -9,7 +9,7 @@ ghost use Rattle.plot_settings.specs.declared.setting.Setting.TheVariants.{Size,
 use crate::setting::{Rotation, Setting};
 use exact::rounded;
 use hpgl_text::Number;
-use label_layout::{CharacterSize, Offset};
+use stick_font::CharacterSize;
 
 // The greatest width and height of characters, in millionths of a centimetre.
 const GREATEST_SIZE: i64 = 40_000_000;
@@ -106,30 +106,5 @@ pub fn is_slanted(numbers: &[Number]) -> bool
         [] => false,
         [_] => false,
         [run, rise, ..] => run.millionths() != 0 && rise.millionths() != 0,
-    }
-}
-
-/// An offset from a label's start, in grains of 1/16 plotter unit, turned counterclockwise.
-pub fn turned_offset(rotation: Rotation, offset: Offset) -> Offset
-    requires x_in { nat_abs offset.x ≤ 2 ^ 104 }
-    requires y_in { nat_abs offset.y ≤ 2 ^ 104 }
-    ensures value { result ≡ lettering.turned_offset rotation offset }
-    ensures x_in { nat_abs result.x ≤ 2 ^ 104 }
-    ensures y_in { nat_abs result.y ≤ 2 ^ 104 }
-{
-    match rotation {
-        Rotation::None => offset,
-        Rotation::Quarter => Offset {
-            x: 0 - offset.y,
-            y: offset.x,
-        },
-        Rotation::Half => Offset {
-            x: 0 - offset.x,
-            y: 0 - offset.y,
-        },
-        Rotation::ThreeQuarters => Offset {
-            x: offset.y,
-            y: 0 - offset.x,
-        },
     }
 }

@@ -15,7 +15,6 @@ mod setting;
 mod wrong;
 
 pub use figure::{Arc, Circle, Corner};
-pub use lettering::turned_offset;
 pub use palette::{FIRST_WIDTH, default_colour, default_colours, width_of_all};
 pub use points::points_moved_to;
 pub use request::{Moves, Request, request_of};

@@ -1,7 +1,8 @@
 // Sines, ends of chords and turns by their numbers.
-ghost use Rattle.plot_arc.specs.Chords.{IsNear};
+ghost use Rattle.plot_arc.specs.Bounds.{IsNear};
 
-use plot_arc::{Spot, chord_point, sine, turn, turn_count};
+use exact::Spot;
+use plot_arc::{chord_point, sine, turn, turn_count};
 use std::test::Fail;
 
 // The farthest coordinate from 0.

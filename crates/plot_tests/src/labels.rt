@@ -1,16 +1,17 @@
 // Labels by public calls.
 ghost use Rattle.std.specs.Prelude.{◌≡◌};
 
-use label_layout::{Cell, CharacterSize, LabelPoint, LabelStroke, Offset, label_stroke};
+use exact::Spot;
+use stick_font::{Cell, CharacterSize, LabelStroke, label_stroke};
 
-const fn at(across: i128, upward: i128) -> LabelPoint
-    ensures { result ≡ record { across = across; upward = upward } }
+const fn at(x: i128, y: i128) -> Spot
+    ensures { result ≡ record { x = x; y = y } }
 {
-    LabelPoint { across, upward }
+    Spot { x, y }
 }
 
 // Where the character after some bytes begins.
-fn end_of(bytes: &[u8]) -> LabelPoint {
+fn end_of(bytes: &[u8]) -> Spot {
     let mut cell = Cell::FIRST;
     for byte in bytes {
         if cell.column < 1000 && cell.line < 1000 {
@@ -67,19 +68,19 @@ fn ends(rt: HostRuntime) {
 #[test]
 fn sizes(rt: HostRuntime) {
     let usual = CharacterSize::DEFAULT;
-    assert_eq!(rt; usual.offset(at(12, 18)), Offset { x: 1216, y: 1728 });
-    assert_eq!(rt; usual.offset(at(8, 12)), Offset { x: 811, y: 1152 });
+    assert_eq!(rt; usual.offset(at(12, 18)), Spot { x: 1216, y: 1728 });
+    assert_eq!(rt; usual.offset(at(8, 12)), Spot { x: 811, y: 1152 });
     let turned_about = CharacterSize {
         width: -1216,
         height: -1728,
     };
     assert_eq!(rt;
         turned_about.offset(at(36, -36)),
-        Offset { x: -3648, y: 3456 }
+        Spot { x: -3648, y: 3456 }
     );
     let little = CharacterSize {
         width: 6,
         height: -9,
     };
-    assert_eq!(rt; little.offset(at(1, 1)), Offset { x: 1, y: 0 });
+    assert_eq!(rt; little.offset(at(1, 1)), Spot { x: 1, y: 0 });
 }

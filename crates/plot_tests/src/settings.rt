@@ -1,10 +1,9 @@
 // What numbers set and ask for, by their text.
 use hpgl_text::{Body, Items};
-use label_layout::Offset;
 use plot_frame::Points;
 use plot_settings::{
     FIRST_WIDTH, Request, Rotation, default_colour, default_colours, has_wrong_numbers,
-    is_off_axis, points_moved_to, request_of, turned_offset, width_of_all,
+    is_off_axis, points_moved_to, request_of, width_of_all,
 };
 use std::alloc::Global;
 use std::test::Fail;
@@ -140,21 +139,6 @@ fn moved_points(rt: HostRuntime) -> Result<(), Fail> {
     };
     let moved = points_moved_to(points, 100, -3);
     assert_eq!(rt; (moved.x1, moved.y1, moved.x2, moved.y2), (100, -3, 110, 2));
-    Ok(())
-}
-
-#[test]
-fn turned_offsets(rt: HostRuntime) -> Result<(), Fail> {
-    let offset = Offset { x: 12, y: 5 };
-    let turns = [
-        (Rotation::None, Offset { x: 12, y: 5 }),
-        (Rotation::Quarter, Offset { x: -5, y: 12 }),
-        (Rotation::Half, Offset { x: -12, y: -5 }),
-        (Rotation::ThreeQuarters, Offset { x: 5, y: -12 }),
-    ];
-    for (rotation, wanted) in turns {
-        assert_eq!(rt; turned_offset(rotation, offset), wanted);
-    }
     Ok(())
 }
 

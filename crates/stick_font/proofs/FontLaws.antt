@@ -3,7 +3,8 @@ use Rattle.std.proofs.Common.{◌≡◌, ◌<◌, ◌≤◌, ◌+◌, ◌-◌, �
 use Rattle.std.proofs.lemmas.List.FromFn.{get_or-map-range_with_len}
 use Rattle.std.proofs.lemmas.Bool.Decides.{nat_tests}
 use Rattle.std.specs.List.{list_all, range_with_len}
-use Rattle.stick_font.specs.Glyphs.{strokes, is_between, is_on_grid, first_rows, last_rows}
+use Rattle.stick_font.specs.Glyphs.{strokes, is_between, first_rows, last_rows}
+use Rattle.stick_font.specs.Laws.{is_on_grid}
 
 -- two functions that agree on n numbers, from a and from b on, agree on each of them
 each_of : {X : Type 0} (f g : ℕ → X) (a b n i j k : ℕ) → map f (range_with_len a n) ≡ map g (range_with_len b n) → i < n → a + i ≡ j → b + i ≡ k → f j ≡ g k

@@ -1,5 +1,5 @@
--- The strokes of characters, on a grid: x is 0 to 4 from left to right, y is 0 to 6 from the baseline up. The shapes are
--- data in src/font.rt, and are our own.
+-- The strokes of characters, on a grid: x is 0 to 4 from left to right, y is 0 to 6 from the baseline up. The shapes
+-- are data in src/font.rt, and are our own.
 use Rattle.std.specs.Prelude.{ℕ, Bool, List, [], ◌∷◌, map, nat_le, ◌&&◌, if◌then◌else◌, ◌-◌, slice_index_or}
 use Rattle.std.specs.List.{flat_map}
 use Rattle.stick_font.specs.declared.font.TheConstants.{FROM_EXCLAMATION_MARK, FROM_LEFT_BRACE}
@@ -55,7 +55,8 @@ first_rows = map (λ lines. map (λ line. line.now) lines.now) FROM_EXCLAMATION_
 unfoldable pub last_rows : List (List (List ℕ))
 last_rows = map (λ lines. map (λ line. line.now) lines.now) FROM_LEFT_BRACE
 
--- the polylines of a character: a small letter has those of its capital, the byte 32 less
+-- the polylines of a character: a small letter has those of its capital, the byte 32 less. A table has a row for each
+-- of its bytes, so no byte gets the default of a look-up.
 abbrev pub polylines : ℕ → List (List ℕ)
 polylines byte =
     if is_between 33 96 byte then slice_index_or first_rows (byte - 33) []
@@ -66,10 +67,6 @@ polylines byte =
 -- the strokes of a character, in the order in which they are drawn
 abbrev pub strokes : ℕ → List GridStroke
 strokes byte = flat_map polyline_strokes (polylines byte)
-
--- both ends lie on the grid
-abbrev pub is_on_grid : GridStroke → Bool
-is_on_grid s = is_between 0 4 s.ax && (is_between 0 6 s.ay && (is_between 0 4 s.bx && is_between 0 6 s.by))
 
 -- the distance between two columns of the grid, in twelfths of a capital's width
 abbrev pub column_width : ℕ → ℕ

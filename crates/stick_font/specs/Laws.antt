@@ -1,7 +1,12 @@
 -- What holds of the whole font, byte by byte.
-use Rattle.std.specs.Prelude.{◌≡◌, ℕ, ◌-◌, ◌^◌, ◌<◌, ◌≤◌, IsTrue, length, nat_lt}
+use Rattle.std.specs.Prelude.{◌≡◌, ℕ, ◌-◌, ◌^◌, ◌<◌, ◌≤◌, Bool, ◌&&◌, IsTrue, length, nat_lt}
 use Rattle.std.specs.List.{list_all}
-use Rattle.stick_font.specs.Glyphs.{is_between, is_on_grid, strokes}
+use Rattle.stick_font.specs.declared.grid.GridStroke.{GridStroke}
+use Rattle.stick_font.specs.Glyphs.{is_between, strokes}
+
+-- both ends lie on the grid
+abbrev pub is_on_grid : GridStroke → Bool
+is_on_grid s = is_between 0 4 s.ax && (is_between 0 6 s.ay && (is_between 0 4 s.bx && is_between 0 6 s.by))
 
 -- no stroke leaves the grid
 abbrev pub StrokesAreOnTheGrid : Type 0

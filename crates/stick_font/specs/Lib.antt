@@ -1,3 +1,7 @@
--- What a reader must believe: the strokes of characters, and the laws of the font.
+-- What a reader must believe: the strokes of characters, the cells of a label, and its points and strokes.
 pub mod Glyphs
+pub mod Cells
+pub mod Points
+-- What contracts need: the laws of the font, the next cell, and bounds of the arithmetic.
 pub mod Laws
+pub mod Bounds

@@ -1,5 +1,6 @@
 //! What holds of the whole font.
-ghost use Rattle.stick_font.specs.Laws.{StrokesAreOnTheGrid, PrintingCharactersHaveStrokes, CharactersHaveFewStrokes, SmallLettersAreDrawnAsCapitals};
+ghost use Rattle.stick_font.specs.Laws.{StrokesAreOnTheGrid, PrintingCharactersHaveStrokes};
+ghost use Rattle.stick_font.specs.Laws.{CharactersHaveFewStrokes, SmallLettersAreDrawnAsCapitals};
 
 /// No stroke leaves the grid: x is 0 to 4 and y is 0 to 6 at each end.
 pub fn strokes_are_on_the_grid()

@@ -11,7 +11,7 @@ use crate::curve::{Curve, chord_count, curve_point};
 use crate::place::target_of;
 use crate::plotter::{Plotter, Stop};
 use crate::state::Position;
-use plot_arc::Spot;
+use exact::Spot;
 use plot_settings::{Arc, Circle};
 
 impl Plotter {
@@ -61,7 +61,8 @@ impl Plotter {
     // An arc in coordinates.
     fn arc_curve(&self, is_relative: bool, arc: Arc) -> Curve
         requires { IsArc arc }
-        ensures value { result ≡ curves.arc_curve self.now.state.coordinates (target is_relative self.now.state.coordinates arc.x arc.y) arc }
+        ensures value { result ≡ curves.arc_curve self.now.state.coordinates
+            (target is_relative self.now.state.coordinates arc.x arc.y) arc }
         ensures curve { IsCurve self.now.page self.now.state.frame result }
     {
         let from = self.state.coordinates;
@@ -77,9 +78,11 @@ impl Plotter {
     // where it is.
     fn follow_curve(&mut self, start: Spot, curve: Curve, draws: bool) -> Result<Position, Stop>
         requires { IsCurve self.old.page self.old.state.frame curve }
-        ensures end { IfOk result (λ end. end ≡ pen_at self.old.page self.old.state.frame (curves.curve_point curve (curves.chord_count curve))) }
+        ensures end { IfOk result
+            (λ end. end ≡ pen_at self.old.page self.old.state.frame (curves.curve_point curve (curves.chord_count curve))) }
         ensures in_range { IfOk result (λ end. IsInRange end.place) }
-        ensures runs { Runs (travelled (seen self.old) draws (start ∷ curves.curve_places self.old.page self.old.state.frame curve)) (seen self.new) result }
+        ensures runs { Runs (travelled (seen self.old) draws
+            (start ∷ curves.curve_places self.old.page self.old.state.frame curve)) (seen self.new) result }
     {
         self.begin(start)?;
         let mut end = Position {

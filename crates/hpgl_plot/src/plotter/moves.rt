@@ -11,8 +11,8 @@ ghost use Rattle.plot_settings.specs.Steps.{Touch, Move, Go};
 use crate::place::{is_place_in_range, place_on, target_of};
 use crate::plotter::{Plotter, Stop};
 use crate::state::Position;
+use exact::Spot;
 use hpgl_text::Number;
-use plot_arc::Spot;
 use plot_page::{MOST_STROKES, Stroke};
 
 impl Plotter {
@@ -131,8 +131,12 @@ impl Plotter {
         requires b_in { IsInRange b }
         ensures page { self.new.page ≡ self.old.page }
         ensures state { self.new.state ≡ self.old.state }
-        ensures kept { IfOk result (λ _. self.new.strokes.items ≡ kept_with self.old.strokes.items self.old.is_full (drawn self.old.state a b)) }
-        ensures full { IfOk result (λ _. self.new.is_full ≡ full_with self.old.strokes.items self.old.is_full (drawn self.old.state a b)) }
+        ensures kept { IfOk result
+            (λ _. self.new.strokes.items
+            ≡ kept_with self.old.strokes.items self.old.is_full (drawn self.old.state a b)) }
+        ensures full { IfOk result
+            (λ _. self.new.is_full
+            ≡ full_with self.old.strokes.items self.old.is_full (drawn self.old.state a b)) }
         ensures memory { IfErr result (λ e. e ≡ Stop.Memory) }
     {
         if self.state.pen == 0 {

@@ -1,7 +1,7 @@
 use Rattle.std.proofs.Common.{rules, ◌∙◌, pos, ◌+ℤ◌, FitsSigned, ap}
 use mir.Syntax.{w64}
 use Rattle.std.proofs.lemmas.Int.{to_z-of_z}
-use Rattle.plot_arc.specs.Sines.{sine_of}
+use Rattle.plot_arc.specs.Arcs.{sine_of}
 use Rattle.plot_arc.proofs.Angles.{of_rest}
 use Rattle.plot_arc.proofs.sines.cosine.Goals as goal
 

@@ -7,16 +7,16 @@ use Rattle.hpgl_plot.proofs.plotter.Plotter.label_place.Goals as goal
 pub returns : goal.returns
 returns c =
     let s = c.args.self.now.state in
-    let o = c.turned_offset-on_page.result in
+    let o = c.turned_vector-on_page.result in
     let hp = c.args.self.now.sound.place in
     let px = hp.x_in in
     let py = hp.y_in in
-    let ox = c.turned_offset-on_page.ensures.x_in in
-    let oy = c.turned_offset-on_page.ensures.y_in in
+    let ox = c.turned_vector-on_page.ensures.x_in in
+    let oy = c.turned_vector-on_page.ensures.y_in in
     let f1 : FitsSigned w128 s.place.x = search rules in
     let f2 : FitsSigned w128 s.place.y = search rules in
     let f3 : FitsSigned w128 o.x = search rules in
     let f4 : FitsSigned w128 o.y = search rules in
     let f5 : FitsSigned w128 (s.place.x +ℤ o.x) = omega (arith, ints) in
     let f6 : FitsSigned w128 (s.place.y +ℤ o.y) = omega (arith, ints) in
-    simp to_z-of_z (place_is s c.args.point c.offset-unturned.result c.turned_offset-along.result o c.offset-unturned.ensures.value c.turned_offset-along.ensures.value c.turned_offset-on_page.ensures.value)
+    simp to_z-of_z (place_is s c.args.point c.offset-unturned.result c.turned_vector-along.result o c.offset-unturned.ensures.value c.turned_vector-along.ensures.value c.turned_vector-on_page.ensures.value)

@@ -1,10 +1,10 @@
 use Rattle.std.proofs.Common.{◌≡◌, ◌∙◌, ◌+◌, ap, sym, subst, refl, arith, true, List, drop, get_or, map, ℕ, Option, None, Some}
 use Rattle.std.proofs.lemmas.List.{drop_more}
 use Rattle.std.proofs.Math.ListN.{drop_of_length-le}
-use Rattle.label_layout.specs.declared.cell.Cell.{Cell}
-use Rattle.label_layout.specs.Cells.{moved_on}
-use Rattle.label_layout.specs.Points.{character_strokes, corner}
-use Rattle.plot_arc.specs.declared.spot.Spot.{Spot}
+use Rattle.stick_font.specs.declared.cell.Cell.{Cell}
+use Rattle.stick_font.specs.Bounds.{moved_on}
+use Rattle.stick_font.specs.Points.{character_strokes, corner}
+use Rattle.exact.specs.declared.spot.Spot.{Spot}
 use Rattle.plot_settings.specs.Steps.{Write}
 use Rattle.hpgl_plot.specs.declared.state.State.{State}
 use Rattle.hpgl_plot.specs.Labels.{stroke_places}

@@ -1,7 +1,7 @@
 use Rattle.std.proofs.Common.{◌≡◌, ◌∙◌, ◌+◌, ap, sym, subst, arith, true, List, drop, map, None, Some}
 use Rattle.std.proofs.lemmas.Option.{slice_get_within}
-use Rattle.label_layout.specs.Points.{character_strokes}
-use Rattle.plot_arc.specs.declared.spot.Spot.{Spot}
+use Rattle.stick_font.specs.Points.{character_strokes}
+use Rattle.exact.specs.declared.spot.Spot.{Spot}
 use Rattle.hpgl_plot.specs.declared.state.State.{State}
 use Rattle.hpgl_plot.specs.Labels.{stroke_places}
 use Rattle.hpgl_plot.specs.Machine.{seen, travelled, travelled_all}

@@ -1,5 +1,5 @@
 use Rattle.std.proofs.Common.{◌≡◌, ◌≤◌, ◌-◌, true, drop, length, map}
-use Rattle.label_layout.specs.Points.{character_strokes}
+use Rattle.stick_font.specs.Points.{character_strokes}
 use Rattle.hpgl_plot.specs.Labels.{stroke_places}
 use Rattle.hpgl_plot.specs.Machine.{seen, travelled_all}
 use Rattle.hpgl_plot.proofs.Travels.{IsKept}

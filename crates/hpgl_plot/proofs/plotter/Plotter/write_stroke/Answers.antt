@@ -1,5 +1,5 @@
 use Rattle.std.proofs.Common.{subst, true, List}
-use Rattle.plot_arc.specs.declared.spot.Spot.{Spot}
+use Rattle.exact.specs.declared.spot.Spot.{Spot}
 use Rattle.hpgl_plot.specs.Machine.{seen, travelled, Runs}
 use Rattle.hpgl_plot.proofs.Letters.{stroke_is}
 use Rattle.hpgl_plot.proofs.plotter.Plotter.write_stroke.Goals as goal

@@ -1,0 +1,8 @@
+-- What keeps the arithmetic in 128 bits.
+use Rattle.std.specs.Prelude.{◌≤◌, ◌^◌, nat_abs}
+use Rattle.exact.specs.declared.spot.Spot.{Spot}
+
+-- within 10^24 of 0
+pub record IsNear (s : Spot) : Type 0 where
+  pub x_in : nat_abs s.x ≤ 10 ^ 24
+  pub y_in : nat_abs s.y ≤ 10 ^ 24
