@@ -1,5 +1,5 @@
 -- How far a turned vector goes, and some turns.
-use Rattle.std.proofs.Common.{◌≡◌, ◌≤◌, ℕ, ℤ, pos, neg_ℤ, nat_abs, arith, refl}
+use Rattle.std.proofs.Common.{◌≡◌, ◌≤◌, ℕ, pos, neg_ℤ, nat_abs, arith, refl}
 use Rattle.std.proofs.lemmas.Int.{ints}
 use Rattle.exact.specs.declared.spot.Spot.{Spot}
 use Rattle.plot_settings.specs.declared.setting.Rotation.{Rotation}

@@ -15,21 +15,22 @@ use Rattle.hpgl_plot.specs.declared.plotter.Stop.{Stop}
 use Rattle.hpgl_plot.specs.declared.plotter.Stop.TheVariants.{Memory, OffRange}
 use Rattle.plot_settings.specs.declared.setting.Rotation.TheVariants as rotation
 use Rattle.plot_settings.specs.declared.setting.Setting.{Setting}
-use Rattle.plot_settings.specs.declared.setting.Setting.TheVariants.{Start, Defaults, PageCorners, FirstPoint, BothPoints, Scale, Rotate}
-use Rattle.plot_settings.specs.declared.setting.Setting.TheVariants.{PageWindow, CornerWindow, Pen, Width, WidthOfAll, PenColour, DefaultColours}
+use Rattle.plot_settings.specs.declared.setting.Setting.TheVariants.{Start, Defaults, PageCorners, FirstPoint}
+use Rattle.plot_settings.specs.declared.setting.Setting.TheVariants.{BothPoints, Scale, Rotate}
+use Rattle.plot_settings.specs.declared.setting.Setting.TheVariants.{PageWindow, CornerWindow, Pen, Width, WidthOfAll}
+use Rattle.plot_settings.specs.declared.setting.Setting.TheVariants.{PenColour, DefaultColours}
 use Rattle.plot_settings.specs.declared.setting.Setting.TheVariants.{Size, Direction}
 use Rattle.hpgl_plot.specs.declared.state.Frame.{Frame}
 use Rattle.hpgl_plot.specs.declared.state.Position.{Position}
 use Rattle.exact.specs.declared.spot.Spot.{Spot}
 use Rattle.hpgl_plot.specs.declared.state.State.{State}
 use Rattle.plot_settings.specs.Colours.{default_colours}
-use Rattle.plot_settings.specs.Lettering.{usual_size}
+use Rattle.plot_settings.specs.Parameters.{usual_size, moved_points}
 use Rattle.plot_page.specs.Segments.{Segment}
 use Rattle.plot_settings.specs.Settings.{all_pens}
 use Rattle.plot_settings.specs.Steps.{Step, Set, Lower, Relate}
 use Rattle.plot_settings.specs.Meanings.{steps_of}
 use Rattle.hpgl_plot.specs.Frames.{back, corner_window}
-use Rattle.plot_settings.specs.Parameters.{moved_points}
 use Rattle.hpgl_plot.specs.Paths.{path}
 use Rattle.hpgl_plot.specs.States.{state_of}
 use Rattle.hpgl_plot.specs.Turns.{corners}

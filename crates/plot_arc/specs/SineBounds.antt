@@ -1,7 +1,7 @@
 -- What a sine is, in whole numbers. For an angle x of 0 to 2 radians, Taylor's polynomials are bounds of its sine:
 -- x - x^3/3! + .. - x^15/15! is not above it, and x - x^3/3! + .. + x^13/13! is not below it. Here x is a/b, and all
 -- terms are multiplied by 15! * b^15.
-use Rattle.std.specs.Prelude.{◌≡◌, ℕ, ◌+◌, ◌*◌, ◌^◌, ◌≤◌, Bool, ◌&&◌, nat_lt, IsTrue}
+use Rattle.std.specs.Prelude.{ℕ, ◌+◌, ◌*◌, ◌^◌, ◌≤◌, Bool, ◌&&◌, nat_lt, IsTrue}
 use Rattle.plot_arc.specs.Arcs.{sine_of_degrees}
 
 -- 1

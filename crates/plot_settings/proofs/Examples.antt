@@ -3,12 +3,10 @@ use Rattle.std.proofs.Common.{◌≡◌, refl, pos, neg_ℤ, true, false, [], �
 use Rattle.std.specs.Prelude.{map}
 use Rattle.plot_settings.specs.declared.setting.Rotation.TheVariants as rotation
 use Rattle.plot_settings.specs.declared.setting.Setting.TheVariants.{Start, Defaults, FirstPoint, BothPoints, Rotate, Pen, Width, WidthOfAll, PenColour, Size, Direction}
-use Rattle.plot_settings.specs.ArcParameters.{circled, arced}
+use Rattle.plot_settings.specs.Parameters.{circled, arced, character_size, label_direction, usual_size, isotropic, moved_points, pen_colour, pen_width, rotated, user_scaling, scaling_points, ranges_of, selected_pen}
 use Rattle.plot_settings.specs.Colours.{rgb, default_colour}
-use Rattle.plot_settings.specs.Lettering.{character_size, label_direction, usual_size}
 use Rattle.plot_settings.specs.Slants.{is_slanted}
 use Rattle.plot_settings.specs.Meanings.{sets, wrong}
-use Rattle.plot_settings.specs.Parameters.{isotropic, moved_points, pen_colour, pen_width, rotated, user_scaling, scaling_points, ranges_of, selected_pen}
 use Rattle.plot_settings.specs.Settings.{pen, rotation_before, size}
 use Rattle.plot_settings.specs.Laws.{width, colour}
 use Rattle.plot_settings.specs.Steps.{Set, Lower, Touch, Move, lowered_then, moves}

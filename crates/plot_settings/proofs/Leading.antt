@@ -2,12 +2,10 @@
 use Rattle.std.proofs.Common.{◌≡◌, refl, ap, true, false, List, [], ◌∷◌, take, ℤ}
 use Rattle.hpgl_text.specs.declared.instruction.Instruction.{Instruction}
 use Rattle.hpgl_text.specs.declared.instruction.Instruction.TheVariants.{Initialize, DefaultValues, InputPoints, Scale, Rotate, InputWindow, SelectPen, PenWidth, PenColour, PenUp, PenDown, PlotAbsolute, PlotRelative, EdgeAbsolute, EdgeRelative, Circle, ArcAbsolute, ArcRelative, CharacterSize, Direction}
-use Rattle.plot_settings.specs.ArcParameters.{circled, arced}
-use Rattle.plot_settings.specs.Lettering.{character_size, label_direction}
+use Rattle.plot_settings.specs.Parameters.{circled, arced, character_size, label_direction, scaling_points, user_scaling, rotated, window_corners, selected_pen, pen_width, pen_colour}
 use Rattle.plot_settings.specs.Slants.{is_slanted}
 use Rattle.plot_settings.specs.Pairs.{plots_pairs}
 use Rattle.plot_settings.specs.Meanings.{sets, edges, circles, arcs, meaning}
-use Rattle.plot_settings.specs.Parameters.{scaling_points, user_scaling, rotated, window_corners, selected_pen, pen_width, pen_colour}
 
 first_one : {T : Type 0} (f : List ℤ → T) → ((n : ℤ) (ns : List ℤ) → f (n ∷ take 6 ns) ≡ f (n ∷ ns)) → (ns : List ℤ) → f (take 7 ns) ≡ f ns
 first_one f h [] = refl

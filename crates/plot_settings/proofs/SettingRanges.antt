@@ -13,8 +13,7 @@ use Rattle.plot_frame.specs.Bounds.{IsPoints, IsRanges}
 use Rattle.plot_settings.specs.declared.setting.Setting.{Setting}
 use Rattle.plot_settings.specs.declared.setting.Setting.TheVariants.{BothPoints, PenColour, Size, Direction}
 use Rattle.plot_settings.specs.Colours.{rgb, default_colour}
-use Rattle.plot_settings.specs.Parameters.{when, whole_of, apart, points_at, scaling_points, window_corners, rotation_set, rotated, isotropic, isotropic_by, scaling_of_type, ranges_of, user_scaling, anisotropic, point_factor, has_empty_range, is_percent, is_byte, given_colour, pen_colour}
-use Rattle.plot_settings.specs.Lettering.{is_size, size_grains, character_size, nearest_axis, label_direction}
+use Rattle.plot_settings.specs.Parameters.{when, whole_of, apart, points_at, scaling_points, window_corners, rotation_set, rotated, isotropic, isotropic_by, scaling_of_type, ranges_of, user_scaling, anisotropic, point_factor, has_empty_range, is_percent, is_byte, given_colour, pen_colour, is_size, size_grains, character_size, nearest_axis, label_direction}
 use Rattle.plot_settings.specs.Bounds.{IsSetting}
 
 pub isotropic_two : (r : Ranges) (ns : List ℤ) (l b : ℤ) → 2 ≤ length ns → l ≡ get_or ns 0 l → b ≡ get_or ns 1 b → isotropic_by r ns ≡ isotropic r l b

@@ -8,16 +8,14 @@ use Rattle.hpgl_text.specs.declared.instruction.Instruction.TheVariants.{PenColo
 use Rattle.hpgl_text.specs.declared.instruction.Instruction.TheVariants.{PlotRelative, EdgeAbsolute, EdgeRelative}
 use Rattle.hpgl_text.specs.declared.instruction.Instruction.TheVariants.{Circle, ArcAbsolute, ArcRelative}
 use Rattle.hpgl_text.specs.declared.instruction.Instruction.TheVariants.{CharacterSize, Direction}
-use Rattle.plot_settings.specs.ArcParameters.{circled, arced}
+use Rattle.plot_settings.specs.Parameters.{circled, arced, scaling_points, user_scaling, rotated, window_corners}
+use Rattle.plot_settings.specs.Parameters.{selected_pen, pen_width, pen_colour, character_size, label_direction}
 use Rattle.plot_settings.specs.declared.figure.Arc as arc
 use Rattle.plot_settings.specs.declared.figure.Circle as circle
 use Rattle.plot_settings.specs.declared.setting.Setting.{Setting}
 use Rattle.plot_settings.specs.declared.setting.Setting.TheVariants.{Start, Defaults}
-use Rattle.plot_settings.specs.Parameters.{scaling_points, user_scaling, rotated, window_corners, selected_pen}
-use Rattle.plot_settings.specs.Parameters.{pen_width, pen_colour}
 use Rattle.plot_settings.specs.Steps.{Step, Set, Lower, Relate, Edge, DrawCircle, DrawArc, Write}
 use Rattle.plot_settings.specs.Steps.{moves, lowered_then, entry_steps}
-use Rattle.plot_settings.specs.Lettering.{character_size, label_direction}
 
 pub record Meaning : Type 0 where
   pub steps : List Step

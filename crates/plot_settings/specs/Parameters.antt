@@ -1,8 +1,9 @@
--- What the parameters of an instruction set, or None where they are wrong. Numbers are in millionths. The instructions
--- are those of the HP-GL/2 and HP RTL Reference Guide, each under its name; that whole numbers are rounded before they
--- are tested, and all others tested as written, is our choice.
-use Rattle.std.specs.Prelude.{ℕ, ℤ, pos, ◌+ℤ◌, ◌-ℤ◌, ◌*ℤ◌, nat_abs, Bool, not, ◌&&◌, ◌||◌}
-use Rattle.std.specs.Prelude.{List, [], ◌∷◌, Option, Some, None, if◌then◌else◌}
+-- What the parameters of an instruction set or ask for, or None if they are wrong. Numbers are in millionths. The
+-- instructions are those of the HP-GL/2 and HP RTL Reference Guide, each under its name. That whole numbers are rounded
+-- before they are tested, angles to thousandths of a degree, and all others tested as written, is our choice, and so are
+-- the limits of a width and of a character's size, and that only the four axes are directions.
+use Rattle.std.specs.Prelude.{ℕ, ℤ, pos, ◌+ℤ◌, ◌-ℤ◌, ◌*ℤ◌, nat_abs, Bool, not, ◌&&◌, ◌||◌, List, [], ◌∷◌, Option, Some}
+use Rattle.std.specs.Prelude.{None, if◌then◌else◌, negsuc, nat_le, int_lt}
 use Rattle.std.specs.Ordering.{int_eq}
 use Rattle.exact.specs.Fraction.{round}
 use Rattle.exact.specs.Ranges.{is_between}
@@ -13,8 +14,12 @@ use Rattle.plot_settings.specs.declared.setting.Rotation.TheVariants as rotation
 use Rattle.plot_settings.specs.declared.setting.Setting.{Setting}
 use Rattle.plot_settings.specs.declared.setting.Setting.TheVariants.{PageCorners, FirstPoint, BothPoints, Scale, Rotate}
 use Rattle.plot_settings.specs.declared.setting.Setting.TheVariants.{PageWindow, CornerWindow, Pen, Width, WidthOfAll}
-use Rattle.plot_settings.specs.declared.setting.Setting.TheVariants.{PenColour, DefaultColours}
+use Rattle.plot_settings.specs.declared.setting.Setting.TheVariants.{PenColour, DefaultColours, Size, Direction}
 use Rattle.plot_settings.specs.Colours.{rgb, default_colour}
+use Rattle.stick_font.specs.declared.size.CharacterSize.{CharacterSize}
+use Rattle.plot_settings.specs.declared.setting.Rotation.{Rotation}
+use Rattle.plot_settings.specs.declared.figure.Arc.{Arc}
+use Rattle.plot_settings.specs.declared.figure.Circle.{Circle}
 
 -- rounded to a whole number
 abbrev pub whole_of : ℤ → ℤ
@@ -146,3 +151,68 @@ user_scaling [] = Some (Scale Off)
 user_scaling (a ∷ (b ∷ (c ∷ (d ∷ [])))) = anisotropic (ranges_of a b c d)
 user_scaling (a ∷ (b ∷ (c ∷ (d ∷ (t ∷ ns))))) = scaling_of_type (whole_of t) (ranges_of a b c d) ns
 user_scaling _ = None
+
+-- 0.19 by 0.27 cm, in grains
+abbrev pub usual_size : CharacterSize
+usual_size = record { width = pos 1216; height = pos 1728 }
+
+-- a width or a height is up to 40 cm on either side of 0, and not 0
+abbrev pub is_size : ℤ → Bool
+is_size n = not (int_eq n (pos 0)) && is_between (negsuc 39999999) (pos 40000000) n
+
+-- centimetres as grains, of which a plotter unit of 0.025 mm has 16
+abbrev pub size_grains : ℤ → ℤ
+size_grains n = round (record { over = pos 6400 *ℤ n; under = 1000000 })
+
+-- SI width, height
+abbrev pub character_size : List ℤ → Option Setting
+character_size [] = Some (Size usual_size)
+character_size (w ∷ []) = None
+character_size (w ∷ (h ∷ ns)) =
+    when (is_size w && is_size h) (Size (record { width = size_grains w; height = size_grains h }))
+
+-- the axis that is nearest to a direction: right or left, or up or down; the run's, if both are as near
+abbrev pub nearest_axis : ℤ → ℤ → Rotation
+nearest_axis run rise =
+    if nat_le (nat_abs rise) (nat_abs run) then (if int_lt run (pos 0) then rotation.Half else rotation.None) else
+    if int_lt rise (pos 0) then rotation.ThreeQuarters else rotation.Quarter
+
+-- DI run, rise: to the right if none is named
+abbrev pub label_direction : List ℤ → Option Setting
+label_direction [] = Some (Direction rotation.None)
+label_direction (x ∷ []) = None
+label_direction (x ∷ (y ∷ ns)) = when (not (int_eq x (pos 0) && int_eq y (pos 0))) (Direction (nearest_axis x y))
+
+-- rounded to thousandths
+abbrev pub thousandths_of : ℤ → ℤ
+thousandths_of n = round (record { over = n; under = 1000 })
+
+-- a chord has 0.5 to 180 degrees, and 5 if none is named
+abbrev pub is_chord : ℤ → Bool
+is_chord n = is_between (pos 500) (pos 180000) n
+
+abbrev pub default_chord : ℤ
+default_chord = pos 5000
+
+-- a sweep has 360 degrees at most, counterclockwise if it is above 0
+abbrev pub is_sweep : ℤ → Bool
+is_sweep n = is_between (negsuc 359999) (pos 360000) n
+
+abbrev pub circle_of : ℤ → ℤ → Option Circle
+circle_of radius chord = when (is_chord chord) (record { radius = radius; chord = nat_abs chord })
+
+-- CI radius, chord
+abbrev pub circled : List ℤ → Option Circle
+circled [] = None
+circled (r ∷ []) = circle_of r default_chord
+circled (r ∷ (c ∷ ns)) = circle_of r (thousandths_of c)
+
+abbrev pub arc_of : ℤ → ℤ → ℤ → ℤ → Option Arc
+arc_of x y sweep chord =
+    when (is_sweep sweep && is_chord chord) (record { x = x; y = y; sweep = sweep; chord = nat_abs chord })
+
+-- AA and AR x, y, sweep, chord: x and y are the centre
+abbrev pub arced : List ℤ → Option Arc
+arced (x ∷ (y ∷ (s ∷ []))) = arc_of x y (thousandths_of s) default_chord
+arced (x ∷ (y ∷ (s ∷ (c ∷ ns)))) = arc_of x y (thousandths_of s) (thousandths_of c)
+arced _ = None

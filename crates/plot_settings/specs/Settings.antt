@@ -13,7 +13,7 @@ use Rattle.plot_settings.specs.declared.setting.Setting.TheVariants.{Start, Defa
 use Rattle.plot_settings.specs.declared.setting.Setting.TheVariants.{WidthOfAll, PenColour, DefaultColours, Size}
 use Rattle.plot_settings.specs.declared.setting.Setting.TheVariants.{Direction}
 use Rattle.plot_settings.specs.Colours.{default_colour, default_colours}
-use Rattle.plot_settings.specs.Lettering.{usual_size}
+use Rattle.plot_settings.specs.Parameters.{usual_size}
 use Rattle.plot_settings.specs.Steps.{Step, Set, Lower, Relate}
 
 -- the newer value, if there is one

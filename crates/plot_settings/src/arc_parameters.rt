@@ -1,6 +1,6 @@
 //! What the parameters of CI, AA and AR ask for, or `None` if they are wrong.
 ghost use Rattle.std.specs.Prelude.{◌≡◌, ◌≤◌, ◌^◌, nat_abs, IfSome};
-ghost use Rattle.plot_settings.specs.ArcParameters as arcs;
+ghost use Rattle.plot_settings.specs.Parameters as parameters;
 ghost use Rattle.plot_settings.specs.Bounds.{IsCircle, IsArc};
 
 use crate::figure::{Arc, Circle};
@@ -12,19 +12,19 @@ const DEFAULT_CHORD: i64 = 5_000;
 
 // A number rounded to thousandths, the upper one of two.
 fn thousandths(number: Number) -> i64
-    ensures { result ≡ arcs.thousandths_of number }
+    ensures { result ≡ parameters.thousandths_of number }
 {
     rounded(i128::from(number.millionths()), 1_000) as i64
 }
 
 fn is_chord(thousandths: i64) -> bool
-    ensures { result ≡ arcs.is_chord thousandths }
+    ensures { result ≡ parameters.is_chord thousandths }
 {
     500 <= thousandths && thousandths <= 180_000
 }
 
 fn is_sweep(thousandths: i64) -> bool
-    ensures { result ≡ arcs.is_sweep thousandths }
+    ensures { result ≡ parameters.is_sweep thousandths }
 {
     -360_000 <= thousandths && thousandths <= 360_000
 }
@@ -33,7 +33,7 @@ fn is_sweep(thousandths: i64) -> bool
 /// chord has 0.5 to 180 degrees, rounded to thousandths before they are tested, and 5 if none is
 /// named. `None` if the radius is missing, or the chord is out of range.
 pub fn circle_from(numbers: &[Number]) -> Option<Circle>
-    ensures value { result ≡ arcs.circled numbers.now }
+    ensures value { result ≡ parameters.circled numbers.now }
     ensures sound { IfSome result (λ c. IsCircle c) }
 {
     match numbers {
@@ -44,7 +44,7 @@ pub fn circle_from(numbers: &[Number]) -> Option<Circle>
 }
 
 fn circle_of(radius: Number, chord: i64) -> Option<Circle>
-    ensures value { result ≡ arcs.circle_of radius chord }
+    ensures value { result ≡ parameters.circle_of radius chord }
     ensures sound { IfSome result (λ c. IsCircle c) }
 {
     if is_chord(chord) {
@@ -62,7 +62,7 @@ fn circle_of(radius: Number, chord: i64) -> Option<Circle>
 /// to thousandths before they are tested; a chord has 5 if none is named. `None` if a number before
 /// the chord is missing, or an angle is out of range.
 pub fn arc_from(numbers: &[Number]) -> Option<Arc>
-    ensures value { result ≡ arcs.arced numbers.now }
+    ensures value { result ≡ parameters.arced numbers.now }
     ensures sound { IfSome result (λ a. IsArc a) }
 {
     match numbers {
@@ -75,7 +75,7 @@ pub fn arc_from(numbers: &[Number]) -> Option<Arc>
 }
 
 fn arc_of(x: Number, y: Number, sweep: i64, chord: i64) -> Option<Arc>
-    ensures value { result ≡ arcs.arc_of x y sweep chord }
+    ensures value { result ≡ parameters.arc_of x y sweep chord }
     ensures sound { IfSome result (λ a. IsArc a) }
 {
     if is_sweep(sweep) && is_chord(chord) {

@@ -1,8 +1,7 @@
 //! What SI and DI set, or `None` if their parameters are wrong, and how a label is turned.
 ghost use Rattle.std.specs.Prelude.{◌≡◌, ◌≤◌, ◌^◌, ◌&&◌, not, pos, nat_abs, true};
 ghost use Rattle.std.specs.Ordering.{int_eq};
-ghost use Rattle.plot_settings.specs.Lettering as lettering;
-ghost use Rattle.plot_settings.specs.Parameters.{when};
+ghost use Rattle.plot_settings.specs.Parameters as parameters;
 ghost use Rattle.plot_settings.specs.Slants.{is_slanted};
 ghost use Rattle.plot_settings.specs.declared.setting.Setting.TheVariants.{Size, Direction};
 
@@ -18,7 +17,7 @@ const GREATEST_SIZE: i64 = 40_000_000;
 /// unit, or `CharacterSize::DEFAULT` if no number is there. `None` if the height is missing, or a
 /// number is 0 or over 40 centimetres either side of 0.
 pub fn size_setting(numbers: &[Number]) -> Option<Setting>
-    ensures { result ≡ lettering.character_size numbers.now }
+    ensures { result ≡ parameters.character_size numbers.now }
 {
     match numbers {
         [] => Some(Setting::Size(CharacterSize::DEFAULT)),
@@ -29,8 +28,8 @@ pub fn size_setting(numbers: &[Number]) -> Option<Setting>
 
 fn size_by(width: Number, height: Number) -> Option<Setting>
     ensures { result ≡
-        when (lettering.is_size width && lettering.is_size height)
-        (Size (record { width = lettering.size_grains width; height = lettering.size_grains height })) }
+        parameters.when (parameters.is_size width && parameters.is_size height)
+        (Size (record { width = parameters.size_grains width; height = parameters.size_grains height })) }
 {
     if is_size(width) && is_size(height) {
         Some(Setting::Size(CharacterSize {
@@ -43,7 +42,7 @@ fn size_by(width: Number, height: Number) -> Option<Setting>
 }
 
 fn is_size(size: Number) -> bool
-    ensures { result ≡ lettering.is_size size }
+    ensures { result ≡ parameters.is_size size }
 {
     let millionths = size.millionths();
     millionths != 0 && -GREATEST_SIZE <= millionths && millionths <= GREATEST_SIZE
@@ -51,8 +50,8 @@ fn is_size(size: Number) -> bool
 
 // Millionths of a centimetre as grains.
 fn grains_of_size(size: Number) -> i32
-    requires { lettering.is_size size ≡ true }
-    ensures { result ≡ lettering.size_grains size }
+    requires { parameters.is_size size ≡ true }
+    ensures { result ≡ parameters.size_grains size }
 {
     rounded(i128::from(6400 * size.millionths()), 1_000_000) as i32
 }
@@ -61,7 +60,7 @@ fn grains_of_size(size: Number) -> i32
 /// direction, that of the run if both are as near, or to the right if no number is there. `None` if
 /// the rise is missing, or both are 0.
 pub fn direction_setting(numbers: &[Number]) -> Option<Setting>
-    ensures { result ≡ lettering.label_direction numbers.now }
+    ensures { result ≡ parameters.label_direction numbers.now }
 {
     match numbers {
         [] => Some(Setting::Direction(Rotation::None)),
@@ -72,7 +71,8 @@ pub fn direction_setting(numbers: &[Number]) -> Option<Setting>
 
 fn direction_by(run: i64, rise: i64) -> Option<Setting>
     ensures { result ≡
-        when (not (int_eq run (pos 0) && int_eq rise (pos 0))) (Direction (lettering.nearest_axis run rise)) }
+        parameters.when (not (int_eq run (pos 0) && int_eq rise (pos 0)))
+        (Direction (parameters.nearest_axis run rise)) }
 {
     if run == 0 && rise == 0 {
         None
@@ -83,7 +83,7 @@ fn direction_by(run: i64, rise: i64) -> Option<Setting>
 
 // The axis that is nearest to a direction: the run's, if both are as near.
 fn nearest_axis(run: i64, rise: i64) -> Rotation
-    ensures { result ≡ lettering.nearest_axis run rise }
+    ensures { result ≡ parameters.nearest_axis run rise }
 {
     if rise.unsigned_abs() <= run.unsigned_abs() {
         if run < 0 {

@@ -1,3 +1,4 @@
+use Rattle.std.proofs.Common.{◌^◌}
 use Rattle.hpgl_plot.proofs.Turned.{vector_right, vector_above}
 use Rattle.hpgl_plot.proofs.turn.turned_vector.Goals as goal
 
