@@ -66,12 +66,14 @@ pub(crate) const FILE: &str = "The plot file; without one the plot is read from 
 
 pub(crate) const TOP: HelpPage<'static> = HelpPage {
     about: "Turn an HP-GL or HP-GL/2 plot into a raster picture with exact pixels, or describe it",
-    example: "Example:\n  plotraster pbm --dots 300 plan.plt > plan.pbm\n\n'plotraster pbm --help' lists the options of pbm, and so for each command.",
+    example: "Example:\n  plotraster pbm --dots 300 plan.plt > plan.pbm\n\n\
+        'plotraster pbm --help' lists the options of pbm, and so for each command.",
 };
 
 pub(crate) const MARKS: HelpPage<'static> = HelpPage {
     about: "Write a line for each pixel that is drawn: its row, its column, its pen and its colour",
-    example: "Example, a page of 64 by 64 units, 8 by 8 pixels:\n  printf 'SP1;PU0,28;PD64,28;' | plotraster marks --width 64 --height 64 --dots 127",
+    example: "Example, a page of 64 by 64 units, 8 by 8 pixels:\n  printf 'SP1;PU0,28;PD64,28;' | \
+        plotraster marks --width 64 --height 64 --dots 127",
 };
 
 pub(crate) const PBM: HelpPage<'static> = HelpPage {
@@ -91,5 +93,6 @@ pub(crate) const PCL: HelpPage<'static> = HelpPage {
 
 pub(crate) const REPORT: HelpPage<'static> = HelpPage {
     about: "Describe a plot: its page, its strokes pen by pen with their boxes, and what was skipped or bad",
-    example: "Example, how far pen 2 draws, in sixteenths of a plotter unit:\n  plotraster report plan.plt | grep '^pen 2 '",
+    example: "Example, how far pen 2 draws, in sixteenths of a plotter unit:\n  plotraster report plan.plt | \
+        grep '^pen 2 '",
 };

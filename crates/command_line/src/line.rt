@@ -1,8 +1,10 @@
 //! What a command line asks for.
-ghost use Rattle.std.specs.Prelude.{◌≡◌, ◌↔◌, ◌<◌, ◌≤◌, ◌^◌, ℕ, Some, Err, IfOk, IfErr, IsOk, IsOkAnd, true, is_some, codes};
+ghost use Rattle.std.specs.Prelude.{◌≡◌, ◌↔◌, ◌<◌, ◌≤◌, ◌^◌, ℕ, Some, Err, IfOk, IfErr, IsOk, IsOkAnd, true, is_some};
+ghost use Rattle.std.specs.Prelude.{codes};
 ghost use Rattle.clap.specs.Words.{found_of, rows_of};
 ghost use Rattle.command_line.specs.Lines.{number_in, form_named, lists_no_pens, has_bad_list, asks_bad_list};
-ghost use Rattle.command_line.specs.Lines.{ArePensOf, IsPageOf, IsJobOf, IsTaskOf, IsLineOf, AreOfThisCommand, pens_text};
+ghost use Rattle.command_line.specs.Lines.{ArePensOf, IsPageOf, IsJobOf, IsTaskOf, IsLineOf, AreOfThisCommand};
+ghost use Rattle.command_line.specs.Lines.{pens_text};
 ghost use Rattle.command_line.specs.Readings.{HasNumber, HasPageNumbers, HasPictureValues, HasValues};
 
 use crate::fault::LineFault;
@@ -49,7 +51,8 @@ pub fn settle<'a>(matches: &ArgMatches<'a>) -> Result<Line<'a>, LineFault>
 fn task_of(name: &str, options: &ArgMatches<'_>) -> Result<Task, LineFault>
     ensures task { IfOk result (IsTaskOf name.now (rows_of (found_of options.now))) }
     ensures pens { (result ≡ Err LineFault.Pens) ↔ (has_bad_list (name.now, rows_of (found_of options.now)) ≡ true) }
-    ensures understood { HasValues name.now (rows_of (found_of options.now)) → IfErr result (λ fault. fault ≡ LineFault.Pens) }
+    ensures understood { HasValues name.now (rows_of (found_of options.now)) →
+        IfErr result (λ fault. fault ≡ LineFault.Pens) }
 {
     if name == "report" {
         return Ok(Task::Report(page_of(options)?));
@@ -75,7 +78,8 @@ fn job_of(options: &ArgMatches<'_>, form: Form) -> Result<Job, LineFault>
     ensures job { IfOk result (IsJobOf (rows_of (found_of options.now))) }
     ensures form { IfOk result (λ job. job.form ≡ form) }
     ensures pens { (result ≡ Err LineFault.Pens) ↔ (lists_no_pens (rows_of (found_of options.now)) ≡ true) }
-    ensures understood { HasPictureValues (rows_of (found_of options.now)) → IfErr result (λ fault. fault ≡ LineFault.Pens) }
+    ensures understood { HasPictureValues (rows_of (found_of options.now)) →
+        IfErr result (λ fault. fault ≡ LineFault.Pens) }
 {
     let pens = pens_of(options)?;
     Ok(Job {
@@ -91,7 +95,8 @@ fn job_of(options: &ArgMatches<'_>, form: Form) -> Result<Job, LineFault>
 fn pens_of(options: &ArgMatches<'_>) -> Result<PenSet, LineFault>
     ensures pens { IfOk result (ArePensOf (rows_of (found_of options.now))) }
     ensures fault { (result ≡ Err LineFault.Pens) ↔ (lists_no_pens (rows_of (found_of options.now)) ≡ true) }
-    ensures understood { is_some (pens_text (rows_of (found_of options.now))) ≡ true → IfErr result (λ fault. fault ≡ LineFault.Pens) }
+    ensures understood { is_some (pens_text (rows_of (found_of options.now))) ≡ true →
+        IfErr result (λ fault. fault ≡ LineFault.Pens) }
 {
     let Some(text) = options.get_str("pens") else {
         return Err(LineFault::Words);
@@ -113,7 +118,8 @@ fn page_of(options: &ArgMatches<'_>) -> Result<Page, LineFault>
 
 fn number_of(options: &ArgMatches<'_>, name: &str) -> Result<u32, LineFault>
     ensures number { IfOk result (λ n. number_in (rows_of (found_of options.now)) name.now ≡ Some n) }
-    ensures understood { (low high : ℕ) → high < 2 ^ 32 → HasNumber (rows_of (found_of options.now)) name.now low high → IsOkAnd result (λ n. (low ≤ n) × (n ≤ high)) }
+    ensures understood { (low high : ℕ) → high < 2 ^ 32 → HasNumber (rows_of (found_of options.now)) name.now low high →
+        IsOkAnd result (λ n. (low ≤ n) × (n ≤ high)) }
     ensures fault { IfErr result (λ fault. fault ≡ LineFault.Words) }
 {
     options.get_one::<u32>(name).ok_or(LineFault::Words)

@@ -11,7 +11,7 @@ use Rattle.plot_page.specs.declared.pens.PenSet.{PenSet}
 use Rattle.picture_out.specs.declared.form.Form.{Form}
 use Rattle.picture_out.specs.declared.inks.Ink.{Ink}
 use Rattle.picture_out.specs.Forms.{row_bytes}
-use Rattle.conversion.specs.declared.writing.Stop.{Stop}
+use Rattle.conversion.specs.declared.writing.Broken.{Broken}
 use Rattle.conversion.specs.Pictures.{rows_bytes, Reach}
 use Rattle.conversion.specs.Stops.{bytes_before, IsStoppedAt}
 use Rattle.conversion.specs.Progress.{rows_text, StopsIn}
@@ -24,13 +24,13 @@ text_some form inks at i rows =
     let e = ap (λ (z : List (List ℕ)). length (rows_text form inks at z)) (sym (take-append-drop i rows)) ∙ ap length (text-append form inks at (take i rows) (drop i rows)) in
     omega (arith, e, length-append (rows_text form inks at (take i rows)) (rows_text form inks (at + length (take i rows)) (drop i rows)))
 
-pub record IsStop (head : List ℕ) (row : ℕ → List ℕ) (rows first done size : ℕ) (stop : Stop) : Type 0 where
+pub record IsStop (head : List ℕ) (row : ℕ → List ℕ) (rows first done size : ℕ) (stop : Broken) : Type 0 where
   pub at : IsStoppedAt head row rows first stop.bytes stop.row stop.whole
   pub from : done ≤ stop.bytes
   pub to : stop.bytes - done < size
 
 pub band_stop : (form : Form) (inks : List Ink) (head : List ℕ) (row : ℕ → List ℕ) (pens : ℕ → List ℕ) → ((r : ℕ) → row r ≡ row_bytes form r inks (pens r))
-    → (rows first at n done : ℕ) (stop : Stop) (k : ℕ) → first ≤ at → at + n ≤ rows → done ≡ bytes_before head row first at
+    → (rows first at n done : ℕ) (stop : Broken) (k : ℕ) → first ≤ at → at + n ≤ rows → done ≡ bytes_before head row first at
     → StopsIn form inks first at (map pens (range_with_len at n)) done stop k
     → IsStop head row rows first done (length (rows_text form inks at (map pens (range_with_len at n)))) stop
 band_stop form inks head row pens h rows first at n done stop k from fit before s =

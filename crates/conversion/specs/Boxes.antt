@@ -11,7 +11,8 @@ use Rattle.conversion.specs.Plots.{strokes}
 
 -- how many pixels the boxes of the selected strokes have, together, in the page's rows from one on
 abbrev pub boxes_from : PenSet → List Segment → Page → Dots → ℕ → ℕ
-boxes_from pens strokes page dots first = boxes (λ s. in_box s page dots) (selected pens strokes) first (rows_of page dots - first) (columns_of page dots)
+boxes_from pens strokes page dots first =
+    boxes (λ s. in_box s page dots) (selected pens strokes) first (rows_of page dots - first) (columns_of page dots)
 
 -- how many pixels the boxes of a job's strokes have, together: no more tests are made
 abbrev pub job_boxes : Job → List ℕ → ℕ

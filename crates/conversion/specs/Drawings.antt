@@ -4,12 +4,11 @@ use Rattle.std.specs.Io.KnownBytes.{Consumes}
 use Rattle.hpgl_plot.specs.declared.lines.Lines.{Lines}
 use Rattle.plot_page.specs.declared.page.Page.{Page}
 use Rattle.plot_page.specs.declared.stroke.TheConstants.{MOST_STROKES}
-use Rattle.conversion.specs.Faults.{of_plot}
 use Rattle.conversion.specs.Plots.{strokes, refusal}
 use Rattle.conversion.specs.Readings.{WasRead, WasTooLong}
 use Rattle.devices.specs.Sources.{SourceState}
 use Rattle.conversion.specs.declared.fault.Fault.{Fault}
-use Rattle.conversion.specs.declared.fault.Fault.TheVariants.{TooLong, Memory, Read}
+use Rattle.conversion.specs.declared.fault.Fault.TheVariants.{TooLong, Memory, Plot, Read}
 use Rattle.hpgl_plot.specs.Notes as noting
 use Rattle.hpgl_text.specs.Cut.{cut}
 
@@ -28,7 +27,7 @@ pub record IsDrawn (page : Page) (input : List ℕ) (before after : SourceState)
 -- the plot was read whole and is refused for the page
 pub record IsNotDrawn (page : Page) (input : List ℕ) (before after : SourceState) (fault : Fault) : Type 0 where
   pub read : WasRead input before after
-  pub refused : option_map of_plot (refusal page input) ≡ Some fault
+  pub refused : option_map Plot (refusal page input) ≡ Some fault
 
 -- what each answer says of what was read; want of memory says only that the source did not fail
 abbrev pub Draws : Page → List ℕ → SourceState → SourceState → Result Lines Fault → Type 0

@@ -14,10 +14,10 @@ use Rattle.stroke_raster.specs.Covers.{covers}
 use Rattle.stroke_raster.specs.BandHeights.{is_band_height}
 use Rattle.hpgl_text.specs.declared.program.TheConstants.{LONGEST_PLOT}
 use Rattle.picture_job.specs.declared.job.Job.{Job}
-use Rattle.conversion.specs.Faults.{of_plot}
 use Rattle.conversion.specs.Plots.{strokes, refusal}
 use Rattle.conversion.specs.declared.fault.Fault.{Fault}
-use Rattle.conversion.specs.declared.fault.Fault.TheVariants.{TooLong, Memory, Band, Row, Write, Read, Resolution}
+use Rattle.conversion.specs.declared.fault.Fault.TheVariants.{TooLong, Memory, Plot, Paint, Write, Read, Resolution}
+use Rattle.stroke_raster.specs.declared.painter.PaintFault.TheVariants.{Band, Row}
 
 -- this many rows, from one on
 abbrev pub rows_bytes : (ℕ → List ℕ) → ℕ → ℕ → List ℕ
@@ -62,7 +62,8 @@ job_row job reaches plot row = row_of job.form reaches job.pens (strokes job.pag
 -- the picture of a job and a plot: the head if it begins with row 0, the rows from its first row on, the foot
 abbrev pub picture : Job → Reach → List ℕ → List ℕ
 picture job reaches plot =
-    picture_of (head_of job.form job.page job.dots) (job_row job reaches plot) (foot_bytes job.form) (rows_of job.page job.dots) job.first_row
+    picture_of (head_of job.form job.page job.dots) (job_row job reaches plot) (foot_bytes job.form)
+    (rows_of job.page job.dots) job.first_row
 
 -- the job's form has its resolution; if not, nothing is read
 abbrev pub has_resolution : Job → Bool
@@ -71,8 +72,8 @@ has_resolution job = takes_resolution job.form job.dots.resolution
 -- why a job cannot be done on its page, whatever the plot: its band height, and then its first row
 abbrev pub job_fault : Job → Option Fault
 job_fault job =
-    if not (is_band_height job.band) then Some Band else
-    if nat_lt (rows_of job.page job.dots) job.first_row then Some Row else
+    if not (is_band_height job.band) then Some (Paint Band) else
+    if nat_lt (rows_of job.page job.dots) job.first_row then Some (Paint Row) else
     None
 
 -- the first of two, if there is one
@@ -83,7 +84,7 @@ first_fault None later = later
 -- why a plot that was read whole has no picture of a job, or None if it has one: the plot's refusal for the page, and
 -- then the job's fault
 abbrev pub fault_of : Job → List ℕ → Option Fault
-fault_of job plot = first_fault (option_map of_plot (refusal job.page plot)) (job_fault job)
+fault_of job plot = first_fault (option_map Plot (refusal job.page plot)) (job_fault job)
 
 -- a plot has a picture of a job: it is not too long, and nothing refuses it
 pub record HasPicture (job : Job) (plot : List ℕ) : Type 0 where

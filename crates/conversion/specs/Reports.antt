@@ -19,7 +19,8 @@ abbrev pub report : Page → List ℕ → List ℕ
 report page plot = report_of page (strokes page plot) (notes (cut plot))
 
 -- the whole report was written
-pub record IsReported (page : Page) (input : List ℕ) (before after : SourceState) (sink sink' : SinkState) (done : Done) : Type 0 where
+pub record IsReported (page : Page) (input : List ℕ) (before after : SourceState) (sink sink' : SinkState)
+    (done : Done) : Type 0 where
   pub read : WasRead input before after
   pub accepted : refusal page input ≡ None
   pub written : Appends sink.held sink'.held (report page input)
@@ -30,7 +31,8 @@ pub record IsReported (page : Page) (input : List ℕ) (before after : SourceSta
   pub notes : done.notes ≡ notes_count input
 
 -- the sink failed after the first bytes of the report, which has no rows to go on from
-pub record IsReportCutShort (page : Page) (input : List ℕ) (before after : SourceState) (sink sink' : SinkState) (row whole bytes : ℕ) : Type 0 where
+pub record IsReportCutShort (page : Page) (input : List ℕ) (before after : SourceState) (sink sink' : SinkState)
+    (row whole bytes : ℕ) : Type 0 where
   pub read : WasRead input before after
   pub accepted : refusal page input ≡ None
   pub written : Appends sink.held sink'.held (take bytes (report page input))
@@ -46,11 +48,13 @@ Reports page input before after sink sink' (Ok done) = IsReported page input bef
 Reports page input before after sink sink' (Err Read) = after.faults ≡ before.faults + 1
 Reports page input before after sink sink' (Err TooLong) = WasTooLong input before after
 Reports page input before after sink sink' (Err Memory) = after.faults ≡ before.faults
-Reports page input before after sink sink' (Err (Write row whole bytes)) = IsReportCutShort page input before after sink sink' row whole bytes
+Reports page input before after sink sink' (Err (Write row whole bytes)) =
+    IsReportCutShort page input before after sink sink' row whole bytes
 Reports page input before after sink sink' (Err fault) = IsNotDrawn page input before after fault
 
 -- a report: what it took from the source, and its answer
-pub record HasReported (page : Page) (before after : SourceState) (sink sink' : SinkState) (answer : Result Done Fault) : Type 0 where
+pub record HasReported (page : Page) (before after : SourceState) (sink sink' : SinkState)
+    (answer : Result Done Fault) : Type 0 where
   pub input : List ℕ
   pub taken : Consumes before.left after.left input
   pub reports : Reports page input before after sink sink' answer

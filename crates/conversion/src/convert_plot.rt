@@ -23,11 +23,11 @@ use stroke_raster::{Gauge, Painter};
 /// boxes of those strokes have pixels, whatever the band height.
 ///
 /// Errors, in this order: `Resolution` if the form does not have the job's resolution, and then the
-/// source is not read; those of reading and drawing the plot (`Read`, `TooLong`, `OffRange`,
-/// `TooManyStrokes`); `Band` and `Row` for a band height and a first row out of range; `Write` if the
-/// sink fails. `Memory` comes when memory is refused. After every error but `Write` the sink is as
-/// it was; after `Write` it has taken the first `bytes` bytes of the picture, and the job from row
-/// `row` writes what follows the first `whole` of them.
+/// source is not read; those of reading and drawing the plot (`Read`, `TooLong`, `Plot`);
+/// `Paint` for a band height or a first row out of range; `Write` if the sink fails. `Memory` comes
+/// when memory is refused. After every error but `Write` the sink is as it was; after `Write` it has
+/// taken the first `bytes` bytes of the picture, and the job from row `row` writes what follows the
+/// first `whole` of them.
 pub fn convert<G: Gauge, S: Source, K: Sink>(
     alloc: Global,
     job: &Job,

@@ -14,9 +14,8 @@ use std::alloc::Global;
 /// it. Of the plot nothing else is kept.
 ///
 /// Errors, in this order: `Read` if the source fails; `TooLong` if it gives more than 67,108,864
-/// bytes; `OffRange` and `TooManyStrokes` at the first instruction that goes out of range or makes a
-/// stroke too many.
-/// `Memory` comes when memory is refused.
+/// bytes; `Plot` if an instruction goes out of range or makes a stroke too many. `Memory` comes when
+/// memory is refused.
 pub fn draw_source<S: Source>(alloc: Global, page: &Page, source: &mut S) -> Result<Lines, Fault>
     requires failing { (S.state source.old).faults < 2 ^ 64 - 1 }
     requires ending { (S.state source.old).ends < 2 ^ 64 - 1 }

@@ -35,7 +35,8 @@ pub fn gather(band: &Band<'_>, buffer: &mut [u8]) -> Option<usize>
     requires columns { All (λ row. length row ≤ MOST_PIXELS_A_SIDE) (rows_of_band band.now) }
     ensures few { IfSome result (λ end. end ≤ length (rows_of_band band.now) * MOST_BYTES_A_ROW) }
     ensures within { IfSome result (λ end. end ≤ length buffer.old) }
-    ensures bytes { IfSome result (λ end. (inks : List Ink) → take end buffer.new ≡ rows_text Pbm inks (first_of band.now) (rows_of_band band.now)) }
+    ensures bytes { IfSome result (λ end. (inks : List Ink) → take end buffer.new
+        ≡ rows_text Pbm inks (first_of band.now) (rows_of_band band.now)) }
     ensures size { length buffer.new ≡ length buffer.old }
 {
     let mut used = 0;
@@ -59,7 +60,8 @@ pub fn cut_row(band: &Band<'_>, bytes: u64) -> (u32, u64)
     ensures row { result.0 < length (rows_of_band band.now) }
     ensures before { result.1 ≡ length (rows_text Pbm [] (first_of band.now) (take result.0 (rows_of_band band.now))) }
     ensures from { result.1 ≤ bytes }
-    ensures to { bytes < result.1 + length (row_bytes Pbm (first_of band.now + result.0) [] (get_or (rows_of_band band.now) result.0 [])) }
+    ensures to { bytes < result.1 + length (row_bytes Pbm (first_of band.now + result.0) []
+        (get_or (rows_of_band band.now) result.0 [])) }
 {
     let mut before = 0u64;
     let count = band.rows();
@@ -78,7 +80,8 @@ pub fn cut_row(band: &Band<'_>, bytes: u64) -> (u32, u64)
 fn bytes_of_row(band: &Band<'_>, row: u32) -> u64
     requires columns { All (λ row. length row ≤ MOST_PIXELS_A_SIDE) (rows_of_band band.now) }
     requires row { row < length (rows_of_band band.now) }
-    ensures size { result ≡ length (row_bytes Pbm (first_of band.now + row) [] (get_or (rows_of_band band.now) row [])) }
+    ensures size { result
+        ≡ length (row_bytes Pbm (first_of band.now + row) [] (get_or (rows_of_band band.now) row [])) }
     ensures small { result ≤ MOST_BYTES_A_ROW }
 {
     room(Form::Pbm, band.row(row).len() as u32) as u64

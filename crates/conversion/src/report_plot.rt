@@ -16,8 +16,8 @@ use std::alloc::Global;
 /// Writes the report on the plot that the source gives, drawn on a page: the page, how many strokes
 /// there are, the strokes of each pen with their box, and each note.
 ///
-/// Errors, in this order: those of reading and drawing the plot (`Read`, `TooLong`, `OffRange`,
-/// `TooManyStrokes`); `Write` if the sink fails, with row 0 and no whole rows. `Memory` comes when
+/// Errors, in this order: those of reading and drawing the plot (`Read`, `TooLong`, `Plot`);
+/// `Write` if the sink fails, with row 0 and no whole rows. `Memory` comes when
 /// memory is refused. After every error but `Write` the sink is as it was; after `Write` it has taken
 /// the first `bytes` bytes of the report.
 pub fn report<S: Source, K: Sink>(

@@ -6,4 +6,5 @@ use Rattle.library_examples.specs.declared.previews.Preview.TheVariants.{Whole, 
 -- all bytes of the picture, or its first ones if it has more
 abbrev pub IsPreviewOf : List ℕ → Preview → Type 0
 IsPreviewOf picture (Whole bytes) = bytes.items ≡ picture
-IsPreviewOf picture (Beginning bytes) = (length bytes.items < length picture) × (bytes.items ≡ take (length bytes.items) picture)
+IsPreviewOf picture (Beginning bytes) =
+    (length bytes.items < length picture) × (bytes.items ≡ take (length bytes.items) picture)

@@ -1,6 +1,6 @@
 //! The examples, run.
 use crate::{Preview, bitmap, draft_picture, preview_picture, strokes_of_pen};
-use plotraster::{Dots, Exact, Fault, Form, Gauge, Job, Page, PenSet};
+use plotraster::{Dots, Exact, Fault, Form, Gauge, Job, Page, PenSet, PlotFault};
 use std::test::Fail;
 
 // A horizontal line of pen 1 in the middle of row 4, and one of pen 2 from it to the lower edge, on
@@ -37,7 +37,7 @@ fn a_bitmap(rt: HostRuntime) -> Result<(), Fail> {
 fn a_plot_without_a_bitmap(rt: HostRuntime) -> Result<(), Fail> {
     let job = eight_by_eight()?;
     let answer = bitmap(rt.alloc(), job.page, job.dots, job.pens, b"SP1;PD70000,0;");
-    let is_refused = matches!(answer, Err(Fault::OffRange { at: 4 }));
+    let is_refused = matches!(answer, Err(Fault::Plot(PlotFault::OffRange { at: 4 })));
     assert!(rt; is_refused);
     Ok(())
 }
@@ -82,7 +82,7 @@ fn counted_strokes(rt: HostRuntime) -> Result<(), Fail> {
         assert_eq!(rt; count, wanted, "pen {pen}");
     }
     let answer = strokes_of_pen(rt.alloc(), &page, b"PD70000,0;", 1);
-    let is_refused = matches!(answer, Err(Fault::OffRange { at: 0 }));
+    let is_refused = matches!(answer, Err(Fault::Plot(PlotFault::OffRange { at: 0 })));
     assert!(rt; is_refused);
     Ok(())
 }

@@ -5,9 +5,7 @@ ghost use Rattle.picture_out.specs.Rooms.{room_of};
 
 use crate::forms::{CELLS, TABLE, narrow_sink, pack_plain};
 use devices::{OverWrite, Sink, WriteFault};
-use picture_out::{
-    Cells, Form, put_foot, put_head, put_row, room, row_space, takes_resolution,
-};
+use picture_out::{Cells, Form, put_foot, put_head, put_row, room, row_space, takes_resolution};
 use std::test::Fail;
 
 // A picture of five by five pixels at 75 dots per inch, whose third row is black.

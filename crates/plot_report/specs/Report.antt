@@ -1,5 +1,6 @@
 -- The report on a plot: lines of text on the page, the strokes of each pen, and the notes.
-use Rattle.std.specs.Prelude.{ℕ, max, ℤ, pos, List, [], ◌∷◌, ◌++◌, length, map, filter, flat_map, nat_eq, codes, decimal}
+use Rattle.std.specs.Prelude.{ℕ, max, ℤ, pos, List, [], ◌∷◌, ◌++◌, length, map, filter, flat_map, nat_eq, codes}
+use Rattle.std.specs.Prelude.{decimal}
 use Rattle.std.specs.List.{join_with_byte, range_with_len}
 use Rattle.std.specs.Fmt.{signed_decimal}
 use Rattle.std.specs.Int.{int_max, int_min}
@@ -20,7 +21,8 @@ line words = join_with_byte space words ++ codes "\n"
 
 -- the page: its width, its height, and how far its lower left corner is left of (0, 0) and below it, in plotter units
 abbrev pub page_line : Page → List ℕ
-page_line page = line (codes "page" ∷ decimal page.width ∷ decimal page.height ∷ decimal page.left ∷ decimal page.below ∷ [])
+page_line page =
+    line (codes "page" ∷ decimal page.width ∷ decimal page.height ∷ decimal page.left ∷ decimal page.below ∷ [])
 
 -- how many strokes there are
 abbrev pub strokes_line : List Segment → List ℕ
@@ -68,11 +70,14 @@ summary_of strokes = record {
 
 -- the corners of the box of these numbers
 abbrev pub corner_words : PenSummary → List (List ℕ)
-corner_words s = signed_decimal s.least_x ∷ signed_decimal s.least_y ∷ signed_decimal s.greatest_x ∷ signed_decimal s.greatest_y ∷ []
+corner_words s =
+    signed_decimal s.least_x ∷ signed_decimal s.least_y ∷ signed_decimal s.greatest_x ∷ signed_decimal s.greatest_y ∷ []
 
 -- the line of a pen with these numbers
 abbrev pub summary_line : ℕ → PenSummary → List ℕ
-summary_line pen s = line (codes "pen" ∷ decimal pen ∷ codes "strokes" ∷ decimal s.strokes ∷ codes "widest" ∷ decimal s.widest ∷ codes "box" ∷ corner_words s)
+summary_line pen s =
+    line (codes "pen" ∷ decimal pen ∷ codes "strokes" ∷ decimal s.strokes ∷ codes "widest" ∷ decimal s.widest
+    ∷ codes "box" ∷ corner_words s)
 
 -- the line of a pen with these strokes; a pen without strokes has none
 abbrev pub pen_line : ℕ → List Segment → List ℕ

@@ -10,4 +10,5 @@ summary_text pen s = if nat_eq s.strokes 0 then [] else summary_line pen s
 
 -- the lines of this many pens from pen 1 on
 unfoldable pub summary_lines : List PenSummary → ℕ → List ℕ
-summary_lines summaries count = flat_map (λ pen. summary_text pen (slice_index_or summaries pen (summary_of []))) (range_with_len 1 count)
+summary_lines summaries count =
+    flat_map (λ pen. summary_text pen (slice_index_or summaries pen (summary_of []))) (range_with_len 1 count)

@@ -83,7 +83,8 @@ fn append_count(piece: &mut [u8], used: usize, word: &[u8], count: u32) -> usize
 // `box` and its corners.
 fn append_box(piece: &mut [u8], used: usize, of: PenSummary) -> usize
     requires { used + LONGEST_BOX ≤ length piece.old }
-    ensures words { take result piece.new ≡ take used piece.old ++ (space ∷ join_with_byte space (codes "box" ∷ corner_words of)) }
+    ensures words { take result piece.new ≡ take used piece.old
+        ++ (space ∷ join_with_byte space (codes "box" ∷ corner_words of)) }
     ensures most { result ≤ used + LONGEST_BOX }
     ensures size { length piece.new ≡ length piece.old }
 {
@@ -110,7 +111,8 @@ pub(crate) fn append_note_line(piece: &mut [u8], used: usize, note: &Note) -> us
 // The word of what is noted, and then the two letters or the stray byte.
 fn append_kind(piece: &mut [u8], used: usize, note: &Note) -> usize
     requires { used + LONGEST_KIND ≤ length piece.old }
-    ensures words { take result piece.new ≡ take used piece.old ++ (space ∷ join_with_byte space (kind_words note.now.kind note.now.code)) }
+    ensures words { take result piece.new ≡ take used piece.old
+        ++ (space ∷ join_with_byte space (kind_words note.now.kind note.now.code)) }
     ensures most { result ≤ used + LONGEST_KIND }
     ensures size { length piece.new ≡ length piece.old }
 {

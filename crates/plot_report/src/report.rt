@@ -91,7 +91,8 @@ fn put_notes<K: Sink>(
     requires notes { length notes ≤ MOST_NOTES }
     requires used { used ≤ LONGEST_HEAD }
     requires room { length piece.old ≡ PIECE }
-    ensures writes { Writes (K.state sink.old) (K.state sink.new) (take used piece.old ++ flat_map note_line notes.entry) result }
+    ensures writes { Writes (K.state sink.old) (K.state sink.new)
+        (take used piece.old ++ flat_map note_line notes.entry) result }
     ensures count { IfOk result (λ n. n ≡ length (take used piece.old ++ flat_map note_line notes.entry)) }
 {
     let mut rest = notes;

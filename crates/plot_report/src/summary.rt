@@ -50,7 +50,8 @@ impl PenSummary {
     // Of the strokes that this one is of, and one more.
     fn with(self, stroke: &Stroke) -> PenSummary
         requires room { self.strokes < 2 ^ 32 - 1 }
-        ensures { (before : List Segment) → self ≡ summary_of before → result ≡ summary_of (before ++ (stroke.now ∷ [])) }
+        ensures { (before : List Segment) → self ≡ summary_of before →
+            result ≡ summary_of (before ++ (stroke.now ∷ [])) }
     {
         let one = PenSummary::of_one(stroke);
         if self.strokes == 0 {
@@ -70,7 +71,8 @@ impl PenSummary {
 // What holds of the strokes of each pen, by its number.
 pub(crate) fn summarise(strokes: &[Stroke]) -> [PenSummary; PENS]
     requires few { length strokes.now ≤ MOST_STROKES }
-    ensures { (pen : ℕ) (d : PenSummary) → pen < 256 → slice_index_or result pen d ≡ summary_of (strokes_of pen strokes.now) }
+    ensures { (pen : ℕ) (d : PenSummary) → pen < 256 →
+        slice_index_or result pen d ≡ summary_of (strokes_of pen strokes.now) }
 {
     let mut pens = [NONE; PENS];
     for stroke in strokes {

@@ -1,8 +1,8 @@
 // Reports over a `Vec`, and over sinks that take little or fail.
 ghost use Rattle.std.specs.Prelude.{◌≡◌, ◌<◌, ◌≤◌, Some, length};
 
-use hpgl_plot::Notes;
 use devices::{OverWrite, Sink, SinkFault};
+use hpgl_plot::Notes;
 use plot_page::{Colour, Page, Stroke, Window};
 use plot_report::write_report;
 use std::process::Abort;

@@ -13,7 +13,8 @@ use Rattle.conversion.specs.declared.fault.Fault.{Fault}
 
 -- a picture is converted by the exact gauge, after no tests; a report is written
 abbrev pub HasRun : Task → SourceState → SourceState → SinkState → SinkState → Result Done Fault → Type 0
-HasRun (Picture job) before after sink sink' answer = (tests : ℕ) × HasConverted job exact before after sink sink' 0 tests answer
+HasRun (Picture job) before after sink sink' answer =
+    (tests : ℕ) × HasConverted job exact before after sink sink' 0 tests answer
 HasRun (Report page) before after sink sink' answer = HasReported page before after sink sink' answer
 
 -- the form of a picture has its resolution; a report needs none

@@ -1,37 +1,39 @@
-//! Faults with their numbers, statuses and texts.
+//! Faults with their statuses and texts.
 use hpgl_plot::PlotFault;
 use hpgl_text::TextFault;
-use plotraster::{
-    BuildFault, Done, Fault, LineFault, PageFault, SinkFault, exit_status, number, status,
-};
+use plotraster::{BuildFault, Done, Fault, LineFault, PageFault, SinkFault, exit_status, status};
 use std::test::Fail;
 use stroke_raster::PaintFault;
 
 #[test]
-fn numbers_statuses_and_texts(rt: HostRuntime) -> Result<(), Fail> {
+fn statuses_and_texts(rt: HostRuntime) -> Result<(), Fail> {
     let write = Fault::Write {
         row: 5,
         whole: 131,
         bytes: 141,
     };
+    let off_range = Fault::Plot(PlotFault::OffRange { at: 7 });
+    let too_many = Fault::Plot(PlotFault::TooManyStrokes { at: 40775 });
     let cases = [
-        (Fault::TooLong, 1, 1, "plot is longer than 67108864 bytes"),
-        (Fault::Memory, 2, 4, "out of memory"),
-        (Fault::OffRange { at: 7 }, 3, 1, "place off range at byte 7"),
+        (Fault::TooLong, 1, "plot is longer than 67108864 bytes"),
+        (Fault::Memory, 4, "out of memory"),
+        (off_range, 1, "place off range at byte 7"),
+        (too_many, 1, "too many strokes at byte 40775"),
         (
-            Fault::TooManyStrokes { at: 40775 },
-            4,
-            1,
-            "too many strokes at byte 40775",
+            Fault::Paint(PaintFault::Band),
+            2,
+            "band height must be 1 to 4096",
         ),
-        (Fault::Band, 5, 2, "band height must be 1 to 4096"),
-        (Fault::Row, 6, 2, "first row is past the last row"),
-        (write, 7, 3, "write failed: go on from row 5 after byte 131"),
-        (Fault::Read, 8, 3, "read failed"),
-        (Fault::Resolution, 9, 2, "resolution is not one of PCL's"),
+        (
+            Fault::Paint(PaintFault::Row),
+            2,
+            "first row is past the last row",
+        ),
+        (write, 3, "write failed: go on from row 5 after byte 131"),
+        (Fault::Read, 3, "read failed"),
+        (Fault::Resolution, 2, "resolution is not one of PCL's"),
     ];
-    for (fault, its_number, its_status, text) in cases {
-        assert_eq!(rt; number(&fault), its_number);
+    for (fault, its_status, text) in cases {
         assert_eq!(rt; status(&fault), its_status);
         assert_eq!(rt; exit_status(&Err(fault)), its_status);
         assert_eq!(rt; format!(in rt.alloc(); "{fault}")?.as_str(), text);

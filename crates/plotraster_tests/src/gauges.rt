@@ -102,7 +102,8 @@ struct Chessboard {
 }
 
 impl Gauge for Chessboard {
-    ghost reaches = { λ _ stroke page dots row column. covers stroke page dots row column && nat_eq ((row + column) % 2) 0 };
+    ghost reaches = { λ _ stroke page dots row column. covers stroke page dots row column
+        && nat_eq ((row + column) % 2) 0 };
 
     ghost count = { λ g. g.tests };
 

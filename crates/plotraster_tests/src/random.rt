@@ -68,7 +68,7 @@ fn has_exact_picture(alloc: Global, resolution: u32, plot: &[u8]) -> Result<bool
     job.dots = Dots::new(resolution).ok_or("a resolution")?;
     let picture = match picture_bytes(alloc, &job, plot) {
         Ok(picture) => picture,
-        Err(Fault::OffRange { .. }) => return Ok(false),
+        Err(Fault::Plot(_)) => return Ok(false),
         Err(_) => return Err(Fail::from("another fault")),
     };
     let wanted = wanted_bits(alloc, &job, plot)?;

@@ -4,10 +4,15 @@ ghost use Rattle.std.specs.Prelude.{◌-◌, ◌^◌, ◌<◌};
 use crate::pages::{BLACK, CROSSING, LINE, eight_by_eight};
 use crate::sources::Semicolons;
 use plotraster::{
-    Done, Exact, Fault, Form, Gauge, Job, OverRead, OverWrite, Page, PageFault, Source, Stroke,
-    Window, convert, picture_bytes,
+    Done, Exact, Fault, Form, Gauge, Job, OverRead, OverWrite, Page, PageFault, PaintFault,
+    PlotFault, Source, Stroke, Window, convert, picture_bytes,
 };
 use std::test::Fail;
+
+// The refusal of a plot that goes out of range at a byte.
+pub(crate) fn off_range(at: usize) -> Fault {
+    Fault::Plot(PlotFault::OffRange { at })
+}
 
 fn marks() -> Result<Job, Fail> {
     Ok(eight_by_eight(Form::Marks).ok_or("a job")?)
@@ -35,11 +40,11 @@ fn the_answer_tells_what_was_done(rt: HostRuntime) -> Result<(), Fail> {
 #[test]
 fn plots_that_are_refused(rt: HostRuntime) -> Result<(), Fail> {
     let cases = [
-        (b"PA70000,0;DT$;".as_slice(), Fault::OffRange { at: 0 }),
-        (b"PA70000,0;IN;".as_slice(), Fault::OffRange { at: 0 }),
-        (b"PA70000,0;".as_slice(), Fault::OffRange { at: 0 }),
-        (b"PA1,1;PA-65537,0;".as_slice(), Fault::OffRange { at: 6 }),
-        (b"SP0;PU0,65536.04;".as_slice(), Fault::OffRange { at: 4 }),
+        (b"PA70000,0;DT$;".as_slice(), off_range(0)),
+        (b"PA70000,0;IN;".as_slice(), off_range(0)),
+        (b"PA70000,0;".as_slice(), off_range(0)),
+        (b"PA1,1;PA-65537,0;".as_slice(), off_range(6)),
+        (b"SP0;PU0,65536.04;".as_slice(), off_range(4)),
     ];
     for (plot, wanted) in cases {
         let mut sink = OverWrite::new(Vec::new(rt.alloc()));
@@ -64,7 +69,7 @@ fn the_edge_of_the_range(rt: HostRuntime) -> Result<(), Fail> {
     job.page = Page::new(64, 64, 10000, 0)?;
     assert!(rt; picture_bytes(rt.alloc(), &job, b"PA-75536,0;").is_ok());
     let answer = picture_bytes(rt.alloc(), &job, b"PA-75537,0;");
-    let refused = matches!(answer, Err(Fault::OffRange { at: 0 }));
+    let refused = matches!(answer, Err(Fault::Plot(PlotFault::OffRange { at: 0 })));
     assert!(rt; refused);
     Ok(())
 }
@@ -74,15 +79,15 @@ fn jobs_that_are_refused(rt: HostRuntime) -> Result<(), Fail> {
     let mut job = marks()?;
     job.first_row = 9;
     let answer = picture_bytes(rt.alloc(), &job, CROSSING);
-    let past = matches!(answer, Err(Fault::Row));
+    let past = matches!(answer, Err(Fault::Paint(PaintFault::Row)));
     assert!(rt; past);
     job.band = 0;
     let answer = picture_bytes(rt.alloc(), &job, CROSSING);
-    let none = matches!(answer, Err(Fault::Band));
+    let none = matches!(answer, Err(Fault::Paint(PaintFault::Band)));
     assert!(rt; none);
     job.band = 4097;
     let answer = picture_bytes(rt.alloc(), &job, CROSSING);
-    let high = matches!(answer, Err(Fault::Band));
+    let high = matches!(answer, Err(Fault::Paint(PaintFault::Band)));
     assert!(rt; high);
     Ok(())
 }

@@ -1,5 +1,6 @@
 //! Reports on plots.
 use crate::devices::Limited;
+use crate::refusals::off_range;
 use crate::sources::Semicolons;
 use plotraster::{Done, Fault, OverRead, OverWrite, Page, Source, report};
 use std::test::Fail;
@@ -111,8 +112,8 @@ fn a_report_broken_off_anywhere(rt: HostRuntime) -> Result<(), Fail> {
 #[test]
 fn plots_without_a_report(rt: HostRuntime) -> Result<(), Fail> {
     let cases = [
-        (b"!PA70000,0;IN;".as_slice(), Fault::OffRange { at: 1 }),
-        (b"SP0;PU0,65536.04;".as_slice(), Fault::OffRange { at: 4 }),
+        (b"!PA70000,0;IN;".as_slice(), off_range(1)),
+        (b"SP0;PU0,65536.04;".as_slice(), off_range(4)),
     ];
     for (plot, wanted) in cases {
         let mut sink = OverWrite::new(Vec::new(rt.alloc()));

@@ -8,7 +8,8 @@ use Rattle.conversion.specs.Plots.{strokes}
 use Rattle.conversion.specs.Boxes.{boxes_from}
 use Rattle.conversion.specs.Pictures.{head_of, row_of}
 use Rattle.conversion.specs.Progress.{WritesPicture}
-use Rattle.conversion.specs.Conversions.{HasConverted, SinkState}
+use Rattle.conversion.specs.Conversions.{HasConverted}
+use Rattle.devices.specs.Sinks.{SinkState}
 use Rattle.conversion.specs.declared.done.Done.{Done}
 use Rattle.conversion.specs.declared.fault.Fault.{Fault}
 use Rattle.conversion.proofs.Refusals.{no_fault, passed_on}
