@@ -6,8 +6,7 @@ use Rattle.std.proofs.lemmas.Bool.Decides.{nat_tests}
 use Rattle.plot_page.specs.Resolutions.{rows_of}
 use Rattle.stroke_raster.specs.BandHeights.{is_band_height}
 use Rattle.picture_job.specs.declared.job.Job.{Job}
-use Rattle.conversion.specs.Pictures.{fault_of}
-use Rattle.conversion.specs.Plots.{refusal}
+use Rattle.conversion.specs.Pictures.{fault_of, plot_refusal}
 use Rattle.conversion.specs.declared.fault.Fault.{Fault}
 use Rattle.conversion.specs.declared.fault.Fault.TheVariants.{Plot, Paint}
 use Rattle.stroke_raster.specs.declared.painter.PaintFault.TheVariants.{Band, Row}
@@ -18,17 +17,17 @@ within job h = grind (arith, nat_tests)
 past : (job : Job) → rows_of job.page job.dots < job.first_row → nat_lt (rows_of job.page job.dots) job.first_row ≡ true
 past job h = grind (arith, nat_tests)
 
-pub no_fault : (job : Job) (plot : List ℕ) → refusal job.page plot ≡ None → is_band_height job.band ≡ true → job.first_row ≤ rows_of job.page job.dots → fault_of job plot ≡ None
+pub no_fault : (job : Job) (plot : List ℕ) → plot_refusal job.page plot ≡ None → is_band_height job.band ≡ true → job.first_row ≤ rows_of job.page job.dots → fault_of job plot ≡ None
 no_fault job plot accepted band row = rw (accepted, band, within job row) refl
 
-pub band_fault : (job : Job) (plot : List ℕ) → refusal job.page plot ≡ None → is_band_height job.band ≡ false → fault_of job plot ≡ Some (Paint Band)
+pub band_fault : (job : Job) (plot : List ℕ) → plot_refusal job.page plot ≡ None → is_band_height job.band ≡ false → fault_of job plot ≡ Some (Paint Band)
 band_fault job plot accepted band = rw (accepted, band) refl
 
-pub row_fault : (job : Job) (plot : List ℕ) → refusal job.page plot ≡ None → is_band_height job.band ≡ true → rows_of job.page job.dots < job.first_row → fault_of job plot ≡ Some (Paint Row)
+pub row_fault : (job : Job) (plot : List ℕ) → plot_refusal job.page plot ≡ None → is_band_height job.band ≡ true → rows_of job.page job.dots < job.first_row → fault_of job plot ≡ Some (Paint Row)
 row_fault job plot accepted band row = rw (accepted, band, past job row) refl
 
 -- the refusal of a plot comes before the fault of a job
-pub plot_fault : (job : Job) (plot : List ℕ) (fault : Fault) → option_map Plot (refusal job.page plot) ≡ Some fault → fault_of job plot ≡ Some fault
+pub plot_fault : (job : Job) (plot : List ℕ) (fault : Fault) → option_map Plot (plot_refusal job.page plot) ≡ Some fault → fault_of job plot ≡ Some fault
 plot_fault job plot fault refused = rw refused refl
 
 -- the fault that a `?` passes on

@@ -7,7 +7,7 @@ use Rattle.plot_page.specs.declared.pens.PenSet.{PenSet}
 use Rattle.plot_page.specs.Resolutions.{columns_of, rows_of}
 use Rattle.stroke_raster.specs.Boxes.{boxes, selected, in_box}
 use Rattle.picture_job.specs.declared.job.Job.{Job}
-use Rattle.conversion.specs.Plots.{strokes}
+use Rattle.conversion.specs.Pictures.{plot_strokes}
 
 -- how many pixels the boxes of the selected strokes have, together, in the page's rows from one on
 abbrev pub boxes_from : PenSet → List Segment → Page → Dots → ℕ → ℕ
@@ -16,4 +16,4 @@ boxes_from pens strokes page dots first =
 
 -- how many pixels the boxes of a job's strokes have, together: no more tests are made
 abbrev pub job_boxes : Job → List ℕ → ℕ
-job_boxes job plot = boxes_from job.pens (strokes job.page plot) job.page job.dots job.first_row
+job_boxes job plot = boxes_from job.pens (plot_strokes job.page plot) job.page job.dots job.first_row

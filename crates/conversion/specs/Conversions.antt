@@ -5,12 +5,11 @@ use Rattle.std.specs.Io.KnownBytes.{Consumes, Appends}
 use Rattle.plot_page.specs.Resolutions.{rows_of}
 use Rattle.picture_job.specs.declared.job.Job.{Job}
 use Rattle.conversion.specs.Stops.{IsStoppedAt}
-use Rattle.conversion.specs.Plots.{strokes}
+use Rattle.conversion.specs.Pictures.{plot_strokes, Reach, head_of, fault_of, job_row, picture}
 use Rattle.conversion.specs.Drawings.{notes_count}
 use Rattle.conversion.specs.Readings.{WasRead, WasTooLong}
 use Rattle.devices.specs.Sinks.{SinkState}
 use Rattle.devices.specs.Sources.{SourceState}
-use Rattle.conversion.specs.Pictures.{Reach, head_of, fault_of, job_row, picture}
 use Rattle.conversion.specs.declared.done.Done.{Done}
 use Rattle.conversion.specs.declared.fault.Fault.{Fault}
 use Rattle.conversion.specs.declared.fault.Fault.TheVariants.{TooLong, Memory, Write, Read, Resolution}
@@ -25,7 +24,7 @@ pub record IsWritten (job : Job) (reaches : Reach) (input : List ℕ) (before af
   pub sound : sink'.faults ≡ sink.faults
   pub rows : done.rows ≡ rows_of job.page job.dots - job.first_row
   pub bytes : done.bytes ≡ length (picture job reaches input)
-  pub strokes_count : done.strokes ≡ length (strokes job.page input)
+  pub strokes_count : done.strokes ≡ length (plot_strokes job.page input)
   pub notes : done.notes ≡ notes_count input
 
 -- the sink failed after the first bytes of the picture, in a row that begins after the bytes `whole`

@@ -4,7 +4,7 @@ use Rattle.std.specs.Io.KnownBytes.{Consumes}
 use Rattle.hpgl_plot.specs.declared.lines.Lines.{Lines}
 use Rattle.plot_page.specs.declared.page.Page.{Page}
 use Rattle.plot_page.specs.declared.stroke.TheConstants.{MOST_STROKES}
-use Rattle.conversion.specs.Plots.{strokes, refusal}
+use Rattle.conversion.specs.Pictures.{plot_strokes, plot_refusal}
 use Rattle.conversion.specs.Readings.{WasRead, WasTooLong}
 use Rattle.devices.specs.Sources.{SourceState}
 use Rattle.conversion.specs.declared.fault.Fault.{Fault}
@@ -19,15 +19,15 @@ notes_count plot = length (noting.notes (cut plot))
 -- the plot was read whole and is accepted for the page; these are its strokes, and how many notes there are on it
 pub record IsDrawn (page : Page) (input : List ℕ) (before after : SourceState) (lines : Lines) : Type 0 where
   pub read : WasRead input before after
-  pub accepted : refusal page input ≡ None
-  pub strokes_are : lines.strokes.items ≡ strokes page input
+  pub accepted : plot_refusal page input ≡ None
+  pub strokes_are : lines.strokes.items ≡ plot_strokes page input
   pub notes_are : lines.notes ≡ notes_count input
   pub few : length lines.strokes.items ≤ MOST_STROKES
 
 -- the plot was read whole and is refused for the page
 pub record IsNotDrawn (page : Page) (input : List ℕ) (before after : SourceState) (fault : Fault) : Type 0 where
   pub read : WasRead input before after
-  pub refused : option_map Plot (refusal page input) ≡ Some fault
+  pub refused : option_map Plot (plot_refusal page input) ≡ Some fault
 
 -- what each answer says of what was read; want of memory says only that the source did not fail
 abbrev pub Draws : Page → List ℕ → SourceState → SourceState → Result Lines Fault → Type 0

@@ -1,8 +1,11 @@
 -- The picture of a plot: its head if it begins with row 0, its rows, its foot. Why a plot has none.
-use Rattle.std.specs.Prelude.{◌≡◌, ℕ, zero, suc, ◌+◌, ◌-◌, ◌<◌, ◌≤◌, List, [], ◌++◌, length, nat_eq, if◌then◌else◌}
-use Rattle.std.specs.Prelude.{Bool, map, nat_lt, false, not, Option, Some, None, option_map, ⊤}
-use Rattle.plot_page.specs.Segments.{Segment}
+use Rattle.std.specs.Prelude.{ℕ, List, Option, ◌≡◌, zero, suc, ◌+◌, ◌-◌, ◌<◌, ◌≤◌, [], ◌++◌, length, nat_eq}
+use Rattle.std.specs.Prelude.{if◌then◌else◌, Bool, map, nat_lt, false, not, Some, None, option_map, ⊤}
+use Rattle.hpgl_plot.specs.declared.fault.PlotFault.{PlotFault}
 use Rattle.plot_page.specs.declared.page.Page.{Page}
+use Rattle.plot_page.specs.Segments.{Segment}
+use Rattle.hpgl_plot.specs.Strokes.{strokes, refusal}
+use Rattle.hpgl_text.specs.Cut.{cut}
 use Rattle.plot_page.specs.declared.dots.Dots.{Dots}
 use Rattle.plot_page.specs.declared.pens.PenSet.{PenSet}
 use Rattle.plot_page.specs.Resolutions.{columns_of, rows_of}
@@ -14,10 +17,17 @@ use Rattle.stroke_raster.specs.Covers.{covers}
 use Rattle.stroke_raster.specs.BandHeights.{is_band_height}
 use Rattle.hpgl_text.specs.declared.program.TheConstants.{LONGEST_PLOT}
 use Rattle.picture_job.specs.declared.job.Job.{Job}
-use Rattle.conversion.specs.Plots.{strokes, refusal}
 use Rattle.conversion.specs.declared.fault.Fault.{Fault}
 use Rattle.conversion.specs.declared.fault.Fault.TheVariants.{TooLong, Memory, Plot, Paint, Write, Read, Resolution}
 use Rattle.stroke_raster.specs.declared.painter.PaintFault.TheVariants.{Band, Row}
+
+-- the strokes of a plot that is accepted
+abbrev pub plot_strokes : Page → List ℕ → List Segment
+plot_strokes page plot = strokes page (cut plot)
+
+-- the first refusal, or None if the plot is accepted
+abbrev pub plot_refusal : Page → List ℕ → Option PlotFault
+plot_refusal page plot = refusal page (cut plot)
 
 -- this many rows, from one on
 abbrev pub rows_bytes : (ℕ → List ℕ) → ℕ → ℕ → List ℕ
@@ -57,7 +67,7 @@ exact s page dots row column = covers s page dots row column
 
 -- the rows of a job's picture, by what a gauge reaches
 abbrev pub job_row : Job → Reach → List ℕ → ℕ → List ℕ
-job_row job reaches plot row = row_of job.form reaches job.pens (strokes job.page plot) job.page job.dots row
+job_row job reaches plot row = row_of job.form reaches job.pens (plot_strokes job.page plot) job.page job.dots row
 
 -- the picture of a job and a plot: the head if it begins with row 0, the rows from its first row on, the foot
 abbrev pub picture : Job → Reach → List ℕ → List ℕ
@@ -84,7 +94,7 @@ first_fault None later = later
 -- why a plot that was read whole has no picture of a job, or None if it has one: the plot's refusal for the page, and
 -- then the job's fault
 abbrev pub fault_of : Job → List ℕ → Option Fault
-fault_of job plot = first_fault (option_map Plot (refusal job.page plot)) (job_fault job)
+fault_of job plot = first_fault (option_map Plot (plot_refusal job.page plot)) (job_fault job)
 
 -- a plot has a picture of a job: it is not too long, and nothing refuses it
 pub record HasPicture (job : Job) (plot : List ℕ) : Type 0 where

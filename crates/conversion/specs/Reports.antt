@@ -7,7 +7,7 @@ use Rattle.plot_page.specs.declared.page.Page.{Page}
 use Rattle.plot_report.specs.Report.{report_of}
 use Rattle.devices.specs.Sinks.{SinkState}
 use Rattle.conversion.specs.Drawings.{IsNotDrawn, notes_count}
-use Rattle.conversion.specs.Plots.{strokes, refusal}
+use Rattle.conversion.specs.Pictures.{plot_strokes, plot_refusal}
 use Rattle.conversion.specs.Readings.{WasRead, WasTooLong}
 use Rattle.devices.specs.Sources.{SourceState}
 use Rattle.conversion.specs.declared.done.Done.{Done}
@@ -16,25 +16,25 @@ use Rattle.conversion.specs.declared.fault.Fault.TheVariants.{TooLong, Memory, W
 
 -- the report on a plot that is drawn on a page
 abbrev pub report : Page → List ℕ → List ℕ
-report page plot = report_of page (strokes page plot) (notes (cut plot))
+report page plot = report_of page (plot_strokes page plot) (notes (cut plot))
 
 -- the whole report was written
 pub record IsReported (page : Page) (input : List ℕ) (before after : SourceState) (sink sink' : SinkState)
     (done : Done) : Type 0 where
   pub read : WasRead input before after
-  pub accepted : refusal page input ≡ None
+  pub accepted : plot_refusal page input ≡ None
   pub written : Appends sink.held sink'.held (report page input)
   pub sound : sink'.faults ≡ sink.faults
   pub rows : done.rows ≡ 0
   pub bytes : done.bytes ≡ length (report page input)
-  pub strokes_count : done.strokes ≡ length (strokes page input)
+  pub strokes_count : done.strokes ≡ length (plot_strokes page input)
   pub notes : done.notes ≡ notes_count input
 
 -- the sink failed after the first bytes of the report, which has no rows to go on from
 pub record IsReportCutShort (page : Page) (input : List ℕ) (before after : SourceState) (sink sink' : SinkState)
     (row whole bytes : ℕ) : Type 0 where
   pub read : WasRead input before after
-  pub accepted : refusal page input ≡ None
+  pub accepted : plot_refusal page input ≡ None
   pub written : Appends sink.held sink'.held (take bytes (report page input))
   pub within : bytes < length (report page input)
   pub failed : sink'.faults ≡ sink.faults + 1

@@ -8,12 +8,12 @@ use Rattle.hpgl_plot.specs.declared.fault.PlotFault.TheVariants.{OffRange}
 use Rattle.hpgl_plot.specs.declared.note.Note.{Note}
 use Rattle.hpgl_plot.specs.declared.note.NoteKind.{NoteKind}
 use Rattle.hpgl_plot.specs.declared.note.NoteKind.TheVariants.{Bad}
-use Rattle.hpgl_plot.specs.Arcs.{circle_curve, chord_count, curve_point}
+use Rattle.hpgl_plot.specs.Paths.{circle_curve, chord_count, curve_point}
 use Rattle.hpgl_plot.specs.Frames.{place_along, back_along}
 use Rattle.plot_settings.specs.Colours.{default_colours}
 use Rattle.plot_settings.specs.Settings.{all_pens}
 use Rattle.hpgl_plot.specs.Notes.{notes}
-use Rattle.hpgl_plot.specs.Plots.{strokes, refusal}
+use Rattle.hpgl_plot.specs.Strokes.{strokes, refusal}
 use Rattle.hpgl_plot.proofs.ExamplePages.{square, line}
 
 -- a note on the item at a place

@@ -9,7 +9,7 @@ use Rattle.hpgl_plot.specs.Frames.{place_along, back_along}
 use Rattle.plot_settings.specs.Colours.{rgb, default_colours}
 use Rattle.plot_settings.specs.Settings.{all_pens}
 use Rattle.hpgl_plot.specs.Notes.{notes}
-use Rattle.hpgl_plot.specs.Plots.{strokes}
+use Rattle.hpgl_plot.specs.Strokes.{strokes}
 use Rattle.hpgl_plot.proofs.ExamplePages.{square, colour_line}
 
 -- a note on the item at a place

@@ -24,12 +24,11 @@ use Rattle.hpgl_plot.specs.declared.plotter.Stop.TheVariants.{Memory, OffRange}
 use Rattle.hpgl_plot.specs.declared.state.Frame.{Frame}
 use Rattle.hpgl_plot.specs.declared.state.Position.{Position}
 use Rattle.hpgl_plot.specs.declared.state.State.{State}
-use Rattle.hpgl_plot.specs.Arcs.{circle_curve, arc_curve, chord_count, curve_point, curve_places}
+use Rattle.hpgl_plot.specs.Paths.{circle_curve, arc_curve, chord_count, curve_point, curve_places, path, along, position, pen_at, target}
 use Rattle.hpgl_plot.specs.Bounds.{AreAxes, IsSound, IsInRange, IsSmallIn, AreSmall, IsCurve}
 use Rattle.hpgl_plot.specs.Frames.{place}
 use Rattle.hpgl_plot.specs.Machine.{World, travelled, Runs}
-use Rattle.hpgl_plot.specs.Paths.{path, along, position, pen_at, target}
-use Rattle.plot_settings.specs.Steps.{DrawCircle, DrawArc}
+use Rattle.plot_settings.specs.Meanings.{DrawCircle, DrawArc}
 use Rattle.hpgl_plot.proofs.Fed.{travelled_more, travelled_never, travelled_one, within}
 use Rattle.hpgl_plot.proofs.Sound.{sound_at}
 use Rattle.hpgl_plot.proofs.Travels.{travelled_keeps}

@@ -1,7 +1,7 @@
 -- Labels: what small plots write and what is noted on them, by their text.
 use Rattle.std.proofs.Common.{◌≡◌, ℕ, refl, pos, negsuc, List, [], ◌∷◌, ◌++◌, Some}
 use Rattle.std.specs.Prelude.{codes}
-use Rattle.stick_font.specs.Points.{first_rows, last_rows}
+use Rattle.stick_font.specs.Labels.{first_rows, last_rows}
 use Rattle.hpgl_text.specs.Cut.{cut}
 use Rattle.hpgl_plot.specs.declared.fault.PlotFault.TheVariants.{OffRange}
 use Rattle.hpgl_plot.specs.declared.note.Note.{Note}
@@ -11,7 +11,7 @@ use Rattle.hpgl_plot.specs.Frames.{place_along, back_along}
 use Rattle.plot_settings.specs.Colours.{default_colours}
 use Rattle.plot_settings.specs.Settings.{all_pens}
 use Rattle.hpgl_plot.specs.Notes.{notes}
-use Rattle.hpgl_plot.specs.Plots.{strokes, refusal}
+use Rattle.hpgl_plot.specs.Strokes.{strokes, refusal}
 use Rattle.hpgl_plot.proofs.ExamplePages.{square, line}
 
 -- a note on the item at a place

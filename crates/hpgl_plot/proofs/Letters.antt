@@ -7,17 +7,15 @@ use Rattle.std.proofs.lemmas.Bool.{cases_Bool, cases_lt}
 use Rattle.std.proofs.lemmas.Option.{none-some, slice_get_within, slice_get-get_or, get_or_from_slice_get}
 use Rattle.stick_font.specs.declared.cell.Cell.{Cell}
 use Rattle.stick_font.specs.declared.label.LabelStroke.{LabelStroke}
-use Rattle.stick_font.specs.Cells.{cell_after, is_printed}
+use Rattle.stick_font.specs.Labels.{cell_after, is_printed, corner, character_strokes, strokes_after, label_strokes, label_end, offset}
 use Rattle.stick_font.specs.Bounds.{moved_on}
-use Rattle.stick_font.specs.Points.{corner, character_strokes, strokes_after, label_strokes, label_end, offset}
 use Rattle.exact.specs.declared.spot.Spot.{Spot}
 use Rattle.hpgl_plot.specs.declared.state.State.{State}
 use Rattle.hpgl_plot.specs.declared.state.Position.{Position}
-use Rattle.plot_settings.specs.Steps.{Write}
+use Rattle.plot_settings.specs.Meanings.{Write}
 use Rattle.hpgl_plot.specs.Frames.{back}
-use Rattle.hpgl_plot.specs.Labels.{label_place, stroke_places, pen_at_point}
-use Rattle.hpgl_plot.specs.Turns.{turned_vector}
-use Rattle.hpgl_plot.specs.Paths.{path}
+use Rattle.hpgl_plot.specs.Paths.{label_place, stroke_places, pen_at_point, path}
+use Rattle.hpgl_plot.specs.OnPage.{turned_vector}
 use Rattle.hpgl_plot.specs.Machine.{World, step, moved, travelled, travelled_all, ends_in, put_at}
 use Rattle.hpgl_plot.proofs.ItemLists.{next_item}
 use Rattle.hpgl_plot.proofs.Polylines.{one_line}

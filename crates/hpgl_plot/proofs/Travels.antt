@@ -11,7 +11,7 @@ use Rattle.hpgl_plot.specs.declared.plotter.Stop.TheVariants.{Memory, OffRange}
 use Rattle.exact.specs.declared.spot.Spot.{Spot}
 use Rattle.hpgl_plot.specs.declared.state.Position.{Position}
 use Rattle.hpgl_plot.specs.declared.state.State.{State}
-use Rattle.plot_settings.specs.Steps.{Step, Go, Edge}
+use Rattle.plot_settings.specs.Meanings.{Step, Go, Edge}
 use Rattle.hpgl_plot.specs.Frames.{place}
 use Rattle.hpgl_plot.specs.Paths.{Path, path, along, position, target}
 use Rattle.hpgl_plot.specs.Strokes.{are_in_range, path_strokes}

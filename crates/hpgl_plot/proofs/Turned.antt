@@ -4,7 +4,7 @@ use Rattle.std.proofs.lemmas.Int.{ints}
 use Rattle.exact.specs.declared.spot.Spot.{Spot}
 use Rattle.plot_settings.specs.declared.setting.Rotation.{Rotation}
 use Rattle.plot_settings.specs.declared.setting.Rotation.TheVariants as rotation
-use Rattle.hpgl_plot.specs.Turns.{turned_vector}
+use Rattle.hpgl_plot.specs.OnPage.{turned_vector}
 
 pub vector_right : (r : Rotation) (v : Spot) (m : ℕ) → nat_abs v.x ≤ m → nat_abs v.y ≤ m → nat_abs (turned_vector r v).x ≤ m
 vector_right rotation.None v m h k = h

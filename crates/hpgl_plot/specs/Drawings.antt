@@ -6,7 +6,7 @@ use Rattle.plot_page.specs.Segments.{Segment}
 use Rattle.hpgl_plot.specs.declared.fault.PlotFault.{PlotFault}
 use Rattle.hpgl_plot.specs.declared.fault.PlotFault.TheVariants.{Memory, OffRange, TooManyStrokes}
 use Rattle.hpgl_plot.specs.declared.note.Note.{Note}
-use Rattle.hpgl_plot.specs.Plots.{refusal}
+use Rattle.hpgl_plot.specs.Strokes.{refusal}
 
 -- what a plot draws: its strokes in drawing order, and the notes on it
 pub record Drawing : Type 0 where

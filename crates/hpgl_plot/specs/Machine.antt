@@ -28,13 +28,11 @@ use Rattle.plot_settings.specs.Colours.{default_colours}
 use Rattle.plot_settings.specs.Parameters.{usual_size, moved_points}
 use Rattle.plot_page.specs.Segments.{Segment}
 use Rattle.plot_settings.specs.Settings.{all_pens}
-use Rattle.plot_settings.specs.Steps.{Step, Set, Lower, Relate}
-use Rattle.plot_settings.specs.Meanings.{steps_of}
+use Rattle.plot_settings.specs.Meanings.{Step, Set, Lower, Relate, steps_of}
 use Rattle.hpgl_plot.specs.Frames.{back, corner_window}
 use Rattle.hpgl_plot.specs.Paths.{path}
 use Rattle.hpgl_plot.specs.States.{state_of}
-use Rattle.hpgl_plot.specs.Turns.{corners}
-use Rattle.hpgl_plot.specs.Windows.{page_window}
+use Rattle.hpgl_plot.specs.OnPage.{corners, page_window}
 use Rattle.hpgl_plot.specs.Strokes.{are_in_range, joined, path_strokes}
 
 -- another frame: the coordinates are recomputed

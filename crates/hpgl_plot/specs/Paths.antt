@@ -1,18 +1,64 @@
 -- The path of a step: the places that it passes, whether it draws, and where the pen is after it. PA (Plot Absolute),
--- PR (Plot Relative), EA (Edge Rectangle Absolute), ER (Edge Rectangle Relative), CI (Circle), AA (Arc Absolute),
--- AR (Arc Relative), LB (Label).
-use Rattle.std.specs.Prelude.{ℕ, ℤ, ◌+ℤ◌, Bool, true, false, not, List, [], ◌∷◌, ◌++◌, map, if◌then◌else◌}
-use Rattle.plot_page.specs.declared.page.Page.{Page}
-use Rattle.stick_font.specs.Points.{label_strokes, label_end}
-use Rattle.hpgl_plot.specs.declared.state.Frame.{Frame}
-use Rattle.hpgl_plot.specs.declared.state.Position.{Position}
+-- PR (Plot Relative), EA (Edge Rectangle Absolute), ER (Edge Rectangle Relative), CI (Circle), AA (Arc Absolute), AR
+-- (Arc Relative), LB (Label). The end of each chord is turned from a curve's first point, so roundings do not add up.
+-- That a label is turned by quarters only, and that the pen is left where the next character would begin, with its
+-- coordinates recomputed, is our choice.
+use Rattle.std.specs.Prelude.{ℕ, pos, ◌+ℤ◌, List, map, [], ◌∷◌, ℤ, Bool, true, false, not, ◌++◌, if◌then◌else◌}
+use Rattle.std.specs.List.{range_with_len}
 use Rattle.exact.specs.declared.spot.Spot.{Spot}
-use Rattle.hpgl_plot.specs.declared.state.State.{State}
-use Rattle.plot_settings.specs.Steps.{Step, Touch, Move, Go, Edge, DrawCircle, DrawArc, Write}
-use Rattle.hpgl_plot.specs.Frames.{place}
-use Rattle.hpgl_plot.specs.Arcs.{circle_curve, arc_curve, chord_count, curve_point, curve_places}
+use Rattle.plot_arc.specs.Arcs.{chord_point_of, chords_of, turn_after}
+use Rattle.plot_page.specs.declared.page.Page.{Page}
+use Rattle.plot_settings.specs.declared.figure.Arc.{Arc}
+use Rattle.plot_settings.specs.declared.figure.Circle.{Circle}
 use Rattle.hpgl_plot.specs.declared.curve.Curve.{Curve}
-use Rattle.hpgl_plot.specs.Labels.{stroke_places, pen_at_point}
+use Rattle.hpgl_plot.specs.declared.state.Frame.{Frame}
+use Rattle.hpgl_plot.specs.Frames.{place, back}
+use Rattle.stick_font.specs.declared.label.LabelStroke.{LabelStroke}
+use Rattle.stick_font.specs.Labels.{offset, label_strokes, label_end}
+use Rattle.hpgl_plot.specs.declared.state.Position.{Position}
+use Rattle.hpgl_plot.specs.declared.state.State.{State}
+use Rattle.hpgl_plot.specs.OnPage.{turned_vector}
+use Rattle.plot_settings.specs.Meanings.{Step, Touch, Move, Go, Edge, DrawCircle, DrawArc, Write}
+
+-- about the pen, from the point on its right all the way round
+abbrev pub circle_curve : Spot → Circle → Curve
+circle_curve pen c = record {
+  centre = pen;
+  from = record { x = pen.x +ℤ c.radius; y = pen.y };
+  sweep = pos 360000;
+  chord = c.chord;
+}
+
+-- from the pen about a centre
+abbrev pub arc_curve : Spot → Spot → Arc → Curve
+arc_curve pen centre a = record { centre = centre; from = pen; sweep = a.sweep; chord = a.chord }
+
+abbrev pub chord_count : Curve → ℕ
+chord_count c = chords_of c.chord c.sweep
+
+-- where the k-th chord ends; not opened in proofs, where the table of sines would be written out
+unfoldable pub curve_point : Curve → ℕ → Spot
+curve_point c k = chord_point_of c.centre c.from (turn_after c.chord c.sweep k)
+
+-- the places of the ends of its chords
+abbrev pub curve_places : Page → Frame → Curve → List Spot
+curve_places page f c = map (λ (k : ℕ). place page f (curve_point c k)) (range_with_len 1 (chord_count c))
+
+-- a point of a label, which begins at the pen's place: turned by DI, and by RO
+abbrev pub label_place : State → Spot → Spot
+label_place s p =
+    let o = turned_vector s.frame.rotation (turned_vector s.direction (offset s.size p)) in
+    record { x = s.place.x +ℤ o.x; y = s.place.y +ℤ o.y }
+
+-- the two places of a stroke of a label
+abbrev pub stroke_places : State → LabelStroke → List Spot
+stroke_places s t = label_place s t.from ∷ (label_place s t.to ∷ [])
+
+-- the pen at a point of a label
+abbrev pub pen_at_point : Page → State → Spot → Position
+pen_at_point page s p =
+    let q = label_place s p in
+    record { place = q; coordinates = back page s.frame q }
 
 -- where the pen is
 abbrev pub position : State → Position

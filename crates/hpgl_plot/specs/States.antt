@@ -1,6 +1,6 @@
 -- All that holds before a step, and in it the pen's position, by recursion on the steps before it, the newest first,
--- since a relative move goes on from where the pen is. That a good IP, SC, RO or DF recomputes the pen's coordinates from
--- its place is our choice; the guide does not say.
+-- since a relative move goes on from where the pen is. That a good IP, SC, RO or DF recomputes the pen's coordinates
+-- from its place is our choice; the guide does not say.
 use Rattle.std.specs.Prelude.{pos, List, [], ◌∷◌}
 use Rattle.plot_page.specs.declared.page.Page.{Page}
 use Rattle.hpgl_plot.specs.declared.state.Frame.{Frame}
@@ -8,10 +8,12 @@ use Rattle.hpgl_plot.specs.declared.state.Position.{Position}
 use Rattle.exact.specs.declared.spot.Spot.{Spot}
 use Rattle.hpgl_plot.specs.declared.state.State.{State}
 use Rattle.plot_settings.specs.declared.setting.Setting.{Setting}
-use Rattle.plot_settings.specs.declared.setting.Setting.TheVariants.{Start, Defaults, PageCorners, FirstPoint, BothPoints, Scale, Rotate}
-use Rattle.plot_settings.specs.declared.setting.Setting.TheVariants.{PageWindow, CornerWindow, Pen, Width, WidthOfAll, PenColour, DefaultColours}
+use Rattle.plot_settings.specs.declared.setting.Setting.TheVariants.{Start, Defaults, PageCorners, FirstPoint}
+use Rattle.plot_settings.specs.declared.setting.Setting.TheVariants.{BothPoints, Scale, Rotate}
+use Rattle.plot_settings.specs.declared.setting.Setting.TheVariants.{PageWindow, CornerWindow, Pen, Width, WidthOfAll}
+use Rattle.plot_settings.specs.declared.setting.Setting.TheVariants.{PenColour, DefaultColours}
 use Rattle.plot_settings.specs.declared.setting.Setting.TheVariants.{Size, Direction}
-use Rattle.plot_settings.specs.Steps.{Step, Set}
+use Rattle.plot_settings.specs.Meanings.{Step, Set}
 use Rattle.plot_settings.specs.Settings.{pen, is_down, is_relative, widths, colours, size, direction}
 use Rattle.hpgl_plot.specs.Frames.{frame, window, back}
 use Rattle.hpgl_plot.specs.Paths.{pen_at, path}

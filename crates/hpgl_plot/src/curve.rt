@@ -1,7 +1,7 @@
 //! Circles and arcs in coordinates.
 ghost use Rattle.std.specs.Prelude.{◌≡◌, ◌<◌};
 ghost use Rattle.plot_arc.specs.Bounds.{IsNear};
-ghost use Rattle.hpgl_plot.specs.Arcs as curves;
+ghost use Rattle.hpgl_plot.specs.Paths as curves;
 
 use exact::Spot;
 use plot_arc::{chord_point, turn, turn_count};

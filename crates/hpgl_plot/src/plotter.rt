@@ -43,7 +43,7 @@ impl Plotter {
     ghost use Rattle.std.specs.Prelude.{◌≡◌, Some};
     ghost use Rattle.plot_settings.specs.Requests.{request_meaning, move_steps, IsRequest};
     ghost use Rattle.hpgl_plot.specs.Machine.{seen, at_start, step, run, Runs, CarriesOut};
-    ghost use Rattle.plot_settings.specs.Steps.{Lower, Relate, moves, lowered_then, part_steps, entry_steps};
+    ghost use Rattle.plot_settings.specs.Meanings.{Lower, Relate, moves, lowered_then, part_steps, entry_steps};
     ghost use Rattle.plot_settings.specs.Meanings.{meaning, steps_of};
 
     /// A plotter on a page, before the first item.

@@ -2,18 +2,18 @@
 use Rattle.std.specs.Prelude.{◌≡◌, ℕ, ◌<◌, ◌≤◌, List, length, Some, None, ⊤}
 use Rattle.hpgl_text.specs.declared.program.TheConstants.{LONGEST_PLOT}
 use Rattle.plot_page.specs.declared.page.Page.{Page}
-use Rattle.conversion.specs.Plots.{refusal}
+use Rattle.conversion.specs.Pictures.{plot_refusal}
 use Rattle.conversion.specs.declared.fault.Fault.{Fault}
 use Rattle.conversion.specs.declared.fault.Fault.TheVariants.{TooLong, Memory, Plot}
 
 -- it is not too long, and the definitions do not refuse it
 pub record HasDrawing (page : Page) (text : List ℕ) : Type 0 where
   pub within : length text ≤ LONGEST_PLOT
-  pub accepted : refusal page text ≡ None
+  pub accepted : plot_refusal page text ≡ None
 
 -- it is too long, or the definitions refuse it for this reason; memory may run out at any time; there is no other fault
 abbrev pub HasNoDrawing : Page → List ℕ → Fault → Type 0
 HasNoDrawing page text TooLong = LONGEST_PLOT < length text
 HasNoDrawing page text Memory = ⊤
-HasNoDrawing page text (Plot reason) = refusal page text ≡ Some reason
+HasNoDrawing page text (Plot reason) = plot_refusal page text ≡ Some reason
 HasNoDrawing page text _ = ⊥

@@ -1,6 +1,6 @@
 //! From the text of a plot to its strokes.
 ghost use Rattle.std.specs.Prelude.{◌≡◌, ◌==◌, IfOk, IfErr, count_by};
-ghost use Rattle.conversion.specs.Plots.{strokes};
+ghost use Rattle.conversion.specs.Pictures.{plot_strokes};
 ghost use Rattle.library_examples.specs.Refusals.{HasDrawing, HasNoDrawing};
 
 use hpgl_plot::draw;
@@ -10,7 +10,7 @@ use std::alloc::Global;
 
 /// How many strokes a plot draws on a page with this pen.
 pub fn strokes_of_pen(alloc: Global, page: &Page, plot: &[u8], pen: u8) -> Result<usize, Fault>
-    ensures count { IfOk result (λ n. n ≡ count_by (λ stroke. stroke.pen == pen) (strokes page.now plot.now)) }
+    ensures count { IfOk result (λ n. n ≡ count_by (λ stroke. stroke.pen == pen) (plot_strokes page.now plot.now)) }
     ensures accepted { IfOk result (λ _. HasDrawing page.now plot.now) }
     ensures refused { IfErr result (HasNoDrawing page.now plot.now) }
 {

@@ -6,10 +6,9 @@ use Rattle.plot_settings.specs.declared.setting.Setting.TheVariants.{Start, Defa
 use Rattle.plot_settings.specs.Parameters.{circled, arced, character_size, label_direction, usual_size, isotropic, moved_points, pen_colour, pen_width, rotated, user_scaling, scaling_points, ranges_of, selected_pen}
 use Rattle.plot_settings.specs.Colours.{rgb, default_colour}
 use Rattle.plot_settings.specs.Slants.{is_slanted}
-use Rattle.plot_settings.specs.Meanings.{sets, wrong}
+use Rattle.plot_settings.specs.Meanings.{sets, wrong, Set, Lower, Touch, Move, lowered_then, moves}
 use Rattle.plot_settings.specs.Settings.{pen, rotation_before, size}
 use Rattle.plot_settings.specs.Laws.{width, colour}
-use Rattle.plot_settings.specs.Steps.{Set, Lower, Touch, Move, lowered_then, moves}
 
 -- pen 254.5 is rounded to pen 255, and 255.5 to no pen
 last_pen : selected_pen (pos 254500000 ∷ []) ≡ Some (Pen 255)

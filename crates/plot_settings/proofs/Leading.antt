@@ -5,7 +5,7 @@ use Rattle.hpgl_text.specs.declared.instruction.Instruction.TheVariants.{Initial
 use Rattle.plot_settings.specs.Parameters.{circled, arced, character_size, label_direction, scaling_points, user_scaling, rotated, window_corners, selected_pen, pen_width, pen_colour}
 use Rattle.plot_settings.specs.Slants.{is_slanted}
 use Rattle.plot_settings.specs.Pairs.{plots_pairs}
-use Rattle.plot_settings.specs.Meanings.{sets, edges, circles, arcs, meaning}
+use Rattle.plot_settings.specs.Meanings.{sets, edges, asks, DrawCircle, DrawArc, meaning}
 
 first_one : {T : Type 0} (f : List ℤ → T) → ((n : ℤ) (ns : List ℤ) → f (n ∷ take 6 ns) ≡ f (n ∷ ns)) → (ns : List ℤ) → f (take 7 ns) ≡ f ns
 first_one f h [] = refl
@@ -46,9 +46,9 @@ same_meaning PlotAbsolute h ns = absurd (cc h)
 same_meaning PlotRelative h ns = absurd (cc h)
 same_meaning EdgeAbsolute h ns = first_two (edges false) (λ a b ms. refl) ns
 same_meaning EdgeRelative h ns = first_two (edges true) (λ a b ms. refl) ns
-same_meaning Circle h ns = ap circles (first_two circled (λ a b ms. refl) ns)
-same_meaning ArcAbsolute h ns = ap (arcs false) (first_four arced (λ a b c d ms. refl) ns)
-same_meaning ArcRelative h ns = ap (arcs true) (first_four arced (λ a b c d ms. refl) ns)
+same_meaning Circle h ns = ap (asks DrawCircle) (first_two circled (λ a b ms. refl) ns)
+same_meaning ArcAbsolute h ns = ap (asks (DrawArc false)) (first_four arced (λ a b c d ms. refl) ns)
+same_meaning ArcRelative h ns = ap (asks (DrawArc true)) (first_four arced (λ a b c d ms. refl) ns)
 same_meaning CharacterSize h ns = ap sets (first_two character_size (λ a b ms. refl) ns)
 same_meaning Direction h ns = ap sets (first_two label_direction (λ a b ms. refl) ns)
 

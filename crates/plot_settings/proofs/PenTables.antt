@@ -7,7 +7,7 @@ use Rattle.std.proofs.lemmas.List.{get_or-replicate}
 use Rattle.std.proofs.lemmas.List.Elements.{All-head, All-tail, All-replicate}
 use Rattle.std.proofs.lemmas.Bool.Decides.{nat_tests}
 use Rattle.plot_settings.specs.declared.setting.Setting.TheVariants.{Start, Defaults, PageCorners, FirstPoint, BothPoints, Scale, Rotate, PageWindow, CornerWindow, Pen, Width, WidthOfAll, PenColour, DefaultColours, Size, Direction}
-use Rattle.plot_settings.specs.Steps.{Step, Set, Touch, Lower, Relate, Move, Go, Edge, DrawCircle, DrawArc, Write}
+use Rattle.plot_settings.specs.Meanings.{Step, Set, Touch, Lower, Relate, Move, Go, Edge, DrawCircle, DrawArc, Write}
 use Rattle.plot_settings.specs.Settings.{widths, all_pens, newer, colours}
 use Rattle.plot_settings.specs.Bounds.{AreWidths}
 use Rattle.plot_settings.specs.Laws.{WidthsAreLookedBackFor, width, ColoursAreLookedBackFor, colour}

@@ -6,7 +6,7 @@ use Rattle.plot_settings.specs.declared.setting.Setting.TheVariants.{Start, Widt
 use Rattle.plot_settings.specs.declared.setting.Setting.TheVariants.{DefaultColours}
 use Rattle.plot_settings.specs.Colours.{black, default_colour}
 use Rattle.plot_settings.specs.Settings.{newest, by_setting, widths, colours}
-use Rattle.plot_settings.specs.Steps.{Step}
+use Rattle.plot_settings.specs.Meanings.{Step}
 
 -- the width of pen p in grains: 224 at the start
 abbrev pub sets_width : ℕ → Setting → Option ℕ

@@ -1,7 +1,6 @@
 -- What a reader must believe: what the numbers of instructions set, the steps of items, and what holds before a step.
 pub mod Parameters
 pub mod Colours
-pub mod Steps
 pub mod Meanings
 pub mod Settings
 pub mod Slants

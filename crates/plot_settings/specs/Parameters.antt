@@ -1,7 +1,7 @@
 -- What the parameters of an instruction set or ask for, or None if they are wrong. Numbers are in millionths. The
 -- instructions are those of the HP-GL/2 and HP RTL Reference Guide, each under its name. That whole numbers are rounded
--- before they are tested, angles to thousandths of a degree, and all others tested as written, is our choice, and so are
--- the limits of a width and of a character's size, and that only the four axes are directions.
+-- before they are tested, angles to thousandths of a degree, and all others tested as written, is our choice, and so
+-- are the limits of a width and of a character's size, and that only the four axes are directions.
 use Rattle.std.specs.Prelude.{ℕ, ℤ, pos, ◌+ℤ◌, ◌-ℤ◌, ◌*ℤ◌, nat_abs, Bool, not, ◌&&◌, ◌||◌, List, [], ◌∷◌, Option, Some}
 use Rattle.std.specs.Prelude.{None, if◌then◌else◌, negsuc, nat_le, int_lt}
 use Rattle.std.specs.Ordering.{int_eq}
@@ -191,9 +191,6 @@ thousandths_of n = round (record { over = n; under = 1000 })
 abbrev pub is_chord : ℤ → Bool
 is_chord n = is_between (pos 500) (pos 180000) n
 
-abbrev pub default_chord : ℤ
-default_chord = pos 5000
-
 -- a sweep has 360 degrees at most, counterclockwise if it is above 0
 abbrev pub is_sweep : ℤ → Bool
 is_sweep n = is_between (negsuc 359999) (pos 360000) n
@@ -204,7 +201,7 @@ circle_of radius chord = when (is_chord chord) (record { radius = radius; chord 
 -- CI radius, chord
 abbrev pub circled : List ℤ → Option Circle
 circled [] = None
-circled (r ∷ []) = circle_of r default_chord
+circled (r ∷ []) = circle_of r (pos 5000)
 circled (r ∷ (c ∷ ns)) = circle_of r (thousandths_of c)
 
 abbrev pub arc_of : ℤ → ℤ → ℤ → ℤ → Option Arc
@@ -213,6 +210,6 @@ arc_of x y sweep chord =
 
 -- AA and AR x, y, sweep, chord: x and y are the centre
 abbrev pub arced : List ℤ → Option Arc
-arced (x ∷ (y ∷ (s ∷ []))) = arc_of x y (thousandths_of s) default_chord
+arced (x ∷ (y ∷ (s ∷ []))) = arc_of x y (thousandths_of s) (pos 5000)
 arced (x ∷ (y ∷ (s ∷ (c ∷ ns)))) = arc_of x y (thousandths_of s) (thousandths_of c)
 arced _ = None

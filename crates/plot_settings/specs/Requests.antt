@@ -1,8 +1,9 @@
 -- What an instruction asks for by its numbers, as the code has it: its meaning, and that it is in its range.
 use Rattle.std.specs.Prelude.{ℤ, List, [], ◌∷◌, Some, true, false, ⊤}
 use Rattle.plot_settings.specs.Bounds.{IsSetting, IsCorner, IsCircle, IsArc}
-use Rattle.plot_settings.specs.Meanings.{Meaning, wrong, sets, plots, edges, circles, arcs}
-use Rattle.plot_settings.specs.Steps.{Step, Lower, Relate, moves, lowered_then}
+use Rattle.plot_settings.specs.Meanings.{Meaning, wrong, sets, plots, edges, asks, Step, Lower, Relate, DrawCircle}
+use Rattle.plot_settings.specs.Meanings.{DrawArc, moves}
+use Rattle.plot_settings.specs.Meanings.{lowered_then}
 use Rattle.plot_settings.specs.declared.request.Request.{Request}
 use Rattle.plot_settings.specs.declared.request.Request.TheVariants.{Set, Move, Edge, Circle, Arc, Wrong}
 use Rattle.plot_settings.specs.declared.request.Moves.{Moves}
@@ -20,8 +21,8 @@ abbrev pub request_meaning : Request → List ℤ → Meaning
 request_meaning (Set setting) ns = sets (Some setting)
 request_meaning (Move kind) ns = plots (move_steps kind ns) ns
 request_meaning (Edge relative corner) ns = edges relative (corner.x ∷ (corner.y ∷ []))
-request_meaning (Circle circle) ns = circles (Some circle)
-request_meaning (Arc relative arc) ns = arcs relative (Some arc)
+request_meaning (Circle circle) ns = asks DrawCircle (Some circle)
+request_meaning (Arc relative arc) ns = asks (DrawArc relative) (Some arc)
 request_meaning Wrong ns = wrong
 
 abbrev pub IsRequest : Request → Type 0

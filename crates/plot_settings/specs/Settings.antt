@@ -14,7 +14,7 @@ use Rattle.plot_settings.specs.declared.setting.Setting.TheVariants.{WidthOfAll,
 use Rattle.plot_settings.specs.declared.setting.Setting.TheVariants.{Direction}
 use Rattle.plot_settings.specs.Colours.{default_colour, default_colours}
 use Rattle.plot_settings.specs.Parameters.{usual_size}
-use Rattle.plot_settings.specs.Steps.{Step, Set, Lower, Relate}
+use Rattle.plot_settings.specs.Meanings.{Step, Set, Lower, Relate}
 
 -- the newer value, if there is one
 abbrev pub newer : {A : Type 0} → Option A → A → A

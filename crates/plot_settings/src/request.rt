@@ -3,7 +3,7 @@ ghost use Rattle.std.specs.Prelude.{◌≡◌, List, ℤ, All, IfSome, MatchOpti
 ghost use Rattle.hpgl_text.specs.Bounds.{IsNumber};
 ghost use Rattle.plot_settings.specs.Requests.{request_meaning, move_steps, IsRequest};
 ghost use Rattle.plot_settings.specs.Bounds.{IsSetting, IsCircle, IsArc};
-ghost use Rattle.plot_settings.specs.Meanings.{meaning, sets, plots, edges, circles, arcs};
+ghost use Rattle.plot_settings.specs.Meanings.{meaning, sets, plots, edges, asks, DrawCircle, DrawArc};
 ghost use Rattle.plot_settings.specs.Pairs.{plots_pairs};
 
 use crate::arc_parameters::{arc_from, circle_from};
@@ -136,7 +136,7 @@ fn edge_by(is_relative: bool, numbers: &[Number]) -> Request
 
 fn circle_by(named: Option<Circle>) -> Request
     requires { IfSome named (λ circle. IsCircle circle) }
-    ensures meaning { (ns : List ℤ) → request_meaning result ns ≡ circles named }
+    ensures meaning { (ns : List ℤ) → request_meaning result ns ≡ asks DrawCircle named }
     ensures sound { IsRequest result }
 {
     match named {
@@ -147,7 +147,7 @@ fn circle_by(named: Option<Circle>) -> Request
 
 fn arc_by(is_relative: bool, named: Option<Arc>) -> Request
     requires { IfSome named (λ arc. IsArc arc) }
-    ensures meaning { (ns : List ℤ) → request_meaning result ns ≡ arcs is_relative named }
+    ensures meaning { (ns : List ℤ) → request_meaning result ns ≡ asks (DrawArc is_relative) named }
     ensures sound { IsRequest result }
 {
     match named {

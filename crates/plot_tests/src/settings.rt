@@ -100,7 +100,8 @@ wrong\n!\n",
 fn scalings(rt: HostRuntime) -> Result<(), Fail> {
     let wanted = "Scale(Off)\n\
 Scale(Anisotropic(Ranges { xmin: 0, xmax: 1000000, ymin: 0, ymax: 2000000 }))\n\
-Scale(Isotropic(Fitting { ranges: Ranges { xmin: 0, xmax: 1000000, ymin: 0, ymax: 2000000 }, left: 25000000, bottom: 50000000 }))\n\
+Scale(Isotropic(Fitting { ranges: Ranges { xmin: 0, xmax: 1000000, ymin: 0, ymax: 2000000 }, \
+left: 25000000, bottom: 50000000 }))\n\
 Scale(PointFactor(Factors { xmin: 0, xfactor: 1000000, ymin: 0, yfactor: 2000000 }))\n\
 wrong\n!\nwrong\n!\nwrong\n!\nwrong\n!\n";
     let plot =

@@ -8,7 +8,8 @@ const LINE_MARKS: &[u8] =
 
 const CROSSING_MARKS: &[u8] = b"0 3 2 ff0000\n1 3 2 ff0000\n2 3 2 ff0000\n3 3 2 ff0000\n\
 4 0 1 000000\n4 1 1 000000\n4 2 1 000000\n4 3 2 ff0000\n4 4 1 000000\n4 5 1 000000\n4 6 1 000000\n4 7 1 000000\n\
-5 3 2 ff0000\n6 0 1 000000\n6 1 1 000000\n6 2 1 000000\n6 3 1 000000\n6 4 1 000000\n6 5 1 000000\n6 6 1 000000\n6 7 1 000000\n7 3 2 ff0000\n";
+5 3 2 ff0000\n6 0 1 000000\n6 1 1 000000\n6 2 1 000000\n6 3 1 000000\n6 4 1 000000\n6 5 1 000000\n\
+6 6 1 000000\n6 7 1 000000\n7 3 2 ff0000\n";
 
 fn job(form: Form) -> Result<Job, Fail> {
     Ok(eight_by_eight(form).ok_or("a job")?)
@@ -39,7 +40,9 @@ fn a_line_left_of_the_page(rt: HostRuntime) -> Result<(), Fail> {
     let near = picture_bytes(rt.alloc(), &job(Form::Marks)?, b"PU-3,0;PD-3,64;")?;
     assert_eq!(rt;
         near.as_slice(),
-        b"0 0 1 000000\n1 0 1 000000\n2 0 1 000000\n3 0 1 000000\n4 0 1 000000\n5 0 1 000000\n6 0 1 000000\n7 0 1 000000\n".as_slice()
+        b"0 0 1 000000\n1 0 1 000000\n2 0 1 000000\n3 0 1 000000\n4 0 1 000000\n5 0 1 000000\n6 0 1 000000\n\
+7 0 1 000000\n"
+            .as_slice()
     );
     Ok(())
 }
@@ -73,14 +76,17 @@ fn pens_are_chosen_before_they_overlap(rt: HostRuntime) -> Result<(), Fail> {
     let marks = picture_bytes(rt.alloc(), &of_two, CROSSING)?;
     assert_eq!(rt;
         marks.as_slice(),
-        b"0 3 2 ff0000\n1 3 2 ff0000\n2 3 2 ff0000\n3 3 2 ff0000\n4 3 2 ff0000\n5 3 2 ff0000\n6 3 2 ff0000\n7 3 2 ff0000\n".as_slice()
+        b"0 3 2 ff0000\n1 3 2 ff0000\n2 3 2 ff0000\n3 3 2 ff0000\n4 3 2 ff0000\n5 3 2 ff0000\n6 3 2 ff0000\n\
+7 3 2 ff0000\n"
+            .as_slice()
     );
     let mut of_one = job(Form::Marks)?;
     of_one.pens = PenSet::none().with(1);
     let marks = picture_bytes(rt.alloc(), &of_one, CROSSING)?;
     assert_eq!(rt;
         marks.as_slice(),
-        b"4 0 1 000000\n4 1 1 000000\n4 2 1 000000\n4 3 1 000000\n4 4 1 000000\n4 5 1 000000\n4 6 1 000000\n4 7 1 000000\n\
+        b"4 0 1 000000\n4 1 1 000000\n4 2 1 000000\n4 3 1 000000\n4 4 1 000000\n4 5 1 000000\n4 6 1 000000\n\
+4 7 1 000000\n\
 6 0 1 000000\n6 1 1 000000\n6 2 1 000000\n6 3 1 000000\n6 4 1 000000\n6 5 1 000000\n6 6 1 000000\n6 7 1 000000\n"
             .as_slice()
     );
@@ -126,7 +132,9 @@ fn later_first_rows(rt: HostRuntime) -> Result<(), Fail> {
     let later = picture_bytes(rt.alloc(), &marks, CROSSING)?;
     assert_eq!(rt;
         later.as_slice(),
-        b"5 3 2 ff0000\n6 0 1 000000\n6 1 1 000000\n6 2 1 000000\n6 3 1 000000\n6 4 1 000000\n6 5 1 000000\n6 6 1 000000\n6 7 1 000000\n7 3 2 ff0000\n".as_slice()
+        b"5 3 2 ff0000\n6 0 1 000000\n6 1 1 000000\n6 2 1 000000\n6 3 1 000000\n6 4 1 000000\n6 5 1 000000\n\
+6 6 1 000000\n6 7 1 000000\n7 3 2 ff0000\n"
+            .as_slice()
     );
     let mut bits = job(Form::Pbm)?;
     bits.first_row = 5;

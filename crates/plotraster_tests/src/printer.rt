@@ -5,8 +5,8 @@ use crate::sources::Semicolons;
 use plotraster::{Dots, Exact, Fault, Form, Job, OverRead, OverWrite, convert, picture_bytes};
 use std::test::Fail;
 
-const LINE_PICTURE: &[u8] =
-    b"\x1bE\x1b*t75R\x1b*r5S\x1b*r5T\x1b*r0A\x1b*b0M\x1b*b1W\x00\x1b*b1W\x00\x1b*b1W\xf8\x1b*b1W\x00\x1b*b1W\x00\x1b*rB\x1bE";
+const LINE_PICTURE: &[u8] = b"\x1bE\x1b*t75R\x1b*r5S\x1b*r5T\x1b*r0A\x1b*b0M\
+\x1b*b1W\x00\x1b*b1W\x00\x1b*b1W\xf8\x1b*b1W\x00\x1b*b1W\x00\x1b*rB\x1bE";
 
 fn job(dots: u32) -> Result<Job, Fail> {
     let mut job = eight_by_eight(Form::Pcl).ok_or("a job")?;

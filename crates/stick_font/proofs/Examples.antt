@@ -1,7 +1,7 @@
 -- The strokes of some characters: theorems that compute.
 use Rattle.std.proofs.Common.{◌≡◌, ℕ, [], ◌∷◌, None, Some, slice_get, refl}
 use Rattle.std.specs.Prelude.{codes}
-use Rattle.stick_font.specs.Glyphs.{column_width, polyline_strokes, strokes, first_rows, last_rows}
+use Rattle.stick_font.specs.Glyphs.{column_width, polyline_strokes, glyph_strokes, first_rows, last_rows}
 use Rattle.stick_font.specs.declared.grid.GridStroke.{GridStroke}
 
 abbrev from_to : ℕ → ℕ → ℕ → ℕ → GridStroke
@@ -19,43 +19,43 @@ no_points : polyline_strokes (codes "") ≡ []
 no_points = refl
 
 -- L
-letter : strokes 76 ≡ from_to 0 6 0 0 ∷ from_to 0 0 4 0 ∷ []
+letter : glyph_strokes 76 ≡ from_to 0 6 0 0 ∷ from_to 0 0 4 0 ∷ []
 unfolding first_rows last_rows
 letter = refl
 
 -- a small l
-small_letter : strokes 108 ≡ strokes 76
+small_letter : glyph_strokes 108 ≡ glyph_strokes 76
 unfolding first_rows last_rows
 small_letter = refl
 
 -- the exclamation mark: a line and a dot
-two_polylines : strokes 33 ≡ from_to 2 6 2 2 ∷ from_to 2 0 2 0 ∷ []
+two_polylines : glyph_strokes 33 ≡ from_to 2 6 2 2 ∷ from_to 2 0 2 0 ∷ []
 unfolding first_rows last_rows
 two_polylines = refl
 
 -- the vertical bar
-from_the_second_table : strokes 124 ≡ from_to 2 6 2 0 ∷ []
+from_the_second_table : glyph_strokes 124 ≡ from_to 2 6 2 0 ∷ []
 unfolding first_rows last_rows
 from_the_second_table = refl
 
 -- the grave accent and the left brace, on each side of the small letters
-beside_small_letters : slice_get (strokes 96) 0 ≡ Some (from_to 1 6 2 4)
+beside_small_letters : slice_get (glyph_strokes 96) 0 ≡ Some (from_to 1 6 2 4)
 unfolding first_rows last_rows
 beside_small_letters = refl
 
-left_brace : slice_get (strokes 123) 5 ≡ Some (from_to 2 1 3 0)
+left_brace : slice_get (glyph_strokes 123) 5 ≡ Some (from_to 2 1 3 0)
 unfolding first_rows last_rows
 left_brace = refl
 
 -- no stroke after the last
-past_the_last : slice_get (strokes 76) 2 ≡ None
+past_the_last : slice_get (glyph_strokes 76) 2 ≡ None
 unfolding first_rows last_rows
 past_the_last = refl
 
-space : strokes 32 ≡ []
+space : glyph_strokes 32 ≡ []
 space = refl
 
-delete : strokes 127 ≡ []
+delete : glyph_strokes 127 ≡ []
 delete = refl
 
 columns : column_width 76 ≡ 3

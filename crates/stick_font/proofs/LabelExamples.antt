@@ -6,7 +6,7 @@ use Rattle.stick_font.specs.Glyphs.{first_rows, last_rows}
 use Rattle.stick_font.specs.declared.size.CharacterSize.{CharacterSize}
 use Rattle.stick_font.specs.declared.label.LabelStroke.{LabelStroke}
 use Rattle.exact.specs.declared.spot.Spot.{Spot}
-use Rattle.stick_font.specs.Points.{label_strokes, label_end, offset}
+use Rattle.stick_font.specs.Labels.{label_strokes, label_end, offset}
 
 abbrev at : ℤ → ℤ → Spot
 at x y = record { x = x; y = y }

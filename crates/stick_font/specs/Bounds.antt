@@ -3,7 +3,7 @@ use Rattle.std.specs.Prelude.{ℕ, suc, ◌≤◌, ◌^◌, nat_abs, nat_eq, if�
 use Rattle.exact.specs.declared.spot.Spot.{Spot}
 use Rattle.stick_font.specs.declared.cell.Cell.{Cell}
 use Rattle.stick_font.specs.declared.label.LabelStroke.{LabelStroke}
-use Rattle.stick_font.specs.Cells.{carriage_return, is_printed, line_feed}
+use Rattle.stick_font.specs.Labels.{carriage_return, is_printed, line_feed}
 
 -- the cell after one more byte
 abbrev pub moved_on : Cell → ℕ → Cell

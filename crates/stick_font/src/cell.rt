@@ -1,7 +1,7 @@
 //! The cells of a label, each of which has room for a character.
 ghost use Rattle.std.specs.Prelude.{◌≡◌, ◌+◌, ◌<◌, ◌^◌};
 ghost use Rattle.stick_font.specs.Bounds.{IsLabelPoint, moved_on};
-ghost use Rattle.stick_font.specs.Points as points;
+ghost use Rattle.stick_font.specs.Labels as points;
 
 use crate::label::grid_point;
 use exact::Spot;

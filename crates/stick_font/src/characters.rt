@@ -9,7 +9,7 @@ use crate::grid::{GridStroke, Point};
 /// 0, in the order in which they are drawn. The bytes 33 to 126 have strokes. A small letter has
 /// those of its capital, on narrower columns: see `column_width`.
 pub fn glyph(byte: u8, k: usize) -> Option<GridStroke>
-    ensures { result ≡ slice_get (glyphs.strokes byte) k }
+    ensures { result ≡ slice_get (glyphs.glyph_strokes byte) k }
 {
     let mut left = k;
     for line in polylines(byte) {
@@ -91,15 +91,15 @@ fn stroke_at(line: &[u8], k: usize) -> GridStroke
 
 // How many points a polyline has: each but the last has a space after it.
 fn point_count(line: &[u8]) -> usize
-    ensures { result ≡ length (glyphs.points line.now) }
+    ensures { result ≡ length (glyphs.grid_points line.now) }
 {
     (line.len() + 1) / 3
 }
 
 // Point i of a polyline.
 fn point_at(line: &[u8], i: usize) -> Point
-    requires { i < length (glyphs.points line.now) }
-    ensures { slice_get (glyphs.points line.now) i ≡ Some result }
+    requires { i < length (glyphs.grid_points line.now) }
+    ensures { slice_get (glyphs.grid_points line.now) i ≡ Some result }
 {
     Point {
         x: digit(line[3 * i]),

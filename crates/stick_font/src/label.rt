@@ -1,7 +1,7 @@
 //! The strokes of a label, before its characters have a size.
 ghost use Rattle.std.specs.Prelude.{◌≡◌, ◌<◌, map, slice_get, IfSome};
 ghost use Rattle.stick_font.specs.Bounds.{IsLabelPoint, IsLabelStroke};
-ghost use Rattle.stick_font.specs.Points as points;
+ghost use Rattle.stick_font.specs.Labels as points;
 
 use crate::cell::Cell;
 use crate::characters::{column_width, glyph};

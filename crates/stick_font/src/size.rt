@@ -1,7 +1,7 @@
 //! The size of characters, and what it makes of a label's points.
 ghost use Rattle.std.specs.Prelude.{◌≡◌, ◌≤◌, ◌^◌, nat_abs};
 ghost use Rattle.stick_font.specs.Bounds.{IsLabelPoint};
-ghost use Rattle.stick_font.specs.Points as points;
+ghost use Rattle.stick_font.specs.Labels as points;
 
 use exact::{Spot, rounded};
 

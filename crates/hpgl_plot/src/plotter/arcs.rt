@@ -1,11 +1,11 @@
 //! Circles and arcs.
 ghost use Rattle.std.specs.Prelude.{◌≡◌, ◌∷◌, IfOk};
-ghost use Rattle.hpgl_plot.specs.Arcs as curves;
+ghost use Rattle.hpgl_plot.specs.Paths as curves;
 ghost use Rattle.hpgl_plot.specs.Bounds.{IsInRange, IsCurve};
 ghost use Rattle.plot_settings.specs.Bounds.{IsCircle, IsArc};
 ghost use Rattle.hpgl_plot.specs.Machine.{seen, step, Runs, travelled};
 ghost use Rattle.hpgl_plot.specs.Paths.{pen_at, target};
-ghost use Rattle.plot_settings.specs.Steps.{DrawCircle, DrawArc};
+ghost use Rattle.plot_settings.specs.Meanings.{DrawCircle, DrawArc};
 
 use crate::curve::{Curve, chord_count, curve_point};
 use crate::place::target_of;
@@ -79,7 +79,8 @@ impl Plotter {
     fn follow_curve(&mut self, start: Spot, curve: Curve, draws: bool) -> Result<Position, Stop>
         requires { IsCurve self.old.page self.old.state.frame curve }
         ensures end { IfOk result
-            (λ end. end ≡ pen_at self.old.page self.old.state.frame (curves.curve_point curve (curves.chord_count curve))) }
+            (λ end. end ≡ pen_at self.old.page self.old.state.frame
+            (curves.curve_point curve (curves.chord_count curve))) }
         ensures in_range { IfOk result (λ end. IsInRange end.place) }
         ensures runs { Runs (travelled (seen self.old) draws
             (start ∷ curves.curve_places self.old.page self.old.state.frame curve)) (seen self.new) result }

@@ -1,10 +1,10 @@
 //! Labels, stroke by stroke.
 ghost use Rattle.std.specs.Prelude.{◌≡◌, true, map};
 ghost use Rattle.stick_font.specs.Bounds.{IsLabelPoint, IsLabelStroke};
-ghost use Rattle.stick_font.specs.Points.{character_strokes};
-ghost use Rattle.hpgl_plot.specs.Labels as labels;
+ghost use Rattle.stick_font.specs.Labels.{character_strokes};
+ghost use Rattle.hpgl_plot.specs.Paths as labels;
 ghost use Rattle.hpgl_plot.specs.Machine.{seen, step, Runs, travelled, travelled_all, put_at};
-ghost use Rattle.plot_settings.specs.Steps.{Write};
+ghost use Rattle.plot_settings.specs.Meanings.{Write};
 
 use crate::place::coordinates_at;
 use crate::plotter::{Plotter, Stop};

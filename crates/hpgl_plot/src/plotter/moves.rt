@@ -6,7 +6,7 @@ ghost use Rattle.hpgl_plot.specs.Frames as frames;
 ghost use Rattle.hpgl_plot.specs.Machine.{seen, step, Runs, kept_with, full_with, moved, travelled, ends_in};
 ghost use Rattle.hpgl_plot.specs.Paths as paths;
 ghost use Rattle.hpgl_plot.specs.Strokes.{drawn, stroke};
-ghost use Rattle.plot_settings.specs.Steps.{Touch, Move, Go};
+ghost use Rattle.plot_settings.specs.Meanings.{Touch, Move, Go};
 
 use crate::place::{is_place_in_range, place_on, target_of};
 use crate::plotter::{Plotter, Stop};

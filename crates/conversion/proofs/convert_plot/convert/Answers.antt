@@ -4,9 +4,8 @@ use Rattle.std.proofs.lemmas.Bool.{cases_lt}
 use Rattle.plot_page.specs.Resolutions.{rows_of}
 use Rattle.stroke_raster.specs.BandHeights.{is_band_height}
 use Rattle.picture_out.specs.Forms.{foot_bytes}
-use Rattle.conversion.specs.Plots.{strokes}
+use Rattle.conversion.specs.Pictures.{plot_strokes, head_of, row_of}
 use Rattle.conversion.specs.Boxes.{boxes_from}
-use Rattle.conversion.specs.Pictures.{head_of, row_of}
 use Rattle.conversion.specs.Progress.{WritesPicture}
 use Rattle.conversion.specs.Conversions.{HasConverted}
 use Rattle.devices.specs.Sinks.{SinkState}
@@ -29,7 +28,7 @@ returns-clause-converts g c =
     let drawing = c.in_ok-lines.ensures.draws in
     let input : List ℕ = drawing.input in
     let made = c.in_ok-painter.ensures in
-    let drawn : c.in_ok-painter.painter.strokes ≡ strokes job.page input = made.strokes ∙ c.as_slice-strokes.ensures.value ∙ drawing.draws.strokes_are in
+    let drawn : c.in_ok-painter.painter.strokes ≡ plot_strokes job.page input = made.strokes ∙ c.as_slice-strokes.ensures.value ∙ drawing.draws.strokes_are in
     let was : SinkState = g.K.Sink.state c.args.sink.now in
     let is : SinkState = g.K.Sink.state c.write_picture.new.sink in
     let wrote = move_parts (λ l ss p d r. WritesPicture (head_of job.form p d) (row_of job.form (g.G.Gauge.reaches c.args.gauge.now) l ss p d) (foot_bytes job.form) (rows_of p d) r was is (Ok c.in_ok-bytes.bytes))
@@ -59,7 +58,7 @@ returns-in_err-bytes-clause-converts g c =
     let drawing = c.in_ok-lines.ensures.draws in
     let input : List ℕ = drawing.input in
     let made = c.in_ok-painter.ensures in
-    let drawn : c.in_ok-painter.painter.strokes ≡ strokes job.page input = made.strokes ∙ c.as_slice-strokes.ensures.value ∙ drawing.draws.strokes_are in
+    let drawn : c.in_ok-painter.painter.strokes ≡ plot_strokes job.page input = made.strokes ∙ c.as_slice-strokes.ensures.value ∙ drawing.draws.strokes_are in
     let was : SinkState = g.K.Sink.state c.args.sink.now in
     let is : SinkState = g.K.Sink.state c.write_picture.new.sink in
     let stop = c.in_err-bytes.field-0.0 in

@@ -1,7 +1,7 @@
 use Rattle.std.proofs.Common.{rules, refl, FitsSigned}
 use mir.Syntax.{w32, w64}
 use Rattle.std.proofs.lemmas.Int.{to_z-of_z}
-use Rattle.hpgl_plot.specs.Arcs.{curve_point}
+use Rattle.hpgl_plot.specs.Paths.{curve_point}
 use Rattle.hpgl_plot.proofs.curve.curve_point.Goals as goal
 
 pub returns : goal.returns

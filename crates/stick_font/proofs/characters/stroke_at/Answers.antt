@@ -4,15 +4,15 @@ use Rattle.stick_font.proofs.Polylines.{length-points, length-strokes_through-le
 use Rattle.stick_font.proofs.characters.stroke_at.Goals as goal
 
 pub point_at-from-requires : goal.point_at-from-requires
-point_at-from-requires c = omega (arith, length-strokes_through-le (glyphs.points c.args.line.now))
+point_at-from-requires c = omega (arith, length-strokes_through-le (glyphs.grid_points c.args.line.now))
 
 pub overflow_add-k : goal.overflow_add-k
-overflow_add-k c = omega (arith, length-strokes_through-le (glyphs.points c.args.line.now), length-points c.args.line.now)
+overflow_add-k c = omega (arith, length-strokes_through-le (glyphs.grid_points c.args.line.now), length-points c.args.line.now)
 
 pub returns-then-k-point_count : goal.returns-then-k-point_count
 returns-then-k-point_count c =
-    stroke_to_next (glyphs.points c.args.line.now) c.args.k c.point_at-from.result c.point_at-to.result c.point_at-from.ensures (rw add-one at c.point_at-to.ensures)
+    stroke_to_next (glyphs.grid_points c.args.line.now) c.args.k c.point_at-from.result c.point_at-to.result c.point_at-from.ensures (rw add-one at c.point_at-to.ensures)
 
 pub returns-else-k-point_count : goal.returns-else-k-point_count
 returns-else-k-point_count c =
-    stroke_of_dot (glyphs.points c.args.line.now) c.args.k c.point_at-from.result c.requires (omega arith) c.point_at-from.ensures
+    stroke_of_dot (glyphs.grid_points c.args.line.now) c.args.k c.point_at-from.result c.requires (omega arith) c.point_at-from.ensures

@@ -5,6 +5,6 @@ use Rattle.stick_font.proofs.characters.stroke_count.Goals as goal
 
 pub returns-in_default : goal.returns-in_default
 returns-in_default c =
-    let ps = glyphs.points c.args.line.now in
+    let ps = glyphs.grid_points c.args.line.now in
     let several : 2 ≤ length ps = omega arith in
     let e = length-strokes_through ps several in omega arith

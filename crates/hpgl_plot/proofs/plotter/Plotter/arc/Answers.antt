@@ -1,8 +1,7 @@
 use Rattle.std.proofs.Common.{◌∷◌, ap, refl}
 use Rattle.hpgl_plot.specs.declared.state.Position.{Position}
-use Rattle.hpgl_plot.specs.Arcs.{chord_count, curve_point, curve_places}
-use Rattle.plot_settings.specs.Steps.{DrawArc}
-use Rattle.hpgl_plot.specs.Paths.{Path, pen_at}
+use Rattle.hpgl_plot.specs.Paths.{chord_count, curve_point, curve_places, Path, pen_at}
+use Rattle.plot_settings.specs.Meanings.{DrawArc}
 use Rattle.hpgl_plot.specs.Machine.{seen, step, moved, travelled}
 use Rattle.hpgl_plot.proofs.Curves.{arc_path_is, arc_sound, stopped_by}
 use Rattle.hpgl_plot.proofs.Travels.{Line, moved_runs, step_out}

@@ -1,9 +1,8 @@
 use Rattle.std.proofs.Common.{◌∷◌, refl, true, Ok}
 use Rattle.std.specs.Bool.{⊤}
 use Rattle.hpgl_plot.specs.declared.state.Position.{Position}
-use Rattle.hpgl_plot.specs.Arcs.{curve_places}
-use Rattle.plot_settings.specs.Steps.{DrawCircle}
-use Rattle.hpgl_plot.specs.Paths.{position}
+use Rattle.hpgl_plot.specs.Paths.{curve_places, position}
+use Rattle.plot_settings.specs.Meanings.{DrawCircle}
 use Rattle.hpgl_plot.specs.Machine.{seen, step, travelled}
 use Rattle.hpgl_plot.proofs.Curves.{circle_path_is, stopped_by}
 use Rattle.hpgl_plot.proofs.Travels.{Line, still_runs, step_out}

@@ -1,5 +1,5 @@
 use Rattle.std.proofs.Common.{◌∷◌, [], true}
-use Rattle.hpgl_plot.specs.Labels.{pen_at_point}
+use Rattle.hpgl_plot.specs.Paths.{pen_at_point}
 use Rattle.hpgl_plot.specs.Machine.{seen, travelled, put_at}
 use Rattle.hpgl_plot.proofs.Fed.{travelled_one}
 use Rattle.hpgl_plot.proofs.Letters.{end_out, end_put}

@@ -1,6 +1,6 @@
 use Rattle.std.proofs.Common.{◌∙◌, ◌+◌, ◌<◌, ◌∷◌, [], refl}
 use Rattle.std.specs.Bool.{⊤}
-use Rattle.hpgl_plot.specs.Arcs.{chord_count, curve_places}
+use Rattle.hpgl_plot.specs.Paths.{chord_count, curve_places}
 use Rattle.hpgl_plot.specs.Machine.{seen, travelled}
 use Rattle.hpgl_plot.proofs.Curves.{point_right, point_above, one_chord, no_chord, stopped_by}
 use Rattle.hpgl_plot.proofs.Fed.{travelled_out}

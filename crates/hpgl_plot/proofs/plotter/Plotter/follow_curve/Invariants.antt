@@ -1,8 +1,7 @@
 use Rattle.std.proofs.Common.{◌≡◌, ◌<◌}
-use Rattle.hpgl_plot.specs.Arcs.{curve_point}
+use Rattle.hpgl_plot.specs.Paths.{curve_point, pen_at}
 use Rattle.hpgl_plot.specs.Bounds.{IsInRange}
 use Rattle.hpgl_plot.specs.Machine.{seen}
-use Rattle.hpgl_plot.specs.Paths.{pen_at}
 use Rattle.hpgl_plot.proofs.Curves.{Left}
 use Rattle.hpgl_plot.proofs.Travels.{IsKept}
 use Rattle.hpgl_plot.proofs.plotter.Plotter.follow_curve.Given as goal

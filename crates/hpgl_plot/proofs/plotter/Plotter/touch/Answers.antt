@@ -1,5 +1,5 @@
 use Rattle.std.proofs.Common.{refl, not, [], ◌∷◌}
-use Rattle.plot_settings.specs.Steps.{Touch}
+use Rattle.plot_settings.specs.Meanings.{Touch}
 use Rattle.hpgl_plot.specs.Machine.{seen}
 use Rattle.hpgl_plot.specs.Paths.{position}
 use Rattle.hpgl_plot.proofs.Travels.{Line, still_runs}

@@ -3,11 +3,11 @@ use Rattle.std.proofs.lemmas.List.{drop_more}
 use Rattle.std.proofs.Math.ListN.{drop_of_length-le}
 use Rattle.stick_font.specs.declared.cell.Cell.{Cell}
 use Rattle.stick_font.specs.Bounds.{moved_on}
-use Rattle.stick_font.specs.Points.{character_strokes, corner}
+use Rattle.stick_font.specs.Labels.{character_strokes, corner}
 use Rattle.exact.specs.declared.spot.Spot.{Spot}
-use Rattle.plot_settings.specs.Steps.{Write}
+use Rattle.plot_settings.specs.Meanings.{Write}
 use Rattle.hpgl_plot.specs.declared.state.State.{State}
-use Rattle.hpgl_plot.specs.Labels.{stroke_places}
+use Rattle.hpgl_plot.specs.Paths.{stroke_places}
 use Rattle.hpgl_plot.specs.Machine.{World, seen, step, travelled_all, Runs}
 use Rattle.hpgl_plot.proofs.Letters.{lines_from, lines_of_label, label_out, label_ends, cell_from, end_of_label, next_column, next_line}
 use Rattle.hpgl_plot.proofs.Polylines.{lines_then, lines_then_out}

@@ -1,9 +1,9 @@
 use Rattle.std.proofs.Common.{◌≡◌, ◌∙◌, ◌+◌, ap, sym, subst, arith, true, List, drop, map, None, Some}
 use Rattle.std.proofs.lemmas.Option.{slice_get_within}
-use Rattle.stick_font.specs.Points.{character_strokes}
+use Rattle.stick_font.specs.Labels.{character_strokes}
 use Rattle.exact.specs.declared.spot.Spot.{Spot}
 use Rattle.hpgl_plot.specs.declared.state.State.{State}
-use Rattle.hpgl_plot.specs.Labels.{stroke_places}
+use Rattle.hpgl_plot.specs.Paths.{stroke_places}
 use Rattle.hpgl_plot.specs.Machine.{seen, travelled, travelled_all}
 use Rattle.hpgl_plot.proofs.Letters.{one_stroke, no_more_strokes}
 use Rattle.hpgl_plot.proofs.Polylines.{lines_more, lines_out}

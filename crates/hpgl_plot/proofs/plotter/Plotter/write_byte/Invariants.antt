@@ -1,6 +1,6 @@
 use Rattle.std.proofs.Common.{◌≡◌, ◌≤◌, ◌-◌, true, drop, length, map}
-use Rattle.stick_font.specs.Points.{character_strokes}
-use Rattle.hpgl_plot.specs.Labels.{stroke_places}
+use Rattle.stick_font.specs.Labels.{character_strokes}
+use Rattle.hpgl_plot.specs.Paths.{stroke_places}
 use Rattle.hpgl_plot.specs.Machine.{seen, travelled_all}
 use Rattle.hpgl_plot.proofs.Travels.{IsKept}
 use Rattle.hpgl_plot.proofs.plotter.Plotter.write_byte.Given as goal
