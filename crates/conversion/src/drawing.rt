@@ -6,7 +6,7 @@ ghost use Rattle.conversion.specs.Drawings.{HasDrawn};
 use crate::fault::Fault;
 use crate::reading::read_plot;
 use devices::Source;
-use hpgl_plot::{Lines, draw_text};
+use hpgl_plot::{Drawn, draw_plot};
 use plot_page::Page;
 use std::alloc::Global;
 
@@ -16,13 +16,13 @@ use std::alloc::Global;
 /// Errors, in this order: `Read` if the source fails; `TooLong` if it gives more than 67,108,864
 /// bytes; `Plot` if an instruction goes out of range or makes a stroke too many. `Memory` comes when
 /// memory is refused.
-pub fn draw_source<S: Source>(alloc: Global, page: &Page, source: &mut S) -> Result<Lines, Fault>
+pub fn draw_source<S: Source>(alloc: Global, page: &Page, source: &mut S) -> Result<Drawn, Fault>
     requires failing { (S.state source.old).faults < 2 ^ 64 - 1 }
     requires ending { (S.state source.old).ends < 2 ^ 64 - 1 }
     ensures draws { HasDrawn page.now (S.state source.old) (S.state source.new) result }
     ensures end { (S.state source.new).ends ≡ (S.state source.old).ends + 1 → IsAtEnd (S.state source.new).left }
 {
     let plot = read_plot(alloc, source)?;
-    let lines = draw_text(alloc, plot.as_slice(), page)?;
+    let lines = draw_plot(alloc, plot.as_slice(), page)?;
     Ok(lines)
 }

@@ -8,7 +8,7 @@ use crate::done::Done;
 use crate::fault::Fault;
 use crate::reading::read_plot;
 use devices::{Sink, Source};
-use hpgl_plot::{Notes, draw_text};
+use hpgl_plot::{Notes, draw_plot};
 use plot_page::Page;
 use plot_report::write_report;
 use std::alloc::Global;
@@ -35,7 +35,7 @@ pub fn report<S: Source, K: Sink>(
     ensures untouched { IfErr result (λ fault. is_write fault ≡ false → sink.new ≡ sink.old) }
 {
     let plot = read_plot(alloc, source)?;
-    let lines = draw_text(alloc, plot.as_slice(), page)?;
+    let lines = draw_plot(alloc, plot.as_slice(), page)?;
     let strokes = lines.strokes.as_slice();
     match write_report(page, strokes, Notes::new(plot.as_slice()), sink) {
         Ok(bytes) => Ok(Done {

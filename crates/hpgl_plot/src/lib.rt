@@ -3,9 +3,9 @@
 
 mod axes;
 mod curve;
+mod drawn;
 mod fault;
 pub mod laws;
-mod lines;
 mod note;
 mod notes;
 mod noting;
@@ -17,9 +17,9 @@ mod turn;
 mod window;
 mod wrong;
 
+pub use drawn::{Drawn, draw_plot};
 pub use exact::Spot;
 pub use fault::PlotFault;
-pub use lines::{Lines, draw_text};
 pub use note::{Note, NoteKind};
 pub use notes::Notes;
 pub use plot::{Plot, draw};

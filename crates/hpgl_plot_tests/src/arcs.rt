@@ -1,7 +1,7 @@
 // Circles and arcs. The drawings that are wanted come from a plotter that was written apart from
 // this one.
 use crate::drawings::{drawing_of, square};
-use hpgl_plot::{PlotFault, draw_text};
+use hpgl_plot::{PlotFault, draw_plot};
 use std::test::Fail;
 
 #[test]
@@ -156,7 +156,7 @@ fn circles_that_are_refused(rt: HostRuntime) -> Result<(), Fail> {
         ),
     ];
     for (text, wanted) in plots {
-        match draw_text(rt.alloc(), text, &square()?) {
+        match draw_plot(rt.alloc(), text, &square()?) {
             Ok(_) => assert!(rt; false),
             Err(fault) => assert_eq!(rt; fault, wanted),
         }

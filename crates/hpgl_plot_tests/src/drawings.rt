@@ -1,6 +1,6 @@
 // What plots draw, by their text. The drawings that are wanted come from a plotter that was written
 // apart from this one.
-use hpgl_plot::{Colour, Notes, Page, PlotFault, Stroke, Window, draw, draw_text};
+use hpgl_plot::{Colour, Notes, Page, PlotFault, Stroke, Window, draw, draw_plot};
 use hpgl_text::lex;
 use std::alloc::Global;
 use std::test::Fail;
@@ -129,7 +129,7 @@ fn colours(rt: HostRuntime) -> Result<(), Fail> {
         let plot = draw(rt.alloc(), &program, &square()?)?;
         assert_eq!(rt; coloured(rt.alloc(), plot.strokes())?.as_str(), wanted);
         assert_eq!(rt; plot.notes().len(), notes);
-        let lines = draw_text(rt.alloc(), text, &square()?)?;
+        let lines = draw_plot(rt.alloc(), text, &square()?)?;
         assert_eq!(rt;
             coloured(rt.alloc(), lines.strokes.as_slice())?.as_str(),
             wanted
@@ -395,7 +395,7 @@ fn one_item_at_a_time(rt: HostRuntime) -> Result<(), Fail> {
     let text = b"SP1;PD9,9,9;!WU1;PE<=7!!;PU1;EA5,5;PE!".as_slice();
     let program = lex(rt.alloc(), text)?;
     let plot = draw(rt.alloc(), &program, &square()?)?;
-    let lines = draw_text(rt.alloc(), text, &square()?)?;
+    let lines = draw_plot(rt.alloc(), text, &square()?)?;
     assert_eq!(rt; lines.strokes.len(), plot.strokes().len());
     assert_eq!(rt; lines.notes, plot.notes().len());
     let mut told = Vec::new(rt.alloc());

@@ -1,6 +1,6 @@
 // A plot may have 4,194,304 strokes.
 use crate::drawings::square;
-use hpgl_plot::{PlotFault, draw_text};
+use hpgl_plot::{PlotFault, draw_plot};
 use std::alloc::Global;
 use std::test::Fail;
 
@@ -25,7 +25,7 @@ fn longest_and(alloc: Global, last: &[u8]) -> Result<Vec<u8>, Fail> {
 #[test]
 fn as_many_strokes_as_there_may_be(rt: HostRuntime) -> Result<(), Fail> {
     let text = longest_and(rt.alloc(), b"")?;
-    let lines = draw_text(rt.alloc(), text.as_slice(), &square()?)?;
+    let lines = draw_plot(rt.alloc(), text.as_slice(), &square()?)?;
     assert_eq!(rt; lines.strokes.len(), STROKES);
     Ok(())
 }
@@ -33,7 +33,7 @@ fn as_many_strokes_as_there_may_be(rt: HostRuntime) -> Result<(), Fail> {
 #[test]
 fn a_stroke_too_many(rt: HostRuntime) -> Result<(), Fail> {
     let text = longest_and(rt.alloc(), b"PD;")?;
-    let answer = draw_text(rt.alloc(), text.as_slice(), &square()?);
+    let answer = draw_plot(rt.alloc(), text.as_slice(), &square()?);
     let too_many = matches!(answer, Err(PlotFault::TooManyStrokes { at: 559_244 }));
     assert!(rt; too_many);
     Ok(())
@@ -43,7 +43,7 @@ fn a_stroke_too_many(rt: HostRuntime) -> Result<(), Fail> {
 #[test]
 fn a_stroke_too_many_and_a_place_out_of_range(rt: HostRuntime) -> Result<(), Fail> {
     let text = longest_and(rt.alloc(), b"PD0,0,70000,0;")?;
-    let answer = draw_text(rt.alloc(), text.as_slice(), &square()?);
+    let answer = draw_plot(rt.alloc(), text.as_slice(), &square()?);
     let off_range = matches!(answer, Err(PlotFault::OffRange { at: 559_244 }));
     assert!(rt; off_range);
     Ok(())

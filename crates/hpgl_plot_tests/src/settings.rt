@@ -1,6 +1,6 @@
 // What instructions set, what stays as it was, and the edges of rectangles.
 use crate::drawings::{drawing_of, square, wide};
-use hpgl_plot::draw_text;
+use hpgl_plot::draw_plot;
 use std::test::Fail;
 
 #[test]
@@ -96,7 +96,7 @@ note 29 PD Bad\n",
 
 #[test]
 fn notes_within_a_polyline(rt: HostRuntime) -> Result<(), Fail> {
-    let lines = draw_text(rt.alloc(), b"PE!#;", &square()?)?;
+    let lines = draw_plot(rt.alloc(), b"PE!#;", &square()?)?;
     assert_eq!(rt; lines.notes, 2);
     Ok(())
 }

@@ -3,7 +3,7 @@ ghost use Rattle.std.specs.Prelude.{◌<◌};
 ghost use Rattle.plot_page.specs.Resolutions.{columns_of, rows_of};
 
 use crate::pages::eight_by_eight;
-use hpgl_plot::{Stroke, draw_text};
+use hpgl_plot::{Stroke, draw_plot};
 use plotraster::{Dots, Fault, Form, Job, Page, picture_bytes};
 use std::alloc::Global;
 use std::test::Fail;
@@ -42,7 +42,7 @@ fn is_covered(strokes: &[Stroke], page: &Page, dots: Dots, row: u32, column: u32
 
 // The bits of a bitmap after its head, from the first row's first pixel on, as `near` gives them.
 fn wanted_bits(alloc: Global, job: &Job, plot: &[u8]) -> Result<Vec<u8>, Fail> {
-    let strokes = draw_text(alloc, plot, &job.page)?.strokes;
+    let strokes = draw_plot(alloc, plot, &job.page)?.strokes;
     let mut bits = Vec::new(alloc);
     for row in 0..job.dots.rows(&job.page) {
         let mut byte = 0u8;

@@ -4,7 +4,7 @@ use Rattle.hpgl_plot.specs.Machine.{seen}
 use Rattle.hpgl_plot.specs.Notes.{notes, notes_of}
 use Rattle.hpgl_plot.proofs.Ends.{refused_at, all_drawn}
 use Rattle.hpgl_plot.proofs.NoteCounts.{notes_few}
-use Rattle.hpgl_plot.proofs.lines.draw_text.Goals as goal
+use Rattle.hpgl_plot.proofs.drawn.draw_plot.Goals as goal
 
 -- the notes so far and those on this item are some of those on the plot, which has fewer than 2^63 bytes
 pub count_notes-noted-requires : goal.count_notes-noted-requires
