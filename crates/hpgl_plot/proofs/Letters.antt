@@ -7,7 +7,7 @@ use Rattle.std.proofs.lemmas.Bool.{cases_Bool, cases_lt}
 use Rattle.std.proofs.lemmas.Option.{none-some, slice_get_within, slice_get-get_or, get_or_from_slice_get}
 use Rattle.stick_font.specs.declared.cell.Cell.{Cell}
 use Rattle.stick_font.specs.declared.label.LabelStroke.{LabelStroke}
-use Rattle.stick_font.specs.Labels.{cell_after, is_printed, corner, character_strokes, strokes_after, label_strokes, label_end, offset}
+use Rattle.stick_font.specs.Labels.{cell_after, is_printed, corner, character_strokes, strokes_in_cells, label_strokes, label_end, offset}
 use Rattle.stick_font.specs.Bounds.{moved_on}
 use Rattle.exact.specs.declared.spot.Spot.{Spot}
 use Rattle.hpgl_plot.specs.declared.state.State.{State}
@@ -44,11 +44,11 @@ reversed before byte bytes =
 
 -- are those of the bytes after others
 lines_after : (s : State) (before bytes : List ℕ)
-    → write_lines s (strokes_after before bytes) (corner (cell_after (reverse bytes ++ before))) ≡ lines_from s (cell_after before) bytes
+    → write_lines s (strokes_in_cells before bytes) (corner (cell_after (reverse bytes ++ before))) ≡ lines_from s (cell_after before) bytes
 lines_after s before [] = refl
 lines_after s before (byte ∷ bytes) =
     let first = character_strokes (cell_after before) byte in
-    let others = strokes_after (byte ∷ before) bytes in
+    let others = strokes_in_cells (byte ∷ before) bytes in
     let end : List (List Spot) = (label_place s (corner (cell_after (reverse bytes ++ (byte ∷ before)))) ∷ []) ∷ [] in
     ap₂ (λ (x : List (List Spot)) (y : List ℕ). x ++ ((label_place s (corner (cell_after y)) ∷ []) ∷ []))
     (map-append (stroke_places s) first others) (reversed before byte bytes)
@@ -58,7 +58,7 @@ lines_after s before (byte ∷ bytes) =
 -- and of a whole label
 pub lines_of_label : (s : State) (bytes : List ℕ) → label_lines s bytes ≡ lines_from s (record { column = 0; line = 0 }) bytes
 lines_of_label s bytes =
-    ap (λ (y : List ℕ). write_lines s (strokes_after [] bytes) (corner (cell_after y))) (sym (append-nil (reverse bytes)))
+    ap (λ (y : List ℕ). write_lines s (strokes_in_cells [] bytes) (corner (cell_after y))) (sym (append-nil (reverse bytes)))
     ∙ lines_after s [] bytes
 
 -- the cell after bytes, by the bytes before it

@@ -8,9 +8,9 @@ use Rattle.hpgl_text.specs.Bytes.{byte, end_of_text, escape}
 use Rattle.hpgl_text.specs.Cut.{items_from, item_at, next_place, silent_at, terminator_after}
 use Rattle.hpgl_text.specs.Bytes.{place_of, has_byte}
 use Rattle.hpgl_text.specs.EntryShapes.{EntryShape}
-use Rattle.hpgl_text.specs.Items.{Content, content, content_of, label_end, one_byte_length, parameters, polyline, code_of, first_item, begins_with_mnemonic}
+use Rattle.hpgl_text.specs.Items.{Content, content, content_of, named_terminator, one_byte_length, parameters, polyline, code_of, first_item, begins_with_mnemonic}
 use Rattle.hpgl_text.specs.Mnemonics.{kind_of}
-use Rattle.hpgl_text.specs.Numbers.{numbers, past_numbers, is_end}
+use Rattle.hpgl_text.specs.Numbers.{numbers, past_numbers, ends_numbers}
 use Rattle.hpgl_text.specs.Shapes.{ItemShape, BodyShape, Params, Terminator, Stray}
 use Rattle.hpgl_text.specs.Shapes as shape
 use Rattle.hpgl_text.specs.declared.mnemonic.Kind.{Kind}
@@ -42,9 +42,9 @@ none_in_either : (b : Bool) (x y : BodyShape) → entries_in x ≡ [] → entrie
 none_in_either true x y h k = h
 none_in_either false x y h k = k
 
-none_in_label_end : (text : List ℕ) → entries_in (label_end text) ≡ []
-none_in_label_end [] = refl
-none_in_label_end (b ∷ text) = none_in_either (b == byte ";") (Terminator end_of_text) _ refl
+none_in_terminator : (text : List ℕ) → entries_in (named_terminator text) ≡ []
+none_in_terminator [] = refl
+none_in_terminator (b ∷ text) = none_in_either (b == byte ";") (Terminator end_of_text) _ refl
     (none_in_either (b == byte "\0" || b == byte "\n" || b == escape) shape.Bad (Terminator b) refl refl)
 
 -- what follows a mnemonic has no more entries than bytes
@@ -63,9 +63,9 @@ polyline_fits at text =
 
 content_fits : (kind : Kind) (terminator at : ℕ) (text : List ℕ) → Fits (content_of kind terminator at text) text
 content_fits (Parameters instruction) terminator at text =
-    none_fits (parameters instruction text) text (none_in_either (is_end (past_numbers text)) (Params instruction (numbers text)) shape.Bad refl refl)
+    none_fits (parameters instruction text) text (none_in_either (ends_numbers (past_numbers text)) (Params instruction (numbers text)) shape.Bad refl refl)
 content_fits LabelText terminator at text = none_fits _ text refl
-content_fits LabelEnd terminator at text = none_fits (content (label_end text) false (one_byte_length text)) text (none_in_label_end text)
+content_fits LabelEnd terminator at text = none_fits (content (named_terminator text) false (one_byte_length text)) text (none_in_terminator text)
 content_fits Polyline terminator at text = polyline_fits at text
 content_fits Symbol terminator at text = none_fits _ text refl
 content_fits Buffer terminator at text = none_fits _ text refl
