@@ -53,7 +53,7 @@ picture_app name = with_rule (with_picture (with_page (new_app name))) file_rule
 abbrev pub report_app : App
 report_app = with_rule (with_page (new_app (codes "report"))) file_rule
 
--- `plotraster` alone: it has a version, a subcommand has to be named, and `help` is none
+-- `plotraster` itself: it has a version, a subcommand has to be named, and `help` is none
 abbrev pub top_app : App
 top_app =
     let a = new_app (codes "plotraster") in

@@ -73,7 +73,7 @@ fn part_kind(part: Part) -> Option<NoteKind>
     }
 }
 
-/// A note on what stands at a place.
+/// A note on what is at a place.
 pub fn note_on(code: [u8; 2], at: usize, kind: NoteKind) -> Note
     ensures { result ≡ record { at = at; code = code; kind = kind } }
 {

@@ -26,7 +26,7 @@ abbrev pub spelling_limit : Base → ℕ
 spelling_limit SixtyFour = 2 ^ 35
 spelling_limit ThirtyTwo = 2 ^ 34
 
--- the coded number at the beginning of the text is n, so many bytes long
+-- the text begins with the coded number n, of this many bytes
 abbrev pub IsRead : Base → List ℕ → ℤ → ℕ → Type 0
 IsRead base text n bytes = coded_number base text ≡ Some (record { value = n; bytes = bytes })
 

@@ -1,4 +1,4 @@
--- Lists of pens as text: `all`, or ranges separated by single commas. A range is n-m, or n alone.
+-- Lists of pens as text: `all`, or ranges separated by single commas. A range is n-m, or just n.
 use Rattle.std.specs.Prelude.{ℕ, ◌+◌, ◌-◌, ◌*◌, ◌^◌, Bool, false, ◌&&◌, ◌||◌, ◌==◌, nat_le, if◌then◌else◌, List, []}
 use Rattle.std.specs.Prelude.{◌∷◌, length, codes}
 use Rattle.std.specs.Char.{is_ascii_digit}
@@ -28,7 +28,7 @@ abbrev pub is_pen : List ℕ → Bool
 is_pen text =
     list_all is_ascii_digit text && (is_between 1 (length text) MOST_DIGITS && is_between 1 (number text) GREATEST_PEN)
 
--- what hyphens separate in a range: n and m, or n alone
+-- what hyphens separate in a range: n and m, or just n
 abbrev pub bounds : List ℕ → List (List ℕ)
 bounds range = slice_split (λ byte. byte == hyphen) range
 

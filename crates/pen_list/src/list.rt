@@ -7,7 +7,7 @@ use crate::range::PenRange;
 use plot_page::PenSet;
 
 /// The pens that a text lists, or `None` if it is no list of pens. A list is `all`, which is the pens
-/// 1 to 255, or ranges separated by single commas. A range is `n-m`, with n not above m, or `n` alone.
+/// 1 to 255, or ranges separated by single commas. A range is `n-m`, with n not above m, or just `n`.
 /// Each of n and m is 1 to 255, in one to three decimal digits, so `1,3,5-7` lists 1, 3, 5, 6 and 7.
 pub fn read_pens(text: &str) -> Option<PenSet>
     ensures found { is_some result ≡ is_pen_list text.now }

@@ -28,7 +28,7 @@ pub record IsSmall (across upward : Axis) (u : ℤ) : Type 0 where
   pub across_in : nat_abs (across.slope *ℤ u) ≤ 2 ^ 115
   pub upward_in : nat_abs (upward.slope *ℤ u) ≤ 2 ^ 115
 
--- P1 and P2 stand apart in x and in y
+-- P1 and P2 differ in x and in y
 pub record IsPoints (p : Points) : Type 0 where
   pub x_in : nat_abs p.x1 ≤ 2 ^ 25
   pub y_in : nat_abs p.y1 ≤ 2 ^ 25
@@ -67,7 +67,7 @@ IsScaling (Anisotropic r) = IsRanges r
 IsScaling (Isotropic f) = IsFitting f
 IsScaling (PointFactor f) = IsFactors f
 
--- one axis of all this; a factor stands in the distance
+-- one axis of all this; a factor is part of the distance
 pub record IsSide (s : Side) : Type 0 where
   pub start_in : nat_abs s.start ≤ 2 ^ 25
   pub distance_in : nat_abs s.distance ≤ 2 ^ 43

@@ -86,7 +86,7 @@ apart a b = if int_eq a b then b +ℤ pos 1 else b
 abbrev pub points_at : ℤ → ℤ → ℤ → ℤ → Points
 points_at ax ay bx by = record { x1 = ax; y1 = ay; x2 = apart ax bx; y2 = apart ay by }
 
--- IP (Input P1 and P2): none, P1 alone, or both
+-- IP (Input P1 and P2): none, only P1, or both
 abbrev pub scaling_points : List ℤ → Option Setting
 scaling_points [] = Some PageCorners
 scaling_points (x ∷ (y ∷ [])) = Some (FirstPoint (whole_of x) (whole_of y))

@@ -1,4 +1,4 @@
-//! Laws of settings, over the definitions alone.
+//! Laws of settings, over the definitions only.
 ghost use Rattle.plot_settings.specs.Laws.{WidthsAreLookedBackFor, ColoursAreLookedBackFor};
 
 /// The width of each pen is the one that the last instruction before has set for it, or 224 grains.

@@ -67,7 +67,7 @@ label_strokes bytes = strokes_in_cells [] bytes
 abbrev pub label_end : List ℕ → Spot
 label_end bytes = corner (cell_after (reverse bytes))
 
--- so many parts of a size
+-- a number of parts of a size
 abbrev pub share : ℤ → ℤ → ℕ → ℤ
 share count size parts = round (quotient (count *ℤ size) (pos parts))
 
