@@ -8,8 +8,6 @@ mod colours;
 #[cfg(test)]
 mod cut_off;
 #[cfg(test)]
-mod devices;
-#[cfg(test)]
 mod faults;
 #[cfg(test)]
 mod fine;
@@ -17,6 +15,8 @@ mod fine;
 mod gauges;
 #[cfg(test)]
 mod lexed;
+#[cfg(test)]
+mod limited;
 #[cfg(test)]
 mod once;
 #[cfg(test)]

@@ -1,5 +1,5 @@
 //! Devices that give or take one byte a call.
-use crate::devices::Limited;
+use crate::limited::Limited;
 use crate::pages::{CROSSING, LINE, eight_by_eight};
 use plotraster::{
     Dots, Exact, Fault, Form, Job, OverRead, OverWrite, Page, convert, picture_bytes, report,

@@ -1,5 +1,5 @@
 //! Pictures in PCL.
-use crate::devices::Limited;
+use crate::limited::Limited;
 use crate::pages::{CROSSING, LINE, eight_by_eight};
 use crate::sources::Semicolons;
 use plotraster::{Dots, Exact, Fault, Form, Job, OverRead, OverWrite, convert, picture_bytes};

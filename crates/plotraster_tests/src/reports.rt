@@ -1,5 +1,5 @@
 //! Reports on plots.
-use crate::devices::Limited;
+use crate::limited::Limited;
 use crate::refusals::off_range;
 use crate::sources::Semicolons;
 use plotraster::{Done, Fault, OverRead, OverWrite, Page, Source, report};
