@@ -15,8 +15,14 @@ PAGE = "man/plotraster.1"
 INSTRUCTIONS = "docs/INSTRUCTIONS.md"
 # clap refuses such values, so this message is for callers of the library.
 OF_THE_LIBRARY = {"band height must be 1 to 4096"}
-# The sources with the messages of the program.
-SOURCES = ("conversion/src/fault.rt", "command_line/src/fault.rt", "plotraster_program/src/main.rt")
+# The sources with the messages of the program; the faults of plots and of painters are passed on.
+SOURCES = (
+    "hpgl_plot/src/fault.rt",
+    "stroke_raster/src/painter.rt",
+    "conversion/src/fault.rt",
+    "command_line/src/fault.rt",
+    "plotraster_program/src/main.rt",
+)
 # A word that the manual page must have where it describes an exit status.
 STATUSES = {0: "was written", 1: "refused", 2: "command line", 3: "failed", 4: "Memory"}
 
