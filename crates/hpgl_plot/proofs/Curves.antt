@@ -6,16 +6,19 @@ use Rattle.std.proofs.lemmas.Int.{ints, unsigned_abs-mul}
 use Rattle.std.proofs.Math.Nat.{le-max_right}
 use Rattle.exact.proofs.Ring.{mul-add_z, mul-sub_z}
 use Rattle.exact.proofs.Fit.{product_within}
-use Rattle.plot_frame.specs.Bounds.{IsLine, IsNear}
-use Rattle.plot_frame.specs.Line.{across_line, upward_line}
+use Rattle.plot_frame.specs.Bounds.{IsNear}
 use Rattle.plot_frame.specs.declared.axis.Axis.{Axis}
-use Rattle.plot_frame.proofs.Crossing.{across_small, upward_small, number_small}
+use Rattle.plot_frame.specs.declared.pair.AxisName.{AxisName}
+use Rattle.plot_frame.specs.declared.pair.AxisName.TheVariants.{X, Y}
+use Rattle.plot_frame.specs.declared.pair.Pair.{Pair}
+use Rattle.plot_frame.specs.Frame.{on_axis}
+use Rattle.plot_frame.proofs.Crossing.{near_small, number_small}
+use Rattle.plot_frame.proofs.InBounds.{line_of_axis_in}
 use Rattle.plot_arc.specs.Bounds as arc
 use Rattle.plot_arc.specs.Arcs.{vector, nearest, turned_x, turned_y, turn_after}
 use Rattle.exact.specs.declared.spot.Spot.{Spot}
 use Rattle.plot_arc.proofs.Reach.{is_reached}
 use Rattle.plot_page.specs.declared.page.Page.{Page}
-use Rattle.hpgl_plot.specs.declared.axes.Axes.{Axes}
 use Rattle.plot_settings.specs.declared.figure.Arc.{Arc}
 use Rattle.plot_settings.specs.declared.figure.Circle.{Circle}
 use Rattle.hpgl_plot.specs.declared.curve.Curve.{Curve}
@@ -25,49 +28,52 @@ use Rattle.hpgl_plot.specs.declared.state.Frame.{Frame}
 use Rattle.hpgl_plot.specs.declared.state.Position.{Position}
 use Rattle.hpgl_plot.specs.declared.state.State.{State}
 use Rattle.hpgl_plot.specs.Paths.{circle_curve, arc_curve, chord_count, curve_point, curve_places, path, along, position, pen_at, target}
-use Rattle.hpgl_plot.specs.Bounds.{AreAxes, IsSound, IsInRange, IsSmallIn, AreSmall, IsCurve}
+use Rattle.hpgl_plot.specs.Bounds.{AreAxes, IsSound, IsInRange, IsSmallIn, AreSmall, IsCurve, line_in}
 use Rattle.hpgl_plot.specs.Frames.{place}
 use Rattle.hpgl_plot.specs.Machine.{World, travelled, Runs}
 use Rattle.plot_settings.specs.Meanings.{DrawCircle, DrawArc}
 use Rattle.hpgl_plot.proofs.Fed.{travelled_more, travelled_never, travelled_one, within}
+use Rattle.hpgl_plot.specs.OnPage.{margin}
+use Rattle.hpgl_plot.proofs.OnAxes.{axis_is, margin_in}
 use Rattle.hpgl_plot.proofs.Sound.{sound_at}
 use Rattle.hpgl_plot.proofs.Travels.{travelled_keeps}
 
-small_right : (page : Page) (axes : Axes) (s : State) (n : ℤ) → IsSound page axes s → nat_abs n ≤ 2 ^ 55
-    → IsSmallIn page s.frame (s.coordinates.x +ℤ n)
-small_right page axes s n h k =
-    let x = subst (λ (a : Axis). IsNear a s.coordinates.x) h.framed.across_is h.x_near in
-    across_small s.frame.points s.frame.scaling page.left page.below s.coordinates.x n h.framed.points h.framed.scaling page.left_in page.below_in x k
+small_along : (n : AxisName) (page : Page) (axes : Pair Axis) (f : Frame) (u t : ℤ) → AreAxes page f axes → IsNear (on_axis n axes) u → nat_abs t ≤ 2 ^ 55
+    → IsSmallIn page f (u +ℤ t)
+small_along n page axes f u t h k l =
+    near_small n f.points f.scaling (λ m. margin m page) u t h.points h.scaling (margin_in page)
+    (subst (λ (a : Axis). IsNear a u) (axis_is n page f axes h) k) l
 
-small_above : (page : Page) (axes : Axes) (s : State) (n : ℤ) → IsSound page axes s → nat_abs n ≤ 2 ^ 55
-    → IsSmallIn page s.frame (s.coordinates.y +ℤ n)
-small_above page axes s n h k =
-    let y = subst (λ (a : Axis). IsNear a s.coordinates.y) h.framed.upward_is h.y_near in
-    upward_small s.frame.points s.frame.scaling page.left page.below s.coordinates.y n h.framed.points h.framed.scaling page.left_in page.below_in y k
+small_right : (page : Page) (axes : Pair Axis) (s : State) (t : ℤ) → IsSound page axes s → nat_abs t ≤ 2 ^ 55
+    → IsSmallIn page s.frame (s.coordinates.x +ℤ t)
+small_right page axes s t h k = small_along X page axes s.frame s.coordinates.x t h.framed h.x_near k
 
-small_number : (page : Page) (axes : Axes) (s : State) (n : ℤ) → IsSound page axes s → nat_abs n ≤ 2 ^ 55 → IsSmallIn page s.frame n
-small_number page axes s n h k =
-    let f = h.framed in
-    number_small (across_line s.frame.points s.frame.scaling page.left) (upward_line s.frame.points s.frame.scaling page.below) n
-    (subst (λ (a : Axis). IsLine a) f.across_is f.across_in) (subst (λ (a : Axis). IsLine a) f.upward_is f.upward_in) k
+small_above : (page : Page) (axes : Pair Axis) (s : State) (t : ℤ) → IsSound page axes s → nat_abs t ≤ 2 ^ 55
+    → IsSmallIn page s.frame (s.coordinates.y +ℤ t)
+small_above page axes s t h k = small_along Y page axes s.frame s.coordinates.y t h.framed h.y_near k
+
+small_number : (page : Page) (axes : Pair Axis) (s : State) (t : ℤ) → IsSound page axes s → nat_abs t ≤ 2 ^ 55 → IsSmallIn page s.frame t
+small_number page axes s t h k =
+    let f = s.frame in
+    number_small (line_in page f) t (λ n. line_of_axis_in n f.points f.scaling (margin n page) h.framed.points h.framed.scaling (margin_in page n)) k
 
 plus_0 : (u : ℤ) → u +ℤ pos 0 ≡ u
 plus_0 u = omega (arith, ints)
 
 -- where the pen is
-pub pen_small : (page : Page) (axes : Axes) (s : State) → IsSound page axes s → AreSmall page s.frame s.coordinates
+pub pen_small : (page : Page) (axes : Pair Axis) (s : State) → IsSound page axes s → AreSmall page s.frame s.coordinates
 pen_small page axes s h = record {
   x_in = subst (λ (u : ℤ). IsSmallIn page s.frame u) (plus_0 s.coordinates.x) (small_right page axes s (pos 0) h (omega arith));
   y_in = subst (λ (u : ℤ). IsSmallIn page s.frame u) (plus_0 s.coordinates.y) (small_above page axes s (pos 0) h (omega arith));
 }
 
 -- on the right of the pen
-pub right_small : (page : Page) (axes : Axes) (s : State) (n : ℤ) → IsSound page axes s → nat_abs n ≤ 2 ^ 55
+pub right_small : (page : Page) (axes : Pair Axis) (s : State) (n : ℤ) → IsSound page axes s → nat_abs n ≤ 2 ^ 55
     → AreSmall page s.frame (record { x = s.coordinates.x +ℤ n; y = s.coordinates.y })
 right_small page axes s n h k = record { x_in = small_right page axes s n h k; y_in = (pen_small page axes s h).y_in }
 
 -- where a move may end
-pub target_small : (page : Page) (axes : Axes) (s : State) (relative : Bool) (x y : ℤ) → IsSound page axes s → nat_abs x ≤ 2 ^ 55
+pub target_small : (page : Page) (axes : Pair Axis) (s : State) (relative : Bool) (x y : ℤ) → IsSound page axes s → nat_abs x ≤ 2 ^ 55
     → nat_abs y ≤ 2 ^ 55 → AreSmall page s.frame (target relative s.coordinates x y)
 target_small page axes s true x y h k l = record { x_in = small_right page axes s x h k; y_in = small_above page axes s y h l }
 target_small page axes s false x y h k l = record { x_in = small_number page axes s x h k; y_in = small_number page axes s y h l }
@@ -92,37 +98,39 @@ shared s c n x y h k l m =
     let r = product_within s n (nat_abs s) (nat_abs x + nat_abs y) (omega arith) m in
     omega (arith, ints)
 
--- a chord's end has a place
-pub point_right : (page : Page) (f : Frame) (axes : Axes) (c : Curve) (k : ℕ) → AreAxes page f axes → IsCurve page f c
-    → nat_abs (axes.across.slope *ℤ (curve_point c k).x) ≤ 2 ^ 118
+-- a chord's end is small enough for a place on each axis: it is no farther from the centre than the first point's way
+-- in x and in y together
+reached_along : (n : AxisName) (page : Page) (f : Frame) (c : Curve) (centre d : ℤ) → IsCurve page f c → IsSmallIn page f centre
+    → nat_abs d ≤ nat_abs (c.from.x -ℤ c.centre.x) + nat_abs (c.from.y -ℤ c.centre.y)
+    → nat_abs ((line_in page f n).slope *ℤ (centre +ℤ d)) ≤ 2 ^ 118
+reached_along n page f c centre d i j k =
+    let s = (line_in page f n).slope in
+    let a = product_part s c.from.x c.centre.x (i.from.x_in.product_in n) (i.centre.x_in.product_in n) in
+    let b = product_part s c.from.y c.centre.y (i.from.y_in.product_in n) (i.centre.y_in.product_in n) in
+    shared s centre d (c.from.x -ℤ c.centre.x) (c.from.y -ℤ c.centre.y) (j.product_in n) a b k
+
+pub point_right : (page : Page) (f : Frame) (axes : Pair Axis) (c : Curve) (k : ℕ) → AreAxes page f axes → IsCurve page f c
+    → nat_abs (axes.x.slope *ℤ (curve_point c k).x) ≤ 2 ^ 118
 unfolding curve_point
 point_right page f axes c k h i =
     let t = turn_after c.chord c.sweep k in
-    let s = (across_line f.points f.scaling page.left).slope in
-    let a = product_part s c.from.x c.centre.x i.from.x_in.across_in i.centre.x_in.across_in in
-    let b = product_part s c.from.y c.centre.y i.from.y_in.across_in i.centre.y_in.across_in in
-    rw h.across_is (shared s c.centre.x (nearest (turned_x (vector c.centre c.from) t)) (c.from.x -ℤ c.centre.x)
-    (c.from.y -ℤ c.centre.y) i.centre.x_in.across_in a b (is_reached c.centre c.from t).x)
+    rw h.x_is (reached_along X page f c c.centre.x (nearest (turned_x (vector c.centre c.from) t)) i i.centre.x_in (is_reached c.centre c.from t).x)
 
-pub point_above : (page : Page) (f : Frame) (axes : Axes) (c : Curve) (k : ℕ) → AreAxes page f axes → IsCurve page f c
-    → nat_abs (axes.upward.slope *ℤ (curve_point c k).y) ≤ 2 ^ 118
+pub point_above : (page : Page) (f : Frame) (axes : Pair Axis) (c : Curve) (k : ℕ) → AreAxes page f axes → IsCurve page f c
+    → nat_abs (axes.y.slope *ℤ (curve_point c k).y) ≤ 2 ^ 118
 unfolding curve_point
 point_above page f axes c k h i =
     let t = turn_after c.chord c.sweep k in
-    let s = (upward_line f.points f.scaling page.below).slope in
-    let a = product_part s c.from.x c.centre.x i.from.x_in.upward_in i.centre.x_in.upward_in in
-    let b = product_part s c.from.y c.centre.y i.from.y_in.upward_in i.centre.y_in.upward_in in
-    rw h.upward_is (shared s c.centre.y (nearest (turned_y (vector c.centre c.from) t)) (c.from.x -ℤ c.centre.x)
-    (c.from.y -ℤ c.centre.y) i.centre.y_in.upward_in a b (is_reached c.centre c.from t).y)
+    rw h.y_is (reached_along Y page f c c.centre.y (nearest (turned_y (vector c.centre c.from) t)) i i.centre.y_in (is_reached c.centre c.from t).y)
 
 -- and so has the first point
-pub first_right : (page : Page) (f : Frame) (axes : Axes) (c : Curve) → AreAxes page f axes → IsCurve page f c
-    → nat_abs (axes.across.slope *ℤ c.from.x) ≤ 2 ^ 118
-first_right page f axes c h i = let k = i.from.x_in.across_in in rw h.across_is (omega arith)
+pub first_right : (page : Page) (f : Frame) (axes : Pair Axis) (c : Curve) → AreAxes page f axes → IsCurve page f c
+    → nat_abs (axes.x.slope *ℤ c.from.x) ≤ 2 ^ 118
+first_right page f axes c h i = let k = i.from.x_in.product_in X in rw h.x_is (omega arith)
 
-pub first_above : (page : Page) (f : Frame) (axes : Axes) (c : Curve) → AreAxes page f axes → IsCurve page f c
-    → nat_abs (axes.upward.slope *ℤ c.from.y) ≤ 2 ^ 118
-first_above page f axes c h i = let k = i.from.y_in.upward_in in rw h.upward_is (omega arith)
+pub first_above : (page : Page) (f : Frame) (axes : Pair Axis) (c : Curve) → AreAxes page f axes → IsCurve page f c
+    → nat_abs (axes.y.slope *ℤ c.from.y) ≤ 2 ^ 118
+first_above page f axes c h i = let k = i.from.y_in.product_in Y in rw h.y_is (omega arith)
 
 -- the places of a number of chords' ends
 abbrev pub places_from : Page → Frame → Curve → ℕ → ℕ → List Spot
@@ -192,7 +200,7 @@ placed : (page : Page) (f : Frame) (u : Spot) (end : Position) → end ≡ pen_a
 placed page f u end e = rw e refl
 
 -- the pen may move to an arc's end
-pub arc_sound : (w v : World) (axes : Axes) (draws : Bool) (places : List Spot) (u : Spot) (end : Position) → IsSound v.page axes v.state
+pub arc_sound : (w v : World) (axes : Pair Axis) (draws : Bool) (places : List Spot) (u : Spot) (end : Position) → IsSound v.page axes v.state
     → travelled w draws places ≡ Some v
     → end ≡ pen_at w.page w.state.frame u → IsInRange end.place
     → IsSound v.page axes (record v.state { place = end.place; coordinates = end.coordinates })

@@ -3,7 +3,8 @@
 use Rattle.std.specs.Prelude.{◌≡◌, ℕ, Bool, true, false, List, [], ◌∷◌, ◌++◌, length, set, nat_lt, if◌then◌else◌}
 use Rattle.std.specs.Prelude.{Option, Some, None, Result, Ok, Err, ⊤}
 use Rattle.std.specs.List.{list_all}
-use Rattle.plot_frame.specs.declared.scaling.Points.{Points}
+use Rattle.plot_frame.specs.declared.pair.Pair.{Pair}
+use Rattle.plot_frame.specs.declared.scaling.Ends.{Ends}
 use Rattle.plot_frame.specs.declared.scaling.Scaling.TheVariants.{Off}
 use Rattle.hpgl_text.specs.Shapes.{ItemShape}
 use Rattle.hpgl_plot.specs.declared.fault.PlotFault.{PlotFault}
@@ -39,7 +40,7 @@ use Rattle.hpgl_plot.specs.Strokes.{are_in_range, joined, path_strokes}
 abbrev pub framed : Page → State → Frame → State
 framed page s f = record s { frame = f; coordinates = back page f s.place }
 
-abbrev pub pointed : Page → State → Points → State
+abbrev pub pointed : Page → State → Pair Ends → State
 pointed page s p = framed page s (record s.frame { points = p })
 
 abbrev pub set_to : Page → State → Setting → State

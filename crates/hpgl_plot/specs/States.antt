@@ -9,10 +9,9 @@ use Rattle.exact.specs.declared.spot.Spot.{Spot}
 use Rattle.hpgl_plot.specs.declared.state.State.{State}
 use Rattle.plot_settings.specs.declared.setting.Setting.{Setting}
 use Rattle.plot_settings.specs.declared.setting.Setting.TheVariants.{Start, Defaults, PageCorners, FirstPoint}
-use Rattle.plot_settings.specs.declared.setting.Setting.TheVariants.{BothPoints, Scale, Rotate}
-use Rattle.plot_settings.specs.declared.setting.Setting.TheVariants.{PageWindow, CornerWindow, Pen, Width, WidthOfAll}
-use Rattle.plot_settings.specs.declared.setting.Setting.TheVariants.{PenColour, DefaultColours}
-use Rattle.plot_settings.specs.declared.setting.Setting.TheVariants.{Size, Direction}
+use Rattle.plot_settings.specs.declared.setting.Setting.TheVariants.{BothPoints, Scale, Rotate, PageWindow}
+use Rattle.plot_settings.specs.declared.setting.Setting.TheVariants.{CornerWindow, Pen, Width, WidthOfAll, PenColour}
+use Rattle.plot_settings.specs.declared.setting.Setting.TheVariants.{DefaultColours, Size, Direction}
 use Rattle.plot_settings.specs.Meanings.{Step, Set}
 use Rattle.plot_settings.specs.Settings.{pen, is_down, is_relative, widths, colours, size, direction}
 use Rattle.hpgl_plot.specs.Frames.{frame, window, back}

@@ -9,11 +9,11 @@ mod labels;
 mod moves;
 mod settings;
 
-use crate::axes::Axes;
 use crate::fault::PlotFault;
 use crate::place::{start_axes, start_of};
 use crate::state::State;
 use hpgl_text::{Body, Entries, Entry, Instruction, Item, Numbers, Part};
+use plot_frame::{Axis, Pair};
 use plot_page::{Page, Stroke};
 use plot_settings::{Moves, Request, request_of};
 use std::alloc::Global;
@@ -33,7 +33,7 @@ pub enum Stop {
 pub struct Plotter {
     pub page: Page,
     pub state: State,
-    pub axes: Axes,
+    pub axes: Pair<Axis>,
     pub strokes: Vec<Stroke>,
     pub is_full: bool,
     pub ghost sound: { IsSound page axes state } by { Prim.hlevel (IsScaling-prop, props) },

@@ -4,6 +4,7 @@ pub mod InBounds
 pub mod Theorems
 mod Turned
 mod Values
+mod SideBounds
 mod OnLine
 mod OfScaling
 mod Examples

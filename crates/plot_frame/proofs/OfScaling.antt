@@ -1,17 +1,20 @@
 -- For every kind of scaling X(u) lies on the line of its axis.
-use Rattle.std.proofs.Common.{Bool, true, false, if◌then◌else◌, ◌≡◌, ◌≢◌, ◌<◌, ◌^◌, ℕ, zero, suc, ◌*◌, refl, sym, ap, ap₂, ◌∙◌, arith, ℤ, pos, negsuc, neg_ℤ, ◌+ℤ◌, ◌-ℤ◌, ◌*ℤ◌, nat_abs, int_le}
+use Rattle.std.proofs.Common.{◌≡◌, ◌≢◌, ◌<◌, ◌^◌, ℕ, zero, suc, ◌*◌, refl, sym, ap, ap₂, ◌∙◌, arith, ℤ, pos, negsuc, neg_ℤ, ◌+ℤ◌, ◌-ℤ◌, ◌*ℤ◌, nat_abs}
 use Rattle.std.proofs.lemmas.Int.{ints}
 use Rattle.exact.proofs.Ring.{mul_assoc_z, mul_comm_z, mul_left_comm_z, mul-add_z, add-mul_z, mul-sub_z, sub-mul_z}
 use Rattle.exact.specs.Fraction.{Fraction, whole, quotient, plus, times}
 use Rattle.plot_frame.specs.declared.sides.Side.{Side}
-use Rattle.plot_frame.specs.declared.scaling.Points.{Points}
+use Rattle.plot_frame.specs.declared.pair.AxisName.{AxisName}
+use Rattle.plot_frame.specs.declared.pair.Pair.{Pair}
+use Rattle.plot_frame.specs.declared.scaling.Ends.{Ends}
 use Rattle.plot_frame.specs.declared.scaling.Scaling.{Scaling}
 use Rattle.plot_frame.specs.declared.scaling.Scaling.TheVariants.{Off, Anisotropic, Isotropic, PointFactor}
-use Rattle.plot_frame.specs.Bounds.{IsPoints, IsScaling}
-use Rattle.plot_frame.specs.Frame.{minus, sign, unscaled, stretched, evenly_scaled, lesser, ratio, unit_size, across_side, upward_side, across_at, upward_at}
-use Rattle.plot_frame.specs.Line.{line_of, line_of_stretched, line_of_even, unit_along, unscaled_line, across_line, upward_line}
+use Rattle.plot_frame.specs.Bounds.{IsEnds, IsRange, IsFittedRange, IsFactor, IsPoints, IsScaling}
+use Rattle.plot_frame.specs.Frame.{on_axis, minus, sign, unscaled, stretched, evenly_scaled, unit_size, side_of, axis_units}
+use Rattle.plot_frame.specs.Line.{axis_line, line_of, line_of_stretched, line_of_even, unit_along, unscaled_line}
 use Rattle.plot_frame.proofs.Values.{Is, is_whole, is_times_both, is_plus, is_times, is_minus, is_as, above_0, product_not_0, product_above}
 use Rattle.plot_frame.proofs.OnLine.{OnLine, rest}
+use Rattle.plot_frame.proofs.SideBounds.{both_on_axis, IsUnit, unit_in}
 
 times_16_not_0 : (a : ℤ) → a ≢ pos 0 → (pos 16 *ℤ a) ≢ pos 0
 times_16_not_0 a h = product_not_0 (pos 16) a (above_0 16 (omega arith)) h
@@ -210,47 +213,31 @@ even_value size s percent margin u h =
     under_is : (m w e : ℤ) → (pos 1 *ℤ (m *ℤ w)) *ℤ e ≡ (e *ℤ m) *ℤ w
     under_is m w e = ap (λ (z : ℤ). z *ℤ e) (one_by (m *ℤ w)) ∙ mul_comm_z (m *ℤ w) e ∙ sym (mul_assoc_z e m w)
 
-pub even_on_line : (size : Fraction) (s : Side) (percent : ℤ) (margin : ℕ) → size.over ≢ pos 0 → 0 < size.under → s.distance ≢ pos 0 → s.extent ≢ pos 0
+pub even_on_line : (size : Fraction) (s : Side) (percent : ℤ) (margin : ℕ) → IsUnit size → s.distance ≢ pos 0 → s.extent ≢ pos 0
     → OnLine (evenly_scaled size s percent) (line_of_even size s percent margin) margin
-even_on_line size s percent margin h k i j = record {
-  above = λ u v. even_above size.under u.under k v;
+even_on_line size s percent margin h i j = record {
+  above = λ u v. even_above size.under u.under h.under_above v;
   value = even_value size s percent margin;
   slope_not_0 = times_16_not_0 (pos (10 ^ 8) *ℤ unit_along size s)
       (product_not_0 (pos (10 ^ 8)) (unit_along size s) (above_0 (10 ^ 8) (omega arith))
       (product_not_0 (sign s.distance) (sign s.extent *ℤ size.over) (sign_not_0 s.distance i)
-      (product_not_0 (sign s.extent) size.over (sign_not_0 s.extent j) h)));
-  under_not_0 = product_not_0 (pos (10 ^ 8)) (pos size.under) (above_0 (10 ^ 8) (omega arith)) (above_0 size.under k);
+      (product_not_0 (sign s.extent) size.over (sign_not_0 s.extent j) h.over_not_0)));
+  under_not_0 = product_not_0 (pos (10 ^ 8)) (pos size.under) (above_0 (10 ^ 8) (omega arith)) (above_0 size.under h.under_above);
 }
   where
     even_above : (m w : ℕ) → 0 < m → 0 < w → 0 < 1 * (1 * ((10 ^ 8 * (1 * (1 * (m * 1)))) * (1 * (m * (w * (1 * 1))))))
     even_above m w h k = let p = product_above (10 ^ 8 * (1 * (1 * (m * 1)))) (1 * (m * (w * (1 * 1)))) (omega arith) (let q = product_above m (w * (1 * 1)) h (omega arith) in omega arith) in omega arith
 
--- the size of the unit is a number above 0
-pub size_above : (across upward : Side) → across.distance ≢ pos 0 → upward.distance ≢ pos 0 → across.extent ≢ pos 0 → upward.extent ≢ pos 0
-    → ((lesser (ratio across) (ratio upward)).over ≢ pos 0) × (0 < (lesser (ratio across) (ratio upward)).under)
-size_above across upward h i j k = chosen (int_le (pos (nat_abs across.distance) *ℤ pos (nat_abs upward.extent)) (pos (nat_abs upward.distance) *ℤ pos (nat_abs across.extent)))
-  where
-    sized : (d : ℤ) → d ≢ pos 0 → 0 < nat_abs d
-    sized (pos zero) h = absurd (h refl)
-    sized (pos (suc n)) h = omega arith
-    sized (negsuc n) h = omega arith
-
-    chosen : (b : Bool) → ((if b then ratio across else ratio upward).over ≢ pos 0) × (0 < (if b then ratio across else ratio upward).under)
-    chosen true = (above_0 (nat_abs across.distance) (sized across.distance h), sized across.extent j)
-    chosen false = (above_0 (nat_abs upward.distance) (sized upward.distance i), sized upward.extent k)
-
-pub across_on_line : (p : Points) (s : Scaling) (margin : ℕ) → IsPoints p → IsScaling s → OnLine (across_at p s) (across_line p s margin) margin
-across_on_line p Off margin h k = unscaled_on_line margin
-across_on_line p (Anisotropic r) margin h k = stretched_on_line p.x1 (p.x2 -ℤ p.x1) r.xmin (r.xmax -ℤ r.xmin) margin h.dx_not_0 k.x_apart
-across_on_line p (Isotropic f) margin h k =
-    let z = size_above (across_side p f.ranges) (upward_side p f.ranges) h.dx_not_0 h.dy_not_0 k.ranges.x_apart k.ranges.y_apart in
-    even_on_line (unit_size p f.ranges) (across_side p f.ranges) f.left margin z.0 z.1 h.dx_not_0 k.ranges.x_apart
-across_on_line p (PointFactor f) margin h k = stretched_on_line p.x1 f.xfactor f.xmin (pos (10 ^ 12)) margin k.xfactor_not_0 (above_0 (10 ^ 12) (omega arith))
-
-pub upward_on_line : (p : Points) (s : Scaling) (margin : ℕ) → IsPoints p → IsScaling s → OnLine (upward_at p s) (upward_line p s margin) margin
-upward_on_line p Off margin h k = unscaled_on_line margin
-upward_on_line p (Anisotropic r) margin h k = stretched_on_line p.y1 (p.y2 -ℤ p.y1) r.ymin (r.ymax -ℤ r.ymin) margin h.dy_not_0 k.y_apart
-upward_on_line p (Isotropic f) margin h k =
-    let z = size_above (across_side p f.ranges) (upward_side p f.ranges) h.dx_not_0 h.dy_not_0 k.ranges.x_apart k.ranges.y_apart in
-    even_on_line (unit_size p f.ranges) (upward_side p f.ranges) f.bottom margin z.0 z.1 h.dy_not_0 k.ranges.y_apart
-upward_on_line p (PointFactor f) margin h k = stretched_on_line p.y1 f.yfactor f.ymin (pos (10 ^ 12)) margin k.yfactor_not_0 (above_0 (10 ^ 12) (omega arith))
+-- X(u) on an axis
+pub on_line : (n : AxisName) (p : Pair Ends) (s : Scaling) (margin : ℕ) → IsPoints p → IsScaling s → OnLine (axis_units n p s) (axis_line n p s margin) margin
+on_line n p Off margin h k = unscaled_on_line margin
+on_line n p (Anisotropic r) margin h k =
+    let e = on_axis n p in
+    let g = on_axis n r in
+    stretched_on_line e.first (e.last -ℤ e.first) g.least (g.most -ℤ g.least) margin (both_on_axis IsEnds n p h).apart (both_on_axis IsRange n r k).apart
+on_line n p (Isotropic f) margin h k =
+    let g = on_axis n f in
+    even_on_line (unit_size p f) (side_of (on_axis n p) g.range) g.share margin (unit_in p f h k) (both_on_axis IsEnds n p h).apart (both_on_axis IsFittedRange n f k).range.apart
+on_line n p (PointFactor f) margin h k =
+    let g = on_axis n f in
+    stretched_on_line (on_axis n p).first g.factor g.least (pos (10 ^ 12)) margin (both_on_axis IsFactor n f k).factor_not_0 (above_0 (10 ^ 12) (omega arith))

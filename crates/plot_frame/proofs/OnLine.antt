@@ -109,6 +109,16 @@ solved_for at a margin l x u =
     let i : Is x (x.over *ℤ d) (d *ℤ pos x.under) = ap (λ (z : ℤ). x.over *ℤ z) refl ∙ sym (mul_assoc_z x.over d (pos x.under)) in
     solved_is at a margin l x (x.over *ℤ d) (pos x.under) u (above_0 x.under u) i
 
+-- both sides of X(u) = x, with and without their denominators, differ by the same
+same_difference : (t y r w p o d : ℤ) → (t *ℤ y +ℤ r *ℤ w) *ℤ p -ℤ (d *ℤ w) *ℤ o ≡ y *ℤ (t *ℤ p) -ℤ (o *ℤ d -ℤ r *ℤ p) *ℤ w
+same_difference t y r w p o d =
+    let a = add-mul_z (t *ℤ y) (r *ℤ w) p in
+    let b : (t *ℤ y) *ℤ p ≡ y *ℤ (t *ℤ p) = ap (λ (z : ℤ). z *ℤ p) (mul_comm_z t y) ∙ mul_assoc_z y t p in
+    let c = sub-mul_z (o *ℤ d) (r *ℤ p) w in
+    let e : (r *ℤ p) *ℤ w ≡ (r *ℤ w) *ℤ p = mul_assoc_z r p w ∙ ap (λ (z : ℤ). r *ℤ z) (mul_comm_z p w) ∙ sym (mul_assoc_z r w p) in
+    let f : (o *ℤ d) *ℤ w ≡ (d *ℤ w) *ℤ o = mul_assoc_z o d w ∙ mul_comm_z o (d *ℤ w) in
+    omega (arith, ints)
+
 -- X of the solution is x
 pub solution_is : (at : Fraction → Fraction) (a : Axis) (margin : ℕ) → OnLine at a margin → (x : Fraction) → 0 < x.under → IsSolution at x
 solution_is at a margin l x u =
@@ -121,18 +131,9 @@ solution_is at a margin l x u =
     let i = l.value v hv in
     let j = is_times_both (at v) (a.slope *ℤ v.over +ℤ r *ℤ w) (pos 16 *ℤ (a.under *ℤ w)) p i in
     let s : v.over *ℤ (a.slope *ℤ p) ≡ (x.over *ℤ d -ℤ r *ℤ p) *ℤ w = solved_for at a margin l x u in
-    let e : (a.slope *ℤ v.over +ℤ r *ℤ w) *ℤ p ≡ (d *ℤ w) *ℤ x.over = over_is a.slope v.over r w p x.over d s in
+    let e : (a.slope *ℤ v.over +ℤ r *ℤ w) *ℤ p ≡ (d *ℤ w) *ℤ x.over = (let m = same_difference a.slope v.over r w p x.over d in omega (arith, ints)) in
     let f : (pos 16 *ℤ (a.under *ℤ w)) *ℤ p ≡ (d *ℤ w) *ℤ p = ap (λ (z : ℤ). z *ℤ p) (sym (mul_assoc_z (pos 16) a.under w)) in
     is_off (at v) x.over p (d *ℤ w) (product_not_0 d w (product_not_0 (pos 16) a.under (above_0 16 (omega arith)) l.under_not_0) (above_0 v.under hv)) (is_as (at v) _ _ _ _ e f j)
-  where
-    over_is : (t y r w p o d : ℤ) → y *ℤ (t *ℤ p) ≡ (o *ℤ d -ℤ r *ℤ p) *ℤ w → (t *ℤ y +ℤ r *ℤ w) *ℤ p ≡ (d *ℤ w) *ℤ o
-    over_is t y r w p o d s =
-        let a = add-mul_z (t *ℤ y) (r *ℤ w) p in
-        let b : (t *ℤ y) *ℤ p ≡ y *ℤ (t *ℤ p) = ap (λ (z : ℤ). z *ℤ p) (mul_comm_z t y) ∙ mul_assoc_z y t p in
-        let c = sub-mul_z (o *ℤ d) (r *ℤ p) w in
-        let e : (r *ℤ p) *ℤ w ≡ (r *ℤ w) *ℤ p = mul_assoc_z r p w ∙ ap (λ (z : ℤ). r *ℤ z) (mul_comm_z p w) ∙ sym (mul_assoc_z r w p) in
-        let f : (o *ℤ d) *ℤ w ≡ (d *ℤ w) *ℤ o = mul_assoc_z o d w ∙ mul_comm_z o (d *ℤ w) in
-        omega (arith, ints)
 
 -- and no other number has X(u) = x
 pub only_solution_is : (at : Fraction → Fraction) (a : Axis) (margin : ℕ) → OnLine at a margin → (x : Fraction) → 0 < x.under → IsOnlySolution at x
@@ -143,14 +144,6 @@ only_solution_is at a margin l x h u k s =
     let r = rest a margin in
     let i = l.value u k in
     let e : x.over *ℤ (pos 16 *ℤ (a.under *ℤ w)) ≡ (a.slope *ℤ u.over +ℤ r *ℤ w) *ℤ p = is_one (at u) x.over (a.slope *ℤ u.over +ℤ r *ℤ w) p (pos 16 *ℤ (a.under *ℤ w)) (l.above u k) s i in
-    let f : x.over *ℤ (d *ℤ w) ≡ (a.slope *ℤ u.over +ℤ r *ℤ w) *ℤ p = ap (λ (z : ℤ). x.over *ℤ z) (mul_assoc_z (pos 16) a.under w) ∙ e in
-    same_value u (solved at x) (x.over *ℤ d -ℤ r *ℤ p) (a.slope *ℤ p) (product_not_0 a.slope p l.slope_not_0 (above_0 x.under h)) (under_is a.slope u.over r w p x.over d f) (solved_for at a margin l x h)
-  where
-    under_is : (t y r w p o d : ℤ) → o *ℤ (d *ℤ w) ≡ (t *ℤ y +ℤ r *ℤ w) *ℤ p → y *ℤ (t *ℤ p) ≡ (o *ℤ d -ℤ r *ℤ p) *ℤ w
-    under_is t y r w p o d s =
-        let a = add-mul_z (t *ℤ y) (r *ℤ w) p in
-        let b : (t *ℤ y) *ℤ p ≡ y *ℤ (t *ℤ p) = ap (λ (z : ℤ). z *ℤ p) (mul_comm_z t y) ∙ mul_assoc_z y t p in
-        let c = sub-mul_z (o *ℤ d) (r *ℤ p) w in
-        let e : (r *ℤ p) *ℤ w ≡ (r *ℤ w) *ℤ p = mul_assoc_z r p w ∙ ap (λ (z : ℤ). r *ℤ z) (mul_comm_z p w) ∙ sym (mul_assoc_z r w p) in
-        let f : (o *ℤ d) *ℤ w ≡ o *ℤ (d *ℤ w) = mul_assoc_z o d w in
-        omega (arith, ints)
+    let f : (d *ℤ w) *ℤ x.over ≡ (a.slope *ℤ u.over +ℤ r *ℤ w) *ℤ p = mul_comm_z (d *ℤ w) x.over ∙ ap (λ (z : ℤ). x.over *ℤ z) (mul_assoc_z (pos 16) a.under w) ∙ e in
+    let g : u.over *ℤ (a.slope *ℤ p) ≡ (x.over *ℤ d -ℤ r *ℤ p) *ℤ w = (let m = same_difference a.slope u.over r w p x.over d in omega (arith, ints)) in
+    same_value u (solved at x) (x.over *ℤ d -ℤ r *ℤ p) (a.slope *ℤ p) (product_not_0 a.slope p l.slope_not_0 (above_0 x.under h)) g (solved_for at a margin l x h)

@@ -2,11 +2,21 @@
 -- A coordinate is an exact number of millionths of the current unit; X(u) is an exact number of plotter units.
 use Rattle.std.specs.Prelude.{ℕ, zero, suc, ◌^◌, if◌then◌else◌, int_le, ℤ, pos, negsuc, nat_abs, ◌-ℤ◌, ◌*ℤ◌}
 use Rattle.exact.specs.Fraction.{Fraction, whole, quotient, plus, times, round}
-use Rattle.plot_frame.specs.declared.scaling.Points.{Points}
-use Rattle.plot_frame.specs.declared.scaling.Ranges.{Ranges}
+use Rattle.plot_frame.specs.declared.pair.AxisName.{AxisName}
+use Rattle.plot_frame.specs.declared.pair.AxisName.TheVariants.{X, Y}
+use Rattle.plot_frame.specs.declared.pair.Pair.{Pair}
+use Rattle.plot_frame.specs.declared.scaling.Ends.{Ends}
+use Rattle.plot_frame.specs.declared.scaling.Range.{Range}
+use Rattle.plot_frame.specs.declared.scaling.FittedRange.{FittedRange}
+use Rattle.plot_frame.specs.declared.scaling.Factor.{Factor}
 use Rattle.plot_frame.specs.declared.scaling.Scaling.{Scaling}
 use Rattle.plot_frame.specs.declared.scaling.Scaling.TheVariants.{Off, Anisotropic, Isotropic, PointFactor}
 use Rattle.plot_frame.specs.declared.sides.Side.{Side}
+
+-- the value for an axis
+abbrev pub on_axis : {A : Type 0} → AxisName → Pair A → A
+on_axis X p = p.x
+on_axis Y p = p.y
 
 -- f less g
 abbrev pub minus : Fraction → Fraction → Fraction
@@ -26,13 +36,9 @@ sign (pos zero) = pos 0
 sign (pos (suc n)) = pos 1
 sign (negsuc n) = negsuc 0
 
--- P1x, P2x - P1x, Xmin and Xmax - Xmin
-abbrev pub across_side : Points → Ranges → Side
-across_side p r = record { start = p.x1; distance = p.x2 -ℤ p.x1; least = r.xmin; extent = r.xmax -ℤ r.xmin }
-
--- P1y, P2y - P1y, Ymin and Ymax - Ymin
-abbrev pub upward_side : Points → Ranges → Side
-upward_side p r = record { start = p.y1; distance = p.y2 -ℤ p.y1; least = r.ymin; extent = r.ymax -ℤ r.ymin }
+-- on an axis: P1, P2 less P1, the least coordinate, and the greatest less the least
+abbrev pub side_of : Ends → Range → Side
+side_of e r = record { start = e.first; distance = e.last -ℤ e.first; least = r.least; extent = r.most -ℤ r.least }
 
 -- scaling off: coordinates are plotter units
 abbrev pub unscaled : Fraction → Fraction
@@ -46,8 +52,8 @@ stretched s u = plus (whole s.start) (times (minus u (whole s.least)) (quotient 
 abbrev pub ratio : Side → Fraction
 ratio s = quotient (pos (nat_abs s.distance)) (pos (nat_abs s.extent))
 
-abbrev pub unit_size : Points → Ranges → Fraction
-unit_size p r = lesser (ratio (across_side p r)) (ratio (upward_side p r))
+abbrev pub unit_size : Pair Ends → Pair FittedRange → Fraction
+unit_size p f = lesser (ratio (side_of p.x f.x.range)) (ratio (side_of p.y f.y.range))
 
 -- type 1, isotropic: a millionth takes size units, and the share percent / 10^8 of what is left over lies before the
 -- range
@@ -58,23 +64,17 @@ evenly_scaled size s percent u =
     let on = times (whole (sign s.extent)) (times size (minus u (whole s.least))) in
     plus (whole s.start) (times (whole (sign s.distance)) (plus before on))
 
--- type 2, point factor: P1 has the coordinate least, and a unit takes factor (in millionths) units
-abbrev pub by_factor : ℤ → ℤ → ℤ → Fraction → Fraction
-by_factor start least factor u = plus (whole start) (times (minus u (whole least)) (quotient factor (pos (10 ^ 12))))
+-- type 2, point factor: P1 has the least coordinate, and a unit takes factor (in millionths) units
+abbrev pub by_factor : Ends → Factor → Fraction → Fraction
+by_factor e f u = plus (whole e.first) (times (minus u (whole f.least)) (quotient f.factor (pos (10 ^ 12))))
 
--- X(u)
-abbrev pub across_at : Points → Scaling → Fraction → Fraction
-across_at p Off u = unscaled u
-across_at p (Anisotropic r) u = stretched (across_side p r) u
-across_at p (Isotropic f) u = evenly_scaled (unit_size p f.ranges) (across_side p f.ranges) f.left u
-across_at p (PointFactor f) u = by_factor p.x1 f.xmin f.xfactor u
-
--- Y(u)
-abbrev pub upward_at : Points → Scaling → Fraction → Fraction
-upward_at p Off u = unscaled u
-upward_at p (Anisotropic r) u = stretched (upward_side p r) u
-upward_at p (Isotropic f) u = evenly_scaled (unit_size p f.ranges) (upward_side p f.ranges) f.bottom u
-upward_at p (PointFactor f) u = by_factor p.y1 f.ymin f.yfactor u
+-- X(u) on an axis
+abbrev pub axis_units : AxisName → Pair Ends → Scaling → Fraction → Fraction
+axis_units n p Off u = unscaled u
+axis_units n p (Anisotropic r) u = stretched (side_of (on_axis n p) (on_axis n r)) u
+axis_units n p (Isotropic f) u =
+    evenly_scaled (unit_size p f) (side_of (on_axis n p) (on_axis n f).range) (on_axis n f).share u
+axis_units n p (PointFactor f) u = by_factor (on_axis n p) (on_axis n f) u
 
 -- the place in grains of a plotter coordinate, on a page whose edge lies margin units before 0
 abbrev pub grains : Fraction → ℕ → ℤ

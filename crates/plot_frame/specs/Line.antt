@@ -2,13 +2,15 @@
 use Rattle.std.specs.Prelude.{ℕ, suc, ◌^◌, ℤ, pos, negsuc, neg_ℤ, ◌+ℤ◌, ◌-ℤ◌, ◌*ℤ◌}
 use Rattle.exact.specs.Fraction.{Fraction, quotient, round}
 use Rattle.plot_frame.specs.declared.axis.Axis.{Axis}
-use Rattle.plot_frame.specs.declared.scaling.Points.{Points}
-use Rattle.plot_frame.specs.declared.scaling.Factors.{Factors}
+use Rattle.plot_frame.specs.declared.pair.AxisName.{AxisName}
+use Rattle.plot_frame.specs.declared.pair.Pair.{Pair}
+use Rattle.plot_frame.specs.declared.scaling.Ends.{Ends}
+use Rattle.plot_frame.specs.declared.scaling.Factor.{Factor}
 use Rattle.plot_frame.specs.declared.scaling.Scaling.{Scaling}
 use Rattle.plot_frame.specs.declared.scaling.Scaling.TheVariants.{Off, Anisotropic, Isotropic, PointFactor}
 use Rattle.plot_frame.specs.declared.sides.Side.{Side}
 use Rattle.plot_frame.specs.declared.sides.Ratio.{Ratio}
-use Rattle.plot_frame.specs.Frame.{across_side, upward_side, unit_size, sign}
+use Rattle.plot_frame.specs.Frame.{on_axis, side_of, unit_size, sign}
 
 -- the place of a coordinate, and the coordinate of a place
 abbrev pub place : Axis → ℤ → ℤ
@@ -56,20 +58,13 @@ line_of_even size s percent margin = record {
 }
 
 -- with a factor in millionths a distance of factor units has 10^12 millionths
-abbrev pub factor_side_across : Points → Factors → Side
-factor_side_across p f = record { start = p.x1; distance = f.xfactor; least = f.xmin; extent = pos (10 ^ 12) }
+abbrev pub factor_side : Ends → Factor → Side
+factor_side e f = record { start = e.first; distance = f.factor; least = f.least; extent = pos (10 ^ 12) }
 
-abbrev pub factor_side_upward : Points → Factors → Side
-factor_side_upward p f = record { start = p.y1; distance = f.yfactor; least = f.ymin; extent = pos (10 ^ 12) }
-
-abbrev pub across_line : Points → Scaling → ℕ → Axis
-across_line p Off margin = unscaled_line margin
-across_line p (Anisotropic r) margin = line_of_stretched (across_side p r) margin
-across_line p (Isotropic f) margin = line_of_even (unit_size p f.ranges) (across_side p f.ranges) f.left margin
-across_line p (PointFactor f) margin = line_of_stretched (factor_side_across p f) margin
-
-abbrev pub upward_line : Points → Scaling → ℕ → Axis
-upward_line p Off margin = unscaled_line margin
-upward_line p (Anisotropic r) margin = line_of_stretched (upward_side p r) margin
-upward_line p (Isotropic f) margin = line_of_even (unit_size p f.ranges) (upward_side p f.ranges) f.bottom margin
-upward_line p (PointFactor f) margin = line_of_stretched (factor_side_upward p f) margin
+-- the line of an axis
+abbrev pub axis_line : AxisName → Pair Ends → Scaling → ℕ → Axis
+axis_line n p Off margin = unscaled_line margin
+axis_line n p (Anisotropic r) margin = line_of_stretched (side_of (on_axis n p) (on_axis n r)) margin
+axis_line n p (Isotropic f) margin =
+    line_of_even (unit_size p f) (side_of (on_axis n p) (on_axis n f).range) (on_axis n f).share margin
+axis_line n p (PointFactor f) margin = line_of_stretched (factor_side (on_axis n p) (on_axis n f)) margin

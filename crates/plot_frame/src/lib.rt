@@ -5,9 +5,11 @@
 mod axis;
 pub mod laws;
 mod lines;
+mod pair;
 mod scaling;
 mod sides;
 
 pub use axis::Axis;
-pub use lines::{axis_across, axis_upward, unscaled_axis};
-pub use scaling::{Factors, Fitting, Points, Ranges, Scaling};
+pub use lines::{axis_of, unscaled_axis};
+pub use pair::{AxisName, Pair};
+pub use scaling::{Ends, Factor, FittedRange, Range, Scaling};

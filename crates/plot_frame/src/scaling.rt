@@ -1,48 +1,42 @@
-//! P1 and P2, and how SC scales the space between them.
+//! P1 and P2, and how SC scales the space between them, on one axis and on both.
+use crate::pair::Pair;
 
-/// P1 and P2 in plotter units, each within 33,554,432 units of 0, and apart from one another in x
-/// and in y by at most as many.
+/// P1 and P2 on an axis, in plotter units: P1 within 33,554,432 units of 0, and P2 apart from P1 by
+/// at most as many.
 #[derive(Clone, Copy, Debug)]
-pub struct Points {
-    pub x1: i64,
-    pub y1: i64,
-    pub x2: i64,
-    pub y2: i64,
+pub struct Ends {
+    pub first: i64,
+    pub last: i64,
 }
 
-/// The coordinates that P1 and P2 have, in millionths: within 2^43 of 0, and two of an axis differ.
+/// The coordinates of P1 and P2 on an axis, in millionths: within 2^43 of 0, and not the same.
 #[derive(Clone, Copy, Debug)]
-pub struct Ranges {
-    pub xmin: i64,
-    pub xmax: i64,
-    pub ymin: i64,
-    pub ymax: i64,
+pub struct Range {
+    pub least: i64,
+    pub most: i64,
 }
 
-/// Ranges whose units are to be as long in x as in y. Of the space that is left over in x `left`
-/// lies at P1's end, of that in y `bottom`, each in millionths of a percent, 0 to 100,000,000.
+/// A range whose units are to be as long as those of the other axis. Of the space that is left over
+/// `share`, in millionths of a percent, 0 to 100,000,000, lies at P1's end: the left, or the bottom.
 #[derive(Clone, Copy, Debug)]
-pub struct Fitting {
-    pub ranges: Ranges,
-    pub left: i64,
-    pub bottom: i64,
+pub struct FittedRange {
+    pub range: Range,
+    pub share: i64,
 }
 
-/// The coordinates that P1 has and the plotter units that one unit takes, all in millionths and
-/// within 2^43 of 0; a factor is not 0.
+/// The coordinate of P1 on an axis and the plotter units that one unit takes, both in millionths and
+/// within 2^43 of 0; the factor is not 0.
 #[derive(Clone, Copy, Debug)]
-pub struct Factors {
-    pub xmin: i64,
-    pub xfactor: i64,
-    pub ymin: i64,
-    pub yfactor: i64,
+pub struct Factor {
+    pub least: i64,
+    pub factor: i64,
 }
 
 /// What SC set: coordinates are plotter units, or user units of type 0, 1 or 2.
 #[derive(Clone, Copy, Debug)]
 pub enum Scaling {
     Off,
-    Anisotropic(Ranges),
-    Isotropic(Fitting),
-    PointFactor(Factors),
+    Anisotropic(Pair<Range>),
+    Isotropic(Pair<FittedRange>),
+    PointFactor(Pair<Factor>),
 }

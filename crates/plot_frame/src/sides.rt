@@ -1,86 +1,55 @@
-//! The sides of a frame: what P1, P2 and SC say on one axis.
+//! The side of a frame on an axis: what P1, P2 and SC say there.
 ghost use Rattle.std.specs.Prelude.{◌≡◌, ◌≢◌, ◌≤◌, ◌^◌, nat_abs, pos};
-ghost use Rattle.plot_frame.specs.Bounds.{IsPoints, IsRanges, IsFactors, IsSide, IsSize};
+ghost use Rattle.plot_frame.specs.Bounds.{IsEnds, IsRange, IsFactor, IsSide, IsSize};
 ghost use Rattle.plot_frame.specs.Frame as frame;
-ghost use Rattle.plot_frame.specs.Line.{seen, unit_along, factor_side_across, factor_side_upward};
+ghost use Rattle.plot_frame.specs.Line.{seen, unit_along, factor_side};
 
-use crate::scaling::{Factors, Points, Ranges};
+use crate::scaling::{Ends, Factor, Range};
 
 /// A side from P1, at plotter coordinate `start`, over `distance` plotter units to P2: there the
 /// coordinates, in millionths, go from `least` over `extent` on.
 #[derive(Clone, Copy, Debug)]
 pub struct Side {
-    pub start: i64,
-    pub distance: i64,
-    pub least: i64,
-    pub extent: i64,
+    pub start: i128,
+    pub distance: i128,
+    pub least: i128,
+    pub extent: i128,
 }
 
 /// A number above 0 as a fraction.
 #[derive(Clone, Copy, Debug)]
 pub struct Ratio {
-    pub over: u64,
-    pub under: u64,
+    pub over: u128,
+    pub under: u128,
 }
 
-/// The side across of a frame with ranges.
-pub fn across_side(points: &Points, ranges: &Ranges) -> Side
-    requires points { IsPoints points.now }
-    requires ranges { IsRanges ranges.now }
-    ensures value { result ≡ frame.across_side points.now ranges.now }
+/// The side with a range.
+pub fn side_of(ends: Ends, range: Range) -> Side
+    requires ends { IsEnds ends }
+    requires range { IsRange range }
+    ensures value { result ≡ frame.side_of ends range }
     ensures side { IsSide result }
     ensures short { nat_abs result.distance ≤ 2 ^ 25 }
 {
     Side {
-        start: points.x1,
-        distance: points.x2 - points.x1,
-        least: ranges.xmin,
-        extent: ranges.xmax - ranges.xmin,
+        start: i128::from(ends.first),
+        distance: i128::from(ends.last - ends.first),
+        least: i128::from(range.least),
+        extent: i128::from(range.most - range.least),
     }
 }
 
-/// The side upward of a frame with ranges.
-pub fn upward_side(points: &Points, ranges: &Ranges) -> Side
-    requires points { IsPoints points.now }
-    requires ranges { IsRanges ranges.now }
-    ensures value { result ≡ frame.upward_side points.now ranges.now }
-    ensures side { IsSide result }
-    ensures short { nat_abs result.distance ≤ 2 ^ 25 }
-{
-    Side {
-        start: points.y1,
-        distance: points.y2 - points.y1,
-        least: ranges.ymin,
-        extent: ranges.ymax - ranges.ymin,
-    }
-}
-
-/// The side across of a frame with factors: a factor is the way of a million units.
-pub fn across_factor_side(points: &Points, factors: &Factors) -> Side
-    requires points { IsPoints points.now }
-    requires factors { IsFactors factors.now }
-    ensures value { result ≡ factor_side_across points.now factors.now }
+/// The side with a factor, which is the way of a million units.
+pub fn factor_side(ends: Ends, factor: Factor) -> Side
+    requires ends { IsEnds ends }
+    requires factor { IsFactor factor }
+    ensures value { result ≡ factor_side ends factor }
     ensures side { IsSide result }
 {
     Side {
-        start: points.x1,
-        distance: factors.xfactor,
-        least: factors.xmin,
-        extent: 1_000_000_000_000,
-    }
-}
-
-/// The side upward of a frame with factors.
-pub fn upward_factor_side(points: &Points, factors: &Factors) -> Side
-    requires points { IsPoints points.now }
-    requires factors { IsFactors factors.now }
-    ensures value { result ≡ factor_side_upward points.now factors.now }
-    ensures side { IsSide result }
-{
-    Side {
-        start: points.y1,
-        distance: factors.yfactor,
-        least: factors.ymin,
+        start: i128::from(ends.first),
+        distance: i128::from(factor.factor),
+        least: i128::from(factor.least),
         extent: 1_000_000_000_000,
     }
 }
@@ -99,19 +68,17 @@ fn ratio_of(side: Side) -> Ratio
 }
 
 /// The unit's size where it is to be one on both sides: the smaller of both.
-pub fn unit_size(across: Side, upward: Side) -> Ratio
-    requires across { IsSide across }
-    requires upward { IsSide upward }
-    requires across_short { nat_abs across.distance ≤ 2 ^ 25 }
-    requires upward_short { nat_abs upward.distance ≤ 2 ^ 25 }
-    ensures value { seen result ≡ frame.lesser (frame.ratio across) (frame.ratio upward) }
+pub fn unit_size(wide: Side, high: Side) -> Ratio
+    requires wide { IsSide wide }
+    requires high { IsSide high }
+    requires wide_short { nat_abs wide.distance ≤ 2 ^ 25 }
+    requires high_short { nat_abs high.distance ≤ 2 ^ 25 }
+    ensures value { seen result ≡ frame.lesser (frame.ratio wide) (frame.ratio high) }
     ensures size { IsSize result }
 {
-    let wide = ratio_of(across);
-    let high = ratio_of(upward);
-    if u128::from(wide.over) * u128::from(high.under)
-        <= u128::from(high.over) * u128::from(wide.under)
-    {
+    let wide = ratio_of(wide);
+    let high = ratio_of(high);
+    if wide.over * high.under <= high.over * wide.under {
         wide
     } else {
         high
@@ -126,7 +93,7 @@ pub fn unit_on(size: Ratio, side: Side) -> i128
     ensures bound { nat_abs result ≤ 2 ^ 25 }
     ensures not_0 { result ≢ pos 0 }
 {
-    let over = i128::from(size.over);
+    let over = size.over as i128;
     if (side.distance < 0) == (side.extent < 0) {
         over
     } else {

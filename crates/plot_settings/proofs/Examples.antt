@@ -46,13 +46,13 @@ no_quarter : rotated (pos 45000000 ∷ []) ≡ None
 no_quarter = refl
 
 -- P2 is kept apart from P1 in x and in y
-points_apart : scaling_points (pos 1000000 ∷ (pos 2000000 ∷ (pos 1000000 ∷ (pos 5000000 ∷ [])))) ≡ Some (BothPoints (record { x1 = pos 1; y1 = pos 2; x2 = pos 2; y2 = pos 5 }))
+points_apart : scaling_points (pos 1000000 ∷ (pos 2000000 ∷ (pos 1000000 ∷ (pos 5000000 ∷ [])))) ≡ Some (BothPoints (record { x = record { first = pos 1; last = pos 2 }; y = record { first = pos 2; last = pos 5 } }))
 points_apart = refl
 
-points_apart_above : scaling_points (pos 1000000 ∷ (pos 5000000 ∷ (pos 9000000 ∷ (pos 5000000 ∷ [])))) ≡ Some (BothPoints (record { x1 = pos 1; y1 = pos 5; x2 = pos 9; y2 = pos 6 }))
+points_apart_above : scaling_points (pos 1000000 ∷ (pos 5000000 ∷ (pos 9000000 ∷ (pos 5000000 ∷ [])))) ≡ Some (BothPoints (record { x = record { first = pos 1; last = pos 9 }; y = record { first = pos 5; last = pos 6 } }))
 points_apart_above = refl
 
-one_point : scaling_points (pos 4000000 ∷ (pos 4000000 ∷ (pos 4000000 ∷ (pos 4000000 ∷ [])))) ≡ Some (BothPoints (record { x1 = pos 4; y1 = pos 4; x2 = pos 5; y2 = pos 5 }))
+one_point : scaling_points (pos 4000000 ∷ (pos 4000000 ∷ (pos 4000000 ∷ (pos 4000000 ∷ [])))) ≡ Some (BothPoints (record { x = record { first = pos 4; last = pos 5 }; y = record { first = pos 4; last = pos 5 } }))
 one_point = refl
 
 -- halves are rounded up, below 0 too
@@ -60,7 +60,7 @@ first_point_at_halves : scaling_points (neg_ℤ (pos 500000) ∷ (neg_ℤ (pos 1
 first_point_at_halves = refl
 
 -- and keeps its distance
-points_moved : moved_points (record { x1 = pos 1; y1 = pos 2; x2 = pos 11; y2 = pos 7 }) (pos 100) (neg_ℤ (pos 3)) ≡ record { x1 = pos 100; y1 = neg_ℤ (pos 3); x2 = pos 110; y2 = pos 2 }
+points_moved : moved_points (record { x = record { first = pos 1; last = pos 11 }; y = record { first = pos 2; last = pos 7 } }) (pos 100) (neg_ℤ (pos 3)) ≡ record { x = record { first = pos 100; last = pos 110 }; y = record { first = neg_ℤ (pos 3); last = pos 2 } }
 points_moved = refl
 
 -- a percent is in range as written

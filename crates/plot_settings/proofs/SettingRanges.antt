@@ -1,5 +1,5 @@
 -- What parameters set, by their count, and that it is in its range.
-use Rattle.std.proofs.Common.{◌⊎◌, inl, inr, ◌≡◌, ◌≢◌, ◌≤◌, ◌^◌, ◌-◌, refl, suc, Bool, true, false, ◌&&◌, ◌||◌, not, List, [], ◌∷◌, length, take, drop, get_or, All, Some, IfSome, ℤ, pos, ◌-ℤ◌, ◌+ℤ◌, ◌≤ℤ◌, int_le, nat_abs, arith}
+use Rattle.std.proofs.Common.{inl, inr, ◌≡◌, ◌≤◌, ◌^◌, ◌-◌, refl, suc, Bool, true, false, ◌&&◌, ◌||◌, not, List, [], ◌∷◌, length, take, drop, get_or, All, Some, IfSome, ℤ, pos, ◌≤ℤ◌, int_le, nat_abs, arith}
 use Rattle.std.proofs.lemmas.List.{take_all}
 use Rattle.std.proofs.lemmas.Int.{ints}
 use Rattle.std.proofs.lemmas.Bool.{and_parts, or_parts, cases_Bool, not-true}
@@ -8,15 +8,16 @@ use Rattle.std.proofs.lemmas.Bool.Decides.{not_from_Decides, Decides-int_eq}
 use Rattle.std.specs.Ordering.{int_eq}
 use Rattle.exact.specs.Fraction.{Fraction}
 use Rattle.exact.proofs.Rounding.{meets_lem}
-use Rattle.plot_frame.specs.declared.scaling.Ranges.{Ranges}
-use Rattle.plot_frame.specs.Bounds.{IsPoints, IsRanges}
+use Rattle.plot_frame.specs.declared.pair.Pair.{Pair}
+use Rattle.plot_frame.specs.declared.scaling.Range.{Range}
+use Rattle.plot_frame.specs.Bounds.{Both, IsEnds, IsRange, IsFactor, IsPoints}
 use Rattle.plot_settings.specs.declared.setting.Setting.{Setting}
 use Rattle.plot_settings.specs.declared.setting.Setting.TheVariants.{BothPoints, PenColour, Size, Direction}
 use Rattle.plot_settings.specs.Colours.{rgb, default_colour}
-use Rattle.plot_settings.specs.Parameters.{when, whole_of, apart, points_at, scaling_points, window_corners, rotation_set, rotated, isotropic, isotropic_by, scaling_of_type, ranges_of, user_scaling, anisotropic, point_factor, has_empty_range, is_percent, is_byte, given_colour, pen_colour, is_size, size_grains, character_size, nearest_axis, label_direction}
+use Rattle.plot_settings.specs.Parameters.{when, whole_of, ends_at, points_at, scaling_points, window_corners, rotation_set, rotated, isotropic, isotropic_by, scaling_of_type, ranges_of, user_scaling, anisotropic, factor_of, point_factor, has_empty_range, is_percent, is_byte, given_colour, pen_colour, is_size, size_grains, character_size, nearest_axis, label_direction}
 use Rattle.plot_settings.specs.Bounds.{IsSetting}
 
-pub isotropic_two : (r : Ranges) (ns : List ℤ) (l b : ℤ) → 2 ≤ length ns → l ≡ get_or ns 0 l → b ≡ get_or ns 1 b → isotropic_by r ns ≡ isotropic r l b
+pub isotropic_two : (r : Pair Range) (ns : List ℤ) (l b : ℤ) → 2 ≤ length ns → l ≡ get_or ns 0 l → b ≡ get_or ns 1 b → isotropic_by r ns ≡ isotropic r l b
 isotropic_two r [] l b h p q = absurd (omega arith)
 isotropic_two r (x ∷ []) l b h p q = absurd (omega arith)
 isotropic_two r (x ∷ (y ∷ ns)) l b h p q = rw (p, q) refl
@@ -57,18 +58,19 @@ abbrev pub IsParameter : ℤ → Type 0
 IsParameter z = nat_abs z ≤ 8388607999999
 
 -- the four numbers of an SC, IP or IW
-pub record AreParameters (r : Ranges) : Type 0 where
-  pub xmin : IsParameter r.xmin
-  pub xmax : IsParameter r.xmax
-  pub ymin : IsParameter r.ymin
-  pub ymax : IsParameter r.ymax
+pub record AreTwo (r : Range) : Type 0 where
+  pub least : IsParameter r.least
+  pub most : IsParameter r.most
 
-four_of : (a b c d : ℤ) (ns : List ℤ) → All IsParameter (a ∷ (b ∷ (c ∷ (d ∷ ns)))) → AreParameters (ranges_of a b c d)
+four_of : (a b c d : ℤ) (ns : List ℤ) → All IsParameter (a ∷ (b ∷ (c ∷ (d ∷ ns)))) → Both AreTwo (ranges_of a b c d)
 four_of a b c d ns h =
     let t = All-tail IsParameter a (b ∷ (c ∷ (d ∷ ns))) h in
     let u = All-tail IsParameter b (c ∷ (d ∷ ns)) t in
     let v = All-tail IsParameter c (d ∷ ns) u in
-    record { xmin = All-head IsParameter a (b ∷ (c ∷ (d ∷ ns))) h; xmax = All-head IsParameter b (c ∷ (d ∷ ns)) t; ymin = All-head IsParameter c (d ∷ ns) u; ymax = All-head IsParameter d ns v }
+    record {
+      x = record { least = All-head IsParameter a (b ∷ (c ∷ (d ∷ ns))) h; most = All-head IsParameter b (c ∷ (d ∷ ns)) t };
+      y = record { least = All-head IsParameter c (d ∷ ns) u; most = All-head IsParameter d ns v };
+    }
 
 whole_bound : (n : ℤ) → IsParameter n → nat_abs (whole_of n) ≤ 8388608
 whole_bound n h =
@@ -78,27 +80,19 @@ whole_bound n h =
     let b = m.most in
     omega (arith, ints)
 
-apart_is : (a b : ℤ) → ((apart a b ≡ b +ℤ pos 1) × (a ≡ b)) ⊎ ((apart a b ≡ b) × (a ≢ b))
-apart_is a b = elim (cases_Bool (int_eq a b)) [
-  | inl t ↦ inl (rw t refl, (Decides-int_eq a b).0 t)
-  | inr t ↦ inr (rw t refl, not_from_Decides _ (Decides-int_eq a b) t)
-]
-
-apart_by : (a b : ℤ) → nat_abs a ≤ 8388608 → nat_abs b ≤ 8388608 → (nat_abs (apart a b -ℤ a) ≤ 2 ^ 25) × ((apart a b -ℤ a) ≢ pos 0)
-apart_by a b h k = elim (apart_is a b) [
-  | inl e ↦ rw e.0 (let i = e.1 in (omega (arith, ints), λ z. omega (arith, ints)))
-  | inr e ↦ rw e.0 (let i = e.1 in (omega (arith, ints), λ z. i (omega (arith, ints))))
+ends_in : (a b : ℤ) → nat_abs a ≤ 8388608 → nat_abs b ≤ 8388608 → IsEnds (ends_at a b)
+ends_in a b h k = elim (cases_Bool (int_eq a b)) [
+  | inl t ↦ rw t (let i = (Decides-int_eq a b).0 t in
+      record { first_in = omega arith; distance_in = omega (arith, ints); apart = λ z. omega (arith, ints) })
+  | inr t ↦ rw t (let i = not_from_Decides _ (Decides-int_eq a b) t in
+      record { first_in = omega arith; distance_in = omega (arith, ints); apart = λ z. i (omega (arith, ints)) })
 ]
 
 points_sound : (a b c d : ℤ) → IsParameter a → IsParameter b → IsParameter c → IsParameter d → IsPoints (points_at (whole_of a) (whole_of b) (whole_of c) (whole_of d))
-points_sound a b c d h i j k =
-    let wa = whole_bound a h in
-    let wb = whole_bound b i in
-    let wc = whole_bound c j in
-    let wd = whole_bound d k in
-    let x = apart_by (whole_of a) (whole_of c) wa wc in
-    let y = apart_by (whole_of b) (whole_of d) wb wd in
-    record { x_in = omega arith; y_in = omega arith; dx_in = x.0; dy_in = y.0; dx_not_0 = x.1; dy_not_0 = y.1 }
+points_sound a b c d h i j k = record {
+  x = ends_in (whole_of a) (whole_of c) (whole_bound a h) (whole_bound c j);
+  y = ends_in (whole_of b) (whole_of d) (whole_bound b i) (whole_bound d k);
+}
 
 pub points_setting_sound : (ns : List ℤ) → All IsParameter ns → IfSome (scaling_points ns) IsSetting
 points_setting_sound [] h = tt
@@ -108,7 +102,7 @@ points_setting_sound (x ∷ (y ∷ [])) h =
     let wy = whole_bound y (All-head IsParameter y [] (All-tail IsParameter x (y ∷ []) h)) in
     (omega arith, omega arith)
 points_setting_sound (x ∷ (y ∷ (z ∷ []))) h = tt
-points_setting_sound (a ∷ (b ∷ (c ∷ (d ∷ ns)))) h = let p = four_of a b c d ns h in points_sound a b c d p.xmin p.xmax p.ymin p.ymax
+points_setting_sound (a ∷ (b ∷ (c ∷ (d ∷ ns)))) h = let p = four_of a b c d ns h in points_sound a b c d p.x.least p.x.most p.y.least p.y.most
 
 pub window_setting_sound : (ns : List ℤ) → All IsParameter ns → IfSome (window_corners ns) IsSetting
 window_setting_sound [] h = tt
@@ -117,10 +111,10 @@ window_setting_sound (x ∷ (y ∷ [])) h = tt
 window_setting_sound (x ∷ (y ∷ (z ∷ []))) h = tt
 window_setting_sound (a ∷ (b ∷ (c ∷ (d ∷ ns)))) h =
     let p = four_of a b c d ns h in
-    let ha = p.xmin in
-    let hb = p.xmax in
-    let hc = p.ymin in
-    let hd = p.ymax in
+    let ha = p.x.least in
+    let hb = p.x.most in
+    let hc = p.y.least in
+    let hd = p.y.most in
     (omega arith, omega arith, omega arith, omega arith)
 
 rotation_sound : (n : ℤ) → IfSome (rotation_set n) IsSetting
@@ -162,19 +156,19 @@ colour_setting_sound (p ∷ (r ∷ [])) = tt
 colour_setting_sound (p ∷ (r ∷ (g ∷ []))) = tt
 colour_setting_sound (p ∷ (r ∷ (g ∷ (b ∷ ns)))) = colour_sound (whole_of p) (whole_of r) (whole_of g) (whole_of b)
 
-spread : (a b : ℤ) → int_eq a b ≡ false → (b -ℤ a) ≢ pos 0
-spread a b h = let n = not_from_Decides _ (Decides-int_eq a b) h in λ z. n (omega (arith, ints))
+range_sound : (r : Range) → AreTwo r → int_eq r.least r.most ≡ false → IsRange r
+range_sound r h e =
+    let n = not_from_Decides _ (Decides-int_eq r.least r.most) e in
+    let a = h.least in
+    let b = h.most in
+    record { least_in = omega arith; most_in = omega arith; apart = λ z. n (omega (arith, ints)) }
 
-ranges_sound : (r : Ranges) → AreParameters r → has_empty_range r ≡ false → IsRanges r
+ranges_sound : (r : Pair Range) → Both AreTwo r → has_empty_range r ≡ false → Both IsRange r
 ranges_sound r h e =
-    let n = or_parts (int_eq r.xmin r.xmax) (int_eq r.ymin r.ymax) e in
-    let a = h.xmin in
-    let b = h.xmax in
-    let c = h.ymin in
-    let d = h.ymax in
-    record { xmin_in = omega arith; xmax_in = omega arith; ymin_in = omega arith; ymax_in = omega arith; x_apart = spread r.xmin r.xmax n.0; y_apart = spread r.ymin r.ymax n.1 }
+    let n = or_parts (int_eq r.x.least r.x.most) (int_eq r.y.least r.y.most) e in
+    record { x = range_sound r.x h.x n.0; y = range_sound r.y h.y n.1 }
 
-anisotropic_sound : (r : Ranges) → AreParameters r → IfSome (anisotropic r) IsSetting
+anisotropic_sound : (r : Pair Range) → Both AreTwo r → IfSome (anisotropic r) IsSetting
 anisotropic_sound r h = elim (cases_Bool (has_empty_range r)) [
   | inl t ↦ rw t tt
   | inr t ↦ rw t (ranges_sound r h t)
@@ -185,7 +179,7 @@ percent_is n h =
     let p = and_parts (int_le (pos 0) n) (int_le n (pos 100000000)) h in
     (omega (arith, ints), omega (arith, ints))
 
-isotropic_sound : (r : Ranges) (l b : ℤ) → AreParameters r → IfSome (isotropic r l b) IsSetting
+isotropic_sound : (r : Pair Range) (l b : ℤ) → Both AreTwo r → IfSome (isotropic r l b) IsSetting
 isotropic_sound r l b h = elim (cases_Bool (not (has_empty_range r) && (is_percent l && is_percent b))) [
   | inr t ↦ rw t tt
   | inl t ↦ rw t (let n = and_parts (not (has_empty_range r)) _ t in
@@ -193,28 +187,32 @@ isotropic_sound r l b h = elim (cases_Bool (not (has_empty_range r) && (is_perce
       let p = percent_is l m.0 in
       let q = percent_is b m.1 in
       let e = not-true (has_empty_range r) n.0 in
-      record { ranges = ranges_sound r h e; left_from = p.0; left_in = p.1; bottom_from = q.0; bottom_in = q.1 })
+      let g = ranges_sound r h e in
+      record {
+        x = record { range = g.x; share_from = p.0; share_in = p.1 };
+        y = record { range = g.y; share_from = q.0; share_in = q.1 };
+      })
 ]
 
-isotropic_by_sound : (r : Ranges) (ns : List ℤ) → AreParameters r → IfSome (isotropic_by r ns) IsSetting
+isotropic_by_sound : (r : Pair Range) (ns : List ℤ) → Both AreTwo r → IfSome (isotropic_by r ns) IsSetting
 isotropic_by_sound r [] h = isotropic_sound r (pos 50000000) (pos 50000000) h
 isotropic_by_sound r (l ∷ []) h = isotropic_sound r l (pos 50000000) h
 isotropic_by_sound r (l ∷ (b ∷ ns)) h = isotropic_sound r l b h
 
-factor_sound : (r : Ranges) → AreParameters r → IfSome (point_factor r) IsSetting
-factor_sound r h = elim (cases_Bool (int_eq r.xmax (pos 0) || int_eq r.ymax (pos 0))) [
+factor_in : (r : Range) → AreTwo r → int_eq r.most (pos 0) ≡ false → IsFactor (factor_of r)
+factor_in r h e =
+    let a = h.least in
+    let b = h.most in
+    record { least_in = omega arith; factor_in = omega arith; factor_not_0 = not_from_Decides _ (Decides-int_eq r.most (pos 0)) e }
+
+factor_sound : (r : Pair Range) → Both AreTwo r → IfSome (point_factor r) IsSetting
+factor_sound r h = elim (cases_Bool (int_eq r.x.most (pos 0) || int_eq r.y.most (pos 0))) [
   | inl t ↦ rw t tt
-  | inr t ↦ rw t (let n = or_parts (int_eq r.xmax (pos 0)) (int_eq r.ymax (pos 0)) t in
-      let a = h.xmin in
-      let b = h.xmax in
-      let c = h.ymin in
-      let d = h.ymax in
-      let x = not_from_Decides _ (Decides-int_eq r.xmax (pos 0)) n.0 in
-      let y = not_from_Decides _ (Decides-int_eq r.ymax (pos 0)) n.1 in
-      record { xmin_in = omega arith; xfactor_in = omega arith; ymin_in = omega arith; yfactor_in = omega arith; xfactor_not_0 = x; yfactor_not_0 = y })
+  | inr t ↦ rw t (let n = or_parts (int_eq r.x.most (pos 0)) (int_eq r.y.most (pos 0)) t in
+      record { x = factor_in r.x h.x n.0; y = factor_in r.y h.y n.1 })
 ]
 
-typed_sound : (k : ℤ) (r : Ranges) (ns : List ℤ) → AreParameters r → IfSome (scaling_of_type k r ns) IsSetting
+typed_sound : (k : ℤ) (r : Pair Range) (ns : List ℤ) → Both AreTwo r → IfSome (scaling_of_type k r ns) IsSetting
 typed_sound k r ns h = elim (cases_Bool (int_eq k (pos 0))) [
   | inl t ↦ rw t (anisotropic_sound r h)
   | inr t ↦ rw t (elim (cases_Bool (int_eq k (pos 1))) [

@@ -7,8 +7,10 @@ use Rattle.std.specs.Prelude.{None, if◌then◌else◌, negsuc, nat_le, int_lt}
 use Rattle.std.specs.Ordering.{int_eq}
 use Rattle.exact.specs.Fraction.{round}
 use Rattle.exact.specs.Ranges.{is_between}
-use Rattle.plot_frame.specs.declared.scaling.Points.{Points}
-use Rattle.plot_frame.specs.declared.scaling.Ranges.{Ranges}
+use Rattle.plot_frame.specs.declared.pair.Pair.{Pair}
+use Rattle.plot_frame.specs.declared.scaling.Ends.{Ends}
+use Rattle.plot_frame.specs.declared.scaling.Range.{Range}
+use Rattle.plot_frame.specs.declared.scaling.Factor.{Factor}
 use Rattle.plot_frame.specs.declared.scaling.Scaling.TheVariants.{Off, Anisotropic, Isotropic, PointFactor}
 use Rattle.plot_settings.specs.declared.setting.Rotation.TheVariants as rotation
 use Rattle.plot_settings.specs.declared.setting.Setting.{Setting}
@@ -78,13 +80,12 @@ abbrev pub rotated : List ℤ → Option Setting
 rotated [] = Some (Rotate rotation.None)
 rotated (n ∷ ns) = rotation_set (whole_of n)
 
--- a number apart from another: where both are the same, one more, which is our choice
-abbrev pub apart : ℤ → ℤ → ℤ
-apart a b = if int_eq a b then b +ℤ pos 1 else b
+-- P1 and P2 on an axis, kept apart: where both are the same, P2 gets one more, which is our choice
+abbrev pub ends_at : ℤ → ℤ → Ends
+ends_at a b = record { first = a; last = if int_eq a b then b +ℤ pos 1 else b }
 
--- P1 and P2, which are kept apart in x and in y
-abbrev pub points_at : ℤ → ℤ → ℤ → ℤ → Points
-points_at ax ay bx by = record { x1 = ax; y1 = ay; x2 = apart ax bx; y2 = apart ay by }
+abbrev pub points_at : ℤ → ℤ → ℤ → ℤ → Pair Ends
+points_at ax ay bx by = record { x = ends_at ax bx; y = ends_at ay by }
 
 -- IP (Input P1 and P2): none, only P1, or both
 abbrev pub scaling_points : List ℤ → Option Setting
@@ -95,8 +96,11 @@ scaling_points (a ∷ (b ∷ (c ∷ (d ∷ ns)))) =
 scaling_points _ = None
 
 -- P1 elsewhere, and P2 as far from it as before
-abbrev pub moved_points : Points → ℤ → ℤ → Points
-moved_points p x y = record { x1 = x; y1 = y; x2 = x +ℤ (p.x2 -ℤ p.x1); y2 = y +ℤ (p.y2 -ℤ p.y1) }
+abbrev pub moved_ends : Ends → ℤ → Ends
+moved_ends e first = record { first = first; last = first +ℤ (e.last -ℤ e.first) }
+
+abbrev pub moved_points : Pair Ends → ℤ → ℤ → Pair Ends
+moved_points p x y = record { x = moved_ends p.x x; y = moved_ends p.y y }
 
 -- IW (Input Window): two corners, or the page
 abbrev pub window_corners : List ℤ → Option Setting
@@ -105,15 +109,15 @@ window_corners (a ∷ (b ∷ (c ∷ (d ∷ ns)))) = Some (CornerWindow (record {
 window_corners _ = None
 
 -- the four numbers of an SC
-abbrev pub ranges_of : ℤ → ℤ → ℤ → ℤ → Ranges
-ranges_of a b c d = record { xmin = a; xmax = b; ymin = c; ymax = d }
+abbrev pub ranges_of : ℤ → ℤ → ℤ → ℤ → Pair Range
+ranges_of a b c d = record { x = record { least = a; most = b }; y = record { least = c; most = d } }
 
 -- the least coordinate is the greatest, in x or in y
-abbrev pub has_empty_range : Ranges → Bool
-has_empty_range r = int_eq r.xmin r.xmax || int_eq r.ymin r.ymax
+abbrev pub has_empty_range : Pair Range → Bool
+has_empty_range r = int_eq r.x.least r.x.most || int_eq r.y.least r.y.most
 
 -- SC (Scale) of type 0, anisotropic: from the least to the greatest coordinate is from P1 to P2
-abbrev pub anisotropic : Ranges → Option Setting
+abbrev pub anisotropic : Pair Range → Option Setting
 anisotropic r = when (not (has_empty_range r)) (Scale (Anisotropic r))
 
 -- a share of 0 to 100 percent, as written
@@ -121,24 +125,27 @@ abbrev pub is_percent : ℤ → Bool
 is_percent n = is_between (pos 0) (pos 100000000) n
 
 -- type 1, isotropic: both axes have one unit; of what is left over these percents are on the left and at the bottom
-abbrev pub isotropic : Ranges → ℤ → ℤ → Option Setting
-isotropic r left bottom =
-    when (not (has_empty_range r) && (is_percent left && is_percent bottom))
-    (Scale (Isotropic (record { ranges = r; left = left; bottom = bottom })))
+abbrev pub isotropic : Pair Range → ℤ → ℤ → Option Setting
+isotropic r left below =
+    when (not (has_empty_range r) && (is_percent left && is_percent below))
+    (Scale (Isotropic (record { x = record { range = r.x; share = left }; y = record { range = r.y; share = below } })))
 
 -- each percent is 50 where it is absent
-abbrev pub isotropic_by : Ranges → List ℤ → Option Setting
+abbrev pub isotropic_by : Pair Range → List ℤ → Option Setting
 isotropic_by r [] = isotropic r (pos 50000000) (pos 50000000)
 isotropic_by r (l ∷ []) = isotropic r l (pos 50000000)
 isotropic_by r (l ∷ (b ∷ ns)) = isotropic r l b
 
 -- type 2, point factor: the second number and the fourth are how many plotter units a unit has
-abbrev pub point_factor : Ranges → Option Setting
-point_factor r =
-    when (not (int_eq r.xmax (pos 0) || int_eq r.ymax (pos 0)))
-    (Scale (PointFactor (record { xmin = r.xmin; xfactor = r.xmax; ymin = r.ymin; yfactor = r.ymax })))
+abbrev pub factor_of : Range → Factor
+factor_of r = record { least = r.least; factor = r.most }
 
-abbrev pub scaling_of_type : ℤ → Ranges → List ℤ → Option Setting
+abbrev pub point_factor : Pair Range → Option Setting
+point_factor r =
+    when (not (int_eq r.x.most (pos 0) || int_eq r.y.most (pos 0)))
+    (Scale (PointFactor (record { x = factor_of r.x; y = factor_of r.y })))
+
+abbrev pub scaling_of_type : ℤ → Pair Range → List ℤ → Option Setting
 scaling_of_type kind r ns =
     if int_eq kind (pos 0) then anisotropic r else
     if int_eq kind (pos 1) then isotropic_by r ns else

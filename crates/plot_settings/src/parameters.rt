@@ -10,7 +10,7 @@ use crate::palette::{FIRST_WIDTH, default_colour};
 use crate::setting::{Corners, Rotation, Setting};
 use exact::rounded;
 use hpgl_text::Number;
-use plot_frame::{Factors, Fitting, Points, Ranges, Scaling};
+use plot_frame::{Ends, Factor, FittedRange, Pair, Range, Scaling};
 use plot_page::Colour;
 
 // Half of all that is left over, in millionths of a percent.
@@ -201,25 +201,30 @@ pub fn points_setting(numbers: &[Number]) -> Option<Setting>
     }
 }
 
-fn points_at(ax: i64, ay: i64, bx: i64, by: i64) -> Points
+fn points_at(ax: i64, ay: i64, bx: i64, by: i64) -> Pair<Ends>
     requires bx_in { nat_abs bx ≤ 2 ^ 36 }
     requires by_in { nat_abs by ≤ 2 ^ 36 }
     ensures { result ≡ parameters.points_at ax ay bx by }
 {
-    Points {
-        x1: ax,
-        y1: ay,
-        x2: apart(ax, bx),
-        y2: apart(ay, by),
+    Pair {
+        x: ends_at(ax, bx),
+        y: ends_at(ay, by),
     }
 }
 
-// A number apart from the first: the second, or one more where both are the same.
-fn apart(a: i64, b: i64) -> i64
-    requires { nat_abs b ≤ 2 ^ 36 }
-    ensures { result ≡ parameters.apart a b }
+// P1 and P2 on an axis: where both are the same, P2 gets one plotter unit more.
+fn ends_at(first: i64, last: i64) -> Ends
+    requires { nat_abs last ≤ 2 ^ 36 }
+    ensures { result ≡ parameters.ends_at first last }
 {
-    if a == b { b + 1 } else { b }
+    if first == last {
+        Ends {
+            first,
+            last: last + 1,
+        }
+    } else {
+        Ends { first, last }
+    }
 }
 
 /// IW x, y, x, y (Input Window): two opposite corners, in millionths of the current unit, or the
@@ -260,7 +265,7 @@ pub fn scaling_setting(numbers: &[Number]) -> Option<Setting>
     }
 }
 
-fn scaling_of_type(kind: i64, ranges: Ranges, percents: &[Number]) -> Option<Setting>
+fn scaling_of_type(kind: i64, ranges: Pair<Range>, percents: &[Number]) -> Option<Setting>
     ensures { result ≡ parameters.scaling_of_type kind ranges percents.now }
 {
     match kind {
@@ -271,19 +276,26 @@ fn scaling_of_type(kind: i64, ranges: Ranges, percents: &[Number]) -> Option<Set
     }
 }
 
-fn ranges_of(xmin: Number, xmax: Number, ymin: Number, ymax: Number) -> Ranges
-    ensures { result ≡ record { xmin = xmin; xmax = xmax; ymin = ymin; ymax = ymax } }
+fn ranges_of(xmin: Number, xmax: Number, ymin: Number, ymax: Number) -> Pair<Range>
+    ensures { result ≡ parameters.ranges_of xmin xmax ymin ymax }
 {
-    Ranges {
-        xmin: xmin.millionths(),
-        xmax: xmax.millionths(),
-        ymin: ymin.millionths(),
-        ymax: ymax.millionths(),
+    Pair {
+        x: range_of(xmin, xmax),
+        y: range_of(ymin, ymax),
+    }
+}
+
+fn range_of(least: Number, most: Number) -> Range
+    ensures { result ≡ record { least = least; most = most } }
+{
+    Range {
+        least: least.millionths(),
+        most: most.millionths(),
     }
 }
 
 // Type 0.
-fn anisotropic(ranges: Ranges) -> Option<Setting>
+fn anisotropic(ranges: Pair<Range>) -> Option<Setting>
     ensures { result ≡ parameters.anisotropic ranges }
 {
     if has_empty_range(ranges) {
@@ -294,14 +306,14 @@ fn anisotropic(ranges: Ranges) -> Option<Setting>
 }
 
 // Whether the least coordinate is the greatest, in x or in y.
-fn has_empty_range(ranges: Ranges) -> bool
+fn has_empty_range(ranges: Pair<Range>) -> bool
     ensures { result ≡ parameters.has_empty_range ranges }
 {
-    ranges.xmin == ranges.xmax || ranges.ymin == ranges.ymax
+    ranges.x.least == ranges.x.most || ranges.y.least == ranges.y.most
 }
 
 // Type 1, with the percents that follow.
-fn isotropic(ranges: Ranges, percents: &[Number]) -> Option<Setting>
+fn isotropic(ranges: Pair<Range>, percents: &[Number]) -> Option<Setting>
     ensures { result ≡ parameters.isotropic_by ranges percents.now }
 {
     match percents {
@@ -311,14 +323,19 @@ fn isotropic(ranges: Ranges, percents: &[Number]) -> Option<Setting>
     }
 }
 
-fn fitted(ranges: Ranges, left: i64, bottom: i64) -> Option<Setting>
+fn fitted(ranges: Pair<Range>, left: i64, bottom: i64) -> Option<Setting>
     ensures { result ≡ parameters.isotropic ranges left bottom }
 {
     if !has_empty_range(ranges) && is_percent(left) && is_percent(bottom) {
-        Some(Setting::Scale(Scaling::Isotropic(Fitting {
-            ranges,
-            left,
-            bottom,
+        Some(Setting::Scale(Scaling::Isotropic(Pair {
+            x: FittedRange {
+                range: ranges.x,
+                share: left,
+            },
+            y: FittedRange {
+                range: ranges.y,
+                share: bottom,
+            },
         })))
     } else {
         None
@@ -332,17 +349,24 @@ fn is_percent(millionths: i64) -> bool
 }
 
 // Type 2, which has factors where the others have the greatest coordinates.
-fn point_factor(numbers: Ranges) -> Option<Setting>
+fn point_factor(numbers: Pair<Range>) -> Option<Setting>
     ensures { result ≡ parameters.point_factor numbers }
 {
-    if numbers.xmax == 0 || numbers.ymax == 0 {
+    if numbers.x.most == 0 || numbers.y.most == 0 {
         None
     } else {
-        Some(Setting::Scale(Scaling::PointFactor(Factors {
-            xmin: numbers.xmin,
-            xfactor: numbers.xmax,
-            ymin: numbers.ymin,
-            yfactor: numbers.ymax,
+        Some(Setting::Scale(Scaling::PointFactor(Pair {
+            x: factor_of(numbers.x),
+            y: factor_of(numbers.y),
         })))
+    }
+}
+
+fn factor_of(numbers: Range) -> Factor
+    ensures { result ≡ parameters.factor_of numbers }
+{
+    Factor {
+        least: numbers.least,
+        factor: numbers.most,
     }
 }

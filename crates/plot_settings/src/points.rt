@@ -1,36 +1,35 @@
 //! P1 and P2.
-ghost use Rattle.std.specs.Prelude.{◌≡◌, ◌≤◌, ◌^◌, ◌+ℤ◌, ◌-ℤ◌, nat_abs};
-ghost use Rattle.plot_frame.specs.Bounds.{IsPoints};
+ghost use Rattle.std.specs.Prelude.{◌≡◌};
+ghost use Rattle.plot_frame.specs.Bounds.{IsPoints, IsEnds};
 ghost use Rattle.plot_settings.specs.Bounds.{IsPlotterUnit};
-ghost use Rattle.plot_settings.specs.Parameters.{moved_points};
+ghost use Rattle.plot_settings.specs.Parameters.{moved_points, moved_ends};
 
-use plot_frame::Points;
+use plot_frame::{Ends, Pair};
 
 /// P1 at another place, which an IP (Input P1 and P2) with two numbers names in plotter units, and
 /// P2 as far from it as before.
-pub fn points_moved_to(points: Points, x: i64, y: i64) -> Points
+pub fn points_moved_to(points: Pair<Ends>, x: i64, y: i64) -> Pair<Ends>
     requires points { IsPoints points }
     requires x_in { IsPlotterUnit x }
     requires y_in { IsPlotterUnit y }
     ensures value { result ≡ moved_points points x y }
     ensures sound { IsPoints result }
 {
-    let x2 = as_far_from(x, points.x1, points.x2);
-    let y2 = as_far_from(y, points.y1, points.y2);
-    Points {
-        x1: x,
-        y1: y,
-        x2,
-        y2,
+    Pair {
+        x: ends_moved_to(points.x, x),
+        y: ends_moved_to(points.y, y),
     }
 }
 
-// What is as far from a coordinate as `to` is from `from`.
-fn as_far_from(coordinate: i64, from: i64, to: i64) -> i64
-    requires coordinate_in { IsPlotterUnit coordinate }
-    requires from_in { nat_abs from ≤ 2 ^ 25 }
-    requires way_in { nat_abs (to -ℤ from) ≤ 2 ^ 25 }
-    ensures { result ≡ coordinate +ℤ (to -ℤ from) }
+// The same on an axis.
+fn ends_moved_to(ends: Ends, first: i64) -> Ends
+    requires ends { IsEnds ends }
+    requires first_in { IsPlotterUnit first }
+    ensures value { result ≡ moved_ends ends first }
+    ensures sound { IsEnds result }
 {
-    coordinate + (to - from)
+    Ends {
+        first,
+        last: first + (ends.last - ends.first),
+    }
 }

@@ -1,33 +1,49 @@
 // Frames by the numbers that they give.
-ghost use Rattle.plot_frame.specs.Bounds.{IsPoints, IsRanges};
+ghost use Rattle.plot_frame.specs.Bounds.{Both, IsPoints, IsRange, IsScaling};
 
-use plot_frame::{
-    Factors, Fitting, Points, Ranges, Scaling, axis_across, axis_upward, unscaled_axis,
-};
+use plot_frame::AxisName::{X, Y};
+use plot_frame::{Ends, Factor, FittedRange, Pair, Range, Scaling, axis_of, unscaled_axis};
 use std::test::Fail;
 
 // P1 at (0, 0), P2 at (128, 64).
-fn wide() -> Points
+fn wide() -> Pair<Ends>
     ensures { IsPoints result }
 {
-    Points {
-        x1: 0,
-        y1: 0,
-        x2: 128,
-        y2: 64,
+    Pair {
+        x: Ends {
+            first: 0,
+            last: 128,
+        },
+        y: Ends { first: 0, last: 64 },
     }
 }
 
 // 0 to 8 on both axes.
-fn eight() -> Ranges
-    ensures { IsRanges result }
+fn eight() -> Pair<Range>
+    ensures { Both IsRange result }
 {
-    Ranges {
-        xmin: 0,
-        xmax: 8_000_000,
-        ymin: 0,
-        ymax: 8_000_000,
-    }
+    let range = Range {
+        least: 0,
+        most: 8_000_000,
+    };
+    Pair { x: range, y: range }
+}
+
+// With a quarter of what is left over on the left, and half of it at the bottom.
+fn fitted(ranges: Pair<Range>) -> Scaling
+    requires { Both IsRange ranges }
+    ensures { IsScaling result }
+{
+    Scaling::Isotropic(Pair {
+        x: FittedRange {
+            range: ranges.x,
+            share: 25_000_000,
+        },
+        y: FittedRange {
+            range: ranges.y,
+            share: 50_000_000,
+        },
+    })
 }
 
 #[test]
@@ -40,63 +56,60 @@ fn plotter_units(rt: HostRuntime) {
 #[test]
 fn user_units(rt: HostRuntime) {
     let ranges = Scaling::Anisotropic(eight());
-    assert_eq!(rt; axis_across(&wide(), &ranges, 0).place(3_500_000), 896);
-    assert_eq!(rt; axis_upward(&wide(), &ranges, 5).place(3_500_000), 528);
-    let fitting = Scaling::Isotropic(Fitting {
-        ranges: eight(),
-        left: 25_000_000,
-        bottom: 50_000_000,
+    assert_eq!(rt; axis_of(X, &wide(), &ranges, 0).place(3_500_000), 896);
+    assert_eq!(rt; axis_of(Y, &wide(), &ranges, 5).place(3_500_000), 528);
+    let fitting = fitted(eight());
+    assert_eq!(rt; axis_of(X, &wide(), &fitting, 0).place(1_000_000), 384);
+    assert_eq!(rt; axis_of(Y, &wide(), &fitting, 0).coordinate(128), 1_000_000);
+    let factors = Scaling::PointFactor(Pair {
+        x: Factor {
+            least: 1_000_000,
+            factor: 500_000,
+        },
+        y: Factor {
+            least: 1_000_000,
+            factor: -2_000_000,
+        },
     });
-    assert_eq!(rt; axis_across(&wide(), &fitting, 0).place(1_000_000), 384);
-    assert_eq!(rt;
-        axis_upward(&wide(), &fitting, 0).coordinate(128),
-        1_000_000
-    );
-    let factors = Scaling::PointFactor(Factors {
-        xmin: 1_000_000,
-        xfactor: 500_000,
-        ymin: 1_000_000,
-        yfactor: -2_000_000,
-    });
-    assert_eq!(rt; axis_across(&wide(), &factors, 0).place(3_000_000), 16);
-    assert_eq!(rt; axis_upward(&wide(), &factors, 0).place(3_000_000), -64);
+    assert_eq!(rt; axis_of(X, &wide(), &factors, 0).place(3_000_000), 16);
+    assert_eq!(rt; axis_of(Y, &wide(), &factors, 0).place(3_000_000), -64);
 }
 
 // A range that falls, and one whose units are halves of those on the other axis.
-fn falling() -> Ranges
-    ensures { IsRanges result }
+fn falling() -> Pair<Range>
+    ensures { Both IsRange result }
 {
-    Ranges {
-        xmin: 8_000_000,
-        xmax: 0,
-        ymin: 0,
-        ymax: 2_000_000,
+    Pair {
+        x: Range {
+            least: 8_000_000,
+            most: 0,
+        },
+        y: Range {
+            least: 0,
+            most: 2_000_000,
+        },
     }
 }
 
 #[test]
 fn falling_ranges(rt: HostRuntime) {
-    let axis = axis_across(&wide(), &Scaling::Anisotropic(falling()), 0);
+    let axis = axis_of(X, &wide(), &Scaling::Anisotropic(falling()), 0);
     assert_eq!(rt; axis.place(0), 2048);
     assert_eq!(rt; axis.place(6_000_000), 512);
     assert_eq!(rt; axis.coordinate(512), 6_000_000);
 }
 
-// Of the 64 units upward, 32 are left over, and half of them lie below the range.
+// Of the 64 units in y, 32 are left over, and half of them lie below the range.
 #[test]
 fn shares_of_what_is_left_over(rt: HostRuntime) {
-    let fitting = Scaling::Isotropic(Fitting {
-        ranges: falling(),
-        left: 25_000_000,
-        bottom: 50_000_000,
-    });
-    assert_eq!(rt; axis_upward(&wide(), &fitting, 0).place(1_000_000), 512);
+    let fitting = fitted(falling());
+    assert_eq!(rt; axis_of(Y, &wide(), &fitting, 0).place(1_000_000), 512);
 }
 
 // Two grains are 1/128 unit, 7812.5 millionths, and a half rounds up.
 #[test]
 fn coordinates_are_rounded(rt: HostRuntime) {
-    let axis = axis_across(&wide(), &Scaling::Anisotropic(eight()), 0);
+    let axis = axis_of(X, &wide(), &Scaling::Anisotropic(eight()), 0);
     assert_eq!(rt; axis.coordinate(2), 7813);
     assert_eq!(rt; axis.coordinate(-2), -7812);
 }

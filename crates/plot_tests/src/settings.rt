@@ -1,6 +1,6 @@
 // What numbers set and ask for, by their text.
 use hpgl_text::{Body, Items};
-use plot_frame::Points;
+use plot_frame::{Ends, Pair};
 use plot_settings::{
     FIRST_WIDTH, Request, Rotation, default_colour, default_colours, has_wrong_numbers,
     is_off_axis, points_moved_to, request_of, width_of_all,
@@ -67,7 +67,7 @@ wrong\n!\nwrong\n!\n",
         (
             b"IP;IP1,2;IP1,2,1,5;IP1".as_slice(),
             "PageCorners\nFirstPoint(1, 2)\n\
-BothPoints(Points { x1: 1, y1: 2, x2: 2, y2: 5 })\n\
+BothPoints(Pair { x: Ends { first: 1, last: 2 }, y: Ends { first: 2, last: 5 } })\n\
 wrong\n!\n",
         ),
         (
@@ -99,10 +99,10 @@ wrong\n!\n",
 #[test]
 fn scalings(rt: HostRuntime) -> Result<(), Fail> {
     let wanted = "Scale(Off)\n\
-Scale(Anisotropic(Ranges { xmin: 0, xmax: 1000000, ymin: 0, ymax: 2000000 }))\n\
-Scale(Isotropic(Fitting { ranges: Ranges { xmin: 0, xmax: 1000000, ymin: 0, ymax: 2000000 }, \
-left: 25000000, bottom: 50000000 }))\n\
-Scale(PointFactor(Factors { xmin: 0, xfactor: 1000000, ymin: 0, yfactor: 2000000 }))\n\
+Scale(Anisotropic(Pair { x: Range { least: 0, most: 1000000 }, y: Range { least: 0, most: 2000000 } }))\n\
+Scale(Isotropic(Pair { x: FittedRange { range: Range { least: 0, most: 1000000 }, share: 25000000 }, \
+y: FittedRange { range: Range { least: 0, most: 2000000 }, share: 50000000 } }))\n\
+Scale(PointFactor(Pair { x: Factor { least: 0, factor: 1000000 }, y: Factor { least: 0, factor: 2000000 } }))\n\
 wrong\n!\nwrong\n!\nwrong\n!\nwrong\n!\n";
     let plot =
         b"SC;SC0,1,0,2;SC0,1,0,2,1,25;SC0,1,0,2,2;SC1,1,0,2;SC0,1,0,0,2;SC0,1,0,2,3;SC0,1,0,2,1,101";
@@ -132,14 +132,13 @@ wrong\n!\n";
 
 #[test]
 fn moved_points(rt: HostRuntime) -> Result<(), Fail> {
-    let points = Points {
-        x1: 1,
-        y1: 2,
-        x2: 11,
-        y2: 7,
+    let points = Pair {
+        x: Ends { first: 1, last: 11 },
+        y: Ends { first: 2, last: 7 },
     };
     let moved = points_moved_to(points, 100, -3);
-    assert_eq!(rt; (moved.x1, moved.y1, moved.x2, moved.y2), (100, -3, 110, 2));
+    assert_eq!(rt; (moved.x.first, moved.x.last), (100, 110));
+    assert_eq!(rt; (moved.y.first, moved.y.last), (-3, 2));
     Ok(())
 }
 

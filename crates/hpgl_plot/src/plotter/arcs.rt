@@ -46,7 +46,7 @@ impl Plotter {
         ensures curve { IsCurve self.now.page self.now.state.frame result }
     {
         let centre = self.state.coordinates;
-        let right = self.axes.across.moved(centre.x, circle.radius, true);
+        let right = self.axes.x.moved(centre.x, circle.radius, true);
         Curve {
             centre,
             from: Spot {

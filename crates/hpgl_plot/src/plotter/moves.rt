@@ -51,8 +51,8 @@ impl Plotter {
     /// Where a move ends, in coordinates.
     pub fn target(&self, is_relative: bool, x: Number, y: Number) -> Spot
         ensures value { result ≡ paths.target is_relative self.now.state.coordinates x y }
-        ensures x_near { nat_abs (self.now.axes.across.slope *ℤ result.x) ≤ 2 ^ 118 }
-        ensures y_near { nat_abs (self.now.axes.upward.slope *ℤ result.y) ≤ 2 ^ 118 }
+        ensures x_near { nat_abs (self.now.axes.x.slope *ℤ result.x) ≤ 2 ^ 118 }
+        ensures y_near { nat_abs (self.now.axes.y.slope *ℤ result.y) ≤ 2 ^ 118 }
     {
         let from = self.state.coordinates;
         target_of(
@@ -66,8 +66,8 @@ impl Plotter {
 
     /// Where coordinates lie on the page.
     pub fn place_of(&self, coordinates: Spot) -> Spot
-        requires x_near { nat_abs (self.now.axes.across.slope *ℤ coordinates.x) ≤ 2 ^ 118 }
-        requires y_near { nat_abs (self.now.axes.upward.slope *ℤ coordinates.y) ≤ 2 ^ 118 }
+        requires x_near { nat_abs (self.now.axes.x.slope *ℤ coordinates.x) ≤ 2 ^ 118 }
+        requires y_near { nat_abs (self.now.axes.y.slope *ℤ coordinates.y) ≤ 2 ^ 118 }
         ensures { result ≡ frames.place self.now.page self.now.state.frame coordinates }
     {
         place_on(&self.page, &self.state.frame, &self.axes, coordinates)
@@ -117,8 +117,8 @@ impl Plotter {
     /// The pen comes to a position.
     pub fn arrive(&mut self, end: Position)
         requires place_in { IsInRange end.place }
-        requires x_near { IsNear self.old.axes.across end.coordinates.x }
-        requires y_near { IsNear self.old.axes.upward end.coordinates.y }
+        requires x_near { IsNear self.old.axes.x end.coordinates.x }
+        requires y_near { IsNear self.old.axes.y end.coordinates.y }
         ensures { ends_in (moved self.old.state end) (Some (seen self.old)) ≡ Some (seen self.new) }
     {
         self.state.place = end.place;

@@ -4,7 +4,7 @@ use Rattle.hpgl_plot.specs.declared.state.Position.{Position}
 use Rattle.hpgl_plot.specs.Paths.{curve_places, position}
 use Rattle.plot_settings.specs.Meanings.{DrawCircle}
 use Rattle.hpgl_plot.specs.Machine.{seen, step, travelled}
-use Rattle.hpgl_plot.proofs.Curves.{circle_path_is, stopped_by}
+use Rattle.hpgl_plot.proofs.Curves.{circle_path_is, stopped_by, first_right, first_above}
 use Rattle.hpgl_plot.proofs.Travels.{Line, still_runs, step_out}
 use Rattle.hpgl_plot.proofs.plotter.Plotter.circle.Goals as goal
 
@@ -31,3 +31,13 @@ returns c =
     still_runs {U = ⊤} w v (DrawCircle c.args.circle)
     (record { places = q ∷ curve_places w.page s.frame curve; draws = true; ends = position s }) (Ok tt) refl
     (circle_path_is w.page s c.args.circle curve q c.circle_curve-curve.ensures.value c.place_of-start.ensures) c.in_ok-follow_curve.ensures.runs
+
+pub place_of-start-requires-clause-x_near : goal.place_of-start-requires-clause-x_near
+place_of-start-requires-clause-x_near c =
+    let p = c.args.self.now in
+    first_right p.page p.state.frame p.axes c.circle_curve-curve.result p.sound.framed c.circle_curve-curve.ensures.curve
+
+pub place_of-start-requires-clause-y_near : goal.place_of-start-requires-clause-y_near
+place_of-start-requires-clause-y_near c =
+    let p = c.args.self.now in
+    first_above p.page p.state.frame p.axes c.circle_curve-curve.result p.sound.framed c.circle_curve-curve.ensures.curve
