@@ -11,6 +11,7 @@ import os
 import re
 import subprocess
 
+from reference.outputs import FORMS
 from shared import TOP, assert_nothing, run
 
 PAGE = os.path.join(TOP, "man", "plotraster.1")
@@ -19,7 +20,6 @@ SECONDS = 10
 HELP = "--help"
 VERSION = "--version"
 EVERY_COMMAND = "All commands"
-PICTURES = ("marks", "pbm", "ppm", "pcl")
 
 
 def range_in(text):
@@ -194,7 +194,7 @@ def wrong_values(command, options):
 
 def test_commands(program):
     commands = commands_in_help(program)
-    assert len(commands) == 5
+    assert commands == [*FORMS, "report"]
     assert_nothing(wrong_commands(program, commands))
 
 
@@ -234,9 +234,9 @@ def test_page_begins_with_the_sentences_of_help(program):
 
 def test_quoted_values_of_help(program):
     """A value in quotes is taken, as 'all' for the list of pens."""
-    words = [(option, word) for command in PICTURES for line in help_of(program, [command])
+    words = [(option, word) for command in FORMS for line in help_of(program, [command])
              for option in re.findall(r"^ +(--[a-z]+) <", line) for word in re.findall(r"'(\w+)'", line)]
-    assert len(words) == len(PICTURES)
+    assert len(words) == len(FORMS)
     assert all(takes(program, "pbm", f"{option}={word}") for option, word in words)
 
 

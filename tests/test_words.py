@@ -16,7 +16,8 @@ import tempfile
 
 import pytest
 
-from shared import assert_nothing, run, write
+from reference.outputs import FORMS
+from shared import assert_nothing, read, run, write
 
 SECONDS = 10
 LINE = b"SP1;PU0,28;PD64,28;"
@@ -33,8 +34,7 @@ PAST_THE_END = (2, b"plotraster: first row is past the last row\n")
 NOT_OPENED = (3, b"plotraster: cannot open ")
 NOT_READ = (3, b"plotraster: read failed\n")
 
-PICTURES = ["marks", "pbm", "ppm", "pcl"]
-COMMANDS = [*PICTURES, "report"]
+COMMANDS = [*FORMS, "report"]
 # A page of 64 by 64 units: 6 rows at the default resolution.
 SMALL = ["--width=64", "--height=64"]
 ROWS = 6
@@ -305,7 +305,9 @@ def test_words(generator, program, tmp_path):
 
 
 def test_number_of_command_lines():
-    assert sum(1 for generator in GENERATORS for _ in generator()) == 879
+    """docs/PROOF.md says how many they are."""
+    number = sum(1 for generator in GENERATORS for _ in generator())
+    assert f"runs {number} odd command lines" in read("docs", "PROOF.md")
 
 
 def test_unreadable_file(program):

@@ -95,19 +95,15 @@ def pens_of(text):
 
 def picture(form, page, dots, rows, has_header):
     """The bytes of a picture, by its rows."""
-    columns, height = raster.count(page.width, dots), raster.count(page.height, dots)
-    header, row_of, foot = {
-        "marks": (b"", marks, b""),
-        "pbm": (b"P4\n%d %d\n" % (columns, height), bits, b""),
-        "ppm": (b"P6\n%d %d\n255\n" % (columns, height), colours, b""),
-        "pcl": (
-            ESC + b"E" + ESC + b"*t%dR" % dots + ESC + b"*r%dS" % columns + ESC + b"*r%dT" % height
-            + ESC + b"*r0A" + ESC + b"*b0M",
-            transfer,
-            ESC + b"*rB" + ESC + b"E",
-        ),
-    }[form]
-    return (header if has_header else b"") + b"".join(row_of(*row) for row in rows) + foot
+    header_of, row_of, foot = FORMS[form]
+    size = raster.count(page.width, dots), raster.count(page.height, dots)
+    return (header_of(dots, *size) if has_header else b"") + b"".join(row_of(*row) for row in rows) + foot
+
+
+def commands_before(dots, columns, rows):
+    """The header of PCL."""
+    return (ESC + b"E" + ESC + b"*t%dR" % dots + ESC + b"*r%dS" % columns + ESC + b"*r%dT" % rows
+            + ESC + b"*r0A" + ESC + b"*b0M")
 
 
 def marks(row, cells):
@@ -134,6 +130,15 @@ def transfer(row, cells):
     """A row of PCL: the command that says how many bytes follow, and the row as bits."""
     packed = bits(row, cells)
     return ESC + b"*b%dW" % len(packed) + packed
+
+
+# Each form: its header by the resolution, the columns and the rows; its rows; and its foot.
+FORMS = {
+    "marks": (lambda *_: b"", marks, b""),
+    "pbm": (lambda dots, *size: b"P4\n%d %d\n" % size, bits, b""),
+    "ppm": (lambda dots, *size: b"P6\n%d %d\n255\n" % size, colours, b""),
+    "pcl": (commands_before, transfer, ESC + b"*rB" + ESC + b"E"),
+}
 
 
 def report(strokes, notes, page):

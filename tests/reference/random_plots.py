@@ -7,10 +7,12 @@ or off the page shows little.
 from typing import NamedTuple
 
 from .cutting import MILLION
+from .outputs import FORMS
 from .random_numbers import Numbers, coded, spelled
 from .raster import PIXEL, count
 
-FORMS = ("marks", "marks", "marks", "pbm", "ppm", "pcl", "report", "report", "report")
+# Marks and reports show most.
+OUTPUTS = ("marks", "marks", *FORMS, "report", "report", "report")
 # Pixels whose centres are whole grains, and others.
 DOTS = (127, 127, 127, 254, 508, 1016, 100, 75, 150, 300, 10, 33, 64, 96, 600, 1200)
 MOST_PIXELS = 1200
@@ -95,7 +97,7 @@ class Writer(Numbers):
     # Options
 
     def settings(self):
-        form = self.pick(*FORMS)
+        form = self.pick(*OUTPUTS)
         self.dots = self.pick(75, 75, 150, 600) if form == "pcl" else self.pick(*DOTS)
         if form == "report":
             self.width, self.height = self.length(), self.length()

@@ -1,5 +1,5 @@
 -- The law of parses, for the command of the program.
-use Rattle.std.proofs.Common.{◌≡◌, ◌∙◌, List, [], Result, Ok, Err, IfOk, refl, inl, inr, rules}
+use Rattle.std.proofs.Common.{◌≡◌, ◌∙◌, List, [], ◌∷◌, map, Result, Ok, Err, IfOk, refl, inl, inr, rules}
 use Rattle.std.specs.List.{AllByRecursion}
 use Rattle.clap.specs.Simple.{HasMatchesOf, built, built_leaf}
 use Rattle.clap.specs.Walk.{Text}
@@ -7,7 +7,9 @@ use Rattle.clap.specs.Faults.{fault_of}
 use Rattle.clap.specs.Kinds.{FailsBy}
 use Rattle.clap.specs.declared.error.Error.{Error}
 use Rattle.clap.specs.declared.parser.matches.ArgMatches.{ArgMatches}
-use Rattle.command_line.specs.Options.{picture_app, plot_app, report_app}
+use Rattle.command_line.specs.declared.subcommands.Output.{Output}
+use Rattle.command_line.specs.declared.subcommands.Output.TheVariants.{Picture, Report}
+use Rattle.command_line.specs.Options.{picture_app, plot_app, report_app, subcommand_app, subcommands}
 use Rattle.clap_parses.specs.Parses.{HasGoodMatches, IsSingleShape}
 use Rattle.clap_parses.proofs.ParseLaw.{parse_good}
 
@@ -46,8 +48,8 @@ picture_single name = record {
 }
 
 -- width, height, left, below and FILE take one value each; the last one is help
-report_single : IsSingleShape (built_leaf report_app.top)
-report_single = record {
+report_single : (name : Text) → IsSingleShape (built_leaf (report_app name).top)
+report_single name = record {
   single = (
     record { found = refl; kind = inl (refl, refl); defaults = search rules },
     (
@@ -67,8 +69,16 @@ report_single = record {
   no_again = refl;
 }
 
+single : (it : Text × Output) → IsSingleShape (built_leaf (subcommand_app it).top)
+single (name, Picture form) = picture_single name
+single (name, Report) = report_single name
+
+pub all_made : {X Y : Type 0} (f : X → Y) (P : Y → Type 0) → ((x : X) → P (f x)) → (xs : List X) → AllByRecursion P (map f xs)
+all_made f P h [] = tt
+all_made f P h (x ∷ xs) = (h x, all_made f P h xs)
+
 all_single : AllByRecursion IsSingleShape (built plot_app).subs
-all_single = (picture_single _, (picture_single _, (picture_single _, (picture_single _, (report_single, tt)))))
+all_single = all_made (λ (it : Text × Output). built_leaf (subcommand_app it).top) IsSingleShape single subcommands
 
 pub plot_parses : (words : List Text) (m : ArgMatches) → fault_of plot_app words ≡ [] → HasMatchesOf plot_app words m → HasGoodMatches plot_app words m
 plot_parses words m none given =

@@ -6,7 +6,8 @@ use Rattle.clap.specs.Words.{Kinds, Text, fault_of, subcommand_of, takes}
 use Rattle.clap.proofs.OnLiterals.{clap_on_literals}
 use Rattle.clap.specs.declared.error.kind.ErrorKind.TheVariants as kind
 use Rattle.picture_out.specs.declared.form.Form.TheVariants as form
-use Rattle.command_line.specs.Lines.{form_named, has_bad_list, is_report, number_in, pens_text}
+use Rattle.command_line.specs.declared.subcommands.Output.TheVariants as output
+use Rattle.command_line.specs.Lines.{has_bad_list, number_in, output_named, pens_text}
 use Rattle.command_line.specs.Options.{plot_app}
 use Rattle.command_line.specs.Statuses.{parse_status_of}
 
@@ -22,17 +23,17 @@ no_memory = refl
 unknown_option : parse_status_of kind.UnknownArgument ≡ 2
 unknown_option = refl
 
-ppm_is_a_pixmap : form_named (codes "ppm") ≡ Some form.Ppm
+ppm_is_a_pixmap : output_named (codes "ppm") ≡ Some (output.Picture form.Ppm)
 ppm_is_a_pixmap = refl
 
-pcl_is_for_a_printer : form_named (codes "pcl") ≡ Some form.Pcl
+pcl_is_for_a_printer : output_named (codes "pcl") ≡ Some (output.Picture form.Pcl)
 pcl_is_for_a_printer = refl
 
-report_has_no_form : form_named (codes "report") ≡ None
-report_has_no_form = refl
-
-report_describes : is_report (codes "report") ≡ true
+report_describes : output_named (codes "report") ≡ Some output.Report
 report_describes = refl
+
+no_such_name : output_named (codes "png") ≡ None
+no_such_name = refl
 
 -- the words of a command line, the program's name before them
 abbrev after_name : List Text → List Text

@@ -1,3 +1,4 @@
+pub mod Table
 pub mod CommandLaw
 pub mod ReadingLaw
 mod Examples

@@ -1,5 +1,5 @@
 -- A faultless parse leaves a value for each option of this command.
-use Rattle.std.proofs.Common.{◌≡◌, ◌∙◌, ℕ, Bool, List, [], ◌∷◌, Option, Some, true, false, length, refl, ap, sym, subst, inl, inr, arith, codes}
+use Rattle.std.proofs.Common.{◌≡◌, ◌∙◌, ℕ, Bool, List, [], ◌∷◌, Option, Some, true, false, length, refl, ap, sym, subst, map, arith, codes, rules}
 use Rattle.std.specs.Prelude.{find, is_some, pos, ◌&&◌, ◌||◌}
 use Rattle.std.specs.List.{AllByRecursion}
 use Rattle.std.specs.Str.{bytes_eq}
@@ -16,8 +16,10 @@ use Rattle.clap.specs.declared.builder.value_parser.Reading.TheVariants as readi
 use Rattle.clap.specs.declared.builder.value_parser.ValueParser.TheVariants as vp
 use Rattle.clap.proofs.ValueTestLemmas.{accepts-Accepts}
 use Rattle.clap_parses.specs.Parses.{HasGoodMatches, IsIn, RowOf, RowsOf, first, past}
-use Rattle.command_line.specs.Lines.{pens_text}
-use Rattle.command_line.specs.Options.{picture_app, plot_app, report_app}
+use Rattle.command_line.specs.declared.subcommands.Output.{Output}
+use Rattle.command_line.specs.declared.subcommands.Output.TheVariants.{Picture, Report}
+use Rattle.command_line.specs.Lines.{output_named, pens_text}
+use Rattle.command_line.specs.Options.{picture_app, plot_app, report_app, subcommand_app, subcommands}
 use Rattle.command_line.specs.Readings.{HasNumber, HasPageNumbers, HasPictureValues, HasValues}
 
 -- a row of an argument: its value passes, and is read as the argument's parser says
@@ -84,8 +86,8 @@ text_there c a rows found all has =
     let met = first_row c a (codes "pens") rows found all has in
     rw (met.found, met.good.values) refl
 
-report_numbers : (rows : List Row) → RowsOf (built_leaf report_app.top).rules rows → HasPageNumbers rows
-report_numbers rows good = record {
+report_numbers : (name : Text) (rows : List Row) → RowsOf (built_leaf (report_app name).top).rules rows → HasPageNumbers rows
+report_numbers name rows good = record {
   width = number_there _ _ (codes "width") rows 64 65536 refl refl good.each (good.defaults.0 (omega arith));
   height = number_there _ _ (codes "height") rows 64 65536 refl refl good.each (good.defaults.1.0 (omega arith));
   left = number_there _ _ (codes "left") rows 0 65536 refl refl good.each (good.defaults.1.1.0 (omega arith));
@@ -110,17 +112,23 @@ picture_values name rows good = record {
 abbrev Reads : Shape → Type 0
 Reads command = (rows : List Row) → RowsOf command.rules rows → HasValues command.name rows
 
+-- the name of a row of the table is that of this row
+abbrev IsNamed : Text × Output → Type 0
+IsNamed it = output_named it.0 ≡ Some it.1
+
+all_named : AllByRecursion IsNamed subcommands
+all_named = search rules
+
+row_reads : (it : Text × Output) → IsNamed it → Reads (built_leaf (subcommand_app it).top)
+row_reads (name, Picture form) named = λ rows good. rw named (picture_values name rows good)
+row_reads (name, Report) named = λ rows good. rw named (report_numbers name rows good)
+
+reads : (its : List (Text × Output)) → AllByRecursion IsNamed its → AllByRecursion Reads (map (λ (it : Text × Output). built_leaf (subcommand_app it).top) its)
+reads [] named = tt
+reads (it ∷ its) named = (row_reads it named.0, reads its named.1)
+
 each_reads : AllByRecursion Reads (built plot_app).subs
-each_reads = (
-  λ rows good. inl (refl, picture_values (codes "marks") rows good),
-  (
-    λ rows good. inl (refl, picture_values (codes "pbm") rows good),
-    (
-      λ rows good. inl (refl, picture_values (codes "ppm") rows good),
-      (λ rows good. inl (refl, picture_values (codes "pcl") rows good), (λ rows good. inr (refl, report_numbers rows good), tt)),
-    ),
-  ),
-)
+each_reads = reads subcommands all_named
 
 in_all : {X : Type 0} (P : X → Type 0) (x : X) (xs : List X) → IsIn x xs → AllByRecursion P xs → P x
 in_all P x _ (first xs) all = all.0

@@ -1,23 +1,22 @@
 -- What the matches of a command line ask for.
-use Rattle.std.specs.Prelude.{◌≡◌, ◌<◌, ◌&&◌, ℕ, Bool, true, false, not, List, Option, Some, None, is_some, option_map}
-use Rattle.std.specs.Prelude.{codes, if◌then◌else◌}
+use Rattle.std.specs.Prelude.{◌≡◌, ◌<◌, ◌&&◌, ℕ, Bool, true, false, not, List, Option, Some, option_map, find, codes}
 use Rattle.std.specs.Option.{option_map_or}
 use Rattle.std.specs.Str.{bytes_eq}
 use Rattle.std.specs.Str.Parse.{digits_value, without_leading_plus}
 use Rattle.clap.specs.Words.{Row, Text, first_of, one_of, subcommand_rows_of}
 use Rattle.clap.specs.declared.parser.matches.ArgMatches.{ArgMatches}
-use Rattle.picture_out.specs.declared.form.Form.{Form}
-use Rattle.picture_out.specs.declared.form.Form.TheVariants.{Marks, Pbm, Ppm, Pcl}
 use Rattle.plot_page.specs.declared.page.Page.{Page}
 use Rattle.plot_page.specs.declared.pens.PenSet.{PenSet}
 use Rattle.plot_page.specs.Pens.{has_pen}
 use Rattle.clap_parses.specs.Parses.{HasGoodMatches}
-use Rattle.command_line.specs.Options.{plot_app}
+use Rattle.command_line.specs.Options.{subcommands, plot_app}
 use Rattle.pen_list.specs.Lists.{is_listed, is_pen_list}
 use Rattle.picture_job.specs.declared.job.Job.{Job}
 use Rattle.command_line.specs.declared.line.Line.{Line}
 use Rattle.command_line.specs.declared.line.Task.{Task}
 use Rattle.command_line.specs.declared.line.Task.TheVariants.{Picture, Report}
+use Rattle.command_line.specs.declared.subcommands.Output.{Output}
+use Rattle.command_line.specs.declared.subcommands.Output.TheVariants as output
 
 -- the whole number that an option has, in decimal, a plus sign before it or not
 abbrev pub number_in : List Row → Text → Option ℕ
@@ -27,18 +26,14 @@ number_in rows name = option_map (λ t. digits_value 10 (without_leading_plus t)
 abbrev pub pens_text : List Row → Option Text
 pens_text rows = first_of (codes "pens") rows
 
--- the form that a subcommand writes
-abbrev pub form_named : Text → Option Form
-form_named name =
-    if bytes_eq name (codes "marks") then Some Marks
-    else if bytes_eq name (codes "pbm") then Some Pbm
-    else if bytes_eq name (codes "ppm") then Some Ppm
-    else if bytes_eq name (codes "pcl") then Some Pcl
-    else None
+-- what the subcommand of this name writes
+abbrev pub output_named : Text → Option Output
+output_named name = option_map (λ it. it.1) (find (λ it. bytes_eq it.0 name) subcommands)
 
--- the subcommand describes a plot
-abbrev pub is_report : Text → Bool
-is_report name = bytes_eq name (codes "report")
+-- a picture
+abbrev pub is_picture : Output → Bool
+is_picture (output.Picture form) = true
+is_picture output.Report = false
 
 -- each number of the page is its option's
 pub record IsPageOf (rows : List Row) (page : Page) : Type 0 where
@@ -64,8 +59,8 @@ pub record IsJobOf (rows : List Row) (job : Job) : Type 0 where
 
 -- the task is what the subcommand of this name does, by its options
 abbrev pub IsTaskOf : Text → List Row → Task → Type 0
-IsTaskOf name rows (Picture job) = (form_named name ≡ Some job.form) × IsJobOf rows job
-IsTaskOf name rows (Report page) = (is_report name ≡ true) × IsPageOf rows page
+IsTaskOf name rows (Picture job) = (output_named name ≡ Some (output.Picture job.form)) × IsJobOf rows job
+IsTaskOf name rows (Report page) = (output_named name ≡ Some output.Report) × IsPageOf rows page
 
 -- the line is what the matches m ask for: by the subcommand, its options and FILE
 pub record IsLineOf (m : ArgMatches) (line : Line) : Type 0 where
@@ -85,7 +80,7 @@ lists_no_pens rows = option_map_or (λ text. not (is_pen_list text)) (pens_text 
 
 -- a picture is asked for, by a text that is no list of pens
 abbrev pub has_bad_list : Text × List Row → Bool
-has_bad_list (name, rows) = is_some (form_named name) && lists_no_pens rows
+has_bad_list (name, rows) = option_map_or is_picture (output_named name) false && lists_no_pens rows
 
 -- the matches ask for a picture by such a text
 abbrev pub asks_bad_list : ArgMatches → Bool

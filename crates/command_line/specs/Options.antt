@@ -1,11 +1,14 @@
 -- The subcommands and options of `plotraster`, as `clap` sees them.
-use Rattle.std.specs.Prelude.{◌≡◌, ℕ, [], ◌∷◌, Some, codes, pos, true, false}
+use Rattle.std.specs.Prelude.{◌≡◌, ℕ, List, [], ◌∷◌, Some, codes, pos, true, false, fold}
 use Rattle.clap.specs.Words.{App, Rule, Text, app_of, new_app, new_rule, with_rule, with_subcommand}
 use Rattle.clap.specs.declared.builder.command.Command.{Command}
 use Rattle.clap.specs.declared.builder.command.Command.TheViews.{out-Command}
 use Rattle.clap.specs.declared.builder.action.ArgAction.TheVariants.{Set}
 use Rattle.clap.specs.declared.builder.value_parser.ValueParser.{ValueParser}
 use Rattle.clap.specs.declared.builder.value_parser.ValueParser.TheVariants as vp
+use Rattle.picture_out.specs.declared.form.Form.TheVariants.{Marks, Pbm, Ppm, Pcl}
+use Rattle.command_line.specs.declared.subcommands.Output.{Output}
+use Rattle.command_line.specs.declared.subcommands.Output.TheVariants.{Picture, Report}
 
 -- `--NAME VALUE`, at most once, with a parser and a default
 abbrev pub option_rule : Text → ValueParser → Text → Rule
@@ -49,9 +52,9 @@ with_picture a = with_rule (with_rule (with_rule (with_rule a
 abbrev pub picture_app : Text → App
 picture_app name = with_rule (with_picture (with_page (new_app name))) file_rule
 
--- the subcommand that describes a plot
-abbrev pub report_app : App
-report_app = with_rule (with_page (new_app (codes "report"))) file_rule
+-- a subcommand that describes a plot
+abbrev pub report_app : Text → App
+report_app name = with_rule (with_page (new_app name)) file_rule
 
 -- `plotraster` itself: it has a version, a subcommand has to be named, and `help` is none
 abbrev pub top_app : App
@@ -59,15 +62,26 @@ top_app =
     let a = new_app (codes "plotraster") in
     record a { top = record a.top { has_version = true; subcommand_required = true; disable_help_subcommand = true } }
 
+-- the subcommands: their names, and what they write
+abbrev pub subcommands : List (Text × Output)
+subcommands =
+    (codes "marks", Picture Marks)
+    ∷ (codes "pbm", Picture Pbm)
+    ∷ (codes "ppm", Picture Ppm)
+    ∷ (codes "pcl", Picture Pcl)
+    ∷ (codes "report", Report)
+    ∷ []
+
+abbrev pub subcommand_app : Text × Output → App
+subcommand_app (name, Picture form) = picture_app name
+subcommand_app (name, Report) = report_app name
+
+abbrev pub add_subcommand : App → Text × Output → App
+add_subcommand app it = with_subcommand app (subcommand_app it).top
+
 -- `plotraster`
 abbrev pub plot_app : App
-plot_app = with_subcommand (with_subcommand (with_subcommand (with_subcommand (with_subcommand
-    top_app
-    (picture_app (codes "marks")).top)
-    (picture_app (codes "pbm")).top)
-    (picture_app (codes "ppm")).top)
-    (picture_app (codes "pcl")).top)
-    report_app.top
+plot_app = fold add_subcommand top_app subcommands
 
 -- the command is a, and has no global argument
 pub record IsOf (a : App) (c : Command) : Type 0 where

@@ -1,9 +1,11 @@
 -- What a faultless parse of this command leaves for `settle` to read.
-use Rattle.std.specs.Prelude.{◌≡◌, ◌⊎◌, ℕ, true, List, Some, is_some, codes, pos}
+use Rattle.std.specs.Prelude.{◌≡◌, ℕ, true, List, Some, IsSomeAnd, is_some, codes, pos}
 use Rattle.clap.specs.Lexer.{without_minus}
 use Rattle.clap.specs.Values.{IsSignedIn}
 use Rattle.clap.specs.Words.{Row, Text, one_of}
-use Rattle.command_line.specs.Lines.{form_named, is_report, pens_text}
+use Rattle.command_line.specs.declared.subcommands.Output.{Output}
+use Rattle.command_line.specs.declared.subcommands.Output.TheVariants.{Picture, Report}
+use Rattle.command_line.specs.Lines.{output_named, pens_text}
 
 -- the option has a text that is a whole number from low to high
 pub record HasNumber (rows : List Row) (name : Text) (low high : ℕ) : Type 0 where
@@ -25,8 +27,11 @@ pub record HasPictureValues (rows : List Row) : Type 0 where
   pub band : HasNumber rows (codes "band") 1 4096
   pub first_row : HasNumber rows (codes "from") 0 99999
 
+-- each option of a subcommand that writes this has a value
+abbrev pub HasValuesOf : Output → List Row → Type 0
+HasValuesOf (Picture form) rows = HasPictureValues rows
+HasValuesOf Report rows = HasPageNumbers rows
+
 -- the subcommand is one of this command's, and each of its options has a value
 abbrev pub HasValues : Text → List Row → Type 0
-HasValues name rows =
-    ((is_some (form_named name) ≡ true) × HasPictureValues rows)
-    ⊎ ((is_report name ≡ true) × HasPageNumbers rows)
+HasValues name rows = IsSomeAnd (output_named name) (λ output. HasValuesOf output rows)

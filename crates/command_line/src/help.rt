@@ -1,4 +1,4 @@
-//! What help says of the command, its subcommands and their options.
+//! What help says of the command and of the options.
 
 /// What help says of an option: the name of its value, and what it means.
 #[derive(Clone, Copy)]
@@ -68,31 +68,4 @@ pub(crate) const TOP: HelpPage<'static> = HelpPage {
     about: "Turn an HP-GL or HP-GL/2 plot into a raster picture with exact pixels, or describe it",
     example: "Example:\n  plotraster pbm --dots 300 plan.plt > plan.pbm\n\n\
         'plotraster pbm --help' lists the options of pbm, and so for each command.",
-};
-
-pub(crate) const MARKS: HelpPage<'static> = HelpPage {
-    about: "Write a line for each pixel that is drawn: its row, its column, its pen and its colour",
-    example: "Example, a page of 64 by 64 units, 8 by 8 pixels:\n  printf 'SP1;PU0,28;PD64,28;' | \
-        plotraster marks --width 64 --height 64 --dots 127",
-};
-
-pub(crate) const PBM: HelpPage<'static> = HelpPage {
-    about: "Write a black and white picture, Netpbm's portable bitmap (P4)",
-    example: "Example:\n  plotraster pbm --dots 300 plan.plt > plan.pbm",
-};
-
-pub(crate) const PPM: HelpPage<'static> = HelpPage {
-    about: "Write a colour picture, Netpbm's portable pixmap (P6)",
-    example: "Example, on to PNG by Netpbm:\n  plotraster ppm --dots 150 plan.plt | pnmtopng > plan.png",
-};
-
-pub(crate) const PCL: HelpPage<'static> = HelpPage {
-    about: "Write a black and white picture for a printer, PCL 5 raster graphics",
-    example: "Example, to a printer that knows PCL:\n  plotraster pcl --dots 300 plan.plt | lp -o raw",
-};
-
-pub(crate) const REPORT: HelpPage<'static> = HelpPage {
-    about: "Describe a plot: its page, its strokes pen by pen with their boxes, and what was skipped or bad",
-    example: "Example, how far pen 2 draws, in sixteenths of a plotter unit:\n  plotraster report plan.plt | \
-        grep '^pen 2 '",
 };

@@ -5,6 +5,7 @@ mod fault;
 mod help;
 mod line;
 mod options;
+mod subcommands;
 
 pub use fault::{BuildFault, LineFault, parse_status};
 pub use line::{Line, Task, settle};

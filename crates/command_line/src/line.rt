@@ -2,12 +2,13 @@
 ghost use Rattle.std.specs.Prelude.{◌≡◌, ◌↔◌, ◌<◌, ◌≤◌, ◌^◌, ℕ, Some, Err, IfOk, IfErr, IsOk, IsOkAnd, true, is_some};
 ghost use Rattle.std.specs.Prelude.{codes};
 ghost use Rattle.clap.specs.Words.{found_of, rows_of};
-ghost use Rattle.command_line.specs.Lines.{number_in, form_named, lists_no_pens, has_bad_list, asks_bad_list};
+ghost use Rattle.command_line.specs.Lines.{number_in, lists_no_pens, has_bad_list, asks_bad_list};
 ghost use Rattle.command_line.specs.Lines.{ArePensOf, IsPageOf, IsJobOf, IsTaskOf, IsLineOf, AreOfThisCommand};
 ghost use Rattle.command_line.specs.Lines.{pens_text};
 ghost use Rattle.command_line.specs.Readings.{HasNumber, HasPageNumbers, HasPictureValues, HasValues};
 
 use crate::fault::LineFault;
+use crate::subcommands::{Output, output_of};
 use clap::ArgMatches;
 use pen_list::read_pens;
 use picture_job::Job;
@@ -54,23 +55,9 @@ fn task_of(name: &str, options: &ArgMatches<'_>) -> Result<Task, LineFault>
     ensures understood { HasValues name.now (rows_of (found_of options.now)) →
         IfErr result (λ fault. fault ≡ LineFault.Pens) }
 {
-    if name == "report" {
-        return Ok(Task::Report(page_of(options)?));
-    }
-    let form = form_of(name).ok_or(LineFault::Words)?;
-    Ok(Task::Picture(job_of(options, form)?))
-}
-
-// The form that a subcommand writes.
-fn form_of(name: &str) -> Option<Form>
-    ensures { result ≡ form_named name.now }
-{
-    match name {
-        "marks" => Some(Form::Marks),
-        "pbm" => Some(Form::Pbm),
-        "ppm" => Some(Form::Ppm),
-        "pcl" => Some(Form::Pcl),
-        _ => None,
+    match output_of(name).ok_or(LineFault::Words)? {
+        Output::Picture(form) => Ok(Task::Picture(job_of(options, form)?)),
+        Output::Report => Ok(Task::Report(page_of(options)?)),
     }
 }
 

@@ -1,20 +1,21 @@
 //! The command line, as it is declared to `clap`.
 ghost use Rattle.std.specs.Prelude.{◌≡◌, IfOk, true, false, codes};
-ghost use Rattle.std.specs.Prelude.{List, [], map};
+ghost use Rattle.std.specs.Prelude.{List, [], map, fold};
 ghost use Rattle.clap.specs.Words.{Text, FailsBy, fault_of, HasMatchesOf};
 ghost use Rattle.clap.specs.declared.parser.matches.ArgMatches.{ArgMatches};
 ghost use Rattle.clap.specs.Words.{app_of, rule_of, is_simple_and_free, new_app, with_rule, with_subcommand};
 ghost use Rattle.clap.specs.declared.builder.command.Command.TheViews.{out-Command as fields_of};
 ghost use Rattle.clap.specs.declared.builder.value_parser.ValueParser.TheVariants as ValueParser;
-ghost use Rattle.command_line.specs.Options.{option_rule, number_rule, file_rule, plot_app, with_page};
-ghost use Rattle.command_line.specs.Options.{with_picture, picture_app, report_app, top_app, IsOf};
+ghost use Rattle.command_line.specs.Options.{option_rule, number_rule, file_rule, with_page, with_picture};
+ghost use Rattle.command_line.specs.Options.{picture_app, report_app, subcommand_app, add_subcommand, plot_app};
+ghost use Rattle.command_line.specs.Options.{top_app, IsOf};
 ghost use Rattle.clap_parses.specs.Parses.{HasGoodMatches};
 
 use crate::fault::BuildFault;
 use crate::help::{
-    BAND, BELOW, DOTS, FILE, FROM, HEIGHT, HelpLine, HelpPage, LEFT, MARKS, PBM, PCL, PCL_DOTS,
-    PENS, PPM, REPORT, TOP, VERSION, WIDTH,
+    BAND, BELOW, FILE, FROM, HEIGHT, HelpLine, HelpPage, LEFT, PENS, TOP, VERSION, WIDTH,
 };
+use crate::subcommands::{Output, SUBCOMMANDS, dots_line};
 use clap::builder::ValueParser;
 use clap::{Arg, ArgAction, ArgMatches, Command};
 use std::alloc::{AllocError, Global};
@@ -132,11 +133,29 @@ fn picture_command<'a>(
     add(command, file_of(alloc))
 }
 
-fn report_command<'a>(alloc: Global) -> Result<Command<'a>, AllocError>
-    ensures { IfOk result (IsOf report_app) }
+fn report_command<'a>(
+    alloc: Global,
+    name: &'a str,
+    page: HelpPage<'a>,
+) -> Result<Command<'a>, AllocError>
+    ensures { IfOk result (IsOf (report_app name.entry.now)) }
 {
-    let command = add_page(alloc, bare(alloc, "report", REPORT))?;
+    let command = add_page(alloc, bare(alloc, name, page))?;
     add(command, file_of(alloc))
+}
+
+fn command_of<'a>(
+    alloc: Global,
+    name: &'a str,
+    output: Output,
+    page: HelpPage<'a>,
+) -> Result<Command<'a>, AllocError>
+    ensures { IfOk result (IsOf (subcommand_app (name.entry.now, output))) }
+{
+    match output {
+        Output::Picture(form) => picture_command(alloc, name, page, dots_line(form)),
+        Output::Report => report_command(alloc, name, page),
+    }
 }
 
 fn top_command<'a>(alloc: Global) -> Command<'a>
@@ -156,19 +175,27 @@ fn add_command<'a>(command: Command<'a>, below: Command<'a>) -> Result<Command<'
     command.subcommand(below)
 }
 
+// Adds the subcommands of a table: the name, what it writes, and what help says, as in `SUBCOMMANDS`.
+fn add_commands<'a>(
+    alloc: Global,
+    mut command: Command<'a>,
+    rows: &[(&'a str, Output, &'a str, &'a str)],
+) -> Result<Command<'a>, AllocError>
+    requires { (fields_of command).has_globals ≡ false }
+    ensures { IfOk result (IsOf
+        (fold (λ app row. add_subcommand app (row.0.now, row.1)) (app_of command.entry) rows.now)) }
+{
+    for &(name, output, about, example) in rows {
+        let page = HelpPage { about, example };
+        command = add_command(command, command_of(alloc, name, output, page)?)?;
+    }
+    Ok(command)
+}
+
 fn whole_command<'a>(alloc: Global) -> Result<Command<'a>, AllocError>
     ensures { IfOk result (IsOf plot_app) }
 {
-    let marks = picture_command(alloc, "marks", MARKS, DOTS)?;
-    let pbm = picture_command(alloc, "pbm", PBM, DOTS)?;
-    let ppm = picture_command(alloc, "ppm", PPM, DOTS)?;
-    let pcl = picture_command(alloc, "pcl", PCL, PCL_DOTS)?;
-    let report = report_command(alloc)?;
-    let command = add_command(top_command(alloc), marks)?;
-    let command = add_command(command, pbm)?;
-    let command = add_command(command, ppm)?;
-    let command = add_command(command, pcl)?;
-    add_command(command, report)
+    add_commands(alloc, top_command(alloc), &SUBCOMMANDS)
 }
 
 /// The command line of `plotraster`, with its subcommands and their options. It fails only for want

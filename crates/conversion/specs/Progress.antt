@@ -1,12 +1,19 @@
 -- How far the writing of rows and of a picture came, as contracts of private functions say it.
 use Rattle.std.specs.Prelude.{◌≡◌, ℕ, ◌+◌, ◌-◌, ◌<◌, ◌≤◌, List, [], ◌∷◌, ◌++◌, length, take, get_or, nat_eq}
-use Rattle.std.specs.Prelude.{if◌then◌else◌, Result, Ok, Err}
+use Rattle.std.specs.Prelude.{if◌then◌else◌, Result, Ok, Err, Some, None, ⊤}
 use Rattle.std.specs.Io.KnownBytes.{Appends}
 use Rattle.picture_out.specs.declared.form.Form.{Form}
 use Rattle.picture_out.specs.declared.inks.Ink.{Ink}
-use Rattle.picture_out.specs.Forms.{row_bytes}
+use Rattle.picture_out.specs.Forms.{foot_bytes, row_bytes}
 use Rattle.devices.specs.Sinks.{SinkState}
-use Rattle.conversion.specs.Pictures.{picture_of}
+use Rattle.plot_page.specs.Segments.{Segment}
+use Rattle.plot_page.specs.Resolutions.{rows_of}
+use Rattle.stroke_raster.specs.Painting.{Painting}
+use Rattle.picture_job.specs.declared.job.Job.{Job}
+use Rattle.conversion.specs.Pictures.{Reach, head_if, head_of, job_fault, picture_of, row_of}
+use Rattle.conversion.specs.Boxes.{boxes_from}
+use Rattle.conversion.specs.declared.fault.Fault.{Fault}
+use Rattle.conversion.specs.declared.fault.Fault.TheVariants.{Memory, Paint, Write}
 use Rattle.conversion.specs.Stops.{IsStoppedAt}
 use Rattle.conversion.specs.declared.writing.Broken.{Broken}
 
@@ -62,3 +69,33 @@ pub record PictureStops (head : List ℕ) (row : ℕ → List ℕ) (foot : List 
 abbrev pub WritesPicture : List ℕ → (ℕ → List ℕ) → List ℕ → ℕ → ℕ → SinkState → SinkState → Result ℕ Broken → Type 0
 WritesPicture head row foot rows first sink sink' (Ok n) = IsWhole (picture_of head row foot rows first) sink sink' n
 WritesPicture head row foot rows first sink sink' (Err stop) = PictureStops head row foot rows first sink sink' stop
+
+-- the head of the picture of what is painted, if it begins with row 0
+abbrev pub head_of_painting : Form → Painting → List ℕ
+head_of_painting form p = head_if (head_of form p.page p.dots) p.next
+
+-- a picture of what is painted was written, or the sink failed once
+abbrev pub WritesPainting : Form → Reach → Painting → SinkState → SinkState → Result ℕ Broken → Type 0
+WritesPainting form reaches p sink sink' answer =
+    WritesPicture (head_of form p.page p.dots) (row_of form reaches p.pens p.strokes p.page p.dots) (foot_bytes form)
+    (rows_of p.page p.dots) p.next sink sink' answer
+
+-- how many tests its painting makes at most
+abbrev pub boxes_of : Painting → ℕ
+boxes_of p = boxes_from p.pens p.strokes p.page p.dots p.next
+
+-- a job's strokes were painted and written, the sink failed once, or the job cannot be done on its page
+abbrev pub HasPainted : Job → Reach → List Segment → SinkState → SinkState → Result ℕ Fault → Type 0
+HasPainted job reaches strokes sink sink' (Ok n) =
+    (job_fault job ≡ None)
+    × WritesPicture (head_of job.form job.page job.dots)
+    (row_of job.form reaches job.pens strokes job.page job.dots) (foot_bytes job.form) (rows_of job.page job.dots)
+    job.first_row sink sink' (Ok n)
+HasPainted job reaches strokes sink sink' (Err (Write row whole bytes)) =
+    (job_fault job ≡ None)
+    × WritesPicture (head_of job.form job.page job.dots)
+    (row_of job.form reaches job.pens strokes job.page job.dots) (foot_bytes job.form) (rows_of job.page job.dots)
+    job.first_row sink sink' (Err (record { row = row; whole = whole; bytes = bytes }))
+HasPainted job reaches strokes sink sink' (Err (Paint fault)) = job_fault job ≡ Some (Paint fault)
+HasPainted job reaches strokes sink sink' (Err Memory) = ⊤
+HasPainted job reaches strokes sink sink' (Err _) = ⊥

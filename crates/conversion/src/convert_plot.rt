@@ -7,15 +7,12 @@ ghost use Rattle.conversion.specs.Pictures.{has_resolution};
 use crate::done::Done;
 use crate::drawing::draw_source;
 use crate::fault::Fault;
-use crate::gathering::band_space;
-use crate::reading::buffer_of;
-use crate::stroke_inks::StrokeInks;
-use crate::writing::write_picture;
+use crate::painting::paint;
 use devices::{Sink, Source};
 use picture_job::Job;
 use picture_out::takes_resolution;
 use std::alloc::Global;
-use stroke_raster::{Gauge, Painter};
+use stroke_raster::Gauge;
 
 /// Writes the picture of the plot that the source gives: the head if the job's first row is 0, its
 /// rows from the first row on, the foot. A pixel shows the pen and the colour of the last stroke of
@@ -51,27 +48,11 @@ pub fn convert<G: Gauge, S: Source, K: Sink>(
     }
     let lines = draw_source(alloc, &job.page, source)?;
     let strokes = lines.strokes.as_slice();
-    let mut painter = Painter::new(
-        alloc,
-        strokes,
-        job.page,
-        job.dots,
-        job.pens,
-        job.band,
-        job.first_row,
-    )?;
+    let bytes = match paint(alloc, job, strokes, gauge, sink) {
+        Ok(bytes) => bytes,
+        Err(fault) => return Err(fault),
+    };
     let rows = job.dots.rows(&job.page) - job.first_row;
-    let space = band_space(job.form, painter.columns(), rows.min(job.band));
-    let mut buffer = buffer_of(alloc, space)?;
-    let inks = StrokeInks::new(strokes);
-    let bytes = write_picture(
-        job.form,
-        &mut painter,
-        gauge,
-        &inks,
-        buffer.as_mut_slice(),
-        sink,
-    )?;
     Ok(Done {
         rows,
         bytes,

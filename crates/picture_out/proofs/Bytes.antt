@@ -2,7 +2,7 @@
 use Rattle.std.proofs.Common.{◌≡◌, ℕ, ◌+◌, ◌<◌, List, ◌++◌, [], length, get_or, take, drop, ap, ◌∙◌, arith, refl, ◌∷◌, zero, suc, false, ◌==◌, ◌-◌, length-drop}
 use Rattle.std.proofs.lemmas.List.{get_or-take, get_or-drop, take_rest}
 use Rattle.std.proofs.lemmas.Bool.Decides.{nat_tests}
-use Rattle.picture_out.specs.Bits.{byte_of}
+use Rattle.bit_rows.specs.Bits.{byte_of}
 
 pub byte_same : (a b : List ℕ) → ((i : ℕ) → i < 8 → get_or a i 0 ≡ get_or b i 0) → byte_of a ≡ byte_of b
 byte_same a b h =

@@ -5,7 +5,7 @@ use Rattle.std.proofs.Math.Seq.{take-add}
 use Rattle.std.proofs.lemmas.Grind.{flat_map-append}
 use Rattle.std.proofs.lemmas.List.{length-take-le, length-drop}
 use Rattle.picture_out.specs.declared.inks.Ink.{Ink}
-use Rattle.picture_out.specs.Inks.{cell_colour, colour_of, ink_at, paper}
+use Rattle.picture_out.specs.Inks.{colour_of, ink_at, paper, cell_colour}
 use Rattle.picture_out.proofs.Tables.{placed}
 
 pub colour_size : (inks : List Ink) (cell : ℕ) → length (cell_colour inks cell) ≡ 3

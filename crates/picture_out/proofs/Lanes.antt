@@ -2,7 +2,7 @@
 use Rattle.std.proofs.Common.{◌≡◌, ℕ, ◌%◌, ◌≤◌, ◌^◌, List, ◌++◌, ◌∷◌, [], Bool, true, false, cond, not, nat_eq, length, get_or, map, replicate, w32, ap, ◌∙◌, arith, refl}
 use Rattle.std.specs.Simd.Lanes.{zip2, mask_l, pick_l, top}
 use Rattle.std.proofs.lemmas.Simd.{bitmask_splat, pick_l_left}
-use Rattle.picture_out.specs.Bits.{byte_of}
+use Rattle.bit_rows.specs.Bits.{byte_of}
 
 abbrev pub reversed : List ℕ
 reversed = 7 ∷ 6 ∷ 5 ∷ 4 ∷ 3 ∷ 2 ∷ 1 ∷ 0 ∷ []

@@ -8,4 +8,3 @@ pub mod Coloured
 pub mod Sizes
 pub mod Shown
 mod Examples
-mod PclExamples

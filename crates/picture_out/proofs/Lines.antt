@@ -4,7 +4,7 @@ use Rattle.std.proofs.lemmas.Fmt.{length-decimal-le}
 use Rattle.std.proofs.lemmas.List.{get_or-drop}
 use Rattle.picture_out.specs.declared.inks.Ink.{Ink}
 use Rattle.picture_out.specs.Inks.{ink_at, paper}
-use Rattle.picture_out.specs.Marks.{line, mark, marks_from, marks}
+use Rattle.picture_out.specs.Marks.{line, mark, marks_from}
 use Rattle.picture_out.specs.Spans.{IsBlankOutside}
 use Rattle.picture_out.proofs.Spans.{before_span, after_span}
 
@@ -49,7 +49,7 @@ marks_size r c inks (x ∷ xs) hr hc h =
     let more : length (marks_from r (c + 1) inks xs) ≤ 33 * length xs = marks_size r (c + 1) inks xs hr (omega arith) h in
     omega (arith, length-append (mark r c inks x) (marks_from r (c + 1) inks xs))
 
-pub marks_row_size : (index : ℕ) (inks : List Ink) (cells : List ℕ) → index < 2 ^ 32 → length cells ≤ 2 ^ 32 → ((cell : ℕ) → (ink_at inks cell).pen < 256) → length (marks index inks cells) ≤ 33 * length cells
+pub marks_row_size : (index : ℕ) (inks : List Ink) (cells : List ℕ) → index < 2 ^ 32 → length cells ≤ 2 ^ 32 → ((cell : ℕ) → (ink_at inks cell).pen < 256) → length (marks_from (decimal index) 0 inks cells) ≤ 33 * length cells
 marks_row_size index inks cells hi hl h = marks_size (decimal index) 0 inks cells (length-decimal-le 10 index (omega arith) (omega arith) (omega arith)) (omega arith) h
 
 -- the pen at each position, read past the end too

@@ -4,7 +4,7 @@ use borrow.Rule.Slice.PartMut.{put_mid}
 use Rattle.std.specs.List.{range_with_len}
 use Rattle.std.proofs.lemmas.Bool.{cases_lt}
 use Rattle.std.proofs.lemmas.List.{get_or-take, get_or-drop, get_or_past, length-take}
-use Rattle.picture_out.specs.Bits.{byte_of, bytes_for, packed}
+use Rattle.bit_rows.specs.Bits.{byte_of, bytes_for, packed}
 use Rattle.picture_out.specs.Spans.{IsBlankOutside}
 use Rattle.picture_out.proofs.Spans.{before_span, after_span}
 use Rattle.picture_out.proofs.Bytes.{byte_same}

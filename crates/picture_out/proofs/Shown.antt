@@ -5,9 +5,9 @@ use Rattle.std.proofs.lemmas.Bool.{cases_lt, not-true, not-false}
 use Rattle.std.proofs.lemmas.List.{get_or-drop, get_or_past, take_at, drop_at, drop-drop}
 use Rattle.std.proofs.lemmas.List.FromFn.{get_or-map-range_with_len}
 use Rattle.picture_out.specs.declared.inks.Ink.{Ink}
-use Rattle.picture_out.specs.Inks.{paper, ink_at, cell_colour, colour_of}
+use Rattle.picture_out.specs.Inks.{paper, ink_at, colour_of, cell_colour}
 use Rattle.picture_out.specs.Marks.{line, mark, marks_from}
-use Rattle.picture_out.specs.Bits.{bit_of, byte_of, bytes_for, packed}
+use Rattle.bit_rows.specs.Bits.{bit_of, byte_of, bytes_for, packed}
 use Rattle.picture_out.specs.Laws.{is_inked, bit_at, bytes_at, BitsShow, ColoursShow}
 use Rattle.picture_out.proofs.Coloured.{colour_size}
 use Rattle.picture_out.proofs.Sizes.{packed_size, coloured_size}

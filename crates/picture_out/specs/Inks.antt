@@ -1,5 +1,5 @@
--- Inks: the pen and the colour of each position, and cells as colours, as in a row of Netpbm's P6 (ppm).
-use Rattle.std.specs.Prelude.{ℕ, ◌-◌, List, [], ◌∷◌, get_or, nat_eq, if◌then◌else◌, flat_map}
+-- Inks: the pen and the colour of each position, and the colours of cells.
+use Rattle.std.specs.Prelude.{ℕ, ◌-◌, List, [], ◌∷◌, get_or, nat_eq, if◌then◌else◌}
 use Rattle.picture_out.specs.declared.inks.Ink.{Ink}
 
 -- pen 0, white
@@ -17,7 +17,3 @@ colour_of ink = ink.red ∷ ink.green ∷ ink.blue ∷ []
 -- the colour of a cell: the paper's for 0, otherwise that of the ink at its position
 abbrev pub cell_colour : List Ink → ℕ → List ℕ
 cell_colour inks cell = if nat_eq cell 0 then colour_of paper else colour_of (ink_at inks cell)
-
--- three bytes for each cell, from the left
-abbrev pub coloured : List Ink → List ℕ → List ℕ
-coloured inks cells = flat_map (cell_colour inks) cells

@@ -6,7 +6,7 @@ use Rattle.picture_out.specs.declared.form.Form.TheVariants.{Marks, Pbm, Ppm, Pc
 use Rattle.picture_out.specs.declared.inks.Ink.{Ink}
 use Rattle.picture_out.specs.Inks.{ink_at, colour_of}
 use Rattle.picture_out.specs.Marks.{line}
-use Rattle.picture_out.specs.Bits.{bytes_for}
+use Rattle.bit_rows.specs.Bits.{bytes_for}
 use Rattle.picture_out.specs.Pcl.{transfer_command}
 use Rattle.picture_out.specs.Forms.{row_bytes}
 

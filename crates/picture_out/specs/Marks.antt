@@ -12,20 +12,20 @@ two_digits byte = digit_glyph false (byte / 16) ∷ digit_glyph false (byte % 16
 abbrev pub colour_digits : Ink → List ℕ
 colour_digits ink = two_digits ink.red ++ two_digits ink.green ++ two_digits ink.blue
 
--- a line: the row as text, the column, the pen and the colour, separated by spaces
+-- a line: the row's number as text, the column, the pen and the colour, separated by spaces
 abbrev pub line : List ℕ → ℕ → Ink → List ℕ
-line row column ink =
-    row ++ codes " " ++ decimal column ++ codes " " ++ decimal ink.pen ++ codes " " ++ colour_digits ink ++ codes "\n"
+line index column ink =
+    index ++ codes " " ++ decimal column ++ codes " " ++ decimal ink.pen ++ codes " " ++ colour_digits ink ++ codes "\n"
 
 -- the line of one cell; nothing for 0
 abbrev pub mark : List ℕ → ℕ → List Ink → ℕ → List ℕ
-mark row column inks cell = if nat_eq cell 0 then [] else line row column (ink_at inks cell)
+mark index column inks cell = if nat_eq cell 0 then [] else line index column (ink_at inks cell)
 
 -- the lines of cells that begin in a column
 abbrev pub marks_from : List ℕ → ℕ → List Ink → List ℕ → List ℕ
-marks_from row column inks [] = []
-marks_from row column inks (cell ∷ cells) = mark row column inks cell ++ marks_from row (column + 1) inks cells
+marks_from index column inks [] = []
+marks_from index column inks (cell ∷ cells) = mark index column inks cell ++ marks_from index (column + 1) inks cells
 
--- the lines of a whole row
+-- the lines of the row of this number
 abbrev pub marks : ℕ → List Ink → List ℕ → List ℕ
-marks row inks cells = marks_from (decimal row) 0 inks cells
+marks index inks cells = marks_from (decimal index) 0 inks cells

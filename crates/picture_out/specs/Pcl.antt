@@ -39,21 +39,18 @@ abbrev pub end_raster : List ℕ
 end_raster = escape ∷ codes "*rB"
 
 -- the commands before the rows
-abbrev pub commands_before : ℕ → ℕ → ℕ → List ℕ
-commands_before dots columns rows =
+abbrev pub head : ℕ → ℕ → ℕ → List ℕ
+head dots columns rows =
     reset ++ set_resolution dots ++ set_width columns ++ set_height rows ++ start_raster ++ set_no_compression
 
 -- a row of these bytes
-abbrev pub transferred : List ℕ → List ℕ
-transferred bytes = transfer_command (length bytes) ++ bytes
+abbrev pub row : List ℕ → List ℕ
+row bytes = transfer_command (length bytes) ++ bytes
 
 -- the commands after the rows
-abbrev pub commands_after : List ℕ
-commands_after = end_raster ++ reset
+abbrev pub foot : List ℕ
+foot = end_raster ++ reset
 
 -- the resolutions of PCL 5, in dots per inch
-abbrev pub resolutions : List ℕ
-resolutions = 75 ∷ 100 ∷ 150 ∷ 200 ∷ 300 ∷ 600 ∷ []
-
-abbrev pub is_resolution : ℕ → Bool
-is_resolution dots = list_any (λ resolution. dots == resolution) resolutions
+abbrev pub takes_resolution : ℕ → Bool
+takes_resolution dots = list_any (λ resolution. dots == resolution) (75 ∷ 100 ∷ 150 ∷ 200 ∷ 300 ∷ 600 ∷ [])

@@ -1,9 +1,10 @@
 //! Cells packed into bits.
-ghost use Rattle.std.specs.Prelude.{◌≡◌, ◌≤◌, ◌+◌, ◌++◌, length, take, drop, IfSome};
-ghost use Rattle.picture_out.specs.Bits.{byte_of, bytes_for, packed};
+ghost use Rattle.std.specs.Prelude.{◌≡◌, ◌≤◌, ◌+◌, ◌++◌, length, drop};
+ghost use Rattle.bit_rows.specs.Bits.{byte_of, bytes_for, packed};
 ghost use Rattle.picture_out.specs.Spans.{IsBlankOutside};
 
-use crate::cells::{Cells, Span};
+use crate::cells::Span;
+use bit_rows::packed_length;
 use std::simd::prelude::*;
 
 /// Packs each cell into a bit, 1 if the cell is not 0, as in a row of Netpbm's P4: the leftmost cell
@@ -37,30 +38,6 @@ pub(crate) fn pack_row(cells: &[u32], span: Span, out: &mut [u8])
     out[..first].fill(0);
     pack_bits(&cells[8 * first..stop], &mut out[first..last]);
     out[last..all].fill(0);
-}
-
-/// Appends a row of Netpbm's P4 to the first `used` bytes of a piece, and returns how many are used
-/// then; `None` if the piece is too short for the row.
-pub fn append_bits(piece: &mut [u8], used: usize, cells: &Cells<'_>) -> Option<usize>
-    requires { used ≤ length piece.old }
-    ensures used { IfSome result (λ end. end ≡ used + length (packed cells.now)) }
-    ensures within { IfSome result (λ end. end ≤ length piece.old) }
-    ensures bytes { IfSome result (λ end. take end piece.new ≡ take used piece.old ++ packed cells.now) }
-    ensures size { length piece.new ≡ length piece.old }
-{
-    let bytes = packed_length(cells.cells.len());
-    if piece.len() - used < bytes {
-        return None;
-    }
-    pack_row(cells.cells, cells.span, &mut piece[used..]);
-    Some(used + bytes)
-}
-
-// How many bytes a row of Netpbm's P4 takes.
-pub(crate) fn packed_length(columns: usize) -> usize
-    ensures { result ≡ bytes_for columns }
-{
-    columns.div_ceil(8)
 }
 
 // Packs fewer than eight cells; the padding is 0.

@@ -3,17 +3,16 @@
 
 mod bits;
 mod cells;
-mod colours;
 mod form;
 mod inks;
 pub mod laws;
 mod marks;
-mod parts;
+mod pbm;
 mod pcl;
 mod pieces;
+mod ppm;
 
-pub use bits::{append_bits, pack_bits};
+pub use bits::pack_bits;
 pub use cells::Cells;
-pub use form::{Form, takes_resolution};
+pub use form::{Form, put_foot, put_head, put_row, room, row_space, takes_resolution};
 pub use inks::{Ink, Inks};
-pub use parts::{put_foot, put_head, put_row, room, row_space};

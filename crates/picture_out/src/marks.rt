@@ -1,10 +1,11 @@
 //! Marks: a line of text for each cell that is not 0.
-ghost use Rattle.std.specs.Prelude.{◌≡◌, ◌-◌, ◌+◌, ◌*◌, ◌^◌, ◌<◌, ◌≤◌, ◌++◌, length, take, IfOk, false};
+ghost use Rattle.std.specs.Prelude.{◌≡◌, ◌-◌, ◌+◌, ◌*◌, ◌^◌, ◌<◌, ◌≤◌, ◌++◌, List, [], length, take, drop, IfOk, false};
 ghost use Rattle.std.specs.Fmt.{digit_glyph};
 ghost use Rattle.devices.specs.Sinks.{Writes, WritesAtMost};
-ghost use Rattle.picture_out.specs.Marks.{colour_digits, line, marks_from, marks};
-ghost use Rattle.picture_out.specs.Lines.{lines_on};
-ghost use Rattle.picture_out.specs.Rooms.{AreInked};
+ghost use Rattle.picture_out.specs.declared.form.Form.TheVariants.{Marks};
+ghost use Rattle.picture_out.specs.Marks.{colour_digits, line, marks_from};
+ghost use Rattle.picture_out.specs.Forms.{head_bytes, row_bytes, foot_bytes, takes_resolution};
+ghost use Rattle.picture_out.specs.Rooms.{room_of, TakesAnyRow, AreInked};
 ghost use Rattle.picture_out.specs.Spans.{IsBlankOutside};
 
 use crate::cells::Span;
@@ -19,9 +20,34 @@ const LONGEST_NUMBER: usize = 10;
 /// spaces and the LF.
 pub(crate) const LONGEST_LINE: usize = 33;
 
+// Writes the header, and returns how many bytes it has: none.
+pub(crate) fn append_head(_text: &mut [u8], _dots: u32, _columns: u32, _rows: u32) -> usize
+    ensures text { take result _text.new ≡ head_bytes Marks _dots _columns _rows }
+    ensures most { result ≤ length _text.old }
+    ensures size { length _text.new ≡ length _text.old }
+{
+    0
+}
+
+// The least length of a buffer for a row: none is needed.
+pub(crate) fn room(_columns: u32) -> usize
+    ensures { result ≡ room_of Marks _columns }
+{
+    0
+}
+
+// The length of a buffer that takes any row whole.
+pub(crate) fn row_space(columns: u32) -> usize
+    ensures room { room_of Marks columns ≤ result }
+    ensures whole { TakesAnyRow Marks columns result }
+    ensures most { result ≤ LONGEST_LINE * columns }
+{
+    LONGEST_LINE * columns as usize
+}
+
 // Writes the lines of a row, as many at a time as the buffer is sure to take.
-pub(crate) fn put_marks<I: Inks, K: Sink>(
-    row: u32,
+pub(crate) fn put_row<I: Inks, K: Sink>(
+    index: u32,
     cells: &[u32],
     span: Span,
     inks: &I,
@@ -32,12 +58,12 @@ pub(crate) fn put_marks<I: Inks, K: Sink>(
     requires columns { length cells.now < 2 ^ 32 }
     requires span { IsBlankOutside cells.now span.low span.end }
     requires inked { AreInked (I.inks inks.now) cells.now }
-    ensures writes { Writes (K.state sink.old) (K.state sink.new) (marks row (I.inks inks.now) cells.now) result }
-    ensures count { IfOk result (λ n. n ≡ length (marks row (I.inks inks.now) cells.now)) }
+    ensures writes { Writes (K.state sink.old) (K.state sink.new) (row_bytes Marks index (I.inks inks.now) cells.now) result }
+    ensures count { IfOk result (λ n. n ≡ length (row_bytes Marks index (I.inks inks.now) cells.now)) }
     ensures small { WritesAtMost (LONGEST_LINE * length cells.now) result }
 {
     let mut digits = Buffer::new();
-    let row_text = digits.format(row).as_bytes();
+    let row_text = digits.format(index).as_bytes();
     if buffer.len() < LONGEST_LINE {
         let mut piece = [0; LONGEST_LINE];
         put_lines(row_text, cells, span, inks, &mut piece, sink)
@@ -46,7 +72,7 @@ pub(crate) fn put_marks<I: Inks, K: Sink>(
     }
 }
 
-// `put_marks` with a piece that takes at least one line, and with the row's number as text.
+// `put_row` with a piece that takes at least one line, and with the row's number as text.
 fn put_lines<I: Inks, K: Sink>(
     row: &[u8],
     cells: &[u32],
@@ -106,8 +132,9 @@ fn fill<I: Inks>(
     ensures onward { from < result.next }
     ensures within { result.next ≤ end }
     ensures most { result.length + LONGEST_LINE * from ≤ LONGEST_LINE * result.next }
-    ensures lines { take result.length piece.new ++ lines_on row.now (I.inks inks.now) cells.now result.next
-        ≡ lines_on row.now (I.inks inks.now) cells.now from }
+    ensures lines { take result.length piece.new
+        ++ marks_from row.now result.next (I.inks inks.now) (drop result.next cells.now)
+        ≡ marks_from row.now from (I.inks inks.now) (drop from cells.now) }
     ensures size { length piece.new ≡ length piece.old }
 {
     let mut length = 0;
@@ -165,4 +192,18 @@ fn digit(number: u8) -> u8
     } else {
         b'a' + (number - 10)
     }
+}
+
+// The foot: none.
+pub(crate) fn foot() -> &'static [u8]
+    ensures { result.now ≡ foot_bytes Marks }
+{
+    b""
+}
+
+// Marks have any resolution.
+pub(crate) fn takes_resolution(_dots: u32) -> bool
+    ensures { result ≡ takes_resolution Marks _dots }
+{
+    true
 }

@@ -1,13 +1,17 @@
 //! PCL 5 raster graphics without compression.
-ghost use Rattle.std.specs.Prelude.{◌≡◌, ◌-◌, ◌+◌, ◌*◌, ◌^◌, ◌<◌, ◌≤◌, ◌++◌, length, take, IfOk, decimal};
-ghost use Rattle.devices.specs.Sinks.{Writes};
-ghost use Rattle.picture_out.specs.Bits.{bytes_for, packed};
-ghost use Rattle.picture_out.specs.Pcl.{commands_before, commands_after, transfer_command, transferred};
+ghost use Rattle.std.specs.Prelude.{◌≡◌, ◌-◌, ◌+◌, ◌*◌, ◌^◌, ◌<◌, ◌≤◌, ◌++◌, List, [], length, take, IfOk, decimal};
+ghost use Rattle.devices.specs.Sinks.{Writes, WritesAtMost};
+ghost use Rattle.picture_out.specs.declared.form.Form.TheVariants.{Pcl};
+ghost use Rattle.bit_rows.specs.Bits.{packed};
+ghost use Rattle.picture_out.specs.Pcl.{transfer_command};
+ghost use Rattle.picture_out.specs.Forms.{head_bytes, foot_bytes, takes_resolution};
+ghost use Rattle.picture_out.specs.Rooms.{room_of, TakesAnyRow};
 ghost use Rattle.picture_out.specs.Spans.{IsBlankOutside};
 
-use crate::bits::{pack_row, packed_length};
+use crate::bits::pack_row;
 use crate::cells::Span;
 use crate::pieces::{put_both, put_counted};
+use bit_rows::packed_length;
 use devices::{Sink, WriteFault, append};
 use itoa::Buffer;
 
@@ -15,13 +19,13 @@ use itoa::Buffer;
 pub(crate) const LONGEST_COMMAND: usize = 14;
 
 /// The longest header: a reset of two bytes, three commands with a value, and two of five bytes.
-pub(crate) const LONGEST_PCL_HEAD: usize = 2 + 3 * LONGEST_COMMAND + 10;
+pub(crate) const LONGEST_HEAD: usize = 2 + 3 * LONGEST_COMMAND + 10;
 
-// Writes the commands before the rows, and returns how many bytes they take.
-pub(crate) fn append_commands_before(text: &mut [u8], dots: u32, columns: u32, rows: u32) -> usize
-    requires room { LONGEST_PCL_HEAD ≤ length text.old }
-    ensures text { take result text.new ≡ commands_before dots columns rows }
-    ensures most { result ≤ LONGEST_PCL_HEAD }
+// Writes the header, the commands before the rows, and returns how many bytes they have.
+pub(crate) fn append_head(text: &mut [u8], dots: u32, columns: u32, rows: u32) -> usize
+    requires room { LONGEST_HEAD ≤ length text.old }
+    ensures text { take result text.new ≡ head_bytes Pcl dots columns rows }
+    ensures most { result ≤ LONGEST_HEAD }
     ensures size { length text.new ≡ length text.old }
 {
     let used = append(text, 0, b"\x1bE");
@@ -47,8 +51,24 @@ fn append_command(text: &mut [u8], used: usize, group: &[u8], value: u32, letter
     append(text, used, letter)
 }
 
+// The least length of a buffer for a row.
+pub(crate) fn room(columns: u32) -> usize
+    ensures { result ≡ room_of Pcl columns }
+{
+    packed_length(columns as usize)
+}
+
+// The length of a buffer that takes any row whole.
+pub(crate) fn row_space(columns: u32) -> usize
+    ensures room { room_of Pcl columns ≤ result }
+    ensures whole { TakesAnyRow Pcl columns result }
+    ensures most { result ≤ columns + LONGEST_COMMAND }
+{
+    room(columns) + LONGEST_COMMAND
+}
+
 // Writes a row: in one piece if the buffer also takes the command that precedes the bytes.
-pub(crate) fn put_transfer<K: Sink>(
+pub(crate) fn put_row<K: Sink>(
     cells: &[u32],
     span: Span,
     buffer: &mut [u8],
@@ -57,10 +77,12 @@ pub(crate) fn put_transfer<K: Sink>(
     requires sound { (K.state sink.old).faults < 2 ^ 64 - 1 }
     requires columns { length cells.now < 2 ^ 32 }
     requires span { IsBlankOutside cells.now span.low span.end }
-    requires room { bytes_for (length cells.now) ≤ length buffer.old }
-    ensures writes { Writes (K.state sink.old) (K.state sink.new) (transferred (packed cells.now)) result }
-    ensures count { IfOk result (λ n. n ≡ length (transferred (packed cells.now))) }
-    ensures most { length (transferred (packed cells.now)) ≤ LONGEST_COMMAND + bytes_for (length cells.now) }
+    requires room { room_of Pcl (length cells.now) ≤ length buffer.old }
+    ensures writes { Writes (K.state sink.old) (K.state sink.new)
+        (transfer_command (length (packed cells.now)) ++ packed cells.now) result }
+    ensures count { IfOk result (λ n. n ≡ length (transfer_command (length (packed cells.now)) ++ packed cells.now)) }
+    ensures most { length (transfer_command (length (packed cells.now)) ++ packed cells.now)
+        ≤ LONGEST_COMMAND + room_of Pcl (length cells.now) }
 {
     let bytes = packed_length(cells.len());
     let mut text = [0; LONGEST_COMMAND];
@@ -76,11 +98,16 @@ pub(crate) fn put_transfer<K: Sink>(
     }
 }
 
-// Writes the commands after the rows.
-pub(crate) fn put_commands_after<K: Sink>(sink: &mut K) -> Result<u64, WriteFault>
-    requires sound { (K.state sink.old).faults < 2 ^ 64 - 1 }
-    ensures writes { Writes (K.state sink.old) (K.state sink.new) commands_after result }
-    ensures count { IfOk result (λ n. n ≡ length commands_after) }
+// The foot: the commands after the rows.
+pub(crate) fn foot() -> &'static [u8]
+    ensures { result.now ≡ foot_bytes Pcl }
 {
-    put_counted(sink, b"\x1b*rB\x1bE")
+    b"\x1b*rB\x1bE"
+}
+
+// PCL 5 has six resolutions.
+pub(crate) fn takes_resolution(dots: u32) -> bool
+    ensures { result ≡ takes_resolution Pcl dots }
+{
+    matches!(dots, 75 | 100 | 150 | 200 | 300 | 600)
 }

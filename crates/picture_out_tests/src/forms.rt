@@ -3,7 +3,7 @@ ghost use Rattle.std.specs.Prelude.{◌≡◌, ◌-◌, ◌+◌, ◌^◌, ◌<�
 
 use devices::{OverWrite, Sink, SinkFault, put_all};
 use picture_out::{
-    Cells, Form, Ink, Inks, append_bits, pack_bits, put_foot, put_head, put_row, room, row_space,
+    Cells, Form, Ink, Inks, pack_bits, put_foot, put_head, put_row, room, row_space,
 };
 use std::alloc::Global;
 use std::io::Write;
@@ -191,7 +191,7 @@ fn written(rt: &HostRuntime, form: Form, cells: Cells<'_>) -> Result<Vec<u8>, Fa
 
 #[test]
 fn spans(rt: HostRuntime) -> Result<(), Fail> {
-    for form in [Form::Marks, Form::Pbm, Form::Ppm, Form::Pcl] {
+    for form in Form::ALL {
         let want = written(&rt, form, Cells::new(&WIDE))?;
         for cells in [
             Cells::within(&WIDE, 7, 17),
@@ -326,23 +326,6 @@ fn bytes_past_the_packed_ones(rt: HostRuntime) {
     assert_eq!(rt; out, [0x65, 0x80, 7, 7]);
     pack_bits(&[256, 65536, 4194304], &mut out);
     assert_eq!(rt; out, [0xe0, 0x80, 7, 7]);
-}
-
-#[test]
-fn rows_of_bits_one_after_the_other(rt: HostRuntime) {
-    let mut out = [7; 4];
-    let cells = [0, 1, 2, 0, 0, 255, 0, 1, 3];
-    assert_eq!(rt; append_bits(&mut out, 1, &Cells::new(&cells)), Some(3));
-    assert_eq!(rt; out, [7, 0x65, 0x80, 7]);
-    assert_eq!(rt;
-        append_bits(&mut out, 3, &Cells::within(&[0, 0, 9], 2, 3)),
-        Some(4)
-    );
-    assert_eq!(rt; out, [7, 0x65, 0x80, 0x20]);
-    assert_eq!(rt; append_bits(&mut out, 4, &Cells::new(&[1])), None);
-    assert_eq!(rt; append_bits(&mut out, 4, &Cells::new(&[])), Some(4));
-    assert_eq!(rt; append_bits(&mut out, 3, &Cells::new(&cells)), None);
-    assert_eq!(rt; out, [7, 0x65, 0x80, 0x20]);
 }
 
 // Cell by cell.

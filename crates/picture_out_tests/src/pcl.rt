@@ -214,8 +214,8 @@ fn resolutions(rt: HostRuntime) -> Result<(), Fail> {
         if takes_resolution(Form::Pcl, dots) {
             taken.push(dots)?;
         }
-        for form in [Form::Marks, Form::Pbm, Form::Ppm] {
-            assert!(rt; takes_resolution(form, dots), "{dots}");
+        for form in Form::ALL {
+            assert!(rt; form == Form::Pcl || takes_resolution(form, dots), "{dots}");
         }
     }
     assert_eq!(rt; taken.as_slice(), [75, 100, 150, 200, 300, 600].as_slice());

@@ -1,5 +1,5 @@
 //! Gauges decide whether a stroke reaches a pixel, and count the tests.
-ghost use Rattle.std.specs.Prelude.{◌≡◌, ℕ, ◌+◌, ◌<◌, ◌≤◌, Bool, true, false, cond, get_or, length, min};
+ghost use Rattle.std.specs.Prelude.{◌≡◌, ℕ, ◌+◌, ◌*◌, ◌<◌, ◌≤◌, Bool, true, false, cond, get_or, length, min};
 ghost use Rattle.plot_page.specs.Segments.{Segment};
 ghost use Rattle.plot_page.specs.declared.page.Page.{Page};
 ghost use Rattle.plot_page.specs.declared.dots.Dots.{Dots};
@@ -7,8 +7,10 @@ ghost use Rattle.plot_page.specs.Resolutions.{columns_of, rows_of};
 ghost use Rattle.stroke_raster.specs.Tests.{next_count, reached, MOST_TESTS};
 ghost use Rattle.stroke_raster.specs.Covers.{covers};
 ghost use Rattle.stroke_raster.specs.Boxes.{in_box, BoxHolds};
+ghost use Rattle.stroke_raster.specs.Inks.{IsReached};
 
 use crate::fill::fill;
+use crate::ink::ink_run;
 use crate::nearness::near;
 use crate::run::run;
 use crate::strip::Span;
@@ -84,6 +86,41 @@ pub trait Gauge {
             end: cells.len() as u32,
         }
     }
+
+    /// Inks a part of a row of a stroke's box: of `many` pixels from column `from` on, each that the
+    /// stroke reaches becomes black. The line has a bit for each pixel of the row. The count rises by
+    /// at least the pixels reached and at most `many`, or to 2^64 - 1, where it stays.
+    #[inline(always)]
+    fn ink(
+        &mut self,
+        trace: &Trace<'_>,
+        page: &Page,
+        row: u32,
+        from: u32,
+        many: u32,
+        line: &mut [u8],
+    )
+        requires row_in { row < rows_of page.now trace.now.dots }
+        requires columns_in { from + many ≤ columns_of page.now trace.now.dots }
+        requires line_in { from + many ≤ 8 * length line.old }
+        requires boxed { (i : ℕ) → i < many →
+            in_box trace.now.stroke.now page.now trace.now.dots row (from + i) ≡ true }
+        ensures bits { IsReached
+            (reaches self.old trace.now.stroke.now page.now trace.now.dots row) from many line.old line.new }
+        ensures same { reaches self.new ≡ reaches self.old }
+        ensures least { min (count self.old + reached
+            (reaches self.old trace.now.stroke.now page.now trace.now.dots row) from many) MOST_TESTS
+            ≤ count self.new }
+        ensures most { count self.new ≤ count self.old + many }
+        ensures grows { count self.old ≤ count self.new }
+    {
+        for i in 0..many {
+            let is_met = self.meets(trace.stroke, page, trace.dots, row, from + i);
+            let low = from + i;
+            let end = if is_met { low + 1 } else { low };
+            ink_run(line, Span { low, end });
+        }
+    }
 }
 
 /// The gauge that asks `near`.
@@ -138,6 +175,26 @@ impl Gauge for Exact {
         fill(cells, run, position);
         self.tests = self.tests.saturating_add(u64::from(run.end - run.low));
         run
+    }
+
+    // The run of `paint`, as bits.
+    #[inline(always)]
+    fn ink(
+        &mut self,
+        trace: &Trace<'_>,
+        page: &Page,
+        row: u32,
+        from: u32,
+        many: u32,
+        line: &mut [u8],
+    ) {
+        let run = run(trace, page, row, from, many);
+        let black = Span {
+            low: from + run.low,
+            end: from + run.end,
+        };
+        ink_run(line, black);
+        self.tests = self.tests.saturating_add(u64::from(black.end - black.low));
     }
 
     fn tests(&self) -> u64 {

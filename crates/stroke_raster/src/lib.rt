@@ -5,6 +5,8 @@ mod band;
 mod extent;
 mod fill;
 mod gauge;
+mod ink;
+mod inker;
 pub mod laws;
 mod marks;
 mod nearness;
@@ -20,6 +22,7 @@ mod walk;
 
 pub use band::Band;
 pub use gauge::{Exact, Gauge};
+pub use inker::Inker;
 pub use marks::Marks;
 pub use nearness::near;
 pub use painter::{PaintFault, Painter};

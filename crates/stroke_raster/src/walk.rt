@@ -5,7 +5,7 @@
 //! next of them. The head of a later band leads to the first stroke that begins in it, and each of
 //! those to the next that does. The number after the last slot is the end of each chain.
 ghost use Rattle.std.specs.Prelude.{◌≡◌, ℕ, ◌+◌, ◌*◌, ◌/◌, ◌%◌, ◌<◌, ◌≤◌, ◌^◌, Bool, cond, nat_eq, nat_lt, length};
-ghost use Rattle.std.specs.Prelude.{get_or, set, min, max, false};
+ghost use Rattle.std.specs.Prelude.{get_or, set, map, min, max, false};
 ghost use Rattle.stroke_raster.specs.Boxes.{box_pixels, in_box, BoxHolds};
 ghost use Rattle.stroke_raster.specs.Scenes.{AreChained, IsNext, ShowsScene, scene_boxes, scene_rows, width_of};
 ghost use Rattle.stroke_raster.specs.Extents.{end_row_of};
@@ -13,6 +13,8 @@ ghost use Rattle.plot_page.specs.Resolutions.{columns_of, rows_of};
 ghost use Rattle.stroke_raster.specs.Rows.{marked, marked_in_rows, split_rows};
 ghost use Rattle.stroke_raster.specs.Slots.{band_from, reaches_cell};
 ghost use Rattle.stroke_raster.specs.Spans.{Spanned, holds, none};
+ghost use Rattle.stroke_raster.specs.Inks.{AreReached, ShowsInk};
+ghost use Rattle.bit_rows.specs.Bits.{bytes_for, packed};
 ghost use Rattle.stroke_raster.specs.Tests.{MOST_TESTS};
 
 use crate::extent::extent_of;
@@ -96,6 +98,49 @@ fn paint_stroke<G: Gauge>(
     extent.rows.end
 }
 
+// Inks the part of a stroke in `rows` rows from `first` on, of `stride` bytes each, and returns the end of
+// its box's rows.
+fn ink_stroke<G: Gauge>(
+    gauge: &mut G,
+    stroke: &Stroke,
+    page: &Page,
+    dots: Dots,
+    first: u32,
+    rows: u32,
+    stride: u32,
+    bits: &mut [u8],
+) -> u32
+    requires rows_in { first + rows ≤ rows_of page.now dots }
+    requires stride_in { columns_of page.now dots ≤ 8 * stride }
+    requires stride_small { stride ≤ 2 ^ 20 }
+    requires wide { length bits.old ≡ rows * stride }
+    requires boxed { BoxHolds (G.reaches gauge.old) }
+    ensures end { result ≡ end_row_of stroke.now page.now dots }
+    ensures size { length bits.new ≡ length bits.old }
+    ensures bits { AreReached (G.reaches gauge.old stroke.now page.now dots) first rows (columns_of page.now dots)
+        stride bits.old bits.new }
+    ensures same { G.reaches gauge.new ≡ G.reaches gauge.old }
+    ensures most { G.count gauge.new ≤ G.count gauge.old + box_pixels
+        (λ s. in_box s page.now dots) stroke.now first rows (columns_of page.now dots) }
+    ensures grows { G.count gauge.old ≤ G.count gauge.new }
+{
+    let extent = extent_of(stroke, page, dots);
+    if extent.columns.low == extent.columns.end {
+        return extent.rows.end;
+    }
+    let from = extent.columns.low;
+    let many = extent.columns.end - from;
+    let below = extent.rows.end.min(first + rows).max(first);
+    let top = extent.rows.low.max(first).min(below);
+    let trace = trace_of(stroke, dots);
+    for row in top..below {
+        let start = (row - first) as usize * stride as usize;
+        let line = &mut bits[start..];
+        gauge.ink(&trace, page, row, from, many, line);
+    }
+    extent.rows.end
+}
+
 // Moves on a chain that is at `slot`; any other chain stays where it is.
 fn moved(at: u32, slot: u32, next: u32) -> u32
     ensures { result ≡ cond (nat_eq at slot) next at }
@@ -158,6 +203,53 @@ fn walk<G: Gauge>(
         old = moved(old, slot, next);
         new = moved(new, slot, next);
         let bottom = paint_stroke(gauge, &stroke, &page, dots, first, rows, slot, spans, cells);
+        tail = keep(links, tail, slot, past < bottom);
+        slot = old.min(new);
+    }
+    links[tail as usize] = end;
+}
+
+// Inks the strokes of a band's chains over blank rows of `stride` bytes each.
+fn ink_walk<G: Gauge>(
+    gauge: &mut G,
+    scene: &Scene<'_>,
+    band: u32,
+    first: u32,
+    rows: u32,
+    stride: u32,
+    heads: &[u32],
+    links: &mut [u32],
+    bits: &mut [u8],
+)
+    requires next { IsNext scene.now band first rows heads.now links.old }
+    requires stride_in { width_of scene.now ≤ 8 * stride }
+    requires stride_small { stride ≤ 2 ^ 20 }
+    requires wide { length bits.old ≡ rows * stride }
+    requires blank { (q : ℕ) → q < length bits.old → get_or bits.old q 0 ≡ 0 }
+    ensures linked { AreChained scene.now (band + 1) heads.now links.new }
+    ensures size { length bits.new ≡ length bits.old }
+    ensures bits { ShowsInk (λ s. G.reaches gauge.old s scene.now.page scene.now.dots) scene.now.pens
+        scene.now.strokes.now first rows (width_of scene.now) stride bits.new }
+    ensures same { G.reaches gauge.new ≡ G.reaches gauge.old }
+    ensures most { G.count gauge.new ≤ G.count gauge.old + scene_boxes scene.now first rows }
+    ensures grows { G.count gauge.old ≤ G.count gauge.new }
+{
+    gauge.keeps_to_boxes();
+    let strokes = scene.strokes;
+    let page = scene.page;
+    let dots = scene.dots;
+    let end = strokes.len() as u32 + 1;
+    let past = first + scene.band_rows;
+    let mut old = links[0];
+    let mut new = heads[band as usize];
+    let mut tail = 0;
+    let mut slot = old.min(new);
+    'slots: while slot < end {
+        let stroke = strokes[slot as usize - 1];
+        let next = links[slot as usize];
+        old = moved(old, slot, next);
+        new = moved(new, slot, next);
+        let bottom = ink_stroke(gauge, &stroke, &page, dots, first, rows, stride, bits);
         tail = keep(links, tail, slot, past < bottom);
         slot = old.min(new);
     }
@@ -268,4 +360,35 @@ pub fn paint_band<G: Gauge>(
     let lines = &mut cells[..length];
     let held = &mut spans[..rows as usize];
     walk(gauge, scene, band, first, rows, heads, links, held, lines);
+}
+
+/// Inks a band into the first rows of the bits, `stride` bytes each, and makes the chains of the next
+/// band.
+pub fn ink_band<G: Gauge>(
+    gauge: &mut G,
+    scene: &Scene<'_>,
+    band: u32,
+    first: u32,
+    rows: u32,
+    stride: u32,
+    heads: &[u32],
+    links: &mut [u32],
+    bits: &mut [u8],
+)
+    requires next { IsNext scene.now band first rows heads.now links.old }
+    requires stride_is { stride ≡ bytes_for (width_of scene.now) }
+    requires stride_small { stride ≤ 2 ^ 20 }
+    requires wide { rows * stride ≤ length bits.old }
+    ensures linked { AreChained scene.now (band + 1) heads.now links.new }
+    ensures size { length bits.new ≡ length bits.old }
+    ensures rows { split_rows stride rows bits.new
+        ≡ map packed (scene_rows (G.reaches gauge.old) scene.now first rows) }
+    ensures same { G.reaches gauge.new ≡ G.reaches gauge.old }
+    ensures most { G.count gauge.new ≤ G.count gauge.old + scene_boxes scene.now first rows }
+    ensures grows { G.count gauge.old ≤ G.count gauge.new }
+{
+    let length = rows as usize * stride as usize;
+    let lines = &mut bits[..length];
+    lines.fill(0);
+    ink_walk(gauge, scene, band, first, rows, stride, heads, links, lines);
 }

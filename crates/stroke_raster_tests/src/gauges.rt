@@ -2,7 +2,7 @@
 ghost use Rattle.std.specs.Prelude.{◌≡◌, ◌%◌, ◌&&◌, nat_eq};
 ghost use Rattle.stroke_raster.specs.Covers.{covers};
 
-use crate::strokes::{BLACK, WHOLE, cells_by};
+use crate::strokes::{BLACK, WHOLE, bits_by, cells_by};
 use plot_page::{Dots, Page, PenSet, Stroke};
 use std::test::Fail;
 use stroke_raster::{Exact, Gauge, laws, near};
@@ -56,6 +56,28 @@ fn a_gauge_with_gaps(rt: HostRuntime) -> Result<(), Fail> {
             [0, 1, 0, 2, 0, 1, 0, 1].as_slice()
         );
         assert!(rt; cells.iter().filter(|cell| **cell != 0).count() == 4);
+        assert_eq!(rt; gauge.tests(), 10);
+    }
+    Ok(())
+}
+
+#[test]
+fn bits_by_a_gauge_with_gaps(rt: HostRuntime) -> Result<(), Fail> {
+    let dots = Dots::new(127).ok_or("dots")?;
+    let whole = Stroke::new(1, BLACK, 224, WHOLE, 0, 448, 1024, 448).ok_or("a stroke")?;
+    let short = Stroke::new(1, BLACK, 224, WHOLE, 320, 448, 448, 448).ok_or("a stroke")?;
+    for band_rows in [1, 3, 4096] {
+        let mut gauge = Odd { tests: 0 };
+        let bits = bits_by(
+            rt.alloc(),
+            &mut gauge,
+            &[whole, short],
+            dots,
+            PenSet::all(),
+            band_rows,
+            0,
+        )?;
+        assert_eq!(rt; bits.as_slice(), [0, 0, 0, 0, 0x55, 0, 0, 0].as_slice());
         assert_eq!(rt; gauge.tests(), 10);
     }
     Ok(())

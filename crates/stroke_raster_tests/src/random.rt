@@ -1,9 +1,9 @@
-//! Strokes from a generator, painted in bands, against the pixel test itself.
-use crate::strokes::{BLACK, WHOLE, cells_by};
+//! Strokes from a generator, painted in bands, against the pixel test itself, and as bits.
+use crate::strokes::{BLACK, WHOLE, bits_by, cells_by, packed};
 use plot_page::{Dots, Page, PenSet, Stroke, Window};
 use std::alloc::Global;
 use std::test::Fail;
-use stroke_raster::{Exact, near};
+use stroke_raster::{Exact, Gauge, near};
 
 // A linear congruential generator.
 #[derive(Drop)]
@@ -88,6 +88,54 @@ fn strokes_in_bands(rt: HostRuntime) -> Result<(), Fail> {
                 band_rows,
             )?;
             assert_eq!(rt; cells.as_slice(), wanted.as_slice());
+        }
+    }
+    Ok(())
+}
+
+// At 1200 dots a run of pixels may be longer than eight bytes take.
+#[test]
+fn strokes_as_bits(rt: HostRuntime) -> Result<(), Fail> {
+    let page = Page::new(64, 64, 0, 0)?;
+    let mut numbers = Numbers { state: 11 };
+    let mut strokes = Vec::new(rt.alloc());
+    for n in 0..24 {
+        strokes.push(numbers.stroke(n).ok_or("a stroke")?)?;
+    }
+    let pens = PenSet::none().with(1).with(2);
+    for resolution in [127, 600, 1200] {
+        let dots = Dots::new(resolution).ok_or("a resolution")?;
+        let columns = dots.columns(&page);
+        let mut gauge = Exact::new();
+        let cells = cells_by(rt.alloc(), &mut gauge, strokes.as_slice(), dots, pens, 5)?;
+        let wanted = packed(rt.alloc(), cells.as_slice(), columns)?;
+        let before = 4 * columns.div_ceil(8) as usize;
+        for band_rows in [1, 3, 4096] {
+            let mut inking = Exact::new();
+            let bits = bits_by(
+                rt.alloc(),
+                &mut inking,
+                strokes.as_slice(),
+                dots,
+                pens,
+                band_rows,
+                0,
+            )?;
+            assert_eq!(rt; bits.as_slice(), wanted.as_slice());
+            assert_eq!(rt; inking.tests(), gauge.tests());
+            let later = bits_by(
+                rt.alloc(),
+                &mut inking,
+                strokes.as_slice(),
+                dots,
+                pens,
+                band_rows,
+                4,
+            )?;
+            assert_eq!(rt;
+                later.as_slice(),
+                wanted.as_slice().get(before..).unwrap_or_default()
+            );
         }
     }
     Ok(())

@@ -1,10 +1,10 @@
-//! Bands, rows and marks of a painter.
+//! Bands, rows and marks of a painter, and bands of an inker.
 
 use crate::strokes::{BLACK, WHOLE};
 use plot_page::{Dots, Page, PenSet, Stroke, Window};
 use std::alloc::Global;
 use std::test::Fail;
-use stroke_raster::{Exact, PaintFault, Painter, near};
+use stroke_raster::{Exact, Inker, PaintFault, Painter, near};
 
 // A stroke of pen 1 in row 4 and one of pen 2 in column 3, on a page of 8 by 8 pixels.
 fn cross() -> Option<[Stroke; 2]> {
@@ -54,6 +54,40 @@ fn bands_of_three_rows(rt: HostRuntime) -> Result<(), Fail> {
     }
     assert!(rt; next_of(&mut painter, &mut gauge, rt.alloc())?.is_none());
     assert!(rt; next_of(&mut painter, &mut gauge, rt.alloc())?.is_none());
+    Ok(())
+}
+
+// A page of 9 by 8 pixels, so that a row has padding.
+#[test]
+fn bits_in_bands_of_three_rows(rt: HostRuntime) -> Result<(), Fail> {
+    let page = Page::new(72, 64, 0, 0)?;
+    let dots = Dots::new(127).ok_or("dots")?;
+    let strokes = cross().ok_or("strokes")?;
+    let mut gauge = Exact::new();
+    let mut inker = Inker::new(rt.alloc(), &strokes, page, dots, PenSet::all(), 3, 1)?;
+    assert!(rt; inker.bytes().is_empty());
+    for wanted in [
+        [0x10, 0, 0x10, 0, 0x10, 0].as_slice(),
+        [0xff, 0, 0x10, 0, 0x10, 0].as_slice(),
+        [0x10, 0].as_slice(),
+    ] {
+        assert!(rt; inker.ink_next(&mut gauge));
+        assert_eq!(rt; inker.bytes(), wanted);
+    }
+    assert!(rt; !inker.ink_next(&mut gauge));
+    assert!(rt; !inker.ink_next(&mut gauge));
+    Ok(())
+}
+
+#[test]
+fn inkers_that_are_refused(rt: HostRuntime) -> Result<(), Fail> {
+    let page = Page::new(64, 64, 0, 0)?;
+    let dots = Dots::new(127).ok_or("dots")?;
+    let low = Inker::new(rt.alloc(), &[], page, dots, PenSet::all(), 0, 9).err();
+    assert!(rt; low == Some(PaintFault::Band));
+    let past = Inker::new(rt.alloc(), &[], page, dots, PenSet::all(), 1, 9).err();
+    assert!(rt; past == Some(PaintFault::Row));
+    assert!(rt; Inker::new(rt.alloc(), &[], page, dots, PenSet::all(), 4096, 8).is_ok());
     Ok(())
 }
 

@@ -1,10 +1,10 @@
 //! What the tests paint, and what is painted.
-ghost use Rattle.std.specs.Prelude.{◌≤◌, length};
+ghost use Rattle.std.specs.Prelude.{◌<◌, ◌≤◌, length};
 
 use plot_page::{Colour, Dots, Page, PenSet, Stroke, Window};
 use std::alloc::Global;
 use std::test::Fail;
-use stroke_raster::{Gauge, Painter};
+use stroke_raster::{Gauge, Inker, Painter};
 
 pub const BLACK: Colour = Colour {
     red: 0,
@@ -43,4 +43,49 @@ pub fn cells_by<G: Gauge>(
         }
     }
     Err(Fail::from("more bands than rows"))
+}
+
+/// The rows of the same page from `first_row` on as an inker has them, inked in bands of so many rows.
+pub fn bits_by<G: Gauge>(
+    alloc: Global,
+    gauge: &mut G,
+    strokes: &[Stroke],
+    dots: Dots,
+    pens: PenSet,
+    band_rows: u32,
+    first_row: u32,
+) -> Result<Vec<u8>, Fail>
+    requires { length strokes.now ≤ 4194304 }
+{
+    let page = Page::new(64, 64, 0, 0)?;
+    let mut inker = Inker::new(alloc, strokes, page, dots, pens, band_rows, first_row)?;
+    let mut bytes = Vec::new(alloc);
+    for _ in 0..=dots.rows(&page) {
+        if !inker.ink_next(gauge) {
+            return Ok(bytes);
+        }
+        bytes.extend_from_slice(inker.bytes())?;
+    }
+    Err(Fail::from("more bands than rows"))
+}
+
+/// Rows of cells as bits, 1 for a cell that shows a stroke, the leftmost of eight in the highest bit.
+pub fn packed(alloc: Global, cells: &[u32], columns: u32) -> Result<Vec<u8>, Fail>
+    requires { 0 < columns }
+{
+    let mut bytes = Vec::new(alloc);
+    for row in cells.chunks(columns as usize) {
+        for eight in row.chunks(8) {
+            let mut byte = 0u8;
+            let mut bit = 128u8;
+            for cell in eight {
+                if *cell != 0 {
+                    byte |= bit;
+                }
+                bit /= 2;
+            }
+            bytes.push(byte)?;
+        }
+    }
+    Ok(bytes)
 }

@@ -1,4 +1,4 @@
-use Rattle.std.proofs.Common.{arith, ◌≡◌, ◌<◌, ◌≤◌, ◌+◌, ◌-◌, ◌*◌, ◌++◌, List, [], length, ℕ, take, drop, refl, subst}
+use Rattle.std.proofs.Common.{arith, ◌≡◌, ◌<◌, ◌≤◌, ◌+◌, ◌-◌, ◌*◌, ◌++◌, List, [], length, ℕ, take, drop, subst}
 use Rattle.std.proofs.Common.{sym, ap, ap₂, ◌∙◌, append-nil, length-drop, map, nat_eq, if◌then◌else◌, Err}
 use Rattle.std.specs.Io.KnownBytes.{Appends}
 use Rattle.std.specs.List.{range_with_len}
@@ -8,10 +8,9 @@ use Rattle.plot_page.specs.declared.dots.Dots.{Dots}
 use Rattle.plot_page.specs.Resolutions.{columns_of, rows_of}
 use Rattle.stroke_raster.specs.Shown.{row_shown}
 use Rattle.stroke_raster.specs.Rows.{rows_shown}
-use Rattle.stroke_raster.specs.Bands.{first_of, rows_of_band}
 use Rattle.stroke_raster.specs.Boxes.{boxes, selected, in_box}
 use Rattle.stroke_raster.proofs.BoxCounts.{boxes_after, boxes_fewer}
-use Rattle.stroke_raster.specs.Painting.{rows_next}
+use Rattle.stroke_raster.specs.Painting.{painted_rows, rows_next}
 use Rattle.picture_out.specs.declared.inks.Ink.{Ink}
 use Rattle.picture_out.specs.Forms.{foot_bytes, row_bytes}
 use Rattle.devices.specs.Sinks.{taken_of, SinkState}
@@ -24,167 +23,160 @@ use Rattle.conversion.proofs.RowTexts.{text_is, band_next}
 use Rattle.conversion.proofs.Stops.{band_stop, same_rows, move_parts}
 use Rattle.conversion.proofs.writing.write_picture.Goals as goal
 
-pub bands-preserved : goal.bands-preserved
-bands-preserved g c =
-    let p = c.args.painter.now in
-    let q = c.bands.painter in
-    let inv = c.bands.invariant in
+pub each-preserved : goal.each-preserved
+each-preserved g c =
+    let p = g.B.Bands.painting c.args.bands.now in
+    let q = g.B.Bands.painting c.each.bands in
+    let inv = c.each.invariant in
     let form = c.args.form in
     let head = head_of form p.page p.dots in
     let row = row_of form (g.G.Gauge.reaches c.args.gauge.now) p.pens p.strokes p.page p.dots in
     let foot = foot_bytes form in
     let rows = rows_of p.page p.dots in
     let all = picture_of head row foot rows p.next in
-    let at = c.bands.at in
+    let at = c.each.at in
     let n = rows_next q in
     let inks : List Ink = g.I.Inks.inks c.args.inks.now in
     let pens = λ (r : ℕ). row_shown (λ (s : Segment). g.G.Gauge.reaches c.args.gauge.now s p.page p.dots) p.pens p.strokes (columns_of p.page p.dots) r in
     let made : (r : ℕ) → row r ≡ row_bytes form r inks (pens r) = λ r. ap (λ (z : List Ink). row_bytes form r z (pens r)) (sym c.requires.inks) in
-    let shown : rows_of_band c.in-Some.band ≡ map pens (range_with_len at n) =
-    c.in-Some.ensures.rows ∙ same_rows (λ f l ss pg d r. rows_shown (λ s. f s pg d) l ss (columns_of pg d) r n) _ _ _ _ _ _ _ _ _ _ _ _ inv.same inv.pens inv.strokes inv.page inv.dots inv.next in
-    let first : first_of c.in-Some.band ≡ at = c.in-Some.ensures.first ∙ inv.next in
-    let shows : rows_text form inks (first_of c.in-Some.band) (rows_of_band c.in-Some.band) ≡ rows_text form inks at (map pens (range_with_len at n)) = ap₂ (rows_text form inks) first shown in
-    let text : rows_text form inks (first_of c.in-Some.band) (rows_of_band c.in-Some.band) ≡ rows_bytes row at n = shows ∙ text_is form inks row pens at n made in
+    let list : List (List ℕ) = painted_rows (g.G.Gauge.reaches c.each.gauge) q q.next n in
+    let shown : list ≡ map pens (range_with_len at n) =
+    same_rows (λ f l ss pg d r. rows_shown (λ s. f s pg d) l ss (columns_of pg d) r n) _ _ _ _ _ _ _ _ _ _ _ _ inv.same inv.pens inv.strokes inv.page inv.dots inv.next in
+    let shows : rows_text form inks q.next list ≡ rows_text form inks at (map pens (range_with_len at n)) = ap₂ (rows_text form inks) inv.next shown in
+    let text : rows_text form inks q.next list ≡ rows_bytes row at n = shows ∙ text_is form inks row pens at n made in
     let page_rows : rows_of q.page q.dots ≡ rows = ap (λ (z : Page). rows_of z q.dots) inv.page ∙ ap (λ (d : Dots). rows_of p.page d) inv.dots in
-    let left : q.next < rows_of q.page q.dots = c.in-Some.ensures.left.0 refl in
+    let left : at < rows = omega (arith, c.each-test.true, c.rows-rows.ensures.count) in
     let fit : at + n ≤ rows = omega (arith, left, page_rows, inv.next) in
     let rest = rows_bytes row (at + n) (rows - (at + n)) ++ foot in
-    let split : drop c.bands.done all ≡ rows_text form inks (first_of c.in-Some.band) (rows_of_band c.in-Some.band) ++ rest =
+    let split : drop c.each.done all ≡ rows_text form inks q.next list ++ rest =
     inv.rest ∙ band_next form inks row pens foot rows at n made fit ∙ ap (λ (z : List ℕ). z ++ rest) (sym shows) in
-    let wrote = c.in-Ok-write_band.ensures.rows in
-    let next = written_next _ _ _ _ _ _ all (rows_text form inks (first_of c.in-Some.band) (rows_of_band c.in-Some.band)) rest c.bands.done split inv.within inv.so_far inv.quiet (wrote.written, wrote.sound) in
-    let count : c.in-Ok-write_band.bytes ≡ c.bands.done + length (rows_text form inks (first_of c.in-Some.band) (rows_of_band c.in-Some.band)) = wrote.count in
-    let height : c.rows-at.result ≡ n = c.rows-at.ensures ∙ c.in-Some.ensures.height in
-    let there : at + c.rows-at.result ≡ at + n = ap (λ (k : ℕ). at + k) height in
-    let some = c.in-Some.ensures.some refl in
-    let moved = c.next_band.follows.holds-at-none in
-    let before : c.in-Ok-write_band.bytes ≡ bytes_before head row p.next (at + n) = omega (arith, count, inv.before, ap length text, before_rows head row p.next at n inv.from) in
-    let size : c.in-Ok-write_band.bytes ≤ c.bands.done + c.rows-at.result * 4194304 = rw c.rows-at.ensures c.in-Ok-write_band.ensures.small in
-    let P : ℕ → Type 0 = λ k. Appends (g.K.Sink.state c.args.sink.now).held (g.K.Sink.state c.write_band.new.sink).held (take k all) in
+    let wrote = c.in-Ok-write_next.ensures.rows in
+    let next = written_next _ _ _ _ _ _ all (rows_text form inks q.next list) rest c.each.done split inv.within inv.so_far inv.quiet (wrote.written, wrote.sound) in
+    let count : c.in-Ok-write_next.bytes ≡ c.each.done + length (rows_text form inks q.next list) = wrote.count in
+    let some = c.in-Ok-write_next.ensures.some in
+    let moved = c.in-Ok-write_next.ensures.moves in
+    let there : c.next_row-at.result ≡ at + n = c.next_row-at.ensures.next ∙ moved.next ∙ ap (λ (k : ℕ). k + n) inv.next in
+    let before : c.in-Ok-write_next.bytes ≡ bytes_before head row p.next (at + n) = omega (arith, count, inv.before, ap length text, before_rows head row p.next at n inv.from) in
+    let size : c.in-Ok-write_next.bytes ≤ c.each.done + n * 4194304 = c.in-Ok-write_next.ensures.small in
+    let P : ℕ → Type 0 = λ k. Appends (g.K.Sink.state c.args.sink.now).held (g.K.Sink.state c.write_next.new.sink).held (take k all) in
     record {
       rest = ap (λ (k : ℕ). drop k all) count ∙ next.2 ∙ ap (λ (k : ℕ). rows_bytes row k (rows - k) ++ foot) (sym there);
       so_far = subst P (sym count) next.0;
       within = omega (arith, count, next.3);
       quiet = next.1;
       before = before ∙ ap (bytes_before head row p.next) (sym there);
-      small = omega (arith, inv.small, size);
-      from = omega (arith, inv.from);
+      small = omega (arith, inv.small, size, there);
+      from = omega (arith, inv.from, there);
       to = omega (arith, fit, there);
       few = inv.few;
       strokes = moved.strokes ∙ inv.strokes;
       page = moved.page ∙ inv.page;
       dots = moved.dots ∙ inv.dots;
       pens = moved.pens ∙ inv.pens;
-      next = moved.next ∙ ap (λ (k : ℕ). k + n) inv.next ∙ sym there;
-      same = c.in-Some.ensures.same ∙ inv.same;
+      next = sym c.next_row-at.ensures.next;
+      same = c.in-Ok-write_next.ensures.same ∙ inv.same;
       tests = (let inside = λ (s : Segment). in_box s p.page p.dots in
-          let few : g.G.Gauge.count c.next_band.new.gauge ≤ g.G.Gauge.count c.bands.gauge + boxes inside (selected p.pens p.strokes) at n (columns_of p.page p.dots) =
-          move_parts (λ l ss pg d r. g.G.Gauge.count c.next_band.new.gauge ≤ g.G.Gauge.count c.bands.gauge + boxes (λ (s : Segment). in_box s pg d) (selected l ss) r n (columns_of pg d)) _ _ _ _ _ _ _ _ _ _ inv.pens inv.strokes inv.page inv.dots inv.next c.in-Some.ensures.most in
+          let few : g.G.Gauge.count c.write_next.new.gauge ≤ g.G.Gauge.count c.each.gauge + boxes inside (selected p.pens p.strokes) at n (columns_of p.page p.dots) =
+          move_parts (λ l ss pg d r. g.G.Gauge.count c.write_next.new.gauge ≤ g.G.Gauge.count c.each.gauge + boxes (λ (s : Segment). in_box s pg d) (selected l ss) r n (columns_of pg d)) _ _ _ _ _ _ _ _ _ _ inv.pens inv.strokes inv.page inv.dots inv.next c.in-Ok-write_next.ensures.most in
           let join = boxes_after inside (selected p.pens p.strokes) p.next at n (columns_of p.page p.dots) inv.from in
-          let more : at + c.rows-at.result - p.next ≡ at + n - p.next = ap (λ (k : ℕ). k - p.next) there in
+          let more : c.next_row-at.result - p.next ≡ at + n - p.next = ap (λ (k : ℕ). k - p.next) there in
           rw more (omega (arith, inv.tests, few, join)));
     }
 
-pub returns-in-Err-write_band : goal.returns-in-Err-write_band
-returns-in-Err-write_band g c =
-    let p = c.args.painter.now in
-    let q = c.bands.painter in
-    let inv = c.bands.invariant in
+pub returns-in-Err-write_next : goal.returns-in-Err-write_next
+returns-in-Err-write_next g c =
+    let p = g.B.Bands.painting c.args.bands.now in
+    let q = g.B.Bands.painting c.each.bands in
+    let inv = c.each.invariant in
     let form = c.args.form in
     let head = head_of form p.page p.dots in
     let row = row_of form (g.G.Gauge.reaches c.args.gauge.now) p.pens p.strokes p.page p.dots in
     let foot = foot_bytes form in
     let rows = rows_of p.page p.dots in
     let all = picture_of head row foot rows p.next in
-    let at = c.bands.at in
+    let at = c.each.at in
     let n = rows_next q in
     let inks : List Ink = g.I.Inks.inks c.args.inks.now in
     let pens = λ (r : ℕ). row_shown (λ (s : Segment). g.G.Gauge.reaches c.args.gauge.now s p.page p.dots) p.pens p.strokes (columns_of p.page p.dots) r in
     let made : (r : ℕ) → row r ≡ row_bytes form r inks (pens r) = λ r. ap (λ (z : List Ink). row_bytes form r z (pens r)) (sym c.requires.inks) in
-    let shown : rows_of_band c.in-Some.band ≡ map pens (range_with_len at n) =
-    c.in-Some.ensures.rows ∙ same_rows (λ f l ss pg d r. rows_shown (λ s. f s pg d) l ss (columns_of pg d) r n) _ _ _ _ _ _ _ _ _ _ _ _ inv.same inv.pens inv.strokes inv.page inv.dots inv.next in
-    let first : first_of c.in-Some.band ≡ at = c.in-Some.ensures.first ∙ inv.next in
+    let shown : painted_rows (g.G.Gauge.reaches c.each.gauge) q q.next n ≡ map pens (range_with_len at n) =
+    same_rows (λ f l ss pg d r. rows_shown (λ s. f s pg d) l ss (columns_of pg d) r n) _ _ _ _ _ _ _ _ _ _ _ _ inv.same inv.pens inv.strokes inv.page inv.dots inv.next in
     let list = map pens (range_with_len at n) in
     let page_rows : rows_of q.page q.dots ≡ rows = ap (λ (z : Page). rows_of z q.dots) inv.page ∙ ap (λ (d : Dots). rows_of p.page d) inv.dots in
-    let left : q.next < rows_of q.page q.dots = c.in-Some.ensures.left.0 refl in
+    let left : at < rows = omega (arith, c.each-test.true, c.rows-rows.ensures.count) in
     let fit : at + n ≤ rows = omega (arith, left, page_rows, inv.next) in
     let rest = rows_bytes row (at + n) (rows - (at + n)) ++ foot in
-    let split : drop c.bands.done all ≡ rows_text form inks at list ++ rest = inv.rest ∙ band_next form inks row pens foot rows at n made fit in
-    let was : SinkState = g.K.Sink.state c.bands.sink in
-    let is : SinkState = g.K.Sink.state c.write_band.new.sink in
-    let P : ℕ → Type 0 = λ k. WritesRows form inks c.next_row-first.result k (rows_of_band c.in-Some.band) c.bands.done was is (Err c.in-Err-write_band.stop) in
-    let Q : List (List ℕ) → Type 0 = λ z. WritesRows form inks c.next_row-first.result at z c.bands.done was is (Err c.in-Err-write_band.stop) in
-    let R : ℕ → Type 0 = λ k. WritesRows form inks k at list c.bands.done was is (Err c.in-Err-write_band.stop) in
-    let wrote = subst R c.next_row-first.ensures.next (subst Q shown (subst P first c.in-Err-write_band.ensures.rows)) in
-    let stop = band_stop form inks head row pens made rows p.next at n c.bands.done c.in-Err-write_band.stop wrote.k inv.from fit inv.before wrote.stopped in
-    let whole : c.in-Err-write_band.stop.bytes ≡ c.bands.done + (c.in-Err-write_band.stop.bytes - c.bands.done) = omega (arith, stop.from) in
-    let cut = cut_next _ _ _ _ _ _ all (rows_text form inks at list) rest c.bands.done _ _ split inv.within inv.so_far inv.quiet (wrote.written, stop.to, wrote.failed) whole in
+    let split : drop c.each.done all ≡ rows_text form inks at list ++ rest = inv.rest ∙ band_next form inks row pens foot rows at n made fit in
+    let was : SinkState = g.K.Sink.state c.each.sink in
+    let is : SinkState = g.K.Sink.state c.write_next.new.sink in
+    let stopped = c.in-Err-write_next.stop in
+    let P : ℕ → Type 0 = λ k. WritesRows form inks c.next_row-first.result k (painted_rows (g.G.Gauge.reaches c.each.gauge) q q.next n) c.each.done was is (Err stopped) in
+    let Q : List (List ℕ) → Type 0 = λ z. WritesRows form inks c.next_row-first.result at z c.each.done was is (Err stopped) in
+    let R : ℕ → Type 0 = λ k. WritesRows form inks k at list c.each.done was is (Err stopped) in
+    let wrote = subst R c.next_row-first.ensures.next (subst Q shown (subst P inv.next c.in-Err-write_next.ensures.rows)) in
+    let stop = band_stop form inks head row pens made rows p.next at n c.each.done stopped wrote.k inv.from fit inv.before wrote.stopped in
+    let whole : stopped.bytes ≡ c.each.done + (stopped.bytes - c.each.done) = omega (arith, stop.from) in
+    let cut = cut_next _ _ _ _ _ _ all (rows_text form inks at list) rest c.each.done _ _ split inv.within inv.so_far inv.quiet (wrote.written, stop.to, wrote.failed) whole in
     let inside = λ (s : Segment). in_box s p.page p.dots in
-    let few : g.G.Gauge.count c.next_band.new.gauge ≤ g.G.Gauge.count c.bands.gauge + boxes inside (selected p.pens p.strokes) at n (columns_of p.page p.dots) =
-    move_parts (λ l ss pg d r. g.G.Gauge.count c.next_band.new.gauge ≤ g.G.Gauge.count c.bands.gauge + boxes (λ (s : Segment). in_box s pg d) (selected l ss) r n (columns_of pg d)) _ _ _ _ _ _ _ _ _ _ inv.pens inv.strokes inv.page inv.dots inv.next c.in-Some.ensures.most in
+    let few : g.G.Gauge.count c.write_next.new.gauge ≤ g.G.Gauge.count c.each.gauge + boxes inside (selected p.pens p.strokes) at n (columns_of p.page p.dots) =
+    move_parts (λ l ss pg d r. g.G.Gauge.count c.write_next.new.gauge ≤ g.G.Gauge.count c.each.gauge + boxes (λ (s : Segment). in_box s pg d) (selected l ss) r n (columns_of pg d)) _ _ _ _ _ _ _ _ _ _ inv.pens inv.strokes inv.page inv.dots inv.next c.in-Err-write_next.ensures.most in
     let join = boxes_after inside (selected p.pens p.strokes) p.next at n (columns_of p.page p.dots) inv.from in
     let fewer = boxes_fewer inside (selected p.pens p.strokes) p.next (at + n - p.next) (rows - p.next) (columns_of p.page p.dots) (omega (arith, fit)) in
     record {
       tests = omega (arith, inv.tests, few, join, fewer);
-      same = c.in-Some.ensures.same ∙ inv.same;
+      same = c.in-Err-write_next.ensures.same ∙ inv.same;
       writes = record { written = cut.0; within = cut.1; failed = cut.2; stopped = stop.at };
     }
 
 pub returns-in-Ok-put_foot : goal.returns-in-Ok-put_foot
 returns-in-Ok-put_foot g c =
-    let p = c.args.painter.now in
-    let q = c.bands.painter in
-    let inv = c.bands.invariant in
+    let p = g.B.Bands.painting c.args.bands.now in
+    let inv = c.each.invariant in
     let form = c.args.form in
     let head = head_of form p.page p.dots in
     let row = row_of form (g.G.Gauge.reaches c.args.gauge.now) p.pens p.strokes p.page p.dots in
     let foot = foot_bytes form in
     let rows = rows_of p.page p.dots in
     let all = picture_of head row foot rows p.next in
-    let at = c.bands.at in
-    let page_rows : rows_of q.page q.dots ≡ rows = ap (λ (z : Page). rows_of z q.dots) inv.page ∙ ap (λ (d : Dots). rows_of p.page d) inv.dots in
-    let none : q.next < rows_of q.page q.dots → ⊥ = λ lt. cc (c.in_default.ensures.left.1 lt) in
-    let done : rows - at ≡ 0 = omega (arith, none, page_rows, inv.next) in
-    let split : drop c.bands.done all ≡ foot ++ [] = inv.rest ∙ ap (λ (k : ℕ). rows_bytes row at k ++ foot) done ∙ sym (append-nil foot) in
-    let next = written_next _ _ _ _ _ _ all foot [] c.bands.done split inv.within inv.so_far inv.quiet c.in-Ok-put_foot.ensures.writes in
+    let at = c.each.at in
+    let done : rows - at ≡ 0 = omega (arith, c.each-test.false, c.rows-rows.ensures.count) in
+    let split : drop c.each.done all ≡ foot ++ [] = inv.rest ∙ ap (λ (k : ℕ). rows_bytes row at k ++ foot) done ∙ sym (append-nil foot) in
+    let next = written_next _ _ _ _ _ _ all foot [] c.each.done split inv.within inv.so_far inv.quiet c.in-Ok-put_foot.ensures.writes in
     let count : c.in-Ok-put_foot.bytes ≡ length foot = c.in-Ok-put_foot.ensures.count in
     let inside = λ (s : Segment). in_box s p.page p.dots in
     let fewer = boxes_fewer inside (selected p.pens p.strokes) p.next (at - p.next) (rows - p.next) (columns_of p.page p.dots) (omega (arith, inv.to)) in
     record {
-      tests = rw c.in_default.ensures.idle (omega (arith, inv.tests, fewer));
-      same = c.in_default.ensures.same ∙ inv.same;
+      tests = omega (arith, inv.tests, fewer);
+      same = inv.same;
       writes = record {
-        written = written_all _ _ all (c.bands.done + length foot) next.2 next.0;
-        count = omega (arith, count, next.3, ap length next.2, length-drop (c.bands.done + length foot) all);
+        written = written_all _ _ all (c.each.done + length foot) next.2 next.0;
+        count = omega (arith, count, next.3, ap length next.2, length-drop (c.each.done + length foot) all);
         sound = next.1;
       };
     }
 
 pub returns-in-Err-put_foot-clause-writes : goal.returns-in-Err-put_foot-clause-writes
 returns-in-Err-put_foot-clause-writes g c =
-    let p = c.args.painter.now in
-    let q = c.bands.painter in
-    let inv = c.bands.invariant in
+    let p = g.B.Bands.painting c.args.bands.now in
+    let inv = c.each.invariant in
     let form = c.args.form in
     let head = head_of form p.page p.dots in
     let row = row_of form (g.G.Gauge.reaches c.args.gauge.now) p.pens p.strokes p.page p.dots in
     let foot = foot_bytes form in
     let rows = rows_of p.page p.dots in
     let all = picture_of head row foot rows p.next in
-    let at = c.bands.at in
+    let at = c.each.at in
     let taken = c.bytes-in-Err-put_foot.result in
-    let page_rows : rows_of q.page q.dots ≡ rows = ap (λ (z : Page). rows_of z q.dots) inv.page ∙ ap (λ (d : Dots). rows_of p.page d) inv.dots in
-    let none : q.next < rows_of q.page q.dots → ⊥ = λ lt. cc (c.in_default.ensures.left.1 lt) in
-    let last : rows ≤ at = omega (arith, none, page_rows, inv.next) in
+    let last : rows ≤ at = omega (arith, c.each-test.false, c.rows-rows.ensures.count) in
     let done : rows - at ≡ 0 = omega (arith, last) in
-    let split : drop c.bands.done all ≡ foot ++ [] = inv.rest ∙ ap (λ (k : ℕ). rows_bytes row at k ++ foot) done ∙ sym (append-nil foot) in
-    let moved : c.bands.done + taken ≡ c.bands.done + taken_of c.in-Err-put_foot.fault = ap (λ (k : ℕ). c.bands.done + k) c.bytes-in-Err-put_foot.ensures in
-    let cut = cut_next _ _ _ _ _ _ all foot [] c.bands.done _ _ split inv.within inv.so_far inv.quiet c.in-Err-put_foot.ensures.writes moved in
+    let split : drop c.each.done all ≡ foot ++ [] = inv.rest ∙ ap (λ (k : ℕ). rows_bytes row at k ++ foot) done ∙ sym (append-nil foot) in
+    let moved : c.each.done + taken ≡ c.each.done + taken_of c.in-Err-put_foot.fault = ap (λ (k : ℕ). c.each.done + k) c.bytes-in-Err-put_foot.ensures in
+    let cut = cut_next _ _ _ _ _ _ all foot [] c.each.done _ _ split inv.within inv.so_far inv.quiet c.in-Err-put_foot.ensures.writes moved in
     let first : c.next_row-first.result ≡ p.next = c.next_row-first.ensures.next in
-    let whole : c.whole_before.result ≡ (if nat_eq at p.next then 0 else c.bands.done) = c.whole_before.ensures ∙ ap (λ (k : ℕ). if nat_eq at k then 0 else c.bands.done) first in
+    let whole : c.whole_before.result ≡ (if nat_eq at p.next then 0 else c.each.done) = c.whole_before.ensures ∙ ap (λ (k : ℕ). if nat_eq at k then 0 else c.each.done) first in
     record {
       written = cut.0;
       within = cut.1;
       failed = cut.2;
-      stopped = stopped_at head row rows p.next (c.bands.done + taken) at c.bands.done c.whole_before.result inv.from inv.to inv.before whole (omega arith) (λ lt. absurd (omega (arith, lt, last)));
+      stopped = stopped_at head row rows p.next (c.each.done + taken) at c.each.done c.whole_before.result inv.from inv.to inv.before whole (omega arith) (λ lt. absurd (omega (arith, lt, last)));
     }

@@ -1,6 +1,6 @@
 use Rattle.std.proofs.Common.{◌≡◌, ◌+◌, ◌-◌, ◌*◌, ◌/◌, ◌∙◌, ◌<◌, ℕ, length, drop, ap, arith}
 use Rattle.std.proofs.lemmas.List.{take_rest}
-use Rattle.picture_out.specs.Bits.{byte_of, bytes_for}
+use Rattle.bit_rows.specs.Bits.{byte_of, bytes_for}
 use Rattle.picture_out.proofs.Tables.{filled_more, filled_last}
 use Rattle.picture_out.proofs.Bytes.{byte_of_eight, some_left}
 use Rattle.picture_out.proofs.bits.pack_bits.Goals as goal

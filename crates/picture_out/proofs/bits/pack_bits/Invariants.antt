@@ -1,6 +1,6 @@
 use Rattle.std.proofs.Common.{◌≡◌, ◌++◌, ◌*◌, drop, map, ℕ}
 use Rattle.std.specs.List.{range_with_len}
-use Rattle.picture_out.specs.Bits.{byte_of}
+use Rattle.bit_rows.specs.Bits.{byte_of}
 use Rattle.picture_out.proofs.bits.pack_bits.Given as goal
 
 -- the bytes so far, and then those that `out` held before

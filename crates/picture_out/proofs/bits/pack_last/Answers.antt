@@ -1,5 +1,5 @@
 use Rattle.std.proofs.Common.{◌++◌, ◌∙◌, List, ℕ, length, drop, ap}
-use Rattle.picture_out.specs.Bits.{byte_of}
+use Rattle.bit_rows.specs.Bits.{byte_of}
 use Rattle.picture_out.proofs.Bytes.{byte_padded, zeros, zeros_read}
 use Rattle.picture_out.proofs.bits.pack_last.Goals as goal
 

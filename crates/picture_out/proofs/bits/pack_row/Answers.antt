@@ -2,7 +2,7 @@ use Rattle.std.proofs.Common.{◌≡◌, ◌++◌, ◌-◌, ◌*◌, ◌/◌, �
 use Rattle.std.specs.List.{range_with_len}
 use Rattle.std.proofs.lemmas.List.{length-take, length-drop, drop_all}
 use Rattle.std.proofs.lemmas.List.FromFn.{length-map-range_with_len}
-use Rattle.picture_out.specs.Bits.{byte_of, bytes_for, packed}
+use Rattle.bit_rows.specs.Bits.{byte_of, bytes_for, packed}
 use Rattle.picture_out.proofs.Packed.{row_filled, packed_piece}
 use Rattle.picture_out.proofs.Tables.{filled_to}
 use Rattle.picture_out.proofs.bits.pack_row.Goals as goal

@@ -1,5 +1,5 @@
 use Rattle.std.proofs.Common.{ap, ◌++◌, ℕ}
-use Rattle.picture_out.specs.Bits.{packed}
+use Rattle.bit_rows.specs.Bits.{packed}
 use Rattle.picture_out.specs.Pcl.{transfer_command}
 use Rattle.picture_out.proofs.Shown.{bits_show}
 use Rattle.picture_out.proofs.Sizes.{packed_size}

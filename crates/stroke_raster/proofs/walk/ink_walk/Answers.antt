@@ -1,0 +1,118 @@
+use Rattle.std.proofs.Common.{◌≡◌, ℕ, ◌+◌, ◌-◌, ◌<◌, ◌≤◌, true, nat_lt, length, get_or, take, refl, sym, ap, ◌∙◌, arith}
+use Rattle.plot_page.specs.Segments.{Segment}
+use Rattle.stroke_raster.specs.Boxes.{in_box}
+use Rattle.stroke_raster.specs.Extents.{end_row_of}
+use Rattle.plot_page.specs.Pens.{has_pen}
+use Rattle.plot_page.specs.Resolutions.{columns_of}
+use Rattle.stroke_raster.specs.Boxes.{box_pixels}
+use Rattle.stroke_raster.specs.Slots.{band_of, goes_on, stroke_at}
+use Rattle.stroke_raster.proofs.Chains.{start, step, finish, due_began}
+use Rattle.stroke_raster.proofs.Inks.{inked_as, inked_start, inked_step}
+use Rattle.stroke_raster.proofs.BoxCounts.{boxes_slot, boxes_grow}
+use Rattle.stroke_raster.proofs.Slots.{goes_on_falls, goes_is, slot_is, quiet, due_selected, take_whole}
+use Rattle.stroke_raster.proofs.walk.ink_walk.Goals as goal
+
+pub slots-init : goal.slots-init
+slots-init g c =
+    let xs = c.args.scene.now.strokes.now in
+    let bands = length c.args.heads.now in
+    let covers = λ (s : Segment). g.G.Gauge.reaches c.args.gauge.now s c.args.scene.now.page c.args.scene.now.dots in
+    let band = band_of c.args.scene.now.pens c.args.scene.now.page c.args.scene.now.dots c.args.scene.now.first_row c.args.scene.now.band_rows bands xs in
+    let goes = goes_on c.args.scene.now.page c.args.scene.now.dots c.args.scene.now.first_row c.args.scene.now.band_rows xs in
+    let linked = c.requires.next.linked in
+    let s = start (length xs) bands band goes (goes_on_falls c.args.scene.now.page c.args.scene.now.dots c.args.scene.now.first_row c.args.scene.now.band_rows xs) c.args.band c.args.heads.now c.args.links.now linked c.requires.next.in_range (get_or c.args.links.now 0 0) (get_or c.args.heads.now c.args.band 0) refl refl in
+    let low = s.1.low in
+    let o = linked.first in
+    let w = linked.begin c.args.band (omega arith) c.requires.next.in_range in
+    let ho = o.high in
+    record {
+      lesser = c.min-slot.ensures;
+      ahead = s.0;
+      kept = s.1;
+      inked = inked_start covers c.args.scene.now.pens xs c.args.first c.args.rows (columns_of c.args.scene.now.page c.args.scene.now.dots) c.args.stride c.min-slot.result c.args.bits.now (omega (arith, c.min-slot.ensures)) (omega (arith, c.min-slot.ensures)) c.requires.wide c.requires.blank
+          (λ j r k u v rr sel. quiet c.args.scene.now.pens c.args.scene.now.page c.args.scene.now.dots c.args.scene.now.first_row c.args.scene.now.band_rows bands xs covers (λ t r c'. c.keeps_to_boxes.ensures t c.args.scene.now.page c.args.scene.now.dots r c') c.args.band j c.args.first c.args.scene.now.at_least c.requires.next.at
+          (o.none j u (omega (arith, v, c.min-slot.ensures))) (w.none j u (omega (arith, v, c.min-slot.ensures))) r k (omega (arith, rr, c.requires.next.rows_fit)) (omega (arith, rr, c.requires.next.rows_in)) sel);
+      same = refl;
+      most = omega arith;
+      grows = omega arith;
+    }
+
+pub slots-smaller : goal.slots-smaller
+slots-smaller g c =
+    let xs = c.args.scene.now.strokes.now in
+    let bands = length c.args.heads.now in
+    let band = band_of c.args.scene.now.pens c.args.scene.now.page c.args.scene.now.dots c.args.scene.now.first_row c.args.scene.now.band_rows bands xs in
+    let goes = goes_on c.args.scene.now.page c.args.scene.now.dots c.args.scene.now.first_row c.args.scene.now.band_rows xs in
+    let inv = c.slots.invariant in
+    let low = inv.kept.low in
+    let fit : c.slots.slot ≤ length xs = omega (arith, c.slots-test.true) in
+    let t : stroke_at xs c.slots.slot ≡ c.index-strokes-slot.result = slot_is xs (c.slots.slot - 1) c.index-strokes-slot.result (omega (arith, low, inv.lesser)) c.index-strokes-slot.is in
+    let e : c.ink_stroke-bottom.result ≡ end_row_of (stroke_at xs c.slots.slot) c.args.scene.now.page c.args.scene.now.dots = c.ink_stroke-bottom.ensures.end ∙ ap (λ (s : Segment). end_row_of s c.args.scene.now.page c.args.scene.now.dots) (sym t) in
+    let s = step (length xs) bands band goes (goes_on_falls c.args.scene.now.page c.args.scene.now.dots c.args.scene.now.first_row c.args.scene.now.band_rows xs) c.args.band c.args.heads.now c.args.links.now c.slots.links c.keep-tail.new.links
+    c.slots.old c.slots.new c.slots.slot c.slots.tail c.keep-tail.result c.moved-old.result c.moved-new.result (get_or c.slots.links c.slots.slot 0) (nat_lt (c.args.first + c.args.scene.now.band_rows) c.ink_stroke-bottom.result)
+    c.requires.next.linked c.requires.next.in_range (omega (arith, c.slots.auto.links, c.requires.next.slots)) inv.lesser fit inv.ahead inv.kept refl c.moved-old.ensures c.moved-new.ensures
+    (goes_is c.args.first c.args.scene.now.first_row c.args.band c.args.scene.now.band_rows c.ink_stroke-bottom.result (end_row_of (stroke_at xs c.slots.slot) c.args.scene.now.page c.args.scene.now.dots) c.requires.next.at e) c.keep-tail.ensures.links c.keep-tail.ensures.tail in
+    omega (arith, s.3, c.min-slot-in-slots.ensures, fit)
+
+pub slots-preserved : goal.slots-preserved
+slots-preserved g c =
+    let xs = c.args.scene.now.strokes.now in
+    let bands = length c.args.heads.now in
+    let covers = λ (s : Segment). g.G.Gauge.reaches c.args.gauge.now s c.args.scene.now.page c.args.scene.now.dots in
+    let inside = λ (s : Segment). in_box s c.args.scene.now.page c.args.scene.now.dots in
+    let band = band_of c.args.scene.now.pens c.args.scene.now.page c.args.scene.now.dots c.args.scene.now.first_row c.args.scene.now.band_rows bands xs in
+    let goes = goes_on c.args.scene.now.page c.args.scene.now.dots c.args.scene.now.first_row c.args.scene.now.band_rows xs in
+    let inv = c.slots.invariant in
+    let columns = columns_of c.args.scene.now.page c.args.scene.now.dots in
+    let slot = c.slots.slot in
+    let low = inv.kept.low in
+    let fit : c.slots.slot ≤ length xs = omega (arith, c.slots-test.true) in
+    let pos : 0 < c.slots.slot = omega (arith, low, inv.lesser) in
+    let t : stroke_at xs c.slots.slot ≡ c.index-strokes-slot.result = slot_is xs (c.slots.slot - 1) c.index-strokes-slot.result (omega arith) c.index-strokes-slot.is in
+    let e : c.ink_stroke-bottom.result ≡ end_row_of (stroke_at xs c.slots.slot) c.args.scene.now.page c.args.scene.now.dots = c.ink_stroke-bottom.ensures.end ∙ ap (λ (s : Segment). end_row_of s c.args.scene.now.page c.args.scene.now.dots) (sym t) in
+    let len : length c.slots.links ≡ length xs + 1 = omega (arith, c.slots.auto.links, c.requires.next.slots) in
+    let s = step (length xs) bands band goes (goes_on_falls c.args.scene.now.page c.args.scene.now.dots c.args.scene.now.first_row c.args.scene.now.band_rows xs) c.args.band c.args.heads.now c.args.links.now c.slots.links c.keep-tail.new.links
+    c.slots.old c.slots.new c.slots.slot c.slots.tail c.keep-tail.result c.moved-old.result c.moved-new.result (get_or c.slots.links c.slots.slot 0) (nat_lt (c.args.first + c.args.scene.now.band_rows) c.ink_stroke-bottom.result)
+    c.requires.next.linked c.requires.next.in_range len inv.lesser fit inv.ahead inv.kept refl c.moved-old.ensures c.moved-new.ensures
+    (goes_is c.args.first c.args.scene.now.first_row c.args.band c.args.scene.now.band_rows c.ink_stroke-bottom.result (end_row_of (stroke_at xs c.slots.slot) c.args.scene.now.page c.args.scene.now.dots) c.requires.next.at e) c.keep-tail.ensures.links c.keep-tail.ensures.tail in
+    let a = s.0 in
+    let k = s.1 in
+    let between = s.2 in
+    let next : c.slots.slot < c.min-slot-in-slots.result = omega (arith, s.3, c.min-slot-in-slots.ensures) in
+    let ho = a.old_next.high in
+    let end : c.min-slot-in-slots.result ≤ length xs + 1 = omega (arith, c.min-slot-in-slots.ensures, ho) in
+    let began : band c.slots.slot ≤ c.args.band = rw inv.lesser (due_began (length xs) band goes c.args.band c.args.links.now c.slots.links c.slots.old c.slots.new inv.ahead (omega (arith, inv.lesser, fit))) in
+    let sel : has_pen c.args.scene.now.pens (stroke_at xs c.slots.slot).pen ≡ true = due_selected c.args.scene.now.pens c.args.scene.now.page c.args.scene.now.dots c.args.scene.now.first_row c.args.scene.now.band_rows bands xs c.slots.slot (omega (arith, began, c.requires.next.in_range)) in
+    record {
+      lesser = c.min-slot-in-slots.ensures;
+      ahead = a;
+      kept = k;
+      inked = inked_step covers c.args.scene.now.pens xs c.args.first c.args.rows (columns_of c.args.scene.now.page c.args.scene.now.dots) c.args.stride c.slots.slot c.min-slot-in-slots.result c.slots.bits c.ink_stroke-bottom.new.bits pos fit next end sel inv.inked
+          (inked_as (g.G.Gauge.reaches c.slots.gauge) (g.G.Gauge.reaches c.args.gauge.now) inv.same c.index-strokes-slot.result (stroke_at xs c.slots.slot) (sym t) c.args.scene.now.page c.args.scene.now.dots c.args.first c.args.rows (columns_of c.args.scene.now.page c.args.scene.now.dots) c.args.stride c.slots.bits c.ink_stroke-bottom.new.bits c.ink_stroke-bottom.ensures.bits)
+          (λ j r q u v rr se. let b = between j u (omega (arith, v, c.min-slot-in-slots.ensures)) in
+          quiet c.args.scene.now.pens c.args.scene.now.page c.args.scene.now.dots c.args.scene.now.first_row c.args.scene.now.band_rows bands xs covers (λ t' r' c'. c.keeps_to_boxes.ensures t' c.args.scene.now.page c.args.scene.now.dots r' c') c.args.band j c.args.first c.args.scene.now.at_least c.requires.next.at
+          b.0 b.1 r q (omega (arith, rr, c.requires.next.rows_fit)) (omega (arith, rr, c.requires.next.rows_in)) se);
+      same = c.ink_stroke-bottom.ensures.same ∙ inv.same;
+      most = (let x = boxes_slot c.args.scene.now.pens inside xs c.slots.slot c.args.first c.args.rows (columns_of c.args.scene.now.page c.args.scene.now.dots) pos fit sel in
+          let y = boxes_grow c.args.scene.now.pens inside xs c.args.first c.args.rows (columns_of c.args.scene.now.page c.args.scene.now.dots) c.slots.slot (c.min-slot-in-slots.result - 1) (omega arith) (omega arith) in
+          let m : g.G.Gauge.count c.ink_stroke-bottom.new.gauge ≤ g.G.Gauge.count c.slots.gauge + box_pixels inside (stroke_at xs c.slots.slot) c.args.first c.args.rows (columns_of c.args.scene.now.page c.args.scene.now.dots) = rw t c.ink_stroke-bottom.ensures.most in
+          omega (arith, x, y, m, inv.most));
+      grows = omega (arith, c.ink_stroke-bottom.ensures.grows, inv.grows);
+    }
+
+pub returns-clause-linked : goal.returns-clause-linked
+returns-clause-linked g c =
+    let xs = c.args.scene.now.strokes.now in
+    let bands = length c.args.heads.now in
+    let inv = c.slots.invariant in
+    finish (length xs) bands (band_of c.args.scene.now.pens c.args.scene.now.page c.args.scene.now.dots c.args.scene.now.first_row c.args.scene.now.band_rows bands xs) (goes_on c.args.scene.now.page c.args.scene.now.dots c.args.scene.now.first_row c.args.scene.now.band_rows xs) c.args.band c.args.heads.now c.args.links.now c.slots.links c.slots.old c.slots.new c.slots.tail
+    (omega (arith, c.slots.auto.links, c.requires.next.slots)) c.requires.next.linked inv.ahead inv.kept (omega (arith, c.slots-test.false, inv.lesser))
+
+pub returns-clause-bits : goal.returns-clause-bits
+returns-clause-bits g c =
+    let xs = c.args.scene.now.strokes.now in
+    let inv = c.slots.invariant in
+    let ho = inv.ahead.old_next.high in
+    let e : c.slots.slot - 1 ≡ length xs = omega (arith, c.slots-test.false, inv.lesser, ho) in
+    let w : take (c.slots.slot - 1) xs ≡ xs = ap (λ (n : ℕ). take n xs) e ∙ take_whole xs in
+    λ r k u v. rw w at (inv.inked r k u v)

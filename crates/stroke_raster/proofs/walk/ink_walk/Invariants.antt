@@ -1,0 +1,31 @@
+use Rattle.std.proofs.Common.{◌≡◌, ◌≤◌, ◌+◌, ◌-◌, min, take, length}
+use Rattle.plot_page.specs.Segments.{Segment}
+use Rattle.stroke_raster.specs.Boxes.{in_box}
+use Rattle.plot_page.specs.Resolutions.{columns_of}
+use Rattle.stroke_raster.specs.Boxes.{selected, boxes}
+use Rattle.stroke_raster.specs.Inks.{ShowsInk}
+use Rattle.stroke_raster.specs.Chains.{Ahead, Kept}
+use Rattle.stroke_raster.specs.Slots.{band_of, goes_on}
+use Rattle.stroke_raster.proofs.walk.ink_walk.Given as goal
+
+-- the slots before `slot` are painted, and those of them that go on are chained
+abbrev pub invariant-slots : goal.invariant-slots
+invariant-slots g l =
+    let reaches = g.G.Gauge.reaches in
+    let count = g.G.Gauge.count in
+    let covers = λ (s : Segment). reaches l.fn.gauge s l.scene.page l.scene.dots in
+    let inside = λ (s : Segment). in_box s l.scene.page l.scene.dots in
+    let band = band_of l.scene.pens l.scene.page l.scene.dots l.scene.first_row l.scene.band_rows (length l.heads) l.scene.strokes.now in
+    let goes = goes_on l.scene.page l.scene.dots l.scene.first_row l.scene.band_rows l.scene.strokes.now in
+    record {
+      lesser : l.slot ≡ min l.old l.new;
+      ahead : Ahead (length l.scene.strokes.now) band goes l.band l.fn.links l.links l.old l.new (min l.old l.new);
+      kept : Kept (length l.scene.strokes.now) band goes l.band l.links l.tail (min l.old l.new);
+      inked : ShowsInk covers l.scene.pens (take (l.slot - 1) l.scene.strokes.now) l.first l.rows (columns_of l.scene.page l.scene.dots) l.stride l.bits;
+      same : reaches l.gauge ≡ reaches l.fn.gauge;
+      most : count l.gauge ≤ count l.fn.gauge + boxes inside (selected l.scene.pens (take (l.slot - 1) l.scene.strokes.now)) l.first l.rows (columns_of l.scene.page l.scene.dots);
+      grows : count l.fn.gauge ≤ count l.gauge;
+    }
+
+abbrev pub decreases-slots : goal.decreases-slots
+decreases-slots g l = length l.scene.strokes.now + 1 - l.slot

@@ -1,0 +1,48 @@
+-- Pixels as the bits of bytes, the leftmost of eight in the highest bit.
+use Rattle.std.specs.Prelude.{◌≡◌, ℕ, ◌+◌, ◌-◌, ◌*◌, ◌/◌, ◌%◌, ◌<◌, ◌≤◌, Bool, nat_lt, ◌&&◌, cond, min, List, length}
+use Rattle.std.specs.Prelude.{get_or}
+use Rattle.std.specs.Int.{bit_at}
+use Rattle.plot_page.specs.Segments.{Segment}
+use Rattle.plot_page.specs.declared.pens.PenSet.{PenSet}
+use Rattle.stroke_raster.specs.Shown.{shown}
+
+-- 1 for a black pixel, 0 for a white one
+abbrev pub ink : List ℕ → ℕ → ℕ
+ink line i = bit_at (get_or line (i / 8) 0) (7 - i % 8)
+
+-- the pixels from `low` up to `end` are black, and the others are as they were
+pub record IsInked (low end : ℕ) (old new : List ℕ) : Type 0 where
+  pub length : length new ≡ length old
+  pub before : (i : ℕ) → i < low → ink new i ≡ ink old i
+  pub inside : (i : ℕ) → low ≤ i → i < end → ink new i ≡ 1
+  pub after : (i : ℕ) → end ≤ i → ink new i ≡ ink old i
+
+-- the bits of byte `place` that lie from `low` up to `end`
+pub record IsMask (low end place mask : ℕ) : Type 0 where
+  pub before : (k : ℕ) → k < 8 → 8 * place + k < low → bit_at mask (7 - k) ≡ 0
+  pub inside : (k : ℕ) → k < 8 → low ≤ 8 * place + k → 8 * place + k < end → bit_at mask (7 - k) ≡ 1
+  pub after : (k : ℕ) → k < 8 → end ≤ 8 * place + k → bit_at mask (7 - k) ≡ 0
+
+-- of n pixels from column `from` on those that are reached are black, and all others are as they were
+pub record IsReached (reached : ℕ → Bool) (from n : ℕ) (old new : List ℕ) : Type 0 where
+  pub length : length new ≡ length old
+  pub within : (i : ℕ) → i < n → ink new (from + i) ≡ cond (reached (from + i)) 1 (ink old (from + i))
+  pub before : (i : ℕ) → i < from → ink new i ≡ ink old i
+  pub after : (i : ℕ) → from + n ≤ i → ink new i ≡ ink old i
+
+-- pixel k of row r, of rows of `stride` bytes
+abbrev pub ink_at : ℕ → List ℕ → ℕ → ℕ → ℕ
+ink_at stride bits r k = ink bits (8 * (r * stride) + k)
+
+-- of rows of `stride` bytes from row `first` on, the pixels of the columns that are reached are black, and all others
+-- are as they were
+abbrev pub AreReached : (ℕ → ℕ → Bool) → ℕ → ℕ → ℕ → ℕ → List ℕ → List ℕ → Type 0
+AreReached reached first rows columns stride old new =
+    (r k : ℕ) → r < rows → k < 8 * stride →
+    ink_at stride new r k ≡ cond (nat_lt k columns && reached (first + r) k) 1 (ink_at stride old r k)
+
+-- a pixel is black if it shows one of these strokes, and white past the last column
+abbrev pub ShowsInk : (Segment → ℕ → ℕ → Bool) → PenSet → List Segment → ℕ → ℕ → ℕ → ℕ → List ℕ → Type 0
+ShowsInk covers pens strokes first rows columns stride bits =
+    (r k : ℕ) → r < rows → k < 8 * stride →
+    ink_at stride bits r k ≡ cond (nat_lt k columns) (min 1 (shown covers pens strokes (first + r) k)) 0
