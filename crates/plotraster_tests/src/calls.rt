@@ -1,6 +1,7 @@
 //! How often a device is called: a plot is read in large pieces, and a band of a PBM is one write.
 use crate::pages::{CROSSING, eight_by_eight};
-use plotraster::{Exact, Form, Job, OverRead, OverWrite, convert, picture_bytes};
+use crate::runs::{converted, drawn};
+use plotraster::{Form, Job, OverRead, OverWrite};
 use std::alloc::Global;
 use std::io::{Read, Write};
 use std::process::Abort;
@@ -44,10 +45,10 @@ impl Write for Writer {
 
 // How many writes the picture of a plot takes.
 fn writes(rt: &impl Abort, alloc: Global, job: &Job) -> Result<u32, Fail> {
-    let whole = picture_bytes(alloc, job, CROSSING)?;
+    let whole = drawn(alloc, job, CROSSING)?;
     let mut source = OverRead::new(CROSSING);
     let mut sink = OverWrite::new(Writer { bytes: 0, calls: 0 });
-    convert(alloc, job, &mut Exact::new(), &mut source, &mut sink)?;
+    converted(alloc, job, &mut source, &mut sink)?;
     let writer = sink.into_inner();
     assert_eq!(rt; writer.bytes, whole.len());
     Ok(writer.calls)
@@ -71,7 +72,7 @@ fn a_plot_is_read_in_large_pieces(rt: HostRuntime) -> Result<(), Fail> {
         calls: 0,
     });
     let mut sink = OverWrite::new(Writer { bytes: 0, calls: 0 });
-    convert(rt.alloc(), &job, &mut Exact::new(), &mut source, &mut sink)?;
+    converted(rt.alloc(), &job, &mut source, &mut sink)?;
     // 65,536 bytes, what is left of them, and the end.
     assert_eq!(rt; source.into_inner().calls, 3);
     Ok(())

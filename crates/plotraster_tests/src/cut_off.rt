@@ -1,6 +1,8 @@
 //! Plots that end anywhere.
 use crate::pages::{CROSSING, eight_by_eight};
-use plotraster::{Form, OverRead, OverWrite, picture_bytes, report};
+use crate::runs::{drawn, reported};
+use plotraster::{Form, Job, OverRead, OverWrite, Page, report};
+use std::alloc::Global;
 use std::test::Fail;
 
 const PLOTS: [&[u8]; 14] = [
@@ -20,6 +22,19 @@ const PLOTS: [&[u8]; 14] = [
     b"\x1b%-1BIN;SP1;PU0,28;PD64,28;SP0;\x1b%0A\x1bE",
 ];
 
+// How many bytes the picture of a plot has.
+fn picture_length(alloc: Global, job: &Job, plot: &[u8]) -> Result<usize, Fail> {
+    Ok(drawn(alloc, job, plot)?.len())
+}
+
+// Whether the report on a plot begins as all do on this page.
+fn has_report(alloc: Global, page: &Page, plot: &[u8]) -> Result<bool, Fail> {
+    let mut sink = OverWrite::new(Vec::new(alloc));
+    reported(alloc, page, &mut OverRead::new(plot), &mut sink)?;
+    let begin = b"page 64 64 0 0\nstrokes ";
+    Ok(sink.into_inner().as_slice().starts_with(begin))
+}
+
 // A plot that is cut off after any of its bytes has a picture and a report.
 #[test]
 fn plots_cut_off_anywhere(rt: HostRuntime) -> Result<(), Fail> {
@@ -27,15 +42,8 @@ fn plots_cut_off_anywhere(rt: HostRuntime) -> Result<(), Fail> {
     for plot in PLOTS {
         for length in 0..=plot.len() {
             let part = &plot[..length];
-            let picture = picture_bytes(rt.alloc(), &job, part)?;
-            assert_eq!(rt; picture.len(), 15, "{length}");
-            let mut sink = OverWrite::new(Vec::new(rt.alloc()));
-            report(rt.alloc(), &job.page, &mut OverRead::new(part), &mut sink)?;
-            assert!(rt;
-                sink.into_inner()
-                    .as_slice()
-                    .starts_with(b"page 64 64 0 0\nstrokes ")
-            );
+            assert_eq!(rt; picture_length(rt.alloc(), &job, part)?, 15, "{length}");
+            assert!(rt; has_report(rt.alloc(), &job.page, part)?, "{length}");
         }
     }
     Ok(())

@@ -2,6 +2,9 @@
 use hpgl_plot::PlotFault;
 use hpgl_text::TextFault;
 use plotraster::{BuildFault, Done, Fault, LineFault, PageFault, SinkFault, exit_status, status};
+use std::alloc::Global;
+use std::fmt::Display;
+use std::process::Abort;
 use std::test::Fail;
 use stroke_raster::PaintFault;
 
@@ -36,7 +39,7 @@ fn statuses_and_texts(rt: HostRuntime) -> Result<(), Fail> {
     for (fault, its_status, text) in cases {
         assert_eq!(rt; status(&fault), its_status);
         assert_eq!(rt; exit_status(&Err(fault)), its_status);
-        assert_eq!(rt; format!(in rt.alloc(); "{fault}")?.as_str(), text);
+        reads(&rt, rt.alloc(), &fault, text)?;
     }
     let done = Done {
         rows: 8,
@@ -48,50 +51,56 @@ fn statuses_and_texts(rt: HostRuntime) -> Result<(), Fail> {
     Ok(())
 }
 
-// The text of a fault.
-macro_rules! reads {
-    ($rt:expr, $fault:expr, $wanted:expr) => {
-        let text = format!(in $rt.alloc(); "{}", $fault)?;
-        assert_eq!($rt; text.as_str(), $wanted);
-    };
-}
-
-#[test]
-fn texts_of_a_command_line(rt: HostRuntime) -> Result<(), Fail> {
-    reads!(rt, LineFault::Words, "words not understood");
-    reads!(rt, LineFault::Pens, "bad pen list");
-    reads!(rt, BuildFault::Memory, "out of memory");
+// Fails unless the text of a fault is this.
+fn reads<F: Display>(rt: &impl Abort, alloc: Global, fault: &F, wanted: &str) -> Result<(), Fail> {
+    let text = format!(in alloc; "{fault}")?;
+    assert_eq!(rt; text.as_str(), wanted);
     Ok(())
 }
 
 #[test]
+fn texts_of_a_command_line(rt: HostRuntime) -> Result<(), Fail> {
+    reads(&rt, rt.alloc(), &LineFault::Words, "words not understood")?;
+    reads(&rt, rt.alloc(), &LineFault::Pens, "bad pen list")?;
+    reads(&rt, rt.alloc(), &BuildFault::Memory, "out of memory")
+}
+
+#[test]
+fn texts_of_a_page_and_a_sink(rt: HostRuntime) -> Result<(), Fail> {
+    let size = "page width and height must be 64 to 65536";
+    reads(&rt, rt.alloc(), &PageFault::Size, size)?;
+    let corner = "page corner must be 0 to 65536 left and below";
+    reads(&rt, rt.alloc(), &PageFault::Corner, corner)?;
+    reads(&rt, rt.alloc(), &SinkFault, "the sink takes no bytes")
+}
+
+#[test]
 fn texts_of_the_faults_of_each_step(rt: HostRuntime) -> Result<(), Fail> {
-    reads!(
-        rt,
-        PageFault::Size,
-        "page width and height must be 64 to 65536"
-    );
-    reads!(
-        rt,
-        PageFault::Corner,
-        "page corner must be 0 to 65536 left and below"
-    );
-    reads!(rt, TextFault::TooLong, "plot is longer than 67108864 bytes");
-    reads!(rt, TextFault::Memory, "out of memory");
-    reads!(rt, PlotFault::Memory, "out of memory");
-    reads!(
-        rt,
-        PlotFault::OffRange { at: 7 },
-        "place off range at byte 7"
-    );
-    reads!(
-        rt,
-        PlotFault::TooManyStrokes { at: 40775 },
-        "too many strokes at byte 40775"
-    );
-    reads!(rt, PaintFault::Band, "band height must be 1 to 4096");
-    reads!(rt, PaintFault::Row, "first row is past the last row");
-    reads!(rt, PaintFault::Memory, "out of memory");
-    reads!(rt, SinkFault, "the sink takes no bytes");
+    let texts = [
+        (TextFault::TooLong, "plot is longer than 67108864 bytes"),
+        (TextFault::Memory, "out of memory"),
+    ];
+    for (fault, text) in texts {
+        reads(&rt, rt.alloc(), &fault, text)?;
+    }
+    let texts = [
+        (PlotFault::Memory, "out of memory"),
+        (PlotFault::OffRange { at: 7 }, "place off range at byte 7"),
+        (
+            PlotFault::TooManyStrokes { at: 40775 },
+            "too many strokes at byte 40775",
+        ),
+    ];
+    for (fault, text) in texts {
+        reads(&rt, rt.alloc(), &fault, text)?;
+    }
+    let texts = [
+        (PaintFault::Band, "band height must be 1 to 4096"),
+        (PaintFault::Row, "first row is past the last row"),
+        (PaintFault::Memory, "out of memory"),
+    ];
+    for (fault, text) in texts {
+        reads(&rt, rt.alloc(), &fault, text)?;
+    }
     Ok(())
 }

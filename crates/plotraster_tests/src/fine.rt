@@ -1,8 +1,7 @@
 //! Pictures at 1200 dots per inch, and of the largest page.
 use crate::pages::{LINE, eight_by_eight};
-use plotraster::{
-    Dots, Exact, Form, Gauge, Job, OverRead, OverWrite, Page, convert, picture_bytes,
-};
+use crate::runs::drawn;
+use plotraster::{Dots, Exact, Form, Gauge, Job, OverRead, OverWrite, Page, convert};
 use std::test::Fail;
 
 fn fine(form: Form) -> Result<Job, Fail> {
@@ -51,7 +50,7 @@ fn the_last_row_of_the_largest_page(rt: HostRuntime) -> Result<(), Fail> {
         assert_eq!(rt; job.dots.rows(&job.page), side);
         job.first_row = side - 1;
         job.band = 1;
-        let bits = picture_bytes(rt.alloc(), &job, b"PU0,0;PD65536,0;")?;
+        let bits = drawn(rt.alloc(), &job, b"PU0,0;PD65536,0;")?;
         assert_eq!(rt; bits.len(), bytes);
         let (last, rest) = bits.as_slice().split_last().ok_or("no bytes")?;
         assert_eq!(rt; *last, last_byte);

@@ -1,21 +1,23 @@
 //! Plots as they are found: small letters, decimals, escapes, what is not known.
 use crate::pages::{LINE, eight_by_eight};
-use plotraster::{Done, Exact, Form, OverRead, OverWrite, convert, picture_bytes};
+use crate::runs::{converted, drawn, has_picture};
+use plotraster::{Form, OverRead, OverWrite};
+use std::alloc::Global;
 use std::test::Fail;
 
-// What a run over the plot has done, and the marks that it wrote.
-fn run(rt: &HostRuntime, plot: &[u8]) -> Result<(Done, Vec<u8>), Fail> {
+// How many strokes and how many notes a run over the plot counts.
+fn strokes_and_notes(alloc: Global, plot: &[u8]) -> Result<(usize, usize), Fail> {
     let job = eight_by_eight(Form::Marks).ok_or("a job")?;
-    let mut sink = OverWrite::new(Vec::new(rt.alloc()));
+    let mut sink = OverWrite::new(Vec::new(alloc));
     let mut source = OverRead::new(plot);
-    let done = convert(rt.alloc(), &job, &mut Exact::new(), &mut source, &mut sink)?;
-    Ok((done, sink.into_inner()))
+    let done = converted(alloc, &job, &mut source, &mut sink)?;
+    Ok((done.strokes, done.notes))
 }
 
 #[test]
 fn one_line_in_many_spellings(rt: HostRuntime) -> Result<(), Fail> {
     let job = eight_by_eight(Form::Marks).ok_or("a job")?;
-    let line = picture_bytes(rt.alloc(), &job, LINE)?;
+    let line = drawn(rt.alloc(), &job, LINE)?;
     let spellings = [
         b"pu0,28pd64,28".as_slice(),
         b"SP1;PU0,28;PD64,28".as_slice(),
@@ -24,10 +26,8 @@ fn one_line_in_many_spellings(rt: HostRuntime) -> Result<(), Fail> {
         b"SP0.5;PU0,28;PD64,28;".as_slice(),
     ];
     for plot in spellings {
-        let (done, marks) = run(&rt, plot)?;
-        assert_eq!(rt; marks.as_slice(), line.as_slice());
-        assert_eq!(rt; done.strokes, 1);
-        assert_eq!(rt; done.notes, 0);
+        has_picture(&rt, rt.alloc(), &job, plot, line.as_slice())?;
+        assert_eq!(rt; strokes_and_notes(rt.alloc(), plot)?, (1, 0));
     }
     Ok(())
 }
@@ -43,11 +43,8 @@ fn what_is_noted(rt: HostRuntime) -> Result<(), Fail> {
         (b"PA8388608,0;PA1,,2,;PA1..5;".as_slice(), 0, 1),
     ];
     for (plot, strokes, notes) in plots {
-        let (done, _) = run(&rt, plot)?;
-        assert_eq!(rt; done.strokes, strokes);
-        assert_eq!(rt; done.notes, notes);
+        assert_eq!(rt; strokes_and_notes(rt.alloc(), plot)?, (strokes, notes));
     }
-    let (_, marks) = run(&rt, b"!PD;")?;
-    assert_eq!(rt; marks.as_slice(), b"7 0 1 000000\n".as_slice());
-    Ok(())
+    let job = eight_by_eight(Form::Marks).ok_or("a job")?;
+    has_picture(&rt, rt.alloc(), &job, b"!PD;", b"7 0 1 000000\n")
 }

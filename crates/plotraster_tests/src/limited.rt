@@ -2,9 +2,8 @@
 ghost use Rattle.std.specs.Prelude.{Some, ◌≡◌, ◌<◌, ◌≤◌};
 
 use crate::pages::{CROSSING, eight_by_eight};
-use plotraster::{
-    Dots, Exact, Fault, Form, Job, OverRead, Sink, SinkFault, convert, picture_bytes,
-};
+use crate::runs::{converted, drawn, has_picture};
+use plotraster::{Dots, Fault, Form, Job, OverRead, Sink, SinkFault};
 use std::alloc::Global;
 use std::process::Abort;
 use std::test::Fail;
@@ -89,17 +88,11 @@ fn broken_off_anywhere(
     requires some { 0 < row_bytes }
     requires few { row_bytes ≤ 100 }
 {
-    let whole_picture = picture_bytes(alloc, job, CROSSING)?;
+    let whole_picture = drawn(alloc, job, CROSSING)?;
     assert_eq!(rt; whole_picture.len(), size);
     for room in 0..size {
         let mut sink = Limited::ending_after(alloc, room);
-        let answer = convert(
-            alloc,
-            job,
-            &mut Exact::new(),
-            &mut OverRead::new(CROSSING),
-            &mut sink,
-        );
+        let answer = converted(alloc, job, &mut OverRead::new(CROSSING), &mut sink);
         let (row, whole) = if room < head + row_bytes {
             (0, 0)
         } else {
@@ -117,8 +110,13 @@ fn broken_off_anywhere(
         assert_eq!(rt; sink.failures, 1);
         let mut rest = *job;
         rest.first_row = row as u32;
-        let rest = picture_bytes(alloc, &rest, CROSSING)?;
-        assert_eq!(rt; rest.as_slice(), &whole_picture.as_slice()[whole..]);
+        has_picture(
+            rt,
+            alloc,
+            &rest,
+            CROSSING,
+            &whole_picture.as_slice()[whole..],
+        )?;
     }
     Ok(())
 }

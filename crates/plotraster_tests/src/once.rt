@@ -1,6 +1,7 @@
 //! A reader and a writer that fail once, in the middle, and would then go on.
 use crate::pages::{CROSSING, eight_by_eight};
-use plotraster::{Exact, Fault, Form, OverRead, OverWrite, Sink, Source, convert, picture_bytes};
+use crate::runs::{converted, drawn};
+use plotraster::{Fault, Form, OverRead, OverWrite, Sink, Source};
 use std::alloc::Global;
 use std::io::{Error, ErrorKind, Read, Write};
 use std::process::Abort;
@@ -72,7 +73,7 @@ fn reads_fail_once(rt: &impl Abort, alloc: Global, kind: ErrorKind) -> Result<()
         calls: 0,
     });
     let mut sink = OverWrite::new(Vec::new(alloc));
-    let answer = convert(alloc, &job, &mut Exact::new(), &mut source, &mut sink);
+    let answer = converted(alloc, &job, &mut source, &mut sink);
     let is_refused = matches!(answer, Err(Fault::Read));
     assert!(rt; is_refused);
     assert_eq!(rt; source.failures(), 1);
@@ -91,14 +92,14 @@ fn a_writer_is_not_asked_again(rt: HostRuntime) -> Result<(), Fail> {
 
 fn writes_fail_once(rt: &impl Abort, alloc: Global, kind: ErrorKind) -> Result<(), Fail> {
     let job = eight_by_eight(Form::Ppm).ok_or("a job")?;
-    let whole = picture_bytes(alloc, &job, CROSSING)?;
+    let whole = drawn(alloc, &job, CROSSING)?;
     let mut sink = OverWrite::new(Writer {
         bytes: Vec::new(alloc),
         kind,
         calls: 0,
     });
     let mut source = OverRead::new(CROSSING);
-    let answer = convert(alloc, &job, &mut Exact::new(), &mut source, &mut sink);
+    let answer = converted(alloc, &job, &mut source, &mut sink);
     let wanted = Fault::Write {
         row: 0,
         whole: 0,

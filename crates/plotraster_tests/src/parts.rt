@@ -1,9 +1,8 @@
 //! Devices that give or take one byte a call.
 use crate::limited::Limited;
 use crate::pages::{CROSSING, LINE, eight_by_eight};
-use plotraster::{
-    Dots, Exact, Fault, Form, Job, OverRead, OverWrite, Page, convert, picture_bytes, report,
-};
+use crate::runs::{converted, drawn, reported};
+use plotraster::{Dots, Fault, Form, Job, OverRead, OverWrite, Page};
 use std::io::{Error, ErrorKind, Read};
 use std::test::Fail;
 
@@ -45,15 +44,15 @@ fn job(form: Form) -> Result<Job, Fail> {
 #[test]
 fn pictures_byte_by_byte(rt: HostRuntime) -> Result<(), Fail> {
     for plot in PLOTS {
-        for form in [Form::Marks, Form::Pbm, Form::Ppm, Form::Pcl] {
+        for form in Form::ALL {
             let job = job(form)?;
-            let wanted = picture_bytes(rt.alloc(), &job, plot)?;
+            let wanted = drawn(rt.alloc(), &job, plot)?;
             let mut source = OverRead::new(Drip {
                 rest: plot,
                 most: usize::MAX,
             });
             let mut sink = Limited::new(rt.alloc(), 1, usize::MAX);
-            convert(rt.alloc(), &job, &mut Exact::new(), &mut source, &mut sink)?;
+            converted(rt.alloc(), &job, &mut source, &mut sink)?;
             assert_eq!(rt; sink.bytes.as_slice(), wanted.as_slice());
         }
     }
@@ -65,13 +64,13 @@ fn reports_byte_by_byte(rt: HostRuntime) -> Result<(), Fail> {
     let page = Page::new(64, 64, 0, 0)?;
     for plot in PLOTS {
         let mut whole = OverWrite::new(Vec::new(rt.alloc()));
-        report(rt.alloc(), &page, &mut OverRead::new(plot), &mut whole)?;
+        reported(rt.alloc(), &page, &mut OverRead::new(plot), &mut whole)?;
         let mut source = OverRead::new(Drip {
             rest: plot,
             most: usize::MAX,
         });
         let mut sink = Limited::new(rt.alloc(), 1, usize::MAX);
-        report(rt.alloc(), &page, &mut source, &mut sink)?;
+        reported(rt.alloc(), &page, &mut source, &mut sink)?;
         assert_eq!(rt; sink.bytes.as_slice(), whole.into_inner().as_slice());
     }
     Ok(())
@@ -84,7 +83,7 @@ fn a_source_that_fails_anywhere(rt: HostRuntime) -> Result<(), Fail> {
         let mut source = OverRead::new(Drip { rest: LINE, most });
         let mut sink = OverWrite::new(Vec::new(rt.alloc()));
         let job = job(Form::Pbm)?;
-        let answer = convert(rt.alloc(), &job, &mut Exact::new(), &mut source, &mut sink);
+        let answer = converted(rt.alloc(), &job, &mut source, &mut sink);
         let failed = matches!(answer, Err(Fault::Read));
         assert!(rt; failed, "{most}");
         assert!(rt; sink.into_inner().is_empty(), "{most}");
@@ -98,13 +97,7 @@ fn marks_broken_off_in_their_first_line(rt: HostRuntime) -> Result<(), Fail> {
     let mut sink = Limited::new(rt.alloc(), 1, 9);
     let marks = eight_by_eight(Form::Marks).ok_or("a job")?;
     let mut source = OverRead::new(LINE);
-    let answer = convert(
-        rt.alloc(),
-        &marks,
-        &mut Exact::new(),
-        &mut source,
-        &mut sink,
-    );
+    let answer = converted(rt.alloc(), &marks, &mut source, &mut sink);
     let wanted = Fault::Write {
         row: 4,
         whole: 0,

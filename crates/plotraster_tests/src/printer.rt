@@ -1,8 +1,9 @@
 //! Pictures in PCL.
 use crate::limited::Limited;
 use crate::pages::{CROSSING, LINE, eight_by_eight};
+use crate::runs::{converted, drawn, has_picture};
 use crate::sources::Semicolons;
-use plotraster::{Dots, Exact, Fault, Form, Job, OverRead, OverWrite, convert, picture_bytes};
+use plotraster::{Dots, Fault, Form, Job, OverRead, OverWrite};
 use std::test::Fail;
 
 const LINE_PICTURE: &[u8] = b"\x1bE\x1b*t75R\x1b*r5S\x1b*r5T\x1b*r0A\x1b*b0M\
@@ -16,21 +17,17 @@ fn job(dots: u32) -> Result<Job, Fail> {
 
 #[test]
 fn a_line_for_a_printer(rt: HostRuntime) -> Result<(), Fail> {
-    let picture = picture_bytes(rt.alloc(), &job(75)?, LINE)?;
-    assert_eq!(rt; picture.as_slice(), LINE_PICTURE);
-    assert_eq!(rt; picture.len(), 64);
+    has_picture(&rt, rt.alloc(), &job(75)?, LINE, LINE_PICTURE)?;
     let mut last = job(75)?;
     last.first_row = 5;
-    let foot = picture_bytes(rt.alloc(), &last, LINE)?;
-    assert_eq!(rt; foot.as_slice(), b"\x1b*rB\x1bE".as_slice());
-    Ok(())
+    has_picture(&rt, rt.alloc(), &last, LINE, b"\x1b*rB\x1bE")
 }
 
 #[test]
 fn resolutions_of_pcl(rt: HostRuntime) -> Result<(), Fail> {
     for dots in 10..=1200 {
         let listed = matches!(dots, 75 | 100 | 150 | 200 | 300 | 600);
-        let answer = picture_bytes(rt.alloc(), &job(dots)?, CROSSING);
+        let answer = drawn(rt.alloc(), &job(dots)?, CROSSING);
         let refused = matches!(answer, Err(Fault::Resolution));
         assert_eq!(rt; refused, !listed, "{dots}");
         assert_eq!(rt; answer.is_ok(), listed, "{dots}");
@@ -45,13 +42,7 @@ fn the_resolution_is_judged_first(rt: HostRuntime) -> Result<(), Fail> {
     let mut wrong = job(127)?;
     wrong.band = 0;
     let mut sink = OverWrite::new(Vec::new(rt.alloc()));
-    let answer = convert(
-        rt.alloc(),
-        &wrong,
-        &mut Exact::new(),
-        &mut source,
-        &mut sink,
-    );
+    let answer = converted(rt.alloc(), &wrong, &mut source, &mut sink);
     let refused = matches!(answer, Err(Fault::Resolution));
     assert!(rt; refused);
     assert!(rt; sink.into_inner().is_empty());
@@ -64,13 +55,7 @@ fn the_resolution_is_judged_first(rt: HostRuntime) -> Result<(), Fail> {
 fn a_printer_that_stops_anywhere(rt: HostRuntime) -> Result<(), Fail> {
     for room in 0..64usize {
         let mut sink = Limited::ending_after(rt.alloc(), room);
-        let answer = convert(
-            rt.alloc(),
-            &job(75)?,
-            &mut Exact::new(),
-            &mut OverRead::new(LINE),
-            &mut sink,
-        );
+        let answer = converted(rt.alloc(), &job(75)?, &mut OverRead::new(LINE), &mut sink);
         let row = if room < 28 {
             0
         } else {
@@ -87,8 +72,7 @@ fn a_printer_that_stops_anywhere(rt: HostRuntime) -> Result<(), Fail> {
         assert_eq!(rt; sink.bytes.as_slice(), &LINE_PICTURE[..room]);
         let mut rest = job(75)?;
         rest.first_row = row as u32;
-        let rest = picture_bytes(rt.alloc(), &rest, LINE)?;
-        assert_eq!(rt; rest.as_slice(), &LINE_PICTURE[whole..]);
+        has_picture(&rt, rt.alloc(), &rest, LINE, &LINE_PICTURE[whole..])?;
     }
     Ok(())
 }

@@ -3,8 +3,9 @@ ghost use Rattle.std.specs.Prelude.{◌<◌};
 ghost use Rattle.plot_page.specs.Resolutions.{columns_of, rows_of};
 
 use crate::pages::eight_by_eight;
+use crate::runs::drawn;
 use hpgl_plot::{Stroke, draw_plot};
-use plotraster::{Dots, Fault, Form, Job, Page, picture_bytes};
+use plotraster::{Dots, Fault, Form, Job, Page};
 use std::alloc::Global;
 use std::test::Fail;
 use stroke_raster::near;
@@ -66,7 +67,7 @@ fn wanted_bits(alloc: Global, job: &Job, plot: &[u8]) -> Result<Vec<u8>, Fail> {
 fn has_exact_picture(alloc: Global, resolution: u32, plot: &[u8]) -> Result<bool, Fail> {
     let mut job = eight_by_eight(Form::Pbm).ok_or("a job")?;
     job.dots = Dots::new(resolution).ok_or("a resolution")?;
-    let picture = match picture_bytes(alloc, &job, plot) {
+    let picture = match drawn(alloc, &job, plot) {
         Ok(picture) => picture,
         Err(Fault::Plot(_)) => return Ok(false),
         Err(_) => return Err(Fail::from("another fault")),
@@ -77,7 +78,7 @@ fn has_exact_picture(alloc: Global, resolution: u32, plot: &[u8]) -> Result<bool
     }
     for band in [1, 3, 4096] {
         job.band = band;
-        let again = picture_bytes(alloc, &job, plot)?;
+        let again = drawn(alloc, &job, plot)?;
         if again.as_slice() != picture.as_slice() {
             return Err(Fail::from("another picture in other bands"));
         }

@@ -2,10 +2,11 @@
 ghost use Rattle.std.specs.Prelude.{◌-◌, ◌^◌, ◌<◌};
 
 use crate::pages::{BLACK, CROSSING, LINE, eight_by_eight};
+use crate::runs::{converted, drawn};
 use crate::sources::Semicolons;
 use plotraster::{
     Done, Exact, Fault, Form, Gauge, Job, OverRead, OverWrite, Page, PageFault, PaintFault,
-    PlotFault, Source, Stroke, Window, convert, picture_bytes,
+    PlotFault, Source, Stroke, Window, convert,
 };
 use std::test::Fail;
 
@@ -48,13 +49,7 @@ fn plots_that_are_refused(rt: HostRuntime) -> Result<(), Fail> {
     ];
     for (plot, wanted) in cases {
         let mut sink = OverWrite::new(Vec::new(rt.alloc()));
-        let answer = convert(
-            rt.alloc(),
-            &marks()?,
-            &mut Exact::new(),
-            &mut OverRead::new(plot),
-            &mut sink,
-        );
+        let answer = converted(rt.alloc(), &marks()?, &mut OverRead::new(plot), &mut sink);
         let refused = matches!(answer, Err(fault) if fault == wanted);
         assert!(rt; refused);
         assert!(rt; sink.into_inner().is_empty());
@@ -64,11 +59,11 @@ fn plots_that_are_refused(rt: HostRuntime) -> Result<(), Fail> {
 
 #[test]
 fn the_edge_of_the_range(rt: HostRuntime) -> Result<(), Fail> {
-    assert!(rt; picture_bytes(rt.alloc(), &marks()?, b"PA65536,0;").is_ok());
+    assert!(rt; drawn(rt.alloc(), &marks()?, b"PA65536,0;").is_ok());
     let mut job = marks()?;
     job.page = Page::new(64, 64, 10000, 0)?;
-    assert!(rt; picture_bytes(rt.alloc(), &job, b"PA-75536,0;").is_ok());
-    let answer = picture_bytes(rt.alloc(), &job, b"PA-75537,0;");
+    assert!(rt; drawn(rt.alloc(), &job, b"PA-75536,0;").is_ok());
+    let answer = drawn(rt.alloc(), &job, b"PA-75537,0;");
     let refused = matches!(answer, Err(Fault::Plot(PlotFault::OffRange { at: 0 })));
     assert!(rt; refused);
     Ok(())
@@ -78,38 +73,35 @@ fn the_edge_of_the_range(rt: HostRuntime) -> Result<(), Fail> {
 fn jobs_that_are_refused(rt: HostRuntime) -> Result<(), Fail> {
     let mut job = marks()?;
     job.first_row = 9;
-    let answer = picture_bytes(rt.alloc(), &job, CROSSING);
+    let answer = drawn(rt.alloc(), &job, CROSSING);
     let past = matches!(answer, Err(Fault::Paint(PaintFault::Row)));
     assert!(rt; past);
     job.band = 0;
-    let answer = picture_bytes(rt.alloc(), &job, CROSSING);
+    let answer = drawn(rt.alloc(), &job, CROSSING);
     let none = matches!(answer, Err(Fault::Paint(PaintFault::Band)));
     assert!(rt; none);
     job.band = 4097;
-    let answer = picture_bytes(rt.alloc(), &job, CROSSING);
+    let answer = drawn(rt.alloc(), &job, CROSSING);
     let high = matches!(answer, Err(Fault::Paint(PaintFault::Band)));
     assert!(rt; high);
     Ok(())
 }
 
 // What comes of a source, and how many bytes were written.
-fn converted(
-    rt: &HostRuntime,
-    source: &mut Semicolons,
-) -> Result<(Result<Done, Fault>, usize), Fail>
+fn answered(rt: &HostRuntime, source: &mut Semicolons) -> Result<(Result<Done, Fault>, usize), Fail>
     requires failing { source.old.failures < 2 ^ 64 - 1 }
     requires ending { source.old.ends < 2 ^ 64 - 1 }
 {
     let mut sink = OverWrite::new(Vec::new(rt.alloc()));
     let job = marks()?;
-    let answer = convert(rt.alloc(), &job, &mut Exact::new(), source, &mut sink);
+    let answer = converted(rt.alloc(), &job, source, &mut sink);
     Ok((answer, sink.into_inner().len()))
 }
 
 #[test]
 fn the_longest_plot(rt: HostRuntime) -> Result<(), Fail> {
     let mut source = Semicolons::new(67_108_864);
-    let (answer, written) = converted(&rt, &mut source)?;
+    let (answer, written) = answered(&rt, &mut source)?;
     let empty = matches!(
         answer,
         Ok(Done {
@@ -127,7 +119,7 @@ fn the_longest_plot(rt: HostRuntime) -> Result<(), Fail> {
 #[test]
 fn a_plot_of_one_byte_too_many(rt: HostRuntime) -> Result<(), Fail> {
     let mut source = Semicolons::new(67_108_865);
-    let (answer, written) = converted(&rt, &mut source)?;
+    let (answer, written) = answered(&rt, &mut source)?;
     let long = matches!(answer, Err(Fault::TooLong));
     assert!(rt; long);
     assert_eq!(rt; written, 0);
@@ -139,7 +131,7 @@ fn a_plot_of_one_byte_too_many(rt: HostRuntime) -> Result<(), Fail> {
 #[test]
 fn the_rest_of_a_plot_too_long(rt: HostRuntime) -> Result<(), Fail> {
     let mut source = Semicolons::new(67_108_867);
-    let (answer, written) = converted(&rt, &mut source)?;
+    let (answer, written) = answered(&rt, &mut source)?;
     let long = matches!(answer, Err(Fault::TooLong));
     assert!(rt; long);
     assert_eq!(rt; written, 0);
@@ -151,7 +143,7 @@ fn the_rest_of_a_plot_too_long(rt: HostRuntime) -> Result<(), Fail> {
 #[test]
 fn the_pieces_of_a_plot(rt: HostRuntime) -> Result<(), Fail> {
     let mut source = Semicolons::new(200_000);
-    let (answer, written) = converted(&rt, &mut source)?;
+    let (answer, written) = answered(&rt, &mut source)?;
     assert!(rt; answer.is_ok());
     assert_eq!(rt; written, 0);
     assert_eq!(rt; (source.left, source.most_asked), (0, 65_536));
@@ -161,7 +153,7 @@ fn the_pieces_of_a_plot(rt: HostRuntime) -> Result<(), Fail> {
 #[test]
 fn a_source_that_fails(rt: HostRuntime) -> Result<(), Fail> {
     let mut source = Semicolons::failing();
-    let (answer, written) = converted(&rt, &mut source)?;
+    let (answer, written) = answered(&rt, &mut source)?;
     let failed = matches!(answer, Err(Fault::Read));
     assert!(rt; failed);
     assert_eq!(rt; written, 0);

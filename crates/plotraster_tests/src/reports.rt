@@ -1,8 +1,9 @@
 //! Reports on plots.
 use crate::limited::Limited;
 use crate::refusals::off_range;
+use crate::runs::reported;
 use crate::sources::Semicolons;
-use plotraster::{Done, Fault, OverRead, OverWrite, Page, Source, report};
+use plotraster::{Done, Fault, OverRead, OverWrite, Page, Source};
 use std::test::Fail;
 
 const LINE_REPORT: &[u8] =
@@ -52,7 +53,7 @@ pen 9 strokes 1 widest 640 box -16 -32 48 64\nnote 46 axis DI\nnote 52 stray 33\
     for (plot, wanted, strokes, notes) in cases {
         let mut source = OverRead::new(plot);
         let mut sink = OverWrite::new(Vec::new(rt.alloc()));
-        let done = report(rt.alloc(), &square()?, &mut source, &mut sink)?;
+        let done = reported(rt.alloc(), &square()?, &mut source, &mut sink)?;
         let written = sink.into_inner();
         assert_eq!(rt; written.as_slice(), wanted);
         assert!(rt;
@@ -72,7 +73,7 @@ pen 9 strokes 1 widest 640 box -16 -32 48 64\nnote 46 axis DI\nnote 52 stray 33\
 fn the_page_of_a_report(rt: HostRuntime) -> Result<(), Fail> {
     let page = Page::new(65536, 8400, 10000, 7)?;
     let mut sink = OverWrite::new(Vec::new(rt.alloc()));
-    report(
+    reported(
         rt.alloc(),
         &page,
         &mut OverRead::new(b"PD0,0;".as_slice()),
@@ -89,7 +90,7 @@ fn the_page_of_a_report(rt: HostRuntime) -> Result<(), Fail> {
 fn a_report_broken_off_anywhere(rt: HostRuntime) -> Result<(), Fail> {
     for room in 0..SKIPPED_REPORT.len() {
         let mut sink = Limited::ending_after(rt.alloc(), room);
-        let answer = report(
+        let answer = reported(
             rt.alloc(),
             &square()?,
             &mut OverRead::new(SKIPPED),
@@ -117,7 +118,7 @@ fn plots_without_a_report(rt: HostRuntime) -> Result<(), Fail> {
     ];
     for (plot, wanted) in cases {
         let mut sink = OverWrite::new(Vec::new(rt.alloc()));
-        let answer = report(rt.alloc(), &square()?, &mut OverRead::new(plot), &mut sink);
+        let answer = reported(rt.alloc(), &square()?, &mut OverRead::new(plot), &mut sink);
         let refused = matches!(answer, Err(fault) if fault == wanted);
         assert!(rt; refused);
         assert!(rt; sink.into_inner().is_empty());
@@ -129,7 +130,7 @@ fn plots_without_a_report(rt: HostRuntime) -> Result<(), Fail> {
 fn a_report_on_a_source_that_fails(rt: HostRuntime) -> Result<(), Fail> {
     let mut source = Semicolons::failing();
     let mut sink = OverWrite::new(Vec::new(rt.alloc()));
-    let answer = report(rt.alloc(), &square()?, &mut source, &mut sink);
+    let answer = reported(rt.alloc(), &square()?, &mut source, &mut sink);
     let failed = matches!(answer, Err(Fault::Read));
     assert!(rt; failed);
     assert!(rt; sink.into_inner().is_empty());

@@ -1,19 +1,28 @@
 //! Plots that set widths, windows, scaling and rotation.
 use crate::pages::eight_by_eight;
-use plotraster::{Dots, Form, Job, Page, picture_bytes};
+use crate::runs::{drawn, has_picture};
+use plotraster::{Dots, Form, Job, Page};
+use std::alloc::Global;
+use std::process::Abort;
 use std::test::Fail;
 
-// The bits of a plot's picture, 8 units a pixel, without the head.
-fn bits(rt: &HostRuntime, page: Page, plot: &[u8]) -> Result<Vec<u8>, Fail> {
+// Fails unless the bits of a plot's picture, 8 units a pixel, without the head, are these.
+fn has_bits(
+    rt: &impl Abort,
+    alloc: Global,
+    page: Page,
+    plot: &[u8],
+    wanted: &[u8],
+) -> Result<(), Fail> {
     let job = Job {
         page,
         ..eight_by_eight(Form::Pbm).ok_or("a job")?
     };
-    let picture = picture_bytes(rt.alloc(), &job, plot)?;
+    let picture = drawn(alloc, &job, plot)?;
     let rows = 8 * page.width.div_ceil(64) as usize;
-    let mut bits = Vec::new(rt.alloc());
-    bits.extend_from_slice(&picture.as_slice()[picture.len().saturating_sub(rows)..])?;
-    Ok(bits)
+    let head = picture.len().saturating_sub(rows);
+    assert_eq!(rt; &picture.as_slice()[head..], wanted);
+    Ok(())
 }
 
 #[test]
@@ -64,8 +73,7 @@ fn pictures_of_eight_by_eight(rt: HostRuntime) -> Result<(), Fail> {
         (b"PU0,28;PE7>c?o_;".as_slice(), middle),
     ];
     for (plot, wanted) in plots {
-        let bits = bits(&rt, Page::new(64, 64, 0, 0)?, plot)?;
-        assert_eq!(rt; bits.as_slice(), wanted);
+        has_bits(&rt, rt.alloc(), Page::new(64, 64, 0, 0)?, plot, wanted)?;
     }
     Ok(())
 }
@@ -87,8 +95,7 @@ fn pictures_of_sixteen_by_eight(rt: HostRuntime) -> Result<(), Fail> {
         ),
     ];
     for (plot, wanted) in plots {
-        let bits = bits(&rt, Page::new(128, 64, 0, 0)?, plot)?;
-        assert_eq!(rt; bits.as_slice(), wanted);
+        has_bits(&rt, rt.alloc(), Page::new(128, 64, 0, 0)?, plot, wanted)?;
     }
     Ok(())
 }
@@ -99,7 +106,6 @@ fn the_thinnest_line_on_one_pixel(rt: HostRuntime) -> Result<(), Fail> {
         dots: Dots::new(10).ok_or("a resolution")?,
         ..eight_by_eight(Form::Marks).ok_or("a job")?
     };
-    let marks = picture_bytes(rt.alloc(), &job, b"PW0;PU0,34;PD64,34;")?;
-    assert_eq!(rt; marks.as_slice(), b"0 0 1 000000\n".as_slice());
-    Ok(())
+    let plot = b"PW0;PU0,34;PD64,34;";
+    has_picture(&rt, rt.alloc(), &job, plot, b"0 0 1 000000\n")
 }
