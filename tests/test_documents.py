@@ -22,7 +22,8 @@ import pytest
 from document_checks import DOCUMENT_CHECKS, box_of_pen_2, commands_in_sentences, eight_marks, is_not_run, leaves_out
 from document_checks import missing_files, pictures, transcript
 from recipe_checks import CHECKS, PNG, SECONDS, Check, Made, samples
-from shared import TOP, assert_nothing, need, write
+from reference.outputs import FORMS
+from shared import TOP, assert_nothing, need, read, write
 
 STUB = """#!/bin/sh
 job=$PRINTED/$(ls "$PRINTED" | wc -l)
@@ -182,21 +183,29 @@ def test_block(section, block, check, program, pytestconfig):
     assert_nothing(judge(program, check, section, block))
 
 
+# Those that do not just make a picture.
 HELP_CHECKS = {
-    "": Check(pictures), "marks": Check(eight_marks), "pbm": Check(pictures), "ppm": Check(pictures, PNG),
-    "pcl": Check(pictures), "report": Check(box_of_pen_2, (), {"plan.plt": b"SP2;PU0,0;PD100,200;"}),
+    "marks": Check(eight_marks), "ppm": Check(pictures, PNG),
+    "report": Check(box_of_pen_2, (), {"plan.plt": b"SP2;PU0,0;PD100,200;"}),
 }
 
 
-@pytest.mark.parametrize("command", HELP_CHECKS)
+@pytest.mark.parametrize("command", ["", *FORMS, "report"])
 def test_example_of_help(command, program, pytestconfig):
     """The example that ends each page of help."""
     words = [program, *([command] if command else []), "--help"]
     shown = subprocess.run(words, capture_output=True, text=True, check=True, timeout=SECONDS).stdout
     examples = re.findall(r"^Example.*:\n  (.+)$", shown, re.M)
     assert len(examples) == 1
-    need(pytestconfig, *HELP_CHECKS[command].needs)
-    assert_nothing(judge(program, HELP_CHECKS[command], {}, examples[0]))
+    check = HELP_CHECKS.get(command, Check(pictures))
+    need(pytestconfig, *check.needs)
+    assert_nothing(judge(program, check, {}, examples[0]))
+
+
+def test_formats_of_each_command():
+    """docs/FORMATS.md has a section for each form, and one for the report."""
+    sections = re.findall(r"^## ([a-z]+)$", read("docs", "FORMATS.md"), re.M)
+    assert sections == [*FORMS, "report"]
 
 
 def test_number_of_blocks():
