@@ -103,6 +103,7 @@ fn strokes_as_bits(rt: HostRuntime) -> Result<(), Fail> {
         strokes.push(numbers.stroke(n).ok_or("a stroke")?)?;
     }
     let pens = PenSet::none().with(1).with(2);
+    assert_eq!(rt; strokes.len(), 24);
     for resolution in [127, 600, 1200] {
         let dots = Dots::new(resolution).ok_or("a resolution")?;
         let columns = dots.columns(&page);
