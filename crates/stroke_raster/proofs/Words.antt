@@ -1,10 +1,10 @@
 -- Eight bytes of a row as one word.
 use Rattle.std.proofs.Common.{◌≡◌, ℕ, zero, suc, ◌+◌, ◌-◌, ◌*◌, ◌/◌, ◌%◌, ◌<◌, ◌≤◌, ◌^◌, arith, refl, sym, ap, ◌∙◌, inl, inr, max}
 use Rattle.std.proofs.Common.{length, get_or, List, bit_or}
-use Rattle.std.specs.Int.{w64, bit_at, to_be_bytes, from_be_bytes}
+use Rattle.std.specs.Int.{w64, bit_at, to_be_bytes, to_le_bytes, from_le_bytes}
 use Rattle.std.proofs.lemmas.Bool.{cases_lt}
 use Rattle.std.proofs.lemmas.List.{get_or_past}
-use Rattle.std.proofs.lemmas.Nat.{be_bytes_8, div-add-mod', div-mul-add, pow-add, pow_pos, shr-shr}
+use Rattle.std.proofs.lemmas.Nat.{le_bytes_8, div-add-mod', div-mul-add, pow-add, pow_pos, shr-shr}
 use Rattle.std.proofs.lemmas.Nat.Bits.{bit_at_cat_low, bit_at_mask_above, bit_at_mask_below, bit_at_mask_inside, bit_at_or, bit_at-lt}
 use Rattle.std.proofs.Math.Nat.{pow-le-pow_right}
 use borrow.Rule.Slice.PartMut.{put_mid, mid_of, same_len_mid}
@@ -47,28 +47,61 @@ byte_bit v s i h =
     ∙ ap (λ (n : ℕ). n % 2) (shr-shr v s i)
 
 -- the bytes of a word, the highest first
-word_byte : (v j : ℕ) → j < 8 → get_or (to_be_bytes w64 v) j 0 ≡ v / 2 ^ (8 * (7 - j)) % 256
-word_byte v zero h = refl
-word_byte v (suc zero) h = refl
-word_byte v (suc (suc zero)) h = refl
-word_byte v (suc (suc (suc zero))) h = refl
-word_byte v (suc (suc (suc (suc zero)))) h = refl
-word_byte v (suc (suc (suc (suc (suc zero))))) h = refl
-word_byte v (suc (suc (suc (suc (suc (suc zero)))))) h = refl
-word_byte v (suc (suc (suc (suc (suc (suc (suc zero))))))) h = omega arith
-word_byte v (suc (suc (suc (suc (suc (suc (suc (suc j)))))))) h = absurd (omega (arith, h))
+high_byte : (v j : ℕ) → j < 8 → get_or (to_be_bytes w64 v) j 0 ≡ v / 2 ^ (8 * (7 - j)) % 256
+high_byte v zero h = refl
+high_byte v (suc zero) h = refl
+high_byte v (suc (suc zero)) h = refl
+high_byte v (suc (suc (suc zero))) h = refl
+high_byte v (suc (suc (suc (suc zero)))) h = refl
+high_byte v (suc (suc (suc (suc (suc zero))))) h = refl
+high_byte v (suc (suc (suc (suc (suc (suc zero)))))) h = refl
+high_byte v (suc (suc (suc (suc (suc (suc (suc zero))))))) h = omega arith
+high_byte v (suc (suc (suc (suc (suc (suc (suc (suc j)))))))) h = absurd (omega (arith, h))
 
--- pixel i of the bytes of a word
-pub word_ink : (v i : ℕ) → i < 64 → ink (to_be_bytes w64 v) i ≡ bit_at v (63 - i)
-word_ink v i h =
-    ap (λ (n : ℕ). bit_at n (7 - i % 8)) (word_byte v (i / 8) (omega (arith, h)))
+-- the bytes of a word, the lowest first
+low_byte : (v j : ℕ) → j < 8 → get_or (to_le_bytes w64 v) j 0 ≡ v / 2 ^ (8 * j) % 256
+low_byte v zero h = omega arith
+low_byte v (suc zero) h = refl
+low_byte v (suc (suc zero)) h = refl
+low_byte v (suc (suc (suc zero))) h = refl
+low_byte v (suc (suc (suc (suc zero)))) h = refl
+low_byte v (suc (suc (suc (suc (suc zero))))) h = refl
+low_byte v (suc (suc (suc (suc (suc (suc zero)))))) h = refl
+low_byte v (suc (suc (suc (suc (suc (suc (suc zero))))))) h = refl
+low_byte v (suc (suc (suc (suc (suc (suc (suc (suc j)))))))) h = absurd (omega (arith, h))
+
+-- where pixel i is in a word whose first byte is its lowest
+abbrev place : ℕ → ℕ
+place i = 8 * (i / 8) + (7 - i % 8)
+
+-- pixel i of the bytes of a word, the highest first
+high_ink : (v i : ℕ) → i < 64 → ink (to_be_bytes w64 v) i ≡ bit_at v (63 - i)
+high_ink v i h =
+    ap (λ (n : ℕ). bit_at n (7 - i % 8)) (high_byte v (i / 8) (omega (arith, h)))
     ∙ byte_bit v (8 * (7 - i / 8)) (7 - i % 8) (omega arith)
     ∙ ap (bit_at v) (omega (arith, h))
 
+-- pixel i of the bytes of a word, the lowest first
+low_ink : (v i : ℕ) → i < 64 → ink (to_le_bytes w64 v) i ≡ bit_at v (place i)
+low_ink v i h =
+    ap (λ (n : ℕ). bit_at n (7 - i % 8)) (low_byte v (i / 8) (omega (arith, h)))
+    ∙ byte_bit v (8 * (i / 8)) (7 - i % 8) (omega arith)
+
 -- pixel i of eight bytes
-pub read_ink : (bs : List ℕ) (i : ℕ) → length bs ≡ 8 → ((k : ℕ) → get_or bs k 0 < 256) → i < 64 → ink bs i ≡ bit_at (from_be_bytes w64 bs) (63 - i)
+pub read_ink : (bs : List ℕ) (i : ℕ) → length bs ≡ 8 → ((k : ℕ) → get_or bs k 0 < 256) → i < 64 → ink bs i ≡ bit_at (from_le_bytes w64 bs) (8 * (i / 8) + (7 - i % 8))
 read_ink bs i len small h =
-    ap (λ (z : List ℕ). ink z i) (sym (be_bytes_8 bs (from_be_bytes w64 bs) len small refl)) ∙ word_ink (from_be_bytes w64 bs) i h
+    ap (λ (z : List ℕ). ink z i) (sym (le_bytes_8 bs (from_le_bytes w64 bs) len small refl)) ∙ low_ink (from_le_bytes w64 bs) i h
+
+-- the bytes of a word are bytes
+high_small : (v k : ℕ) → get_or (to_be_bytes w64 v) k 0 < 256
+high_small v k = elim (cases_lt k 8) [
+  | inl l ↦ (let e = high_byte v k l in omega (arith, e))
+  | inr g ↦ (let e = get_or_past (to_be_bytes w64 v) k 0 g in omega (arith, e))
+]
+
+-- a word whose bytes are turned round
+pub turned_ink : (t v i : ℕ) → t ≡ from_le_bytes w64 (to_be_bytes w64 v) → i < 64 → bit_at t (place i) ≡ bit_at v (63 - i)
+turned_ink t v i e h = ap (λ (n : ℕ). bit_at n (place i)) e ∙ sym (read_ink (to_be_bytes w64 v) i refl (high_small v) h) ∙ high_ink v i h
 
 -- a pixel outside the word
 beside_word : (old new : List ℕ) (at i : ℕ) → at + 8 ≤ length old → length new ≡ 8 → (at ≤ i / 8 → at + 8 ≤ i / 8) → ink (put_mid at 8 old new) i ≡ ink old i
@@ -100,43 +133,48 @@ in_old old at i fit from to =
     ∙ ap (λ (n : ℕ). bit_at (get_or old n 0) (7 - (i - 8 * at) % 8)) e
     ∙ ap (λ (n : ℕ). bit_at (get_or old (i / 8) 0) (7 - n)) m
 
+-- the bytes of a word or-ed with a mask
+abbrev pub masked : ℕ → ℕ → List ℕ
+masked w t = to_le_bytes w64 (bit_or w t)
+
 -- what a pixel of the word becomes
-joined : (old : List ℕ) (at w m i : ℕ) → at + 8 ≤ length old → ((k : ℕ) → k < 64 → bit_at w (63 - k) ≡ ink (mid_of at 8 old) k) → at ≤ i / 8 → i / 8 < at + 8
-    → ink (put_mid at 8 old (to_be_bytes w64 (bit_or w m))) i ≡ max (ink old i) (bit_at m (63 - (i - 8 * at)))
-joined old at w m i fit read from to =
+joined : (old : List ℕ) (at w t m i : ℕ) → t ≡ from_le_bytes w64 (to_be_bytes w64 m) → at + 8 ≤ length old → ((k : ℕ) → k < 64 → bit_at w (8 * (k / 8) + (7 - k % 8)) ≡ ink (mid_of at 8 old) k) → at ≤ i / 8 → i / 8 < at + 8
+    → ink (put_mid at 8 old (masked w t)) i ≡ max (ink old i) (bit_at m (63 - (i - 8 * at)))
+joined old at w t m i et fit read from to =
     let j : i - 8 * at < 64 = omega (arith, to) in
-    in_word old (to_be_bytes w64 (bit_or w m)) at i fit refl from to
-    ∙ word_ink (bit_or w m) (i - 8 * at) j
-    ∙ bit_at_or w m (63 - (i - 8 * at))
+    in_word old (masked w t) at i fit refl from to
+    ∙ low_ink (bit_or w t) (i - 8 * at) j
+    ∙ bit_at_or w t (place (i - 8 * at))
+    ∙ ap (λ (n : ℕ). max (bit_at w (place (i - 8 * at))) n) (turned_ink t m (i - 8 * at) et j)
     ∙ ap (λ (n : ℕ). max n (bit_at m (63 - (i - 8 * at)))) (read (i - 8 * at) j ∙ in_old old at i fit from to)
 
 -- a run that was inked by one word
-pub word_inked : (low end at a b w m : ℕ) (old : List ℕ) → at ≡ low / 8 → a ≡ low % 8 → b ≡ low % 8 + (end - low) → low ≤ end → end ≤ low + 56 → at + 8 ≤ length old
-    → ((k : ℕ) → k < 64 → bit_at w (63 - k) ≡ ink (mid_of at 8 old) k) → m ≡ 2 ^ (64 - a) - 2 ^ (64 - b)
-    → IsInked low end old (put_mid at 8 old (to_be_bytes w64 (bit_or w m)))
-word_inked low end at a b w m old e ea eb order few fit read em =
-    let eight : length (to_be_bytes w64 (bit_or w m)) ≡ 8 = refl in
+pub word_inked : (low end at a b w t m : ℕ) (old : List ℕ) → at ≡ low / 8 → a ≡ low % 8 → b ≡ low % 8 + (end - low) → low ≤ end → end ≤ low + 56 → at + 8 ≤ length old
+    → ((k : ℕ) → k < 64 → bit_at w (8 * (k / 8) + (7 - k % 8)) ≡ ink (mid_of at 8 old) k) → m ≡ 2 ^ (64 - a) - 2 ^ (64 - b) → t ≡ from_le_bytes w64 (to_be_bytes w64 m)
+    → IsInked low end old (put_mid at 8 old (masked w t))
+word_inked low end at a b w t m old e ea eb order few fit read em et =
+    let eight : length (masked w t) ≡ 8 = refl in
     let bit : (k : ℕ) → bit_at m k ≡ bit_at (2 ^ (64 - a) - 2 ^ (64 - b)) k = λ k. ap (λ (n : ℕ). bit_at n k) em in
     record {
-      length = same_len_mid at 8 old (to_be_bytes w64 (bit_or w m)) (eight ∙ sym (mid_length at 8 old fit));
+      length = same_len_mid at 8 old (masked w t) (eight ∙ sym (mid_length at 8 old fit));
       before = λ i u. elim (cases_lt (i / 8) at) [
-        | inl l ↦ beside_word old (to_be_bytes w64 (bit_or w m)) at i fit eight (λ g. absurd (omega (arith, g, l)))
+        | inl l ↦ beside_word old (masked w t) at i fit eight (λ g. absurd (omega (arith, g, l)))
         | inr g ↦ (let to : i / 8 < at + 8 = omega (arith, u, e) in
-            let s = joined old at w m i fit read g to in
+            let s = joined old at w t m i et fit read g to in
             let z = bit (63 - (i - 8 * at)) ∙ bit_at_mask_above (64 - b) (64 - a) (63 - (i - 8 * at)) (omega (arith, u, e, ea, g)) in
             omega (arith, s, z))
       ];
       inside = λ i u v. (let from : at ≤ i / 8 = omega (arith, u, e) in
           let to : i / 8 < at + 8 = omega (arith, v, e, few) in
-          let s = joined old at w m i fit read from to in
+          let s = joined old at w t m i et fit read from to in
           let z = bit (63 - (i - 8 * at)) ∙ bit_at_mask_inside (64 - b) (64 - a) (63 - (i - 8 * at)) (omega (arith, v, e, ea, eb, order, few)) (omega (arith, u, e, ea)) in
           let o = bit_at-lt (get_or old (i / 8) 0) (7 - i % 8) in
           omega (arith, s, z, o));
       after = λ i u. elim (cases_lt (i / 8) (at + 8)) [
         | inl l ↦ (let from : at ≤ i / 8 = omega (arith, u, e, order) in
-            let s = joined old at w m i fit read from l in
+            let s = joined old at w t m i et fit read from l in
             let z = bit (63 - (i - 8 * at)) ∙ bit_at_mask_below (64 - b) (64 - a) (63 - (i - 8 * at)) (omega (arith, u, l, e, ea, eb, order, few)) in
             omega (arith, s, z))
-        | inr g ↦ beside_word old (to_be_bytes w64 (bit_or w m)) at i fit eight (λ w. g)
+        | inr g ↦ beside_word old (masked w t) at i fit eight (λ w. g)
       ];
     }

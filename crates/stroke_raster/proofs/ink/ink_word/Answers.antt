@@ -1,4 +1,5 @@
-use Rattle.std.proofs.Common.{◌≡◌, ◌+◌, ◌-◌, ◌/◌, ◌%◌, ◌∙◌, refl, arith}
+use Rattle.std.proofs.Common.{◌≡◌, ◌+◌, ◌-◌, ◌/◌, ◌%◌, ◌∙◌, refl, ap, arith}
+use Rattle.std.specs.Int.{w64, from_le_bytes}
 use Rattle.stroke_raster.proofs.Words.{mask_order, word_inked, word_mask}
 use Rattle.stroke_raster.proofs.ink.ink_word.Goals as goal
 
@@ -15,6 +16,7 @@ returns c =
     let size : low / 8 + 8 - low / 8 ≡ 8 = omega arith in
     let read = rw size at c.word_of-word.ensures in
     let mask = word_mask (low % 8) (low % 8 + (end - low)) (omega arith) (omega (arith, c.requires.order, c.requires.few)) in
-    let new = c.copy_from_slice.ensures.after ∙ c.to_be_bytes.ensures in
-    let inked = word_inked low end at a b c.word_of-word.result _ c.args.line.now refl refl refl c.requires.order c.requires.few c.requires.inside read mask in
+    let turned = c.from_le_bytes-turned.ensures ∙ ap (from_le_bytes w64) c.to_be_bytes.ensures in
+    let new = c.copy_from_slice.ensures.after ∙ c.to_le_bytes.ensures in
+    let inked = word_inked low end at a b c.word_of-word.result c.from_le_bytes-turned.result _ c.args.line.now refl refl refl c.requires.order c.requires.few c.requires.inside read mask turned in
     rw (size, new) inked
