@@ -52,15 +52,15 @@ class BadFrom(Exception):
     """An instruction is bad, and it is skipped from this place on."""
 
 
-def items(plot):
-    """The items of a plot."""
-    place, terminator = 0, END_OF_TEXT
+def items(plot, cut=None):
+    """The items of a plot; cut gives the instruction at a place, and the place after it."""
+    cut, place, terminator = cut or instruction, 0, END_OF_TEXT
     while place < len(plot):
         silent = SILENT.match(plot, place)
         if silent:
             place = silent.end()
         elif MNEMONIC.match(plot, place):
-            item, place = instruction(plot, place, terminator)
+            item, place = cut(plot, place, terminator)
             terminator = terminator_after(item, terminator)
             yield item
         else:

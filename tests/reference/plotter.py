@@ -19,6 +19,7 @@ MOST_STROKES = 4_194_304
 FARTHEST = 65_536 * 16
 USUAL_WIDTH = 224
 USUAL_SIZE = (1216, 1728)
+USUAL_CHORD = 5_000
 BLACK = (0, 0, 0)
 COLOURS = {
     2: (255, 0, 0), 3: (0, 255, 0), 4: (255, 255, 0), 5: (0, 0, 255), 6: (255, 0, 255), 7: (0, 255, 255),
@@ -34,6 +35,7 @@ class Stroke(NamedTuple):
     window: tuple
     a: tuple
     b: tuple
+    sheet: int = 1
 
 
 class Note(NamedTuple):
@@ -81,11 +83,6 @@ def within(number, least, most):
     if not least <= number <= most:
         raise Bad
     return number
-
-
-def chord_of(numbers):
-    """The angle of a chord in thousandths of a degree; 5 degrees if none is given."""
-    return within(rounded(numbers[0], 1000), 500, 180_000) if numbers else 5_000
 
 
 class Plotter:
@@ -282,27 +279,38 @@ class Plotter:
             raise Refused(f"place off range at byte {self.at}")
         return place
 
-    def stroke(self, a, b):
+    def ink(self, a, b):
         """Draws a stroke, if the pen is not pen 0; one more than may be is enough."""
         if self.pen and len(self.strokes) <= MOST_STROKES:
-            colour, width = self.colours[self.pen], self.widths[self.pen]
-            self.strokes.append(Stroke(self.pen, colour, width, self.window, a, b))
+            self.strokes.append(Stroke(self.pen, self.colours[self.pen], self.width(), self.window, a, b))
 
-    def trace(self, places, is_drawn=True):
-        """Draws a path; all of its places must be in range."""
+    def width(self):
+        """The width of the pen, in grains."""
+        return self.widths[self.pen]
+
+    def line(self, a, b):
+        """Draws a line from place to place, which is one stroke."""
+        self.ink(a, b)
+
+    def figure(self, places):
+        """Draws lines from place to place; all places must be in range."""
         for place in places:
             self.in_range(place)
         for a, b in zip(places, places[1:]):
-            if is_drawn:
-                self.stroke(a, b)
+            self.line(a, b)
 
     # Moves
 
+    def reach(self, place):
+        """Moves the pen to a place, and draws if it is down."""
+        if self.is_down:
+            self.line(self.place, place)
+        self.place = place
+
     def move(self, x, y):
-        """Moves the pen to coordinates, and draws if it is down."""
-        place = self.place_of(x, y)
-        self.trace([self.place, place], self.is_down)
-        self.place, self.coordinates = place, (x, y)
+        """Moves the pen to coordinates."""
+        self.reach(self.in_range(self.place_of(x, y)))
+        self.coordinates = (x, y)
 
     def offset(self, x, y):
         """Coordinates, given relative to the pen's."""
@@ -322,9 +330,12 @@ class Plotter:
     def PD(self, numbers):
         """The pen goes down; if it was up and does not move, it draws a dot."""
         if not self.is_down and len(numbers) < 2:
-            self.stroke(self.place, self.place)
+            self.dot()
         self.is_down = True
         return self.moves(numbers)
+
+    def dot(self):
+        self.ink(self.place, self.place)
 
     def PA(self, numbers):
         """Coordinates are absolute."""
@@ -359,16 +370,26 @@ class Plotter:
         self.edge(*self.offset(*listed(numbers, 2)))
 
     def edge(self, x, y):
+        self.figure(self.rectangle(x, y))
+
+    def rectangle(self, x, y):
+        """The places of a rectangle, from the pen round to the pen."""
         own_x, own_y = self.coordinates
         corners = [self.place_of(x, own_y), self.place_of(x, y), self.place_of(own_x, y)]
-        self.trace([self.place, *corners, self.place])
+        return [self.place, *corners, self.place]
 
     def CI(self, numbers):
         """A circle about the pen, from the point on its right on."""
-        radius, *rest = listed(numbers, 1, 2)
+        self.figure(self.circle(*listed(numbers, 1, 2)))
+
+    def circle(self, radius, *chord):
         start = self.offset(radius, 0)
-        ends = chord_ends(self.coordinates, start, 360_000, chord_of(rest))
-        self.trace([self.place_of(*point) for point in (start, *ends)])
+        ends = chord_ends(self.coordinates, start, 360_000, self.chord(chord))
+        return [self.place_of(*point) for point in (start, *ends)]
+
+    def chord(self, numbers):
+        """The angle of a chord in thousandths of a degree; 5 degrees if none is given."""
+        return within(rounded(numbers[0], 1000), 500, 180_000) if numbers else USUAL_CHORD
 
     def AA(self, numbers):
         """An arc about a centre, from the pen on."""
@@ -383,10 +404,16 @@ class Plotter:
     def arc(self, centre, numbers):
         sweep, *rest = numbers
         sweep = within(rounded(sweep, 1000), -360_000, 360_000)
-        ends = list(chord_ends(centre, self.coordinates, sweep, chord_of(rest)))
-        places = [self.place, *(self.place_of(*point) for point in ends)]
-        self.trace(places, self.is_down)
-        self.place, self.coordinates = places[-1], ends[-1]
+        ends = list(chord_ends(centre, self.coordinates, sweep, self.chord(rest)))
+        self.reach_all([self.place_of(*point) for point in ends])
+        self.coordinates = ends[-1]
+
+    def reach_all(self, places):
+        """Moves the pen along a curve; all places must be in range."""
+        for place in places:
+            self.in_range(place)
+        for place in places:
+            self.reach(place)
 
     # Labels
 
@@ -403,7 +430,7 @@ class Plotter:
                 # letter has two thirds of this.
                 part = 2 if chr(byte).islower() else 3
                 for ends in lettering.strokes(byte):
-                    self.trace([self.spot(column, line, part * i, part * j) for i, j in ends])
+                    self.ink(*(self.in_range(self.spot(column, line, part * i, part * j)) for i, j in ends))
                 column += 1
         self.place = self.in_range(self.spot(column, line, 0, 0))
         self.recompute()
