@@ -72,7 +72,7 @@ def terminator_after(item, terminator):
     """The byte that ends the labels after an item."""
     if item.kind == "terminator":
         return item.has
-    if item.kind == "numbers" and item.code in ("IN", "DF"):
+    if item.kind == "numbers" and item.code in ("IN", "DF", "BP"):
         return END_OF_TEXT
     return terminator
 

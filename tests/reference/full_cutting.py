@@ -1,0 +1,52 @@
+"""From the bytes of a plot to its items, in the profile full.
+
+The core's items, and those of further instructions. An item of the kind `known` has no effect, one of the kind
+`byte` has a byte or None, and one of the kind `text` has a text.
+"""
+
+import re
+
+from . import cutting
+from .cutting import SKIPPED, BadFrom, Item
+
+FURTHER_WITH_NUMBERS = """
+    LT UL WU PT SR SL DR DV LO CP ES TL XT YT PM EP FP FT AC RA RR EW WG AT RT BZ BR CT IR CR
+""".split()
+# Instructions whose numbers are not read.
+WITHOUT_NUMBERS = "PG AF AH NR FR BP PB".split()
+WITHOUT_EFFECT = """
+    PS NP LA TR MC PP MT QL ST VS FS AS AP EC GC GM SD AD SS SA CS CA FN FI SB DS IV CM CF CC LM TD RF MG IM KY
+    DC DP OA OC OD OE OF OG OH OI OK OL OO OP OS OT OW
+""".split()
+# A comment: a quoted text if one comes first, and all up to its `;`.
+COMMENT = re.compile(rb'[ \t\r\n]*(?:"[^"]*(?:"|\Z))?[^;]*;?')
+
+
+def items(plot):
+    """The items of a plot."""
+    return cutting.items(plot, instruction)
+
+
+def instruction(plot, at, terminator):
+    """The instruction at a place, and the place after it."""
+    code, place = plot[at : at + 2].decode().upper(), at + 2
+    if code in FURTHER_WITH_NUMBERS:
+        try:
+            has, end = cutting.numbers(plot, place)
+            return Item(at, code, "numbers", has), end
+        except BadFrom as bad:
+            return Item(at, code, "bad"), SKIPPED.match(plot, bad.args[0]).end()
+    if code in WITHOUT_NUMBERS:
+        return Item(at, code, "numbers", []), SKIPPED.match(plot, place).end()
+    if code in WITHOUT_EFFECT:
+        return Item(at, code, "known"), SKIPPED.match(plot, place).end()
+    if code == "CO":
+        return Item(at, code, "known"), COMMENT.match(plot, place).end()
+    if code in ("BL", "WD"):
+        text, end, _ = cutting.label(plot, place, terminator)
+        return Item(at, code, "text" if code == "BL" else "known", text), end
+    if code == "SM":
+        taken = plot[place : place + 1].replace(b";", b"")
+        symbol = taken[0] if taken and 33 <= taken[0] <= 126 else None
+        return Item(at, code, "byte", symbol), SKIPPED.match(plot, place + len(taken)).end()
+    return cutting.instruction(plot, at, terminator)
