@@ -124,8 +124,13 @@ def turned_about(centre, point, angle):
     )
 
 
+def turns(sweep, chord):
+    """How far the end of each chord of an arc is turned."""
+    count = max(1, -(-abs(sweep) // chord))
+    return [sign(sweep) * min(k * chord, abs(sweep)) for k in range(1, count + 1)]
+
+
 def chord_ends(centre, start, sweep, chord):
     """The ends of the chords of an arc."""
-    count = max(1, -(-abs(sweep) // chord))
-    for k in range(1, count + 1):
-        yield turned_about(centre, start, sign(sweep) * min(k * chord, abs(sweep)))
+    for turn in turns(sweep, chord):
+        yield turned_about(centre, start, turn)
