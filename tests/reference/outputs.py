@@ -6,9 +6,9 @@ docs/FORMATS.md.
 import re
 from typing import NamedTuple
 
-from . import raster
+from . import full_plotter, plotter, raster
 from .geometry import Page
-from .plotter import Refused, draw
+from .plotter import Refused
 
 ESC = b"\x1b"
 DOTS_OF_PCL = (75, 100, 150, 200, 300, 600)
@@ -17,6 +17,8 @@ PAGE_OPTIONS = {
     "width": (64, 65536, 11880), "height": (64, 65536, 8400), "left": (0, 65536, 0), "below": (0, 65536, 0),
 }
 PICTURE_OPTIONS = {"dots": (10, 1200, 100), "band": (1, 4096, 64), "from": (0, 99999, 0)}
+# Those of the profile full.
+FULL_OPTIONS = {"sheet": (0, 4_194_304, 1)}
 
 
 class Answer(NamedTuple):
@@ -36,28 +38,49 @@ def fault(status, text):
 
 def answer(form, options, plot):
     """What the program answers; options are texts by their names."""
-    ranges = PAGE_OPTIONS if form == "report" else {**PAGE_OPTIONS, **PICTURE_OPTIONS}
+    profile = options.get("profile", "core")
+    if profile not in ("core", "full"):
+        return USAGE
+    ranges = {**PAGE_OPTIONS, **(PICTURE_OPTIONS if form != "report" else {}), **(FULL_OPTIONS if profile == "full" else {})}
     numbers = {}
     for name, (least, most, default) in ranges.items():
         text = options.get(name, str(default))
         if not re.fullmatch(r"\+?[0-9]+", text) or not least <= int(text) <= most:
             return USAGE
         numbers[name] = int(text)
-    if any(name not in ranges and not (name == "pens" and form != "report") for name in options):
+    texts = ("profile",) if form == "report" else ("profile", "pens")
+    if any(name not in (*ranges, *texts) for name in options):
         return USAGE
     page = Page(*(numbers[name] for name in PAGE_OPTIONS))
     if form == "report":
-        return described(plot, page)
+        return described(numbers, page, plot)
     return pictured(form, numbers, options.get("pens", "all"), page, plot)
 
 
-def described(plot, page):
+class Drawing(NamedTuple):
+    """What is drawn of a plot: the strokes of the sheet asked for, all notes, and in full the greatest sheet."""
+
+    strokes: list
+    notes: list
+    sheets: int = None
+
+
+def draw(plot, page, sheet):
+    """What a plot draws in the profile core, if there is no sheet, or in full; those of all sheets are 0's."""
+    if sheet is None:
+        return Drawing(*plotter.draw(plot, page))
+    strokes, notes = full_plotter.draw(plot, page)
+    sheets = max((stroke.sheet for stroke in strokes), default=0)
+    return Drawing([stroke for stroke in strokes if sheet in (0, stroke.sheet)], notes, sheets)
+
+
+def described(numbers, page, plot):
     """A report on a plot."""
     try:
-        strokes, notes = draw(plot, page)
+        drawing = draw(plot, page, numbers.get("sheet"))
     except Refused as refusal:
         return fault(1, refusal)
-    return Answer(0, report(strokes, notes, page), "")
+    return Answer(0, report(drawing, page), "")
 
 
 def pictured(form, numbers, pens, page, plot):
@@ -68,7 +91,7 @@ def pictured(form, numbers, pens, page, plot):
     if form == "pcl" and dots not in DOTS_OF_PCL:
         return fault(2, "resolution is not one of PCL's")
     try:
-        strokes, _ = draw(plot, page)
+        strokes = draw(plot, page, numbers.get("sheet")).strokes
     except Refused as refusal:
         return fault(1, refusal)
     if numbers["from"] > raster.count(page.height, dots):
@@ -141,9 +164,12 @@ FORMS = {
 }
 
 
-def report(strokes, notes, page):
-    """The lines of a report: the page, the strokes of each pen, and the notes."""
-    lines = ["page %d %d %d %d" % page, f"strokes {len(strokes)}"]
+def report(drawing, page):
+    """The lines of a report: the page, in full the sheets, the strokes of each pen, and the notes."""
+    strokes, notes, sheets = drawing
+    lines = ["page %d %d %d %d" % page]
+    lines += [] if sheets is None else [f"sheets {sheets}"]
+    lines.append(f"strokes {len(strokes)}")
     for pen in sorted({stroke.pen for stroke in strokes}):
         own = [stroke for stroke in strokes if stroke.pen == pen]
         x = [end[0] for stroke in own for end in (stroke.a, stroke.b)]

@@ -1,0 +1,350 @@
+"""From items to strokes and notes, in the profile full: what is drawn, and what polygons take.
+
+Three calls make all strokes: `ink` draws a stroke, `line` draws one in the line type, and `reach` moves the pen. Letters,
+symbols, ticks and the dot of a PD are ink; moves, figures, edges and hatching are lines.
+"""
+
+from fractions import Fraction
+from itertools import chain
+from typing import NamedTuple
+
+from . import curves, fills, line_types
+from .cutting import MILLION, rounded
+from .directions import length, moved
+from .full_cutting import items
+from .full_lettering import IN_THE_MIDDLE
+from .full_settings import (
+    CROSS_HATCHING, HATCHING, MOST_TICKS, SHADING, SOLID, TICKS_OF_A_GRAIN, FullSettings,
+)
+from .geometry import sign, turned, turned_about, turns
+from .plotter import LONGEST_PLOT, MOST_STROKES, USUAL_WIDTH, Bad, Refused, Stroke, listed, whole
+from .polygons import Buffer
+
+BAD_IN_POLYGONS = "EA ER LB PB CP XT YT EP FP RA RR EW WG".split()
+TICKS_OF_A_UNIT = 16 * TICKS_OF_A_GRAIN
+# The lines of solid fills go through the middle of plotter units.
+MIDDLE_OF_A_UNIT = (0, 8)
+
+
+def draw(plot, page):
+    """The strokes of all sheets and the notes of a plot."""
+    if len(plot) > LONGEST_PLOT:
+        raise Refused(f"plot is longer than {LONGEST_PLOT} bytes")
+    plotter = FullPlotter(page)
+    for item in items(plot):
+        plotter.obey(item)
+        if plotter.sum > MOST_STROKES or plotter.buffer.size > MOST_STROKES:
+            raise Refused(f"too many strokes at byte {item.at}")
+    return list(chain.from_iterable(plotter.parts)), plotter.notes
+
+
+class Dashes(NamedTuple):
+    """The strokes of a dashed line."""
+
+    line: Stroke  # from end to end
+    long: int
+    dashes: object
+
+    def __iter__(self):
+        a, b = self.line.a, self.line.b
+        for first, last in self.dashes:
+            ends = {"a": line_types.point(a, b, first, self.long), "b": line_types.point(a, b, last, self.long)}
+            yield self.line._replace(**ends)
+
+
+class FullPlotter(FullSettings):
+    """A plotter of the profile full."""
+
+    def __init__(self, page):
+        self.sheet, self.is_sheet_empty = 1, True
+        self.parts = []  # what is drawn: each has strokes
+        self.sum = 0  # of strokes, and of what counts as strokes: places that are filled or edged, and texts of PB
+        super().__init__(page)
+
+    def set_defaults(self):
+        super().set_defaults()
+        self.is_in_polygon, self.buffer = False, Buffer()
+
+    def obey(self, item):
+        self.at = item.at
+        if self.is_in_polygon and item.code in BAD_IN_POLYGONS:
+            self.note(item.at, "bad", item.code)
+            if item.is_open:
+                self.note(item.at, "open", item.code)
+        elif item.kind in ("byte", "text"):
+            getattr(self, item.code)(item.has)
+        elif item.kind != "known":
+            super().obey(item)
+
+    # Ink, lines and reaches
+
+    def ink(self, a, b, width=None):
+        """Draws a stroke, by default with the pen's width."""
+        if self.pen:
+            self.add(1, [self.stroke(a, b, self.width() if width is None else width)])
+
+    def stroke(self, a, b, width):
+        return Stroke(self.pen, self.colours[self.pen], width, self.window, a, b, self.sheet)
+
+    def add(self, count, strokes):
+        """Draws so many strokes; after too many the plot is refused, and none are needed."""
+        if count and self.sum <= MOST_STROKES:
+            self.parts.append(strokes)
+            self.is_sheet_empty = False
+        self.sum += count
+
+    def line(self, a, b):
+        """Draws a line in the line type."""
+        long = length(b[0] - a[0], b[1] - a[1])
+        if self.line_type == 0:
+            self.ink(b, b)
+        elif self.line_type is SOLID or long == 0:
+            self.ink(a, b)
+        else:
+            self.dash(a, b, long)
+
+    def dash(self, a, b, long):
+        """Draws a line in a pattern, which goes on where the last line ended."""
+        pattern, ticks = self.pattern(), self.ticks_of_the_pattern()
+        if self.line_type < 0:
+            end, dashes = 0, line_types.Adaptive(pattern, ticks, long)
+        else:
+            phase = self.run[1] % ticks if self.run and self.run[0] == a else 0
+            end, dashes = (phase + long) % ticks, line_types.Fixed(pattern, ticks, phase, long)
+        if self.pen:
+            self.add(dashes.count(), Dashes(self.stroke(a, b, self.width()), long, dashes))
+        self.run = (b, end)
+
+    def reach(self, place):
+        """Moves the pen to a place, which draws a line, or is a place of a polygon."""
+        if self.is_in_polygon:
+            self.buffer.reach(place, self.is_down)
+            self.place = place
+        else:
+            super().reach(place)
+        self.margin = self.place
+
+    def reach_all(self, places):
+        if self.is_in_polygon and not self.buffer.open:
+            self.buffer.begin(self.place)
+        super().reach_all(places)
+
+    def dot(self):
+        if not self.is_in_polygon:
+            super().dot()
+
+    def move(self, x, y):
+        super().move(x, y)
+        if self.symbol and not self.is_in_polygon:
+            self.write_from_the_pen(self.style()._replace(origin=IN_THE_MIDDLE), bytes([self.symbol]))
+
+    # Labels and ticks
+
+    def write_from_the_pen(self, style, text):
+        for ends in style.strokes(text):
+            self.ink(*(self.in_range(moved(self.place, end)) for end in ends))
+
+    def write(self, text):
+        """LB: the strokes of each character; the pen ends as the origin says."""
+        style = self.style()
+        self.write_from_the_pen(style, text)
+        self.margin = moved(self.margin, style.offset(0, text.count(b"\n")))
+        self.place = self.in_range(moved(self.place, style.end(text)))
+        self.recompute()
+
+    def PB(self, _):
+        """Writes the text that BL has kept."""
+        self.sum += len(self.text)
+        self.write(self.text)
+
+    def CP(self, numbers):
+        """Moves the pen by places and lines; without numbers to the margin, a line on."""
+        numbers = listed(numbers, 0, 2)
+        style = self.style()
+        if numbers:
+            columns, up = (Fraction(n, MILLION) for n in numbers)
+            self.place = self.in_range(moved(self.place, style.offset(columns, -up)))
+            self.margin = moved(self.margin, style.offset(0, -up))
+        else:
+            self.margin = self.place = self.in_range(moved(self.margin, style.offset(0, 1)))
+        self.recompute()
+
+    def XT(self, _):
+        """A tick along y."""
+        self.mark(*((0, by) for by in self.reaches_of_a_tick(1)))
+
+    def YT(self, _):
+        """A tick along x."""
+        self.mark(*((by, 0) for by in self.reaches_of_a_tick(0)))
+
+    def reaches_of_a_tick(self, axis):
+        """Down and up, in grains."""
+        up, down = (rounded(16 * self.distances()[axis] * n, 100 * MILLION) for n in self.tick)
+        return -down, up
+
+    def mark(self, *offsets):
+        self.ink(*(self.in_range(moved(self.place, turned(*by, self.rotation))) for by in offsets))
+
+    # Polygons and figures
+
+    def PM(self, numbers):
+        """Polygon mode: begins, closes a polygon, or ends."""
+        mode = whole(*(listed(numbers, 0, 1) or [0]), 0, 2)
+        if mode and not self.is_in_polygon:
+            raise Bad
+        if mode:
+            self.buffer.close(self.is_down)
+            self.is_in_polygon = mode == 1
+        else:
+            self.is_in_polygon, self.buffer = True, Buffer()
+            self.buffer.begin(self.place)
+
+    def keep(self, places):
+        """The buffer is one figure."""
+        for place in places:
+            self.in_range(place)
+        self.buffer = Buffer()
+        self.buffer.put(places)
+        return places
+
+    def edge(self, x, y):
+        self.figure(self.keep(self.rectangle(x, y)))
+
+    def CI(self, numbers):
+        places = self.circle(*listed(numbers, 1, 2))
+        if self.is_in_polygon:
+            for place in places:
+                self.in_range(place)
+            self.buffer.close(self.is_down)
+            self.buffer.put(places)
+        else:
+            self.figure(places)
+
+    def EW(self, numbers):
+        """The edge of a wedge about the pen."""
+        self.figure(self.keep(self.wedge(*listed(numbers, 3, 4))))
+
+    def WG(self, numbers):
+        """A filled wedge about the pen."""
+        self.keep(self.wedge(*listed(numbers, 3, 4)))
+        self.FP([])
+
+    def wedge(self, radius, start, sweep, *chord):
+        """The places of a wedge; those of a whole turn are without its centre."""
+        start, sweep = rounded(start, 1000), rounded(sweep, 1000)
+        sweep = sign(sweep) * min(abs(sweep), 360_000)
+        centre, right = self.coordinates, self.offset(radius, 0)
+        angles = [start, *(start + turn for turn in turns(sweep, self.chord(chord)))]
+        places = [self.place_of(*turned_about(centre, right, angle)) for angle in angles]
+        return places if abs(sweep) == 360_000 else [self.place, *places, self.place]
+
+    def RA(self, numbers):
+        """A filled rectangle, up to a corner."""
+        self.keep(self.rectangle(*listed(numbers, 2)))
+        self.FP([])
+
+    def RR(self, numbers):
+        """A filled rectangle, up to a corner relative to the pen."""
+        self.keep(self.rectangle(*self.offset(*listed(numbers, 2))))
+        self.FP([])
+
+    def EP(self, _):
+        """The edges of the buffer that are drawn."""
+        self.sum += self.buffer.size
+        for a, b, is_drawn in self.buffer.edges():
+            if is_drawn:
+                self.line(a, b)
+
+    # Fills
+
+    def FP(self, numbers):
+        """Fills the buffer."""
+        rule = whole(*(listed(numbers, 0, 1) or [0]), 0, 1)
+        self.sum += self.buffer.size
+        edges = [(a, b) for a, b, _ in self.buffer.edges()]
+        if self.fill_type in (HATCHING, CROSS_HATCHING):
+            angle = self.angle + 1000 * self.rotation
+            for more in (0, 90_000)[: 1 if self.fill_type == HATCHING else 2]:
+                self.fill(fills.Lines(angle + more, self.distance_of_hatching(), self.anchor), edges, rule, self.line)
+        elif self.fill_type == SHADING and self.level < 100 * MILLION:
+            if self.level:
+                apart = min(MOST_TICKS, rounded(100 * USUAL_WIDTH * TICKS_OF_A_GRAIN * MILLION, self.level))
+                self.fill(fills.Lines(45_000, apart, (0, 0)), edges, rule, self.shade)
+        else:
+            self.fill(fills.Lines(0, TICKS_OF_A_UNIT, MIDDLE_OF_A_UNIT), edges, rule, self.thin)
+            for a, b in edges:
+                self.thin(a, b)
+
+    def thin(self, a, b):
+        self.ink(a, b, 0)
+
+    def shade(self, a, b):
+        self.ink(a, b, USUAL_WIDTH)
+
+    def fill(self, lines, edges, rule, drawn):
+        """Draws each span, by a call."""
+        is_ink = drawn != self.line or self.line_type is SOLID
+        if is_ink and not self.pen:
+            return
+        if is_ink and fills.count_of_crossings(lines, edges) > 2 * MOST_STROKES:
+            # There are at least half as many spans.
+            self.sum += MOST_STROKES + 1
+            return
+        for a, b in lines.spans(edges, rule):
+            if self.sum <= MOST_STROKES:
+                drawn(a, b)
+
+    def distance_of_hatching(self):
+        """How far lines of hatching are apart, in ticks: no denser than half the pen's width."""
+        if self.spacing:
+            slope = abs(self.axes[0].slope)
+            ticks = rounded(TICKS_OF_A_UNIT * slope.numerator * self.spacing, slope.denominator)
+        else:
+            ticks = self.percent(MILLION)
+        return min(max(ticks, TICKS_OF_A_UNIT, TICKS_OF_A_GRAIN // 2 * self.width()), MOST_TICKS)
+
+    # Curves
+
+    def AT(self, numbers):
+        """An arc from the pen through a point to an end."""
+        x, y, x2, y2, *chord = listed(numbers, 4, 5)
+        self.arc_through((x, y), (x2, y2), chord)
+
+    def RT(self, numbers):
+        """The same, with both points relative to the pen."""
+        x, y, x2, y2, *chord = listed(numbers, 4, 5)
+        self.arc_through(self.offset(x, y), self.offset(x2, y2), chord)
+
+    def arc_through(self, point, end, chord):
+        self.chord(chord)
+        places = [self.in_range(self.place_of(*at)) for at in (point, end)]
+        self.reach_all(curves.arc(self.place, *places))
+        self.coordinates = end
+
+    def BZ(self, numbers):
+        """Bezier curves."""
+        return self.beziers(numbers, lambda x, y: (x, y))
+
+    def BR(self, numbers):
+        """Bezier curves, each with its points relative to its beginning."""
+        return self.beziers(numbers, self.offset)
+
+    def beziers(self, numbers, point_of):
+        count = len(numbers) // 6
+        if not count:
+            raise Bad
+        for at in range(0, 6 * count, 6):
+            points = [point_of(*numbers[i : i + 2]) for i in range(at, at + 6, 2)]
+            places = [self.in_range(self.place_of(*point)) for point in points]
+            self.reach_all(curves.bezier(self.place, *places))
+            self.coordinates = points[-1]
+        return "bad" if len(numbers) % 6 else None
+
+    # Sheets
+
+    def PG(self, _):
+        """Ends a sheet that has a stroke."""
+        if not self.is_sheet_empty:
+            self.sheet, self.is_sheet_empty = self.sheet + 1, True
+
+    AF = AH = NR = FR = PG

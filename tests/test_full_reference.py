@@ -1,0 +1,142 @@
+"""Checks the plain plotter of tests/reference in the profile full, without the program: on the rows of
+full_examples.txt."""
+
+import os
+import re
+
+import pytest
+
+from reference.geometry import Page
+from reference.outputs import Drawing, answer, draw
+from reference.plotter import BLACK, COLOURS, Refused
+from shared import HERE, assert_nothing, read_bytes
+
+ROWS = os.path.join(HERE, "full_examples.txt")
+USUAL = {"profile": "full", "width": "1000", "height": "1000"}
+REFUSALS = {"3": "place off range at byte {}", "4": "too many strokes at byte {}"}
+PLACE = r"\((-?\d+),(-?\d+)\)"
+STROKE = re.compile(rf"{PLACE}(?:-{PLACE})?((?: [pwc]\w+)*)")
+
+
+def rows():
+    """Each row: its name, and the values of each of its keys."""
+    found = []
+    for line in read_bytes(ROWS).decode().splitlines():
+        if line.startswith("    "):
+            key, _, value = line.strip().partition(" ")
+            found[-1][1].setdefault(key, []).append(value)
+        elif line and not line.startswith("#"):
+            found.append((line, {}))
+    return found
+
+
+def plot_of(text):
+    """A plot with its bytes; <n> is the byte n."""
+    return re.sub(rb"<(\d+)>", lambda byte: bytes([int(byte[1])]), text.encode())
+
+
+def options_of(keys):
+    words = " ".join(keys.get("options", [])).split()
+    options = {**USUAL, **dict(zip((word[2:] for word in words[::2]), words[1::2]))}
+    return {name: value for name, value in options.items() if (name, value) != ("profile", "core")}
+
+
+def drawn(plot, options):
+    """What a plot draws; of a refusal its text."""
+    page = Page(*(int(options.get(name, 0)) for name in ("width", "height", "left", "below")))
+    sheet = int(options.get("sheet", 1)) if options.get("profile") == "full" else None
+    try:
+        return draw(plot, page, sheet)
+    except Refused as refusal:
+        return str(refusal)
+
+
+def spelled(stroke):
+    """A stroke as the rows spell it."""
+    text = "({},{})".format(*stroke.a) + ("" if stroke.a == stroke.b else "-({},{})".format(*stroke.b))
+    text += "" if stroke.pen == 1 else f" p{stroke.pen}"
+    text += "" if stroke.width == 224 else f" w{stroke.width}"
+    return text + ("" if stroke.colour == COLOURS.get(stroke.pen, BLACK) else f" c{bytes(stroke.colour).hex()}")
+
+
+def strokes_of(keys):
+    """The strokes that a row lists, or None."""
+    texts = [text for line in keys.get("draws", []) for text in re.split(r"(?<!\d), ", line)]
+    if not texts or texts[0].startswith("as "):
+        return None
+    listed = [found[0] for line in keys["draws"] for found in STROKE.finditer(line)]
+    assert ", ".join(listed) == ", ".join(keys["draws"]) or keys["draws"] == ["nothing"], keys["draws"]
+    return listed
+
+
+def differences(keys):
+    """What is not as a row says."""
+    options = options_of(keys)
+    plot = plot_of(keys["plot"][0])
+    got = drawn(plot, options)
+    if "refused" in keys or isinstance(got, str):
+        rule, _, at = keys.get("refused", [""])[0].partition(" at ")
+        wanted = {"refusal": REFUSALS.get(rule, "nothing is refused").format(at)}
+        found = {"refusal": got if isinstance(got, str) else "nothing is refused"}
+    else:
+        wanted, found = wanted_of(keys, options), found_of(keys, got, answer("report", options, plot))
+    for name in wanted:
+        if wanted[name] != found[name]:
+            yield f"{name}: {found[name]} instead of {wanted[name]}"
+
+
+def wanted_of(keys, options):
+    """What a row says, by the names of its facts."""
+    wanted = {"notes": keys.get("note", []), "sheets": max(1, int(keys.get("sheets", ["1"])[0]))}
+    listed = strokes_of(keys)
+    if listed is not None:
+        wanted["strokes"] = listed
+    elif "draws" in keys:
+        other = keys["draws"][0][3:]
+        if other == "the core":
+            other = drawn(plot_of(keys["plot"][0]), {**options, "profile": "core"})
+            wanted["notes"] = [f"{note.at} {note.kind} {note.has}" for note in other.notes]
+        else:
+            other = drawn(plot_of(other), options)
+        wanted["strokes"] = [spelled(stroke) for stroke in other.strokes]
+    if "strokes" in keys:
+        wanted["count"] = int(keys["strokes"][0])
+    for key, at in (("first", "0"), ("last", "-1")):
+        wanted.update({f"stroke {at}": text for text in keys.get(key, [])})
+    for value in keys.get("stroke", []):
+        at, _, text = value.partition(" ")
+        wanted[f"stroke {at}"] = text
+    if "box" in keys:
+        wanted["box"] = keys["box"][0]
+    return wanted
+
+
+def found_of(keys, got: Drawing, reported):
+    """The same facts of a drawing and of the report on it."""
+    lines = reported.output.decode().splitlines()
+    found = {
+        "notes": [line[len("note "):] for line in lines if line.startswith("note ")],
+        "sheets": max(1, got.sheets or 0),
+        "strokes": [spelled(stroke) for stroke in got.strokes],
+        "count": len(got.strokes),
+        "box": " ".join(line.partition(" box ")[2] for line in lines if " box " in line),
+    }
+    for at in ("0", "-1", *(value.partition(" ")[0] for value in keys.get("stroke", []))):
+        if -len(got.strokes) <= int(at) < len(got.strokes):
+            found[f"stroke {at}"] = spelled(got.strokes[int(at)])
+        else:
+            found[f"stroke {at}"] = "none"
+    return found
+
+
+@pytest.mark.parametrize("name, keys", rows(), ids=[name.replace(" ", "_") for name, _ in rows()])
+def test_examples(name, keys):
+    assert_nothing(f"{name}: {difference}" for difference in differences(keys))
+
+
+def test_number_of_examples():
+    """Each row has a name of its own, a plot, and something that it says of it."""
+    names = [name for name, _ in rows()]
+    assert len(names) == len(set(names)) == 102
+    says = {"draws", "strokes", "refused"}
+    assert_nothing(f"{name} says nothing" for name, keys in rows() if len(keys["plot"]) != 1 or not says & set(keys))
