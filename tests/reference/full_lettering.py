@@ -9,7 +9,7 @@ from typing import NamedTuple
 from . import lettering
 from .cutting import rounded
 from .directions import swung
-from .geometry import nearest, turned
+from .geometry import turned
 
 RETURN, LINE_FEED = 13, 10
 PATHS = ((1, 0), (0, -1), (-1, 0), (0, 1))
@@ -44,7 +44,7 @@ class Style(NamedTuple):
     def offset(self, columns, lines):
         """So many places and lines on, as an offset on the page."""
         x, y = self.way(columns, lines)
-        return self.swung(nearest(x * Fraction(self.size[0], 12)), nearest(y * Fraction(self.size[1], 18)))
+        return self.swung(times(x, self.size[0], 12), times(y, self.size[1], 18))
 
     def swung(self, dx, dy):
         return swung((dx, dy), self.direction)
@@ -71,15 +71,19 @@ class Style(NamedTuple):
         """A point of a letter's grid; the letter begins at x twelfths of the width, y eighteenths of the height."""
         part = 2 if chr(byte).islower() else 3
         width, height = self.size
-        dx = nearest((x + part * i) * Fraction(width, 12)) + nearest(part * j * height * self.slant / 18)
-        dy = nearest((y + part * j) * Fraction(height, 18))
-        return self.swung(dx, dy)
+        dx = times(x + part * i, width, 12) + times(self.slant, part * j * height, 18)
+        return self.swung(dx, times(y + part * j, height, 18))
 
     def end(self, text):
         """Where the pen is after a label, as an offset."""
         columns, lines = counts(text)
         share = Fraction(2 - self.anchor()[0], 2)
         return self.offset(columns * share, lines)
+
+
+def times(number, length, parts):
+    """So many parts of a length, to the nearest whole number; the number may be a fraction."""
+    return rounded(number.numerator * length, number.denominator * parts)
 
 
 def size_of(percents, d, e):
