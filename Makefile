@@ -24,7 +24,7 @@ CARD = --width 4000 --height 3000 --dots 600
 # Debian's Python, which has Debian's pytest.
 PYTEST = PYTHONDONTWRITEBYTECODE=1 /usr/bin/python3 -m pytest -q -p no:cacheprovider --no-skips
 # The tests that need no built command.
-SOURCE_TESTS = tests/test_style.py tests/test_quotations.py
+SOURCE_TESTS = tests/test_style.py tests/test_quotations.py $(wildcard tests/test_full_*.py)
 
 build:
 	cd crates/plotraster_program && rt run -- --help > /dev/null

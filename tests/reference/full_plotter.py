@@ -26,14 +26,14 @@ TICKS_OF_A_UNIT = 16 * TICKS_OF_A_GRAIN
 MIDDLE_OF_A_UNIT = (0, 8)
 
 
-def draw(plot, page):
-    """The strokes of all sheets and the notes of a plot."""
+def draw(plot, page, most=MOST_STROKES):
+    """The strokes of all sheets and the notes of a plot; it is refused if it has more strokes than most."""
     if len(plot) > LONGEST_PLOT:
         raise Refused(f"plot is longer than {LONGEST_PLOT} bytes")
-    plotter = FullPlotter(page)
+    plotter = FullPlotter(page, most)
     for item in items(plot):
         plotter.obey(item)
-        if plotter.sum > MOST_STROKES or plotter.buffer.size > MOST_STROKES:
+        if plotter.has_too_much():
             raise Refused(f"too many strokes at byte {item.at}")
     return list(chain.from_iterable(plotter.parts)), plotter.notes
 
@@ -55,7 +55,8 @@ class Dashes(NamedTuple):
 class FullPlotter(FullSettings):
     """A plotter of the profile full."""
 
-    def __init__(self, page):
+    def __init__(self, page, most=MOST_STROKES):
+        self.most = most  # the most strokes
         self.sheet, self.is_sheet_empty = 1, True
         self.parts = []  # what is drawn: each has strokes
         self.sum = 0  # of strokes, and of what counts as strokes: places that are filled or edged, and texts of PB
@@ -76,6 +77,9 @@ class FullPlotter(FullSettings):
         elif item.kind != "known":
             super().obey(item)
 
+    def has_too_much(self):
+        return max(self.sum, self.buffer.size) > self.most
+
     # Ink, lines and reaches
 
     def ink(self, a, b, width=None):
@@ -88,7 +92,7 @@ class FullPlotter(FullSettings):
 
     def add(self, count, strokes):
         """Draws so many strokes; after too many the plot is refused, and none are needed."""
-        if count and self.sum <= MOST_STROKES:
+        if count and self.sum <= self.most:
             self.parts.append(strokes)
             self.is_sheet_empty = False
         self.sum += count
@@ -286,13 +290,12 @@ class FullPlotter(FullSettings):
         is_ink = drawn != self.line or self.line_type is SOLID
         if is_ink and not self.pen:
             return
-        if is_ink and fills.count_of_crossings(lines, edges) > 2 * MOST_STROKES:
+        if is_ink and fills.count_of_crossings(lines, edges) > 2 * self.most:
             # There are at least half as many spans.
-            self.sum += MOST_STROKES + 1
+            self.sum += self.most + 1
             return
         for a, b in lines.spans(edges, rule):
-            if self.sum <= MOST_STROKES:
-                drawn(a, b)
+            drawn(a, b)
 
     def distance_of_hatching(self):
         """How far lines of hatching are apart, in ticks: no denser than half the pen's width."""

@@ -74,6 +74,8 @@ def random_case(seed):
 class Writer(Numbers):
     """Writes one case."""
 
+    themes, drawing = THEMES, DRAWING
+
     def __init__(self, seed):
         super().__init__(seed)
         self.is_relative = False  # coordinates of moves
@@ -141,7 +143,7 @@ class Writer(Numbers):
     # Plots
 
     def plot(self, pieces):
-        theme = self.random.choice(THEMES)
+        theme = self.random.choice(self.themes)
         self.pen, has_pens = 0, self.chance(40)
         plot = b"PU" + self.pair_of(self.centre()) + b";" if self.chance(70) else b""
         for _ in range(pieces):
@@ -155,7 +157,7 @@ class Writer(Numbers):
             if self.is_far and self.chance(5):
                 plot += self.piece("far")
             if self.chance(40):
-                plot += self.piece(self.pick(*DRAWING))
+                plot += self.piece(self.pick(*self.drawing))
         return plot
 
     def piece(self, name):

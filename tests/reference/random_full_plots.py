@@ -1,0 +1,309 @@
+"""Random plots of the profile full, with random options.
+
+Instructions of the core come among the further ones. Most fills and dashed lines are small, since a pixel asks every
+stroke.
+"""
+
+from .cutting import MILLION
+from .full_cutting import items
+from .full_plotter import FullPlotter
+from .geometry import Page
+from .plotter import Refused
+from .random_plots import Writer
+
+# The most strokes.
+MOST_OF_A_REPORT, MOST_OF_A_PICTURE = 2000, 200
+SHEETS = ("0", "0", "0", "1", "2", "3")
+# Pieces in small letters are of other kinds.
+THEMES = [
+    theme.split()
+    for theme in (
+        "LT LT UL dashes PD PD PR PU AA CI EA ER PE IP mirrored SP",
+        "dashes LT EP polygon FP RR hatching PD PU AC",
+        "WU WU PW PW PT SP PD PR IP mirrored PE hatching RR",
+        "CR CR PC PC SP PD DF IN BP",
+        "LB LB LB SR SI DI DR SL ES LO LO DV CP CP RO mirrored IP DF PU",
+        "LB BL PB LO DV ES CP CP SR LF LF DT SC PD",
+        "SM SM PU PD PA PR PE LB LO DV SI",
+        "TL XT YT RO mirrored IP PU SP",
+        "polygon polygon PM EP FP FT RO SC IP CI PD AA",
+        "PM PM PD PU PR PA PE CI AA AT RT BZ BR EP FP EA LB SM IN DF",
+        "FT FT RA RR WG FP AC hatching hatching mirrored RO SC IP PW SP",
+        "shading FT RR WG polygon FP SP PC",
+        "EW WG CT CI AA AR RT AT RO SC PD",
+        "AT RT BZ BR PD PU SC RO PR mirrored LT PM EP",
+        "sheet sheet PD LB RR SP PC IN BP",
+        "known comment WD CO BL SM PG between skipped PD LB DT",
+        "IR IR SC RO IP PD PU RR EA LB AC hatching",
+        "LT UL WU PW PT PC CR IR SR DR DI SL ES LO DV CP BL PB SM TL XT YT PM EP FP FT AC RR EW WG AT RT BZ BR CT sheet",
+        "LT PD LB FP PM EP FT RR SM IN DF IP SC RO IW SP PU PD PA PR PE EA ER CI AA AR LB DT SI DI",
+        "PD PD PR AR ER CI IW LB units units bad",
+    )
+]
+DRAWING = ("PD", "PD", "PR", "PE", "EA", "ER", "CI", "AA", "LB", "RR", "EP", "FP", "BZ", "AT", "WG", "YT")
+KNOWN = (
+    b"PS100,200;", b"NP8;", b"LA1,4,2,4;", b"TR0;", b"MC1;", b"PP", b"VS20", b"SD1,277;", b"AD", b"SS;", b"SA", b"CS5;",
+    b"OE;", b"OI", b"DP", b"GM;", b"FN2", b"ST", b"RF1,1,1,0;", b"LM1;", b"TD1", b'QL"PD;"', b"EC", b"ow",
+)
+COMMENTS = (
+    b'COa "PD9,9" x;', b'CO"a;b" c;', b'CO "PD;', b"CO;", b"CO PD5,5;", b"CO", b"WDPD9,9;\x03", b"WDab;", b"UC1,2;", b"ZZ1;",
+)
+WITHOUT_NUMBERS = (b"", b";", b";", b"1,2;", b"!,9;", b'"PD;";', b"-\x1bE")
+
+
+def random_full_case(seed):
+    """The case of a seed in the profile full, without the item that brings it to too many strokes, and what follows."""
+    writer = FullWriter(seed)
+    case = writer.case()
+    return case._replace(plot=writer.light(case.plot, MOST_OF_A_REPORT if case.form == "report" else MOST_OF_A_PICTURE))
+
+
+class FullWriter(Writer):
+    """Writes one case of the profile full; it may have very many strokes."""
+
+    themes, drawing = THEMES, DRAWING
+
+    def light(self, plot, most):
+        """A plot without the item that brings it to more than so many strokes, and what follows."""
+        plotter = FullPlotter(Page(self.width, self.height, self.left, self.below), most)
+        try:
+            for item in items(plot):
+                plotter.obey(item)
+                if plotter.has_too_much():
+                    return plot[: item.at]
+        except Refused:
+            pass
+        return plot
+
+    def settings(self):
+        form, options = super().settings()
+        options["profile"] = "full" if self.chance(99) else self.pick("core", "FULL", "")
+        if self.chance(60):
+            options["sheet"] = self.pick(*SHEETS)
+        elif self.is_wild and self.chance(5):
+            options["sheet"] = self.pick("4194304", "4194305", "-1", "x", "")
+        return form, options
+
+    def piece(self, name):
+        others = {
+            "polygon": self.polygon,
+            "dashes": self.dashes,
+            "hatching": self.hatching,
+            "shading": lambda: b"FT10" + self.pick(b";", b",50;", b",0;", b",100;", b",99.5;", b",7;"),
+            "mirrored": self.mirrored,
+            "LF": self.lines,
+            "sheet": lambda: self.pick(b"PG", b"AF", b"AH", b"NR", b"FR", b"pg") + self.pick(*WITHOUT_NUMBERS),
+            "known": lambda: self.pick(*KNOWN),
+            "comment": lambda: self.pick(*COMMENTS),
+            "SM": lambda: b"SM" + self.pick(b"*;", b"X;", b"a", b".", b";", b";", b" ;", b"\xff;", b"\x1b;", b'";', b""),
+            "BL": lambda: b"BL" + self.label(),
+            "WD": lambda: b"WD" + self.label(),
+            "CO": lambda: self.pick(*COMMENTS),
+            "PG": lambda: b"PG" + self.pick(*WITHOUT_NUMBERS),
+            "BP": lambda: b"BP" + self.pick(*WITHOUT_NUMBERS),
+            "PB": lambda: b"PB" + self.pick(*WITHOUT_NUMBERS),
+        }
+        if name in ("RA", "FP") and self.height > 2000:
+            name = "RR"
+        return others[name]() if name in others else super().piece(name)
+
+    # Pieces of several instructions
+
+    def polygon(self):
+        """A polygon of small parts, and what is made of it."""
+        plot = b"PM" + self.pick(b"0;", b";", b"")
+        for _ in range(self.pick(1, 1, 2, 3)):
+            for _ in range(self.pick(1, 2, 3, 4)):
+                plot += self.piece(self.pick("PR", "PR", "PR", "ER", "CI", "AR", "RT", "BR", "PU", "PD", "PE"))
+            plot += self.pick(b"PM1;", b"PU;PM1;", b"PD;PM1;", b"PD;", b"")
+        plot += self.pick(b"PU", b"PD", b"") + self.pick(b"PM2;", b"PM2;", b"PM2", b"PM2;PM2;")
+        return plot + b"".join(self.piece(self.pick("EP", "FP", "FT")) for _ in range(self.pick(0, 1, 2)))
+
+    def dashes(self):
+        """A pattern whose dashes end on whole grains, with a line from one of its points to another."""
+        plot = self.pick(b"IP0,0,300,400;", b"IP300,400,0,0;", b"IP0,0,30,40;IP0,0;", b"")
+        kind = self.pick(b"1", b"2", b"3", b"4", b"5", b"6", b"7", b"8", b"-1", b"-2", b"-3", b"-4", b"-7", b"-8", b"0", b"99")
+        plot += self.pick(b"", b"UL2,1,1;", b"UL1,0,3,0,1;", b"UL2,0,1,5;") + b"LT" + kind
+        plot += self.pick(b"", b",10", b",1", b",.1", b",2.5,0", b",1,1", b",10,1", b",.4,1") + b";"
+        self.scale, self.is_relative = None, True
+        steps = [self.pick(0, 10, 25, 50, 60, 80, 120, -30) for _ in range(2 * self.pick(1, 1, 2))]
+        return plot + b"SC;PR;PD" + ",".join(map(str, steps)).encode() + b";" + self.pick(b"", b"PU;PD;", b"PU1,0;PD9,0;", b"LT;")
+
+    def hatching(self):
+        """Hatching whose lines go through corners, or nearly, and what it fills."""
+        plot = b"FT" + self.pick(b"3", b"3", b"4") + self.pick(b"", b",0", b",1", b",2.5", b",10", b",7.0625", b",0.01", b",100")
+        if plot.count(b","):
+            plot += self.pick(b"", b",0", b",90", b",45", b",-30", b",180", b",359.9995", b",26.565", b",0.0004")
+        return plot + b";" + self.piece(self.pick("AC", "RR", "RR", "WG", "FP", "polygon", "PW"))
+
+    def mirrored(self):
+        """P1 and P2 in turned order, along x or y or both."""
+        left, right = self.pick((300, 0), (0, 300), (self.width, -self.left), (5, 5))
+        bottom, top = self.pick((0, 400), (400, 0), (self.height, -self.below), (7, 7))
+        return b"IP%d,%d,%d,%d;" % (left, bottom, right, top) + self.pick(b"", b"", b"RO90;", b"RO180;", b"RO270;")
+
+    def lines(self):
+        """A label of several lines, and what is written below it."""
+        parts = [bytes(self.random.randint(32, 126) for _ in range(self.upto(3))) for _ in range(self.pick(2, 2, 3))]
+        gap = self.pick(b"\r\n", b"\r\n", b"\n", b"\r", b"\n\r")
+        return b"LB" + gap.join(parts) + self.terminator + self.pick(b"", b"CP;", b"CP1,-1;", b"LBa" + self.terminator)
+
+    # Line types, widths and colours
+
+    def of_LT(self):
+        if self.chance(20):
+            return []
+        kind = self.pick(-8, -5, -3, -2, -1, 0, 1, 1, 2, 2, 3, 4, 5, 6, 7, 8, 99, 99) * MILLION
+        kind += self.pick(0, 0, 0, 499_999, -500_000)
+        if self.is_wild and self.chance(20):
+            kind = self.pick(9, -9, 98, 100, 8_500_000, -8_500_000, -8_500_001, 99_499_999, 98_499_999) * self.pick(1, MILLION)
+        length = self.pick(4 * MILLION, 10 * MILLION, 1_500_000, 300_000, 50 * MILLION, 333_333)
+        if self.is_wild and self.chance(20):
+            length = self.pick(0, -1, 1, -MILLION)
+        mode = self.pick(0, 0, 1, 499_999, 500_000, -500_000, *((2 * MILLION, -1, -MILLION) if self.is_wild else ()))
+        return self.pick([kind], [kind, length], [kind, length], [kind, length, mode * self.pick(1, MILLION)])
+
+    def of_UL(self):
+        if self.chance(15):
+            return []
+        index = self.pick(1, 1, 2, 2, 3, 8, -1, -2, -8, *((0, 9, -9) if self.is_wild else ())) * MILLION + self.pick(0, 0, 499_999)
+        count = self.pick(0, 1, 1, 2, 2, 3, 4, 5, 20, *((21, 22) if self.is_wild else ()))
+        gaps = [self.pick(0, 0, 10, 20, 50, 3, 1) * self.pick(MILLION, MILLION, 333_333) for _ in range(count)]
+        if gaps and self.is_wild and self.chance(20):
+            gaps[self.upto(count - 1)] = self.pick(-1, -MILLION)
+        return [index, *gaps]
+
+    def of_choice(self):
+        """None, 0 or 1."""
+        wild = (2 * MILLION, -MILLION, 1_500_000, -500_001) if self.is_wild else ()
+        return self.pick([], [0], [MILLION], [self.pick(499_999, 500_000, -500_000, MILLION, *wild)])
+
+    of_WU = of_CT = of_FP = of_choice
+
+    def of_PW(self):
+        if self.chance(50):
+            return super().of_PW()
+        width = self.pick(0, 100_000, 1_000_000, 350_000, *((100 * MILLION, 100_000_001, -1) if self.is_wild else ()))
+        return [width] + self.pick([], self.pen_number())
+
+    def of_PT(self):
+        return self.pick([], [300_000], [500_000], [0], [self.pick(20_000_000, 20_000_001, -1, 782)])
+
+    def of_CR(self):
+        if self.chance(15):
+            return []
+        ends = [self.pick((0, 1), (0, 100), (0, 255), (255, 0), (-5, 63), (3, 10)) for _ in range(3)]
+        if self.is_wild and self.chance(20):
+            ends[self.upto(2)] = self.pick((5, 5), (0, 0))
+        return [MILLION * end + self.pick(0, 0, 0, 499_999, 500_000) for pair in ends for end in pair]
+
+    def part_of_colour(self):
+        if self.chance(60):
+            return super().part_of_colour()
+        return self.pick(0, 1, 50, 100, 63, 127, -3, 300) * self.pick(MILLION, MILLION, 500_000, 333_333)
+
+    # P1, P2 and letters
+
+    def percents(self, count):
+        wild = (-1000, 1000, 1001, 0) if self.is_wild else ()
+        return [self.pick(0, 25, 50, 75, 100, 100, 33, -10, *wild) * MILLION + self.pick(0, 0, 0, 333_333) for _ in range(count)]
+
+    def of_IR(self):
+        return self.percents(self.pick(0, 2, 4, 4, 4))
+
+    def of_SR(self):
+        sizes = (750_000, 1_500_000, 3 * MILLION, -2 * MILLION, 10 * MILLION, self.upto(5 * MILLION))
+        if self.is_wild and self.chance(20):
+            sizes = (0, 1, MILLION, 1000 * MILLION, 1_000_000_001)
+        return [] if self.chance(15) else [self.pick(*sizes), self.pick(*sizes)]
+
+    def of_DI(self):
+        return super().of_DI() if self.chance(40) else self.of_DR()
+
+    def of_DR(self):
+        if self.chance(10):
+            return []
+        parts = (-4, -3, -1, 0, 1, 2, 3, 5, 12)
+        run, rise = (self.pick(*parts) * self.pick(1, MILLION, MILLION, 333_333, 8_388_607 * MILLION // 12) for _ in range(2))
+        return [run or (0 if self.is_wild else MILLION), rise]
+
+    def of_SL(self):
+        tangents = (0, 1, -1, 0.364, -0.5, 3, *((1000, 1000.1, -1000) if self.is_wild else ()))
+        return [] if self.chance(15) else [round(self.pick(*tangents) * MILLION)]
+
+    def of_ES(self):
+        spaces = (0, 0, 1, -1, 0.5, -0.333333, 2, *((100, 100.1, -101) if self.is_wild else ()))
+        return [round(self.pick(*spaces) * MILLION) for _ in range(self.pick(0, 1, 2, 2))]
+
+    def of_LO(self):
+        origin = self.pick(*range(1, 10), *range(11, 20), 21, *((0, 10, 20, 22, -1) if self.is_wild else ()))
+        return [] if self.chance(10) else [origin * MILLION + self.pick(0, 0, 0, 499_999, -500_000)]
+
+    def of_DV(self):
+        path = self.pick(0, 1, 2, 3, *((4, -1) if self.is_wild else ())) * MILLION + self.pick(0, 0, 499_999)
+        return self.pick([], [path], [path], [path, self.pick(0, 1, 1, 2 if self.is_wild else 1) * MILLION])
+
+    def of_CP(self):
+        return [round(self.pick(0, 1, -1, 2.5, 0.333333, -3) * MILLION) for _ in range(self.pick(0, 2, 2))]
+
+    def of_TL(self):
+        return self.percents(self.pick(0, 1, 2, 2))
+
+    def of_XT(self):
+        return self.pick([], [], [MILLION])
+
+    of_YT = of_EP = of_XT
+
+    # Polygons, fills and curves
+
+    def of_PM(self):
+        if self.chance(20):
+            return []
+        mode = self.pick(0, 0, 1, 1, 2, 2, *((3, -1) if self.is_wild else ()))
+        return [mode * MILLION + self.pick(0, 0, 0, 499_999, -500_000)]
+
+    def of_FT(self):
+        kind = self.pick(1, 2, 3, 3, 4, 4, 10, 10, 11, 21, 22, *((0, 5, -1, 23) if self.is_wild else ()))
+        spacing = self.pick(0, 1, 2, 4, 10, 0.5, 0.333333, *((-1, -0.000001, 8_000_000) if self.is_wild else ()))
+        angle = self.pick(0, 0, 45, 90, 30, -45, 180, 12.3456, 400)
+        if kind == 10:
+            spacing = self.pick(0, 100, 50, 5, 99.999999, 0.000001, *((-1, 101) if self.is_wild else ()))
+        numbers = [kind * MILLION + self.pick(0, 0, 499_999, -500_000), round(spacing * MILLION), round(angle * MILLION)]
+        return numbers[: self.pick(0, 1, 2, 2, 3, 3, 3)]
+
+    def of_AC(self):
+        return [] if self.chance(25) else self.place()
+
+    of_RA = Writer.of_EA
+    of_RR = Writer.of_ER
+
+    def of_EW(self):
+        radius = self.pick(*self.step(), 0, 10 * MILLION, 16 * MILLION, -7_500_000)
+        start = self.pick(0, 90, 45, -30, 180, 360, 725, 8_388_607) * MILLION + self.pick(0, 0, 499, 500, 12_345)
+        sweep = self.pick(90, -90, 45, 180, 360, -360, 359.9995, 359.9994, 0, 0.0004, 400, -500, 1)
+        return [radius, start, round(sweep * MILLION)] + self.length_of_chord()
+
+    of_WG = of_EW
+
+    def of_AT(self):
+        if self.chance(60):
+            points = self.place() + self.place()
+        else:
+            # Often on one line, or with two places the same.
+            point = self.place()
+            points = point + self.pick(point, self.place(), [2 * at for at in point], [point[0], -point[1]])
+        return points + self.length_of_chord()
+
+    def of_RT(self):
+        point = self.step()
+        end = self.pick(self.step(), [2 * at for at in point], [0, 0], point, [point[1], -point[0]], [at + 62_500 for at in point])
+        return point + end + self.length_of_chord()
+
+    def of_BZ(self):
+        return sum((self.place() for _ in range(3 * self.pick(1, 1, 1, 2))), []) + self.number_too_many()
+
+    def of_BR(self):
+        return sum((self.step() for _ in range(3 * self.pick(1, 1, 1, 2))), []) + self.number_too_many()
+
+    def number_too_many(self):
+        return [MILLION] * self.pick(1, 2, 5) if self.is_wild and self.chance(20) else []

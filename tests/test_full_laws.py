@@ -1,0 +1,97 @@
+"""Checks laws of the profile full on random plots, by the plain plotter of tests/reference, without the program."""
+
+from functools import partial
+
+import pytest
+
+from reference import full_cutting, full_plotter, plotter
+from reference.geometry import Page
+from reference.plotter import FARTHEST, Refused
+from reference.random_full_plots import FullWriter
+from reference.random_plots import random_case
+from shared import assert_nothing
+
+CORE_PLOTS, FULL_PLOTS, PARTS = 2000, 1200, 4
+# A plot with more strokes takes long.
+MOST = 2000
+WIDEST = 12_800
+CORE = "IN DF IP SC RO IW SP PW PC PU PD PA PR PE EA ER CI AA AR LB DT SI DI".split()
+
+
+def page_of(case):
+    """The page of a case; an option that is out of range is as if it were absent."""
+    sides = {"width": 640, "height": 480, "left": 0, "below": 0}
+    texts = {name: case.options.get(name, "") for name in sides}
+    return Page(*(int(texts[name]) if texts[name].isdigit() else sides[name] for name in sides))
+
+
+def drawn(draw, plot, page):
+    """The strokes and the notes of a plot, or the text of its refusal."""
+    try:
+        return draw(plot, page)
+    except Refused as refusal:
+        return str(refusal)
+
+
+# What both profiles draw
+
+
+def is_core(item):
+    """Whether an item is the core's, without a direction along no axis."""
+    if item.code == "DI" and item.kind == "numbers":
+        return len(item.has) < 2 or 0 in item.has[:2]
+    return item.code in CORE or item.kind == "stray"
+
+
+def only_core(plot):
+    """A plot with moves instead of other items; None if there are always others."""
+    for _ in range(50):
+        others = [item.at for item in full_cutting.items(plot) if not is_core(item)]
+        if not others:
+            return plot
+        for at in others:
+            plot = plot[:at] + (b"PR", b"PD", b"SP")[at % 3] + plot[at + 2 :]
+    return None
+
+
+def core_plots(part):
+    """Plots with only the core's items, of cases of both profiles."""
+    for seed in range(part, CORE_PLOTS, PARTS):
+        case = FullWriter(seed).case() if seed % 4 == 0 else random_case(seed)
+        plot = only_core(case.plot)
+        if plot:
+            yield seed, plot, page_of(case)
+
+
+@pytest.mark.parametrize("part", range(PARTS))
+def test_core_is_the_same_in_both(part):
+    """A plot with only the core's items has the same strokes, notes and refusal in both profiles."""
+    wrong, sizes = [], []
+    for seed, plot, page in core_plots(part):
+        core, full = (drawn(profile.draw, plot, page) for profile in (plotter, full_plotter))
+        sizes.append(0 if isinstance(core, str) else len(core[0]))
+        if core != full:
+            wrong.append(f"seed {seed}: {plot!r} on {page}")
+    assert_nothing(wrong)
+    # Nearly all are compared, and many draw.
+    assert len(sizes) > 0.9 * CORE_PLOTS / PARTS and sum(size > 5 for size in sizes) > len(sizes) / 4
+
+
+@pytest.mark.parametrize("part", range(PARTS))
+def test_strokes_are_in_range(part):
+    """Ends and widths of all strokes are in the core's range, and sheets are numbered without gaps."""
+    wrong, drawings = [], 0
+    for seed in range(part, FULL_PLOTS, PARTS):
+        case = FullWriter(seed).case()
+        got = drawn(partial(full_plotter.draw, most=MOST), case.plot, page_of(case))
+        if isinstance(got, str):
+            continue
+        drawings += len(got[0]) > 5
+        sheets = {stroke.sheet for stroke in got[0]}
+        for stroke in got[0]:
+            if max(map(abs, (*stroke.a, *stroke.b))) > FARTHEST or not 0 <= stroke.width <= WIDEST or not stroke.pen:
+                wrong.append(f"seed {seed}: {stroke}")
+        if sheets != set(range(1, len(sheets) + 1)):
+            wrong.append(f"seed {seed}: sheets {sorted(sheets)}")
+    assert_nothing(wrong)
+    assert drawings > FULL_PLOTS / PARTS / 4
