@@ -19,19 +19,20 @@ THEMES = [
     theme.split()
     for theme in (
         "LT LT UL dashes PD PD PR PU AA CI EA ER PE IP mirrored SP",
-        "dashes LT EP polygon FP RR hatching PD PU AC",
+        "dashes run LT EP polygon FP RR hatching PD PU AC",
         "WU WU PW PW PT SP PD PR IP mirrored PE hatching RR",
         "CR CR PC PC SP PD DF IN BP",
+        "restored restored restored PD LB RR",
         "LB LB LB SR SI DI DR SL ES LO LO DV CP CP RO mirrored IP DF PU",
-        "LB BL PB LO DV ES CP CP SR LF LF DT SC PD",
+        "lines lines LB BL PB LO DV ES CP CP SR DT SC PD",
         "SM SM PU PD PA PR PE LB LO DV SI",
         "TL XT YT RO mirrored IP PU SP",
         "polygon polygon PM EP FP FT RO SC IP CI PD AA",
         "PM PM PD PU PR PA PE CI AA AT RT BZ BR EP FP EA LB SM IN DF",
         "FT FT RA RR WG FP AC hatching hatching mirrored RO SC IP PW SP",
-        "shading FT RR WG polygon FP SP PC",
+        "shading shading FT RR WG polygon FP SP PC PW AC",
         "EW WG CT CI AA AR RT AT RO SC PD",
-        "AT RT BZ BR PD PU SC RO PR mirrored LT PM EP",
+        "AT RT BZ BR PD PU SC RO PR mirrored LT PM EP flat",
         "sheet sheet PD LB RR SP PC IN BP",
         "known comment WD CO BL SM PG between skipped PD LB DT",
         "IR IR SC RO IP PD PU RR EA LB AC hatching",
@@ -89,13 +90,16 @@ class FullWriter(Writer):
             "polygon": self.polygon,
             "dashes": self.dashes,
             "hatching": self.hatching,
-            "shading": lambda: b"FT10" + self.pick(b";", b",50;", b",0;", b",100;", b",99.5;", b",7;"),
+            "shading": self.shading,
             "mirrored": self.mirrored,
-            "LF": self.lines,
+            "lines": self.lines,
+            "run": self.interrupted_run,
+            "restored": self.restored,
+            "flat": self.flat_arc,
             "sheet": lambda: self.pick(b"PG", b"AF", b"AH", b"NR", b"FR", b"pg") + self.pick(*WITHOUT_NUMBERS),
             "known": lambda: self.pick(*KNOWN),
             "comment": lambda: self.pick(*COMMENTS),
-            "SM": lambda: b"SM" + self.pick(b"*;", b"X;", b"a", b".", b";", b";", b" ;", b"\xff;", b"\x1b;", b'";', b""),
+            "SM": self.symbol,
             "BL": lambda: b"BL" + self.label(),
             "WD": lambda: b"WD" + self.label(),
             "CO": lambda: self.pick(*COMMENTS),
@@ -142,11 +146,62 @@ class FullWriter(Writer):
         bottom, top = self.pick((0, 400), (400, 0), (self.height, -self.below), (7, 7))
         return b"IP%d,%d,%d,%d;" % (left, bottom, right, top) + self.pick(b"", b"", b"RO90;", b"RO180;", b"RO270;")
 
+    def shading(self):
+        """Shading, what it fills, and what would change it if it were hatching."""
+        level = self.pick(b"", b",50", b",0", b",100", b",99.5", b",7", b",30")
+        return self.pick(b"", b"AC1,2;", b"PW1;") + b"FT10" + level + b";" + self.piece(self.pick("RR", "WG", "polygon"))
+
+    def symbol(self):
+        symbol = self.pick(b"*", b"X", b"a", b".", b"!", b"~", b" ", b"\x7f", b"\xff", b"\x1b", b'"', b"")
+        return b"SM" + symbol + self.pick(b";", b";", b"", b",1;") + self.piece(self.pick("PD", "PU", "PR", "PE"))
+
     def lines(self):
-        """A label of several lines, and what is written below it."""
-        parts = [bytes(self.random.randint(32, 126) for _ in range(self.upto(3))) for _ in range(self.pick(2, 2, 3))]
+        """A label of several lines with an origin and a space, and what is written below it."""
+        plot = self.pick(b"", self.piece("LO"), self.piece("LO") + self.pick(b"ES.5;", b"ES-1,2;", b"ES,1;"), self.piece("DV"))
+        parts = [bytes(self.random.randint(33, 126) for _ in range(self.upto(3))) for _ in range(self.pick(2, 2, 3))]
         gap = self.pick(b"\r\n", b"\r\n", b"\n", b"\r", b"\n\r")
-        return b"LB" + gap.join(parts) + self.terminator + self.pick(b"", b"CP;", b"CP1,-1;", b"LBa" + self.terminator)
+        plot += b"LB" + gap.join(parts) + self.terminator
+        # What sets the margin, and what does not.
+        plot += self.pick(b"", b"DI;", b"DI0,1;", b"DR;", b"LO7;", b"DV;", b"SL;", b"DF;", b"PU;", b"PR0,0;PA;", b"PM;PM2;", b"IN;")
+        return plot + self.pick(b"", b"CP;", b"CP;", b"CP1,-1;CP;") + b"LBa" + self.terminator
+
+    def interrupted_run(self):
+        """Dashes that go on after something else, which may end the run or change the pattern's length."""
+        self.scale, self.is_relative = None, True
+        self.terminator = b"\x03"
+        plot = b"SC;IP0,0,300,400;PR;LT" + self.pick(b"2,10", b"4,7", b"-4,7", b"1,3", b"5,1,1") + b";PD%d,0;" % self.upto(90)
+        plot += self.pick(
+            b"", b"PU;", b"PU5,0;", b"SP;", b"SP0;PD30,0;SP1;", b"SP0;PD30,0;SP1;PR-30,0;", b"IP0,0,30,40;", b"IP0,0,3,4;",
+            b"LT;PD20,0;LT99;", b"LT99;", b"UL;", b"UL2,1;", b"IN;SP1;PR;", b"DF;PR;", b"BP;PR;", b"LT9;", b"LB\x03",
+            b"PU9,0;PU-9,0;", b"PD0,0;", b"WU;", b"RO90;", b"EA;", b"ER0,0;", b"CI5;", b"AA0,0,0;", b"PM;PD9,0;PM2;PU-9,0;",
+        )
+        return plot + b"PD%d,%d;" % (self.upto(90), self.pick(0, 0, 40)) + self.pick(b"", b"LT;")
+
+    def restored(self):
+        """A setting that IN, DF or BP may restore, and what shows it."""
+        self.scale, self.is_relative = None, False
+        self.terminator = b"\x03"
+        setting, shown = self.pick(
+            (b"LT2,1,1;", b"PD50,0;"), (b"LT2,1,1;LT;", b"LT99;PD50,0;"), (b"LT2,.5,1;", b"LT2;PD90,0;"),
+            (b"UL2,1,3;", b"LT2;PD90,0;"), (b"WU1;PW1;", b"PD9,9;PW2;PD0,9;"), (b"CR0,1,0,1,0,1;", b"PC1,1,0,1;PD9,9;"),
+            (b"SR9,9;", b"LBa\x03"), (b"DR1,2;", b"LBa\x03"), (b"SL1;ES1,1;", b"LBab\n\x03"), (b"LO5;", b"LBa\x03"),
+            (b"DV1;", b"LBab\x03"), (b"SM*;", b"PD9,9;"), (b"BLab\x03", b"PB;"), (b"TL9,5;", b"XT;YT;"),
+            (b"FT3,5,20;", b"RR9,9;"), (b"FT3,5,20;", b"FT3;RR9,9;"), (b"FT10,9;", b"FT10;RR30,30;"),
+            (b"AC3,2;", b"FT4,5;RR20,20;"), (b"CT1;", b"CI10,90;"), (b"PM;PD9,9,9,0;", b"PD20,20;EP;"), (b"EA9,9;", b"EP;FP;"),
+            (b"DT$;", b"LBa\x03b$"), (b"PT2;", b"PD9,9;"), (b"RA5,5;PG;", b"PD9,9;"), (b"PU9,9;LB\n\x03", b"CP;LBa\x03"),
+            (b"IR10,10,60,60;", b"FT3;RR30,30;"), (b"IP40,30,0,0;", b"SR;LBa\x03"),
+        )
+        return setting + self.pick(b"IN;", b"DF;", b"BP", b"BP1;", b"IN,;", b"DF!;", b"IN!;", b"") + shown
+
+    def flat_arc(self):
+        """An arc through three places that are nearly on a line, so that its circle may be too large; or on a corner."""
+        self.scale, self.is_relative = None, False
+        low = b"PU%d,%d;PD;" % (-self.left, -self.below)
+        return b"SC;" + low + self.pick(
+            b"RT10000,0,20000,.0625;", b"RT10000,.0625,20000,0;", b"RT100,0,200,.0625;", b"RT300,0,300,.0625;", b"RT9,9,0,0;",
+            b"RT0,0,0,0;", b"RT0,0,9,9;", b"RT9,9,9,9;", b"RT16,16,32,0;", b"RT16,-16,32,0;", b"RT20000,0,20001,1;",
+            b"BR0,0,16,0,16,16;", b"BR0,16,0,16,0,0;", b"BR8,0,16,0,24,0;", b"BR0,64,64,64,64,0;",
+        )
 
     # Line types, widths and colours
 
