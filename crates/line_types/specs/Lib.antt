@@ -1,0 +1,7 @@
+-- What a reader must believe: patterns, lengths, and the dashes of a line.
+pub mod Patterns
+pub mod Lines
+pub mod Dashes
+pub mod LineTypes
+-- What contracts need: bounds of the arithmetic.
+pub mod Bounds

@@ -1,0 +1,15 @@
+//! The patterns of line types, and the dashes that they make of a line. Places are in grains, and
+//! lengths in ticks of 1/256 grain.
+#![tactic(auto)]
+
+mod length;
+mod line;
+mod line_type;
+mod pattern;
+mod run;
+
+pub use length::Length;
+pub use line::Line;
+pub use line_type::LineType;
+pub use pattern::Pattern;
+pub use run::Run;
