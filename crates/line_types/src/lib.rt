@@ -5,11 +5,12 @@
 mod length;
 mod line;
 mod line_type;
+mod nearest;
 mod pattern;
 mod run;
 
-pub use length::Length;
+pub use length::{Length, diagonal};
 pub use line::Line;
 pub use line_type::LineType;
-pub use pattern::Pattern;
+pub use pattern::{MOST_GAPS, Pattern};
 pub use run::Run;
