@@ -3,5 +3,6 @@ pub mod Patterns
 pub mod Lines
 pub mod Dashes
 pub mod LineTypes
--- What contracts need: bounds of the arithmetic.
+-- What contracts need: bounds of the arithmetic, and the dashes that are left.
 pub mod Bounds
+pub mod Left

@@ -2,13 +2,17 @@
 //! lengths in ticks of 1/256 grain.
 #![tactic(auto)]
 
+mod dashes;
 mod length;
 mod line;
 mod line_type;
+mod marks;
 mod nearest;
 mod pattern;
+mod places;
 mod run;
 
+pub use dashes::Dashes;
 pub use length::{Length, diagonal};
 pub use line::Line;
 pub use line_type::LineType;

@@ -1,6 +1,16 @@
 //! Line types.
+ghost use Rattle.std.specs.Prelude.{◌≡◌, ◌<◌, ◌≤◌, ◌*◌, ◌^◌};
+ghost use Rattle.std.specs.Option.{option_to_list};
+ghost use Rattle.line_types.specs.Dashes.{fixed_dashes, adaptive_dashes, last_dot};
+ghost use Rattle.line_types.specs.LineTypes.{dashes_of, run_after, phase_at, whole_or};
+
+use crate::dashes::Dashes;
 use crate::length::Length;
+use crate::line::Line;
+use crate::marks::{Marks, Spacing};
 use crate::pattern::Pattern;
+use crate::run::Run;
+use exact::Spot;
 
 /// How lines are drawn.
 #[derive(Clone, Copy)]
@@ -13,4 +23,91 @@ pub enum LineType<'a> {
     Fixed(&'a Pattern, Length),
     /// The pattern is shortened, so that a whole number of repetitions fill the line.
     Adaptive(&'a Pattern, Length),
+}
+
+impl<'a> LineType<'a> {
+    /// What is drawn of a line, if the line before it left this run.
+    pub fn dashes(self, line: Line, run: Option<Run>) -> Dashes<'a>
+        ensures { result ≡ dashes_of self.entry run line.from line.to }
+    {
+        match self {
+            LineType::Solid => Dashes::one(line.from, line.to),
+            LineType::EndDot => Dashes::one(line.to, line.to),
+            LineType::Fixed(pattern, length) => fixed_dashes(pattern, length, line, run),
+            LineType::Adaptive(pattern, length) => adaptive_dashes(pattern, length, line),
+        }
+    }
+
+    /// The run that a line leaves.
+    pub fn run_after(self, line: Line, run: Option<Run>) -> Option<Run>
+        ensures { result ≡ run_after self.entry run line.from line.to }
+    {
+        let (end, long) = (line.to, line.long());
+        match self {
+            LineType::Fixed(_, length) if long > 0 => {
+                let phase = (phase_at(run, line.from, length) + long) % length.ticks;
+                Some(Run { end, phase })
+            }
+            LineType::Adaptive(_, _) if long > 0 => Some(Run { end, phase: 0 }),
+            _ => run,
+        }
+    }
+}
+
+// How far a pattern of this length has gone when a line begins at a place.
+fn phase_at(run: Option<Run>, from: Spot, length: Length) -> u64
+    ensures value { result ≡ phase_at run from length.ticks }
+    ensures below { result < length.ticks }
+{
+    match run {
+        Some(run) if run.end == from => run.phase % length.ticks,
+        _ => 0,
+    }
+}
+
+// The dashes of a line by a fixed pattern.
+fn fixed_dashes<'a>(
+    pattern: &'a Pattern,
+    length: Length,
+    line: Line,
+    run: Option<Run>,
+) -> Dashes<'a>
+    ensures { result ≡ whole_or (fixed_dashes pattern.now length.ticks (phase_at run line.from length.ticks) line.from line.to)
+        line.from line.to }
+{
+    let long = line.long();
+    if long == 0 {
+        return Dashes::one(line.from, line.to);
+    }
+    let start = phase_at(run, line.from, length);
+    let count = (long + start) / length.ticks + 1;
+    Dashes::of(
+        Marks::new(line, start, pattern, Spacing::Even(length.ticks), count),
+        None,
+    )
+}
+
+// The dashes of a line by an adaptive pattern.
+fn adaptive_dashes<'a>(pattern: &'a Pattern, length: Length, line: Line) -> Dashes<'a>
+    ensures { result ≡ whole_or (adaptive_dashes pattern.now length.ticks line.from line.to) line.from line.to }
+{
+    let long = line.long();
+    if long == 0 {
+        return Dashes::one(line.from, line.to);
+    }
+    let count = (long + length.ticks - 1) / length.ticks;
+    Dashes::of(
+        Marks::new(line, 0, pattern, Spacing::Fitted, count),
+        last_dot(pattern, line.to),
+    )
+}
+
+// The dot at a line's end, if the pattern begins with a dot.
+fn last_dot(pattern: &Pattern, end: Spot) -> Option<(Spot, Spot)>
+    ensures { option_to_list result ≡ last_dot pattern.now end }
+{
+    if pattern.len() > 0 && pattern.gap(0) == 0 {
+        return Some((end, end));
+    }
+    None
 }

@@ -1,0 +1,76 @@
+-- The dashes that are left of a line, as code takes them one at a time: it carries the number of the repetition, that
+-- of the next drawn gap, and the sum of the gaps before it. `proofs/Lefts.antt` shows that it comes to the definition.
+use Rattle.std.specs.Prelude.{◌≡◌, ℕ, ◌+◌, ◌-◌, ◌*◌, ◌%◌, ◌^◌, ◌<◌, ◌≤◌, List, [], ◌++◌, length, sum, filter, nat_eq, nat_lt}
+use Rattle.std.specs.Prelude.{if◌then◌else◌, Option, Some, None}
+use Rattle.std.specs.List.{range_with_len, flat_map}
+use Rattle.std.specs.Option.{option_to_list}
+use Rattle.exact.specs.declared.spot.Spot.{Spot}
+use Rattle.line_types.specs.declared.marks.Marks.{Marks}
+use Rattle.line_types.specs.declared.marks.Spacing.{Spacing}
+use Rattle.line_types.specs.declared.marks.Spacing.TheVariants.{Even, Fitted}
+use Rattle.line_types.specs.Bounds.{IsPattern}
+use Rattle.line_types.specs.Lines.{long_of}
+use Rattle.line_types.specs.Patterns.{start_of, drawn}
+use Rattle.line_types.specs.Dashes.{Span, dash, dashes_along, fixed_place, adaptive_place}
+
+-- of n gaps those that are drawn, from gap j on
+abbrev pub drawn_from : ℕ → ℕ → List ℕ
+drawn_from j n = filter (λ k. nat_eq (k % 2) 0) (range_with_len j (n - j))
+
+-- the pieces of the drawn gaps of n, in the repetitions from r on before the last, from gap j of repetition r on
+abbrev pub left_from : {X : Type 0} → (ℕ → ℕ → List X) → ℕ → ℕ → ℕ → ℕ → List X
+left_from piece n last r j =
+    if nat_lt r last then
+    flat_map (piece r) (drawn_from j n) ++ flat_map (λ q. flat_map (piece q) (drawn n)) (range_with_len (r + 1) (last - (r + 1)))
+    else []
+
+-- the line of marks, and where it begins
+abbrev pub span_of : Marks → Span
+span_of m = record { from = m.line.from; to = m.line.to; long = long_of m.line.from m.line.to; start = m.start }
+
+-- the distance at which gaps of a sum s end in repetition r of `count`
+abbrev pub place_by : Spacing → ℕ → ℕ → ℕ → ℕ → ℕ → ℕ
+place_by (Even pattern_length) long count total r s = fixed_place pattern_length total r s
+place_by Fitted long count total r s = adaptive_place long count total r s
+
+abbrev pub place_of : Marks → ℕ → ℕ → ℕ
+place_of m r s = place_by m.spacing (long_of m.line.from m.line.to) m.repetitions (sum m.pattern.now) r s
+
+-- what gap j of repetition r draws
+abbrev pub mark : Marks → ℕ → ℕ → List (Spot × Spot)
+mark m r j = dash (span_of m) (place_of m r (start_of m.pattern.now j)) (place_of m r (start_of m.pattern.now (j + 1)))
+
+abbrev pub marks_left : Marks → List (Spot × Spot)
+marks_left m = left_from (mark m) (length m.pattern.now) m.repetitions m.repetition m.gap
+
+-- all dashes of n repetitions, the first of which begins `start` ticks before the line
+abbrev pub dashes_by : Spacing → List ℕ → Spot → Spot → ℕ → ℕ → List (Spot × Spot)
+dashes_by spacing gaps a b start n =
+    let long = long_of a b in
+    dashes_along (place_by spacing long n (sum gaps)) gaps
+    (record { from = a; to = b; long = long; start = start })
+    n
+
+-- n repetitions lie so that their distances are in range
+abbrev pub IsSpacing : Spacing → ℕ → Type 0
+IsSpacing (Even pattern_length) n = (pattern_length ≤ 2 ^ 40) × (n * pattern_length ≤ 2 ^ 42) × (n ≤ 2 ^ 34)
+IsSpacing Fitted n = n ≤ 2 ^ 23
+
+-- all numbers of marks are in their ranges, and the next gap is a drawn one
+pub record IsMarks (m : Marks) : Type 0 where
+  pub above : 0 < long_of m.line.from m.line.to
+  pub start_in : m.start < 2 ^ 40
+  pub pattern_in : IsPattern m.pattern.now
+  pub spacing_in : IsSpacing m.spacing m.repetitions
+  pub gap_in : m.gap < length m.pattern.now
+  pub gap_drawn : m.gap % 2 ≡ 0
+  pub passed_is : m.passed ≡ start_of m.pattern.now m.gap
+
+-- by which a loop over marks ends: a pattern has at most 20 gaps
+abbrev pub steps_left : Marks → ℕ
+steps_left m = (m.repetitions - m.repetition) * 32 - m.gap
+
+-- the dashes that are left, and then the last dot
+abbrev pub dashes_left : Option Marks → Option (Spot × Spot) → List (Spot × Spot)
+dashes_left None last = option_to_list last
+dashes_left (Some marks) last = marks_left marks ++ option_to_list last

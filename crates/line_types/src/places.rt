@@ -1,0 +1,37 @@
+//! The distances at which gaps end.
+ghost use Rattle.std.specs.Prelude.{◌≡◌, ◌<◌, ◌≤◌, ◌+◌, ◌*◌, ◌^◌};
+ghost use Rattle.line_types.specs.Dashes.{fixed_place, adaptive_place};
+
+use crate::nearest::nearest;
+
+// In repetition r of a pattern of this length.
+#[inline]
+pub fn even_place(length: u64, total: u64, r: u64, passed: u64) -> u64
+    requires length_in { length ≤ 2 ^ 40 }
+    requires total_above { 0 < total }
+    requires total_in { total < 2 ^ 48 }
+    requires passed_in { passed ≤ total }
+    requires r_in { r * length ≤ 2 ^ 42 }
+    ensures value { result ≡ fixed_place length total r passed }
+    ensures most { result < 2 ^ 43 }
+{
+    let here = nearest(u128::from(length) * u128::from(passed), u128::from(total)) as u64;
+    r * length + here
+}
+
+// In repetition r of those that fill a line.
+#[inline]
+pub fn fitted_place(long: u64, count: u64, total: u64, r: u64, passed: u64) -> u64
+    requires long_in { long < 2 ^ 30 }
+    requires count_in { count ≤ 2 ^ 23 }
+    requires total_above { 0 < total }
+    requires total_in { total < 2 ^ 48 }
+    requires passed_in { passed ≤ total }
+    requires r_in { r < count }
+    ensures value { result ≡ adaptive_place long count total r passed }
+    ensures most { result < 2 ^ 43 }
+{
+    let total = u128::from(total);
+    let gone = u128::from(r) * total + u128::from(passed);
+    nearest(u128::from(long) * gone, u128::from(count) * total) as u64
+}
