@@ -1,4 +1,4 @@
--- The dashes of a line by a pattern that is repeated along it. A dash is the pair of its ends, in grains, and a dot is a
+-- The dashes of a line by a pattern that is repeated along it. A dash is the pair of its ends, in grains. A dot is a
 -- dash whose ends are one place. Distances are in ticks, and count from the start of the first repetition, which may
 -- be before the line's start.
 use Rattle.std.specs.Prelude.{ℕ, ◌+◌, ◌-◌, ◌*◌, ◌/◌, min, max, List, [], ◌∷◌, ◌++◌, length, sum, nat_eq, nat_lt, nat_le}
@@ -33,8 +33,8 @@ abbrev pub dash : Span → ℕ → ℕ → List (Spot × Spot)
 dash span s e =
     if nat_eq s e then dot_at span s else part span (max s span.start) (min e (span.start + span.long))
 
--- the dashes of the first n repetitions of a pattern: those of the drawn gaps of each, in order. In repetition r, `place`
--- gives the distance at which gaps of a sum s end.
+-- the dashes of the first n repetitions of a pattern: those of the drawn gaps of each, in order. In repetition r,
+-- `place` gives the distance at which gaps of a sum s end.
 abbrev pub dashes_along : (ℕ → ℕ → ℕ) → List ℕ → Span → ℕ → List (Spot × Spot)
 dashes_along place gaps span n =
     flat_map (λ r. flat_map (λ j. dash span (place r (start_of gaps j)) (place r (start_of gaps (j + 1))))

@@ -1,6 +1,7 @@
 -- The dashes that are left of a line, as code takes them one at a time: it carries the number of the repetition, that
 -- of the next drawn gap, and the sum of the gaps before it. `proofs/Lefts.antt` shows that it comes to the definition.
-use Rattle.std.specs.Prelude.{◌≡◌, ℕ, ◌+◌, ◌-◌, ◌*◌, ◌%◌, ◌^◌, ◌<◌, ◌≤◌, List, [], ◌++◌, length, sum, filter, nat_eq, nat_lt}
+use Rattle.std.specs.Prelude.{◌≡◌, ℕ, ◌+◌, ◌-◌, ◌*◌, ◌%◌, ◌^◌, ◌<◌, ◌≤◌, List, [], ◌++◌, length, sum, filter}
+use Rattle.std.specs.Prelude.{nat_eq, nat_lt}
 use Rattle.std.specs.Prelude.{if◌then◌else◌, Option, Some, None}
 use Rattle.std.specs.List.{range_with_len, flat_map}
 use Rattle.std.specs.Option.{option_to_list}
@@ -21,7 +22,8 @@ drawn_from j n = filter (λ k. nat_eq (k % 2) 0) (range_with_len j (n - j))
 abbrev pub left_from : {X : Type 0} → (ℕ → ℕ → List X) → ℕ → ℕ → ℕ → ℕ → List X
 left_from piece n last r j =
     if nat_lt r last then
-    flat_map (piece r) (drawn_from j n) ++ flat_map (λ q. flat_map (piece q) (drawn n)) (range_with_len (r + 1) (last - (r + 1)))
+    flat_map (piece r) (drawn_from j n)
+    ++ flat_map (λ q. flat_map (piece q) (drawn n)) (range_with_len (r + 1) (last - (r + 1)))
     else []
 
 -- the line of marks, and where it begins

@@ -72,7 +72,8 @@ fn fixed_dashes<'a>(
     line: Line,
     run: Option<Run>,
 ) -> Dashes<'a>
-    ensures { result ≡ whole_or (fixed_dashes pattern.now length.ticks (phase_at run line.from length.ticks) line.from line.to)
+    ensures { result ≡ whole_or
+        (fixed_dashes pattern.now length.ticks (phase_at run line.from length.ticks) line.from line.to)
         line.from line.to }
 {
     let long = line.long();

@@ -1,5 +1,6 @@
 //! Patterns: which parts of a line are drawn.
-ghost use Rattle.std.specs.Prelude.{◌≡◌, ◌≤◌, ◌<◌, ◌^◌, ◌↔◌, IsSome, IfSome, MatchOption, length, sum, slice_index, take};
+ghost use Rattle.std.specs.Prelude.{◌≡◌, ◌≤◌, ◌<◌, ◌^◌, ◌↔◌, IsSome, IfSome, MatchOption};
+ghost use Rattle.std.specs.Prelude.{length, sum, slice_index, take};
 ghost use Rattle.line_types.specs.Bounds.{IsPattern};
 ghost use Rattle.line_types.specs.Patterns.{fixed_gaps, adaptive_gaps};
 
