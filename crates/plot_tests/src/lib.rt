@@ -1,8 +1,10 @@
-//! Tests of what plots are made of, by public calls: pages, frames, arcs, characters, labels and settings.
+//! Tests of what plots are made of, by public calls: pages, frames, arcs, characters, labels, dashes and settings.
 #![tactic(auto)]
 
 #[cfg(test)]
 mod arcs;
+#[cfg(test)]
+mod dashes;
 #[cfg(test)]
 mod font;
 #[cfg(test)]
