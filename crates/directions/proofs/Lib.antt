@@ -1,0 +1,4 @@
+pub mod Lengths
+pub mod Shares
+pub mod Axes
+mod Examples
