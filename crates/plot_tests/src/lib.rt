@@ -1,4 +1,5 @@
-//! Tests of what plots are made of, by public calls: pages, frames, arcs, characters, labels, dashes and settings.
+//! Tests of what plots are made of, by public calls: pages, frames, arcs, directions, dashes, characters,
+//! labels and settings.
 #![tactic(auto)]
 
 #[cfg(test)]
@@ -15,3 +16,5 @@ mod labels;
 mod pages;
 #[cfg(test)]
 mod settings;
+#[cfg(test)]
+mod vectors;
