@@ -84,18 +84,19 @@ WritesPainting form reaches p sink sink' answer =
 abbrev pub boxes_of : Painting → ℕ
 boxes_of p = boxes_from p.pens p.strokes p.page p.dots p.next
 
+-- the job can be done on its page, and a picture of its strokes was written, or the sink failed once
+abbrev pub WritesJob : Job → Reach → List Segment → SinkState → SinkState → Result ℕ Broken → Type 0
+WritesJob job reaches strokes sink sink' answer =
+    (job_fault job ≡ None)
+    × WritesPicture (head_of job.form job.page job.dots)
+    (row_of job.form reaches job.pens strokes job.page job.dots) (foot_bytes job.form) (rows_of job.page job.dots)
+    job.first_row sink sink' answer
+
 -- a job's strokes were painted and written, the sink failed once, or the job cannot be done on its page
 abbrev pub HasPainted : Job → Reach → List Segment → SinkState → SinkState → Result ℕ Fault → Type 0
-HasPainted job reaches strokes sink sink' (Ok n) =
-    (job_fault job ≡ None)
-    × WritesPicture (head_of job.form job.page job.dots)
-    (row_of job.form reaches job.pens strokes job.page job.dots) (foot_bytes job.form) (rows_of job.page job.dots)
-    job.first_row sink sink' (Ok n)
+HasPainted job reaches strokes sink sink' (Ok n) = WritesJob job reaches strokes sink sink' (Ok n)
 HasPainted job reaches strokes sink sink' (Err (Write row whole bytes)) =
-    (job_fault job ≡ None)
-    × WritesPicture (head_of job.form job.page job.dots)
-    (row_of job.form reaches job.pens strokes job.page job.dots) (foot_bytes job.form) (rows_of job.page job.dots)
-    job.first_row sink sink' (Err (record { row = row; whole = whole; bytes = bytes }))
+    WritesJob job reaches strokes sink sink' (Err (record { row = row; whole = whole; bytes = bytes }))
 HasPainted job reaches strokes sink sink' (Err (Paint fault)) = job_fault job ≡ Some (Paint fault)
 HasPainted job reaches strokes sink sink' (Err Memory) = ⊤
 HasPainted job reaches strokes sink sink' (Err _) = ⊥
