@@ -1,4 +1,4 @@
--- Directions (HP-GL/2 guide: DI, DR and RO): a direction is a vector in parts of 2^30, as long as whole numbers allow.
+-- Directions (HP-GL/2 guide: DI, DR and RO): a direction is a vector of length 2^30, each coordinate rounded.
 use Rattle.std.specs.Prelude.{ℕ, zero, suc, ◌+◌, ◌*◌, ◌/◌, ◌^◌, max, nat_abs, nat_lt, if◌then◌else◌}
 use Rattle.std.specs.Prelude.{ℤ, pos, negsuc, neg_ℤ, ◌+ℤ◌, ◌-ℤ◌, ◌*ℤ◌}
 use Rattle.exact.specs.Fraction.{quotient, round}

@@ -26,7 +26,7 @@ minus f g = plus f (times (whole (negsuc 0)) g)
 abbrev pub divided : Fraction → Fraction → Fraction
 divided f g = quotient (f.over *ℤ pos g.under) (pos f.under *ℤ g.over)
 
--- the smaller of both
+-- the smaller of the two
 abbrev pub lesser : Fraction → Fraction → Fraction
 lesser f g = if int_le (f.over *ℤ pos g.under) (g.over *ℤ pos f.under) then f else g
 
@@ -48,7 +48,7 @@ unscaled u = times u (quotient (pos 1) (pos (10 ^ 6)))
 abbrev pub stretched : Side → Fraction → Fraction
 stretched s u = plus (whole s.start) (times (minus u (whole s.least)) (quotient s.distance s.extent))
 
--- how many plotter units a millionth takes on a side, and the smaller size of both sides
+-- how many plotter units a millionth takes on a side, and the smaller of two such sizes
 abbrev pub ratio : Side → Fraction
 ratio s = quotient (pos (nat_abs s.distance)) (pos (nat_abs s.extent))
 

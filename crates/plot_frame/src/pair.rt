@@ -1,4 +1,4 @@
-//! What both axes have.
+//! Values for the two axes.
 ghost use Rattle.std.specs.Prelude.{◌≡◌};
 ghost use Rattle.plot_frame.specs.Frame.{on_axis};
 

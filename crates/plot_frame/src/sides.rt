@@ -6,8 +6,8 @@ ghost use Rattle.plot_frame.specs.Line.{seen, unit_along, factor_side};
 
 use crate::scaling::{Ends, Factor, Range};
 
-/// A side from P1, at plotter coordinate `start`, over `distance` plotter units to P2: there the
-/// coordinates, in millionths, go from `least` over `extent` on.
+/// A side begins at P1, at plotter coordinate `start`, and P2 is `distance` plotter units from there.
+/// The coordinate of P1 is `least`, and that of P2 is `extent` more, both in millionths.
 #[derive(Clone, Copy, Debug)]
 pub struct Side {
     pub start: i128,
@@ -39,7 +39,7 @@ pub fn side_of(ends: Ends, range: Range) -> Side
     }
 }
 
-/// The side with a factor, which is the way of a million units.
+/// The side by a factor: `distance` is the plotter units that a million units take.
 pub fn factor_side(ends: Ends, factor: Factor) -> Side
     requires ends { IsEnds ends }
     requires factor { IsFactor factor }
@@ -54,7 +54,7 @@ pub fn factor_side(ends: Ends, factor: Factor) -> Side
     }
 }
 
-/// How many plotter units a millionth takes on a side, whichever way it runs.
+// How many plotter units a millionth takes on a side, whichever way it runs.
 fn ratio_of(side: Side) -> Ratio
     requires side { IsSide side }
     requires short { nat_abs side.distance ≤ 2 ^ 25 }
@@ -67,7 +67,7 @@ fn ratio_of(side: Side) -> Ratio
     }
 }
 
-/// The unit's size where it is to be one on both sides: the smaller of both.
+/// The size of a unit that is the same on both sides: the smaller of the two.
 pub fn unit_size(wide: Side, high: Side) -> Ratio
     requires wide { IsSide wide }
     requires high { IsSide high }
@@ -85,7 +85,7 @@ pub fn unit_size(wide: Side, high: Side) -> Ratio
     }
 }
 
-/// A size's numerator, with the sign of the way that coordinates grow on a side.
+/// A size's numerator, negative on a side where coordinates fall as plotter coordinates rise.
 pub fn unit_on(size: Ratio, side: Side) -> i128
     requires side { IsSide side }
     requires size { IsSize size }
