@@ -15,7 +15,7 @@ use Rattle.directions.specs.Laws.{IsPart, UnitsAreNearest, AxesAreExact, right}
 use Rattle.directions.specs.declared.turn.Turn.{Turn}
 use Rattle.directions.specs.declared.turn.Turn.TheVariants.{None, Quarter, Half, ThreeQuarters}
 use Rattle.directions.proofs.Lengths.{surplus_none, surplus_at_least, size_is_nearest}
-use Rattle.directions.proofs.Shares.{at_most, at_least, exactly}
+use Rattle.exact.proofs.Between.{at_most, at_least, exactly}
 
 abbrev vector : ℤ → ℤ → Spot
 vector x y = record { x = x; y = y }

@@ -1,4 +1,3 @@
 pub mod Lengths
-pub mod Shares
 pub mod Axes
 mod Examples

@@ -4,7 +4,7 @@ use Rattle.std.proofs.lemmas.Int.{ints, to_z_pos, to_z-of_z}
 use Rattle.std.proofs.lemmas.Nat.{one_shl, pow_pos, pow_below}
 use Rattle.exact.specs.Fraction.{quotient, round}
 use Rattle.directions.specs.Directions.{shortened}
-use Rattle.directions.proofs.Shares.{within, not_zero}
+use Rattle.exact.proofs.Between.{within, not_zero}
 use Rattle.directions.proofs.direction.shortened.Goals as goal
 use Rattle.directions.proofs.direction.shortened.Goals.{After-rounded}
 

@@ -93,68 +93,61 @@ near r i h e =
     let q : r ≡ i = e ∙ to_z-of_z w32 i f in
     (q, rw q h)
 
+-- an offset (a, b) and a direction (c, d), whose coordinates are i and j inside
+record AreNumbers (a b c d i j : ℤ) : Type 0 where
+  x_is : c ≡ i
+  y_is : d ≡ j
+  known : IsKnown a b c d
+  read : IsRead a b c d
+
+numbers : (a b c d i j : ℤ) → nat_abs a ≤ 2 ^ 93 → nat_abs b ≤ 2 ^ 93 → nat_abs i ≤ 2 ^ 30 → nat_abs j ≤ 2 ^ 30 → c ≡ to_z w32 (of_z w32 i) → d ≡ to_z w32 (of_z w32 j) → AreNumbers a b c d i j
+numbers a b c d i j p q r s e f =
+    let x = near c i r e in
+    let y = near d j s f in
+    let k = known a b c d p q x.1 y.1 in
+    record { x_is = x.0; y_is = y.0; known = k; read = read a b c d k }
+
 pub overflow_sub-offset : goal.overflow_sub-offset
 overflow_sub-offset c =
-    let x = near c.from-x.result c.self.inside.x c.self.invariant.x_in c.from-x.ensures in
-    let y = near c.from-y.result c.self.inside.y c.self.invariant.y_in c.from-y.ensures in
-    let k = known c.args.offset.x c.args.offset.y c.from-x.result c.from-y.result c.requires.x_in c.requires.y_in x.1 y.1 in
-    let r = read c.args.offset.x c.args.offset.y c.from-x.result c.from-y.result k in
-    rw r.x k.x_fits
+    let n = numbers c.args.offset.x c.args.offset.y c.from-x.result c.from-y.result c.self.inside.x c.self.inside.y c.requires.x_in c.requires.y_in c.self.invariant.x_in c.self.invariant.y_in c.from-x.ensures c.from-y.ensures in
+    rw n.read.x n.known.x_fits
 
 pub rounded_part-requires : goal.rounded_part-requires
 rounded_part-requires c =
-    let x = near c.from-x.result c.self.inside.x c.self.invariant.x_in c.from-x.ensures in
-    let y = near c.from-y.result c.self.inside.y c.self.invariant.y_in c.from-y.ensures in
-    let k = known c.args.offset.x c.args.offset.y c.from-x.result c.from-y.result c.requires.x_in c.requires.y_in x.1 y.1 in
-    let r = read c.args.offset.x c.args.offset.y c.from-x.result c.from-y.result k in
-    rw r.x_back k.x_in
+    let n = numbers c.args.offset.x c.args.offset.y c.from-x.result c.from-y.result c.self.inside.x c.self.inside.y c.requires.x_in c.requires.y_in c.self.invariant.x_in c.self.invariant.y_in c.from-x.ensures c.from-y.ensures in
+    rw n.read.x_back n.known.x_in
 
 pub overflow_mul-offset-3 : goal.overflow_mul-offset-3
 overflow_mul-offset-3 c =
-    let x = near c.from-x.result c.self.inside.x c.self.invariant.x_in c.from-x.ensures in
-    let y = near c.from-y.result c.self.inside.y c.self.invariant.y_in c.from-y.ensures in
-    let k = known c.args.offset.x c.args.offset.y c.from-x.result c.from-y.result c.requires.x_in c.requires.y_in x.1 y.1 in
-    let r = read c.args.offset.x c.args.offset.y c.from-x.result c.from-y.result k in
-    rw r.ad k.ad
+    let n = numbers c.args.offset.x c.args.offset.y c.from-x.result c.from-y.result c.self.inside.x c.self.inside.y c.requires.x_in c.requires.y_in c.self.invariant.x_in c.self.invariant.y_in c.from-x.ensures c.from-y.ensures in
+    rw n.read.ad n.known.ad
 
 pub overflow_mul-offset-4 : goal.overflow_mul-offset-4
 overflow_mul-offset-4 c =
-    let x = near c.from-x.result c.self.inside.x c.self.invariant.x_in c.from-x.ensures in
-    let y = near c.from-y.result c.self.inside.y c.self.invariant.y_in c.from-y.ensures in
-    let k = known c.args.offset.x c.args.offset.y c.from-x.result c.from-y.result c.requires.x_in c.requires.y_in x.1 y.1 in
-    let r = read c.args.offset.x c.args.offset.y c.from-x.result c.from-y.result k in
-    rw r.bc k.bc
+    let n = numbers c.args.offset.x c.args.offset.y c.from-x.result c.from-y.result c.self.inside.x c.self.inside.y c.requires.x_in c.requires.y_in c.self.invariant.x_in c.self.invariant.y_in c.from-x.ensures c.from-y.ensures in
+    rw n.read.bc n.known.bc
 
 pub overflow_add-offset : goal.overflow_add-offset
 overflow_add-offset c =
-    let x = near c.from-x.result c.self.inside.x c.self.invariant.x_in c.from-x.ensures in
-    let y = near c.from-y.result c.self.inside.y c.self.invariant.y_in c.from-y.ensures in
-    let k = known c.args.offset.x c.args.offset.y c.from-x.result c.from-y.result c.requires.x_in c.requires.y_in x.1 y.1 in
-    let r = read c.args.offset.x c.args.offset.y c.from-x.result c.from-y.result k in
-    rw r.y k.y_fits
+    let n = numbers c.args.offset.x c.args.offset.y c.from-x.result c.from-y.result c.self.inside.x c.self.inside.y c.requires.x_in c.requires.y_in c.self.invariant.x_in c.self.invariant.y_in c.from-x.ensures c.from-y.ensures in
+    rw n.read.y n.known.y_fits
 
 pub rounded_part-requires-2 : goal.rounded_part-requires-2
 rounded_part-requires-2 c =
-    let x = near c.from-x.result c.self.inside.x c.self.invariant.x_in c.from-x.ensures in
-    let y = near c.from-y.result c.self.inside.y c.self.invariant.y_in c.from-y.ensures in
-    let k = known c.args.offset.x c.args.offset.y c.from-x.result c.from-y.result c.requires.x_in c.requires.y_in x.1 y.1 in
-    let r = read c.args.offset.x c.args.offset.y c.from-x.result c.from-y.result k in
-    rw r.y_back k.y_in
+    let n = numbers c.args.offset.x c.args.offset.y c.from-x.result c.from-y.result c.self.inside.x c.self.inside.y c.requires.x_in c.requires.y_in c.self.invariant.x_in c.self.invariant.y_in c.from-x.ensures c.from-y.ensures in
+    rw n.read.y_back n.known.y_in
 
 pub returns-clause-value : goal.returns-clause-value
 returns-clause-value c =
-    let x = near c.from-x.result c.self.inside.x c.self.invariant.x_in c.from-x.ensures in
-    let y = near c.from-y.result c.self.inside.y c.self.invariant.y_in c.from-y.ensures in
-    let k = known c.args.offset.x c.args.offset.y c.from-x.result c.from-y.result c.requires.x_in c.requires.y_in x.1 y.1 in
-    let r = read c.args.offset.x c.args.offset.y c.from-x.result c.from-y.result k in
+    let n = numbers c.args.offset.x c.args.offset.y c.from-x.result c.from-y.result c.self.inside.x c.self.inside.y c.requires.x_in c.requires.y_in c.self.invariant.x_in c.self.invariant.y_in c.from-x.ensures c.from-y.ensures in
     let o = c.args.offset in
     let px = c.rounded_part.ensures.most in
     let py = c.rounded_part-2.ensures.most in
     let f : FitsSigned w128 c.rounded_part.result = omega (arith, ints) in
     let g : FitsSigned w128 c.rounded_part-2.result = omega (arith, ints) in
     ap₂ vector
-    (to_z-of_z w128 c.rounded_part.result f ∙ c.rounded_part.ensures.value ∙ ap rounded_part r.x_back
-    ∙ ap₂ (λ (p q : ℤ). rounded_part (o.x *ℤ p -ℤ o.y *ℤ q)) x.0 y.0)
-    (to_z-of_z w128 c.rounded_part-2.result g ∙ c.rounded_part-2.ensures.value ∙ ap rounded_part r.y_back
-    ∙ ap₂ (λ (p q : ℤ). rounded_part (o.x *ℤ q +ℤ o.y *ℤ p)) x.0 y.0)
+    (to_z-of_z w128 c.rounded_part.result f ∙ c.rounded_part.ensures.value ∙ ap rounded_part n.read.x_back
+    ∙ ap₂ (λ (p q : ℤ). rounded_part (o.x *ℤ p -ℤ o.y *ℤ q)) n.x_is n.y_is)
+    (to_z-of_z w128 c.rounded_part-2.result g ∙ c.rounded_part-2.ensures.value ∙ ap rounded_part n.read.y_back
+    ∙ ap₂ (λ (p q : ℤ). rounded_part (o.x *ℤ q +ℤ o.y *ℤ p)) n.x_is n.y_is)
     ∙ ap (λ (d : Spot). swung d o) c.self.view_is
