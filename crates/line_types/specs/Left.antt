@@ -6,13 +6,13 @@ use Rattle.std.specs.Prelude.{if◌then◌else◌, Option, Some, None}
 use Rattle.std.specs.List.{range_with_len, flat_map}
 use Rattle.std.specs.Option.{option_to_list}
 use Rattle.exact.specs.declared.spot.Spot.{Spot}
-use Rattle.line_types.specs.declared.marks.Marks.{Marks}
-use Rattle.line_types.specs.declared.marks.Spacing.{Spacing}
-use Rattle.line_types.specs.declared.marks.Spacing.TheVariants.{Even, Fitted}
+use Rattle.line_types.specs.declared.repeated.Repeated.{Repeated}
+use Rattle.line_types.specs.declared.repeated.Spacing.{Spacing}
+use Rattle.line_types.specs.declared.repeated.Spacing.TheVariants.{Even, Fitted}
 use Rattle.line_types.specs.Bounds.{IsPattern}
 use Rattle.line_types.specs.Lines.{long_of}
 use Rattle.line_types.specs.Patterns.{start_of, drawn}
-use Rattle.line_types.specs.Dashes.{Span, dash, dashes_along, fixed_place, adaptive_place}
+use Rattle.line_types.specs.Dashes.{Stretch, dash, dashes_along, fixed_distance, adaptive_distance}
 
 -- of n gaps those that are drawn, from gap j on
 abbrev pub drawn_from : ℕ → ℕ → List ℕ
@@ -26,30 +26,30 @@ left_from piece n last r j =
     ++ flat_map (λ q. flat_map (piece q) (drawn n)) (range_with_len (r + 1) (last - (r + 1)))
     else []
 
--- the line of marks, and where it begins
-abbrev pub span_of : Marks → Span
-span_of m = record { from = m.line.from; to = m.line.to; long = long_of m.line.from m.line.to; start = m.start }
+-- the line of the dashes, and where it begins
+abbrev pub stretch_of : Repeated → Stretch
+stretch_of m = record { from = m.line.from; to = m.line.to; long = long_of m.line.from m.line.to; start = m.start }
 
 -- the distance at which gaps of a sum s end in repetition r of `count`
-abbrev pub place_by : Spacing → ℕ → ℕ → ℕ → ℕ → ℕ → ℕ
-place_by (Even pattern_length) long count total r s = fixed_place pattern_length total r s
-place_by Fitted long count total r s = adaptive_place long count total r s
+abbrev pub distance_by : Spacing → ℕ → ℕ → ℕ → ℕ → ℕ → ℕ
+distance_by (Even pattern_length) long count total r s = fixed_distance pattern_length total r s
+distance_by Fitted long count total r s = adaptive_distance long count total r s
 
-abbrev pub place_of : Marks → ℕ → ℕ → ℕ
-place_of m r s = place_by m.spacing (long_of m.line.from m.line.to) m.repetitions (sum m.pattern.now) r s
+abbrev pub distance_of : Repeated → ℕ → ℕ → ℕ
+distance_of m r s = distance_by m.spacing (long_of m.line.from m.line.to) m.repetitions (sum m.pattern.now) r s
 
 -- what gap j of repetition r draws
-abbrev pub mark : Marks → ℕ → ℕ → List (Spot × Spot)
-mark m r j = dash (span_of m) (place_of m r (start_of m.pattern.now j)) (place_of m r (start_of m.pattern.now (j + 1)))
+abbrev pub gap_dash : Repeated → ℕ → ℕ → List (Spot × Spot)
+gap_dash m r j = dash (stretch_of m) (distance_of m r (start_of m.pattern.now j)) (distance_of m r (start_of m.pattern.now (j + 1)))
 
-abbrev pub marks_left : Marks → List (Spot × Spot)
-marks_left m = left_from (mark m) (length m.pattern.now) m.repetitions m.repetition m.gap
+abbrev pub repeated_left : Repeated → List (Spot × Spot)
+repeated_left m = left_from (gap_dash m) (length m.pattern.now) m.repetitions m.repetition m.gap
 
 -- all dashes of n repetitions, the first of which begins `start` ticks before the line
 abbrev pub dashes_by : Spacing → List ℕ → Spot → Spot → ℕ → ℕ → List (Spot × Spot)
 dashes_by spacing gaps a b start n =
     let long = long_of a b in
-    dashes_along (place_by spacing long n (sum gaps)) gaps
+    dashes_along (distance_by spacing long n (sum gaps)) gaps
     (record { from = a; to = b; long = long; start = start })
     n
 
@@ -58,8 +58,8 @@ abbrev pub IsSpacing : Spacing → ℕ → Type 0
 IsSpacing (Even pattern_length) n = (pattern_length ≤ 2 ^ 40) × (n * pattern_length ≤ 2 ^ 42) × (n ≤ 2 ^ 34)
 IsSpacing Fitted n = n ≤ 2 ^ 23
 
--- all numbers of marks are in their ranges, and the next gap is a drawn one
-pub record IsMarks (m : Marks) : Type 0 where
+-- all numbers are in their ranges, and the next gap is a drawn one
+pub record IsRepeated (m : Repeated) : Type 0 where
   pub above : 0 < long_of m.line.from m.line.to
   pub start_in : m.start < 2 ^ 40
   pub pattern_in : IsPattern m.pattern.now
@@ -68,11 +68,11 @@ pub record IsMarks (m : Marks) : Type 0 where
   pub gap_drawn : m.gap % 2 ≡ 0
   pub passed_is : m.passed ≡ start_of m.pattern.now m.gap
 
--- by which a loop over marks ends: a pattern has at most 20 gaps
-abbrev pub steps_left : Marks → ℕ
+-- what each step of the loop over gaps makes smaller: a pattern has at most 20 gaps
+abbrev pub steps_left : Repeated → ℕ
 steps_left m = (m.repetitions - m.repetition) * 32 - m.gap
 
 -- the dashes that are left, and then the last dot
-abbrev pub dashes_left : Option Marks → Option (Spot × Spot) → List (Spot × Spot)
+abbrev pub dashes_left : Option Repeated → Option (Spot × Spot) → List (Spot × Spot)
 dashes_left None last = option_to_list last
-dashes_left (Some marks) last = marks_left marks ++ option_to_list last
+dashes_left (Some repeated) last = repeated_left repeated ++ option_to_list last

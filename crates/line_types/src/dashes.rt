@@ -2,7 +2,7 @@
 ghost use Rattle.std.specs.Prelude.{◌≡◌, [], ◌∷◌};
 ghost use Rattle.std.specs.Iterator.{YieldsFirst, item_count};
 
-use crate::marks::Marks;
+use crate::repeated::Repeated;
 use exact::Spot;
 use std::marker::Model;
 
@@ -10,7 +10,7 @@ use std::marker::Model;
 /// dot has its place twice.
 #[derive(Drop)]
 pub struct Dashes<'a> {
-    marks: Option<Marks<'a>>,
+    repeated: Option<Repeated<'a>>,
     last: Option<(Spot, Spot)>,
 }
 
@@ -18,35 +18,35 @@ impl<'a> Model for Dashes<'a> {
     ghost use Rattle.std.specs.Prelude.{List};
     ghost use Rattle.std.specs.Option.{ForSome};
     ghost use Rattle.exact.specs.declared.spot.Spot.{Spot};
-    ghost use Rattle.line_types.specs.Left.{dashes_left, IsMarks};
+    ghost use Rattle.line_types.specs.Left.{dashes_left, IsRepeated};
 
     ghost Value = { List (Spot × Spot) };
 
-    ghost view = { λ d. dashes_left d.marks d.last };
+    ghost view = { λ d. dashes_left d.repeated d.last };
 
-    ghost invariant = { λ d. ForSome d.marks IsMarks };
+    ghost invariant = { λ d. ForSome d.repeated IsRepeated };
 }
 
 impl<'a> Dashes<'a> {
-    ghost use Rattle.line_types.specs.Left.{dashes_left, IsMarks};
+    ghost use Rattle.line_types.specs.Left.{dashes_left, IsRepeated};
 
     // One dash, or a dot.
     pub(crate) fn one(from: Spot, to: Spot) -> Dashes<'a>
         ensures { result ≡ (from, to) ∷ [] }
     {
         Dashes {
-            marks: None,
+            repeated: None,
             last: Some((from, to)),
         }
     }
 
     // Those of a pattern, and a dot if there is one after them.
-    pub(crate) fn of(marks: Marks<'a>, last: Option<(Spot, Spot)>) -> Dashes<'a>
-        requires { IsMarks marks }
-        ensures { result ≡ dashes_left (Some marks.entry) last }
+    pub(crate) fn of(repeated: Repeated<'a>, last: Option<(Spot, Spot)>) -> Dashes<'a>
+        requires { IsRepeated repeated }
+        ensures { result ≡ dashes_left (Some repeated.entry) last }
     {
         Dashes {
-            marks: Some(marks),
+            repeated: Some(repeated),
             last,
         }
     }
@@ -60,8 +60,8 @@ impl<'a> Iterator for Dashes<'a> {
     ghost remaining = { item_count (λ s. s) };
 
     fn next(&mut self) -> Option<(Spot, Spot)> {
-        if let Some(marks) = &mut self.marks {
-            if let Some(dash) = marks.next() {
+        if let Some(repeated) = &mut self.repeated {
+            if let Some(dash) = repeated.next() {
                 return Some(dash);
             }
         }

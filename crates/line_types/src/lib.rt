@@ -3,13 +3,13 @@
 #![tactic(auto)]
 
 mod dashes;
+mod distances;
 mod length;
 mod line;
 mod line_type;
-mod marks;
 mod nearest;
 mod pattern;
-mod places;
+mod repeated;
 mod run;
 
 pub use dashes::Dashes;

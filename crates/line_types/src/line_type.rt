@@ -7,8 +7,8 @@ ghost use Rattle.line_types.specs.LineTypes.{dashes_of, run_after, phase_at, who
 use crate::dashes::Dashes;
 use crate::length::Length;
 use crate::line::Line;
-use crate::marks::{Marks, Spacing};
 use crate::pattern::Pattern;
+use crate::repeated::{Repeated, Spacing};
 use crate::run::Run;
 use exact::Spot;
 
@@ -83,7 +83,7 @@ fn fixed_dashes<'a>(
     let start = phase_at(run, line.from, length);
     let count = (long + start) / length.ticks + 1;
     Dashes::of(
-        Marks::new(line, start, pattern, Spacing::Even(length.ticks), count),
+        Repeated::new(line, start, pattern, Spacing::Even(length.ticks), count),
         None,
     )
 }
@@ -98,7 +98,7 @@ fn adaptive_dashes<'a>(pattern: &'a Pattern, length: Length, line: Line) -> Dash
     }
     let count = (long + length.ticks - 1) / length.ticks;
     Dashes::of(
-        Marks::new(line, 0, pattern, Spacing::Fitted, count),
+        Repeated::new(line, 0, pattern, Spacing::Fitted, count),
         last_dot(pattern, line.to),
     )
 }

@@ -2,9 +2,9 @@
 ghost use Rattle.std.specs.Prelude.{◌≡◌, ◌<◌, ◌≤◌, ◌+◌, ◌++◌, ◌^◌, [], sum};
 ghost use Rattle.std.specs.Option.{option_to_list};
 
+use crate::distances::{even_distance, fitted_distance};
 use crate::line::Line;
 use crate::pattern::Pattern;
-use crate::places::{even_place, fitted_place};
 use exact::Spot;
 
 // How the repetitions of a pattern lie on a line.
@@ -18,7 +18,7 @@ pub enum Spacing {
 
 // The dashes that are left of a line.
 #[derive(Drop)]
-pub struct Marks<'a> {
+pub struct Repeated<'a> {
     // The line, which begins `start` ticks after the first repetition.
     pub line: Line,
     pub start: u64,
@@ -32,12 +32,12 @@ pub struct Marks<'a> {
     pub passed: u64,
 }
 
-impl<'a> Marks<'a> {
+impl<'a> Repeated<'a> {
     ghost use Rattle.line_types.specs.Dashes.{dot_at, part, dash};
     ghost use Rattle.line_types.specs.Lines.{long_of};
     ghost use Rattle.line_types.specs.Patterns.{start_of};
-    ghost use Rattle.line_types.specs.Left.{span_of, place_of, mark, marks_left, dashes_by};
-    ghost use Rattle.line_types.specs.Left.{IsMarks, IsSpacing, steps_left};
+    ghost use Rattle.line_types.specs.Left.{stretch_of, distance_of, gap_dash, repeated_left, dashes_by};
+    ghost use Rattle.line_types.specs.Left.{IsRepeated, IsSpacing, steps_left};
 
     // All dashes of a line by a pattern.
     pub fn new(
@@ -46,15 +46,15 @@ impl<'a> Marks<'a> {
         pattern: &'a Pattern,
         spacing: Spacing,
         repetitions: u64,
-    ) -> Marks<'a>
+    ) -> Repeated<'a>
         requires above { 0 < long_of line.from line.to }
         requires start_in { start < 2 ^ 40 }
         requires spacing_in { IsSpacing spacing repetitions }
-        ensures sound { IsMarks result }
-        ensures all { marks_left result ≡ dashes_by spacing pattern.now line.from line.to start repetitions }
+        ensures sound { IsRepeated result }
+        ensures all { repeated_left result ≡ dashes_by spacing pattern.now line.from line.to start repetitions }
     {
         let _gaps = pattern.len();
-        Marks {
+        Repeated {
             line,
             start,
             pattern,
@@ -68,12 +68,12 @@ impl<'a> Marks<'a> {
 
     // The next dash.
     pub fn next(&mut self) -> Option<(Spot, Spot)>
-        requires { IsMarks self.old }
-        ensures sound { IsMarks self.new }
-        ensures taken { marks_left self.old ≡ option_to_list result ++ marks_left self.new }
-        ensures none { result ≡ None → marks_left self.new ≡ [] }
+        requires { IsRepeated self.old }
+        ensures sound { IsRepeated self.new }
+        ensures taken { repeated_left self.old ≡ option_to_list result ++ repeated_left self.new }
+        ensures none { result ≡ None → repeated_left self.new ≡ [] }
     {
-        'marks: while self.repetition < self.repetitions {
+        'gaps: while self.repetition < self.repetitions {
             if let Some(dash) = self.step() {
                 return Some(dash);
             }
@@ -83,25 +83,25 @@ impl<'a> Marks<'a> {
 
     // What the next drawn gap draws.
     fn step(&mut self) -> Option<(Spot, Spot)>
-        requires sound { IsMarks self.old }
+        requires sound { IsRepeated self.old }
         requires more { self.old.repetition < self.old.repetitions }
-        ensures sound { IsMarks self.new }
-        ensures taken { marks_left self.old ≡ option_to_list result ++ marks_left self.new }
+        ensures sound { IsRepeated self.new }
+        ensures taken { repeated_left self.old ≡ option_to_list result ++ repeated_left self.new }
         ensures nearer { steps_left self.new < steps_left self.old }
     {
         let end = self.passed + self.pattern.gap(self.gap);
-        let dash = self.dash(self.place(self.passed), self.place(end));
+        let dash = self.dash(self.distance(self.passed), self.distance(end));
         self.advance(end);
         dash
     }
 
     // Goes on to the next drawn gap.
     fn advance(&mut self, end: u64)
-        requires sound { IsMarks self.old }
+        requires sound { IsRepeated self.old }
         requires more { self.old.repetition < self.old.repetitions }
         requires end { end ≡ start_of self.old.pattern.now (self.old.gap + 1) }
-        ensures sound { IsMarks self.new }
-        ensures taken { marks_left self.old ≡ mark self.old self.old.repetition self.old.gap ++ marks_left self.new }
+        ensures sound { IsRepeated self.new }
+        ensures taken { repeated_left self.old ≡ gap_dash self.old self.old.repetition self.old.gap ++ repeated_left self.new }
         ensures nearer { steps_left self.new < steps_left self.old }
     {
         if self.gap + 2 < self.pattern.len() {
@@ -115,17 +115,17 @@ impl<'a> Marks<'a> {
     }
 
     // The distance at which gaps of a sum `passed` end in this repetition.
-    fn place(&self, passed: u64) -> u64
-        requires sound { IsMarks self.now }
+    fn distance(&self, passed: u64) -> u64
+        requires sound { IsRepeated self.now }
         requires more { self.now.repetition < self.now.repetitions }
         requires passed_in { passed ≤ sum self.now.pattern.now }
-        ensures value { result ≡ place_of self.now self.now.repetition passed }
+        ensures value { result ≡ distance_of self.now self.now.repetition passed }
         ensures most { result < 2 ^ 43 }
     {
         let total = self.pattern.total();
         match self.spacing {
-            Spacing::Even(length) => even_place(length, total, self.repetition, passed),
-            Spacing::Fitted => fitted_place(
+            Spacing::Even(length) => even_distance(length, total, self.repetition, passed),
+            Spacing::Fitted => fitted_distance(
                 self.line.long(),
                 self.repetitions,
                 total,
@@ -137,8 +137,8 @@ impl<'a> Marks<'a> {
 
     // The dash from s to e, cut to the line.
     fn dash(&self, s: u64, e: u64) -> Option<(Spot, Spot)>
-        requires sound { IsMarks self.now }
-        ensures { option_to_list result ≡ dash (span_of self.now) s e }
+        requires sound { IsRepeated self.now }
+        ensures { option_to_list result ≡ dash (stretch_of self.now) s e }
     {
         if s == e {
             return self.dot_at(s);
@@ -149,8 +149,8 @@ impl<'a> Marks<'a> {
 
     // A dot, if its distance is on the line and before the line's end.
     fn dot_at(&self, s: u64) -> Option<(Spot, Spot)>
-        requires { IsMarks self.now }
-        ensures { option_to_list result ≡ dot_at (span_of self.now) s }
+        requires { IsRepeated self.now }
+        ensures { option_to_list result ≡ dot_at (stretch_of self.now) s }
     {
         if self.start <= s && s < self.start + self.line.long() {
             let spot = self.line.spot_at(s - self.start);
@@ -161,10 +161,10 @@ impl<'a> Marks<'a> {
 
     // What is drawn from one distance to another.
     fn part(&self, s: u64, e: u64) -> Option<(Spot, Spot)>
-        requires sound { IsMarks self.now }
+        requires sound { IsRepeated self.now }
         requires from { self.now.start ≤ s }
         requires to { e ≤ self.now.start + long_of self.now.line.from self.now.line.to }
-        ensures { option_to_list result ≡ part (span_of self.now) s e }
+        ensures { option_to_list result ≡ part (stretch_of self.now) s e }
     {
         if s < e {
             let from = self.line.spot_at(s - self.start);
