@@ -1,5 +1,5 @@
 -- A plot has at most as many notes as bytes.
-use Rattle.std.proofs.Common.{◌≡◌, ℕ, zero, suc, ◌+◌, ◌-◌, ◌<◌, ◌≤◌, Bool, true, false, ◌&&◌, ◌||◌, ◌==◌, nat_lt, if◌then◌else◌, List, [], ◌∷◌, ◌++◌, length, take, drop, Option, Some, None, refl, arith, ap, length-append, length-drop}
+use Rattle.std.proofs.Common.{◌≡◌, ℕ, ℤ, zero, suc, ◌+◌, ◌-◌, ◌<◌, ◌≤◌, Bool, true, false, ◌&&◌, ◌||◌, ◌==◌, nat_lt, if◌then◌else◌, List, [], ◌∷◌, ◌++◌, length, take, drop, Option, Some, None, refl, arith, ap, length-append, length-drop}
 use Rattle.std.specs.List.{flat_map}
 use Rattle.std.specs.Char.{is_ascii_alphabetic}
 use Rattle.std.proofs.lemmas.Bool.Decides.{nat_tests}
@@ -11,10 +11,12 @@ use Rattle.hpgl_text.specs.EntryShapes.{EntryShape}
 use Rattle.hpgl_text.specs.Items.{Content, content, content_of, named_terminator, one_byte_length, parameters, polyline, code_of, first_item, begins_with_mnemonic}
 use Rattle.hpgl_text.specs.Mnemonics.{kind_of}
 use Rattle.hpgl_text.specs.Numbers.{numbers, past_numbers, ends_numbers}
-use Rattle.hpgl_text.specs.Shapes.{ItemShape, BodyShape, Params, Terminator, Stray}
+use Rattle.hpgl_text.specs.Shapes.{ItemShape, BodyShape, Params, Further, Terminator, Stray}
 use Rattle.hpgl_text.specs.Shapes as shape
 use Rattle.hpgl_text.specs.declared.mnemonic.Kind.{Kind}
-use Rattle.hpgl_text.specs.declared.mnemonic.Kind.TheVariants.{Parameters, LabelText, LabelEnd, Polyline, Symbol, Buffer, Unknown}
+use Rattle.hpgl_text.specs.declared.mnemonic.Kind.TheVariants.{Parameters, FurtherParameters, Unread, LabelText, LabelEnd, Polyline, Symbol, SkippedSymbol, Buffer, SkippedBuffer, Display, Comment, WithoutEffect, Unknown}
+use Rattle.hpgl_text.specs.declared.profile.Profile.{Profile}
+use Rattle.hpgl_text.specs.declared.profile.Profile.TheVariants.{Core}
 use Rattle.hpgl_text.proofs.EntryCounts.{entries_few}
 use Rattle.hpgl_plot.specs.Laws.{NotesAreFew}
 use Rattle.hpgl_plot.specs.Notes.{item_noted, open_noted, note_at, part_noted, entry_note, entries_in, notes_of, notes}
@@ -61,14 +63,23 @@ polyline_fits at text =
     let few = entries_few (has_byte (byte ";") text) at (take end text) in
     record { in_content = omega (arith, few, length-take end text); in_text = omega (arith, few, length-take end text) }
 
+parameters_fit : (made_of : List ℤ → BodyShape) (text : List ℕ) → entries_in (made_of (numbers text)) ≡ [] → Fits (parameters made_of text) text
+parameters_fit made_of text e = none_fits (parameters made_of text) text (none_in_either (ends_numbers (past_numbers text)) (made_of (numbers text)) shape.Bad e refl)
+
 content_fits : (kind : Kind) (terminator at : ℕ) (text : List ℕ) → Fits (content_of kind terminator at text) text
-content_fits (Parameters instruction) terminator at text =
-    none_fits (parameters instruction text) text (none_in_either (ends_numbers (past_numbers text)) (Params instruction (numbers text)) shape.Bad refl refl)
+content_fits (Parameters instruction) terminator at text = parameters_fit (Params instruction) text refl
+content_fits (FurtherParameters further) terminator at text = parameters_fit (Further further) text refl
+content_fits (Unread further) terminator at text = none_fits _ text refl
 content_fits LabelText terminator at text = none_fits _ text refl
 content_fits LabelEnd terminator at text = none_fits (content (named_terminator text) false (one_byte_length text)) text (none_in_terminator text)
 content_fits Polyline terminator at text = polyline_fits at text
 content_fits Symbol terminator at text = none_fits _ text refl
+content_fits SkippedSymbol terminator at text = none_fits _ text refl
 content_fits Buffer terminator at text = none_fits _ text refl
+content_fits SkippedBuffer terminator at text = none_fits _ text refl
+content_fits Display terminator at text = none_fits _ text refl
+content_fits Comment terminator at text = none_fits _ text refl
+content_fits WithoutEffect terminator at text = none_fits _ text refl
 content_fits Unknown terminator at text = none_fits _ text refl
 
 -- two letters take two bytes
@@ -86,44 +97,44 @@ record IsFew (item : ItemShape) (bytes : ℕ) (text : List ℕ) : Type 0 where
   in_item : length (notes_of item) ≤ bytes
   in_text : length (notes_of item) ≤ length text
 
-few_by : (mnemonic : Bool) (terminator at : ℕ) (text : List ℕ) → begins_with_mnemonic text ≡ mnemonic → 0 < length text → IsFew (first_item terminator at text).item (first_item terminator at text).bytes text
-few_by true terminator at text e h =
-    let fits = content_fits (kind_of (code_of text)) terminator (at + 2) (drop 2 text) in
+few_by : (mnemonic : Bool) (profile : Profile) (terminator at : ℕ) (text : List ℕ) → begins_with_mnemonic text ≡ mnemonic → 0 < length text → IsFew (first_item profile terminator at text).item (first_item profile terminator at text).bytes text
+few_by true profile terminator at text e h =
+    let fits = content_fits (kind_of profile (code_of text)) terminator (at + 2) (drop 2 text) in
     let two = two_bytes text e in
-    let content = content_of (kind_of (code_of text)) terminator (at + 2) (drop 2 text) in
+    let content = content_of (kind_of profile (code_of text)) terminator (at + 2) (drop 2 text) in
     let item : ItemShape = record { at = at; code = code_of text; body = content.body; unended = content.unended } in
     rw (e, first_item) (record {
       in_item = omega (arith, few_on item, fits.in_content);
       in_text = omega (arith, few_on item, fits.in_text, two, length-drop 2 text);
     })
-few_by false terminator at text e h = rw (e, first_item) (record { in_item = omega arith; in_text = omega (arith, h) })
+few_by false profile terminator at text e h = rw (e, first_item) (record { in_item = omega arith; in_text = omega (arith, h) })
 
-few_at : (terminator at : ℕ) (text : List ℕ) → 0 < length text → IsFew (first_item terminator at text).item (first_item terminator at text).bytes text
-few_at terminator at text h = few_by (begins_with_mnemonic text) terminator at text refl h
+few_at : (profile : Profile) (terminator at : ℕ) (text : List ℕ) → 0 < length text → IsFew (first_item profile terminator at text).item (first_item profile terminator at text).bytes text
+few_at profile terminator at text h = few_by (begins_with_mnemonic text) profile terminator at text refl h
 
-abbrev FewNext : ℕ → Type 0
-FewNext n = (plot : List ℕ) (before : List ItemShape) (at : ℕ) → length (notes (items_from n plot before at)) ≤ length plot - at
+abbrev FewNext : Profile → ℕ → Type 0
+FewNext profile n = (plot : List ℕ) (before : List ItemShape) (at : ℕ) → length (notes (items_from profile n plot before at)) ≤ length plot - at
 
-few_step : (more silent : Bool) (n : ℕ) → FewNext n → (plot : List ℕ) (before : List ItemShape) (at : ℕ) → nat_lt at (length plot) ≡ more
+few_step : (more silent : Bool) (profile : Profile) (n : ℕ) → FewNext profile n → (plot : List ℕ) (before : List ItemShape) (at : ℕ) → nat_lt at (length plot) ≡ more
     → length (notes (elim more [
       | false ↦ []
       | true ↦ elim silent [
-        | true ↦ items_from n plot before (at + silent_at plot at)
-        | false ↦ item_at plot before at ∷ items_from n plot (before ++ item_at plot before at ∷ []) (next_place plot before at)
+        | true ↦ items_from profile n plot before (at + silent_at plot at)
+        | false ↦ item_at profile plot before at ∷ items_from profile n plot (before ++ item_at profile plot before at ∷ []) (next_place profile plot before at)
       ]
     ])) ≤ length plot - at
-few_step false silent n next plot before at e = omega arith
-few_step true true n next plot before at e = omega (arith, next plot before (at + silent_at plot at))
-few_step true false n next plot before at e =
+few_step false silent profile n next plot before at e = omega arith
+few_step true true profile n next plot before at e = omega (arith, next plot before (at + silent_at plot at))
+few_step true false profile n next plot before at e =
     let inside : at < length plot = grind (arith, nat_tests, e) in
-    let few = few_at (terminator_after before) at (drop at plot) (omega (arith, inside, length-drop at plot)) in
-    let item = item_at plot before at in
-    let rest = items_from n plot (before ++ item ∷ []) (next_place plot before at) in
-    omega (arith, length-append (notes_of item) (notes rest), few.in_item, few.in_text, length-drop at plot, next plot (before ++ item ∷ []) (next_place plot before at))
+    let few = few_at profile (terminator_after before) at (drop at plot) (omega (arith, inside, length-drop at plot)) in
+    let item = item_at profile plot before at in
+    let rest = items_from profile n plot (before ++ item ∷ []) (next_place profile plot before at) in
+    omega (arith, length-append (notes_of item) (notes rest), few.in_item, few.in_text, length-drop at plot, next plot (before ++ item ∷ []) (next_place profile plot before at))
 
-few_from : (n : ℕ) → FewNext n
-few_from zero plot before at = omega arith
-few_from (suc n) plot before at = few_step (nat_lt at (length plot)) (nat_lt 0 (silent_at plot at)) n (few_from n) plot before at refl
+few_from : (profile : Profile) (n : ℕ) → FewNext profile n
+few_from profile zero plot before at = omega arith
+few_from profile (suc n) plot before at = few_step (nat_lt at (length plot)) (nat_lt 0 (silent_at plot at)) profile n (few_from profile n) plot before at refl
 
 pub notes_few : NotesAreFew
-notes_few plot = omega (arith, few_from (length plot) plot [] 0)
+notes_few plot = omega (arith, few_from Core (length plot) plot [] 0)

@@ -87,6 +87,7 @@ pub fn noted_kind(item: &Item<'_>) -> Option<NoteKind>
     match &item.body {
         Body::Params(instruction, numbers) => noted_parameters(*instruction, numbers),
         Body::Coded(_) | Body::Label(_) | Body::Terminator(_) => None,
+        Body::Further(_, _) | Body::Kept(_) | Body::Symbol(_) | Body::Known => None,
         Body::Skipped => Some(NoteKind::Skipped),
         Body::Bad => Some(NoteKind::Bad),
         Body::Stray(byte) => Some(NoteKind::Stray(*byte)),

@@ -1,26 +1,39 @@
--- Laws: a plot has one cut, and a polyline few entries. For spelling see `Spellings.antt`.
-use Rattle.std.specs.Prelude.{◌≡◌, ◌↔◌, ℕ, ◌+◌, ◌<◌, ◌≤◌, Bool, List, [], ◌∷◌, ◌++◌, length}
+-- Laws: a plot has one cut in each profile, the same in both if they read it alike, and a polyline few entries. For
+-- spelling see `Spellings.antt`.
+use Rattle.std.specs.Prelude.{◌≡◌, ◌↔◌, ℕ, ◌+◌, ◌<◌, ◌≤◌, Bool, List, [], ◌∷◌, ◌++◌, length, All}
+use Rattle.hpgl_text.specs.declared.profile.Profile.{Profile}
+use Rattle.hpgl_text.specs.declared.profile.Profile.TheVariants.{Core, Full}
+use Rattle.hpgl_text.specs.Mnemonics.{kind_of}
 use Rattle.hpgl_text.specs.Shapes.{ItemShape}
-use Rattle.hpgl_text.specs.Cut.{item_at, next_place, silent_at, cut}
+use Rattle.hpgl_text.specs.Cut.{item_at, next_place, silent_at, cut, cut_by}
 use Rattle.hpgl_text.specs.Polylines.{entries}
 
 -- The cut of a plot from a place on, after these items: nothing at the end, what follows what is silent, or an item and
 -- what follows it.
-pub data CutFrom (plot : List ℕ) : List ItemShape → ℕ → List ItemShape → Type 0 where
-  ended : {before : List ItemShape} {at : ℕ} → length plot ≤ at → CutFrom plot before at []
+pub data CutFrom (profile : Profile) (plot : List ℕ) : List ItemShape → ℕ → List ItemShape → Type 0 where
+  ended : {before : List ItemShape} {at : ℕ} → length plot ≤ at → CutFrom profile plot before at []
   silent : {before : List ItemShape} {at : ℕ} {items : List ItemShape} → at < length plot → 0 < silent_at plot at
-      → CutFrom plot before (at + silent_at plot at) items → CutFrom plot before at items
+      → CutFrom profile plot before (at + silent_at plot at) items → CutFrom profile plot before at items
   found : {before : List ItemShape} {at : ℕ} {items : List ItemShape} → at < length plot → silent_at plot at ≡ 0
-      → CutFrom plot (before ++ item_at plot before at ∷ []) (next_place plot before at) items
-      → CutFrom plot before at (item_at plot before at ∷ items)
+      → CutFrom profile plot (before ++ item_at profile plot before at ∷ []) (next_place profile plot before at) items
+      → CutFrom profile plot before at (item_at profile plot before at ∷ items)
 
--- these items are the cut of the plot
-abbrev pub IsCut : List ℕ → List ItemShape → Type 0
-IsCut plot items = CutFrom plot [] 0 items
+-- these items are the cut of the plot in the profile
+abbrev pub IsCut : Profile → List ℕ → List ItemShape → Type 0
+IsCut profile plot items = CutFrom profile plot [] 0 items
 
--- a plot has one cut
+-- a plot has one cut in each profile
 abbrev pub OneCut : Type 0
-OneCut = (plot : List ℕ) (items : List ItemShape) → IsCut plot items ↔ (items ≡ cut plot)
+OneCut = (profile : Profile) (plot : List ℕ) (items : List ItemShape)
+    → IsCut profile plot items ↔ (items ≡ cut_by profile plot)
+
+-- both profiles read what follows the item's mnemonic in the same way
+abbrev pub IsReadAlike : ItemShape → Type 0
+IsReadAlike item = kind_of Full item.code ≡ kind_of Core item.code
+
+-- a plot of such items has the same cut in both profiles
+abbrev pub CoreIsInFull : Type 0
+CoreIsInFull = (plot : List ℕ) → All IsReadAlike (cut plot) → cut_by Full plot ≡ cut plot
 
 -- a polyline has at most as many entries as bytes
 abbrev pub EntriesAreFew : Type 0

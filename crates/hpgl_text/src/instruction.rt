@@ -1,6 +1,6 @@
-//! The known instructions that numbers follow.
+//! The instructions of the core that numbers follow.
 
-/// A known instruction that numbers follow.
+/// An instruction of the core that numbers follow.
 #[derive(Clone, Copy, Debug, PartialEq, Eq)]
 pub enum Instruction {
     /// IN, Initialize: all settings are those of the start.

@@ -1,12 +1,14 @@
 //! The items of a plot, one at a time.
 ghost use Rattle.std.specs.Prelude.{◌≡◌, ◌<◌, ℕ, length};
 ghost use Rattle.std.specs.Iterator.{YieldsFirst, item_count};
-ghost use Rattle.hpgl_text.specs.Cut.{cut, silent_at};
+ghost use Rattle.hpgl_text.specs.Cut.{cut, cut_by, silent_at};
 ghost use Rattle.hpgl_text.specs.Left.{left_from};
+ghost use Rattle.hpgl_text.specs.declared.profile.Profile.{Profile};
 
 use crate::bytes::after;
 use crate::content::FIRST_TERMINATOR;
 use crate::item::Item;
+use crate::profile::Profile;
 use crate::program::{read_item, terminator_left_by};
 use crate::silent::silent_count;
 use std::marker::Model;
@@ -14,6 +16,7 @@ use std::marker::Model;
 /// The items of a plot that are to come, each of which is cut when it is asked for.
 #[derive(Drop)]
 pub struct Items<'a> {
+    profile: Profile,
     plot: &'a [u8],
     at: usize,
     terminator: u8,
@@ -26,15 +29,23 @@ impl<'a> Model for Items<'a> {
 
     ghost Value = { List ItemShape };
 
-    ghost view = { λ s. left_from s.plot.now s.terminator s.at };
+    ghost view = { λ s. left_from s.profile s.plot.now s.terminator s.at };
 }
 
 impl<'a> Items<'a> {
-    /// All the items of a plot.
+    /// All the items of a plot, in the profile core.
     pub fn new(plot: &'a [u8]) -> Items<'a>
         ensures { result ≡ cut plot.now }
     {
+        Items::by_profile(Profile::Core, plot)
+    }
+
+    /// All the items of a plot, in a profile.
+    pub fn by_profile(profile: Profile, plot: &'a [u8]) -> Items<'a>
+        ensures { result ≡ cut_by profile plot.now }
+    {
         Items {
+            profile,
             plot,
             at: 0,
             terminator: FIRST_TERMINATOR,
@@ -56,7 +67,7 @@ impl<'a> Iterator for Items<'a> {
             self.at = at;
             return None;
         }
-        let (item, bytes) = read_item(at, after(self.plot, at), self.terminator);
+        let (item, bytes) = read_item(self.profile, at, after(self.plot, at), self.terminator);
         self.terminator = terminator_left_by(&item, self.terminator);
         self.at = at + bytes;
         Some(item)
@@ -65,7 +76,8 @@ impl<'a> Iterator for Items<'a> {
 
 // The first place from here on at which nothing silent begins.
 fn past_silence(plot: &[u8], from: usize) -> usize
-    ensures left { (terminator : ℕ) → left_from plot.now terminator from ≡ left_from plot.now terminator result }
+    ensures left { (profile : Profile) (terminator : ℕ)
+        → left_from profile plot.now terminator from ≡ left_from profile plot.now terminator result }
     ensures loud { result < length plot.now → silent_at plot.now result ≡ 0 }
 {
     let mut at = from;

@@ -2,6 +2,8 @@
 #![tactic(auto)]
 
 #[cfg(test)]
+mod further;
+#[cfg(test)]
 mod items;
 #[cfg(test)]
 mod real_plots;

@@ -29,6 +29,7 @@ fn why(item: &Item<'_>) -> Option<&'static str> {
         Body::Bad => Some("bad"),
         Body::Stray(_) => Some("stray"),
         Body::Coded(polyline) if has_notes(polyline) => Some("noted"),
+        Body::Further(_, _) | Body::Kept(_) | Body::Symbol(_) | Body::Known => Some("further"),
         Body::Params(_, _) | Body::Label(_) | Body::Coded(_) | Body::Terminator(_) => {
             if item.unended { Some("unended") } else { None }
         }

@@ -8,15 +8,15 @@ use Rattle.hpgl_text.proofs.items.ItemsIterator.next.Goals.{After-terminator_lef
 
 -- the item that is cut, and those after it
 first : (c : After-terminator_left_by-self-inside)
-    → c.args.self.now ≡ c.read_item-item.result.0 ∷ left_from c.self.inside.plot.now c.terminator_left_by-self-inside.result (c.past_silence-at.result + c.read_item-item.result.1)
+    → c.args.self.now ≡ c.read_item-item.result.0 ∷ left_from c.self.inside.profile c.self.inside.plot.now c.terminator_left_by-self-inside.result (c.past_silence-at.result + c.read_item-item.result.1)
 first c =
     let s = c.self.inside in
     let plot = s.plot.now in
     let at = c.past_silence-at.result in
     let here : at < length plot = omega arith in
-    sym c.self.view_is ∙ c.past_silence-at.ensures.left s.terminator
-    ∙ found_next plot s.terminator c.terminator_left_by-self-inside.result at c.read_item-item.result.1 c.read_item-item.result.0 here (c.past_silence-at.ensures.loud here)
-    (c.read_item-item.ensures.item ∙ ap (λ (t : List ℕ). (first_item s.terminator at t).item) c.after.ensures) (c.read_item-item.ensures.bytes ∙ ap (λ (t : List ℕ). (first_item s.terminator at t).bytes) c.after.ensures)
+    sym c.self.view_is ∙ c.past_silence-at.ensures.left s.profile s.terminator
+    ∙ found_next s.profile plot s.terminator c.terminator_left_by-self-inside.result at c.read_item-item.result.1 c.read_item-item.result.0 here (c.past_silence-at.ensures.loud here)
+    (c.read_item-item.ensures.item ∙ ap (λ (t : List ℕ). (first_item s.profile s.terminator at t).item) c.after.ensures) (c.read_item-item.ensures.bytes ∙ ap (λ (t : List ℕ). (first_item s.profile s.terminator at t).bytes) c.after.ensures)
     c.terminator_left_by-self-inside.ensures
 
 pub returns-clause-steps : goal.returns-clause-steps
