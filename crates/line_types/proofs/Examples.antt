@@ -3,10 +3,9 @@
 use Rattle.std.proofs.Common.{◌≡◌, ℕ, ◌*◌, ◌^◌, [], ◌∷◌, refl, pos, Some, None}
 use Rattle.exact.specs.Roots.{root_by}
 use Rattle.exact.specs.declared.spot.Spot.{Spot}
-use Rattle.line_types.specs.declared.line_type.LineType.TheVariants.{Solid, EndDot}
 use Rattle.line_types.specs.Patterns.{fixed_gaps, adaptive_gaps, diagonal_of, length_by_percent, length_by_millimetres}
 use Rattle.line_types.specs.Dashes.{fixed_dashes, adaptive_dashes}
-use Rattle.line_types.specs.LineTypes.{phase_at, phase_after, dashes_of}
+use Rattle.line_types.specs.LineTypes.{Solid, EndDot, phase_at, phase_after, dashes_of}
 
 abbrev at : ℕ → ℕ → Spot
 at x y = record { x = pos x; y = pos y }

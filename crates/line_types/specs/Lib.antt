@@ -3,6 +3,7 @@ pub mod Patterns
 pub mod Lines
 pub mod Dashes
 pub mod LineTypes
+pub mod Laws
 -- What contracts need: bounds of the arithmetic, and the dashes that are left.
 pub mod Bounds
 pub mod Left

@@ -2,10 +2,23 @@
 use Rattle.std.specs.Prelude.{ℕ, ◌+◌, ◌%◌, List, [], ◌∷◌, nat_eq, if◌then◌else◌, Option, Some, None}
 use Rattle.exact.specs.declared.spot.Spot.{Spot}
 use Rattle.line_types.specs.declared.line_type.LineType.{LineType}
-use Rattle.line_types.specs.declared.line_type.LineType.TheVariants.{Solid, EndDot, Fixed, Adaptive}
+use Rattle.line_types.specs.declared.line_type.LineType.TheVariants as line_type
 use Rattle.line_types.specs.declared.run.Run.{Run}
 use Rattle.line_types.specs.Lines.{long_of, is_same_spot}
 use Rattle.line_types.specs.Dashes.{fixed_dashes, adaptive_dashes}
+
+-- a line type as contracts see it: a pattern is its gaps, with its length
+pub data LineShape : Type 0 where
+  Solid : LineShape
+  EndDot : LineShape
+  Fixed : List ℕ → ℕ → LineShape
+  Adaptive : List ℕ → ℕ → LineShape
+
+abbrev pub line_shape : LineType → LineShape
+line_shape line_type.Solid = Solid
+line_shape line_type.EndDot = EndDot
+line_shape (line_type.Fixed gaps l) = Fixed gaps l.ticks
+line_shape (line_type.Adaptive gaps l) = Adaptive gaps l.ticks
 
 -- how far a fixed pattern of this length has gone when a line begins at a place: as far as the run, if it ended there
 abbrev pub phase_at : Option Run → Spot → ℕ → ℕ
@@ -21,20 +34,19 @@ abbrev pub whole_or : List (Spot × Spot) → Spot → Spot → List (Spot × Sp
 whole_or dashes a b = if nat_eq (long_of a b) 0 then (a, b) ∷ [] else dashes
 
 -- what is drawn of a line from a to b
-abbrev pub dashes_of : LineType → Option Run → Spot → Spot → List (Spot × Spot)
+abbrev pub dashes_of : LineShape → Option Run → Spot → Spot → List (Spot × Spot)
 dashes_of Solid run a b = (a, b) ∷ []
 dashes_of EndDot run a b = (b, b) ∷ []
-dashes_of (Fixed pattern l) run a b =
-    whole_or (fixed_dashes pattern.now l.ticks (phase_at run a l.ticks) a b) a b
-dashes_of (Adaptive pattern l) run a b = whole_or (adaptive_dashes pattern.now l.ticks a b) a b
+dashes_of (Fixed gaps ticks) run a b = whole_or (fixed_dashes gaps ticks (phase_at run a ticks) a b) a b
+dashes_of (Adaptive gaps ticks) run a b = whole_or (adaptive_dashes gaps ticks a b) a b
 
 -- the run after a line from a to b: a line of no length leaves it as it was, and so does a type without a pattern
 abbrev pub run_or : Option Run → Option Run → Spot → Spot → Option Run
 run_or new run a b = if nat_eq (long_of a b) 0 then run else new
 
-abbrev pub run_after : LineType → Option Run → Spot → Spot → Option Run
+abbrev pub run_after : LineShape → Option Run → Spot → Spot → Option Run
 run_after Solid run a b = run
 run_after EndDot run a b = run
-run_after (Fixed pattern l) run a b =
-    run_or (Some (record { end = b; phase = phase_after run a b l.ticks })) run a b
-run_after (Adaptive pattern l) run a b = run_or (Some (record { end = b; phase = 0 })) run a b
+run_after (Fixed gaps ticks) run a b =
+    run_or (Some (record { end = b; phase = phase_after run a b ticks })) run a b
+run_after (Adaptive gaps ticks) run a b = run_or (Some (record { end = b; phase = 0 })) run a b

@@ -4,6 +4,7 @@
 
 mod dashes;
 mod distances;
+pub mod laws;
 mod length;
 mod line;
 mod line_type;

@@ -2,7 +2,7 @@
 ghost use Rattle.std.specs.Prelude.{◌≡◌, ◌<◌, ◌≤◌, ◌*◌, ◌^◌};
 ghost use Rattle.std.specs.Option.{option_to_list};
 ghost use Rattle.line_types.specs.Dashes.{fixed_dashes, adaptive_dashes, last_dot};
-ghost use Rattle.line_types.specs.LineTypes.{dashes_of, run_after, phase_at, whole_or};
+ghost use Rattle.line_types.specs.LineTypes.{line_shape, dashes_of, run_after, phase_at, whole_or};
 
 use crate::dashes::Dashes;
 use crate::length::Length;
@@ -13,39 +13,39 @@ use crate::run::Run;
 use exact::Spot;
 
 /// How lines are drawn.
-#[derive(Clone, Copy)]
-pub enum LineType<'a> {
+#[derive(Drop)]
+pub enum LineType {
     /// A line is drawn whole.
     Solid,
     /// Only a dot at the line's end is drawn.
     EndDot,
     /// The pattern has its length, and goes on from line to line.
-    Fixed(&'a Pattern, Length),
+    Fixed(Pattern, Length),
     /// The pattern is shortened, so that a whole number of repetitions fill the line.
-    Adaptive(&'a Pattern, Length),
+    Adaptive(Pattern, Length),
 }
 
-impl<'a> LineType<'a> {
+impl LineType {
     /// What is drawn of a line, if the line before it left this run.
-    pub fn dashes(self, line: Line, run: Option<Run>) -> Dashes<'a>
-        ensures { result ≡ dashes_of self.entry run line.from line.to }
+    pub fn dashes(&self, line: Line, run: Option<Run>) -> Dashes<'_>
+        ensures { result ≡ dashes_of (line_shape self.now) run line.from line.to }
     {
         match self {
             LineType::Solid => Dashes::one(line.from, line.to),
             LineType::EndDot => Dashes::one(line.to, line.to),
-            LineType::Fixed(pattern, length) => fixed_dashes(pattern, length, line, run),
-            LineType::Adaptive(pattern, length) => adaptive_dashes(pattern, length, line),
+            LineType::Fixed(pattern, length) => fixed_dashes(pattern, *length, line, run),
+            LineType::Adaptive(pattern, length) => adaptive_dashes(pattern, *length, line),
         }
     }
 
     /// The run that a line leaves.
-    pub fn run_after(self, line: Line, run: Option<Run>) -> Option<Run>
-        ensures { result ≡ run_after self.entry run line.from line.to }
+    pub fn run_after(&self, line: Line, run: Option<Run>) -> Option<Run>
+        ensures { result ≡ run_after (line_shape self.now) run line.from line.to }
     {
         let (end, long) = (line.to, line.long());
         match self {
             LineType::Fixed(_, length) if long > 0 => {
-                let phase = (phase_at(run, line.from, length) + long) % length.ticks;
+                let phase = (phase_at(run, line.from, *length) + long) % length.ticks;
                 Some(Run { end, phase })
             }
             LineType::Adaptive(_, _) if long > 0 => Some(Run { end, phase: 0 }),

@@ -98,6 +98,17 @@ impl Pattern {
         }
     }
 
+    /// The same pattern.
+    pub fn copied(&self) -> Pattern
+        ensures { result ≡ self.now }
+    {
+        Pattern {
+            gaps: self.gaps,
+            count: self.count,
+            total: self.total,
+        }
+    }
+
     /// How many gaps the pattern has.
     pub fn len(&self) -> usize
         ensures count { result ≡ length self.now }

@@ -36,7 +36,7 @@ fn ten_percent() -> Length {
 #[test]
 fn a_fixed_pattern_goes_on_at_a_corner(rt: HostRuntime) {
     let dashed = Pattern::fixed(2);
-    let line_type = LineType::Fixed(&dashed, ten_percent());
+    let line_type = LineType::Fixed(dashed, ten_percent());
     let first = Line::new(place(0, 1600), place(1920, 1600));
     has_ends(
         &rt,
@@ -60,12 +60,12 @@ fn dots_of_a_pattern(rt: HostRuntime) {
     let line = Line::new(place(0, 0), place(1600, 0));
     has_ends(
         &rt,
-        LineType::Fixed(&dotted, ten_percent()).dashes(line, None),
+        LineType::Fixed(Pattern::fixed(1), ten_percent()).dashes(line, None),
         &[(0, 0), (800, 800)],
     );
     has_ends(
         &rt,
-        LineType::Adaptive(&dotted, ten_percent()).dashes(line, None),
+        LineType::Adaptive(Pattern::fixed(1), ten_percent()).dashes(line, None),
         &[(0, 0), (800, 800), (1600, 1600)],
     );
 }
@@ -73,7 +73,7 @@ fn dots_of_a_pattern(rt: HostRuntime) {
 #[test]
 fn adaptive_dashes_fill_a_line(rt: HostRuntime) {
     let dashed = Pattern::adaptive(2);
-    let line_type = LineType::Adaptive(&dashed, ten_percent());
+    let line_type = LineType::Adaptive(dashed, ten_percent());
     let line = Line::new(place(0, 1600), place(1920, 1600));
     has_ends(
         &rt,
@@ -100,7 +100,7 @@ fn lines_without_a_pattern(rt: HostRuntime) {
         end: place(5, 5),
         phase: 7,
     };
-    let line_type = LineType::Fixed(&dashed, ten_percent());
+    let line_type = LineType::Fixed(dashed, ten_percent());
     has_ends(&rt, line_type.dashes(still, Some(run)), &[(5, 5)]);
     assert!(rt; line_type.run_after(still, None).is_none());
 }
