@@ -25,4 +25,6 @@ pub use notes::Notes;
 pub use plot::{Plot, draw};
 pub use plot_arc::{chord_point, sine};
 pub use plot_page::{Colour, MOST_STROKES, Page, PageFault, Stroke, Window};
+pub use plotter::{Plotter, Stop};
+pub use state::{Frame, Position, State};
 pub use stick_font::{GridStroke, glyph};

@@ -60,7 +60,7 @@ impl Plotter {
         }
     }
 
-    /// Carries out an item. One that is no known instruction does nothing, and so does DT.
+    /// Carries out an item. Only the instructions of the profile core do something, and of these not DT.
     pub fn take(&mut self, item: &Item<'_>) -> Result<(), Stop>
         ensures { Runs (run (seen self.old) (steps_of item.now)) (seen self.new) result }
     {
@@ -71,7 +71,8 @@ impl Plotter {
                 self.write(bytes)?;
                 Ok(())
             }
-            Body::Terminator(_) | Body::Skipped | Body::Bad | Body::Stray(_) => Ok(()),
+            Body::Terminator(_) | Body::Further(_, _) | Body::Kept(_) | Body::Symbol(_) => Ok(()),
+            Body::Known | Body::Skipped | Body::Bad | Body::Stray(_) => Ok(()),
         }
     }
 
@@ -200,17 +201,17 @@ impl Plotter {
         }
     }
 
-    // The pen goes down, or up.
+    /// The pen goes down, or up.
     #[tactic(auto, unfolding(crate::specs::Machine::step))]
-    fn set_down(&mut self, is_down: bool)
+    pub fn set_down(&mut self, is_down: bool)
         ensures { step (seen self.old) (Lower is_down) ≡ Some (seen self.new) }
     {
         self.state.is_down = is_down;
     }
 
-    // Coordinates are relative from here on, or absolute.
+    /// Coordinates are relative from here on, or absolute.
     #[tactic(auto, unfolding(crate::specs::Machine::step))]
-    fn set_relative(&mut self, is_relative: bool)
+    pub fn set_relative(&mut self, is_relative: bool)
         ensures { step (seen self.old) (Relate is_relative) ≡ Some (seen self.new) }
     {
         self.state.is_relative = is_relative;

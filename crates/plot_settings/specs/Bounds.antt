@@ -43,4 +43,5 @@ pub record IsCircle (c : Circle) : Type 0 where
 pub record IsArc (a : Arc) : Type 0 where
   pub x_in : nat_abs a.x ≤ 2 ^ 55
   pub y_in : nat_abs a.y ≤ 2 ^ 55
+  pub sweep_in : nat_abs a.sweep ≤ 360000
   pub chord_above : 0 < a.chord

@@ -16,8 +16,8 @@ use plot_page::Colour;
 // Half of all that is left over, in millionths of a percent.
 const HALF: i64 = 50_000_000;
 
-// A number rounded to a whole one, the upper one of two.
-fn whole_number(number: Number) -> i64
+/// A number rounded to a whole one, the upper one of two.
+pub fn whole_number(number: Number) -> i64
     ensures value { result ≡ parameters.whole_of number }
     ensures bound { nat_abs result ≤ 2 ^ 36 }
 {

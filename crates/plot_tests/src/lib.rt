@@ -13,6 +13,8 @@ mod frames;
 #[cfg(test)]
 mod labels;
 #[cfg(test)]
+mod labels_along;
+#[cfg(test)]
 mod pages;
 #[cfg(test)]
 mod settings;

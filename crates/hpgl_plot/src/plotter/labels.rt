@@ -49,7 +49,7 @@ impl Plotter {
     {
         let from = self.label_place(stroke.from);
         let to = self.label_place(stroke.to);
-        self.travel(from, &[to], true)
+        self.travel_to(from, to, true)
     }
 
     // The pen goes to the end of the label.

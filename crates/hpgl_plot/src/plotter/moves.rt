@@ -34,7 +34,7 @@ impl Plotter {
         let place = self.place_of(coordinates);
         let start = self.state.place;
         let draws = self.state.is_down;
-        self.travel(start, &[place], draws)?;
+        self.travel_to(start, place, draws)?;
         self.arrive(Position { place, coordinates });
         Ok(())
     }
@@ -45,7 +45,7 @@ impl Plotter {
     {
         let pen = self.state.place;
         let draws = !self.state.is_down;
-        self.travel(pen, &[pen], draws)
+        self.travel_to(pen, pen, draws)
     }
 
     /// Where a move ends, in coordinates.
@@ -84,6 +84,15 @@ impl Plotter {
             self.reach(from, *place, draws)?;
             from = *place;
         }
+        Ok(())
+    }
+
+    /// Travels from a place to another, in a stroke if it draws. The pen stays where it is.
+    pub fn travel_to(&mut self, start: Spot, place: Spot, draws: bool) -> Result<(), Stop>
+        ensures { Runs (travelled (seen self.old) draws (start ∷ (place ∷ []))) (seen self.new) result }
+    {
+        self.begin(start)?;
+        self.reach(start, place, draws)?;
         Ok(())
     }
 

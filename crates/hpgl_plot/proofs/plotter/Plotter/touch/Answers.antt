@@ -10,4 +10,4 @@ returns c =
     let w = seen c.args.self.now in
     let s = w.state in
     let p : Line = record { places = s.place ∷ (s.place ∷ []); draws = not s.is_down; ends = position s } in
-    still_runs w (seen c.travel.new.self) Touch p c.travel.result refl refl c.travel.ensures
+    still_runs w (seen c.travel_to.new.self) Touch p c.travel_to.result refl refl c.travel_to.ensures

@@ -7,6 +7,6 @@ use Rattle.hpgl_plot.proofs.plotter.Plotter.write_stroke.Goals as goal
 pub returns : goal.returns
 returns c =
     let w = seen c.args.self.now in
-    subst (λ (places : List Spot). Runs (travelled w true places) (seen c.travel.new.self) c.travel.result)
+    subst (λ (places : List Spot). Runs (travelled w true places) (seen c.travel_to.new.self) c.travel_to.result)
     (stroke_is w.state c.args.stroke c.label_place-from.result c.label_place-to.result c.label_place-from.ensures c.label_place-to.ensures)
-    c.travel.ensures
+    c.travel_to.ensures

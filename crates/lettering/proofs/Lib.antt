@@ -1,0 +1,4 @@
+mod Examples
+pub mod Lefts
+pub mod Sizes
+pub mod Turned

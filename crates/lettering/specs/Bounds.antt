@@ -1,0 +1,20 @@
+-- The ranges of a style, which keep the arithmetic in 128 bits, and of the offsets of strokes.
+use Rattle.std.specs.Prelude.{◌≤◌, ◌%◌, ◌^◌, nat_abs}
+use Rattle.exact.specs.declared.spot.Spot.{Spot}
+use Rattle.directions.specs.Bounds.{IsWithin}
+use Rattle.lettering.specs.declared.style.Style.{Style}
+
+-- a slant of up to 1000 either way, steps of up to 101, and LO's numbers, 1 to 9 and 11 to 19
+pub record IsStyle (style : Style) : Type 0 where
+  pub width_in : nat_abs style.width ≤ 2 ^ 40
+  pub height_in : nat_abs style.height ≤ 2 ^ 40
+  pub slant_in : nat_abs style.slant ≤ 1000000000
+  pub step_x_in : nat_abs style.step_x ≤ 101000000
+  pub step_y_in : nat_abs style.step_y ≤ 101000000
+  pub origin_digit : 1 ≤ style.origin % 10
+  pub origin_most : style.origin ≤ 19
+
+-- both ends are within 2^95 grains of a label's start
+pub record IsStrokeWithin (s : Spot × Spot) : Type 0 where
+  pub from_in : IsWithin (2 ^ 95) s.0
+  pub to_in : IsWithin (2 ^ 95) s.1

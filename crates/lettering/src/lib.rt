@@ -1,0 +1,19 @@
+//! Labels of any size, direction, slant, spacing, path and origin: the strokes of their letters, and where
+//! the pen ends.
+#![tactic(auto)]
+
+mod cells;
+mod checked;
+mod corner;
+mod label;
+pub mod laws;
+mod letter;
+mod sections;
+mod share;
+mod strokes;
+mod style;
+mod written;
+
+pub use checked::Lettering;
+pub use strokes::Strokes;
+pub use style::{LineFeed, Path, Style};
