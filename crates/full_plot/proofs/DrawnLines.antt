@@ -1,0 +1,81 @@
+-- Lines that are drawn one after another, and the ends of their dashes.
+use Rattle.std.proofs.Common.{◌≡◌, ◌∙◌, ◌<◌, ◌+◌, ◌^◌, ℕ, suc, drop, drop-cons, get_or, length, Some, List, [], ◌∷◌, ◌++◌, refl, ap, sym, inl, inr, arith, pos, append-nil, Option}
+use Rattle.std.proofs.lemmas.Bool.{cases_Bool}
+use Rattle.std.proofs.lemmas.Int.{ints}
+use Rattle.std.proofs.lemmas.Option.{same_Some}
+use Rattle.std.specs.List.{All}
+use Rattle.std.specs.Prelude.{nat_eq, ◌-ℤ◌}
+use Rattle.exact.specs.declared.spot.Spot.{Spot}
+use Rattle.plot_page.specs.Segments.{Segment}
+use Rattle.line_types.specs.Bounds.{IsPlace}
+use Rattle.line_types.specs.Laws.{IsInBox}
+use Rattle.line_types.specs.LineTypes.{LineShape, dashes_of}
+use Rattle.line_types.specs.declared.run.Run.{Run}
+use Rattle.line_types.proofs.Boxes.{dashes_in}
+use Rattle.hpgl_plot.specs.declared.state.State.{State}
+use Rattle.hpgl_plot.specs.Machine.{with_strokes}
+use Rattle.hpgl_plot.specs.Machine as core
+use Rattle.hpgl_plot.proofs.Fed.{with_more}
+use Rattle.full_plot.specs.Dashing.{IsDash, parts_of, dashed, run_past, run_through}
+use Rattle.full_plot.specs.Machine.{World, inked, drawn, shape_in}
+
+-- dashes are as near as the ends of their line
+abbrev low : Spot
+low = record { x = pos 0 -ℤ pos (2 ^ 20); y = pos 0 -ℤ pos (2 ^ 20) }
+
+abbrev high : Spot
+high = record { x = pos (2 ^ 20); y = pos (2 ^ 20) }
+
+place_in_box : (s : Spot) → IsPlace s → IsInBox low high s
+place_in_box s h =
+    let x = h.x_in in
+    let y = h.y_in in
+    record { left = omega (arith, ints); right = omega (arith, ints); below = omega (arith, ints); above = omega (arith, ints) }
+
+box_place : (s : Spot) → IsInBox low high s → IsPlace s
+box_place s h =
+    let a = h.left in
+    let b = h.right in
+    let c = h.below in
+    let d = h.above in
+    record { x_in = omega (arith, ints); y_in = omega (arith, ints) }
+
+pub dashes_are_places : (shape : LineShape) (run : Option Run) (a b : Spot) → IsPlace a → IsPlace b → All IsDash (dashes_of shape run a b)
+dashes_are_places shape run a b h k n d l =
+    let e = dashes_in shape run low high a b (place_in_box a h) (place_in_box b k) n d l in
+    (box_place _ e.0, box_place _ e.1)
+
+-- no lines
+pub none_drawn : (w : World) → drawn w [] ≡ w
+none_drawn w = elim (cases_Bool (nat_eq w.core.state.pen 0)) [
+  | inl t ↦ rw t refl
+  | inr t ↦ rw t refl
+]
+
+inked-append : (s : State) (a b : List Segment) → inked s (a ++ b) ≡ inked s a ++ inked s b
+inked-append s a b = elim (cases_Bool (nat_eq s.pen 0)) [
+  | inl t ↦ rw t refl
+  | inr t ↦ rw t refl
+]
+
+-- one line, and the rest of them
+pub more_drawn : (w : World) (l : Segment) (ls : List Segment) → drawn w (l ∷ ls) ≡ drawn (drawn w (l ∷ [])) ls
+more_drawn w l ls =
+    let s = w.core.state in
+    let shape = shape_in w in
+    let first = parts_of shape w.run l in
+    let rest = dashed shape (run_past shape w.run l) ls in
+    rw (append-nil first)
+    (ap (λ (c : core.World). record w { core = c; run = run_through shape w.run (l ∷ ls) })
+    (ap (λ (ss : List Segment). with_strokes w.core s ss) (inked-append s first rest) ∙ with_more w.core (inked s first) (inked s rest)))
+
+pub one_drawn : (w v o : World) (ls : List Segment) (i : ℕ) (l : Segment) → i < length ls → l ≡ get_or ls i l → Some (drawn w (l ∷ [])) ≡ Some v
+    → drawn w (drop i ls) ≡ o → drawn v (drop (i + 1) ls) ≡ o
+one_drawn w v o ls i l h e k m =
+    let next : suc i ≡ i + 1 = omega arith in
+    let cons : drop i ls ≡ l ∷ drop (i + 1) ls = (rw next at (drop-cons ls i l h)) ∙ ap (λ (x : Segment). x ∷ drop (i + 1) ls) (sym e) in
+    let first = same_Some _ _ k in
+    sym (ap (λ (u : World). drawn u (drop (i + 1) ls)) first) ∙ sym (more_drawn w l (drop (i + 1) ls)) ∙ sym (ap (λ (xs : List Segment). drawn w xs) cons) ∙ m
+
+pub same_shape : (w v : World) (ls : List Segment) → Some (drawn w ls) ≡ Some v → shape_in v ≡ shape_in w
+same_shape w v ls k = sym (ap (λ (u : World). shape_in u) (same_Some _ _ k))

@@ -1,0 +1,9 @@
+mod Examples
+mod PlotExamples
+pub mod Gaps
+pub mod Kept
+pub mod DrawnLines
+pub mod Solid
+pub mod CoreLines
+pub mod FullRuns
+pub mod CorePlots

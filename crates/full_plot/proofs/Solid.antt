@@ -1,0 +1,47 @@
+-- Solid lines are those of core.
+use Rattle.std.proofs.Common.{◌≡◌, ◌∙◌, ◌≤◌, ℕ, max, List, [], ◌∷◌, ◌++◌, refl, ap, ap₂, sym, inl, inr, nat_eq, arith, Option}
+use Rattle.std.proofs.lemmas.Bool.{cases_Bool, eqb-true}
+use Rattle.std.proofs.lemmas.Bool.Decides.{nat_tests}
+use Rattle.std.specs.List.{flat_map}
+use Rattle.exact.specs.declared.spot.Spot.{Spot}
+use Rattle.plot_page.specs.Segments.{Segment}
+use Rattle.line_types.specs.declared.run.Run.{Run}
+use Rattle.line_types.specs.LineTypes.{Solid}
+use Rattle.hpgl_plot.specs.declared.state.State.{State}
+use Rattle.hpgl_plot.specs.Paths.{Path}
+use Rattle.hpgl_plot.specs.Strokes.{joined, path_strokes}
+use Rattle.full_plot.specs.Dashing.{dashed, run_through}
+use Rattle.full_plot.specs.Machine.{with_a_pen, inked}
+
+pub dashed_solid : (run : Option Run) (ss : List Segment) → dashed Solid run ss ≡ ss
+dashed_solid run [] = refl
+dashed_solid run (s ∷ ss) = ap (λ (r : List Segment). s ∷ r) (dashed_solid run ss)
+
+pub run_solid : (run : Option Run) (ss : List Segment) → run_through Solid run ss ≡ run
+run_solid run [] = refl
+run_solid run (s ∷ ss) = run_solid run ss
+
+-- pen 0 draws nothing
+nothing_joined : (s : State) → s.pen ≡ 0 → (places : List Spot) → joined s places ≡ []
+nothing_joined s e [] = refl
+nothing_joined s e (a ∷ []) = refl
+nothing_joined s e (a ∷ (b ∷ rest)) = rw e (nothing_joined s e (b ∷ rest))
+
+nothing_in_all : (s : State) → s.pen ≡ 0 → (lines : List (List Spot)) → flat_map (joined s) lines ≡ []
+nothing_in_all s e [] = refl
+nothing_in_all s e (l ∷ ls) = ap₂ (λ (a b : List Segment). a ++ b) (nothing_joined s e l) (nothing_in_all s e ls)
+
+nothing_drawn : (s : State) → s.pen ≡ 0 → (p : Path) → path_strokes s p ≡ []
+nothing_drawn s e p = elim (cases_Bool p.draws) [
+  | inl t ↦ rw t (nothing_in_all s e p.lines)
+  | inr t ↦ rw t refl
+]
+
+has_a_pen : (s : State) → 1 ≤ s.pen → with_a_pen s ≡ s
+has_a_pen s h = let e : max 1 s.pen ≡ s.pen = omega arith in ap (λ (n : ℕ). record s { pen = n }) e
+
+pub solid_strokes : (s : State) (run : Option Run) (p : Path) → inked s (dashed Solid run (path_strokes (with_a_pen s) p)) ≡ path_strokes s p
+solid_strokes s run p = elim (cases_Bool (nat_eq s.pen 0)) [
+  | inl t ↦ rw t (sym (nothing_drawn s (eqb-true _ _ t) p))
+  | inr t ↦ rw t (dashed_solid run (path_strokes (with_a_pen s) p) ∙ ap (λ (r : State). path_strokes r p) (has_a_pen s (grind (arith, nat_tests))))
+]

@@ -1,0 +1,73 @@
+-- What a plot draws in the profile full.
+use Rattle.std.specs.Prelude.{◌≡◌, ℕ, ◌-◌, List, [], ◌∷◌, length, take, drop, nat_eq, slice_index_or}
+use Rattle.std.specs.Prelude.{if◌then◌else◌, Option, Some, None, Result, Ok, Err, ⊤}
+use Rattle.plot_page.specs.declared.page.Page.{Page}
+use Rattle.plot_page.specs.Segments.{Segment}
+use Rattle.hpgl_text.specs.Cut.{cut_by}
+use Rattle.hpgl_text.specs.Shapes.{ItemShape}
+use Rattle.hpgl_text.specs.declared.profile.Profile.TheVariants.{Full}
+use Rattle.hpgl_plot.specs.declared.fault.PlotFault.{PlotFault}
+use Rattle.hpgl_plot.specs.declared.fault.PlotFault.TheVariants as fault
+use Rattle.hpgl_plot.specs.Machine as core
+use Rattle.full_plot.specs.Items.{full_steps}
+use Rattle.full_plot.specs.LineStyles.{usual_style}
+use Rattle.full_plot.specs.Machine.{World, run, ends_with}
+
+-- before the first item
+abbrev pub at_start : Page → World
+at_start page = record { core = core.at_start page; style = usual_style; run = None; ends = [] }
+
+-- the items, one after another, up to the first refusal: a place out of range, or else a stroke too many
+abbrev pub ended : Option World → ℕ → (World → Result World PlotFault) → Result World PlotFault
+ended None at go = Err (fault.OffRange at)
+ended (Some w) at go = if w.core.full then Err (fault.TooManyStrokes at) else go w
+
+abbrev pub runs : World → List ItemShape → Result World PlotFault
+runs w [] = Ok w
+runs w (i ∷ more) = ended (run w (full_steps i.body)) i.at (λ (v : World). runs v more)
+
+abbrev pub outcome : Page → List ℕ → Result World PlotFault
+outcome page plot = runs (at_start page) (cut_by Full plot)
+
+-- how an item is refused
+abbrev pub Refused : World → ItemShape → PlotFault → Type 0
+Refused w i fault.Memory = ⊤
+Refused w i (fault.OffRange at) = (more : List ItemShape) → runs w (i ∷ more) ≡ Err (fault.OffRange at)
+Refused w i (fault.TooManyStrokes at) = (more : List ItemShape) → runs w (i ∷ more) ≡ Err (fault.TooManyStrokes at)
+
+-- what a call answers that carries out an item: the items after it go on from the new world, or all of them are refused
+abbrev pub CarriesOut : {U : Type 0} → World → ItemShape → World → Result U PlotFault → Type 0
+CarriesOut w i v (Ok _) = (more : List ItemShape) → runs w (i ∷ more) ≡ runs v more
+CarriesOut w i v (Err e) = Refused w i e
+
+-- the refusal of a plot, or None if it is accepted
+abbrev pub refusal_in : Result World PlotFault → Option PlotFault
+refusal_in (Ok w) = None
+refusal_in (Err fault) = Some fault
+
+-- memory aside, the fault is the plot's refusal
+abbrev pub Explains : PlotFault → Result World PlotFault → Type 0
+Explains fault.Memory o = ⊤
+Explains (fault.OffRange at) o = refusal_in o ≡ Some (fault.OffRange at)
+Explains (fault.TooManyStrokes at) o = refusal_in o ≡ Some (fault.TooManyStrokes at)
+
+-- the strokes of all sheets
+abbrev pub strokes_in : Result World PlotFault → List Segment
+strokes_in (Ok w) = w.core.kept
+strokes_in (Err fault) = []
+
+-- where sheets end
+abbrev pub ends_in : Result World PlotFault → List ℕ
+ends_in (Ok w) = w.ends
+ends_in (Err fault) = []
+
+-- the greatest number of a sheet that has a stroke: the end of the plot ends a sheet, too
+abbrev pub sheet_count : List ℕ → ℕ → ℕ
+sheet_count ends count = length (ends_with ends count)
+
+-- the strokes of a sheet, which counts from 1; those of all sheets for 0
+abbrev pub sheet_strokes : List Segment → List ℕ → ℕ → List Segment
+sheet_strokes strokes ends sheet =
+    if nat_eq sheet 0 then strokes else
+    drop (slice_index_or (0 ∷ ends) (sheet - 1) (length strokes))
+    (take (slice_index_or ends (sheet - 1) (length strokes)) strokes)

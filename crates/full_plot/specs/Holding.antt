@@ -1,0 +1,28 @@
+-- What is held back while core draws lines, and brought back when they are drawn in the line type.
+use Rattle.std.specs.Prelude.{ℕ, Bool, false, List, []}
+use Rattle.plot_page.specs.Segments.{Segment}
+use Rattle.hpgl_plot.specs.Machine as core
+use Rattle.full_plot.specs.declared.lines.Held.{Held}
+use Rattle.full_plot.specs.Machine.{World, with_a_pen}
+
+-- core without strokes, by a pen that draws
+abbrev pub cleared : World → core.World
+cleared w = record { page = w.core.page; state = with_a_pen w.core.state; kept = []; full = false }
+
+-- a world with these strokes and this pen
+abbrev pub with_strokes_and_pen : World → List Segment → Bool → ℕ → World
+with_strokes_and_pen w kept full pen = record w {
+  core = record {
+    page = w.core.page;
+    state = record w.core.state { pen = pen };
+    kept = kept;
+    full = full;
+  };
+}
+
+abbrev pub with_held : World → Held → World
+with_held w h = with_strokes_and_pen w h.strokes.items h.is_full h.pen
+
+-- the world before core drew lines, with what core left, and the strokes and the pen of before
+abbrev pub restored : World → core.World → World
+restored w v = with_strokes_and_pen (record w { core = v }) w.core.kept w.core.full w.core.state.pen

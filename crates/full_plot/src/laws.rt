@@ -1,0 +1,13 @@
+//! Laws of the profile full, over the definitions only.
+ghost use Rattle.full_plot.specs.Laws.{CoreRunsAsInCore, CoreDrawsAsInCore};
+
+/// Items of core leave in the profile full what they leave in core, on one sheet, with the line style
+/// of the start, or are refused as in core.
+pub fn core_runs_as_in_core()
+    ensures { CoreRunsAsInCore }
+{}
+
+/// A plot of items of core has its strokes and its refusal of core in the profile full, on one sheet.
+pub fn core_draws_as_in_core()
+    ensures { CoreDrawsAsInCore }
+{}

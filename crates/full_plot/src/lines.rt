@@ -1,0 +1,106 @@
+//! The steps of core whose lines are drawn in the line type.
+ghost use Rattle.std.specs.Prelude.{◌≡◌, Some};
+ghost use Rattle.plot_settings.specs.Bounds.{IsCorner, IsCircle, IsArc};
+ghost use Rattle.plot_settings.specs.Meanings.{Move, Go, Edge, DrawCircle, DrawArc};
+ghost use Rattle.hpgl_plot.specs.Machine as core;
+ghost use Rattle.full_plot.specs.Machine.{seen, line_step, drawn, Runs};
+ghost use Rattle.full_plot.specs.Holding.{cleared, with_held};
+
+use crate::plotter::FullPlotter;
+use hpgl_plot::Stop;
+use hpgl_text::Number;
+use plot_page::Stroke;
+use plot_settings::{Arc, Circle, Corner};
+use std::mem::replace;
+
+// What is held back while core draws lines.
+#[derive(Drop)]
+pub struct Held {
+    pub strokes: Vec<Stroke>,
+    pub pen: u8,
+    pub is_full: bool,
+}
+
+impl FullPlotter {
+    /// A move to coordinates, which are relative or absolute by the most recent PA or PR.
+    #[tactic(auto, unfolding(crate::specs::Machine::line_step))]
+    pub fn move_to(&mut self, x: Number, y: Number) -> Result<(), Stop>
+        ensures { Runs (line_step (seen self.old) (Move x y)) (seen self.new) result }
+    {
+        let is_relative = self.plotter.state.is_relative;
+        self.go(is_relative, x, y)
+    }
+
+    /// A move to coordinates, drawn if the pen is down.
+    pub fn go(&mut self, is_relative: bool, x: Number, y: Number) -> Result<(), Stop>
+        ensures { Runs (line_step (seen self.old) (Go is_relative x y)) (seen self.new) result }
+    {
+        let held = self.hold();
+        self.plotter.go(is_relative, x, y)?;
+        self.release(held)
+    }
+
+    /// The edge of a rectangle.
+    pub fn edge(&mut self, is_relative: bool, corner: Corner) -> Result<(), Stop>
+        requires { IsCorner corner }
+        ensures { Runs (line_step (seen self.old) (Edge is_relative corner.x corner.y)) (seen self.new) result }
+    {
+        let held = self.hold();
+        self.plotter.edge(is_relative, corner)?;
+        self.release(held)
+    }
+
+    /// A circle about the pen.
+    pub fn circle(&mut self, circle: Circle) -> Result<(), Stop>
+        requires { IsCircle circle }
+        ensures { Runs (line_step (seen self.old) (DrawCircle circle)) (seen self.new) result }
+    {
+        let held = self.hold();
+        self.plotter.circle(circle)?;
+        self.release(held)
+    }
+
+    /// An arc from the pen on.
+    pub fn arc(&mut self, is_relative: bool, arc: Arc) -> Result<(), Stop>
+        requires { IsArc arc }
+        ensures { Runs (line_step (seen self.old) (DrawArc is_relative arc)) (seen self.new) result }
+    {
+        let held = self.hold();
+        self.plotter.arc(is_relative, arc)?;
+        self.release(held)
+    }
+
+    // Takes the strokes away, and selects a pen that draws.
+    #[tactic(auto, unfolding(hpgl_plot::specs::Machine::step))]
+    fn hold(&mut self) -> Held
+        ensures core { core.seen self.new.plotter ≡ cleared (seen self.old) }
+        ensures kept { result.strokes.items ≡ self.old.plotter.strokes.items }
+        ensures full { result.is_full ≡ self.old.plotter.is_full }
+        ensures pen { result.pen ≡ self.old.plotter.state.pen }
+        ensures style { self.new.style ≡ self.old.style }
+        ensures run { self.new.run ≡ self.old.run }
+        ensures ends { self.new.ends ≡ self.old.ends }
+    {
+        let pen = self.plotter.state.pen;
+        self.plotter.select(pen.max(1));
+        let is_full = replace(&mut self.plotter.is_full, false);
+        let strokes = replace(&mut self.plotter.strokes, Vec::new(self.alloc));
+        Held {
+            strokes,
+            pen,
+            is_full,
+        }
+    }
+
+    // Brings the strokes back, and draws in the line type what core has drawn.
+    #[tactic(auto, unfolding(hpgl_plot::specs::Machine::step))]
+    fn release(&mut self, held: Held) -> Result<(), Stop>
+        ensures { Runs (Some (drawn (with_held (seen self.old) held) self.old.plotter.strokes.items))
+            (seen self.new) result }
+    {
+        let lines = replace(&mut self.plotter.strokes, held.strokes);
+        self.plotter.is_full = held.is_full;
+        self.plotter.select(held.pen);
+        self.dash(&lines)
+    }
+}
