@@ -183,20 +183,28 @@ before_core k most a v step w i end p q e z u =
     omega (arith, ints, m, e, z)
 
 -- the lesser of two lengths that are at least the way's
-pub newton_min : (x y n g : ℕ) → n ≡ x * x + y * y → 0 < g → n ≤ min ((g + n / g) / 2 + 1) (x + y) * min ((g + n / g) / 2 + 1) (x + y)
-newton_min x y n g e p =
-    let a = newton n g p in
+lesser : (x y n r : ℕ) → n ≡ x * x + y * y → n ≤ r * r → n ≤ min r (x + y) * min r (x + y)
+lesser x y n r e h =
     let b : n ≤ (x + y) * (x + y) = omega (arith, e) in
-    elim (cases_lt ((g + n / g) / 2 + 1) (x + y)) [
-      | inl l ↦ (let m : min ((g + n / g) / 2 + 1) (x + y) ≡ (g + n / g) / 2 + 1 = omega (arith, l) in rw m a)
-      | inr l ↦ (let m : min ((g + n / g) / 2 + 1) (x + y) ≡ x + y = omega (arith, l) in rw m b)
+    elim (cases_lt r (x + y)) [
+      | inl l ↦ (let m : min r (x + y) ≡ r = omega (arith, l) in rw m h)
+      | inr l ↦ (let m : min r (x + y) ≡ x + y = omega (arith, l) in rw m b)
     ]
 
-pub newton_way : (v : Vector) (a b n g m : ℕ) → a ≡ nat_abs v.x → b ≡ nat_abs v.y → n ≡ nat_abs (dot v v) → 0 < g → m ≡ min ((g + n / g) / 2 + 1) (a + b) → dot v v ≤ℤ pos (m * m)
+pub lesser_way : (v : Vector) (a b n r m : ℕ) → a ≡ nat_abs v.x → b ≡ nat_abs v.y → n ≡ nat_abs (dot v v) → n ≤ r * r → m ≡ min r (a + b) → dot v v ≤ℤ pos (m * m)
 unfolding size
-newton_way v a b n g m ea eb en p em =
+lesser_way v a b n r m ea eb en h em =
     let z = size_is v in
     let f : n ≡ nat_abs v.x * nat_abs v.x + nat_abs v.y * nat_abs v.y = en ∙ ap nat_abs z in
     let e : n ≡ a * a + b * b = f ∙ ap₂ (λ (i j : ℕ). i * i + j * j) (sym ea) (sym eb) in
-    let k : n ≤ m * m = subst (λ (i : ℕ). n ≤ i * i) (sym em) (newton_min a b n g e p) in
+    let k : n ≤ m * m = subst (λ (i : ℕ). n ≤ i * i) (sym em) (lesser a b n r e h) in
     omega (arith, ints, z, f, k)
+
+-- the sum of the sides of a way is at least its length
+pub sides_enough : (v : Vector) (a b m : ℕ) → a ≡ nat_abs v.x → b ≡ nat_abs v.y → m ≡ a + b → dot v v ≤ℤ pos (m * m)
+unfolding size
+sides_enough v a b m ea eb em =
+    let z = size_is v in
+    let e : a * a + b * b ≡ nat_abs v.x * nat_abs v.x + nat_abs v.y * nat_abs v.y = ap₂ (λ (i j : ℕ). i * i + j * j) ea eb in
+    let k : a * a + b * b ≤ m * m = subst (λ (i : ℕ). a * a + b * b ≤ i * i) (sym em) (omega arith) in
+    omega (arith, ints, z, e, k)

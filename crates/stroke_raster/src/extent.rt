@@ -16,6 +16,18 @@ pub struct Extent {
     pub columns: Span,
 }
 
+// The most rows, and the most columns, of a small box.
+const FEW: u32 = 3;
+
+impl Extent {
+    /// Whether the box has few pixels.
+    #[inline(always)]
+    pub fn is_small(&self) -> bool {
+        self.rows.end <= self.rows.low.saturating_add(FEW)
+            && self.columns.end <= self.columns.low.saturating_add(FEW)
+    }
+}
+
 // The least and the greatest that the double of a coordinate may be.
 #[derive(Clone, Copy, Debug)]
 struct Sides {

@@ -1,12 +1,12 @@
 //! The run of pixels that a stroke covers in a row.
-ghost use Rattle.std.specs.Prelude.{◌≡◌, ℕ, ◌+◌, ◌-◌, ◌<◌, ◌≤◌, ◌^◌, true, false};
+ghost use Rattle.std.specs.Prelude.{◌≡◌, ℕ, ◌+◌, ◌-◌, ◌<◌, ◌≤◌, ◌^◌, true, false, cond, min};
 ghost use Rattle.stroke_raster.specs.Bounds.{Within};
 ghost use Rattle.stroke_raster.specs.Covers.{covers};
 ghost use Rattle.stroke_raster.specs.Boxes.{in_box};
 ghost use Rattle.plot_page.specs.Resolutions.{columns_of, rows_of};
 ghost use Rattle.stroke_raster.specs.Traces.{rightward, is_met};
 
-use crate::nearness::{meets, meets_beside};
+use crate::nearness::{meets, meets_evenly};
 use crate::pixel::{centre_of, way_between};
 use crate::strip::{Span, strip};
 use crate::trace::Trace;
@@ -37,7 +37,7 @@ pub fn run(trace: &Trace<'_>, page: &Page, row: u32, from: u32, length: u32) -> 
 }
 
 // The run among `length` pixels from the one to which `start` leads. The strip is the run, if both of
-// its ends are beside the line.
+// its ends are met. In a small box the tests of all pixels cost less than the strip.
 #[inline(always)]
 fn run_from(trace: &Trace<'_>, start: Vector, length: u32) -> Span
     requires start_in { Within (2 ^ 32) start }
@@ -48,16 +48,19 @@ fn run_from(trace: &Trace<'_>, start: Vector, length: u32) -> Span
     ensures inside { (i : ℕ) → result.low ≤ i → i < result.end → is_met trace.now start i ≡ true }
     ensures after { (i : ℕ) → result.end ≤ i → i < length → is_met trace.now start i ≡ false }
 {
+    if trace.is_small {
+        return scanned(trace, start, length);
+    }
     let span = strip(trace, start, length);
-    if lies_beside(trace, start, span) {
+    if meets_ends(trace, start, span) {
         return span;
     }
     searched(trace, start, span)
 }
 
-// Whether the first and the last pixel of a span are near the stroke, and beside it.
+// Whether the stroke is near the first and the last pixel of a span.
 #[inline(always)]
-fn lies_beside(trace: &Trace<'_>, start: Vector, span: Span) -> bool
+fn meets_ends(trace: &Trace<'_>, start: Vector, span: Span) -> bool
     requires start_in { Within (2 ^ 32) start }
     requires order { span.low ≤ span.end }
     requires end_in { span.end ≤ 2 ^ 17 }
@@ -66,8 +69,8 @@ fn lies_beside(trace: &Trace<'_>, start: Vector, span: Span) -> bool
     ensures last { result ≡ true → is_met trace.now start (span.end - 1) ≡ true }
 {
     span.low < span.end
-        && meets_beside(trace, pixel_at(start, span.low))
-        && meets_beside(trace, pixel_at(start, span.end - 1))
+        && meets_pixel(trace, start, span.low)
+        && meets_pixel(trace, start, span.end - 1)
 }
 
 // The way to the pixel i columns to the right of the one to which `start` leads.
@@ -92,6 +95,47 @@ fn meets_pixel(trace: &Trace<'_>, start: Vector, i: u32) -> bool
     ensures { result ≡ is_met trace.now start i }
 {
     meets(trace, pixel_at(start, i))
+}
+
+// The run, by tests of all the pixels.
+#[inline(always)]
+fn scanned(trace: &Trace<'_>, start: Vector, length: u32) -> Span
+    requires start_in { Within (2 ^ 32) start }
+    requires length_in { length ≤ 2 ^ 17 }
+    ensures order { result.low ≤ result.end }
+    ensures high { result.end ≤ length }
+    ensures before { (i : ℕ) → i < result.low → is_met trace.now start i ≡ false }
+    ensures inside { (i : ℕ) → result.low ≤ i → i < result.end → is_met trace.now start i ≡ true }
+    ensures after { (i : ℕ) → result.end ≤ i → i < length → is_met trace.now start i ≡ false }
+{
+    let mut low = length;
+    let mut end = 0;
+    for i in 0..length {
+        let is_met = meets_evenly(trace, pixel_at(start, i));
+        low = first_met(low, i, is_met);
+        end = past_met(end, i, is_met);
+    }
+    Span {
+        low: low.min(end),
+        end,
+    }
+}
+
+// The lesser of two columns, if the second is met.
+#[inline(always)]
+fn first_met(low: u32, i: u32, is_met: bool) -> u32
+    ensures { result ≡ cond is_met (min low i) low }
+{
+    if is_met { low.min(i) } else { low }
+}
+
+// The column after `i`, if that is met.
+#[inline(always)]
+fn past_met(end: u32, i: u32, is_met: bool) -> u32
+    requires { i < 2 ^ 31 }
+    ensures { result ≡ cond is_met (i + 1) end }
+{
+    if is_met { i + 1 } else { end }
 }
 
 // The run in a span, by tests from the span's ends or, in a long one, from its middle.

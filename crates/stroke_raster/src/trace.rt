@@ -31,12 +31,14 @@ pub struct Trace<'s> {
     pub limit: i128,
     /// How the stroke's line crosses rows.
     pub slope: Slope,
+    /// Whether the stroke's box has so few pixels that all are tested.
+    pub is_small: bool,
     pub ghost sound: { IsTrace stroke.now dots first course scaled_course along reach limit slope },
 }
 
-/// The trace of a stroke.
+/// The trace of a stroke. `is_small` says that its box has few pixels.
 #[inline(always)]
-pub fn trace_of<'s>(stroke: &'s Stroke, dots: Dots) -> Trace<'s>
+pub fn trace_of<'s>(stroke: &'s Stroke, dots: Dots, is_small: bool) -> Trace<'s>
     ensures stroke { result.stroke.now ≡ stroke.entry.now }
     ensures dots { result.dots ≡ dots }
 {
@@ -54,6 +56,7 @@ pub fn trace_of<'s>(stroke: &'s Stroke, dots: Dots) -> Trace<'s>
         along: i64::from(dots.resolution) * squared,
         reach,
         limit: reach * i128::from(squared),
-        slope: slope_of(course, width),
+        slope: slope_of(course, width, is_small),
+        is_small,
     }
 }

@@ -83,7 +83,7 @@ fn paint_stroke<G: Gauge>(
     let upto = extent.columns.end;
     let bottom = extent.rows.end.min(first + rows).max(first);
     let top = extent.rows.low.max(first).min(bottom);
-    let trace = trace_of(stroke, dots);
+    let trace = trace_of(stroke, dots, extent.is_small());
     for row in top..bottom {
         let at = (row - first) as usize;
         let start = at * columns as usize;
@@ -132,7 +132,7 @@ fn ink_stroke<G: Gauge>(
     let many = extent.columns.end - from;
     let below = extent.rows.end.min(first + rows).max(first);
     let top = extent.rows.low.max(first).min(below);
-    let trace = trace_of(stroke, dots);
+    let trace = trace_of(stroke, dots, extent.is_small());
     for row in top..below {
         let start = (row - first) as usize * stride as usize;
         let line = &mut bits[start..];
@@ -256,15 +256,27 @@ fn ink_walk<G: Gauge>(
     links[tail as usize] = end;
 }
 
+// The band of a row, counted from the first row, in bands of so many rows. Most pages have few bands, and a
+// comparison costs less than a division.
+fn band_of_row(row: u32, band_rows: u32) -> u32
+    requires { 1 ≤ band_rows }
+    ensures { result ≡ row / band_rows }
+{
+    if row < band_rows { 0 } else { row / band_rows }
+}
+
 // The band in which a stroke's box begins, or the number of bands.
 fn band_of_stroke(stroke: &Stroke, scene: &Scene<'_>, bands: u32) -> u32
     ensures { result ≡ band_from scene.now.pens scene.now.page scene.now.dots
         scene.now.first_row scene.now.band_rows bands stroke.now }
 {
+    if !scene.pens.has(stroke.pen) {
+        return bands;
+    }
     let rows = extent_of(stroke, &scene.page, scene.dots).rows;
     let begin = rows.low.max(scene.first_row);
-    if scene.pens.has(stroke.pen) && begin < rows.end {
-        (begin - scene.first_row) / scene.band_rows
+    if begin < rows.end {
+        band_of_row(begin - scene.first_row, scene.band_rows)
     } else {
         bands
     }

@@ -38,6 +38,14 @@ impl Numbers {
         let (bx, by) = (self.place(), self.place());
         Stroke::new((n % 3 + 1) as u8, BLACK, width, window, ax, ay, bx, by)
     }
+
+    // A stroke of at most 31 grains in each direction, whose box has few pixels.
+    fn short_stroke(&mut self, n: u32) -> Option<Stroke> {
+        let (ax, ay) = (self.place(), self.place());
+        let bx = ax.wrapping_add(self.place() % 32);
+        let by = ay.wrapping_add(self.place() % 32);
+        Stroke::new((n % 3 + 1) as u8, BLACK, 16, WHOLE, ax, ay, bx, by)
+    }
 }
 
 // The cells of the whole page, each the position of the last stroke that is near, or 0.
@@ -71,9 +79,10 @@ fn strokes_in_bands(rt: HostRuntime) -> Result<(), Fail> {
     let mut strokes = Vec::new(rt.alloc());
     for n in 0..24 {
         strokes.push(numbers.stroke(n).ok_or("a stroke")?)?;
+        strokes.push(numbers.short_stroke(n).ok_or("a stroke")?)?;
     }
     let pens = PenSet::none().with(1).with(2);
-    assert_eq!(rt; strokes.len(), 24);
+    assert_eq!(rt; strokes.len(), 48);
     for resolution in [127, 600] {
         let dots = Dots::new(resolution).ok_or("a resolution")?;
         let wanted = cells_by_near(rt.alloc(), strokes.as_slice(), dots, pens)?;
@@ -87,6 +96,28 @@ fn strokes_in_bands(rt: HostRuntime) -> Result<(), Fail> {
                 pens,
                 band_rows,
             )?;
+            assert_eq!(rt; cells.as_slice(), wanted.as_slice());
+        }
+    }
+    Ok(())
+}
+
+// Rows through rounded ends, where the run is not what the stroke's sides cut out.
+#[test]
+fn wide_strokes(rt: HostRuntime) -> Result<(), Fail> {
+    let dots = Dots::new(600).ok_or("a resolution")?;
+    let pens = PenSet::none().with(1);
+    for (ax, ay, bx, by) in [
+        (512, 512, 512, 512),
+        (300, 320, 700, 500),
+        (700, 200, 340, 760),
+    ] {
+        for width in [224, 1000] {
+            let stroke = Stroke::new(1, BLACK, width, WHOLE, ax, ay, bx, by).ok_or("a stroke")?;
+            let strokes = [stroke];
+            let wanted = cells_by_near(rt.alloc(), &strokes, dots, pens)?;
+            let mut gauge = Exact::new();
+            let cells = cells_by(rt.alloc(), &mut gauge, &strokes, dots, pens, 4096)?;
             assert_eq!(rt; cells.as_slice(), wanted.as_slice());
         }
     }

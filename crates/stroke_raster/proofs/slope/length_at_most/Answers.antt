@@ -1,7 +1,7 @@
 use Rattle.std.proofs.Common.{rules, arith, nat_abs, FitsSigned, ap, ◌∙◌}
 use mir.Syntax.{w64}
 use Rattle.std.proofs.lemmas.Int.{ints, to_z-of_z}
-use Rattle.stroke_raster.proofs.StripLemmas.{newton_way}
+use Rattle.stroke_raster.proofs.StripLemmas.{lesser_way}
 use Rattle.stroke_raster.proofs.slope.length_at_most.Goals as goal
 
 pub returns-clause-enough : goal.returns-clause-enough
@@ -12,4 +12,4 @@ returns-clause-enough c =
     let a = simp to_z-of_z at c.unsigned_abs-x.ensures.value in
     let b = simp to_z-of_z at c.unsigned_abs-y.ensures.value in
     let n = simp to_z-of_z at c.unsigned_abs.ensures.value in
-    newton_way c.args.way c.unsigned_abs-x.result c.unsigned_abs-y.result c.unsigned_abs.result c.max-guess.result c.min-2.result a b (n ∙ ap nat_abs c.squared_length.ensures.value) (omega (arith, c.max-guess.ensures)) c.min-2.ensures
+    lesser_way c.args.way c.unsigned_abs-x.result c.unsigned_abs-y.result c.unsigned_abs.result c.root_at_most-root.result c.min-2.result a b (n ∙ ap nat_abs c.squared_length.ensures.value) c.root_at_most-root.ensures c.min-2.ensures
