@@ -54,7 +54,7 @@ pub(crate) const PENS: HelpLine<'static> = HelpLine {
 
 pub(crate) const BAND: HelpLine<'static> = HelpLine {
     value: "ROWS",
-    help: "Rows of pixels painted at a time, 1 to 4096; the output is the same for each",
+    help: "Most rows of pixels painted at a time, 1 to 4096; the output is the same for each",
 };
 
 pub(crate) const FROM: HelpLine<'static> = HelpLine {

@@ -21,11 +21,11 @@ const NUMBERS: [(&str, &str, u32); 7] = [
     ("--left", "3", 3),
     ("--below", "+4", 4),
     ("--dots", "1200", 1200),
-    ("--band", "4096", 4096),
+    ("--band", "8", 8),
     ("--from", "99999", 99999),
 ];
 
-const DEFAULTS: [u32; 7] = [11880, 8400, 0, 0, 100, 64, 0];
+const DEFAULTS: [u32; 7] = [11880, 8400, 0, 0, 100, 4096, 0];
 
 // The job of a line that asks for a picture.
 fn job_of(alloc: Global, words: &[&str]) -> Result<Job, Fail> {
@@ -110,12 +110,12 @@ fn all_options_of_a_picture(rt: HostRuntime) -> Result<(), Fail> {
         "1200",
         "--pens=2-4,9",
         "--band",
-        "4096",
+        "8",
         "--from",
         "99999",
     ];
     let job = job_of(rt.alloc(), &words)?;
-    assert_eq!(rt; numbers(&job), [64, 65536, 3, 4, 1200, 4096, 99999]);
+    assert_eq!(rt; numbers(&job), [64, 65536, 3, 4, 1200, 8, 99999]);
     for pen in 0..=255u8 {
         assert_eq!(rt; job.pens.has(pen), [2, 3, 4, 9].contains(&pen), "{pen}");
     }

@@ -1,12 +1,11 @@
 -- When a plot that was read whole has a picture of a job, and why not if it has none.
-use Rattle.std.proofs.Common.{◌≡◌, ◌<◌, ◌≤◌, ℕ, List, true, false, Option, Some, None, Result, Ok, Err, nat_lt, refl, ap, arith}
+use Rattle.std.proofs.Common.{◌≡◌, ℕ, List, Option, Some, None, Result, Ok, Err, refl, ap}
 use Rattle.std.specs.Result.{IsErrAnd}
 use Rattle.std.specs.Prelude.{option_map}
-use Rattle.std.proofs.lemmas.Bool.Decides.{nat_tests}
-use Rattle.plot_page.specs.Resolutions.{rows_of}
-use Rattle.stroke_raster.specs.BandHeights.{is_band_height}
 use Rattle.picture_job.specs.declared.job.Job.{Job}
-use Rattle.conversion.specs.Pictures.{Reach, fault_of, job_fault, plot_refusal, plot_strokes}
+use Rattle.conversion.specs.Drawings.{Rules}
+use Rattle.conversion.specs.Pictures.{Reach, refused_fault, job_fault}
+use Rattle.hpgl_plot.specs.declared.fault.PlotFault.{PlotFault}
 use Rattle.conversion.specs.Readings.{WasRead}
 use Rattle.conversion.specs.Conversions.{Converts}
 use Rattle.conversion.specs.Progress.{HasPainted}
@@ -14,33 +13,32 @@ use Rattle.devices.specs.Sinks.{SinkState}
 use Rattle.devices.specs.Sources.{SourceState}
 use Rattle.conversion.specs.declared.fault.Fault.{Fault}
 use Rattle.conversion.specs.declared.fault.Fault.TheVariants.{Memory, Paint, Plot, Read, Resolution, TooLong, Write}
-use Rattle.stroke_raster.specs.declared.painter.PaintFault.TheVariants.{Band, Row}
 
 -- of an accepted plot the job's fault is that of both
-pub job_faults : (job : Job) (plot : List ℕ) (fault : Option Fault) → plot_refusal job.page plot ≡ None → job_fault job ≡ fault → fault_of job plot ≡ fault
-job_faults job plot fault accepted is = rw accepted is
+pub job_faults : (job : Job) (refusal : Option PlotFault) (fault : Option Fault) → refusal ≡ None → job_fault job ≡ fault → refused_fault job refusal ≡ fault
+job_faults job refusal fault accepted is = rw accepted is
 
 -- a job that was not painted, of a plot that was read and accepted
-pub not_painted : (job : Job) (reaches : Reach) (input : List ℕ) (before after : SourceState) (sink sink' : SinkState) (fault : Fault) → WasRead input before after → plot_refusal job.page input ≡ None
-    → HasPainted job reaches (plot_strokes job.page input) sink sink' (Err fault) → Converts job reaches input before after sink sink' (Err fault)
-not_painted job reaches input before after sink sink' TooLong read accepted h = absurd h
-not_painted job reaches input before after sink sink' Memory read accepted h = read.sound
-not_painted job reaches input before after sink sink' (Plot refusal) read accepted h = absurd h
-not_painted job reaches input before after sink sink' (Paint refusal) read accepted h = record { read = read; refused = job_faults job input (Some (Paint refusal)) accepted h }
-not_painted job reaches input before after sink sink' (Write row whole bytes) read accepted h = record {
+pub not_painted : (rules : Rules) (job : Job) (reaches : Reach) (input : List ℕ) (before after : SourceState) (sink sink' : SinkState) (fault : Fault) → WasRead input before after → rules.refusal job.page input ≡ None
+    → HasPainted job reaches (rules.strokes job.page input) sink sink' (Err fault) → Converts rules job reaches input before after sink sink' (Err fault)
+not_painted rules job reaches input before after sink sink' TooLong read accepted h = absurd h
+not_painted rules job reaches input before after sink sink' Memory read accepted h = read.sound
+not_painted rules job reaches input before after sink sink' (Plot refusal) read accepted h = absurd h
+not_painted rules job reaches input before after sink sink' (Paint refusal) read accepted h = record { read = read; refused = job_faults job (rules.refusal job.page input) (Some (Paint refusal)) accepted h }
+not_painted rules job reaches input before after sink sink' (Write row whole bytes) read accepted h = record {
   read = read;
-  accepted = job_faults job input None accepted h.0;
+  accepted = job_faults job (rules.refusal job.page input) None accepted h.0;
   written = h.1.written;
   within = h.1.within;
   failed = h.1.failed;
   stopped = h.1.stopped;
 }
-not_painted job reaches input before after sink sink' Read read accepted h = absurd h
-not_painted job reaches input before after sink sink' Resolution read accepted h = absurd h
+not_painted rules job reaches input before after sink sink' Read read accepted h = absurd h
+not_painted rules job reaches input before after sink sink' Resolution read accepted h = absurd h
 
 -- the refusal of a plot comes before the fault of a job
-pub plot_fault : (job : Job) (plot : List ℕ) (fault : Fault) → option_map Plot (plot_refusal job.page plot) ≡ Some fault → fault_of job plot ≡ Some fault
-plot_fault job plot fault refused = rw refused refl
+pub plot_fault : (job : Job) (refusal : Option PlotFault) (fault : Fault) → option_map Plot refusal ≡ Some fault → refused_fault job refusal ≡ Some fault
+plot_fault job refusal fault refused = rw refused refl
 
 -- the fault that a `?` passes on
 pub passed_on : {T E : Type 0} (r : Result T E) (fault : E) → IsErrAnd r (λ e. e ≡ fault) → r ≡ Err fault

@@ -14,6 +14,10 @@ abbrev pub boxes_from : PenSet → List Segment → Page → Dots → ℕ → �
 boxes_from pens strokes page dots first =
     boxes (λ s. in_box s page dots) (selected pens strokes) first (rows_of page dots - first) (columns_of page dots)
 
--- how many pixels the boxes of a job's strokes have, together: no more tests are made
+-- how many pixels the boxes of strokes have, together, in the rows of a job: no more tests are made
+abbrev pub strokes_boxes : Job → List Segment → ℕ
+strokes_boxes job strokes = boxes_from job.pens strokes job.page job.dots job.first_row
+
+-- those of a plot's strokes
 abbrev pub job_boxes : Job → List ℕ → ℕ
-job_boxes job plot = boxes_from job.pens (plot_strokes job.page plot) job.page job.dots job.first_row
+job_boxes job plot = strokes_boxes job (plot_strokes job.page plot)

@@ -5,64 +5,71 @@ use Rattle.std.specs.Io.KnownBytes.{Consumes, Appends}
 use Rattle.plot_page.specs.Resolutions.{rows_of}
 use Rattle.picture_job.specs.declared.job.Job.{Job}
 use Rattle.conversion.specs.Stops.{IsStoppedAt}
-use Rattle.conversion.specs.Pictures.{plot_strokes, Reach, head_of, fault_of, job_row, picture}
-use Rattle.conversion.specs.Drawings.{notes_count}
+use Rattle.conversion.specs.Pictures.{Reach, head_of, refused_fault, strokes_row, strokes_picture}
+use Rattle.conversion.specs.Drawings.{Rules, core_rules}
 use Rattle.conversion.specs.Readings.{WasRead, WasTooLong}
 use Rattle.devices.specs.Sinks.{SinkState}
 use Rattle.devices.specs.Sources.{SourceState}
 use Rattle.conversion.specs.declared.done.Done.{Done}
 use Rattle.conversion.specs.declared.fault.Fault.{Fault}
 use Rattle.conversion.specs.declared.fault.Fault.TheVariants.{TooLong, Memory, Write, Read, Resolution}
-use Rattle.conversion.specs.Boxes.{job_boxes}
+use Rattle.conversion.specs.Boxes.{strokes_boxes}
 
 -- the whole picture was written
-pub record IsWritten (job : Job) (reaches : Reach) (input : List ℕ) (before after : SourceState)
+pub record IsWritten (rules : Rules) (job : Job) (reaches : Reach) (input : List ℕ) (before after : SourceState)
     (sink sink' : SinkState) (done : Done) : Type 0 where
   pub read : WasRead input before after
-  pub accepted : fault_of job input ≡ None
-  pub written : Appends sink.held sink'.held (picture job reaches input)
+  pub accepted : refused_fault job (rules.refusal job.page input) ≡ None
+  pub written : Appends sink.held sink'.held (strokes_picture job reaches (rules.strokes job.page input))
   pub sound : sink'.faults ≡ sink.faults
   pub rows : done.rows ≡ rows_of job.page job.dots - job.first_row
-  pub bytes : done.bytes ≡ length (picture job reaches input)
-  pub strokes_count : done.strokes ≡ length (plot_strokes job.page input)
-  pub notes : done.notes ≡ notes_count input
+  pub bytes : done.bytes ≡ length (strokes_picture job reaches (rules.strokes job.page input))
+  pub strokes_count : done.strokes ≡ length (rules.strokes job.page input)
+  pub notes : done.notes ≡ rules.notes input
 
 -- the sink failed after the first bytes of the picture, in a row that begins after the bytes `whole`
-pub record IsCutShort (job : Job) (reaches : Reach) (input : List ℕ) (before after : SourceState)
+pub record IsCutShort (rules : Rules) (job : Job) (reaches : Reach) (input : List ℕ) (before after : SourceState)
     (sink sink' : SinkState) (row whole bytes : ℕ) : Type 0 where
   pub read : WasRead input before after
-  pub accepted : fault_of job input ≡ None
-  pub written : Appends sink.held sink'.held (take bytes (picture job reaches input))
-  pub within : bytes < length (picture job reaches input)
+  pub accepted : refused_fault job (rules.refusal job.page input) ≡ None
+  pub written : Appends sink.held sink'.held (take bytes (strokes_picture job reaches (rules.strokes job.page input)))
+  pub within : bytes < length (strokes_picture job reaches (rules.strokes job.page input))
   pub failed : sink'.faults ≡ sink.faults + 1
-  pub stopped : IsStoppedAt (head_of job.form job.page job.dots) (job_row job reaches input)
-      (rows_of job.page job.dots) job.first_row bytes row whole
+  pub stopped : IsStoppedAt (head_of job.form job.page job.dots)
+      (strokes_row job reaches (rules.strokes job.page input)) (rows_of job.page job.dots) job.first_row bytes row whole
 
 -- the plot was read whole, and this is why it has no picture of the job
-pub record IsRefused (job : Job) (input : List ℕ) (before after : SourceState) (fault : Fault) : Type 0 where
+pub record IsRefused (rules : Rules) (job : Job) (input : List ℕ) (before after : SourceState)
+    (fault : Fault) : Type 0 where
   pub read : WasRead input before after
-  pub refused : fault_of job input ≡ Some fault
+  pub refused : refused_fault job (rules.refusal job.page input) ≡ Some fault
 
 -- what each answer says. The conditions of two answers exclude one another, so each comes exactly if its own hold; want
 -- of memory says only that the source did not fail
-abbrev pub Converts : Job → Reach → List ℕ → SourceState → SourceState → SinkState → SinkState → Result Done Fault →
-    Type 0
-Converts job reaches input before after sink sink' (Ok done) = IsWritten job reaches input before after sink sink' done
-Converts job reaches input before after sink sink' (Err Resolution) = after ≡ before
-Converts job reaches input before after sink sink' (Err Read) = after.faults ≡ before.faults + 1
-Converts job reaches input before after sink sink' (Err TooLong) = WasTooLong input before after
-Converts job reaches input before after sink sink' (Err Memory) = after.faults ≡ before.faults
-Converts job reaches input before after sink sink' (Err (Write row whole bytes)) =
-    IsCutShort job reaches input before after sink sink' row whole bytes
-Converts job reaches input before after sink sink' (Err fault) = IsRefused job input before after fault
+abbrev pub Converts : Rules → Job → Reach → List ℕ → SourceState → SourceState → SinkState → SinkState →
+    Result Done Fault → Type 0
+Converts rules job reaches input before after sink sink' (Ok done) =
+    IsWritten rules job reaches input before after sink sink' done
+Converts rules job reaches input before after sink sink' (Err Resolution) = after ≡ before
+Converts rules job reaches input before after sink sink' (Err Read) = after.faults ≡ before.faults + 1
+Converts rules job reaches input before after sink sink' (Err TooLong) = WasTooLong input before after
+Converts rules job reaches input before after sink sink' (Err Memory) = after.faults ≡ before.faults
+Converts rules job reaches input before after sink sink' (Err (Write row whole bytes)) =
+    IsCutShort rules job reaches input before after sink sink' row whole bytes
+Converts rules job reaches input before after sink sink' (Err fault) = IsRefused rules job input before after fault
 
--- a conversion: what it took from the source, its answer, and how many tests the gauge made
-pub record HasConverted (job : Job) (reaches : Reach) (before after : SourceState) (sink sink' : SinkState)
-    (tests tests' : ℕ) (answer : Result Done Fault) : Type 0 where
+-- a conversion by these rules: what it took from the source, its answer, and how many tests the gauge made
+pub record HasConvertedBy (rules : Rules) (job : Job) (reaches : Reach) (before after : SourceState)
+    (sink sink' : SinkState) (tests tests' : ℕ) (answer : Result Done Fault) : Type 0 where
   pub input : List ℕ
   pub taken : Consumes before.left after.left input
-  pub converts : Converts job reaches input before after sink sink' answer
-  pub tested : tests' ≤ tests + job_boxes job input
+  pub converts : Converts rules job reaches input before after sink sink' answer
+  pub tested : tests' ≤ tests + strokes_boxes job (rules.strokes job.page input)
+
+-- a conversion of what draw_plot draws
+abbrev pub HasConverted : Job → Reach → SourceState → SourceState → SinkState → SinkState → ℕ → ℕ → Result Done Fault →
+    Type 0
+HasConverted = HasConvertedBy core_rules
 
 -- the sink failed
 abbrev pub is_write : Fault → Bool

@@ -1,7 +1,10 @@
--- What reading a plot and drawing it on a page answers.
-use Rattle.std.specs.Prelude.{◌≡◌, ℕ, ◌+◌, ◌≤◌, List, length, Result, Ok, Err, None, Some, option_map}
+-- How plots are drawn, and what reading a plot and drawing it on a page answers.
+use Rattle.std.specs.Prelude.{◌≡◌, ℕ, ◌+◌, ◌≤◌, List, length, Result, Ok, Err, Option, None, Some, option_map, ⊤}
 use Rattle.std.specs.Io.KnownBytes.{Consumes}
 use Rattle.hpgl_plot.specs.declared.drawn.Drawn.{Drawn}
+use Rattle.hpgl_plot.specs.declared.fault.PlotFault.{PlotFault}
+use Rattle.hpgl_plot.specs.declared.fault.PlotFault.TheVariants as plot
+use Rattle.plot_page.specs.Segments.{Segment}
 use Rattle.plot_page.specs.declared.page.Page.{Page}
 use Rattle.plot_page.specs.declared.stroke.TheConstants.{MOST_STROKES}
 use Rattle.conversion.specs.Pictures.{plot_strokes, plot_refusal}
@@ -16,29 +19,48 @@ use Rattle.hpgl_text.specs.Cut.{cut}
 abbrev pub notes_count : List ℕ → ℕ
 notes_count plot = length (noting.notes (cut plot))
 
+-- how plots are drawn: the strokes of a plot that is accepted for a page, the first refusal, or None if it is accepted,
+-- and how many notes there are on it
+pub record Rules : Type 0 where
+  pub strokes : Page → List ℕ → List Segment
+  pub refusal : Page → List ℕ → Option PlotFault
+  pub notes : List ℕ → ℕ
+
+-- the rules by which draw_plot draws
+abbrev pub core_rules : Rules
+core_rules = record { strokes = plot_strokes; refusal = plot_refusal; notes = notes_count }
+
+-- memory aside, the fault is the plot's refusal
+abbrev pub IsReason : PlotFault → Option PlotFault → Type 0
+IsReason plot.Memory refusal = ⊤
+IsReason fault refusal = refusal ≡ Some fault
+
 -- the plot was read whole and is accepted for the page; these are its strokes, and how many notes there are on it
-pub record IsDrawn (page : Page) (input : List ℕ) (before after : SourceState) (lines : Drawn) : Type 0 where
+pub record IsDrawn (rules : Rules) (page : Page) (input : List ℕ) (before after : SourceState)
+    (lines : Drawn) : Type 0 where
   pub read : WasRead input before after
-  pub accepted : plot_refusal page input ≡ None
-  pub strokes_are : lines.strokes.items ≡ plot_strokes page input
-  pub notes_are : lines.notes ≡ notes_count input
+  pub accepted : rules.refusal page input ≡ None
+  pub strokes_are : lines.strokes.items ≡ rules.strokes page input
+  pub notes_are : lines.notes ≡ rules.notes input
   pub few : length lines.strokes.items ≤ MOST_STROKES
 
 -- the plot was read whole and is refused for the page
-pub record IsNotDrawn (page : Page) (input : List ℕ) (before after : SourceState) (fault : Fault) : Type 0 where
+pub record IsNotDrawn (rules : Rules) (page : Page) (input : List ℕ) (before after : SourceState)
+    (fault : Fault) : Type 0 where
   pub read : WasRead input before after
-  pub refused : option_map Plot (plot_refusal page input) ≡ Some fault
+  pub refused : option_map Plot (rules.refusal page input) ≡ Some fault
 
 -- what each answer says of what was read; want of memory says only that the source did not fail
-abbrev pub Draws : Page → List ℕ → SourceState → SourceState → Result Drawn Fault → Type 0
-Draws page input before after (Ok lines) = IsDrawn page input before after lines
-Draws page input before after (Err TooLong) = WasTooLong input before after
-Draws page input before after (Err Read) = after.faults ≡ before.faults + 1
-Draws page input before after (Err Memory) = after.faults ≡ before.faults
-Draws page input before after (Err fault) = IsNotDrawn page input before after fault
+abbrev pub Draws : Rules → Page → List ℕ → SourceState → SourceState → Result Drawn Fault → Type 0
+Draws rules page input before after (Ok lines) = IsDrawn rules page input before after lines
+Draws rules page input before after (Err TooLong) = WasTooLong input before after
+Draws rules page input before after (Err Read) = after.faults ≡ before.faults + 1
+Draws rules page input before after (Err Memory) = after.faults ≡ before.faults
+Draws rules page input before after (Err fault) = IsNotDrawn rules page input before after fault
 
 -- a drawing: what it took from the source, and its answer
-pub record HasDrawn (page : Page) (before after : SourceState) (answer : Result Drawn Fault) : Type 0 where
+pub record HasDrawn (rules : Rules) (page : Page) (before after : SourceState)
+    (answer : Result Drawn Fault) : Type 0 where
   pub input : List ℕ
   pub taken : Consumes before.left after.left input
-  pub draws : Draws page input before after answer
+  pub draws : Draws rules page input before after answer

@@ -65,15 +65,19 @@ head_of form page dots = head_bytes form dots.resolution (columns_of page dots) 
 abbrev pub exact : Reach
 exact s page dots row column = covers s page dots row column
 
--- the rows of a job's picture, by what a gauge reaches
-abbrev pub job_row : Job → Reach → List ℕ → ℕ → List ℕ
-job_row job reaches plot row = row_of job.form reaches job.pens (plot_strokes job.page plot) job.page job.dots row
+-- the rows of the picture of a job and strokes, by what a gauge reaches
+abbrev pub strokes_row : Job → Reach → List Segment → ℕ → List ℕ
+strokes_row job reaches strokes row = row_of job.form reaches job.pens strokes job.page job.dots row
 
--- the picture of a job and a plot: the head if it begins with row 0, the rows from its first row on, the foot
-abbrev pub picture : Job → Reach → List ℕ → List ℕ
-picture job reaches plot =
-    picture_of (head_of job.form job.page job.dots) (job_row job reaches plot) (foot_bytes job.form)
+-- the picture of a job and strokes: the head if it begins with row 0, the rows from its first row on, the foot
+abbrev pub strokes_picture : Job → Reach → List Segment → List ℕ
+strokes_picture job reaches strokes =
+    picture_of (head_of job.form job.page job.dots) (strokes_row job reaches strokes) (foot_bytes job.form)
     (rows_of job.page job.dots) job.first_row
+
+-- that of a plot
+abbrev pub picture : Job → Reach → List ℕ → List ℕ
+picture job reaches plot = strokes_picture job reaches (plot_strokes job.page plot)
 
 -- the job's form has its resolution; if not, nothing is read
 abbrev pub has_resolution : Job → Bool
@@ -91,10 +95,13 @@ abbrev pub first_fault : Option Fault → Option Fault → Option Fault
 first_fault (Some fault) later = Some fault
 first_fault None later = later
 
--- why a plot that was read whole has no picture of a job, or None if it has one: the plot's refusal for the page, and
--- then the job's fault
+-- the first of a plot's refusal for the page and the job's fault, if there is one
+abbrev pub refused_fault : Job → Option PlotFault → Option Fault
+refused_fault job refusal = first_fault (option_map Plot refusal) (job_fault job)
+
+-- why a plot that was read whole has no picture of a job, or None if it has one
 abbrev pub fault_of : Job → List ℕ → Option Fault
-fault_of job plot = first_fault (option_map Plot (plot_refusal job.page plot)) (job_fault job)
+fault_of job plot = refused_fault job (plot_refusal job.page plot)
 
 -- a plot has a picture of a job: it is not too long, and nothing refuses it
 pub record HasPicture (job : Job) (plot : List ℕ) : Type 0 where

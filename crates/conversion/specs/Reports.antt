@@ -6,7 +6,7 @@ use Rattle.hpgl_plot.specs.Notes.{notes}
 use Rattle.plot_page.specs.declared.page.Page.{Page}
 use Rattle.plot_report.specs.Report.{report_of}
 use Rattle.devices.specs.Sinks.{SinkState}
-use Rattle.conversion.specs.Drawings.{IsNotDrawn, notes_count}
+use Rattle.conversion.specs.Drawings.{IsNotDrawn, core_rules, notes_count}
 use Rattle.conversion.specs.Pictures.{plot_strokes, plot_refusal}
 use Rattle.conversion.specs.Readings.{WasRead, WasTooLong}
 use Rattle.devices.specs.Sources.{SourceState}
@@ -50,7 +50,7 @@ Reports page input before after sink sink' (Err TooLong) = WasTooLong input befo
 Reports page input before after sink sink' (Err Memory) = after.faults ≡ before.faults
 Reports page input before after sink sink' (Err (Write row whole bytes)) =
     IsReportCutShort page input before after sink sink' row whole bytes
-Reports page input before after sink sink' (Err fault) = IsNotDrawn page input before after fault
+Reports page input before after sink sink' (Err fault) = IsNotDrawn core_rules page input before after fault
 
 -- a report: what it took from the source, and its answer
 pub record HasReported (page : Page) (before after : SourceState) (sink sink' : SinkState)

@@ -94,3 +94,14 @@ pub trait Bands<'a>: Sized {
         ensures most { G.count gauge.new ≤ G.count gauge.old
             + boxed_pixels (painting self.old) (painting self.old).next (rows_next (painting self.old)) };
 }
+
+/// The height of bands whose rows have `size` bytes each: as many rows as lie in `room` bytes, at least one and at most
+/// `most`. A height out of range stays as it is, so that it is refused.
+pub fn height_within(most: u32, size: u32, room: u32) -> u32
+    ensures { is_band_height result ≡ is_band_height most }
+{
+    if most < 1 || most > 4096 {
+        return most;
+    }
+    (room / size.max(1)).max(1).min(most)
+}

@@ -5,7 +5,7 @@ ghost use Rattle.picture_out.specs.declared.inks.Ink.{Ink};
 ghost use Rattle.bit_rows.specs.Bits.{packed};
 ghost use Rattle.conversion.specs.Progress.{rows_text, WritesRows};
 
-use crate::bands::Bands;
+use crate::bands::{Bands, height_within};
 use crate::writing::{Broken, whole_before};
 use bit_rows::packed_length;
 use devices::{Sink, put_all};
@@ -13,6 +13,9 @@ use picture_out::{Form, Inks};
 use plot_page::{Dots, Page, PenSet, Stroke};
 use std::alloc::Global;
 use stroke_raster::{Gauge, Inker, PaintFault};
+
+// The most bytes of a band of more than one row, which fit the processor's second cache.
+const ROOM: u32 = 262_144;
 
 impl<'a> Bands<'a> for Inker<'a> {
     ghost painting = { λ p. p };
@@ -28,7 +31,9 @@ impl<'a> Bands<'a> for Inker<'a> {
         band_rows: u32,
         first_row: u32,
     ) -> Result<Inker<'a>, PaintFault> {
-        Inker::new(alloc, strokes, page, dots, pens, band_rows, first_row)
+        let size = packed_length(dots.columns(&page) as usize) as u32;
+        let height = height_within(band_rows, size, ROOM);
+        Inker::new(alloc, strokes, page, dots, pens, height, first_row)
     }
 
     fn next_row(&self) -> u32 {

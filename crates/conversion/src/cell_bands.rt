@@ -5,13 +5,16 @@ ghost use Rattle.stroke_raster.specs.Bands.{first_of, rows_of_band};
 ghost use Rattle.picture_out.specs.Rooms.{room_of};
 ghost use Rattle.conversion.specs.Progress.{WritesRows};
 
-use crate::bands::Bands;
+use crate::bands::{Bands, height_within};
 use crate::writing::{Broken, whole_before};
 use devices::Sink;
 use picture_out::{Cells, Form, Inks, put_row};
 use plot_page::{Dots, Page, PenSet, Stroke};
 use std::alloc::Global;
 use stroke_raster::{Band, Gauge, PaintFault, Painter};
+
+// The most bytes of a band of more than one row, which fit the processor's second cache.
+const ROOM: u32 = 524_288;
 
 impl<'a> Bands<'a> for Painter<'a> {
     ghost painting = { λ p. p };
@@ -27,7 +30,8 @@ impl<'a> Bands<'a> for Painter<'a> {
         band_rows: u32,
         first_row: u32,
     ) -> Result<Painter<'a>, PaintFault> {
-        Painter::new(alloc, strokes, page, dots, pens, band_rows, first_row)
+        let height = height_within(band_rows, 4 * dots.columns(&page), ROOM);
+        Painter::new(alloc, strokes, page, dots, pens, height, first_row)
     }
 
     fn next_row(&self) -> u32 {

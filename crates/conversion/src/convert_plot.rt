@@ -1,11 +1,11 @@
 //! The conversion: read, cut, draw, paint, write.
 ghost use Rattle.std.specs.Prelude.{◌≡◌, ℕ, ◌+◌, ◌-◌, ◌^◌, ◌<◌, ◌↔◌, Err, IfErr, false};
 ghost use Rattle.std.specs.Io.KnownBytes.{IsAtEnd};
-ghost use Rattle.conversion.specs.Conversions.{HasConverted, is_write};
+ghost use Rattle.conversion.specs.Conversions.{HasConverted, HasConvertedBy, is_write};
 ghost use Rattle.conversion.specs.Pictures.{has_resolution};
 
 use crate::done::Done;
-use crate::drawing::draw_source;
+use crate::drawing::{CoreDrawing, Drawing, draw_source};
 use crate::fault::Fault;
 use crate::painting::paint;
 use devices::{Sink, Source};
@@ -43,10 +43,36 @@ pub fn convert<G: Gauge, S: Source, K: Sink>(
     ensures same { G.reaches gauge.new ≡ G.reaches gauge.old }
     ensures untouched { IfErr result (λ fault. is_write fault ≡ false → sink.new ≡ sink.old) }
 {
+    convert_drawing(alloc, &CoreDrawing, job, gauge, source, sink)
+}
+
+/// Writes the picture of what `drawing` draws of the plot that the source gives, as `convert` does
+/// with what `draw_plot` draws of it.
+///
+/// Errors: those of `convert`, in the same order.
+pub fn convert_drawing<D: Drawing, G: Gauge, S: Source, K: Sink>(
+    alloc: Global,
+    drawing: &D,
+    job: &Job,
+    gauge: &mut G,
+    source: &mut S,
+    sink: &mut K,
+) -> Result<Done, Fault>
+    requires failing { (S.state source.old).faults < 2 ^ 64 - 1 }
+    requires ending { (S.state source.old).ends < 2 ^ 64 - 1 }
+    requires sinking { (K.state sink.old).faults < 2 ^ 64 - 1 }
+    ensures resolution { (result ≡ Err Fault.Resolution) ↔ (has_resolution job.now ≡ false) }
+    ensures converts { HasConvertedBy (D.rules drawing.now) job.now (G.reaches gauge.old)
+        (S.state source.old) (S.state source.new) (K.state sink.old) (K.state sink.new)
+        (G.count gauge.old) (G.count gauge.new) result }
+    ensures end { (S.state source.new).ends ≡ (S.state source.old).ends + 1 → IsAtEnd (S.state source.new).left }
+    ensures same { G.reaches gauge.new ≡ G.reaches gauge.old }
+    ensures untouched { IfErr result (λ fault. is_write fault ≡ false → sink.new ≡ sink.old) }
+{
     if !takes_resolution(job.form, job.dots.per_inch()) {
         return Err(Fault::Resolution);
     }
-    let lines = draw_source(alloc, &job.page, source)?;
+    let lines = draw_source(alloc, drawing, &job.page, source)?;
     let strokes = lines.strokes.as_slice();
     let bytes = match paint(alloc, job, strokes, gauge, sink) {
         Ok(bytes) => bytes,

@@ -8,6 +8,8 @@ mod colours;
 #[cfg(test)]
 mod cut_off;
 #[cfg(test)]
+mod drawings;
+#[cfg(test)]
 mod faults;
 #[cfg(test)]
 mod fine;
