@@ -27,6 +27,7 @@ PYTEST = PYTHONDONTWRITEBYTECODE=1 /usr/bin/python3 -m pytest -q -p no:cacheprov
 SOURCE_TESTS = tests/test_style.py tests/test_quotations.py $(wildcard tests/test_full_*.py)
 
 build:
+	@test -x $(PROGRAM) || tools/prove plotraster_program
 	cd crates/plotraster_program && rt run -- --help > /dev/null
 	@mkdir -p build
 	@cp $(PROGRAM) build/plotraster
