@@ -1,0 +1,41 @@
+//! The sheets of a plot, which count from 1.
+ghost use Rattle.std.specs.Prelude.{◌≡◌, drop, slice_index_or};
+ghost use Rattle.full_plot.specs.Drawings.{sheet_strokes};
+
+use plot_page::Stroke;
+
+/// Keeps the strokes of a sheet alone, in their order; for 0 it keeps those of all sheets. `ends`
+/// tells how many strokes there were when each sheet ended.
+pub fn keep_sheet(strokes: &mut Vec<Stroke>, ends: &[usize], sheet: u32)
+    ensures { strokes.new.items ≡ sheet_strokes strokes.old.items ends.now sheet }
+{
+    if sheet == 0 {
+        return;
+    }
+    let count = strokes.len();
+    let before = sheet as usize - 1;
+    strokes.truncate(end_of(ends, before, count));
+    if before > 0 {
+        drop_front(strokes, end_of(ends, before - 1, count));
+    }
+}
+
+// How many strokes there were when the sheet with so many sheets before it ended: all, if it ended with the plot.
+fn end_of(ends: &[usize], before: usize, count: usize) -> usize
+    ensures { result ≡ slice_index_or ends.now before count }
+{
+    match ends.get(before) {
+        Some(end) => *end,
+        None => count,
+    }
+}
+
+// Removes the first `front` strokes, or all if there are fewer.
+fn drop_front(strokes: &mut Vec<Stroke>, front: usize)
+    ensures { strokes.new.items ≡ drop front strokes.old.items }
+{
+    let count = strokes.len();
+    let front = front.min(count);
+    strokes.copy_within(front..count, 0);
+    strokes.truncate(count - front);
+}
