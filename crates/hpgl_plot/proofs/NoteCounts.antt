@@ -1,11 +1,11 @@
--- A plot has at most as many notes as bytes.
+-- A plot has at most as many notes as bytes, in either profile and whatever is noted on its items at their first bytes.
 use Rattle.std.proofs.Common.{◌≡◌, ℕ, ℤ, zero, suc, ◌+◌, ◌-◌, ◌<◌, ◌≤◌, Bool, true, false, ◌&&◌, ◌||◌, ◌==◌, nat_lt, if◌then◌else◌, List, [], ◌∷◌, ◌++◌, length, take, drop, Option, Some, None, refl, arith, ap, length-append, length-drop}
-use Rattle.std.specs.List.{flat_map}
+use Rattle.std.specs.List.{flat_map, slice_index}
 use Rattle.std.specs.Char.{is_ascii_alphabetic}
 use Rattle.std.proofs.lemmas.Bool.Decides.{nat_tests}
 use Rattle.std.proofs.lemmas.List.{length-take}
 use Rattle.hpgl_text.specs.Bytes.{byte, end_of_text, escape}
-use Rattle.hpgl_text.specs.Cut.{items_from, item_at, next_place, silent_at, terminator_after}
+use Rattle.hpgl_text.specs.Cut.{cut_by, items_from, item_at, next_place, silent_at, terminator_after}
 use Rattle.hpgl_text.specs.Bytes.{place_of, has_byte}
 use Rattle.hpgl_text.specs.EntryShapes.{EntryShape}
 use Rattle.hpgl_text.specs.Items.{Content, content, content_of, named_terminator, one_byte_length, parameters, polyline, code_of, first_item, begins_with_mnemonic}
@@ -19,7 +19,8 @@ use Rattle.hpgl_text.specs.declared.profile.Profile.{Profile}
 use Rattle.hpgl_text.specs.declared.profile.Profile.TheVariants.{Core}
 use Rattle.hpgl_text.proofs.EntryCounts.{entries_few}
 use Rattle.hpgl_plot.specs.Laws.{NotesAreFew}
-use Rattle.hpgl_plot.specs.Notes.{item_noted, open_noted, note_at, part_noted, entry_note, entries_in, notes_of, notes}
+use Rattle.hpgl_plot.specs.declared.note.Note.{Note}
+use Rattle.hpgl_plot.specs.Notes.{body_noted, open_noted, note_at, part_noted, entry_note, entries_in, notes_with}
 use Rattle.hpgl_plot.specs.declared.note.NoteKind.{NoteKind}
 
 -- a place has at most one note of a kind
@@ -31,13 +32,20 @@ each_once : (code : List ℕ) (es : List EntryShape) → length (flat_map (entry
 each_once code [] = omega arith
 each_once code (e ∷ es) = omega (arith, length-append (entry_note code e) (flat_map (entry_note code) es), one_at code e.at (part_noted e.what), each_once code es)
 
+-- what is noted on an item at its first byte, by its body
+abbrev Noting : Type 0
+Noting = BodyShape → Option NoteKind
+
+abbrev pub notes_by : Noting → ItemShape → List Note
+notes_by noted item = notes_with (noted item.body) item
+
 -- on an item there are at most two notes of its own, besides those within a PE
-few_on : (item : ItemShape) → length (notes_of item) ≤ 2 + length (entries_in item.body)
-few_on item =
-    let own = note_at item.code item.at (item_noted item) in
+few_on : (noted : Noting) (item : ItemShape) → length (notes_by noted item) ≤ 2 + length (entries_in item.body)
+few_on noted item =
+    let own = note_at item.code item.at (noted item.body) in
     let within = flat_map (entry_note item.code) (entries_in item.body) in
     let ending = note_at item.code item.at (open_noted item.unended) in
-    omega (arith, length-append own (within ++ ending), length-append within ending, one_at item.code item.at (item_noted item), each_once item.code (entries_in item.body), one_at item.code item.at (open_noted item.unended))
+    omega (arith, length-append own (within ++ ending), length-append within ending, one_at item.code item.at (noted item.body), each_once item.code (entries_in item.body), one_at item.code item.at (open_noted item.unended))
 
 -- a body that is chosen from two without entries has none
 none_in_either : (b : Bool) (x y : BodyShape) → entries_in x ≡ [] → entries_in y ≡ [] → entries_in (if b then x else y) ≡ []
@@ -93,48 +101,65 @@ two_bytes (b ∷ []) e = absurd (not_both (is_ascii_alphabetic b) e)
 two_bytes (b ∷ c ∷ text) e = omega arith
 
 -- an item has no more notes than bytes
-record IsFew (item : ItemShape) (bytes : ℕ) (text : List ℕ) : Type 0 where
-  in_item : length (notes_of item) ≤ bytes
-  in_text : length (notes_of item) ≤ length text
+record IsFew (noted : Noting) (item : ItemShape) (bytes : ℕ) (text : List ℕ) : Type 0 where
+  in_item : length (notes_by noted item) ≤ bytes
+  in_text : length (notes_by noted item) ≤ length text
 
-few_by : (mnemonic : Bool) (profile : Profile) (terminator at : ℕ) (text : List ℕ) → begins_with_mnemonic text ≡ mnemonic → 0 < length text → IsFew (first_item profile terminator at text).item (first_item profile terminator at text).bytes text
-few_by true profile terminator at text e h =
+-- a stray has one note at most
+few_on_stray : (noted : Noting) (item : ItemShape) → entries_in item.body ≡ [] → item.unended ≡ false → length (notes_by noted item) ≤ 1
+few_on_stray noted item none ended =
+    let own = note_at item.code item.at (noted item.body) in
+    rw (none, ended) (omega (arith, length-append own [], one_at item.code item.at (noted item.body)))
+
+one_is_few : (n bytes : ℕ) → n ≤ 1 → 0 < bytes → n ≤ bytes
+one_is_few n bytes h k = omega arith
+
+few_by : (noted : Noting) (mnemonic : Bool) (profile : Profile) (terminator at : ℕ) (text : List ℕ) → begins_with_mnemonic text ≡ mnemonic → 0 < length text
+    → IsFew noted (first_item profile terminator at text).item (first_item profile terminator at text).bytes text
+few_by noted true profile terminator at text e h =
     let fits = content_fits (kind_of profile (code_of text)) terminator (at + 2) (drop 2 text) in
     let two = two_bytes text e in
     let content = content_of (kind_of profile (code_of text)) terminator (at + 2) (drop 2 text) in
     let item : ItemShape = record { at = at; code = code_of text; body = content.body; unended = content.unended } in
     rw (e, first_item) (record {
-      in_item = omega (arith, few_on item, fits.in_content);
-      in_text = omega (arith, few_on item, fits.in_text, two, length-drop 2 text);
+      in_item = omega (arith, few_on noted item, fits.in_content);
+      in_text = omega (arith, few_on noted item, fits.in_text, two, length-drop 2 text);
     })
-few_by false profile terminator at text e h = rw (e, first_item) (record { in_item = omega arith; in_text = omega (arith, h) })
+few_by noted false profile terminator at text e h =
+    let item : ItemShape = record { at = at; code = 0 ∷ 0 ∷ []; body = Stray (slice_index text 0); unended = false } in
+    let few : length (notes_by noted item) ≤ 1 = few_on_stray noted item refl refl in
+    rw (e, first_item) (record { in_item = few; in_text = one_is_few _ _ few h })
 
-few_at : (profile : Profile) (terminator at : ℕ) (text : List ℕ) → 0 < length text → IsFew (first_item profile terminator at text).item (first_item profile terminator at text).bytes text
-few_at profile terminator at text h = few_by (begins_with_mnemonic text) profile terminator at text refl h
+few_at : (noted : Noting) (profile : Profile) (terminator at : ℕ) (text : List ℕ) → 0 < length text
+    → IsFew noted (first_item profile terminator at text).item (first_item profile terminator at text).bytes text
+few_at noted profile terminator at text h = few_by noted (begins_with_mnemonic text) profile terminator at text refl h
 
-abbrev FewNext : Profile → ℕ → Type 0
-FewNext profile n = (plot : List ℕ) (before : List ItemShape) (at : ℕ) → length (notes (items_from profile n plot before at)) ≤ length plot - at
+abbrev FewNext : Noting → Profile → ℕ → Type 0
+FewNext noted profile n = (plot : List ℕ) (before : List ItemShape) (at : ℕ) → length (flat_map (notes_by noted) (items_from profile n plot before at)) ≤ length plot - at
 
-few_step : (more silent : Bool) (profile : Profile) (n : ℕ) → FewNext profile n → (plot : List ℕ) (before : List ItemShape) (at : ℕ) → nat_lt at (length plot) ≡ more
-    → length (notes (elim more [
+few_step : (noted : Noting) (more silent : Bool) (profile : Profile) (n : ℕ) → FewNext noted profile n → (plot : List ℕ) (before : List ItemShape) (at : ℕ) → nat_lt at (length plot) ≡ more
+    → length (flat_map (notes_by noted) (elim more [
       | false ↦ []
       | true ↦ elim silent [
         | true ↦ items_from profile n plot before (at + silent_at plot at)
         | false ↦ item_at profile plot before at ∷ items_from profile n plot (before ++ item_at profile plot before at ∷ []) (next_place profile plot before at)
       ]
     ])) ≤ length plot - at
-few_step false silent profile n next plot before at e = omega arith
-few_step true true profile n next plot before at e = omega (arith, next plot before (at + silent_at plot at))
-few_step true false profile n next plot before at e =
+few_step noted false silent profile n next plot before at e = omega arith
+few_step noted true true profile n next plot before at e = omega (arith, next plot before (at + silent_at plot at))
+few_step noted true false profile n next plot before at e =
     let inside : at < length plot = grind (arith, nat_tests, e) in
-    let few = few_at profile (terminator_after before) at (drop at plot) (omega (arith, inside, length-drop at plot)) in
+    let few = few_at noted profile (terminator_after before) at (drop at plot) (omega (arith, inside, length-drop at plot)) in
     let item = item_at profile plot before at in
     let rest = items_from profile n plot (before ++ item ∷ []) (next_place profile plot before at) in
-    omega (arith, length-append (notes_of item) (notes rest), few.in_item, few.in_text, length-drop at plot, next plot (before ++ item ∷ []) (next_place profile plot before at))
+    omega (arith, length-append (notes_by noted item) (flat_map (notes_by noted) rest), few.in_item, few.in_text, length-drop at plot, next plot (before ++ item ∷ []) (next_place profile plot before at))
 
-few_from : (profile : Profile) (n : ℕ) → FewNext profile n
-few_from profile zero plot before at = omega arith
-few_from profile (suc n) plot before at = few_step (nat_lt at (length plot)) (nat_lt 0 (silent_at plot at)) profile n (few_from profile n) plot before at refl
+few_from : (noted : Noting) (profile : Profile) (n : ℕ) → FewNext noted profile n
+few_from noted profile zero plot before at = omega arith
+few_from noted profile (suc n) plot before at = few_step noted (nat_lt at (length plot)) (nat_lt 0 (silent_at plot at)) profile n (few_from noted profile n) plot before at refl
+
+pub few_in_profile : (noted : Noting) (profile : Profile) (plot : List ℕ) → length (flat_map (notes_by noted) (cut_by profile plot)) ≤ length plot
+few_in_profile noted profile plot = omega (arith, few_from noted profile (length plot) plot [] 0)
 
 pub notes_few : NotesAreFew
-notes_few plot = omega (arith, few_from Core (length plot) plot [] 0)
+notes_few plot = few_in_profile body_noted Core plot

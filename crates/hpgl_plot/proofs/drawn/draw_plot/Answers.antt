@@ -1,7 +1,8 @@
-use Rattle.std.proofs.Common.{ap, arith, length, length-append}
+use Rattle.std.proofs.Common.{Option, ap, arith, length, length-append}
 use Rattle.hpgl_text.specs.Cut.{cut}
 use Rattle.hpgl_plot.specs.Machine.{seen}
-use Rattle.hpgl_plot.specs.Notes.{notes, notes_of}
+use Rattle.hpgl_plot.specs.declared.note.NoteKind.{NoteKind}
+use Rattle.hpgl_plot.specs.Notes.{notes, notes_of, notes_with}
 use Rattle.hpgl_plot.proofs.Ends.{refused_at, all_drawn}
 use Rattle.hpgl_plot.proofs.NoteCounts.{notes_few}
 use Rattle.hpgl_plot.proofs.drawn.draw_plot.Goals as goal
@@ -14,6 +15,7 @@ count_notes-noted-requires c =
       c.items.invariant.noted,
       ap (λ is. length (notes is)) c.in-Some.ensures.steps,
       length-append (notes_of c.in-Some.item) (notes c.next.new.self),
+      ap (λ (own : Option NoteKind). length (notes_with own c.in-Some.item)) c.noted_kind.ensures,
       notes_few c.args.text.now,
     )
 
@@ -25,6 +27,7 @@ overflow_add-noted c =
       ap (λ is. length (notes is)) c.in-Some.ensures.steps,
       length-append (notes_of c.in-Some.item) (notes c.next.new.self),
       c.count_notes-noted.ensures,
+      ap (λ (own : Option NoteKind). length (notes_with own c.in-Some.item)) c.noted_kind.ensures,
       notes_few c.args.text.now,
     )
 

@@ -1,7 +1,7 @@
 use Rattle.std.proofs.Common.{◌≡◌, length}
 use Rattle.std.specs.List.{flat_map}
 use Rattle.hpgl_plot.specs.Notes.{entry_note}
-use Rattle.hpgl_plot.proofs.noting.next_noted.Given as goal
+use Rattle.hpgl_plot.proofs.item_notes.next_noted.Given as goal
 
 -- the entries that are left have all the notes that are to come
 abbrev pub invariant-entries : goal.invariant-entries
