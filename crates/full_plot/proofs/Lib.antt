@@ -7,3 +7,5 @@ pub mod Solid
 pub mod CoreLines
 pub mod FullRuns
 pub mod CorePlots
+pub mod CoreNotes
+pub mod FewStrokes

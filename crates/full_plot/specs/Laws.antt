@@ -6,9 +6,11 @@ use Rattle.hpgl_text.specs.Shapes.{ItemShape, BodyShape, Further, Kept, Symbol, 
 use Rattle.hpgl_plot.specs.declared.fault.PlotFault.{PlotFault}
 use Rattle.hpgl_plot.specs.Machine as core
 use Rattle.hpgl_plot.specs.Strokes.{strokes, refusal}
+use Rattle.hpgl_plot.specs.Notes as noting
 use Rattle.full_plot.specs.LineStyles.{usual_style}
 use Rattle.full_plot.specs.Machine.{World}
 use Rattle.full_plot.specs.Drawings.{at_start, runs, refusal_in, strokes_in, ends_in}
+use Rattle.full_plot.specs.Notes.{notes}
 
 -- what only the profile full reads is not of core
 abbrev pub is_core_body : BodyShape → Bool
@@ -47,3 +49,7 @@ OneSheet page items = ends_in (runs (at_start page) items) ≡ []
 abbrev pub CoreDrawsAsInCore : Type 0
 CoreDrawsAsInCore = (page : Page) (items : List ItemShape) → All IsCoreItem items
     → SameRefusal page items × SameStrokes page items × OneSheet page items
+
+-- what is noted on them
+abbrev pub CoreNotedAsInCore : Type 0
+CoreNotedAsInCore = (items : List ItemShape) → All IsCoreItem items → notes items ≡ noting.notes items

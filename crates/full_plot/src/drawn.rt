@@ -1,18 +1,39 @@
 //! What a plot draws in the profile full.
-ghost use Rattle.std.specs.Prelude.{◌≡◌, None, OnOk, IfOk, IfErr};
-ghost use Rattle.full_plot.specs.Drawings.{outcome, refusal_in, strokes_in, ends_in, Explains};
+ghost use Rattle.std.specs.Prelude.{◌≡◌, ◌≤◌, None, OnOk, IfOk, IfErr, length};
+ghost use Rattle.plot_page.specs.declared.stroke.TheConstants.{MOST_STROKES};
+ghost use Rattle.hpgl_text.specs.Cut.{cut_by};
+ghost use Rattle.hpgl_text.specs.declared.profile.Profile.TheVariants.{Full};
+ghost use Rattle.full_plot.specs.Drawings.{outcome, refusal_in, strokes_in, ends_in, sheet_count, Explains};
+ghost use Rattle.full_plot.specs.Notes as notes;
 
+use crate::noting::noted_kind;
 use crate::plotter::FullPlotter;
-use hpgl_plot::PlotFault;
+use crate::steps::last_end;
+use hpgl_plot::{PlotFault, count_notes};
 use hpgl_text::{Items, Profile};
 use plot_page::{Page, Stroke};
 use std::alloc::Global;
 
-/// What a plot draws: its strokes in drawing order, and how many there were when each sheet ended.
+/// What a plot draws: its strokes in drawing order, how many there were when each sheet ended, and how
+/// many notes there are on it.
 #[derive(Drop)]
 pub struct FullDrawn {
     pub strokes: Vec<Stroke>,
     pub ends: Vec<usize>,
+    pub notes: usize,
+}
+
+impl FullDrawn {
+    /// The greatest number of a sheet that has a stroke, or 0 if none has one.
+    pub fn sheets(&self) -> usize
+        ensures { result ≡ sheet_count self.now.ends.items (length self.now.strokes.items) }
+    {
+        if last_end(&self.ends) < self.strokes.len() {
+            self.ends.len() + 1
+        } else {
+            self.ends.len()
+        }
+    }
 }
 
 /// What the text of a plot draws on a page in the profile full.
@@ -23,15 +44,20 @@ pub fn draw_full(alloc: Global, text: &[u8], page: &Page) -> Result<FullDrawn, P
     ensures accepted { OnOk result (refusal_in (outcome page.now text.now) ≡ None) }
     ensures strokes { IfOk result (λ drawn. drawn.strokes.items ≡ strokes_in (outcome page.now text.now)) }
     ensures ends { IfOk result (λ drawn. drawn.ends.items ≡ ends_in (outcome page.now text.now)) }
+    ensures notes { IfOk result (λ drawn. drawn.notes ≡ length (notes.notes (cut_by Full text.now))) }
+    ensures limit { IfOk result (λ drawn. length drawn.strokes.items ≤ MOST_STROKES) }
     ensures refused { IfErr result (λ fault. Explains fault (outcome page.now text.now)) }
 {
     let mut items = Items::by_profile(Profile::Full, text);
     let mut plotter = FullPlotter::new(alloc, page);
+    let mut noted: usize = 0;
     'items: while let Some(item) = items.next() {
         plotter.carry_out(&item)?;
+        noted += count_notes(&item, noted_kind(&item));
     }
     Ok(FullDrawn {
         strokes: plotter.plotter.strokes,
         ends: plotter.ends,
+        notes: noted,
     })
 }

@@ -1,5 +1,5 @@
 //! Laws of the profile full, over the definitions only.
-ghost use Rattle.full_plot.specs.Laws.{CoreRunsAsInCore, CoreDrawsAsInCore};
+ghost use Rattle.full_plot.specs.Laws.{CoreRunsAsInCore, CoreDrawsAsInCore, CoreNotedAsInCore};
 
 /// Items of core leave in the profile full what they leave in core, on one sheet, with the line style
 /// of the start, or are refused as in core.
@@ -10,4 +10,9 @@ pub fn core_runs_as_in_core()
 /// A plot of items of core has its strokes and its refusal of core in the profile full, on one sheet.
 pub fn core_draws_as_in_core()
     ensures { CoreDrawsAsInCore }
+{}
+
+/// What is noted on items of core in the profile full is what is noted in core.
+pub fn core_noted_as_in_core()
+    ensures { CoreNotedAsInCore }
 {}

@@ -1,4 +1,4 @@
-//! What a plot draws in the profile full: the instructions of core, and line types.
+//! What a plot draws in the profile full, the instructions of core and line types, and what is noted on it.
 #![tactic(auto)]
 
 mod dashing;
@@ -8,6 +8,8 @@ mod line_parameters;
 mod line_setting;
 mod line_style;
 mod lines;
+mod notes;
+mod noting;
 mod plain;
 mod plotter;
 mod sheets;
@@ -16,5 +18,6 @@ mod steps;
 pub use drawn::{FullDrawn, draw_full};
 pub use line_setting::{LineKind, LineSetting, PatternLength};
 pub use line_style::LineStyle;
+pub use notes::FullNotes;
 pub use plotter::FullPlotter;
 pub use sheets::keep_sheet;

@@ -232,7 +232,7 @@ fn does_restyle(instruction: Instruction) -> bool
 }
 
 // How many strokes there were when the last sheet ended.
-fn last_end(ends: &Vec<usize>) -> usize
+pub(crate) fn last_end(ends: &Vec<usize>) -> usize
     ensures { result ≡ last_end ends.now.items }
 {
     match ends.as_slice() {

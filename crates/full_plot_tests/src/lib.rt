@@ -1,5 +1,7 @@
-//! Tests of what plots draw in the profile full, by public calls.
+//! Tests of what plots draw in the profile full and what is noted on them, by public calls.
 #![tactic(auto)]
 
 #[cfg(test)]
 mod line_types_set;
+#[cfg(test)]
+mod notes_and_sheets;

@@ -1,0 +1,68 @@
+//! The notes on a plot in the profile full, one at a time.
+ghost use Rattle.std.specs.Prelude.{◌≡◌, ◌≤◌, length};
+ghost use Rattle.std.specs.Iterator.{YieldsFirst, item_count};
+ghost use Rattle.hpgl_text.specs.Cut.{cut_by};
+ghost use Rattle.hpgl_text.specs.declared.profile.Profile.TheVariants.{Full};
+ghost use Rattle.full_plot.specs.Notes.{notes};
+
+use crate::noting::noted_kind;
+use hpgl_plot::{ItemNotes, Note, NoteSource};
+use hpgl_text::{Items, Profile};
+use std::marker::Model;
+
+/// The notes on a plot that are still to come, in order. Items are read lazily.
+#[derive(Drop)]
+pub struct FullNotes<'a> {
+    // What is left to tell of the item at hand, and the items after it.
+    item: ItemNotes<'a>,
+    items: Items<'a>,
+}
+
+impl<'a> Model for FullNotes<'a> {
+    ghost use Rattle.std.specs.Prelude.{◌++◌, List};
+    ghost use Rattle.hpgl_plot.specs.declared.note.Note.{Note};
+    ghost use Rattle.full_plot.specs.Notes.{notes};
+
+    ghost Value = { List Note };
+
+    ghost view = { λ n. n.item ++ notes n.items };
+}
+
+impl<'a> FullNotes<'a> {
+    /// The notes on a plot: at most as many as it has bytes.
+    pub fn new(plot: &'a [u8]) -> FullNotes<'a>
+        ensures notes { result ≡ notes (cut_by Full plot.now) }
+        ensures few { length result ≤ length plot.now }
+    {
+        FullNotes {
+            item: ItemNotes::none(),
+            items: Items::by_profile(Profile::Full, plot),
+        }
+    }
+}
+
+impl<'a> Iterator for FullNotes<'a> {
+    type Item = Note;
+
+    ghost next_gives = { YieldsFirst (λ s. s) };
+
+    ghost remaining = { item_count (λ s. s) };
+
+    fn next(&mut self) -> Option<Note> {
+        'items: loop {
+            if let Some(note) = self.item.next() {
+                return Some(note);
+            }
+            let item = self.items.next()?;
+            self.item = ItemNotes::new(&item, noted_kind(&item));
+        }
+    }
+}
+
+impl<'a> NoteSource for FullNotes<'a> {
+    ghost notes = { λ n. n };
+
+    fn next_note(&mut self) -> Option<Note> {
+        self.next()
+    }
+}

@@ -1,0 +1,89 @@
+// What is noted on plots in the profile full, and how many sheets they have.
+use full_plot::{FullNotes, draw_full};
+use hpgl_plot::{NoteKind, Page};
+use std::alloc::Global;
+use std::test::Fail;
+
+// The notes on a plot. Drawing it counts as many.
+fn notes_on(alloc: Global, text: &[u8]) -> Result<String, Fail> {
+    let mut list = String::new(alloc);
+    let mut count: u64 = 0;
+    let mut notes = FullNotes::new(text);
+    while let Some(note) = notes.next() {
+        let (at, [first, second]) = (note.at, note.code);
+        let (first, second) = (first as char, second as char);
+        let line = match note.kind {
+            NoteKind::Skipped => format!(in alloc; "{at} skipped {first}{second};")?,
+            NoteKind::Bad => format!(in alloc; "{at} bad {first}{second};")?,
+            NoteKind::Stray(byte) => format!(in alloc; "{at} stray {byte};")?,
+            NoteKind::Axis => format!(in alloc; "{at} axis {first}{second};")?,
+            NoteKind::Open => format!(in alloc; "{at} open {first}{second};")?,
+        };
+        list.push_str(line.as_str())?;
+        count = count.wrapping_add(1);
+    }
+    let drawn = draw_full(alloc, text, &Page::new(1000, 1000, 0, 0)?)?;
+    if drawn.notes as u64 != count {
+        return Err("another count of notes".into());
+    }
+    Ok(list)
+}
+
+#[test]
+fn notes_on_further_instructions(rt: HostRuntime) -> Result<(), Fail> {
+    let plots = [
+        (
+            b"LT9;LT2,0;LT2,1,2;UL0,1;UL1,0,0;UL1,1,-1;".as_slice(),
+            "0 bad LT;4 bad LT;10 bad LT;18 bad UL;24 bad UL;32 bad UL;",
+        ),
+        (
+            b"LT2,10,5;UL9;LT;LT99;UL;UL1,5;LT2,1,1;",
+            "0 bad LT;9 bad UL;",
+        ),
+        (b"LT!;LTx;", "0 bad LT;6 stray 120;"),
+        (b"PG;AF;NR1;BP5,6;PS1;NP8;COa x;LA1,4;", ""),
+        (
+            b"PM;FT3;EW1,2,3;SM*;BLx\x03PB;ZZ1;",
+            "0 skipped PM;3 skipped FT;7 skipped EW;15 skipped SM;19 skipped BL;23 skipped PB;26 skipped ZZ;",
+        ),
+    ];
+    for (plot, wanted) in plots {
+        assert_eq!(rt; notes_on(rt.alloc(), plot)?.as_str(), wanted);
+    }
+    Ok(())
+}
+
+#[test]
+fn notes_on_items_of_core(rt: HostRuntime) -> Result<(), Fail> {
+    let plots = [
+        (
+            b"ZZ1;PA1;PE\x00!;DI5,3;DT\x0a;#".as_slice(),
+            "0 skipped ZZ;4 bad PA;10 stray 0;11 stray 33;13 axis DI;19 bad DT;23 stray 35;",
+        ),
+        // notes of several items, and the last one after a PE
+        (b"PM;LT9;PE<", "0 skipped PM;3 bad LT;7 open PE;"),
+        (b"SP256;LBx", "0 bad SP;6 open LB;"),
+    ];
+    for (plot, wanted) in plots {
+        assert_eq!(rt; notes_on(rt.alloc(), plot)?.as_str(), wanted);
+    }
+    Ok(())
+}
+
+#[test]
+fn sheets_with_strokes(rt: HostRuntime) -> Result<(), Fail> {
+    let page = Page::new(1000, 1000, 0, 0)?;
+    let plots = [
+        (b"".as_slice(), 0),
+        (b"PG;PG;", 0),
+        (b"PU0,0;PD10,0;", 1),
+        (b"PU0,0;PD10,0;PG;PG;", 1),
+        (b"PG;PU0,0;PD10,0;PG;PG;PD20,0;", 2),
+        (b"PD10,0;PG;PD20,0;PG;PD30,0;PG;BP;", 3),
+    ];
+    for (plot, wanted) in plots {
+        let drawn = draw_full(rt.alloc(), plot, &page)?;
+        assert_eq!(rt; drawn.sheets(), wanted);
+    }
+    Ok(())
+}
