@@ -6,7 +6,7 @@ use Rattle.plot_page.specs.Segments.{Segment}
 use Rattle.hpgl_plot.specs.declared.note.Note.{Note}
 use Rattle.hpgl_plot.specs.declared.note.NoteKind.{NoteKind}
 use Rattle.hpgl_plot.specs.declared.note.NoteKind.TheVariants.{Skipped, Bad, Stray, Axis, Open}
-use Rattle.plot_report.specs.Report.{line, page_line, strokes_line, strokes_of, greatest, least_place, greatest_place, end_xs, end_ys, pen_line, pen_lines, note_line, report_of}
+use Rattle.plot_report.specs.Report.{line, page_line, strokes_line, strokes_of, greatest, least_place, greatest_place, end_xs, end_ys, pen_line, pen_lines, note_line, report_of, full_report_of}
 
 abbrev square : Page
 square = record { width = 64; height = 64; left = 0; below = 0; width_in = (lit≤ tt, lit≤ tt); height_in = (lit≤ tt, lit≤ tt); left_in = lit≤ tt; below_in = lit≤ tt }
@@ -135,3 +135,12 @@ skipped_and_bad = refl
 open_and_axis : report_of moved [] (note 3 (codes "DI") Axis ∷ note 9 (codes "LB") Open ∷ []) ≡ codes "page 11880 8400 10 65536\nstrokes 0\nnote 3 axis DI\nnote 9 open LB\n"
 unfolding digits pen_lines
 open_and_axis = refl
+
+-- in the profile full the sheets follow the page
+three_sheets : full_report_of square 3 (across ∷ []) (note 0 (codes "PM") Skipped ∷ []) ≡ codes "page 64 64 0 0\nsheets 3\nstrokes 1\npen 1 strokes 1 widest 224 box 0 448 1024 448\nnote 0 skipped PM\n"
+unfolding digits pen_lines
+three_sheets = refl
+
+no_sheet : full_report_of square 0 [] [] ≡ codes "page 64 64 0 0\nsheets 0\nstrokes 0\n"
+unfolding digits pen_lines
+no_sheet = refl

@@ -103,3 +103,12 @@ note_line note = line (codes "note" ∷ decimal note.at ∷ kind_words note.kind
 -- the whole report
 abbrev pub report_of : Page → List Segment → List Note → List ℕ
 report_of page strokes notes = page_line page ++ strokes_line strokes ++ pen_lines strokes ++ flat_map note_line notes
+
+-- in the profile full: how many sheets there are
+abbrev pub sheets_line : ℕ → List ℕ
+sheets_line sheets = line (codes "sheets" ∷ decimal sheets ∷ [])
+
+-- the whole report in the profile full
+abbrev pub full_report_of : Page → ℕ → List Segment → List Note → List ℕ
+full_report_of page sheets strokes notes =
+    page_line page ++ sheets_line sheets ++ strokes_line strokes ++ pen_lines strokes ++ flat_map note_line notes

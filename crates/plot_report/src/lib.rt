@@ -6,4 +6,4 @@ mod pieces;
 mod report;
 mod summary;
 
-pub use report::{MOST_NOTES, write_report};
+pub use report::{MOST_NOTES, write_full_report, write_report};

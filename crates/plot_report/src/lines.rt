@@ -1,7 +1,7 @@
 //! The lines of a report, each appended to a piece of it.
 ghost use Rattle.std.specs.Prelude.{◌≡◌, ◌+◌, ◌≤◌, ◌++◌, ◌∷◌, [], length, take, codes, decimal};
 ghost use Rattle.std.specs.List.{join_with_byte};
-ghost use Rattle.plot_report.specs.Report.{space, line, page_line, kind_words, note_line, corner_words, summary_line};
+ghost use Rattle.plot_report.specs.Report.{space, line, page_line, sheets_line, kind_words, note_line, corner_words, summary_line};
 
 use crate::pieces::{append_number, append_word};
 use crate::summary::PenSummary;
@@ -11,6 +11,9 @@ use plot_page::Page;
 
 /// The longest line of a page: four numbers of ten digits.
 pub(crate) const LONGEST_PAGE_LINE: usize = 49;
+
+/// The longest line of the sheets: a number of twenty digits.
+pub(crate) const LONGEST_SHEETS_LINE: usize = 28;
 
 /// The longest line of all the strokes: a number of twenty digits.
 pub(crate) const LONGEST_STROKES_LINE: usize = 29;
@@ -39,6 +42,18 @@ pub(crate) fn append_page_line(piece: &mut [u8], used: usize, page: &Page) -> us
     let used = append_number(piece, used, page.height);
     let used = append_number(piece, used, page.left);
     let used = append_number(piece, used, page.below);
+    append(piece, used, b"\n")
+}
+
+// `sheets K`
+pub(crate) fn append_sheets_line(piece: &mut [u8], used: usize, sheets: usize) -> usize
+    requires { used + LONGEST_SHEETS_LINE ≤ length piece.old }
+    ensures line { take result piece.new ≡ take used piece.old ++ sheets_line sheets }
+    ensures most { result ≤ used + LONGEST_SHEETS_LINE }
+    ensures size { length piece.new ≡ length piece.old }
+{
+    let used = append(piece, used, b"sheets");
+    let used = append_number(piece, used, sheets);
     append(piece, used, b"\n")
 }
 

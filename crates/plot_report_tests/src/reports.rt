@@ -4,7 +4,7 @@ ghost use Rattle.std.specs.Prelude.{◌≡◌, ◌<◌, ◌≤◌, Some, length}
 use devices::{OverWrite, Sink, SinkFault};
 use hpgl_plot::Notes;
 use plot_page::{Colour, Page, Stroke, Window};
-use plot_report::write_report;
+use plot_report::{write_full_report, write_report};
 use std::process::Abort;
 use std::test::Fail;
 
@@ -211,6 +211,20 @@ fn all_pens(rt: HostRuntime) -> Result<(), Fail> {
     }
     let page = Page::new(64, 64, 0, 0)?;
     reports(&rt, &page, &strokes, b"", want.as_slice())
+}
+
+// In the profile full the sheets follow the page.
+#[test]
+fn the_line_of_the_sheets(rt: HostRuntime) -> Result<(), Fail> {
+    let page = Page::new(64, 64, 1, 2)?;
+    let strokes = [stroke(1, 224, [0, 448, 1024, 448])?];
+    let want: &[u8] = b"page 64 64 1 2\nsheets 4194304\nstrokes 1\n\
+        pen 1 strokes 1 widest 224 box 0 448 1024 448\nnote 0 skipped ZZ\n";
+    let mut sink = OverWrite::new(Vec::new(rt.alloc()));
+    let bytes = write_full_report(&page, 4_194_304, &strokes, Notes::new(b"ZZ"), &mut sink)?;
+    assert_eq!(rt; bytes, want.len() as u64);
+    assert_eq!(rt; sink.into_inner().as_slice(), want);
+    Ok(())
 }
 
 // A small report is put whole.
