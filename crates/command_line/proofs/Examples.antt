@@ -1,13 +1,15 @@
 -- What the command takes, and what it asks for, at some words.
 use Rattle.std.proofs.Common.{◌≡◌, ◌∷◌, [], Bool, List, Option, Some, None, ℕ, true, codes, refl}
-use Rattle.std.specs.Prelude.{option_and_then, false}
+use Rattle.std.specs.Prelude.{option_and_then, option_map, false}
 use Rattle.std.specs.Option.{option_map_or}
 use Rattle.clap.specs.Words.{Kinds, Text, fault_of, subcommand_of, takes}
 use Rattle.clap.proofs.OnLiterals.{clap_on_literals}
 use Rattle.clap.specs.declared.error.kind.ErrorKind.TheVariants as kind
 use Rattle.picture_out.specs.declared.form.Form.TheVariants as form
 use Rattle.command_line.specs.declared.subcommands.Output.TheVariants as output
-use Rattle.command_line.specs.Lines.{has_bad_list, number_in, output_named, pens_text}
+use Rattle.command_line.specs.declared.fault.LineFault.{LineFault}
+use Rattle.command_line.specs.declared.fault.LineFault.TheVariants as fault
+use Rattle.command_line.specs.Lines.{fault_of_values, has_bad_list, number_in, output_named, pens_text, profile_text, sheet_in}
 use Rattle.command_line.specs.Options.{plot_app}
 use Rattle.command_line.specs.Statuses.{parse_status_of}
 
@@ -71,6 +73,50 @@ pens_given : pens_on (codes "pbm" ∷ codes "--pens" ∷ codes "1,3" ∷ []) ≡
 unfolding clap_on_literals
 pens_given = refl
 
+-- what is wrong with the values on a command line
+abbrev value_fault_on : List Text → Option LineFault
+value_fault_on words = option_and_then fault_of_values (subcommand_of plot_app (after_name words))
+
+-- the number of the sheet on a command line
+abbrev sheet_on : List Text → Option ℕ
+sheet_on words = option_and_then (λ p. sheet_in p.1) (subcommand_of plot_app (after_name words))
+
+profile_left_out : option_map (λ p. profile_text p.1) (subcommand_of plot_app (after_name (codes "pbm" ∷ []))) ≡ Some (Some (codes "core"))
+unfolding clap_on_literals
+profile_left_out = refl
+
+profile_given : option_map (λ p. profile_text p.1) (subcommand_of plot_app (after_name (codes "report" ∷ codes "--profile=full" ∷ []))) ≡ Some (Some (codes "full"))
+unfolding clap_on_literals
+profile_given = refl
+
+sheet_left_out : sheet_on (codes "ppm" ∷ codes "--profile" ∷ codes "full" ∷ []) ≡ None
+unfolding clap_on_literals
+sheet_left_out = refl
+
+sheet_given : sheet_on (codes "ppm" ∷ codes "--sheet" ∷ codes "2" ∷ codes "--profile" ∷ codes "full" ∷ []) ≡ Some 2
+unfolding clap_on_literals
+sheet_given = refl
+
+all_sheets : sheet_on (codes "report" ∷ codes "--sheet=0" ∷ codes "--profile=full" ∷ []) ≡ Some 0
+unfolding clap_on_literals
+all_sheets = refl
+
+nothing_wrong : value_fault_on (codes "pbm" ∷ codes "--profile=full" ∷ codes "--sheet=2" ∷ []) ≡ None
+unfolding clap_on_literals
+nothing_wrong = refl
+
+no_such_profile : value_fault_on (codes "marks" ∷ codes "--profile=fuller" ∷ codes "--sheet=2" ∷ []) ≡ Some fault.Profile
+unfolding clap_on_literals
+no_such_profile = refl
+
+sheet_in_core : value_fault_on (codes "report" ∷ codes "--sheet=1" ∷ []) ≡ Some fault.Sheet
+unfolding clap_on_literals
+sheet_in_core = refl
+
+list_before_sheet : value_fault_on (codes "pcl" ∷ codes "--pens=0" ∷ codes "--sheet=1" ∷ []) ≡ Some fault.Pens
+unfolding clap_on_literals
+list_before_sheet = refl
+
 -- a command line asks for a picture by a text that is no list of pens
 abbrev bad_list_on : List Text → Bool
 bad_list_on words = option_map_or has_bad_list (subcommand_of plot_app (after_name words)) false
@@ -106,6 +152,14 @@ dots_too_few = refl
 band_twice : faults_on (codes "pbm" ∷ codes "--band" ∷ codes "8" ∷ codes "--band" ∷ codes "8" ∷ []) ≡ kind.ArgumentConflict ∷ []
 unfolding clap_on_literals
 band_twice = refl
+
+profile_twice : faults_on (codes "report" ∷ codes "--profile=full" ∷ codes "--profile=full" ∷ []) ≡ kind.ArgumentConflict ∷ []
+unfolding clap_on_literals
+profile_twice = refl
+
+sheet_too_great : faults_on (codes "marks" ∷ codes "--sheet=4194305" ∷ []) ≡ kind.ValueValidation ∷ []
+unfolding clap_on_literals
+sheet_too_great = refl
 
 report_has_no_dots : faults_on (codes "report" ∷ codes "--dots" ∷ codes "100" ∷ []) ≡ kind.UnknownArgument ∷ []
 unfolding clap_on_literals

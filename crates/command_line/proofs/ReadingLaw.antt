@@ -10,7 +10,7 @@ use Rattle.clap.specs.Facts.{parser_of_value}
 use Rattle.clap.specs.ValueTests.{accepts}
 use Rattle.clap.specs.Values.{IsSignedIn}
 use Rattle.clap.specs.declared.builder.value_parser.ValueParser.{ValueParser}
-use Rattle.clap.specs.Walk.{Row, Rule, Text, arg_by_id, has_row, reading_by}
+use Rattle.clap.specs.Walk.{Row, Rule, Text, arg_by_id, first_of, has_row, reading_by}
 use Rattle.clap.specs.declared.parser.matches.ArgMatches.{ArgMatches}
 use Rattle.clap.specs.declared.builder.value_parser.Reading.TheVariants as reading
 use Rattle.clap.specs.declared.builder.value_parser.ValueParser.TheVariants as vp
@@ -18,9 +18,9 @@ use Rattle.clap.proofs.ValueTestLemmas.{accepts-Accepts}
 use Rattle.clap_parses.specs.Parses.{HasGoodMatches, IsIn, RowOf, RowsOf, first, past}
 use Rattle.command_line.specs.declared.subcommands.Output.{Output}
 use Rattle.command_line.specs.declared.subcommands.Output.TheVariants.{Picture, Report}
-use Rattle.command_line.specs.Lines.{output_named, pens_text}
+use Rattle.command_line.specs.Lines.{number_in, output_named}
 use Rattle.command_line.specs.Options.{picture_app, plot_app, report_app, subcommand_app, subcommands}
-use Rattle.command_line.specs.Readings.{HasNumber, HasPageNumbers, HasPictureValues, HasValues}
+use Rattle.command_line.specs.Readings.{HasNumber, HasPageNumbers, HasPictureValues, HasReadingValues, HasValues}
 
 -- a row of an argument: its value passes, and is read as the argument's parser says
 record IsRowOf (a : Rule) (r : Row) : Type 0 where
@@ -80,11 +80,33 @@ number_there c a name rows low high found parser all has =
       within = within_range a.ignore_case a.parser low high text parser met.good.passes;
     }
 
-text_there : (c : List Rule) (a : Rule) (rows : List Row) → arg_by_id c (codes "pens") ≡ Some a → AllByRecursion (RowOf c) rows → has_row (codes "pens") rows ≡ true
-    → is_some (pens_text rows) ≡ true
-text_there c a rows found all has =
-    let met = first_row c a (codes "pens") rows found all has in
+text_there : (c : List Rule) (a : Rule) (name : Text) (rows : List Row) → arg_by_id c name ≡ Some a → AllByRecursion (RowOf c) rows → has_row name rows ≡ true
+    → is_some (first_of name rows) ≡ true
+text_there c a name rows found all has =
+    let met = first_row c a name rows found all has in
     rw (met.found, met.good.values) refl
+
+-- an argument that has a number has a row
+row_there : (name : Text) (rows : List Row) → is_some (number_in rows name) ≡ true → has_row name rows ≡ true
+row_there name [] has = absurd (cc)
+row_there name (r ∷ rest) has = branch (bytes_eq r.id name) refl (row_there name rest)
+  where
+    branch : (b : Bool) → bytes_eq r.id name ≡ b → (is_some (number_in rest name) ≡ true → has_row name rest ≡ true) → has_row name (r ∷ rest) ≡ true
+    branch true same later = rw same refl
+    branch false other later = rw other (later (rw other at has))
+
+reading_values : (c : List Rule) (a b : Rule) (rows : List Row) → arg_by_id c (codes "profile") ≡ Some a → arg_by_id c (codes "sheet") ≡ Some b
+    → b.parser ≡ Some (vp.Signed (pos 0) (pos 4194304)) → AllByRecursion (RowOf c) rows → has_row (codes "profile") rows ≡ true → HasReadingValues rows
+reading_values c a b rows profile sheet parser all has = record {
+  profile = text_there c a (codes "profile") rows profile all has;
+  sheet = λ given. number_there c b (codes "sheet") rows 0 4194304 sheet parser all (row_there (codes "sheet") rows given);
+}
+
+report_reading : (name : Text) (rows : List Row) → RowsOf (built_leaf (report_app name).top).rules rows → HasReadingValues rows
+report_reading name rows good = reading_values _ _ _ rows refl refl refl good.each (good.defaults.1.1.1.1.0 (omega arith))
+
+picture_reading : (name : Text) (rows : List Row) → RowsOf (built_leaf (picture_app name).top).rules rows → HasReadingValues rows
+picture_reading name rows good = reading_values _ _ _ rows refl refl refl good.each (good.defaults.1.1.1.1.0 (omega arith))
 
 report_numbers : (name : Text) (rows : List Row) → RowsOf (built_leaf (report_app name).top).rules rows → HasPageNumbers rows
 report_numbers name rows good = record {
@@ -102,10 +124,10 @@ picture_values name rows good = record {
     left = number_there _ _ (codes "left") rows 0 65536 refl refl good.each (good.defaults.1.1.0 (omega arith));
     below = number_there _ _ (codes "below") rows 0 65536 refl refl good.each (good.defaults.1.1.1.0 (omega arith));
   };
-  dots = number_there _ _ (codes "dots") rows 10 1200 refl refl good.each (good.defaults.1.1.1.1.0 (omega arith));
-  pens = text_there _ _ rows refl good.each (good.defaults.1.1.1.1.1.0 (omega arith));
-  band = number_there _ _ (codes "band") rows 1 4096 refl refl good.each (good.defaults.1.1.1.1.1.1.0 (omega arith));
-  first_row = number_there _ _ (codes "from") rows 0 99999 refl refl good.each (good.defaults.1.1.1.1.1.1.1.0 (omega arith));
+  dots = number_there _ _ (codes "dots") rows 10 1200 refl refl good.each (good.defaults.1.1.1.1.1.1.0 (omega arith));
+  pens = text_there _ _ (codes "pens") rows refl good.each (good.defaults.1.1.1.1.1.1.1.0 (omega arith));
+  band = number_there _ _ (codes "band") rows 1 4096 refl refl good.each (good.defaults.1.1.1.1.1.1.1.1.0 (omega arith));
+  first_row = number_there _ _ (codes "from") rows 0 99999 refl refl good.each (good.defaults.1.1.1.1.1.1.1.1.1.0 (omega arith));
 }
 
 -- the rows of a subcommand give its options values
@@ -120,8 +142,8 @@ all_named : AllByRecursion IsNamed subcommands
 all_named = search rules
 
 row_reads : (it : Text × Output) → IsNamed it → Reads (built_leaf (subcommand_app it).top)
-row_reads (name, Picture form) named = λ rows good. rw named (picture_values name rows good)
-row_reads (name, Report) named = λ rows good. rw named (report_numbers name rows good)
+row_reads (name, Picture form) named = λ rows good. (rw named (picture_values name rows good), picture_reading name rows good)
+row_reads (name, Report) named = λ rows good. (rw named (report_numbers name rows good), report_reading name rows good)
 
 reads : (its : List (Text × Output)) → AllByRecursion IsNamed its → AllByRecursion Reads (map (λ (it : Text × Output). built_leaf (subcommand_app it).top) its)
 reads [] named = tt

@@ -1,5 +1,6 @@
 -- What the matches of a command line ask for.
-use Rattle.std.specs.Prelude.{◌≡◌, ◌<◌, ◌&&◌, ℕ, Bool, true, false, not, List, Option, Some, option_map, find, codes}
+use Rattle.std.specs.Prelude.{◌≡◌, ◌<◌, ◌&&◌, ◌||◌, ℕ, Bool, true, false, not, List, Option, Some, None, codes}
+use Rattle.std.specs.Prelude.{option_map, option_and_then, unwrap_or, is_some, find, if◌then◌else◌}
 use Rattle.std.specs.Option.{option_map_or}
 use Rattle.std.specs.Str.{bytes_eq}
 use Rattle.std.specs.Str.Parse.{digits_value, without_leading_plus}
@@ -12,6 +13,10 @@ use Rattle.clap_parses.specs.Parses.{HasGoodMatches}
 use Rattle.command_line.specs.Options.{subcommands, plot_app}
 use Rattle.pen_list.specs.Lists.{is_listed, is_pen_list}
 use Rattle.picture_job.specs.declared.job.Job.{Job}
+use Rattle.picture_job.specs.declared.reading.Reading.{Reading}
+use Rattle.picture_job.specs.declared.reading.Reading.TheVariants.{Core, Full}
+use Rattle.command_line.specs.declared.fault.LineFault.{LineFault}
+use Rattle.command_line.specs.declared.fault.LineFault.TheVariants.{Pens, Profile, Sheet}
 use Rattle.command_line.specs.declared.line.Line.{Line}
 use Rattle.command_line.specs.declared.line.Task.{Task}
 use Rattle.command_line.specs.declared.line.Task.TheVariants.{Picture, Report}
@@ -25,6 +30,14 @@ number_in rows name = option_map (λ t. digits_value 10 (without_leading_plus t)
 -- the text of the option for the list of pens
 abbrev pub pens_text : List Row → Option Text
 pens_text rows = first_of (codes "pens") rows
+
+-- the name of the profile
+abbrev pub profile_text : List Row → Option Text
+profile_text rows = first_of (codes "profile") rows
+
+-- the number of the sheet, or None if none is given
+abbrev pub sheet_in : List Row → Option ℕ
+sheet_in rows = number_in rows (codes "sheet")
 
 -- what the subcommand of this name writes
 abbrev pub output_named : Text → Option Output
@@ -62,12 +75,18 @@ abbrev pub IsTaskOf : Text → List Row → Task → Type 0
 IsTaskOf name rows (Picture job) = (output_named name ≡ Some (output.Picture job.form)) × IsJobOf rows job
 IsTaskOf name rows (Report page) = (output_named name ≡ Some output.Report) × IsPageOf rows page
 
+-- the plot is read in the profile core, or in full with the given sheet, or with sheet 1 if none is given
+abbrev pub IsReadingOf : List Row → Reading → Type 0
+IsReadingOf rows Core = (profile_text rows ≡ Some (codes "core")) × (sheet_in rows ≡ None)
+IsReadingOf rows (Full sheet) = (profile_text rows ≡ Some (codes "full")) × (unwrap_or (sheet_in rows) 1 ≡ sheet)
+
 -- the line is what the matches m ask for: by the subcommand, its options and FILE
 pub record IsLineOf (m : ArgMatches) (line : Line) : Type 0 where
   pub name : Text
   pub rows : List Row
   pub matches : subcommand_rows_of m ≡ Some (name, rows)
   pub task : IsTaskOf name rows line.task
+  pub reading : IsReadingOf rows line.reading
   pub file : option_map (λ s. s.now) line.file ≡ first_of (codes "FILE") rows
 
 -- the matches are those of a command line in which `plotraster` finds no fault
@@ -85,3 +104,28 @@ has_bad_list (name, rows) = option_map_or is_picture (output_named name) false &
 -- the matches ask for a picture by such a text
 abbrev pub asks_bad_list : ArgMatches → Bool
 asks_bad_list m = option_map_or has_bad_list (subcommand_rows_of m) false
+
+-- the profile has this name
+abbrev pub has_profile : List Row → Text → Bool
+has_profile rows name = option_map_or (λ text. bytes_eq text name) (profile_text rows) false
+
+-- the name of the profile is neither core nor full
+abbrev pub has_bad_profile : List Row → Bool
+has_bad_profile rows = not (has_profile rows (codes "core") || has_profile rows (codes "full"))
+
+-- a sheet is given in the profile core
+abbrev pub has_stray_sheet : List Row → Bool
+has_stray_sheet rows = has_profile rows (codes "core") && is_some (sheet_in rows)
+
+-- what is wrong with how the plot is to be read
+abbrev pub reading_fault : List Row → Option LineFault
+reading_fault rows =
+    if has_bad_profile rows then Some Profile else if has_stray_sheet rows then Some Sheet else None
+
+-- what is wrong with the values of a subcommand's options: first comes the list of pens, then the reading
+abbrev pub fault_of_values : Text × List Row → Option LineFault
+fault_of_values (name, rows) = if has_bad_list (name, rows) then Some Pens else reading_fault rows
+
+-- the same for the matches
+abbrev pub line_fault : ArgMatches → Option LineFault
+line_fault m = option_and_then fault_of_values (subcommand_rows_of m)

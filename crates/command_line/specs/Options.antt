@@ -10,15 +10,18 @@ use Rattle.picture_out.specs.declared.form.Form.TheVariants.{Marks, Pbm, Ppm, Pc
 use Rattle.command_line.specs.declared.subcommands.Output.{Output}
 use Rattle.command_line.specs.declared.subcommands.Output.TheVariants.{Picture, Report}
 
--- `--NAME VALUE`, at most once, with a parser and a default
-abbrev pub option_rule : Text → ValueParser → Text → Rule
-option_rule name parser given = record (new_rule name) {
+-- `--NAME VALUE`, at most once, with a parser
+abbrev pub bare_rule : Text → ValueParser → Rule
+bare_rule name parser = record (new_rule name) {
   long = Some name;
   action = Some Set;
   value_names = 1;
-  defaults = given ∷ [];
   parser = Some parser;
 }
+
+-- the same, with a default
+abbrev pub option_rule : Text → ValueParser → Text → Rule
+option_rule name parser given = record (bare_rule name parser) { defaults = given ∷ [] }
 
 -- a whole number from low to high
 abbrev pub whole_number : ℕ → ℕ → ValueParser
@@ -40,6 +43,12 @@ with_page a = with_rule (with_rule (with_rule (with_rule a
     (number_rule (codes "left") 0 65536 (codes "0")))
     (number_rule (codes "below") 0 65536 (codes "0"))
 
+-- how the plot is read: the profile, and the sheet, which has no default
+abbrev pub with_reading : App → App
+with_reading a = with_rule (with_rule a
+    (option_rule (codes "profile") vp.String (codes "core")))
+    (bare_rule (codes "sheet") (whole_number 0 4194304))
+
 -- how a picture is made: dots per inch, pens, rows in a band, first row
 abbrev pub with_picture : App → App
 with_picture a = with_rule (with_rule (with_rule (with_rule a
@@ -50,11 +59,11 @@ with_picture a = with_rule (with_rule (with_rule (with_rule a
 
 -- a subcommand that writes a picture
 abbrev pub picture_app : Text → App
-picture_app name = with_rule (with_picture (with_page (new_app name))) file_rule
+picture_app name = with_rule (with_picture (with_reading (with_page (new_app name)))) file_rule
 
 -- a subcommand that describes a plot
 abbrev pub report_app : Text → App
-report_app name = with_rule (with_page (new_app name)) file_rule
+report_app name = with_rule (with_reading (with_page (new_app name))) file_rule
 
 -- `plotraster` itself: it has a version, a subcommand has to be named, and `help` is none
 abbrev pub top_app : App

@@ -23,6 +23,12 @@ pub enum LineFault {
     /// The text after `--pens` is no list of pens.
     #[error("bad pen list")]
     Pens,
+    /// The word after `--profile` names no profile.
+    #[error("bad profile")]
+    Profile,
+    /// `--sheet` is given with the profile core, which has no sheets.
+    #[error("--sheet needs --profile full")]
+    Sheet,
 }
 
 /// The exit status if words gave no matches: 0 if help or the version was asked for, 4 if memory

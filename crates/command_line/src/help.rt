@@ -37,6 +37,17 @@ pub(crate) const BELOW: HelpLine<'static> = HelpLine {
     help: "How far the page reaches below the plot's (0,0), in plotter units, 0 to 65536",
 };
 
+pub(crate) const PROFILE: HelpLine<'static> = HelpLine {
+    value: "NAME",
+    help: "How the plot is read: 'core', or 'full' with further instructions of HP-GL and HP-GL/2",
+};
+
+// `clap` knows of no default: a sheet that is given in the profile core is a mistake, whichever it is.
+pub(crate) const SHEET: HelpLine<'static> = HelpLine {
+    value: "SHEET",
+    help: "Sheet to draw in the profile full, 0 to 4194304: counted from 1, or 0 for all sheets [default: 1]",
+};
+
 pub(crate) const DOTS: HelpLine<'static> = HelpLine {
     value: "DPI",
     help: "Resolution in dots per inch, 10 to 1200",

@@ -1,17 +1,18 @@
 //! What a command line asks for.
 ghost use Rattle.std.specs.Prelude.{◌≡◌, ◌↔◌, ◌<◌, ◌≤◌, ◌^◌, ℕ, Some, Err, IfOk, IfErr, IsOk, IsOkAnd, true, is_some};
-ghost use Rattle.std.specs.Prelude.{codes};
+ghost use Rattle.std.specs.Prelude.{codes, ◌≢◌};
+ghost use Rattle.std.specs.Result.{result_err};
 ghost use Rattle.clap.specs.Words.{found_of, rows_of};
 ghost use Rattle.command_line.specs.Lines.{number_in, lists_no_pens, has_bad_list, asks_bad_list};
 ghost use Rattle.command_line.specs.Lines.{ArePensOf, IsPageOf, IsJobOf, IsTaskOf, IsLineOf, AreOfThisCommand};
-ghost use Rattle.command_line.specs.Lines.{pens_text};
-ghost use Rattle.command_line.specs.Readings.{HasNumber, HasPageNumbers, HasPictureValues, HasValues};
+ghost use Rattle.command_line.specs.Lines.{IsReadingOf, line_fault, pens_text, reading_fault, sheet_in};
+ghost use Rattle.command_line.specs.Readings.{HasNumber, HasPageNumbers, HasPictureValues, HasReadingValues, HasTaskValues};
 
 use crate::fault::LineFault;
 use crate::subcommands::{Output, output_of};
 use clap::ArgMatches;
 use pen_list::read_pens;
-use picture_job::Job;
+use picture_job::{Job, Reading};
 use picture_out::Form;
 use plot_page::{Dots, Page, PenSet};
 
@@ -29,22 +30,27 @@ pub enum Task {
 pub struct Line<'a> {
     /// What is to be done.
     pub task: Task,
+    /// How the plot is read.
+    pub reading: Reading,
     /// The name of the plot's file, or `None` if the plot comes on standard input.
     pub file: Option<&'a str>,
 }
 
 /// The values of the matches of `command`'s command.
 ///
-/// Errors: `Pens` if and only if a picture is asked for and `--pens` is not a valid list; `Words` only
-/// if the matches are of another command, so never after a `parse` that succeeded.
+/// Errors, of which the first is given: `Pens` if a picture is asked for and `--pens` is not a valid
+/// list, `Profile` if `--profile` is neither `core` nor `full`, and `Sheet` if `--sheet` is given
+/// with the profile core; no other one after a `parse` that succeeded. `Words` if the matches are of
+/// another command.
 pub fn settle<'a>(matches: &ArgMatches<'a>) -> Result<Line<'a>, LineFault>
     ensures line { IfOk result (IsLineOf matches.now) }
     ensures pens { (result ≡ Err LineFault.Pens) ↔ (asks_bad_list matches.now ≡ true) }
-    ensures understood { AreOfThisCommand matches.now → IfErr result (λ fault. fault ≡ LineFault.Pens) }
+    ensures refused { AreOfThisCommand matches.now → result_err result ≡ line_fault matches.now }
 {
     let (name, options) = matches.subcommand().ok_or(LineFault::Words)?;
     Ok(Line {
         task: task_of(name, options)?,
+        reading: reading_of(options)?,
         file: options.get_str("FILE"),
     })
 }
@@ -52,7 +58,7 @@ pub fn settle<'a>(matches: &ArgMatches<'a>) -> Result<Line<'a>, LineFault>
 fn task_of(name: &str, options: &ArgMatches<'_>) -> Result<Task, LineFault>
     ensures task { IfOk result (IsTaskOf name.now (rows_of (found_of options.now))) }
     ensures pens { (result ≡ Err LineFault.Pens) ↔ (has_bad_list (name.now, rows_of (found_of options.now)) ≡ true) }
-    ensures understood { HasValues name.now (rows_of (found_of options.now)) →
+    ensures understood { HasTaskValues name.now (rows_of (found_of options.now)) →
         IfErr result (λ fault. fault ≡ LineFault.Pens) }
 {
     match output_of(name).ok_or(LineFault::Words)? {
@@ -101,6 +107,40 @@ fn page_of(options: &ArgMatches<'_>) -> Result<Page, LineFault>
     let left = number_of(options, "left")?;
     let below = number_of(options, "below")?;
     Page::new(width, height, left, below).map_err(|_| LineFault::Words)
+}
+
+fn reading_of(options: &ArgMatches<'_>) -> Result<Reading, LineFault>
+    ensures reading { IfOk result (IsReadingOf (rows_of (found_of options.now))) }
+    ensures pens { result ≢ Err LineFault.Pens }
+    ensures refused { HasReadingValues (rows_of (found_of options.now)) →
+        result_err result ≡ reading_fault (rows_of (found_of options.now)) }
+{
+    let profile = options.get_str("profile").ok_or(LineFault::Words)?;
+    let sheet = sheet_of(options)?;
+    if profile == "full" {
+        return Ok(Reading::Full {
+            sheet: sheet.unwrap_or(1),
+        });
+    }
+    if profile != "core" {
+        return Err(LineFault::Profile);
+    }
+    match sheet {
+        None => Ok(Reading::Core),
+        Some(_) => Err(LineFault::Sheet),
+    }
+}
+
+// The sheet, or `None` if none is given.
+fn sheet_of(options: &ArgMatches<'_>) -> Result<Option<u32>, LineFault>
+    ensures sheet { IfOk result (λ sheet. sheet_in (rows_of (found_of options.now)) ≡ sheet) }
+    ensures understood { HasReadingValues (rows_of (found_of options.now)) → IsOk result }
+    ensures fault { IfErr result (λ fault. fault ≡ LineFault.Words) }
+{
+    if options.get_str("sheet").is_none() {
+        return Ok(None);
+    }
+    Ok(Some(number_of(options, "sheet")?))
 }
 
 fn number_of(options: &ArgMatches<'_>, name: &str) -> Result<u32, LineFault>

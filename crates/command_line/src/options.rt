@@ -6,14 +6,16 @@ ghost use Rattle.clap.specs.declared.parser.matches.ArgMatches.{ArgMatches};
 ghost use Rattle.clap.specs.Words.{app_of, rule_of, is_simple_and_free, new_app, with_rule, with_subcommand};
 ghost use Rattle.clap.specs.declared.builder.command.Command.TheViews.{out-Command as fields_of};
 ghost use Rattle.clap.specs.declared.builder.value_parser.ValueParser.TheVariants as ValueParser;
-ghost use Rattle.command_line.specs.Options.{option_rule, number_rule, file_rule, with_page, with_picture};
+ghost use Rattle.command_line.specs.Options.{bare_rule, option_rule, whole_number, number_rule, file_rule};
+ghost use Rattle.command_line.specs.Options.{with_page, with_reading, with_picture};
 ghost use Rattle.command_line.specs.Options.{picture_app, report_app, subcommand_app, add_subcommand, plot_app};
 ghost use Rattle.command_line.specs.Options.{top_app, IsOf};
 ghost use Rattle.clap_parses.specs.Parses.{HasGoodMatches};
 
 use crate::fault::BuildFault;
 use crate::help::{
-    BAND, BELOW, FILE, FROM, HEIGHT, HelpLine, HelpPage, LEFT, PENS, TOP, VERSION, WIDTH,
+    BAND, BELOW, FILE, FROM, HEIGHT, HelpLine, HelpPage, LEFT, PENS, PROFILE, SHEET, TOP, VERSION,
+    WIDTH,
 };
 use crate::subcommands::{Output, SUBCOMMANDS, dots_line};
 use clap::builder::ValueParser;
@@ -22,6 +24,24 @@ use std::alloc::{AllocError, Global};
 use std::convert::AsStr;
 
 // `--name VALUE`, at most once.
+fn bare_option<'a>(
+    alloc: Global,
+    name: &'a str,
+    parser: ValueParser<'a>,
+    line: HelpLine<'a>,
+) -> Arg<'a>
+    ensures rule { rule_of result ≡ bare_rule name.entry.now parser.entry }
+    ensures local { result.global ≡ false }
+{
+    Arg::new(alloc, name)
+        .long(name)
+        .action(ArgAction::Set)
+        .value_parser(parser)
+        .value_name(line.value)
+        .help(line.help)
+}
+
+// The same, with a default.
 fn option_of<'a>(
     alloc: Global,
     name: &'a str,
@@ -32,13 +52,7 @@ fn option_of<'a>(
     ensures rule { rule_of result ≡ option_rule name.entry.now parser.entry given.entry.now }
     ensures local { result.global ≡ false }
 {
-    Arg::new(alloc, name)
-        .long(name)
-        .action(ArgAction::Set)
-        .value_parser(parser)
-        .default_value(given)
-        .value_name(line.value)
-        .help(line.help)
+    bare_option(alloc, name, parser, line).default_value(given)
 }
 
 // `--name N` with a whole number from low to high, at most once.
@@ -63,6 +77,22 @@ fn pens_of<'a>(alloc: Global) -> Arg<'a>
     ensures local { result.global ≡ false }
 {
     option_of(alloc, "pens", ValueParser::string(), "all", PENS)
+}
+
+// `--profile core|full`
+fn profile_of<'a>(alloc: Global) -> Arg<'a>
+    ensures rule { rule_of result ≡ option_rule (codes "profile") ValueParser.String (codes "core") }
+    ensures local { result.global ≡ false }
+{
+    option_of(alloc, "profile", ValueParser::string(), "core", PROFILE)
+}
+
+// `--sheet N`, without a default, so that it is known whether it is given.
+fn sheet_of<'a>(alloc: Global) -> Arg<'a>
+    ensures rule { rule_of result ≡ bare_rule (codes "sheet") (whole_number 0 4194304) }
+    ensures local { result.global ≡ false }
+{
+    bare_option(alloc, "sheet", ValueParser::signed(0, 4194304), SHEET)
 }
 
 fn file_of<'a>(alloc: Global) -> Arg<'a>
@@ -102,6 +132,22 @@ fn add_page<'a>(alloc: Global, command: Command<'a>) -> Result<Command<'a>, Allo
     add(command, below)
 }
 
+fn add_reading<'a>(alloc: Global, command: Command<'a>) -> Result<Command<'a>, AllocError>
+    requires { (fields_of command).has_globals ≡ false }
+    ensures { IfOk result (IsOf (with_reading (app_of command.entry))) }
+{
+    let profile = profile_of(alloc);
+    let sheet = sheet_of(alloc);
+    add(add(command, profile)?, sheet)
+}
+
+fn add_plot<'a>(alloc: Global, command: Command<'a>) -> Result<Command<'a>, AllocError>
+    requires { (fields_of command).has_globals ≡ false }
+    ensures { IfOk result (IsOf (with_reading (with_page (app_of command.entry)))) }
+{
+    add_reading(alloc, add_page(alloc, command)?)
+}
+
 fn add_picture<'a>(
     alloc: Global,
     command: Command<'a>,
@@ -128,7 +174,7 @@ fn picture_command<'a>(
 ) -> Result<Command<'a>, AllocError>
     ensures { IfOk result (IsOf (picture_app name.entry.now)) }
 {
-    let command = add_page(alloc, bare(alloc, name, page))?;
+    let command = add_plot(alloc, bare(alloc, name, page))?;
     let command = add_picture(alloc, command, dots_line)?;
     add(command, file_of(alloc))
 }
@@ -140,7 +186,7 @@ fn report_command<'a>(
 ) -> Result<Command<'a>, AllocError>
     ensures { IfOk result (IsOf (report_app name.entry.now)) }
 {
-    let command = add_page(alloc, bare(alloc, name, page))?;
+    let command = add_plot(alloc, bare(alloc, name, page))?;
     add(command, file_of(alloc))
 }
 

@@ -5,3 +5,5 @@
 mod options;
 #[cfg(test)]
 mod pens;
+#[cfg(test)]
+mod readings;

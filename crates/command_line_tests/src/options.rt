@@ -352,6 +352,14 @@ fn prints_faults(rt: HostRuntime) -> Result<(), Fail> {
         "bad pen list"
     );
     assert_eq!(rt;
+        format!(in rt.alloc(); "{}", LineFault::Profile)?.as_str(),
+        "bad profile"
+    );
+    assert_eq!(rt;
+        format!(in rt.alloc(); "{}", LineFault::Sheet)?.as_str(),
+        "--sheet needs --profile full"
+    );
+    assert_eq!(rt;
         format!(in rt.alloc(); "{}", BuildFault::Memory)?.as_str(),
         "out of memory"
     );

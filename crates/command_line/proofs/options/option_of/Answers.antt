@@ -1,8 +1,9 @@
-use Rattle.std.proofs.Common.{rules}
+use Rattle.std.proofs.Common.{◌∷◌, [], ap}
+use Rattle.clap.specs.Words.{Rule}
 use Rattle.command_line.proofs.options.option_of.Goals as goal
 
 pub returns : goal.returns
 returns c = record {
-  rule = rw (c.help.ensures, c.value_name.ensures, c.default_value.ensures, c.value_parser.ensures.others, c.value_parser.ensures.given, c.action.ensures, c.long.ensures) (search rules);
-  local = rw (c.help.ensures, c.value_name.ensures, c.default_value.ensures, c.value_parser.ensures.others, c.action.ensures, c.long.ensures) c.new.ensures.optional.1;
+  rule = rw c.default_value.ensures (ap (λ (r : Rule). record r { defaults = c.args.given.now ∷ [] }) c.bare_option.ensures.rule);
+  local = rw c.default_value.ensures c.bare_option.ensures.local;
 }
