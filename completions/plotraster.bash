@@ -1,7 +1,7 @@
 # Bash completion of plotraster: its commands, their options, and the names of files.
 _plotraster() {
     local word="${COMP_WORDS[COMP_CWORD]}" before="${COMP_WORDS[COMP_CWORD - 1]}"
-    local command="${COMP_WORDS[1]}" options="--width --height --left --below"
+    local command="${COMP_WORDS[1]}" options="--width --height --left --below --profile --sheet"
     COMPREPLY=()
     if [ "$COMP_CWORD" -eq 1 ]; then
         COMPREPLY=($(compgen -W "marks pbm ppm pcl report --help --version" -- "$word"))
@@ -26,7 +26,11 @@ _plotraster() {
         esac
     fi
     case "$before" in
-        --width | --height | --left | --below) return ;;
+        --profile)
+            COMPREPLY=($(compgen -W "core full" -- "$word"))
+            return
+            ;;
+        --width | --height | --left | --below | --sheet) return ;;
     esac
     case "$word" in
         -*) COMPREPLY=($(compgen -W "$options --help" -- "$word")) ;;

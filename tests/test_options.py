@@ -59,6 +59,13 @@ def options_in_help(program, command):
     return found
 
 
+def words_in_help(program, command):
+    """The words in quotes that the help of a command gives for values, by the options' names."""
+    lines = [re.match(r" +(--[a-z]+) <.*", line) for line in help_of(program, [command])]
+    found = {line[1]: re.findall(r"'(\w+)'", line[0]) for line in lines if line}
+    return {name: words for name, words in found.items() if words}
+
+
 def ends(values):
     """Numbers at the ends of a range or beside the numbers of a list, and whether each is in it."""
     numbers = [int(it) for it in re.findall(r"\d+", values)]
@@ -72,13 +79,13 @@ def takes(program, command, option):
     """Whether the program takes an option, written with its value, on a small page and an empty plot."""
     small = [it for it in ["--width=64", "--height=64"] if it.split("=")[0] != option.split("=")[0]]
     done = run(program, [command, *small, option], SECONDS)
-    return not done.stderr.startswith((b"error: ", b"plotraster: resolution is not"))
+    return not done.stderr.startswith((b"error: ", b"plotraster: resolution is not", b"plotraster: bad "))
 
 
 def wrong_ranges(program, command, options):
     """The ranges in the help that are not those of the program."""
     for name, (value, values, _) in options.items():
-        for number, is_in in ends(values) if value != "LIST" else []:
+        for number, is_in in ends(values) if values and value != "LIST" else []:
             if takes(program, command, f"{name}={number}") != is_in:
                 yield f"{command} {name}: the help says {values}, and {number} is {'refused' if is_in else 'taken'}"
 
@@ -183,12 +190,12 @@ def allowed(values, offered):
     return [str(it) for it in numbers]
 
 
-def wrong_values(command, options):
+def wrong_values(command, options, words):
     """The options of a command whose values the completion gets wrong. It may offer no number."""
-    for name, (value, values, default) in options.items():
+    for name, (_, values, _) in options.items():
         offered = completed(command, name, "")
-        wanted = [default] if value == "LIST" else allowed(values, offered)
-        if offered or value == "LIST":
+        if offered or name in words:
+            wanted = words[name] if name in words else allowed(values, offered)
             yield from differ(f"{command} {name}", "the program", wanted, "the completion", offered)
 
 
@@ -205,7 +212,7 @@ def test_options(program):
         assert len(options) >= 4
         assert_nothing(wrong_ranges(program, command, options))
         assert_nothing(wrong_options(command, options, commands))
-        assert_nothing(wrong_values(command, options))
+        assert_nothing(wrong_values(command, options, words_in_help(program, command)))
 
 
 def sentences_of_help(program, commands):
@@ -227,17 +234,19 @@ def test_page_begins_with_the_sentences_of_help(program):
     page = {(name, head.split()[0]): text for name in ("COMMANDS", "OPTIONS")
             for _, head, text in entries(section(name))}
     sentences = list(sentences_of_help(program, commands))
-    assert len(sentences) == len(commands) + 8 + 4
+    assert len(sentences) == len(commands) + 10 + 6
     assert_nothing(f"{name}: the page has {page[part, name]!r}, the help {says!r}"
                    for part, name, says in sentences if not page[part, name].startswith(says + ". "))
 
 
 def test_quoted_values_of_help(program):
-    """A value in quotes is taken, as 'all' for the list of pens."""
-    words = [(option, word) for command in FORMS for line in help_of(program, [command])
-             for option in re.findall(r"^ +(--[a-z]+) <", line) for word in re.findall(r"'(\w+)'", line)]
-    assert len(words) == len(FORMS)
-    assert all(takes(program, "pbm", f"{option}={word}") for option, word in words)
+    """A value in quotes is taken, as 'all' for the list of pens, and so is each default."""
+    for command in commands_in_help(program):
+        words = words_in_help(program, command)
+        assert list(words) == (["--profile"] if command == "report" else ["--profile", "--pens"])
+        for name, values in words.items():
+            assert options_in_help(program, command)[name][2] in values
+            assert all(takes(program, command, f"{name}={word}") for word in values)
 
 
 def test_completion_is_registered():

@@ -47,7 +47,7 @@ def messages_of_the_page():
     """The same from the manual page, each value in capitals."""
     diagnostics = re.search(r"^\.SH DIAGNOSTICS\n(.*?)^\.SH ", read(PAGE), re.M | re.S)[1]
     for head in re.findall(r"^\.TP\n\.(?:B|BI) (.+)", diagnostics, re.M):
-        yield re.sub(r"\s+", " ", head.replace('"', "")).removeprefix("plotraster: ")
+        yield re.sub(r"\s+", " ", head.replace('"', "").replace("\\-", "-")).removeprefix("plotraster: ")
 
 
 def test_messages():

@@ -29,6 +29,8 @@ OFF_RANGE = (1, b"plotraster: place off range at byte 0\n")
 USAGE = (2, b"error: ")
 NO_TEXT = (2, b"plotraster: words not understood\n")
 BAD_LIST = (2, b"plotraster: bad pen list\n")
+BAD_PROFILE = (2, b"plotraster: bad profile\n")
+NO_SHEETS = (2, b"plotraster: --sheet needs --profile full\n")
 NOT_OF_PCL = (2, b"plotraster: resolution is not one of PCL's\n")
 PAST_THE_END = (2, b"plotraster: first row is past the last row\n")
 NOT_OPENED = (3, b"plotraster: cannot open ")
@@ -69,7 +71,8 @@ def commands():
     yield ["--", "pbm", "line.plt"], USAGE
     for option in RANGES:
         yield [option, "100", "pbm"], USAGE
-    yield ["--pens", "all", "pbm"], USAGE
+    for option, value in [("--pens", "all"), ("--profile", "full"), ("--sheet", "1")]:
+        yield [option, value, "pbm"], USAGE
 
 
 def numbers_in_range():
@@ -111,7 +114,7 @@ def no_numbers():
 
 def values_missing():
     """Options without a value, and values that look like options."""
-    for name in [*RANGES, "--pens"]:
+    for name in [*RANGES, "--pens", "--profile", "--sheet"]:
         yield ["pbm", name], USAGE
         yield ["pbm", "line.plt", name], USAGE
         yield ["pbm", name, "--", "line.plt"], USAGE
@@ -122,11 +125,12 @@ def values_missing():
 
 def options_twice():
     """An option that is given twice, with the same value or another, in both forms."""
-    for name, value, other in [*((it, "100", "101") for it in RANGES), ("--pens", "all", "1")]:
+    texts = [("--pens", "all", "1"), ("--profile", "full", "core")]
+    for name, value, other in [*((it, "100", "101") for it in [*RANGES, "--sheet"]), *texts]:
         yield ["marks", name, value, name, value], USAGE
         yield ["pbm", f"{name}={value}", f"{name}={other}"], USAGE
         yield ["ppm", f"{name}={value}", "line.plt", name, other], USAGE
-    for name in PAGE_RANGES:
+    for name in [*PAGE_RANGES, "--sheet", "--profile"]:
         yield ["report", name, "100", "line.plt", f"{name}=100"], USAGE
 
 
@@ -134,8 +138,8 @@ def unknown_options():
     """Options that there are not, abbreviations among them."""
     for word in [
         "--dot", "--d", "--pen", "--wid", "--Dots", "--DOTS", "--dots-per-inch", "--dotss", "--dots ", "--version", "-V",
-        "--verbose", "-v", "-w", "-dots", "-1", "-0", "--1", "--=", "--=5", "---", "---dots", "--\u00e9", "-\u00e9",
-        "--" + "w" * LONG, "-" + "w" * LONG,
+        "--verbose", "-v", "-w", "--prof", "--sheets", "-dots", "-1", "-0", "--1", "--=", "--=5", "---", "---dots", "--\u00e9",
+        "-\u00e9", "--" + "w" * LONG, "-" + "w" * LONG,
     ]:
         yield ["pbm", word], USAGE
         yield ["report", "line.plt", word], USAGE
@@ -165,6 +169,30 @@ def lists_of_pens():
         yield ["ppm", f"--pens={text}"], BAD_LIST
         if not text.startswith("-"):
             yield ["marks", "--pens", text, "line.plt"], BAD_LIST
+
+
+def profiles():
+    """The profiles, and words that are none."""
+    for command in COMMANDS:
+        yield [command, "--profile", "core", "line.plt"], DONE
+        yield [command, "--profile=full", "line.plt"], DONE
+        yield [command, "far.plt", "--profile", "full"], OFF_RANGE
+    for word in ["", " ", "Core", "FULL", "ful", "fuller", "core ", " full", "0", "core,full", "\u00e9", "f" * LONG]:
+        yield ["pbm", f"--profile={word}"], BAD_PROFILE
+        yield ["report", "--profile", word, "--sheet=1"], BAD_PROFILE
+
+
+def sheets():
+    """Sheets in the profile full, and in core, which has none."""
+    for command in COMMANDS:
+        for sheet in ["0", "1", "+2", "0004194304"]:
+            yield [command, "--profile=full", "--sheet", sheet, "line.plt"], DONE
+            yield [command, f"--sheet={sheet}", "line.plt", "--profile", "full"], DONE
+            yield [command, f"--sheet={sheet}"], NO_SHEETS
+            yield [command, "--profile", "core", "--sheet", sheet, "line.plt"], NO_SHEETS
+        for sheet in ["-1", "4194305", str(2**32), str(2**64 + 1), "", "all", "1.5", "1-2"]:
+            yield [command, f"--sheet={sheet}", "--profile=full"], USAGE
+            yield [command, f"--sheet={sheet}"], USAGE
 
 
 def resolutions_of_pcl():
@@ -233,7 +261,13 @@ def calls_for_help():
 
 
 def orders_of_refusal():
-    """Command lines with two things wrong: usage, the list of pens, the file, and then the picture's."""
+    """Command lines with two things wrong: usage, the list of pens, profile and sheet, the file, then the picture's."""
+    yield ["pbm", "--profile=none", "--sheet=-1"], USAGE
+    yield ["pbm", "--profile=none", "--pens=0"], BAD_LIST
+    yield ["pcl", "--sheet=1", "--pens=0"], BAD_LIST
+    yield ["ppm", "--profile=none", "--sheet=1", "missing.plt"], BAD_PROFILE
+    yield ["report", "--sheet=1", "missing.plt"], NO_SHEETS
+    yield ["pcl", "--sheet=1", "--dots=127"], NO_SHEETS
     yield ["pbm", "--pens=0", "--dots=9"], USAGE
     yield ["pbm", "--dots=9", "missing.plt"], USAGE
     yield ["pbm", "--pens=0", "missing.plt"], BAD_LIST
@@ -263,8 +297,8 @@ def bytes_that_are_no_text():
 
 GENERATORS = [
     plain, commands, numbers_in_range, numbers_out_of_range, no_numbers, values_missing, options_twice, unknown_options,
-    options_of_pictures, lists_of_pens, resolutions_of_pcl, files, after_two_hyphens, calls_for_help, orders_of_refusal,
-    bytes_that_are_no_text,
+    options_of_pictures, lists_of_pens, profiles, sheets, resolutions_of_pcl, files, after_two_hyphens, calls_for_help,
+    orders_of_refusal, bytes_that_are_no_text,
 ]
 
 

@@ -17,8 +17,8 @@ PAGE_OPTIONS = {
     "width": (64, 65536, 11880), "height": (64, 65536, 8400), "left": (0, 65536, 0), "below": (0, 65536, 0),
 }
 PICTURE_OPTIONS = {"dots": (10, 1200, 100), "band": (1, 4096, 4096), "from": (0, 99999, 0)}
-# Those of the profile full.
-FULL_OPTIONS = {"sheet": (0, 4_194_304, 1)}
+# In the profile core a sheet may not be given.
+SHEET_OPTIONS = {"sheet": (0, 4_194_304, 1)}
 
 
 class Answer(NamedTuple):
@@ -38,10 +38,7 @@ def fault(status, text):
 
 def answer(form, options, plot):
     """What the program answers; options are texts by their names."""
-    profile = options.get("profile", "core")
-    if profile not in ("core", "full"):
-        return USAGE
-    ranges = {**PAGE_OPTIONS, **(PICTURE_OPTIONS if form != "report" else {}), **(FULL_OPTIONS if profile == "full" else {})}
+    ranges = {**PAGE_OPTIONS, **SHEET_OPTIONS, **(PICTURE_OPTIONS if form != "report" else {})}
     numbers = {}
     for name, (least, most, default) in ranges.items():
         text = options.get(name, str(default))
@@ -51,10 +48,17 @@ def answer(form, options, plot):
     texts = ("profile",) if form == "report" else ("profile", "pens")
     if any(name not in (*ranges, *texts) for name in options):
         return USAGE
-    page = Page(*(numbers[name] for name in PAGE_OPTIONS))
+    pens, profile = pens_of(options.get("pens", "all")), options.get("profile", "core")
+    if pens is None:
+        return fault(2, "bad pen list")
+    if profile not in ("core", "full"):
+        return fault(2, "bad profile")
+    if profile == "core" and "sheet" in options:
+        return fault(2, "--sheet needs --profile full")
+    page, sheet = Page(*(numbers[name] for name in PAGE_OPTIONS)), numbers["sheet"] if profile == "full" else None
     if form == "report":
-        return described(numbers, page, plot)
-    return pictured(form, numbers, options.get("pens", "all"), page, plot)
+        return described(sheet, page, plot)
+    return pictured(form, numbers, sheet, pens, page, plot)
 
 
 class Drawing(NamedTuple):
@@ -74,24 +78,22 @@ def draw(plot, page, sheet):
     return Drawing([stroke for stroke in strokes if sheet in (0, stroke.sheet)], notes, sheets)
 
 
-def described(numbers, page, plot):
+def described(sheet, page, plot):
     """A report on a plot."""
     try:
-        drawing = draw(plot, page, numbers.get("sheet"))
+        drawing = draw(plot, page, sheet)
     except Refused as refusal:
         return fault(1, refusal)
     return Answer(0, report(drawing, page), "")
 
 
-def pictured(form, numbers, pens, page, plot):
+def pictured(form, numbers, sheet, pens, page, plot):
     """A picture of a plot, in a form."""
-    pens, dots = pens_of(pens), numbers["dots"]
-    if pens is None:
-        return fault(2, "bad pen list")
+    dots = numbers["dots"]
     if form == "pcl" and dots not in DOTS_OF_PCL:
         return fault(2, "resolution is not one of PCL's")
     try:
-        strokes = draw(plot, page, numbers.get("sheet")).strokes
+        strokes = draw(plot, page, sheet).strokes
     except Refused as refusal:
         return fault(1, refusal)
     if numbers["from"] > raster.count(page.height, dots):
