@@ -1,5 +1,6 @@
 """Compares the built program with tests/reference on plots that are the same each time: the examples, all
-characters, all whole angles, and 3,000 random plots. `make fuzz` compares new ones."""
+characters, all whole angles, and 3,000 random plots in the profile core and 3,000 in full. `make fuzz` compares new
+ones."""
 
 import glob
 import os
@@ -7,8 +8,11 @@ import os
 import pytest
 
 from comparing import difference, differs
+from reference.full_cutting import items
+from reference.random_full_plots import is_drawn, random_drawn_case
 from reference.random_plots import Case, random_case
 from shared import EXAMPLES, assert_nothing, read_bytes
+from test_full_reference import options_of, plot_of, rows
 
 COUNT = 3000
 PARTS = 12
@@ -37,10 +41,18 @@ def angles():
         yield f"angles {turn}0 to {turn}180", Case("report", {}, plot.encode())
 
 
-def random_plots(part):
+def full_examples():
+    """The examples of the profile full that the program draws so far, as reports."""
+    for name, keys in rows():
+        plot = plot_of(keys["plot"][0])
+        if all(map(is_drawn, items(plot))):
+            yield name, Case("report", options_of(keys), plot)
+
+
+def random_plots(case_of, part):
     """A part of the random plots, by their seeds."""
     for seed in range(part, COUNT, PARTS):
-        yield f"seed {seed}", random_case(seed)
+        yield f"seed {seed}", case_of(seed)
 
 
 def assert_same(program, cases):
@@ -60,6 +72,17 @@ def test_angles(program):
     assert_same(program, angles())
 
 
+def test_full_examples(program):
+    cases = list(full_examples())
+    assert len(cases) >= 30
+    assert_same(program, cases)
+
+
 @pytest.mark.parametrize("part", range(PARTS))
 def test_random_plots(part, program):
-    assert_same(program, random_plots(part))
+    assert_same(program, random_plots(random_case, part))
+
+
+@pytest.mark.parametrize("part", range(PARTS))
+def test_random_full_plots(part, program):
+    assert_same(program, random_plots(random_drawn_case, part))
