@@ -3,7 +3,7 @@ use Rattle.std.proofs.Common.{◌≡◌, ℕ, List, Option, Some, None, Result, 
 use Rattle.std.specs.Result.{IsErrAnd}
 use Rattle.std.specs.Prelude.{option_map}
 use Rattle.picture_job.specs.declared.job.Job.{Job}
-use Rattle.conversion.specs.Drawings.{Rules}
+use Rattle.conversion.specs.Rules.{Rules}
 use Rattle.conversion.specs.Pictures.{Reach, refused_fault, job_fault}
 use Rattle.hpgl_plot.specs.declared.fault.PlotFault.{PlotFault}
 use Rattle.conversion.specs.Readings.{WasRead}

@@ -6,7 +6,7 @@ use Rattle.plot_page.specs.Resolutions.{rows_of}
 use Rattle.picture_job.specs.declared.job.Job.{Job}
 use Rattle.conversion.specs.Stops.{IsStoppedAt}
 use Rattle.conversion.specs.Pictures.{Reach, head_of, refused_fault, strokes_row, strokes_picture}
-use Rattle.conversion.specs.Drawings.{Rules, core_rules}
+use Rattle.conversion.specs.Rules.{Rules, core_rules}
 use Rattle.conversion.specs.Readings.{WasRead, WasTooLong}
 use Rattle.devices.specs.Sinks.{SinkState}
 use Rattle.devices.specs.Sources.{SourceState}
@@ -66,7 +66,7 @@ pub record HasConvertedBy (rules : Rules) (job : Job) (reaches : Reach) (before 
   pub converts : Converts rules job reaches input before after sink sink' answer
   pub tested : tests' ≤ tests + strokes_boxes job (rules.strokes job.page input)
 
--- a conversion of what draw_plot draws
+-- a conversion in the profile core
 abbrev pub HasConverted : Job → Reach → SourceState → SourceState → SinkState → SinkState → ℕ → ℕ → Result Done Fault →
     Type 0
 HasConverted = HasConvertedBy core_rules

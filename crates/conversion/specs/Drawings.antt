@@ -1,34 +1,16 @@
--- How plots are drawn, and what reading a plot and drawing it on a page answers.
+-- What reading a plot and drawing it on a page answers.
 use Rattle.std.specs.Prelude.{◌≡◌, ℕ, ◌+◌, ◌≤◌, List, length, Result, Ok, Err, Option, None, Some, option_map, ⊤}
 use Rattle.std.specs.Io.KnownBytes.{Consumes}
 use Rattle.hpgl_plot.specs.declared.drawn.Drawn.{Drawn}
 use Rattle.hpgl_plot.specs.declared.fault.PlotFault.{PlotFault}
 use Rattle.hpgl_plot.specs.declared.fault.PlotFault.TheVariants as plot
-use Rattle.plot_page.specs.Segments.{Segment}
 use Rattle.plot_page.specs.declared.page.Page.{Page}
 use Rattle.plot_page.specs.declared.stroke.TheConstants.{MOST_STROKES}
-use Rattle.conversion.specs.Pictures.{plot_strokes, plot_refusal}
+use Rattle.conversion.specs.Rules.{Rules}
 use Rattle.conversion.specs.Readings.{WasRead, WasTooLong}
 use Rattle.devices.specs.Sources.{SourceState}
 use Rattle.conversion.specs.declared.fault.Fault.{Fault}
 use Rattle.conversion.specs.declared.fault.Fault.TheVariants.{TooLong, Memory, Plot, Read}
-use Rattle.hpgl_plot.specs.Notes as noting
-use Rattle.hpgl_text.specs.Cut.{cut}
-
--- how many notes there are on it
-abbrev pub notes_count : List ℕ → ℕ
-notes_count plot = length (noting.notes (cut plot))
-
--- how plots are drawn: the strokes of a plot that is accepted for a page, the first refusal, or None if it is accepted,
--- and how many notes there are on it
-pub record Rules : Type 0 where
-  pub strokes : Page → List ℕ → List Segment
-  pub refusal : Page → List ℕ → Option PlotFault
-  pub notes : List ℕ → ℕ
-
--- the rules by which draw_plot draws
-abbrev pub core_rules : Rules
-core_rules = record { strokes = plot_strokes; refusal = plot_refusal; notes = notes_count }
 
 -- memory aside, the fault is the plot's refusal
 abbrev pub IsReason : PlotFault → Option PlotFault → Type 0

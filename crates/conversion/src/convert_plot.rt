@@ -3,18 +3,19 @@ ghost use Rattle.std.specs.Prelude.{◌≡◌, ℕ, ◌+◌, ◌-◌, ◌^◌, �
 ghost use Rattle.std.specs.Io.KnownBytes.{IsAtEnd};
 ghost use Rattle.conversion.specs.Conversions.{HasConverted, HasConvertedBy, is_write};
 ghost use Rattle.conversion.specs.Pictures.{has_resolution};
+ghost use Rattle.conversion.specs.Rules.{rules_of};
 
 use crate::done::Done;
-use crate::drawing::{CoreDrawing, Drawing, draw_source};
+use crate::draw_source::draw_source;
 use crate::fault::Fault;
 use crate::painting::paint;
 use devices::{Sink, Source};
-use picture_job::Job;
+use picture_job::{Job, Reading};
 use picture_out::takes_resolution;
 use std::alloc::Global;
 use stroke_raster::Gauge;
 
-/// Writes the picture of the plot that the source gives: the head if the job's first row is 0, its
+/// Writes the picture of the plot that the source gives, in the profile core: the head if the job's first row is 0, its
 /// rows from the first row on, the foot. A pixel shows the pen and the colour of the last stroke of
 /// the selected pens that the gauge says reaches it. The gauge makes at most as many tests as the
 /// boxes of those strokes have pixels, whatever the band height.
@@ -43,16 +44,16 @@ pub fn convert<G: Gauge, S: Source, K: Sink>(
     ensures same { G.reaches gauge.new ≡ G.reaches gauge.old }
     ensures untouched { IfErr result (λ fault. is_write fault ≡ false → sink.new ≡ sink.old) }
 {
-    convert_drawing(alloc, &CoreDrawing, job, gauge, source, sink)
+    convert_as(alloc, Reading::Core, job, gauge, source, sink)
 }
 
-/// Writes the picture of what `drawing` draws of the plot that the source gives, as `convert` does
-/// with what `draw_plot` draws of it.
+/// Writes the picture of the plot that the source gives, as `convert` does, read so: in the profile
+/// core, or in the profile full and of one sheet.
 ///
 /// Errors: those of `convert`, in the same order.
-pub fn convert_drawing<D: Drawing, G: Gauge, S: Source, K: Sink>(
+pub fn convert_as<G: Gauge, S: Source, K: Sink>(
     alloc: Global,
-    drawing: &D,
+    reading: Reading,
     job: &Job,
     gauge: &mut G,
     source: &mut S,
@@ -62,7 +63,7 @@ pub fn convert_drawing<D: Drawing, G: Gauge, S: Source, K: Sink>(
     requires ending { (S.state source.old).ends < 2 ^ 64 - 1 }
     requires sinking { (K.state sink.old).faults < 2 ^ 64 - 1 }
     ensures resolution { (result ≡ Err Fault.Resolution) ↔ (has_resolution job.now ≡ false) }
-    ensures converts { HasConvertedBy (D.rules drawing.now) job.now (G.reaches gauge.old)
+    ensures converts { HasConvertedBy (rules_of reading) job.now (G.reaches gauge.old)
         (S.state source.old) (S.state source.new) (K.state sink.old) (K.state sink.new)
         (G.count gauge.old) (G.count gauge.new) result }
     ensures end { (S.state source.new).ends ≡ (S.state source.old).ends + 1 → IsAtEnd (S.state source.new).left }
@@ -72,7 +73,7 @@ pub fn convert_drawing<D: Drawing, G: Gauge, S: Source, K: Sink>(
     if !takes_resolution(job.form, job.dots.per_inch()) {
         return Err(Fault::Resolution);
     }
-    let lines = draw_source(alloc, drawing, &job.page, source)?;
+    let lines = draw_source(alloc, reading, &job.page, source)?;
     let strokes = lines.strokes.as_slice();
     let bytes = match paint(alloc, job, strokes, gauge, sink) {
         Ok(bytes) => bytes,

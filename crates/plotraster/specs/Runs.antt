@@ -2,20 +2,23 @@
 use Rattle.std.specs.Prelude.{◌≡◌, ℕ, Bool, true, Result, Ok, Err}
 use Rattle.command_line.specs.declared.line.Task.{Task}
 use Rattle.command_line.specs.declared.line.Task.TheVariants.{Picture, Report}
-use Rattle.conversion.specs.Conversions.{HasConverted}
+use Rattle.picture_job.specs.declared.reading.Reading.{Reading}
+use Rattle.conversion.specs.Rules.{rules_of}
+use Rattle.conversion.specs.Conversions.{HasConvertedBy}
 use Rattle.conversion.specs.Pictures.{exact, has_resolution}
 use Rattle.conversion.specs.Faults.{status_of}
-use Rattle.conversion.specs.Reports.{HasReported}
+use Rattle.conversion.specs.Reports.{HasReportedBy}
 use Rattle.devices.specs.Sinks.{SinkState}
 use Rattle.devices.specs.Sources.{SourceState}
 use Rattle.conversion.specs.declared.done.Done.{Done}
 use Rattle.conversion.specs.declared.fault.Fault.{Fault}
 
--- a picture is converted by the exact gauge, after no tests; a report is written
-abbrev pub HasRun : Task → SourceState → SourceState → SinkState → SinkState → Result Done Fault → Type 0
-HasRun (Picture job) before after sink sink' answer =
-    (tests : ℕ) × HasConverted job exact before after sink sink' 0 tests answer
-HasRun (Report page) before after sink sink' answer = HasReported page before after sink sink' answer
+-- a picture is converted by the exact gauge, after no tests; a report is written; both of a plot that is read so
+abbrev pub HasRun : Reading → Task → SourceState → SourceState → SinkState → SinkState → Result Done Fault → Type 0
+HasRun reading (Picture job) before after sink sink' answer =
+    (tests : ℕ) × HasConvertedBy (rules_of reading) job exact before after sink sink' 0 tests answer
+HasRun reading (Report page) before after sink sink' answer =
+    HasReportedBy (rules_of reading) page before after sink sink' answer
 
 -- the form of a picture has its resolution; a report needs none
 abbrev pub task_has_resolution : Task → Bool

@@ -3,7 +3,7 @@
 
 use clap::ArgMatches;
 use plotraster::{
-    Fault, LineFault, OverRead, OverWrite, Task, command, exit_status, parse, parse_status,
+    Fault, Line, LineFault, OverRead, OverWrite, command, exit_status, parse, parse_status,
     run_task, settle, status,
 };
 use std::fs::File;
@@ -61,9 +61,9 @@ fn work(rt: &HostRuntime, matches: &ArgMatches<'_>) -> u8 {
         Err(fault) => return refuse_words(rt, fault),
     };
     match line.file {
-        None => perform(rt, &line.task, rt.stdin()),
+        None => perform(rt, &line, rt.stdin()),
         Some(path) => match File::open(rt, path) {
-            Ok(file) => perform(rt, &line.task, file),
+            Ok(file) => perform(rt, &line, file),
             Err(_) => {
                 let _ = eprintln!(rt; "plotraster: cannot open {path}");
                 DEVICE
@@ -72,12 +72,12 @@ fn work(rt: &HostRuntime, matches: &ArgMatches<'_>) -> u8 {
     }
 }
 
-// Writes what the task asks of the plot that the reader gives to standard output, which has no
+// Writes what the line asks of the plot that the reader gives to standard output, which has no
 // buffer: so a fault's count of bytes is what the device took.
-fn perform<R: Read + Drop>(rt: &HostRuntime, task: &Task, plot: R) -> u8 {
+fn perform<R: Read + Drop>(rt: &HostRuntime, line: &Line<'_>, plot: R) -> u8 {
     let mut source = OverRead::new(plot);
     let mut sink = OverWrite::new(rt.stdout());
-    let outcome = run_task(rt.alloc(), task, &mut source, &mut sink);
+    let outcome = run_task(rt.alloc(), line.reading, &line.task, &mut source, &mut sink);
     if let Err(fault) = &outcome {
         let _ = eprintln!(rt; "plotraster: {fault}");
     }

@@ -8,8 +8,6 @@ mod colours;
 #[cfg(test)]
 mod cut_off;
 #[cfg(test)]
-mod drawings;
-#[cfg(test)]
 mod faults;
 #[cfg(test)]
 mod fine;
@@ -31,6 +29,8 @@ mod pictures;
 mod printer;
 #[cfg(test)]
 mod random;
+#[cfg(test)]
+mod readings;
 #[cfg(test)]
 mod refusals;
 #[cfg(test)]

@@ -1,16 +1,16 @@
 use Rattle.std.proofs.Common.{◌≡◌, ◌≤◌, ◌+◌, ◌-◌, List, length, ℕ, ap, subst, ◌∙◌, Ok, Err, None}
 use Rattle.plot_page.specs.Segments.{Segment}
 use Rattle.conversion.specs.Boxes.{boxes_from}
-use Rattle.conversion.specs.Drawings.{Rules}
+use Rattle.conversion.specs.Rules.{Rules, rules_of}
 use Rattle.conversion.specs.Progress.{HasPainted}
 use Rattle.devices.specs.Sinks.{SinkState}
 use Rattle.conversion.proofs.Refusals.{job_faults, not_painted}
-use Rattle.conversion.proofs.convert_plot.convert_drawing.Goals as goal
+use Rattle.conversion.proofs.convert_plot.convert_as.Goals as goal
 
 pub returns-clause-converts : goal.returns-clause-converts
 returns-clause-converts g c =
     let job = c.args.job.now in
-    let rules : Rules = g.D.Drawing.rules c.args.drawing.now in
+    let rules : Rules = rules_of c.args.reading in
     let drawing = c.in_ok-lines.ensures.draws in
     let input : List ℕ = drawing.input in
     let was : SinkState = g.K.Sink.state c.args.sink.now in
@@ -36,7 +36,7 @@ returns-clause-converts g c =
 pub returns-in-Err-clause-converts : goal.returns-in-Err-clause-converts
 returns-in-Err-clause-converts g c =
     let job = c.args.job.now in
-    let rules : Rules = g.D.Drawing.rules c.args.drawing.now in
+    let rules : Rules = rules_of c.args.reading in
     let drawing = c.in_ok-lines.ensures.draws in
     let input : List ℕ = drawing.input in
     let was : SinkState = g.K.Sink.state c.args.sink.now in

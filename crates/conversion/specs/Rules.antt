@@ -1,0 +1,84 @@
+-- The rules by which plots are drawn, and the picture of a plot by them.
+use Rattle.std.specs.Prelude.{◌≡◌, ℕ, ◌<◌, ◌≤◌, List, length, false, Option, Some, None, ⊤}
+use Rattle.hpgl_text.specs.Cut.{cut, cut_by}
+use Rattle.hpgl_text.specs.declared.program.TheConstants.{LONGEST_PLOT}
+use Rattle.hpgl_text.specs.declared.profile.Profile.TheVariants as profile
+use Rattle.hpgl_plot.specs.declared.fault.PlotFault.{PlotFault}
+use Rattle.hpgl_plot.specs.Notes as core
+use Rattle.hpgl_plot.specs.declared.note.Note.{Note}
+use Rattle.full_plot.specs.Drawings.{outcome, refusal_in, strokes_in, ends_in, sheet_strokes, sheet_count}
+use Rattle.full_plot.specs.Notes as full
+use Rattle.plot_page.specs.Segments.{Segment}
+use Rattle.plot_page.specs.declared.page.Page.{Page}
+use Rattle.plot_report.specs.Report.{report_of, full_report_of}
+use Rattle.picture_job.specs.declared.job.Job.{Job}
+use Rattle.picture_job.specs.declared.reading.Reading.{Reading}
+use Rattle.picture_job.specs.declared.reading.Reading.TheVariants.{Core, Full}
+use Rattle.conversion.specs.Pictures.{Reach, has_resolution, plot_strokes, plot_refusal, refused_fault, strokes_picture}
+use Rattle.conversion.specs.declared.fault.Fault.{Fault}
+use Rattle.conversion.specs.declared.fault.Fault.TheVariants.{TooLong, Memory, Write, Read, Resolution}
+
+-- the strokes of a plot that is accepted for a page, the first refusal, or None if it is accepted, how many notes there
+-- are on it, and the report on it
+pub record Rules : Type 0 where
+  pub strokes : Page → List ℕ → List Segment
+  pub refusal : Page → List ℕ → Option PlotFault
+  pub notes : List ℕ → ℕ
+  pub report : Page → List ℕ → List ℕ
+
+-- the rules of the profile core
+abbrev pub core_rules : Rules
+core_rules = record {
+  strokes = plot_strokes;
+  refusal = plot_refusal;
+  notes = λ plot. length (core.notes (cut plot));
+  report = λ page plot. report_of page (plot_strokes page plot) (core.notes (cut plot));
+}
+
+-- the strokes of a sheet of a plot that is accepted in the profile full, or those of all sheets for 0
+abbrev pub strokes_on : ℕ → Page → List ℕ → List Segment
+strokes_on sheet page plot =
+    let drawn = outcome page plot in
+    sheet_strokes (strokes_in drawn) (ends_in drawn) sheet
+
+-- how many sheets it has
+abbrev pub sheets_of : Page → List ℕ → ℕ
+sheets_of page plot =
+    let drawn = outcome page plot in
+    sheet_count (ends_in drawn) (length (strokes_in drawn))
+
+-- what is noted on it
+abbrev pub full_notes : List ℕ → List Note
+full_notes plot = full.notes (cut_by profile.Full plot)
+
+-- the rules of the profile full, for a sheet, or for all sheets by 0
+abbrev pub full_rules : ℕ → Rules
+full_rules sheet = record {
+  strokes = strokes_on sheet;
+  refusal = λ page plot. refusal_in (outcome page plot);
+  notes = λ plot. length (full_notes plot);
+  report = λ page plot. full_report_of page (sheets_of page plot) (strokes_on sheet page plot) (full_notes plot);
+}
+
+-- how a plot is drawn that is read so
+abbrev pub rules_of : Reading → Rules
+rules_of Core = core_rules
+rules_of (Full sheet) = full_rules sheet
+
+-- the picture of a job and a plot by these rules
+abbrev pub picture_by : Rules → Job → Reach → List ℕ → List ℕ
+picture_by rules job reaches plot = strokes_picture job reaches (rules.strokes job.page plot)
+
+-- a plot has a picture of a job by these rules: it is not too long, and nothing refuses it
+pub record HasPictureBy (rules : Rules) (job : Job) (plot : List ℕ) : Type 0 where
+  pub within : length plot ≤ LONGEST_PLOT
+  pub accepted : refused_fault job (rules.refusal job.page plot) ≡ None
+
+-- why a plot in memory has no picture of a job by these rules. No device fails; what memory does is left open
+abbrev pub RefusesBy : Rules → Job → List ℕ → Fault → Type 0
+RefusesBy rules job plot TooLong = LONGEST_PLOT < length plot
+RefusesBy rules job plot (Write row whole bytes) = ⊥
+RefusesBy rules job plot Read = ⊥
+RefusesBy rules job plot Memory = ⊤
+RefusesBy rules job plot Resolution = has_resolution job ≡ false
+RefusesBy rules job plot fault = refused_fault job (rules.refusal job.page plot) ≡ Some fault
