@@ -1,5 +1,6 @@
 mod Examples
 mod PlotExamples
+mod NoteExamples
 pub mod Gaps
 pub mod Kept
 pub mod DrawnLines

@@ -1,0 +1,49 @@
+-- What is noted on small plots in the profile full, by their text.
+use Rattle.std.proofs.Common.{◌≡◌, ℕ, List, [], ◌∷◌, refl}
+use Rattle.std.specs.Prelude.{codes}
+use Rattle.hpgl_text.specs.Cut.{cut_by}
+use Rattle.hpgl_text.specs.declared.profile.Profile.TheVariants.{Full}
+use Rattle.hpgl_plot.specs.declared.note.Note.{Note}
+use Rattle.hpgl_plot.specs.declared.note.NoteKind.{NoteKind}
+use Rattle.hpgl_plot.specs.declared.note.NoteKind.TheVariants.{Skipped, Bad, Stray, Axis, Open}
+use Rattle.full_plot.specs.Notes.{notes}
+
+abbrev noted : List ℕ → List Note
+noted plot = notes (cut_by Full plot)
+
+-- a note on the item at a place
+abbrev note : ℕ → List ℕ → NoteKind → Note
+note at code kind = record { at = at; code = code; kind = kind }
+
+wrong_line_types : noted (codes "LT9;LT2,0;LT2,1,2;UL0,1;UL1,0,0;UL1,1,-1;") ≡ note 0 (codes "LT") Bad ∷ note 4 (codes "LT") Bad ∷ note 10 (codes "LT") Bad ∷ note 18 (codes "UL") Bad ∷ note 24 (codes "UL") Bad ∷ note 32 (codes "UL") Bad ∷ []
+wrong_line_types = refl
+
+good_line_types : noted (codes "LT;LT99;LT-8;LT2,5,1;UL;UL-3;UL3,0,5;") ≡ []
+good_line_types = refl
+
+-- a byte that begins no number
+no_numbers : noted (codes "LT!;UL1,!;") ≡ note 0 (codes "LT") Bad ∷ note 4 (codes "UL") Bad ∷ []
+no_numbers = refl
+
+-- the ends of sheets, and BP with any numbers
+sheets : noted (codes "PG;AF;AH1;NR;FR;BP1,2;") ≡ []
+sheets = refl
+
+without_effect : noted (codes "PS1;COa x;NP8;") ≡ []
+without_effect = refl
+
+not_drawn : noted (codes "PM;SM*;BLx") ≡ note 0 (codes "PM") Skipped ∷ note 3 (codes "SM") Skipped ∷ note 7 (codes "BL") Skipped ∷ []
+not_drawn = refl
+
+-- as in core
+skipped_and_bad : noted (codes "ZZ;PA1;") ≡ note 0 (codes "ZZ") Skipped ∷ note 3 (codes "PA") Bad ∷ []
+skipped_and_bad = refl
+
+strays : noted (codes "PE!;#") ≡ note 2 (codes "PE") (Stray 33) ∷ note 4 (0 ∷ 0 ∷ []) (Stray 35) ∷ []
+strays = refl
+
+direction_along_no_axis : noted (codes "DI5,3;") ≡ note 0 (codes "DI") Axis ∷ []
+direction_along_no_axis = refl
+
+open_label : noted (codes "LBx") ≡ note 0 (codes "LB") Open ∷ []
+open_label = refl
