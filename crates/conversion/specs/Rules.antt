@@ -10,7 +10,6 @@ use Rattle.full_plot.specs.Drawings.{outcome, refusal_in, strokes_in, ends_in, s
 use Rattle.full_plot.specs.Notes as full
 use Rattle.plot_page.specs.Segments.{Segment}
 use Rattle.plot_page.specs.declared.page.Page.{Page}
-use Rattle.plot_report.specs.Report.{report_of, full_report_of}
 use Rattle.picture_job.specs.declared.job.Job.{Job}
 use Rattle.picture_job.specs.declared.reading.Reading.{Reading}
 use Rattle.picture_job.specs.declared.reading.Reading.TheVariants.{Core, Full}
@@ -19,45 +18,41 @@ use Rattle.conversion.specs.declared.fault.Fault.{Fault}
 use Rattle.conversion.specs.declared.fault.Fault.TheVariants.{TooLong, Memory, Write, Read, Resolution}
 
 -- the strokes of a plot that is accepted for a page, the first refusal, or None if it is accepted, how many notes there
--- are on it, and the report on it
+-- are on it, and how many sheets have strokes, 0 where that is not counted
 pub record Rules : Type 0 where
   pub strokes : Page → List ℕ → List Segment
   pub refusal : Page → List ℕ → Option PlotFault
   pub notes : List ℕ → ℕ
-  pub report : Page → List ℕ → List ℕ
+  pub sheets : Page → List ℕ → ℕ
+
+-- what is noted on a plot in the profile core
+abbrev pub core_notes : List ℕ → List Note
+core_notes plot = core.notes (cut plot)
 
 -- the rules of the profile core
 abbrev pub core_rules : Rules
 core_rules = record {
   strokes = plot_strokes;
   refusal = plot_refusal;
-  notes = λ plot. length (core.notes (cut plot));
-  report = λ page plot. report_of page (plot_strokes page plot) (core.notes (cut plot));
+  notes = λ plot. length (core_notes plot);
+  sheets = λ page plot. 0;
 }
 
--- the strokes of a sheet of a plot that is accepted in the profile full, or those of all sheets for 0
-abbrev pub strokes_on : ℕ → Page → List ℕ → List Segment
-strokes_on sheet page plot =
-    let drawn = outcome page plot in
-    sheet_strokes (strokes_in drawn) (ends_in drawn) sheet
-
--- how many sheets it has
-abbrev pub sheets_of : Page → List ℕ → ℕ
-sheets_of page plot =
-    let drawn = outcome page plot in
-    sheet_count (ends_in drawn) (length (strokes_in drawn))
-
--- what is noted on it
+-- what is noted on a plot in the profile full
 abbrev pub full_notes : List ℕ → List Note
 full_notes plot = full.notes (cut_by profile.Full plot)
 
 -- the rules of the profile full, for a sheet, or for all sheets by 0
 abbrev pub full_rules : ℕ → Rules
 full_rules sheet = record {
-  strokes = strokes_on sheet;
+  strokes = λ page plot.
+      let drawn = outcome page plot in
+      sheet_strokes (strokes_in drawn) (ends_in drawn) sheet;
   refusal = λ page plot. refusal_in (outcome page plot);
   notes = λ plot. length (full_notes plot);
-  report = λ page plot. full_report_of page (sheets_of page plot) (strokes_on sheet page plot) (full_notes plot);
+  sheets = λ page plot.
+      let drawn = outcome page plot in
+      sheet_count (ends_in drawn) (length (strokes_in drawn));
 }
 
 -- how a plot is drawn that is read so

@@ -1,18 +1,21 @@
 //! The report: read, cut, draw, describe.
-ghost use Rattle.std.specs.Prelude.{◌≡◌, ◌-◌, ◌+◌, ◌^◌, ◌<◌, IfErr, false};
+ghost use Rattle.std.specs.Prelude.{◌≡◌, ◌-◌, ◌+◌, ◌^◌, ◌<◌, ◌≤◌, IfOk, IfErr, false, length};
 ghost use Rattle.std.specs.Io.KnownBytes.{IsAtEnd};
+ghost use Rattle.plot_page.specs.declared.stroke.TheConstants.{MOST_STROKES};
+ghost use Rattle.hpgl_text.specs.declared.program.TheConstants.{LONGEST_PLOT};
+ghost use Rattle.devices.specs.Sinks.{Writes};
 ghost use Rattle.conversion.specs.Conversions.{is_write};
-ghost use Rattle.conversion.specs.Reports.{HasReported, HasReportedBy};
-ghost use Rattle.conversion.specs.Rules.{core_rules, full_rules, rules_of};
+ghost use Rattle.conversion.specs.Reports.{HasReported, HasReportedAs, report_on};
 
 use crate::done::Done;
+use crate::draw_source::draw_as;
 use crate::fault::Fault;
 use crate::reading::read_plot;
-use devices::{Sink, Source};
-use full_plot::{FullNotes, draw_full, keep_sheet};
-use hpgl_plot::{Notes, draw_plot};
+use devices::{Sink, Source, WriteFault};
+use full_plot::FullNotes;
+use hpgl_plot::Notes;
 use picture_job::Reading;
-use plot_page::Page;
+use plot_page::{Page, Stroke};
 use plot_report::{write_full_report, write_report};
 use std::alloc::Global;
 
@@ -54,36 +57,15 @@ pub fn report_as<S: Source, K: Sink>(
     requires failing { (S.state source.old).faults < 2 ^ 64 - 1 }
     requires ending { (S.state source.old).ends < 2 ^ 64 - 1 }
     requires sinking { (K.state sink.old).faults < 2 ^ 64 - 1 }
-    ensures reports { HasReportedBy (rules_of reading) page.now
-        (S.state source.old) (S.state source.new) (K.state sink.old) (K.state sink.new) result }
-    ensures end { (S.state source.new).ends ≡ (S.state source.old).ends + 1 → IsAtEnd (S.state source.new).left }
-    ensures untouched { IfErr result (λ fault. is_write fault ≡ false → sink.new ≡ sink.old) }
-{
-    match reading {
-        Reading::Core => report_core(alloc, page, source, sink),
-        Reading::Full { sheet } => report_sheet(alloc, sheet, page, source, sink),
-    }
-}
-
-// The report in the profile core.
-fn report_core<S: Source, K: Sink>(
-    alloc: Global,
-    page: &Page,
-    source: &mut S,
-    sink: &mut K,
-) -> Result<Done, Fault>
-    requires failing { (S.state source.old).faults < 2 ^ 64 - 1 }
-    requires ending { (S.state source.old).ends < 2 ^ 64 - 1 }
-    requires sinking { (K.state sink.old).faults < 2 ^ 64 - 1 }
-    ensures reports { HasReportedBy core_rules page.now
+    ensures reports { HasReportedAs reading page.now
         (S.state source.old) (S.state source.new) (K.state sink.old) (K.state sink.new) result }
     ensures end { (S.state source.new).ends ≡ (S.state source.old).ends + 1 → IsAtEnd (S.state source.new).left }
     ensures untouched { IfErr result (λ fault. is_write fault ≡ false → sink.new ≡ sink.old) }
 {
     let plot = read_plot(alloc, source)?;
-    let lines = draw_plot(alloc, plot.as_slice(), page)?;
+    let lines = draw_as(alloc, reading, plot.as_slice(), page)?;
     let strokes = lines.strokes.as_slice();
-    match write_report(page, strokes, Notes::new(plot.as_slice()), sink) {
+    match write_as(reading, page, strokes, lines.sheets, plot.as_slice(), sink) {
         Ok(bytes) => Ok(Done {
             rows: 0,
             bytes,
@@ -98,39 +80,26 @@ fn report_core<S: Source, K: Sink>(
     }
 }
 
-// The report in the profile full, with the strokes of a sheet.
-fn report_sheet<S: Source, K: Sink>(
-    alloc: Global,
-    sheet: u32,
+// Writes the report on a plot that is read so, by its strokes and sheets.
+fn write_as<K: Sink>(
+    reading: Reading,
     page: &Page,
-    source: &mut S,
+    strokes: &[Stroke],
+    sheets: usize,
+    plot: &[u8],
     sink: &mut K,
-) -> Result<Done, Fault>
-    requires failing { (S.state source.old).faults < 2 ^ 64 - 1 }
-    requires ending { (S.state source.old).ends < 2 ^ 64 - 1 }
+) -> Result<u64, WriteFault>
     requires sinking { (K.state sink.old).faults < 2 ^ 64 - 1 }
-    ensures reports { HasReportedBy (full_rules sheet) page.now
-        (S.state source.old) (S.state source.new) (K.state sink.old) (K.state sink.new) result }
-    ensures end { (S.state source.new).ends ≡ (S.state source.old).ends + 1 → IsAtEnd (S.state source.new).left }
-    ensures untouched { IfErr result (λ fault. is_write fault ≡ false → sink.new ≡ sink.old) }
+    requires strokes { length strokes.now ≤ MOST_STROKES }
+    requires plot { length plot.now ≤ LONGEST_PLOT }
+    ensures writes { Writes (K.state sink.old) (K.state sink.new)
+        (report_on reading page.now strokes.now sheets plot.now) result }
+    ensures count { IfOk result (λ n. n ≡ length (report_on reading page.now strokes.now sheets plot.now)) }
 {
-    let plot = read_plot(alloc, source)?;
-    let mut drawn = draw_full(alloc, plot.as_slice(), page)?;
-    let sheets = drawn.sheets();
-    keep_sheet(&mut drawn.strokes, drawn.ends.as_slice(), sheet);
-    let strokes = drawn.strokes.as_slice();
-    let notes = FullNotes::new(plot.as_slice());
-    match write_full_report(page, sheets, strokes, notes, sink) {
-        Ok(bytes) => Ok(Done {
-            rows: 0,
-            bytes,
-            strokes: strokes.len(),
-            notes: drawn.notes,
-        }),
-        Err(fault) => Err(Fault::Write {
-            row: 0,
-            whole: 0,
-            bytes: fault.bytes(),
-        }),
+    match reading {
+        Reading::Core => write_report(page, strokes, Notes::new(plot), sink),
+        Reading::Full { .. } => {
+            write_full_report(page, sheets, strokes, FullNotes::new(plot), sink)
+        }
     }
 }

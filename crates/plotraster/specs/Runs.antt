@@ -7,7 +7,7 @@ use Rattle.conversion.specs.Rules.{rules_of}
 use Rattle.conversion.specs.Conversions.{HasConvertedBy}
 use Rattle.conversion.specs.Pictures.{exact, has_resolution}
 use Rattle.conversion.specs.Faults.{status_of}
-use Rattle.conversion.specs.Reports.{HasReportedBy}
+use Rattle.conversion.specs.Reports.{HasReportedAs}
 use Rattle.devices.specs.Sinks.{SinkState}
 use Rattle.devices.specs.Sources.{SourceState}
 use Rattle.conversion.specs.declared.done.Done.{Done}
@@ -18,7 +18,7 @@ abbrev pub HasRun : Reading → Task → SourceState → SourceState → SinkSta
 HasRun reading (Picture job) before after sink sink' answer =
     (tests : ℕ) × HasConvertedBy (rules_of reading) job exact before after sink sink' 0 tests answer
 HasRun reading (Report page) before after sink sink' answer =
-    HasReportedBy (rules_of reading) page before after sink sink' answer
+    HasReportedAs reading page before after sink sink' answer
 
 -- the form of a picture has its resolution; a report needs none
 abbrev pub task_has_resolution : Task → Bool
