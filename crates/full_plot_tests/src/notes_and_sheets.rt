@@ -8,8 +8,7 @@ use std::test::Fail;
 fn notes_on(alloc: Global, text: &[u8]) -> Result<String, Fail> {
     let mut list = String::new(alloc);
     let mut count: u64 = 0;
-    let mut notes = FullNotes::new(text);
-    while let Some(note) = notes.next() {
+    for note in FullNotes::new(text) {
         let (at, [first, second]) = (note.at, note.code);
         let (first, second) = (first as char, second as char);
         let line = match note.kind {
