@@ -1,4 +1,5 @@
 pub mod Table
 pub mod CommandLaw
 pub mod ReadingLaw
+pub mod Given
 mod Examples

@@ -41,6 +41,6 @@ pub record HasReadingValues (rows : List Row) : Type 0 where
   pub profile : is_some (profile_text rows) ≡ true
   pub sheet : is_some (sheet_in rows) ≡ true → HasNumber rows (codes "sheet") 0 4194304
 
--- what a subcommand's options leave
+-- each option that a subcommand needs has a value
 abbrev pub HasValues : Text → List Row → Type 0
 HasValues name rows = HasTaskValues name rows × HasReadingValues rows

@@ -1,18 +1,14 @@
 use Rattle.std.proofs.Common.{◌≡◌, ◌∙◌, ap, ap₂, cond, refl, sym, ◌↔◌, Bool, true, false, List, Result, Err, Option, Some, None, Ok, codes}
 use Rattle.std.specs.Prelude.{option_and_then, option_map}
-use Rattle.std.specs.Option.{ok_or}
 use Rattle.std.specs.Result.{IsErrAnd, result_err}
 use Rattle.clap.specs.Words.{Row, Text, found_of, rows_of, subcommand_rows_of}
 use Rattle.clap.specs.declared.parser.matches.ArgMatches.{ArgMatches}
 use Rattle.clap.proofs.WalkLemmas.{first_value-rows}
 use Rattle.command_line.specs.declared.fault.LineFault.{LineFault}
 use Rattle.command_line.specs.Lines.{fault_of_values, has_bad_list, line_fault, reading_fault}
+use Rattle.command_line.proofs.Given.{was_some}
 use Rattle.command_line.proofs.ReadingLaw.{values_there}
 use Rattle.command_line.proofs.line.settle.Goals as goal
-
-was_some : {X E : Type 0} (o : Option X) (e : E) (x : X) → ok_or o e ≡ Ok x → o ≡ Some x
-was_some None e x is = absurd (cc)
-was_some (Some y) e x is = let same : y ≡ x = cc in ap Some same
 
 pair : {A B : Type 0} → A → B → A × B
 pair a b = (a, b)

@@ -4,6 +4,7 @@ use Rattle.std.specs.Str.{bytes_eq}
 use Rattle.clap.specs.Walk.{first_of, row_text}
 use Rattle.clap.specs.Words.{Row, Text, found_of, rows_of}
 use Rattle.clap.proofs.WalkLemmas.{first_value-rows}
+use Rattle.command_line.proofs.Given.{is_there}
 use Rattle.command_line.specs.Lines.{number_in}
 use Rattle.command_line.proofs.line.sheet_of.Goals as goal
 
@@ -18,10 +19,6 @@ by_row g (Some r) = by_text _ g (slice_get r.values 0)
 -- an option has a number if it has a text
 given : (name : Text) (rows : List Row) → is_some (number_in rows name) ≡ is_some (first_of name rows)
 given name rows = by_row _ (find (λ (r : Row). bytes_eq r.id name) rows)
-
-is_there : {X Y : Type 0} (f : X → Y) (o : Option X) → is_some (option_map f o) ≡ is_some o
-is_there f None = refl
-is_there f (Some x) = refl
 
 no_value : {X : Type 0} (o : Option X) → is_some o ≡ false → o ≡ None
 no_value None is = refl
