@@ -62,6 +62,9 @@ fn reads<F: Display>(rt: &impl Abort, alloc: Global, fault: &F, wanted: &str) ->
 fn texts_of_a_command_line(rt: HostRuntime) -> Result<(), Fail> {
     reads(&rt, rt.alloc(), &LineFault::Words, "words not understood")?;
     reads(&rt, rt.alloc(), &LineFault::Pens, "bad pen list")?;
+    reads(&rt, rt.alloc(), &LineFault::Profile, "bad profile")?;
+    let sheet = "--sheet needs --profile full";
+    reads(&rt, rt.alloc(), &LineFault::Sheet, sheet)?;
     reads(&rt, rt.alloc(), &BuildFault::Memory, "out of memory")
 }
 
