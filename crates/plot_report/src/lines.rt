@@ -1,7 +1,8 @@
 //! The lines of a report, each appended to a piece of it.
 ghost use Rattle.std.specs.Prelude.{◌≡◌, ◌+◌, ◌≤◌, ◌++◌, ◌∷◌, [], length, take, codes, decimal};
 ghost use Rattle.std.specs.List.{join_with_byte};
-ghost use Rattle.plot_report.specs.Report.{space, line, page_line, sheets_line, kind_words, note_line, corner_words, summary_line};
+ghost use Rattle.plot_report.specs.Report.{space, line, page_line, sheets_line, corner_words, summary_line};
+ghost use Rattle.plot_report.specs.Report.{kind_words, note_line};
 
 use crate::pieces::{append_number, append_word};
 use crate::summary::PenSummary;

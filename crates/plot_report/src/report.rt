@@ -3,6 +3,7 @@ ghost use Rattle.std.specs.Prelude.{◌≡◌, ◌+◌, ◌-◌, ◌^◌, ◌<�
 ghost use Rattle.plot_page.specs.declared.stroke.TheConstants.{MOST_STROKES};
 ghost use Rattle.devices.specs.Sinks.{Writes};
 ghost use Rattle.plot_report.specs.Report.{report_of, full_report_of, strokes_line, pen_lines, note_line};
+ghost use Rattle.plot_report.specs.Pieces.{with_plot_lines};
 ghost use Rattle.plot_report.specs.Summaries.{summary_lines};
 
 use crate::lines::{
@@ -89,9 +90,8 @@ fn put_lines<N: NoteSource + Drop, K: Sink>(
     requires used { used ≤ LONGEST_START }
     requires room { length piece.old ≡ PIECE }
     ensures writes { Writes (K.state sink.old) (K.state sink.new)
-        (take used piece.old ++ strokes_line strokes.now ++ pen_lines strokes.now ++ flat_map note_line (N.notes notes)) result }
-    ensures count { IfOk result (λ n. n ≡ length
-        (take used piece.old ++ strokes_line strokes.now ++ pen_lines strokes.now ++ flat_map note_line (N.notes notes))) }
+        (with_plot_lines (take used piece.old) strokes.now (N.notes notes)) result }
+    ensures count { IfOk result (λ n. n ≡ length (with_plot_lines (take used piece.old) strokes.now (N.notes notes))) }
 {
     let used = append_strokes(piece, used, strokes);
     put_notes(notes, piece, used, sink)
