@@ -1,44 +1,92 @@
 -- Plots of core in the profile full.
-use Rattle.std.proofs.Common.{◌≡◌, ◌∙◌, ap, sym, refl, inl, inr, Bool, true, false, true≢false, ℕ, arith, Result, Ok, Err, List, [], ◌∷◌, ◌++◌, Option, Some, None, All}
+use Rattle.std.proofs.Common.{◌≡◌, ◌∙◌, ap, sym, refl, Bool, true, false, true≢false, ℕ, arith, Result, Ok, Err, List, [], ◌∷◌, ◌++◌, Option, Some, None, ℤ, All}
 use Rattle.std.specs.Prelude.{if◌then◌else◌}
-use Rattle.std.proofs.lemmas.Bool.{cases_Bool}
 use Rattle.std.proofs.lemmas.Option.{none-some}
 use Rattle.std.proofs.lemmas.List.Elements.{All-head, All-tail}
 use Rattle.plot_page.specs.declared.page.Page.{Page}
 use Rattle.plot_settings.specs.Meanings.{Step, Write, meaning, entry_steps, body_steps, steps_of}
 use Rattle.hpgl_text.specs.Shapes.{ItemShape, BodyShape, Params, Further, Label, Coded, Terminator, Kept, Symbol, Known, Skipped, Bad, Stray}
 use Rattle.hpgl_text.specs.declared.instruction.Instruction.{Instruction}
+use Rattle.hpgl_text.specs.declared.instruction.Instruction.TheVariants.{Initialize, DefaultValues, InputPoints, Scale, Rotate, InputWindow, SelectPen, PenWidth, PenColour, PenUp, PenDown, PlotAbsolute, PlotRelative, EdgeAbsolute, EdgeRelative, Circle, ArcAbsolute, ArcRelative, CharacterSize, Direction}
 use Rattle.hpgl_plot.specs.declared.fault.PlotFault.{PlotFault}
 use Rattle.hpgl_plot.specs.declared.fault.PlotFault.TheVariants as fault
 use Rattle.hpgl_plot.specs.Machine as core
 use Rattle.hpgl_plot.specs.Strokes.{strokes, refusal}
 use Rattle.hpgl_plot.proofs.Bridge.{told, Told}
-use Rattle.full_plot.specs.Items.{as_core, does_restyle, restyles, full_steps}
-use Rattle.full_plot.specs.Machine.{World, followed, run, with_core}
+use Rattle.full_plot.specs.Items.{as_core, more_steps, params_steps, full_steps}
+use Rattle.full_plot.specs.Machine.{World, FullStep, followed, run, with_core}
 use Rattle.full_plot.specs.Drawings.{at_start, ended, runs, refusal_in, strokes_in, ends_in}
 use Rattle.full_plot.specs.Laws.{is_core_body, IsCoreItem, as_at_start, all_as_at_start, SameRefusal, SameStrokes, OneSheet}
 use Rattle.full_plot.proofs.FullRuns.{run-append, solid_run}
 
--- IN and DF set the line style that is set already
-restyled : (v : core.World) (i : Instruction) (o : Option core.World)
-    → followed (with_core (as_at_start v) o) (λ (u : World). run u (restyles i)) ≡ with_core (as_at_start v) o
-restyled v i None = refl
-restyled v i (Some u) = elim (cases_Bool (does_restyle i)) [
-  | inl t ↦ rw t refl
-  | inr t ↦ rw t refl
-]
+-- what IN, DF and IP do besides changes nothing, and PW is in millimetres
+changed_nothing : (v : core.World) (o : Option core.World) (more : List FullStep)
+    → ((u : core.World) → run (as_at_start u) more ≡ Some (as_at_start u))
+    → followed (with_core (as_at_start v) o) (λ (u : World). run u more) ≡ with_core (as_at_start v) o
+changed_nothing v None more h = refl
+changed_nothing v (Some u) more h = h u
 
-params_run : (v : core.World) (i : Instruction) (ss : List Step)
-    → run (as_at_start v) (as_core ss ++ restyles i) ≡ with_core (as_at_start v) (core.run v ss)
-params_run v i ss =
-    run-append (as_at_start v) (as_core ss) (restyles i)
-    ∙ ap (λ (o : Option World). followed o (λ (u : World). run u (restyles i))) (solid_run ss (as_at_start v) refl)
-    ∙ restyled v i (core.run v ss)
+core_and_more : (v : core.World) (ss : List Step) (more : List FullStep)
+    → ((u : core.World) → run (as_at_start u) more ≡ Some (as_at_start u))
+    → run (as_at_start v) (as_core ss ++ more) ≡ with_core (as_at_start v) (core.run v ss)
+core_and_more v ss more h =
+    run-append (as_at_start v) (as_core ss) more
+    ∙ ap (λ (o : Option World). followed o (λ (u : World). run u more)) (solid_run ss (as_at_start v) refl)
+    ∙ changed_nothing v (core.run v ss) more h
+
+more_is_nothing : (i : Instruction) (u : core.World) → run (as_at_start u) (more_steps i) ≡ Some (as_at_start u)
+more_is_nothing Initialize u = refl
+more_is_nothing DefaultValues u = refl
+more_is_nothing InputPoints u = refl
+more_is_nothing Scale u = refl
+more_is_nothing Rotate u = refl
+more_is_nothing InputWindow u = refl
+more_is_nothing SelectPen u = refl
+more_is_nothing PenWidth u = refl
+more_is_nothing PenColour u = refl
+more_is_nothing PenUp u = refl
+more_is_nothing PenDown u = refl
+more_is_nothing PlotAbsolute u = refl
+more_is_nothing PlotRelative u = refl
+more_is_nothing EdgeAbsolute u = refl
+more_is_nothing EdgeRelative u = refl
+more_is_nothing Circle u = refl
+more_is_nothing ArcAbsolute u = refl
+more_is_nothing ArcRelative u = refl
+more_is_nothing CharacterSize u = refl
+more_is_nothing Direction u = refl
+
+width_run : (v : core.World) (o : Option core.World)
+    → followed (with_core (as_at_start v) o) (λ (u : World). run u []) ≡ with_core (as_at_start v) o
+width_run v o = changed_nothing v o [] (λ (u : core.World). refl)
+
+params_run : (v : core.World) (i : Instruction) (ns : List ℤ)
+    → run (as_at_start v) (params_steps i ns) ≡ with_core (as_at_start v) (core.run v (meaning i ns).steps)
+params_run v PenWidth ns = width_run v (core.run v (meaning PenWidth ns).steps)
+params_run v Initialize ns = core_and_more v (meaning Initialize ns).steps (more_steps Initialize) (more_is_nothing Initialize)
+params_run v DefaultValues ns = core_and_more v (meaning DefaultValues ns).steps (more_steps DefaultValues) (more_is_nothing DefaultValues)
+params_run v InputPoints ns = core_and_more v (meaning InputPoints ns).steps (more_steps InputPoints) (more_is_nothing InputPoints)
+params_run v Scale ns = core_and_more v (meaning Scale ns).steps (more_steps Scale) (more_is_nothing Scale)
+params_run v Rotate ns = core_and_more v (meaning Rotate ns).steps (more_steps Rotate) (more_is_nothing Rotate)
+params_run v InputWindow ns = core_and_more v (meaning InputWindow ns).steps (more_steps InputWindow) (more_is_nothing InputWindow)
+params_run v SelectPen ns = core_and_more v (meaning SelectPen ns).steps (more_steps SelectPen) (more_is_nothing SelectPen)
+params_run v PenColour ns = core_and_more v (meaning PenColour ns).steps (more_steps PenColour) (more_is_nothing PenColour)
+params_run v PenUp ns = core_and_more v (meaning PenUp ns).steps (more_steps PenUp) (more_is_nothing PenUp)
+params_run v PenDown ns = core_and_more v (meaning PenDown ns).steps (more_steps PenDown) (more_is_nothing PenDown)
+params_run v PlotAbsolute ns = core_and_more v (meaning PlotAbsolute ns).steps (more_steps PlotAbsolute) (more_is_nothing PlotAbsolute)
+params_run v PlotRelative ns = core_and_more v (meaning PlotRelative ns).steps (more_steps PlotRelative) (more_is_nothing PlotRelative)
+params_run v EdgeAbsolute ns = core_and_more v (meaning EdgeAbsolute ns).steps (more_steps EdgeAbsolute) (more_is_nothing EdgeAbsolute)
+params_run v EdgeRelative ns = core_and_more v (meaning EdgeRelative ns).steps (more_steps EdgeRelative) (more_is_nothing EdgeRelative)
+params_run v Circle ns = core_and_more v (meaning Circle ns).steps (more_steps Circle) (more_is_nothing Circle)
+params_run v ArcAbsolute ns = core_and_more v (meaning ArcAbsolute ns).steps (more_steps ArcAbsolute) (more_is_nothing ArcAbsolute)
+params_run v ArcRelative ns = core_and_more v (meaning ArcRelative ns).steps (more_steps ArcRelative) (more_is_nothing ArcRelative)
+params_run v CharacterSize ns = core_and_more v (meaning CharacterSize ns).steps (more_steps CharacterSize) (more_is_nothing CharacterSize)
+params_run v Direction ns = core_and_more v (meaning Direction ns).steps (more_steps Direction) (more_is_nothing Direction)
 
 -- the steps of an item are core's
 item_run : (v : core.World) (b : BodyShape) → is_core_body b ≡ true
     → run (as_at_start v) (full_steps b) ≡ with_core (as_at_start v) (core.run v (body_steps b))
-item_run v (Params i ns) h = params_run v i (meaning i ns).steps
+item_run v (Params i ns) h = params_run v i ns
 item_run v (Further f ns) h = absurd (true≢false (sym h))
 item_run v (Label bytes) h = solid_run (Write bytes ∷ []) (as_at_start v) refl
 item_run v (Coded entries) h = solid_run (entry_steps entries) (as_at_start v) refl

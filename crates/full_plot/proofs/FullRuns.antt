@@ -1,5 +1,5 @@
 -- Steps of core, one after another, in the profile full.
-use Rattle.std.proofs.Common.{◌≡◌, ◌∙◌, ◌<◌, ◌≤◌, ap, sym, refl, arith, inl, inr, true, ℕ, false, true≢false, append-nil, slice_index_or, Result, Ok, Err, List, [], ◌∷◌, ◌++◌, length, Option, Some, None, ℤ}
+use Rattle.std.proofs.Common.{◌≡◌, ◌∙◌, ◌<◌, ◌≤◌, ap, sym, refl, arith, inl, inr, true, ℕ, false, true≢false, slice_index_or, Result, Ok, Err, List, [], ◌∷◌, ◌++◌, length, Option, Some, None, ℤ}
 use Rattle.std.proofs.lemmas.List.{map-append}
 use Rattle.std.proofs.lemmas.Bool.{cases_Bool}
 use Rattle.std.specs.List.{list_all}
@@ -12,9 +12,12 @@ use Rattle.hpgl_plot.specs.Machine as core
 use Rattle.hpgl_text.specs.Cut.{last_or}
 use Rattle.hpgl_text.specs.Shapes.{BodyShape, Params, Coded, Label}
 use Rattle.hpgl_text.specs.declared.instruction.Instruction.{Instruction}
+use Rattle.hpgl_text.specs.declared.instruction.Instruction.TheVariants.{Initialize, DefaultValues, InputPoints, Scale, Rotate, InputWindow, SelectPen, PenWidth, PenColour, PenUp, PenDown, PlotAbsolute, PlotRelative, EdgeAbsolute, EdgeRelative, Circle, ArcAbsolute, ArcRelative, CharacterSize, Direction}
+use Rattle.std.specs.Result.{IsErrAnd}
 use Rattle.hpgl_plot.specs.declared.plotter.Stop.{Stop}
 use Rattle.hpgl_plot.specs.declared.plotter.Stop.TheVariants.{Memory, OffRange}
-use Rattle.full_plot.specs.Items.{as_core, does_restyle, full_steps}
+use Rattle.full_plot.specs.Items.{as_core, more_steps, params_steps, full_steps}
+use Rattle.full_plot.specs.Holding.{is_pen_width}
 use Rattle.full_plot.specs.LineStyles.{is_solid, shape_by}
 use Rattle.full_plot.specs.declared.line_setting.LineKind.TheVariants as kind
 use Rattle.full_plot.specs.declared.line_setting.LineKind.{LineKind}
@@ -101,13 +104,54 @@ with_runs w o v (Ok x) h = ap (λ (p : Option core.World). with_core w p) h
 with_runs w o v (Err Memory) h = tt
 with_runs w o v (Err OffRange) h = ap (λ (p : Option core.World). with_core w p) h
 
--- an instruction that does not set the line style, in solid lines
-pub solid_params : {U : Type 0} (w : World) (v : core.World) (body : BodyShape) (i : Instruction) (ns : List ℤ) (r : Result U Stop) → body ≡ Params i ns → does_restyle i ≡ false → is_solid w.style.kind ≡ true
-    → core.Runs (core.run w.core (body_steps body)) v r → Runs (run w (full_steps body)) (record w { core = v }) r
-solid_params w v body i ns r e f h k =
-    let steps = (meaning i ns).steps in
-    let g : run w (full_steps body) ≡ with_core w (core.run w.core (body_steps body)) = rw (e, f, append-nil (as_core steps)) (solid_run steps w h) in
-    rw g (with_runs w _ v r k)
+-- an instruction other than PW
+pub other_steps : (i : Instruction) (ns : List ℤ) → is_pen_width i ≡ false → params_steps i ns ≡ as_core (meaning i ns).steps ++ more_steps i
+other_steps PenWidth ns h = absurd (true≢false h)
+other_steps Initialize ns h = refl
+other_steps DefaultValues ns h = refl
+other_steps InputPoints ns h = refl
+other_steps Scale ns h = refl
+other_steps Rotate ns h = refl
+other_steps InputWindow ns h = refl
+other_steps SelectPen ns h = refl
+other_steps PenColour ns h = refl
+other_steps PenUp ns h = refl
+other_steps PenDown ns h = refl
+other_steps PlotAbsolute ns h = refl
+other_steps PlotRelative ns h = refl
+other_steps EdgeAbsolute ns h = refl
+other_steps EdgeRelative ns h = refl
+other_steps Circle ns h = refl
+other_steps ArcAbsolute ns h = refl
+other_steps ArcRelative ns h = refl
+other_steps CharacterSize ns h = refl
+other_steps Direction ns h = refl
+
+pub other_run : (w v z : World) (body : BodyShape) (i : Instruction) (ns : List ℤ) → body ≡ Params i ns → is_pen_width i ≡ false
+    → run w (as_core (meaning i ns).steps) ≡ Some v → run v (more_steps i) ≡ Some z → run w (full_steps body) ≡ Some z
+other_run w v z body i ns e f h k =
+    rw (e, other_steps i ns f)
+    (run-append w (as_core (meaning i ns).steps) (more_steps i) ∙ ap (λ (o : Option World). followed o (λ (u : World). run u (more_steps i))) h ∙ k)
+
+pub other_stopped : {U : Type 0} (w v : World) (body : BodyShape) (i : Instruction) (ns : List ℤ) (e : Stop) (r : Result U Stop) → body ≡ Params i ns → is_pen_width i ≡ false
+    → Runs {U = U} (run w (as_core (meaning i ns).steps)) v (Err e) → IsErrAnd r (λ f. f ≡ e) → Runs (run w (full_steps body)) v r
+other_stopped w v body i ns e (Ok x) d f h k = absurd k
+other_stopped w v body i ns Memory (Err g) d f h k = rw k tt
+other_stopped w v body i ns OffRange (Err g) d f h k =
+    rw (k, d, other_steps i ns f)
+    (run-append w (as_core (meaning i ns).steps) (more_steps i) ∙ ap (λ (o : Option World). followed o (λ (u : World). run u (more_steps i))) h)
+
+-- an instruction in solid lines
+pub solid_params : {U : Type 0} (w : World) (v : core.World) (body : BodyShape) (i : Instruction) (ns : List ℤ) (r : Result U Stop) → body ≡ Params i ns → is_solid w.style.kind ≡ true
+    → core.Runs (core.run w.core (body_steps body)) v r → Runs (run w (as_core (meaning i ns).steps)) (record w { core = v }) r
+solid_params w v body i ns r e h k =
+    let f : body_steps body ≡ (meaning i ns).steps = rw e refl in
+    rw (solid_run (meaning i ns).steps w h) (with_runs w _ v r (rw f at k))
+
+-- one step of core
+one_written : (w : World) (o : Option core.World) → followed (with_core w o) (λ (v : World). Some v) ≡ with_core w (core.followed o (λ (v : core.World). Some v))
+one_written w None = refl
+one_written w (Some v) = refl
 
 -- a polyline in solid lines
 pub solid_coded : {U : Type 0} (w : World) (v : core.World) (body : BodyShape) (entries : List EntryShape) (r : Result U Stop) → body ≡ Coded entries → is_solid w.style.kind ≡ true
@@ -117,10 +161,6 @@ solid_coded w v body entries r e h k =
     rw g (with_runs w _ v r k)
 
 -- a label is drawn as in core
-one_written : (w : World) (o : Option core.World) → followed (with_core w o) (λ (v : World). Some v) ≡ with_core w (core.followed o (λ (v : core.World). Some v))
-one_written w None = refl
-one_written w (Some v) = refl
-
 pub label_runs : {U : Type 0} (w : World) (v : core.World) (body : BodyShape) (bytes : List ℕ) (r : Result U Stop) → body ≡ Label bytes
     → core.Runs (core.run w.core (body_steps body)) v r → Runs (run w (full_steps body)) (record w { core = v }) r
 label_runs w v body bytes r e k =

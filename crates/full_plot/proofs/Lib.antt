@@ -2,6 +2,7 @@ mod Examples
 mod PlotExamples
 mod NoteExamples
 pub mod Gaps
+pub mod WidthTables
 pub mod Kept
 pub mod DrawnLines
 pub mod Solid

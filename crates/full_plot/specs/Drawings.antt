@@ -15,7 +15,7 @@ use Rattle.full_plot.specs.Machine.{World, run, ends_with}
 
 -- before the first item
 abbrev pub at_start : Page → World
-at_start page = record { core = core.at_start page; style = usual_style; run = None; ends = [] }
+at_start page = record { core = core.at_start page; style = usual_style; run = None; percents = None; ends = [] }
 
 -- the items, one after another, up to the first refusal: a place out of range, or else a stroke too many
 abbrev pub ended : Option World → ℕ → (World → Result World PlotFault) → Result World PlotFault

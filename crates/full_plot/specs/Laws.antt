@@ -23,9 +23,10 @@ is_core_body _ = true
 abbrev pub IsCoreItem : ItemShape → Type 0
 IsCoreItem i = is_core_body i.body ≡ true
 
--- what core leaves, in the profile full: solid lines as at the start, and no sheet that has ended
+-- what core leaves, in the profile full: solid lines and widths in millimetres as at the start, and no sheet that has
+-- ended
 abbrev pub as_at_start : core.World → World
-as_at_start v = record { core = v; style = usual_style; run = None; ends = [] }
+as_at_start v = record { core = v; style = usual_style; run = None; percents = None; ends = [] }
 
 abbrev pub all_as_at_start : Result core.World PlotFault → Result World PlotFault
 all_as_at_start (Ok v) = Ok (as_at_start v)

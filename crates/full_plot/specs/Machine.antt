@@ -1,12 +1,13 @@
 -- A plot in the profile full, one step at a time: the steps of core, with lines in the line type, and settings more.
-use Rattle.std.specs.Prelude.{◌≡◌, ℕ, max, Bool, true, false, List, [], ◌∷◌, ◌++◌, length, nat_eq, nat_lt}
+use Rattle.std.specs.Prelude.{◌≡◌, ℕ, ℤ, max, Bool, true, false, List, [], ◌∷◌, ◌++◌, length, nat_eq, nat_lt}
 use Rattle.std.specs.Prelude.{if◌then◌else◌, Option, Some, None, Result, Ok, Err, ⊤}
 use Rattle.std.specs.List.{list_all}
 use Rattle.plot_page.specs.declared.page.Page.{Page}
 use Rattle.plot_page.specs.Segments.{Segment}
 use Rattle.line_types.specs.declared.run.Run.{Run}
 use Rattle.line_types.specs.LineTypes.{LineShape}
-use Rattle.plot_settings.specs.Meanings.{Step, Move, Go, Edge, DrawCircle, DrawArc}
+use Rattle.hpgl_text.specs.declared.instruction.Instruction.TheVariants.{PenWidth}
+use Rattle.plot_settings.specs.Meanings.{Step, Move, Go, Edge, DrawCircle, DrawArc, meaning}
 use Rattle.hpgl_plot.specs.declared.plotter.Stop.{Stop}
 use Rattle.hpgl_plot.specs.declared.plotter.Stop.TheVariants.{Memory, OffRange}
 use Rattle.hpgl_plot.specs.declared.state.State.{State}
@@ -16,16 +17,20 @@ use Rattle.hpgl_plot.specs.Machine as core
 use Rattle.full_plot.specs.declared.plotter.FullPlotter.{FullPlotter}
 use Rattle.hpgl_text.specs.Cut.{last_or}
 use Rattle.full_plot.specs.declared.line_setting.LineSetting.{LineSetting}
-use Rattle.full_plot.specs.LineStyles.{shape_of, style_with, usual_style}
+use Rattle.full_plot.specs.declared.width_setting.WidthSetting.{WidthSetting}
+use Rattle.full_plot.specs.LineStyles.{shape_of, style_with, usual_style, diagonal}
 use Rattle.full_plot.specs.LineStyles as styles
 use Rattle.full_plot.specs.Dashing.{dashed, run_through}
+use Rattle.full_plot.specs.Widths.{widths_by, percents_with, grains_with}
+use Rattle.full_plot.specs.WidthParameters.{percent_width}
 
--- what core has: the page, the state and the strokes; the line style, and the run of its pattern; for each sheet that
--- has ended, how many strokes were made until then
+-- what core has: the page, the state and the strokes; the line style, and the run of its pattern; the widths of pens in
+-- percent, or None while widths are in millimetres; for each sheet that has ended, how many strokes were made until then
 pub record World : Type 0 where
   pub core : core.World
   pub style : styles.Style
   pub run : Option Run
+  pub percents : Option (List (Option ℕ))
   pub ends : List ℕ
 
 -- the line type, with P1 and P2 as they are now
@@ -79,11 +84,43 @@ has_lines _ = false
 abbrev pub core_step : World → Step → Option World
 core_step w t = if has_lines t then line_step w t else with_core w (core.step w.core t)
 
--- a step of core; what an LT or a UL sets; the line style of the start; the end of a sheet
+-- widths in grains, as core has them: those in percent are taken of P1 and P2 as they are now
+abbrev pub widths_in : Option (List (Option ℕ)) → State → List ℕ
+widths_in None s = s.widths
+widths_in (Some percents) s = widths_by (diagonal s.frame.points) percents s.widths
+
+abbrev pub with_widths : World → List ℕ → World
+with_widths w widths = record w { core = record w.core { state = record w.core.state { widths = widths } } }
+
+abbrev pub rewidened : World → World
+rewidened w = with_widths w (widths_in w.percents w.core.state)
+
+-- after a WU, a PT or a PW in percent
+abbrev pub widened : WidthSetting → World → World
+widened s w =
+    let selected = w.core.state.pen in
+    let set_in_grains = with_widths w (grains_with s selected w.core.state.widths) in
+    rewidened (record set_in_grains { percents = percents_with s selected w.percents })
+
+-- after a PW with these numbers: in millimetres it is core's; wrong numbers set nothing
+abbrev pub widened_if : Option WidthSetting → World → World
+widened_if None w = w
+widened_if (Some s) w = widened s w
+
+abbrev pub pen_width_step : Option (List (Option ℕ)) → World → List ℤ → Option World
+pen_width_step None w ns = with_core w (core.run w.core (meaning PenWidth ns).steps)
+pen_width_step (Some percents) w ns = Some (widened_if (percent_width ns) w)
+
+-- a step of core; what an LT or a UL sets; the line style of the start; a PW with these numbers, in millimetres or in
+-- percent; what a WU or a PT sets; widths by other P1 and P2; line style and widths of the start; the end of a sheet
 pub data FullStep : Type 0 where
   Core : Step → FullStep
   Style : LineSetting → FullStep
   Restyle : FullStep
+  WidthBy : List ℤ → FullStep
+  Widen : WidthSetting → FullStep
+  Rewiden : FullStep
+  Restart : FullStep
   EndSheet : FullStep
 
 -- a sheet ends if it has a stroke; no strokes are taken from one sheet to the next
@@ -98,6 +135,10 @@ abbrev pub step : World → FullStep → Option World
 step w (Core t) = core_step w t
 step w (Style s) = Some (record w { style = style_with s w.style; run = None })
 step w Restyle = Some (record w { style = usual_style; run = None })
+step w (WidthBy ns) = pen_width_step w.percents w ns
+step w (Widen s) = Some (widened s w)
+step w Rewiden = Some (rewidened w)
+step w Restart = Some (record w { style = usual_style; run = None; percents = None })
 step w EndSheet = Some (record w { ends = ends_with w.ends (length w.core.kept) })
 
 abbrev pub followed : Option World → (World → Option World) → Option World
@@ -115,4 +156,10 @@ Runs ran new (Err Memory) = ⊤
 Runs ran new (Err OffRange) = ran ≡ None
 
 abbrev pub seen : FullPlotter → World
-seen p = record { core = core.seen p.plotter; style = p.style; run = p.run; ends = p.ends.items }
+seen p = record {
+  core = core.seen p.plotter;
+  style = p.style;
+  run = p.run;
+  percents = p.percents;
+  ends = p.ends.items;
+}

@@ -1,4 +1,5 @@
-//! What a plot draws in the profile full, the instructions of core and line types, and what is noted on it.
+//! What a plot draws in the profile full: the instructions of core, line types, and widths in percent; and
+//! what is noted on it.
 #![tactic(auto)]
 
 mod dashing;
@@ -14,6 +15,9 @@ mod plain;
 mod plotter;
 mod sheets;
 mod steps;
+mod width_parameters;
+mod width_setting;
+mod widths;
 
 pub use drawn::{FullDrawn, draw_full};
 pub use line_setting::{LineKind, LineSetting, PatternLength};
@@ -21,3 +25,4 @@ pub use line_style::LineStyle;
 pub use notes::FullNotes;
 pub use plotter::FullPlotter;
 pub use sheets::keep_sheet;
+pub use width_setting::WidthSetting;

@@ -148,8 +148,8 @@ fn usual_pattern(n: i8) -> Pattern
     }
 }
 
-// The distance from P1 to P2 in ticks.
-fn diagonal_by(points: &Pair<Ends>) -> u64
+/// The distance from P1 to P2 in ticks of 1/256 grain.
+pub fn diagonal_by(points: &Pair<Ends>) -> u64
     requires { IsPoints points.now }
     ensures value { result ≡ diagonal points.now }
     ensures most { result ≤ 2 ^ 40 }

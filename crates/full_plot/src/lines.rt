@@ -79,6 +79,7 @@ impl FullPlotter {
         ensures pen { result.pen ≡ self.old.plotter.state.pen }
         ensures style { self.new.style ≡ self.old.style }
         ensures run { self.new.run ≡ self.old.run }
+        ensures percents { self.new.percents ≡ self.old.percents }
         ensures ends { self.new.ends ≡ self.old.ends }
     {
         let pen = self.plotter.state.pen;

@@ -17,6 +17,10 @@ pub struct FullPlotter {
     pub style: LineStyle,
     /// How far the pattern of a dashed line has gone, and where.
     pub run: Option<Run>,
+    /// The widths of pens in millionths of a percent of the distance from P1 to P2, while widths are in
+    /// percent; `None` for a pen whose width is in millimetres. Core's widths are always what these are
+    /// in grains.
+    pub percents: Option<[Option<u32>; 256]>,
     /// How many strokes there were when each sheet ended.
     pub ends: Vec<usize>,
     pub alloc: Global,
@@ -31,6 +35,7 @@ impl FullPlotter {
             plotter: Plotter::new(alloc, page),
             style: LineStyle::new(),
             run: None,
+            percents: None,
             ends: Vec::new(alloc),
             alloc,
         }

@@ -1,16 +1,18 @@
 //! What the items of a plot do.
-ghost use Rattle.std.specs.Prelude.{◌≡◌, Some, IfSome, [], ◌∷◌};
+ghost use Rattle.std.specs.Prelude.{◌≡◌, false, Some, IfSome, [], ◌∷◌};
 ghost use Rattle.hpgl_text.specs.Shapes.{Params};
 ghost use Rattle.plot_settings.specs.Meanings.{meaning, moves, lowered_then, entry_steps, part_steps};
 ghost use Rattle.plot_settings.specs.Requests.{request_meaning, move_steps, IsRequest};
-ghost use Rattle.full_plot.specs.Items.{full_steps, further_steps, does_restyle, restyles, styles_steps, as_core};
+ghost use Rattle.full_plot.specs.Items.{full_steps, more_steps, further_steps, styles_steps, as_core};
+ghost use Rattle.full_plot.specs.Holding.{is_pen_width};
 ghost use Rattle.full_plot.specs.LineStyles.{IsLineSetting};
-ghost use Rattle.full_plot.specs.Machine.{seen, step, run, last_end, Runs, Restyle, EndSheet};
+ghost use Rattle.full_plot.specs.Machine.{seen, step, run, last_end, Runs, Restyle, Restart, EndSheet};
 
 use crate::line_parameters::{line_type_setting, user_line_setting};
 use crate::line_setting::LineSetting;
 use crate::line_style::LineStyle;
 use crate::plotter::FullPlotter;
+use crate::width_parameters::{thickness_setting, width_unit_setting};
 use hpgl_plot::Stop;
 use hpgl_text::{Body, Entries, Entry, Further, Instruction, Item, Numbers, Part};
 use plot_settings::{Moves, Request, Setting, request_of};
@@ -35,7 +37,7 @@ impl FullPlotter {
         }
     }
 
-    // Carries out an instruction of core: solid lines are those of core.
+    // Carries out an instruction of core.
     fn take_params(
         &mut self,
         item: &Item<'_>,
@@ -45,15 +47,54 @@ impl FullPlotter {
         requires { item.now.body ≡ Params instruction numbers.now }
         ensures { Runs (run (seen self.old) (full_steps item.now.body)) (seen self.new) result }
     {
-        if does_restyle(instruction) {
-            self.plotter.take(item)?;
-            self.restyle();
-            return Ok(());
+        match instruction {
+            Instruction::PenWidth => self.take_width(item, numbers),
+            _ => self.take_other(item, instruction, numbers),
         }
+    }
+
+    // Carries out an instruction other than PW, and what it does besides.
+    fn take_other(
+        &mut self,
+        item: &Item<'_>,
+        instruction: Instruction,
+        numbers: &Numbers<'_>,
+    ) -> Result<(), Stop>
+        requires body { item.now.body ≡ Params instruction numbers.now }
+        requires other { is_pen_width instruction ≡ false }
+        ensures { Runs (run (seen self.old) (full_steps item.now.body)) (seen self.new) result }
+    {
+        self.take_core(item, instruction, numbers)?;
+        self.do_more(instruction);
+        Ok(())
+    }
+
+    // Carries out what an instruction means in core: solid lines are those of core.
+    fn take_core(
+        &mut self,
+        item: &Item<'_>,
+        instruction: Instruction,
+        numbers: &Numbers<'_>,
+    ) -> Result<(), Stop>
+        requires { item.now.body ≡ Params instruction numbers.now }
+        ensures { Runs (run (seen self.old) (as_core (meaning instruction numbers.now).steps)) (seen self.new) result }
+    {
         if self.style.is_solid() {
             self.plotter.take(item)
         } else {
             self.obey(instruction, numbers)
+        }
+    }
+
+    // What an instruction of core does besides.
+    fn do_more(&mut self, instruction: Instruction)
+        ensures { run (seen self.old) (more_steps instruction) ≡ Some (seen self.new) }
+    {
+        match instruction {
+            Instruction::Initialize => self.restart(),
+            Instruction::DefaultValues => self.restyle(),
+            Instruction::InputPoints => self.rewiden(),
+            _ => {}
         }
     }
 
@@ -71,10 +112,20 @@ impl FullPlotter {
                 self.set_style(user_line_setting(numbers));
                 Ok(())
             }
+            Further::WidthUnit => {
+                let (list, count) = numbers.leading();
+                self.widen_if(width_unit_setting(&list[..count]));
+                Ok(())
+            }
+            Further::PenThickness => {
+                let (list, count) = numbers.leading();
+                self.widen_if(thickness_setting(&list[..count]));
+                Ok(())
+            }
             Further::EndSheet => self.end_sheet(),
             Further::BeginPlot => {
                 self.set(Setting::Start);
-                self.restyle();
+                self.restart();
                 Ok(())
             }
             _ => Ok(()),
@@ -98,6 +149,14 @@ impl FullPlotter {
     {
         self.style = LineStyle::new();
         self.run = None;
+    }
+
+    // The line style of the start, and widths in millimetres.
+    fn restart(&mut self)
+        ensures { step (seen self.old) Restart ≡ Some (seen self.new) }
+    {
+        self.restyle();
+        self.percents = None;
     }
 
     // Ends a sheet, if it has a stroke.
@@ -219,16 +278,6 @@ impl FullPlotter {
             Part::Bad | Part::Stray(_) => Ok(()),
         }
     }
-}
-
-// Whether an instruction sets the line style of the start.
-fn does_restyle(instruction: Instruction) -> bool
-    ensures { result ≡ does_restyle instruction }
-{
-    matches!(
-        instruction,
-        Instruction::Initialize | Instruction::DefaultValues
-    )
 }
 
 // How many strokes there were when the last sheet ended.

@@ -5,3 +5,5 @@
 mod line_types_set;
 #[cfg(test)]
 mod notes_and_sheets;
+#[cfg(test)]
+mod widths_set;

@@ -22,8 +22,8 @@ returns c =
     let h = c.hold-held.ensures in
     let t = DrawArc c.args.is_relative c.args.arc in
     let k = subst (λ (u : core.World). core.step u t ≡ Some v) h.core c.in_ok-arc.ensures in
-    let x : World = record { core = v; style = c.hold-held.new.self.style; run = c.hold-held.new.self.run; ends = c.hold-held.new.self.ends.items } in
-    let e : with_held x c.hold-held.result ≡ restored w v = rw (h.kept, h.full, h.pen, h.style, h.run, h.ends) refl in
+    let x : World = record { core = v; style = c.hold-held.new.self.style; run = c.hold-held.new.self.run; percents = c.hold-held.new.self.percents; ends = c.hold-held.new.self.ends.items } in
+    let e : with_held x c.hold-held.result ≡ restored w v = rw (h.kept, h.full, h.pen, h.style, h.run, h.percents, h.ends) refl in
     let f : Some (drawn (with_held x c.hold-held.result) v.kept) ≡ line_step w t =
     ap (λ (y : World). Some (drawn y v.kept)) e ∙ sym (line_runs w t v (arc_lines w.core.page w.core.state c.args.is_relative c.args.arc c.requires) k) in
     subst (λ (o : Option World). Runs o (seen c.release.new.self) c.release.result) f c.release.ensures
