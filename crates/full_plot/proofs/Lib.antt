@@ -11,3 +11,4 @@ pub mod FullRuns
 pub mod CorePlots
 pub mod CoreNotes
 pub mod FewStrokes
+pub mod FewNotes

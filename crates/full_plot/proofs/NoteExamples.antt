@@ -25,6 +25,20 @@ good_line_types = refl
 no_numbers : noted (codes "LT!;UL1,!;") ≡ note 0 (codes "LT") Bad ∷ note 4 (codes "UL") Bad ∷ []
 no_numbers = refl
 
+-- PW in millimetres, and in percent after WU1
+wrong_widths : noted (codes "PW50;WU1;PW50;PW101;PW1,256;WU0;PW50;") ≡ note 0 (codes "PW") Bad ∷ note 14 (codes "PW") Bad ∷ note 20 (codes "PW") Bad ∷ note 32 (codes "PW") Bad ∷ []
+wrong_widths = refl
+
+wrong_units : noted (codes "WU2;PW50;WU1;WU2;PW50;PT21;PT-1;") ≡ note 0 (codes "WU") Bad ∷ note 4 (codes "PW") Bad ∷ note 13 (codes "WU") Bad ∷ note 22 (codes "PT") Bad ∷ note 27 (codes "PT") Bad ∷ []
+wrong_units = refl
+
+-- IN and BP restore millimetres, and DF does not
+millimetres_again : noted (codes "WU1;IN;PW50;WU1;BP;PW50;WU1;DF;PW50;") ≡ note 7 (codes "PW") Bad ∷ note 19 (codes "PW") Bad ∷ []
+millimetres_again = refl
+
+good_widths : noted (codes "WU;WU0,5;WU1;PW;PW100,255;PT;PT.5;PW0,1,2;") ≡ []
+good_widths = refl
+
 -- the ends of sheets, and BP with any numbers
 sheets : noted (codes "PG;AF;AH1;NR;FR;BP1,2;") ≡ []
 sheets = refl

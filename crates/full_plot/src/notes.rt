@@ -5,7 +5,7 @@ ghost use Rattle.hpgl_text.specs.Cut.{cut_by};
 ghost use Rattle.hpgl_text.specs.declared.profile.Profile.TheVariants.{Full};
 ghost use Rattle.full_plot.specs.Notes.{notes};
 
-use crate::noting::noted_kind;
+use crate::noting::{noted_kind, percent_after};
 use hpgl_plot::{ItemNotes, Note, NoteSource};
 use hpgl_text::{Items, Profile};
 use std::marker::Model;
@@ -16,16 +16,18 @@ pub struct FullNotes<'a> {
     // What is left to tell of the item at hand, and the items after it.
     item: ItemNotes<'a>,
     items: Items<'a>,
+    // Whether widths are in percent before these.
+    in_percent: bool,
 }
 
 impl<'a> Model for FullNotes<'a> {
     ghost use Rattle.std.specs.Prelude.{◌++◌, List};
     ghost use Rattle.hpgl_plot.specs.declared.note.Note.{Note};
-    ghost use Rattle.full_plot.specs.Notes.{notes};
+    ghost use Rattle.full_plot.specs.Notes.{notes_from};
 
     ghost Value = { List Note };
 
-    ghost view = { λ n. n.item ++ notes n.items };
+    ghost view = { λ n. n.item ++ notes_from n.in_percent n.items };
 }
 
 impl<'a> FullNotes<'a> {
@@ -37,6 +39,7 @@ impl<'a> FullNotes<'a> {
         FullNotes {
             item: ItemNotes::none(),
             items: Items::by_profile(Profile::Full, plot),
+            in_percent: false,
         }
     }
 }
@@ -54,7 +57,8 @@ impl<'a> Iterator for FullNotes<'a> {
                 return Some(note);
             }
             let item = self.items.next()?;
-            self.item = ItemNotes::new(&item, noted_kind(&item));
+            self.item = ItemNotes::new(&item, noted_kind(&item, self.in_percent));
+            self.in_percent = percent_after(&item, self.in_percent);
         }
     }
 }

@@ -3,14 +3,14 @@ use Rattle.hpgl_text.specs.Cut.{cut_by}
 use Rattle.hpgl_text.specs.declared.profile.Profile.TheVariants.{Full}
 use Rattle.full_plot.specs.Drawings.{outcome, runs}
 use Rattle.full_plot.specs.Machine.{seen}
-use Rattle.full_plot.specs.Notes.{notes}
+use Rattle.full_plot.specs.Notes.{notes_from, notes}
 use Rattle.full_plot.proofs.drawn.draw_full.Given as goal
 
 -- the items that are left come to the outcome of the plot, and have the notes that are not counted yet
 abbrev pub invariant-items : goal.invariant-items
 invariant-items l = record {
   same : runs (seen l.plotter) l.items ≡ outcome l.page l.fn.text;
-  noted : l.noted + length (notes l.items) ≡ length (notes (cut_by Full l.fn.text));
+  noted : l.noted + length (notes_from l.in_percent l.items) ≡ length (notes (cut_by Full l.fn.text));
 }
 
 abbrev pub decreases-items : goal.decreases-items
