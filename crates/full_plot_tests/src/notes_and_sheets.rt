@@ -53,6 +53,33 @@ fn notes_on_further_instructions(rt: HostRuntime) -> Result<(), Fail> {
 }
 
 #[test]
+fn notes_on_widths(rt: HostRuntime) -> Result<(), Fail> {
+    let plots = [
+        // PW in millimetres, and in percent after WU1
+        (b"WU1;PW50;PW100,255;PW;PW0,1,2;".as_slice(), ""),
+        (b"PW50;PW20,1;", "0 bad PW;"),
+        (b"WU1;PW101;PW1,256;PW-1;", "4 bad PW;10 bad PW;18 bad PW;"),
+        // WU0, IN and BP restore millimetres, and nothing else does
+        (b"WU1;WU0;PW50;WU1;WU;PW50;", "8 bad PW;20 bad PW;"),
+        (b"WU1;IN;PW50;WU1;IN5;PW50;", "7 bad PW;20 bad PW;"),
+        (b"WU1;BP;PW50;WU1;BP5,1;PW50;", "7 bad PW;22 bad PW;"),
+        (b"WU1;DF;PW50;IP;SP2;PT1;PW2,3;PG;PW50;", ""),
+        // wrong numbers set nothing
+        (b"WU2;WU-1;PW50;", "0 bad WU;4 bad WU;9 bad PW;"),
+        (b"WU1;WU2;PW50;WU!;PW50;", "4 bad WU;13 bad WU;"),
+        (b"WU;WU0,5;WU1,2;PW50;", ""),
+        (
+            b"PT;PT.5;PT20;PT21;PT-1;PT!;",
+            "13 bad PT;18 bad PT;23 bad PT;",
+        ),
+    ];
+    for (plot, wanted) in plots {
+        assert_eq!(rt; notes_on(rt.alloc(), plot)?.as_str(), wanted);
+    }
+    Ok(())
+}
+
+#[test]
 fn notes_on_items_of_core(rt: HostRuntime) -> Result<(), Fail> {
     let plots = [
         (
