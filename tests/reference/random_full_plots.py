@@ -51,7 +51,7 @@ COMMENTS = (
 )
 # What the program skips and notes so far, besides directions along no axis.
 NOT_DRAWN_YET = (
-    "WU PT CR IR SR SL DR DV LO CP ES BL PB SM TL XT YT PM EP FP FT AC RA RR EW WG AT RT BZ BR CT".split()
+    "CR IR SR SL DR DV LO CP ES BL PB SM TL XT YT PM EP FP FT AC RA RR EW WG AT RT BZ BR CT".split()
 )
 WITHOUT_NUMBERS = (b"", b";", b";", b"1,2;", b"!,9;", b'"PD;";', b"-\x1bE")
 
@@ -397,4 +397,4 @@ class FullWriter(Writer):
 class DrawnWriter(FullWriter):
     """Writes one case of the profile full, mostly of what the program draws."""
 
-    themes = [theme for theme in THEMES if {"LT", "dashes", "sheet", "known"} & set(theme)]
+    themes = [theme for theme in THEMES if {"LT", "WU", "dashes", "sheet", "known"} & set(theme)]
