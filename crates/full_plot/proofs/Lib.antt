@@ -12,3 +12,4 @@ pub mod CorePlots
 pub mod CoreNotes
 pub mod FewStrokes
 pub mod FewNotes
+pub mod InPercent

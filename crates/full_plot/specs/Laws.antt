@@ -1,6 +1,7 @@
 -- Items of core have the same effect in both profiles.
-use Rattle.std.specs.Prelude.{◌≡◌, Bool, true, false, List, [], None, Result, Ok, Err}
+use Rattle.std.specs.Prelude.{◌≡◌, Bool, true, false, List, [], ◌∷◌, None, Result, Ok, Err}
 use Rattle.std.specs.List.{All}
+use Rattle.std.specs.Option.{is_some}
 use Rattle.plot_page.specs.declared.page.Page.{Page}
 use Rattle.hpgl_text.specs.Shapes.{ItemShape, BodyShape, Further, Kept, Symbol, Known}
 use Rattle.hpgl_plot.specs.declared.fault.PlotFault.{PlotFault}
@@ -10,7 +11,7 @@ use Rattle.hpgl_plot.specs.Notes as noting
 use Rattle.full_plot.specs.LineStyles.{usual_style}
 use Rattle.full_plot.specs.Machine.{World}
 use Rattle.full_plot.specs.Drawings.{at_start, runs, refusal_in, strokes_in, ends_in}
-use Rattle.full_plot.specs.Notes.{notes}
+use Rattle.full_plot.specs.Notes.{percent_after, notes}
 
 -- what only the profile full reads is not of core
 abbrev pub is_core_body : BodyShape → Bool
@@ -54,3 +55,8 @@ CoreDrawsAsInCore = (page : Page) (items : List ItemShape) → All IsCoreItem it
 -- what is noted on them
 abbrev pub CoreNotedAsInCore : Type 0
 CoreNotedAsInCore = (items : List ItemShape) → All IsCoreItem items → notes items ≡ noting.notes items
+
+-- whether widths are in percent, as its notes are told, is as a plot sets it
+abbrev pub NotesAreTold : Type 0
+NotesAreTold = (w v : World) (i : ItemShape) → runs w (i ∷ []) ≡ Ok v
+    → is_some v.percents ≡ percent_after (is_some w.percents) i.body

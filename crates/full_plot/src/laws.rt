@@ -1,5 +1,5 @@
 //! Laws of the profile full, over the definitions only.
-ghost use Rattle.full_plot.specs.Laws.{CoreRunsAsInCore, CoreDrawsAsInCore, CoreNotedAsInCore};
+ghost use Rattle.full_plot.specs.Laws.{CoreRunsAsInCore, CoreDrawsAsInCore, CoreNotedAsInCore, NotesAreTold};
 
 /// Items of core leave in the profile full what they leave in core, on one sheet, with the line style
 /// of the start, or are refused as in core.
@@ -15,4 +15,9 @@ pub fn core_draws_as_in_core()
 /// What is noted on items of core in the profile full is what is noted in core.
 pub fn core_noted_as_in_core()
     ensures { CoreNotedAsInCore }
+{}
+
+/// After each item that is carried out, notes take widths to be in percent if and only if they are.
+pub fn notes_are_told()
+    ensures { NotesAreTold }
 {}
