@@ -1,5 +1,5 @@
 -- What is noted on items of core in the profile full.
-use Rattle.std.proofs.Common.{◌≡◌, ◌∙◌, ap, sym, refl, Bool, true, false, true≢false, List, [], ◌∷◌, ◌++◌, Option, All, ℤ}
+use Rattle.std.proofs.Common.{◌≡◌, ◌∙◌, ap, sym, refl, Bool, true, false, true≢false, List, [], ◌∷◌, ◌++◌, Option, All}
 use Rattle.std.proofs.lemmas.List.Elements.{All-head, All-tail}
 use Rattle.hpgl_text.specs.Shapes.{ItemShape, BodyShape, Params, Further, Label, Coded, Terminator, Kept, Symbol, Known, Skipped, Bad, Stray}
 use Rattle.hpgl_text.specs.declared.instruction.Instruction.{Instruction}

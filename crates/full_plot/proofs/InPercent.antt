@@ -1,5 +1,5 @@
 -- Whether widths are in percent: the notes are told what the plot sets.
-use Rattle.std.proofs.Common.{◌≡◌, ◌∙◌, ap, sym, refl, inl, inr, subst, Bool, true, false, ℕ, ℤ, List, [], ◌∷◌, ◌++◌, Option, Some, None, Result, Ok, Err}
+use Rattle.std.proofs.Common.{◌≡◌, ◌∙◌, refl, inl, inr, subst, Bool, true, false, ℕ, ℤ, List, [], ◌∷◌, ◌++◌, Option, Some, None, Result, Ok, Err}
 use Rattle.std.specs.Prelude.{if◌then◌else◌, nat_abs, ◌&&◌, ⊤}
 use Rattle.std.specs.List.{list_all}
 use Rattle.std.specs.Option.{is_some}
@@ -24,8 +24,8 @@ use Rattle.plot_settings.specs.Parameters.{whole_of, when, is_byte, is_percent, 
 use Rattle.full_plot.specs.WidthParameters.{width_unit, percent_width, thickness}
 use Rattle.full_plot.specs.Widths.{percents_set}
 use Rattle.full_plot.specs.Items.{as_core, more_steps, styles_steps, widens_steps, further_steps, params_steps, full_steps}
-use Rattle.full_plot.specs.Machine.{World, FullStep, Core, Restart, followed, step, run, line_step, core_step, with_core, has_lines, pen_width_step, widened, widened_if}
-use Rattle.full_plot.specs.Drawings.{ended, runs}
+use Rattle.full_plot.specs.Machine.{World, FullStep, Core, Restart, followed, run, line_step, core_step, with_core, has_lines, pen_width_step, widened, widened_if}
+use Rattle.full_plot.specs.Drawings.{ended, runs, CarriesOut}
 use Rattle.full_plot.specs.Notes.{unit_after, percent_after}
 use Rattle.full_plot.proofs.FullRuns.{run-append}
 
@@ -209,3 +209,8 @@ pub told_as_set : (w v : World) (i : ItemShape) → runs w (i ∷ []) ≡ Ok v �
 told_as_set w v i h =
     let b = percent_after (in_percent w) i.body in
     subst (LeavesAfter b) h (by_end b (run w (full_steps i.body)) i.at (by_body w i.body))
+
+pub carried_out : {U : Type 0} (w v : World) (i : ItemShape) (r : Result U PlotFault) (u : U) → CarriesOut w i v r → r ≡ Ok u
+    → (more : List ItemShape) → runs w (i ∷ more) ≡ runs v more
+carried_out w v i (Ok x) u h e = h
+carried_out w v i (Err x) u h e = absurd (cc e)

@@ -6,7 +6,7 @@ ghost use Rattle.hpgl_text.specs.declared.profile.Profile.TheVariants.{Full};
 ghost use Rattle.full_plot.specs.Drawings.{outcome, refusal_in, strokes_in, ends_in, sheet_count, Explains};
 ghost use Rattle.full_plot.specs.Notes as notes;
 
-use crate::noting::{noted_kind, percent_after};
+use crate::noting::noted_kind;
 use crate::plotter::FullPlotter;
 use crate::steps::last_end;
 use hpgl_plot::{PlotFault, count_notes};
@@ -51,11 +51,10 @@ pub fn draw_full(alloc: Global, text: &[u8], page: &Page) -> Result<FullDrawn, P
     let mut items = Items::by_profile(Profile::Full, text);
     let mut plotter = FullPlotter::new(alloc, page);
     let mut noted: usize = 0;
-    let mut in_percent = false;
     'items: while let Some(item) = items.next() {
+        let own = noted_kind(&item, plotter.percents.is_some());
         plotter.carry_out(&item)?;
-        noted += count_notes(&item, noted_kind(&item, in_percent));
-        in_percent = percent_after(&item, in_percent);
+        noted += count_notes(&item, own);
     }
     Ok(FullDrawn {
         strokes: plotter.plotter.strokes,

@@ -1,4 +1,5 @@
-use Rattle.std.proofs.Common.{◌∙◌, ap, sym, arith, length, length-append, List, Option}
+use Rattle.std.proofs.Common.{◌≡◌, ◌∙◌, ap, rules, Bool, sym, arith, length, length-append, List, [], ◌∷◌, Option}
+use Rattle.std.specs.Option.{is_some}
 use Rattle.hpgl_text.specs.Shapes.{ItemShape}
 use Rattle.hpgl_text.specs.Cut.{cut_by}
 use Rattle.hpgl_text.specs.declared.profile.Profile.TheVariants.{Full}
@@ -9,35 +10,68 @@ use Rattle.full_plot.specs.Machine.{seen}
 use Rattle.full_plot.specs.Notes.{body_noted, percent_after, notes_from}
 use Rattle.full_plot.proofs.FewNotes.{few_notes}
 use Rattle.full_plot.proofs.FewStrokes.{few_strokes}
+use Rattle.full_plot.proofs.InPercent.{told_as_set, carried_out}
 use Rattle.full_plot.proofs.drawn.draw_full.Goals as goal
 
 -- the notes so far and those on this item are some of those on the plot, which has fewer than 2^63 bytes
 pub count_notes-noted-requires : goal.count_notes-noted-requires
 count_notes-noted-requires c =
     let item = c.in-Some.item in
-    let own = body_noted c.items.in_percent item.body in
+    let before = is_some c.items.plotter.percents in
+    let own = body_noted before item.body in
+    let same : c.is_some.result ≡ before = search rules in
+    let noted : c.noted_kind-own.result ≡ own = c.noted_kind-own.ensures ∙ ap (λ (b : Bool). body_noted b item.body) same in
     omega (
       arith,
       c.items.invariant.noted,
-      ap (λ is. length (notes_from c.items.in_percent is)) c.in-Some.ensures.steps,
-      length-append (notes_with own item) (notes_from (percent_after c.items.in_percent item.body) c.next.new.self),
-      ap (λ (noted : Option NoteKind). length (notes_with noted item)) c.noted_kind.ensures,
+      ap (λ is. length (notes_from before is)) c.in-Some.ensures.steps,
+      length-append (notes_with own item) (notes_from (percent_after before item.body) c.next.new.self),
+      ap (λ (k : Option NoteKind). length (notes_with k item)) noted,
       few_notes c.args.text.now,
     )
 
 pub overflow_add-noted : goal.overflow_add-noted
 overflow_add-noted c =
     let item = c.in-Some.item in
-    let own = body_noted c.items.in_percent item.body in
+    let before = is_some c.items.plotter.percents in
+    let own = body_noted before item.body in
+    let same : c.is_some.result ≡ before = search rules in
+    let noted : c.noted_kind-own.result ≡ own = c.noted_kind-own.ensures ∙ ap (λ (b : Bool). body_noted b item.body) same in
     omega (
       arith,
       c.items.invariant.noted,
-      ap (λ is. length (notes_from c.items.in_percent is)) c.in-Some.ensures.steps,
-      length-append (notes_with own item) (notes_from (percent_after c.items.in_percent item.body) c.next.new.self),
-      ap (λ (noted : Option NoteKind). length (notes_with noted item)) c.noted_kind.ensures,
+      ap (λ is. length (notes_from before is)) c.in-Some.ensures.steps,
+      length-append (notes_with own item) (notes_from (percent_after before item.body) c.next.new.self),
+      ap (λ (k : Option NoteKind). length (notes_with k item)) noted,
       c.count_notes-noted.ensures,
       few_notes c.args.text.now,
     )
+
+-- the plotter that carried out this item has widths in percent as the items after it are told
+pub items-preserved : goal.items-preserved
+items-preserved c =
+    let item = c.in-Some.item in
+    let rest = c.next.new.self in
+    let old = seen c.items.plotter in
+    let new = seen c.carry_out.new.self in
+    let before = is_some c.items.plotter.percents in
+    let own = body_noted before item.body in
+    let same : c.is_some.result ≡ before = search rules in
+    let noted : c.noted_kind-own.result ≡ own = c.noted_kind-own.ensures ∙ ap (λ (b : Bool). body_noted b item.body) same in
+    let goes_on : (more : List ItemShape) → runs old (item ∷ more) ≡ runs new more =
+    carried_out old new item c.carry_out.result c.in_ok-carry_out.field-0 c.carry_out.ensures c.in_ok-carry_out.was in
+    record {
+      same = sym (goes_on rest) ∙ sym (ap (λ (is : List ItemShape). runs old is) c.in-Some.ensures.steps) ∙ c.items.invariant.same;
+      noted = omega (
+        arith,
+        c.items.invariant.noted,
+        ap (λ is. length (notes_from before is)) c.in-Some.ensures.steps,
+        length-append (notes_with own item) (notes_from (percent_after before item.body) rest),
+        ap (λ (k : Option NoteKind). length (notes_with k item)) noted,
+        ap (λ (b : Bool). length (notes_from b rest)) (told_as_set old new item (goes_on [])),
+        c.count_notes-noted.ensures,
+      );
+    }
 
 -- all items have left the strokes that there are
 pub returns-clause-limit : goal.returns-clause-limit

@@ -1,4 +1,5 @@
 use Rattle.std.proofs.Common.{◌≡◌, ◌+◌, length}
+use Rattle.std.specs.Option.{is_some}
 use Rattle.hpgl_text.specs.Cut.{cut_by}
 use Rattle.hpgl_text.specs.declared.profile.Profile.TheVariants.{Full}
 use Rattle.full_plot.specs.Drawings.{outcome, runs}
@@ -10,7 +11,7 @@ use Rattle.full_plot.proofs.drawn.draw_full.Given as goal
 abbrev pub invariant-items : goal.invariant-items
 invariant-items l = record {
   same : runs (seen l.plotter) l.items ≡ outcome l.page l.fn.text;
-  noted : l.noted + length (notes_from l.in_percent l.items) ≡ length (notes (cut_by Full l.fn.text));
+  noted : l.noted + length (notes_from (is_some l.plotter.percents) l.items) ≡ length (notes (cut_by Full l.fn.text));
 }
 
 abbrev pub decreases-items : goal.decreases-items
