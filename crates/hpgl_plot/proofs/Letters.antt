@@ -14,7 +14,7 @@ use Rattle.hpgl_plot.specs.declared.state.State.{State}
 use Rattle.hpgl_plot.specs.declared.state.Position.{Position}
 use Rattle.plot_settings.specs.Meanings.{Write}
 use Rattle.hpgl_plot.specs.Frames.{back}
-use Rattle.hpgl_plot.specs.Paths.{label_place, stroke_places, pen_at_point, path}
+use Rattle.hpgl_plot.specs.Paths.{label_place, stroke_places, pen_at_point, pen_placed, path}
 use Rattle.hpgl_plot.specs.OnPage.{turned_vector}
 use Rattle.hpgl_plot.specs.Machine.{World, step, moved, travelled, travelled_all, ends_in, put_at}
 use Rattle.hpgl_plot.proofs.ItemLists.{next_item}
@@ -97,19 +97,16 @@ pub stroke_is : (s : State) (t : LabelStroke) (a b : Spot) → a ≡ label_place
 stroke_is s t a b e f = rw (e, f) refl
 
 -- the pen is not put where its place is out of range
-pub end_out : (w : World) (p : Spot) (q : Spot) → q ≡ label_place w.state p → travelled w true (q ∷ []) ≡ None
-    → put_at w (pen_at_point w.page w.state p) ≡ None
-end_out w p q e h =
-    ap (λ (o : Option World). ends_in (moved w.state (pen_at_point w.page w.state p)) o)
-    (subst (λ (x : Spot). travelled w true (x ∷ []) ≡ None) e h)
+pub put_out : (w : World) (q : Spot) → travelled w true (q ∷ []) ≡ None → put_at w (pen_placed w.page w.state.frame q) ≡ None
+put_out w q h = ap (λ (o : Option World). ends_in (moved w.state (pen_placed w.page w.state.frame q)) o) h
 
--- the pen is put at the end of a label
-pub end_put : (w v : World) (p : Spot) (q u : Spot) → q ≡ label_place w.state p → u ≡ back w.page w.state.frame q
+-- the pen is put at a place
+pub put_there : (w v : World) (q u : Spot) → u ≡ back w.page w.state.frame q
     → travelled w true (q ∷ []) ≡ Some w → ends_in (moved w.state (record { place = q; coordinates = u })) (Some w) ≡ Some v
-    → put_at w (pen_at_point w.page w.state p) ≡ Some v
-end_put w v p q u e f t m =
+    → put_at w (pen_placed w.page w.state.frame q) ≡ Some v
+put_there w v q u f t m =
     let n : Position = record { place = q; coordinates = u } in
-    let same : n ≡ pen_at_point w.page w.state p = rw (f, e) refl in
+    let same : n ≡ pen_placed w.page w.state.frame q = rw f refl in
     ap (λ (x : Position). put_at w x) (sym same) ∙ ap (λ (o : Option World). ends_in (moved w.state n) o) t ∙ m
 
 -- a label that leaves the range

@@ -54,11 +54,13 @@ label_place s p =
 abbrev pub stroke_places : State → LabelStroke → List Spot
 stroke_places s t = label_place s t.from ∷ (label_place s t.to ∷ [])
 
+-- the pen at a place, with its coordinates recomputed
+abbrev pub pen_placed : Page → Frame → Spot → Position
+pen_placed page f q = record { place = q; coordinates = back page f q }
+
 -- the pen at a point of a label
 abbrev pub pen_at_point : Page → State → Spot → Position
-pen_at_point page s p =
-    let q = label_place s p in
-    record { place = q; coordinates = back page s.frame q }
+pen_at_point page s p = pen_placed page s.frame (label_place s p)
 
 -- where the pen is
 abbrev pub position : State → Position

@@ -14,12 +14,12 @@ use Rattle.plot_settings.specs.declared.setting.Setting.TheVariants.{CornerWindo
 use Rattle.plot_settings.specs.declared.setting.Setting.TheVariants.{DefaultColours, Size, Direction}
 use Rattle.plot_settings.specs.Meanings.{Step, Set}
 use Rattle.plot_settings.specs.Settings.{pen, is_down, is_relative, widths, colours, size, direction}
-use Rattle.hpgl_plot.specs.Frames.{frame, window, back}
-use Rattle.hpgl_plot.specs.Paths.{pen_at, path}
+use Rattle.hpgl_plot.specs.Frames.{frame, window}
+use Rattle.hpgl_plot.specs.Paths.{pen_at, pen_placed, path}
 
 -- the place stays, and its coordinates are recomputed
 abbrev pub recomputed : Page → Frame → Position → Position
-recomputed page f p = record { place = p.place; coordinates = back page f p.place }
+recomputed page f p = pen_placed page f p.place
 
 abbrev pub origin : Spot
 origin = record { x = pos 0; y = pos 0 }

@@ -1,5 +1,5 @@
 //! The strokes of a label, one at a time.
-ghost use Rattle.std.specs.Prelude.{◌≡◌, IfSome, ⊤};
+ghost use Rattle.std.specs.Prelude.{◌≡◌, ◌∷◌, [], IfSome, None, ⊤};
 ghost use Rattle.std.specs.Iterator.{YieldsFirst, MakesProgress, item_count};
 ghost use Rattle.lettering.specs.Bounds.{IsStrokeWithin};
 
@@ -35,6 +35,15 @@ impl<'a> Strokes<'a> {
         ensures { result ≡ written_left written.entry }
     {
         Strokes { written }
+    }
+
+    /// The next stroke. Its ends are within 2^95 grains of the label's start.
+    pub fn next_stroke(&mut self) -> Option<(Spot, Spot)>
+        ensures taken { IfSome result (λ stroke. self.old ≡ stroke ∷ self.new) }
+        ensures none { result ≡ None → self.old ≡ [] }
+        ensures within { IfSome result IsStrokeWithin }
+    {
+        self.written.next()
     }
 }
 

@@ -6,9 +6,7 @@ ghost use Rattle.hpgl_plot.specs.Paths as labels;
 ghost use Rattle.hpgl_plot.specs.Machine.{seen, step, Runs, travelled, travelled_all, put_at};
 ghost use Rattle.plot_settings.specs.Meanings.{Write};
 
-use crate::place::coordinates_at;
 use crate::plotter::{Plotter, Stop};
-use crate::state::Position;
 use crate::turn::turned_vector;
 use exact::Spot;
 use stick_font::{Cell, LabelStroke, label_stroke};
@@ -59,10 +57,7 @@ impl Plotter {
             (seen self.new) result }
     {
         let place = self.label_place(end);
-        self.begin(place)?;
-        let coordinates = coordinates_at(&self.page, &self.state.frame, &self.axes, place);
-        self.arrive(Position { place, coordinates });
-        Ok(())
+        self.put(place)
     }
 
     // Where a point of a label that begins at the pen's place lies on the page.

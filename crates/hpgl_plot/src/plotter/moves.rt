@@ -3,12 +3,13 @@ ghost use Rattle.std.specs.Prelude.{◌≡◌, ◌≤◌, ◌^◌, ◌*ℤ◌, B
 ghost use Rattle.plot_frame.specs.Bounds.{IsNear};
 ghost use Rattle.hpgl_plot.specs.Bounds.{IsInRange};
 ghost use Rattle.hpgl_plot.specs.Frames as frames;
-ghost use Rattle.hpgl_plot.specs.Machine.{seen, step, Runs, kept_with, full_with, moved, travelled, ends_in};
+ghost use Rattle.hpgl_plot.specs.Machine.{seen, step, Runs, kept_with, full_with, moved, travelled, ends_in, put_at};
 ghost use Rattle.hpgl_plot.specs.Paths as paths;
+ghost use Rattle.hpgl_plot.specs.Paths.{pen_placed};
 ghost use Rattle.hpgl_plot.specs.Strokes.{drawn, stroke};
 ghost use Rattle.plot_settings.specs.Meanings.{Touch, Move, Go};
 
-use crate::place::{is_place_in_range, place_on, target_of};
+use crate::place::{coordinates_at, is_place_in_range, place_on, target_of};
 use crate::plotter::{Plotter, Stop};
 use crate::state::Position;
 use exact::Spot;
@@ -120,6 +121,17 @@ impl Plotter {
         if draws {
             self.draw(from, place)?;
         }
+        Ok(())
+    }
+
+    /// Puts the pen at a place, with its coordinates recomputed. No stroke is made.
+    pub fn put(&mut self, place: Spot) -> Result<(), Stop>
+        ensures { Runs (put_at (seen self.old) (pen_placed self.old.page self.old.state.frame place))
+            (seen self.new) result }
+    {
+        self.begin(place)?;
+        let coordinates = coordinates_at(&self.page, &self.state.frame, &self.axes, place);
+        self.arrive(Position { place, coordinates });
         Ok(())
     }
 
