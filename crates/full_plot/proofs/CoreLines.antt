@@ -26,7 +26,9 @@ use Rattle.hpgl_plot.specs.Strokes.{are_in_range, joined, path_strokes}
 use Rattle.hpgl_plot.specs.Machine.{kept_with, with_strokes, after}
 use Rattle.hpgl_plot.specs.Machine as core
 use Rattle.full_plot.specs.Holding.{cleared, restored}
-use Rattle.full_plot.specs.Machine.{World, with_a_pen, lines_of, line_step, drawn, Runs}
+use Rattle.full_plot.specs.Worlds.{World}
+use Rattle.full_plot.specs.Lines.{with_a_pen, lines_of, line_step, drawn}
+use Rattle.full_plot.specs.Machine.{Runs}
 
 -- strokes that are few are all kept
 pub few_kept : (kept ss : List Segment) → length kept + length ss ≤ 4194304 → kept_with kept false ss ≡ kept ++ ss

@@ -1,70 +1,69 @@
 -- What is noted on items of core in the profile full.
-use Rattle.std.proofs.Common.{◌≡◌, ◌∙◌, ap, sym, refl, Bool, true, false, true≢false, List, [], ◌∷◌, ◌++◌, Option, All}
+use Rattle.std.proofs.Common.{◌≡◌, ◌∙◌, ap, sym, refl, Bool, true, false, true≢false, ℤ, List, [], ◌∷◌, ◌++◌, Option, Some, None, All}
+use Rattle.std.specs.Prelude.{if◌then◌else◌}
+use Rattle.std.proofs.lemmas.Bool.{not-true}
 use Rattle.std.proofs.lemmas.List.Elements.{All-head, All-tail}
-use Rattle.hpgl_text.specs.Shapes.{ItemShape, BodyShape, Params, Further, Label, Coded, Terminator, Kept, Symbol, Known, Skipped, Bad, Stray}
+use Rattle.hpgl_text.specs.Shapes.{ItemShape, BodyShape, Params, Further}
 use Rattle.hpgl_text.specs.declared.instruction.Instruction.{Instruction}
-use Rattle.hpgl_text.specs.declared.instruction.Instruction.TheVariants.{Initialize, DefaultValues, InputPoints, Scale, Rotate, InputWindow, SelectPen, PenWidth, PenColour, PenUp, PenDown, PlotAbsolute, PlotRelative, EdgeAbsolute, EdgeRelative, Circle, ArcAbsolute, ArcRelative, CharacterSize, Direction}
+use Rattle.hpgl_text.specs.declared.instruction.Instruction.TheVariants.{PenColour, Initialize, Direction}
+use Rattle.plot_settings.specs.Meanings.{sets}
+use Rattle.plot_settings.specs.Parameters.{pen_colour, nearest_axis, when}
+use Rattle.plot_settings.specs.Slants.{is_slanted}
+use Rattle.plot_settings.specs.declared.setting.Setting.{Setting}
+use Rattle.plot_settings.specs.declared.setting.Setting.TheVariants as setting
 use Rattle.hpgl_plot.specs.declared.note.Note.{Note}
 use Rattle.hpgl_plot.specs.declared.note.NoteKind.{NoteKind}
-use Rattle.hpgl_plot.specs.Notes.{notes_with}
+use Rattle.hpgl_plot.specs.declared.note.NoteKind.TheVariants as kind
+use Rattle.hpgl_plot.specs.Notes.{notes_with, parameters_noted}
 use Rattle.hpgl_plot.specs.Notes as core
+use Rattle.full_settings.specs.LetterParameters.{direction, is_vector, pair}
+use Rattle.full_settings.specs.declared.letter_setting.LetterSetting.TheVariants as letter
 use Rattle.full_plot.specs.Laws.{is_core_body, IsCoreItem}
-use Rattle.full_plot.specs.Notes.{body_noted, params_after, percent_after, notes_from, notes}
+use Rattle.full_plot.specs.Notes.{bad_without, body_noted, Context, context_after, first_context, params_after, params_noted, notes_from, notes}
 
--- in millimetres
-body_as_in_core : (b : BodyShape) → is_core_body b ≡ true → body_noted false b ≡ core.body_noted b
-body_as_in_core (Params i ns) h = refl
+abbrev bad_if : Bool → Option NoteKind
+bad_if is_wrong = if is_wrong then Some kind.Bad else None
+
+-- a PC in the usual ranges
+by_colour : (s : Option Setting) → bad_without s ≡ bad_if (sets s).is_wrong
+by_colour (Some s) = refl
+by_colour None = refl
+
+-- a DI along an axis
+by_vector : (good : Bool) (x y : ℤ)
+    → bad_without (when good (letter.Direction (pair x y))) ≡ bad_if (sets (when good (setting.Direction (nearest_axis x y)))).is_wrong
+by_vector true x y = refl
+by_vector false x y = refl
+
+by_direction : (ns : List ℤ) → is_slanted ns ≡ false → bad_without (direction ns) ≡ parameters_noted Direction ns
+by_direction [] h = refl
+by_direction (x ∷ []) h = refl
+by_direction (x ∷ (y ∷ ns)) h = rw h (by_vector (is_vector x y) x y)
+
+params_as_in_core : (i : Instruction) (ns : List ℤ) → is_core_body (Params i ns) ≡ true → params_noted first_context i ns ≡ parameters_noted i ns
+params_as_in_core PenColour ns h = by_colour (pen_colour ns)
+params_as_in_core Direction ns h = by_direction ns (not-true (is_slanted ns) h)
+params_as_in_core i ns h = refl
+
+body_as_in_core : (b : BodyShape) → is_core_body b ≡ true → body_noted first_context b ≡ core.body_noted b
+body_as_in_core (Params i ns) h = params_as_in_core i ns h
 body_as_in_core (Further f ns) h = absurd (true≢false (sym h))
-body_as_in_core (Label bytes) h = refl
-body_as_in_core (Coded entries) h = refl
-body_as_in_core (Terminator byte) h = refl
-body_as_in_core (Kept bytes) h = absurd (true≢false (sym h))
-body_as_in_core (Symbol byte) h = absurd (true≢false (sym h))
-body_as_in_core Known h = absurd (true≢false (sym h))
-body_as_in_core Skipped h = refl
-body_as_in_core Bad h = refl
-body_as_in_core (Stray byte) h = refl
+body_as_in_core b h = refl
 
--- no instruction of core sets percent
-params_in_millimetres : (i : Instruction) → params_after false i ≡ false
-params_in_millimetres Initialize = refl
-params_in_millimetres DefaultValues = refl
-params_in_millimetres InputPoints = refl
-params_in_millimetres Scale = refl
-params_in_millimetres Rotate = refl
-params_in_millimetres InputWindow = refl
-params_in_millimetres SelectPen = refl
-params_in_millimetres PenWidth = refl
-params_in_millimetres PenColour = refl
-params_in_millimetres PenUp = refl
-params_in_millimetres PenDown = refl
-params_in_millimetres PlotAbsolute = refl
-params_in_millimetres PlotRelative = refl
-params_in_millimetres EdgeAbsolute = refl
-params_in_millimetres EdgeRelative = refl
-params_in_millimetres Circle = refl
-params_in_millimetres ArcAbsolute = refl
-params_in_millimetres ArcRelative = refl
-params_in_millimetres CharacterSize = refl
-params_in_millimetres Direction = refl
+-- no item of core changes what notes are told
+params_in_first : (i : Instruction) → params_after first_context i ≡ first_context
+params_in_first Initialize = refl
+params_in_first i = refl
 
-stays_in_millimetres : (b : BodyShape) → is_core_body b ≡ true → percent_after false b ≡ false
-stays_in_millimetres (Params i ns) h = params_in_millimetres i
-stays_in_millimetres (Further f ns) h = absurd (true≢false (sym h))
-stays_in_millimetres (Label bytes) h = refl
-stays_in_millimetres (Coded entries) h = refl
-stays_in_millimetres (Terminator byte) h = refl
-stays_in_millimetres (Kept bytes) h = absurd (true≢false (sym h))
-stays_in_millimetres (Symbol byte) h = absurd (true≢false (sym h))
-stays_in_millimetres Known h = absurd (true≢false (sym h))
-stays_in_millimetres Skipped h = refl
-stays_in_millimetres Bad h = refl
-stays_in_millimetres (Stray byte) h = refl
+stays_first : (b : BodyShape) → is_core_body b ≡ true → context_after first_context b ≡ first_context
+stays_first (Params i ns) h = params_in_first i
+stays_first (Further f ns) h = absurd (true≢false (sym h))
+stays_first b h = refl
 
 pub noted_as_in_core : (items : List ItemShape) → All IsCoreItem items → notes items ≡ core.notes items
 noted_as_in_core [] h = refl
 noted_as_in_core (i ∷ more) h =
     let is_core : is_core_body i.body ≡ true = All-head IsCoreItem i more h in
-    ap (λ (own : Option NoteKind). notes_with own i ++ notes_from (percent_after false i.body) more) (body_as_in_core i.body is_core)
-    ∙ ap (λ (in_percent : Bool). core.notes_of i ++ notes_from in_percent more) (stays_in_millimetres i.body is_core)
+    ap (λ (own : Option NoteKind). notes_with own i ++ notes_from (context_after first_context i.body) more) (body_as_in_core i.body is_core)
+    ∙ ap (λ (c : Context). core.notes_of i ++ notes_from c more) (stays_first i.body is_core)
     ∙ ap (λ (ns : List Note). core.notes_of i ++ ns) (noted_as_in_core more (All-tail IsCoreItem i more h))

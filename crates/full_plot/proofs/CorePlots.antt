@@ -1,143 +1,352 @@
 -- Plots of core in the profile full.
-use Rattle.std.proofs.Common.{◌≡◌, ◌∙◌, ap, sym, refl, Bool, true, false, true≢false, ℕ, arith, Result, Ok, Err, List, [], ◌∷◌, ◌++◌, Option, Some, None, ℤ, All}
-use Rattle.std.specs.Prelude.{if◌then◌else◌}
+use Rattle.std.proofs.Common.{◌≡◌, ◌∙◌, ap, sym, subst, refl, inl, inr, Bool, true, false, true≢false, ◌+◌, ℕ, arith, Result, Ok, Err, List, [], ◌∷◌, ◌++◌, length, nat_lt, Option, Some, None, ℤ, pos, All}
+use Rattle.std.specs.Prelude.{if◌then◌else◌, ⊤}
+use Rattle.std.proofs.lemmas.Bool.{cases_Bool, le-ltb, not-true}
 use Rattle.std.proofs.lemmas.Option.{none-some}
 use Rattle.std.proofs.lemmas.List.Elements.{All-head, All-tail}
+use Rattle.directions.specs.Directions.{turned, unit}
+use Rattle.directions.specs.Laws.{right}
+use Rattle.directions.proofs.Axes.{axes_are_exact_lem}
+use Rattle.plot_frame.specs.declared.pair.Pair.{Pair}
 use Rattle.plot_page.specs.declared.page.Page.{Page}
-use Rattle.plot_settings.specs.Meanings.{Step, Write, meaning, entry_steps, body_steps, steps_of}
-use Rattle.hpgl_text.specs.Shapes.{ItemShape, BodyShape, Params, Further, Label, Coded, Terminator, Kept, Symbol, Known, Skipped, Bad, Stray}
+use Rattle.plot_settings.specs.Meanings.{Step, Set, Write, meaning, entry_steps, body_steps, sets, steps_of}
+use Rattle.plot_settings.specs.Parameters.{nearest_axis, pen_colour, pen_width, when}
+use Rattle.plot_settings.specs.Slants.{is_slanted}
+use Rattle.plot_settings.specs.declared.setting.Rotation.{Rotation}
+use Rattle.plot_settings.specs.declared.setting.Rotation.TheVariants as rotation
+use Rattle.plot_settings.specs.declared.setting.Setting.{Setting}
+use Rattle.plot_settings.specs.declared.setting.Setting.TheVariants as setting
+use Rattle.hpgl_text.specs.Shapes.{ItemShape, BodyShape, Params, Further, Label, Coded, Kept, Symbol, Known}
 use Rattle.hpgl_text.specs.declared.instruction.Instruction.{Instruction}
-use Rattle.hpgl_text.specs.declared.instruction.Instruction.TheVariants.{Initialize, DefaultValues, InputPoints, Scale, Rotate, InputWindow, SelectPen, PenWidth, PenColour, PenUp, PenDown, PlotAbsolute, PlotRelative, EdgeAbsolute, EdgeRelative, Circle, ArcAbsolute, ArcRelative, CharacterSize, Direction}
+use Rattle.hpgl_text.specs.declared.instruction.Instruction.TheVariants.{Initialize, DefaultValues, InputPoints, PenWidth, PenColour, CharacterSize, Direction}
 use Rattle.hpgl_plot.specs.declared.fault.PlotFault.{PlotFault}
 use Rattle.hpgl_plot.specs.declared.fault.PlotFault.TheVariants as fault
 use Rattle.hpgl_plot.specs.Machine as core
 use Rattle.hpgl_plot.specs.Strokes.{strokes, refusal}
 use Rattle.hpgl_plot.proofs.Bridge.{told, Told}
-use Rattle.full_plot.specs.Items.{as_core, more_steps, params_steps, full_steps}
-use Rattle.full_plot.specs.Machine.{World, FullStep, followed, run, with_core}
-use Rattle.full_plot.specs.Drawings.{at_start, ended, runs, refusal_in, strokes_in, ends_in}
-use Rattle.full_plot.specs.Laws.{is_core_body, IsCoreItem, as_at_start, all_as_at_start, SameRefusal, SameStrokes, OneSheet}
-use Rattle.full_plot.proofs.FullRuns.{run-append, solid_run}
+use Rattle.full_settings.specs.ColourRanges.{pen_colour_in}
+use Rattle.full_settings.specs.LetterParameters.{is_vector, pair}
+use Rattle.full_settings.specs.Letters.{LetterStyle, usual_letters}
+use Rattle.full_settings.specs.declared.colour_range.ColourRanges.{ColourRanges}
+use Rattle.full_settings.specs.declared.heading.Heading.TheVariants.{Absolute}
+use Rattle.full_settings.specs.declared.letter_setting.LetterSetting.TheVariants as letter
+use Rattle.full_plot.specs.Items.{as_core, letters_steps, more_steps, params_steps, full_steps}
+use Rattle.full_plot.specs.Worlds.{World, followed, with_core}
+use Rattle.full_plot.specs.Machine.{FullStep, Core, Letter, Restart, Restyle, Rewiden, pen_width_step, rewidened, run, set_if, widths_in, with_widths}
+use Rattle.full_plot.specs.Drawings.{at_start, ended, is_too_much, runs, refusal_in, strokes_in, ends_in}
+use Rattle.full_plot.specs.Laws.{core_part, is_core_body, IsCoreItem, SameRefusal, SameStrokes, OneSheet}
+use Rattle.full_plot.specs.Texts.{turn_by}
+use Rattle.full_plot.proofs.CoreLabels.{axis_leads}
+use Rattle.full_plot.proofs.CoreSteps.{AllStill, IsAsInCore, IsLed, IsLikeCore, Leads, LikeIn, core_of, one_step, still_steps}
+use Rattle.full_plot.proofs.FullRuns.{run-append}
+use Rattle.full_plot.proofs.Stills.{entries_still, params_still, turns_labels}
 
--- what IN, DF and IP do besides changes nothing, and PW is in millimetres
-changed_nothing : (v : core.World) (o : Option core.World) (more : List FullStep)
-    → ((u : core.World) → run (as_at_start u) more ≡ Some (as_at_start u))
-    → followed (with_core (as_at_start v) o) (λ (u : World). run u more) ≡ with_core (as_at_start v) o
-changed_nothing v None more h = refl
-changed_nothing v (Some u) more h = h u
+-- an item leaves all but core as core has it
+abbrev Like : World → Type 0
+Like w = IsLikeCore w.core.state.direction w
 
-core_and_more : (v : core.World) (ss : List Step) (more : List FullStep)
-    → ((u : core.World) → run (as_at_start u) more ≡ Some (as_at_start u))
-    → run (as_at_start v) (as_core ss ++ more) ≡ with_core (as_at_start v) (core.run v ss)
-core_and_more v ss more h =
-    run-append (as_at_start v) (as_core ss) more
-    ∙ ap (λ (o : Option World). followed o (λ (u : World). run u more)) (solid_run ss (as_at_start v) refl)
-    ∙ changed_nothing v (core.run v ss) more h
+abbrev LikeNow : Option World → Type 0
+LikeNow None = ⊤
+LikeNow (Some w) = Like w
 
-more_is_nothing : (i : Instruction) (u : core.World) → run (as_at_start u) (more_steps i) ≡ Some (as_at_start u)
-more_is_nothing Initialize u = refl
-more_is_nothing DefaultValues u = refl
-more_is_nothing InputPoints u = refl
-more_is_nothing Scale u = refl
-more_is_nothing Rotate u = refl
-more_is_nothing InputWindow u = refl
-more_is_nothing SelectPen u = refl
-more_is_nothing PenWidth u = refl
-more_is_nothing PenColour u = refl
-more_is_nothing PenUp u = refl
-more_is_nothing PenDown u = refl
-more_is_nothing PlotAbsolute u = refl
-more_is_nothing PlotRelative u = refl
-more_is_nothing EdgeAbsolute u = refl
-more_is_nothing EdgeRelative u = refl
-more_is_nothing Circle u = refl
-more_is_nothing ArcAbsolute u = refl
-more_is_nothing ArcRelative u = refl
-more_is_nothing CharacterSize u = refl
-more_is_nothing Direction u = refl
+record IsCores (o : Option World) (p : Option core.World) : Type 0 where
+  same : core_of o ≡ p
+  like : LikeNow o
 
-width_run : (v : core.World) (o : Option core.World)
-    → followed (with_core (as_at_start v) o) (λ (u : World). run u []) ≡ with_core (as_at_start v) o
-width_run v o = changed_nothing v o [] (λ (u : core.World). refl)
+like_now : (d : Rotation) (w : World) → IsLikeCore d w → w.core.state.direction ≡ d → Like w
+like_now d w h k = subst (λ (x : Rotation). IsLikeCore x w) (sym k) h
 
-params_run : (v : core.World) (i : Instruction) (ns : List ℤ)
-    → run (as_at_start v) (params_steps i ns) ≡ with_core (as_at_start v) (core.run v (meaning i ns).steps)
-params_run v PenWidth ns = width_run v (core.run v (meaning PenWidth ns).steps)
-params_run v Initialize ns = core_and_more v (meaning Initialize ns).steps (more_steps Initialize) (more_is_nothing Initialize)
-params_run v DefaultValues ns = core_and_more v (meaning DefaultValues ns).steps (more_steps DefaultValues) (more_is_nothing DefaultValues)
-params_run v InputPoints ns = core_and_more v (meaning InputPoints ns).steps (more_steps InputPoints) (more_is_nothing InputPoints)
-params_run v Scale ns = core_and_more v (meaning Scale ns).steps (more_steps Scale) (more_is_nothing Scale)
-params_run v Rotate ns = core_and_more v (meaning Rotate ns).steps (more_steps Rotate) (more_is_nothing Rotate)
-params_run v InputWindow ns = core_and_more v (meaning InputWindow ns).steps (more_steps InputWindow) (more_is_nothing InputWindow)
-params_run v SelectPen ns = core_and_more v (meaning SelectPen ns).steps (more_steps SelectPen) (more_is_nothing SelectPen)
-params_run v PenColour ns = core_and_more v (meaning PenColour ns).steps (more_steps PenColour) (more_is_nothing PenColour)
-params_run v PenUp ns = core_and_more v (meaning PenUp ns).steps (more_steps PenUp) (more_is_nothing PenUp)
-params_run v PenDown ns = core_and_more v (meaning PenDown ns).steps (more_steps PenDown) (more_is_nothing PenDown)
-params_run v PlotAbsolute ns = core_and_more v (meaning PlotAbsolute ns).steps (more_steps PlotAbsolute) (more_is_nothing PlotAbsolute)
-params_run v PlotRelative ns = core_and_more v (meaning PlotRelative ns).steps (more_steps PlotRelative) (more_is_nothing PlotRelative)
-params_run v EdgeAbsolute ns = core_and_more v (meaning EdgeAbsolute ns).steps (more_steps EdgeAbsolute) (more_is_nothing EdgeAbsolute)
-params_run v EdgeRelative ns = core_and_more v (meaning EdgeRelative ns).steps (more_steps EdgeRelative) (more_is_nothing EdgeRelative)
-params_run v Circle ns = core_and_more v (meaning Circle ns).steps (more_steps Circle) (more_is_nothing Circle)
-params_run v ArcAbsolute ns = core_and_more v (meaning ArcAbsolute ns).steps (more_steps ArcAbsolute) (more_is_nothing ArcAbsolute)
-params_run v ArcRelative ns = core_and_more v (meaning ArcRelative ns).steps (more_steps ArcRelative) (more_is_nothing ArcRelative)
-params_run v CharacterSize ns = core_and_more v (meaning CharacterSize ns).steps (more_steps CharacterSize) (more_is_nothing CharacterSize)
-params_run v Direction ns = core_and_more v (meaning Direction ns).steps (more_steps Direction) (more_is_nothing Direction)
+-- steps of core, and then what an instruction does besides
+then_more : (d r : Rotation) (o : Option World) (more : List FullStep) → LikeIn d r o
+    → ((v : World) → IsLikeCore d v → v.core.state.direction ≡ r → IsCores (run v more) (Some v.core))
+    → IsCores (followed o (λ (v : World). run v more)) (core_of o)
+then_more d r None more h go = record { same = refl; like = tt }
+then_more d r (Some v) more h go = go v h.0 h.1
 
--- the steps of an item are core's
-item_run : (v : core.World) (b : BodyShape) → is_core_body b ≡ true
-    → run (as_at_start v) (full_steps b) ≡ with_core (as_at_start v) (core.run v (body_steps b))
-item_run v (Params i ns) h = params_run v i ns
-item_run v (Further f ns) h = absurd (true≢false (sym h))
-item_run v (Label bytes) h = solid_run (Write bytes ∷ []) (as_at_start v) refl
-item_run v (Coded entries) h = solid_run (entry_steps entries) (as_at_start v) refl
-item_run v (Terminator byte) h = refl
-item_run v (Kept bytes) h = absurd (true≢false (sym h))
-item_run v (Symbol byte) h = absurd (true≢false (sym h))
-item_run v Known h = absurd (true≢false (sym h))
-item_run v Skipped h = refl
-item_run v Bad h = refl
-item_run v (Stray byte) h = refl
+with_more : (d r : Rotation) (o : Option World) (p : Option core.World) (more : List FullStep) → IsAsInCore d r o p
+    → ((v : World) → IsLikeCore d v → v.core.state.direction ≡ r → IsCores (run v more) (Some v.core))
+    → IsCores (followed o (λ (v : World). run v more)) p
+with_more d r o p more h go =
+    subst (λ (q : Option core.World). IsCores (followed o (λ (v : World). run v more)) q) h.same (then_more d r o more h.like go)
 
-judged : (full : Bool) (e : PlotFault) (x : Result World PlotFault) (y : Result core.World PlotFault) → x ≡ all_as_at_start y
-    → (if full then Err e else x) ≡ all_as_at_start (if full then Err e else y)
-judged true e x y h = refl
-judged false e x y h = h
+-- nothing more
+nothing : (d : Rotation) (v : World) → IsLikeCore d v → v.core.state.direction ≡ d → IsCores (Some v) (Some v.core)
+nothing d v h k = record { same = refl; like = like_now d v h k }
 
-next_item : (v : core.World) (at : ℕ) (more : List ItemShape) (o : Option core.World)
-    → ((u : core.World) → runs (as_at_start u) more ≡ all_as_at_start (core.runs u more))
-    → ended (with_core (as_at_start v) o) at (λ (u : World). runs u more) ≡ all_as_at_start (core.ended o at (λ (u : core.World). core.runs u more))
-next_item v at more None h = refl
-next_item v at more (Some u) h = judged u.full (fault.TooManyStrokes at) (runs (as_at_start u) more) (core.runs u more) (h u)
+-- IP: widths are in millimetres
+unchanged : (v : World) → v.percents ≡ None → rewidened v ≡ v
+unchanged v h = ap (λ (p : Option (List (Option ℕ))). with_widths v (widths_in p v.core.state)) h
 
-core_items_run : (v : core.World) (items : List ItemShape) → All IsCoreItem items
-    → runs (as_at_start v) items ≡ all_as_at_start (core.runs v items)
-core_items_run v [] h = refl
-core_items_run v (i ∷ more) h =
-    ap (λ (o : Option World). ended o i.at (λ (u : World). runs u more)) (item_run v i.body (All-head IsCoreItem i more h))
-    ∙ next_item v i.at more (core.run v (steps_of i)) (λ (u : core.World). core_items_run u more (All-tail IsCoreItem i more h))
+after_points : (d : Rotation) (v : World) → IsLikeCore d v → v.core.state.direction ≡ d → IsCores (run v (Rewiden ∷ [])) (Some v.core)
+after_points d v h k = rw (unchanged v h.millimetres) (nothing d v h k)
+
+-- SI: there is no size by SR
+sized : (d : Rotation) (l : LetterStyle) → IsLed d l → IsLed d (record l { relative_size = None })
+sized d l h = record { heading = h.heading; letters_are = ap (λ (m : LetterStyle). record m { relative_size = None }) h.letters_are; leads = h.leads }
+
+after_size : (d : Rotation) (v : World) (is_wrong : Bool) → IsLikeCore d v → v.core.state.direction ≡ d
+    → IsCores (run v (if is_wrong then [] else Letter letter.AbsoluteSize ∷ [])) (Some v.core)
+after_size d v true h k = nothing d v h k
+after_size d v false h k = record {
+  same = refl;
+  like = like_now d (record v { writing = record v.writing { letters = record v.writing.letters { relative_size = None } } })
+      (record {
+        solid = h.solid;
+        millimetres = h.millimetres;
+        usual_colours = h.usual_colours;
+        no_symbol = h.no_symbol;
+        led = sized d v.writing.letters h.led;
+        no_extra = h.no_extra;
+        no_ends = h.no_ends;
+        few = h.few;
+      })
+      k;
+}
+
+after_still : (d : Rotation) (i : Instruction) (ns : List ℤ) (v : World) → turns_labels i ≡ false → IsLikeCore d v → v.core.state.direction ≡ d
+    → IsCores (run v (more_steps i ns)) (Some v.core)
+after_still d Initialize ns v t h k = absurd (true≢false t)
+after_still d DefaultValues ns v t h k = absurd (true≢false t)
+after_still d InputPoints ns v t h k = after_points d v h k
+after_still d CharacterSize ns v t h k = after_size d v (meaning CharacterSize ns).is_wrong h k
+after_still d Direction ns v t h k = absurd (true≢false t)
+after_still d i ns v t h k = nothing d v h k
+
+-- IN and DF
+to_right : unit (pos 1000000) (pos 0) ≡ right
+to_right = axes_are_exact_lem.x (pos 1000000) (omega arith)
+
+usual_led : IsLed rotation.None usual_letters
+usual_led = record { heading = pair (pos 1000000) (pos 0); letters_are = refl; leads = to_right }
+
+after_restart : (d : Rotation) (v : World) → IsLikeCore d v → v.core.state.direction ≡ rotation.None → IsCores (run v (Restart ∷ [])) (Some v.core)
+after_restart d v h k = record {
+  same = refl;
+  like = like_now rotation.None _
+      (record {
+        solid = refl;
+        millimetres = refl;
+        usual_colours = refl;
+        no_symbol = refl;
+        led = usual_led;
+        no_extra = h.no_extra;
+        no_ends = h.no_ends;
+        few = h.few;
+      })
+      k;
+}
+
+after_restyle : (d : Rotation) (v : World) → IsLikeCore d v → v.core.state.direction ≡ rotation.None → IsCores (run v (Restyle ∷ [])) (Some v.core)
+after_restyle d v h k = record {
+  same = refl;
+  like = like_now rotation.None _
+      (record {
+        solid = refl;
+        millimetres = h.millimetres;
+        usual_colours = h.usual_colours;
+        no_symbol = refl;
+        led = usual_led;
+        no_extra = h.no_extra;
+        no_ends = h.no_ends;
+        few = h.few;
+      })
+      k;
+}
+
+-- DI
+abbrev directed : Rotation → Pair ℤ → List FullStep
+directed r p = Core (Set (setting.Direction r)) ∷ (Letter (letter.Direction p) ∷ [])
+
+after_direction : (d r : Rotation) (p : Pair ℤ) (v : World) → unit p.x p.y ≡ turned (turn_by r) right
+    → IsLikeCore d v → v.core.state.direction ≡ r → IsCores (run v (Letter (letter.Direction p) ∷ [])) (Some v.core)
+after_direction d r p v u h k = record {
+  same = refl;
+  like = like_now r _
+      (record {
+        solid = h.solid;
+        millimetres = h.millimetres;
+        usual_colours = h.usual_colours;
+        no_symbol = h.no_symbol;
+        led = record {
+          heading = p;
+          letters_are = ap (λ (m : LetterStyle). record m { heading = Absolute p }) h.led.letters_are;
+          leads = u;
+        };
+        no_extra = h.no_extra;
+        no_ends = h.no_ends;
+        few = h.few;
+      })
+      k;
+}
+
+-- one setting
+core_to_end : (o : Option core.World) → core.followed o (λ (c : core.World). Some c) ≡ o
+core_to_end None = refl
+core_to_end (Some c) = refl
+
+set_then : (w : World) (r : Rotation) (s : Setting) (more : List FullStep) → Like w → Leads w.core.state.direction r (Set s)
+    → ((v : World) → IsLikeCore w.core.state.direction v → v.core.state.direction ≡ r → IsCores (run v more) (Some v.core))
+    → IsCores (run w (Core (Set s) ∷ more)) (core.run w.core (Set s ∷ []))
+set_then w r s more h l go =
+    let d : Rotation = w.core.state.direction in
+    let c : core.World = w.core in
+    subst (λ (p : Option core.World). IsCores (run w (Core (Set s) ∷ more)) p) (sym (core_to_end (core.step c (Set s))))
+    (with_more d r (with_core w (core.step c (Set s))) (core.step c (Set s)) more (one_step d r w (Set s) l tt h refl) go)
+
+direction_run : (w : World) (r : Rotation) (p : Pair ℤ) → unit p.x p.y ≡ turned (turn_by r) right → Like w
+    → IsCores (run w (directed r p)) (core.run w.core (Set (setting.Direction r) ∷ []))
+direction_run w r p u h =
+    set_then w r (setting.Direction r) (Letter (letter.Direction p) ∷ []) h (λ page s k. refl)
+    (λ (v : World) (l : IsLikeCore w.core.state.direction v) (k : v.core.state.direction ≡ r). after_direction w.core.state.direction r p v u l k)
+
+vector_run : (w : World) (x y : ℤ) (good : Bool) → (good ≡ true → unit x y ≡ turned (turn_by (nearest_axis x y)) right) → Like w
+    → IsCores
+    (run w (as_core (sets (when good (setting.Direction (nearest_axis x y)))).steps ++ letters_steps (when good (letter.Direction (pair x y)))))
+    (core.run w.core (sets (when good (setting.Direction (nearest_axis x y)))).steps)
+vector_run w x y true u h = direction_run w (nearest_axis x y) (pair x y) (u refl) h
+vector_run w x y false u h = record { same = refl; like = h }
+
+di_run : (w : World) (ns : List ℤ) → is_slanted ns ≡ false → Like w
+    → IsCores (run w (params_steps Direction ns)) (core.run w.core (meaning Direction ns).steps)
+di_run w [] e h = direction_run w rotation.None (pair (pos 1000000) (pos 0)) to_right h
+di_run w (x ∷ []) e h = record { same = refl; like = h }
+di_run w (x ∷ (y ∷ ns)) e h = vector_run w x y (is_vector x y) (λ (v : is_vector x y ≡ true). axis_leads x y v e) h
+
+-- PW and PC are as their steps in core
+to_end : (o : Option World) → followed o (λ (v : World). Some v) ≡ o
+to_end None = refl
+to_end (Some v) = refl
+
+width_steps : (w : World) (s : Option Setting) → with_core w (core.run w.core (sets s).steps) ≡ run w (as_core (sets s).steps)
+width_steps w None = refl
+width_steps w (Some s) =
+    ap (λ (o : Option core.World). with_core w o) (core_to_end (core.step w.core (Set s))) ∙ sym (to_end (with_core w (core.step w.core (Set s))))
+
+colour_steps : (w : World) (s : Option Setting) → set_if s w ≡ run w (as_core (sets s).steps)
+colour_steps w None = refl
+colour_steps w (Some s) = sym (to_end (with_core w (core.step w.core (Set s))))
+
+-- each instruction is its steps in core, and what it does besides
+in_two : (w : World) (i : Instruction) (ns : List ℤ) → Like w
+    → run w (params_steps i ns) ≡ followed (run w (as_core (meaning i ns).steps)) (λ (v : World). run v (more_steps i ns))
+in_two w PenWidth ns h =
+    ap (λ (p : Option (List (Option ℕ))). followed (pen_width_step p w ns) (λ (v : World). Some v)) h.millimetres
+    ∙ ap (λ (o : Option World). followed o (λ (v : World). Some v)) (width_steps w (pen_width ns))
+in_two w PenColour ns h =
+    ap (λ (r : ColourRanges). followed (set_if (pen_colour_in r ns) w) (λ (v : World). Some v)) h.usual_colours
+    ∙ ap (λ (o : Option World). followed o (λ (v : World). Some v)) (colour_steps w (pen_colour ns))
+in_two w i ns h = run-append w (as_core (meaning i ns).steps) (more_steps i ns)
+
+still_run : (w : World) (i : Instruction) (ns : List ℤ) → turns_labels i ≡ false → Like w
+    → IsCores (run w (params_steps i ns)) (core.run w.core (meaning i ns).steps)
+still_run w i ns t h =
+    let d : Rotation = w.core.state.direction in
+    let o : Option World = run w (as_core (meaning i ns).steps) in
+    subst (λ (x : Option World). IsCores x (core.run w.core (meaning i ns).steps)) (sym (in_two w i ns h))
+    (with_more d d o (core.run w.core (meaning i ns).steps) (more_steps i ns) (still_steps d (meaning i ns).steps w (params_still i ns t) h refl)
+    (λ (v : World) (l : IsLikeCore d v) (k : v.core.state.direction ≡ d). after_still d i ns v t l k))
+
+params_run : (w : World) (i : Instruction) (ns : List ℤ) → is_core_body (Params i ns) ≡ true → Like w
+    → IsCores (run w (params_steps i ns)) (core.run w.core (meaning i ns).steps)
+params_run w Initialize ns e h =
+    let d : Rotation = w.core.state.direction in
+    set_then w rotation.None setting.Start (Restart ∷ []) h (λ page s k. refl)
+    (λ (v : World) (l : IsLikeCore d v) (k : v.core.state.direction ≡ rotation.None). after_restart d v l k)
+params_run w DefaultValues ns e h =
+    let d : Rotation = w.core.state.direction in
+    set_then w rotation.None setting.Defaults (Restyle ∷ []) h (λ page s k. refl)
+    (λ (v : World) (l : IsLikeCore d v) (k : v.core.state.direction ≡ rotation.None). after_restyle d v l k)
+params_run w Direction ns e h = di_run w ns (not-true (is_slanted ns) e) h
+params_run w i ns e h = still_run w i ns refl h
+
+-- an item of steps alone
+steps_run : (w : World) (ts : List Step) → AllStill ts → Like w → IsCores (run w (as_core ts)) (core.run w.core ts)
+steps_run w ts all h =
+    let d : Rotation = w.core.state.direction in
+    let o : Option World = run w (as_core ts) in
+    subst (λ (x : Option World). IsCores x (core.run w.core ts)) (to_end o)
+    (with_more d d o (core.run w.core ts) [] (still_steps d ts w all h refl)
+    (λ (v : World) (l : IsLikeCore d v) (k : v.core.state.direction ≡ d). nothing d v l k))
+
+item_run : (w : World) (b : BodyShape) → is_core_body b ≡ true → Like w → IsCores (run w (full_steps b)) (core.run w.core (body_steps b))
+item_run w (Params i ns) e h = params_run w i ns e h
+item_run w (Further f ns) e h = absurd (true≢false (sym e))
+item_run w (Label bytes) e h =
+    steps_run w (Write bytes ∷ []) (((λ d page s k. k), not-true (nat_lt 4294967296 (length bytes)) e), tt) h
+item_run w (Coded entries) e h = steps_run w (entry_steps entries) (entries_still entries) h
+item_run w (Kept bytes) e h = absurd (true≢false (sym e))
+item_run w (Symbol byte) e h = absurd (true≢false (sym e))
+item_run w Known e h = absurd (true≢false (sym e))
+item_run w b e h = record { same = refl; like = h }
+
+-- the items, one after another
+record EndsLike (r : Result World PlotFault) (x : Result core.World PlotFault) : Type 0 where
+  same : core_part r ≡ x
+  one_sheet : ends_in r ≡ []
+
+not_too_much : (w : World) → Like w → is_too_much w ≡ w.core.full
+not_too_much w h =
+    let e : length w.core.kept + w.extra ≡ length w.core.kept = rw h.no_extra (omega arith) in
+    rw (e, le-ltb 4194304 (length w.core.kept) h.few) (elim (cases_Bool w.core.full) [
+      | inl t ↦ rw t refl
+      | inr t ↦ rw t refl
+    ])
+
+judged : (full : Bool) (e : PlotFault) (r : Result World PlotFault) (x : Result core.World PlotFault) → EndsLike r x
+    → EndsLike (if full then Err e else r) (if full then Err e else x)
+judged true e r x h = record { same = refl; one_sheet = refl }
+judged false e r x h = h
+
+next_item : (at : ℕ) (more : List ItemShape) (o : Option World) → LikeNow o
+    → ((v : World) → Like v → EndsLike (runs v more) (core.runs v.core more))
+    → EndsLike (ended o at (λ (v : World). runs v more)) (core.ended (core_of o) at (λ (c : core.World). core.runs c more))
+next_item at more None h go = record { same = refl; one_sheet = refl }
+next_item at more (Some v) h go =
+    rw (not_too_much v h) (judged v.core.full (fault.TooManyStrokes at) (runs v more) (core.runs v.core more) (go v h))
+
+items_run : (w : World) (items : List ItemShape) → All IsCoreItem items → Like w → EndsLike (runs w items) (core.runs w.core items)
+items_run w [] all h = record { same = refl; one_sheet = h.no_ends }
+items_run w (i ∷ more) all h =
+    let one : IsCores (run w (full_steps i.body)) (core.run w.core (steps_of i)) =
+    item_run w i.body (All-head IsCoreItem i more all) h in
+    subst
+    (λ (p : Option core.World). EndsLike (runs w (i ∷ more)) (core.ended p i.at (λ (c : core.World). core.runs c more)))
+    one.same
+    (next_item i.at more (run w (full_steps i.body)) one.like
+    (λ (v : World) (l : Like v). items_run v more (All-tail IsCoreItem i more all) l))
+
+like_at_start : (page : Page) → Like (at_start page)
+like_at_start page = record {
+  solid = refl;
+  millimetres = refl;
+  usual_colours = refl;
+  no_symbol = refl;
+  led = usual_led;
+  no_extra = refl;
+  no_ends = refl;
+  few = omega arith;
+}
 
 pub runs_as_in_core : (page : Page) (items : List ItemShape) → All IsCoreItem items
-    → runs (at_start page) items ≡ all_as_at_start (core.runs (core.at_start page) items)
-runs_as_in_core page items h = core_items_run (core.at_start page) items h
+    → core_part (runs (at_start page) items) ≡ core.runs (core.at_start page) items
+runs_as_in_core page items all = (items_run (at_start page) items all (like_at_start page)).same
 
 -- what core leaves is what its definitions say
-refusal_told : (page : Page) (items : List ItemShape) (r : Result core.World PlotFault) → Told page [] [] items r
-    → refusal_in (all_as_at_start r) ≡ refusal page items
+refusal_told : (page : Page) (items : List ItemShape) (r : Result World PlotFault) → Told page [] [] items (core_part r)
+    → refusal_in r ≡ refusal page items
 refusal_told page items (Ok w) t = sym t.0
 refusal_told page items (Err e) t = sym t
 
-strokes_told : (page : Page) (items : List ItemShape) (r : Result core.World PlotFault) → Told page [] [] items r
-    → refusal page items ≡ None → strokes_in (all_as_at_start r) ≡ strokes page items
+strokes_told : (page : Page) (items : List ItemShape) (r : Result World PlotFault) → Told page [] [] items (core_part r)
+    → refusal page items ≡ None → strokes_in r ≡ strokes page items
 strokes_told page items (Ok w) t n = t.1
 strokes_told page items (Err e) t n = absurd (none-some e (sym n ∙ t))
 
-one_sheet : (r : Result core.World PlotFault) → ends_in (all_as_at_start r) ≡ []
-one_sheet (Ok w) = refl
-one_sheet (Err e) = refl
-
 pub draws_as_in_core : (page : Page) (items : List ItemShape) → All IsCoreItem items
     → SameRefusal page items × SameStrokes page items × OneSheet page items
-draws_as_in_core page items h =
-    let r = core.runs (core.at_start page) items in
-    let t = told page [] [] items (omega arith) in
-    rw (runs_as_in_core page items h) (refusal_told page items r t, strokes_told page items r t, one_sheet r)
+draws_as_in_core page items all =
+    let r : Result World PlotFault = runs (at_start page) items in
+    let h : EndsLike r (core.runs (core.at_start page) items) = items_run (at_start page) items all (like_at_start page) in
+    let t : Told page [] [] items (core_part r) =
+    subst (λ (x : Result core.World PlotFault). Told page [] [] items x) (sym h.same) (told page [] [] items (omega arith)) in
+    (refusal_told page items r t, strokes_told page items r t, h.one_sheet)

@@ -17,7 +17,8 @@ use Rattle.hpgl_plot.specs.Machine.{with_strokes}
 use Rattle.hpgl_plot.specs.Machine as core
 use Rattle.hpgl_plot.proofs.Fed.{with_more}
 use Rattle.full_plot.specs.Dashing.{IsDash, parts_of, dashed, run_past, run_through}
-use Rattle.full_plot.specs.Machine.{World, inked, drawn, shape_in}
+use Rattle.full_plot.specs.Worlds.{World}
+use Rattle.full_plot.specs.Lines.{inked, drawn, shape_in}
 
 -- dashes are as near as the ends of their line
 abbrev low : Spot

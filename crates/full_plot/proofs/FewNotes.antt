@@ -1,5 +1,5 @@
 -- A plot has at most as many notes as bytes in the profile full.
-use Rattle.std.proofs.Common.{◌≤◌, Bool, false, List, [], ◌∷◌, ◌++◌, length, length-append, ℕ, Option, Some, None, arith}
+use Rattle.std.proofs.Common.{◌≤◌, List, [], ◌∷◌, ◌++◌, length, length-append, ℕ, Option, Some, None, arith}
 use Rattle.std.specs.List.{flat_map}
 use Rattle.hpgl_text.specs.Cut.{cut_by}
 use Rattle.hpgl_text.specs.Shapes.{ItemShape, BodyShape}
@@ -8,7 +8,7 @@ use Rattle.hpgl_plot.specs.declared.note.NoteKind.{NoteKind}
 use Rattle.hpgl_plot.specs.declared.note.NoteKind.TheVariants.{Bad}
 use Rattle.hpgl_plot.specs.Notes.{notes_with, note_at, open_noted, entry_note, entries_in}
 use Rattle.hpgl_plot.proofs.NoteCounts.{few_in_profile, notes_by}
-use Rattle.full_plot.specs.Notes.{body_noted, percent_after, notes_from, notes}
+use Rattle.full_plot.specs.Notes.{body_noted, Context, context_after, first_context, notes_from, notes}
 
 -- there are no more than if something were noted at the first byte of each item
 abbrev always : BodyShape → Option NoteKind
@@ -23,11 +23,11 @@ most_on own i =
     let rest = flat_map (entry_note i.code) (entries_in i.body) ++ note_at i.code i.at (open_noted i.unended) in
     omega (arith, length-append (note_at i.code i.at own) rest, one_at i.code i.at own)
 
-most_from : (in_percent : Bool) (items : List ItemShape) → length (notes_from in_percent items) ≤ length (flat_map (notes_by always) items)
-most_from in_percent [] = omega arith
-most_from in_percent (i ∷ more) =
-    let own = body_noted in_percent i.body in
-    let after = percent_after in_percent i.body in
+most_from : (c : Context) (items : List ItemShape) → length (notes_from c items) ≤ length (flat_map (notes_by always) items)
+most_from c [] = omega arith
+most_from c (i ∷ more) =
+    let own = body_noted c i.body in
+    let after = context_after c i.body in
     omega (
       arith,
       length-append (notes_with own i) (notes_from after more),
@@ -37,4 +37,4 @@ most_from in_percent (i ∷ more) =
     )
 
 pub few_notes : (plot : List ℕ) → length (notes (cut_by Full plot)) ≤ length plot
-few_notes plot = omega (arith, most_from false (cut_by Full plot), few_in_profile always Full plot)
+few_notes plot = omega (arith, most_from first_context (cut_by Full plot), few_in_profile always Full plot)

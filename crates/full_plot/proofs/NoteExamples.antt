@@ -5,7 +5,7 @@ use Rattle.hpgl_text.specs.Cut.{cut_by}
 use Rattle.hpgl_text.specs.declared.profile.Profile.TheVariants.{Full}
 use Rattle.hpgl_plot.specs.declared.note.Note.{Note}
 use Rattle.hpgl_plot.specs.declared.note.NoteKind.{NoteKind}
-use Rattle.hpgl_plot.specs.declared.note.NoteKind.TheVariants.{Skipped, Bad, Stray, Axis, Open}
+use Rattle.hpgl_plot.specs.declared.note.NoteKind.TheVariants.{Skipped, Bad, Stray, Open}
 use Rattle.full_plot.specs.Notes.{notes}
 
 abbrev noted : List ℕ → List Note
@@ -46,7 +46,7 @@ sheets = refl
 without_effect : noted (codes "PS1;COa x;NP8;") ≡ []
 without_effect = refl
 
-not_drawn : noted (codes "PM;SM*;BLx") ≡ note 0 (codes "PM") Skipped ∷ note 3 (codes "SM") Skipped ∷ note 7 (codes "BL") Skipped ∷ []
+not_drawn : noted (codes "PM;SM*;BLx") ≡ note 0 (codes "PM") Skipped ∷ []
 not_drawn = refl
 
 -- as in core
@@ -56,8 +56,19 @@ skipped_and_bad = refl
 strays : noted (codes "PE!;#") ≡ note 2 (codes "PE") (Stray 33) ∷ note 4 (0 ∷ 0 ∷ []) (Stray 35) ∷ []
 strays = refl
 
-direction_along_no_axis : noted (codes "DI5,3;") ≡ note 0 (codes "DI") Axis ∷ []
-direction_along_no_axis = refl
+-- directions along any axis or none
+directions : noted (codes "DI5,3;DI0,0;DI1;DR1,2;DR0,0;") ≡ note 6 (codes "DI") Bad ∷ note 12 (codes "DI") Bad ∷ note 22 (codes "DR") Bad ∷ []
+directions = refl
+
+wrong_letters : noted (codes "SR0,1;SL1001;ES101;LO10;LO20;DV4;DV0,2;CP1;TL1001;SR1,1;SL1;ES1,1;LO21;DV3,1;CP;TL;XT1;YT;PB;")
+    ≡ note 0 (codes "SR") Bad ∷ note 6 (codes "SL") Bad ∷ note 13 (codes "ES") Bad ∷ note 19 (codes "LO") Bad ∷ note 24 (codes "LO") Bad
+    ∷ note 29 (codes "DV") Bad ∷ note 33 (codes "DV") Bad ∷ note 39 (codes "CP") Bad ∷ note 43 (codes "TL") Bad ∷ []
+wrong_letters = refl
+
+-- in other ranges a colour is cut, and only the pen can be wrong
+ranges : noted (codes "PC1,300,0,0;CR0,100,0,100,0,100;PC1,300,0,0;PC256,0,0,0;PC300;CR1,1,0,9,0,9;CR0,9;IN;PC1,300,0,0;")
+    ≡ note 0 (codes "PC") Bad ∷ note 44 (codes "PC") Bad ∷ note 56 (codes "PC") Bad ∷ note 62 (codes "CR") Bad ∷ note 76 (codes "CR") Bad ∷ note 85 (codes "PC") Bad ∷ []
+ranges = refl
 
 open_label : noted (codes "LBx") ≡ note 0 (codes "LB") Open ∷ []
 open_label = refl

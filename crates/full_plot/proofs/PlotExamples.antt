@@ -10,7 +10,7 @@ use Rattle.plot_settings.specs.Settings.{all_pens}
 use Rattle.hpgl_plot.specs.declared.fault.PlotFault.TheVariants.{OffRange}
 use Rattle.hpgl_plot.specs.Frames.{place_along, back_along}
 use Rattle.hpgl_plot.specs.Machine as core
-use Rattle.full_plot.specs.Machine.{line_step}
+use Rattle.full_plot.specs.Lines.{line_step}
 use Rattle.full_plot.specs.Drawings.{outcome, refusal_in, strokes_in, ends_in, sheet_count, sheet_strokes}
 
 abbrev page : Page

@@ -11,7 +11,7 @@ use Rattle.hpgl_plot.specs.declared.state.State.{State}
 use Rattle.hpgl_plot.specs.Paths.{Path}
 use Rattle.hpgl_plot.specs.Strokes.{joined, path_strokes}
 use Rattle.full_plot.specs.Dashing.{dashed, run_through}
-use Rattle.full_plot.specs.Machine.{with_a_pen, inked}
+use Rattle.full_plot.specs.Lines.{with_a_pen, inked}
 
 pub dashed_solid : (run : Option Run) (ss : List Segment) → dashed Solid run ss ≡ ss
 dashed_solid run [] = refl

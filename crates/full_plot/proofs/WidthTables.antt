@@ -1,50 +1,24 @@
--- The widths of all pens, one pen after another, and a PW in percent.
-use Rattle.std.proofs.Common.{◌≡◌, ◌<◌, ◌≤◌, ◌+◌, ◌∙◌, sym, ℕ, suc, ℤ, List, [], take, ◌∷◌, ◌++◌, length, set, get_or, refl, ap, arith, Option, Some, None}
-use Rattle.std.proofs.Math.Seq.{take-suc}
-use Rattle.std.proofs.lemmas.List.{length-take-le}
-use Rattle.std.proofs.lemmas.List.Elements.{All-cons, All-head, All-tail}
+-- Numbers of PW and of DI, and a PW in percent.
+use Rattle.std.proofs.Common.{◌≡◌, ◌∙◌, sym, ℕ, ℤ, List, [], take, ◌∷◌, refl, ap, Option, Some}
 use Rattle.hpgl_text.specs.Shapes.{BodyShape, Params}
 use Rattle.hpgl_text.specs.declared.instruction.Instruction.TheVariants.{PenWidth}
-use Rattle.plot_settings.specs.Bounds.{AreWidths}
 use Rattle.full_plot.specs.Items.{full_steps}
-use Rattle.full_plot.specs.Machine.{World, run, widened_if, pen_width_step, followed}
-use Rattle.full_plot.specs.WidthParameters.{percent_width}
-use Rattle.full_plot.specs.Widths.{width_by, widths_by, grains_of_percent}
-
-next_width : (d : ℕ) (ps : List (Option ℕ)) (p : Option ℕ) (ws : List ℕ) → length ps < length ws
-    → widths_by d (ps ++ p ∷ []) ws ≡ set (widths_by d ps ws) (length ps) (width_by d p (get_or (widths_by d ps ws) (length ps) 0))
-next_width d [] p [] h = absurd (omega arith)
-next_width d [] p (w ∷ ws) h = refl
-next_width d (q ∷ ps) p [] h = absurd (omega arith)
-next_width d (q ∷ ps) p (w ∷ ws) h = ap (λ (vs : List ℕ). width_by d q w ∷ vs) (next_width d ps p ws (omega arith))
-
-pub one_more_width : (d : ℕ) (ps : List (Option ℕ)) (ws all : List ℕ) (i v : ℕ) → i < 256 → length ps ≡ 256 → length ws ≡ 256
-    → all ≡ widths_by d (take i ps) ws → v ≡ width_by d (get_or ps i None) (get_or all i 0)
-    → set all i v ≡ widths_by d (take (i + 1) ps) ws
-one_more_width d ps ws all i v h l m e f =
-    let p = get_or ps i None in
-    let n : length (take i ps) ≡ i = length-take-le i ps (omega (arith, h, l)) in
-    let next : i + 1 ≡ suc i = omega arith in
-    let cut : take (i + 1) ps ≡ take i ps ++ p ∷ [] = ap (λ (k : ℕ). take k ps) next ∙ take-suc ps i None (omega (arith, h, l)) in
-    rw (cut, f, e) (sym (rw n at (next_width d (take i ps) p ws (omega (arith, h, m, n)))))
-
--- widths are in range
-pub by_percent_within : (d q : ℕ) → grains_of_percent d q ≤ 12800
-by_percent_within d q = omega arith
-
-pub within : (d : ℕ) (ps : List (Option ℕ)) (ws : List ℕ) → AreWidths ws → AreWidths (widths_by d ps ws)
-within d [] ws h = h
-within d (p ∷ ps) [] h = h
-within d (Some q ∷ ps) (w ∷ ws) h =
-    All-cons (λ (v : ℕ). v ≤ 12800) (grains_of_percent d q) (widths_by d ps ws) (by_percent_within d q) (within d ps ws (All-tail (λ (v : ℕ). v ≤ 12800) w ws h))
-within d (None ∷ ps) (w ∷ ws) h =
-    All-cons (λ (v : ℕ). v ≤ 12800) w (widths_by d ps ws) (All-head (λ (v : ℕ). v ≤ 12800) w ws h) (within d ps ws (All-tail (λ (v : ℕ). v ≤ 12800) w ws h))
+use Rattle.full_plot.specs.Worlds.{World, followed}
+use Rattle.full_plot.specs.Machine.{run, widened_if, pen_width_step}
+use Rattle.full_settings.specs.LetterParameters.{direction}
+use Rattle.full_settings.specs.WidthParameters.{percent_width}
 
 -- further numbers of a PW in percent are not read
 pub first_numbers : (ns : List ℤ) → percent_width (take 7 ns) ≡ percent_width ns
 first_numbers [] = refl
 first_numbers (n ∷ []) = refl
 first_numbers (n ∷ (p ∷ ns)) = refl
+
+-- nor are those of a DI
+pub first_direction : (ns : List ℤ) → direction (take 7 ns) ≡ direction ns
+first_direction [] = refl
+first_direction (x ∷ []) = refl
+first_direction (x ∷ (y ∷ ns)) = refl
 
 -- a PW in percent
 pub width_in_percent : (w z : World) (body : BodyShape) (ns : List ℤ) (ps : List (Option ℕ)) → body ≡ Params PenWidth ns → w.percents ≡ Some ps

@@ -1,8 +1,9 @@
 -- What a plot draws in the profile full.
-use Rattle.std.specs.Prelude.{◌≡◌, ℕ, ◌-◌, List, [], ◌∷◌, length, take, drop, nat_eq, slice_index_or}
+use Rattle.std.specs.Prelude.{◌≡◌, ℕ, ◌+◌, ◌-◌, List, [], ◌∷◌, length, take, drop, nat_eq, nat_lt, slice_index_or, Bool, ◌||◌}
 use Rattle.std.specs.Prelude.{if◌then◌else◌, Option, Some, None, Result, Ok, Err, ⊤}
 use Rattle.plot_page.specs.declared.page.Page.{Page}
 use Rattle.plot_page.specs.Segments.{Segment}
+use Rattle.plot_page.specs.declared.stroke.TheConstants.{MOST_STROKES}
 use Rattle.hpgl_text.specs.Cut.{cut_by}
 use Rattle.hpgl_text.specs.Shapes.{ItemShape}
 use Rattle.hpgl_text.specs.declared.profile.Profile.TheVariants.{Full}
@@ -10,17 +11,33 @@ use Rattle.hpgl_plot.specs.declared.fault.PlotFault.{PlotFault}
 use Rattle.hpgl_plot.specs.declared.fault.PlotFault.TheVariants as fault
 use Rattle.hpgl_plot.specs.Machine as core
 use Rattle.full_plot.specs.Items.{full_steps}
-use Rattle.full_plot.specs.LineStyles.{usual_style}
-use Rattle.full_plot.specs.Machine.{World, run, ends_with}
+use Rattle.full_settings.specs.ColourRanges.{usual_ranges}
+use Rattle.full_settings.specs.LineStyles.{usual_style}
+use Rattle.full_plot.specs.Worlds.{World, usual_writing}
+use Rattle.full_plot.specs.Machine.{run, ends_with}
 
 -- before the first item
 abbrev pub at_start : Page → World
-at_start page = record { core = core.at_start page; style = usual_style; run = None; percents = None; ends = [] }
+at_start page = record {
+  core = core.at_start page;
+  style = usual_style;
+  run = None;
+  percents = None;
+  writing = usual_writing;
+  margin = (core.at_start page).state.place;
+  ranges = usual_ranges;
+  extra = 0;
+  ends = [];
+}
+
+-- there were more strokes than may be kept, or those that are kept are too many with the work that counts besides
+abbrev pub is_too_much : World → Bool
+is_too_much w = w.core.full || nat_lt MOST_STROKES (length w.core.kept + w.extra)
 
 -- the items, one after another, up to the first refusal: a place out of range, or else a stroke too many
 abbrev pub ended : Option World → ℕ → (World → Result World PlotFault) → Result World PlotFault
 ended None at go = Err (fault.OffRange at)
-ended (Some w) at go = if w.core.full then Err (fault.TooManyStrokes at) else go w
+ended (Some w) at go = if is_too_much w then Err (fault.TooManyStrokes at) else go w
 
 abbrev pub runs : World → List ItemShape → Result World PlotFault
 runs w [] = Ok w

@@ -1,12 +1,13 @@
--- What is held back while core draws lines, and brought back when they are drawn in the line type; and which instruction
--- of core has another meaning.
+-- What is held back while core draws lines, and brought back when they are drawn in the line type; and which instructions
+-- of core have steps of their own.
 use Rattle.std.specs.Prelude.{ℕ, Bool, true, false, List, []}
 use Rattle.plot_page.specs.Segments.{Segment}
 use Rattle.hpgl_text.specs.declared.instruction.Instruction.{Instruction}
-use Rattle.hpgl_text.specs.declared.instruction.Instruction.TheVariants.{PenWidth}
+use Rattle.hpgl_text.specs.declared.instruction.Instruction.TheVariants.{PenWidth, PenColour}
 use Rattle.hpgl_plot.specs.Machine as core
 use Rattle.full_plot.specs.declared.lines.Held.{Held}
-use Rattle.full_plot.specs.Machine.{World, with_a_pen}
+use Rattle.full_plot.specs.Lines.{with_a_pen}
+use Rattle.full_plot.specs.Worlds.{World}
 
 -- core without strokes, by a pen that draws
 abbrev pub cleared : World → core.World
@@ -30,7 +31,8 @@ with_held w h = with_strokes_and_pen w h.strokes.items h.is_full h.pen
 abbrev pub restored : World → core.World → World
 restored w v = with_strokes_and_pen (record w { core = v }) w.core.kept w.core.full w.core.state.pen
 
--- whether an instruction is PW
-abbrev pub is_pen_width : Instruction → Bool
-is_pen_width PenWidth = true
-is_pen_width _ = false
+-- whether an instruction has steps of its own
+abbrev pub is_own : Instruction → Bool
+is_own PenWidth = true
+is_own PenColour = true
+is_own _ = false

@@ -1,10 +1,9 @@
--- What a reader must believe: line types, how lines are drawn in them, widths of pens, the steps of items, what plots
--- draw, what is noted on them, and that plots of core stay as they are.
-pub mod LineStyles
-pub mod LineParameters
+-- What a reader must believe: what is set, how lines are drawn in line types, labels, the steps of items, what plots draw,
+-- what is noted on them, and that plots of core stay as they are.
+pub mod Worlds
 pub mod Dashing
-pub mod WidthParameters
-pub mod Widths
+pub mod Lines
+pub mod Texts
 pub mod Machine
 pub mod Items
 pub mod Drawings

@@ -1,88 +1,46 @@
--- A plot in the profile full, one step at a time: the steps of core, with lines in the line type, and settings more.
-use Rattle.std.specs.Prelude.{◌≡◌, ℕ, ℤ, max, Bool, true, false, List, [], ◌∷◌, ◌++◌, length, nat_eq, nat_lt}
+-- A plot in the profile full, one step at a time: the steps of core, with lines in the line type and labels in the style
+-- that is set, and further steps.
+use Rattle.std.specs.Prelude.{◌≡◌, ℕ, ◌+◌, ℤ, Bool, true, List, [], ◌∷◌, ◌++◌, length, nat_lt}
 use Rattle.std.specs.Prelude.{if◌then◌else◌, Option, Some, None, Result, Ok, Err, ⊤}
-use Rattle.std.specs.List.{list_all}
 use Rattle.plot_page.specs.declared.page.Page.{Page}
-use Rattle.plot_page.specs.Segments.{Segment}
-use Rattle.line_types.specs.declared.run.Run.{Run}
-use Rattle.line_types.specs.LineTypes.{LineShape}
+use Rattle.plot_page.specs.declared.stroke.TheConstants.{MOST_STROKES}
+use Rattle.hpgl_text.specs.Cut.{last_or}
 use Rattle.hpgl_text.specs.declared.instruction.Instruction.TheVariants.{PenWidth}
-use Rattle.plot_settings.specs.Meanings.{Step, Move, Go, Edge, DrawCircle, DrawArc, meaning}
+use Rattle.plot_settings.specs.Meanings.{Step, Set, Move, Go, Edge, DrawCircle, DrawArc, Write, meaning}
+use Rattle.plot_settings.specs.declared.setting.Rotation.{Rotation}
+use Rattle.plot_settings.specs.declared.setting.Rotation.TheVariants.{Quarter, ThreeQuarters}
+use Rattle.plot_settings.specs.declared.setting.Setting.{Setting}
 use Rattle.hpgl_plot.specs.declared.plotter.Stop.{Stop}
 use Rattle.hpgl_plot.specs.declared.plotter.Stop.TheVariants.{Memory, OffRange}
 use Rattle.hpgl_plot.specs.declared.state.State.{State}
-use Rattle.hpgl_plot.specs.Paths.{path}
-use Rattle.hpgl_plot.specs.Strokes.{are_in_range, path_strokes}
 use Rattle.hpgl_plot.specs.Machine as core
+use Rattle.full_settings.specs.declared.character_moves.CharacterMove.{CharacterMove}
+use Rattle.full_settings.specs.declared.colour_range.ColourRanges.{ColourRanges}
+use Rattle.full_settings.specs.declared.letter_setting.LetterSetting.{LetterSetting}
+use Rattle.full_settings.specs.declared.line_setting.LineSetting.{LineSetting}
+use Rattle.full_settings.specs.declared.page_points.RelativePoints.{RelativePoints}
+use Rattle.full_settings.specs.declared.tick_length.TickLength.{TickLength}
+use Rattle.full_settings.specs.declared.width_setting.WidthSetting.{WidthSetting}
+use Rattle.full_settings.specs.ColourRanges.{usual_ranges, pen_colour_in}
+use Rattle.full_settings.specs.LineStyles.{style_with, usual_style, diagonal}
+use Rattle.full_settings.specs.RelativePoints.{setting_of}
+use Rattle.full_settings.specs.WidthParameters.{percent_width}
+use Rattle.full_settings.specs.Widths.{widths_by, percents_with, grains_with}
 use Rattle.full_plot.specs.declared.plotter.FullPlotter.{FullPlotter}
-use Rattle.hpgl_text.specs.Cut.{last_or}
-use Rattle.full_plot.specs.declared.line_setting.LineSetting.{LineSetting}
-use Rattle.full_plot.specs.declared.width_setting.WidthSetting.{WidthSetting}
-use Rattle.full_plot.specs.LineStyles.{shape_of, style_with, usual_style, diagonal}
-use Rattle.full_plot.specs.LineStyles as styles
-use Rattle.full_plot.specs.Dashing.{dashed, run_through}
-use Rattle.full_plot.specs.Widths.{widths_by, percents_with, grains_with}
-use Rattle.full_plot.specs.WidthParameters.{percent_width}
+use Rattle.full_plot.specs.Lines.{line_step}
+use Rattle.full_plot.specs.Texts.{at_margin, lettered, marked, moved_on, ticked, written}
+use Rattle.full_plot.specs.Worlds.{World, usual_writing, with_core, followed}
 
--- what core has: the page, the state and the strokes; the line style, and the run of its pattern; the widths of pens in
--- percent, or None while widths are in millimetres; for each sheet that has ended, how many strokes were made until then
-pub record World : Type 0 where
-  pub core : core.World
-  pub style : styles.Style
-  pub run : Option Run
-  pub percents : Option (List (Option ℕ))
-  pub ends : List ℕ
-
--- the line type, with P1 and P2 as they are now
-abbrev pub shape_in : World → LineShape
-shape_in w = shape_of w.style w.core.state.frame.points
-
--- the lines of a step, whatever pen is selected
-abbrev pub with_a_pen : State → State
-with_a_pen s = record s { pen = max 1 s.pen }
-
-abbrev pub lines_of : Page → State → Step → List Segment
-lines_of page s t = path_strokes (with_a_pen s) (path page s t)
-
--- pen 0 makes no stroke
-abbrev pub inked : State → List Segment → List Segment
-inked s strokes = if nat_eq s.pen 0 then [] else strokes
-
--- these lines, in the line type
-abbrev pub drawn : World → List Segment → World
-drawn w lines = record w {
-  core = core.with_strokes w.core w.core.state (inked w.core.state (dashed (shape_in w) w.run lines));
-  run = run_through (shape_in w) w.run lines;
-}
-
-abbrev pub ended_by : World → State → World
-ended_by w s = record w { core = record w.core { state = s } }
-
--- a step whose lines are drawn in the line type: None if a place is out of range
-unfoldable pub line_step : World → Step → Option World
-line_step w t =
-    let page = w.core.page in
-    let s = w.core.state in
-    if list_all are_in_range (path page s t).lines
-    then Some (ended_by (drawn w (lines_of page s t)) (core.after page s t))
-    else None
-
--- a step that draws no lines
-abbrev pub with_core : World → Option core.World → Option World
-with_core w None = None
-with_core w (Some v) = Some (record w { core = v })
-
--- moves, rectangles, circles and arcs are drawn in the line type; dots and labels are not
-abbrev pub has_lines : Step → Bool
-has_lines (Move x y) = true
-has_lines (Go relative x y) = true
-has_lines (Edge relative x y) = true
-has_lines (DrawCircle c) = true
-has_lines (DrawArc relative a) = true
-has_lines _ = false
-
+-- a step of core: moves, rectangles, circles and arcs are drawn in the line type; after a move or an arc the left margin is
+-- where the pen is, and after a move the symbol is drawn there; dots are as in core
 abbrev pub core_step : World → Step → Option World
-core_step w t = if has_lines t then line_step w t else with_core w (core.step w.core t)
+core_step w (Move x y) = followed (line_step w (Move x y)) (λ (v : World). marked (at_margin v))
+core_step w (Go relative x y) = followed (line_step w (Go relative x y)) (λ (v : World). marked (at_margin v))
+core_step w (DrawArc relative a) = followed (line_step w (DrawArc relative a)) (λ (v : World). Some (at_margin v))
+core_step w (Edge relative x y) = line_step w (Edge relative x y)
+core_step w (DrawCircle c) = line_step w (DrawCircle c)
+core_step w (Write bytes) = written w bytes
+core_step w t = with_core w (core.step w.core t)
 
 -- widths in grains, as core has them: those in percent are taken of P1 and P2 as they are now
 abbrev pub widths_in : Option (List (Option ℕ)) → State → List ℕ
@@ -111,16 +69,78 @@ abbrev pub pen_width_step : Option (List (Option ℕ)) → World → List ℤ �
 pen_width_step None w ns = with_core w (core.run w.core (meaning PenWidth ns).steps)
 pen_width_step (Some percents) w ns = Some (widened_if (percent_width ns) w)
 
--- a step of core; what an LT or a UL sets; the line style of the start; a PW with these numbers, in millimetres or in
--- percent; what a WU or a PT sets; widths by other P1 and P2; line style and widths of the start; the end of a sheet
+-- a setting of core, or none
+abbrev pub set_if : Option Setting → World → Option World
+set_if None w = Some w
+set_if (Some s) w = with_core w (core.step w.core (Set s))
+
+-- the width and the height of the page as RO turns it
+abbrev pub page_width : Page → Rotation → ℕ
+page_width page Quarter = page.height
+page_width page ThreeQuarters = page.height
+page_width page _ = page.width
+
+abbrev pub page_height : Page → Rotation → ℕ
+page_height page Quarter = page.width
+page_height page ThreeQuarters = page.width
+page_height page _ = page.height
+
+-- P1 and P2 in percent of it
+abbrev pub points_set : World → RelativePoints → Setting
+points_set w p =
+    let page = w.core.page in
+    let r = w.core.state.frame.rotation in
+    setting_of p (page_width page r) (page_height page r) page.left page.below
+
+-- after IP and IR, widths in percent are taken of the new P1 and P2
+abbrev pub then_rewidened : Option World → Option World
+then_rewidened None = None
+then_rewidened (Some w) = Some (rewidened w)
+
+-- DF, besides what it does in core: the line style and what is set for labels are those of the start
+abbrev pub restyled : World → World
+restyled w = record w { style = usual_style; run = None; writing = usual_writing }
+
+-- IN and BP, besides: so are the widths and the ranges of colours, and the left margin is where the pen is
+abbrev pub restarted : World → World
+restarted w = at_margin (record (restyled w) { percents = None; ranges = usual_ranges })
+
+-- work besides strokes; more than a plot may have of both is as if there were too many strokes
+abbrev pub worked : ℕ → World → World
+worked n w =
+    if nat_lt MOST_STROKES (length w.core.kept + w.extra + n)
+    then record w { core = record w.core { full = true } }
+    else record w { extra = w.extra + n }
+
+abbrev pub then_worked : ℕ → Option World → Option World
+then_worked n None = None
+then_worked n (Some w) = Some (worked n w)
+
+-- a PB, whose bytes are work
+abbrev pub printed : World → Option World
+printed w = then_worked (length w.writing.text) (written w w.writing.text)
+
+-- a step of core; what LT or UL sets; what DF and what IN do besides; a PW and a PC with these numbers; what WU or PT
+-- sets; widths by other P1 and P2; P1 and P2 by IR; the ranges of CR; what SR, SL, DI, DR, ES, LO or DV sets; the symbol
+-- of SM; the text of BL, and PB; a CP; what TL sets, and XT or YT; the end of a sheet
 pub data FullStep : Type 0 where
   Core : Step → FullStep
   Style : LineSetting → FullStep
   Restyle : FullStep
+  Restart : FullStep
   WidthBy : List ℤ → FullStep
+  ColourBy : List ℤ → FullStep
   Widen : WidthSetting → FullStep
   Rewiden : FullStep
-  Restart : FullStep
+  PointsBy : RelativePoints → FullStep
+  RangesBy : ColourRanges → FullStep
+  Letter : LetterSetting → FullStep
+  Mark : Option ℕ → FullStep
+  Keep : List ℕ → FullStep
+  Print : FullStep
+  Place : CharacterMove → FullStep
+  TickBy : TickLength → FullStep
+  Tick : Bool → FullStep
   EndSheet : FullStep
 
 -- a sheet ends if it has a stroke; no strokes are taken from one sheet to the next
@@ -134,16 +154,22 @@ ends_with ends count = if nat_lt (last_end ends) count then ends ++ count ∷ []
 abbrev pub step : World → FullStep → Option World
 step w (Core t) = core_step w t
 step w (Style s) = Some (record w { style = style_with s w.style; run = None })
-step w Restyle = Some (record w { style = usual_style; run = None })
+step w Restyle = Some (restyled w)
+step w Restart = Some (restarted w)
 step w (WidthBy ns) = pen_width_step w.percents w ns
+step w (ColourBy ns) = set_if (pen_colour_in w.ranges ns) w
 step w (Widen s) = Some (widened s w)
 step w Rewiden = Some (rewidened w)
-step w Restart = Some (record w { style = usual_style; run = None; percents = None })
+step w (PointsBy p) = then_rewidened (with_core w (core.step w.core (Set (points_set w p))))
+step w (RangesBy r) = Some (record w { ranges = r })
+step w (Letter s) = Some (lettered s w)
+step w (Mark byte) = Some (record w { writing = record w.writing { symbol = byte } })
+step w (Keep bytes) = Some (record w { writing = record w.writing { text = bytes } })
+step w Print = printed w
+step w (Place m) = moved_on w m
+step w (TickBy t) = Some (record w { writing = record w.writing { ticks = t } })
+step w (Tick is_upright) = ticked w is_upright
 step w EndSheet = Some (record w { ends = ends_with w.ends (length w.core.kept) })
-
-abbrev pub followed : Option World → (World → Option World) → Option World
-followed None f = None
-followed (Some w) f = f w
 
 abbrev pub run : World → List FullStep → Option World
 run w [] = Some w
@@ -161,5 +187,9 @@ seen p = record {
   style = p.style;
   run = p.run;
   percents = p.percents;
+  writing = p.writing;
+  margin = p.margin;
+  ranges = p.ranges;
+  extra = p.extra;
   ends = p.ends.items;
 }

@@ -1,76 +1,94 @@
 -- What is noted on the items of a plot in the profile full.
 use Rattle.std.specs.Prelude.{ℤ, Bool, true, false, List, [], ◌∷◌, ◌++◌, Option, Some, None}
-use Rattle.hpgl_text.specs.Shapes.{ItemShape, BodyShape, Params, Further, Kept, Symbol}
-use Rattle.hpgl_text.specs.declared.further.Further as further
-use Rattle.hpgl_text.specs.declared.further.Further.TheVariants.{LineType, UserLineType, WidthUnit, PenThickness}
-use Rattle.hpgl_text.specs.declared.further.Further.TheVariants.{EndSheet, BeginPlot}
+use Rattle.std.specs.Option.{is_some}
+use Rattle.hpgl_text.specs.Shapes.{ItemShape, BodyShape, Params}
+use Rattle.hpgl_text.specs.Shapes as shape
 use Rattle.hpgl_text.specs.declared.instruction.Instruction.{Instruction}
-use Rattle.hpgl_text.specs.declared.instruction.Instruction.TheVariants.{Initialize, PenWidth}
+use Rattle.hpgl_text.specs.declared.instruction.Instruction.TheVariants.{Initialize, PenWidth, PenColour, Direction}
 use Rattle.hpgl_plot.specs.declared.note.Note.{Note}
 use Rattle.hpgl_plot.specs.declared.note.NoteKind.{NoteKind}
 use Rattle.hpgl_plot.specs.declared.note.NoteKind.TheVariants.{Skipped, Bad}
 use Rattle.hpgl_plot.specs.Notes.{notes_with, parameters_noted}
 use Rattle.hpgl_plot.specs.Notes as core
-use Rattle.full_plot.specs.declared.width_setting.WidthSetting.{WidthSetting}
-use Rattle.full_plot.specs.declared.width_setting.WidthSetting.TheVariants.{Millimetres, PercentOfAll}
-use Rattle.full_plot.specs.LineParameters.{line_type, user_line_type}
-use Rattle.full_plot.specs.WidthParameters.{width_unit, percent_width, thickness}
+use Rattle.full_settings.specs.declared.colour_range.ColourRanges.{ColourRanges}
+use Rattle.full_settings.specs.declared.requests.FurtherRequest.{FurtherRequest}
+use Rattle.full_settings.specs.declared.requests.FurtherRequest.TheVariants as request
+use Rattle.full_settings.specs.declared.width_setting.WidthSetting.{WidthSetting}
+use Rattle.full_settings.specs.declared.width_setting.WidthSetting.TheVariants.{Millimetres, PercentOfAll}
+use Rattle.full_settings.specs.ColourRanges.{usual_ranges, pen_colour_in}
+use Rattle.full_settings.specs.FurtherRequests.{further_request}
+use Rattle.full_settings.specs.LetterParameters.{direction}
+use Rattle.full_settings.specs.WidthParameters.{percent_width}
+use Rattle.full_plot.specs.Worlds.{World}
+
+-- what has been set before an item that its notes depend on: whether widths are in percent, and the ranges of colours
+pub record Context : Type 0 where
+  pub in_percent : Bool
+  pub ranges : ColourRanges
+
+-- at the start, and after IN and BP
+abbrev pub first_context : Context
+first_context = record { in_percent = false; ranges = usual_ranges }
+
+abbrev pub context_of : World → Context
+context_of w = record { in_percent = is_some w.percents; ranges = w.ranges }
 
 -- whether widths are in percent after a WU that asks for this, if they were or were not before
-abbrev pub unit_after : Bool → Option WidthSetting → Bool
-unit_after in_percent (Some Millimetres) = false
-unit_after in_percent (Some (PercentOfAll percent)) = true
+abbrev pub unit_after : Bool → WidthSetting → Bool
+unit_after in_percent Millimetres = false
+unit_after in_percent (PercentOfAll percent) = true
 unit_after in_percent _ = in_percent
 
--- whether they are after an item: IN and BP restore millimetres
-abbrev pub further_after : Bool → further.Further → List ℤ → Bool
-further_after in_percent WidthUnit ns = unit_after in_percent (width_unit ns)
-further_after in_percent BeginPlot ns = false
-further_after in_percent _ ns = in_percent
+-- the context after an item
+abbrev pub request_after : Context → FurtherRequest → Context
+request_after c (request.Width s) = record c { in_percent = unit_after c.in_percent s }
+request_after c (request.Colours r) = record c { ranges = r }
+request_after c request.Begin = first_context
+request_after c _ = c
 
-abbrev pub params_after : Bool → Instruction → Bool
-params_after in_percent Initialize = false
-params_after in_percent _ = in_percent
+abbrev pub params_after : Context → Instruction → Context
+params_after c Initialize = first_context
+params_after c _ = c
 
-abbrev pub percent_after : Bool → BodyShape → Bool
-percent_after in_percent (Further f ns) = further_after in_percent f ns
-percent_after in_percent (Params instruction ns) = params_after in_percent instruction
-percent_after in_percent _ = in_percent
+abbrev pub context_after : Context → BodyShape → Context
+context_after c (shape.Further f ns) = request_after c (further_request f ns)
+context_after c (Params instruction ns) = params_after c instruction
+context_after c _ = c
 
 -- numbers that ask for nothing are wrong
 abbrev pub bad_without : {S : Type 0} → Option S → Option NoteKind
 bad_without (Some setting) = None
 bad_without None = Some Bad
 
--- what is noted on a further instruction with these numbers; one that is not drawn is skipped
-abbrev pub further_noted : further.Further → List ℤ → Option NoteKind
-further_noted LineType ns = bad_without (line_type ns)
-further_noted UserLineType ns = bad_without (user_line_type ns)
-further_noted WidthUnit ns = bad_without (width_unit ns)
-further_noted PenThickness ns = bad_without (thickness ns)
-further_noted EndSheet ns = None
-further_noted BeginPlot ns = None
-further_noted _ ns = Some Skipped
+-- what is noted on a further instruction: that its numbers are wrong, or that it is not drawn
+abbrev pub request_noted : FurtherRequest → Option NoteKind
+request_noted request.Wrong = Some Bad
+request_noted request.Skip = Some Skipped
+request_noted _ = None
 
--- what is noted on an instruction of core, by whether widths are in percent: only PW differs
-abbrev pub params_noted : Bool → Instruction → List ℤ → Option NoteKind
-params_noted true PenWidth ns = bad_without (percent_width ns)
-params_noted _ instruction ns = parameters_noted instruction ns
+-- what is noted on an instruction of core: PW in percent and PC in ranges have rules of their own, and DI may be along no
+-- axis
+abbrev pub width_noted : Bool → List ℤ → Option NoteKind
+width_noted true ns = bad_without (percent_width ns)
+width_noted false ns = parameters_noted PenWidth ns
 
--- what is noted on an item at its first byte; texts and symbols that are kept for later are not drawn, either
-abbrev pub body_noted : Bool → BodyShape → Option NoteKind
-body_noted in_percent (Further f ns) = further_noted f ns
-body_noted in_percent (Params instruction ns) = params_noted in_percent instruction ns
-body_noted in_percent (Kept bytes) = Some Skipped
-body_noted in_percent (Symbol byte) = Some Skipped
-body_noted in_percent body = core.body_noted body
+abbrev pub params_noted : Context → Instruction → List ℤ → Option NoteKind
+params_noted c PenWidth ns = width_noted c.in_percent ns
+params_noted c PenColour ns = bad_without (pen_colour_in c.ranges ns)
+params_noted c Direction ns = bad_without (direction ns)
+params_noted c instruction ns = parameters_noted instruction ns
 
--- the notes on items, in their order, by whether widths are in percent before them
-abbrev pub notes_from : Bool → List ItemShape → List Note
-notes_from in_percent [] = []
-notes_from in_percent (i ∷ is) =
-    notes_with (body_noted in_percent i.body) i ++ notes_from (percent_after in_percent i.body) is
+-- what is noted on an item at its first byte
+abbrev pub body_noted : Context → BodyShape → Option NoteKind
+body_noted c (shape.Further f ns) = request_noted (further_request f ns)
+body_noted c (Params instruction ns) = params_noted c instruction ns
+body_noted c body = core.body_noted body
 
--- the notes on a plot, which begins with widths in millimetres
+-- the notes on items, in their order, by the context before them
+abbrev pub notes_from : Context → List ItemShape → List Note
+notes_from c [] = []
+notes_from c (i ∷ is) = notes_with (body_noted c i.body) i ++ notes_from (context_after c i.body) is
+
+-- the notes on a plot
 abbrev pub notes : List ItemShape → List Note
-notes items = notes_from false items
+notes items = notes_from first_context items

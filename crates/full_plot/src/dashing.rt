@@ -3,7 +3,8 @@ ghost use Rattle.std.specs.Prelude.{◌≡◌, ◌∷◌, [], All, IfOk, IfErr, 
 ghost use Rattle.hpgl_plot.specs.Machine as core;
 ghost use Rattle.line_types.specs.Bounds.{IsPlace};
 ghost use Rattle.line_types.specs.LineTypes.{line_shape};
-ghost use Rattle.full_plot.specs.Machine.{seen, drawn, Runs, shape_in};
+ghost use Rattle.full_plot.specs.Lines.{drawn, shape_in};
+ghost use Rattle.full_plot.specs.Machine.{seen, Runs};
 ghost use Rattle.full_plot.specs.Dashing.{part_of, from_of, to_of, IsDash, with_one_more};
 
 use crate::plotter::FullPlotter;

@@ -17,7 +17,8 @@ pub fn core_noted_as_in_core()
     ensures { CoreNotedAsInCore }
 {}
 
-/// After each item that is carried out, notes take widths to be in percent if and only if they are.
+/// After each item that is carried out, notes are told whether widths are in percent, and which ranges colours have, as
+/// they are.
 pub fn notes_are_told()
     ensures { NotesAreTold }
 {}

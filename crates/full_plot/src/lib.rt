@@ -1,28 +1,30 @@
-//! What a plot draws in the profile full: the instructions of core, line types, and widths in percent; and
-//! what is noted on it.
+//! What a plot draws in the profile full: the instructions of core, line types, labels in any direction, symbols,
+//! ticks, widths in percent and ranges of colours; and what is noted on it.
 #![tactic(auto)]
 
+mod carrying;
+mod context;
 mod dashing;
 mod drawn;
+mod further;
+mod ink;
+mod labels;
 pub mod laws;
-mod line_parameters;
-mod line_setting;
-mod line_style;
 mod lines;
 mod notes;
 mod noting;
 mod plain;
 mod plotter;
+mod requests;
 mod sheets;
 mod steps;
-mod width_parameters;
-mod width_setting;
+mod ticks;
 mod widths;
+mod writing;
 
+pub use context::Context;
 pub use drawn::{FullDrawn, draw_full};
-pub use line_setting::{LineKind, LineSetting, PatternLength};
-pub use line_style::LineStyle;
 pub use notes::FullNotes;
 pub use plotter::FullPlotter;
 pub use sheets::keep_sheet;
-pub use width_setting::WidthSetting;
+pub use writing::Writing;

@@ -3,7 +3,8 @@ ghost use Rattle.std.specs.Prelude.{◌≡◌, Some};
 ghost use Rattle.plot_settings.specs.Bounds.{IsCorner, IsCircle, IsArc};
 ghost use Rattle.plot_settings.specs.Meanings.{Move, Go, Edge, DrawCircle, DrawArc};
 ghost use Rattle.hpgl_plot.specs.Machine as core;
-ghost use Rattle.full_plot.specs.Machine.{seen, line_step, drawn, Runs};
+ghost use Rattle.full_plot.specs.Lines.{line_step, drawn};
+ghost use Rattle.full_plot.specs.Machine.{seen, core_step, Runs};
 ghost use Rattle.full_plot.specs.Holding.{cleared, with_held};
 
 use crate::plotter::FullPlotter;
@@ -23,18 +24,31 @@ pub struct Held {
 
 impl FullPlotter {
     /// A move to coordinates, which are relative or absolute by the most recent PA or PR.
-    #[tactic(auto, unfolding(crate::specs::Machine::line_step))]
+    #[tactic(auto, unfolding(crate::specs::Lines::line_step))]
     pub fn move_to(&mut self, x: Number, y: Number) -> Result<(), Stop>
-        ensures { Runs (line_step (seen self.old) (Move x y)) (seen self.new) result }
+        ensures { Runs (core_step (seen self.old) (Move x y)) (seen self.new) result }
     {
         let is_relative = self.plotter.state.is_relative;
         self.go(is_relative, x, y)
     }
 
-    /// A move to coordinates, drawn if the pen is down.
+    /// A move to coordinates, drawn if the pen is down. Then the left margin is where the pen is, and the
+    /// symbol is drawn there.
     pub fn go(&mut self, is_relative: bool, x: Number, y: Number) -> Result<(), Stop>
+        ensures { Runs (core_step (seen self.old) (Go is_relative x y)) (seen self.new) result }
+    {
+        self.go_along(is_relative, x, y)?;
+        self.margin = self.plotter.state.place;
+        self.mark()
+    }
+
+    // The line of a move.
+    fn go_along(&mut self, is_relative: bool, x: Number, y: Number) -> Result<(), Stop>
         ensures { Runs (line_step (seen self.old) (Go is_relative x y)) (seen self.new) result }
     {
+        if self.style.is_solid() {
+            return self.plotter.go(is_relative, x, y);
+        }
         let held = self.hold();
         self.plotter.go(is_relative, x, y)?;
         self.release(held)
@@ -45,6 +59,9 @@ impl FullPlotter {
         requires { IsCorner corner }
         ensures { Runs (line_step (seen self.old) (Edge is_relative corner.x corner.y)) (seen self.new) result }
     {
+        if self.style.is_solid() {
+            return self.plotter.edge(is_relative, corner);
+        }
         let held = self.hold();
         self.plotter.edge(is_relative, corner)?;
         self.release(held)
@@ -55,16 +72,32 @@ impl FullPlotter {
         requires { IsCircle circle }
         ensures { Runs (line_step (seen self.old) (DrawCircle circle)) (seen self.new) result }
     {
+        if self.style.is_solid() {
+            return self.plotter.circle(circle);
+        }
         let held = self.hold();
         self.plotter.circle(circle)?;
         self.release(held)
     }
 
-    /// An arc from the pen on.
+    /// An arc from the pen on, after which the left margin is where the pen is.
     pub fn arc(&mut self, is_relative: bool, arc: Arc) -> Result<(), Stop>
+        requires { IsArc arc }
+        ensures { Runs (core_step (seen self.old) (DrawArc is_relative arc)) (seen self.new) result }
+    {
+        self.arc_along(is_relative, arc)?;
+        self.margin = self.plotter.state.place;
+        Ok(())
+    }
+
+    // The lines of an arc.
+    fn arc_along(&mut self, is_relative: bool, arc: Arc) -> Result<(), Stop>
         requires { IsArc arc }
         ensures { Runs (line_step (seen self.old) (DrawArc is_relative arc)) (seen self.new) result }
     {
+        if self.style.is_solid() {
+            return self.plotter.arc(is_relative, arc);
+        }
         let held = self.hold();
         self.plotter.arc(is_relative, arc)?;
         self.release(held)
@@ -77,10 +110,8 @@ impl FullPlotter {
         ensures kept { result.strokes.items ≡ self.old.plotter.strokes.items }
         ensures full { result.is_full ≡ self.old.plotter.is_full }
         ensures pen { result.pen ≡ self.old.plotter.state.pen }
-        ensures style { self.new.style ≡ self.old.style }
-        ensures run { self.new.run ≡ self.old.run }
-        ensures percents { self.new.percents ≡ self.old.percents }
-        ensures ends { self.new.ends ≡ self.old.ends }
+        ensures same { record (seen self.new) { core = cleared (seen self.old) }
+            ≡ record (seen self.old) { core = cleared (seen self.old) } }
     {
         let pen = self.plotter.state.pen;
         self.plotter.select(pen.max(1));

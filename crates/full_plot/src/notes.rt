@@ -5,7 +5,8 @@ ghost use Rattle.hpgl_text.specs.Cut.{cut_by};
 ghost use Rattle.hpgl_text.specs.declared.profile.Profile.TheVariants.{Full};
 ghost use Rattle.full_plot.specs.Notes.{notes};
 
-use crate::noting::{noted_kind, percent_after};
+use crate::context::Context;
+use crate::noting::{context_after, noted_kind};
 use hpgl_plot::{ItemNotes, Note, NoteSource};
 use hpgl_text::{Items, Profile};
 use std::marker::Model;
@@ -16,8 +17,8 @@ pub struct FullNotes<'a> {
     // What is left to tell of the item at hand, and the items after it.
     item: ItemNotes<'a>,
     items: Items<'a>,
-    // Whether widths are in percent before these.
-    in_percent: bool,
+    // The context before these.
+    context: Context,
 }
 
 impl<'a> Model for FullNotes<'a> {
@@ -27,7 +28,7 @@ impl<'a> Model for FullNotes<'a> {
 
     ghost Value = { List Note };
 
-    ghost view = { λ n. n.item ++ notes_from n.in_percent n.items };
+    ghost view = { λ n. n.item ++ notes_from n.context n.items };
 }
 
 impl<'a> FullNotes<'a> {
@@ -39,7 +40,7 @@ impl<'a> FullNotes<'a> {
         FullNotes {
             item: ItemNotes::none(),
             items: Items::by_profile(Profile::Full, plot),
-            in_percent: false,
+            context: Context::first(),
         }
     }
 }
@@ -57,8 +58,8 @@ impl<'a> Iterator for FullNotes<'a> {
                 return Some(note);
             }
             let item = self.items.next()?;
-            self.item = ItemNotes::new(&item, noted_kind(&item, self.in_percent));
-            self.in_percent = percent_after(&item, self.in_percent);
+            self.item = ItemNotes::new(&item, noted_kind(&item, &self.context));
+            self.context = context_after(&item, &self.context);
         }
     }
 }

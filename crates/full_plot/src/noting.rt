@@ -1,66 +1,71 @@
 //! Noting what is skipped or wrong in the profile full.
 ghost use Rattle.std.specs.Prelude.{◌≡◌};
 ghost use Rattle.hpgl_text.specs.Shapes.{Params};
-ghost use Rattle.full_plot.specs.Notes.{bad_without, further_noted, params_noted, body_noted};
-ghost use Rattle.full_plot.specs.Notes.{unit_after, further_after, params_after, percent_after};
-ghost use Rattle.full_plot.specs.WidthParameters.{width_unit};
+ghost use Rattle.full_settings.specs.FurtherRequests.{IsFurtherRequest};
+ghost use Rattle.full_plot.specs.Notes.{bad_without, request_noted, width_noted, params_noted, body_noted};
+ghost use Rattle.full_plot.specs.Notes.{unit_after, request_after, params_after, context_after};
 
-use crate::line_parameters::{line_type_setting, user_line_setting};
-use crate::width_parameters::{percent_setting, thickness_setting, width_unit_setting};
-use crate::width_setting::WidthSetting;
+use crate::context::Context;
+use full_settings::{
+    FurtherRequest, WidthSetting, colour_in, direction_setting, further_request, percent_setting,
+};
 use hpgl_plot::NoteKind;
-use hpgl_text::{Body, Further, Instruction, Item, Numbers};
+use hpgl_text::{Body, Instruction, Item, Numbers};
 
-/// What is noted on an item at its first byte, by whether widths are in percent before it.
-pub fn noted_kind(item: &Item<'_>, in_percent: bool) -> Option<NoteKind>
-    ensures { result ≡ body_noted in_percent item.now.body }
+/// What is noted on an item at its first byte, by the context before it.
+pub fn noted_kind(item: &Item<'_>, context: &Context) -> Option<NoteKind>
+    ensures { result ≡ body_noted context.now item.now.body }
 {
     match &item.body {
-        Body::Further(further, numbers) => noted_further(*further, numbers),
-        Body::Params(instruction, numbers) => {
-            noted_params(item, *instruction, numbers, in_percent)
-        }
-        Body::Kept(_) | Body::Symbol(_) => Some(NoteKind::Skipped),
+        Body::Further(further, numbers) => noted_request(&further_request(*further, numbers)),
+        Body::Params(instruction, numbers) => noted_params(item, *instruction, numbers, context),
         _ => hpgl_plot::noted_kind(item),
     }
 }
 
-// What is noted on an instruction of core: PW in percent is judged by its own rule.
+// What is noted on a further instruction.
+fn noted_request(request: &FurtherRequest) -> Option<NoteKind>
+    ensures { result ≡ request_noted request.now }
+{
+    match request {
+        FurtherRequest::Wrong => Some(NoteKind::Bad),
+        FurtherRequest::Skip => Some(NoteKind::Skipped),
+        _ => None,
+    }
+}
+
+// What is noted on an instruction of core: PW in percent, PC in ranges and DI are judged by rules of their
+// own.
 fn noted_params(
     item: &Item<'_>,
     instruction: Instruction,
     numbers: &Numbers<'_>,
-    in_percent: bool,
+    context: &Context,
 ) -> Option<NoteKind>
     requires { item.now.body ≡ Params instruction numbers.now }
-    ensures { result ≡ params_noted in_percent instruction numbers.now }
+    ensures { result ≡ params_noted context.now instruction numbers.now }
 {
-    match (in_percent, instruction) {
-        (true, Instruction::PenWidth) => {
+    match instruction {
+        Instruction::PenWidth => noted_width(item, numbers, context.in_percent),
+        Instruction::PenColour => bad_without(colour_in(&context.ranges, numbers)),
+        Instruction::Direction => {
             let (list, count) = numbers.leading();
-            bad_without(percent_setting(&list[..count]))
+            bad_without(direction_setting(&list[..count]))
         }
         _ => hpgl_plot::noted_kind(item),
     }
 }
 
-// What is noted on a further instruction with these numbers.
-fn noted_further(further: Further, numbers: &Numbers<'_>) -> Option<NoteKind>
-    ensures { result ≡ further_noted further numbers.now }
+// What is noted on a PW.
+fn noted_width(item: &Item<'_>, numbers: &Numbers<'_>, in_percent: bool) -> Option<NoteKind>
+    requires { item.now.body ≡ Params Instruction.PenWidth numbers.now }
+    ensures { result ≡ width_noted in_percent numbers.now }
 {
-    match further {
-        Further::LineType => {
-            let (list, count) = numbers.leading();
-            bad_without(line_type_setting(&list[..count]))
-        }
-        Further::UserLineType => bad_without(user_line_setting(numbers)),
-        Further::WidthUnit => bad_without(unit_of(numbers)),
-        Further::PenThickness => {
-            let (list, count) = numbers.leading();
-            bad_without(thickness_setting(&list[..count]))
-        }
-        Further::EndSheet | Further::BeginPlot => None,
-        _ => Some(NoteKind::Skipped),
+    if in_percent {
+        let (list, count) = numbers.leading();
+        bad_without(percent_setting(&list[..count]))
+    } else {
+        hpgl_plot::noted_kind(item)
     }
 }
 
@@ -74,51 +79,53 @@ fn bad_without<S: Drop>(setting: Option<S>) -> Option<NoteKind>
     }
 }
 
-/// Whether widths are in percent after an item, by whether they are before it.
-pub fn percent_after(item: &Item<'_>, in_percent: bool) -> bool
-    ensures { result ≡ percent_after in_percent item.now.body }
+/// The context after an item, by the one before it.
+pub fn context_after(item: &Item<'_>, context: &Context) -> Context
+    ensures { result ≡ context_after context.now item.now.body }
 {
     match &item.body {
-        Body::Further(further, numbers) => further_after(*further, numbers, in_percent),
-        Body::Params(instruction, _) => params_after(*instruction, in_percent),
-        _ => in_percent,
+        Body::Further(further, numbers) => {
+            request_after(&further_request(*further, numbers), context)
+        }
+        Body::Params(instruction, _) => params_after(*instruction, context),
+        _ => *context,
     }
 }
 
-fn further_after(further: Further, numbers: &Numbers<'_>, in_percent: bool) -> bool
-    ensures { result ≡ further_after in_percent further numbers.now }
+fn request_after(request: &FurtherRequest, context: &Context) -> Context
+    requires { IsFurtherRequest request.now }
+    ensures { result ≡ request_after context.now request.now }
 {
-    match further {
-        Further::WidthUnit => unit_after(unit_of(numbers), in_percent),
-        Further::BeginPlot => false,
-        _ => in_percent,
+    match request {
+        FurtherRequest::Width(setting) => Context {
+            in_percent: unit_after(*setting, context.in_percent),
+            ranges: context.ranges,
+        },
+        FurtherRequest::Colours(ranges) => Context {
+            in_percent: context.in_percent,
+            ranges: *ranges,
+        },
+        FurtherRequest::Begin => Context::first(),
+        _ => *context,
     }
 }
 
-fn params_after(instruction: Instruction, in_percent: bool) -> bool
-    ensures { result ≡ params_after in_percent instruction }
+fn params_after(instruction: Instruction, context: &Context) -> Context
+    ensures { result ≡ params_after context.now instruction }
 {
     match instruction {
-        Instruction::Initialize => false,
-        _ => in_percent,
+        Instruction::Initialize => Context::first(),
+        _ => *context,
     }
 }
 
 // After a WU that asks for this.
-fn unit_after(setting: Option<WidthSetting>, in_percent: bool) -> bool
+fn unit_after(setting: WidthSetting, in_percent: bool) -> bool
     ensures { result ≡ unit_after in_percent setting }
 {
     match setting {
-        Some(WidthSetting::Millimetres) => false,
-        Some(WidthSetting::PercentOfAll(_)) => true,
-        _ => in_percent,
+        WidthSetting::Millimetres => false,
+        WidthSetting::PercentOfAll(_) => true,
+        WidthSetting::Percent(..) | WidthSetting::Thickness(_) => in_percent,
     }
-}
-
-// What a WU with these numbers asks for.
-fn unit_of(numbers: &Numbers<'_>) -> Option<WidthSetting>
-    ensures { result ≡ width_unit numbers.now }
-{
-    let (list, count) = numbers.leading();
-    width_unit_setting(&list[..count])
 }

@@ -1,5 +1,5 @@
 //! Tests of what plots are made of, by public calls: pages, frames, arcs, directions, dashes, characters,
-//! labels and settings.
+//! labels and settings, also those of the further instructions.
 #![tactic(auto)]
 
 #[cfg(test)]
@@ -11,9 +11,13 @@ mod font;
 #[cfg(test)]
 mod frames;
 #[cfg(test)]
+mod full_settings_set;
+#[cfg(test)]
 mod labels;
 #[cfg(test)]
 mod labels_along;
+#[cfg(test)]
+mod letters_set;
 #[cfg(test)]
 mod pages;
 #[cfg(test)]

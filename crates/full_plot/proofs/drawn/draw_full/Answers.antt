@@ -1,5 +1,4 @@
-use Rattle.std.proofs.Common.{◌≡◌, ◌∙◌, ap, rules, Bool, sym, arith, length, length-append, List, [], ◌∷◌, Option}
-use Rattle.std.specs.Option.{is_some}
+use Rattle.std.proofs.Common.{◌≡◌, ◌∙◌, ap, sym, arith, length, length-append, List, [], ◌∷◌, Option}
 use Rattle.hpgl_text.specs.Shapes.{ItemShape}
 use Rattle.hpgl_text.specs.Cut.{cut_by}
 use Rattle.hpgl_text.specs.declared.profile.Profile.TheVariants.{Full}
@@ -7,25 +6,24 @@ use Rattle.hpgl_plot.specs.declared.note.NoteKind.{NoteKind}
 use Rattle.hpgl_plot.specs.Notes.{notes_with}
 use Rattle.full_plot.specs.Drawings.{runs}
 use Rattle.full_plot.specs.Machine.{seen}
-use Rattle.full_plot.specs.Notes.{body_noted, percent_after, notes_from}
+use Rattle.full_plot.specs.Notes.{Context, body_noted, context_after, context_of, notes_from}
 use Rattle.full_plot.proofs.FewNotes.{few_notes}
 use Rattle.full_plot.proofs.FewStrokes.{few_strokes}
-use Rattle.full_plot.proofs.InPercent.{told_as_set, carried_out}
+use Rattle.full_plot.proofs.Told.{told_as_set, carried_out}
 use Rattle.full_plot.proofs.drawn.draw_full.Goals as goal
 
 -- the notes so far and those on this item are some of those on the plot, which has fewer than 2^63 bytes
 pub count_notes-noted-requires : goal.count_notes-noted-requires
 count_notes-noted-requires c =
     let item = c.in-Some.item in
-    let before = is_some c.items.plotter.percents in
+    let before : Context = context_of (seen c.items.plotter) in
     let own = body_noted before item.body in
-    let same : c.is_some.result ≡ before = search rules in
-    let noted : c.noted_kind-own.result ≡ own = c.noted_kind-own.ensures ∙ ap (λ (b : Bool). body_noted b item.body) same in
+    let noted : c.noted_kind-own.result ≡ own = c.noted_kind-own.ensures ∙ ap (λ (b : Context). body_noted b item.body) c.context.ensures in
     omega (
       arith,
       c.items.invariant.noted,
       ap (λ is. length (notes_from before is)) c.in-Some.ensures.steps,
-      length-append (notes_with own item) (notes_from (percent_after before item.body) c.next.new.self),
+      length-append (notes_with own item) (notes_from (context_after before item.body) c.next.new.self),
       ap (λ (k : Option NoteKind). length (notes_with k item)) noted,
       few_notes c.args.text.now,
     )
@@ -33,31 +31,29 @@ count_notes-noted-requires c =
 pub overflow_add-noted : goal.overflow_add-noted
 overflow_add-noted c =
     let item = c.in-Some.item in
-    let before = is_some c.items.plotter.percents in
+    let before : Context = context_of (seen c.items.plotter) in
     let own = body_noted before item.body in
-    let same : c.is_some.result ≡ before = search rules in
-    let noted : c.noted_kind-own.result ≡ own = c.noted_kind-own.ensures ∙ ap (λ (b : Bool). body_noted b item.body) same in
+    let noted : c.noted_kind-own.result ≡ own = c.noted_kind-own.ensures ∙ ap (λ (b : Context). body_noted b item.body) c.context.ensures in
     omega (
       arith,
       c.items.invariant.noted,
       ap (λ is. length (notes_from before is)) c.in-Some.ensures.steps,
-      length-append (notes_with own item) (notes_from (percent_after before item.body) c.next.new.self),
+      length-append (notes_with own item) (notes_from (context_after before item.body) c.next.new.self),
       ap (λ (k : Option NoteKind). length (notes_with k item)) noted,
       c.count_notes-noted.ensures,
       few_notes c.args.text.now,
     )
 
--- the plotter that carried out this item has widths in percent as the items after it are told
+-- the plotter that carried out this item has the context that the items after it are told
 pub items-preserved : goal.items-preserved
 items-preserved c =
     let item = c.in-Some.item in
     let rest = c.next.new.self in
     let old = seen c.items.plotter in
     let new = seen c.carry_out.new.self in
-    let before = is_some c.items.plotter.percents in
+    let before : Context = context_of (seen c.items.plotter) in
     let own = body_noted before item.body in
-    let same : c.is_some.result ≡ before = search rules in
-    let noted : c.noted_kind-own.result ≡ own = c.noted_kind-own.ensures ∙ ap (λ (b : Bool). body_noted b item.body) same in
+    let noted : c.noted_kind-own.result ≡ own = c.noted_kind-own.ensures ∙ ap (λ (b : Context). body_noted b item.body) c.context.ensures in
     let goes_on : (more : List ItemShape) → runs old (item ∷ more) ≡ runs new more =
     carried_out old new item c.carry_out.result c.in_ok-carry_out.field-0 c.carry_out.ensures c.in_ok-carry_out.was in
     record {
@@ -66,9 +62,9 @@ items-preserved c =
         arith,
         c.items.invariant.noted,
         ap (λ is. length (notes_from before is)) c.in-Some.ensures.steps,
-        length-append (notes_with own item) (notes_from (percent_after before item.body) rest),
+        length-append (notes_with own item) (notes_from (context_after before item.body) rest),
         ap (λ (k : Option NoteKind). length (notes_with k item)) noted,
-        ap (λ (b : Bool). length (notes_from b rest)) (told_as_set old new item (goes_on [])),
+        ap (λ (b : Context). length (notes_from b rest)) (told_as_set old new item (goes_on [])),
         c.count_notes-noted.ensures,
       );
     }

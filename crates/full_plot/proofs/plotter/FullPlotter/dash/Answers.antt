@@ -1,6 +1,7 @@
 use Rattle.std.proofs.Common.{◌≡◌, ◌∙◌, sym, subst, arith, List, [], ◌∷◌, get_or}
 use Rattle.plot_page.specs.Segments.{Segment}
-use Rattle.full_plot.specs.Machine.{seen, drawn}
+use Rattle.full_plot.specs.Machine.{seen}
+use Rattle.full_plot.specs.Lines.{drawn}
 use Rattle.full_plot.proofs.DrawnLines.{one_drawn, same_shape}
 use Rattle.full_plot.proofs.plotter.FullPlotter.dash.Goals as goal
 

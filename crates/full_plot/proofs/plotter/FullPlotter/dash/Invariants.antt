@@ -1,6 +1,7 @@
 use Rattle.std.proofs.Common.{◌≡◌, drop}
 use Rattle.line_types.specs.LineTypes.{line_shape}
-use Rattle.full_plot.specs.Machine.{seen, drawn, shape_in}
+use Rattle.full_plot.specs.Machine.{seen}
+use Rattle.full_plot.specs.Lines.{drawn, shape_in}
 use Rattle.full_plot.proofs.plotter.FullPlotter.dash.Given as goal
 
 -- the lines that are left come to all of them

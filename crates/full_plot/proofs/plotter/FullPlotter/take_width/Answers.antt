@@ -1,7 +1,7 @@
 use Rattle.std.proofs.Common.{rules, ◌≡◌, ◌∙◌, ap, ℤ, List, Option}
-use Rattle.full_plot.specs.declared.width_setting.WidthSetting.{WidthSetting}
+use Rattle.full_settings.specs.declared.width_setting.WidthSetting.{WidthSetting}
 use Rattle.full_plot.specs.Machine.{seen, widened_if}
-use Rattle.full_plot.specs.WidthParameters.{percent_width}
+use Rattle.full_settings.specs.WidthParameters.{percent_width}
 use Rattle.full_plot.proofs.WidthTables.{first_numbers, width_in_percent}
 use Rattle.full_plot.proofs.plotter.FullPlotter.take_width.Goals as goal
 
@@ -12,4 +12,4 @@ returns-in-Some c =
     let same : c.percent_setting.result ≡ percent_width ns =
     c.percent_setting.ensures.value ∙ ap (λ (l : List ℤ). percent_width l) c.leading-list.ensures.values ∙ first_numbers ns in
     width_in_percent w (seen c.widen_if.new.self) c.args.item.now.body ns c.in-Some.field-0 c.requires (search rules)
-    (c.widen_if.ensures.world ∙ ap (λ (s : Option WidthSetting). widened_if s w) same)
+    (c.widen_if.ensures ∙ ap (λ (s : Option WidthSetting). widened_if s w) same)

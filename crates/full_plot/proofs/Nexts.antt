@@ -1,0 +1,226 @@
+-- What steps of core leave alone in the profile full: all but core, the run, the margin, and how many strokes there are.
+use Rattle.std.proofs.Common.{◌≡◌, ◌∙◌, ◌<◌, ◌≤◌, ℕ, inl, inr, refl, arith, Bool, true, List, [], ◌∷◌, ◌++◌, length, map, nat_lt, pos, neg_ℤ, Option, Some, None, length-append}
+use Rattle.std.specs.Prelude.{⊤}
+use Rattle.std.specs.List.{list_all}
+use Rattle.std.proofs.lemmas.Bool.{cases_Bool}
+use Rattle.std.proofs.lemmas.Bool.Decides.{nat_tests}
+use Rattle.exact.specs.declared.spot.Spot.{Spot}
+use Rattle.plot_page.specs.Segments.{Segment}
+use Rattle.plot_settings.specs.Meanings.{Step, Set, Move, Go, Edge, DrawCircle, DrawArc, Write}
+use Rattle.plot_settings.specs.declared.setting.Setting.{Setting}
+use Rattle.hpgl_plot.specs.declared.state.Position.{Position}
+use Rattle.hpgl_plot.specs.declared.state.State.{State}
+use Rattle.hpgl_plot.specs.Paths.{path, pen_placed}
+use Rattle.hpgl_plot.specs.Strokes.{are_in_range}
+use Rattle.hpgl_plot.specs.Machine as core
+use Rattle.full_settings.specs.declared.character_moves.CharacterMove.{CharacterMove}
+use Rattle.full_settings.specs.declared.character_moves.CharacterMove.TheVariants.{ToMargin, By}
+use Rattle.line_types.specs.declared.run.Run.{Run}
+use Rattle.lettering.specs.Cells.{cell_offset}
+use Rattle.lettering.specs.Labels.{label_end, label_strokes, margin_move}
+use Rattle.lettering.specs.Letters.{centred}
+use Rattle.lettering.specs.declared.style.Style.{Style}
+use Rattle.full_settings.specs.Letters.{grains_of_share}
+use Rattle.full_plot.specs.Lines.{line_step}
+use Rattle.full_plot.specs.Machine.{core_step, set_if}
+use Rattle.full_plot.specs.Texts.{at_margin, inked_at_pen, label_by, line_at, margin_by, marked_by, moved_by, moved_on, put, style_of, tick_distance, tick_end, ticked, with_margin, written}
+use Rattle.full_plot.specs.Worlds.{World, followed, with_core}
+
+-- core keeps no more strokes than a plot may have, if it had no more before
+abbrev pub FewIn : core.World → Option core.World → Type 0
+FewIn c None = ⊤
+FewIn c (Some d) = length c.kept ≤ 4194304 → length d.kept ≤ 4194304
+
+few_kept : (kept : List Segment) (full : Bool) (ss : List Segment) → length kept ≤ 4194304 → length (core.kept_with kept full ss) ≤ 4194304
+few_kept kept full [] h = h
+few_kept kept full (s ∷ ss) h = elim (cases_Bool (nat_lt (length kept) 4194304)) [
+  | inl t ↦ (let room : length kept < 4194304 = grind (arith, nat_tests) in
+      let more : length (kept ++ (s ∷ [])) ≤ 4194304 = omega (arith, room, length-append kept (s ∷ [])) in
+      rw t (few_kept (kept ++ (s ∷ [])) full ss more))
+  | inr t ↦ rw t (few_kept kept true ss h)
+]
+
+few_past : (c d : core.World) (o : Option core.World) → (length c.kept ≤ 4194304 → length d.kept ≤ 4194304) → FewIn d o → FewIn c o
+few_past c d None h k = tt
+few_past c d (Some e) h k = λ few. k (h few)
+
+few_then : (c : core.World) (o : Option core.World) (f : core.World → Option core.World) → FewIn c o → ((d : core.World) → FewIn d (f d))
+    → FewIn c (core.followed o f)
+few_then c None f h go = tt
+few_then c (Some d) f h go = few_past c d (f d) h (go d)
+
+few_travelled : (c : core.World) (draws : Bool) (places : List Spot) → FewIn c (core.travelled c draws places)
+few_travelled c draws places = elim (cases_Bool (are_in_range places)) [
+  | inl i ↦ rw i (λ h. few_kept c.kept c.full _ h)
+  | inr i ↦ rw i tt
+]
+
+few_all : (ls : List (List Spot)) (c : core.World) (draws : Bool) → FewIn c (core.travelled_all c draws ls)
+few_all [] c draws = λ h. h
+few_all (l ∷ ls) c draws =
+    few_then c (core.travelled c draws l) (λ (d : core.World). core.travelled_all d draws ls) (few_travelled c draws l)
+    (λ (d : core.World). few_all ls d draws)
+
+few_ends : (c : core.World) (s : State) (o : Option core.World) → FewIn c o → FewIn c (core.ends_in s o)
+few_ends c s None h = tt
+few_ends c s (Some d) h = h
+
+few_put : (c : core.World) (p : Position) → FewIn c (core.put_at c p)
+few_put c p = few_ends c (core.moved c.state p) (core.travelled c true (p.place ∷ [])) (few_travelled c true (p.place ∷ []))
+
+few_step : (c : core.World) (t : Step) → FewIn c (core.step c t)
+unfolding core.step
+few_step c t = elim (cases_Bool (list_all are_in_range (path c.page c.state t).lines)) [
+  | inl i ↦ rw i (λ h. few_kept c.kept c.full _ h)
+  | inr i ↦ rw i tt
+]
+
+few_run : (ts : List Step) (c : core.World) → FewIn c (core.run c ts)
+few_run [] c = λ h. h
+few_run (t ∷ ts) c = few_then c (core.step c t) (λ (d : core.World). core.run d ts) (few_step c t) (λ (d : core.World). few_run ts d)
+
+few_inked : (c : core.World) (strokes : List (Spot × Spot)) → FewIn c (inked_at_pen c strokes)
+few_inked c strokes = few_all (map (line_at c.state.place) strokes) c true
+
+few_at : (c : core.World) (q : Spot) → FewIn c (put c q)
+few_at c q = few_put c (pen_placed c.page c.state.frame q)
+
+few_label : (style : Style) (c : core.World) (bytes : List ℕ) → FewIn c (label_by style c bytes)
+few_label style c bytes = elim (cases_Bool (nat_lt 4294967296 (length bytes))) [
+  | inl i ↦ rw i tt
+  | inr i ↦ rw i (few_then c (inked_at_pen c (label_strokes style bytes))
+      (λ (d : core.World). put d (moved_by c.state.place (label_end style bytes)))
+      (few_inked c (label_strokes style bytes))
+      (λ (d : core.World). few_at d (moved_by c.state.place (label_end style bytes))))
+]
+
+-- from one world to a later one
+pub record IsNext (w v : World) : Type 0 where
+  pub style_is : v.style ≡ w.style
+  pub percents_are : v.percents ≡ w.percents
+  pub writing_is : v.writing ≡ w.writing
+  pub ranges_are : v.ranges ≡ w.ranges
+  pub extra_is : v.extra ≡ w.extra
+  pub ends_are : v.ends ≡ w.ends
+  pub few : length w.core.kept ≤ 4194304 → length v.core.kept ≤ 4194304
+
+abbrev pub NextIn : World → Option World → Type 0
+NextIn w None = ⊤
+NextIn w (Some v) = IsNext w v
+
+pub next_same : (w : World) → IsNext w w
+next_same w = record {
+  style_is = refl;
+  percents_are = refl;
+  writing_is = refl;
+  ranges_are = refl;
+  extra_is = refl;
+  ends_are = refl;
+  few = λ h. h;
+}
+
+pub next_of_next : (w v u : World) → IsNext w v → IsNext v u → IsNext w u
+next_of_next w v u h k = record {
+  style_is = k.style_is ∙ h.style_is;
+  percents_are = k.percents_are ∙ h.percents_are;
+  writing_is = k.writing_is ∙ h.writing_is;
+  ranges_are = k.ranges_are ∙ h.ranges_are;
+  extra_is = k.extra_is ∙ h.extra_is;
+  ends_are = k.ends_are ∙ h.ends_are;
+  few = λ few. k.few (h.few few);
+}
+
+next_past : (w v : World) (o : Option World) → IsNext w v → NextIn v o → NextIn w o
+next_past w v None h k = tt
+next_past w v (Some u) h k = next_of_next w v u h k
+
+next_then : (w : World) (o : Option World) (f : World → Option World) → NextIn w o → ((v : World) → NextIn v (f v)) → NextIn w (followed o f)
+next_then w None f h go = tt
+next_then w (Some v) f h go = next_past w v (f v) h (go v)
+
+next_by : (w : World) (c : core.World) (r : Option Run) (q : Spot) → (length w.core.kept ≤ 4194304 → length c.kept ≤ 4194304)
+    → IsNext w (record w { core = c; run = r; margin = q })
+next_by w c r q h = record {
+  style_is = refl;
+  percents_are = refl;
+  writing_is = refl;
+  ranges_are = refl;
+  extra_is = refl;
+  ends_are = refl;
+  few = h;
+}
+
+next_with_core : (w : World) (o : Option core.World) → FewIn w.core o → NextIn w (with_core w o)
+next_with_core w None h = tt
+next_with_core w (Some c) h = next_by w c w.run w.margin h
+
+pub next_core : (w : World) (t : Step) → NextIn w (with_core w (core.step w.core t))
+next_core w t = next_with_core w (core.step w.core t) (few_step w.core t)
+
+pub next_run : (w : World) (ts : List Step) → NextIn w (with_core w (core.run w.core ts))
+next_run w ts = next_with_core w (core.run w.core ts) (few_run ts w.core)
+
+pub next_set : (w : World) (s : Option Setting) → NextIn w (set_if s w)
+next_set w None = next_same w
+next_set w (Some s) = next_core w (Set s)
+
+next_line : (w : World) (t : Step) → NextIn w (line_step w t)
+unfolding line_step
+next_line w t = elim (cases_Bool (list_all are_in_range (path w.core.page w.core.state t).lines)) [
+  | inl i ↦ rw i (next_by w _ _ w.margin (λ h. few_kept w.core.kept w.core.full _ h))
+  | inr i ↦ rw i tt
+]
+
+next_at_margin : (w : World) → IsNext w (at_margin w)
+next_at_margin w = next_by w w.core w.run w.core.state.place (λ h. h)
+
+next_margin : (w : World) (q : Spot) (o : Option World) → NextIn w o → NextIn w (with_margin q o)
+next_margin w q None h = tt
+next_margin w q (Some v) h = next_of_next w v (record v { margin = q }) h (next_by v v.core v.run q (λ few. few))
+
+next_marked : (w : World) (symbol : Option ℕ) → NextIn w (marked_by symbol w)
+next_marked w None = next_same w
+next_marked w (Some byte) =
+    let strokes : List (Spot × Spot) = label_strokes (centred (style_of w)) (byte ∷ []) in
+    next_with_core w (inked_at_pen w.core strokes) (few_inked w.core strokes)
+
+pub next_written : (w : World) (bytes : List ℕ) → NextIn w (written w bytes)
+next_written w bytes =
+    let o : Option core.World = label_by (style_of w) w.core bytes in
+    next_margin w (margin_by w.margin (margin_move (style_of w) bytes)) (with_core w o)
+    (next_with_core w o (few_label (style_of w) w.core bytes))
+
+next_put : (w : World) (q p : Spot) → NextIn w (with_margin q (with_core w (put w.core p)))
+next_put w q p = next_margin w q (with_core w (put w.core p)) (next_with_core w (put w.core p) (few_at w.core p))
+
+pub next_moved_on : (w : World) (m : CharacterMove) → NextIn w (moved_on w m)
+next_moved_on w ToMargin =
+    let q : Spot = margin_by w.margin (cell_offset (style_of w) (pos 0) (pos 1000000)) in
+    next_put w q q
+next_moved_on w (By n) =
+    let style : Style = style_of w in
+    next_put w (margin_by w.margin (cell_offset style (pos 0) (neg_ℤ n.y)))
+    (moved_by w.core.state.place (cell_offset style n.x (neg_ℤ n.y)))
+
+pub next_ticked : (w : World) (is_upright : Bool) → NextIn w (ticked w is_upright)
+next_ticked w is_upright =
+    let part = grains_of_share (tick_distance w is_upright) in
+    let end = tick_end w.core.state.frame.rotation is_upright in
+    let strokes : List (Spot × Spot) = (end (neg_ℤ (part w.writing.ticks.down)), end (part w.writing.ticks.up)) ∷ [] in
+    next_with_core w (inked_at_pen w.core strokes) (few_inked w.core strokes)
+
+-- a move, after which the symbol is drawn
+next_go : (w : World) (t : Step) → NextIn w (followed (line_step w t) (λ (v : World). marked_by v.writing.symbol (at_margin v)))
+next_go w t =
+    next_then w (line_step w t) (λ (v : World). marked_by v.writing.symbol (at_margin v)) (next_line w t)
+    (λ (v : World). next_past v (at_margin v) (marked_by v.writing.symbol (at_margin v)) (next_at_margin v) (next_marked (at_margin v) v.writing.symbol))
+
+pub next_core_step : (w : World) (t : Step) → NextIn w (core_step w t)
+next_core_step w (Move x y) = next_go w (Move x y)
+next_core_step w (Go relative x y) = next_go w (Go relative x y)
+next_core_step w (DrawArc relative a) =
+    next_then w (line_step w (DrawArc relative a)) (λ (v : World). Some (at_margin v)) (next_line w (DrawArc relative a)) next_at_margin
+next_core_step w (Edge relative x y) = next_line w (Edge relative x y)
+next_core_step w (DrawCircle c) = next_line w (DrawCircle c)
+next_core_step w (Write bytes) = next_written w bytes
+next_core_step w t = next_core w t

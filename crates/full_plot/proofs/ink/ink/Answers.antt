@@ -1,0 +1,51 @@
+use Rattle.std.proofs.Common.{refl, ◌≡◌, ◌∙◌, ap, sym, true, List, map, None, ◌∷◌}
+use Rattle.exact.specs.declared.spot.Spot.{Spot}
+use Rattle.hpgl_plot.specs.Machine.{seen, travelled, travelled_all}
+use Rattle.hpgl_plot.proofs.Polylines.{lines_more, lines_out}
+use Rattle.hpgl_plot.proofs.Travels.{stopped, travelled_keeps}
+use Rattle.full_plot.specs.Texts.{line_at}
+use Rattle.full_plot.proofs.ink.ink.Goals as goal
+
+pub returns-in_err-ink_stroke : goal.returns-in_err-ink_stroke
+returns-in_err-ink_stroke c =
+    let w = seen c.strokes.plotter in
+    let v = seen c.ink_stroke.new.plotter in
+    let start = c.args.plotter.now.state.place in
+    let s : Spot × Spot = (c.in-Some.from, c.in-Some.to) in
+    let rest = map (line_at start) c.next_stroke.new.self in
+    let all : travelled_all w true (line_at start s ∷ rest) ≡ travelled_all (seen c.args.plotter.now) true (map (line_at start) c.args.strokes) =
+    sym (ap (λ (ss : List (Spot × Spot)). travelled_all w true (map (line_at start) ss)) c.in-Some.ensures.taken) ∙ c.strokes.invariant.same in
+    stopped (travelled w true (line_at start s)) (travelled_all (seen c.args.plotter.now) true (map (line_at start) c.args.strokes)) v v
+    c.in_err-ink_stroke.field-0.0 c.from_residual.result
+    (λ (h : travelled w true (line_at start s) ≡ None). sym all ∙ lines_out w true (line_at start s) rest h)
+    c.in_err-ink_stroke.ensures c.from_residual.ensures.1
+
+pub strokes-preserved : goal.strokes-preserved
+strokes-preserved c =
+    let w = seen c.strokes.plotter in
+    let v = seen c.ink_stroke.new.plotter in
+    let start = c.args.plotter.now.state.place in
+    let s : Spot × Spot = (c.in-Some.from, c.in-Some.to) in
+    let rest = map (line_at start) c.next_stroke.new.self in
+    let n = travelled_keeps w v true (line_at start s) c.in_ok-ink_stroke.ensures in
+    let i = c.strokes.invariant in
+    record {
+      kept = record { page_is = n.page_is ∙ i.kept.page_is; state_is = n.state_is ∙ i.kept.state_is };
+      same = sym (lines_more w v true (line_at start s) rest c.in_ok-ink_stroke.ensures)
+          ∙ sym (ap (λ (ss : List (Spot × Spot)). travelled_all w true (map (line_at start) ss)) c.in-Some.ensures.taken) ∙ i.same;
+    }
+
+pub returns : goal.returns
+returns c =
+    let w = seen c.strokes.plotter in
+    let start = c.args.plotter.now.state.place in
+    sym c.strokes.invariant.same ∙ ap (λ (ss : List (Spot × Spot)). travelled_all w true (map (line_at start) ss)) (c.in_default.ensures.none refl)
+
+pub ink_stroke-requires-clause-start_in : goal.ink_stroke-requires-clause-start_in
+ink_stroke-requires-clause-start_in c = c.args.plotter.now.sound.place
+
+pub ink_stroke-requires-clause-from_in : goal.ink_stroke-requires-clause-from_in
+ink_stroke-requires-clause-from_in c = c.in-Some.ensures.within.from_in
+
+pub ink_stroke-requires-clause-to_in : goal.ink_stroke-requires-clause-to_in
+ink_stroke-requires-clause-to_in c = c.in-Some.ensures.within.to_in

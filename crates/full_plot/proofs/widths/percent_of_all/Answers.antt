@@ -1,7 +1,0 @@
-use Rattle.std.proofs.Common.{refl}
-use Rattle.full_plot.specs.Widths.{all_percents}
-use Rattle.full_plot.proofs.widths.percent_of_all.Goals as goal
-
-pub returns : goal.returns
-unfolding all_percents
-returns c = refl

@@ -1,0 +1,45 @@
+-- What is set, where the pen is, and what is drawn in the profile full: what core has, and more.
+use Rattle.std.specs.Prelude.{ℕ, List, [], Option, Some, None}
+use Rattle.exact.specs.declared.spot.Spot.{Spot}
+use Rattle.line_types.specs.declared.run.Run.{Run}
+use Rattle.hpgl_plot.specs.Machine as core
+use Rattle.full_settings.specs.declared.colour_range.ColourRanges.{ColourRanges}
+use Rattle.full_settings.specs.declared.tick_length.TickLength.{TickLength}
+use Rattle.full_settings.specs.Letters.{LetterStyle, usual_letters}
+use Rattle.full_settings.specs.LineStyles as styles
+use Rattle.full_settings.specs.TickParameters.{usual_ticks}
+
+-- what is set for labels: how letters are written, the symbol at the ends of moves (SM), the text that is kept (BL), and
+-- the length of ticks (TL)
+pub record Writing : Type 0 where
+  pub letters : LetterStyle
+  pub symbol : Option ℕ
+  pub text : List ℕ
+  pub ticks : TickLength
+
+-- at the start, and after IN and DF
+abbrev pub usual_writing : Writing
+usual_writing = record { letters = usual_letters; symbol = None; text = []; ticks = usual_ticks }
+
+-- what core has: the page, the state and the strokes; the line style, and the run of its pattern; the widths of pens in
+-- percent, or None while widths are in millimetres; what is set for labels, and their left margin, a place; the ranges of
+-- colours; how much work besides strokes counts; for each sheet that has ended, how many strokes were made until then
+pub record World : Type 0 where
+  pub core : core.World
+  pub style : styles.Style
+  pub run : Option Run
+  pub percents : Option (List (Option ℕ))
+  pub writing : Writing
+  pub margin : Spot
+  pub ranges : ColourRanges
+  pub extra : ℕ
+  pub ends : List ℕ
+
+-- what core leaves, or None if it stops
+abbrev pub with_core : World → Option core.World → Option World
+with_core w None = None
+with_core w (Some v) = Some (record w { core = v })
+
+abbrev pub followed : Option World → (World → Option World) → Option World
+followed None f = None
+followed (Some w) f = f w

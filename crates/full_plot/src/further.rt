@@ -1,0 +1,151 @@
+//! What the further instructions do.
+ghost use Rattle.std.specs.Prelude.{◌≡◌, ◌≤◌, Some};
+ghost use Rattle.full_settings.specs.ColourRanges.{IsColourRanges};
+ghost use Rattle.full_settings.specs.FurtherRequests.{IsFurtherRequest};
+ghost use Rattle.full_settings.specs.LineStyles.{IsLineSetting};
+ghost use Rattle.full_settings.specs.RelativePoints.{IsRelativePoints};
+ghost use Rattle.full_settings.specs.TickParameters.{IsTickLength};
+ghost use Rattle.full_plot.specs.Items.{further_steps, request_steps};
+ghost use Rattle.full_plot.specs.Machine as machine;
+ghost use Rattle.full_plot.specs.Machine.{seen, step, run, Runs, Style, RangesBy, TickBy, PointsBy, ColourBy};
+
+use crate::plotter::FullPlotter;
+use full_settings::{
+    ColourRanges, FurtherRequest, LineSetting, RelativePoints, TickLength, colour_in,
+    further_request, points_of,
+};
+use hpgl_plot::Stop;
+use hpgl_text::{Further, Numbers};
+use plot_page::Page;
+use plot_settings::{Rotation, Setting};
+
+impl FullPlotter {
+    /// Carries out a further instruction. One that is not drawn does nothing.
+    pub fn obey_further(&mut self, further: Further, numbers: &Numbers<'_>) -> Result<(), Stop>
+        ensures { Runs (run (seen self.old) (further_steps further numbers.now)) (seen self.new) result }
+    {
+        self.do_further(further_request(further, numbers))
+    }
+
+    // Does what a further instruction asks for.
+    fn do_further(&mut self, request: FurtherRequest) -> Result<(), Stop>
+        requires { IsFurtherRequest request }
+        ensures { Runs (run (seen self.old) (request_steps request)) (seen self.new) result }
+    {
+        match request {
+            FurtherRequest::Line(setting) => {
+                self.set_style(setting);
+                Ok(())
+            }
+            FurtherRequest::Width(setting) => {
+                self.widen(setting);
+                Ok(())
+            }
+            FurtherRequest::Letter(setting) => {
+                self.letter(setting);
+                Ok(())
+            }
+            FurtherRequest::Ticks(length) => {
+                self.set_ticks(length);
+                Ok(())
+            }
+            FurtherRequest::Points(points) => {
+                self.set_points(points);
+                Ok(())
+            }
+            FurtherRequest::Colours(ranges) => {
+                self.set_ranges(ranges);
+                Ok(())
+            }
+            FurtherRequest::Begin => {
+                self.set(Setting::Start);
+                self.restart();
+                Ok(())
+            }
+            FurtherRequest::Move(way) => {
+                self.place(way)?;
+                Ok(())
+            }
+            FurtherRequest::Tick(is_upright) => {
+                self.tick(is_upright)?;
+                Ok(())
+            }
+            FurtherRequest::Print => {
+                self.print()?;
+                Ok(())
+            }
+            FurtherRequest::EndSheet => self.end_sheet(),
+            FurtherRequest::Wrong | FurtherRequest::Skip => Ok(()),
+        }
+    }
+
+    // Sets what an LT or a UL asks for, and ends the run.
+    fn set_style(&mut self, setting: LineSetting)
+        requires { IsLineSetting setting }
+        ensures { step (seen self.old) (Style setting) ≡ Some (seen self.new) }
+    {
+        self.style.set(setting);
+        self.run = None;
+    }
+
+    // Sets the length of ticks by TL.
+    fn set_ticks(&mut self, length: TickLength)
+        requires { IsTickLength length }
+        ensures { step (seen self.old) (TickBy length) ≡ Some (seen self.new) }
+    {
+        self.writing.set_ticks(length);
+    }
+
+    // Sets the ranges of colours by CR.
+    fn set_ranges(&mut self, ranges: ColourRanges)
+        requires { IsColourRanges ranges }
+        ensures { step (seen self.old) (RangesBy ranges) ≡ Some (seen self.new) }
+    {
+        self.ranges = ranges;
+    }
+
+    /// PC: sets the colour of a pen, in the ranges of CR, or restores colours. Wrong numbers set nothing.
+    pub fn set_colour(&mut self, numbers: &Numbers<'_>)
+        ensures { step (seen self.old) (ColourBy numbers.now) ≡ Some (seen self.new) }
+    {
+        if let Some(setting) = colour_in(&self.ranges, numbers) {
+            self.plotter.set(setting);
+        }
+    }
+
+    // Sets P1 and P2 by IR, and widths in percent of them.
+    fn set_points(&mut self, points: RelativePoints)
+        requires { IsRelativePoints points }
+        ensures { step (seen self.old) (PointsBy points) ≡ Some (seen self.new) }
+    {
+        let page = &self.plotter.page;
+        let rotation = self.plotter.state.frame.rotation;
+        let width = page_width(page, rotation);
+        let height = page_height(page, rotation);
+        let setting = points_of(points, width, height, page.left, page.below);
+        self.plotter.set(setting);
+        self.rewiden();
+    }
+}
+
+// The width of the page as RO turns it.
+fn page_width(page: &Page, rotation: Rotation) -> u32
+    ensures value { result ≡ machine.page_width page.now rotation }
+    ensures most { result ≤ 65536 }
+{
+    match rotation {
+        Rotation::None | Rotation::Half => page.width,
+        Rotation::Quarter | Rotation::ThreeQuarters => page.height,
+    }
+}
+
+// The height of the page as RO turns it.
+fn page_height(page: &Page, rotation: Rotation) -> u32
+    ensures value { result ≡ machine.page_height page.now rotation }
+    ensures most { result ≤ 65536 }
+{
+    match rotation {
+        Rotation::None | Rotation::Half => page.height,
+        Rotation::Quarter | Rotation::ThreeQuarters => page.width,
+    }
+}

@@ -1,0 +1,54 @@
+-- Further instructions other than UL look at their first seven numbers only.
+use Rattle.std.proofs.Common.{◌≡◌, refl, false, true≢false, ℤ, List, [], ◌∷◌, take}
+use Rattle.hpgl_text.specs.declared.further.Further.{Further}
+use Rattle.hpgl_text.specs.declared.further.Further.TheVariants as of
+use Rattle.full_settings.specs.FurtherRequests.{further_request, has_gaps}
+
+first_one : {T : Type 0} (f : List ℤ → T) → ((n : ℤ) (ns : List ℤ) → f (n ∷ take 6 ns) ≡ f (n ∷ ns)) → (ns : List ℤ) → f (take 7 ns) ≡ f ns
+first_one f h [] = refl
+first_one f h (n ∷ ns) = h n ns
+
+first_two : {T : Type 0} (f : List ℤ → T) → ((a b : ℤ) (ns : List ℤ) → f (a ∷ (b ∷ take 5 ns)) ≡ f (a ∷ (b ∷ ns))) → (ns : List ℤ) → f (take 7 ns) ≡ f ns
+first_two f h [] = refl
+first_two f h (a ∷ []) = refl
+first_two f h (a ∷ (b ∷ ns)) = h a b ns
+
+first_three : {T : Type 0} (f : List ℤ → T) → ((a b c : ℤ) (ns : List ℤ) → f (a ∷ (b ∷ (c ∷ take 4 ns))) ≡ f (a ∷ (b ∷ (c ∷ ns)))) → (ns : List ℤ) → f (take 7 ns) ≡ f ns
+first_three f h [] = refl
+first_three f h (a ∷ []) = refl
+first_three f h (a ∷ (b ∷ [])) = refl
+first_three f h (a ∷ (b ∷ (c ∷ ns))) = h a b c ns
+
+first_four : {T : Type 0} (f : List ℤ → T) → ((a b c d : ℤ) (ns : List ℤ) → f (a ∷ (b ∷ (c ∷ (d ∷ take 3 ns)))) ≡ f (a ∷ (b ∷ (c ∷ (d ∷ ns))))) → (ns : List ℤ) → f (take 7 ns) ≡ f ns
+first_four f h [] = refl
+first_four f h (a ∷ []) = refl
+first_four f h (a ∷ (b ∷ [])) = refl
+first_four f h (a ∷ (b ∷ (c ∷ []))) = refl
+first_four f h (a ∷ (b ∷ (c ∷ (d ∷ ns)))) = h a b c d ns
+
+first_six : {T : Type 0} (f : List ℤ → T) → ((a b c d e g : ℤ) (ns : List ℤ) → f (a ∷ (b ∷ (c ∷ (d ∷ (e ∷ (g ∷ take 1 ns)))))) ≡ f (a ∷ (b ∷ (c ∷ (d ∷ (e ∷ (g ∷ ns)))))))
+    → (ns : List ℤ) → f (take 7 ns) ≡ f ns
+first_six f h [] = refl
+first_six f h (a ∷ []) = refl
+first_six f h (a ∷ (b ∷ [])) = refl
+first_six f h (a ∷ (b ∷ (c ∷ []))) = refl
+first_six f h (a ∷ (b ∷ (c ∷ (d ∷ [])))) = refl
+first_six f h (a ∷ (b ∷ (c ∷ (d ∷ (e ∷ []))))) = refl
+first_six f h (a ∷ (b ∷ (c ∷ (d ∷ (e ∷ (g ∷ ns)))))) = h a b c d e g ns
+
+pub same_request : (f : Further) (ns : List ℤ) → has_gaps f ≡ false → further_request f (take 7 ns) ≡ further_request f ns
+same_request of.UserLineType ns h = absurd (true≢false h)
+same_request of.LineType ns h = first_three (further_request of.LineType) (λ _ _ _ _. refl) ns
+same_request of.WidthUnit ns h = first_one (further_request of.WidthUnit) (λ _ _. refl) ns
+same_request of.PenThickness ns h = first_one (further_request of.PenThickness) (λ _ _. refl) ns
+same_request of.TickLength ns h = first_two (further_request of.TickLength) (λ _ _ _. refl) ns
+same_request of.RelativePoints ns h = first_four (further_request of.RelativePoints) (λ _ _ _ _ _. refl) ns
+same_request of.ColourRange ns h = first_six (further_request of.ColourRange) (λ _ _ _ _ _ _ _. refl) ns
+same_request of.CharacterPlot ns h = first_two (further_request of.CharacterPlot) (λ _ _ _. refl) ns
+same_request of.RelativeSize ns h = first_two (further_request of.RelativeSize) (λ _ _ _. refl) ns
+same_request of.Slant ns h = first_one (further_request of.Slant) (λ _ _. refl) ns
+same_request of.RelativeDirection ns h = first_two (further_request of.RelativeDirection) (λ _ _ _. refl) ns
+same_request of.TextPath ns h = first_two (further_request of.TextPath) (λ _ _ _. refl) ns
+same_request of.LabelOrigin ns h = first_one (further_request of.LabelOrigin) (λ _ _. refl) ns
+same_request of.ExtraSpace ns h = first_two (further_request of.ExtraSpace) (λ _ _ _. refl) ns
+same_request f ns h = refl

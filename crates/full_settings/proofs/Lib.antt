@@ -1,0 +1,7 @@
+mod LineExamples
+mod LetterExamples
+mod SettingExamples
+pub mod Gaps
+pub mod WidthTables
+pub mod Shares
+pub mod FirstNumbers

@@ -1,0 +1,65 @@
+-- What each further instruction asks for by its numbers.
+use Rattle.std.specs.Prelude.{ℤ, Bool, true, false, List, Option, Some, None, ⊤}
+use Rattle.hpgl_text.specs.declared.further.Further as further
+use Rattle.hpgl_text.specs.declared.further.Further.TheVariants as of
+use Rattle.full_settings.specs.CharacterMoves.{character_move, IsCharacterMove}
+use Rattle.full_settings.specs.ColourRanges.{ranges_of, IsColourRanges}
+use Rattle.full_settings.specs.LetterParameters.{relative_size, slant, relative_direction, space, origin, text_path}
+use Rattle.full_settings.specs.LetterParameters.{IsLetterSetting}
+use Rattle.full_settings.specs.LineParameters.{line_type, user_line_type}
+use Rattle.full_settings.specs.LineStyles.{IsLineSetting}
+use Rattle.full_settings.specs.RelativePoints.{relative_points, IsRelativePoints}
+use Rattle.full_settings.specs.TickParameters.{tick_length, IsTickLength}
+use Rattle.full_settings.specs.WidthParameters.{width_unit, thickness}
+use Rattle.full_settings.specs.Widths.{IsWidthSetting}
+use Rattle.full_settings.specs.declared.requests.FurtherRequest.{FurtherRequest}
+use Rattle.full_settings.specs.declared.requests.FurtherRequest.TheVariants.{Line, Width, Letter, Ticks, Points}
+use Rattle.full_settings.specs.declared.requests.FurtherRequest.TheVariants.{Colours, Move, Tick, Print, EndSheet}
+use Rattle.full_settings.specs.declared.requests.FurtherRequest.TheVariants.{Begin, Wrong, Skip}
+
+-- what numbers ask for, or that they are wrong
+abbrev pub request_by : {A : Type 0} → (A → FurtherRequest) → Option A → FurtherRequest
+request_by request (Some a) = request a
+request_by request None = Wrong
+
+-- instructions that set how letters are written; those that are not drawn are skipped
+abbrev pub letter_request : further.Further → List ℤ → FurtherRequest
+letter_request of.RelativeSize ns = request_by Letter (relative_size ns)
+letter_request of.Slant ns = request_by Letter (slant ns)
+letter_request of.RelativeDirection ns = request_by Letter (relative_direction ns)
+letter_request of.TextPath ns = request_by Letter (text_path ns)
+letter_request of.LabelOrigin ns = request_by Letter (origin ns)
+letter_request of.ExtraSpace ns = request_by Letter (space ns)
+letter_request _ ns = Skip
+
+abbrev pub further_request : further.Further → List ℤ → FurtherRequest
+further_request of.LineType ns = request_by Line (line_type ns)
+further_request of.UserLineType ns = request_by Line (user_line_type ns)
+further_request of.WidthUnit ns = request_by Width (width_unit ns)
+further_request of.PenThickness ns = request_by Width (thickness ns)
+further_request of.TickLength ns = request_by Ticks (tick_length ns)
+further_request of.RelativePoints ns = request_by Points (relative_points ns)
+further_request of.ColourRange ns = request_by Colours (ranges_of ns)
+further_request of.CharacterPlot ns = request_by Move (character_move ns)
+further_request of.XTick ns = Tick true
+further_request of.YTick ns = Tick false
+further_request of.PrintBuffer ns = Print
+further_request of.EndSheet ns = EndSheet
+further_request of.BeginPlot ns = Begin
+further_request f ns = letter_request f ns
+
+-- UL has up to 21 numbers, and no other instruction more than seven
+abbrev pub has_gaps : further.Further → Bool
+has_gaps of.UserLineType = true
+has_gaps _ = false
+
+-- what is asked for is in its range
+abbrev pub IsFurtherRequest : FurtherRequest → Type 0
+IsFurtherRequest (Line s) = IsLineSetting s
+IsFurtherRequest (Width s) = IsWidthSetting s
+IsFurtherRequest (Letter s) = IsLetterSetting s
+IsFurtherRequest (Ticks t) = IsTickLength t
+IsFurtherRequest (Points p) = IsRelativePoints p
+IsFurtherRequest (Colours r) = IsColourRanges r
+IsFurtherRequest (Move m) = IsCharacterMove m
+IsFurtherRequest _ = ⊤

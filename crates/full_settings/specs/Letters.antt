@@ -1,0 +1,95 @@
+-- What is set of the letters of labels besides the size by SI, and the style in which they are written.
+use Rattle.std.specs.Prelude.{ℕ, ◌*◌, ◌^◌, ◌≤◌, nat_abs, ℤ, pos, ◌*ℤ◌, Option, Some, None, IfSome}
+use Rattle.exact.specs.Fraction.{round}
+use Rattle.exact.specs.declared.spot.Spot.{Spot}
+use Rattle.directions.specs.Directions.{unit, turned}
+use Rattle.directions.specs.declared.turn.Turn.{Turn}
+use Rattle.stick_font.specs.declared.size.CharacterSize.{CharacterSize}
+use Rattle.lettering.specs.declared.style.LineFeed.{LineFeed}
+use Rattle.lettering.specs.declared.style.LineFeed.TheVariants.{Normal}
+use Rattle.lettering.specs.declared.style.Path.{Path}
+use Rattle.lettering.specs.declared.style.Path.TheVariants.{Right}
+use Rattle.lettering.specs.declared.style.Style.{Style}
+use Rattle.plot_frame.specs.declared.pair.Pair.{Pair}
+use Rattle.plot_frame.specs.declared.scaling.Ends.{Ends}
+use Rattle.full_settings.specs.LetterParameters.{pair, IsPairWithin, IsHeading, IsOrigin}
+use Rattle.full_settings.specs.LineStyles.{distance}
+use Rattle.full_settings.specs.declared.heading.Heading.{Heading}
+use Rattle.full_settings.specs.declared.heading.Heading.TheVariants.{Absolute, Relative}
+use Rattle.full_settings.specs.declared.letter_setting.LetterSetting.{LetterSetting}
+use Rattle.full_settings.specs.declared.letter_setting.LetterSetting.TheVariants as setting
+
+-- what is set: the size by SR, or None if it is that of SI; where labels lead, by DI or DR; the tangent of the slant in
+-- millionths; the steps to the next letter and line in millionths; LO's number; and DV's path and line feed
+pub record LetterStyle : Type 0 where
+  pub relative_size : Option (Pair ℤ)
+  pub heading : Heading
+  pub slant : ℤ
+  pub step : Pair ℤ
+  pub origin : ℕ
+  pub path : Path
+  pub line_feed : LineFeed
+
+-- at the start, and after IN and DF
+abbrev pub usual_letters : LetterStyle
+usual_letters = record {
+  relative_size = None;
+  heading = Absolute (pair (pos 1000000) (pos 0));
+  slant = pos 0;
+  step = pair (pos 1000000) (pos 1000000);
+  origin = 1;
+  path = Right;
+  line_feed = Normal;
+}
+
+-- after an instruction that sets letters
+abbrev pub letters_with : LetterSetting → LetterStyle → LetterStyle
+letters_with setting.AbsoluteSize l = record l { relative_size = None }
+letters_with (setting.RelativeSize size) l = record l { relative_size = Some size }
+letters_with (setting.Direction heading) l = record l { heading = Absolute heading }
+letters_with (setting.RelativeDirection heading) l = record l { heading = Relative heading }
+letters_with (setting.Slant tangent) l = record l { slant = tangent }
+letters_with (setting.Step step) l = record l { step = step }
+letters_with (setting.Origin n) l = record l { origin = n }
+letters_with (setting.Path path line) l = record l { path = path; line_feed = line }
+
+-- millionths of a percent of a distance in plotter units, as a length in grains
+abbrev pub grains_of_share : ℤ → ℤ → ℤ
+grains_of_share distance percent = round (record { over = pos 16 *ℤ distance *ℤ percent; under = 100 * 10 ^ 6 })
+
+-- the size in grains: that of SI, or by SR parts of the distances from P1 to P2
+abbrev pub size_in : Option (Pair ℤ) → CharacterSize → Pair Ends → Pair ℤ
+size_in None size points = pair size.width size.height
+size_in (Some percents) size points =
+    pair (grains_of_share (distance points.x) percents.x) (grains_of_share (distance points.y) percents.y)
+
+-- where labels lead, before RO turns them
+abbrev pub direction_in : Heading → Pair Ends → Spot
+direction_in (Absolute h) points = unit h.x h.y
+direction_in (Relative h) points = unit (distance points.x *ℤ h.x) (distance points.y *ℤ h.y)
+
+-- the style in which letters are written, by SI's size and by P1 and P2, and turned by RO
+abbrev pub style_in : LetterStyle → CharacterSize → Pair Ends → Turn → Style
+style_in l size points turn = record {
+  width = (size_in l.relative_size size points).x;
+  height = (size_in l.relative_size size points).y;
+  direction = turned turn (direction_in l.heading points);
+  slant = l.slant;
+  step_x = l.step.x;
+  step_y = l.step.y;
+  path = l.path;
+  line_feed = l.line_feed;
+  origin = l.origin;
+}
+
+-- what is set is in its range
+abbrev pub IsLed : Heading → Type 0
+IsLed (Absolute h) = IsHeading h
+IsLed (Relative h) = IsHeading h
+
+pub record IsLetters (l : LetterStyle) : Type 0 where
+  pub size_in : IfSome l.relative_size (IsPairWithin (10 ^ 9))
+  pub heading_in : IsLed l.heading
+  pub slant_in : nat_abs l.slant ≤ 10 ^ 9
+  pub step_in : IsPairWithin (101 * 10 ^ 6) l.step
+  pub origin_in : IsOrigin l.origin

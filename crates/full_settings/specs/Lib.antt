@@ -1,0 +1,14 @@
+-- What a reader must believe: what the numbers of the further instructions ask for, line types, widths of pens, letters
+-- of labels, ticks, P1 and P2 on a page, and ranges of colours.
+pub mod LineStyles
+pub mod LineParameters
+pub mod Widths
+pub mod WidthParameters
+pub mod Percentages
+pub mod LetterParameters
+pub mod Letters
+pub mod CharacterMoves
+pub mod TickParameters
+pub mod RelativePoints
+pub mod ColourRanges
+pub mod FurtherRequests

@@ -1,0 +1,172 @@
+//! What is set of the letters of labels.
+ghost use Rattle.std.specs.Prelude.{◌≡◌, ◌≤◌, ◌^◌, nat_abs};
+ghost use Rattle.directions.specs.Directions.{turned};
+ghost use Rattle.plot_frame.specs.Bounds.{IsPoints};
+ghost use Rattle.full_settings.specs.LetterParameters.{IsLetterSetting, IsPairWithin};
+ghost use Rattle.full_settings.specs.Letters.{usual_letters, letters_with, IsLed, size_in, direction_in, style_in};
+ghost use Rattle.full_settings.specs.Letters as letters;
+
+use crate::heading::Heading;
+use crate::letter_setting::LetterSetting;
+use crate::line_style::distance;
+use directions::{Direction, Turn};
+use exact::rounded;
+use lettering::{Lettering, LineFeed, Path, Style};
+use plot_frame::{Ends, Pair};
+use std::marker::Model;
+use stick_font::CharacterSize;
+
+/// What is set of the letters of labels besides the size by SI (Absolute Character Size).
+#[derive(Clone, Copy, Debug)]
+pub struct Letters {
+    // The size by SR, or none if it is that of SI.
+    relative_size: Option<Pair<i64>>,
+    heading: Heading,
+    slant: i64,
+    step: Pair<i64>,
+    origin: u8,
+    path: Path,
+    line_feed: LineFeed,
+}
+
+impl Model for Letters {
+    ghost use Rattle.full_settings.specs.Letters.{LetterStyle, IsLetters};
+
+    ghost Value = { LetterStyle };
+
+    ghost view = { λ l. record {
+      relative_size = l.relative_size;
+      heading = l.heading;
+      slant = l.slant;
+      step = l.step;
+      origin = l.origin;
+      path = l.path;
+      line_feed = l.line_feed;
+    } };
+
+    ghost invariant = { λ l. IsLetters (record {
+      relative_size = l.relative_size;
+      heading = l.heading;
+      slant = l.slant;
+      step = l.step;
+      origin = l.origin;
+      path = l.path;
+      line_feed = l.line_feed;
+    }) };
+
+    ghost inverse = { λ l. record {
+      relative_size = l.relative_size;
+      heading = l.heading;
+      slant = l.slant;
+      step = l.step;
+      origin = l.origin;
+      path = l.path;
+      line_feed = l.line_feed;
+    } };
+}
+
+impl Letters {
+    /// What is set at the start, and by IN and DF: the size of SI, to the right, upright, no extra space,
+    /// from the label's start on.
+    pub fn usual() -> Letters
+        ensures { result ≡ usual_letters }
+    {
+        Letters {
+            relative_size: None,
+            heading: Heading::Absolute(Pair { x: 1_000_000, y: 0 }),
+            slant: 0,
+            step: Pair {
+                x: 1_000_000,
+                y: 1_000_000,
+            },
+            origin: 1,
+            path: Path::Right,
+            line_feed: LineFeed::Normal,
+        }
+    }
+
+    /// Sets what an instruction asks for.
+    pub fn set(&mut self, setting: LetterSetting)
+        requires { IsLetterSetting setting }
+        ensures { self.new ≡ letters_with setting self.old }
+    {
+        match setting {
+            LetterSetting::AbsoluteSize => self.relative_size = None,
+            LetterSetting::RelativeSize(size) => self.relative_size = Some(size),
+            LetterSetting::Direction(heading) => self.heading = Heading::Absolute(heading),
+            LetterSetting::RelativeDirection(heading) => self.heading = Heading::Relative(heading),
+            LetterSetting::Slant(tangent) => self.slant = tangent,
+            LetterSetting::Step(step) => self.step = step,
+            LetterSetting::Origin(position) => self.origin = position,
+            LetterSetting::Path(path, line_feed) => {
+                self.path = path;
+                self.line_feed = line_feed;
+            }
+        }
+    }
+
+    /// The style in which letters are written: with the size of SI if SR has set none, by P1 and P2 as they
+    /// are now, and turned by RO (Rotate Coordinate System).
+    pub fn lettering(&self, size: CharacterSize, points: &Pair<Ends>, turn: Turn) -> Lettering
+        requires { IsPoints points.now }
+        ensures { result.style ≡ style_in self.now size points.now turn }
+    {
+        let size = self.size(size, points);
+        Lettering {
+            style: Style {
+                width: size.x,
+                height: size.y,
+                direction: direction(self.heading, points).turned(turn),
+                slant: self.slant,
+                step_x: self.step.x,
+                step_y: self.step.y,
+                path: self.path,
+                line_feed: self.line_feed,
+                origin: self.origin,
+            },
+        }
+    }
+
+    // The width and the height in grains.
+    fn size(&self, size: CharacterSize, points: &Pair<Ends>) -> Pair<i64>
+        requires { IsPoints points.now }
+        ensures value { result ≡ size_in self.now.relative_size size points.now }
+        ensures within { IsPairWithin (2 ^ 40) result }
+    {
+        match self.relative_size {
+            Some(percents) => Pair {
+                x: grains_of_share(distance(points.x), percents.x),
+                y: grains_of_share(distance(points.y), percents.y),
+            },
+            None => Pair {
+                x: i64::from(size.width),
+                y: i64::from(size.height),
+            },
+        }
+    }
+}
+
+// Where labels lead, before RO turns them.
+fn direction(heading: Heading, points: &Pair<Ends>) -> Direction
+    requires heading_in { IsLed heading }
+    requires points_in { IsPoints points.now }
+    ensures { result ≡ direction_in heading points.now }
+{
+    match heading {
+        Heading::Absolute(vector) => Direction::unit(i128::from(vector.x), i128::from(vector.y)),
+        Heading::Relative(vector) => Direction::unit(
+            i128::from(distance(points.x)) * i128::from(vector.x),
+            i128::from(distance(points.y)) * i128::from(vector.y),
+        ),
+    }
+}
+
+/// Millionths of a percent of a distance in plotter units, as a length in grains.
+pub fn grains_of_share(distance: i64, percent: i64) -> i64
+    requires distance_in { nat_abs distance ≤ 2 ^ 25 }
+    requires percent_in { nat_abs percent ≤ 1000000000 }
+    ensures value { result ≡ letters.grains_of_share distance percent }
+    ensures most { nat_abs result ≤ 2 ^ 40 }
+{
+    rounded(16 * i128::from(distance) * i128::from(percent), 100_000_000) as i64
+}

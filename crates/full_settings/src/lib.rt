@@ -1,0 +1,43 @@
+//! What the further instructions of the profile full ask for by their numbers, and what they set: line types,
+//! widths of pens, letters of labels, ticks, P1 and P2, and ranges of colours.
+#![tactic(auto)]
+
+mod character_moves;
+mod colour_parameters;
+mod colour_range;
+mod heading;
+mod letter_parameters;
+mod letter_setting;
+mod letters;
+mod line_parameters;
+mod line_setting;
+mod line_style;
+mod page_points;
+mod percentages;
+mod requests;
+mod tick_length;
+mod tick_parameters;
+mod width_parameters;
+mod width_setting;
+mod width_table;
+
+pub use character_moves::{CharacterMove, character_move};
+pub use colour_parameters::{colour_in, colour_ranges};
+pub use colour_range::{ColourRange, ColourRanges};
+pub use heading::Heading;
+pub use letter_parameters::{
+    direction_setting, origin_setting, path_setting, relative_direction_setting,
+    relative_size_setting, slant_setting, space_setting,
+};
+pub use letter_setting::LetterSetting;
+pub use letters::{Letters, grains_of_share};
+pub use line_parameters::{line_type_setting, user_line_setting};
+pub use line_setting::{LineKind, LineSetting, PatternLength};
+pub use line_style::{LineStyle, diagonal_by, distance};
+pub use page_points::{RelativePoints, points_of, relative_points};
+pub use requests::{FurtherRequest, further_request};
+pub use tick_length::TickLength;
+pub use tick_parameters::tick_setting;
+pub use width_parameters::{percent_setting, thickness_setting, width_unit_setting};
+pub use width_setting::WidthSetting;
+pub use width_table::{percent_of_all, widths_by};

@@ -1,0 +1,190 @@
+//! What a further instruction asks for by its numbers: the one table that says it.
+ghost use Rattle.std.specs.Prelude.{◌≡◌, false, IfSome};
+ghost use Rattle.full_settings.specs.CharacterMoves.{IsCharacterMove};
+ghost use Rattle.full_settings.specs.ColourRanges.{IsColourRanges};
+ghost use Rattle.full_settings.specs.FurtherRequests as requests;
+ghost use Rattle.full_settings.specs.FurtherRequests.{IsFurtherRequest, request_by, has_gaps};
+ghost use Rattle.full_settings.specs.LetterParameters.{IsLetterSetting};
+ghost use Rattle.full_settings.specs.LineStyles.{IsLineSetting};
+ghost use Rattle.full_settings.specs.RelativePoints.{IsRelativePoints};
+ghost use Rattle.full_settings.specs.TickParameters.{IsTickLength};
+ghost use Rattle.full_settings.specs.Widths.{IsWidthSetting};
+ghost use Rattle.full_settings.specs.declared.requests.FurtherRequest.TheVariants as request;
+
+use crate::character_moves::{CharacterMove, character_move};
+use crate::colour_parameters::colour_ranges;
+use crate::colour_range::ColourRanges;
+use crate::letter_parameters::{
+    origin_setting, path_setting, relative_direction_setting, relative_size_setting, slant_setting,
+    space_setting,
+};
+use crate::letter_setting::LetterSetting;
+use crate::line_parameters::{line_type_setting, user_line_setting};
+use crate::line_setting::LineSetting;
+use crate::page_points::{RelativePoints, relative_points};
+use crate::tick_length::TickLength;
+use crate::tick_parameters::tick_setting;
+use crate::width_parameters::{thickness_setting, width_unit_setting};
+use crate::width_setting::WidthSetting;
+use hpgl_text::{Further, Number, Numbers};
+
+/// What a further instruction asks for.
+#[derive(Drop)]
+pub enum FurtherRequest {
+    /// LT and UL: a line type.
+    Line(LineSetting),
+    /// WU and PT: widths of pens.
+    Width(WidthSetting),
+    /// SR, SL, DR, DV, LO and ES: how letters are written.
+    Letter(LetterSetting),
+    /// TL: the length of ticks.
+    Ticks(TickLength),
+    /// IR: P1 and P2 in percent of the page.
+    Points(RelativePoints),
+    /// CR: the ranges of colours.
+    Colours(ColourRanges),
+    /// CP: a move by columns and lines.
+    Move(CharacterMove),
+    /// XT, which is upright, and YT, which is level: a tick.
+    Tick(bool),
+    /// PB: the text that is kept is written.
+    Print,
+    /// PG and the like: the end of a sheet.
+    EndSheet,
+    /// BP: all that is set is as at the start.
+    Begin,
+    /// Nothing, since the numbers are wrong.
+    Wrong,
+    /// Nothing, since the instruction is not drawn.
+    Skip,
+}
+
+/// What a further instruction asks for by its numbers. Numbers after the last that it has are ignored.
+pub fn further_request(further: Further, numbers: &Numbers<'_>) -> FurtherRequest
+    ensures value { result ≡ requests.further_request further numbers.now }
+    ensures sound { IsFurtherRequest result }
+{
+    match further {
+        Further::UserLineType => line_request(user_line_setting(numbers)),
+        _ => {
+            let (list, count) = numbers.leading();
+            request_by_first(further, &list[..count])
+        }
+    }
+}
+
+// What an instruction other than UL asks for by its first numbers.
+fn request_by_first(further: Further, numbers: &[Number]) -> FurtherRequest
+    requires { has_gaps further ≡ false }
+    ensures value { result ≡ requests.further_request further numbers.now }
+    ensures sound { IsFurtherRequest result }
+{
+    match further {
+        Further::LineType => line_request(line_type_setting(numbers)),
+        Further::WidthUnit => width_request(width_unit_setting(numbers)),
+        Further::PenThickness => width_request(thickness_setting(numbers)),
+        Further::TickLength => tick_request(tick_setting(numbers)),
+        Further::RelativePoints => points_request(relative_points(numbers)),
+        Further::ColourRange => colour_request(colour_ranges(numbers)),
+        Further::CharacterPlot => move_request(character_move(numbers)),
+        Further::XTick => FurtherRequest::Tick(true),
+        Further::YTick => FurtherRequest::Tick(false),
+        Further::PrintBuffer => FurtherRequest::Print,
+        Further::EndSheet => FurtherRequest::EndSheet,
+        Further::BeginPlot => FurtherRequest::Begin,
+        _ => request_of_letters(further, numbers),
+    }
+}
+
+// What one of the other instructions asks for.
+fn request_of_letters(further: Further, numbers: &[Number]) -> FurtherRequest
+    ensures value { result ≡ requests.letter_request further numbers.now }
+    ensures sound { IsFurtherRequest result }
+{
+    match further {
+        Further::RelativeSize => letter_request(relative_size_setting(numbers)),
+        Further::Slant => letter_request(slant_setting(numbers)),
+        Further::RelativeDirection => letter_request(relative_direction_setting(numbers)),
+        Further::TextPath => letter_request(path_setting(numbers)),
+        Further::LabelOrigin => letter_request(origin_setting(numbers)),
+        Further::ExtraSpace => letter_request(space_setting(numbers)),
+        _ => FurtherRequest::Skip,
+    }
+}
+
+fn line_request(setting: Option<LineSetting>) -> FurtherRequest
+    requires { IfSome setting IsLineSetting }
+    ensures value { result ≡ request_by request.Line setting }
+    ensures sound { IsFurtherRequest result }
+{
+    match setting {
+        Some(setting) => FurtherRequest::Line(setting),
+        None => FurtherRequest::Wrong,
+    }
+}
+
+fn width_request(setting: Option<WidthSetting>) -> FurtherRequest
+    requires { IfSome setting IsWidthSetting }
+    ensures value { result ≡ request_by request.Width setting }
+    ensures sound { IsFurtherRequest result }
+{
+    match setting {
+        Some(setting) => FurtherRequest::Width(setting),
+        None => FurtherRequest::Wrong,
+    }
+}
+
+fn letter_request(setting: Option<LetterSetting>) -> FurtherRequest
+    requires { IfSome setting IsLetterSetting }
+    ensures value { result ≡ request_by request.Letter setting }
+    ensures sound { IsFurtherRequest result }
+{
+    match setting {
+        Some(setting) => FurtherRequest::Letter(setting),
+        None => FurtherRequest::Wrong,
+    }
+}
+
+fn tick_request(setting: Option<TickLength>) -> FurtherRequest
+    requires { IfSome setting IsTickLength }
+    ensures value { result ≡ request_by request.Ticks setting }
+    ensures sound { IsFurtherRequest result }
+{
+    match setting {
+        Some(setting) => FurtherRequest::Ticks(setting),
+        None => FurtherRequest::Wrong,
+    }
+}
+
+fn points_request(setting: Option<RelativePoints>) -> FurtherRequest
+    requires { IfSome setting IsRelativePoints }
+    ensures value { result ≡ request_by request.Points setting }
+    ensures sound { IsFurtherRequest result }
+{
+    match setting {
+        Some(setting) => FurtherRequest::Points(setting),
+        None => FurtherRequest::Wrong,
+    }
+}
+
+fn colour_request(setting: Option<ColourRanges>) -> FurtherRequest
+    requires { IfSome setting IsColourRanges }
+    ensures value { result ≡ request_by request.Colours setting }
+    ensures sound { IsFurtherRequest result }
+{
+    match setting {
+        Some(setting) => FurtherRequest::Colours(setting),
+        None => FurtherRequest::Wrong,
+    }
+}
+
+fn move_request(setting: Option<CharacterMove>) -> FurtherRequest
+    requires { IfSome setting IsCharacterMove }
+    ensures value { result ≡ request_by request.Move setting }
+    ensures sound { IsFurtherRequest result }
+{
+    match setting {
+        Some(setting) => FurtherRequest::Move(setting),
+        None => FurtherRequest::Wrong,
+    }
+}
