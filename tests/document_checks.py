@@ -103,8 +103,8 @@ def another_picture(made, name):
 
 def stored(made):
     """The picture is the one in docs/, the text shows it, and the plot is what its script writes."""
-    name, = re.findall(r"> (\S+)", made.block)
-    plot, = re.findall(r"examples/(\w+)\.plt", made.block)
+    name = re.findall(r"> (\S+)", made.block)[-1]
+    plot, = set(re.findall(r"examples/(\w+)\.plt", made.block))
     yield from another_picture(made, name)
     with open(os.path.join(TOP, "docs", "GALLERY.md"), encoding="utf-8") as text:
         if f"]({name})" not in text.read():
@@ -145,6 +145,8 @@ GALLERY = {
     for heading in ("Lines in six colours", "A part drawing", "A map", "A chart by gnuplot", "Text in four directions",
                     "Isotropic scaling", "Windows", "Wide pens", "Encoded polylines", "Colours set by the plot")
 }
+BESIDE = ("A chart in both profiles", "A part with hidden edges", "A chart of a harbour", "A sheet of labels")
+GALLERY.update({heading: [Check(stored, (*SCALED, "pnmquant", "pnmcat"))] for heading in BESIDE})
 GALLERY["A detail at 1200 dots per inch"] = [Check(stored, (*PNG, "pamcut"))]
 DOCUMENT_CHECKS = {
     "docs/GALLERY.md": GALLERY,
