@@ -49,10 +49,8 @@ KNOWN = (
 COMMENTS = (
     b'COa "PD9,9" x;', b'CO"a;b" c;', b'CO "PD;', b"CO;", b"CO PD5,5;", b"CO", b"WDPD9,9;\x03", b"WDab;", b"UC1,2;", b"ZZ1;",
 )
-# What the program skips and notes so far, besides directions along no axis.
-NOT_DRAWN_YET = (
-    "CR IR SR SL DR DV LO CP ES BL PB SM TL XT YT PM EP FP FT AC RA RR EW WG AT RT BZ BR CT".split()
-)
+# What the program skips and notes so far.
+NOT_DRAWN_YET = "PM EP FP FT AC RA RR EW WG AT RT BZ BR CT".split()
 WITHOUT_NUMBERS = (b"", b";", b";", b"1,2;", b"!,9;", b'"PD;";', b"-\x1bE")
 
 
@@ -74,8 +72,6 @@ def random_drawn_case(seed):
 
 def is_drawn(item):
     """Whether the program carries out an item, or skips it for good."""
-    if item.code == "DI" and item.kind == "numbers":
-        return len(item.has) < 2 or 0 in item.has[:2]
     return item.code not in NOT_DRAWN_YET
 
 
