@@ -74,7 +74,8 @@ def side(x, y):
 def main():
     plot = f"IN;PW.4,{OUTLINE};PW.15,{THIN};PW.15,{AXIS};PC{THIN},60,60,60;PC{AXIS},25,90,170;{TEXT}"
     plot += front(560, 900) + side(2480, 900)
-    plot += f"SP{THIN};SI.2,.3;SL.25;" + text(2000, 2700, "Bracket") + "SL;SI.1,.15;" + text(2000, 2520, "dashes: hidden edges and axes")
+    plot += f"SP{THIN};SI.2,.3;SL.25;" + text(2000, 2700, "Bracket")
+    plot += "SL;SI.1,.15;" + text(2000, 2520, "dashes: hidden edges and axes")
     sys.stdout.write(plot + "SP0;\n")
 
 

@@ -2,7 +2,15 @@
 #![tactic(auto)]
 
 #[cfg(test)]
+mod colours_set;
+#[cfg(test)]
+mod labels_set;
+#[cfg(test)]
 mod line_types_set;
+#[cfg(test)]
+mod margins_set;
+#[cfg(test)]
+mod marks_set;
 #[cfg(test)]
 mod notes_and_sheets;
 #[cfg(test)]

@@ -6,7 +6,7 @@ use std::alloc::Global;
 use std::test::Fail;
 
 // The strokes of a plot: their ends, and their count at each sheet's end.
-fn strokes_of(alloc: Global, text: &[u8]) -> Result<String, Fail> {
+pub fn strokes_of(alloc: Global, text: &[u8]) -> Result<String, Fail> {
     let page = Page::new(1000, 1000, 0, 0)?;
     let drawn = draw_full(alloc, text, &page)?;
     let mut list = String::new(alloc);

@@ -43,7 +43,7 @@ fn notes_on_further_instructions(rt: HostRuntime) -> Result<(), Fail> {
         (b"PG;AF;NR1;BP5,6;PS1;NP8;COa x;LA1,4;", ""),
         (
             b"PM;FT3;EW1,2,3;SM*;BLx\x03PB;ZZ1;",
-            "0 skipped PM;3 skipped FT;7 skipped EW;15 skipped SM;19 skipped BL;23 skipped PB;26 skipped ZZ;",
+            "0 skipped PM;3 skipped FT;7 skipped EW;26 skipped ZZ;",
         ),
     ];
     for (plot, wanted) in plots {
@@ -84,11 +84,20 @@ fn notes_on_items_of_core(rt: HostRuntime) -> Result<(), Fail> {
     let plots = [
         (
             b"ZZ1;PA1;PE\x00!;DI5,3;DT\x0a;#".as_slice(),
-            "0 skipped ZZ;4 bad PA;10 stray 0;11 stray 33;13 axis DI;19 bad DT;23 stray 35;",
+            "0 skipped ZZ;4 bad PA;10 stray 0;11 stray 33;19 bad DT;23 stray 35;",
         ),
         // notes of several items, and the last one after a PE
         (b"PM;LT9;PE<", "0 skipped PM;3 bad LT;7 open PE;"),
         (b"SP256;LBx", "0 bad SP;6 open LB;"),
+        // colours in the ranges of CR, and without
+        (
+            b"PC1,300,0,0;CR0,9,0,9,0,9;PC1,300,0,0;PC256,0,0,0;IN;PC1,300,0,0;",
+            "0 bad PC;38 bad PC;53 bad PC;",
+        ),
+        (
+            b"DI0,0;DR0,0;SL1001;LO10;CP1;TL1001;XT1;YT;PB;SM.;",
+            "0 bad DI;6 bad DR;12 bad SL;19 bad LO;24 bad CP;28 bad TL;",
+        ),
     ];
     for (plot, wanted) in plots {
         assert_eq!(rt; notes_on(rt.alloc(), plot)?.as_str(), wanted);
