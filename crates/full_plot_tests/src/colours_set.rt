@@ -5,9 +5,9 @@ use hpgl_plot::Page;
 use std::alloc::Global;
 use std::test::Fail;
 
-// The colours of a plot's strokes, and their last ends, on a page whose corner is left of (0,0).
+// The colours of a plot's strokes, and their last ends, on a page whose corner is left of (0,0) and below it.
 fn colours_of(alloc: Global, text: &[u8]) -> Result<String, Fail> {
-    let page = Page::new(1000, 500, 100, 0)?;
+    let page = Page::new(1000, 500, 100, 50)?;
     let drawn = draw_full(alloc, text, &page)?;
     let mut list = String::new(alloc);
     for s in drawn.strokes.as_slice() {
@@ -24,17 +24,17 @@ fn colours_in_ranges(rt: HostRuntime) -> Result<(), Fail> {
     let plots = [
         (
             b"CR0,100,0,100,0,100;PC1,100,50,0;PD;".as_slice(),
-            "255 128 0 1600,0;",
+            "255 128 0 1600,800;",
         ),
-        (b"CR0,1,0,1,0,1;PC1,0.5,2,-1;PD;", "128 255 0 1600,0;"),
-        (b"CR100,0,0,255,0,255;PC1,25,7,8;PD;", "191 7 8 1600,0;"),
+        (b"CR0,1,0,1,0,1;PC1,0.5,2,-1;PD;", "128 255 0 1600,800;"),
+        (b"CR100,0,0,255,0,255;PC1,25,7,8;PD;", "191 7 8 1600,800;"),
         // the usual ranges, after CR, IN and BP, and kept by DF
-        (b"CR0,9,0,9,0,9;CR;PC1,9,9,9;PD;", "9 9 9 1600,0;"),
-        (b"CR0,9,0,9,0,9;IN;PC1,9,9,9;PD;", "9 9 9 1600,0;"),
-        (b"CR0,9,0,9,0,9;BP;PC1,9,9,9;PD;", "9 9 9 1600,0;"),
-        (b"CR0,9,0,9,0,9;DF;PC1,9,9,9;PD;", "255 255 255 1600,0;"),
+        (b"CR0,9,0,9,0,9;CR;PC1,9,9,9;PD;", "9 9 9 1600,800;"),
+        (b"CR0,9,0,9,0,9;IN;PC1,9,9,9;PD;", "9 9 9 1600,800;"),
+        (b"CR0,9,0,9,0,9;BP;PC1,9,9,9;PD;", "9 9 9 1600,800;"),
+        (b"CR0,9,0,9,0,9;DF;PC1,9,9,9;PD;", "255 255 255 1600,800;"),
         // wrong numbers set nothing
-        (b"CR1,1,0,9,0,9;CR0,9;PC1,9,9,9;PD;", "9 9 9 1600,0;"),
+        (b"CR1,1,0,9,0,9;CR0,9;PC1,9,9,9;PD;", "9 9 9 1600,800;"),
     ];
     for (plot, wanted) in plots {
         assert_eq!(rt; colours_of(rt.alloc(), plot)?.as_str(), wanted);

@@ -47,6 +47,8 @@ fn symbols_and_turned_ticks(rt: HostRuntime) -> Result<(), Fail> {
             b"SM.;PU50,50;CI0,180;".as_slice(),
             "800,-64 800,-64;800,800 800,800;800,800 800,800;",
         ),
+        // the most recent BL
+        (b"BLx.\x03BL.\x03PB;", "608,0 608,0;"),
         // a symbol is not dashed
         (
             b"LT2,1,1;SML;PU50,100;",

@@ -52,6 +52,7 @@ fn widths_in_percent(rt: HostRuntime) -> Result<(), Fail> {
         (b"IP0,0,30000,1;WU1;PW0.05;PD10,0;", "1 240 160;"),
         (b"IP0,0,1,30000;WU1;PW0.05;PD10,0;", "1 240 160;"),
         (b"IP400,300,0,0;WU1;PW1;PD10,0;", "1 80 160;"),
+        (b"IP0,0,300,400;WU1;PW1;IR0,0,50,50;PD10,0;", "1 113 160;"),
         // in an encoded polyline
         (b"IP0,0,300,400;WU1;PW1,2;PE7:c?c_;", "2 80 1024;"),
     ];
