@@ -1,0 +1,10 @@
+pub mod Products
+pub mod Units
+pub mod VectorLemmas
+pub mod Centres
+pub mod Places
+pub mod Betweens
+pub mod ArcLaws
+pub mod BezierLaws
+mod ArcExamples
+mod BezierExamples

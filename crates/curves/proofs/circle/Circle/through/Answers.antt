@@ -1,0 +1,27 @@
+use Rattle.std.proofs.Common.{◌≡◌, Some, false, int_eq, inl, inr, ap, ap₂, sym, refl, ◌∙◌, ℤ, pos, of_z}
+use Rattle.std.proofs.lemmas.Bool.{cases_Bool}
+use Rattle.std.proofs.lemmas.Bool.Decides.{Decides-int_eq}
+use mir.Syntax.{w128}
+use Rattle.exact.specs.declared.spot.Spot.{Spot}
+use Rattle.curves.specs.Arcs.{circle_through, circle_by, is_same_spot}
+use Rattle.curves.specs.Vectors.{way, cross}
+use Rattle.curves.proofs.circle.Circle.through.Goals as goal
+
+not_equal : (z : ℤ) → (of_z w128 z ≡ 0 → ⊥) → int_eq z (pos 0) ≡ false
+not_equal z h = elim (cases_Bool (int_eq z (pos 0))) [
+  | inl e ↦ (let d = Decides-int_eq z (pos 0) in let f : z ≡ pos 0 = d.0 e in absurd (h (ap (of_z w128) f)))
+  | inr e ↦ e
+]
+
+is_by : (a b c : Spot) → is_same_spot c a ≡ false → int_eq (cross (way a b) (way a c)) (pos 0) ≡ false
+    → Some (circle_by a (way a b) (way a c)) ≡ circle_through a b c
+is_by a b c e f = rw (e, f) refl
+
+pub returns-clause-value : goal.returns-clause-value
+returns-clause-value c =
+    let e = c.way-to_b.ensures in
+    let f = c.way-to_c.ensures in
+    let g = not_equal c.cross.result c.if-cross-eq0.false in
+    let h = rw (c.cross.ensures, e, f) at g in
+    ap Some (c.by.ensures.value ∙ ap₂ (circle_by c.args.a) e f)
+    ∙ is_by c.args.a c.args.b c.args.c (sym c.if-eq.ensures) h

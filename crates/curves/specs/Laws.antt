@@ -1,0 +1,55 @@
+-- What holds of the places on arcs and on Bezier curves.
+use Rattle.std.specs.Prelude.{◌≡◌, ◌⊎◌, ℕ, ◌-◌, ◌*◌, ◌<◌, List, [], ◌∷◌, ◌++◌, length, ℤ, pos, ◌+ℤ◌, ◌-ℤ◌, ◌*ℤ◌}
+use Rattle.exact.specs.Fraction.{Fraction}
+use Rattle.exact.specs.Rounding.{IsRounded}
+use Rattle.exact.specs.declared.spot.Spot.{Spot}
+use Rattle.directions.specs.Directions.{square_of}
+use Rattle.curves.specs.Vectors.{dot}
+use Rattle.curves.specs.Arcs.{place_at, arc_places}
+use Rattle.curves.specs.Beziers.{weighed, place_after, bezier_places}
+use Rattle.curves.specs.Bounds.{IsNotZero}
+use Rattle.curves.specs.declared.circle.Circle.{Circle}
+
+-- from a circle's start to where the line in the direction d meets the circle again, in x and in y, not yet rounded
+abbrev pub reach_x : Circle → Spot → Fraction
+reach_x circle d = record { over = d.x *ℤ (pos 2 *ℤ dot circle.centre d); under = 256 * square_of d }
+
+abbrev pub reach_y : Circle → Spot → Fraction
+reach_y circle d = record { over = d.y *ℤ (pos 2 *ℤ dot circle.centre d); under = 256 * square_of d }
+
+-- the vector p = (x / under, y / under) leads from a circle's start to a point of the circle: |p|^2 is twice the dot
+-- product of p and centre / 256, both multiplied by 256 * under^2
+abbrev pub IsOnCircle : Circle → ℕ → ℤ → ℤ → Type 0
+IsOnCircle circle under x y =
+    pos 256 *ℤ (x *ℤ x +ℤ y *ℤ y) ≡ pos (2 * under) *ℤ (circle.centre.x *ℤ x +ℤ circle.centre.y *ℤ y)
+
+-- a place on a circle: a point of the circle, rounded once in x and once in y
+pub record IsPlaceOn (circle : Circle) (d : Spot) : Type 0 where
+  pub on_circle : IsOnCircle circle (256 * square_of d) (reach_x circle d).over (reach_y circle d).over
+  pub x : IsRounded (reach_x circle d) ((place_at circle d).x -ℤ circle.start.x)
+  pub y : IsRounded (reach_y circle d) ((place_at circle d).y -ℤ circle.start.y)
+
+abbrev pub ArcPlacesAreOnCircle : Type 0
+ArcPlacesAreOnCircle = (circle : Circle) (d : Spot) → IsNotZero d → IsPlaceOn circle d
+
+-- the last of these places
+pub record EndsAt (places : List Spot) (last : Spot) : Type 0 where
+  pub before : List Spot
+  pub is : places ≡ before ++ (last ∷ [])
+
+-- an arc ends at its third place, and has 1, 2 or 64 places
+pub record ArcsEndAtLast : Type 0 where
+  pub ends : (a b c : Spot) → EndsAt (arc_places a b c) c
+  pub count : (a b c : Spot)
+      → (length (arc_places a b c) ≡ 1) ⊎ ((length (arc_places a b c) ≡ 2) ⊎ (length (arc_places a b c) ≡ 64))
+
+-- a Bezier curve ends at its fourth place
+abbrev pub BeziersEndAtLast : Type 0
+BeziersEndAtLast = (p0 p1 p2 p3 : Spot) → EndsAt (bezier_places p0 p1 p2 p3) p3
+
+-- a place after k of n parts is the sum by the weights over n^3, rounded once in x and once in y
+pub record BezierPlacesAreRounded : Type 0 where
+  pub x : (n k : ℕ) (p0 p1 p2 p3 : Spot) → 0 < n
+      → IsRounded (record { over = weighed (n - k) k p0.x p1.x p2.x p3.x; under = n * n * n }) (place_after n k p0 p1 p2 p3).x
+  pub y : (n k : ℕ) (p0 p1 p2 p3 : Spot) → 0 < n
+      → IsRounded (record { over = weighed (n - k) k p0.y p1.y p2.y p3.y; under = n * n * n }) (place_after n k p0 p1 p2 p3).y
