@@ -1,9 +1,11 @@
-//! Tests of what plots are made of, by public calls: pages, frames, arcs, directions, dashes, characters,
-//! labels and settings, also those of the further instructions.
+//! Tests of what plots are made of, by public calls: pages, frames, arcs, curves, directions, dashes,
+//! characters, labels and settings, also those of the further instructions.
 #![tactic(auto)]
 
 #[cfg(test)]
 mod arcs;
+#[cfg(test)]
+mod curves_drawn;
 #[cfg(test)]
 mod dashes;
 #[cfg(test)]
