@@ -26,6 +26,15 @@ first_four f h (a ∷ (b ∷ [])) = refl
 first_four f h (a ∷ (b ∷ (c ∷ []))) = refl
 first_four f h (a ∷ (b ∷ (c ∷ (d ∷ ns)))) = h a b c d ns
 
+first_five : {T : Type 0} (f : List ℤ → T) → ((a b c d e : ℤ) (ns : List ℤ) → f (a ∷ (b ∷ (c ∷ (d ∷ (e ∷ take 2 ns))))) ≡ f (a ∷ (b ∷ (c ∷ (d ∷ (e ∷ ns))))))
+    → (ns : List ℤ) → f (take 7 ns) ≡ f ns
+first_five f h [] = refl
+first_five f h (a ∷ []) = refl
+first_five f h (a ∷ (b ∷ [])) = refl
+first_five f h (a ∷ (b ∷ (c ∷ []))) = refl
+first_five f h (a ∷ (b ∷ (c ∷ (d ∷ [])))) = refl
+first_five f h (a ∷ (b ∷ (c ∷ (d ∷ (e ∷ ns))))) = h a b c d e ns
+
 first_six : {T : Type 0} (f : List ℤ → T) → ((a b c d e g : ℤ) (ns : List ℤ) → f (a ∷ (b ∷ (c ∷ (d ∷ (e ∷ (g ∷ take 1 ns)))))) ≡ f (a ∷ (b ∷ (c ∷ (d ∷ (e ∷ (g ∷ ns)))))))
     → (ns : List ℤ) → f (take 7 ns) ≡ f ns
 first_six f h [] = refl
@@ -51,4 +60,6 @@ same_request of.RelativeDirection ns h = first_two (further_request of.RelativeD
 same_request of.TextPath ns h = first_two (further_request of.TextPath) (λ _ _ _. refl) ns
 same_request of.LabelOrigin ns h = first_one (further_request of.LabelOrigin) (λ _ _. refl) ns
 same_request of.ExtraSpace ns h = first_two (further_request of.ExtraSpace) (λ _ _ _. refl) ns
+same_request of.ArcAbsoluteThreePoint ns h = first_five (further_request of.ArcAbsoluteThreePoint) (λ _ _ _ _ _ _. refl) ns
+same_request of.ArcRelativeThreePoint ns h = first_five (further_request of.ArcRelativeThreePoint) (λ _ _ _ _ _ _. refl) ns
 same_request f ns h = refl

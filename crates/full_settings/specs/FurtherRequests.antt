@@ -4,6 +4,7 @@ use Rattle.hpgl_text.specs.declared.further.Further as further
 use Rattle.hpgl_text.specs.declared.further.Further.TheVariants as of
 use Rattle.full_settings.specs.CharacterMoves.{character_move, IsCharacterMove}
 use Rattle.full_settings.specs.ColourRanges.{ranges_of, IsColourRanges}
+use Rattle.full_settings.specs.CurveParameters.{arc_points}
 use Rattle.full_settings.specs.LetterParameters.{relative_size, slant, relative_direction, space, origin, text_path}
 use Rattle.full_settings.specs.LetterParameters.{IsLetterSetting}
 use Rattle.full_settings.specs.LineParameters.{line_type, user_line_type}
@@ -14,7 +15,7 @@ use Rattle.full_settings.specs.WidthParameters.{width_unit, thickness}
 use Rattle.full_settings.specs.Widths.{IsWidthSetting}
 use Rattle.full_settings.specs.declared.requests.FurtherRequest.{FurtherRequest}
 use Rattle.full_settings.specs.declared.requests.FurtherRequest.TheVariants.{Line, Width, Letter, Ticks, Points}
-use Rattle.full_settings.specs.declared.requests.FurtherRequest.TheVariants.{Colours, Move, Tick, Print, EndSheet}
+use Rattle.full_settings.specs.declared.requests.FurtherRequest.TheVariants.{Colours, Move, Tick, Arc, Curves, Print, EndSheet}
 use Rattle.full_settings.specs.declared.requests.FurtherRequest.TheVariants.{Begin, Wrong, Skip}
 
 -- what numbers ask for, or that they are wrong
@@ -46,6 +47,10 @@ further_request of.YTick ns = Tick false
 further_request of.PrintBuffer ns = Print
 further_request of.EndSheet ns = EndSheet
 further_request of.BeginPlot ns = Begin
+further_request of.ArcAbsoluteThreePoint ns = request_by (Arc false) (arc_points ns)
+further_request of.ArcRelativeThreePoint ns = request_by (Arc true) (arc_points ns)
+further_request of.BezierAbsolute ns = Curves false
+further_request of.BezierRelative ns = Curves true
 further_request f ns = letter_request f ns
 
 -- UL has up to 21 numbers, and no other instruction more than seven

@@ -1,5 +1,5 @@
 -- What a reader must believe: what the numbers of the further instructions ask for, line types, widths of pens, letters
--- of labels, ticks, P1 and P2 on a page, and ranges of colours.
+-- of labels, ticks, P1 and P2 on a page, ranges of colours, and curves.
 pub mod LineStyles
 pub mod LineParameters
 pub mod Widths
@@ -11,4 +11,5 @@ pub mod CharacterMoves
 pub mod TickParameters
 pub mod RelativePoints
 pub mod ColourRanges
+pub mod CurveParameters
 pub mod FurtherRequests

@@ -1,10 +1,11 @@
 //! What the further instructions of the profile full ask for by their numbers, and what they set: line types,
-//! widths of pens, letters of labels, ticks, P1 and P2, and ranges of colours.
+//! widths of pens, letters of labels, ticks, P1 and P2, ranges of colours, and curves.
 #![tactic(auto)]
 
 mod character_moves;
 mod colour_parameters;
 mod colour_range;
+mod curve_parameters;
 mod heading;
 mod letter_parameters;
 mod letter_setting;
@@ -14,6 +15,7 @@ mod line_setting;
 mod line_style;
 mod page_points;
 mod percentages;
+mod points;
 mod requests;
 mod tick_length;
 mod tick_parameters;
@@ -24,6 +26,7 @@ mod width_table;
 pub use character_moves::{CharacterMove, character_move};
 pub use colour_parameters::{colour_in, colour_ranges};
 pub use colour_range::{ColourRange, ColourRanges};
+pub use curve_parameters::{arc_points, are_curves, next_curve};
 pub use heading::Heading;
 pub use letter_parameters::{
     direction_setting, origin_setting, path_setting, relative_direction_setting,
@@ -35,6 +38,7 @@ pub use line_parameters::{line_type_setting, user_line_setting};
 pub use line_setting::{LineKind, LineSetting, PatternLength};
 pub use line_style::{LineStyle, diagonal_by, distance};
 pub use page_points::{RelativePoints, points_of, relative_points};
+pub use points::{ArcPoints, CurvePoints, Point};
 pub use requests::{FurtherRequest, further_request};
 pub use tick_length::TickLength;
 pub use tick_parameters::tick_setting;

@@ -14,6 +14,7 @@ ghost use Rattle.full_settings.specs.declared.requests.FurtherRequest.TheVariant
 use crate::character_moves::{CharacterMove, character_move};
 use crate::colour_parameters::colour_ranges;
 use crate::colour_range::ColourRanges;
+use crate::curve_parameters::arc_points;
 use crate::letter_parameters::{
     origin_setting, path_setting, relative_direction_setting, relative_size_setting, slant_setting,
     space_setting,
@@ -22,6 +23,7 @@ use crate::letter_setting::LetterSetting;
 use crate::line_parameters::{line_type_setting, user_line_setting};
 use crate::line_setting::LineSetting;
 use crate::page_points::{RelativePoints, relative_points};
+use crate::points::ArcPoints;
 use crate::tick_length::TickLength;
 use crate::tick_parameters::tick_setting;
 use crate::width_parameters::{thickness_setting, width_unit_setting};
@@ -47,6 +49,10 @@ pub enum FurtherRequest {
     Move(CharacterMove),
     /// XT, which is upright, and YT, which is level: a tick.
     Tick(bool),
+    /// AT, and RT, whose points are relative to the pen: an arc.
+    Arc(bool, ArcPoints),
+    /// BZ, and BR, whose points are relative to the pen: Bezier curves by all numbers.
+    Curves(bool),
     /// PB: the text that is kept is written.
     Print,
     /// PG and the like: the end of a sheet.
@@ -92,6 +98,10 @@ fn request_by_first(further: Further, numbers: &[Number]) -> FurtherRequest
         Further::PrintBuffer => FurtherRequest::Print,
         Further::EndSheet => FurtherRequest::EndSheet,
         Further::BeginPlot => FurtherRequest::Begin,
+        Further::ArcAbsoluteThreePoint => arc_request(false, arc_points(numbers)),
+        Further::ArcRelativeThreePoint => arc_request(true, arc_points(numbers)),
+        Further::BezierAbsolute => FurtherRequest::Curves(false),
+        Further::BezierRelative => FurtherRequest::Curves(true),
         _ => request_of_letters(further, numbers),
     }
 }
@@ -185,6 +195,16 @@ fn move_request(setting: Option<CharacterMove>) -> FurtherRequest
 {
     match setting {
         Some(setting) => FurtherRequest::Move(setting),
+        None => FurtherRequest::Wrong,
+    }
+}
+
+fn arc_request(is_relative: bool, points: Option<ArcPoints>) -> FurtherRequest
+    ensures value { result ≡ request_by (request.Arc is_relative) points }
+    ensures sound { IsFurtherRequest result }
+{
+    match points {
+        Some(points) => FurtherRequest::Arc(is_relative, points),
         None => FurtherRequest::Wrong,
     }
 }

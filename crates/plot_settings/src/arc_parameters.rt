@@ -10,14 +10,15 @@ use hpgl_text::Number;
 // The angle of a chord if none is named, in thousandths of a degree.
 const DEFAULT_CHORD: i64 = 5_000;
 
-// A number rounded to thousandths, the upper one of two.
-fn thousandths(number: Number) -> i64
+/// A number rounded to thousandths, the upper one of two.
+pub fn thousandths(number: Number) -> i64
     ensures { result ≡ parameters.thousandths_of number }
 {
     rounded(i128::from(number.millionths()), 1_000) as i64
 }
 
-fn is_chord(thousandths: i64) -> bool
+/// Whether a chord may have this angle, in thousandths of a degree: 0.5 to 180 degrees.
+pub fn is_chord(thousandths: i64) -> bool
     ensures { result ≡ parameters.is_chord thousandths }
 {
     500 <= thousandths && thousandths <= 180_000
