@@ -54,7 +54,7 @@ composed ThreeQuarters ThreeQuarters = Half
 abbrev vector : ℤ → ℤ → Spot
 vector x y = record { x = x; y = y }
 
-turned_twice : (s t : Turn) (v : Spot) → turned s (turned t v) ≡ turned (composed s t) v
+pub turned_twice : (s t : Turn) (v : Spot) → turned s (turned t v) ≡ turned (composed s t) v
 turned_twice NoTurn t v = refl
 turned_twice s NoTurn v = refl
 turned_twice Quarter Quarter v = refl

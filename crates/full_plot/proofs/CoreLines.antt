@@ -86,7 +86,7 @@ line_out w t h k =
     ]
 
 -- how many strokes lines have
-joined_few : (s : State) (places : List Spot) → length (joined s places) ≤ length places
+pub joined_few : (s : State) (places : List Spot) → length (joined s places) ≤ length places
 joined_few s [] = omega arith
 joined_few s (a ∷ []) = omega arith
 joined_few s (a ∷ (b ∷ rest)) =

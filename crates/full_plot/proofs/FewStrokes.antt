@@ -17,10 +17,10 @@ use Rattle.full_settings.specs.declared.width_setting.WidthSetting.{WidthSetting
 use Rattle.full_plot.specs.Items.{full_steps}
 use Rattle.full_plot.specs.Texts.{lettered, sets_margin}
 use Rattle.full_plot.specs.Worlds.{World, followed, with_core}
-use Rattle.full_plot.specs.Machine.{FullStep, Core, Style, Restyle, Restart, WidthBy, ColourBy, Widen, Rewiden, PointsBy, RangesBy, Letter, Mark, Keep, Print, Place, TickBy, Tick, EndSheet}
+use Rattle.full_plot.specs.Machine.{FullStep, Core, Style, Restyle, Restart, WidthBy, ColourBy, Widen, Rewiden, PointsBy, RangesBy, Letter, Mark, Keep, Print, Place, TickBy, Tick, ArcThrough, Curve, EndSheet}
 use Rattle.full_plot.specs.Machine.{step, run, pen_width_step, widened_if, then_rewidened, worked, then_worked, points_set}
 use Rattle.full_plot.specs.Drawings.{at_start, ended, is_too_much, runs}
-use Rattle.full_plot.proofs.Nexts.{NextIn, next_core, next_core_step, next_moved_on, next_run, next_set, next_ticked, next_written}
+use Rattle.full_plot.proofs.Nexts.{NextIn, next_arc, next_core, next_core_step, next_curve, next_moved_on, next_run, next_set, next_ticked, next_written}
 
 abbrev Few : World → Type 0
 Few w = length w.core.kept ≤ 4194304
@@ -76,6 +76,8 @@ few_by_step w (Letter s) h = few_lettered s w h
 few_by_step w Print h = few_printed _ _ (few_by_next w _ h (next_written w w.writing.text))
 few_by_step w (Place m) h = few_by_next w (step w (Place m)) h (next_moved_on w m)
 few_by_step w (Tick is_upright) h = few_by_next w (step w (Tick is_upright)) h (next_ticked w is_upright)
+few_by_step w (ArcThrough relative points) h = few_by_next w (step w (ArcThrough relative points)) h (next_arc w relative points)
+few_by_step w (Curve relative points) h = few_by_next w (step w (Curve relative points)) h (next_curve w relative points)
 few_by_step w (Style s) h = h
 few_by_step w Restyle h = h
 few_by_step w Restart h = h

@@ -7,6 +7,7 @@ pub mod DrawnLines
 pub mod Solid
 pub mod CoreLines
 pub mod FullRuns
+pub mod LinesOver
 pub mod LabelSteps
 pub mod Nexts
 pub mod FewStrokes
@@ -14,6 +15,7 @@ pub mod FewNotes
 pub mod Told
 pub mod CoreNotes
 pub mod CoreLabels
+pub mod AsInCore
 pub mod CoreSteps
 pub mod Stills
 pub mod CorePlots

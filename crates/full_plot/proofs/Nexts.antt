@@ -21,6 +21,11 @@ use Rattle.lettering.specs.Labels.{label_end, label_strokes, margin_move}
 use Rattle.lettering.specs.Letters.{centred}
 use Rattle.lettering.specs.declared.style.Style.{Style}
 use Rattle.full_settings.specs.Letters.{grains_of_share}
+use Rattle.full_settings.specs.declared.points.ArcPoints.{ArcPoints}
+use Rattle.full_settings.specs.declared.points.CurvePoints.{CurvePoints}
+use Rattle.curves.specs.Arcs.{arc_places}
+use Rattle.curves.specs.Beziers.{bezier_places}
+use Rattle.full_plot.specs.Curves.{arc_step, arrived, curve_step, gone_over, if_in_range, lined, pen_at_point}
 use Rattle.full_plot.specs.Lines.{line_step}
 use Rattle.full_plot.specs.Machine.{core_step, set_if}
 use Rattle.full_plot.specs.Texts.{at_margin, inked_at_pen, label_by, line_at, margin_by, marked_by, moved_by, moved_on, put, style_of, tick_distance, tick_end, ticked, with_margin, written}
@@ -224,3 +229,35 @@ next_core_step w (Edge relative x y) = next_line w (Edge relative x y)
 next_core_step w (DrawCircle c) = next_line w (DrawCircle c)
 next_core_step w (Write bytes) = next_written w bytes
 next_core_step w t = next_core w t
+
+-- a curve
+next_lined : (w : World) (places : List Spot) → NextIn w (lined w places)
+next_lined w places = elim (cases_Bool (are_in_range (w.core.state.place ∷ places))) [
+  | inl i ↦ rw i (next_by w _ _ w.margin (λ h. few_kept w.core.kept w.core.full _ h))
+  | inr i ↦ rw i tt
+]
+
+next_over : (w : World) (places : List Spot) (end : Position) → NextIn w (gone_over w places end)
+next_over w places end =
+    next_then w (lined w places) (λ (v : World). Some (arrived end v)) (next_lined w places)
+    (λ (v : World). next_by v _ v.run _ (λ h. h))
+
+next_if : (w : World) (places : List Spot) (o : Option World) → NextIn w o → NextIn w (if_in_range places o)
+next_if w places o h = elim (cases_Bool (are_in_range places)) [
+  | inl i ↦ rw i h
+  | inr i ↦ rw i tt
+]
+
+pub next_arc : (w : World) (relative : Bool) (points : ArcPoints) → NextIn w (arc_step w relative points)
+next_arc w relative points =
+    let through = (pen_at_point w relative points.through).place in
+    let end = pen_at_point w relative points.to in
+    next_if w (through ∷ (end.place ∷ [])) _ (next_over w (arc_places w.core.state.place through end.place) end)
+
+pub next_curve : (w : World) (relative : Bool) (points : CurvePoints) → NextIn w (curve_step w relative points)
+next_curve w relative points =
+    let first = (pen_at_point w relative points.first).place in
+    let second = (pen_at_point w relative points.second).place in
+    let end = pen_at_point w relative points.to in
+    next_if w (first ∷ (second ∷ (end.place ∷ []))) _
+    (next_over w (bezier_places w.core.state.place first second end.place) end)

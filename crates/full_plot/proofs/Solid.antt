@@ -1,5 +1,6 @@
 -- Solid lines are those of core.
-use Rattle.std.proofs.Common.{◌≡◌, ◌∙◌, ◌≤◌, ℕ, max, List, [], ◌∷◌, ◌++◌, refl, ap, ap₂, sym, inl, inr, nat_eq, arith, Option}
+use Rattle.std.proofs.Common.{◌≡◌, ◌∙◌, ◌≤◌, ℕ, max, List, [], ◌∷◌, ◌++◌, refl, ap, ap₂, sym, inl, inr, nat_eq, arith, Option, Bool, true, false}
+use Rattle.std.specs.Prelude.{if◌then◌else◌}
 use Rattle.std.proofs.lemmas.Bool.{cases_Bool, eqb-true}
 use Rattle.std.proofs.lemmas.Bool.Decides.{nat_tests}
 use Rattle.std.specs.List.{flat_map}
@@ -37,6 +38,10 @@ nothing_drawn s e p = elim (cases_Bool p.draws) [
   | inr t ↦ rw t refl
 ]
 
+nothing_if : (s : State) → s.pen ≡ 0 → (draws : Bool) (places : List Spot) → (if draws then joined s places else []) ≡ []
+nothing_if s e true places = nothing_joined s e places
+nothing_if s e false places = refl
+
 has_a_pen : (s : State) → 1 ≤ s.pen → with_a_pen s ≡ s
 has_a_pen s h = let e : max 1 s.pen ≡ s.pen = omega arith in ap (λ (n : ℕ). record s { pen = n }) e
 
@@ -44,4 +49,13 @@ pub solid_strokes : (s : State) (run : Option Run) (p : Path) → inked s (dashe
 solid_strokes s run p = elim (cases_Bool (nat_eq s.pen 0)) [
   | inl t ↦ rw t (sym (nothing_drawn s (eqb-true _ _ t) p))
   | inr t ↦ rw t (dashed_solid run (path_strokes (with_a_pen s) p) ∙ ap (λ (r : State). path_strokes r p) (has_a_pen s (grind (arith, nat_tests))))
+]
+
+-- the same of one line
+pub solid_joined : (s : State) (run : Option Run) (draws : Bool) (places : List Spot)
+    → inked s (dashed Solid run (if draws then joined (with_a_pen s) places else [])) ≡ (if draws then joined s places else [])
+solid_joined s run draws places = elim (cases_Bool (nat_eq s.pen 0)) [
+  | inl t ↦ rw t (sym (nothing_if s (eqb-true _ _ t) draws places))
+  | inr t ↦ rw t (dashed_solid run (if draws then joined (with_a_pen s) places else [])
+      ∙ ap (λ (r : State). if draws then joined r places else []) (has_a_pen s (grind (arith, nat_tests))))
 ]

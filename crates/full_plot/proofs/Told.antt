@@ -1,6 +1,6 @@
 -- The context of notes: they are told what the plot sets.
 use Rattle.std.proofs.Common.{◌≡◌, ◌∙◌, refl, ap, ap₂, sym, inl, inr, subst, Bool, true, false, ℕ, ◌+◌, ℤ, List, [], ◌∷◌, ◌++◌, length, nat_lt, Option, Some, None, Result, Ok, Err}
-use Rattle.std.specs.Prelude.{if◌then◌else◌, nat_abs, ◌&&◌, ⊤}
+use Rattle.std.specs.Prelude.{if◌then◌else◌, map, nat_abs, ◌&&◌, ⊤}
 use Rattle.std.specs.Option.{is_some}
 use Rattle.std.proofs.lemmas.Bool.{cases_Bool}
 use Rattle.hpgl_text.specs.Shapes.{ItemShape, BodyShape, Params, Further, Label, Coded, Terminator, Kept, Symbol, Known, Skipped, Bad, Stray}
@@ -18,7 +18,9 @@ use Rattle.full_settings.specs.declared.requests.FurtherRequest.{FurtherRequest}
 use Rattle.full_settings.specs.declared.requests.FurtherRequest.TheVariants as request
 use Rattle.full_settings.specs.declared.width_setting.WidthSetting.{WidthSetting}
 use Rattle.full_settings.specs.declared.width_setting.WidthSetting.TheVariants.{Millimetres, PercentOfAll, Percent, Thickness}
+use Rattle.full_settings.specs.declared.points.CurvePoints.{CurvePoints}
 use Rattle.full_settings.specs.ColourRanges.{pen_colour_in}
+use Rattle.full_settings.specs.CurveParameters.{curve_points}
 use Rattle.full_settings.specs.FurtherRequests.{further_request}
 use Rattle.full_settings.specs.LetterParameters.{direction}
 use Rattle.full_settings.specs.WidthParameters.{percent_width}
@@ -26,11 +28,11 @@ use Rattle.full_settings.specs.Widths.{percents_set}
 use Rattle.full_plot.specs.Items.{as_core, letters_steps, more_steps, request_steps, params_steps, full_steps}
 use Rattle.full_plot.specs.Texts.{lettered, sets_margin}
 use Rattle.full_plot.specs.Worlds.{World, followed, with_core}
-use Rattle.full_plot.specs.Machine.{FullStep, Core, Style, Restyle, Restart, WidthBy, ColourBy, Widen, Rewiden, PointsBy, RangesBy, Letter, Mark, Keep, Print, Place, TickBy, Tick, EndSheet}
+use Rattle.full_plot.specs.Machine.{FullStep, Core, Style, Restyle, Restart, WidthBy, ColourBy, Widen, Rewiden, PointsBy, RangesBy, Letter, Mark, Keep, Print, Place, TickBy, Tick, ArcThrough, Curve, EndSheet}
 use Rattle.full_plot.specs.Machine.{step, run, pen_width_step, points_set, then_rewidened, then_worked, widened, widened_if, worked}
 use Rattle.full_plot.specs.Drawings.{ended, is_too_much, runs, CarriesOut}
 use Rattle.full_plot.specs.Notes.{Context, context_after, context_of, first_context, params_after, request_after, unit_after}
-use Rattle.full_plot.proofs.Nexts.{NextIn, next_core, next_core_step, next_moved_on, next_run, next_set, next_ticked, next_written}
+use Rattle.full_plot.proofs.Nexts.{NextIn, next_arc, next_core, next_core_step, next_curve, next_moved_on, next_run, next_set, next_ticked, next_written}
 
 -- unless there is a refusal, this is the context
 abbrev Leaves : Context → Option World → Type 0
@@ -114,6 +116,8 @@ by_step w (Letter s) = by_letters s w
 by_step w Print = by_print (context_of w) _ _ (by_next w _ (next_written w w.writing.text))
 by_step w (Place m) = by_next w (step w (Place m)) (next_moved_on w m)
 by_step w (Tick is_upright) = by_next w (step w (Tick is_upright)) (next_ticked w is_upright)
+by_step w (ArcThrough relative points) = by_next w (step w (ArcThrough relative points)) (next_arc w relative points)
+by_step w (Curve relative points) = by_next w (step w (Curve relative points)) (next_curve w relative points)
 by_step w (Style s) = refl
 by_step w Restyle = refl
 by_step w Restart = refl
@@ -159,24 +163,30 @@ of_params c CharacterSize ns = of_core c (meaning CharacterSize ns).steps (more_
 of_params c Direction ns = of_core c (meaning Direction ns).steps (more_steps Direction ns) ∙ of_letters c (direction ns)
 of_params c i ns = of_core c (meaning i ns).steps (more_steps i ns)
 
-of_request : (c : Context) (r : FurtherRequest) → contexts_by c (request_steps r) ≡ request_after c r
-of_request c (request.Line s) = refl
-of_request c (request.Width s) = refl
-of_request c (request.Letter s) = refl
-of_request c (request.Ticks t) = refl
-of_request c (request.Points p) = refl
-of_request c (request.Colours r) = refl
-of_request c (request.Move m) = refl
-of_request c (request.Tick is_upright) = refl
-of_request c request.Print = refl
-of_request c request.EndSheet = refl
-of_request c request.Begin = refl
-of_request c request.Wrong = refl
-of_request c request.Skip = refl
+of_curves : (c : Context) (relative : Bool) (curves : List CurvePoints) → contexts_by c (map (Curve relative) curves) ≡ c
+of_curves c relative [] = refl
+of_curves c relative (p ∷ ps) = of_curves c relative ps
+
+of_request : (c : Context) (r : FurtherRequest) (ns : List ℤ) → contexts_by c (request_steps r ns) ≡ request_after c r
+of_request c (request.Line s) ns = refl
+of_request c (request.Width s) ns = refl
+of_request c (request.Letter s) ns = refl
+of_request c (request.Ticks t) ns = refl
+of_request c (request.Points p) ns = refl
+of_request c (request.Colours r) ns = refl
+of_request c (request.Move m) ns = refl
+of_request c (request.Tick is_upright) ns = refl
+of_request c (request.Arc relative points) ns = refl
+of_request c (request.Curves relative) ns = of_curves c relative (curve_points ns)
+of_request c request.Print ns = refl
+of_request c request.EndSheet ns = refl
+of_request c request.Begin ns = refl
+of_request c request.Wrong ns = refl
+of_request c request.Skip ns = refl
 
 of_body : (c : Context) (b : BodyShape) → contexts_by c (full_steps b) ≡ context_after c b
 of_body c (Params i ns) = of_params c i ns
-of_body c (Further f ns) = of_request c (further_request f ns)
+of_body c (Further f ns) = of_request c (further_request f ns) ns
 of_body c (Label bytes) = refl
 of_body c (Coded entries) = of_core_alone c (entry_steps entries)
 of_body c (Terminator byte) = refl

@@ -12,29 +12,33 @@ use Rattle.full_settings.specs.declared.requests.FurtherRequest.{FurtherRequest}
 use Rattle.full_settings.specs.declared.requests.FurtherRequest.TheVariants as request
 use Rattle.full_settings.specs.declared.letter_setting.LetterSetting.{LetterSetting}
 use Rattle.full_settings.specs.declared.letter_setting.LetterSetting.TheVariants.{AbsoluteSize}
+use Rattle.full_settings.specs.CurveParameters.{curve_points}
 use Rattle.full_settings.specs.FurtherRequests.{further_request}
 use Rattle.full_settings.specs.LetterParameters.{direction}
 use Rattle.full_plot.specs.Machine.{FullStep, Core, Style, Restyle, Restart, WidthBy, ColourBy, Widen, Rewiden, PointsBy}
-use Rattle.full_plot.specs.Machine.{RangesBy, Letter, Mark, Keep, Print, Place, TickBy, Tick, EndSheet}
+use Rattle.full_plot.specs.Machine.{RangesBy, Letter, Mark, Keep, Print, Place, TickBy, Tick}
+use Rattle.full_plot.specs.Machine.{ArcThrough, Curve, EndSheet}
 
--- the steps of what a further instruction asks for
-abbrev pub request_steps : FurtherRequest → List FullStep
-request_steps (request.Line s) = Style s ∷ []
-request_steps (request.Width s) = Widen s ∷ []
-request_steps (request.Letter s) = Letter s ∷ []
-request_steps (request.Ticks t) = TickBy t ∷ []
-request_steps (request.Points p) = PointsBy p ∷ []
-request_steps (request.Colours r) = RangesBy r ∷ []
-request_steps (request.Move m) = Place m ∷ []
-request_steps (request.Tick is_upright) = Tick is_upright ∷ []
-request_steps request.Print = Print ∷ []
-request_steps request.EndSheet = EndSheet ∷ []
-request_steps request.Begin = Core (Set Start) ∷ (Restart ∷ [])
-request_steps request.Wrong = []
-request_steps request.Skip = []
+-- the steps of what a further instruction asks for by its numbers
+abbrev pub request_steps : FurtherRequest → List ℤ → List FullStep
+request_steps (request.Line s) ns = Style s ∷ []
+request_steps (request.Width s) ns = Widen s ∷ []
+request_steps (request.Letter s) ns = Letter s ∷ []
+request_steps (request.Ticks t) ns = TickBy t ∷ []
+request_steps (request.Points p) ns = PointsBy p ∷ []
+request_steps (request.Colours r) ns = RangesBy r ∷ []
+request_steps (request.Move m) ns = Place m ∷ []
+request_steps (request.Tick is_upright) ns = Tick is_upright ∷ []
+request_steps (request.Arc relative points) ns = ArcThrough relative points ∷ []
+request_steps (request.Curves relative) ns = map (Curve relative) (curve_points ns)
+request_steps request.Print ns = Print ∷ []
+request_steps request.EndSheet ns = EndSheet ∷ []
+request_steps request.Begin ns = Core (Set Start) ∷ (Restart ∷ [])
+request_steps request.Wrong ns = []
+request_steps request.Skip ns = []
 
 abbrev pub further_steps : Further → List ℤ → List FullStep
-further_steps f ns = request_steps (further_request f ns)
+further_steps f ns = request_steps (further_request f ns) ns
 
 -- wrong numbers set nothing
 abbrev pub letters_steps : Option LetterSetting → List FullStep

@@ -19,6 +19,8 @@ use Rattle.full_settings.specs.declared.colour_range.ColourRanges.{ColourRanges}
 use Rattle.full_settings.specs.declared.letter_setting.LetterSetting.{LetterSetting}
 use Rattle.full_settings.specs.declared.line_setting.LineSetting.{LineSetting}
 use Rattle.full_settings.specs.declared.page_points.RelativePoints.{RelativePoints}
+use Rattle.full_settings.specs.declared.points.ArcPoints.{ArcPoints}
+use Rattle.full_settings.specs.declared.points.CurvePoints.{CurvePoints}
 use Rattle.full_settings.specs.declared.tick_length.TickLength.{TickLength}
 use Rattle.full_settings.specs.declared.width_setting.WidthSetting.{WidthSetting}
 use Rattle.full_settings.specs.ColourRanges.{usual_ranges, pen_colour_in}
@@ -27,6 +29,7 @@ use Rattle.full_settings.specs.RelativePoints.{setting_of}
 use Rattle.full_settings.specs.WidthParameters.{percent_width}
 use Rattle.full_settings.specs.Widths.{widths_by, percents_with, grains_with}
 use Rattle.full_plot.specs.declared.plotter.FullPlotter.{FullPlotter}
+use Rattle.full_plot.specs.Curves.{arc_step, curve_step}
 use Rattle.full_plot.specs.Lines.{line_step}
 use Rattle.full_plot.specs.Texts.{at_margin, lettered, marked, moved_on, ticked, written}
 use Rattle.full_plot.specs.Worlds.{World, usual_writing, with_core, followed}
@@ -122,7 +125,8 @@ printed w = then_worked (length w.writing.text) (written w w.writing.text)
 
 -- a step of core; what LT or UL sets; what DF and what IN do besides; a PW and a PC with these numbers; what WU or PT
 -- sets; widths by other P1 and P2; P1 and P2 by IR; the ranges of CR; what SR, SL, DI, DR, ES, LO or DV sets; the symbol
--- of SM; the text of BL, and PB; a CP; what TL sets, and XT or YT; the end of a sheet
+-- of SM; the text of BL, and PB; a CP; what TL sets, and XT or YT; an AT or an RT, and a curve of BZ or BR; the end of a
+-- sheet
 pub data FullStep : Type 0 where
   Core : Step → FullStep
   Style : LineSetting → FullStep
@@ -141,6 +145,8 @@ pub data FullStep : Type 0 where
   Place : CharacterMove → FullStep
   TickBy : TickLength → FullStep
   Tick : Bool → FullStep
+  ArcThrough : Bool → ArcPoints → FullStep
+  Curve : Bool → CurvePoints → FullStep
   EndSheet : FullStep
 
 -- a sheet ends if it has a stroke; no strokes are taken from one sheet to the next
@@ -169,6 +175,8 @@ step w Print = printed w
 step w (Place m) = moved_on w m
 step w (TickBy t) = Some (record w { writing = record w.writing { ticks = t } })
 step w (Tick is_upright) = ticked w is_upright
+step w (ArcThrough relative points) = arc_step w relative points
+step w (Curve relative points) = curve_step w relative points
 step w EndSheet = Some (record w { ends = ends_with w.ends (length w.core.kept) })
 
 abbrev pub run : World → List FullStep → Option World

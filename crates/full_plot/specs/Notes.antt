@@ -1,5 +1,5 @@
 -- What is noted on the items of a plot in the profile full.
-use Rattle.std.specs.Prelude.{ℤ, Bool, true, false, List, [], ◌∷◌, ◌++◌, Option, Some, None}
+use Rattle.std.specs.Prelude.{ℤ, Bool, true, false, if◌then◌else◌, List, [], ◌∷◌, ◌++◌, Option, Some, None}
 use Rattle.std.specs.Option.{is_some}
 use Rattle.hpgl_text.specs.Shapes.{ItemShape, BodyShape, Params}
 use Rattle.hpgl_text.specs.Shapes as shape
@@ -16,6 +16,7 @@ use Rattle.full_settings.specs.declared.requests.FurtherRequest.TheVariants as r
 use Rattle.full_settings.specs.declared.width_setting.WidthSetting.{WidthSetting}
 use Rattle.full_settings.specs.declared.width_setting.WidthSetting.TheVariants.{Millimetres, PercentOfAll}
 use Rattle.full_settings.specs.ColourRanges.{usual_ranges, pen_colour_in}
+use Rattle.full_settings.specs.CurveParameters.{are_curves}
 use Rattle.full_settings.specs.FurtherRequests.{further_request}
 use Rattle.full_settings.specs.LetterParameters.{direction}
 use Rattle.full_settings.specs.WidthParameters.{percent_width}
@@ -60,11 +61,13 @@ abbrev pub bad_without : {S : Type 0} → Option S → Option NoteKind
 bad_without (Some setting) = None
 bad_without None = Some Bad
 
--- what is noted on a further instruction: that its numbers are wrong, or that it is not drawn
-abbrev pub request_noted : FurtherRequest → Option NoteKind
-request_noted request.Wrong = Some Bad
-request_noted request.Skip = Some Skipped
-request_noted _ = None
+-- what is noted on a further instruction: that its numbers are wrong, or that it is not drawn; numbers after those of
+-- whole curves draw nothing, and are wrong
+abbrev pub request_noted : FurtherRequest → List ℤ → Option NoteKind
+request_noted request.Wrong ns = Some Bad
+request_noted request.Skip ns = Some Skipped
+request_noted (request.Curves relative) ns = if are_curves ns then None else Some Bad
+request_noted _ ns = None
 
 -- what is noted on an instruction of core: PW in percent and PC in ranges have rules of their own, and DI may be along no
 -- axis
@@ -80,7 +83,7 @@ params_noted c instruction ns = parameters_noted instruction ns
 
 -- what is noted on an item at its first byte
 abbrev pub body_noted : Context → BodyShape → Option NoteKind
-body_noted c (shape.Further f ns) = request_noted (further_request f ns)
+body_noted c (shape.Further f ns) = request_noted (further_request f ns) ns
 body_noted c (Params instruction ns) = params_noted c instruction ns
 body_noted c body = core.body_noted body
 

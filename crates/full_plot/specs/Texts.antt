@@ -4,14 +4,17 @@ use Rattle.std.specs.Prelude.{ℤ, pos, ◌+ℤ◌, neg_ℤ}
 use Rattle.std.specs.Int.{int_min, int_max}
 use Rattle.exact.specs.declared.spot.Spot.{Spot}
 use Rattle.directions.specs.Directions.{turned}
+use Rattle.directions.specs.Laws.{right}
 use Rattle.directions.specs.declared.turn.Turn.{Turn}
 use Rattle.directions.specs.declared.turn.Turn.TheVariants as turn
 use Rattle.lettering.specs.Cells.{cell_offset}
 use Rattle.lettering.specs.Labels.{label_strokes, label_end, margin_move}
 use Rattle.lettering.specs.Letters.{centred}
+use Rattle.lettering.specs.Styles.{usual}
 use Rattle.lettering.specs.declared.style.Style.{Style}
 use Rattle.plot_settings.specs.declared.setting.Rotation.{Rotation}
 use Rattle.plot_settings.specs.declared.setting.Rotation.TheVariants as rotation
+use Rattle.hpgl_plot.specs.declared.state.State.{State}
 use Rattle.hpgl_plot.specs.Paths.{pen_placed}
 use Rattle.hpgl_plot.specs.Machine as core
 use Rattle.full_settings.specs.declared.character_moves.CharacterMove.{CharacterMove}
@@ -33,6 +36,14 @@ turn_by rotation.ThreeQuarters = turn.ThreeQuarters
 abbrev pub style_of : World → Style
 style_of w =
     let s = w.core.state in style_in w.writing.letters s.size s.frame.points (turn_by s.frame.rotation)
+
+-- the style of core's labels
+abbrev pub core_style : State → Style
+core_style s = record usual {
+  width = s.size.width;
+  height = s.size.height;
+  direction = turned (turn_by s.frame.rotation) (turned (turn_by s.direction) right);
+}
 
 abbrev pub moved_by : Spot → Spot → Spot
 moved_by place offset = record { x = place.x +ℤ offset.x; y = place.y +ℤ offset.y }

@@ -24,13 +24,13 @@ impl FullPlotter {
     pub fn obey_further(&mut self, further: Further, numbers: &Numbers<'_>) -> Result<(), Stop>
         ensures { Runs (run (seen self.old) (further_steps further numbers.now)) (seen self.new) result }
     {
-        self.do_further(further_request(further, numbers))
+        self.do_further(further_request(further, numbers), numbers)
     }
 
-    // Does what a further instruction asks for.
-    fn do_further(&mut self, request: FurtherRequest) -> Result<(), Stop>
+    // Does what a further instruction asks for by its numbers.
+    fn do_further(&mut self, request: FurtherRequest, numbers: &Numbers<'_>) -> Result<(), Stop>
         requires { IsFurtherRequest request }
-        ensures { Runs (run (seen self.old) (request_steps request)) (seen self.new) result }
+        ensures { Runs (run (seen self.old) (request_steps request numbers.now)) (seen self.new) result }
     {
         match request {
             FurtherRequest::Line(setting) => {
@@ -70,6 +70,11 @@ impl FullPlotter {
                 self.tick(is_upright)?;
                 Ok(())
             }
+            FurtherRequest::Arc(is_relative, points) => {
+                self.arc_through(is_relative, points)?;
+                Ok(())
+            }
+            FurtherRequest::Curves(is_relative) => self.draw_curves(is_relative, numbers),
             FurtherRequest::Print => {
                 self.print()?;
                 Ok(())

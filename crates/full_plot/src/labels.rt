@@ -10,6 +10,7 @@ ghost use Rattle.full_plot.specs.Machine.{seen, step, run, worked, Runs, Letter,
 ghost use Rattle.full_plot.specs.Texts as texts;
 ghost use Rattle.full_plot.specs.Worlds.{with_core};
 
+use crate::core_labels::is_as_in_core;
 use crate::ink::{ink, margin_by, moved_by};
 use crate::plotter::FullPlotter;
 use directions::Turn;
@@ -154,10 +155,32 @@ fn write_label(
     if text.len() > LONGEST {
         return Err(Stop::OffRange);
     }
+    write_text(plotter, lettering, text)?;
+    Ok(margin_by(margin, lettering.margin_move(text)))
+}
+
+// Writes a text, and puts the pen at its end. Core is faster at what it can write.
+fn write_text(plotter: &mut Plotter, lettering: &Lettering, text: &[u8]) -> Result<(), Stop>
+    requires { length text.now ≤ 2 ^ 32 }
+    ensures { core.Runs
+        (texts.label_by lettering.now.style (core.seen plotter.old) text.now) (core.seen plotter.new) result }
+{
+    if is_as_in_core(&lettering.style, &plotter.state) {
+        plotter.write(text)
+    } else {
+        write_in_style(plotter, lettering, text)
+    }
+}
+
+// The same in any style.
+fn write_in_style(plotter: &mut Plotter, lettering: &Lettering, text: &[u8]) -> Result<(), Stop>
+    requires { length text.now ≤ 2 ^ 32 }
+    ensures { core.Runs
+        (texts.label_by lettering.now.style (core.seen plotter.old) text.now) (core.seen plotter.new) result }
+{
     let start = plotter.state.place;
     ink(plotter, lettering.strokes(text))?;
-    plotter.put(moved_by(start, lettering.end(text)))?;
-    Ok(margin_by(margin, lettering.margin_move(text)))
+    plotter.put(moved_by(start, lettering.end(text)))
 }
 
 // Lines up as lines down, in millionths.
@@ -181,8 +204,8 @@ fn sets_margin(setting: LetterSetting) -> bool
     }
 }
 
-// RO as a turn of directions.
-fn turn_by(rotation: Rotation) -> Turn
+/// RO as a turn of directions.
+pub fn turn_by(rotation: Rotation) -> Turn
     ensures { result ≡ texts.turn_by rotation }
 {
     match rotation {

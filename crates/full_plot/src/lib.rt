@@ -1,9 +1,11 @@
 //! What a plot draws in the profile full: the instructions of core, line types, labels in any direction, symbols,
-//! ticks, widths in percent and ranges of colours; and what is noted on it.
+//! ticks, curves, widths in percent and ranges of colours; and what is noted on it.
 #![tactic(auto)]
 
 mod carrying;
 mod context;
+mod core_labels;
+mod curve_steps;
 mod dashing;
 mod drawn;
 mod further;

@@ -1,13 +1,15 @@
 //! The steps of core whose lines are drawn in the line type.
-ghost use Rattle.std.specs.Prelude.{◌≡◌, Some};
+ghost use Rattle.std.specs.Prelude.{◌≡◌, ◌≤◌, length, Some};
 ghost use Rattle.plot_settings.specs.Bounds.{IsCorner, IsCircle, IsArc};
 ghost use Rattle.plot_settings.specs.Meanings.{Move, Go, Edge, DrawCircle, DrawArc};
 ghost use Rattle.hpgl_plot.specs.Machine as core;
+ghost use Rattle.full_plot.specs.Curves.{lined};
 ghost use Rattle.full_plot.specs.Lines.{line_step, drawn};
 ghost use Rattle.full_plot.specs.Machine.{seen, core_step, Runs};
 ghost use Rattle.full_plot.specs.Holding.{cleared, with_held};
 
 use crate::plotter::FullPlotter;
+use exact::Spot;
 use hpgl_plot::Stop;
 use hpgl_text::Number;
 use plot_page::Stroke;
@@ -100,6 +102,21 @@ impl FullPlotter {
         }
         let held = self.hold();
         self.plotter.arc(is_relative, arc)?;
+        self.release(held)
+    }
+
+    /// The lines from the pen over places, drawn if it is down. It stays where it is.
+    pub fn line_over(&mut self, places: &[Spot]) -> Result<(), Stop>
+        requires { length places.now ≤ 256 }
+        ensures { Runs (lined (seen self.old) places.now) (seen self.new) result }
+    {
+        let start = self.plotter.state.place;
+        let draws = self.plotter.state.is_down;
+        if self.style.is_solid() {
+            return self.plotter.travel(start, places, draws);
+        }
+        let held = self.hold();
+        self.plotter.travel(start, places, draws)?;
         self.release(held)
     }
 

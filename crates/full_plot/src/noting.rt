@@ -7,7 +7,8 @@ ghost use Rattle.full_plot.specs.Notes.{unit_after, request_after, params_after,
 
 use crate::context::Context;
 use full_settings::{
-    FurtherRequest, WidthSetting, colour_in, direction_setting, further_request, percent_setting,
+    FurtherRequest, WidthSetting, are_curves, colour_in, direction_setting, further_request,
+    percent_setting,
 };
 use hpgl_plot::NoteKind;
 use hpgl_text::{Body, Instruction, Item, Numbers};
@@ -17,19 +18,23 @@ pub fn noted_kind(item: &Item<'_>, context: &Context) -> Option<NoteKind>
     ensures { result ≡ body_noted context.now item.now.body }
 {
     match &item.body {
-        Body::Further(further, numbers) => noted_request(&further_request(*further, numbers)),
+        Body::Further(further, numbers) => noted_request(
+            &further_request(*further, numbers),
+            numbers,
+        ),
         Body::Params(instruction, numbers) => noted_params(item, *instruction, numbers, context),
         _ => hpgl_plot::noted_kind(item),
     }
 }
 
 // What is noted on a further instruction.
-fn noted_request(request: &FurtherRequest) -> Option<NoteKind>
-    ensures { result ≡ request_noted request.now }
+fn noted_request(request: &FurtherRequest, numbers: &Numbers<'_>) -> Option<NoteKind>
+    ensures { result ≡ request_noted request.now numbers.now }
 {
     match request {
         FurtherRequest::Wrong => Some(NoteKind::Bad),
         FurtherRequest::Skip => Some(NoteKind::Skipped),
+        FurtherRequest::Curves(_) if !are_curves(numbers) => Some(NoteKind::Bad),
         _ => None,
     }
 }

@@ -1,0 +1,8 @@
+use Rattle.std.proofs.Common.{rules}
+use Rattle.hpgl_plot.specs.Machine as core
+use Rattle.full_plot.proofs.AsInCore.{core_label}
+use Rattle.full_plot.proofs.labels.write_text.Goals as goal
+
+pub returns-then-is_as_in_core : goal.returns-then-is_as_in_core
+returns-then-is_as_in_core c =
+    core_label (core.seen c.args.plotter.now) (core.seen c.write.new.self) c.args.lettering.now.style c.args.text.now c.write.result (search rules) c.requires c.write.ensures

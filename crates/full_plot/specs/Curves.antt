@@ -1,0 +1,64 @@
+-- Arcs through three places and Bezier curves (HP-GL/2 guide: AT, RT, BZ and BR). The pen goes from place to place, in
+-- the line type if it is down.
+use Rattle.std.specs.Prelude.{Bool, List, [], ◌∷◌, Option, Some, None, if◌then◌else◌}
+use Rattle.exact.specs.declared.spot.Spot.{Spot}
+use Rattle.curves.specs.Arcs.{arc_places}
+use Rattle.curves.specs.Beziers.{bezier_places}
+use Rattle.plot_page.specs.Segments.{Segment}
+use Rattle.hpgl_plot.specs.declared.state.Position.{Position}
+use Rattle.hpgl_plot.specs.declared.state.State.{State}
+use Rattle.hpgl_plot.specs.Paths.{pen_at, target}
+use Rattle.hpgl_plot.specs.Strokes.{are_in_range, joined}
+use Rattle.hpgl_plot.specs.Machine as core
+use Rattle.full_settings.specs.declared.points.ArcPoints.{ArcPoints}
+use Rattle.full_settings.specs.declared.points.CurvePoints.{CurvePoints}
+use Rattle.full_settings.specs.declared.points.Point.{Point}
+use Rattle.full_plot.specs.Lines.{drawn, ended_by, with_a_pen}
+use Rattle.full_plot.specs.Texts.{at_margin}
+use Rattle.full_plot.specs.Worlds.{World, followed}
+
+-- the pen at a point of a curve
+abbrev pub pen_at_point : World → Bool → Point → Position
+pen_at_point w relative p =
+    let s = w.core.state in pen_at w.core.page s.frame (target relative s.coordinates p.x p.y)
+
+-- the lines from the pen over places, whatever pen is selected
+abbrev pub lines_over : State → List Spot → List Segment
+lines_over s places = if s.is_down then joined (with_a_pen s) (s.place ∷ places) else []
+
+-- the same in the line type: None if a place is out of range
+abbrev pub lined : World → List Spot → Option World
+lined w places =
+    let s = w.core.state in
+    if are_in_range (s.place ∷ places) then Some (drawn w (lines_over s places)) else None
+
+-- the pen, and the left margin, at a position
+abbrev pub arrived : Position → World → World
+arrived end w = at_margin (ended_by w (core.moved w.core.state end))
+
+-- the pen goes over places to the last one, which is that of the end
+abbrev pub gone_over : World → List Spot → Position → Option World
+gone_over w places end = followed (lined w places) (λ (v : World). Some (arrived end v))
+
+-- the points of a curve have to be in range, too, even if the pen does not come to them
+abbrev pub if_in_range : List Spot → Option World → Option World
+if_in_range places o = if are_in_range places then o else None
+
+-- whether a point of a curve is in range: the pen stays where it is
+abbrev pub point_tested : World → Bool → Point → Option World
+point_tested w relative p = if_in_range ((pen_at_point w relative p).place ∷ []) (Some w)
+
+abbrev pub arc_step : World → Bool → ArcPoints → Option World
+arc_step w relative a =
+    let through = (pen_at_point w relative a.through).place in
+    let end = pen_at_point w relative a.to in
+    if_in_range (through ∷ (end.place ∷ []))
+    (gone_over w (arc_places w.core.state.place through end.place) end)
+
+abbrev pub curve_step : World → Bool → CurvePoints → Option World
+curve_step w relative c =
+    let first = (pen_at_point w relative c.first).place in
+    let second = (pen_at_point w relative c.second).place in
+    let end = pen_at_point w relative c.to in
+    if_in_range (first ∷ (second ∷ (end.place ∷ [])))
+    (gone_over w (bezier_places w.core.state.place first second end.place) end)
