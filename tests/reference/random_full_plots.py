@@ -50,7 +50,7 @@ COMMENTS = (
     b'COa "PD9,9" x;', b'CO"a;b" c;', b'CO "PD;', b"CO;", b"CO PD5,5;", b"CO", b"WDPD9,9;\x03", b"WDab;", b"UC1,2;", b"ZZ1;",
 )
 # What the program skips and notes so far.
-NOT_DRAWN_YET = "PM EP FP FT AC RA RR EW WG AT RT BZ BR CT".split()
+NOT_DRAWN_YET = "PM EP FP FT AC RA RR EW WG CT".split()
 WITHOUT_NUMBERS = (b"", b";", b";", b"1,2;", b"!,9;", b'"PD;";', b"-\x1bE")
 
 

@@ -4,6 +4,8 @@
 #[cfg(test)]
 mod colours_set;
 #[cfg(test)]
+mod curves_set;
+#[cfg(test)]
 mod labels_set;
 #[cfg(test)]
 mod line_types_set;

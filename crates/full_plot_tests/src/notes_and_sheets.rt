@@ -45,6 +45,14 @@ fn notes_on_further_instructions(rt: HostRuntime) -> Result<(), Fail> {
             b"PM;FT3;EW1,2,3;SM*;BLx\x03PB;ZZ1;",
             "0 skipped PM;3 skipped FT;7 skipped EW;26 skipped ZZ;",
         ),
+        (
+            b"AT1,2,3;AT1,2,3,4,0.4;AT1,2,3,4,200;AT1,2,3,4,5,6;RT1,2,3,4,180;",
+            "0 bad AT;8 bad AT;22 bad AT;",
+        ),
+        (
+            b"BZ;BZ1,2,3,4,5;BR1,2,3,4,5,6;BR1,2,3,4,5,6,7;BZ1,2,3,4,5,6,1,2,3,4,5,6;",
+            "0 bad BZ;3 bad BZ;29 bad BR;",
+        ),
     ];
     for (plot, wanted) in plots {
         assert_eq!(rt; notes_on(rt.alloc(), plot)?.as_str(), wanted);
