@@ -4,6 +4,9 @@ use Rattle.std.proofs.Common.{ℤ, pos, ◌+ℤ◌, ◌-ℤ◌, ◌*ℤ◌}
 use Rattle.std.proofs.lemmas.Bool.{cases_Bool}
 use Rattle.std.proofs.lemmas.Int.{ints}
 use Rattle.std.proofs.lemmas.List.{length-map}
+use Rattle.std.specs.List.{All}
+use Rattle.std.proofs.lemmas.List.Elements.{All-weaker}
+use Rattle.std.proofs.lemmas.Option.{IfSome_then}
 use Rattle.std.proofs.Math.Nat.{pow-suc}
 use Rattle.exact.proofs.Ring.{mul_assoc_z, mul_left_comm_z, mul_mul_comm_z, add-mul_z}
 use Rattle.exact.proofs.Rounding.{meets_lem}
@@ -12,9 +15,11 @@ use Rattle.exact.specs.Rounding.{IsRounded}
 use Rattle.exact.specs.declared.spot.Spot.{Spot}
 use Rattle.directions.specs.Directions.{square_of}
 use Rattle.curves.specs.Arcs.{between, middle, place_at, is_far, circle_through, places_before}
-use Rattle.curves.specs.Laws.{reach_x, reach_y, IsOnCircle, ArcPlacesAreOnCircle, ArcsEndAtLast}
+use Rattle.curves.specs.Bounds.{IsNotZero}
+use Rattle.curves.specs.Laws.{reach_x, reach_y, IsPlaceOn, IsOnCircle, ArcPlacesAreOnCircle, ArcsEndAtLast}
 use Rattle.curves.specs.Vectors.{dot}
 use Rattle.curves.specs.declared.circle.Circle.{Circle}
+use Rattle.curves.proofs.Aboves.{between_above, through_above}
 use Rattle.curves.proofs.VectorLemmas.{dot_self, square_above}
 
 -- the square of a vector that is a multiple of d
@@ -56,9 +61,9 @@ way_back a z = omega (arith, ints)
 from_start : (a : ℤ) (f : Fraction) → 0 < f.under → IsRounded f ((a +ℤ round f) -ℤ a)
 from_start a f h = rw (way_back a (round f)) (meets_lem f h)
 
-pub arc_places_are_on_circle_lem : ArcPlacesAreOnCircle
+each_place : (circle : Circle) (d : Spot) → IsNotZero d → IsPlaceOn circle d
 unfolding place_at
-arc_places_are_on_circle_lem circle d h =
+each_place circle d h =
     let s = square_above d h in
     let u : 0 < 256 * square_of d = omega (arith, s) in
     record {
@@ -66,6 +71,20 @@ arc_places_are_on_circle_lem circle d h =
       x = from_start circle.start.x (reach_x circle d) u;
       y = from_start circle.start.y (reach_y circle d) u;
     }
+
+all_places : (circle : Circle) → IsNotZero circle.first
+    → All (IsPlaceOn circle) (between circle.clockwise 6 circle.first circle.last)
+all_places circle h =
+    All-weaker IsNotZero (IsPlaceOn circle) (each_place circle) (between circle.clockwise 6 circle.first circle.last)
+    (between_above circle.clockwise 6 circle.first circle.last h)
+
+pub arc_places_are_on_circle_lem : ArcPlacesAreOnCircle
+arc_places_are_on_circle_lem = record {
+  each = each_place;
+  all = λ a b c. IfSome_then (circle_through a b c) {P = λ circle. IsNotZero circle.first}
+      {Q = λ circle. All (IsPlaceOn circle) (between circle.clockwise 6 circle.first circle.last)}
+      (through_above a b c) all_places;
+}
 
 -- k middles between all neighbours make 2^k - 1 directions
 length-between : (clockwise : Bool) (k : ℕ) (p q : Spot) → length (between clockwise k p q) + 1 ≡ 2 ^ k

@@ -10,7 +10,7 @@ use Rattle.exact.proofs.Between.{exactly}
 use Rattle.exact.proofs.Rounding.{meets_lem}
 use Rattle.exact.specs.declared.spot.Spot.{Spot}
 use Rattle.curves.specs.Beziers.{greatest_bend, chords_of, weighed, coordinate, place_after}
-use Rattle.curves.specs.Laws.{BezierPlacesAreRounded, EndsAt, BeziersEndAtLast}
+use Rattle.curves.specs.Laws.{reach, BezierPlacesAreRounded, EndsAt, BeziersEndAtLast}
 
 cube_above : (n : ℕ) → 0 < n → 0 < n * n * n
 cube_above n h =
@@ -21,8 +21,8 @@ cube_above n h =
 pub bezier_places_are_rounded_lem : BezierPlacesAreRounded
 unfolding place_after
 bezier_places_are_rounded_lem = record {
-  x = λ n k p0 p1 p2 p3 h. meets_lem (record { over = weighed (n - k) k p0.x p1.x p2.x p3.x; under = n * n * n }) (cube_above n h);
-  y = λ n k p0 p1 p2 p3 h. meets_lem (record { over = weighed (n - k) k p0.y p1.y p2.y p3.y; under = n * n * n }) (cube_above n h);
+  x = λ n k p0 p1 p2 p3 h. meets_lem (reach n k p0.x p1.x p2.x p3.x) (cube_above n h);
+  y = λ n k p0 p1 p2 p3 h. meets_lem (reach n k p0.y p1.y p2.y p3.y) (cube_above n h);
 }
 
 only_last : (u v : ℕ) (a b c z : ℤ) → u ≡ 0 → v ≡ 0 → pos 0 *ℤ a +ℤ pos u *ℤ b +ℤ pos v *ℤ c +ℤ z ≡ z

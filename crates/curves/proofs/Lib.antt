@@ -4,6 +4,7 @@ pub mod VectorLemmas
 pub mod Centres
 pub mod Places
 pub mod Betweens
+pub mod Aboves
 pub mod ArcLaws
 pub mod BezierLaws
 mod ArcExamples

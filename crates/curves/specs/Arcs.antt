@@ -9,6 +9,7 @@ use Rattle.directions.specs.declared.turn.Turn.TheVariants.{Half}
 use Rattle.curves.specs.Vectors.{way, sum_of, dot, cross, turned_against, unit_of}
 use Rattle.curves.specs.declared.circle.Circle.{Circle}
 
+-- two places are one
 abbrev pub is_same_spot : Spot → Spot → Bool
 is_same_spot a b = int_eq a.x b.x && int_eq a.y b.y
 
@@ -66,8 +67,8 @@ between clockwise (suc k) p q =
     let m = middle clockwise p q in
     between clockwise k p m ++ (m ∷ between clockwise k m q)
 
--- where the line from a circle's start in the direction d meets the circle again: d is the direction of a chord, and the
--- centre is beside its middle
+-- where the line from a circle's start in the direction d meets the circle again: d * 2(v.d) / (d.d) away, by the dot
+-- products of v and d and of d and d; v is the way to the centre in grains, 1/256 of that in ticks
 unfoldable pub place_at : Circle → Spot → Spot
 place_at circle d =
     let along = pos 2 *ℤ dot circle.centre d in

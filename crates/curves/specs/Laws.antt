@@ -1,11 +1,12 @@
 -- What holds of the places on arcs and on Bezier curves.
-use Rattle.std.specs.Prelude.{◌≡◌, ◌⊎◌, ℕ, ◌-◌, ◌*◌, ◌<◌, List, [], ◌∷◌, ◌++◌, length, ℤ, pos, ◌+ℤ◌, ◌-ℤ◌, ◌*ℤ◌}
+use Rattle.std.specs.Prelude.{◌≡◌, ◌⊎◌, ℕ, ◌-◌, ◌*◌, ◌<◌, List, [], ◌∷◌, ◌++◌, length, IfSome, ℤ, pos, ◌+ℤ◌, ◌-ℤ◌, ◌*ℤ◌}
+use Rattle.std.specs.List.{All}
 use Rattle.exact.specs.Fraction.{Fraction}
 use Rattle.exact.specs.Rounding.{IsRounded}
 use Rattle.exact.specs.declared.spot.Spot.{Spot}
 use Rattle.directions.specs.Directions.{square_of}
 use Rattle.curves.specs.Vectors.{dot}
-use Rattle.curves.specs.Arcs.{place_at, arc_places}
+use Rattle.curves.specs.Arcs.{between, place_at, circle_through, arc_places}
 use Rattle.curves.specs.Beziers.{weighed, place_after, bezier_places}
 use Rattle.curves.specs.Bounds.{IsNotZero}
 use Rattle.curves.specs.declared.circle.Circle.{Circle}
@@ -29,8 +30,11 @@ pub record IsPlaceOn (circle : Circle) (d : Spot) : Type 0 where
   pub x : IsRounded (reach_x circle d) ((place_at circle d).x -ℤ circle.start.x)
   pub y : IsRounded (reach_y circle d) ((place_at circle d).y -ℤ circle.start.y)
 
-abbrev pub ArcPlacesAreOnCircle : Type 0
-ArcPlacesAreOnCircle = (circle : Circle) (d : Spot) → IsNotZero d → IsPlaceOn circle d
+-- in every direction the line from a circle's start leads to such a place, and all directions of an arc do
+pub record ArcPlacesAreOnCircle : Type 0 where
+  pub each : (circle : Circle) (d : Spot) → IsNotZero d → IsPlaceOn circle d
+  pub all : (a b c : Spot) → IfSome (circle_through a b c)
+      (λ circle. All (IsPlaceOn circle) (between circle.clockwise 6 circle.first circle.last))
 
 -- the last of these places
 pub record EndsAt (places : List Spot) (last : Spot) : Type 0 where
@@ -47,9 +51,13 @@ pub record ArcsEndAtLast : Type 0 where
 abbrev pub BeziersEndAtLast : Type 0
 BeziersEndAtLast = (p0 p1 p2 p3 : Spot) → EndsAt (bezier_places p0 p1 p2 p3) p3
 
--- a place after k of n parts is the sum by the weights over n^3, rounded once in x and once in y
+-- the sum of four coordinates by their weights after k of n parts, not yet rounded
+abbrev pub reach : ℕ → ℕ → ℤ → ℤ → ℤ → ℤ → Fraction
+reach n k p0 p1 p2 p3 = record { over = weighed (n - k) k p0 p1 p2 p3; under = n * n * n }
+
+-- the place after k of n parts is this sum, rounded once in x and once in y
 pub record BezierPlacesAreRounded : Type 0 where
   pub x : (n k : ℕ) (p0 p1 p2 p3 : Spot) → 0 < n
-      → IsRounded (record { over = weighed (n - k) k p0.x p1.x p2.x p3.x; under = n * n * n }) (place_after n k p0 p1 p2 p3).x
+      → IsRounded (reach n k p0.x p1.x p2.x p3.x) (place_after n k p0 p1 p2 p3).x
   pub y : (n k : ℕ) (p0 p1 p2 p3 : Spot) → 0 < n
-      → IsRounded (record { over = weighed (n - k) k p0.y p1.y p2.y p3.y; under = n * n * n }) (place_after n k p0 p1 p2 p3).y
+      → IsRounded (reach n k p0.y p1.y p2.y p3.y) (place_after n k p0 p1 p2 p3).y

@@ -8,6 +8,7 @@ use Rattle.directions.specs.declared.turn.Turn.TheVariants.{Quarter, ThreeQuarte
 abbrev pub way : Spot → Spot → Spot
 way a b = record { x = b.x -ℤ a.x; y = b.y -ℤ a.y }
 
+-- one vector after another
 abbrev pub sum_of : Spot → Spot → Spot
 sum_of v w = record { x = v.x +ℤ w.x; y = v.y +ℤ w.y }
 

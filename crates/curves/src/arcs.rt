@@ -1,8 +1,8 @@
 //! The places of arcs through three places.
-ghost use Rattle.std.specs.Prelude.{◌≡◌, ◌++◌, ◌^◌, IfOk};
+ghost use Rattle.std.specs.Prelude.{◌≡◌, ◌^◌, IfOk};
 ghost use Rattle.std.specs.List.{All};
 ghost use Rattle.directions.specs.Bounds.{IsWithin};
-ghost use Rattle.curves.specs.Arcs.{arc_places, places_before, circle_through};
+ghost use Rattle.curves.specs.Arcs.{arc_places};
 
 use crate::circle::Circle;
 use exact::Spot;

@@ -2,7 +2,8 @@
 ghost use Rattle.std.specs.Prelude.{◌≡◌, ◌+◌, ◌*◌, ◌≤◌, ◌<◌, ◌^◌, nat_abs, pos, ◌*ℤ◌, IfOk};
 ghost use Rattle.std.specs.List.{All};
 ghost use Rattle.directions.specs.Bounds.{IsWithin};
-ghost use Rattle.curves.specs.Beziers.{bend_of, greatest_bend, chords_of, weighed, coordinate, place_after, bezier_places};
+ghost use Rattle.curves.specs.Beziers.{bend_of, greatest_bend, chords_of, weighed};
+ghost use Rattle.curves.specs.Beziers.{coordinate, place_after, bezier_places};
 
 use exact::{Spot, rounded};
 use std::alloc::{AllocError, Global};

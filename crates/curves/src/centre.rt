@@ -1,5 +1,5 @@
 //! The centre of the circle through three places.
-ghost use Rattle.std.specs.Prelude.{◌≡◌, ◌*◌, ◌≤◌, ◌<◌, ◌^◌, pos, nat_abs, ◌-ℤ◌, ◌*ℤ◌};
+ghost use Rattle.std.specs.Prelude.{◌≡◌, ◌≤◌, ◌<◌, ◌^◌, pos, nat_abs, ◌-ℤ◌, ◌*ℤ◌};
 ghost use Rattle.exact.specs.Fraction.{round, quotient};
 ghost use Rattle.directions.specs.Bounds.{IsWithin};
 ghost use Rattle.curves.specs.Arcs.{centre_of};

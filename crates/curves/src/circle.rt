@@ -1,5 +1,5 @@
 //! Circles that arcs are parts of.
-ghost use Rattle.std.specs.Prelude.{◌≡◌, ◌↔◌, ◌++◌, ◌*◌, ◌+◌, ◌≤◌, ◌<◌, ◌^◌, pos, nat_abs, map, false, ◌+ℤ◌, ◌*ℤ◌, IsTrue, IfOk, IfSome};
+ghost use Rattle.std.specs.Prelude.{◌≡◌, ◌++◌, ◌*◌, ◌≤◌, ◌<◌, ◌^◌, nat_abs, map, false, ◌+ℤ◌, ◌*ℤ◌, IfOk, IfSome};
 ghost use Rattle.std.specs.List.{All};
 ghost use Rattle.exact.specs.Fraction.{round, quotient};
 ghost use Rattle.directions.specs.Bounds.{IsWithin};

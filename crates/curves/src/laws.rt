@@ -1,5 +1,6 @@
 //! What holds of the places on arcs and on Bezier curves.
-ghost use Rattle.curves.specs.Laws.{ArcPlacesAreOnCircle, ArcsEndAtLast, BeziersEndAtLast, BezierPlacesAreRounded};
+ghost use Rattle.curves.specs.Laws.{ArcPlacesAreOnCircle, ArcsEndAtLast};
+ghost use Rattle.curves.specs.Laws.{BeziersEndAtLast, BezierPlacesAreRounded};
 
 /// Each place on a circle is a point of the circle, rounded once in x and once in y.
 pub fn arc_places_are_on_circle()

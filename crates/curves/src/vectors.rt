@@ -1,5 +1,5 @@
 //! Vectors of whole numbers.
-ghost use Rattle.std.specs.Prelude.{◌≡◌, ◌+◌, ◌*◌, ◌≤◌, ◌<◌, ◌^◌, pos, nat_abs};
+ghost use Rattle.std.specs.Prelude.{◌≡◌, ◌≤◌, ◌<◌, ◌^◌, pos, nat_abs};
 ghost use Rattle.exact.specs.Fraction.{round, quotient};
 ghost use Rattle.directions.specs.Bounds.{IsWithin};
 ghost use Rattle.directions.specs.Directions.{square_of};
