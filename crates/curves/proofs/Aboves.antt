@@ -47,7 +47,10 @@ apart y z e = elim (cases_lt 0 (nat_abs (y -ℤ z))) [
   | inr l ↦ (let d = Decides-int_eq y z in let f : y ≡ z = omega (arith, ints) in let g = d.1 f in cc)
 ]
 
-spots_apart : (a b : Spot) → is_same_spot b a ≡ false → IsNotZero (way a b)
+pub above_from_test : (z : ℤ) → int_eq z (pos 0) ≡ false → 0 < nat_abs z
+above_from_test z e = let x = apart z (pos 0) e in omega (arith, ints, x)
+
+pub spots_apart : (a b : Spot) → is_same_spot b a ≡ false → IsNotZero (way a b)
 spots_apart a b e = elim (cases_Bool (int_eq b.x a.x)) [
   | inl f ↦ (let g = rw f at e in let y = apart b.y a.y g in omega (arith, y))
   | inr f ↦ (let x = apart b.x a.x f in omega (arith, x))
