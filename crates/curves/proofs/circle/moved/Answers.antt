@@ -41,3 +41,27 @@ returns-clause-most c =
     let r : FitsSigned w128 c.divided.result = omega (arith, ints) in
     let f : FitsSigned w128 (c.args.start +ℤ c.divided.result) = omega (arith, ints) in
     simp to_z-of_z (omega (arith, ints))
+
+pub overflow_mul-d : goal.overflow_mul-d
+overflow_mul-d c =
+    let p = product_within c.args.d c.args.along (2 ^ 30) (2 ^ 72) c.requires.d_in c.requires.along_in in
+    let d : FitsSigned w128 c.args.d = c.ranges.d in
+    let a : FitsSigned w128 c.args.along = c.ranges.along in
+    simp to_z-of_z (omega (arith, ints, p))
+
+pub divided-requires-clause-a_in : goal.divided-requires-clause-a_in
+divided-requires-clause-a_in c =
+    let p = product_within c.args.d c.args.along (2 ^ 30) (2 ^ 72) c.requires.d_in c.requires.along_in in
+    let d : FitsSigned w128 c.args.d = c.ranges.d in
+    let a : FitsSigned w128 c.args.along = c.ranges.along in
+    let f : FitsSigned w128 (c.args.d *ℤ c.args.along) = omega (arith, ints, p) in
+    simp to_z-of_z (omega (arith, p))
+
+pub overflow_add-result : goal.overflow_add-result
+overflow_add-result c =
+    let k = known c in
+    let m = k.most in
+    let h = c.requires.start_in in
+    let s : FitsSigned w128 c.args.start = c.ranges.start in
+    let r : FitsSigned w128 c.divided.result = omega (arith, ints) in
+    simp to_z-of_z (omega (arith, ints))
