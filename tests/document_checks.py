@@ -145,7 +145,9 @@ GALLERY = {
     for heading in ("Lines in six colours", "A part drawing", "A map", "A chart by gnuplot", "Text in four directions",
                     "Isotropic scaling", "Windows", "Wide pens", "Encoded polylines", "Colours set by the plot")
 }
-BESIDE = ("A chart in both profiles", "A part with hidden edges", "A chart of a harbour", "A sheet of labels")
+BESIDE = (
+    "A chart in both profiles", "A part with hidden edges", "A chart of a harbour", "A sheet of labels", "A ribbon of curves",
+)
 GALLERY.update({heading: [Check(stored, (*SCALED, "pnmquant", "pnmcat"))] for heading in BESIDE})
 GALLERY["A detail at 1200 dots per inch"] = [Check(stored, (*PNG, "pamcut"))]
 DOCUMENT_CHECKS = {
