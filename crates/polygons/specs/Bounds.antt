@@ -1,0 +1,8 @@
+-- The range of places, which keeps the arithmetic in 128 bits.
+use Rattle.std.specs.Prelude.{◌≤◌, ◌^◌, nat_abs}
+use Rattle.exact.specs.declared.spot.Spot.{Spot}
+
+-- within 2^20 grains of 0
+pub record IsPlace (s : Spot) : Type 0 where
+  pub x_in : nat_abs s.x ≤ 2 ^ 20
+  pub y_in : nat_abs s.y ≤ 2 ^ 20
