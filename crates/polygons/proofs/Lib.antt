@@ -1,1 +1,16 @@
 mod BufferExamples
+pub mod Tests
+pub mod Floors
+pub mod Heights
+pub mod Shares
+pub mod Ends
+pub mod Totals
+pub mod Orders
+pub mod OnLines
+pub mod Bits
+pub mod Collected
+pub mod Sorts
+pub mod Gaps
+pub mod Begins
+pub mod Numbers
+pub mod Steps

@@ -1,4 +1,4 @@
--- The range of places, which keeps the arithmetic in 128 bits.
+-- What keeps the arithmetic in its types.
 use Rattle.std.specs.Prelude.{◌≤◌, ◌^◌, nat_abs}
 use Rattle.exact.specs.declared.spot.Spot.{Spot}
 

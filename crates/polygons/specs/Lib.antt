@@ -1,5 +1,8 @@
--- What a reader must believe: the polygon buffer.
+-- What a reader must believe: the polygon buffer, and the lines that fill polygons.
 pub mod Buffers
--- What contracts need: bounds of places, and of what a buffer counts.
+pub mod Fills
+-- What contracts need: bounds of the arithmetic, what a buffer counts, and how code goes from line to line.
 pub mod Bounds
 pub mod Held
+pub mod Climbs
+pub mod Sweeps

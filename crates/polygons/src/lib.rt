@@ -3,9 +3,20 @@
 #![tactic(auto)]
 
 mod buffer;
+mod climb;
 mod edge;
+mod fill;
+mod lines;
 mod place;
+mod ruling;
+mod span;
+mod spans;
+mod sweep;
+mod ways;
 
 pub use buffer::{Buffer, Opened};
 pub use edge::Edge;
+pub use fill::Fill;
+pub use lines::{Lines, Rule};
 pub use place::Place;
+pub use span::Span;

@@ -1,5 +1,5 @@
 //! Places.
-ghost use Rattle.std.specs.Prelude.{◌≡◌};
+ghost use Rattle.std.specs.Prelude.{◌≡◌, ◌≤◌, ◌^◌, nat_abs};
 ghost use Rattle.polygons.specs.Bounds.{IsPlace};
 
 use exact::Spot;
@@ -46,5 +46,20 @@ impl Place {
             x: i128::from(self.x),
             y: i128::from(self.y),
         }
+    }
+
+    // Its coordinates as numbers of 64 bits.
+    pub(crate) fn x(self) -> i64
+        ensures value { result ≡ self.x }
+        ensures most { nat_abs result ≤ 2 ^ 20 }
+    {
+        i64::from(self.x)
+    }
+
+    pub(crate) fn y(self) -> i64
+        ensures value { result ≡ self.y }
+        ensures most { nat_abs result ≤ 2 ^ 20 }
+    {
+        i64::from(self.y)
     }
 }

@@ -1,0 +1,46 @@
+//! Places on the way from one place to another.
+ghost use Rattle.std.specs.Prelude.{◌≡◌, ◌≤◌, ◌<◌, ◌^◌, nat_abs, pos, ◌+ℤ◌, ◌-ℤ◌};
+ghost use Rattle.exact.specs.Fraction.{round, quotient};
+ghost use Rattle.polygons.specs.Fills.{share, place_after};
+ghost use Rattle.polygons.specs.Climbs.{IsPart};
+
+use crate::place::Place;
+use exact::{Spot, rounded};
+
+// The place after t / u of the way from one place to another.
+pub fn moved(from: Place, to: Place, t: i128, u: i128) -> Place
+    requires { IsPart t u }
+    ensures { result ≡ place_after from to t u }
+{
+    let a = from.spot();
+    let b = to.spot();
+    Place::new(Spot {
+        x: along(a.x, b.x, t, u),
+        y: along(a.y, b.y, t, u),
+    })
+}
+
+// The same of one coordinate.
+fn along(a: i128, b: i128, t: i128, u: i128) -> i128
+    requires part { IsPart t u }
+    requires a_in { nat_abs a ≤ 2 ^ 20 }
+    requires b_in { nat_abs b ≤ 2 ^ 20 }
+    ensures value { result ≡ a +ℤ share (b -ℤ a) t u }
+    ensures most { nat_abs result ≤ 2 ^ 20 }
+{
+    a + divided((b - a) * t, u)
+}
+
+// The whole number nearest to a / b, for b on either side of 0.
+fn divided(a: i128, b: i128) -> i128
+    requires a_in { nat_abs a ≤ 2 ^ 125 }
+    requires b_in { nat_abs b ≤ 2 ^ 125 }
+    requires not_zero { 0 < nat_abs b }
+    ensures { result ≡ round (quotient a b) }
+{
+    if b < 0 {
+        rounded(-a, -b)
+    } else {
+        rounded(a, b)
+    }
+}
