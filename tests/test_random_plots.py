@@ -8,8 +8,7 @@ import os
 import pytest
 
 from comparing import difference, differs
-from reference.full_cutting import items
-from reference.random_full_plots import is_drawn, random_drawn_case
+from reference.random_full_plots import random_full_case
 from reference.random_plots import Case, random_case
 from shared import EXAMPLES, assert_nothing, read_bytes
 from test_full_reference import options_of, plot_of, rows
@@ -42,11 +41,9 @@ def angles():
 
 
 def full_examples():
-    """The examples of the profile full that the program draws so far, as reports."""
+    """The examples of the profile full, as reports."""
     for name, keys in rows():
-        plot = plot_of(keys["plot"][0])
-        if all(map(is_drawn, items(plot))):
-            yield name, Case("report", options_of(keys), plot)
+        yield name, Case("report", options_of(keys), plot_of(keys["plot"][0]))
 
 
 def random_plots(case_of, part):
@@ -74,7 +71,7 @@ def test_angles(program):
 
 def test_full_examples(program):
     cases = list(full_examples())
-    assert len(cases) >= 30
+    assert len(cases) >= 100
     assert_same(program, cases)
 
 
@@ -85,4 +82,4 @@ def test_random_plots(part, program):
 
 @pytest.mark.parametrize("part", range(PARTS))
 def test_random_full_plots(part, program):
-    assert_same(program, random_plots(random_drawn_case, part))
+    assert_same(program, random_plots(random_full_case, part))

@@ -265,6 +265,8 @@ class FullPlotter(FullSettings):
         """Fills the buffer."""
         rule = whole(*(listed(numbers, 0, 1) or [0]), 0, 1)
         self.sum += self.buffer.size
+        if not self.pen:
+            return
         edges = [(a, b) for a, b, _ in self.buffer.edges()]
         if self.fill_type in (HATCHING, CROSS_HATCHING):
             angle = self.angle + 1000 * self.rotation
@@ -286,16 +288,15 @@ class FullPlotter(FullSettings):
         self.ink(a, b, USUAL_WIDTH)
 
     def fill(self, lines, edges, rule, drawn):
-        """Draws each span, by a call."""
-        is_ink = drawn != self.line or self.line_type is SOLID
-        if is_ink and not self.pen:
-            return
-        if is_ink and fills.count_of_crossings(lines, edges) > 2 * self.most:
+        """Draws each span, by a call; one that gives no stroke counts as one."""
+        if fills.count_of_crossings(lines, edges) > 2 * self.most:
             # There are at least half as many spans.
             self.sum += self.most + 1
             return
         for a, b in lines.spans(edges, rule):
+            before = self.sum
             drawn(a, b)
+            self.sum = max(self.sum, before + 1)
 
     def distance_of_hatching(self):
         """How far lines of hatching are apart, in ticks: no denser than half the pen's width."""

@@ -49,8 +49,6 @@ KNOWN = (
 COMMENTS = (
     b'COa "PD9,9" x;', b'CO"a;b" c;', b'CO "PD;', b"CO;", b"CO PD5,5;", b"CO", b"WDPD9,9;\x03", b"WDab;", b"UC1,2;", b"ZZ1;",
 )
-# What the program skips and notes so far.
-NOT_DRAWN_YET = "PM EP FP FT AC RA RR EW WG CT".split()
 WITHOUT_NUMBERS = (b"", b";", b";", b"1,2;", b"!,9;", b'"PD;";', b"-\x1bE")
 
 
@@ -62,27 +60,6 @@ def random_full_case(seed):
 def light_case(writer):
     case = writer.case()
     return case._replace(plot=writer.light(case.plot, MOST_OF_A_REPORT if case.form == "report" else MOST_OF_A_PICTURE))
-
-
-def random_drawn_case(seed):
-    """The same, mostly of what the program draws, with moves instead of what it does not draw yet."""
-    case = light_case(DrawnWriter(seed))
-    return case._replace(plot=only_drawn(case.plot))
-
-
-def is_drawn(item):
-    """Whether the program carries out an item, or skips it for good."""
-    return item.code not in NOT_DRAWN_YET
-
-
-def only_drawn(plot):
-    """A plot with moves instead of items that are not drawn yet."""
-    while True:
-        others = [item.at for item in items(plot) if not is_drawn(item)]
-        if not others:
-            return plot
-        for at in others:
-            plot = plot[:at] + (b"PR", b"PD", b"SP")[at % 3] + plot[at + 2 :]
 
 
 class FullWriter(Writer):
@@ -388,9 +365,3 @@ class FullWriter(Writer):
 
     def number_too_many(self):
         return [MILLION] * self.pick(1, 2, 5) if self.is_wild and self.chance(20) else []
-
-
-class DrawnWriter(FullWriter):
-    """Writes one case of the profile full, mostly of what the program draws."""
-
-    themes = [theme for theme in THEMES if {"LT", "WU", "dashes", "sheet", "known"} & set(theme)]

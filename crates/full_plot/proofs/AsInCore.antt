@@ -2,7 +2,6 @@
 use Rattle.std.proofs.Common.{◌≡◌, ◌∙◌, ◌≤◌, ℕ, ℤ, List, length, ap, ap₂, sym, subst, Option, Result}
 use Rattle.std.proofs.lemmas.Bool.{le-ltb}
 use Rattle.exact.specs.declared.spot.Spot.{Spot}
-use Rattle.directions.specs.Directions.{turned}
 use Rattle.directions.specs.Laws.{right}
 use Rattle.lettering.specs.Laws.{usual_turned}
 use Rattle.lettering.specs.Styles.{usual}

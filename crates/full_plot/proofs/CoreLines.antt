@@ -1,5 +1,5 @@
 -- The lines that core draws on no strokes, by a pen that draws, are those of a step.
-use Rattle.std.proofs.Common.{◌≡◌, ◌∙◌, ◌≤◌, ◌<◌, ◌+◌, ℕ, ℤ, Bool, true, false, List, [], ◌∷◌, ◌++◌, length, refl, sym, subst, inl, inr, arith, Option, Some, None, length-append, append-nil, append_assoc, nat_abs, Result, Ok, Err, div-le_self}
+use Rattle.std.proofs.Common.{◌≡◌, ◌∙◌, ◌≤◌, ◌<◌, ◌+◌, ℕ, ℤ, Bool, true, false, List, [], ◌∷◌, ◌++◌, length, refl, ap, sym, subst, inl, inr, arith, Option, Some, None, length-append, append-nil, append_assoc, nat_abs, Result, Ok, Err, div-le_self}
 use Rattle.std.proofs.lemmas.Bool.{cases_Bool, lt-ltb}
 use Rattle.std.proofs.lemmas.Option.{none-some, same_Some}
 use Rattle.std.specs.List.{list_all}
@@ -29,6 +29,7 @@ use Rattle.full_plot.specs.Holding.{cleared, restored}
 use Rattle.full_plot.specs.Worlds.{World}
 use Rattle.full_plot.specs.Lines.{with_a_pen, lines_of, line_step, drawn}
 use Rattle.full_plot.specs.Machine.{Runs}
+use Rattle.full_plot.specs.Polygons.{edge_step, kept_step, only_figure, with_buffer}
 
 -- strokes that are few are all kept
 pub few_kept : (kept ss : List Segment) → length kept + length ss ≤ 4194304 → kept_with kept false ss ≡ kept ++ ss
@@ -45,7 +46,7 @@ pub record HasLines (page : Page) (s : State) (t : Step) : Type 0 where
   pub few : length (lines_of page s t) ≤ 4194304
 
 -- core's step, in the world in which core draws lines
-cleared_step : (w : World) (t : Step) → path w.core.page (with_a_pen w.core.state) t ≡ path w.core.page w.core.state t
+pub cleared_step : (w : World) (t : Step) → path w.core.page (with_a_pen w.core.state) t ≡ path w.core.page w.core.state t
     → core.step (cleared w) t
     ≡ (if list_all are_in_range (path w.core.page w.core.state t).lines
     then Some (with_strokes (cleared w) (after w.core.page (with_a_pen w.core.state) t) (lines_of w.core.page w.core.state t)) else None)
@@ -113,7 +114,7 @@ edge_lines page s relative x y =
     let f = along_few (with_a_pen s) (s.place ∷ (beside ∷ (place page s.frame (target relative s.coordinates x y) ∷ (above ∷ (s.place ∷ []))))) true (position s) in
     record { path_is = refl; after_is = refl; frame_is = refl; few = omega (arith, f) }
 
-chords_few : (chord : ℕ) (sweep : ℤ) → 0 < chord → nat_abs sweep ≤ 360000 → chords_of chord sweep ≤ 360001
+pub chords_few : (chord : ℕ) (sweep : ℤ) → 0 < chord → nat_abs sweep ≤ 360000 → chords_of chord sweep ≤ 360001
 chords_few chord sweep h k =
     let d = div-le_self (nat_abs sweep) chord in
     omega (arith, d)
@@ -146,3 +147,68 @@ pub line_stopped : {U : Type 0} (o : Option core.World) (p : Option World) (u : 
 line_stopped o p u v e (Ok x) n h i = absurd i
 line_stopped o p u v Memory (Err f) n h i = rw i tt
 line_stopped o p u v OffRange (Err f) n h i = rw i (n h)
+
+-- what core drew is the lines of the step
+pub line_kept : (w : World) (t : Step) (v : core.World) → HasLines w.core.page w.core.state t → core.step (cleared w) t ≡ Some v
+    → v.kept ≡ lines_of w.core.page w.core.state t
+line_kept w t v h k =
+    let page = w.core.page in
+    let s = w.core.state in
+    let lines = lines_of page s t in
+    let e = cleared_step w t h.path_is in
+    let u = with_strokes (cleared w) (after page (with_a_pen s) t) lines in
+    elim (cases_Bool (list_all are_in_range (path page s t).lines)) [
+      | inl i ↦ ap (λ (x : core.World). x.kept) (sym (same_Some u v (rw i at (sym e ∙ k)))) ∙ few_kept [] lines (omega (arith, h.few))
+      | inr i ↦ absurd (none-some v (rw i at (sym e ∙ k)))
+    ]
+
+-- the edge of a rectangle
+pub edge_runs : (w : World) (v : core.World) (relative : Bool) (x y : ℤ) → core.step (cleared w) (Edge relative x y) ≡ Some v
+    → edge_step w (Edge relative x y) ≡ Some (drawn (record (restored w v) { buffer = only_figure v.kept }) v.kept)
+edge_runs w v relative x y k =
+    let t = Edge relative x y in
+    let h = edge_lines w.core.page w.core.state relative x y in
+    ap (λ (o : Option World). with_buffer (only_figure (lines_of w.core.page w.core.state t)) o) (line_runs w t v h k)
+    ∙ ap (λ (ls : List Segment). Some (record (drawn (restored w v) v.kept) { buffer = only_figure ls })) (sym (line_kept w t v h k))
+
+pub edge_out : (w : World) (relative : Bool) (x y : ℤ) → core.step (cleared w) (Edge relative x y) ≡ None → edge_step w (Edge relative x y) ≡ None
+edge_out w relative x y k =
+    ap (λ (o : Option World). with_buffer (only_figure (lines_of w.core.page w.core.state (Edge relative x y))) o)
+    (line_out w (Edge relative x y) (edge_lines w.core.page w.core.state relative x y) k)
+
+-- the same, put into the buffer and not drawn
+kept_in : (w : World) (t : Step) → list_all are_in_range (path w.core.page w.core.state t).lines ≡ true
+    → kept_step w t ≡ Some (record w { buffer = only_figure (lines_of w.core.page w.core.state t) })
+kept_in w t i = rw i refl
+
+pub record IsKeptStep (w : World) (t : Step) (v : core.World) : Type 0 where
+  pub same : restored w v ≡ w
+  pub kept : kept_step w t ≡ Some (record w { buffer = only_figure v.kept })
+
+pub kept_runs : (w : World) (v : core.World) (relative : Bool) (x y : ℤ) → core.step (cleared w) (Edge relative x y) ≡ Some v
+    → IsKeptStep w (Edge relative x y) v
+kept_runs w v relative x y k =
+    let t = Edge relative x y in
+    let page = w.core.page in
+    let s = w.core.state in
+    let h = edge_lines page s relative x y in
+    let lines = lines_of page s t in
+    let e = cleared_step w t h.path_is in
+    let u = with_strokes (cleared w) (after page (with_a_pen s) t) lines in
+    elim (cases_Bool (list_all are_in_range (path page s t).lines)) [
+      | inl i ↦ (let v_is : u ≡ v = same_Some u v (rw i at (sym e ∙ k)) in
+          record {
+            same = ap (λ (x : core.World). restored w x) (sym v_is);
+            kept = kept_in w t i ∙ ap (λ (ls : List Segment). Some (record w { buffer = only_figure ls })) (sym (line_kept w t v h k));
+          })
+      | inr i ↦ absurd (none-some v (rw i at (sym e ∙ k)))
+    ]
+
+pub kept_out : (w : World) (relative : Bool) (x y : ℤ) → core.step (cleared w) (Edge relative x y) ≡ None → kept_step w (Edge relative x y) ≡ None
+kept_out w relative x y k =
+    let t = Edge relative x y in
+    let e = cleared_step w t (edge_lines w.core.page w.core.state relative x y).path_is in
+    elim (cases_Bool (list_all are_in_range (path w.core.page w.core.state t).lines)) [
+      | inl i ↦ absurd (none-some _ (sym (rw i at (sym e ∙ k))))
+      | inr i ↦ rw i refl
+    ]

@@ -5,7 +5,7 @@ use Rattle.std.proofs.lemmas.Bool.{not-true}
 use Rattle.std.proofs.lemmas.List.Elements.{All-head, All-tail}
 use Rattle.hpgl_text.specs.Shapes.{ItemShape, BodyShape, Params, Further}
 use Rattle.hpgl_text.specs.declared.instruction.Instruction.{Instruction}
-use Rattle.hpgl_text.specs.declared.instruction.Instruction.TheVariants.{PenColour, Initialize, Direction}
+use Rattle.hpgl_text.specs.declared.instruction.Instruction.TheVariants.{PenColour, Initialize, DefaultValues, Direction}
 use Rattle.plot_settings.specs.Meanings.{sets}
 use Rattle.plot_settings.specs.Parameters.{pen_colour, nearest_axis, when}
 use Rattle.plot_settings.specs.Slants.{is_slanted}
@@ -19,7 +19,8 @@ use Rattle.hpgl_plot.specs.Notes as core
 use Rattle.full_settings.specs.LetterParameters.{direction, is_vector, pair}
 use Rattle.full_settings.specs.declared.letter_setting.LetterSetting.TheVariants as letter
 use Rattle.full_plot.specs.Laws.{is_core_body, IsCoreItem}
-use Rattle.full_plot.specs.Notes.{bad_without, body_noted, Context, context_after, first_context, params_after, params_noted, notes_from, notes}
+use Rattle.full_plot.specs.Contexts.{Context, first_context}
+use Rattle.full_plot.specs.Notes.{bad_without, body_noted, context_after, params_after, params_noted, notes_from, notes}
 
 abbrev bad_if : Bool → Option NoteKind
 bad_if is_wrong = if is_wrong then Some kind.Bad else None
@@ -53,6 +54,7 @@ body_as_in_core b h = refl
 -- no item of core changes what notes are told
 params_in_first : (i : Instruction) → params_after first_context i ≡ first_context
 params_in_first Initialize = refl
+params_in_first DefaultValues = refl
 params_in_first i = refl
 
 stays_first : (b : BodyShape) → is_core_body b ≡ true → context_after first_context b ≡ first_context

@@ -16,7 +16,7 @@ use Rattle.plot_settings.specs.declared.setting.Rotation.{Rotation}
 use Rattle.plot_settings.specs.declared.setting.Rotation.TheVariants as rotation
 use Rattle.plot_settings.specs.declared.setting.Setting.{Setting}
 use Rattle.plot_settings.specs.declared.setting.Setting.TheVariants as setting
-use Rattle.hpgl_text.specs.Shapes.{ItemShape, BodyShape, Params, Further, Label, Coded, Kept, Symbol, Known}
+use Rattle.hpgl_text.specs.Shapes.{ItemShape, BodyShape, Params, Further, Label, Coded, Kept, Symbol, Known, Bad}
 use Rattle.hpgl_text.specs.declared.instruction.Instruction.{Instruction}
 use Rattle.hpgl_text.specs.declared.instruction.Instruction.TheVariants.{Initialize, DefaultValues, InputPoints, PenWidth, PenColour, CharacterSize, Direction}
 use Rattle.hpgl_plot.specs.declared.fault.PlotFault.{PlotFault}
@@ -35,6 +35,7 @@ use Rattle.full_plot.specs.Worlds.{World, followed, with_core}
 use Rattle.full_plot.specs.Machine.{FullStep, Core, Letter, Restart, Restyle, Rewiden, pen_width_step, rewidened, run, set_if, widths_in, with_widths}
 use Rattle.full_plot.specs.Drawings.{at_start, ended, is_too_much, runs, refusal_in, strokes_in, ends_in}
 use Rattle.full_plot.specs.Laws.{core_part, is_core_body, IsCoreItem, SameRefusal, SameStrokes, OneSheet}
+use Rattle.full_plot.specs.Contexts.{body_read, context_of, is_misplaced, read_in}
 use Rattle.full_plot.specs.Texts.{turn_by}
 use Rattle.full_plot.proofs.CoreLabels.{axis_leads}
 use Rattle.full_plot.proofs.CoreSteps.{AllStill, IsAsInCore, IsLed, IsLikeCore, Leads, LikeIn, core_of, one_step, still_steps}
@@ -98,7 +99,10 @@ after_size d v false h k = record {
         led = sized d v.writing.letters h.led;
         no_extra = h.no_extra;
         no_ends = h.no_ends;
+        outside = h.outside;
+        chords = h.chords;
         few = h.few;
+        few_places = h.few_places;
       })
       k;
 }
@@ -131,7 +135,10 @@ after_restart d v h k = record {
         led = usual_led;
         no_extra = h.no_extra;
         no_ends = h.no_ends;
+        outside = refl;
+        chords = refl;
         few = h.few;
+        few_places = omega arith;
       })
       k;
 }
@@ -148,7 +155,10 @@ after_restyle d v h k = record {
         led = usual_led;
         no_extra = h.no_extra;
         no_ends = h.no_ends;
+        outside = refl;
+        chords = refl;
         few = h.few;
+        few_places = omega arith;
       })
       k;
 }
@@ -174,7 +184,10 @@ after_direction d r p v u h k = record {
         };
         no_extra = h.no_extra;
         no_ends = h.no_ends;
+        outside = h.outside;
+        chords = h.chords;
         few = h.few;
+        few_places = h.few_places;
       })
       k;
 }
@@ -279,6 +292,15 @@ item_run w (Symbol byte) e h = absurd (true≢false (sym e))
 item_run w Known e h = absurd (true≢false (sym e))
 item_run w b e h = record { same = refl; like = h }
 
+-- items of core are read as they are
+core_read : (b : BodyShape) → is_core_body b ≡ true → (if is_misplaced false b then Bad else body_read false b) ≡ b
+core_read (Params i ns) e = refl
+core_read (Further f ns) e = absurd (true≢false (sym e))
+core_read b e = refl
+
+read_as_is : (w : World) (b : BodyShape) → is_core_body b ≡ true → Like w → read_in (context_of w) b ≡ b
+read_as_is w b e h = rw (h.outside, h.chords) (core_read b e)
+
 -- the items, one after another
 record EndsLike (r : Result World PlotFault) (x : Result core.World PlotFault) : Type 0 where
   same : core_part r ≡ x
@@ -287,7 +309,7 @@ record EndsLike (r : Result World PlotFault) (x : Result core.World PlotFault) :
 not_too_much : (w : World) → Like w → is_too_much w ≡ w.core.full
 not_too_much w h =
     let e : length w.core.kept + w.extra ≡ length w.core.kept = rw h.no_extra (omega arith) in
-    rw (e, le-ltb 4194304 (length w.core.kept) h.few) (elim (cases_Bool w.core.full) [
+    rw (e, le-ltb 4194304 (length w.core.kept) h.few, le-ltb 4194304 w.buffer.places h.few_places) (elim (cases_Bool w.core.full) [
       | inl t ↦ rw t refl
       | inr t ↦ rw t refl
     ])
@@ -307,13 +329,14 @@ next_item at more (Some v) h go =
 items_run : (w : World) (items : List ItemShape) → All IsCoreItem items → Like w → EndsLike (runs w items) (core.runs w.core items)
 items_run w [] all h = record { same = refl; one_sheet = h.no_ends }
 items_run w (i ∷ more) all h =
-    let one : IsCores (run w (full_steps i.body)) (core.run w.core (steps_of i)) =
-    item_run w i.body (All-head IsCoreItem i more all) h in
-    subst
-    (λ (p : Option core.World). EndsLike (runs w (i ∷ more)) (core.ended p i.at (λ (c : core.World). core.runs c more)))
+    let is_core : is_core_body i.body ≡ true = All-head IsCoreItem i more all in
+    let one : IsCores (run w (full_steps i.body)) (core.run w.core (steps_of i)) = item_run w i.body is_core h in
+    rw (read_as_is w i.body is_core h)
+    (subst
+    (λ (p : Option core.World). EndsLike (ended (run w (full_steps i.body)) i.at (λ (v : World). runs v more)) (core.ended p i.at (λ (c : core.World). core.runs c more)))
     one.same
     (next_item i.at more (run w (full_steps i.body)) one.like
-    (λ (v : World) (l : Like v). items_run v more (All-tail IsCoreItem i more all) l))
+    (λ (v : World) (l : Like v). items_run v more (All-tail IsCoreItem i more all) l)))
 
 like_at_start : (page : Page) → Like (at_start page)
 like_at_start page = record {
@@ -324,7 +347,10 @@ like_at_start page = record {
   led = usual_led;
   no_extra = refl;
   no_ends = refl;
+  outside = refl;
+  chords = refl;
   few = omega arith;
+  few_places = omega arith;
 }
 
 pub runs_as_in_core : (page : Page) (items : List ItemShape) → All IsCoreItem items

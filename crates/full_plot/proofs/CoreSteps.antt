@@ -1,5 +1,5 @@
 -- Steps of core in the profile full, while all that it has besides is as core has it.
-use Rattle.std.proofs.Common.{◌≡◌, ◌∙◌, ◌≤◌, ap, sym, subst, refl, inl, inr, true, false, ℕ, ℤ, List, [], ◌∷◌, length, nat_lt, Option, Some, None}
+use Rattle.std.proofs.Common.{◌≡◌, ◌∙◌, ◌≤◌, ap, sym, subst, refl, inl, inr, Bool, true, false, ℕ, ℤ, List, [], ◌∷◌, length, nat_lt, Option, Some, None}
 use Rattle.std.specs.Prelude.{⊤}
 use Rattle.std.specs.List.{list_all}
 use Rattle.std.proofs.lemmas.Bool.{cases_Bool}
@@ -9,7 +9,7 @@ use Rattle.directions.specs.Directions.{turned, unit}
 use Rattle.directions.specs.Laws.{right}
 use Rattle.plot_frame.specs.declared.pair.Pair.{Pair}
 use Rattle.plot_page.specs.declared.page.Page.{Page}
-use Rattle.plot_settings.specs.Meanings.{Step, Move, Go, Edge, DrawCircle, DrawArc, Write}
+use Rattle.plot_settings.specs.Meanings.{Step, Touch, Move, Go, Edge, DrawCircle, DrawArc, Write}
 use Rattle.plot_settings.specs.declared.setting.Rotation.{Rotation}
 use Rattle.hpgl_plot.specs.declared.state.State.{State}
 use Rattle.hpgl_plot.specs.Paths.{path}
@@ -20,8 +20,11 @@ use Rattle.full_settings.specs.LineStyles.{Style, is_solid}
 use Rattle.full_settings.specs.Letters.{LetterStyle, usual_letters}
 use Rattle.full_settings.specs.declared.heading.Heading.TheVariants.{Absolute}
 use Rattle.full_plot.specs.Items.{as_core}
-use Rattle.full_plot.specs.Lines.{line_step}
-use Rattle.full_plot.specs.Machine.{core_step, run}
+use Rattle.polygons.specs.Buffers.{Contents}
+use Rattle.full_plot.specs.declared.area.Area.{Area}
+use Rattle.full_plot.specs.Lines.{line_step, lines_of}
+use Rattle.full_plot.specs.Machine.{core_step, marked, marked_in, moved, run, touched, touched_in}
+use Rattle.full_plot.specs.Polygons.{lined_by, lined_step, only_figure, with_buffer}
 use Rattle.full_plot.specs.Texts.{at_margin, label_by, marked_by, style_of, turn_by, with_margin, written}
 use Rattle.full_plot.specs.Worlds.{World, Writing, followed, with_core}
 use Rattle.full_plot.proofs.CoreLabels.{label_as_in_core, style_is}
@@ -43,7 +46,10 @@ pub record IsLikeCore (d : Rotation) (w : World) : Type 0 where
   pub led : IsLed d w.writing.letters
   pub no_extra : w.extra ≡ 0
   pub no_ends : w.ends ≡ []
+  pub outside : w.area.in_polygon ≡ false
+  pub chords : w.area.usual_chords ≡ false
   pub few : length w.core.kept ≤ 4194304
+  pub few_places : w.buffer.places ≤ 4194304
 
 -- what core has of a world
 abbrev pub core_of : Option World → Option core.World
@@ -62,17 +68,32 @@ core_margin w (Some c) q = refl
 solid_is : (w : World) (t : Step) → is_solid w.style.kind ≡ true → line_step w t ≡ with_core w (core.step w.core t)
 solid_is w t h = solid_line w t (shape_solid w.style.kind w.style.own _ h)
 
--- a move, after which no symbol is drawn
-core_move : (w : World) (o : Option core.World) → w.writing.symbol ≡ None
-    → core_of (followed (with_core w o) (λ (v : World). marked_by v.writing.symbol (at_margin v))) ≡ o
-core_move w None h = refl
-core_move w (Some c) h = ap (λ (s : Option ℕ). core_of (marked_by s (at_margin (record w { core = c })))) h
+-- out of polygon mode
+lined_is : (w : World) (t : Step) → is_solid w.style.kind ≡ true → w.area.in_polygon ≡ false → lined_step w t ≡ with_core w (core.step w.core t)
+lined_is w t h off = ap (λ (b : Bool). lined_by b w t) off ∙ solid_is w t h
 
-core_go : (w : World) (t : Step) → is_solid w.style.kind ≡ true → w.writing.symbol ≡ None
-    → core_of (followed (line_step w t) (λ (v : World). marked_by v.writing.symbol (at_margin v))) ≡ core.step w.core t
-core_go w t h k =
-    ap (λ (o : Option World). core_of (followed o (λ (v : World). marked_by v.writing.symbol (at_margin v)))) (solid_is w t h)
-    ∙ core_move w (core.step w.core t) k
+-- a move, after which no symbol is drawn
+core_move : (w : World) (o : Option core.World) → w.area.in_polygon ≡ false → w.writing.symbol ≡ None
+    → core_of (followed (with_core w o) (λ (v : World). marked (at_margin v))) ≡ o
+core_move w None off h = refl
+core_move w (Some c) off h =
+    let v : World = at_margin (record w { core = c }) in
+    ap (λ (b : Bool). core_of (marked_in b v)) off ∙ ap (λ (s : Option ℕ). core_of (marked_by s v)) h
+
+core_go : (w : World) (t : Step) → is_solid w.style.kind ≡ true → w.area.in_polygon ≡ false → w.writing.symbol ≡ None
+    → core_of (moved w t) ≡ core.step w.core t
+core_go w t h off k =
+    ap (λ (o : Option World). core_of (followed o (λ (v : World). marked (at_margin v)))) (lined_is w t h off)
+    ∙ core_move w (core.step w.core t) off k
+
+-- a dot
+core_touch : (w : World) → w.area.in_polygon ≡ false → core_of (touched w) ≡ core.step w.core Touch
+core_touch w off = ap (λ (b : Bool). core_of (touched_in b w)) off ∙ core_with w (core.step w.core Touch)
+
+-- the edge of a rectangle
+core_buffer : (b : Contents) (o : Option World) → core_of (with_buffer b o) ≡ core_of o
+core_buffer b None = refl
+core_buffer b (Some v) = refl
 
 core_arc : (w : World) (o : Option core.World) → core_of (followed (with_core w o) (λ (v : World). Some (at_margin v))) ≡ o
 core_arc w None = refl
@@ -93,14 +114,16 @@ IsShort (Write bytes) = nat_lt 4294967296 (length bytes) ≡ false
 IsShort _ = ⊤
 
 pub step_as_in_core : (w : World) (t : Step) → IsLikeCore w.core.state.direction w → IsShort t → core_of (core_step w t) ≡ core.step w.core t
-step_as_in_core w (Move x y) h short = core_go w (Move x y) h.solid h.no_symbol
-step_as_in_core w (Go relative x y) h short = core_go w (Go relative x y) h.solid h.no_symbol
+step_as_in_core w Touch h short = core_touch w h.outside
+step_as_in_core w (Move x y) h short = core_go w (Move x y) h.solid h.outside h.no_symbol
+step_as_in_core w (Go relative x y) h short = core_go w (Go relative x y) h.solid h.outside h.no_symbol
 step_as_in_core w (DrawArc relative a) h short =
-    ap (λ (o : Option World). core_of (followed o (λ (v : World). Some (at_margin v)))) (solid_is w (DrawArc relative a) h.solid)
+    ap (λ (o : Option World). core_of (followed o (λ (v : World). Some (at_margin v)))) (lined_is w (DrawArc relative a) h.solid h.outside)
     ∙ core_arc w (core.step w.core (DrawArc relative a))
 step_as_in_core w (Edge relative x y) h short =
-    ap core_of (solid_is w (Edge relative x y) h.solid) ∙ core_with w (core.step w.core (Edge relative x y))
-step_as_in_core w (DrawCircle c) h short = ap core_of (solid_is w (DrawCircle c) h.solid) ∙ core_with w (core.step w.core (DrawCircle c))
+    core_buffer (only_figure (lines_of w.core.page w.core.state (Edge relative x y))) (line_step w (Edge relative x y))
+    ∙ ap core_of (solid_is w (Edge relative x y) h.solid) ∙ core_with w (core.step w.core (Edge relative x y))
+step_as_in_core w (DrawCircle c) h short = ap core_of (lined_is w (DrawCircle c) h.solid h.outside) ∙ core_with w (core.step w.core (DrawCircle c))
 step_as_in_core w (Write bytes) h short = core_written w bytes h.led short
 step_as_in_core w t h short = core_with w (core.step w.core t)
 
@@ -114,7 +137,10 @@ like_next d w v h n = record {
   led = subst (λ (s : Writing). IsLed d s.letters) (sym n.writing_is) h.led;
   no_extra = n.extra_is ∙ h.no_extra;
   no_ends = n.ends_are ∙ h.no_ends;
+  outside = ap (λ (a : Area). a.in_polygon) n.area_is ∙ h.outside;
+  chords = ap (λ (a : Area). a.usual_chords) n.area_is ∙ h.chords;
   few = n.few h.few;
+  few_places = n.few_places h.outside h.few_places;
 }
 
 -- core's direction is d before a step, and r after it

@@ -1,5 +1,9 @@
 -- Lines that are drawn one after another, and the ends of their dashes.
-use Rattle.std.proofs.Common.{◌≡◌, ◌∙◌, ◌<◌, ◌+◌, ◌^◌, ℕ, suc, drop, drop-cons, get_or, length, Some, List, [], ◌∷◌, ◌++◌, refl, ap, sym, inl, inr, arith, pos, append-nil, Option}
+use Rattle.std.proofs.Common.{◌≡◌, ◌∙◌, ◌<◌, ◌+◌, ◌^◌, ℕ, suc, drop, drop-cons, get_or, length, Some, List, [], ◌∷◌, ◌++◌, refl, ap, sym, inl, inr, arith, pos, append-nil, map, Bool, true, false, Option}
+use Rattle.std.specs.Prelude.{if◌then◌else◌}
+use Rattle.std.proofs.lemmas.List.{map-append}
+use Rattle.polygons.specs.declared.edge.Edge.{Edge}
+use Rattle.full_plot.specs.Polygons.{drawn_edges, edge_line}
 use Rattle.std.proofs.lemmas.Bool.{cases_Bool}
 use Rattle.std.proofs.lemmas.Int.{ints}
 use Rattle.std.proofs.lemmas.Option.{same_Some}
@@ -80,3 +84,31 @@ one_drawn w v o ls i l h e k m =
 
 pub same_shape : (w v : World) (ls : List Segment) → Some (drawn w ls) ≡ Some v → shape_in v ≡ shape_in w
 same_shape w v ls k = sym (ap (λ (u : World). shape_in u) (same_Some _ _ k))
+
+-- some lines, and more of them
+drawn-append : (w : World) (ls ms : List Segment) → drawn w (ls ++ ms) ≡ drawn (drawn w ls) ms
+drawn-append w [] ms = sym (ap (λ (u : World). drawn u ms) (none_drawn w))
+drawn-append w (l ∷ ls) ms =
+    more_drawn w l (ls ++ ms) ∙ drawn-append (drawn w (l ∷ [])) ls ms ∙ sym (ap (λ (u : World). drawn u ms) (more_drawn w l ls))
+
+-- one edge, and the rest of them
+if_drawn : (is_drawn : Bool) (e : Edge) (rest : List Edge) → (if is_drawn then e ∷ rest else rest) ≡ (if is_drawn then e ∷ [] else []) ++ rest
+if_drawn true e rest = refl
+if_drawn false e rest = refl
+
+first_edge : (f : Edge → Segment) (e : Edge) (rest : List Edge) → map f (drawn_edges (e ∷ rest)) ≡ map f (drawn_edges (e ∷ [])) ++ map f (drawn_edges rest)
+first_edge f e rest = ap (λ (es : List Edge). map f es) (if_drawn e.is_drawn e (drawn_edges rest)) ∙ map-append f (drawn_edges (e ∷ [])) (drawn_edges rest)
+
+pub one_edge : (w v o : World) (s : State) (es : List Edge) (i : ℕ) (e : Edge) → i < length es → e ≡ get_or es i e → w.core.state ≡ s
+    → Some (drawn w (map (edge_line w.core.state) (drawn_edges (e ∷ [])))) ≡ Some v
+    → drawn w (map (edge_line s) (drawn_edges (drop i es))) ≡ o → drawn v (map (edge_line s) (drawn_edges (drop (i + 1) es))) ≡ o
+one_edge w v o s es i e h k same l m =
+    let next : suc i ≡ i + 1 = omega arith in
+    let rest : List Edge = drop (i + 1) es in
+    let cons : drop i es ≡ e ∷ rest = (rw next at (drop-cons es i e h)) ∙ ap (λ (x : Edge). x ∷ rest) (sym k) in
+    let first : v ≡ drawn w (map (edge_line s) (drawn_edges (e ∷ []))) =
+    sym (same_Some _ _ l) ∙ ap (λ (x : State). drawn w (map (edge_line x) (drawn_edges (e ∷ [])))) same in
+    ap (λ (u : World). drawn u (map (edge_line s) (drawn_edges rest))) first
+    ∙ sym (drawn-append w (map (edge_line s) (drawn_edges (e ∷ []))) (map (edge_line s) (drawn_edges rest)))
+    ∙ ap (λ (ls : List Segment). drawn w ls) (sym (first_edge (edge_line s) e rest))
+    ∙ sym (ap (λ (xs : List Edge). drawn w (map (edge_line s) (drawn_edges xs))) cons) ∙ m

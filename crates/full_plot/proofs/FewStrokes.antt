@@ -1,9 +1,10 @@
 -- No more strokes are kept than a plot may have.
 use Rattle.std.proofs.Common.{◌≡◌, ◌≤◌, ℕ, inl, inr, subst, arith, Bool, true, false, List, [], ◌∷◌, length, nat_lt, ℤ, Result, Ok, Err, Option, Some, None, ◌+◌}
 use Rattle.std.specs.Prelude.{if◌then◌else◌, ⊤}
+use Rattle.std.specs.List.{list_all}
 use Rattle.std.proofs.lemmas.Bool.{cases_Bool}
 use Rattle.plot_page.specs.declared.page.Page.{Page}
-use Rattle.plot_settings.specs.Meanings.{meaning, Set}
+use Rattle.plot_settings.specs.Meanings.{meaning, Edge, Set, Step}
 use Rattle.plot_settings.specs.declared.setting.Setting.{Setting}
 use Rattle.hpgl_text.specs.declared.instruction.Instruction.TheVariants.{PenWidth}
 use Rattle.hpgl_text.specs.Shapes.{ItemShape}
@@ -17,10 +18,22 @@ use Rattle.full_settings.specs.declared.width_setting.WidthSetting.{WidthSetting
 use Rattle.full_plot.specs.Items.{full_steps}
 use Rattle.full_plot.specs.Texts.{lettered, sets_margin}
 use Rattle.full_plot.specs.Worlds.{World, followed, with_core}
-use Rattle.full_plot.specs.Machine.{FullStep, Core, Style, Restyle, Restart, WidthBy, ColourBy, Widen, Rewiden, PointsBy, RangesBy, Letter, Mark, Keep, Print, Place, TickBy, Tick, ArcThrough, Curve, EndSheet}
-use Rattle.full_plot.specs.Machine.{step, run, pen_width_step, widened_if, then_rewidened, worked, then_worked, points_set}
+use Rattle.full_plot.specs.Machine.{FullStep, Core, Style, Restyle, Restart, WidthBy, ColourBy, Widen, Rewiden, PointsBy, RangesBy, Letter, Mark, Keep, Print, Place, TickBy, Tick, ArcThrough, Curve, PolygonBy, EdgeBuffer, FillBuffer, FillBy, AnchorBy, ChordsBy, Rectangle, WedgeEdge, WedgeFill, EndSheet}
+use Rattle.full_plot.specs.Machine.{anchored, step, run, pen_width_step, then_filled, widened_if, then_rewidened, points_set}
+use Rattle.full_plot.specs.Work.{worked, then_worked}
+use Rattle.full_plot.specs.Contexts.{context_of, read_in}
+use Rattle.full_plot.specs.Curves.{pen_at_point}
+use Rattle.full_plot.specs.Polygons.{kept_step}
+use Rattle.full_plot.specs.Wedges.{wedge_edged, wedge_kept, wedge_places}
+use Rattle.full_settings.specs.declared.polygon_setting.Anchor.{Anchor}
+use Rattle.full_settings.specs.declared.polygon_setting.Anchor.TheVariants.{PageOrigin, At}
+use Rattle.full_settings.specs.declared.polygon_setting.PolygonStep.TheVariants.{Begin, Close, End}
+use Rattle.full_settings.specs.declared.polygon_setting.Wedge.{Wedge}
+use Rattle.hpgl_plot.specs.Paths.{path}
+use Rattle.hpgl_plot.specs.Strokes.{are_in_range}
+use Rattle.full_plot.proofs.Filled.{edges_are_filled, is_filled}
 use Rattle.full_plot.specs.Drawings.{at_start, ended, is_too_much, runs}
-use Rattle.full_plot.proofs.Nexts.{NextIn, next_arc, next_core, next_core_step, next_curve, next_moved_on, next_run, next_set, next_ticked, next_written}
+use Rattle.full_plot.proofs.Nexts.{few_kept, NextIn, next_arc, next_core, next_core_step, next_curve, next_moved_on, next_run, next_set, next_ticked, next_written}
 
 abbrev Few : World → Type 0
 Few w = length w.core.kept ≤ 4194304
@@ -65,6 +78,35 @@ few_lettered s w h = elim (cases_Bool (sets_margin s)) [
   | inr i ↦ rw i h
 ]
 
+few_anchored : (w : World) (a : Anchor) → Few w → FewIn (anchored w a)
+few_anchored w PageOrigin h = h
+few_anchored w (At p) h = elim (cases_Bool (are_in_range ((pen_at_point w false p).place ∷ []))) [
+  | inl i ↦ rw i h
+  | inr i ↦ rw i tt
+]
+
+few_then_filled : (o : Option World) → FewIn o → FewIn (then_filled o)
+few_then_filled None h = tt
+few_then_filled (Some w) h = (is_filled false w).few h
+
+few_kept_step : (w : World) (t : Step) → Few w → FewIn (kept_step w t)
+few_kept_step w t h = elim (cases_Bool (list_all are_in_range (path w.core.page w.core.state t).lines)) [
+  | inl i ↦ rw i h
+  | inr i ↦ rw i tt
+]
+
+few_kept_wedge : (w : World) (wedge : Wedge) → Few w → FewIn (wedge_kept w wedge)
+few_kept_wedge w wedge h = elim (cases_Bool (are_in_range (wedge_places w.core.page w.core.state wedge))) [
+  | inl i ↦ rw i h
+  | inr i ↦ rw i tt
+]
+
+few_wedge : (w : World) (wedge : Wedge) → Few w → FewIn (wedge_edged w wedge)
+few_wedge w wedge h = elim (cases_Bool (are_in_range (wedge_places w.core.page w.core.state wedge))) [
+  | inl i ↦ rw i (few_kept w.core.kept w.core.full _ h)
+  | inr i ↦ rw i tt
+]
+
 few_by_step : (w : World) (s : FullStep) → Few w → FewIn (step w s)
 few_by_step w (Core t) h = few_by_next w (step w (Core t)) h (next_core_step w t)
 few_by_step w (WidthBy ns) h = few_by_width w w.percents ns h
@@ -87,6 +129,17 @@ few_by_step w (RangesBy r) h = h
 few_by_step w (Mark byte) h = h
 few_by_step w (Keep bytes) h = h
 few_by_step w (TickBy t) h = h
+few_by_step w (PolygonBy Begin) h = h
+few_by_step w (PolygonBy Close) h = h
+few_by_step w (PolygonBy End) h = h
+few_by_step w EdgeBuffer h = (edges_are_filled w).few h
+few_by_step w (FillBuffer by_winding) h = (is_filled by_winding w).few h
+few_by_step w (FillBy s) h = h
+few_by_step w (AnchorBy a) h = few_anchored w a h
+few_by_step w (ChordsBy usual) h = h
+few_by_step w (Rectangle relative c) h = few_then_filled (kept_step w (Edge relative c.x c.y)) (few_kept_step w (Edge relative c.x c.y) h)
+few_by_step w (WedgeEdge wedge) h = few_wedge w wedge h
+few_by_step w (WedgeFill wedge) h = few_then_filled (wedge_kept w wedge) (few_kept_wedge w wedge h)
 few_by_step w EndSheet h = h
 
 few_next : (o : Option World) (ss : List FullStep) → FewIn o
@@ -110,7 +163,8 @@ few_ended (Some v) at more h go = few_judged (is_too_much v) (fault.TooManyStrok
 few_by_items : (items : List ItemShape) (w : World) → Few w → FewAfter (runs w items)
 few_by_items [] w h = h
 few_by_items (i ∷ more) w h =
-    few_ended (run w (full_steps i.body)) i.at more (few_by_steps (full_steps i.body) w h)
+    let steps : List FullStep = full_steps (read_in (context_of w) i.body) in
+    few_ended (run w steps) i.at more (few_by_steps steps w h)
     (λ (v : World) (k : Few v). few_by_items more v k)
 
 pub few_strokes : (page : Page) (items : List ItemShape) (v : World) → runs (at_start page) items ≡ Ok v → length v.core.kept ≤ 4194304

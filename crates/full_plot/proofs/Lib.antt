@@ -10,6 +10,10 @@ pub mod FullRuns
 pub mod LinesOver
 pub mod LabelSteps
 pub mod Nexts
+pub mod Traces
+pub mod Filled
+pub mod Aside
+pub mod Wedged
 pub mod FewStrokes
 pub mod FewNotes
 pub mod Told

@@ -1,6 +1,5 @@
 -- The lines from the pen over places, as core draws them on no strokes, by a pen that draws.
-use Rattle.std.proofs.Common.{◌≡◌, ◌∙◌, ◌≤◌, ◌+◌, ℕ, Bool, true, false, List, [], ◌∷◌, length, refl, sym, ap, subst, inl, inr, arith, Option, Some, None, Result, Ok, Err}
-use Rattle.std.specs.Prelude.{if◌then◌else◌}
+use Rattle.std.proofs.Common.{◌≡◌, ◌∙◌, ◌≤◌, ◌<◌, ◌+◌, ◌&&◌, ℕ, zero, suc, Bool, true, false, true≢false, slice_index_or, List, [], ◌∷◌, length, refl, sym, ap, subst, inl, inr, arith, Option, Some, None, Result, Ok, Err}
 use Rattle.std.specs.Bool.{⊤}
 use Rattle.std.specs.Result.{IsErrAnd}
 use Rattle.std.proofs.lemmas.Bool.{cases_Bool}
@@ -9,14 +8,13 @@ use Rattle.std.proofs.lemmas.List.FromFn.{length-map-range_with_len}
 use Rattle.std.proofs.lemmas.Option.{none-some, same_Some}
 use Rattle.exact.specs.declared.spot.Spot.{Spot}
 use Rattle.line_types.specs.LineTypes.{Solid}
-use Rattle.plot_page.specs.declared.page.Page.{Page}
 use Rattle.plot_page.specs.Segments.{Segment}
 use Rattle.hpgl_plot.specs.declared.plotter.Stop.{Stop}
 use Rattle.hpgl_plot.specs.declared.plotter.Stop.TheVariants.{Memory, OffRange}
 use Rattle.hpgl_plot.specs.declared.state.Position.{Position}
 use Rattle.hpgl_plot.specs.declared.state.State.{State}
 use Rattle.hpgl_plot.specs.Bounds.{IsInRange}
-use Rattle.hpgl_plot.specs.Strokes.{are_in_range, is_in_range, joined}
+use Rattle.hpgl_plot.specs.Strokes.{are_in_range, is_in_range}
 use Rattle.hpgl_plot.specs.Machine.{with_strokes}
 use Rattle.hpgl_plot.specs.Machine as core
 use Rattle.hpgl_plot.proofs.Fed.{within}
@@ -26,7 +24,7 @@ use Rattle.curves.proofs.ArcLaws.{arcs_end_at_last_lem}
 use Rattle.full_settings.specs.declared.points.ArcPoints.{ArcPoints}
 use Rattle.full_settings.specs.declared.points.CurvePoints.{CurvePoints}
 use Rattle.full_settings.specs.LineStyles.{is_solid}
-use Rattle.full_plot.specs.Curves.{arc_step, curve_step, gone_over, if_in_range, lined, lines_over, pen_at_point}
+use Rattle.full_plot.specs.Curves.{arc_step, curve_step, drawn_over, gone_over, if_in_range, lined, lined_in, lines_over, pen_at_point, traced_over}
 use Rattle.full_plot.specs.Holding.{cleared, restored}
 use Rattle.full_plot.specs.Lines.{drawn, shape_in, with_a_pen}
 use Rattle.full_plot.specs.Machine.{Runs}
@@ -37,7 +35,7 @@ use Rattle.full_plot.proofs.Solid.{run_solid, solid_joined}
 
 -- in solid lines they are core's
 pub solid_lined : (w : World) (places : List Spot) → shape_in w ≡ Solid
-    → lined w places ≡ with_core w (core.travelled w.core w.core.state.is_down (w.core.state.place ∷ places))
+    → drawn_over w places ≡ with_core w (core.travelled w.core w.core.state.is_down (w.core.state.place ∷ places))
 solid_lined w places h =
     let s = w.core.state in
     let l = s.place ∷ places in
@@ -47,7 +45,7 @@ solid_lined w places h =
     ]
 
 pub solid_over : {U : Type 0} (w : World) (places : List Spot) (v : core.World) (r : Result U Stop) → is_solid w.style.kind ≡ true
-    → core.Runs (core.travelled w.core w.core.state.is_down (w.core.state.place ∷ places)) v r → Runs (lined w places) (record w { core = v }) r
+    → core.Runs (core.travelled w.core w.core.state.is_down (w.core.state.place ∷ places)) v r → Runs (drawn_over w places) (record w { core = v }) r
 solid_over w places v r h k =
     rw (solid_lined w places (shape_solid w.style.kind w.style.own _ h)) (with_runs w _ v r k)
 
@@ -61,7 +59,7 @@ over_few s places = elim (cases_Bool s.is_down) [
 -- what core drew, in the line type
 pub lined_runs : (w : World) (places : List Spot) (v : core.World) → length places ≤ 256
     → core.travelled (cleared w) w.core.state.is_down (w.core.state.place ∷ places) ≡ Some v
-    → lined w places ≡ Some (drawn (restored w v) v.kept)
+    → drawn_over w places ≡ Some (drawn (restored w v) v.kept)
 lined_runs w places v h k =
     let s = w.core.state in
     let lines = lines_over s places in
@@ -69,14 +67,14 @@ lined_runs w places v h k =
     elim (cases_Bool (are_in_range (s.place ∷ places))) [
       | inl i ↦ (let v_is : u ≡ v = same_Some _ _ (rw i at k) in
           let kept_is : u.kept ≡ lines = few_kept [] lines (omega (arith, over_few s places, h)) in
-          let same : lined w places ≡ Some (drawn (restored w u) lines) = rw i refl in
-          subst (λ (x : core.World). lined w places ≡ Some (drawn (restored w x) x.kept)) v_is
-          (subst (λ (ls : List Segment). lined w places ≡ Some (drawn (restored w u) ls)) (sym kept_is) same))
+          let same : drawn_over w places ≡ Some (drawn (restored w u) lines) = rw i refl in
+          subst (λ (x : core.World). drawn_over w places ≡ Some (drawn (restored w x) x.kept)) v_is
+          (subst (λ (ls : List Segment). drawn_over w places ≡ Some (drawn (restored w u) ls)) (sym kept_is) same))
       | inr i ↦ absurd (none-some v (rw i at k))
     ]
 
 pub lined_out : (w : World) (places : List Spot) → core.travelled (cleared w) w.core.state.is_down (w.core.state.place ∷ places) ≡ None
-    → lined w places ≡ None
+    → drawn_over w places ≡ None
 lined_out w places k = elim (cases_Bool (are_in_range (w.core.state.place ∷ places))) [
   | inl i ↦ absurd (none-some _ (sym (rw i at k)))
   | inr i ↦ rw i refl
@@ -87,12 +85,26 @@ pub record Keeps (w v : World) : Type 0 where
   pub page_is : v.core.page ≡ w.core.page
   pub state_is : v.core.state ≡ w.core.state
 
-pub lined_keeps : (w v : World) (places : List Spot) → lined w places ≡ Some v → Keeps w v
-lined_keeps w v places k = elim (cases_Bool (are_in_range (w.core.state.place ∷ places))) [
+drawn_keeps : (w v : World) (places : List Spot) → drawn_over w places ≡ Some v → Keeps w v
+drawn_keeps w v places k = elim (cases_Bool (are_in_range (w.core.state.place ∷ places))) [
   | inl i ↦ (let same = same_Some _ _ (rw i at k) in
       record { page_is = sym (ap (λ (x : World). x.core.page) same); state_is = sym (ap (λ (x : World). x.core.state) same) })
   | inr i ↦ absurd (none-some v (rw i at k))
 ]
+
+traced_keeps : (w v : World) (places : List Spot) → traced_over w places ≡ Some v → Keeps w v
+traced_keeps w v places k = elim (cases_Bool (are_in_range (w.core.state.place ∷ places))) [
+  | inl i ↦ (let same = same_Some _ _ (rw i at k) in
+      record { page_is = sym (ap (λ (x : World). x.core.page) same); state_is = sym (ap (λ (x : World). x.core.state) same) })
+  | inr i ↦ absurd (none-some v (rw i at k))
+]
+
+lined_keeps_in : (on : Bool) (w v : World) (places : List Spot) → lined_in on w places ≡ Some v → Keeps w v
+lined_keeps_in true w v places k = traced_keeps w v places k
+lined_keeps_in false w v places k = drawn_keeps w v places k
+
+pub lined_keeps : (w v : World) (places : List Spot) → lined w places ≡ Some v → Keeps w v
+lined_keeps w v places k = lined_keeps_in w.area.in_polygon w v places k
 
 -- a place out of range
 pub out_of_range : (w : World) (q : Spot) → core.travelled w.core true (q ∷ []) ≡ None → if_in_range (q ∷ []) (Some w) ≡ None
@@ -155,3 +167,29 @@ curve_runs w v relative c f s e places r f_is s_is e_is i j k p h =
     let all : curve f s e ≡ curve_step w relative c =
     ap (λ (x : Position). curve x s e) f_is ∙ ap (λ (y : Position). curve first y e) s_is ∙ ap (λ (z : Position). curve first second z) e_is in
     subst (λ (o : Option World). Runs o v r) (same ∙ all) h
+
+-- in polygon mode
+pub traced_over_out : (w : World) (places : List Spot) → core.travelled w.core false (w.core.state.place ∷ places) ≡ None → traced_over w places ≡ None
+traced_over_out w places k = elim (cases_Bool (are_in_range (w.core.state.place ∷ places))) [
+  | inl i ↦ absurd (none-some _ (sym (rw i at k)))
+  | inr i ↦ rw i refl
+]
+
+in_range_of : (q : Spot) → is_in_range q ≡ true → IsInRange q
+in_range_of q h = record { x_in = grind (arith, nat_tests); y_in = grind (arith, nat_tests) }
+
+both_of : (a b : Bool) → (a && b) ≡ true → (a ≡ true) × (b ≡ true)
+both_of true b h = (refl, h)
+both_of false b h = absurd (true≢false (sym h))
+
+places_in_range : (ps : List Spot) → are_in_range ps ≡ true → (k : ℕ) (d : Spot) → k < length ps → IsInRange (slice_index_or ps k d)
+places_in_range [] h k d l = absurd (omega arith)
+places_in_range (q ∷ qs) h zero d l = in_range_of q (both_of (is_in_range q) (are_in_range qs) h).0
+places_in_range (q ∷ qs) h (suc k) d l = places_in_range qs (both_of (is_in_range q) (are_in_range qs) h).1 k d (omega arith)
+
+pub travelled_in_range : (w v : core.World) (places : List Spot) → core.travelled w false (w.state.place ∷ places) ≡ Some v
+    → (k : ℕ) (d : Spot) → k < length places → IsInRange (slice_index_or places k d)
+travelled_in_range w v places k = elim (cases_Bool (are_in_range (w.state.place ∷ places))) [
+  | inl i ↦ places_in_range places (both_of (is_in_range w.state.place) (are_in_range places) i).1
+  | inr i ↦ absurd (none-some v (rw i at k))
+]

@@ -1,12 +1,12 @@
 -- What steps of core leave alone in the profile full: all but core, the run, the margin, and how many strokes there are.
-use Rattle.std.proofs.Common.{◌≡◌, ◌∙◌, ◌<◌, ◌≤◌, ℕ, inl, inr, refl, arith, Bool, true, List, [], ◌∷◌, ◌++◌, length, map, nat_lt, pos, neg_ℤ, Option, Some, None, length-append}
+use Rattle.std.proofs.Common.{◌≡◌, ◌∙◌, ◌<◌, ◌≤◌, ℕ, inl, inr, refl, arith, Bool, true, false, true≢false, sym, ap, max, List, [], ◌∷◌, ◌++◌, length, map, nat_eq, nat_lt, pos, neg_ℤ, Option, Some, None, length-append, ℤ}
 use Rattle.std.specs.Prelude.{⊤}
 use Rattle.std.specs.List.{list_all}
 use Rattle.std.proofs.lemmas.Bool.{cases_Bool}
 use Rattle.std.proofs.lemmas.Bool.Decides.{nat_tests}
 use Rattle.exact.specs.declared.spot.Spot.{Spot}
 use Rattle.plot_page.specs.Segments.{Segment}
-use Rattle.plot_settings.specs.Meanings.{Step, Set, Move, Go, Edge, DrawCircle, DrawArc, Write}
+use Rattle.plot_settings.specs.Meanings.{Step, Set, Touch, Move, Go, Edge, DrawCircle, DrawArc, Write}
 use Rattle.plot_settings.specs.declared.setting.Setting.{Setting}
 use Rattle.hpgl_plot.specs.declared.state.Position.{Position}
 use Rattle.hpgl_plot.specs.declared.state.State.{State}
@@ -25,9 +25,12 @@ use Rattle.full_settings.specs.declared.points.ArcPoints.{ArcPoints}
 use Rattle.full_settings.specs.declared.points.CurvePoints.{CurvePoints}
 use Rattle.curves.specs.Arcs.{arc_places}
 use Rattle.curves.specs.Beziers.{bezier_places}
-use Rattle.full_plot.specs.Curves.{arc_step, arrived, curve_step, gone_over, if_in_range, lined, pen_at_point}
-use Rattle.full_plot.specs.Lines.{line_step}
-use Rattle.full_plot.specs.Machine.{core_step, set_if}
+use Rattle.full_plot.specs.declared.area.Area.{Area}
+use Rattle.full_plot.specs.Curves.{arc_step, arrived, curve_step, drawn_over, gone_over, if_in_range, lined, lined_in, pen_at_point, traced_over}
+use Rattle.polygons.specs.Buffers.{Contents}
+use Rattle.full_plot.specs.Lines.{line_step, lines_of}
+use Rattle.full_plot.specs.Machine.{core_step, marked, marked_in, moved, set_if, touched_in}
+use Rattle.full_plot.specs.Polygons.{lined_by, lined_step, only_figure, trace_step, with_buffer}
 use Rattle.full_plot.specs.Texts.{at_margin, inked_at_pen, label_by, line_at, margin_by, marked_by, moved_by, moved_on, put, style_of, tick_distance, tick_end, ticked, with_margin, written}
 use Rattle.full_plot.specs.Worlds.{World, followed, with_core}
 
@@ -36,7 +39,7 @@ abbrev pub FewIn : core.World → Option core.World → Type 0
 FewIn c None = ⊤
 FewIn c (Some d) = length c.kept ≤ 4194304 → length d.kept ≤ 4194304
 
-few_kept : (kept : List Segment) (full : Bool) (ss : List Segment) → length kept ≤ 4194304 → length (core.kept_with kept full ss) ≤ 4194304
+pub few_kept : (kept : List Segment) (full : Bool) (ss : List Segment) → length kept ≤ 4194304 → length (core.kept_with kept full ss) ≤ 4194304
 few_kept kept full [] h = h
 few_kept kept full (s ∷ ss) h = elim (cases_Bool (nat_lt (length kept) 4194304)) [
   | inl t ↦ (let room : length kept < 4194304 = grind (arith, nat_tests) in
@@ -107,7 +110,9 @@ pub record IsNext (w v : World) : Type 0 where
   pub ranges_are : v.ranges ≡ w.ranges
   pub extra_is : v.extra ≡ w.extra
   pub ends_are : v.ends ≡ w.ends
+  pub area_is : v.area ≡ w.area
   pub few : length w.core.kept ≤ 4194304 → length v.core.kept ≤ 4194304
+  pub few_places : w.area.in_polygon ≡ false → w.buffer.places ≤ 4194304 → v.buffer.places ≤ 4194304
 
 abbrev pub NextIn : World → Option World → Type 0
 NextIn w None = ⊤
@@ -121,7 +126,9 @@ next_same w = record {
   ranges_are = refl;
   extra_is = refl;
   ends_are = refl;
+  area_is = refl;
   few = λ h. h;
+  few_places = λ a h. h;
 }
 
 pub next_of_next : (w v u : World) → IsNext w v → IsNext v u → IsNext w u
@@ -132,7 +139,9 @@ next_of_next w v u h k = record {
   ranges_are = k.ranges_are ∙ h.ranges_are;
   extra_is = k.extra_is ∙ h.extra_is;
   ends_are = k.ends_are ∙ h.ends_are;
+  area_is = k.area_is ∙ h.area_is;
   few = λ few. k.few (h.few few);
+  few_places = λ a few. k.few_places (ap (λ (x : Area). x.in_polygon) h.area_is ∙ a) (h.few_places a few);
 }
 
 next_past : (w v : World) (o : Option World) → IsNext w v → NextIn v o → NextIn w o
@@ -152,7 +161,24 @@ next_by w c r q h = record {
   ranges_are = refl;
   extra_is = refl;
   ends_are = refl;
+  area_is = refl;
   few = h;
+  few_places = λ a k. k;
+}
+
+-- with another buffer
+next_with_buffer : (w : World) (c : core.World) (b : Contents) → (length w.core.kept ≤ 4194304 → length c.kept ≤ 4194304)
+    → (w.area.in_polygon ≡ false → w.buffer.places ≤ 4194304 → b.places ≤ 4194304) → IsNext w (record w { core = c; buffer = b })
+next_with_buffer w c b h k = record {
+  style_is = refl;
+  percents_are = refl;
+  writing_is = refl;
+  ranges_are = refl;
+  extra_is = refl;
+  ends_are = refl;
+  area_is = refl;
+  few = h;
+  few_places = k;
 }
 
 next_with_core : (w : World) (o : Option core.World) → FewIn w.core o → NextIn w (with_core w o)
@@ -182,6 +208,30 @@ next_at_margin w = next_by w w.core w.run w.core.state.place (λ h. h)
 next_margin : (w : World) (q : Spot) (o : Option World) → NextIn w o → NextIn w (with_margin q o)
 next_margin w q None h = tt
 next_margin w q (Some v) h = next_of_next w v (record v { margin = q }) h (next_by v v.core v.run q (λ few. few))
+
+next_traced : (w : World) (t : Step) → w.area.in_polygon ≡ true → NextIn w (trace_step w t)
+unfolding trace_step
+next_traced w t on = elim (cases_Bool (list_all are_in_range (path w.core.page w.core.state t).lines)) [
+  | inl i ↦ rw i (next_with_buffer w _ _ (λ h. h) (λ off few. absurd (true≢false (sym on ∙ off))))
+  | inr i ↦ rw i tt
+]
+
+next_lined_by : (on : Bool) (w : World) (t : Step) → w.area.in_polygon ≡ on → NextIn w (lined_by on w t)
+next_lined_by true w t e = next_traced w t e
+next_lined_by false w t e = next_line w t
+
+next_lined_step : (w : World) (t : Step) → NextIn w (lined_step w t)
+next_lined_step w t = next_lined_by w.area.in_polygon w t refl
+
+-- the edge of a rectangle has five places
+edge_places : (w : World) (relative : Bool) (x y : ℤ) → (only_figure (lines_of w.core.page w.core.state (Edge relative x y))).places ≤ 4194304
+edge_places w relative x y =
+    let e : nat_eq (max 1 w.core.state.pen) 0 ≡ false = grind (arith, nat_tests) in
+    rw e (omega arith)
+
+next_kept_buffer : (w : World) (b : Contents) (o : Option World) → b.places ≤ 4194304 → NextIn w o → NextIn w (with_buffer b o)
+next_kept_buffer w b None few h = tt
+next_kept_buffer w b (Some v) few h = next_of_next w v (record v { buffer = b }) h (next_with_buffer v v.core b (λ k. k) (λ a k. few))
 
 next_marked : (w : World) (symbol : Option ℕ) → NextIn w (marked_by symbol w)
 next_marked w None = next_same w
@@ -214,28 +264,52 @@ next_ticked w is_upright =
     let strokes : List (Spot × Spot) = (end (neg_ℤ (part w.writing.ticks.down)), end (part w.writing.ticks.up)) ∷ [] in
     next_with_core w (inked_at_pen w.core strokes) (few_inked w.core strokes)
 
+next_symbol : (on : Bool) (w : World) → NextIn w (marked_in on w)
+next_symbol true w = next_same w
+next_symbol false w = next_marked w w.writing.symbol
+
+next_touched : (on : Bool) (w : World) → NextIn w (touched_in on w)
+next_touched true w = next_same w
+next_touched false w = next_core w Touch
+
 -- a move, after which the symbol is drawn
-next_go : (w : World) (t : Step) → NextIn w (followed (line_step w t) (λ (v : World). marked_by v.writing.symbol (at_margin v)))
+next_go : (w : World) (t : Step) → NextIn w (moved w t)
 next_go w t =
-    next_then w (line_step w t) (λ (v : World). marked_by v.writing.symbol (at_margin v)) (next_line w t)
-    (λ (v : World). next_past v (at_margin v) (marked_by v.writing.symbol (at_margin v)) (next_at_margin v) (next_marked (at_margin v) v.writing.symbol))
+    next_then w (lined_step w t) (λ (v : World). marked (at_margin v)) (next_lined_step w t)
+    (λ (v : World). next_past v (at_margin v) (marked (at_margin v)) (next_at_margin v) (next_symbol v.area.in_polygon (at_margin v)))
 
 pub next_core_step : (w : World) (t : Step) → NextIn w (core_step w t)
 next_core_step w (Move x y) = next_go w (Move x y)
 next_core_step w (Go relative x y) = next_go w (Go relative x y)
+next_core_step w Touch = next_touched w.area.in_polygon w
 next_core_step w (DrawArc relative a) =
-    next_then w (line_step w (DrawArc relative a)) (λ (v : World). Some (at_margin v)) (next_line w (DrawArc relative a)) next_at_margin
-next_core_step w (Edge relative x y) = next_line w (Edge relative x y)
-next_core_step w (DrawCircle c) = next_line w (DrawCircle c)
+    next_then w (lined_step w (DrawArc relative a)) (λ (v : World). Some (at_margin v)) (next_lined_step w (DrawArc relative a)) next_at_margin
+next_core_step w (Edge relative x y) =
+    next_kept_buffer w (only_figure (lines_of w.core.page w.core.state (Edge relative x y))) (line_step w (Edge relative x y))
+    (edge_places w relative x y) (next_line w (Edge relative x y))
+next_core_step w (DrawCircle c) = next_lined_step w (DrawCircle c)
 next_core_step w (Write bytes) = next_written w bytes
 next_core_step w t = next_core w t
 
 -- a curve
-next_lined : (w : World) (places : List Spot) → NextIn w (lined w places)
-next_lined w places = elim (cases_Bool (are_in_range (w.core.state.place ∷ places))) [
+next_drawn_over : (w : World) (places : List Spot) → NextIn w (drawn_over w places)
+next_drawn_over w places = elim (cases_Bool (are_in_range (w.core.state.place ∷ places))) [
   | inl i ↦ rw i (next_by w _ _ w.margin (λ h. few_kept w.core.kept w.core.full _ h))
   | inr i ↦ rw i tt
 ]
+
+next_traced_over : (w : World) (places : List Spot) → w.area.in_polygon ≡ true → NextIn w (traced_over w places)
+next_traced_over w places on = elim (cases_Bool (are_in_range (w.core.state.place ∷ places))) [
+  | inl i ↦ rw i (next_with_buffer w w.core _ (λ h. h) (λ off few. absurd (true≢false (sym on ∙ off))))
+  | inr i ↦ rw i tt
+]
+
+next_lined_in : (on : Bool) (w : World) (places : List Spot) → w.area.in_polygon ≡ on → NextIn w (lined_in on w places)
+next_lined_in true w places e = next_traced_over w places e
+next_lined_in false w places e = next_drawn_over w places
+
+next_lined : (w : World) (places : List Spot) → NextIn w (lined w places)
+next_lined w places = next_lined_in w.area.in_polygon w places refl
 
 next_over : (w : World) (places : List Spot) (end : Position) → NextIn w (gone_over w places end)
 next_over w places end =

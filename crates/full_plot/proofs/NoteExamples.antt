@@ -46,8 +46,19 @@ sheets = refl
 without_effect : noted (codes "PS1;COa x;NP8;") ≡ []
 without_effect = refl
 
-not_drawn : noted (codes "PM;SM*;BLx") ≡ note 0 (codes "PM") Skipped ∷ []
+not_drawn : noted (codes "UC;SM*;BLx;") ≡ note 0 (codes "UC") Skipped ∷ []
 not_drawn = refl
+
+-- patterns of FT
+patterns : noted (codes "FT21;FT3,-1;FT10,101;FT1;") ≡ note 0 (codes "FT") Skipped ∷ note 5 (codes "FT") Bad ∷ note 12 (codes "FT") Bad ∷ []
+patterns = refl
+
+-- polygon mode, and chords that are not read
+in_polygons : noted (codes "PM2;PM0;EA1,1;PM1;FP;PM2;EP;PM1;") ≡ note 0 (codes "PM") Bad ∷ note 8 (codes "EA") Bad ∷ note 18 (codes "FP") Bad ∷ note 28 (codes "PM") Bad ∷ []
+in_polygons = refl
+
+chords : noted (codes "CI1,0;CT1;CI1,0;AT1,2,3,4,0;CT;EW1,2,3,0;") ≡ note 0 (codes "CI") Bad ∷ note 31 (codes "EW") Bad ∷ []
+chords = refl
 
 -- as in core
 skipped_and_bad : noted (codes "ZZ;PA1;") ≡ note 0 (codes "ZZ") Skipped ∷ note 3 (codes "PA") Bad ∷ []

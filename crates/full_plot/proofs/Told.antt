@@ -1,12 +1,13 @@
 -- The context of notes: they are told what the plot sets.
 use Rattle.std.proofs.Common.{◌≡◌, ◌∙◌, refl, ap, ap₂, sym, inl, inr, subst, Bool, true, false, ℕ, ◌+◌, ℤ, List, [], ◌∷◌, ◌++◌, length, nat_lt, Option, Some, None, Result, Ok, Err}
 use Rattle.std.specs.Prelude.{if◌then◌else◌, map, nat_abs, ◌&&◌, ⊤}
+use Rattle.std.specs.List.{list_all}
 use Rattle.std.specs.Option.{is_some}
 use Rattle.std.proofs.lemmas.Bool.{cases_Bool}
 use Rattle.hpgl_text.specs.Shapes.{ItemShape, BodyShape, Params, Further, Label, Coded, Terminator, Kept, Symbol, Known, Skipped, Bad, Stray}
 use Rattle.hpgl_text.specs.declared.instruction.Instruction.{Instruction}
 use Rattle.hpgl_text.specs.declared.instruction.Instruction.TheVariants.{PenWidth, PenColour, CharacterSize, Direction}
-use Rattle.plot_settings.specs.Meanings.{Step, Set, meaning, entry_steps}
+use Rattle.plot_settings.specs.Meanings.{Step, Edge, Set, meaning, entry_steps}
 use Rattle.plot_settings.specs.Parameters.{whole_of, when, is_byte, is_percent}
 use Rattle.plot_settings.specs.declared.setting.Setting.{Setting}
 use Rattle.hpgl_plot.specs.declared.fault.PlotFault.{PlotFault}
@@ -28,10 +29,25 @@ use Rattle.full_settings.specs.Widths.{percents_set}
 use Rattle.full_plot.specs.Items.{as_core, letters_steps, more_steps, request_steps, params_steps, full_steps}
 use Rattle.full_plot.specs.Texts.{lettered, sets_margin}
 use Rattle.full_plot.specs.Worlds.{World, followed, with_core}
-use Rattle.full_plot.specs.Machine.{FullStep, Core, Style, Restyle, Restart, WidthBy, ColourBy, Widen, Rewiden, PointsBy, RangesBy, Letter, Mark, Keep, Print, Place, TickBy, Tick, ArcThrough, Curve, EndSheet}
-use Rattle.full_plot.specs.Machine.{step, run, pen_width_step, points_set, then_rewidened, then_worked, widened, widened_if, worked}
+use Rattle.full_plot.specs.Machine.{FullStep, Core, Style, Restyle, Restart, WidthBy, ColourBy, Widen, Rewiden, PointsBy, RangesBy, Letter, Mark, Keep, Print, Place, TickBy, Tick, ArcThrough, Curve, PolygonBy, EdgeBuffer, FillBuffer, FillBy, AnchorBy, ChordsBy, Rectangle, WedgeEdge, WedgeFill, EndSheet}
+use Rattle.full_plot.specs.Machine.{anchored, step, run, pen_width_step, points_set, then_filled, then_rewidened, widened, widened_if}
+use Rattle.full_plot.specs.Work.{then_worked, worked}
+use Rattle.full_plot.specs.declared.area.Area.{Area}
+use Rattle.full_plot.specs.Curves.{pen_at_point}
+use Rattle.full_plot.specs.Fills.{filled}
+use Rattle.full_plot.specs.Polygons.{edges_drawn, kept_step}
+use Rattle.full_plot.specs.Wedges.{wedge_edged, wedge_kept, wedge_places}
+use Rattle.full_settings.specs.declared.polygon_setting.Anchor.{Anchor}
+use Rattle.full_settings.specs.declared.polygon_setting.Anchor.TheVariants.{PageOrigin, At}
+use Rattle.full_settings.specs.declared.polygon_setting.PolygonStep.{PolygonStep}
+use Rattle.full_settings.specs.declared.polygon_setting.PolygonStep.TheVariants.{Begin, Close, End}
+use Rattle.full_settings.specs.declared.polygon_setting.Wedge.{Wedge}
+use Rattle.hpgl_plot.specs.Paths.{path}
+use Rattle.hpgl_plot.specs.Strokes.{are_in_range}
+use Rattle.full_plot.proofs.Filled.{edges_are_filled, is_filled, IsFilled}
 use Rattle.full_plot.specs.Drawings.{ended, is_too_much, runs, CarriesOut}
-use Rattle.full_plot.specs.Notes.{Context, context_after, context_of, first_context, params_after, request_after, unit_after}
+use Rattle.full_plot.specs.Contexts.{Context, context_of, first_context, read_in}
+use Rattle.full_plot.specs.Notes.{after_body, context_after, is_on_after, params_after, request_after, unit_after}
 use Rattle.full_plot.proofs.Nexts.{NextIn, next_arc, next_core, next_core_step, next_curve, next_moved_on, next_run, next_set, next_ticked, next_written}
 
 -- unless there is a refusal, this is the context
@@ -43,39 +59,51 @@ Leaves c (Some v) = context_of v ≡ c
 abbrev context_by : Context → FullStep → Context
 context_by c (Widen s) = record c { in_percent = unit_after c.in_percent s }
 context_by c (RangesBy r) = record c { ranges = r }
+context_by c Restyle = record c { in_polygon = false; usual_chords = false }
 context_by c Restart = first_context
+context_by c (PolygonBy p) = record c { in_polygon = is_on_after p c.in_polygon }
+context_by c (ChordsBy usual) = record c { usual_chords = usual }
 context_by c _ = c
 
 abbrev contexts_by : Context → List FullStep → Context
 contexts_by c [] = c
 contexts_by c (s ∷ ss) = contexts_by (context_by c s) ss
 
-abbrev context : Bool → ColourRanges → Context
-context in_percent ranges = record { in_percent = in_percent; ranges = ranges }
+abbrev context : Bool → ColourRanges → Area → Context
+context in_percent ranges area =
+    record { in_percent = in_percent; ranges = ranges; in_polygon = area.in_polygon; usual_chords = area.usual_chords }
+
+same_context : (w v : World) → v.percents ≡ w.percents → v.ranges ≡ w.ranges → v.area ≡ w.area → context_of v ≡ context_of w
+same_context w v p r a =
+    ap₂ (λ (x : Option (List (Option ℕ))) (y : ColourRanges). context (is_some x) y v.area) p r
+    ∙ ap (λ (z : Area). context (is_some w.percents) w.ranges z) a
 
 by_next : (w : World) (o : Option World) → NextIn w o → Leaves (context_of w) o
 by_next w None n = tt
-by_next w (Some v) n = ap₂ (λ (p : Option (List (Option ℕ))) (r : ColourRanges). context (is_some p) r) n.percents_are n.ranges_are
+by_next w (Some v) n = same_context w v n.percents_are n.ranges_are n.area_is
+
+by_fill : (w v : World) → IsFilled w v → context_of v ≡ context_of w
+by_fill w v f = same_context w v f.percents_are f.ranges_are f.area_is
 
 -- another percentage of a pen changes nothing in whether widths are in percent
 set_keeps : (percents : Option (List (Option ℕ))) (pen : ℕ) (percent : Option ℕ) → is_some (percents_set percents pen percent) ≡ is_some percents
 set_keeps None pen percent = refl
 set_keeps (Some percents) pen percent = refl
 
-by_widths : (w : World) (s : WidthSetting) → context_of (widened s w) ≡ context (unit_after (is_some w.percents) s) w.ranges
+by_widths : (w : World) (s : WidthSetting) → context_of (widened s w) ≡ context (unit_after (is_some w.percents) s) w.ranges w.area
 by_widths w Millimetres = refl
 by_widths w (PercentOfAll p) = refl
-by_widths w (Percent pen p) = ap (λ (b : Bool). context b w.ranges) (set_keeps w.percents pen (Some p))
-by_widths w (Thickness grains) = ap (λ (b : Bool). context b w.ranges) (set_keeps w.percents w.core.state.pen None)
+by_widths w (Percent pen p) = ap (λ (b : Bool). context b w.ranges w.area) (set_keeps w.percents pen (Some p))
+by_widths w (Thickness grains) = ap (λ (b : Bool). context b w.ranges w.area) (set_keeps w.percents w.core.state.pen None)
 
 -- a PW in percent leaves widths in percent
 by_good : (w : World) (good : Bool) (s : WidthSetting) → unit_after (is_some w.percents) s ≡ is_some w.percents
     → context_of (widened_if (when good s) w) ≡ context_of w
-by_good w true s h = by_widths w s ∙ ap (λ (b : Bool). context b w.ranges) h
+by_good w true s h = by_widths w s ∙ ap (λ (b : Bool). context b w.ranges w.area) h
 by_good w false s h = refl
 
 by_percent : (w : World) (ns : List ℤ) → is_some w.percents ≡ true → context_of (widened_if (percent_width ns) w) ≡ context_of w
-by_percent w [] h = ap (λ (b : Bool). context b w.ranges) (sym h)
+by_percent w [] h = ap (λ (b : Bool). context b w.ranges w.area) (sym h)
 by_percent w (n ∷ []) h = by_good w (is_percent n) (PercentOfAll (nat_abs n)) (sym h)
 by_percent w (n ∷ (p ∷ ns)) h = by_good w (is_percent n && is_byte (whole_of p)) (Percent (nat_abs (whole_of p)) (nat_abs n)) refl
 
@@ -104,6 +132,40 @@ by_letters s w = elim (cases_Bool (sets_margin s)) [
   | inr i ↦ rw i refl
 ]
 
+by_polygon : (w : World) (p : PolygonStep) → Leaves (context_by (context_of w) (PolygonBy p)) (step w (PolygonBy p))
+by_polygon w Begin = refl
+by_polygon w Close = refl
+by_polygon w End = refl
+
+by_anchor : (w : World) (a : Anchor) → Leaves (context_of w) (anchored w a)
+by_anchor w PageOrigin = refl
+by_anchor w (At p) = elim (cases_Bool (are_in_range ((pen_at_point w false p).place ∷ []))) [
+  | inl i ↦ rw i refl
+  | inr i ↦ rw i tt
+]
+
+by_fill_in : (c : Context) (o : Option World) → Leaves c o → Leaves c (then_filled o)
+by_fill_in c None h = tt
+by_fill_in c (Some w) h = by_fill w (filled false w) (is_filled false w) ∙ h
+
+by_kept : (w : World) (t : Step) → Leaves (context_of w) (kept_step w t)
+by_kept w t = elim (cases_Bool (list_all are_in_range (path w.core.page w.core.state t).lines)) [
+  | inl i ↦ rw i refl
+  | inr i ↦ rw i tt
+]
+
+by_kept_wedge : (w : World) (wedge : Wedge) → Leaves (context_of w) (wedge_kept w wedge)
+by_kept_wedge w wedge = elim (cases_Bool (are_in_range (wedge_places w.core.page w.core.state wedge))) [
+  | inl i ↦ rw i refl
+  | inr i ↦ rw i tt
+]
+
+by_wedge : (w : World) (wedge : Wedge) → Leaves (context_of w) (wedge_edged w wedge)
+by_wedge w wedge = elim (cases_Bool (are_in_range (wedge_places w.core.page w.core.state wedge))) [
+  | inl i ↦ rw i refl
+  | inr i ↦ rw i tt
+]
+
 by_step : (w : World) (s : FullStep) → Leaves (context_by (context_of w) s) (step w s)
 by_step w (Core t) = by_next w (step w (Core t)) (next_core_step w t)
 by_step w (WidthBy ns) = by_width w w.percents ns refl
@@ -118,6 +180,15 @@ by_step w (Place m) = by_next w (step w (Place m)) (next_moved_on w m)
 by_step w (Tick is_upright) = by_next w (step w (Tick is_upright)) (next_ticked w is_upright)
 by_step w (ArcThrough relative points) = by_next w (step w (ArcThrough relative points)) (next_arc w relative points)
 by_step w (Curve relative points) = by_next w (step w (Curve relative points)) (next_curve w relative points)
+by_step w (PolygonBy p) = by_polygon w p
+by_step w EdgeBuffer = by_fill w (worked w.buffer.places (edges_drawn w)) (edges_are_filled w)
+by_step w (FillBuffer by_winding) = by_fill w (filled by_winding w) (is_filled by_winding w)
+by_step w (FillBy s) = refl
+by_step w (AnchorBy a) = by_anchor w a
+by_step w (ChordsBy usual) = refl
+by_step w (Rectangle relative c) = by_fill_in (context_of w) (kept_step w (Edge relative c.x c.y)) (by_kept w (Edge relative c.x c.y))
+by_step w (WedgeEdge wedge) = by_wedge w wedge
+by_step w (WedgeFill wedge) = by_fill_in (context_of w) (wedge_kept w wedge) (by_kept_wedge w wedge)
 by_step w (Style s) = refl
 by_step w Restyle = refl
 by_step w Restart = refl
@@ -178,13 +249,22 @@ of_request c (request.Move m) ns = refl
 of_request c (request.Tick is_upright) ns = refl
 of_request c (request.Arc relative points) ns = refl
 of_request c (request.Curves relative) ns = of_curves c relative (curve_points ns)
+of_request c (request.Polygon p) ns = refl
+of_request c request.EdgePolygon ns = refl
+of_request c (request.FillPolygon by_winding) ns = refl
+of_request c (request.Fill s) ns = refl
+of_request c (request.Anchor a) ns = refl
+of_request c (request.Rectangle relative corner) ns = refl
+of_request c (request.EdgeWedge w) ns = refl
+of_request c (request.FillWedge w) ns = refl
+of_request c (request.Chords usual) ns = refl
 of_request c request.Print ns = refl
 of_request c request.EndSheet ns = refl
 of_request c request.Begin ns = refl
 of_request c request.Wrong ns = refl
 of_request c request.Skip ns = refl
 
-of_body : (c : Context) (b : BodyShape) → contexts_by c (full_steps b) ≡ context_after c b
+of_body : (c : Context) (b : BodyShape) → contexts_by c (full_steps b) ≡ after_body c b
 of_body c (Params i ns) = of_params c i ns
 of_body c (Further f ns) = of_request c (further_request f ns) ns
 of_body c (Label bytes) = refl
@@ -212,8 +292,9 @@ by_end c (Some v) at h = judged c (is_too_much v) (fault.TooManyStrokes at) v h
 
 pub told_as_set : (w v : World) (i : ItemShape) → runs w (i ∷ []) ≡ Ok v → context_of v ≡ context_after (context_of w) i.body
 told_as_set w v i h =
-    let c : Context = contexts_by (context_of w) (full_steps i.body) in
-    subst (LeavesAfter c) h (by_end c (run w (full_steps i.body)) i.at (by_steps (full_steps i.body) w)) ∙ of_body (context_of w) i.body
+    let b : BodyShape = read_in (context_of w) i.body in
+    let c : Context = contexts_by (context_of w) (full_steps b) in
+    subst (LeavesAfter c) h (by_end c (run w (full_steps b)) i.at (by_steps (full_steps b) w)) ∙ of_body (context_of w) b
 
 pub carried_out : {U : Type 0} (w v : World) (i : ItemShape) (r : Result U PlotFault) (u : U) → CarriesOut w i v r → r ≡ Ok u
     → (more : List ItemShape) → runs w (i ∷ more) ≡ runs v more

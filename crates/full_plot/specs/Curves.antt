@@ -1,10 +1,11 @@
 -- Arcs through three places and Bezier curves (HP-GL/2 guide: AT, RT, BZ and BR). The pen goes from place to place, in
 -- the line type if it is down.
-use Rattle.std.specs.Prelude.{Bool, List, [], ◌∷◌, Option, Some, None, if◌then◌else◌}
+use Rattle.std.specs.Prelude.{Bool, true, false, List, [], ◌∷◌, Option, Some, None, if◌then◌else◌}
 use Rattle.exact.specs.declared.spot.Spot.{Spot}
 use Rattle.curves.specs.Arcs.{arc_places}
 use Rattle.curves.specs.Beziers.{bezier_places}
 use Rattle.plot_page.specs.Segments.{Segment}
+use Rattle.polygons.specs.Buffers.{begun_at}
 use Rattle.hpgl_plot.specs.declared.state.Position.{Position}
 use Rattle.hpgl_plot.specs.declared.state.State.{State}
 use Rattle.hpgl_plot.specs.Paths.{pen_at, target}
@@ -14,6 +15,7 @@ use Rattle.full_settings.specs.declared.points.ArcPoints.{ArcPoints}
 use Rattle.full_settings.specs.declared.points.CurvePoints.{CurvePoints}
 use Rattle.full_settings.specs.declared.points.Point.{Point}
 use Rattle.full_plot.specs.Lines.{drawn, ended_by, with_a_pen}
+use Rattle.full_plot.specs.Polygons.{reached_all}
 use Rattle.full_plot.specs.Texts.{at_margin}
 use Rattle.full_plot.specs.Worlds.{World, followed}
 
@@ -27,10 +29,25 @@ abbrev pub lines_over : State → List Spot → List Segment
 lines_over s places = if s.is_down then joined (with_a_pen s) (s.place ∷ places) else []
 
 -- the same in the line type: None if a place is out of range
-abbrev pub lined : World → List Spot → Option World
-lined w places =
+abbrev pub drawn_over : World → List Spot → Option World
+drawn_over w places =
     let s = w.core.state in
     if are_in_range (s.place ∷ places) then Some (drawn w (lines_over s places)) else None
+
+-- in polygon mode they are points of the polygon, which follow the pen's place
+abbrev pub traced_over : World → List Spot → Option World
+traced_over w places =
+    let s = w.core.state in
+    if are_in_range (s.place ∷ places)
+    then Some (record w { buffer = reached_all s.is_down (begun_at w.buffer s.place) places })
+    else None
+
+abbrev pub lined_in : Bool → World → List Spot → Option World
+lined_in true w places = traced_over w places
+lined_in false w places = drawn_over w places
+
+abbrev pub lined : World → List Spot → Option World
+lined w places = lined_in w.area.in_polygon w places
 
 -- the pen, and the left margin, at a position
 abbrev pub arrived : Position → World → World

@@ -13,7 +13,9 @@ use Rattle.hpgl_plot.specs.Machine as core
 use Rattle.full_plot.specs.Items.{full_steps}
 use Rattle.full_settings.specs.ColourRanges.{usual_ranges}
 use Rattle.full_settings.specs.LineStyles.{usual_style}
-use Rattle.full_plot.specs.Worlds.{World, usual_writing}
+use Rattle.full_plot.specs.Contexts.{context_of, read_in}
+use Rattle.full_plot.specs.Worlds.{World, usual_area, usual_writing}
+use Rattle.polygons.specs.Buffers.{empty}
 use Rattle.full_plot.specs.Machine.{run, ends_with}
 
 -- before the first item
@@ -26,13 +28,17 @@ at_start page = record {
   writing = usual_writing;
   margin = (core.at_start page).state.place;
   ranges = usual_ranges;
+  area = usual_area;
+  buffer = empty;
   extra = 0;
   ends = [];
 }
 
--- there were more strokes than may be kept, or those that are kept are too many with the work that counts besides
+-- there were more strokes than may be kept, or those that are kept are too many with the work that counts besides, or the
+-- buffer has as many places
 abbrev pub is_too_much : World → Bool
-is_too_much w = w.core.full || nat_lt MOST_STROKES (length w.core.kept + w.extra)
+is_too_much w =
+    w.core.full || (nat_lt MOST_STROKES (length w.core.kept + w.extra) || nat_lt MOST_STROKES w.buffer.places)
 
 -- the items, one after another, up to the first refusal: a place out of range, or else a stroke too many
 abbrev pub ended : Option World → ℕ → (World → Result World PlotFault) → Result World PlotFault
@@ -41,7 +47,7 @@ ended (Some w) at go = if is_too_much w then Err (fault.TooManyStrokes at) else 
 
 abbrev pub runs : World → List ItemShape → Result World PlotFault
 runs w [] = Ok w
-runs w (i ∷ more) = ended (run w (full_steps i.body)) i.at (λ (v : World). runs v more)
+runs w (i ∷ more) = ended (run w (full_steps (read_in (context_of w) i.body))) i.at (λ (v : World). runs v more)
 
 abbrev pub outcome : Page → List ℕ → Result World PlotFault
 outcome page plot = runs (at_start page) (cut_by Full plot)

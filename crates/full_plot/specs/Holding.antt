@@ -3,7 +3,8 @@
 use Rattle.std.specs.Prelude.{ℕ, Bool, true, false, List, []}
 use Rattle.plot_page.specs.Segments.{Segment}
 use Rattle.hpgl_text.specs.declared.instruction.Instruction.{Instruction}
-use Rattle.hpgl_text.specs.declared.instruction.Instruction.TheVariants.{PenWidth, PenColour}
+use Rattle.hpgl_text.specs.declared.instruction.Instruction.TheVariants.{PenWidth, PenColour, Circle, ArcAbsolute}
+use Rattle.hpgl_text.specs.declared.instruction.Instruction.TheVariants.{ArcRelative}
 use Rattle.hpgl_plot.specs.Machine as core
 use Rattle.full_plot.specs.declared.lines.Held.{Held}
 use Rattle.full_plot.specs.Lines.{with_a_pen}
@@ -31,8 +32,18 @@ with_held w h = with_strokes_and_pen w h.strokes.items h.is_full h.pen
 abbrev pub restored : World → core.World → World
 restored w v = with_strokes_and_pen (record w { core = v }) w.core.kept w.core.full w.core.state.pen
 
+-- the pen is down, or not
+abbrev pub put_down : Bool → World → World
+put_down is_down w = record w { core = record w.core { state = record w.core.state { is_down = is_down } } }
+
+abbrev pub lowered_world : World → World
+lowered_world w = put_down true w
+
 -- whether an instruction has steps of its own
 abbrev pub is_own : Instruction → Bool
 is_own PenWidth = true
 is_own PenColour = true
+is_own Circle = true
+is_own ArcAbsolute = true
+is_own ArcRelative = true
 is_own _ = false

@@ -17,7 +17,8 @@ use Rattle.full_settings.specs.FurtherRequests.{further_request}
 use Rattle.full_settings.specs.LetterParameters.{direction}
 use Rattle.full_plot.specs.Machine.{FullStep, Core, Style, Restyle, Restart, WidthBy, ColourBy, Widen, Rewiden, PointsBy}
 use Rattle.full_plot.specs.Machine.{RangesBy, Letter, Mark, Keep, Print, Place, TickBy, Tick}
-use Rattle.full_plot.specs.Machine.{ArcThrough, Curve, EndSheet}
+use Rattle.full_plot.specs.Machine.{ArcThrough, Curve, PolygonBy, EdgeBuffer, FillBuffer, FillBy, AnchorBy, ChordsBy}
+use Rattle.full_plot.specs.Machine.{Rectangle, WedgeEdge, WedgeFill, EndSheet}
 
 -- the steps of what a further instruction asks for by its numbers
 abbrev pub request_steps : FurtherRequest → List ℤ → List FullStep
@@ -31,6 +32,15 @@ request_steps (request.Move m) ns = Place m ∷ []
 request_steps (request.Tick is_upright) ns = Tick is_upright ∷ []
 request_steps (request.Arc relative points) ns = ArcThrough relative points ∷ []
 request_steps (request.Curves relative) ns = map (Curve relative) (curve_points ns)
+request_steps (request.Polygon p) ns = PolygonBy p ∷ []
+request_steps request.EdgePolygon ns = EdgeBuffer ∷ []
+request_steps (request.FillPolygon by_winding) ns = FillBuffer by_winding ∷ []
+request_steps (request.Fill s) ns = FillBy s ∷ []
+request_steps (request.Anchor a) ns = AnchorBy a ∷ []
+request_steps (request.Rectangle relative c) ns = Rectangle relative c ∷ []
+request_steps (request.EdgeWedge w) ns = WedgeEdge w ∷ []
+request_steps (request.FillWedge w) ns = WedgeFill w ∷ []
+request_steps (request.Chords usual) ns = ChordsBy usual ∷ []
 request_steps request.Print ns = Print ∷ []
 request_steps request.EndSheet ns = EndSheet ∷ []
 request_steps request.Begin ns = Core (Set Start) ∷ (Restart ∷ [])

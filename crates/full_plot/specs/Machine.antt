@@ -1,12 +1,14 @@
 -- A plot in the profile full, one step at a time: the steps of core, with lines in the line type and labels in the style
 -- that is set, and further steps.
-use Rattle.std.specs.Prelude.{◌≡◌, ℕ, ◌+◌, ℤ, Bool, true, List, [], ◌∷◌, ◌++◌, length, nat_lt}
+use Rattle.std.specs.Prelude.{◌≡◌, ℕ, ℤ, Bool, true, false, List, [], ◌∷◌, ◌++◌, length, nat_lt}
 use Rattle.std.specs.Prelude.{if◌then◌else◌, Option, Some, None, Result, Ok, Err, ⊤}
 use Rattle.plot_page.specs.declared.page.Page.{Page}
-use Rattle.plot_page.specs.declared.stroke.TheConstants.{MOST_STROKES}
+use Rattle.exact.specs.declared.spot.Spot.{Spot}
+use Rattle.polygons.specs.Buffers.{empty}
 use Rattle.hpgl_text.specs.Cut.{last_or}
 use Rattle.hpgl_text.specs.declared.instruction.Instruction.TheVariants.{PenWidth}
-use Rattle.plot_settings.specs.Meanings.{Step, Set, Move, Go, Edge, DrawCircle, DrawArc, Write, meaning}
+use Rattle.plot_settings.specs.Meanings.{Step, Set, Touch, Move, Go, Edge, DrawCircle, DrawArc, Write, meaning}
+use Rattle.plot_settings.specs.declared.figure.Corner.{Corner}
 use Rattle.plot_settings.specs.declared.setting.Rotation.{Rotation}
 use Rattle.plot_settings.specs.declared.setting.Rotation.TheVariants.{Quarter, ThreeQuarters}
 use Rattle.plot_settings.specs.declared.setting.Setting.{Setting}
@@ -21,27 +23,55 @@ use Rattle.full_settings.specs.declared.line_setting.LineSetting.{LineSetting}
 use Rattle.full_settings.specs.declared.page_points.RelativePoints.{RelativePoints}
 use Rattle.full_settings.specs.declared.points.ArcPoints.{ArcPoints}
 use Rattle.full_settings.specs.declared.points.CurvePoints.{CurvePoints}
+use Rattle.full_settings.specs.declared.fill_setting.FillSetting.{FillSetting}
+use Rattle.full_settings.specs.declared.polygon_setting.Anchor.{Anchor}
+use Rattle.full_settings.specs.declared.polygon_setting.Anchor.TheVariants.{PageOrigin, At}
+use Rattle.full_settings.specs.declared.polygon_setting.PolygonStep.{PolygonStep}
+use Rattle.full_settings.specs.declared.polygon_setting.Wedge.{Wedge}
 use Rattle.full_settings.specs.declared.tick_length.TickLength.{TickLength}
 use Rattle.full_settings.specs.declared.width_setting.WidthSetting.{WidthSetting}
 use Rattle.full_settings.specs.ColourRanges.{usual_ranges, pen_colour_in}
+use Rattle.full_settings.specs.FillParameters.{fill_with}
 use Rattle.full_settings.specs.LineStyles.{style_with, usual_style, diagonal}
 use Rattle.full_settings.specs.RelativePoints.{setting_of}
 use Rattle.full_settings.specs.WidthParameters.{percent_width}
 use Rattle.full_settings.specs.Widths.{widths_by, percents_with, grains_with}
 use Rattle.full_plot.specs.declared.plotter.FullPlotter.{FullPlotter}
-use Rattle.full_plot.specs.Curves.{arc_step, curve_step}
-use Rattle.full_plot.specs.Lines.{line_step}
-use Rattle.full_plot.specs.Texts.{at_margin, lettered, marked, moved_on, ticked, written}
-use Rattle.full_plot.specs.Worlds.{World, usual_writing, with_core, followed}
+use Rattle.full_plot.specs.Curves.{arc_step, curve_step, if_in_range, pen_at_point}
+use Rattle.full_plot.specs.Fills.{filled}
+use Rattle.full_plot.specs.Polygons.{edge_step, edges_drawn, kept_step, lined_step, polygon_set}
+use Rattle.full_plot.specs.Texts.{at_margin, lettered, marked_by, moved_on, ticked, written}
+use Rattle.full_plot.specs.Wedges.{wedge_edged, wedge_kept}
+use Rattle.full_plot.specs.Work.{worked, then_worked}
+use Rattle.full_plot.specs.Worlds.{World, page_origin, usual_area, usual_writing, with_core, followed}
 
--- a step of core: moves, rectangles, circles and arcs are drawn in the line type; after a move or an arc the left margin is
--- where the pen is, and after a move the symbol is drawn there; dots are as in core
+-- a step of core: moves, rectangles, circles and arcs are drawn in the line type, or are points of a polygon in polygon
+-- mode; after a move or an arc the left margin is where the pen is, and after a move the symbol is drawn there, unless in
+-- polygon mode, in which there are no dots; otherwise they are as in core
+abbrev pub marked_in : Bool → World → Option World
+marked_in true w = Some w
+marked_in false w = marked_by w.writing.symbol w
+
+abbrev pub marked : World → Option World
+marked w = marked_in w.area.in_polygon w
+
+abbrev pub moved : World → Step → Option World
+moved w t = followed (lined_step w t) (λ (v : World). marked (at_margin v))
+
+abbrev pub touched_in : Bool → World → Option World
+touched_in true w = Some w
+touched_in false w = with_core w (core.step w.core Touch)
+
+abbrev pub touched : World → Option World
+touched w = touched_in w.area.in_polygon w
+
 abbrev pub core_step : World → Step → Option World
-core_step w (Move x y) = followed (line_step w (Move x y)) (λ (v : World). marked (at_margin v))
-core_step w (Go relative x y) = followed (line_step w (Go relative x y)) (λ (v : World). marked (at_margin v))
-core_step w (DrawArc relative a) = followed (line_step w (DrawArc relative a)) (λ (v : World). Some (at_margin v))
-core_step w (Edge relative x y) = line_step w (Edge relative x y)
-core_step w (DrawCircle c) = line_step w (DrawCircle c)
+core_step w Touch = touched w
+core_step w (Move x y) = moved w (Move x y)
+core_step w (Go relative x y) = moved w (Go relative x y)
+core_step w (DrawArc relative a) = followed (lined_step w (DrawArc relative a)) (λ (v : World). Some (at_margin v))
+core_step w (Edge relative x y) = edge_step w (Edge relative x y)
+core_step w (DrawCircle c) = lined_step w (DrawCircle c)
 core_step w (Write bytes) = written w bytes
 core_step w t = with_core w (core.step w.core t)
 
@@ -100,33 +130,37 @@ abbrev pub then_rewidened : Option World → Option World
 then_rewidened None = None
 then_rewidened (Some w) = Some (rewidened w)
 
--- DF, besides what it does in core: the line style and what is set for labels are those of the start
+-- DF, besides what it does in core: the line style and what is set for labels and polygons are those of the start, and the
+-- buffer is empty
 abbrev pub restyled : World → World
-restyled w = record w { style = usual_style; run = None; writing = usual_writing }
+restyled w =
+    record w { style = usual_style; run = None; writing = usual_writing; area = usual_area; buffer = empty }
 
 -- IN and BP, besides: so are the widths and the ranges of colours, and the left margin is where the pen is
 abbrev pub restarted : World → World
 restarted w = at_margin (record (restyled w) { percents = None; ranges = usual_ranges })
 
--- work besides strokes; more than a plot may have of both is as if there were too many strokes
-abbrev pub worked : ℕ → World → World
-worked n w =
-    if nat_lt MOST_STROKES (length w.core.kept + w.extra + n)
-    then record w { core = record w.core { full = true } }
-    else record w { extra = w.extra + n }
-
-abbrev pub then_worked : ℕ → Option World → Option World
-then_worked n None = None
-then_worked n (Some w) = Some (worked n w)
-
 -- a PB, whose bytes are work
 abbrev pub printed : World → Option World
 printed w = then_worked (length w.writing.text) (written w w.writing.text)
 
+-- AC: the place of these coordinates, which must be in range
+abbrev pub with_anchor : World → Spot → World
+with_anchor w q = record w { area = record w.area { anchor = q } }
+
+abbrev pub anchored : World → Anchor → Option World
+anchored w PageOrigin = Some (with_anchor w page_origin)
+anchored w (At p) = let q = (pen_at_point w false p).place in if_in_range (q ∷ []) (Some (with_anchor w q))
+
+-- RA, RR and WG fill what is in the buffer then, by odd counts
+abbrev pub then_filled : Option World → Option World
+then_filled None = None
+then_filled (Some w) = Some (filled false w)
+
 -- a step of core; what LT or UL sets; what DF and what IN do besides; a PW and a PC with these numbers; what WU or PT
 -- sets; widths by other P1 and P2; P1 and P2 by IR; the ranges of CR; what SR, SL, DI, DR, ES, LO or DV sets; the symbol
--- of SM; the text of BL, and PB; a CP; what TL sets, and XT or YT; an AT or an RT, and a curve of BZ or BR; the end of a
--- sheet
+-- of SM; the text of BL, and PB; a CP; what TL sets, and XT or YT; an AT or an RT, and a curve of BZ or BR; a PM; EP, and
+-- FP by winding or not; what FT, AC and CT set; an RA or an RR; an EW, and a WG; the end of a sheet
 pub data FullStep : Type 0 where
   Core : Step → FullStep
   Style : LineSetting → FullStep
@@ -147,6 +181,15 @@ pub data FullStep : Type 0 where
   Tick : Bool → FullStep
   ArcThrough : Bool → ArcPoints → FullStep
   Curve : Bool → CurvePoints → FullStep
+  PolygonBy : PolygonStep → FullStep
+  EdgeBuffer : FullStep
+  FillBuffer : Bool → FullStep
+  FillBy : FillSetting → FullStep
+  AnchorBy : Anchor → FullStep
+  ChordsBy : Bool → FullStep
+  Rectangle : Bool → Corner → FullStep
+  WedgeEdge : Wedge → FullStep
+  WedgeFill : Wedge → FullStep
   EndSheet : FullStep
 
 -- a sheet ends if it has a stroke; no strokes are taken from one sheet to the next
@@ -177,6 +220,15 @@ step w (TickBy t) = Some (record w { writing = record w.writing { ticks = t } })
 step w (Tick is_upright) = ticked w is_upright
 step w (ArcThrough relative points) = arc_step w relative points
 step w (Curve relative points) = curve_step w relative points
+step w (PolygonBy p) = Some (polygon_set p w)
+step w EdgeBuffer = Some (worked w.buffer.places (edges_drawn w))
+step w (FillBuffer by_winding) = Some (filled by_winding w)
+step w (FillBy s) = Some (record w { area = record w.area { fill = fill_with s w.area.fill } })
+step w (AnchorBy a) = anchored w a
+step w (ChordsBy usual) = Some (record w { area = record w.area { usual_chords = usual } })
+step w (Rectangle relative c) = then_filled (kept_step w (Edge relative c.x c.y))
+step w (WedgeEdge wedge) = wedge_edged w wedge
+step w (WedgeFill wedge) = then_filled (wedge_kept w wedge)
 step w EndSheet = Some (record w { ends = ends_with w.ends (length w.core.kept) })
 
 abbrev pub run : World → List FullStep → Option World
@@ -198,6 +250,8 @@ seen p = record {
   writing = p.writing;
   margin = p.margin;
   ranges = p.ranges;
+  area = p.area;
+  buffer = p.buffer;
   extra = p.extra;
   ends = p.ends.items;
 }

@@ -1,38 +1,28 @@
 -- What is noted on the items of a plot in the profile full.
 use Rattle.std.specs.Prelude.{ℤ, Bool, true, false, if◌then◌else◌, List, [], ◌∷◌, ◌++◌, Option, Some, None}
-use Rattle.std.specs.Option.{is_some}
 use Rattle.hpgl_text.specs.Shapes.{ItemShape, BodyShape, Params}
 use Rattle.hpgl_text.specs.Shapes as shape
 use Rattle.hpgl_text.specs.declared.instruction.Instruction.{Instruction}
-use Rattle.hpgl_text.specs.declared.instruction.Instruction.TheVariants.{Initialize, PenWidth, PenColour, Direction}
+use Rattle.hpgl_text.specs.declared.instruction.Instruction.TheVariants.{Initialize, DefaultValues, PenWidth}
+use Rattle.hpgl_text.specs.declared.instruction.Instruction.TheVariants.{PenColour, Direction}
 use Rattle.hpgl_plot.specs.declared.note.Note.{Note}
 use Rattle.hpgl_plot.specs.declared.note.NoteKind.{NoteKind}
 use Rattle.hpgl_plot.specs.declared.note.NoteKind.TheVariants.{Skipped, Bad}
 use Rattle.hpgl_plot.specs.Notes.{notes_with, parameters_noted}
 use Rattle.hpgl_plot.specs.Notes as core
-use Rattle.full_settings.specs.declared.colour_range.ColourRanges.{ColourRanges}
+use Rattle.full_settings.specs.declared.fill_setting.FillSetting.TheVariants.{Pattern}
+use Rattle.full_settings.specs.declared.polygon_setting.PolygonStep.{PolygonStep}
+use Rattle.full_settings.specs.declared.polygon_setting.PolygonStep.TheVariants.{Begin, Close, End}
 use Rattle.full_settings.specs.declared.requests.FurtherRequest.{FurtherRequest}
 use Rattle.full_settings.specs.declared.requests.FurtherRequest.TheVariants as request
 use Rattle.full_settings.specs.declared.width_setting.WidthSetting.{WidthSetting}
 use Rattle.full_settings.specs.declared.width_setting.WidthSetting.TheVariants.{Millimetres, PercentOfAll}
-use Rattle.full_settings.specs.ColourRanges.{usual_ranges, pen_colour_in}
+use Rattle.full_settings.specs.ColourRanges.{pen_colour_in}
 use Rattle.full_settings.specs.CurveParameters.{are_curves}
 use Rattle.full_settings.specs.FurtherRequests.{further_request}
 use Rattle.full_settings.specs.LetterParameters.{direction}
 use Rattle.full_settings.specs.WidthParameters.{percent_width}
-use Rattle.full_plot.specs.Worlds.{World}
-
--- what has been set before an item that its notes depend on: whether widths are in percent, and the ranges of colours
-pub record Context : Type 0 where
-  pub in_percent : Bool
-  pub ranges : ColourRanges
-
--- at the start, and after IN and BP
-abbrev pub first_context : Context
-first_context = record { in_percent = false; ranges = usual_ranges }
-
-abbrev pub context_of : World → Context
-context_of w = record { in_percent = is_some w.percents; ranges = w.ranges }
+use Rattle.full_plot.specs.Contexts.{Context, first_context, read_in}
 
 -- whether widths are in percent after a WU that asks for this, if they were or were not before
 abbrev pub unit_after : Bool → WidthSetting → Bool
@@ -41,31 +31,43 @@ unit_after in_percent (PercentOfAll percent) = true
 unit_after in_percent _ = in_percent
 
 -- the context after an item
+abbrev pub is_on_after : PolygonStep → Bool → Bool
+is_on_after Begin on = true
+is_on_after Close on = on
+is_on_after End on = false
+
 abbrev pub request_after : Context → FurtherRequest → Context
 request_after c (request.Width s) = record c { in_percent = unit_after c.in_percent s }
 request_after c (request.Colours r) = record c { ranges = r }
+request_after c (request.Polygon p) = record c { in_polygon = is_on_after p c.in_polygon }
+request_after c (request.Chords usual) = record c { usual_chords = usual }
 request_after c request.Begin = first_context
 request_after c _ = c
 
 abbrev pub params_after : Context → Instruction → Context
 params_after c Initialize = first_context
+params_after c DefaultValues = record c { in_polygon = false; usual_chords = false }
 params_after c _ = c
 
+abbrev pub after_body : Context → BodyShape → Context
+after_body c (shape.Further f ns) = request_after c (further_request f ns)
+after_body c (Params instruction ns) = params_after c instruction
+after_body c _ = c
+
 abbrev pub context_after : Context → BodyShape → Context
-context_after c (shape.Further f ns) = request_after c (further_request f ns)
-context_after c (Params instruction ns) = params_after c instruction
-context_after c _ = c
+context_after c body = after_body c (read_in c body)
 
 -- numbers that ask for nothing are wrong
 abbrev pub bad_without : {S : Type 0} → Option S → Option NoteKind
 bad_without (Some setting) = None
 bad_without None = Some Bad
 
--- what is noted on a further instruction: that its numbers are wrong, or that it is not drawn; numbers after those of
--- whole curves draw nothing, and are wrong
+-- what is noted on a further instruction: that its numbers are wrong, or that it is not drawn, as patterns of FT are not;
+-- numbers after those of whole curves draw nothing, and are wrong
 abbrev pub request_noted : FurtherRequest → List ℤ → Option NoteKind
 request_noted request.Wrong ns = Some Bad
 request_noted request.Skip ns = Some Skipped
+request_noted (request.Fill Pattern) ns = Some Skipped
 request_noted (request.Curves relative) ns = if are_curves ns then None else Some Bad
 request_noted _ ns = None
 
@@ -82,10 +84,13 @@ params_noted c Direction ns = bad_without (direction ns)
 params_noted c instruction ns = parameters_noted instruction ns
 
 -- what is noted on an item at its first byte
+abbrev pub noted_on : Context → BodyShape → Option NoteKind
+noted_on c (shape.Further f ns) = request_noted (further_request f ns) ns
+noted_on c (Params instruction ns) = params_noted c instruction ns
+noted_on c body = core.body_noted body
+
 abbrev pub body_noted : Context → BodyShape → Option NoteKind
-body_noted c (shape.Further f ns) = request_noted (further_request f ns) ns
-body_noted c (Params instruction ns) = params_noted c instruction ns
-body_noted c body = core.body_noted body
+body_noted c body = noted_on c (read_in c body)
 
 -- the notes on items, in their order, by the context before them
 abbrev pub notes_from : Context → List ItemShape → List Note

@@ -107,9 +107,6 @@ abbrev pub marked_by : Option ℕ → World → Option World
 marked_by None w = Some w
 marked_by (Some byte) w = with_core w (inked_at_pen w.core (label_strokes (centred (style_of w)) (byte ∷ [])))
 
-abbrev pub marked : World → Option World
-marked w = marked_by w.writing.symbol w
-
 -- a point that far above the pen for XT, or to the right for YT, if the page is not turned
 abbrev pub tick_point : Bool → ℤ → Spot
 tick_point is_upright n = if is_upright then record { x = pos 0; y = n } else record { x = n; y = pos 0 }

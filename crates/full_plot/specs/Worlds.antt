@@ -1,13 +1,16 @@
 -- What is set, where the pen is, and what is drawn in the profile full: what core has, and more.
-use Rattle.std.specs.Prelude.{ℕ, List, [], Option, Some, None}
+use Rattle.std.specs.Prelude.{ℕ, pos, false, List, [], Option, Some, None}
 use Rattle.exact.specs.declared.spot.Spot.{Spot}
 use Rattle.line_types.specs.declared.run.Run.{Run}
 use Rattle.hpgl_plot.specs.Machine as core
+use Rattle.polygons.specs.Buffers.{Contents}
 use Rattle.full_settings.specs.declared.colour_range.ColourRanges.{ColourRanges}
 use Rattle.full_settings.specs.declared.tick_length.TickLength.{TickLength}
+use Rattle.full_settings.specs.FillParameters.{usual_fill}
 use Rattle.full_settings.specs.Letters.{LetterStyle, usual_letters}
 use Rattle.full_settings.specs.LineStyles as styles
 use Rattle.full_settings.specs.TickParameters.{usual_ticks}
+use Rattle.full_plot.specs.declared.area.Area.{Area}
 
 -- what is set for labels: how letters are written, the symbol at the ends of moves (SM), the text that is kept (BL), and
 -- the length of ticks (TL)
@@ -21,9 +24,18 @@ pub record Writing : Type 0 where
 abbrev pub usual_writing : Writing
 usual_writing = record { letters = usual_letters; symbol = None; text = []; ticks = usual_ticks }
 
+-- what is set for polygons at the start, and after IN and DF: polygon mode is off, and lines of hatching are counted from
+-- the page's lower left corner
+abbrev pub page_origin : Spot
+page_origin = record { x = pos 0; y = pos 0 }
+
+abbrev pub usual_area : Area
+usual_area = record { in_polygon = false; fill = usual_fill; anchor = page_origin; usual_chords = false }
+
 -- what core has: the page, the state and the strokes; the line style, and the run of its pattern; the widths of pens in
 -- percent, or None while widths are in millimetres; what is set for labels, and their left margin, a place; the ranges of
--- colours; how much work besides strokes counts; for each sheet that has ended, how many strokes were made until then
+-- colours; what is set for polygons, and the polygon buffer; how much work besides strokes counts; for each sheet that has
+-- ended, how many strokes were made until then
 pub record World : Type 0 where
   pub core : core.World
   pub style : styles.Style
@@ -32,6 +44,8 @@ pub record World : Type 0 where
   pub writing : Writing
   pub margin : Spot
   pub ranges : ColourRanges
+  pub area : Area
+  pub buffer : Contents
   pub extra : ℕ
   pub ends : List ℕ
 

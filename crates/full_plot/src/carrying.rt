@@ -2,8 +2,9 @@
 ghost use Rattle.std.specs.Prelude.{◌≡◌};
 ghost use Rattle.full_plot.specs.Drawings.{at_start, is_too_much, CarriesOut};
 ghost use Rattle.full_plot.specs.Machine.{seen};
-ghost use Rattle.full_plot.specs.Notes.{context_of};
+ghost use Rattle.full_plot.specs.Contexts.{context_of};
 
+use crate::area::Area;
 use crate::context::Context;
 use crate::plotter::FullPlotter;
 use crate::writing::Writing;
@@ -11,6 +12,7 @@ use full_settings::{ColourRanges, LineStyle};
 use hpgl_plot::{PlotFault, Plotter, Stop};
 use hpgl_text::Item;
 use plot_page::{MOST_STROKES, Page};
+use polygons::Buffer;
 use std::alloc::Global;
 
 impl FullPlotter {
@@ -28,6 +30,8 @@ impl FullPlotter {
             writing: Writing::usual(alloc),
             margin,
             ranges: ColourRanges::usual(),
+            area: Area::usual(),
+            buffer: Buffer::new(alloc),
             extra: 0,
             ends: Vec::new(alloc),
             alloc,
@@ -58,13 +62,18 @@ impl FullPlotter {
         Context {
             in_percent: self.percents.is_some(),
             ranges: self.ranges,
+            in_polygon: self.area.in_polygon,
+            usual_chords: self.area.usual_chords,
         }
     }
 
-    // Whether there are more strokes than a plot may have, with the work that counts besides.
+    // Whether there are more strokes than a plot may have, with the work that counts besides, or as many places
+    // of polygons.
     fn is_too_much(&self) -> bool
         ensures { result ≡ is_too_much (seen self.now) }
     {
-        self.plotter.is_full || self.plotter.strokes.len() + self.extra as usize > MOST_STROKES
+        self.plotter.is_full
+            || self.plotter.strokes.len() + self.extra as usize > MOST_STROKES
+            || self.buffer.places() > MOST_STROKES
     }
 }

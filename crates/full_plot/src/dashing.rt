@@ -25,8 +25,8 @@ impl FullPlotter {
         Ok(())
     }
 
-    // Draws a line, and leaves the run where the pattern goes on.
-    fn dash_line(&mut self, line: &Stroke, line_type: &LineType) -> Result<(), Stop>
+    /// Draws a line, and leaves the run where the pattern goes on.
+    pub fn dash_line(&mut self, line: &Stroke, line_type: &LineType) -> Result<(), Stop>
         requires { line_shape line_type.now ≡ shape_in (seen self.old) }
         ensures { Runs (Some (drawn (seen self.old) (line.now ∷ []))) (seen self.new) result }
     {

@@ -1,18 +1,23 @@
 //! What the further instructions do.
 ghost use Rattle.std.specs.Prelude.{◌≡◌, ◌≤◌, Some};
 ghost use Rattle.full_settings.specs.ColourRanges.{IsColourRanges};
+ghost use Rattle.full_settings.specs.FillParameters.{IsFillSetting};
 ghost use Rattle.full_settings.specs.FurtherRequests.{IsFurtherRequest};
 ghost use Rattle.full_settings.specs.LineStyles.{IsLineSetting};
 ghost use Rattle.full_settings.specs.RelativePoints.{IsRelativePoints};
 ghost use Rattle.full_settings.specs.TickParameters.{IsTickLength};
+ghost use Rattle.full_plot.specs.Contexts.{numbers_read};
 ghost use Rattle.full_plot.specs.Items.{further_steps, request_steps};
 ghost use Rattle.full_plot.specs.Machine as machine;
 ghost use Rattle.full_plot.specs.Machine.{seen, step, run, Runs, Style, RangesBy, TickBy, PointsBy, ColourBy};
+ghost use Rattle.full_plot.specs.Machine.{FillBy, AnchorBy, ChordsBy};
 
 use crate::plotter::FullPlotter;
+use crate::reading::request_read;
+use exact::Spot;
 use full_settings::{
-    ColourRanges, FurtherRequest, LineSetting, RelativePoints, TickLength, colour_in,
-    further_request, points_of,
+    Anchor, ColourRanges, FillSetting, FurtherRequest, LineSetting, RelativePoints, TickLength,
+    colour_in, points_of,
 };
 use hpgl_plot::Stop;
 use hpgl_text::{Further, Numbers};
@@ -22,9 +27,10 @@ use plot_settings::{Rotation, Setting};
 impl FullPlotter {
     /// Carries out a further instruction. One that is not drawn does nothing.
     pub fn obey_further(&mut self, further: Further, numbers: &Numbers<'_>) -> Result<(), Stop>
-        ensures { Runs (run (seen self.old) (further_steps further numbers.now)) (seen self.new) result }
+        ensures { Runs (run (seen self.old) (further_steps further (numbers_read (seen self.old).area.usual_chords further numbers.now))) (seen self.new) result }
     {
-        self.do_further(further_request(further, numbers), numbers)
+        let request = request_read(further, numbers, self.area.usual_chords);
+        self.do_further(request, numbers)
     }
 
     // Does what a further instruction asks for by its numbers.
@@ -75,6 +81,23 @@ impl FullPlotter {
                 Ok(())
             }
             FurtherRequest::Curves(is_relative) => self.draw_curves(is_relative, numbers),
+            FurtherRequest::Polygon(step) => self.set_polygon(step),
+            FurtherRequest::EdgePolygon => self.edge_polygon(),
+            FurtherRequest::FillPolygon(by_winding) => self.fill_polygon(by_winding),
+            FurtherRequest::Rectangle(is_relative, corner) => {
+                self.fill_rectangle(is_relative, corner)
+            }
+            FurtherRequest::EdgeWedge(wedge) => self.edge_wedge(wedge),
+            FurtherRequest::FillWedge(wedge) => self.fill_wedge(wedge),
+            FurtherRequest::Anchor(anchor) => self.set_anchor(anchor),
+            FurtherRequest::Fill(setting) => {
+                self.set_fill(setting);
+                Ok(())
+            }
+            FurtherRequest::Chords(usual) => {
+                self.set_chords(usual);
+                Ok(())
+            }
             FurtherRequest::Print => {
                 self.print()?;
                 Ok(())
@@ -99,6 +122,35 @@ impl FullPlotter {
         ensures { step (seen self.old) (TickBy length) ≡ Some (seen self.new) }
     {
         self.writing.set_ticks(length);
+    }
+
+    // Sets how polygons are filled, by FT.
+    fn set_fill(&mut self, setting: FillSetting)
+        requires { IsFillSetting setting }
+        ensures { step (seen self.old) (FillBy setting) ≡ Some (seen self.new) }
+    {
+        self.area.fill = self.area.fill.with(setting);
+    }
+
+    // Sets whether chords have the usual angle, by CT.
+    fn set_chords(&mut self, usual: bool)
+        ensures { step (seen self.old) (ChordsBy usual) ≡ Some (seen self.new) }
+    {
+        self.area.usual_chords = usual;
+    }
+
+    // Sets where lines of hatching are counted from, by AC.
+    fn set_anchor(&mut self, anchor: Anchor) -> Result<(), Stop>
+        ensures { Runs (step (seen self.old) (AnchorBy anchor)) (seen self.new) result }
+    {
+        match anchor {
+            Anchor::PageOrigin => self.area.anchor = Spot { x: 0, y: 0 },
+            Anchor::At(point) => {
+                let pen = self.pen_at(false, point)?;
+                self.area.anchor = pen.place;
+            }
+        }
+        Ok(())
     }
 
     // Sets the ranges of colours by CR.

@@ -1,13 +1,14 @@
 //! Labels, symbols, and moves by columns and lines.
-ghost use Rattle.std.specs.Prelude.{◌≡◌, ◌≤◌, ◌^◌, length, nat_abs, neg_ℤ, IfSome, IfOk, Some};
+ghost use Rattle.std.specs.Prelude.{◌≡◌, ◌≤◌, ◌<◌, ◌+◌, ◌^◌, length, nat_abs, neg_ℤ, IfSome, IfOk, Some};
 ghost use Rattle.directions.specs.Bounds.{IsWithin};
 ghost use Rattle.full_settings.specs.CharacterMoves.{IsCharacterMove};
 ghost use Rattle.full_settings.specs.LetterParameters.{IsLetterSetting};
 ghost use Rattle.lettering.specs.Labels.{margin_move};
 ghost use Rattle.hpgl_plot.specs.Machine as core;
 ghost use Rattle.full_plot.specs.Items.{letters_steps};
-ghost use Rattle.full_plot.specs.Machine.{seen, step, run, worked, Runs, Letter, printed};
+ghost use Rattle.full_plot.specs.Machine.{seen, step, run, Runs, Letter, marked, printed};
 ghost use Rattle.full_plot.specs.Texts as texts;
+ghost use Rattle.full_plot.specs.Work.{worked};
 ghost use Rattle.full_plot.specs.Worlds.{with_core};
 
 use crate::core_labels::is_as_in_core;
@@ -46,17 +47,23 @@ impl FullPlotter {
         Ok(())
     }
 
-    // Counts work that is no stroke.
-    fn work(&mut self, amount: usize)
-        requires { amount ≤ 2 ^ 32 }
+    /// Counts work that is no stroke.
+    pub fn work(&mut self, amount: usize)
         ensures { seen self.new ≡ worked amount (seen self.old) }
     {
-        let sum = self.plotter.strokes.len() + self.extra as usize + amount;
-        if sum > MOST_STROKES {
+        if amount > MOST_STROKES || self.sum() + amount > MOST_STROKES {
             self.plotter.is_full = true;
         } else {
             self.extra += amount as u32;
         }
+    }
+
+    // How many strokes there are, and how much work counts besides.
+    fn sum(&self) -> usize
+        ensures value { result ≡ length self.now.plotter.strokes.items + self.now.extra }
+        ensures most { result < 2 ^ 63 + 2 ^ 33 }
+    {
+        self.plotter.strokes.len() + self.extra as usize
     }
 
     /// CP: puts the pen by columns and lines, or to the next line at the left margin.
@@ -89,10 +96,13 @@ impl FullPlotter {
         Ok(())
     }
 
-    /// Draws the symbol of SM at the pen, if there is one.
+    /// Draws the symbol of SM at the pen, if there is one, and polygon mode is off.
     pub fn mark(&mut self) -> Result<(), Stop>
-        ensures { Runs (texts.marked (seen self.old)) (seen self.new) result }
+        ensures { Runs (marked (seen self.old)) (seen self.new) result }
     {
+        if self.area.in_polygon {
+            return Ok(());
+        }
         match self.writing.symbol() {
             Some(symbol) => self.write_symbol(symbol),
             None => Ok(()),

@@ -1,13 +1,16 @@
 //! What a plot draws in the profile full: the instructions of core, line types, labels in any direction, symbols,
-//! ticks, curves, widths in percent and ranges of colours; and what is noted on it.
+//! ticks, curves, polygons and their fills, widths in percent and ranges of colours; and what is noted on it.
 #![tactic(auto)]
 
+mod area;
 mod carrying;
 mod context;
 mod core_labels;
 mod curve_steps;
 mod dashing;
 mod drawn;
+mod figures;
+mod fills;
 mod further;
 mod ink;
 mod labels;
@@ -17,6 +20,8 @@ mod notes;
 mod noting;
 mod plain;
 mod plotter;
+mod polygons_traced;
+mod reading;
 mod requests;
 mod sheets;
 mod steps;
@@ -24,6 +29,7 @@ mod ticks;
 mod widths;
 mod writing;
 
+pub use area::Area;
 pub use context::Context;
 pub use drawn::{FullDrawn, draw_full};
 pub use notes::FullNotes;

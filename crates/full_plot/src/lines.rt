@@ -1,19 +1,20 @@
 //! The steps of core whose lines are drawn in the line type.
 ghost use Rattle.std.specs.Prelude.{◌≡◌, ◌≤◌, length, Some};
-ghost use Rattle.plot_settings.specs.Bounds.{IsCorner, IsCircle, IsArc};
-ghost use Rattle.plot_settings.specs.Meanings.{Move, Go, Edge, DrawCircle, DrawArc};
+ghost use Rattle.plot_settings.specs.Bounds.{IsCircle, IsArc};
+ghost use Rattle.plot_settings.specs.Meanings.{Move, Go, DrawCircle, DrawArc};
 ghost use Rattle.hpgl_plot.specs.Machine as core;
-ghost use Rattle.full_plot.specs.Curves.{lined};
+ghost use Rattle.full_plot.specs.Curves.{drawn_over, lined};
 ghost use Rattle.full_plot.specs.Lines.{line_step, drawn};
 ghost use Rattle.full_plot.specs.Machine.{seen, core_step, Runs};
 ghost use Rattle.full_plot.specs.Holding.{cleared, with_held};
+ghost use Rattle.full_plot.specs.Polygons.{lined_step};
 
 use crate::plotter::FullPlotter;
 use exact::Spot;
 use hpgl_plot::Stop;
 use hpgl_text::Number;
 use plot_page::Stroke;
-use plot_settings::{Arc, Circle, Corner};
+use plot_settings::{Arc, Circle};
 use std::mem::replace;
 
 // What is held back while core draws lines.
@@ -26,7 +27,6 @@ pub struct Held {
 
 impl FullPlotter {
     /// A move to coordinates, which are relative or absolute by the most recent PA or PR.
-    #[tactic(auto, unfolding(crate::specs::Lines::line_step))]
     pub fn move_to(&mut self, x: Number, y: Number) -> Result<(), Stop>
         ensures { Runs (core_step (seen self.old) (Move x y)) (seen self.new) result }
     {
@@ -35,13 +35,24 @@ impl FullPlotter {
     }
 
     /// A move to coordinates, drawn if the pen is down. Then the left margin is where the pen is, and the
-    /// symbol is drawn there.
+    /// symbol is drawn there. In polygon mode the end is a point of the polygon.
     pub fn go(&mut self, is_relative: bool, x: Number, y: Number) -> Result<(), Stop>
         ensures { Runs (core_step (seen self.old) (Go is_relative x y)) (seen self.new) result }
     {
-        self.go_along(is_relative, x, y)?;
+        self.go_lined(is_relative, x, y)?;
         self.margin = self.plotter.state.place;
         self.mark()
+    }
+
+    // The line of a move, or a point of a polygon.
+    fn go_lined(&mut self, is_relative: bool, x: Number, y: Number) -> Result<(), Stop>
+        ensures { Runs (lined_step (seen self.old) (Go is_relative x y)) (seen self.new) result }
+    {
+        if self.area.in_polygon {
+            self.trace_move(is_relative, x, y)
+        } else {
+            self.go_along(is_relative, x, y)
+        }
     }
 
     // The line of a move.
@@ -56,21 +67,19 @@ impl FullPlotter {
         self.release(held)
     }
 
-    /// The edge of a rectangle.
-    pub fn edge(&mut self, is_relative: bool, corner: Corner) -> Result<(), Stop>
-        requires { IsCorner corner }
-        ensures { Runs (line_step (seen self.old) (Edge is_relative corner.x corner.y)) (seen self.new) result }
+    /// A circle about the pen, or a polygon in polygon mode.
+    pub fn circle(&mut self, circle: Circle) -> Result<(), Stop>
+        requires { IsCircle circle }
+        ensures { Runs (lined_step (seen self.old) (DrawCircle circle)) (seen self.new) result }
     {
-        if self.style.is_solid() {
-            return self.plotter.edge(is_relative, corner);
+        if self.area.in_polygon {
+            return self.trace_circle(circle);
         }
-        let held = self.hold();
-        self.plotter.edge(is_relative, corner)?;
-        self.release(held)
+        self.circle_along(circle)
     }
 
-    /// A circle about the pen.
-    pub fn circle(&mut self, circle: Circle) -> Result<(), Stop>
+    // The lines of a circle.
+    fn circle_along(&mut self, circle: Circle) -> Result<(), Stop>
         requires { IsCircle circle }
         ensures { Runs (line_step (seen self.old) (DrawCircle circle)) (seen self.new) result }
     {
@@ -82,14 +91,26 @@ impl FullPlotter {
         self.release(held)
     }
 
-    /// An arc from the pen on, after which the left margin is where the pen is.
+    /// An arc from the pen on, or points of a polygon in polygon mode. Then the left margin is where the pen is.
     pub fn arc(&mut self, is_relative: bool, arc: Arc) -> Result<(), Stop>
         requires { IsArc arc }
         ensures { Runs (core_step (seen self.old) (DrawArc is_relative arc)) (seen self.new) result }
     {
-        self.arc_along(is_relative, arc)?;
+        self.arc_lined(is_relative, arc)?;
         self.margin = self.plotter.state.place;
         Ok(())
+    }
+
+    // The lines of an arc, or points of a polygon.
+    fn arc_lined(&mut self, is_relative: bool, arc: Arc) -> Result<(), Stop>
+        requires { IsArc arc }
+        ensures { Runs (lined_step (seen self.old) (DrawArc is_relative arc)) (seen self.new) result }
+    {
+        if self.area.in_polygon {
+            self.trace_arc(is_relative, arc)
+        } else {
+            self.arc_along(is_relative, arc)
+        }
     }
 
     // The lines of an arc.
@@ -105,10 +126,23 @@ impl FullPlotter {
         self.release(held)
     }
 
-    /// The lines from the pen over places, drawn if it is down. It stays where it is.
+    /// The lines from the pen over places, drawn if it is down, or points of a polygon in polygon mode. The pen
+    /// stays where it is.
     pub fn line_over(&mut self, places: &[Spot]) -> Result<(), Stop>
         requires { length places.now ≤ 256 }
         ensures { Runs (lined (seen self.old) places.now) (seen self.new) result }
+    {
+        if self.area.in_polygon {
+            self.trace_over(places)
+        } else {
+            self.draw_over(places)
+        }
+    }
+
+    // The same out of polygon mode.
+    fn draw_over(&mut self, places: &[Spot]) -> Result<(), Stop>
+        requires { length places.now ≤ 256 }
+        ensures { Runs (drawn_over (seen self.old) places.now) (seen self.new) result }
     {
         let start = self.plotter.state.place;
         let draws = self.plotter.state.is_down;
@@ -120,9 +154,9 @@ impl FullPlotter {
         self.release(held)
     }
 
-    // Takes the strokes away, and selects a pen that draws.
+    /// Takes the strokes away, and selects a pen that draws.
     #[tactic(auto, unfolding(hpgl_plot::specs::Machine::step))]
-    fn hold(&mut self) -> Held
+    pub fn hold(&mut self) -> Held
         ensures core { core.seen self.new.plotter ≡ cleared (seen self.old) }
         ensures kept { result.strokes.items ≡ self.old.plotter.strokes.items }
         ensures full { result.is_full ≡ self.old.plotter.is_full }
@@ -142,14 +176,23 @@ impl FullPlotter {
     }
 
     // Brings the strokes back, and draws in the line type what core has drawn.
-    #[tactic(auto, unfolding(hpgl_plot::specs::Machine::step))]
     fn release(&mut self, held: Held) -> Result<(), Stop>
         ensures { Runs (Some (drawn (with_held (seen self.old) held) self.old.plotter.strokes.items))
             (seen self.new) result }
     {
+        let lines = self.bring_back(held);
+        self.dash(&lines)
+    }
+
+    /// Brings the strokes and the pen back, and gives what core has drawn.
+    #[tactic(auto, unfolding(hpgl_plot::specs::Machine::step))]
+    pub fn bring_back(&mut self, held: Held) -> Vec<Stroke>
+        ensures lines { result.items ≡ self.old.plotter.strokes.items }
+        ensures world { seen self.new ≡ with_held (seen self.old) held }
+    {
         let lines = replace(&mut self.plotter.strokes, held.strokes);
         self.plotter.is_full = held.is_full;
         self.plotter.select(held.pen);
-        self.dash(&lines)
+        lines
     }
 }

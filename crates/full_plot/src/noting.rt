@@ -2,13 +2,15 @@
 ghost use Rattle.std.specs.Prelude.{◌≡◌};
 ghost use Rattle.hpgl_text.specs.Shapes.{Params};
 ghost use Rattle.full_settings.specs.FurtherRequests.{IsFurtherRequest};
+ghost use Rattle.full_plot.specs.Contexts.{params_read};
 ghost use Rattle.full_plot.specs.Notes.{bad_without, request_noted, width_noted, params_noted, body_noted};
-ghost use Rattle.full_plot.specs.Notes.{unit_after, request_after, params_after, context_after};
+ghost use Rattle.full_plot.specs.Notes.{unit_after, is_on_after, request_after, params_after, context_after};
 
 use crate::context::Context;
+use crate::reading::{arc_read, circle_read, is_misplaced, request_read};
 use full_settings::{
-    FurtherRequest, WidthSetting, are_curves, colour_in, direction_setting, further_request,
-    percent_setting,
+    FillSetting, FurtherRequest, PolygonStep, WidthSetting, are_curves, colour_in,
+    direction_setting, percent_setting,
 };
 use hpgl_plot::NoteKind;
 use hpgl_text::{Body, Instruction, Item, Numbers};
@@ -17,9 +19,12 @@ use hpgl_text::{Body, Instruction, Item, Numbers};
 pub fn noted_kind(item: &Item<'_>, context: &Context) -> Option<NoteKind>
     ensures { result ≡ body_noted context.now item.now.body }
 {
+    if is_misplaced(&item.body, context.in_polygon) {
+        return Some(NoteKind::Bad);
+    }
     match &item.body {
         Body::Further(further, numbers) => noted_request(
-            &further_request(*further, numbers),
+            &request_read(*further, numbers, context.usual_chords),
             numbers,
         ),
         Body::Params(instruction, numbers) => noted_params(item, *instruction, numbers, context),
@@ -33,14 +38,16 @@ fn noted_request(request: &FurtherRequest, numbers: &Numbers<'_>) -> Option<Note
 {
     match request {
         FurtherRequest::Wrong => Some(NoteKind::Bad),
-        FurtherRequest::Skip => Some(NoteKind::Skipped),
+        FurtherRequest::Skip | FurtherRequest::Fill(FillSetting::Pattern) => {
+            Some(NoteKind::Skipped)
+        }
         FurtherRequest::Curves(_) if !are_curves(numbers) => Some(NoteKind::Bad),
         _ => None,
     }
 }
 
 // What is noted on an instruction of core: PW in percent, PC in ranges and DI are judged by rules of their
-// own.
+// own, and chords of CI, AA and AR may not be read.
 fn noted_params(
     item: &Item<'_>,
     instruction: Instruction,
@@ -48,7 +55,8 @@ fn noted_params(
     context: &Context,
 ) -> Option<NoteKind>
     requires { item.now.body ≡ Params instruction numbers.now }
-    ensures { result ≡ params_noted context.now instruction numbers.now }
+    ensures { result ≡ params_noted context.now instruction
+        (params_read context.now.usual_chords instruction numbers.now) }
 {
     match instruction {
         Instruction::PenWidth => noted_width(item, numbers, context.in_percent),
@@ -56,6 +64,10 @@ fn noted_params(
         Instruction::Direction => {
             let (list, count) = numbers.leading();
             bad_without(direction_setting(&list[..count]))
+        }
+        Instruction::Circle => bad_without(circle_read(numbers, context.usual_chords)),
+        Instruction::ArcAbsolute | Instruction::ArcRelative => {
+            bad_without(arc_read(numbers, context.usual_chords))
         }
         _ => hpgl_plot::noted_kind(item),
     }
@@ -88,10 +100,14 @@ fn bad_without<S: Drop>(setting: Option<S>) -> Option<NoteKind>
 pub fn context_after(item: &Item<'_>, context: &Context) -> Context
     ensures { result ≡ context_after context.now item.now.body }
 {
+    if is_misplaced(&item.body, context.in_polygon) {
+        return *context;
+    }
     match &item.body {
-        Body::Further(further, numbers) => {
-            request_after(&further_request(*further, numbers), context)
-        }
+        Body::Further(further, numbers) => request_after(
+            &request_read(*further, numbers, context.usual_chords),
+            context,
+        ),
         Body::Params(instruction, _) => params_after(*instruction, context),
         _ => *context,
     }
@@ -104,11 +120,19 @@ fn request_after(request: &FurtherRequest, context: &Context) -> Context
     match request {
         FurtherRequest::Width(setting) => Context {
             in_percent: unit_after(*setting, context.in_percent),
-            ranges: context.ranges,
+            ..*context
         },
         FurtherRequest::Colours(ranges) => Context {
-            in_percent: context.in_percent,
             ranges: *ranges,
+            ..*context
+        },
+        FurtherRequest::Polygon(step) => Context {
+            in_polygon: is_on_after(*step, context.in_polygon),
+            ..*context
+        },
+        FurtherRequest::Chords(usual) => Context {
+            usual_chords: *usual,
+            ..*context
         },
         FurtherRequest::Begin => Context::first(),
         _ => *context,
@@ -120,7 +144,23 @@ fn params_after(instruction: Instruction, context: &Context) -> Context
 {
     match instruction {
         Instruction::Initialize => Context::first(),
+        Instruction::DefaultValues => Context {
+            in_polygon: false,
+            usual_chords: false,
+            ..*context
+        },
         _ => *context,
+    }
+}
+
+// After a PM that asks for this.
+fn is_on_after(step: PolygonStep, in_polygon: bool) -> bool
+    ensures { result ≡ is_on_after step in_polygon }
+{
+    match step {
+        PolygonStep::Begin => true,
+        PolygonStep::Close => in_polygon,
+        PolygonStep::End => false,
     }
 }
 

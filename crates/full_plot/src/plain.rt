@@ -31,10 +31,13 @@ impl FullPlotter {
         self.plotter.set_relative(is_relative);
     }
 
-    /// A dot, unless the pen is down.
+    /// A dot, unless the pen is down, or polygon mode is on.
     pub fn touch(&mut self) -> Result<(), Stop>
         ensures { Runs (core_step (seen self.old) Touch) (seen self.new) result }
     {
+        if self.area.in_polygon {
+            return Ok(());
+        }
         self.plotter.touch()
     }
 }

@@ -2,12 +2,15 @@
 ghost use Rattle.std.specs.Prelude.{◌^◌};
 ghost use Rattle.directions.specs.Bounds.{IsWithin};
 ghost use Rattle.full_settings.specs.ColourRanges.{IsColourRanges};
+ghost use Rattle.full_plot.specs.Areas.{IsArea};
 
+use crate::area::Area;
 use crate::writing::Writing;
 use exact::Spot;
 use full_settings::{ColourRanges, LineStyle};
 use hpgl_plot::Plotter;
 use line_types::Run;
+use polygons::Buffer;
 use std::alloc::Global;
 
 /// Core's plotter, with what the profile full sets besides.
@@ -25,11 +28,16 @@ pub struct FullPlotter {
     /// The left margin of labels, a place on the page in grains.
     pub margin: Spot,
     pub ranges: ColourRanges,
-    /// The work that counts besides strokes: the bytes of the texts that PB wrote.
+    pub area: Area,
+    /// The polygons.
+    pub buffer: Buffer,
+    /// The work that counts besides strokes: the bytes of the texts that PB wrote, the places of the polygons
+    /// that were filled or edged, and the lines of fills that gave no stroke.
     pub extra: u32,
     /// How many strokes there were when each sheet ended.
     pub ends: Vec<usize>,
     pub alloc: Global,
     pub ghost margin_in: { IsWithin (2 ^ 96) margin },
     pub ghost ranges_in: { IsColourRanges ranges },
+    pub ghost area_in: { IsArea area },
 }

@@ -1,12 +1,17 @@
 //! What the items of a plot do.
 ghost use Rattle.std.specs.Prelude.{◌≡◌, false, Some, [], ◌∷◌};
 ghost use Rattle.hpgl_text.specs.Shapes.{Params};
-ghost use Rattle.plot_settings.specs.Meanings.{meaning, entry_steps, part_steps};
-ghost use Rattle.full_plot.specs.Items.{full_steps, more_steps, as_core};
+ghost use Rattle.hpgl_text.specs.declared.instruction.Instruction.TheVariants as of;
+ghost use Rattle.plot_settings.specs.Meanings.{asks, DrawArc, entry_steps, part_steps};
+ghost use Rattle.plot_settings.specs.Parameters.{arced};
+ghost use Rattle.full_plot.specs.Contexts.{context_of, params_read, read_in};
+ghost use Rattle.full_plot.specs.Items.{full_steps, more_steps, params_steps, as_core};
 ghost use Rattle.full_plot.specs.Holding.{is_own};
 ghost use Rattle.full_plot.specs.Machine.{seen, step, run, last_end, Runs, Restyle, Restart, EndSheet};
 
+use crate::area::Area;
 use crate::plotter::FullPlotter;
+use crate::reading::{arc_read, circle_read, is_misplaced};
 use crate::writing::Writing;
 use full_settings::{ColourRanges, LetterSetting, LineStyle, direction_setting};
 use hpgl_plot::Stop;
@@ -14,10 +19,13 @@ use hpgl_text::{Body, Entries, Entry, Instruction, Item, Numbers, Part};
 use plot_settings::{Setting, has_wrong_numbers};
 
 impl FullPlotter {
-    /// Carries out an item. One that asks for nothing does nothing.
+    /// Carries out an item, as it is read in polygon mode and after CT. One that asks for nothing does nothing.
     pub fn take(&mut self, item: &Item<'_>) -> Result<(), Stop>
-        ensures { Runs (run (seen self.old) (full_steps item.now.body)) (seen self.new) result }
+        ensures { Runs (run (seen self.old) (full_steps (read_in (context_of (seen self.old)) item.now.body))) (seen self.new) result }
     {
+        if is_misplaced(&item.body, self.area.in_polygon) {
+            return Ok(());
+        }
         match &item.body {
             Body::Further(further, numbers) => self.obey_further(*further, numbers),
             Body::Params(instruction, numbers) => self.take_params(item, *instruction, numbers),
@@ -44,7 +52,8 @@ impl FullPlotter {
         numbers: &Numbers<'_>,
     ) -> Result<(), Stop>
         requires { item.now.body ≡ Params instruction numbers.now }
-        ensures { Runs (run (seen self.old) (full_steps item.now.body)) (seen self.new) result }
+        ensures { Runs (run (seen self.old) (params_steps instruction
+            (params_read (seen self.old).area.usual_chords instruction numbers.now))) (seen self.new) result }
     {
         match instruction {
             Instruction::PenWidth => self.take_width(item, numbers),
@@ -52,20 +61,40 @@ impl FullPlotter {
                 self.set_colour(numbers);
                 Ok(())
             }
-            _ => self.take_other(item, instruction, numbers),
+            Instruction::Circle => self.take_circle(numbers),
+            Instruction::ArcAbsolute => self.take_arc(false, numbers),
+            Instruction::ArcRelative => self.take_arc(true, numbers),
+            _ => self.take_other(instruction, numbers),
         }
     }
 
-    // Carries out an instruction other than PW and PC, and what it does besides.
-    fn take_other(
-        &mut self,
-        item: &Item<'_>,
-        instruction: Instruction,
-        numbers: &Numbers<'_>,
-    ) -> Result<(), Stop>
-        requires body { item.now.body ≡ Params instruction numbers.now }
-        requires other { is_own instruction ≡ false }
-        ensures { Runs (run (seen self.old) (full_steps item.now.body)) (seen self.new) result }
+    // CI, whose chord may not be read.
+    fn take_circle(&mut self, numbers: &Numbers<'_>) -> Result<(), Stop>
+        ensures { Runs (run (seen self.old) (params_steps of.Circle
+            (params_read (seen self.old).area.usual_chords of.Circle numbers.now))) (seen self.new) result }
+    {
+        match circle_read(numbers, self.area.usual_chords) {
+            Some(circle) => self.circle(circle),
+            None => Ok(()),
+        }
+    }
+
+    // AA and AR, whose chord may not be read.
+    fn take_arc(&mut self, is_relative: bool, numbers: &Numbers<'_>) -> Result<(), Stop>
+        ensures { Runs (run (seen self.old) (as_core (asks (DrawArc is_relative)
+            (arced (params_read (seen self.old).area.usual_chords of.ArcAbsolute numbers.now))).steps))
+            (seen self.new) result }
+    {
+        match arc_read(numbers, self.area.usual_chords) {
+            Some(arc) => self.arc(is_relative, arc),
+            None => Ok(()),
+        }
+    }
+
+    // Carries out an instruction other than PW, PC, CI, AA and AR, and what it does besides.
+    fn take_other(&mut self, instruction: Instruction, numbers: &Numbers<'_>) -> Result<(), Stop>
+        requires { is_own instruction ≡ false }
+        ensures { Runs (run (seen self.old) (params_steps instruction numbers.now)) (seen self.new) result }
     {
         self.obey(instruction, numbers)?;
         self.do_more(instruction, numbers);
@@ -93,13 +122,15 @@ impl FullPlotter {
         }
     }
 
-    // The line style and the labels of the start.
+    // The line style, the labels and the polygons of the start.
     fn restyle(&mut self)
         ensures { step (seen self.old) Restyle ≡ Some (seen self.new) }
     {
         self.style = LineStyle::new();
         self.run = None;
         self.writing = Writing::usual(self.alloc);
+        self.area = Area::usual();
+        self.buffer.clear();
     }
 
     /// The same, with widths in millimetres and the usual colours, and the left margin at the pen.

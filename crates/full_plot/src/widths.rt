@@ -2,7 +2,7 @@
 ghost use Rattle.std.specs.Prelude.{◌≡◌, IfSome, Some, None};
 ghost use Rattle.hpgl_text.specs.Shapes.{Params};
 ghost use Rattle.hpgl_text.specs.declared.instruction.Instruction.TheVariants.{PenWidth};
-ghost use Rattle.full_plot.specs.Items.{full_steps};
+ghost use Rattle.full_plot.specs.Items.{params_steps};
 ghost use Rattle.full_plot.specs.Machine.{seen, step, run, Runs, Widen, Rewiden, widened_if};
 ghost use Rattle.full_settings.specs.Widths.{IsWidthSetting, percents_set};
 
@@ -16,7 +16,7 @@ impl FullPlotter {
     /// PW (Pen Width): in millimetres as in core, or in percent. Wrong numbers set nothing.
     pub fn take_width(&mut self, item: &Item<'_>, numbers: &Numbers<'_>) -> Result<(), Stop>
         requires { item.now.body ≡ Params PenWidth numbers.now }
-        ensures { Runs (run (seen self.old) (full_steps item.now.body)) (seen self.new) result }
+        ensures { Runs (run (seen self.old) (params_steps PenWidth numbers.now)) (seen self.new) result }
     {
         match self.percents {
             None => self.plotter.take(item),

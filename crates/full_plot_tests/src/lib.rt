@@ -16,4 +16,6 @@ mod marks_set;
 #[cfg(test)]
 mod notes_and_sheets;
 #[cfg(test)]
+mod polygons_set;
+#[cfg(test)]
 mod widths_set;

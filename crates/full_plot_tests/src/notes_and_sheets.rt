@@ -43,7 +43,19 @@ fn notes_on_further_instructions(rt: HostRuntime) -> Result<(), Fail> {
         (b"PG;AF;NR1;BP5,6;PS1;NP8;COa x;LA1,4;", ""),
         (
             b"PM;FT3;EW1,2,3;SM*;BLx\x03PB;ZZ1;",
-            "0 skipped PM;3 skipped FT;7 skipped EW;26 skipped ZZ;",
+            "7 bad EW;23 bad PB;26 skipped ZZ;",
+        ),
+        (
+            b"PM2;PM0;EA1,1;LBA\x03FP;PM1;PM2;EP;PM1;PM3;FP2;",
+            "0 bad PM;8 bad EA;14 bad LB;18 bad FP;32 bad PM;36 bad PM;40 bad FP;",
+        ),
+        (
+            b"FT21;FT3,-1;FT10,101;FT5;FT4,0,370;AC1;RA1;WG1,2;WG1,2,3,0;CT2;",
+            "0 skipped FT;5 bad FT;12 bad FT;21 bad FT;35 bad AC;39 bad RA;43 bad WG;49 bad WG;59 bad CT;",
+        ),
+        (
+            b"CI1,0;CT1;CI1,0;AA1,2,3,0;AT1,2,3,4,0;EW1,2,3,0;DF;AR1,2,3,0;",
+            "0 bad CI;51 bad AR;",
         ),
         (
             b"AT1,2,3;AT1,2,3,4,0.4;AT1,2,3,4,200;AT1,2,3,4,5,6;RT1,2,3,4,180;",
@@ -95,7 +107,7 @@ fn notes_on_items_of_core(rt: HostRuntime) -> Result<(), Fail> {
             "0 skipped ZZ;4 bad PA;10 stray 0;11 stray 33;19 bad DT;23 stray 35;",
         ),
         // notes of several items, and the last one after a PE
-        (b"PM;LT9;PE<", "0 skipped PM;3 bad LT;7 open PE;"),
+        (b"UC;LT9;PE<", "0 skipped UC;3 bad LT;7 open PE;"),
         (b"SP256;LBx", "0 bad SP;6 open LB;"),
         // colours in the ranges of CR, and without
         (

@@ -1,5 +1,7 @@
 -- Further instructions other than UL look at their first seven numbers only.
-use Rattle.std.proofs.Common.{◌≡◌, refl, false, true≢false, ℤ, List, [], ◌∷◌, take}
+use Rattle.std.proofs.Common.{◌≡◌, ◌∙◌, ◌≤◌, nat_le, inl, inr, length, length-take, take_all, take-take, ap, refl, sym, arith, ℕ, min, false, true≢false, ℤ, List, [], ◌∷◌, take}
+use Rattle.std.proofs.lemmas.Bool.{cases_Bool}
+use Rattle.std.proofs.lemmas.Bool.Decides.{nat_tests}
 use Rattle.hpgl_text.specs.declared.further.Further.{Further}
 use Rattle.hpgl_text.specs.declared.further.Further.TheVariants as of
 use Rattle.full_settings.specs.FurtherRequests.{further_request, has_gaps}
@@ -62,4 +64,25 @@ same_request of.LabelOrigin ns h = first_one (further_request of.LabelOrigin) (�
 same_request of.ExtraSpace ns h = first_two (further_request of.ExtraSpace) (λ _ _ _. refl) ns
 same_request of.ArcAbsoluteThreePoint ns h = first_five (further_request of.ArcAbsoluteThreePoint) (λ _ _ _ _ _ _. refl) ns
 same_request of.ArcRelativeThreePoint ns h = first_five (further_request of.ArcRelativeThreePoint) (λ _ _ _ _ _ _. refl) ns
+same_request of.PolygonMode ns h = first_one (further_request of.PolygonMode) (λ _ _. refl) ns
+same_request of.FillPolygon ns h = first_one (further_request of.FillPolygon) (λ _ _. refl) ns
+same_request of.FillType ns h = first_three (further_request of.FillType) (λ _ _ _ _. refl) ns
+same_request of.AnchorCorner ns h = first_two (further_request of.AnchorCorner) (λ _ _ _. refl) ns
+same_request of.FillAbsolute ns h = first_two (further_request of.FillAbsolute) (λ _ _ _. refl) ns
+same_request of.FillRelative ns h = first_two (further_request of.FillRelative) (λ _ _ _. refl) ns
+same_request of.EdgeWedge ns h = first_four (further_request of.EdgeWedge) (λ _ _ _ _ _. refl) ns
+same_request of.FillWedge ns h = first_four (further_request of.FillWedge) (λ _ _ _ _ _. refl) ns
+same_request of.ChordTolerance ns h = first_one (further_request of.ChordTolerance) (λ _ _. refl) ns
 same_request f ns h = refl
+
+-- the first of the leading numbers are the first of all
+pub first_of_leading : (count most : ℕ) (list ns : List ℤ) → most ≤ 7 → take count list ≡ take 7 ns → take (min count most) list ≡ take most ns
+first_of_leading count most list ns h e = elim (cases_Bool (nat_le count most)) [
+  | inl t ↦ (let k : count ≤ most = grind (arith, nat_tests) in
+      let m : min count most ≡ count = omega arith in
+      let few : length (take 7 ns) ≤ most = rw (sym e) (omega (arith, length-take count list)) in
+      ap (λ (n : ℕ). take n list) m ∙ e ∙ sym (take_all most (take 7 ns) few) ∙ take-take most 7 ns h)
+  | inr t ↦ (let k : most ≤ count = grind (arith, nat_tests) in
+      let m : min count most ≡ most = omega arith in
+      ap (λ (n : ℕ). take n list) m ∙ sym (take-take most count list k) ∙ ap (λ (l : List ℤ). take most l) e ∙ take-take most 7 ns h)
+]

@@ -2,6 +2,7 @@
 use Rattle.std.specs.Prelude.{ℤ, Bool, true, false, List, Option, Some, None, ⊤}
 use Rattle.hpgl_text.specs.declared.further.Further as further
 use Rattle.hpgl_text.specs.declared.further.Further.TheVariants as of
+use Rattle.plot_settings.specs.Bounds.{IsCorner}
 use Rattle.full_settings.specs.CharacterMoves.{character_move, IsCharacterMove}
 use Rattle.full_settings.specs.ColourRanges.{ranges_of, IsColourRanges}
 use Rattle.full_settings.specs.CurveParameters.{arc_points}
@@ -10,13 +11,17 @@ use Rattle.full_settings.specs.LetterParameters.{IsLetterSetting}
 use Rattle.full_settings.specs.LineParameters.{line_type, user_line_type}
 use Rattle.full_settings.specs.LineStyles.{IsLineSetting}
 use Rattle.full_settings.specs.RelativePoints.{relative_points, IsRelativePoints}
+use Rattle.full_settings.specs.FillParameters.{fill_type, IsFillSetting}
+use Rattle.full_settings.specs.PolygonParameters.{anchor, by_winding, corner, polygon_step, usual_chords, wedge, IsWedge}
 use Rattle.full_settings.specs.TickParameters.{tick_length, IsTickLength}
 use Rattle.full_settings.specs.WidthParameters.{width_unit, thickness}
 use Rattle.full_settings.specs.Widths.{IsWidthSetting}
 use Rattle.full_settings.specs.declared.requests.FurtherRequest.{FurtherRequest}
 use Rattle.full_settings.specs.declared.requests.FurtherRequest.TheVariants.{Line, Width, Letter, Ticks, Points}
 use Rattle.full_settings.specs.declared.requests.FurtherRequest.TheVariants.{Colours, Move, Tick, Arc, Curves, Print, EndSheet}
-use Rattle.full_settings.specs.declared.requests.FurtherRequest.TheVariants.{Begin, Wrong, Skip}
+use Rattle.full_settings.specs.declared.requests.FurtherRequest.TheVariants.{Polygon, EdgePolygon, FillPolygon, Fill}
+use Rattle.full_settings.specs.declared.requests.FurtherRequest.TheVariants.{Anchor, Rectangle, EdgeWedge, FillWedge}
+use Rattle.full_settings.specs.declared.requests.FurtherRequest.TheVariants.{Chords, Begin, Wrong, Skip}
 
 -- what numbers ask for, or that they are wrong
 abbrev pub request_by : {A : Type 0} → (A → FurtherRequest) → Option A → FurtherRequest
@@ -32,6 +37,20 @@ letter_request of.TextPath ns = request_by Letter (text_path ns)
 letter_request of.LabelOrigin ns = request_by Letter (origin ns)
 letter_request of.ExtraSpace ns = request_by Letter (space ns)
 letter_request _ ns = Skip
+
+-- instructions of polygons, and those of labels
+abbrev pub polygon_request : further.Further → List ℤ → FurtherRequest
+polygon_request of.PolygonMode ns = request_by Polygon (polygon_step ns)
+polygon_request of.EdgePolygon ns = EdgePolygon
+polygon_request of.FillPolygon ns = request_by FillPolygon (by_winding ns)
+polygon_request of.FillType ns = request_by Fill (fill_type ns)
+polygon_request of.AnchorCorner ns = request_by Anchor (anchor ns)
+polygon_request of.FillAbsolute ns = request_by (Rectangle false) (corner ns)
+polygon_request of.FillRelative ns = request_by (Rectangle true) (corner ns)
+polygon_request of.EdgeWedge ns = request_by EdgeWedge (wedge ns)
+polygon_request of.FillWedge ns = request_by FillWedge (wedge ns)
+polygon_request of.ChordTolerance ns = request_by Chords (usual_chords ns)
+polygon_request f ns = letter_request f ns
 
 abbrev pub further_request : further.Further → List ℤ → FurtherRequest
 further_request of.LineType ns = request_by Line (line_type ns)
@@ -51,7 +70,7 @@ further_request of.ArcAbsoluteThreePoint ns = request_by (Arc false) (arc_points
 further_request of.ArcRelativeThreePoint ns = request_by (Arc true) (arc_points ns)
 further_request of.BezierAbsolute ns = Curves false
 further_request of.BezierRelative ns = Curves true
-further_request f ns = letter_request f ns
+further_request f ns = polygon_request f ns
 
 -- UL has up to 21 numbers, and no other instruction more than seven
 abbrev pub has_gaps : further.Further → Bool
@@ -67,4 +86,8 @@ IsFurtherRequest (Ticks t) = IsTickLength t
 IsFurtherRequest (Points p) = IsRelativePoints p
 IsFurtherRequest (Colours r) = IsColourRanges r
 IsFurtherRequest (Move m) = IsCharacterMove m
+IsFurtherRequest (Fill s) = IsFillSetting s
+IsFurtherRequest (Rectangle relative c) = IsCorner c
+IsFurtherRequest (EdgeWedge w) = IsWedge w
+IsFurtherRequest (FillWedge w) = IsWedge w
 IsFurtherRequest _ = ⊤

@@ -1,5 +1,5 @@
 -- What a reader must believe: what the numbers of the further instructions ask for, line types, widths of pens, letters
--- of labels, ticks, P1 and P2 on a page, ranges of colours, and curves.
+-- of labels, ticks, P1 and P2 on a page, ranges of colours, curves, polygons and fills.
 pub mod LineStyles
 pub mod LineParameters
 pub mod Widths
@@ -12,4 +12,6 @@ pub mod TickParameters
 pub mod RelativePoints
 pub mod ColourRanges
 pub mod CurveParameters
+pub mod PolygonParameters
+pub mod FillParameters
 pub mod FurtherRequests

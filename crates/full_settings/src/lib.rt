@@ -1,13 +1,17 @@
 //! What the further instructions of the profile full ask for by their numbers, and what they set: line types,
-//! widths of pens, letters of labels, ticks, P1 and P2, ranges of colours, and curves.
+//! widths of pens, letters of labels, ticks, P1 and P2, ranges of colours, curves, polygons
+//! and fills.
 #![tactic(auto)]
 
 mod character_moves;
 mod colour_parameters;
 mod colour_range;
 mod curve_parameters;
+mod fill_parameters;
+mod fill_setting;
 mod heading;
 mod letter_parameters;
+mod letter_requests;
 mod letter_setting;
 mod letters;
 mod line_parameters;
@@ -16,6 +20,9 @@ mod line_style;
 mod page_points;
 mod percentages;
 mod points;
+mod polygon_parameters;
+mod polygon_requests;
+mod polygon_setting;
 mod requests;
 mod tick_length;
 mod tick_parameters;
@@ -27,6 +34,8 @@ pub use character_moves::{CharacterMove, character_move};
 pub use colour_parameters::{colour_in, colour_ranges};
 pub use colour_range::{ColourRange, ColourRanges};
 pub use curve_parameters::{arc_points, are_curves, next_curve};
+pub use fill_parameters::fill_type_setting;
+pub use fill_setting::{FillKind, FillSetting, FillStyle};
 pub use heading::Heading;
 pub use letter_parameters::{
     direction_setting, origin_setting, path_setting, relative_direction_setting,
@@ -39,7 +48,9 @@ pub use line_setting::{LineKind, LineSetting, PatternLength};
 pub use line_style::{LineStyle, diagonal_by, distance};
 pub use page_points::{RelativePoints, points_of, relative_points};
 pub use points::{ArcPoints, CurvePoints, Point};
-pub use requests::{FurtherRequest, further_request};
+pub use polygon_parameters::{anchor, choice, fill_corner, polygon_step, wedge};
+pub use polygon_setting::{Anchor, PolygonStep, Wedge};
+pub use requests::{FurtherRequest, further_request, request_without_chord};
 pub use tick_length::TickLength;
 pub use tick_parameters::tick_setting;
 pub use width_parameters::{percent_setting, thickness_setting, width_unit_setting};

@@ -1,11 +1,11 @@
 //! What a further instruction asks for by its numbers: the one table that says it.
-ghost use Rattle.std.specs.Prelude.{◌≡◌, false, IfSome};
+ghost use Rattle.std.specs.Prelude.{◌≡◌, ◌≤◌, take, false, IfSome};
 ghost use Rattle.full_settings.specs.CharacterMoves.{IsCharacterMove};
 ghost use Rattle.full_settings.specs.ColourRanges.{IsColourRanges};
 ghost use Rattle.full_settings.specs.FurtherRequests as requests;
 ghost use Rattle.full_settings.specs.FurtherRequests.{IsFurtherRequest, request_by, has_gaps};
-ghost use Rattle.full_settings.specs.LetterParameters.{IsLetterSetting};
 ghost use Rattle.full_settings.specs.LineStyles.{IsLineSetting};
+ghost use Rattle.full_settings.specs.PolygonParameters.{without_chord};
 ghost use Rattle.full_settings.specs.RelativePoints.{IsRelativePoints};
 ghost use Rattle.full_settings.specs.TickParameters.{IsTickLength};
 ghost use Rattle.full_settings.specs.Widths.{IsWidthSetting};
@@ -15,20 +15,20 @@ use crate::character_moves::{CharacterMove, character_move};
 use crate::colour_parameters::colour_ranges;
 use crate::colour_range::ColourRanges;
 use crate::curve_parameters::arc_points;
-use crate::letter_parameters::{
-    origin_setting, path_setting, relative_direction_setting, relative_size_setting, slant_setting,
-    space_setting,
-};
+use crate::fill_setting::FillSetting;
 use crate::letter_setting::LetterSetting;
 use crate::line_parameters::{line_type_setting, user_line_setting};
 use crate::line_setting::LineSetting;
 use crate::page_points::{RelativePoints, relative_points};
 use crate::points::ArcPoints;
+use crate::polygon_requests::request_of_polygons;
+use crate::polygon_setting::{Anchor, PolygonStep, Wedge};
 use crate::tick_length::TickLength;
 use crate::tick_parameters::tick_setting;
 use crate::width_parameters::{thickness_setting, width_unit_setting};
 use crate::width_setting::WidthSetting;
 use hpgl_text::{Further, Number, Numbers};
+use plot_settings::Corner;
 
 /// What a further instruction asks for.
 #[derive(Drop)]
@@ -53,6 +53,24 @@ pub enum FurtherRequest {
     Arc(bool, ArcPoints),
     /// BZ, and BR, whose points are relative to the pen: Bezier curves by all numbers.
     Curves(bool),
+    /// PM: polygon mode begins or ends, or a polygon is closed.
+    Polygon(PolygonStep),
+    /// EP: the edges of the polygons in the buffer.
+    EdgePolygon,
+    /// FP: their inside, by winding or by odd counts.
+    FillPolygon(bool),
+    /// FT: how polygons are filled.
+    Fill(FillSetting),
+    /// AC: where the lines of hatching are counted from.
+    Anchor(Anchor),
+    /// RA, and RR, whose corner is relative to the pen: a filled rectangle.
+    Rectangle(bool, Corner),
+    /// EW: the edge of a wedge.
+    EdgeWedge(Wedge),
+    /// WG: a filled wedge.
+    FillWedge(Wedge),
+    /// CT: whether chords have the usual angle, whatever angle is named.
+    Chords(bool),
     /// PB: the text that is kept is written.
     Print,
     /// PG and the like: the end of a sheet.
@@ -79,6 +97,31 @@ pub fn further_request(further: Further, numbers: &Numbers<'_>) -> FurtherReques
     }
 }
 
+/// The same after CT 1, by which chords of arcs and wedges are not read.
+pub fn request_without_chord(further: Further, numbers: &Numbers<'_>) -> FurtherRequest
+    ensures value { result ≡ requests.further_request further (without_chord further numbers.now) }
+    ensures sound { IsFurtherRequest result }
+{
+    match further {
+        Further::ArcAbsoluteThreePoint => request_by_few(further, numbers, 4),
+        Further::ArcRelativeThreePoint => request_by_few(further, numbers, 4),
+        Further::EdgeWedge => request_by_few(further, numbers, 3),
+        Further::FillWedge => request_by_few(further, numbers, 3),
+        _ => further_request(further, numbers),
+    }
+}
+
+// What an instruction other than UL asks for by so many of its first numbers.
+fn request_by_few(further: Further, numbers: &Numbers<'_>, most: usize) -> FurtherRequest
+    requires few { most ≤ 7 }
+    requires other { has_gaps further ≡ false }
+    ensures value { result ≡ requests.further_request further (take most numbers.now) }
+    ensures sound { IsFurtherRequest result }
+{
+    let (list, count) = numbers.leading();
+    request_by_first(further, &list[..count.min(most)])
+}
+
 // What an instruction other than UL asks for by its first numbers.
 fn request_by_first(further: Further, numbers: &[Number]) -> FurtherRequest
     requires { has_gaps further ≡ false }
@@ -102,23 +145,7 @@ fn request_by_first(further: Further, numbers: &[Number]) -> FurtherRequest
         Further::ArcRelativeThreePoint => arc_request(true, arc_points(numbers)),
         Further::BezierAbsolute => FurtherRequest::Curves(false),
         Further::BezierRelative => FurtherRequest::Curves(true),
-        _ => request_of_letters(further, numbers),
-    }
-}
-
-// What one of the other instructions asks for.
-fn request_of_letters(further: Further, numbers: &[Number]) -> FurtherRequest
-    ensures value { result ≡ requests.letter_request further numbers.now }
-    ensures sound { IsFurtherRequest result }
-{
-    match further {
-        Further::RelativeSize => letter_request(relative_size_setting(numbers)),
-        Further::Slant => letter_request(slant_setting(numbers)),
-        Further::RelativeDirection => letter_request(relative_direction_setting(numbers)),
-        Further::TextPath => letter_request(path_setting(numbers)),
-        Further::LabelOrigin => letter_request(origin_setting(numbers)),
-        Further::ExtraSpace => letter_request(space_setting(numbers)),
-        _ => FurtherRequest::Skip,
+        _ => request_of_polygons(further, numbers),
     }
 }
 
@@ -140,17 +167,6 @@ fn width_request(setting: Option<WidthSetting>) -> FurtherRequest
 {
     match setting {
         Some(setting) => FurtherRequest::Width(setting),
-        None => FurtherRequest::Wrong,
-    }
-}
-
-fn letter_request(setting: Option<LetterSetting>) -> FurtherRequest
-    requires { IfSome setting IsLetterSetting }
-    ensures value { result ≡ request_by request.Letter setting }
-    ensures sound { IsFurtherRequest result }
-{
-    match setting {
-        Some(setting) => FurtherRequest::Letter(setting),
         None => FurtherRequest::Wrong,
     }
 }

@@ -15,7 +15,7 @@ use Rattle.plot_frame.specs.Frame.{on_axis}
 use Rattle.plot_frame.proofs.Crossing.{near_small, number_small}
 use Rattle.plot_frame.proofs.InBounds.{line_of_axis_in}
 use Rattle.plot_arc.specs.Bounds as arc
-use Rattle.plot_arc.specs.Arcs.{vector, nearest, turned_x, turned_y, turn_after}
+use Rattle.plot_arc.specs.Arcs.{chord_point_of, vector, nearest, turned_x, turned_y, turn_after}
 use Rattle.exact.specs.declared.spot.Spot.{Spot}
 use Rattle.plot_arc.proofs.Reach.{is_reached}
 use Rattle.plot_page.specs.declared.page.Page.{Page}
@@ -109,19 +109,26 @@ reached_along n page f c centre d i j k =
     let b = product_part s c.from.y c.centre.y (i.from.y_in.product_in n) (i.centre.y_in.product_in n) in
     shared s centre d (c.from.x -ℤ c.centre.x) (c.from.y -ℤ c.centre.y) (j.product_in n) a b k
 
+-- a first point that is turned by any angle
+pub turned_right : (page : Page) (f : Frame) (axes : Pair Axis) (c : Curve) (t : ℤ) → AreAxes page f axes → IsCurve page f c
+    → nat_abs (axes.x.slope *ℤ (chord_point_of c.centre c.from t).x) ≤ 2 ^ 118
+turned_right page f axes c t h i =
+    rw h.x_is (reached_along X page f c c.centre.x (nearest (turned_x (vector c.centre c.from) t)) i i.centre.x_in (is_reached c.centre c.from t).x)
+
+pub turned_above : (page : Page) (f : Frame) (axes : Pair Axis) (c : Curve) (t : ℤ) → AreAxes page f axes → IsCurve page f c
+    → nat_abs (axes.y.slope *ℤ (chord_point_of c.centre c.from t).y) ≤ 2 ^ 118
+turned_above page f axes c t h i =
+    rw h.y_is (reached_along Y page f c c.centre.y (nearest (turned_y (vector c.centre c.from) t)) i i.centre.y_in (is_reached c.centre c.from t).y)
+
 pub point_right : (page : Page) (f : Frame) (axes : Pair Axis) (c : Curve) (k : ℕ) → AreAxes page f axes → IsCurve page f c
     → nat_abs (axes.x.slope *ℤ (curve_point c k).x) ≤ 2 ^ 118
 unfolding curve_point
-point_right page f axes c k h i =
-    let t = turn_after c.chord c.sweep k in
-    rw h.x_is (reached_along X page f c c.centre.x (nearest (turned_x (vector c.centre c.from) t)) i i.centre.x_in (is_reached c.centre c.from t).x)
+point_right page f axes c k h i = turned_right page f axes c (turn_after c.chord c.sweep k) h i
 
 pub point_above : (page : Page) (f : Frame) (axes : Pair Axis) (c : Curve) (k : ℕ) → AreAxes page f axes → IsCurve page f c
     → nat_abs (axes.y.slope *ℤ (curve_point c k).y) ≤ 2 ^ 118
 unfolding curve_point
-point_above page f axes c k h i =
-    let t = turn_after c.chord c.sweep k in
-    rw h.y_is (reached_along Y page f c c.centre.y (nearest (turned_y (vector c.centre c.from) t)) i i.centre.y_in (is_reached c.centre c.from t).y)
+point_above page f axes c k h i = turned_above page f axes c (turn_after c.chord c.sweep k) h i
 
 -- and so has the first point
 pub first_right : (page : Page) (f : Frame) (axes : Pair Axis) (c : Curve) → AreAxes page f axes → IsCurve page f c

@@ -20,11 +20,15 @@ use Rattle.hpgl_plot.specs.declared.state.State.{State}
 use Rattle.hpgl_plot.specs.OnPage.{turned_vector}
 use Rattle.plot_settings.specs.Meanings.{Step, Touch, Move, Go, Edge, DrawCircle, DrawArc, Write}
 
+-- a point so far on the right of another
+abbrev pub right_of : Spot → ℤ → Spot
+right_of u n = record { x = u.x +ℤ n; y = u.y }
+
 -- about the pen, from the point on its right all the way round
 abbrev pub circle_curve : Spot → Circle → Curve
 circle_curve pen c = record {
   centre = pen;
-  from = record { x = pen.x +ℤ c.radius; y = pen.y };
+  from = right_of pen c.radius;
   sweep = pos 360000;
   chord = c.chord;
 }

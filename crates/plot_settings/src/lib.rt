@@ -14,7 +14,7 @@ mod request;
 mod setting;
 mod wrong;
 
-pub use arc_parameters::{is_chord, thousandths};
+pub use arc_parameters::{arc_from, circle_from, is_chord, thousandths};
 pub use figure::{Arc, Circle, Corner};
 pub use palette::{FIRST_WIDTH, default_colour, default_colours, width_of_all};
 pub use parameters::whole_number;

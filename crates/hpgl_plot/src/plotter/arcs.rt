@@ -1,10 +1,12 @@
 //! Circles and arcs.
-ghost use Rattle.std.specs.Prelude.{◌≡◌, ◌∷◌, IfOk};
+ghost use Rattle.std.specs.Prelude.{◌≡◌, ◌≤◌, ◌^◌, ◌∷◌, nat_abs, IfOk};
+ghost use Rattle.plot_arc.specs.Arcs.{chord_point_of};
+ghost use Rattle.hpgl_plot.specs.Frames as frames;
 ghost use Rattle.hpgl_plot.specs.Paths as curves;
 ghost use Rattle.hpgl_plot.specs.Bounds.{IsInRange, IsCurve};
 ghost use Rattle.plot_settings.specs.Bounds.{IsCircle, IsArc};
 ghost use Rattle.hpgl_plot.specs.Machine.{seen, step, Runs, travelled};
-ghost use Rattle.hpgl_plot.specs.Paths.{pen_at, target};
+ghost use Rattle.hpgl_plot.specs.Paths.{pen_at, right_of, target};
 ghost use Rattle.plot_settings.specs.Meanings.{DrawCircle, DrawArc};
 
 use crate::curve::{Curve, chord_count, curve_point};
@@ -12,6 +14,7 @@ use crate::place::target_of;
 use crate::plotter::{Plotter, Stop};
 use crate::state::Position;
 use exact::Spot;
+use plot_arc::chord_point;
 use plot_settings::{Arc, Circle};
 
 impl Plotter {
@@ -37,6 +40,17 @@ impl Plotter {
         let end = self.follow_curve(start, curve, draws)?;
         self.arrive(end);
         Ok(())
+    }
+
+    /// The place of the point so far on the right of the pen, after a turn about the pen. The radius is in
+    /// millionths of the current unit, the angle in thousandths of a degree, counterclockwise if it is above 0.
+    pub fn place_about(&self, radius: i64, angle: i64) -> Spot
+        requires { nat_abs radius ≤ 2 ^ 55 }
+        ensures { result ≡ frames.place self.now.page self.now.state.frame
+            (chord_point_of self.now.state.coordinates (right_of self.now.state.coordinates radius) angle) }
+    {
+        let curve = self.circle_curve(Circle { radius, chord: 1 });
+        self.place_of(chord_point(curve.centre, curve.from, angle))
     }
 
     // A circle in coordinates.

@@ -6,7 +6,8 @@ ghost use Rattle.hpgl_plot.specs.Frames as frames;
 ghost use Rattle.hpgl_plot.specs.Machine.{seen, step, Runs, kept_with, full_with, moved, travelled, ends_in, put_at};
 ghost use Rattle.hpgl_plot.specs.Paths as paths;
 ghost use Rattle.hpgl_plot.specs.Paths.{pen_placed};
-ghost use Rattle.hpgl_plot.specs.Strokes.{drawn, stroke};
+ghost use Rattle.plot_page.specs.declared.stroke.TheConstants.{GREATEST_WIDTH};
+ghost use Rattle.hpgl_plot.specs.Strokes.{by_a_pen, drawn, stroke};
 ghost use Rattle.plot_settings.specs.Meanings.{Touch, Move, Go};
 
 use crate::place::{coordinates_at, is_place_in_range, place_on, target_of};
@@ -179,12 +180,32 @@ impl Plotter {
         requires b_in { IsInRange b }
         ensures { result ≡ stroke self.now.state a b }
     {
+        self.line(a, b)
+    }
+
+    /// The stroke that the pen draws between two places, or pen 1 if none is selected.
+    pub fn line(&self, a: Spot, b: Spot) -> Stroke
+        requires a_in { IsInRange a }
+        requires b_in { IsInRange b }
+        ensures { result ≡ stroke (by_a_pen self.now.state) a b }
+    {
+        let pen = usize::from(self.state.pen.max(1));
+        self.line_of_width(self.state.widths[pen], a, b)
+    }
+
+    /// The same of a width in grains, up to 12,800.
+    pub fn line_of_width(&self, width: u32, a: Spot, b: Spot) -> Stroke
+        requires width { width ≤ GREATEST_WIDTH }
+        requires a_in { IsInRange a }
+        requires b_in { IsInRange b }
+        ensures { result ≡ record (stroke (by_a_pen self.now.state) a b) { width = width } }
+    {
         let state = &self.state;
-        let pen = usize::from(state.pen);
+        let pen = state.pen.max(1);
         Stroke {
-            pen: state.pen,
-            colour: state.colours[pen],
-            width: state.widths[pen],
+            pen,
+            colour: state.colours[usize::from(pen)],
+            width,
             window: state.window,
             ax: a.x as i32,
             ay: a.y as i32,

@@ -1,4 +1,4 @@
-use Rattle.std.proofs.Common.{◌≡◌, IsTrue, ℕ, ℤ, pos, rules}
+use Rattle.std.proofs.Common.{◌≡◌, IsTrue, pos, rules}
 use Rattle.lettering.specs.Styles.{usual}
 use Rattle.lettering.specs.declared.style.LineFeed.TheVariants.{Normal}
 use Rattle.lettering.specs.declared.style.Path.TheVariants.{Right}

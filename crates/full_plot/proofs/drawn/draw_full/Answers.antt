@@ -6,7 +6,8 @@ use Rattle.hpgl_plot.specs.declared.note.NoteKind.{NoteKind}
 use Rattle.hpgl_plot.specs.Notes.{notes_with}
 use Rattle.full_plot.specs.Drawings.{runs}
 use Rattle.full_plot.specs.Machine.{seen}
-use Rattle.full_plot.specs.Notes.{Context, body_noted, context_after, context_of, notes_from}
+use Rattle.full_plot.specs.Contexts.{Context, context_of}
+use Rattle.full_plot.specs.Notes.{body_noted, context_after, notes_from}
 use Rattle.full_plot.proofs.FewNotes.{few_notes}
 use Rattle.full_plot.proofs.FewStrokes.{few_strokes}
 use Rattle.full_plot.proofs.Told.{told_as_set, carried_out}

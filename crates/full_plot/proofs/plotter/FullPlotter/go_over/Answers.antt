@@ -1,4 +1,3 @@
-use Rattle.std.proofs.Common.{◌≡◌}
 use Rattle.hpgl_plot.proofs.Fed.{within}
 use Rattle.hpgl_plot.proofs.Sound.{sound_at}
 use Rattle.full_plot.specs.Machine.{seen}

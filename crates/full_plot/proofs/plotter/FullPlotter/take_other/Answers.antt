@@ -5,10 +5,10 @@ use Rattle.full_plot.proofs.plotter.FullPlotter.take_other.Goals as goal
 
 pub returns-in_err-obey : goal.returns-in_err-obey
 returns-in_err-obey c =
-    other_stopped {U = ⊤} (seen c.args.self.now) (seen c.obey.new.self) c.args.item.now.body c.args.instruction c.args.numbers.now
-    c.in_err-obey.field-0.0 c.from_residual.result c.requires.body c.requires.other c.in_err-obey.ensures c.from_residual.ensures.1
+    other_stopped {U = ⊤} (seen c.args.self.now) (seen c.obey.new.self) c.args.instruction c.args.numbers.now
+    c.in_err-obey.field-0.0 c.from_residual.result c.requires c.in_err-obey.ensures c.from_residual.ensures.1
 
 pub returns : goal.returns
 returns c =
-    other_run (seen c.args.self.now) (seen c.obey.new.self) (seen c.do_more.new.self) c.args.item.now.body c.args.instruction c.args.numbers.now
-    c.requires.body c.requires.other c.in_ok-obey.ensures c.do_more.ensures
+    other_run (seen c.args.self.now) (seen c.obey.new.self) (seen c.do_more.new.self) c.args.instruction c.args.numbers.now
+    c.requires c.in_ok-obey.ensures c.do_more.ensures

@@ -11,5 +11,5 @@ returns-in-Some c =
     let ns = c.args.numbers.now in
     let same : c.percent_setting.result ≡ percent_width ns =
     c.percent_setting.ensures.value ∙ ap (λ (l : List ℤ). percent_width l) c.leading-list.ensures.values ∙ first_numbers ns in
-    width_in_percent w (seen c.widen_if.new.self) c.args.item.now.body ns c.in-Some.field-0 c.requires (search rules)
+    width_in_percent w (seen c.widen_if.new.self) ns c.in-Some.field-0 (search rules)
     (c.widen_if.ensures ∙ ap (λ (s : Option WidthSetting). widened_if s w) same)

@@ -2,14 +2,14 @@ use Rattle.std.proofs.Common.{◌≡◌, ◌∙◌, ◌∷◌, sym, ap, subst, O
 use Rattle.std.specs.Bool.{⊤}
 use Rattle.exact.specs.declared.spot.Spot.{Spot}
 use Rattle.hpgl_plot.specs.Machine as core
-use Rattle.full_plot.specs.Curves.{lined}
+use Rattle.full_plot.specs.Curves.{drawn_over}
 use Rattle.full_plot.specs.Holding.{cleared, restored, with_held, with_strokes_and_pen}
 use Rattle.full_plot.specs.Worlds.{World}
 use Rattle.full_plot.specs.Machine.{seen, Runs}
 use Rattle.full_plot.specs.Lines.{drawn}
 use Rattle.full_plot.proofs.CoreLines.{line_stopped}
 use Rattle.full_plot.proofs.LinesOver.{lined_runs, lined_out, solid_over}
-use Rattle.full_plot.proofs.plotter.FullPlotter.line_over.Goals as goal
+use Rattle.full_plot.proofs.plotter.FullPlotter.draw_over.Goals as goal
 
 pub returns-in_err-travel : goal.returns-in_err-travel
 returns-in_err-travel c =
@@ -17,7 +17,7 @@ returns-in_err-travel c =
     let v = core.seen c.travel-2.new.self in
     let draws = w.core.state.is_down in
     let places : List Spot = w.core.state.place ∷ c.args.places.now in
-    line_stopped {U = ⊤} (core.travelled (cleared w) draws places) (lined w c.args.places.now) v _ c.in_err-travel.field-0.0 c.from_residual.result
+    line_stopped {U = ⊤} (core.travelled (cleared w) draws places) (drawn_over w c.args.places.now) v _ c.in_err-travel.field-0.0 c.from_residual.result
     (lined_out w c.args.places.now) (subst (λ (u : core.World). core.Runs {U = ⊤} (core.travelled u draws places) v (Err c.in_err-travel.field-0.0)) c.hold-held.ensures.core c.in_err-travel.ensures) c.from_residual.ensures.1
 
 pub returns-then-is_solid : goal.returns-then-is_solid
@@ -34,6 +34,6 @@ returns c =
     let x : World = record (seen c.hold-held.new.self) { core = v } in
     let s : x ≡ record w { core = v } = ap (λ (u : World). record u { core = v }) h.same in
     let e : with_held x c.hold-held.result ≡ restored w v = rw (h.kept, h.full, h.pen) (ap (λ (u : World). with_strokes_and_pen u w.core.kept w.core.full w.core.state.pen) s) in
-    let f : Some (drawn (with_held x c.hold-held.result) v.kept) ≡ lined w c.args.places.now =
+    let f : Some (drawn (with_held x c.hold-held.result) v.kept) ≡ drawn_over w c.args.places.now =
     ap (λ (y : World). Some (drawn y v.kept)) e ∙ sym (lined_runs w c.args.places.now v c.requires k) in
     subst (λ (o : Option World). Runs o (seen c.release.new.self) c.release.result) f c.release.ensures

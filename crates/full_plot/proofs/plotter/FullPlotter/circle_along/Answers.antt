@@ -8,7 +8,7 @@ use Rattle.full_plot.specs.Machine.{seen, Runs}
 use Rattle.full_plot.specs.Lines.{line_step, drawn}
 use Rattle.full_plot.proofs.FullRuns.{solid_runs}
 use Rattle.full_plot.proofs.CoreLines.{line_runs, line_out, line_stopped, circle_lines}
-use Rattle.full_plot.proofs.plotter.FullPlotter.circle.Goals as goal
+use Rattle.full_plot.proofs.plotter.FullPlotter.circle_along.Goals as goal
 
 pub returns-in_err-circle : goal.returns-in_err-circle
 returns-in_err-circle c =

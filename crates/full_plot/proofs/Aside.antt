@@ -1,0 +1,98 @@
+-- The buffer plays no part in how spans and edges are drawn, so code may put it aside meanwhile.
+use Rattle.std.proofs.Common.{◌≡◌, ◌∙◌, ◌+◌, ◌<◌, ℕ, suc, arith, ◌++◌, drop, drop-cons, get_or, refl, ap, sym, inl, inr, Option, Some, None, Result, Ok, Err, Bool, true, false, List, [], ◌∷◌, length, nat_lt, nat_eq}
+use Rattle.std.specs.List.{flat_map}
+use Rattle.std.proofs.lemmas.Bool.{cases_Bool}
+use Rattle.std.proofs.lemmas.Option.{none-some, same_Some}
+use Rattle.hpgl_plot.specs.declared.plotter.Stop.{Stop}
+use Rattle.hpgl_plot.specs.declared.plotter.Stop.TheVariants.{Memory, OffRange}
+use Rattle.polygons.specs.Buffers.{Contents, empty}
+use Rattle.full_plot.specs.Machine.{Runs}
+use Rattle.polygons.specs.declared.span.Span.{Span}
+use Rattle.full_plot.specs.declared.fills.Ink.{Ink}
+use Rattle.full_plot.specs.declared.fills.Ink.TheVariants.{Width, Line}
+use Rattle.full_plot.specs.Fills.{counted, over_spans, span_stroke, unless, with_span}
+use Rattle.full_plot.specs.Lines.{drawn}
+use Rattle.full_plot.specs.Work.{worked}
+use Rattle.full_plot.specs.Worlds.{World}
+
+abbrev buffer_put : Contents → Option World → Option World
+buffer_put b None = None
+buffer_put b (Some w) = Some (record w { buffer = b })
+
+abbrev pub beside : Contents → World → World
+beside b w = record w { buffer = b }
+
+work_aside : (n : ℕ) (w : World) (b : Contents) → worked n (beside b w) ≡ beside b (worked n w)
+work_aside n w b = elim (cases_Bool (nat_lt 4194304 (length w.core.kept + w.extra + n))) [
+  | inl i ↦ rw i refl
+  | inr i ↦ rw i refl
+]
+
+counted_aside : (w v : World) (b : Contents) → counted (beside b w) (beside b v) ≡ beside b (counted w v)
+counted_aside w v b = elim (cases_Bool (nat_eq (length v.core.kept) (length w.core.kept))) [
+  | inl i ↦ rw i (work_aside 1 v b)
+  | inr i ↦ rw i refl
+]
+
+ink_aside : (ink : Ink) (w : World) (p : Span) (b : Contents) → with_span ink (beside b w) p ≡ beside b (with_span ink w p)
+ink_aside (Width width) w p b = refl
+ink_aside Line w p b = counted_aside w (drawn w (span_stroke w.core.state p ∷ [])) b
+
+unless_aside : (full : Bool) (w v u : World) (b : Contents) → u ≡ beside b v → unless full (beside b w) u ≡ beside b (unless full w v)
+unless_aside true w v u b h = refl
+unless_aside false w v u b h = h
+
+pub spans_aside : (ink : Ink) (ps : List Span) (w : World) (b : Contents)
+    → over_spans ink (beside b w) ps ≡ beside b (over_spans ink w ps)
+spans_aside ink [] w b = refl
+spans_aside ink (p ∷ ps) w b =
+    unless_aside w.core.full w (over_spans ink (with_span ink w p) ps) (over_spans ink (with_span ink (beside b w) p) ps) b
+    (ap (λ (v : World). over_spans ink v ps) (ink_aside ink w p b) ∙ spans_aside ink ps (with_span ink w p) b)
+
+-- when there is too much, nothing more is drawn
+pub full_spans : (ink : Ink) (ps : List Span) (w : World) → w.core.full ≡ true → over_spans ink w ps ≡ w
+full_spans ink [] w h = refl
+full_spans ink (p ∷ ps) w h = ap (λ (full : Bool). unless full w (over_spans ink (with_span ink w p) ps)) h
+
+-- one span, and the rest
+pub one_span : (ink : Ink) (p : Span) (ps : List Span) (w : World) → w.core.full ≡ false
+    → over_spans ink w (p ∷ ps) ≡ over_spans ink (with_span ink w p) ps
+one_span ink p ps w h = ap (λ (full : Bool). unless full w (over_spans ink (with_span ink w p) ps)) h
+
+-- what a call leaves that draws spans while the buffer is put aside
+pub runs_aside : {U : Type 0} (w v : World) (ink : Ink) (ps : List Span) (r : Result U Stop) → Runs (Some (over_spans ink (beside empty w) ps)) v r
+    → Runs (Some (over_spans ink w ps)) (beside w.buffer v) r
+runs_aside w v ink ps (Ok x) h =
+    ap (λ (u : World). Some u) (spans_aside ink ps w w.buffer)
+    ∙ ap (λ (o : Option World). buffer_put w.buffer o) (ap (λ (u : World). Some u) (sym (spans_aside ink ps w empty)) ∙ h)
+runs_aside w v ink ps (Err Memory) h = tt
+runs_aside w v ink ps (Err OffRange) h = absurd (none-some _ (sym h))
+
+-- some spans, and the rest
+then_spans : (ink : Ink) (full : Bool) (ps qs : List Span) (w v : World) → w.core.full ≡ full
+    → over_spans ink v (ps ++ qs) ≡ over_spans ink (over_spans ink v ps) qs
+    → unless full w (over_spans ink v (ps ++ qs)) ≡ over_spans ink (unless full w (over_spans ink v ps)) qs
+then_spans ink true ps qs w v e h = sym (full_spans ink qs w e)
+then_spans ink false ps qs w v e h = h
+
+pub spans-append : (ink : Ink) (ps qs : List Span) (w : World)
+    → over_spans ink w (ps ++ qs) ≡ over_spans ink (over_spans ink w ps) qs
+spans-append ink [] qs w = refl
+spans-append ink (p ∷ ps) qs w = then_spans ink w.core.full ps qs w (with_span ink w p) refl (spans-append ink ps qs (with_span ink w p))
+
+-- one of those that are left
+pub one_of_spans : (ink : Ink) (ps : List Span) (i : ℕ) (p : Span) (w v o : World) → i < length ps → p ≡ get_or ps i p → w.core.full ≡ false
+    → Some (with_span ink w p) ≡ Some v → over_spans ink w (drop i ps) ≡ o → over_spans ink v (drop (i + 1) ps) ≡ o
+one_of_spans ink ps i p w v o h e f k m =
+    let next : suc i ≡ i + 1 = omega arith in
+    let cons : drop i ps ≡ p ∷ drop (i + 1) ps = (rw next at (drop-cons ps i p h)) ∙ ap (λ (x : Span). x ∷ drop (i + 1) ps) (sym e) in
+    sym (ap (λ (u : World). over_spans ink u (drop (i + 1) ps)) (same_Some _ _ k)) ∙ sym (one_span ink p (drop (i + 1) ps) w f)
+    ∙ sym (ap (λ (xs : List Span). over_spans ink w xs) cons) ∙ m
+
+-- the spans of one line, and of the rest
+pub one_line_of : (ink : Ink) (ps : List Span) (lines rest : List (List Span)) (w v o : World) → lines ≡ ps ∷ rest → Some (over_spans ink w ps) ≡ Some v
+    → over_spans ink w (flat_map (λ line. line) lines) ≡ o → over_spans ink v (flat_map (λ line. line) rest) ≡ o
+one_line_of ink ps lines rest w v o e k m =
+    let qs : List Span = flat_map (λ line. line) rest in
+    sym (ap (λ (u : World). over_spans ink u qs) (same_Some _ _ k)) ∙ sym (spans-append ink ps qs w)
+    ∙ sym (ap (λ (ls : List (List Span)). over_spans ink w (flat_map (λ line. line) ls)) e) ∙ m

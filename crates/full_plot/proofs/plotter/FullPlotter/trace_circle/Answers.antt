@@ -1,0 +1,42 @@
+use Rattle.std.proofs.Common.{◌≡◌, ◌∙◌, sym, ap, ap₂, subst, refl, Option, Some, Err, List}
+use Rattle.std.specs.Bool.{⊤}
+use Rattle.plot_page.specs.Segments.{Segment}
+use Rattle.plot_settings.specs.Meanings.{DrawCircle}
+use Rattle.polygons.specs.Buffers.{closed}
+use Rattle.hpgl_plot.specs.Machine as core
+use Rattle.full_plot.specs.Holding.{cleared, lowered_world, put_down, restored, with_held, with_strokes_and_pen}
+use Rattle.full_plot.specs.Polygons.{figure_in, lowered, trace_step}
+use Rattle.full_plot.specs.Worlds.{World}
+use Rattle.full_plot.specs.Machine.{seen, Runs}
+use Rattle.full_plot.proofs.CoreLines.{line_stopped, circle_lines}
+use Rattle.full_plot.proofs.Traces.{HasPlaces, IsTraced, traced_out, traced_runs}
+use Rattle.full_plot.proofs.plotter.FullPlotter.trace_circle.Goals as goal
+
+pub returns-in_err-circle : goal.returns-in_err-circle
+returns-in_err-circle c =
+    let w = seen c.args.self.now in
+    let v = core.seen c.circle.new.self in
+    let t = DrawCircle c.args.circle in
+    let p : HasPlaces w.core.page w.core.state t = record { lines = circle_lines w.core.page (lowered w.core.state) c.args.circle c.requires; places_are = refl; after_is = refl } in
+    line_stopped {U = ⊤} (core.step (cleared (lowered_world w)) t) (trace_step w t) v _ c.in_err-circle.field-0.0 c.from_residual.result
+    (traced_out w t p) (subst (λ (u : core.World). core.Runs {U = ⊤} (core.step u t) v (Err c.in_err-circle.field-0.0)) c.hold_lowered-held.ensures.core c.in_err-circle.ensures) c.from_residual.ensures.1
+
+pub returns : goal.returns
+returns c =
+    let w = seen c.args.self.now in
+    let v = core.seen c.circle.new.self in
+    let h = c.hold_lowered-held.ensures in
+    let t = DrawCircle c.args.circle in
+    let p : HasPlaces w.core.page w.core.state t = record { lines = circle_lines w.core.page (lowered w.core.state) c.args.circle c.requires; places_are = refl; after_is = refl } in
+    let k = subst (λ (u : core.World). core.step u t ≡ Some v) h.core c.in_ok-circle.ensures in
+    let r : IsTraced w t v = traced_runs w t v p k in
+    let x : World = record (seen c.hold_lowered-held.new.self) { core = v } in
+    let s : x ≡ record w { core = v } = ap (λ (u : World). record u { core = v }) h.same in
+    let e : with_held x c.hold_lowered-held.result ≡ restored w v = rw (h.kept, h.full, h.pen) (ap (λ (u : World). with_strokes_and_pen u w.core.kept w.core.full w.core.state.pen) s) in
+    let y : seen c.take_back-lines.new.self ≡ put_down w.core.state.is_down (restored w v) =
+    c.take_back-lines.ensures.world ∙ ap (λ (u : World). put_down w.core.state.is_down u) e in
+    let d = w.core.state.is_down in
+    let f : Some (record (seen c.take_back-lines.new.self) { buffer = figure_in (closed (seen c.take_back-lines.new.self).buffer d) c.take_back-lines.result.items }) ≡ trace_step w t =
+    ap₂ (λ (u : World) (ls : List Segment). Some (record u { buffer = figure_in (closed u.buffer d) ls })) y c.take_back-lines.ensures.lines
+    ∙ sym r.step_is in
+    subst (λ (o : Option World). Runs o (seen c.add_figure.new.self) c.add_figure.result) f c.add_figure.ensures

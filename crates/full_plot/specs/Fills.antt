@@ -1,0 +1,144 @@
+-- Fills (HP-GL/2 guide: FP, RA, RR and WG, by FT and AC): lines at equal distances, where they are inside of the polygons
+-- in the buffer.
+use Rattle.std.specs.Prelude.{ℕ, ◌*◌, ◌^◌, ℤ, pos, ◌+ℤ◌, nat_abs, nat_eq, Bool, true, false, List, [], ◌∷◌}
+use Rattle.std.specs.Prelude.{length, map, if◌then◌else◌, slice_index}
+use Rattle.std.specs.Int.{int_max, int_min}
+use Rattle.exact.specs.Fraction.{quotient, round}
+use Rattle.exact.specs.declared.spot.Spot.{Spot}
+use Rattle.line_types.specs.Patterns.{length_by_percent}
+use Rattle.plot_frame.specs.declared.axis.Axis.{Axis}
+use Rattle.plot_frame.specs.declared.pair.AxisName.TheVariants.{X}
+use Rattle.plot_page.specs.Segments.{Segment}
+use Rattle.plot_settings.specs.declared.setting.Rotation.{Rotation}
+use Rattle.plot_settings.specs.declared.setting.Rotation.TheVariants as rotation
+use Rattle.polygons.specs.Fills.{spans}
+use Rattle.polygons.specs.declared.edge.Edge.{Edge}
+use Rattle.polygons.specs.declared.lines.Lines.{Lines}
+use Rattle.polygons.specs.declared.lines.Rule.{Rule}
+use Rattle.polygons.specs.declared.lines.Rule.TheVariants.{OddCounts, Winding}
+use Rattle.polygons.specs.declared.span.Span.{Span}
+use Rattle.hpgl_plot.specs.declared.state.State.{State}
+use Rattle.hpgl_plot.specs.Bounds.{line_in}
+use Rattle.hpgl_plot.specs.Strokes.{stroke}
+use Rattle.hpgl_plot.specs.Machine as core
+use Rattle.full_settings.specs.declared.fill_setting.FillKind.{FillKind}
+use Rattle.full_settings.specs.declared.fill_setting.FillKind.TheVariants.{Solid, Hatched, CrossHatched, Shaded}
+use Rattle.full_settings.specs.LineStyles.{diagonal}
+use Rattle.full_plot.specs.declared.fills.Ink.{Ink}
+use Rattle.full_plot.specs.declared.fills.Ink.TheVariants.{Width, Line}
+use Rattle.full_plot.specs.Lines.{drawn, with_a_pen}
+use Rattle.full_plot.specs.Work.{worked}
+use Rattle.full_plot.specs.Worlds.{World, page_origin}
+
+abbrev pub rule_by : Bool → Rule
+rule_by by_winding = if by_winding then Winding else OddCounts
+
+-- lines at this angle, so many ticks of 1/256 grain apart, one of them through a place
+abbrev pub lines_at : ℤ → ℕ → Spot → Lines
+lines_at angle apart anchor = record { angle = angle; apart = apart; anchor = anchor }
+
+-- solid: one line a plotter unit
+abbrev pub solid_lines : Lines
+solid_lines = lines_at (pos 0) 4096 (record { x = pos 0; y = pos 8 })
+
+-- lines are a plotter unit apart at least, and 2^40 ticks at most
+abbrev pub cut_distance : ℤ → ℕ
+cut_distance n = nat_abs (int_min (int_max n (pos 4096)) (pos (2 ^ 40)))
+
+-- shading at 45 degrees: lines of 0.35 mm (224 grains) that cover as much as the level says
+abbrev pub shading_distance : ℕ → ℕ
+shading_distance level = cut_distance (round (quotient (pos (100 * (224 * (256 * 10 ^ 6)))) (pos level)))
+
+abbrev pub shading_lines : ℕ → Lines
+shading_lines level = lines_at (pos 45000) (shading_distance level) page_origin
+
+-- the distance of lines of hatching in ticks: the spacing, along x, or by spacing 0 one percent of the distance from P1 to
+-- P2; but lines are no denser than half the pen's width
+abbrev pub spacing_on : Axis → ℕ → ℤ
+spacing_on a spacing = round (quotient (pos (256 * (nat_abs a.slope * spacing))) a.under)
+
+abbrev pub spacing_in : World → ℤ
+spacing_in w =
+    let s = w.core.state in
+    if nat_eq w.area.fill.spacing 0 then pos (length_by_percent (diagonal s.frame.points) 1000000)
+    else spacing_on (line_in w.core.page s.frame X) w.area.fill.spacing
+
+abbrev pub hatching_distance : World → ℕ
+hatching_distance w =
+    let s = w.core.state in cut_distance (int_max (spacing_in w) (pos (128 * slice_index s.widths s.pen)))
+
+-- RO turns hatching
+abbrev pub turn_of : Rotation → ℤ
+turn_of rotation.None = pos 0
+turn_of rotation.Quarter = pos 90000
+turn_of rotation.Half = pos 180000
+turn_of rotation.ThreeQuarters = pos 270000
+
+abbrev pub hatching_lines : World → ℤ → Lines
+hatching_lines w more =
+    lines_at (pos w.area.fill.angle +ℤ turn_of w.core.state.frame.rotation +ℤ more) (hatching_distance w) w.area.anchor
+
+-- one span of a fill: a stroke of this width, or a line in the line type. A line that gives no stroke counts as work
+abbrev pub span_stroke : State → Span → Segment
+span_stroke s p = stroke (with_a_pen s) p.from p.to
+
+abbrev pub with_stroke : World → Segment → World
+with_stroke w l = record w { core = core.with_strokes w.core w.core.state (l ∷ []) }
+
+abbrev pub inked_span : ℕ → World → Span → World
+inked_span width w p = with_stroke w (record (span_stroke w.core.state p) { width = width })
+
+abbrev pub counted : World → World → World
+counted before after = if nat_eq (length after.core.kept) (length before.core.kept) then worked 1 after else after
+
+abbrev pub lined_span : World → Span → World
+lined_span w p = counted w (drawn w (span_stroke w.core.state p ∷ []))
+
+-- spans one after another; nothing more is drawn when there is too much
+abbrev pub unless : Bool → World → World → World
+unless true w v = w
+unless false w v = v
+
+abbrev pub with_span : Ink → World → Span → World
+with_span (Width width) w p = inked_span width w p
+with_span Line w p = lined_span w p
+
+abbrev pub over_spans : Ink → World → List Span → World
+over_spans ink w [] = w
+over_spans ink w (p ∷ ps) = unless w.core.full w (over_spans ink (with_span ink w p) ps)
+
+abbrev pub over_lines : Ink → World → Rule → Lines → World
+over_lines ink w rule lines = over_spans ink w (spans lines rule w.buffer.edges)
+
+-- the edges of the buffer as spans
+abbrev pub edge_span : Edge → Span
+edge_span e = record { from = e.from; to = e.to }
+
+-- solid: lines and edges of width 0
+abbrev pub edges_inked : World → World
+edges_inked w = over_spans (Width 0) w (map edge_span w.buffer.edges)
+
+abbrev pub solid_filled : Rule → World → World
+solid_filled rule w = edges_inked (over_lines (Width 0) w rule solid_lines)
+
+abbrev pub shaded : Rule → World → World
+shaded rule w =
+    let level = w.area.fill.level in
+    if nat_eq level 0 then w else
+    if nat_eq level 100000000 then solid_filled rule w else
+    over_lines (Width 224) w rule (shading_lines level)
+
+abbrev pub hatched : Rule → ℤ → World → World
+hatched rule more w = over_lines Line w rule (hatching_lines w more)
+
+abbrev pub filled_by : FillKind → Rule → World → World
+filled_by Solid rule w = solid_filled rule w
+filled_by Hatched rule w = hatched rule (pos 0) w
+filled_by CrossHatched rule w = hatched rule (pos 90000) (hatched rule (pos 0) w)
+filled_by Shaded rule w = shaded rule w
+
+-- FP: the places in the buffer count as work; pen 0 draws nothing
+abbrev pub filled : Bool → World → World
+filled by_winding w =
+    let v = worked w.buffer.places w in
+    if nat_eq v.core.state.pen 0 then v else filled_by v.area.fill.kind (rule_by by_winding) v

@@ -1,0 +1,122 @@
+//! How items are read: in polygon mode some instructions may not be there, and after CT 1 no chord is read.
+ghost use Rattle.std.specs.Prelude.{◌≡◌, IfSome, min, if◌then◌else◌};
+ghost use Rattle.plot_settings.specs.Bounds.{IsArc, IsCircle};
+ghost use Rattle.plot_settings.specs.Parameters.{arced, circled};
+ghost use Rattle.hpgl_text.specs.declared.instruction.Instruction.TheVariants as of;
+ghost use Rattle.full_settings.specs.FurtherRequests as requests;
+ghost use Rattle.full_settings.specs.FurtherRequests.{IsFurtherRequest};
+ghost use Rattle.hpgl_text.specs.Seen.{body_shape};
+ghost use Rattle.full_settings.specs.PolygonParameters as polygons;
+ghost use Rattle.full_plot.specs.Contexts as contexts;
+ghost use Rattle.full_plot.specs.Contexts.{closes, numbers_read, params_read};
+
+use full_settings::{
+    FurtherRequest, PolygonStep, further_request, polygon_step, request_without_chord,
+};
+use hpgl_text::{Body, Further, Instruction, Numbers};
+use plot_settings::{Arc, Circle, arc_from, circle_from};
+
+/// Whether an item may not be there: in polygon mode, or, as PM 1 and PM 2, out of it.
+pub fn is_misplaced(body: &Body<'_>, in_polygon: bool) -> bool
+    ensures { result ≡ contexts.is_misplaced in_polygon (body_shape body.now) }
+{
+    if in_polygon {
+        is_bad_in_polygons(body)
+    } else {
+        is_bad_outside(body)
+    }
+}
+
+fn is_bad_in_polygons(body: &Body<'_>) -> bool
+    ensures { result ≡ contexts.is_bad_in_polygons (body_shape body.now) }
+{
+    match body {
+        Body::Params(instruction, _) => is_edge(*instruction),
+        Body::Further(further, _) => is_bad_further(*further),
+        Body::Label(_) => true,
+        _ => false,
+    }
+}
+
+fn is_edge(instruction: Instruction) -> bool
+    ensures { result ≡ contexts.is_edge instruction }
+{
+    matches!(
+        instruction,
+        Instruction::EdgeAbsolute | Instruction::EdgeRelative
+    )
+}
+
+fn is_bad_further(further: Further) -> bool
+    ensures { result ≡ contexts.is_bad_further further }
+{
+    match further {
+        Further::PrintBuffer | Further::CharacterPlot => true,
+        Further::XTick | Further::YTick => true,
+        Further::EdgePolygon | Further::FillPolygon => true,
+        Further::FillAbsolute | Further::FillRelative => true,
+        Further::EdgeWedge | Further::FillWedge => true,
+        _ => false,
+    }
+}
+
+fn is_bad_outside(body: &Body<'_>) -> bool
+    ensures { result ≡ contexts.is_bad_outside (body_shape body.now) }
+{
+    match body {
+        Body::Further(Further::PolygonMode, numbers) => closes_polygon(numbers),
+        _ => false,
+    }
+}
+
+// PM 1 and PM 2.
+fn closes_polygon(numbers: &Numbers<'_>) -> bool
+    ensures { result ≡ closes (polygons.polygon_step numbers.now) }
+{
+    let (list, count) = numbers.leading();
+    match polygon_step(&list[..count]) {
+        Some(PolygonStep::Close | PolygonStep::End) => true,
+        Some(PolygonStep::Begin) | None => false,
+    }
+}
+
+/// What a further instruction asks for; after CT 1 no chord is read.
+pub fn request_read(further: Further, numbers: &Numbers<'_>, usual_chords: bool) -> FurtherRequest
+    ensures value { result ≡ requests.further_request further (numbers_read usual_chords further numbers.now) }
+    ensures sound { IsFurtherRequest result }
+{
+    if usual_chords {
+        request_without_chord(further, numbers)
+    } else {
+        further_request(further, numbers)
+    }
+}
+
+/// What CI asks for.
+pub fn circle_read(numbers: &Numbers<'_>, usual_chords: bool) -> Option<Circle>
+    ensures value { result ≡ circled (params_read usual_chords of.Circle numbers.now) }
+    ensures sound { IfSome result (λ c. IsCircle c) }
+{
+    let (list, count) = numbers.leading();
+    circle_from(&list[..read_count(count, 1, usual_chords)])
+}
+
+/// What AA and AR ask for.
+pub fn arc_read(numbers: &Numbers<'_>, usual_chords: bool) -> Option<Arc>
+    ensures value { result ≡ arced (params_read usual_chords of.ArcAbsolute numbers.now) }
+    ensures sound { IfSome result (λ a. IsArc a) }
+{
+    let (list, count) = numbers.leading();
+    arc_from(&list[..read_count(count, 3, usual_chords)])
+}
+
+// How many numbers are read, of which so many are no chord.
+fn read_count(count: usize, before_chord: usize, usual_chords: bool) -> usize
+    ensures { result ≡ (if usual_chords then min count before_chord else count) }
+{
+    if usual_chords {
+        count.min(before_chord)
+    } else {
+        count
+    }
+}
