@@ -1,4 +1,5 @@
 mod BufferExamples
+mod FillExamples
 pub mod Tests
 pub mod Floors
 pub mod Heights
@@ -14,3 +15,5 @@ pub mod Gaps
 pub mod Begins
 pub mod Numbers
 pub mod Steps
+pub mod BufferLaws
+pub mod SolidLaws

@@ -22,7 +22,7 @@ same_sym xs ys p = record { sums = λ f. sym (p.sums f) }
 pub same_refl : {X : Type 0} (xs : List X) → SameItems xs xs
 same_refl xs = record { sums = λ f. refl }
 
-total_filter : {X : Type 0} (p : X → Bool) (f : X → ℕ) (xs : List X) → total f (filter p xs) ≡ total (λ x. cond (p x) (f x) 0) xs
+pub total_filter : {X : Type 0} (p : X → Bool) (f : X → ℕ) (xs : List X) → total f (filter p xs) ≡ total (λ x. cond (p x) (f x) 0) xs
 total_filter p f [] = refl
 total_filter p f (x ∷ xs) =
     let more = total_filter p f xs in
@@ -34,7 +34,7 @@ total_filter p f (x ∷ xs) =
 pub same_filter : {X : Type 0} (p : X → Bool) (xs ys : List X) → SameItems xs ys → SameItems (filter p xs) (filter p ys)
 same_filter p xs ys s = record { sums = λ f. total_filter p f xs ∙ s.sums (λ x. cond (p x) (f x) 0) ∙ sym (total_filter p f ys) }
 
-total_map : {X Y : Type 0} (g : X → Y) (f : Y → ℕ) (xs : List X) → total f (map g xs) ≡ total (λ x. f (g x)) xs
+pub total_map : {X Y : Type 0} (g : X → Y) (f : Y → ℕ) (xs : List X) → total f (map g xs) ≡ total (λ x. f (g x)) xs
 total_map g f [] = refl
 total_map g f (x ∷ xs) = ap (λ n. f (g x) + n) (total_map g f xs)
 

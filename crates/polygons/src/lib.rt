@@ -6,6 +6,7 @@ mod buffer;
 mod climb;
 mod edge;
 mod fill;
+pub mod laws;
 mod lines;
 mod place;
 mod ruling;
