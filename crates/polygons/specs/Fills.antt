@@ -85,7 +85,8 @@ is_inside OddCounts upward others = nat_eq ((upward + others) % 2) 1
 is_inside Winding upward others = not (nat_eq upward others)
 
 abbrev pub is_inside_after : Rule → List Crossing → Bool
-is_inside_after rule passed = is_inside rule (count_by (λ c. c.is_upward) passed) (count_by (λ c. not c.is_upward) passed)
+is_inside_after rule passed =
+    is_inside rule (count_by (λ c. c.is_upward) passed) (count_by (λ c. not c.is_upward) passed)
 
 -- the span from one crossing to the next, if the line is inside there
 abbrev pub span_from : Bool → Crossing → List Crossing → List Span

@@ -1,6 +1,6 @@
 //! What fills polygons, line by line.
 ghost use Rattle.std.specs.Prelude.{◌≡◌, ◌≤◌, ◌^◌, ◌∷◌, [], IfOk, OnErr, if◌then◌else◌, true, false};
-ghost use Rattle.polygons.specs.Fills.{filled};
+ghost use Rattle.polygons.specs.Fills.{filled, spans};
 
 use crate::edge::Edge;
 use crate::lines::{Lines, Rule};
@@ -70,4 +70,26 @@ impl<'a> Fill<'a> {
         self.sweep.finish();
         Ok(true)
     }
+}
+
+/// All spans that fill the polygons with these edges, in the order of the lines.
+///
+/// Errors: `AllocError` if memory runs out.
+pub fn all_spans(
+    alloc: Global,
+    edges: &[Edge],
+    lines: Lines,
+    rule: Rule,
+) -> Result<Vec<Span>, AllocError>
+    requires least { 4096 ≤ lines.apart }
+    requires most { lines.apart ≤ 2 ^ 40 }
+    ensures { IfOk result (λ found. found.items ≡ spans lines rule edges.now) }
+{
+    let mut fill = Fill::new(alloc, edges, lines, rule)?;
+    let mut found = Vec::new(alloc);
+    let mut line = Vec::new(alloc);
+    'lines: while fill.next_line(&mut line)? {
+        found.append(&mut line)?;
+    }
+    Ok(found)
 }

@@ -17,7 +17,7 @@ mod ways;
 
 pub use buffer::{Buffer, Opened};
 pub use edge::Edge;
-pub use fill::Fill;
+pub use fill::{Fill, all_spans};
 pub use lines::{Lines, Rule};
 pub use place::Place;
 pub use span::Span;

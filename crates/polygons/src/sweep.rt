@@ -25,10 +25,10 @@ pub struct Sweep<'a> {
 }
 
 impl<'a> Sweep<'a> {
-    ghost use Rattle.std.specs.Prelude.{◌≡◌, ◌≤◌, ◌<◌, ◌^◌, ◌∷◌, [], map, length, IfOk, OnErr, OnOk, true, false, ◌+ℤ◌, pos};
-    ghost use Rattle.polygons.specs.Fills.{filled, along};
+    ghost use Rattle.std.specs.Prelude.{◌≡◌, ◌≤◌, ◌^◌, ◌∷◌, [], map, IfOk, OnOk, true, false};
+    ghost use Rattle.polygons.specs.Fills.{filled};
     ghost use Rattle.polygons.specs.Climbs.{bare};
-    ghost use Rattle.polygons.specs.Sweeps.{IsSweep, IsReady, IsCut, IsSame, these, left};
+    ghost use Rattle.polygons.specs.Sweeps.{IsSweep, IsReady, IsCut, IsSame, crossed, these, left};
 
     pub fn new(
         alloc: Global,
@@ -96,7 +96,7 @@ impl<'a> Sweep<'a> {
     // The crossings of this line, in their order along it.
     pub fn crossings(&self) -> Result<Vec<Crossing>, AllocError>
         requires { IsReady self.now }
-        ensures { IfOk result (λ found. map bare found.items ≡ along self.now.ruling.lines self.now.line self.now.edges.now) }
+        ensures { IfOk result (λ found. map bare found.items ≡ crossed self.now) }
     {
         let mut crossings = Vec::with_capacity(self.alloc, self.active.len())?;
         for climb in &self.active {
