@@ -23,6 +23,8 @@ mod letters_set;
 #[cfg(test)]
 mod pages;
 #[cfg(test)]
+mod polygons_filled;
+#[cfg(test)]
 mod settings;
 #[cfg(test)]
 mod vectors;

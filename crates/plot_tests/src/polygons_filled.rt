@@ -1,0 +1,302 @@
+// Polygons: what the buffer holds, and the spans that fill them.
+ghost use Rattle.std.specs.Prelude.{◌≡◌, ◌≤◌, ◌^◌};
+
+use exact::Spot;
+use polygons::{Buffer, Edge, Fill, Lines, Place, Rule, Span, all_spans};
+use std::alloc::{AllocError, Global};
+use std::process::Abort;
+
+fn place(x: i16, y: i16) -> Place {
+    Place::new(Spot {
+        x: i128::from(x),
+        y: i128::from(y),
+    })
+}
+
+// Adds a closed sub-polygon.
+fn add(buffer: &mut Buffer, places: &[(i16, i16)]) -> Result<(), AllocError> {
+    for (x, y) in places {
+        buffer.reach(place(*x, *y), true)?;
+    }
+    buffer.close(true)
+}
+
+// A plotter unit apart, from left to right.
+fn solid() -> Lines
+    ensures { result.apart ≡ 4096 }
+{
+    Lines {
+        angle: 0,
+        apart: 4096,
+        anchor: place(0, 8),
+    }
+}
+
+// The ends of spans.
+fn text_of(alloc: Global, spans: &[Span]) -> Result<String, AllocError> {
+    let mut text = String::new(alloc);
+    for span in spans {
+        let a = span.from.spot();
+        let b = span.to.spot();
+        write!(text, "{},{} to {},{}; ", a.x, a.y, b.x, b.y)?;
+    }
+    Ok(text)
+}
+
+// The spans that fill what a buffer holds.
+fn filled(alloc: Global, buffer: &Buffer, lines: Lines, rule: Rule) -> Result<String, AllocError>
+    requires least { 4096 ≤ lines.apart }
+    requires most { lines.apart ≤ 2 ^ 40 }
+{
+    let spans = all_spans(alloc, buffer.edges(), lines, rule)?;
+    text_of(alloc, &spans)
+}
+
+// The ends of edges, and a mark for each that is not drawn.
+fn edges_of(alloc: Global, edges: &[Edge]) -> Result<String, AllocError> {
+    let mut text = String::new(alloc);
+    for edge in edges {
+        let a = edge.from.spot();
+        let b = edge.to.spot();
+        let mark = if edge.is_drawn { "" } else { " not drawn" };
+        write!(text, "{},{} to {},{}{mark}; ", a.x, a.y, b.x, b.y)?;
+    }
+    Ok(text)
+}
+
+#[test]
+fn sub_polygons_in_a_buffer(rt: HostRuntime) -> Result<(), AllocError> {
+    let mut buffer = Buffer::new(rt.alloc());
+    assert!(rt; !buffer.is_open());
+    buffer.open(place(0, 0));
+    buffer.open(place(5, 5));
+    buffer.reach(place(16, 0), true)?;
+    buffer.reach(place(16, 16), false)?;
+    assert!(rt; buffer.is_open());
+    assert_eq!(rt; buffer.places(), 3);
+    buffer.close(false)?;
+    assert!(rt; !buffer.is_open());
+    buffer.close(true)?;
+    buffer.open(place(7, 7));
+    assert_eq!(rt; buffer.places(), 4);
+    buffer.close(true)?;
+    assert_eq!(rt; buffer.places(), 3);
+    add(&mut buffer, &[(1, 1), (2, 2), (1, 1)])?;
+    assert_eq!(rt; buffer.places(), 6);
+    let text = edges_of(rt.alloc(), buffer.edges())?;
+    assert_eq!(rt;
+        text.as_str(),
+        "0,0 to 16,0; 16,0 to 16,16 not drawn; 16,16 to 0,0 not drawn; 1,1 to 2,2; 2,2 to 1,1; "
+    );
+    buffer.clear();
+    assert_eq!(rt; buffer.places(), 0);
+    assert!(rt; buffer.edges().is_empty());
+    Ok(())
+}
+
+// Line by line; after the last line there is none.
+#[test]
+fn a_rectangle_line_by_line(rt: HostRuntime) -> Result<(), AllocError> {
+    let mut buffer = Buffer::new(rt.alloc());
+    add(&mut buffer, &[(0, 0), (64, 0), (64, 48), (0, 48)])?;
+    let mut fill = Fill::new(rt.alloc(), buffer.edges(), solid(), Rule::OddCounts)?;
+    let mut spans = Vec::new(rt.alloc());
+    assert!(rt; fill.next_line(&mut spans)?);
+    assert_eq!(rt; text_of(rt.alloc(), &spans)?.as_str(), "0,8 to 64,8; ");
+    assert!(rt; fill.next_line(&mut spans)?);
+    assert_eq!(rt; text_of(rt.alloc(), &spans)?.as_str(), "0,24 to 64,24; ");
+    assert!(rt; fill.next_line(&mut spans)?);
+    assert_eq!(rt; text_of(rt.alloc(), &spans)?.as_str(), "0,40 to 64,40; ");
+    assert!(rt; !fill.next_line(&mut spans)?);
+    assert!(rt; spans.is_empty());
+    assert!(rt; !fill.next_line(&mut spans)?);
+    let mut empty = Fill::new(rt.alloc(), &[], solid(), Rule::Winding)?;
+    assert!(rt; !empty.next_line(&mut spans)?);
+    Ok(())
+}
+
+// The inner square is a hole by odd counts, and by winding only if it goes the other way round. Far
+// lines between two figures are not visited.
+#[test]
+fn holes_and_shared_edges(rt: HostRuntime) -> Result<(), AllocError> {
+    let mut same = Buffer::new(rt.alloc());
+    add(&mut same, &[(0, 0), (48, 0), (48, 48), (0, 48)])?;
+    add(&mut same, &[(16, 16), (32, 16), (32, 32), (16, 32)])?;
+    let holed = "0,8 to 48,8; 0,24 to 16,24; 32,24 to 48,24; 0,40 to 48,40; ";
+    assert_eq!(rt;
+        filled(rt.alloc(), &same, solid(), Rule::OddCounts)?.as_str(),
+        holed
+    );
+    let whole = "0,8 to 48,8; 0,24 to 16,24; 16,24 to 32,24; 32,24 to 48,24; 0,40 to 48,40; ";
+    assert_eq!(rt;
+        filled(rt.alloc(), &same, solid(), Rule::Winding)?.as_str(),
+        whole
+    );
+    let mut other = Buffer::new(rt.alloc());
+    add(&mut other, &[(0, 0), (48, 0), (48, 48), (0, 48)])?;
+    add(&mut other, &[(16, 16), (16, 32), (32, 32), (32, 16)])?;
+    assert_eq!(rt;
+        filled(rt.alloc(), &other, solid(), Rule::Winding)?.as_str(),
+        holed
+    );
+    let mut beside = Buffer::new(rt.alloc());
+    add(&mut beside, &[(0, 0), (32, 0), (32, 32), (0, 32)])?;
+    add(&mut beside, &[(32, 0), (64, 0), (64, 32), (32, 32)])?;
+    add(
+        &mut beside,
+        &[(0, 32000), (9, 32000), (9, 32016), (0, 32016)],
+    )?;
+    let parts = "0,8 to 32,8; 32,8 to 64,8; 0,24 to 32,24; 32,24 to 64,24; 0,32008 to 9,32008; ";
+    assert_eq!(rt;
+        filled(rt.alloc(), &beside, solid(), Rule::OddCounts)?.as_str(),
+        parts
+    );
+    assert_eq!(rt;
+        filled(rt.alloc(), &beside, solid(), Rule::Winding)?.as_str(),
+        parts
+    );
+    Ok(())
+}
+
+// Eight plotter units apart.
+fn sparse() -> Lines
+    ensures { result.apart ≡ 32768 }
+{
+    Lines {
+        angle: 0,
+        apart: 32_768,
+        anchor: place(0, 8),
+    }
+}
+
+#[test]
+fn a_star_by_both_rules(rt: HostRuntime) -> Result<(), AllocError> {
+    let mut star = Buffer::new(rt.alloc());
+    add(
+        &mut star,
+        &[(0, 300), (176, -243), (-285, 93), (285, 93), (-176, -243)],
+    )?;
+    assert_eq!(rt;
+        filled(rt.alloc(), &star, sparse(), Rule::OddCounts)?.as_str(),
+        "-136,-120 to -7,-120; 7,-120 to 136,-120; -168,8 to -95,8; 95,8 to 168,8; -53,136 to 53,136; -12,264 to 12,264; "
+    );
+    assert_eq!(rt;
+        filled(rt.alloc(), &star, sparse(), Rule::Winding)?.as_str(),
+        "-136,-120 to -7,-120; 7,-120 to 136,-120; -168,8 to -95,8; -95,8 to 95,8; 95,8 to 168,8; -53,136 to 53,136; -12,264 to 12,264; "
+    );
+    Ok(())
+}
+
+// What fills a triangle by lines of an angle, of which one goes through (x, y).
+fn filled_at(alloc: Global, angle: i32, apart: u64, x: i16, y: i16) -> Result<String, AllocError>
+    requires least { 4096 ≤ apart }
+    requires most { apart ≤ 2 ^ 40 }
+{
+    let mut triangle = Buffer::new(alloc);
+    add(&mut triangle, &[(0, 0), (100, 0), (0, 100)])?;
+    let lines = Lines {
+        angle,
+        apart,
+        anchor: place(x, y),
+    };
+    filled(alloc, &triangle, lines, Rule::OddCounts)
+}
+
+#[test]
+fn a_triangle_at_angles(rt: HostRuntime) -> Result<(), AllocError> {
+    let aslant = filled_at(rt.alloc(), 45_000, 8192, 0, 0)?;
+    assert_eq!(rt;
+        aslant.as_str(),
+        "91,0 to 95,5; 45,0 to 73,27; 0,0 to 50,50; 0,45 to 27,73; 0,91 to 5,95; "
+    );
+    let back = filled_at(rt.alloc(), 120_000, 9000, 10, 3)?;
+    assert_eq!(rt;
+        back.as_str(),
+        "93,0 to 83,17; 52,0 to 0,91; 12,0 to 0,20; "
+    );
+    let down = filled_at(rt.alloc(), -30_500, 12_345, -7, 40)?;
+    assert_eq!(rt; down.as_str(), "0,36 to 61,0; 0,92 to 20,80; ");
+    let up = filled_at(rt.alloc(), 90_000, 8192, 8, 0)?;
+    assert_eq!(rt; up.as_str(), "72,0 to 72,28; 40,0 to 40,60; 8,0 to 8,92; ");
+    Ok(())
+}
+
+// The next of a list of numbers from 0 to 255.
+fn next(state: &mut u32) -> u8 {
+    *state = state.wrapping_mul(1_103_515_245).wrapping_add(12_345);
+    (*state / 65_536 % 256) as u8
+}
+
+// 24 places at random.
+fn scattered(alloc: Global) -> Result<Vec<(i16, i16)>, AllocError> {
+    let mut state = 1;
+    let mut places = Vec::new(alloc);
+    for _ in 0..24 {
+        let x = next(&mut state);
+        let y = next(&mut state);
+        places.push((i16::from(x), i16::from(y)))?;
+    }
+    Ok(places)
+}
+
+fn wide(place: (i16, i16)) -> (i64, i64) {
+    (i64::from(place.0), i64::from(place.1))
+}
+
+// Whether the edge from a to b is on the left of the middle of a grain.
+fn is_left(a: (i64, i64), b: (i64, i64), x: i64, y: i64) -> bool {
+    let (low, high) = if a.1 < b.1 { (a, b) } else { (b, a) };
+    let up = y.wrapping_sub(low.1);
+    let whole = high.1.wrapping_sub(low.1);
+    let way = high.0.wrapping_sub(low.0).wrapping_mul(2).wrapping_mul(up);
+    let middle = x
+        .wrapping_mul(2)
+        .wrapping_add(1)
+        .wrapping_sub(low.0.wrapping_mul(2));
+    low.1 <= y && y < high.1 && way < middle.wrapping_mul(whole)
+}
+
+// How many middles of grains on the lines have an odd number of edges on the left.
+fn count_inside(places: &[(i16, i16)]) -> u64 {
+    let mut count = 0u64;
+    for line in 0..16i64 {
+        for x in 0..256i64 {
+            let mut is_inside = false;
+            let mut last = places.last().copied().unwrap_or((0, 0));
+            for place in places {
+                if is_left(
+                    wide(last),
+                    wide(*place),
+                    x,
+                    line.wrapping_mul(16).wrapping_add(8),
+                ) {
+                    is_inside = !is_inside;
+                }
+                last = *place;
+            }
+            count = count.wrapping_add(u64::from(is_inside));
+        }
+    }
+    count
+}
+
+// The spans of a random figure are as long as it has middles of grains inside.
+#[test]
+fn a_random_figure_by_counts(rt: HostRuntime) -> Result<(), AllocError> {
+    let places = scattered(rt.alloc())?;
+    let mut buffer = Buffer::new(rt.alloc());
+    for (x, y) in &places {
+        buffer.reach(place(*x, *y), false)?;
+    }
+    buffer.close(false)?;
+    let spans = all_spans(rt.alloc(), buffer.edges(), solid(), Rule::OddCounts)?;
+    let mut long = 0i128;
+    for span in &spans {
+        let way = span.to.spot().x.wrapping_sub(span.from.spot().x);
+        long = long.wrapping_add(way);
+    }
+    assert_eq!(rt; spans.len(), 43);
+    assert_eq!(rt; long, 1117);
+    assert_eq!(rt; count_inside(&places), 1117);
+    Ok(())
+}
