@@ -37,7 +37,7 @@ byte_is : (b : Bool) → bool_byte b ≡ cond b 1 0
 byte_is true = refl
 byte_is false = refl
 
-get_or_map : {X Y : Type 0} (f : X → Y) (xs : List X) (k : ℕ) (d : X) → get_or (map f xs) k (f d) ≡ f (get_or xs k d)
+pub get_or_map : {X Y : Type 0} (f : X → Y) (xs : List X) (k : ℕ) (d : X) → get_or (map f xs) k (f d) ≡ f (get_or xs k d)
 get_or_map f [] k d = refl
 get_or_map f (x ∷ xs) zero d = refl
 get_or_map f (x ∷ xs) (suc k) d = get_or_map f xs k d

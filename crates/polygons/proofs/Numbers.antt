@@ -1,9 +1,11 @@
 -- The numbers of the lines that are left.
-use Rattle.std.proofs.Common.{◌≡◌, ℕ, zero, suc, ◌<◌, Bool, true, false, List, [], ◌∷◌, map, inl, inr, refl, sym, ap, ◌∙◌, arith, ℤ, pos, negsuc, ◌+ℤ◌, ◌≤ℤ◌, ◌<ℤ◌, int_le, int_lt}
+use Rattle.std.proofs.Common.{◌≡◌, ℕ, zero, suc, ◌<◌, Bool, true, false, List, [], ◌∷◌, map, inl, inr, refl, sym, subst, ap, ◌∙◌, arith, ℤ, pos, negsuc, ◌+ℤ◌, ◌≤ℤ◌, ◌<ℤ◌, int_le, int_lt}
 use Rattle.std.proofs.lemmas.Bool.{cases_Bool, or_cases, and_parts}
 use Rattle.std.proofs.lemmas.Int.{ints, clamps, by_lt_z}
 use Rattle.std.specs.Int.{int_min, int_max, int_gap}
-use Rattle.std.specs.List.{filter, list_any}
+use Rattle.std.specs.List.{filter, list_any, Contains}
+use Rattle.std.proofs.lemmas.List.{length-map}
+use Rattle.polygons.proofs.Gaps.{get_or_map}
 use Rattle.polygons.specs.declared.edge.Edge.{Edge}
 use Rattle.polygons.specs.declared.lines.Lines.{Lines}
 use Rattle.polygons.specs.declared.lines.Rule.{Rule}
@@ -83,6 +85,35 @@ module _ (q : ℤ → Bool) where
       (λ h. skip_to k l m (omega (arith, ints, h)) (λ j x y. b j y))
       (λ h. sym (skip_to l k m h (λ j x y. a j y)))
 
+contains_more : {X : Type 0} (x y : X) (xs : List X) → Contains xs x → Contains (y ∷ xs) x
+contains_more x y xs (i, l, e) = (suc i, omega (arith, l), e)
+
+contains_map : {X Y : Type 0} (f : X → Y) (x : X) (xs : List X) → Contains xs x → Contains (map f xs) (f x)
+contains_map f x xs (i, l, e) = (i, omega (arith, l, length-map xs f), get_or_map f xs i x ∙ ap f e)
+
+same_contains : {X : Type 0} (x : X) (xs ys : List X) → xs ≡ ys → Contains ys x → Contains xs x
+same_contains {X} x xs ys e h = let P : List X → Type 0 = λ zs. Contains zs x in subst P (sym e) h
+
+-- a number that passes is among those that are left
+module _ (q : ℤ → Bool) where
+  has_number : (n : ℕ) (a m k : ℤ) → k ≡ a +ℤ pos n → k <ℤ m → q k ≡ true → Contains (filter q (numbers_to a m)) k
+  has_number zero a m k e l t =
+      let f : k ≡ a = e ∙ plus_zero q a in
+      let g : q a ≡ true = ap q (sym f) ∙ t in
+      let here = take_one q a m (rw (← f) l) g in
+      let P : ℤ → Type 0 = λ z. Contains (filter q (numbers_to a m)) z in
+      subst P (sym f) (same_contains a (filter q (numbers_to a m)) (a ∷ filter q (numbers_to (a +ℤ pos 1) m)) here (0, omega arith, refl))
+  has_number (suc n) a m k e l t =
+      let up = plus_more q a n in
+      let more = has_number n (a +ℤ pos 1) m k (e ∙ sym up) l t in
+      let below : a <ℤ m = omega (arith, ints, e, l) in
+      let step = ap (filter q) (to_step a m below) in
+      same_contains k (filter q (numbers_to a m)) (filter q (a ∷ numbers_to (a +ℤ pos 1) m)) step
+      (elim (cases_Bool (q a)) [
+        | inl g ↦ rw g (contains_more k a (filter q (numbers_to (a +ℤ pos 1) m)) more)
+        | inr g ↦ rw g more
+      ])
+
 higher_left : (v x y : ℤ) → v <ℤ x → v <ℤ int_max x y
 higher_left v x y h = omega (arith, ints, clamps, h)
 
@@ -156,3 +187,12 @@ module _ (lines : Lines) (above : 0 < step lines) where
       → filled_from lines rule edges k ≡ line_spans lines rule edges k ∷ filled_from lines rule edges (k +ℤ pos 1)
   filled_one rule edges k e =
       ap (map (line_spans lines rule edges)) (take_one (λ j. list_any (crosses lines j) edges) k (line_from lines (highest lines edges)) (crossed_below edges k e) e)
+
+  -- each line that an edge crosses is there
+  pub has_line : (rule : Rule) (edges : List Edge) (k : ℤ) → list_any (crosses lines k) edges ≡ true → Contains (filled lines rule edges) (line_spans lines rule edges k)
+  has_line rule edges k e =
+      let q : ℤ → Bool = λ j. list_any (crosses lines j) edges in
+      let first = line_from lines (lowest lines edges) in
+      let end = line_from lines (highest lines edges) in
+      contains_map (line_spans lines rule edges) k (filter (λ j. list_any (crosses lines j) edges) (numbers_to first end))
+      (has_number q (int_gap first k) first end k (gap_is q first k (crossed_from edges k e)) (crossed_below edges k e) e)

@@ -12,11 +12,12 @@ use Rattle.polygons.specs.declared.edge.Edge.{Edge}
 use Rattle.polygons.specs.declared.lines.Lines.{Lines}
 use Rattle.polygons.specs.declared.lines.Rule.{Rule}
 use Rattle.polygons.specs.declared.lines.Rule.TheVariants.{OddCounts, Winding}
-use Rattle.polygons.specs.Fills.{Crossing, height, level, crosses, crossing, crossings, rank, put_in, sorted_by, along, is_inside, is_inside_after, span_from, spans_after}
+use Rattle.polygons.specs.Fills.{Crossing, height, level, crosses, crossing, crossings, rank, put_in, sorted_by, along, is_inside, is_inside_after, span_from, spans_after, line_spans}
 use Rattle.polygons.specs.Climbs.{total, SameItems}
 use Rattle.polygons.specs.Laws.{IsPath, IsLoop, AreLoops, lower, IsBetween, FillsAreSolid}
 use Rattle.polygons.proofs.Tests.{le_true, le_false, lt_true, lt_false, le_from, le_not, lt_from, lt_not}
 use Rattle.polygons.proofs.Totals.{total_filter, total_map, same_filter}
+use Rattle.polygons.proofs.Numbers.{has_line}
 use Rattle.polygons.proofs.Orders.{Each, each_weaker, same_sorted}
 
 abbrev one : Bool → ℕ
@@ -222,8 +223,9 @@ module _ (lines : Lines) (rule : Rule) (r : ℤ) where
             )
       ]
 
-pub fills_are_solid_lem : FillsAreSolid
-fills_are_solid_lem lines rule edges k r h i n =
+inside_is_filled : (lines : Lines) (rule : Rule) (edges : List Edge) (k r : ℤ) → AreLoops edges → is_inside_after rule (lower lines edges k r) ≡ true
+    → All (λ c. ¬ (rank lines c.place ≡ r)) (crossings lines k edges) → Any (IsBetween lines r) (line_spans lines rule edges k)
+inside_is_filled lines rule edges k r h i n =
     let found = crossings lines k edges in
     let same = same_sorted (λ c. rank lines c.place) found in
     let lower_same = same_filter (λ c. int_lt (rank lines c.place) r) found (along lines k edges) same in
@@ -231,3 +233,9 @@ fills_are_solid_lem lines rule edges k r h i n =
     (each_by (λ c. rank lines c.place) (λ d. ¬ (rank lines d.place ≡ r)) found (each_from (λ d. ¬ (rank lines d.place ≡ r)) found n))
     (sym (same_inside rule (lower lines edges k r) (filter (λ c. int_lt (rank lines c.place) r) (along lines k edges)) lower_same) ∙ i)
     (sym (same_inside rule found (along lines k edges) same) ∙ all_passed lines rule edges k h)
+
+pub fills_are_solid_lem : FillsAreSolid
+fills_are_solid_lem = record {
+  inside = inside_is_filled;
+  line = λ lines rule edges k h e. has_line lines (omega (arith, h)) rule edges k e;
+}

@@ -1,13 +1,13 @@
 -- What holds of polygons and of what fills them.
-use Rattle.std.specs.Prelude.{◌≡◌, ◌<ℤ◌, ℤ, Bool, true, List, [], ◌∷◌, ◌++◌, filter, MatchOption, None, int_lt}
-use Rattle.std.specs.List.{All, Any, flat_map}
+use Rattle.std.specs.Prelude.{◌≡◌, ◌<◌, ◌<ℤ◌, ℤ, Bool, true, List, [], ◌∷◌, ◌++◌, filter, MatchOption, None, int_lt}
+use Rattle.std.specs.List.{All, Any, Contains, list_any, flat_map}
 use Rattle.exact.specs.declared.spot.Spot.{Spot}
 use Rattle.polygons.specs.declared.edge.Edge.{Edge}
 use Rattle.polygons.specs.declared.span.Span.{Span}
 use Rattle.polygons.specs.declared.lines.Lines.{Lines}
 use Rattle.polygons.specs.declared.lines.Rule.{Rule}
 use Rattle.polygons.specs.Buffers.{Contents, empty, begun_at, reached_at, closed}
-use Rattle.polygons.specs.Fills.{Crossing, rank, crossings, is_inside_after, line_spans}
+use Rattle.polygons.specs.Fills.{Crossing, rank, crosses, crossings, is_inside_after, line_spans, filled}
 
 -- edges that lead from p to q: each begins where the one before it ends
 abbrev pub IsPath : Spot → List Edge → Spot → Type 0
@@ -50,9 +50,13 @@ pub record IsBetween (lines : Lines) (r : ℤ) (span : Span) : Type 0 where
   pub after : rank lines span.from <ℤ r
   pub before : r <ℤ rank lines span.to
 
--- a place of line k that is inside closed sub-polygons by its rank r, and on no edge, is in a span of the line
-abbrev pub FillsAreSolid : Type 0
-FillsAreSolid = (lines : Lines) (rule : Rule) (edges : List Edge) (k r : ℤ) → AreLoops edges
-    → is_inside_after rule (lower lines edges k r) ≡ true
-    → All (λ c. ¬ (rank lines c.place ≡ r)) (crossings lines k edges)
-    → Any (IsBetween lines r) (line_spans lines rule edges k)
+pub record FillsAreSolid : Type 0 where
+  -- a place of line k that is inside closed sub-polygons by its rank r, and on no edge, is in a span of the line
+  pub inside : (lines : Lines) (rule : Rule) (edges : List Edge) (k r : ℤ) → AreLoops edges
+      → is_inside_after rule (lower lines edges k r) ≡ true
+      → All (λ c. ¬ (rank lines c.place ≡ r)) (crossings lines k edges)
+      → Any (IsBetween lines r) (line_spans lines rule edges k)
+  -- and the spans of each line that an edge crosses are among those that fill
+  pub line : (lines : Lines) (rule : Rule) (edges : List Edge) (k : ℤ) → 0 < lines.apart
+      → list_any (crosses lines k) edges ≡ true
+      → Contains (filled lines rule edges) (line_spans lines rule edges k)
