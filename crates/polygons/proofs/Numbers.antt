@@ -170,26 +170,31 @@ module _ (lines : Lines) (above : 0 < step lines) where
 
   -- all lines are left at a line below which none is crossed
   pub all_filled : (rule : Rule) (edges : List Edge) (k : ℤ) → ((j : ℤ) → j <ℤ k → list_any (crosses lines j) edges ≡ false) → filled_from lines rule edges k ≡ filled lines rule edges
+  unfolding filled_from filled
   all_filled rule edges k h =
       ap (map (line_spans lines rule edges))
       (same_start (λ j. list_any (crosses lines j) edges) k (line_from lines (lowest lines edges)) (line_from lines (highest lines edges)) h (below_first edges))
 
   pub filled_skip : (rule : Rule) (edges : List Edge) (k l : ℤ) → k ≤ℤ l → ((j : ℤ) → k ≤ℤ j → j <ℤ l → list_any (crosses lines j) edges ≡ false)
       → filled_from lines rule edges k ≡ filled_from lines rule edges l
+  unfolding filled_from
   filled_skip rule edges k l p h =
       ap (map (line_spans lines rule edges)) (skip_to (λ j. list_any (crosses lines j) edges) k l (line_from lines (highest lines edges)) p h)
 
   pub filled_none : (rule : Rule) (edges : List Edge) (k : ℤ) → ((j : ℤ) → k ≤ℤ j → list_any (crosses lines j) edges ≡ false) → filled_from lines rule edges k ≡ []
+  unfolding filled_from
   filled_none rule edges k h =
       ap (map (line_spans lines rule edges)) (none_left (λ j. list_any (crosses lines j) edges) k (line_from lines (highest lines edges)) h)
 
   pub filled_one : (rule : Rule) (edges : List Edge) (k : ℤ) → list_any (crosses lines k) edges ≡ true
       → filled_from lines rule edges k ≡ line_spans lines rule edges k ∷ filled_from lines rule edges (k +ℤ pos 1)
+  unfolding filled_from
   filled_one rule edges k e =
       ap (map (line_spans lines rule edges)) (take_one (λ j. list_any (crosses lines j) edges) k (line_from lines (highest lines edges)) (crossed_below edges k e) e)
 
   -- each line that an edge crosses is there
   pub has_line : (rule : Rule) (edges : List Edge) (k : ℤ) → list_any (crosses lines k) edges ≡ true → Contains (filled lines rule edges) (line_spans lines rule edges k)
+  unfolding filled_from filled
   has_line rule edges k e =
       let q : ℤ → Bool = λ j. list_any (crosses lines j) edges in
       let first = line_from lines (lowest lines edges) in

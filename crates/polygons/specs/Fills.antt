@@ -127,15 +127,15 @@ abbrev pub numbers_to : ℤ → ℤ → List ℤ
 numbers_to k m = numbers k (int_gap k m)
 
 -- the spans of each line that an edge crosses, from line k on, in order
-abbrev pub filled_from : Lines → Rule → List Edge → ℤ → List (List Span)
+unfoldable pub filled_from : Lines → Rule → List Edge → ℤ → List (List Span)
 filled_from lines rule edges k =
     map (line_spans lines rule edges)
     (filter (λ j. list_any (crosses lines j) edges) (numbers_to k (line_from lines (highest lines edges))))
 
 -- the spans of each line that an edge crosses, in order
-abbrev pub filled : Lines → Rule → List Edge → List (List Span)
+unfoldable pub filled : Lines → Rule → List Edge → List (List Span)
 filled lines rule edges = filled_from lines rule edges (line_from lines (lowest lines edges))
 
 -- all spans
-abbrev pub spans : Lines → Rule → List Edge → List Span
+unfoldable pub spans : Lines → Rule → List Edge → List Span
 spans lines rule edges = flat_map (λ line. line) (filled lines rule edges)

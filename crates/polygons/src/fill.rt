@@ -75,6 +75,7 @@ impl<'a> Fill<'a> {
 /// All spans that fill the polygons with these edges, in the order of the lines.
 ///
 /// Errors: `AllocError` if memory runs out.
+#[tactic(auto, unfolding(crate::specs::Fills::spans))]
 pub fn all_spans(
     alloc: Global,
     edges: &[Edge],
