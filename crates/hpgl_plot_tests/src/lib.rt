@@ -4,6 +4,8 @@
 #[cfg(test)]
 mod arcs;
 #[cfg(test)]
+mod cases;
+#[cfg(test)]
 mod drawings;
 #[cfg(test)]
 mod labels;
