@@ -1,6 +1,7 @@
 // What numbers of the further instructions ask for, by their text.
 ghost use Rattle.full_settings.specs.ColourRanges.{IsColourRanges};
 
+use crate::cases::{Asked, has_answers};
 use full_settings::{
     ColourRanges, character_move, colour_in, colour_ranges, direction_setting, origin_setting,
     path_setting, points_of, relative_direction_setting, relative_points, relative_size_setting,
@@ -11,7 +12,7 @@ use std::alloc::{AllocError, Global};
 use std::test::Fail;
 
 // What each instruction of a text asks for, a line each.
-fn settings_of(alloc: Global, text: &[u8]) -> Result<String, Fail> {
+pub fn further_settings_of(alloc: Global, text: &[u8]) -> Result<String, Fail> {
     let mut lines = String::new(alloc);
     for item in Items::by_profile(Profile::Full, text) {
         let line = match &item.body {
@@ -77,108 +78,122 @@ fn line(alloc: Global, further: Further, numbers: &[Number]) -> Result<String, A
     }
 }
 
+const LETTER_SETTINGS: &str = "\
+SR;SR0.5,-1000;SR1000,.000001,7
+Some(RelativeSize(Pair { x: 750000, y: 1500000 }))
+Some(RelativeSize(Pair { x: 500000, y: -1000000000 }))
+Some(RelativeSize(Pair { x: 1000000000, y: 1 }))
+
+SR1;SR0,1;SR1,0;SR1000.000001,1;SR1,-1000.000001
+None
+None
+None
+None
+None
+
+SL;SL1000;SL-1000,2;SL1000.000001;SL-1000.000001
+Some(Slant(0))
+Some(Slant(1000000000))
+Some(Slant(-1000000000))
+None
+None
+
+DI;DI3,4;DI0,-.000001;DI-1,0,5;DI1;DI0,0
+Some(Direction(Pair { x: 1000000, y: 0 }))
+Some(Direction(Pair { x: 3000000, y: 4000000 }))
+Some(Direction(Pair { x: 0, y: -1 }))
+Some(Direction(Pair { x: -1000000, y: 0 }))
+None
+None
+
+DR;DR3,4;DR0,-.000001;DR-1,0,5;DR1;DR0,0
+Some(RelativeDirection(Pair { x: 1000000, y: 0 }))
+Some(RelativeDirection(Pair { x: 3000000, y: 4000000 }))
+Some(RelativeDirection(Pair { x: 0, y: -1 }))
+Some(RelativeDirection(Pair { x: -1000000, y: 0 }))
+None
+None
+
+ES;ES100;ES-100,.5,3;ES0,100;ES100.000001;ES0,-100.000001
+Some(Step(Pair { x: 1000000, y: 1000000 }))
+Some(Step(Pair { x: 101000000, y: 1000000 }))
+Some(Step(Pair { x: -99000000, y: 1500000 }))
+Some(Step(Pair { x: 1000000, y: 101000000 }))
+None
+None
+
+LO;LO.5;LO9;LO10.5;LO19,4;LO21
+Some(Origin(1))
+Some(Origin(1))
+Some(Origin(9))
+Some(Origin(11))
+Some(Origin(19))
+Some(Origin(1))
+
+LO.49;LO10;LO20;LO22;LO-1
+None
+None
+None
+None
+None
+
+DV;DV1;DV2,0;DV3,1,9;DV0,.5
+Some(Path(Right, Normal))
+Some(Path(Down, Normal))
+Some(Path(Left, Normal))
+Some(Path(Up, Reverse))
+Some(Path(Right, Reverse))
+
+DV4;DV-1;DV0,2;DV0,-1
+None
+None
+None
+None
+
+";
+
 #[test]
 fn letter_settings(rt: HostRuntime) -> Result<(), Fail> {
-    let plots = [
-        (
-            b"SR;SR0.5,-1000;SR1000,.000001,7".as_slice(),
-            "Some(RelativeSize(Pair { x: 750000, y: 1500000 }))\n\
-Some(RelativeSize(Pair { x: 500000, y: -1000000000 }))\n\
-Some(RelativeSize(Pair { x: 1000000000, y: 1 }))\n",
-        ),
-        (
-            b"SR1;SR0,1;SR1,0;SR1000.000001,1;SR1,-1000.000001".as_slice(),
-            "None\nNone\nNone\nNone\nNone\n",
-        ),
-        (
-            b"SL;SL1000;SL-1000,2;SL1000.000001;SL-1000.000001".as_slice(),
-            "Some(Slant(0))\nSome(Slant(1000000000))\nSome(Slant(-1000000000))\nNone\nNone\n",
-        ),
-        (
-            b"DI;DI3,4;DI0,-.000001;DI-1,0,5;DI1;DI0,0".as_slice(),
-            "Some(Direction(Pair { x: 1000000, y: 0 }))\n\
-Some(Direction(Pair { x: 3000000, y: 4000000 }))\n\
-Some(Direction(Pair { x: 0, y: -1 }))\n\
-Some(Direction(Pair { x: -1000000, y: 0 }))\n\
-None\nNone\n",
-        ),
-        (
-            b"DR;DR3,4;DR0,-.000001;DR-1,0,5;DR1;DR0,0".as_slice(),
-            "Some(RelativeDirection(Pair { x: 1000000, y: 0 }))\n\
-Some(RelativeDirection(Pair { x: 3000000, y: 4000000 }))\n\
-Some(RelativeDirection(Pair { x: 0, y: -1 }))\n\
-Some(RelativeDirection(Pair { x: -1000000, y: 0 }))\n\
-None\nNone\n",
-        ),
-        (
-            b"ES;ES100;ES-100,.5,3;ES0,100;ES100.000001;ES0,-100.000001".as_slice(),
-            "Some(Step(Pair { x: 1000000, y: 1000000 }))\n\
-Some(Step(Pair { x: 101000000, y: 1000000 }))\n\
-Some(Step(Pair { x: -99000000, y: 1500000 }))\n\
-Some(Step(Pair { x: 1000000, y: 101000000 }))\n\
-None\nNone\n",
-        ),
-        (
-            b"LO;LO.5;LO9;LO10.5;LO19,4;LO21".as_slice(),
-            "Some(Origin(1))\nSome(Origin(1))\nSome(Origin(9))\nSome(Origin(11))\nSome(Origin(19))\nSome(Origin(1))\n",
-        ),
-        (
-            b"LO.49;LO10;LO20;LO22;LO-1".as_slice(),
-            "None\nNone\nNone\nNone\nNone\n",
-        ),
-        (
-            b"DV;DV1;DV2,0;DV3,1,9;DV0,.5".as_slice(),
-            "Some(Path(Right, Normal))\nSome(Path(Down, Normal))\nSome(Path(Left, Normal))\n\
-Some(Path(Up, Reverse))\nSome(Path(Right, Reverse))\n",
-        ),
-        (
-            b"DV4;DV-1;DV0,2;DV0,-1".as_slice(),
-            "None\nNone\nNone\nNone\n",
-        ),
-    ];
-    for (plot, wanted) in plots {
-        assert_eq!(rt; settings_of(rt.alloc(), plot)?.as_str(), wanted);
-    }
-    Ok(())
+    has_answers(&rt, rt.alloc(), Asked::FurtherSettings, LETTER_SETTINGS, 10)
 }
+
+const MOVES_AND_TICKS: &str = "\
+CP;CP2,-1;CP.5,8388607.999999,3;CP1
+Some(ToMargin)
+Some(By(Pair { x: 2000000, y: -1000000 }))
+Some(By(Pair { x: 500000, y: 8388607999999 }))
+None
+
+TL;TL10,5;TL10;TL-1000,1000,2;TL1000.000001;TL0,-1000.000001
+Some(TickLength { up: 500000, down: 500000 })
+Some(TickLength { up: 10000000, down: 5000000 })
+Some(TickLength { up: 10000000, down: 0 })
+Some(TickLength { up: -1000000000, down: 1000000000 })
+None
+None
+
+IR;IR25,75;IR-1000,0,1000,.5,9
+Some(Page)
+Some(First(Pair { x: 25000000, y: 75000000 }))
+Some(Both(Pair { x: -1000000000, y: 0 }, Pair { x: 1000000000, y: 500000 }))
+
+IR1;IR1,2,3;IR1000.000001,0;IR0,-1000.000001;IR0,0,1000.000001,0;IR0,0,0,1000.000001
+None
+None
+None
+None
+None
+None
+
+";
 
 #[test]
 fn moves_and_ticks(rt: HostRuntime) -> Result<(), Fail> {
-    let plots = [
-        (
-            b"CP;CP2,-1;CP.5,8388607.999999,3;CP1".as_slice(),
-            "Some(ToMargin)\n\
-Some(By(Pair { x: 2000000, y: -1000000 }))\n\
-Some(By(Pair { x: 500000, y: 8388607999999 }))\n\
-None\n",
-        ),
-        (
-            b"TL;TL10,5;TL10;TL-1000,1000,2;TL1000.000001;TL0,-1000.000001".as_slice(),
-            "Some(TickLength { up: 500000, down: 500000 })\n\
-Some(TickLength { up: 10000000, down: 5000000 })\n\
-Some(TickLength { up: 10000000, down: 0 })\n\
-Some(TickLength { up: -1000000000, down: 1000000000 })\n\
-None\nNone\n",
-        ),
-        (
-            b"IR;IR25,75;IR-1000,0,1000,.5,9".as_slice(),
-            "Some(Page)\n\
-Some(First(Pair { x: 25000000, y: 75000000 }))\n\
-Some(Both(Pair { x: -1000000000, y: 0 }, Pair { x: 1000000000, y: 500000 }))\n",
-        ),
-        (
-            b"IR1;IR1,2,3;IR1000.000001,0;IR0,-1000.000001;IR0,0,1000.000001,0;IR0,0,0,1000.000001".as_slice(),
-            "None\nNone\nNone\nNone\nNone\nNone\n",
-        ),
-    ];
-    for (plot, wanted) in plots {
-        assert_eq!(rt; settings_of(rt.alloc(), plot)?.as_str(), wanted);
-    }
-    Ok(())
+    has_answers(&rt, rt.alloc(), Asked::FurtherSettings, MOVES_AND_TICKS, 4)
 }
 
 // What an IR sets on a page of 1000 by 2000, with the corner (-100, -50).
-fn points_on_page(alloc: Global, text: &[u8]) -> Result<String, Fail> {
+pub fn points_on_page(alloc: Global, text: &[u8]) -> Result<String, Fail> {
     let mut lines = String::new(alloc);
     for item in Items::by_profile(Profile::Full, text) {
         let Body::Further(_, numbers) = &item.body else {
@@ -195,17 +210,20 @@ fn points_on_page(alloc: Global, text: &[u8]) -> Result<String, Fail> {
     Ok(lines)
 }
 
+const POINTS_ON_A_PAGE: &str = "\
+// half a plotter unit is rounded up, and P2 on P1 gets one more
+IR;IR25,75;IR0,.025,100,100;IR25,-.025,25,75;IR1,25,75,25
+PageCorners
+FirstPoint(150, 1450)
+BothPoints(Pair { x: Ends { first: -100, last: 900 }, y: Ends { first: -49, last: 1950 } })
+BothPoints(Pair { x: Ends { first: 150, last: 151 }, y: Ends { first: -50, last: 1450 } })
+BothPoints(Pair { x: Ends { first: -90, last: 650 }, y: Ends { first: 450, last: 451 } })
+
+";
+
 #[test]
 fn points_on_a_page(rt: HostRuntime) -> Result<(), Fail> {
-    // Half a plotter unit is rounded up. P2 on P1 gets one more.
-    let plot = b"IR;IR25,75;IR0,.025,100,100;IR25,-.025,25,75;IR1,25,75,25";
-    let wanted = "PageCorners\n\
-FirstPoint(150, 1450)\n\
-BothPoints(Pair { x: Ends { first: -100, last: 900 }, y: Ends { first: -49, last: 1950 } })\n\
-BothPoints(Pair { x: Ends { first: 150, last: 151 }, y: Ends { first: -50, last: 1450 } })\n\
-BothPoints(Pair { x: Ends { first: -90, last: 650 }, y: Ends { first: 450, last: 451 } })\n";
-    assert_eq!(rt; points_on_page(rt.alloc(), plot)?.as_str(), wanted);
-    Ok(())
+    has_answers(&rt, rt.alloc(), Asked::Points, POINTS_ON_A_PAGE, 1)
 }
 
 // The ranges that the first CR of a text sets.
@@ -224,7 +242,7 @@ fn ranges_by(text: &[u8]) -> ColourRanges
 }
 
 // What each PC of a text sets in these ranges, a line each.
-fn colours_of(alloc: Global, text: &[u8]) -> Result<String, Fail> {
+pub fn colours_of(alloc: Global, text: &[u8]) -> Result<String, Fail> {
     let ranges = ranges_by(text);
     let mut lines = String::new(alloc);
     for item in Items::by_profile(Profile::Full, text) {
@@ -237,67 +255,71 @@ fn colours_of(alloc: Global, text: &[u8]) -> Result<String, Fail> {
     Ok(lines)
 }
 
+const RANGES_OF_COLOURS: &str = "\
+CR;CR0,1,2.5,-3,100,200,5
+Some(ColourRanges { red: ColourRange { black: 0, white: 255 }, \
+green: ColourRange { black: 0, white: 255 }, blue: ColourRange { black: 0, white: 255 } })
+Some(ColourRanges { red: ColourRange { black: 0, white: 1 }, \
+green: ColourRange { black: 3, white: -3 }, blue: ColourRange { black: 100, white: 200 } })
+
+CR1;CR0,1,0,1;CR0,1,0,1,0;CR1,1,0,1,0,1;CR0,1,1,1.4,0,1;CR0,1,0,1,-.5,0
+None
+None
+None
+None
+None
+None
+
+";
+
 #[test]
 fn ranges_of_colours(rt: HostRuntime) -> Result<(), Fail> {
-    let plots = [
-        (
-            b"CR;CR0,1,2.5,-3,100,200,5".as_slice(),
-            "Some(ColourRanges { red: ColourRange { black: 0, white: 255 }, \
-green: ColourRange { black: 0, white: 255 }, blue: ColourRange { black: 0, white: 255 } })\n\
-Some(ColourRanges { red: ColourRange { black: 0, white: 1 }, \
-green: ColourRange { black: 3, white: -3 }, blue: ColourRange { black: 100, white: 200 } })\n",
-        ),
-        (
-            b"CR1;CR0,1,0,1;CR0,1,0,1,0;CR1,1,0,1,0,1;CR0,1,1,1.4,0,1;CR0,1,0,1,-.5,0".as_slice(),
-            "None\nNone\nNone\nNone\nNone\nNone\n",
-        ),
-    ];
-    for (plot, wanted) in plots {
-        assert_eq!(rt; settings_of(rt.alloc(), plot)?.as_str(), wanted);
-    }
     assert!(rt; ColourRanges::usual().is_usual());
-    Ok(())
+    has_answers(
+        &rt,
+        rt.alloc(),
+        Asked::FurtherSettings,
+        RANGES_OF_COLOURS,
+        2,
+    )
 }
+
+const COLOURS_IN_RANGES: &str = "\
+// Of 0 to 100, a half is rounded up.
+CR0,100,0,100,0,100;PC1,100,50,0;PC2,0.196078,0.196079,100.1
+Some(PenColour(1, Colour { red: 255, green: 128, blue: 0 }))
+Some(PenColour(2, Colour { red: 0, green: 1, blue: 255 }))
+
+// What is past black or white is cut.
+CR0,1,0,1,0,1;PC255.4,0.5,2,-1,9
+Some(PenColour(255, Colour { red: 128, green: 255, blue: 0 }))
+
+// White below black, and white below 0.
+CR100,0,0,-2,-1,-3;PC3,75,-1,-2.5
+Some(PenColour(3, Colour { red: 64, green: 128, blue: 191 }))
+
+// Only blue has another range.
+CR0,255,0,255,0,2;PC3,256,254.5,1
+Some(PenColour(3, Colour { red: 255, green: 255, blue: 128 }))
+
+// A pen out of range, and what is core's.
+CR0,1,0,1,0,1;PC256,0,0,0;PC-.6,0,0,0;PC;PC2;PC1,2;PC1,2,3
+None
+None
+Some(DefaultColours)
+Some(PenColour(2, Colour { red: 255, green: 0, blue: 0 }))
+None
+None
+
+// The usual ranges.
+CR;PC1,1.5,2,255;PC1,2,3,256;PC1,-1,0,0
+Some(PenColour(1, Colour { red: 2, green: 2, blue: 255 }))
+None
+None
+
+";
 
 #[test]
 fn colours_in_ranges(rt: HostRuntime) -> Result<(), Fail> {
-    let plots = [
-        // Of 0 to 100, a half is rounded up.
-        (
-            b"CR0,100,0,100,0,100;PC1,100,50,0;PC2,0.196078,0.196079,100.1".as_slice(),
-            "Some(PenColour(1, Colour { red: 255, green: 128, blue: 0 }))\n\
-Some(PenColour(2, Colour { red: 0, green: 1, blue: 255 }))\n",
-        ),
-        // What is past black or white is cut.
-        (
-            b"CR0,1,0,1,0,1;PC255.4,0.5,2,-1,9".as_slice(),
-            "Some(PenColour(255, Colour { red: 128, green: 255, blue: 0 }))\n",
-        ),
-        // White below black, and white below 0.
-        (
-            b"CR100,0,0,-2,-1,-3;PC3,75,-1,-2.5".as_slice(),
-            "Some(PenColour(3, Colour { red: 64, green: 128, blue: 191 }))\n",
-        ),
-        // Only blue has another range.
-        (
-            b"CR0,255,0,255,0,2;PC3,256,254.5,1".as_slice(),
-            "Some(PenColour(3, Colour { red: 255, green: 255, blue: 128 }))\n",
-        ),
-        // A pen out of range, and what is core's.
-        (
-            b"CR0,1,0,1,0,1;PC256,0,0,0;PC-.6,0,0,0;PC;PC2;PC1,2;PC1,2,3".as_slice(),
-            "None\nNone\nSome(DefaultColours)\n\
-Some(PenColour(2, Colour { red: 255, green: 0, blue: 0 }))\n\
-None\nNone\n",
-        ),
-        // The usual ranges.
-        (
-            b"CR;PC1,1.5,2,255;PC1,2,3,256;PC1,-1,0,0".as_slice(),
-            "Some(PenColour(1, Colour { red: 2, green: 2, blue: 255 }))\nNone\nNone\n",
-        ),
-    ];
-    for (plot, wanted) in plots {
-        assert_eq!(rt; colours_of(rt.alloc(), plot)?.as_str(), wanted);
-    }
-    Ok(())
+    has_answers(&rt, rt.alloc(), Asked::Colours, COLOURS_IN_RANGES, 6)
 }

@@ -2,6 +2,7 @@
 ghost use Rattle.std.specs.Prelude.{IfSome};
 ghost use Rattle.full_settings.specs.LetterParameters.{IsLetterSetting};
 
+use crate::cases::{Asked, has_answers};
 use directions::{Direction, Turn};
 use full_settings::{
     LetterSetting, Letters, direction_setting, origin_setting, path_setting,
@@ -10,6 +11,7 @@ use full_settings::{
 use hpgl_text::{Body, Further, Instruction, Items, Number, Profile};
 use lettering::{LineFeed, Path, Style};
 use plot_frame::{Ends, Pair};
+use std::alloc::Global;
 use std::test::Fail;
 use stick_font::CharacterSize;
 
@@ -70,6 +72,13 @@ fn style_after(text: &[u8], turn: Turn) -> Style {
     letters.lettering(size, &points, turn).style
 }
 
+// The size of letters after a text.
+pub fn size_after(alloc: Global, text: &[u8]) -> Result<String, Fail> {
+    let style = style_after(text, Turn::None);
+    let (width, height) = (style.width, style.height);
+    Ok(format!(in alloc; "{width} {height}\n")?)
+}
+
 #[test]
 fn at_the_start(rt: HostRuntime) -> Result<(), Fail> {
     let style = style_after(b"", Turn::None);
@@ -83,25 +92,36 @@ fn at_the_start(rt: HostRuntime) -> Result<(), Fail> {
     Ok(())
 }
 
+const SIZES: &str = "\
+// 10 percent of 300 by -400 plotter units of 16 grains
+SR10,10;
+480 -640
+
+SR-10,5;
+-480 -320
+
+// half a grain is rounded up
+SR;SR.010416,.007813;
+0 -1
+
+SR.010417,.007812;
+1 0
+
+SR;
+36 -96
+
+// SI's size again
+SR10,10;SI;
+100 200
+
+SR10,10;SI;SR20,10;SL1;
+960 -640
+
+";
+
 #[test]
 fn sizes(rt: HostRuntime) -> Result<(), Fail> {
-    let plots = [
-        // 10 percent of 300 by -400 plotter units of 16 grains
-        (b"SR10,10;".as_slice(), (480, -640)),
-        (b"SR-10,5;", (-480, -320)),
-        // half a grain is rounded up
-        (b"SR;SR.010416,.007813;", (0, -1)),
-        (b"SR.010417,.007812;", (1, 0)),
-        (b"SR;", (36, -96)),
-        // SI's size again
-        (b"SR10,10;SI;", (100, 200)),
-        (b"SR10,10;SI;SR20,10;SL1;", (960, -640)),
-    ];
-    for (plot, wanted) in plots {
-        let style = style_after(plot, Turn::None);
-        assert_eq!(rt; (style.width, style.height), wanted);
-    }
-    Ok(())
+    has_answers(&rt, rt.alloc(), Asked::Sizes, SIZES, 7)
 }
 
 #[test]

@@ -5,6 +5,8 @@
 #[cfg(test)]
 mod arcs;
 #[cfg(test)]
+mod cases;
+#[cfg(test)]
 mod curves_drawn;
 #[cfg(test)]
 mod dashes;
