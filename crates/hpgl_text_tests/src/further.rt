@@ -1,6 +1,7 @@
 // The items of plots in the two profiles: each mnemonic that they read in different ways.
 use hpgl_text::{Body, Item, Items, Profile};
 use std::alloc::{AllocError, Global};
+use std::process::Abort;
 use std::test::Fail;
 
 const NUMBERED: &[u8] = b"\
@@ -36,6 +37,19 @@ fn body_of(alloc: Global, item: &Item<'_>) -> Result<String, AllocError> {
     }
 }
 
+// Fails unless the items of a plot have these.
+fn has_bodies(
+    rt: &impl Abort,
+    alloc: Global,
+    profile: Profile,
+    plot: &[u8],
+    wanted: &str,
+) -> Result<(), Fail> {
+    let bodies = bodies_of(alloc, profile, plot)?;
+    assert_eq!(rt; bodies.as_str(), wanted);
+    Ok(())
+}
+
 // How many items of a plot are skipped, and how many have no effect.
 fn passed_over(profile: Profile, plot: &[u8]) -> (usize, usize) {
     let mut skipped: usize = 0;
@@ -53,16 +67,18 @@ fn passed_over(profile: Profile, plot: &[u8]) -> (usize, usize) {
 
 #[test]
 fn numbered(rt: HostRuntime) -> Result<(), Fail> {
-    let bodies = bodies_of(rt.alloc(), Profile::Full, NUMBERED)?;
-    assert_eq!(rt;
-        bodies.as_str(),
+    has_bodies(
+        &rt,
+        rt.alloc(),
+        Profile::Full,
+        NUMBERED,
         "\
 LineType 1, UserLineType 1, WidthUnit 1, PenThickness 1, RelativeSize 1, Slant 1, RelativeDirection 1, \
 TextPath 1, LabelOrigin 1, CharacterPlot 1, ExtraSpace 1, TickLength 1, XTick 1, YTick 1, PolygonMode 1, \
 EdgePolygon 1, FillPolygon 1, FillType 1, AnchorCorner 1, FillAbsolute 1, FillRelative 1, EdgeWedge 1, \
 FillWedge 1, ArcAbsoluteThreePoint 1, ArcRelativeThreePoint 1, BezierAbsolute 1, BezierRelative 1, \
-ChordTolerance 1, RelativePoints 1, ColourRange 1, "
-    );
+ChordTolerance 1, RelativePoints 1, ColourRange 1, ",
+    )?;
     assert_eq!(rt; passed_over(Profile::Core, NUMBERED), (30, 0));
     Ok(())
 }
@@ -70,11 +86,13 @@ ChordTolerance 1, RelativePoints 1, ColourRange 1, "
 #[test]
 fn unread(rt: HostRuntime) -> Result<(), Fail> {
     let plot = b"PG1:\";\"2;AF;AH;NR;FR;BP;PB";
-    let bodies = bodies_of(rt.alloc(), Profile::Full, plot)?;
-    assert_eq!(rt;
-        bodies.as_str(),
-        "EndSheet 0, EndSheet 0, EndSheet 0, EndSheet 0, EndSheet 0, BeginPlot 0, PrintBuffer 0, "
-    );
+    has_bodies(
+        &rt,
+        rt.alloc(),
+        Profile::Full,
+        plot,
+        "EndSheet 0, EndSheet 0, EndSheet 0, EndSheet 0, EndSheet 0, BeginPlot 0, PrintBuffer 0, ",
+    )?;
     assert_eq!(rt; passed_over(Profile::Core, plot), (7, 0));
     Ok(())
 }
@@ -106,34 +124,46 @@ ArcAbsolute 0, ArcRelative 0, CharacterSize 0, Direction 0, Coded([]), Label([97
 // A number of a further instruction that is wrong makes it bad.
 #[test]
 fn wrong_numbers(rt: HostRuntime) -> Result<(), Fail> {
-    let bodies = bodies_of(rt.alloc(), Profile::Full, b"LT2:1;FT9999999;PU")?;
-    assert_eq!(rt; bodies.as_str(), "Bad, Bad, PenUp 0, ");
-    Ok(())
+    has_bodies(
+        &rt,
+        rt.alloc(),
+        Profile::Full,
+        b"LT2:1;FT9999999;PU",
+        "Bad, Bad, PenUp 0, ",
+    )
 }
 
 // BL and WD go to the label terminator; BP makes it ETX.
 #[test]
 fn texts(rt: HostRuntime) -> Result<(), Fail> {
     let plot = b"DT$;BLa;$WDb;$PUBP;BLc$\x03LBd\x03BLe;";
-    let bodies = bodies_of(rt.alloc(), Profile::Full, plot)?;
-    assert_eq!(rt;
-        bodies.as_str(),
+    has_bodies(
+        &rt,
+        rt.alloc(),
+        Profile::Full,
+        plot,
         "Terminator(36), Kept([97, 59]), Known, PenUp 0, BeginPlot 0, Kept([99, 36]), Label([100]), \
-         Kept([101, 59]), "
-    );
-    let bodies = bodies_of(rt.alloc(), Profile::Core, b"BLa;\x03PU")?;
-    assert_eq!(rt; bodies.as_str(), "Skipped, PenUp 0, ");
-    Ok(())
+         Kept([101, 59]), ",
+    )?;
+    has_bodies(
+        &rt,
+        rt.alloc(),
+        Profile::Core,
+        b"BLa;\x03PU",
+        "Skipped, PenUp 0, ",
+    )
 }
 
 #[test]
 fn further_symbols(rt: HostRuntime) -> Result<(), Fail> {
-    let bodies = bodies_of(rt.alloc(), Profile::Full, b"SM!;SM~SM\"SM;SM SM\x7fSMA1;SM")?;
-    assert_eq!(rt;
-        bodies.as_str(),
+    has_bodies(
+        &rt,
+        rt.alloc(),
+        Profile::Full,
+        b"SM!;SM~SM\"SM;SM SM\x7fSMA1;SM",
         "Symbol(Some(33)), Symbol(Some(126)), Symbol(Some(34)), Symbol(None), Symbol(None), Symbol(None), \
-         Symbol(Some(65)), Symbol(None), "
-    );
+         Symbol(Some(65)), Symbol(None), ",
+    )?;
     assert_eq!(rt; passed_over(Profile::Core, b"SM!;SM;SM"), (3, 0));
     Ok(())
 }
@@ -141,15 +171,18 @@ fn further_symbols(rt: HostRuntime) -> Result<(), Fail> {
 #[test]
 fn comments(rt: HostRuntime) -> Result<(), Fail> {
     let plot = b"COa \"PD9,9\" x;PU0,0;CO \n\"a;b\" c;PD20,0;CO;PDCO\"a\";PU;CO\"b;PD";
-    let bodies = bodies_of(rt.alloc(), Profile::Full, plot)?;
-    assert_eq!(rt;
-        bodies.as_str(),
-        "Known, PenUp 2, Known, PenDown 2, Known, PenDown 0, Known, PenUp 0, Known, "
-    );
-    let bodies = bodies_of(rt.alloc(), Profile::Core, b"COa x;PU0,0;")?;
-    assert_eq!(rt;
-        bodies.as_str(),
-        "Skipped, Stray(97), Stray(120), PenUp 2, "
-    );
-    Ok(())
+    has_bodies(
+        &rt,
+        rt.alloc(),
+        Profile::Full,
+        plot,
+        "Known, PenUp 2, Known, PenDown 2, Known, PenDown 0, Known, PenUp 0, Known, ",
+    )?;
+    has_bodies(
+        &rt,
+        rt.alloc(),
+        Profile::Core,
+        b"COa x;PU0,0;",
+        "Skipped, Stray(97), Stray(120), PenUp 2, ",
+    )
 }

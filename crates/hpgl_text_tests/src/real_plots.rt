@@ -2,6 +2,7 @@
 // a reader of plots that was written apart from this one.
 use hpgl_text::{Body, Item, Part, Polyline, lex};
 use std::alloc::Global;
+use std::process::Abort;
 use std::test::Fail;
 
 // The notes of a plot: each item that is not known, bad, stray or without its end.
@@ -20,6 +21,13 @@ fn notes_of(alloc: Global, plot: &[u8]) -> Result<String, Fail> {
         notes.push_str(note.as_str())?;
     }
     Ok(notes)
+}
+
+// Fails unless these are the notes of a plot.
+fn has_notes_at(rt: &impl Abort, alloc: Global, plot: &[u8], wanted: &str) -> Result<(), Fail> {
+    let notes = notes_of(alloc, plot)?;
+    assert_eq!(rt; notes.as_str(), wanted);
+    Ok(())
 }
 
 // Why an item is noted, if it is.
@@ -61,13 +69,13 @@ const GNUPLOT_PEN_PLOTTER: &[u8] = b"\
 
 #[test]
 fn gnuplot_pen_plotter(rt: HostRuntime) -> Result<(), Fail> {
-    let notes = notes_of(rt.alloc(), GNUPLOT_PEN_PLOTTER)?;
-    assert_eq!(rt;
-        notes.as_str(),
+    has_notes_at(
+        &rt,
+        rt.alloc(),
+        GNUPLOT_PEN_PLOTTER,
         "\
-51 SR skipped, 923 PG skipped, "
-    );
-    Ok(())
+51 SR skipped, 923 PG skipped, ",
+    )
 }
 
 // `plot [-5:5] cos(x) with filledcurves y1=0` of gnuplot 5.4 by its terminal `pcl5`, with 3 samples.
@@ -91,9 +99,10 @@ const GNUPLOT_PCL5: &[u8] = b"\
 
 #[test]
 fn gnuplot_pcl5(rt: HostRuntime) -> Result<(), Fail> {
-    let notes = notes_of(rt.alloc(), GNUPLOT_PCL5)?;
-    assert_eq!(rt;
-        notes.as_str(),
+    has_notes_at(
+        &rt,
+        rt.alloc(),
+        GNUPLOT_PCL5,
         "\
 2 stray, 3 stray, 4 stray, 5 stray, 6 stray, 7 stray, 8 stray, 9 stray, 10 stray, \
 11 stray, 23 NP skipped, 29 SD skipped, 63 SS skipped, 67 UL skipped, 96 UL skipped, \
@@ -102,9 +111,8 @@ fn gnuplot_pcl5(rt: HostRuntime) -> Result<(), Fail> {
 435 SS skipped, 460 LT skipped, 462 LT skipped, 499 LT skipped, 501 LT skipped, \
 533 PM skipped, 566 PM skipped, 570 FT skipped, 574 FP skipped, 577 FT skipped, \
 602 LT skipped, 604 LT skipped, 641 LT skipped, 643 LT skipped, 663 stray, 664 stray, \
-665 stray, 666 stray, 667 stray, "
-    );
-    Ok(())
+665 stray, 666 stray, 667 stray, ",
+    )
 }
 
 // A shaded box, an arrow, a circle, a dashed line and a text by `pic2plot -T hpgl -F Univers` of
@@ -120,16 +128,16 @@ const PIC2PLOT: &[u8] = b"\
 
 #[test]
 fn pic2plot(rt: HostRuntime) -> Result<(), Fail> {
-    let notes = notes_of(rt.alloc(), PIC2PLOT)?;
-    assert_eq!(rt;
-        notes.as_str(),
+    has_notes_at(
+        &rt,
+        rt.alloc(),
+        PIC2PLOT,
         "\
 0 BP skipped, 6 PS skipped, 48 WU skipped, 56 TR skipped, 60 LT skipped, 63 LA skipped, \
 73 LA skipped, 101 FT skipped, 111 RA skipped, 147 PM skipped, 169 PM skipped, \
 173 EP skipped, 188 PM skipped, 227 PM skipped, 234 FT skipped, 238 FP skipped, \
 241 EP skipped, 262 UL skipped, 280 LT skipped, 303 PM skipped, 325 PM skipped, \
 329 EP skipped, 332 DR skipped, 346 SD skipped, 390 AD skipped, 433 SR skipped, \
-477 PG skipped, "
-    );
-    Ok(())
+477 PG skipped, ",
+    )
 }
