@@ -1,68 +1,64 @@
 // Symbols, ticks, kept texts and refusals of labels, by the text of plots. The strokes that are wanted come from a plotter
 // that was written apart from this one. A capital is 1,216 by 1,728 grains.
-use crate::line_types_set::strokes_of;
+use crate::cases::{Asked, has_answers};
 use full_plot::draw_full;
 use hpgl_plot::{Page, PlotFault};
 use std::alloc::Global;
 use std::test::Fail;
 
+const MOVES_SYMBOLS_AND_TICKS: &str = "\
+// moved by places
+PU100,100;CP2,-1;PD;
+5248,-1856 5248,-1856;
+
+// to the margin
+PU100,500;LB.\x03LB.\x03CP;PD;
+2208,8000 2208,8000;4032,8000 4032,8000;1600,4544 1600,4544;
+
+// margin after lines
+PU100,500;CP1,1;CP;PD;
+1600,8000 1600,8000;
+
+// buffered label
+BL.\x03PU100,100;PB;
+2208,1600 2208,1600;
+
+// symbols
+SM.;PU10,100;PD20,100;SM;PD30,100;
+160,736 160,736;160,1600 320,1600;320,736 320,736;320,1600 480,1600;
+
+// ticks
+IP0,0,300,400;TL10,5;PU500,500;XT;YT;
+8000,7680 8000,8640;7760,8000 8480,8000;
+
+// tick to the right
+IP0,0,300,400;TL10;PU500,500;YT;
+8000,8000 8480,8000;";
+
 #[test]
 fn moves_symbols_and_ticks(rt: HostRuntime) -> Result<(), Fail> {
-    let plots = [
-        // moved by places
-        (b"PU100,100;CP2,-1;PD;".as_slice(), "5248,-1856 5248,-1856;"),
-        // to the margin
-        (
-            b"PU100,500;LB.\x03LB.\x03CP;PD;",
-            "2208,8000 2208,8000;4032,8000 4032,8000;1600,4544 1600,4544;",
-        ),
-        // margin after lines
-        (b"PU100,500;CP1,1;CP;PD;", "1600,8000 1600,8000;"),
-        // buffered label
-        (b"BL.\x03PU100,100;PB;", "2208,1600 2208,1600;"),
-        // symbols
-        (
-            b"SM.;PU10,100;PD20,100;SM;PD30,100;",
-            "160,736 160,736;160,1600 320,1600;320,736 320,736;320,1600 480,1600;",
-        ),
-        // ticks
-        (
-            b"IP0,0,300,400;TL10,5;PU500,500;XT;YT;",
-            "8000,7680 8000,8640;7760,8000 8480,8000;",
-        ),
-        // tick to the right
-        (b"IP0,0,300,400;TL10;PU500,500;YT;", "8000,8000 8480,8000;"),
-    ];
-    for (plot, wanted) in plots {
-        assert_eq!(rt; strokes_of(rt.alloc(), plot)?.as_str(), wanted);
-    }
-    Ok(())
+    has_answers(&rt, rt.alloc(), Asked::Strokes, MOVES_SYMBOLS_AND_TICKS, 7)
 }
+
+const SYMBOLS_AND_TURNED_TICKS: &str = "\
+// a symbol after a move, and none after a circle
+SM.;PU50,50;CI0,180;
+800,-64 800,-64;800,800 800,800;800,800 800,800;
+
+// the most recent BL
+BLx.\x03BL.\x03PB;
+608,0 608,0;
+
+// a symbol is not dashed
+LT2,1,1;SML;PU50,100;
+192,2464 192,736;192,736 1408,736;
+
+IP0,0,300,400;TL10,5;RO90;PU500,500;XT;YT;
+8320,8000 7360,8000;8000,7760 8000,8480;";
 
 #[test]
 fn symbols_and_turned_ticks(rt: HostRuntime) -> Result<(), Fail> {
-    let plots = [
-        // a symbol after a move, and none after a circle
-        (
-            b"SM.;PU50,50;CI0,180;".as_slice(),
-            "800,-64 800,-64;800,800 800,800;800,800 800,800;",
-        ),
-        // the most recent BL
-        (b"BLx.\x03BL.\x03PB;", "608,0 608,0;"),
-        // a symbol is not dashed
-        (
-            b"LT2,1,1;SML;PU50,100;",
-            "192,2464 192,736;192,736 1408,736;",
-        ),
-        (
-            b"IP0,0,300,400;TL10,5;RO90;PU500,500;XT;YT;",
-            "8320,8000 7360,8000;8000,7760 8000,8480;",
-        ),
-    ];
-    for (plot, wanted) in plots {
-        assert_eq!(rt; strokes_of(rt.alloc(), plot)?.as_str(), wanted);
-    }
-    Ok(())
+    has_answers(&rt, rt.alloc(), Asked::Strokes, SYMBOLS_AND_TURNED_TICKS, 4)
 }
 
 // A BL with a text of 100,000 bytes that print nothing, and 42 times PB.
