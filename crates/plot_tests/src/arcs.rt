@@ -3,6 +3,8 @@ ghost use Rattle.plot_arc.specs.Bounds.{IsNear};
 
 use exact::Spot;
 use plot_arc::{chord_point, sine, turn, turn_count};
+use std::alloc::Global;
+use std::process::Abort;
 use std::test::Fail;
 
 // The farthest coordinate from 0.
@@ -23,33 +25,116 @@ fn turned(centre: (i64, i64), from: (i64, i64), thousandths: i64) -> (i128, i128
     (point.x, point.y)
 }
 
-#[test]
-fn sines_of_the_first_quarter(rt: HostRuntime) {
-    assert_eq!(rt; sine(0), 0);
-    assert_eq!(rt; sine(1), 175);
-    assert_eq!(rt; sine(30_000), 5_000_000);
-    assert_eq!(rt; sine(37_500), 6_087_500);
-    assert_eq!(rt; sine(45_000), 7_071_000);
-    assert_eq!(rt; sine(52_500), 7_933_000);
-    assert_eq!(rt; sine(89_000), 9_998_000);
-    assert_eq!(rt; sine(89_500), 9_999_000);
-    assert_eq!(rt; sine(89_999), 9_999_998);
-    assert_eq!(rt; sine(90_000), 10_000_000);
+// What is asked of the numbers of a line.
+#[derive(Clone, Copy, Drop)]
+enum Asked {
+    Sine,
+    Turned,
+    TurnCount,
+    Turn,
 }
 
+// Fails unless there are so many lines, and each has the answer that it says: numbers, a colon, and the answer.
+fn has_answers(
+    rt: &impl Abort,
+    alloc: Global,
+    asked: Asked,
+    lines: &str,
+    count: usize,
+) -> Result<(), Fail> {
+    let mut text = String::new(alloc);
+    let mut found: usize = 0;
+    for line in lines.lines() {
+        let (words, _) = line.split_once(":").ok_or("a line without a colon")?;
+        text.push_str(words)?;
+        let answer = answer_of(alloc, asked, numbers_of(words)?)?;
+        text.push_str(answer.as_str())?;
+        found = found.saturating_add(1);
+    }
+    assert_eq!(rt; text.as_str(), lines);
+    assert_eq!(rt; found, count);
+    Ok(())
+}
+
+// The numbers of some words, and then zeros.
+fn numbers_of(words: &str) -> Result<[i64; 5], Fail> {
+    let mut numbers = [0; 5];
+    for (at, word) in words.split_whitespace().enumerate() {
+        let number = numbers.get_mut(at).ok_or("too many numbers")?;
+        *number = word.parse().ok().ok_or("no number")?;
+    }
+    Ok(numbers)
+}
+
+fn answer_of(alloc: Global, asked: Asked, numbers: [i64; 5]) -> Result<String, Fail> {
+    let [first, second, third, fourth, fifth] = numbers;
+    match asked {
+        Asked::Sine => {
+            let sine = sine(first);
+            Ok(format!(in alloc; ": {sine}\n")?)
+        }
+        Asked::Turned => {
+            let (x, y) = turned((first, second), (third, fourth), fifth);
+            Ok(format!(in alloc; ": {x} {y}\n")?)
+        }
+        Asked::TurnCount => {
+            let chord = unsigned(first)?;
+            if chord == 0 {
+                return Err("a chord of 0".into());
+            }
+            let count = turn_count(chord, signed(second)?);
+            Ok(format!(in alloc; ": {count}\n")?)
+        }
+        Asked::Turn => {
+            let turn = turn(unsigned(first)?, signed(second)?, unsigned(third)?);
+            Ok(format!(in alloc; ": {turn}\n")?)
+        }
+    }
+}
+
+fn unsigned(number: i64) -> Result<u32, Fail> {
+    Ok(u32::try_from(number).ok().ok_or("not 0 to 4294967295")?)
+}
+
+fn signed(number: i64) -> Result<i32, Fail> {
+    Ok(i32::try_from(number).ok().ok_or("not of 32 bits")?)
+}
+
+const SINES_OF_THE_FIRST_QUARTER: &str = "\
+0: 0
+1: 175
+30000: 5000000
+37500: 6087500
+45000: 7071000
+52500: 7933000
+89000: 9998000
+89500: 9999000
+89999: 9999998
+90000: 10000000
+";
+
 #[test]
-fn sines_of_all_angles(rt: HostRuntime) {
-    assert_eq!(rt; sine(127_500), 7_933_000);
-    assert_eq!(rt; sine(179_999), 175);
-    assert_eq!(rt; sine(180_000), 0);
-    assert_eq!(rt; sine(180_001), -175);
-    assert_eq!(rt; sine(270_000), -10_000_000);
-    assert_eq!(rt; sine(359_999), -175);
-    assert_eq!(rt; sine(360_000), 0);
-    assert_eq!(rt; sine(-30_000), -5_000_000);
-    assert_eq!(rt; sine(-690_000), 5_000_000);
-    assert_eq!(rt; sine(i64::MAX), 8_271_086);
-    assert_eq!(rt; sine(i64::MIN), -8_271_184);
+fn sines_of_the_first_quarter(rt: HostRuntime) -> Result<(), Fail> {
+    has_answers(&rt, rt.alloc(), Asked::Sine, SINES_OF_THE_FIRST_QUARTER, 10)
+}
+
+const SINES_OF_ALL_ANGLES: &str = "\
+127500: 7933000
+179999: 175
+180000: 0
+180001: -175
+270000: -10000000
+359999: -175
+360000: 0
+-30000: -5000000
+-690000: 5000000
+9223372036854775807: 8271086
+-9223372036854775808: -8271184
+";
+
+#[test]
+fn sines_of_all_angles(rt: HostRuntime) -> Result<(), Fail> {
+    has_answers(&rt, rt.alloc(), Asked::Sine, SINES_OF_ALL_ANGLES, 11)
 }
 
 // The entries times 1 to 91, added up: a wrong entry, or two exchanged, change the sum. It comes
@@ -64,83 +149,117 @@ fn all_entries_of_the_table(rt: HostRuntime) {
     assert_eq!(rt; sum, 33_856_627_000);
 }
 
-#[test]
-fn quarters_of_a_circle(rt: HostRuntime) {
-    assert_eq!(rt; turned((10, 20), (13, 21), 0), (13, 21));
-    assert_eq!(rt; turned((10, 20), (13, 21), 90_000), (9, 23));
-    assert_eq!(rt; turned((10, 20), (13, 21), 180_000), (7, 19));
-    assert_eq!(rt; turned((10, 20), (13, 21), 270_000), (11, 17));
-    assert_eq!(rt; turned((10, 20), (13, 21), 360_000), (13, 21));
-    assert_eq!(rt; turned((10, 20), (13, 21), -90_000), (11, 17));
-    assert_eq!(rt; turned((10, 20), (13, 21), -360_000), (13, 21));
-}
+const QUARTERS_OF_A_CIRCLE: &str = "\
+10 20 13 21 0: 13 21
+10 20 13 21 90000: 9 23
+10 20 13 21 180000: 7 19
+10 20 13 21 270000: 11 17
+10 20 13 21 360000: 13 21
+10 20 13 21 -90000: 11 17
+10 20 13 21 -360000: 13 21
+";
 
 #[test]
-fn other_angles(rt: HostRuntime) {
-    assert_eq!(rt;
-        turned((1_000_000, 2_000_000), (41_000_000, 2_000_000), 30_000),
-        (35_640_000, 22_000_000)
-    );
-    assert_eq!(rt;
-        turned((1_000_000, 2_000_000), (41_000_000, 2_000_000), -30_000),
-        (35_640_000, -18_000_000)
-    );
-    assert_eq!(rt; turned((100, 200), (-7, 33), 123_456), (298, 203));
-    assert_eq!(rt; turned((5, -7), (2, -11), 37_500), (5, -12));
-    assert_eq!(rt;
-        turned((3, 4), (-1_000_000, -2_000_000), 210_000),
-        (-133_996, 2_232_009)
-    );
+fn quarters_of_a_circle(rt: HostRuntime) -> Result<(), Fail> {
+    has_answers(&rt, rt.alloc(), Asked::Turned, QUARTERS_OF_A_CIRCLE, 7)
+}
+
+const OTHER_ANGLES: &str = "\
+1000000 2000000 41000000 2000000 30000: 35640000 22000000
+1000000 2000000 41000000 2000000 -30000: 35640000 -18000000
+100 200 -7 33 123456: 298 203
+5 -7 2 -11 37500: 5 -12
+3 4 -1000000 -2000000 210000: -133996 2232009
+";
+
+#[test]
+fn other_angles(rt: HostRuntime) -> Result<(), Fail> {
+    has_answers(&rt, rt.alloc(), Asked::Turned, OTHER_ANGLES, 5)
 }
 
 // One half and minus one half are both rounded upward.
+const HALVES: &str = "\
+0 0 1 0 60000: 1 1
+0 0 1 0 120000: 0 1
+0 0 0 -1 30000: 1 -1
+";
+
 #[test]
-fn halves(rt: HostRuntime) {
-    assert_eq!(rt; turned((0, 0), (1, 0), 60_000), (1, 1));
-    assert_eq!(rt; turned((0, 0), (1, 0), 120_000), (0, 1));
-    assert_eq!(rt; turned((0, 0), (0, -1), 30_000), (1, -1));
+fn halves(rt: HostRuntime) -> Result<(), Fail> {
+    has_answers(&rt, rt.alloc(), Asked::Turned, HALVES, 3)
+}
+
+// Fails unless a point turned about a centre comes to this place.
+fn turns_to(rt: &impl Abort, centre: Spot, from: Spot, thousandths: i64, x: i128, y: i128)
+    requires centre_in { IsNear centre }
+    requires from_in { IsNear from }
+{
+    assert_eq!(rt; chord_point(centre, from, thousandths), Spot { x, y });
 }
 
 #[test]
 fn farthest_points(rt: HostRuntime) {
     let (high, low) = (Spot { x: FAR, y: FAR }, Spot { x: -FAR, y: -FAR });
-    let point = chord_point(high, low, 90_000);
-    assert_eq!(rt; (point.x, point.y), (3 * FAR, -FAR));
-    let point = chord_point(high, low, 45_000);
-    assert_eq!(rt;
-        (point.x, point.y),
-        (FAR, -1_828_400_000_000_000_000_000_000)
+    turns_to(&rt, high, low, 90_000, 3 * FAR, -FAR);
+    turns_to(
+        &rt,
+        high,
+        low,
+        45_000,
+        FAR,
+        -1_828_400_000_000_000_000_000_000,
     );
-    let point = chord_point(low, high, 45_000);
-    assert_eq!(rt;
-        (point.x, point.y),
-        (-FAR, 1_828_400_000_000_000_000_000_000)
+    turns_to(
+        &rt,
+        low,
+        high,
+        45_000,
+        -FAR,
+        1_828_400_000_000_000_000_000_000,
     );
-    let point = chord_point(high, low, i64::MIN);
-    assert_eq!(rt; point.x, -1_778_166_400_000_000_000_000_000);
-    assert_eq!(rt; point.y, 1_530_307_200_000_000_000_000_000);
+    let (x, y) = (
+        -1_778_166_400_000_000_000_000_000,
+        1_530_307_200_000_000_000_000_000,
+    );
+    turns_to(&rt, high, low, i64::MIN, x, y);
 }
 
 // 100 degrees in chords of 30 degrees end at 30, 60, 90 and 100 degrees.
-#[test]
-fn turns_of_an_arc(rt: HostRuntime) {
-    assert_eq!(rt; turn_count(30_000, 100_000), 4);
-    assert_eq!(rt; turn(30_000, 100_000, 1), 30_000);
-    assert_eq!(rt; turn(30_000, 100_000, 3), 90_000);
-    assert_eq!(rt; turn(30_000, 100_000, 4), 100_000);
-    assert_eq!(rt; turn_count(30_000, -100_000), 4);
-    assert_eq!(rt; turn(30_000, -100_000, 3), -90_000);
-    assert_eq!(rt; turn(30_000, -100_000, 4), -100_000);
-}
+const COUNTS_OF_TURNS: &str = "\
+30000 100000: 4
+30000 -100000: 4
+";
+
+const ENDS_OF_TURNS: &str = "\
+30000 100000 1: 30000
+30000 100000 3: 90000
+30000 100000 4: 100000
+30000 -100000 3: -90000
+30000 -100000 4: -100000
+";
 
 #[test]
-fn counts_of_chords(rt: HostRuntime) {
-    assert_eq!(rt; turn_count(30_000, 90_000), 3);
-    assert_eq!(rt; turn_count(180_000, 1), 1);
-    assert_eq!(rt; turn_count(500, -360_000), 720);
-    assert_eq!(rt; turn(500, -360_000, 720), -360_000);
-    assert_eq!(rt; turn_count(5_000, 0), 1);
-    assert_eq!(rt; turn(5_000, 0, 1), 0);
-    assert_eq!(rt; turn_count(1, i32::MIN), 2_147_483_648);
-    assert_eq!(rt; turn(u32::MAX, i32::MIN, u32::MAX), -2_147_483_648);
+fn turns_of_an_arc(rt: HostRuntime) -> Result<(), Fail> {
+    has_answers(&rt, rt.alloc(), Asked::TurnCount, COUNTS_OF_TURNS, 2)?;
+    has_answers(&rt, rt.alloc(), Asked::Turn, ENDS_OF_TURNS, 5)
+}
+
+const COUNTS_OF_CHORDS: &str = "\
+30000 90000: 3
+180000 1: 1
+500 -360000: 720
+5000 0: 1
+1 -2147483648: 2147483648
+";
+
+const ENDS_OF_CHORDS: &str = "\
+500 -360000 720: -360000
+5000 0 1: 0
+4294967295 -2147483648 4294967295: -2147483648
+";
+
+#[test]
+fn counts_of_chords(rt: HostRuntime) -> Result<(), Fail> {
+    has_answers(&rt, rt.alloc(), Asked::TurnCount, COUNTS_OF_CHORDS, 5)?;
+    has_answers(&rt, rt.alloc(), Asked::Turn, ENDS_OF_CHORDS, 3)
 }

@@ -1,5 +1,5 @@
-// Tests of many texts as one. The answers to its texts are put in instead of those that are wanted, and it stays as it
-// was.
+// Cases as one text. A helper writes the cases again with the answers instead of those that are wanted, and fails unless
+// both texts are equal.
 use crate::full_settings_set::{colours_of, further_settings_of, points_on_page};
 use crate::letters_set::size_after;
 use crate::settings::settings_of;

@@ -1,30 +1,36 @@
 // Characters by public calls.
+use std::process::Abort;
 use stick_font::{GridStroke, column_width, glyph};
 
 const fn stroke(ax: u8, ay: u8, bx: u8, by: u8) -> GridStroke {
     GridStroke { ax, ay, bx, by }
 }
 
+// Fails unless this is a stroke of a character, or there is none of this number.
+fn has_stroke(rt: &impl Abort, byte: u8, number: usize, wanted: Option<GridStroke>) {
+    assert_eq!(rt; glyph(byte, number), wanted);
+}
+
 // An L has two strokes, and so has a small one. A space has none.
 #[test]
 fn letters(rt: HostRuntime) {
-    assert_eq!(rt; glyph(b'L', 0), Some(stroke(0, 6, 0, 0)));
-    assert_eq!(rt; glyph(b'L', 1), Some(stroke(0, 0, 4, 0)));
-    assert_eq!(rt; glyph(b'L', 2), None);
-    assert_eq!(rt; glyph(b'l', 0), Some(stroke(0, 6, 0, 0)));
-    assert_eq!(rt; glyph(b'l', 2), None);
-    assert_eq!(rt; glyph(b' ', 0), None);
-    assert_eq!(rt; glyph(b'L', usize::MAX), None);
+    has_stroke(&rt, b'L', 0, Some(stroke(0, 6, 0, 0)));
+    has_stroke(&rt, b'L', 1, Some(stroke(0, 0, 4, 0)));
+    has_stroke(&rt, b'L', 2, None);
+    has_stroke(&rt, b'l', 0, Some(stroke(0, 6, 0, 0)));
+    has_stroke(&rt, b'l', 2, None);
+    has_stroke(&rt, b' ', 0, None);
+    has_stroke(&rt, b'L', usize::MAX, None);
 }
 
 // A polyline of one point is a dot, and a stroke that follows it is found.
 #[test]
 fn dots(rt: HostRuntime) {
-    assert_eq!(rt; glyph(b'!', 1), Some(stroke(2, 0, 2, 0)));
-    assert_eq!(rt; glyph(b'!', 2), None);
-    assert_eq!(rt; glyph(b'%', 1), Some(stroke(0, 5, 0, 5)));
-    assert_eq!(rt; glyph(b'%', 2), Some(stroke(4, 1, 4, 1)));
-    assert_eq!(rt; glyph(b';', 1), Some(stroke(2, 1, 1, 0)));
+    has_stroke(&rt, b'!', 1, Some(stroke(2, 0, 2, 0)));
+    has_stroke(&rt, b'!', 2, None);
+    has_stroke(&rt, b'%', 1, Some(stroke(0, 5, 0, 5)));
+    has_stroke(&rt, b'%', 2, Some(stroke(4, 1, 4, 1)));
+    has_stroke(&rt, b';', 1, Some(stroke(2, 1, 1, 0)));
 }
 
 // The bytes on each side of what has strokes, and of the small letters.
@@ -45,7 +51,7 @@ fn first_and_last_bytes(rt: HostRuntime) {
     for (byte, has_strokes) in cases {
         assert_eq!(rt; glyph(byte, 0).is_some(), has_strokes);
     }
-    assert_eq!(rt; glyph(b'~', 2), Some(stroke(3, 2, 4, 3)));
+    has_stroke(&rt, b'~', 2, Some(stroke(3, 2, 4, 3)));
 }
 
 #[test]

@@ -2,6 +2,7 @@
 ghost use Rattle.std.specs.Prelude.{◌≡◌};
 
 use exact::Spot;
+use std::process::Abort;
 use stick_font::{Cell, CharacterSize, LabelStroke, label_stroke};
 
 const fn at(x: i128, y: i128) -> Spot
@@ -19,6 +20,11 @@ fn end_of(bytes: &[u8]) -> Spot {
         }
     }
     cell.corner()
+}
+
+// Fails unless the character after some bytes begins at this place.
+fn ends_at(rt: &impl Abort, bytes: &[u8], x: i128, y: i128) {
+    assert_eq!(rt; end_of(bytes), Spot { x, y });
 }
 
 // An L has two strokes, and a small one is two thirds of it in both directions.
@@ -57,12 +63,12 @@ fn cells(rt: HostRuntime) {
 // The pen ends at the next cell, whatever the last character's width is.
 #[test]
 fn ends(rt: HostRuntime) {
-    assert_eq!(rt; end_of(b""), at(0, 0));
-    assert_eq!(rt; end_of(b"Ll"), at(36, 0));
-    assert_eq!(rt; end_of(b"AB\r\nC\n"), at(18, -72));
-    assert_eq!(rt; end_of(b"AB\n"), at(36, -36));
-    assert_eq!(rt; end_of(&[0, 9, 31, 127, 255]), at(0, 0));
-    assert_eq!(rt; end_of(b" ~"), at(36, 0));
+    ends_at(&rt, b"", 0, 0);
+    ends_at(&rt, b"Ll", 36, 0);
+    ends_at(&rt, b"AB\r\nC\n", 18, -72);
+    ends_at(&rt, b"AB\n", 36, -36);
+    ends_at(&rt, &[0, 9, 31, 127, 255], 0, 0);
+    ends_at(&rt, b" ~", 36, 0);
 }
 
 #[test]

@@ -12,6 +12,7 @@ use hpgl_text::{Body, Further, Instruction, Items, Number, Profile};
 use lettering::{LineFeed, Path, Style};
 use plot_frame::{Ends, Pair};
 use std::alloc::Global;
+use std::process::Abort;
 use std::test::Fail;
 use stick_font::CharacterSize;
 
@@ -79,14 +80,20 @@ pub fn size_after(alloc: Global, text: &[u8]) -> Result<String, Fail> {
     Ok(format!(in alloc; "{width} {height}\n")?)
 }
 
+// Fails unless a style has this slant, these steps and this origin.
+fn has_numbers(rt: &impl Abort, style: &Style, slant: i64, steps: (i64, i64), origin: u8) {
+    assert_eq!(rt; style.slant, slant);
+    assert_eq!(rt; (style.step_x, style.step_y), steps);
+    assert_eq!(rt; style.origin, origin);
+}
+
 #[test]
 fn at_the_start(rt: HostRuntime) -> Result<(), Fail> {
     let style = style_after(b"", Turn::None);
     let usual = Style::usual();
     assert_eq!(rt; (style.width, style.height), (100, 200));
     assert_eq!(rt; style.direction, usual.direction);
-    assert_eq!(rt; (style.slant, style.origin), (0, 1));
-    assert_eq!(rt; (style.step_x, style.step_y), (usual.step_x, usual.step_y));
+    has_numbers(&rt, &style, 0, (usual.step_x, usual.step_y), 1);
     assert!(rt; matches!(style.path, Path::Right));
     assert!(rt; matches!(style.line_feed, LineFeed::Normal));
     Ok(())
@@ -152,15 +159,12 @@ fn other_settings(rt: HostRuntime) -> Result<(), Fail> {
         b"SL-2;ES1,-.5;LO14;DV2,1;DI1,1;SI;SL5000;",
         Turn::ThreeQuarters,
     );
-    assert_eq!(rt; style.slant, -2_000_000);
-    assert_eq!(rt; (style.step_x, style.step_y), (2_000_000, 500_000));
-    assert_eq!(rt; style.origin, 14);
+    has_numbers(&rt, &style, -2_000_000, (2_000_000, 500_000), 14);
     assert!(rt; matches!(style.path, Path::Left));
     assert!(rt; matches!(style.line_feed, LineFeed::Reverse));
     assert_eq!(rt; style.direction, Direction::unit(1, -1));
     let style = style_after(b"LO21;DV3;ES;", Turn::None);
-    assert_eq!(rt; (style.step_x, style.step_y), (1_000_000, 1_000_000));
-    assert_eq!(rt; style.origin, 1);
+    has_numbers(&rt, &style, 0, (1_000_000, 1_000_000), 1);
     assert!(rt; matches!(style.path, Path::Up));
     assert!(rt; matches!(style.line_feed, LineFeed::Normal));
     Ok(())
