@@ -4,6 +4,8 @@ use picture_job::Job;
 use picture_out::Form;
 use plot_page::Page;
 use std::alloc::{AllocError, Global};
+use std::fmt::Display;
+use std::process::Abort;
 use std::test::Fail;
 
 // The subcommands that write a picture.
@@ -96,25 +98,10 @@ fn an_option_sets_only_its_number(rt: HostRuntime) -> Result<(), Fail> {
 
 #[test]
 fn all_options_of_a_picture(rt: HostRuntime) -> Result<(), Fail> {
-    let words = [
-        "plotraster",
-        "ppm",
-        "--width",
-        "64",
-        "--height=65536",
-        "--left",
-        "3",
-        "--below",
-        "4",
-        "--dots",
-        "1200",
-        "--pens=2-4,9",
-        "--band",
-        "8",
-        "--from",
-        "99999",
-    ];
-    let job = job_of(rt.alloc(), &words)?;
+    let line =
+        "ppm --width 64 --height=65536 --left 3 --below 4 --dots 1200 --pens=2-4,9 --band 8 --from 99999";
+    let words = words_of(rt.alloc(), line)?;
+    let job = job_of(rt.alloc(), words.as_slice())?;
     assert_eq!(rt; numbers(&job), [64, 65536, 3, 4, 1200, 8, 99999]);
     for pen in 0..=255u8 {
         assert_eq!(rt; job.pens.has(pen), [2, 3, 4, 9].contains(&pen), "{pen}");
@@ -124,18 +111,9 @@ fn all_options_of_a_picture(rt: HostRuntime) -> Result<(), Fail> {
 
 #[test]
 fn all_options_of_a_report(rt: HostRuntime) -> Result<(), Fail> {
-    let words = [
-        "plotraster",
-        "report",
-        "--below=65536",
-        "--left",
-        "3",
-        "--height",
-        "64",
-        "--width",
-        "65536",
-    ];
-    let page = page_of(rt.alloc(), &words)?;
+    let line = "report --below=65536 --left 3 --height 64 --width 65536";
+    let words = words_of(rt.alloc(), line)?;
+    let page = page_of(rt.alloc(), words.as_slice())?;
     assert_eq!(rt; (page.width, page.height), (65536, 64));
     assert_eq!(rt; (page.left, page.below), (3, 65536));
     Ok(())
@@ -180,21 +158,39 @@ fn no_lists_of_pens(rt: HostRuntime) -> Result<(), Fail> {
     Ok(())
 }
 
+// Fails unless the file that a command line names, or `None`, is this.
+fn has_file(
+    rt: &impl Abort,
+    alloc: Global,
+    words: &[&str],
+    wanted: Option<&str>,
+) -> Result<(), Fail> {
+    let matches = parse(command(alloc)?, words)?;
+    assert_eq!(rt; settle(&matches)?.file, wanted, "{words:?}");
+    Ok(())
+}
+
+// The file, a colon, and the words after `plotraster`.
+const NAMES_OF_FILES: &str = "\
+plan.plt: pbm plan.plt
+-: ppm -
+report: report report
+--left: report -- --left
+";
+
 #[test]
 fn names_of_files(rt: HostRuntime) -> Result<(), Fail> {
-    let cases: [(&[&str], Option<&str>); 6] = [
-        (&["plotraster", "marks"], None),
-        (&["plotraster", "pbm", "plan.plt"], Some("plan.plt")),
-        (&["plotraster", "ppm", "-"], Some("-")),
-        (&["plotraster", "report", "report"], Some("report")),
-        (&["plotraster", "report", "--", "--left"], Some("--left")),
-        (&["plotraster", "pbm", "", "--dots", "10"], Some("")),
-    ];
-    for (words, file) in cases {
-        let matches = parse(command(rt.alloc())?, words)?;
-        assert_eq!(rt; settle(&matches)?.file, file, "{words:?}");
+    let mut count: usize = 0;
+    for case in NAMES_OF_FILES.lines() {
+        let (file, line) = case.split_once(":").ok_or("a case without a colon")?;
+        let words = words_of(rt.alloc(), line)?;
+        has_file(&rt, rt.alloc(), words.as_slice(), Some(file))?;
+        count = count.saturating_add(1);
     }
-    Ok(())
+    assert_eq!(rt; count, 4);
+    has_file(&rt, rt.alloc(), &["plotraster", "marks"], None)?;
+    let empty = ["plotraster", "pbm", "", "--dots", "10"];
+    has_file(&rt, rt.alloc(), &empty, Some(""))
 }
 
 // The kind of error that a command line gives, and the exit status, or `None` if it gives matches.
@@ -205,56 +201,53 @@ fn fault_of(alloc: Global, words: &[&str]) -> Result<Option<(ErrorKind, u8)>, Fa
     }
 }
 
+// Fails unless there are so many cases, and each command line after `plotraster` is refused as its case says: a kind of
+// error and an exit status, a colon, and the words with spaces between them.
+fn has_faults(rt: &impl Abort, alloc: Global, cases: &str, count: usize) -> Result<(), Fail> {
+    let mut found: usize = 0;
+    for case in cases.lines() {
+        let (wanted, line) = case.split_once(":").ok_or("a case without a colon")?;
+        let words = words_of(alloc, line)?;
+        let (kind, status) = fault_of(alloc, words.as_slice())?.ok_or("matches")?;
+        let fault = format!(in alloc; "{kind:?} {status}")?;
+        assert_eq!(rt; fault.as_str(), wanted, "{case}");
+        found = found.saturating_add(1);
+    }
+    assert_eq!(rt; found, count);
+    Ok(())
+}
+
+// The words of a command line, of which `plotraster` is the first.
+pub fn words_of<'a>(alloc: Global, line: &'a str) -> Result<Vec<&'a str>, Fail> {
+    let mut words = Vec::new(alloc);
+    words.push("plotraster")?;
+    for word in line.split_whitespace() {
+        words.push(word)?;
+    }
+    Ok(words)
+}
+
+const REFUSED: &str = "\
+MissingSubcommand 2:
+InvalidSubcommand 2: mark
+InvalidSubcommand 2: help
+InvalidSubcommand 2: version
+UnknownArgument 2: pbm -V
+UnknownArgument 2: --dots 100 pbm
+UnknownArgument 2: pbm --dot 100
+ArgumentConflict 2: pbm --dots 100 --dots 100
+ArgumentConflict 2: pbm --pens 1 --pens 1
+ArgumentConflict 2: report --left 1 --left 1
+InvalidValue 2: ppm --pens
+UnknownArgument 2: marks a b
+UnknownArgument 2: report a b
+UnknownArgument 2: report --dots 100
+UnknownArgument 2: report --pens 1
+";
+
 #[test]
 fn refuses_words(rt: HostRuntime) -> Result<(), Fail> {
-    let cases: [(&[&str], ErrorKind); 15] = [
-        (&["plotraster"], ErrorKind::MissingSubcommand),
-        (&["plotraster", "mark"], ErrorKind::InvalidSubcommand),
-        (&["plotraster", "help"], ErrorKind::InvalidSubcommand),
-        (&["plotraster", "version"], ErrorKind::InvalidSubcommand),
-        (&["plotraster", "pbm", "-V"], ErrorKind::UnknownArgument),
-        (
-            &["plotraster", "--dots", "100", "pbm"],
-            ErrorKind::UnknownArgument,
-        ),
-        (
-            &["plotraster", "pbm", "--dot", "100"],
-            ErrorKind::UnknownArgument,
-        ),
-        (
-            &["plotraster", "pbm", "--dots", "100", "--dots", "100"],
-            ErrorKind::ArgumentConflict,
-        ),
-        (
-            &["plotraster", "pbm", "--pens", "1", "--pens", "1"],
-            ErrorKind::ArgumentConflict,
-        ),
-        (
-            &["plotraster", "report", "--left", "1", "--left", "1"],
-            ErrorKind::ArgumentConflict,
-        ),
-        (&["plotraster", "ppm", "--pens"], ErrorKind::InvalidValue),
-        (
-            &["plotraster", "marks", "a", "b"],
-            ErrorKind::UnknownArgument,
-        ),
-        (
-            &["plotraster", "report", "a", "b"],
-            ErrorKind::UnknownArgument,
-        ),
-        (
-            &["plotraster", "report", "--dots", "100"],
-            ErrorKind::UnknownArgument,
-        ),
-        (
-            &["plotraster", "report", "--pens", "1"],
-            ErrorKind::UnknownArgument,
-        ),
-    ];
-    for (words, kind) in cases {
-        assert_eq!(rt; fault_of(rt.alloc(), words)?, Some((kind, 2)), "{words:?}");
-    }
-    Ok(())
+    has_faults(&rt, rt.alloc(), REFUSED, 15)
 }
 
 #[test]
@@ -282,43 +275,31 @@ fn refuses_numbers_out_of_range(rt: HostRuntime) -> Result<(), Fail> {
     Ok(())
 }
 
+const HELP: &str = "\
+DisplayHelp 0: --help
+DisplayHelp 0: -h ppm
+DisplayHelp 0: marks --help
+DisplayHelp 0: pbm -h
+DisplayHelp 0: ppm plan.plt --help
+DisplayHelp 0: pcl --help
+DisplayHelp 0: report --help
+DisplayHelp 0: report --left 1 -h
+";
+
 #[test]
 fn asks_for_help(rt: HostRuntime) -> Result<(), Fail> {
-    let cases: [&[&str]; 8] = [
-        &["plotraster", "--help"],
-        &["plotraster", "-h", "ppm"],
-        &["plotraster", "marks", "--help"],
-        &["plotraster", "pbm", "-h"],
-        &["plotraster", "ppm", "plan.plt", "--help"],
-        &["plotraster", "pcl", "--help"],
-        &["plotraster", "report", "--help"],
-        &["plotraster", "report", "--left", "1", "-h"],
-    ];
-    for words in cases {
-        assert_eq!(rt;
-            fault_of(rt.alloc(), words)?,
-            Some((ErrorKind::DisplayHelp, 0)),
-            "{words:?}"
-        );
-    }
-    Ok(())
+    has_faults(&rt, rt.alloc(), HELP, 8)
 }
+
+const VERSION: &str = "\
+DisplayVersion 0: --version
+DisplayVersion 0: -V
+DisplayVersion 0: -V pbm
+";
 
 #[test]
 fn asks_for_the_version(rt: HostRuntime) -> Result<(), Fail> {
-    let cases: [&[&str]; 3] = [
-        &["plotraster", "--version"],
-        &["plotraster", "-V"],
-        &["plotraster", "-V", "pbm"],
-    ];
-    for words in cases {
-        assert_eq!(rt;
-            fault_of(rt.alloc(), words)?,
-            Some((ErrorKind::DisplayVersion, 0)),
-            "{words:?}"
-        );
-    }
-    Ok(())
+    has_faults(&rt, rt.alloc(), VERSION, 3)
 }
 
 #[test]
@@ -341,27 +322,19 @@ fn refuses_other_matches(rt: HostRuntime) -> Result<(), Fail> {
     Ok(())
 }
 
+// Fails unless the text of a fault is this.
+fn reads<F: Display>(rt: &impl Abort, alloc: Global, fault: &F, wanted: &str) -> Result<(), Fail> {
+    let text = format!(in alloc; "{fault}")?;
+    assert_eq!(rt; text.as_str(), wanted);
+    Ok(())
+}
+
 #[test]
 fn prints_faults(rt: HostRuntime) -> Result<(), Fail> {
-    assert_eq!(rt;
-        format!(in rt.alloc(); "{}", LineFault::Words)?.as_str(),
-        "words not understood"
-    );
-    assert_eq!(rt;
-        format!(in rt.alloc(); "{}", LineFault::Pens)?.as_str(),
-        "bad pen list"
-    );
-    assert_eq!(rt;
-        format!(in rt.alloc(); "{}", LineFault::Profile)?.as_str(),
-        "bad profile"
-    );
-    assert_eq!(rt;
-        format!(in rt.alloc(); "{}", LineFault::Sheet)?.as_str(),
-        "--sheet needs --profile full"
-    );
-    assert_eq!(rt;
-        format!(in rt.alloc(); "{}", BuildFault::Memory)?.as_str(),
-        "out of memory"
-    );
-    Ok(())
+    reads(&rt, rt.alloc(), &LineFault::Words, "words not understood")?;
+    reads(&rt, rt.alloc(), &LineFault::Pens, "bad pen list")?;
+    reads(&rt, rt.alloc(), &LineFault::Profile, "bad profile")?;
+    let sheet = "--sheet needs --profile full";
+    reads(&rt, rt.alloc(), &LineFault::Sheet, sheet)?;
+    reads(&rt, rt.alloc(), &BuildFault::Memory, "out of memory")
 }

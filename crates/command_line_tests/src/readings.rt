@@ -1,78 +1,76 @@
-use clap::error::ErrorKind;
+use crate::options::words_of;
 use command_line::{LineFault, command, parse, settle};
 use picture_job::Reading;
 use std::alloc::Global;
+use std::process::Abort;
 use std::test::Fail;
 
 // All subcommands: each has both options.
 const COMMANDS: [&str; 5] = ["marks", "pbm", "ppm", "pcl", "report"];
 
-// How the plot is read by a subcommand with these options, or why the line is refused.
-fn reading_of(
-    alloc: Global,
-    name: &str,
-    options: &[&str],
-) -> Result<Result<Reading, LineFault>, Fail> {
-    let mut words = Vec::new(alloc);
-    words.push("plotraster")?;
-    words.push(name)?;
-    for option in options {
-        words.push(*option)?;
-    }
-    let matches = parse(command(alloc)?, words.as_slice())?;
+// How the plot is read by a command line, or why the line is refused.
+fn reading_of(alloc: Global, words: &[&str]) -> Result<Result<Reading, LineFault>, Fail> {
+    let matches = parse(command(alloc)?, words)?;
     match settle(&matches) {
         Ok(line) => Ok(Ok(line.reading)),
         Err(fault) => Ok(Err(fault)),
     }
 }
 
+// Fails unless there are so many cases, and each is read by this subcommand as it says: how the plot is read or why the
+// line is refused, an arrow, and the options.
+fn has_readings(
+    rt: &impl Abort,
+    alloc: Global,
+    name: &str,
+    cases: &str,
+    count: usize,
+) -> Result<(), Fail> {
+    let mut found: usize = 0;
+    for case in cases.lines() {
+        let (wanted, options) = case.split_once(" <-").ok_or("a case without an arrow")?;
+        let line = format!(in alloc; "{name} {options}")?;
+        let words = words_of(alloc, line.as_str())?;
+        let reading = reading_of(alloc, words.as_slice())?;
+        let told = format!(in alloc; "{reading:?}")?;
+        assert_eq!(rt; told.as_str(), wanted, "{name} {case}");
+        found = found.saturating_add(1);
+    }
+    assert_eq!(rt; found, count);
+    Ok(())
+}
+
+const PROFILES_AND_SHEETS: &str = "\
+Ok(Core) <-
+Ok(Core) <- --profile core
+Ok(Full { sheet: 1 }) <- --profile=full
+Ok(Full { sheet: 0 }) <- --profile full --sheet 0
+Ok(Full { sheet: 1 }) <- --profile=full --sheet=1
+Ok(Full { sheet: 2 }) <- --sheet=2 --profile=full
+Ok(Full { sheet: 3 }) <- --sheet +03 a.plt --profile full
+Ok(Full { sheet: 0 }) <- --profile=full --sheet=-0
+Ok(Full { sheet: 4194304 }) <- --profile=full --sheet=4194304
+";
+
 #[test]
 fn profiles_and_sheets(rt: HostRuntime) -> Result<(), Fail> {
-    let cases: [(&[&str], Reading); 9] = [
-        (&[], Reading::Core),
-        (&["--profile", "core"], Reading::Core),
-        (&["--profile=full"], Reading::Full { sheet: 1 }),
-        (
-            &["--profile", "full", "--sheet", "0"],
-            Reading::Full { sheet: 0 },
-        ),
-        (&["--profile=full", "--sheet=1"], Reading::Full { sheet: 1 }),
-        (&["--sheet=2", "--profile=full"], Reading::Full { sheet: 2 }),
-        (
-            &["--sheet", "+03", "a.plt", "--profile", "full"],
-            Reading::Full { sheet: 3 },
-        ),
-        (
-            &["--profile=full", "--sheet=-0"],
-            Reading::Full { sheet: 0 },
-        ),
-        (
-            &["--profile=full", "--sheet=4194304"],
-            Reading::Full { sheet: 4_194_304 },
-        ),
-    ];
     for name in COMMANDS {
-        for (options, reading) in cases {
-            let found = reading_of(rt.alloc(), name, options)?;
-            assert_eq!(rt; found, Ok(reading), "{name} {options:?}");
-        }
+        has_readings(&rt, rt.alloc(), name, PROFILES_AND_SHEETS, 9)?;
     }
     Ok(())
 }
 
+const SHEETS_WITHOUT_FULL: &str = "\
+Err(Sheet) <- --sheet 2
+Err(Sheet) <- --sheet=0
+Err(Sheet) <- --profile core --sheet 1
+Err(Sheet) <- --sheet=1 --profile=core
+";
+
 #[test]
 fn sheets_without_full(rt: HostRuntime) -> Result<(), Fail> {
-    let cases: [&[&str]; 4] = [
-        &["--sheet", "2"],
-        &["--sheet=0"],
-        &["--profile", "core", "--sheet", "1"],
-        &["--sheet=1", "--profile=core"],
-    ];
     for name in COMMANDS {
-        for options in cases {
-            let found = reading_of(rt.alloc(), name, options)?;
-            assert_eq!(rt; found, Err(LineFault::Sheet), "{name} {options:?}");
-        }
+        has_readings(&rt, rt.alloc(), name, SHEETS_WITHOUT_FULL, 4)?;
     }
     Ok(())
 }
@@ -83,71 +81,71 @@ fn no_profiles(rt: HostRuntime) -> Result<(), Fail> {
         for word in [
             "", "Core", "FULL", "cor", "fuller", "core ", " full", "0", "all",
         ] {
-            for sheet in [&["--left=1"], &["--sheet=1"]] {
-                let options = ["--profile", word, sheet[0]];
-                let found = reading_of(rt.alloc(), name, &options)?;
-                assert_eq!(rt; found, Err(LineFault::Profile), "{name} {options:?}");
+            for sheet in ["--left=1", "--sheet=1"] {
+                let words = ["plotraster", name, "--profile", word, sheet];
+                let found = reading_of(rt.alloc(), &words)?;
+                assert_eq!(rt; found, Err(LineFault::Profile), "{words:?}");
             }
         }
     }
     Ok(())
 }
 
+const THE_LIST_OF_PENS_COMES_FIRST: &str = "\
+Err(Pens) <- --profile=none --pens=0
+Err(Pens) <- --sheet=2 --pens=0
+Err(Sheet) <- --sheet=2 --pens=1
+";
+
 #[test]
 fn the_list_of_pens_comes_first(rt: HostRuntime) -> Result<(), Fail> {
-    let cases: [(&[&str], LineFault); 3] = [
-        (&["--profile=none", "--pens=0"], LineFault::Pens),
-        (&["--sheet=2", "--pens=0"], LineFault::Pens),
-        (&["--sheet=2", "--pens=1"], LineFault::Sheet),
-    ];
-    for (options, fault) in cases {
-        let found = reading_of(rt.alloc(), "pbm", options)?;
-        assert_eq!(rt; found, Err(fault), "{options:?}");
+    has_readings(&rt, rt.alloc(), "pbm", THE_LIST_OF_PENS_COMES_FIRST, 3)
+}
+
+// A kind of error, a colon, and the options.
+const REFUSED_BY_THE_PARSE: &str = "\
+ValueValidation: --sheet=4194305 --profile=full
+ValueValidation: --sheet=-1 --profile=full
+ValueValidation: --sheet= --profile=full
+ValueValidation: --sheet=all --profile=full
+ValueValidation: --sheet=4294967297 --profile=full
+ArgumentConflict: --sheet=1 --sheet=1
+ArgumentConflict: --sheet=1 --sheet=2
+ArgumentConflict: --profile=full --profile=full
+ArgumentConflict: --profile=core --profile=full
+InvalidValue: --profile=full --sheet
+InvalidValue: --sheet=1 --profile
+UnknownArgument: --profile=full --sheets=1
+";
+
+// Fails unless there are so many cases, and the options of each give this subcommand the kind of error.
+fn has_kinds(
+    rt: &impl Abort,
+    alloc: Global,
+    name: &str,
+    cases: &str,
+    count: usize,
+) -> Result<(), Fail> {
+    let mut found: usize = 0;
+    for case in cases.lines() {
+        let (wanted, options) = case.split_once(":").ok_or("a case without a colon")?;
+        let line = format!(in alloc; "{name} {options}")?;
+        let words = words_of(alloc, line.as_str())?;
+        let error = parse(command(alloc)?, words.as_slice())
+            .err()
+            .ok_or("matches")?;
+        let kind = format!(in alloc; "{:?}", error.kind())?;
+        assert_eq!(rt; kind.as_str(), wanted, "{name} {case}");
+        found = found.saturating_add(1);
     }
+    assert_eq!(rt; found, count);
     Ok(())
 }
 
 #[test]
 fn refused_by_the_parse(rt: HostRuntime) -> Result<(), Fail> {
-    let cases: [(&str, &str, ErrorKind); 12] = [
-        (
-            "--sheet=4194305",
-            "--profile=full",
-            ErrorKind::ValueValidation,
-        ),
-        ("--sheet=-1", "--profile=full", ErrorKind::ValueValidation),
-        ("--sheet=", "--profile=full", ErrorKind::ValueValidation),
-        ("--sheet=all", "--profile=full", ErrorKind::ValueValidation),
-        (
-            "--sheet=4294967297",
-            "--profile=full",
-            ErrorKind::ValueValidation,
-        ),
-        ("--sheet=1", "--sheet=1", ErrorKind::ArgumentConflict),
-        ("--sheet=1", "--sheet=2", ErrorKind::ArgumentConflict),
-        (
-            "--profile=full",
-            "--profile=full",
-            ErrorKind::ArgumentConflict,
-        ),
-        (
-            "--profile=core",
-            "--profile=full",
-            ErrorKind::ArgumentConflict,
-        ),
-        ("--profile=full", "--sheet", ErrorKind::InvalidValue),
-        ("--sheet=1", "--profile", ErrorKind::InvalidValue),
-        ("--profile=full", "--sheets=1", ErrorKind::UnknownArgument),
-    ];
     for name in COMMANDS {
-        for (one, other, kind) in cases {
-            let words = ["plotraster", name, one, other];
-            let found = match parse(command(rt.alloc())?, &words) {
-                Ok(_) => None,
-                Err(error) => Some(error.kind()),
-            };
-            assert_eq!(rt; found, Some(kind), "{words:?}");
-        }
+        has_kinds(&rt, rt.alloc(), name, REFUSED_BY_THE_PARSE, 12)?;
     }
     Ok(())
 }
