@@ -201,16 +201,29 @@ fn fault_of(alloc: Global, words: &[&str]) -> Result<Option<(ErrorKind, u8)>, Fa
     }
 }
 
-// Fails unless there are so many cases, and each command line after `plotraster` is refused as its case says: a kind of
-// error and an exit status, a colon, and the words with spaces between them.
-fn has_faults(rt: &impl Abort, alloc: Global, cases: &str, count: usize) -> Result<(), Fail> {
+// Fails unless a command line after `plotraster` gives this kind of error and this exit status.
+fn has_fault(rt: &impl Abort, alloc: Global, line: &str, wanted: &str) -> Result<(), Fail> {
+    let words = words_of(alloc, line)?;
+    let (kind, status) = fault_of(alloc, words.as_slice())?.ok_or("matches")?;
+    let fault = format!(in alloc; "{kind:?} {status}")?;
+    assert_eq!(rt; fault.as_str(), wanted, "{line}");
+    Ok(())
+}
+
+// Fails unless there are so many cases, and each command line is refused as its case says: a kind of error and an exit
+// status, a colon, and the words with spaces between them, which follow `plotraster` and these first words.
+pub fn has_faults(
+    rt: &impl Abort,
+    alloc: Global,
+    first: &str,
+    cases: &str,
+    count: usize,
+) -> Result<(), Fail> {
     let mut found: usize = 0;
     for case in cases.lines() {
-        let (wanted, line) = case.split_once(":").ok_or("a case without a colon")?;
-        let words = words_of(alloc, line)?;
-        let (kind, status) = fault_of(alloc, words.as_slice())?.ok_or("matches")?;
-        let fault = format!(in alloc; "{kind:?} {status}")?;
-        assert_eq!(rt; fault.as_str(), wanted, "{case}");
+        let (wanted, words) = case.split_once(":").ok_or("a case without a colon")?;
+        let line = format!(in alloc; "{first}{words}")?;
+        has_fault(rt, alloc, line.as_str(), wanted)?;
         found = found.saturating_add(1);
     }
     assert_eq!(rt; found, count);
@@ -247,7 +260,7 @@ UnknownArgument 2: report --pens 1
 
 #[test]
 fn refuses_words(rt: HostRuntime) -> Result<(), Fail> {
-    has_faults(&rt, rt.alloc(), REFUSED, 15)
+    has_faults(&rt, rt.alloc(), "", REFUSED, 15)
 }
 
 #[test]
@@ -263,13 +276,8 @@ fn refuses_numbers_out_of_range(rt: HostRuntime) -> Result<(), Fail> {
     ];
     for (option, low, high) in ranges {
         for number in [low, high, "", "ten", "10.5", "99999999999999999999"] {
-            let word = format!(in rt.alloc(); "{option}={number}")?;
-            let words = ["plotraster", "pbm", word.as_str()];
-            assert_eq!(rt;
-                fault_of(rt.alloc(), &words)?,
-                Some((ErrorKind::ValueValidation, 2)),
-                "{words:?}"
-            );
+            let line = format!(in rt.alloc(); "pbm {option}={number}")?;
+            has_fault(&rt, rt.alloc(), line.as_str(), "ValueValidation 2")?;
         }
     }
     Ok(())
@@ -288,7 +296,7 @@ DisplayHelp 0: report --left 1 -h
 
 #[test]
 fn asks_for_help(rt: HostRuntime) -> Result<(), Fail> {
-    has_faults(&rt, rt.alloc(), HELP, 8)
+    has_faults(&rt, rt.alloc(), "", HELP, 8)
 }
 
 const VERSION: &str = "\
@@ -299,7 +307,7 @@ DisplayVersion 0: -V pbm
 
 #[test]
 fn asks_for_the_version(rt: HostRuntime) -> Result<(), Fail> {
-    has_faults(&rt, rt.alloc(), VERSION, 3)
+    has_faults(&rt, rt.alloc(), "", VERSION, 3)
 }
 
 #[test]

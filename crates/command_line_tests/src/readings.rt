@@ -1,4 +1,4 @@
-use crate::options::words_of;
+use crate::options::{has_faults, words_of};
 use command_line::{LineFault, command, parse, settle};
 use picture_job::Reading;
 use std::alloc::Global;
@@ -17,6 +17,15 @@ fn reading_of(alloc: Global, words: &[&str]) -> Result<Result<Reading, LineFault
     }
 }
 
+// Fails unless the plot is read in this way by a command line, or the line is refused so.
+fn has_reading(rt: &impl Abort, alloc: Global, line: &str, wanted: &str) -> Result<(), Fail> {
+    let words = words_of(alloc, line)?;
+    let reading = reading_of(alloc, words.as_slice())?;
+    let told = format!(in alloc; "{reading:?}")?;
+    assert_eq!(rt; told.as_str(), wanted, "{line}");
+    Ok(())
+}
+
 // Fails unless there are so many cases, and each is read by this subcommand as it says: how the plot is read or why the
 // line is refused, an arrow, and the options.
 fn has_readings(
@@ -29,11 +38,8 @@ fn has_readings(
     let mut found: usize = 0;
     for case in cases.lines() {
         let (wanted, options) = case.split_once(" <-").ok_or("a case without an arrow")?;
-        let line = format!(in alloc; "{name} {options}")?;
-        let words = words_of(alloc, line.as_str())?;
-        let reading = reading_of(alloc, words.as_slice())?;
-        let told = format!(in alloc; "{reading:?}")?;
-        assert_eq!(rt; told.as_str(), wanted, "{name} {case}");
+        let line = format!(in alloc; "{name}{options}")?;
+        has_reading(rt, alloc, line.as_str(), wanted)?;
         found = found.saturating_add(1);
     }
     assert_eq!(rt; found, count);
@@ -102,50 +108,26 @@ fn the_list_of_pens_comes_first(rt: HostRuntime) -> Result<(), Fail> {
     has_readings(&rt, rt.alloc(), "pbm", THE_LIST_OF_PENS_COMES_FIRST, 3)
 }
 
-// A kind of error, a colon, and the options.
+// A kind of error and an exit status, a colon, and the options.
 const REFUSED_BY_THE_PARSE: &str = "\
-ValueValidation: --sheet=4194305 --profile=full
-ValueValidation: --sheet=-1 --profile=full
-ValueValidation: --sheet= --profile=full
-ValueValidation: --sheet=all --profile=full
-ValueValidation: --sheet=4294967297 --profile=full
-ArgumentConflict: --sheet=1 --sheet=1
-ArgumentConflict: --sheet=1 --sheet=2
-ArgumentConflict: --profile=full --profile=full
-ArgumentConflict: --profile=core --profile=full
-InvalidValue: --profile=full --sheet
-InvalidValue: --sheet=1 --profile
-UnknownArgument: --profile=full --sheets=1
+ValueValidation 2: --sheet=4194305 --profile=full
+ValueValidation 2: --sheet=-1 --profile=full
+ValueValidation 2: --sheet= --profile=full
+ValueValidation 2: --sheet=all --profile=full
+ValueValidation 2: --sheet=4294967297 --profile=full
+ArgumentConflict 2: --sheet=1 --sheet=1
+ArgumentConflict 2: --sheet=1 --sheet=2
+ArgumentConflict 2: --profile=full --profile=full
+ArgumentConflict 2: --profile=core --profile=full
+InvalidValue 2: --profile=full --sheet
+InvalidValue 2: --sheet=1 --profile
+UnknownArgument 2: --profile=full --sheets=1
 ";
-
-// Fails unless there are so many cases, and the options of each give this subcommand the kind of error.
-fn has_kinds(
-    rt: &impl Abort,
-    alloc: Global,
-    name: &str,
-    cases: &str,
-    count: usize,
-) -> Result<(), Fail> {
-    let mut found: usize = 0;
-    for case in cases.lines() {
-        let (wanted, options) = case.split_once(":").ok_or("a case without a colon")?;
-        let line = format!(in alloc; "{name} {options}")?;
-        let words = words_of(alloc, line.as_str())?;
-        let error = parse(command(alloc)?, words.as_slice())
-            .err()
-            .ok_or("matches")?;
-        let kind = format!(in alloc; "{:?}", error.kind())?;
-        assert_eq!(rt; kind.as_str(), wanted, "{name} {case}");
-        found = found.saturating_add(1);
-    }
-    assert_eq!(rt; found, count);
-    Ok(())
-}
 
 #[test]
 fn refused_by_the_parse(rt: HostRuntime) -> Result<(), Fail> {
     for name in COMMANDS {
-        has_kinds(&rt, rt.alloc(), name, REFUSED_BY_THE_PARSE, 12)?;
+        has_faults(&rt, rt.alloc(), name, REFUSED_BY_THE_PARSE, 12)?;
     }
     Ok(())
 }
