@@ -1,4 +1,7 @@
-use Rattle.std.proofs.Common.{◌∙◌, ap, sym, Some}
+use Rattle.polygons.specs.Fills.{spans}
+use Rattle.polygons.specs.declared.span.Span.{Span}
+use Rattle.full_plot.specs.Fills.{over_spans}
+use Rattle.std.proofs.Common.{◌∙◌, ap, sym, Some, List}
 use Rattle.std.specs.List.{flat_map}
 use Rattle.full_plot.specs.Machine.{seen}
 use Rattle.full_plot.specs.Worlds.{World}
@@ -17,3 +20,7 @@ pub lines-preserved : goal.lines-preserved
 lines-preserved c =
     let line = rw c.if-branch.true at c.in_ok-next_spans.ensures.line in
     one_line_of c.args.ink c.next_spans.new.spans.items c.lines.fill c.next_spans.new.fill (seen c.lines.self) (seen c.draw_spans.new.self) _ line c.in_ok-draw_spans.ensures c.lines.invariant
+
+pub lines-init : goal.lines-init
+unfolding spans
+lines-init c = ap (λ (ls : List (List Span)). over_spans c.args.ink (seen c.args.self.now) (flat_map (λ line. line) ls)) c.in_ok-fill.ensures.fill
