@@ -1,5 +1,6 @@
 mod Examples
-mod PlotExamples
+pub mod PlotExamples
+mod PolygonPlotExamples
 mod NoteExamples
 pub mod WidthTables
 pub mod Kept

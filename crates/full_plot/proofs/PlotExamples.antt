@@ -13,14 +13,14 @@ use Rattle.hpgl_plot.specs.Machine as core
 use Rattle.full_plot.specs.Lines.{line_step}
 use Rattle.full_plot.specs.Drawings.{outcome, refusal_in, strokes_in, ends_in, sheet_count, sheet_strokes}
 
-abbrev page : Page
+abbrev pub page : Page
 page = record { width = 1000; height = 1000; left = 0; below = 0; width_in = (lit≤ tt, lit≤ tt); height_in = (lit≤ tt, lit≤ tt); left_in = lit≤ tt; below_in = lit≤ tt }
 
-abbrev strokes : List ℕ → List Segment
+abbrev pub strokes : List ℕ → List Segment
 strokes plot = strokes_in (outcome page plot)
 
 -- a stroke of pen 1, which is black and 224 grains wide
-abbrev line : ℕ → ℕ → ℕ → ℕ → Segment
+abbrev pub line : ℕ → ℕ → ℕ → ℕ → Segment
 line ax ay bx by = record {
   pen = 1;
   colour = rgb 0 0 0;

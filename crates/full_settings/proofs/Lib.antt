@@ -1,6 +1,7 @@
 mod LineExamples
 mod LetterExamples
 mod SettingExamples
+mod PolygonExamples
 pub mod Gaps
 pub mod WidthTables
 pub mod Shares
