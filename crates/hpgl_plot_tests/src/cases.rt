@@ -1,5 +1,5 @@
-// Tests of many plots as one text. What their plots draw is put into the text instead of what they are wanted to draw,
-// and the text stays as it was.
+// Cases of plots as one text. A helper writes the cases again with what the plots draw instead of what is wanted, and
+// fails unless both texts are equal.
 use crate::drawings::{drawing_of, square};
 use hpgl_plot::{Page, PlotFault, draw, draw_plot};
 use hpgl_text::lex;
