@@ -11,7 +11,7 @@ use std::alloc::{AllocError, Global};
 use std::marker::Model;
 
 /// The lines that are left of those that fill polygons. It keeps 16 bytes for each edge that crosses a
-/// line.
+/// line, and up to as much again for the edges that cross the present one.
 #[derive(Drop)]
 pub struct Fill<'a> {
     sweep: Sweep<'a>,
