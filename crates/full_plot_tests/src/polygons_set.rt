@@ -139,10 +139,10 @@ fn strokes_of(alloc: Global, text: &str, with_width: bool) -> Result<String, Fai
 #[test]
 fn polygons_and_their_edges(rt: HostRuntime) -> Result<(), Fail> {
     let mut lines = POLYGONS.lines();
-    let mut count = 0;
+    let mut count: usize = 0;
     while let (Some(plot), Some(wanted)) = (lines.next(), lines.next()) {
         assert_eq!(rt; strokes_of(rt.alloc(), plot, false)?.as_str(), wanted);
-        count += 1;
+        count = count.saturating_add(1);
     }
     assert_eq!(rt; count, 17);
     Ok(())
@@ -151,10 +151,10 @@ fn polygons_and_their_edges(rt: HostRuntime) -> Result<(), Fail> {
 #[test]
 fn fills_and_wedges(rt: HostRuntime) -> Result<(), Fail> {
     let mut lines = FILLS.lines();
-    let mut count = 0;
+    let mut count: usize = 0;
     while let (Some(plot), Some(wanted)) = (lines.next(), lines.next()) {
         assert_eq!(rt; strokes_of(rt.alloc(), plot, true)?.as_str(), wanted);
-        count += 1;
+        count = count.saturating_add(1);
     }
     assert_eq!(rt; count, 29);
     Ok(())
@@ -181,7 +181,7 @@ accepted
 #[test]
 fn refusals_of_polygons(rt: HostRuntime) -> Result<(), Fail> {
     let mut lines = REFUSALS.lines();
-    let mut count = 0;
+    let mut count: usize = 0;
     while let (Some(plot), Some(wanted)) = (lines.next(), lines.next()) {
         let page = Page::new(1000, 1000, 0, 0)?;
         let found = match draw_full(rt.alloc(), plot.as_bytes(), &page) {
@@ -191,7 +191,7 @@ fn refusals_of_polygons(rt: HostRuntime) -> Result<(), Fail> {
             Ok(_) => format!(in rt.alloc(); "accepted")?,
         };
         assert_eq!(rt; found.as_str(), wanted);
-        count += 1;
+        count = count.saturating_add(1);
     }
     assert_eq!(rt; count, 7);
     Ok(())
