@@ -147,6 +147,7 @@ GALLERY = {
 }
 BESIDE = (
     "A chart in both profiles", "A part with hidden edges", "A chart of a harbour", "A sheet of labels", "A ribbon of curves",
+    "A map of districts", "A section of a bearing", "A pie and bars",
 )
 GALLERY.update({heading: [Check(stored, (*SCALED, "pnmquant", "pnmcat"))] for heading in BESIDE})
 GALLERY["A detail at 1200 dots per inch"] = [Check(stored, (*PNG, "pamcut"))]
