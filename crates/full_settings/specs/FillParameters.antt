@@ -1,5 +1,5 @@
--- What the numbers of FT (Fill Type) set, or None if they are wrong. Numbers are in millionths, and those after the last
--- that a type has are ignored.
+-- What the numbers of FT (Fill Type) set, or None if they are wrong. Numbers are in millionths, and those after the
+-- last that a type has are ignored.
 use Rattle.std.specs.Prelude.{ℕ, ◌≤◌, ◌<◌, ◌^◌, ℤ, pos, nat_abs, int_le, Bool, true, false, if◌then◌else◌, ◌||◌}
 use Rattle.std.specs.Prelude.{List, [], ◌∷◌, Option, Some, None, IfSome, ⊤}
 use Rattle.std.specs.Ordering.{int_eq}
@@ -17,9 +17,8 @@ use Rattle.full_settings.specs.declared.fill_setting.FillStyle.{FillStyle}
 abbrev pub usual_fill : FillStyle
 usual_fill = record { kind = kind.Solid; spacing = 0; angle = 0; level = 50000000 }
 
--- types 3 and 4, spacing, angle: hatching and cross-hatching, by a spacing that is at least 0, of which 0 is the usual one;
--- a number that is not there
--- stays as it was
+-- types 3 and 4, spacing, angle: hatching and cross-hatching, by a spacing that is at least 0, of which 0 is the usual
+-- one; a number that is not there stays as it was
 abbrev pub hatching : Bool → List ℤ → Option FillSetting
 hatching is_crossed [] = Some (setting.Hatched is_crossed None None)
 hatching is_crossed (s ∷ []) = when (int_le (pos 0) s) (setting.Hatched is_crossed (Some (nat_abs s)) None)

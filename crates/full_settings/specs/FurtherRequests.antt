@@ -12,21 +12,27 @@ use Rattle.full_settings.specs.LineParameters.{line_type, user_line_type}
 use Rattle.full_settings.specs.LineStyles.{IsLineSetting}
 use Rattle.full_settings.specs.RelativePoints.{relative_points, IsRelativePoints}
 use Rattle.full_settings.specs.FillParameters.{fill_type, IsFillSetting}
-use Rattle.full_settings.specs.PolygonParameters.{anchor, by_winding, corner, polygon_step, usual_chords, wedge, IsWedge}
+use Rattle.full_settings.specs.PolygonParameters.{anchor, by_winding, corner, polygon_step, usual_chords, wedge}
+use Rattle.full_settings.specs.PolygonParameters.{IsWedge}
 use Rattle.full_settings.specs.TickParameters.{tick_length, IsTickLength}
 use Rattle.full_settings.specs.WidthParameters.{width_unit, thickness}
 use Rattle.full_settings.specs.Widths.{IsWidthSetting}
 use Rattle.full_settings.specs.declared.requests.FurtherRequest.{FurtherRequest}
 use Rattle.full_settings.specs.declared.requests.FurtherRequest.TheVariants.{Line, Width, Letter, Ticks, Points}
-use Rattle.full_settings.specs.declared.requests.FurtherRequest.TheVariants.{Colours, Move, Tick, Arc, Curves, Print, EndSheet}
-use Rattle.full_settings.specs.declared.requests.FurtherRequest.TheVariants.{Polygon, EdgePolygon, FillPolygon, Fill}
-use Rattle.full_settings.specs.declared.requests.FurtherRequest.TheVariants.{Anchor, Rectangle, EdgeWedge, FillWedge}
-use Rattle.full_settings.specs.declared.requests.FurtherRequest.TheVariants.{Chords, Begin, Wrong, Skip}
+use Rattle.full_settings.specs.declared.requests.FurtherRequest.TheVariants.{Colours, Move, Tick, Arc, Curves, Print}
+use Rattle.full_settings.specs.declared.requests.FurtherRequest.TheVariants.{EndSheet, Polygon, EdgePolygon}
+use Rattle.full_settings.specs.declared.requests.FurtherRequest.TheVariants.{FillPolygon, Fill, Anchor, Rectangle}
+use Rattle.full_settings.specs.declared.requests.FurtherRequest.TheVariants.{EdgeWedge, FillWedge, Chords, Begin}
+use Rattle.full_settings.specs.declared.requests.FurtherRequest.TheVariants.{Wrong, Skip}
 
 -- what numbers ask for, or that they are wrong
 abbrev pub request_by : {A : Type 0} → (A → FurtherRequest) → Option A → FurtherRequest
 request_by request (Some a) = request a
 request_by request None = Wrong
+
+-- the request of right numbers, or that they are wrong
+abbrev pub right_or_wrong : Option FurtherRequest → FurtherRequest
+right_or_wrong request = request_by (λ (r : FurtherRequest). r) request
 
 -- instructions that set how letters are written; those that are not drawn are skipped
 abbrev pub letter_request : further.Further → List ℤ → FurtherRequest

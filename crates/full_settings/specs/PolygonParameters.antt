@@ -1,6 +1,6 @@
 -- What the numbers of PM (Polygon Mode), FP (Fill Polygon), AC (Anchor Corner), RA and RR (Fill Rectangle Absolute and
--- Relative), EW and WG (Edge and Fill Wedge) and CT (Chord Tolerance Mode) ask for, or None if they are wrong. Numbers are
--- in millionths, and those after the last that an instruction has are ignored.
+-- Relative), EW and WG (Edge and Fill Wedge) and CT (Chord Tolerance Mode) ask for, or None if they are wrong. Numbers
+-- are in millionths, and those after the last that an instruction has are ignored.
 use Rattle.std.specs.Prelude.{ℕ, ◌≤◌, ◌<◌, ◌^◌, ℤ, pos, negsuc, nat_abs, Bool, true, false, if◌then◌else◌}
 use Rattle.std.specs.Prelude.{List, [], ◌∷◌, take, Option, Some, None}
 use Rattle.std.specs.Int.{int_max, int_min, int_rem_euclid}
@@ -47,7 +47,7 @@ by_winding ns = choice ns
 abbrev pub usual_chords : List ℤ → Option Bool
 usual_chords ns = choice ns
 
--- AC x, y: the lines of hatching are counted from there, or from the page's origin if no number is there
+-- AC x, y: a line of hatching goes through this point, or through the page's origin if no number is there
 abbrev pub anchor : List ℤ → Option Anchor
 anchor [] = Some PageOrigin
 anchor (x ∷ []) = None

@@ -43,8 +43,8 @@ pub fn choice(numbers: &[Number]) -> Option<bool>
     }
 }
 
-/// AC x, y (Anchor Corner): the point that lines of hatching are counted from, or the page's origin if no
-/// number is there. `None` if y is missing.
+/// AC x, y (Anchor Corner): the point that a line of hatching goes through, or the page's origin if no number
+/// is there. `None` if y is missing.
 pub fn anchor(numbers: &[Number]) -> Option<Anchor>
     ensures { result ≡ polygons.anchor numbers.now }
 {

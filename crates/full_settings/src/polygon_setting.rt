@@ -12,7 +12,7 @@ pub enum PolygonStep {
     End,
 }
 
-/// What AC (Anchor Corner) sets: where the lines of hatching are counted from.
+/// What AC (Anchor Corner) sets: the point that a line of hatching goes through.
 #[derive(Clone, Copy, Debug)]
 pub enum Anchor {
     /// The lower left corner of the page.

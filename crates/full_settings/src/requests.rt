@@ -1,15 +1,8 @@
 //! What a further instruction asks for by its numbers: the one table that says it.
 ghost use Rattle.std.specs.Prelude.{◌≡◌, ◌≤◌, take, false, IfSome};
-ghost use Rattle.full_settings.specs.CharacterMoves.{IsCharacterMove};
-ghost use Rattle.full_settings.specs.ColourRanges.{IsColourRanges};
 ghost use Rattle.full_settings.specs.FurtherRequests as requests;
-ghost use Rattle.full_settings.specs.FurtherRequests.{IsFurtherRequest, request_by, has_gaps};
-ghost use Rattle.full_settings.specs.LineStyles.{IsLineSetting};
+ghost use Rattle.full_settings.specs.FurtherRequests.{IsFurtherRequest, has_gaps, right_or_wrong};
 ghost use Rattle.full_settings.specs.PolygonParameters.{without_chord};
-ghost use Rattle.full_settings.specs.RelativePoints.{IsRelativePoints};
-ghost use Rattle.full_settings.specs.TickParameters.{IsTickLength};
-ghost use Rattle.full_settings.specs.Widths.{IsWidthSetting};
-ghost use Rattle.full_settings.specs.declared.requests.FurtherRequest.TheVariants as request;
 
 use crate::character_moves::{CharacterMove, character_move};
 use crate::colour_parameters::colour_ranges;
@@ -61,7 +54,7 @@ pub enum FurtherRequest {
     FillPolygon(bool),
     /// FT: how polygons are filled.
     Fill(FillSetting),
-    /// AC: where the lines of hatching are counted from.
+    /// AC: the point that a line of hatching goes through.
     Anchor(Anchor),
     /// RA, and RR, whose corner is relative to the pen: a filled rectangle.
     Rectangle(bool, Corner),
@@ -89,7 +82,10 @@ pub fn further_request(further: Further, numbers: &Numbers<'_>) -> FurtherReques
     ensures sound { IsFurtherRequest result }
 {
     match further {
-        Further::UserLineType => line_request(user_line_setting(numbers)),
+        Further::UserLineType => match user_line_setting(numbers) {
+            Some(setting) => FurtherRequest::Line(setting),
+            None => FurtherRequest::Wrong,
+        },
         _ => {
             let (list, count) = numbers.leading();
             request_by_first(further, &list[..count])
@@ -128,99 +124,35 @@ fn request_by_first(further: Further, numbers: &[Number]) -> FurtherRequest
     ensures value { result ≡ requests.further_request further numbers.now }
     ensures sound { IsFurtherRequest result }
 {
+    match right_request(further, numbers) {
+        Some(request) => request,
+        None => FurtherRequest::Wrong,
+    }
+}
+
+// The same, or `None` if the numbers are wrong.
+fn right_request(further: Further, numbers: &[Number]) -> Option<FurtherRequest>
+    requires { has_gaps further ≡ false }
+    ensures value { right_or_wrong result ≡ requests.further_request further numbers.now }
+    ensures sound { IfSome result IsFurtherRequest }
+{
     match further {
-        Further::LineType => line_request(line_type_setting(numbers)),
-        Further::WidthUnit => width_request(width_unit_setting(numbers)),
-        Further::PenThickness => width_request(thickness_setting(numbers)),
-        Further::TickLength => tick_request(tick_setting(numbers)),
-        Further::RelativePoints => points_request(relative_points(numbers)),
-        Further::ColourRange => colour_request(colour_ranges(numbers)),
-        Further::CharacterPlot => move_request(character_move(numbers)),
-        Further::XTick => FurtherRequest::Tick(true),
-        Further::YTick => FurtherRequest::Tick(false),
-        Further::PrintBuffer => FurtherRequest::Print,
-        Further::EndSheet => FurtherRequest::EndSheet,
-        Further::BeginPlot => FurtherRequest::Begin,
-        Further::ArcAbsoluteThreePoint => arc_request(false, arc_points(numbers)),
-        Further::ArcRelativeThreePoint => arc_request(true, arc_points(numbers)),
-        Further::BezierAbsolute => FurtherRequest::Curves(false),
-        Further::BezierRelative => FurtherRequest::Curves(true),
+        Further::LineType => Some(FurtherRequest::Line(line_type_setting(numbers)?)),
+        Further::WidthUnit => Some(FurtherRequest::Width(width_unit_setting(numbers)?)),
+        Further::PenThickness => Some(FurtherRequest::Width(thickness_setting(numbers)?)),
+        Further::TickLength => Some(FurtherRequest::Ticks(tick_setting(numbers)?)),
+        Further::RelativePoints => Some(FurtherRequest::Points(relative_points(numbers)?)),
+        Further::ColourRange => Some(FurtherRequest::Colours(colour_ranges(numbers)?)),
+        Further::CharacterPlot => Some(FurtherRequest::Move(character_move(numbers)?)),
+        Further::XTick => Some(FurtherRequest::Tick(true)),
+        Further::YTick => Some(FurtherRequest::Tick(false)),
+        Further::PrintBuffer => Some(FurtherRequest::Print),
+        Further::EndSheet => Some(FurtherRequest::EndSheet),
+        Further::BeginPlot => Some(FurtherRequest::Begin),
+        Further::ArcAbsoluteThreePoint => Some(FurtherRequest::Arc(false, arc_points(numbers)?)),
+        Further::ArcRelativeThreePoint => Some(FurtherRequest::Arc(true, arc_points(numbers)?)),
+        Further::BezierAbsolute => Some(FurtherRequest::Curves(false)),
+        Further::BezierRelative => Some(FurtherRequest::Curves(true)),
         _ => request_of_polygons(further, numbers),
-    }
-}
-
-fn line_request(setting: Option<LineSetting>) -> FurtherRequest
-    requires { IfSome setting IsLineSetting }
-    ensures value { result ≡ request_by request.Line setting }
-    ensures sound { IsFurtherRequest result }
-{
-    match setting {
-        Some(setting) => FurtherRequest::Line(setting),
-        None => FurtherRequest::Wrong,
-    }
-}
-
-fn width_request(setting: Option<WidthSetting>) -> FurtherRequest
-    requires { IfSome setting IsWidthSetting }
-    ensures value { result ≡ request_by request.Width setting }
-    ensures sound { IsFurtherRequest result }
-{
-    match setting {
-        Some(setting) => FurtherRequest::Width(setting),
-        None => FurtherRequest::Wrong,
-    }
-}
-
-fn tick_request(setting: Option<TickLength>) -> FurtherRequest
-    requires { IfSome setting IsTickLength }
-    ensures value { result ≡ request_by request.Ticks setting }
-    ensures sound { IsFurtherRequest result }
-{
-    match setting {
-        Some(setting) => FurtherRequest::Ticks(setting),
-        None => FurtherRequest::Wrong,
-    }
-}
-
-fn points_request(setting: Option<RelativePoints>) -> FurtherRequest
-    requires { IfSome setting IsRelativePoints }
-    ensures value { result ≡ request_by request.Points setting }
-    ensures sound { IsFurtherRequest result }
-{
-    match setting {
-        Some(setting) => FurtherRequest::Points(setting),
-        None => FurtherRequest::Wrong,
-    }
-}
-
-fn colour_request(setting: Option<ColourRanges>) -> FurtherRequest
-    requires { IfSome setting IsColourRanges }
-    ensures value { result ≡ request_by request.Colours setting }
-    ensures sound { IsFurtherRequest result }
-{
-    match setting {
-        Some(setting) => FurtherRequest::Colours(setting),
-        None => FurtherRequest::Wrong,
-    }
-}
-
-fn move_request(setting: Option<CharacterMove>) -> FurtherRequest
-    requires { IfSome setting IsCharacterMove }
-    ensures value { result ≡ request_by request.Move setting }
-    ensures sound { IsFurtherRequest result }
-{
-    match setting {
-        Some(setting) => FurtherRequest::Move(setting),
-        None => FurtherRequest::Wrong,
-    }
-}
-
-fn arc_request(is_relative: bool, points: Option<ArcPoints>) -> FurtherRequest
-    ensures value { result ≡ request_by (request.Arc is_relative) points }
-    ensures sound { IsFurtherRequest result }
-{
-    match points {
-        Some(points) => FurtherRequest::Arc(is_relative, points),
-        None => FurtherRequest::Wrong,
     }
 }
