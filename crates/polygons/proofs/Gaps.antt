@@ -1,8 +1,8 @@
 -- The spans of a line, one crossing after another.
-use Rattle.std.proofs.Common.{◌≡◌, ℕ, zero, suc, ◌+◌, ◌<◌, ◌≤◌, Bool, true, false, cond, not, List, [], ◌∷◌, ◌++◌, map, take, drop, length, get_or, count_by, inl, inr, refl, sym, ap, ◌∙◌, arith, append_assoc}
+use Rattle.std.proofs.Common.{◌≡◌, ℕ, zero, suc, ◌+◌, ◌<◌, Bool, true, false, cond, not, List, [], ◌∷◌, ◌++◌, map, take, drop, length, get_or, count_by, inl, inr, refl, sym, ap, ◌∙◌, arith, append_assoc}
 use mir.Val.{bool_byte}
 use Rattle.std.proofs.lemmas.Bool.{cases_Bool}
-use Rattle.std.proofs.lemmas.List.{take_more, drop_more, drop_all, get_or-drop, length-drop, length-map, append-nil}
+use Rattle.std.proofs.lemmas.List.{take_more, drop_more, get_or-drop, length-drop, length-map}
 use Rattle.std.proofs.lemmas.List.Sums.{count_by_more_yes, count_by_more_no}
 use Rattle.polygons.specs.declared.climb.Crossing as code
 use Rattle.polygons.specs.declared.span.Span.{Span}
@@ -18,12 +18,6 @@ gap_step rule all k a b l ea eb =
     let d2 : drop (k + 1) all ≡ b ∷ drop (k + 1 + 1) all = drop_more all (k + 1) b l ∙ ap (λ x. x ∷ drop (k + 1 + 1) all) (sym eb) in
     let t1 : take (k + 1) all ≡ take k all ++ (a ∷ []) = take_more all k a (omega (arith, l)) ∙ ap (λ x. take k all ++ (x ∷ [])) (sym ea) in
     rw (d1, t1, d2) refl
-
-pub gap_end : (rule : Rule) (all : List Crossing) (k : ℕ) (a : Crossing) → k + 1 ≡ length all → a ≡ get_or all k a → spans_after rule (take k all) (drop k all) ≡ []
-gap_end rule all k a l ea =
-    let d1 : drop k all ≡ a ∷ drop (k + 1) all = drop_more all k a (omega (arith, l)) ∙ ap (λ x. x ∷ drop (k + 1) all) (sym ea) in
-    let d2 : drop (k + 1) all ≡ [] = drop_all (k + 1) all (omega (arith, l)) in
-    rw (d1, d2) refl
 
 count_more : (p : Crossing → Bool) (all : List Crossing) (k : ℕ) (a : Crossing) → k < length all → a ≡ get_or all k a
     → count_by p (take (k + 1) all) ≡ count_by p (take k all) + cond (p a) 1 0
@@ -92,9 +86,3 @@ module _ (rule : Rule) (cs : List code.Crossing) (k : ℕ) (last item : code.Cro
       → false ≡ is_inside_after rule (take (k + 1) (map bare cs))
       → xs ++ spans_after rule (take (k + 1) (map bare cs)) (drop (k + 1) (map bare cs)) ≡ found
   span_none xs found h e = ap (λ ys. xs ++ ys) (sym (step_is false e)) ∙ h
-
-pub spans_end : (rule : Rule) (cs : List code.Crossing) (k : ℕ) (last : code.Crossing) (xs found : List Span) → k < length cs → length (drop 1 cs) ≤ k
-    → bare last ≡ get_or (map bare cs) k (bare last) → xs ++ spans_after rule (take k (map bare cs)) (drop k (map bare cs)) ≡ found → xs ≡ found
-spans_end rule cs k last xs found l m e h =
-    let n : k + 1 ≡ length (map bare cs) = omega (arith, l, m, length-drop 1 cs, length-map cs bare) in
-    sym (append-nil xs) ∙ ap (λ ys. xs ++ ys) (sym (gap_end rule (map bare cs) k (bare last) n e)) ∙ h

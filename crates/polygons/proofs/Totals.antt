@@ -19,9 +19,6 @@ same_trans xs ys zs p q = record { sums = λ f. p.sums f ∙ q.sums f }
 pub same_sym : {X : Type 0} (xs ys : List X) → SameItems xs ys → SameItems ys xs
 same_sym xs ys p = record { sums = λ f. sym (p.sums f) }
 
-pub same_refl : {X : Type 0} (xs : List X) → SameItems xs xs
-same_refl xs = record { sums = λ f. refl }
-
 pub total_filter : {X : Type 0} (p : X → Bool) (f : X → ℕ) (xs : List X) → total f (filter p xs) ≡ total (λ x. cond (p x) (f x) 0) xs
 total_filter p f [] = refl
 total_filter p f (x ∷ xs) =
