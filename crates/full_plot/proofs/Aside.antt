@@ -1,5 +1,5 @@
 -- The buffer plays no part in how spans and edges are drawn, so code may put it aside meanwhile.
-use Rattle.std.proofs.Common.{◌≡◌, ◌∙◌, ◌+◌, ◌<◌, ℕ, suc, arith, ◌++◌, drop, drop-cons, get_or, refl, ap, sym, inl, inr, Option, Some, None, Result, Ok, Err, Bool, true, false, List, [], ◌∷◌, length, nat_lt, nat_eq}
+use Rattle.std.proofs.Common.{◌≡◌, ◌∙◌, ◌+◌, ℕ, ◌++◌, refl, ap, sym, inl, inr, Option, Some, None, Result, Ok, Err, Bool, true, false, List, [], ◌∷◌, length, nat_lt, nat_eq}
 use Rattle.std.specs.List.{flat_map}
 use Rattle.std.proofs.lemmas.Bool.{cases_Bool}
 use Rattle.std.proofs.lemmas.Option.{none-some, same_Some}
@@ -54,11 +54,6 @@ pub full_spans : (ink : Ink) (ps : List Span) (w : World) → w.core.full ≡ tr
 full_spans ink [] w h = refl
 full_spans ink (p ∷ ps) w h = ap (λ (full : Bool). unless full w (over_spans ink (with_span ink w p) ps)) h
 
--- one span, and the rest
-pub one_span : (ink : Ink) (p : Span) (ps : List Span) (w : World) → w.core.full ≡ false
-    → over_spans ink w (p ∷ ps) ≡ over_spans ink (with_span ink w p) ps
-one_span ink p ps w h = ap (λ (full : Bool). unless full w (over_spans ink (with_span ink w p) ps)) h
-
 -- what a call leaves that draws spans while the buffer is put aside
 pub runs_aside : {U : Type 0} (w v : World) (ink : Ink) (ps : List Span) (r : Result U Stop) → Runs (Some (over_spans ink (beside empty w) ps)) v r
     → Runs (Some (over_spans ink w ps)) (beside w.buffer v) r
@@ -79,15 +74,6 @@ pub spans-append : (ink : Ink) (ps qs : List Span) (w : World)
     → over_spans ink w (ps ++ qs) ≡ over_spans ink (over_spans ink w ps) qs
 spans-append ink [] qs w = refl
 spans-append ink (p ∷ ps) qs w = then_spans ink w.core.full ps qs w (with_span ink w p) refl (spans-append ink ps qs (with_span ink w p))
-
--- one of those that are left
-pub one_of_spans : (ink : Ink) (ps : List Span) (i : ℕ) (p : Span) (w v o : World) → i < length ps → p ≡ get_or ps i p → w.core.full ≡ false
-    → Some (with_span ink w p) ≡ Some v → over_spans ink w (drop i ps) ≡ o → over_spans ink v (drop (i + 1) ps) ≡ o
-one_of_spans ink ps i p w v o h e f k m =
-    let next : suc i ≡ i + 1 = omega arith in
-    let cons : drop i ps ≡ p ∷ drop (i + 1) ps = (rw next at (drop-cons ps i p h)) ∙ ap (λ (x : Span). x ∷ drop (i + 1) ps) (sym e) in
-    sym (ap (λ (u : World). over_spans ink u (drop (i + 1) ps)) (same_Some _ _ k)) ∙ sym (one_span ink p (drop (i + 1) ps) w f)
-    ∙ sym (ap (λ (xs : List Span). over_spans ink w xs) cons) ∙ m
 
 -- the spans of one line, and of the rest
 pub one_line_of : (ink : Ink) (ps : List Span) (lines rest : List (List Span)) (w v o : World) → lines ≡ ps ∷ rest → Some (over_spans ink w ps) ≡ Some v

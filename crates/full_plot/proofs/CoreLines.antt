@@ -22,14 +22,16 @@ use Rattle.hpgl_plot.specs.declared.state.Position.{Position}
 use Rattle.hpgl_plot.specs.declared.state.State.{State}
 use Rattle.hpgl_plot.specs.Paths.{path, along, position, circle_curve, arc_curve, chord_count, curve_point, curve_places, pen_at, target}
 use Rattle.hpgl_plot.specs.Frames.{place}
-use Rattle.hpgl_plot.specs.Strokes.{are_in_range, joined, path_strokes}
+use Rattle.hpgl_plot.specs.Strokes.{are_in_range, by_a_pen, joined, path_strokes}
 use Rattle.hpgl_plot.specs.Machine.{kept_with, with_strokes, after}
 use Rattle.hpgl_plot.specs.Machine as core
-use Rattle.full_plot.specs.Holding.{cleared, restored}
+use Rattle.full_plot.specs.Holding.{cleared, restored, with_held, with_strokes_and_pen}
+use Rattle.full_plot.specs.declared.lines.Held.{Held}
 use Rattle.full_plot.specs.Worlds.{World}
-use Rattle.full_plot.specs.Lines.{with_a_pen, lines_of, line_step, drawn}
+use Rattle.full_plot.specs.Lines.{lines_of, line_step, drawn}
 use Rattle.full_plot.specs.Machine.{Runs}
-use Rattle.full_plot.specs.Polygons.{edge_step, kept_step, only_figure, with_buffer}
+use Rattle.full_plot.specs.Polygons.{edge_step, kept_step, only_figure}
+use Rattle.full_plot.specs.Wedges.{then_drawn}
 
 -- strokes that are few are all kept
 pub few_kept : (kept ss : List Segment) → length kept + length ss ≤ 4194304 → kept_with kept false ss ≡ kept ++ ss
@@ -40,22 +42,22 @@ few_kept kept (s ∷ ss) h =
 
 -- a step with lines: its path depends on no pen, and it changes neither the pen nor the frame
 pub record HasLines (page : Page) (s : State) (t : Step) : Type 0 where
-  pub path_is : path page (with_a_pen s) t ≡ path page s t
-  pub after_is : record (after page (with_a_pen s) t) { pen = s.pen } ≡ after page s t
-  pub frame_is : (after page (with_a_pen s) t).frame ≡ s.frame
+  pub path_is : path page (by_a_pen s) t ≡ path page s t
+  pub after_is : record (after page (by_a_pen s) t) { pen = s.pen } ≡ after page s t
+  pub frame_is : (after page (by_a_pen s) t).frame ≡ s.frame
   pub few : length (lines_of page s t) ≤ 4194304
 
 -- core's step, in the world in which core draws lines
-pub cleared_step : (w : World) (t : Step) → path w.core.page (with_a_pen w.core.state) t ≡ path w.core.page w.core.state t
+pub cleared_step : (w : World) (t : Step) → path w.core.page (by_a_pen w.core.state) t ≡ path w.core.page w.core.state t
     → core.step (cleared w) t
     ≡ (if list_all are_in_range (path w.core.page w.core.state t).lines
-    then Some (with_strokes (cleared w) (after w.core.page (with_a_pen w.core.state) t) (lines_of w.core.page w.core.state t)) else None)
+    then Some (with_strokes (cleared w) (after w.core.page (by_a_pen w.core.state) t) (lines_of w.core.page w.core.state t)) else None)
 unfolding core.step
 cleared_step w t e = rw e refl
 
 -- what core drew, in the line type
 drawn_lines : (w : World) (t : Step) → HasLines w.core.page w.core.state t → list_all are_in_range (path w.core.page w.core.state t).lines ≡ true
-    → line_step w t ≡ Some (drawn (restored w (with_strokes (cleared w) (after w.core.page (with_a_pen w.core.state) t) (lines_of w.core.page w.core.state t))) (lines_of w.core.page w.core.state t))
+    → line_step w t ≡ Some (drawn (restored w (with_strokes (cleared w) (after w.core.page (by_a_pen w.core.state) t) (lines_of w.core.page w.core.state t))) (lines_of w.core.page w.core.state t))
 unfolding line_step
 drawn_lines w t h e = rw (e, ← h.after_is, h.frame_is) refl
 
@@ -66,7 +68,7 @@ line_runs w t v h k =
     let s = w.core.state in
     let lines = lines_of page s t in
     let e = cleared_step w t h.path_is in
-    let u = with_strokes (cleared w) (after page (with_a_pen s) t) lines in
+    let u = with_strokes (cleared w) (after page (by_a_pen s) t) lines in
     elim (cases_Bool (list_all are_in_range (path page s t).lines)) [
       | inl i ↦ (let v_is : u ≡ v = same_Some _ _ (rw i at (sym e ∙ k)) in
           let kept_is : u.kept ≡ lines = few_kept [] lines (omega (arith, h.few)) in
@@ -104,14 +106,14 @@ along_few s places false ends = omega arith
 pub go_lines : (page : Page) (s : State) (relative : Bool) (x y : ℤ) → HasLines page s (Go relative x y)
 go_lines page s relative x y =
     let p = path page s (Go relative x y) in
-    let f = along_few (with_a_pen s) (s.place ∷ (p.ends.place ∷ [])) s.is_down p.ends in
+    let f = along_few (by_a_pen s) (s.place ∷ (p.ends.place ∷ [])) s.is_down p.ends in
     record { path_is = refl; after_is = refl; frame_is = refl; few = omega (arith, f) }
 
 pub edge_lines : (page : Page) (s : State) (relative : Bool) (x y : ℤ) → HasLines page s (Edge relative x y)
 edge_lines page s relative x y =
     let beside = place page s.frame (record { x = (target relative s.coordinates x y).x; y = s.coordinates.y }) in
     let above = place page s.frame (record { x = s.coordinates.x; y = (target relative s.coordinates x y).y }) in
-    let f = along_few (with_a_pen s) (s.place ∷ (beside ∷ (place page s.frame (target relative s.coordinates x y) ∷ (above ∷ (s.place ∷ []))))) true (position s) in
+    let f = along_few (by_a_pen s) (s.place ∷ (beside ∷ (place page s.frame (target relative s.coordinates x y) ∷ (above ∷ (s.place ∷ []))))) true (position s) in
     record { path_is = refl; after_is = refl; frame_is = refl; few = omega (arith, f) }
 
 pub chords_few : (chord : ℕ) (sweep : ℤ) → 0 < chord → nat_abs sweep ≤ 360000 → chords_of chord sweep ≤ 360001
@@ -129,7 +131,7 @@ pub circle_lines : (page : Page) (s : State) (c : Circle) → IsCircle c → Has
 circle_lines page s c h =
     let curve = circle_curve s.coordinates c in
     let start = place page s.frame curve.from in
-    let f = along_few (with_a_pen s) (start ∷ curve_places page s.frame curve) true (position s) in
+    let f = along_few (by_a_pen s) (start ∷ curve_places page s.frame curve) true (position s) in
     let n = curve_few page s.frame curve start h.chord_above (omega arith) in
     record { path_is = refl; after_is = refl; frame_is = refl; few = omega (arith, f, n) }
 
@@ -137,9 +139,16 @@ pub arc_lines : (page : Page) (s : State) (relative : Bool) (a : Arc) → IsArc 
 arc_lines page s relative a h =
     let curve = arc_curve s.coordinates (target relative s.coordinates a.x a.y) a in
     let end = pen_at page s.frame (curve_point curve (chord_count curve)) in
-    let f = along_few (with_a_pen s) (s.place ∷ curve_places page s.frame curve) s.is_down end in
+    let f = along_few (by_a_pen s) (s.place ∷ curve_places page s.frame curve) s.is_down end in
     let n = curve_few page s.frame curve s.place h.chord_above h.sweep_in in
     record { path_is = refl; after_is = refl; frame_is = refl; few = omega (arith, f, n) }
+
+-- what was held back is brought back after what core did meanwhile
+pub brought_back : (w u : World) (c v : core.World) (held : Held) → record u { core = c } ≡ record w { core = c }
+    → held.strokes.items ≡ w.core.kept → held.is_full ≡ w.core.full → held.pen ≡ w.core.state.pen
+    → with_held (record u { core = v }) held ≡ restored w v
+brought_back w u c v held same kept full pen =
+    rw (kept, full, pen) (ap (λ (x : World). with_strokes_and_pen (record x { core = v }) w.core.kept w.core.full w.core.state.pen) same)
 
 -- what stops core stops a step with lines
 pub line_stopped : {U : Type 0} (o : Option core.World) (p : Option World) (u : core.World) (v : World) (e : Stop) (r : Result U Stop) → (o ≡ None → p ≡ None)
@@ -156,33 +165,29 @@ line_kept w t v h k =
     let s = w.core.state in
     let lines = lines_of page s t in
     let e = cleared_step w t h.path_is in
-    let u = with_strokes (cleared w) (after page (with_a_pen s) t) lines in
+    let u = with_strokes (cleared w) (after page (by_a_pen s) t) lines in
     elim (cases_Bool (list_all are_in_range (path page s t).lines)) [
       | inl i ↦ ap (λ (x : core.World). x.kept) (sym (same_Some u v (rw i at (sym e ∙ k)))) ∙ few_kept [] lines (omega (arith, h.few))
       | inr i ↦ absurd (none-some v (rw i at (sym e ∙ k)))
     ]
 
--- the edge of a rectangle
-pub edge_runs : (w : World) (v : core.World) (relative : Bool) (x y : ℤ) → core.step (cleared w) (Edge relative x y) ≡ Some v
-    → edge_step w (Edge relative x y) ≡ Some (drawn (record (restored w v) { buffer = only_figure v.kept }) v.kept)
-edge_runs w v relative x y k =
-    let t = Edge relative x y in
-    let h = edge_lines w.core.page w.core.state relative x y in
-    ap (λ (o : Option World). with_buffer (only_figure (lines_of w.core.page w.core.state t)) o) (line_runs w t v h k)
-    ∙ ap (λ (ls : List Segment). Some (record (drawn (restored w v) v.kept) { buffer = only_figure ls })) (sym (line_kept w t v h k))
+-- the edge of a rectangle is put into the buffer, and then drawn
+pub edge_after_kept : (w : World) (relative : Bool) (x y : ℤ) → edge_step w (Edge relative x y)
+    ≡ then_drawn (kept_step w (Edge relative x y)) (lines_of w.core.page w.core.state (Edge relative x y))
+unfolding line_step
+edge_after_kept w relative x y = elim (cases_Bool (list_all are_in_range (path w.core.page w.core.state (Edge relative x y)).lines)) [
+  | inl i ↦ rw i refl
+  | inr i ↦ rw i refl
+]
 
-pub edge_out : (w : World) (relative : Bool) (x y : ℤ) → core.step (cleared w) (Edge relative x y) ≡ None → edge_step w (Edge relative x y) ≡ None
-edge_out w relative x y k =
-    ap (λ (o : Option World). with_buffer (only_figure (lines_of w.core.page w.core.state (Edge relative x y))) o)
-    (line_out w (Edge relative x y) (edge_lines w.core.page w.core.state relative x y) k)
-
--- the same, put into the buffer and not drawn
+-- a rectangle that is put into the buffer
 kept_in : (w : World) (t : Step) → list_all are_in_range (path w.core.page w.core.state t).lines ≡ true
     → kept_step w t ≡ Some (record w { buffer = only_figure (lines_of w.core.page w.core.state t) })
 kept_in w t i = rw i refl
 
 pub record IsKeptStep (w : World) (t : Step) (v : core.World) : Type 0 where
   pub same : restored w v ≡ w
+  pub lines_are : v.kept ≡ lines_of w.core.page w.core.state t
   pub kept : kept_step w t ≡ Some (record w { buffer = only_figure v.kept })
 
 pub kept_runs : (w : World) (v : core.World) (relative : Bool) (x y : ℤ) → core.step (cleared w) (Edge relative x y) ≡ Some v
@@ -194,12 +199,14 @@ kept_runs w v relative x y k =
     let h = edge_lines page s relative x y in
     let lines = lines_of page s t in
     let e = cleared_step w t h.path_is in
-    let u = with_strokes (cleared w) (after page (with_a_pen s) t) lines in
+    let u = with_strokes (cleared w) (after page (by_a_pen s) t) lines in
     elim (cases_Bool (list_all are_in_range (path page s t).lines)) [
       | inl i ↦ (let v_is : u ≡ v = same_Some u v (rw i at (sym e ∙ k)) in
+          let lines_are : v.kept ≡ lines = line_kept w t v h k in
           record {
             same = ap (λ (x : core.World). restored w x) (sym v_is);
-            kept = kept_in w t i ∙ ap (λ (ls : List Segment). Some (record w { buffer = only_figure ls })) (sym (line_kept w t v h k));
+            lines_are = lines_are;
+            kept = kept_in w t i ∙ ap (λ (ls : List Segment). Some (record w { buffer = only_figure ls })) (sym lines_are);
           })
       | inr i ↦ absurd (none-some v (rw i at (sym e ∙ k)))
     ]

@@ -9,7 +9,6 @@ pub mod Solid
 pub mod CoreLines
 pub mod FullRuns
 pub mod LinesOver
-pub mod LabelSteps
 pub mod Nexts
 pub mod Traces
 pub mod Filled

@@ -14,7 +14,7 @@ use Rattle.hpgl_plot.specs.declared.plotter.Stop.TheVariants.{Memory, OffRange}
 use Rattle.hpgl_plot.specs.declared.state.Position.{Position}
 use Rattle.hpgl_plot.specs.declared.state.State.{State}
 use Rattle.hpgl_plot.specs.Bounds.{IsInRange}
-use Rattle.hpgl_plot.specs.Strokes.{are_in_range, is_in_range}
+use Rattle.hpgl_plot.specs.Strokes.{are_in_range, by_a_pen, is_in_range}
 use Rattle.hpgl_plot.specs.Machine.{with_strokes}
 use Rattle.hpgl_plot.specs.Machine as core
 use Rattle.hpgl_plot.proofs.Fed.{within}
@@ -26,7 +26,7 @@ use Rattle.full_settings.specs.declared.points.CurvePoints.{CurvePoints}
 use Rattle.full_settings.specs.LineStyles.{is_solid}
 use Rattle.full_plot.specs.Curves.{arc_step, curve_step, drawn_over, gone_over, if_in_range, lined, lined_in, lines_over, pen_at_point, traced_over}
 use Rattle.full_plot.specs.Holding.{cleared, restored}
-use Rattle.full_plot.specs.Lines.{drawn, shape_in, with_a_pen}
+use Rattle.full_plot.specs.Lines.{drawn, shape_in}
 use Rattle.full_plot.specs.Machine.{Runs}
 use Rattle.full_plot.specs.Worlds.{World, with_core}
 use Rattle.full_plot.proofs.CoreLines.{few_kept, joined_few}
@@ -52,7 +52,7 @@ solid_over w places v r h k =
 -- they are few
 over_few : (s : State) (places : List Spot) → length (lines_over s places) ≤ length places + 1
 over_few s places = elim (cases_Bool s.is_down) [
-  | inl i ↦ rw i (let f = joined_few (with_a_pen s) (s.place ∷ places) in omega (arith, f))
+  | inl i ↦ rw i (let f = joined_few (by_a_pen s) (s.place ∷ places) in omega (arith, f))
   | inr i ↦ rw i (omega arith)
 ]
 
@@ -63,7 +63,7 @@ pub lined_runs : (w : World) (places : List Spot) (v : core.World) → length pl
 lined_runs w places v h k =
     let s = w.core.state in
     let lines = lines_over s places in
-    let u = with_strokes (cleared w) (with_a_pen s) lines in
+    let u = with_strokes (cleared w) (by_a_pen s) lines in
     elim (cases_Bool (are_in_range (s.place ∷ places))) [
       | inl i ↦ (let v_is : u ≡ v = same_Some _ _ (rw i at k) in
           let kept_is : u.kept ≡ lines = few_kept [] lines (omega (arith, over_few s places, h)) in

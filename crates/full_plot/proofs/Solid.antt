@@ -10,9 +10,9 @@ use Rattle.line_types.specs.declared.run.Run.{Run}
 use Rattle.line_types.specs.LineTypes.{Solid}
 use Rattle.hpgl_plot.specs.declared.state.State.{State}
 use Rattle.hpgl_plot.specs.Paths.{Path}
-use Rattle.hpgl_plot.specs.Strokes.{joined, path_strokes}
+use Rattle.hpgl_plot.specs.Strokes.{by_a_pen, joined, path_strokes}
 use Rattle.full_plot.specs.Dashing.{dashed, run_through}
-use Rattle.full_plot.specs.Lines.{with_a_pen, inked}
+use Rattle.full_plot.specs.Lines.{inked}
 
 pub dashed_solid : (run : Option Run) (ss : List Segment) → dashed Solid run ss ≡ ss
 dashed_solid run [] = refl
@@ -42,20 +42,20 @@ nothing_if : (s : State) → s.pen ≡ 0 → (draws : Bool) (places : List Spot)
 nothing_if s e true places = nothing_joined s e places
 nothing_if s e false places = refl
 
-has_a_pen : (s : State) → 1 ≤ s.pen → with_a_pen s ≡ s
+has_a_pen : (s : State) → 1 ≤ s.pen → by_a_pen s ≡ s
 has_a_pen s h = let e : max 1 s.pen ≡ s.pen = omega arith in ap (λ (n : ℕ). record s { pen = n }) e
 
-pub solid_strokes : (s : State) (run : Option Run) (p : Path) → inked s (dashed Solid run (path_strokes (with_a_pen s) p)) ≡ path_strokes s p
+pub solid_strokes : (s : State) (run : Option Run) (p : Path) → inked s (dashed Solid run (path_strokes (by_a_pen s) p)) ≡ path_strokes s p
 solid_strokes s run p = elim (cases_Bool (nat_eq s.pen 0)) [
   | inl t ↦ rw t (sym (nothing_drawn s (eqb-true _ _ t) p))
-  | inr t ↦ rw t (dashed_solid run (path_strokes (with_a_pen s) p) ∙ ap (λ (r : State). path_strokes r p) (has_a_pen s (grind (arith, nat_tests))))
+  | inr t ↦ rw t (dashed_solid run (path_strokes (by_a_pen s) p) ∙ ap (λ (r : State). path_strokes r p) (has_a_pen s (grind (arith, nat_tests))))
 ]
 
 -- the same of one line
 pub solid_joined : (s : State) (run : Option Run) (draws : Bool) (places : List Spot)
-    → inked s (dashed Solid run (if draws then joined (with_a_pen s) places else [])) ≡ (if draws then joined s places else [])
+    → inked s (dashed Solid run (if draws then joined (by_a_pen s) places else [])) ≡ (if draws then joined s places else [])
 solid_joined s run draws places = elim (cases_Bool (nat_eq s.pen 0)) [
   | inl t ↦ rw t (sym (nothing_if s (eqb-true _ _ t) draws places))
-  | inr t ↦ rw t (dashed_solid run (if draws then joined (with_a_pen s) places else [])
+  | inr t ↦ rw t (dashed_solid run (if draws then joined (by_a_pen s) places else [])
       ∙ ap (λ (r : State). if draws then joined r places else []) (has_a_pen s (grind (arith, nat_tests))))
 ]

@@ -1,5 +1,5 @@
 -- Steps in polygon mode: the lines that core draws with the pen down, on no strokes, lead to the points of the polygon.
-use Rattle.std.proofs.Common.{◌≡◌, ◌∙◌, ◌+◌, ◌<◌, suc, ℕ, ℤ, Bool, true, false, List, [], ◌∷◌, length, drop, drop-cons, get_or, refl, sym, ap, subst, inl, inr, arith, Option, Some, None}
+use Rattle.std.proofs.Common.{◌≡◌, ◌∙◌, ℤ, Bool, true, false, List, [], refl, sym, ap, subst, inl, inr, arith, Option, Some, None}
 use Rattle.std.specs.List.{list_all}
 use Rattle.std.proofs.lemmas.Bool.{cases_Bool}
 use Rattle.std.proofs.lemmas.Option.{none-some, same_Some}
@@ -7,17 +7,15 @@ use Rattle.exact.specs.declared.spot.Spot.{Spot}
 use Rattle.plot_page.specs.declared.page.Page.{Page}
 use Rattle.plot_page.specs.Segments.{Segment}
 use Rattle.plot_settings.specs.Meanings.{Step, Go, Move}
-use Rattle.polygons.specs.Buffers.{Contents, reached_at}
 use Rattle.hpgl_plot.specs.declared.state.State.{State}
 use Rattle.hpgl_plot.specs.Paths.{path}
-use Rattle.hpgl_plot.specs.Strokes.{are_in_range}
+use Rattle.hpgl_plot.specs.Strokes.{are_in_range, by_a_pen}
 use Rattle.hpgl_plot.specs.Machine.{after, with_strokes}
 use Rattle.hpgl_plot.specs.Machine as core
-use Rattle.full_plot.specs.Dashing.{to_of}
 use Rattle.full_plot.specs.Holding.{cleared, lowered_world, put_down, restored}
-use Rattle.full_plot.specs.Lines.{ended_by, line_step, with_a_pen}
+use Rattle.full_plot.specs.Lines.{ended_by, line_step}
 use Rattle.full_plot.specs.Machine.{core_step, marked}
-use Rattle.full_plot.specs.Polygons.{lined_by, lowered, reached_all, reached_by, traced, traced_lines, trace_step}
+use Rattle.full_plot.specs.Polygons.{lined_by, lowered, traced, traced_lines, trace_step}
 use Rattle.full_plot.specs.Texts.{at_margin}
 use Rattle.full_plot.specs.Worlds.{World, followed}
 use Rattle.full_plot.proofs.CoreLines.{cleared_step, few_kept, HasLines}
@@ -30,7 +28,7 @@ pub record HasPlaces (page : Page) (s : State) (t : Step) : Type 0 where
 
 -- the state after it, with the pen of before
 state_is : (page : Page) (s : State) (t : Step) → HasPlaces page s t
-    → record (after page (with_a_pen (lowered s)) t) { pen = s.pen; is_down = s.is_down } ≡ after page s t
+    → record (after page (by_a_pen (lowered s)) t) { pen = s.pen; is_down = s.is_down } ≡ after page s t
 state_is page s t h = ap (λ (x : State). record x { is_down = s.is_down }) h.lines.after_is ∙ h.after_is
 
 -- what core left, as a point of the polygon
@@ -51,7 +49,7 @@ traced_runs w t v h k =
     let s = w.core.state in
     let lines = traced_lines page s t in
     let e = cleared_step (lowered_world w) t h.lines.path_is in
-    let u = with_strokes (cleared (lowered_world w)) (after page (with_a_pen (lowered s)) t) lines in
+    let u = with_strokes (cleared (lowered_world w)) (after page (by_a_pen (lowered s)) t) lines in
     elim (cases_Bool (list_all are_in_range (path page (lowered s) t).lines)) [
       | inl i ↦ (let v_is : u ≡ v = same_Some _ _ (rw i at (sym e ∙ k)) in
           let kept_is : u.kept ≡ lines = few_kept [] lines (omega (arith, h.lines.few)) in
@@ -79,14 +77,6 @@ traced_out w t h k =
           rw out refl)
     ]
 
--- one place more, of those that are left
-pub one_reached : (d : Bool) (b c : Contents) (ps : List Spot) (i : ℕ) (q : Spot) (z : Contents) → i < length ps → q ≡ get_or ps i q → c ≡ reached_at b q d
-    → reached_all d b (drop i ps) ≡ z → reached_all d c (drop (i + 1) ps) ≡ z
-one_reached d b c ps i q z h e n m =
-    let next : suc i ≡ i + 1 = omega arith in
-    let cons : drop i ps ≡ q ∷ drop (i + 1) ps = (rw next at (drop-cons ps i q h)) ∙ ap (λ (x : Spot). x ∷ drop (i + 1) ps) (sym e) in
-    ap (λ (x : Contents). reached_all d x (drop (i + 1) ps)) n ∙ sym (ap (λ (xs : List Spot). reached_all d b xs) cons) ∙ m
-
 -- a move to coordinates that are relative or absolute as PA or PR said last
 moved_as_gone : (on : Bool) (w : World) (x y : ℤ) → lined_by on w (Move x y) ≡ lined_by on w (Go w.core.state.is_relative x y)
 unfolding line_step trace_step
@@ -96,11 +86,3 @@ moved_as_gone false w x y = refl
 pub move_is_go : (w : World) (x y : ℤ) → core_step w (Go w.core.state.is_relative x y) ≡ core_step w (Move x y)
 move_is_go w x y =
     ap (λ (o : Option World). followed o (λ (v : World). marked (at_margin v))) (sym (moved_as_gone w.area.in_polygon w x y))
-
--- lines that lead to further places
-pub one_line_reached : (d : Bool) (b c : Contents) (ls : List Segment) (i : ℕ) (l : Segment) (z : Contents) → i < length ls → l ≡ get_or ls i l
-    → c ≡ reached_at b (to_of l) d → reached_by d b (drop i ls) ≡ z → reached_by d c (drop (i + 1) ls) ≡ z
-one_line_reached d b c ls i l z h e n m =
-    let next : suc i ≡ i + 1 = omega arith in
-    let cons : drop i ls ≡ l ∷ drop (i + 1) ls = (rw next at (drop-cons ls i l h)) ∙ ap (λ (x : Segment). x ∷ drop (i + 1) ls) (sym e) in
-    ap (λ (x : Contents). reached_by d x (drop (i + 1) ls)) n ∙ sym (ap (λ (xs : List Segment). reached_by d b xs) cons) ∙ m

@@ -1,34 +1,25 @@
 -- Wedges: their angles are small, and what core draws over their places.
-use Rattle.std.proofs.Common.{◌≡◌, ◌∙◌, ◌≤◌, ◌+◌, ℕ, ℤ, pos, nat_abs, true, List, [], ◌∷◌, ◌++◌, length, map, length-append, append_assoc, refl, ap, sym, inl, inr, arith, Some, None}
-use Rattle.std.specs.Prelude.{int_lt, nat_eq}
+use Rattle.std.proofs.Common.{◌≡◌, ◌∙◌, ◌≤◌, ◌+◌, ℕ, nat_abs, true, List, [], ◌∷◌, ◌++◌, length, map, length-append, append_assoc, refl, ap, sym, inl, inr, arith, Some}
+use Rattle.std.specs.Prelude.{nat_eq}
 use Rattle.std.specs.List.{range_with_len}
 use Rattle.std.proofs.lemmas.Bool.{cases_Bool}
-use Rattle.std.proofs.lemmas.Int.{ints}
 use Rattle.std.proofs.lemmas.List.FromFn.{length-map-range_with_len, map-range_with_len_more}
 use Rattle.std.proofs.lemmas.Option.{none-some, same_Some}
 use Rattle.exact.specs.declared.spot.Spot.{Spot}
-use Rattle.plot_arc.specs.Arcs.{chords_of, turn_after}
+use Rattle.plot_arc.specs.Arcs.{chords_of}
 use Rattle.plot_page.specs.declared.page.Page.{Page}
 use Rattle.plot_page.specs.Segments.{Segment}
 use Rattle.hpgl_plot.specs.declared.state.State.{State}
-use Rattle.hpgl_plot.specs.Strokes.{are_in_range}
+use Rattle.hpgl_plot.specs.Strokes.{are_in_range, by_a_pen}
 use Rattle.hpgl_plot.specs.Machine.{with_strokes}
 use Rattle.hpgl_plot.specs.Machine as core
 use Rattle.full_settings.specs.PolygonParameters.{IsWedge}
 use Rattle.full_settings.specs.declared.polygon_setting.Wedge.{Wedge}
 use Rattle.full_plot.specs.Holding.{cleared, restored}
-use Rattle.full_plot.specs.Lines.{with_a_pen}
 use Rattle.full_plot.specs.Polygons.{only_figure}
 use Rattle.full_plot.specs.Wedges.{round_places, wedge_kept, wedge_lines, wedge_place, wedge_places}
 use Rattle.full_plot.specs.Worlds.{World}
 use Rattle.full_plot.proofs.CoreLines.{chords_few, few_kept, joined_few}
-
--- a turn is no greater than the sweep
-pub turn_small : (chord : ℕ) (sweep : ℤ) (k : ℕ) → nat_abs (turn_after chord sweep k) ≤ nat_abs sweep
-turn_small chord sweep k = elim (cases_Bool (int_lt sweep (pos 0))) [
-  | inl i ↦ rw i (omega (arith, ints))
-  | inr i ↦ rw i (omega (arith, ints))
-]
 
 -- a wedge has few places
 round_few : (page : Page) (s : State) (w : Wedge) → IsWedge w → length (round_places page s w) ≤ 360002
@@ -59,8 +50,8 @@ pub wedge_runs : (w : World) (wedge : Wedge) (v : core.World) → IsWedge wedge
 wedge_runs w wedge v h k =
     let places = wedge_places w.core.page w.core.state wedge in
     let lines = wedge_lines w.core.page w.core.state wedge in
-    let u = with_strokes (cleared w) (with_a_pen w.core.state) lines in
-    let few : length lines ≤ 360004 = omega (arith, joined_few (with_a_pen w.core.state) places, places_few w.core.page w.core.state wedge h) in
+    let u = with_strokes (cleared w) (by_a_pen w.core.state) lines in
+    let few : length lines ≤ 360004 = omega (arith, joined_few (by_a_pen w.core.state) places, places_few w.core.page w.core.state wedge h) in
     elim (cases_Bool (are_in_range places)) [
       | inl i ↦ (let v_is : u ≡ v = same_Some u v (rw i at k) in
           let lines_are : v.kept ≡ lines = ap (λ (x : core.World). x.kept) (sym v_is) ∙ few_kept [] lines (omega (arith, few)) in
@@ -71,12 +62,6 @@ wedge_runs w wedge v h k =
           })
       | inr i ↦ absurd (none-some v (rw i at k))
     ]
-
-pub wedge_out : (w : World) (wedge : Wedge) → core.travelled (cleared w) true (wedge_places w.core.page w.core.state wedge) ≡ None → wedge_kept w wedge ≡ None
-wedge_out w wedge k = elim (cases_Bool (are_in_range (wedge_places w.core.page w.core.state wedge))) [
-  | inl i ↦ absurd (none-some _ (sym (rw i at k)))
-  | inr i ↦ rw i refl
-]
 
 -- one more place of a wedge
 pub one_round : (page : Page) (s : State) (w : Wedge) (k : ℕ) (before items : List Spot)

@@ -9,12 +9,12 @@ use Rattle.polygons.specs.Buffers.{begun_at}
 use Rattle.hpgl_plot.specs.declared.state.Position.{Position}
 use Rattle.hpgl_plot.specs.declared.state.State.{State}
 use Rattle.hpgl_plot.specs.Paths.{pen_at, target}
-use Rattle.hpgl_plot.specs.Strokes.{are_in_range, joined}
+use Rattle.hpgl_plot.specs.Strokes.{are_in_range, by_a_pen, joined}
 use Rattle.hpgl_plot.specs.Machine as core
 use Rattle.full_settings.specs.declared.points.ArcPoints.{ArcPoints}
 use Rattle.full_settings.specs.declared.points.CurvePoints.{CurvePoints}
 use Rattle.full_settings.specs.declared.points.Point.{Point}
-use Rattle.full_plot.specs.Lines.{drawn, ended_by, with_a_pen}
+use Rattle.full_plot.specs.Lines.{drawn, ended_by}
 use Rattle.full_plot.specs.Polygons.{reached_all}
 use Rattle.full_plot.specs.Texts.{at_margin}
 use Rattle.full_plot.specs.Worlds.{World, followed}
@@ -26,7 +26,7 @@ pen_at_point w relative p =
 
 -- the lines from the pen over places, whatever pen is selected
 abbrev pub lines_over : State → List Spot → List Segment
-lines_over s places = if s.is_down then joined (with_a_pen s) (s.place ∷ places) else []
+lines_over s places = if s.is_down then joined (by_a_pen s) (s.place ∷ places) else []
 
 -- the same in the line type: None if a place is out of range
 abbrev pub drawn_over : World → List Spot → Option World

@@ -1,6 +1,6 @@
 -- What a plot draws in the profile full.
-use Rattle.std.specs.Prelude.{◌≡◌, ℕ, ◌+◌, ◌-◌, List, [], ◌∷◌, length, take, drop, nat_eq, nat_lt, slice_index_or, Bool, ◌||◌}
-use Rattle.std.specs.Prelude.{if◌then◌else◌, Option, Some, None, Result, Ok, Err, ⊤}
+use Rattle.std.specs.Prelude.{◌≡◌, ℕ, ◌+◌, ◌-◌, List, [], ◌∷◌, length, take, drop, nat_eq, nat_lt, slice_index_or}
+use Rattle.std.specs.Prelude.{Bool, ◌||◌, if◌then◌else◌, Option, Some, None, Result, Ok, Err, ⊤}
 use Rattle.plot_page.specs.declared.page.Page.{Page}
 use Rattle.plot_page.specs.Segments.{Segment}
 use Rattle.plot_page.specs.declared.stroke.TheConstants.{MOST_STROKES}
@@ -34,8 +34,8 @@ at_start page = record {
   ends = [];
 }
 
--- there were more strokes than may be kept, or those that are kept are too many with the work that counts besides, or the
--- buffer has as many places
+-- there were more strokes than may be kept, or those that are kept are too many with the work that counts besides, or
+-- the buffer has as many places
 abbrev pub is_too_much : World → Bool
 is_too_much w =
     w.core.full || (nat_lt MOST_STROKES (length w.core.kept + w.extra) || nat_lt MOST_STROKES w.buffer.places)

@@ -1,5 +1,5 @@
--- Fills (HP-GL/2 guide: FP, RA, RR and WG, by FT and AC): lines at equal distances, where they are inside of the polygons
--- in the buffer.
+-- Fills (HP-GL/2 guide: FP, RA, RR and WG, by FT and AC): lines at equal distances, where they are inside of the
+-- polygons in the buffer.
 use Rattle.std.specs.Prelude.{ℕ, ◌*◌, ◌^◌, ℤ, pos, ◌+ℤ◌, nat_abs, nat_eq, Bool, true, false, List, [], ◌∷◌}
 use Rattle.std.specs.Prelude.{length, map, if◌then◌else◌, slice_index}
 use Rattle.std.specs.Int.{int_max, int_min}
@@ -19,14 +19,14 @@ use Rattle.polygons.specs.declared.lines.Rule.TheVariants.{OddCounts, Winding}
 use Rattle.polygons.specs.declared.span.Span.{Span}
 use Rattle.hpgl_plot.specs.declared.state.State.{State}
 use Rattle.hpgl_plot.specs.Bounds.{line_in}
-use Rattle.hpgl_plot.specs.Strokes.{stroke}
+use Rattle.hpgl_plot.specs.Strokes.{by_a_pen, stroke}
 use Rattle.hpgl_plot.specs.Machine as core
 use Rattle.full_settings.specs.declared.fill_setting.FillKind.{FillKind}
 use Rattle.full_settings.specs.declared.fill_setting.FillKind.TheVariants.{Solid, Hatched, CrossHatched, Shaded}
 use Rattle.full_settings.specs.LineStyles.{diagonal}
 use Rattle.full_plot.specs.declared.fills.Ink.{Ink}
 use Rattle.full_plot.specs.declared.fills.Ink.TheVariants.{Width, Line}
-use Rattle.full_plot.specs.Lines.{drawn, with_a_pen}
+use Rattle.full_plot.specs.Lines.{drawn}
 use Rattle.full_plot.specs.Work.{worked}
 use Rattle.full_plot.specs.Worlds.{World, page_origin}
 
@@ -52,17 +52,18 @@ shading_distance level = cut_distance (round (quotient (pos (100 * (224 * (256 *
 abbrev pub shading_lines : ℕ → Lines
 shading_lines level = lines_at (pos 45000) (shading_distance level) page_origin
 
--- the distance of lines of hatching in ticks: the spacing, along x, or by spacing 0 one percent of the distance from P1 to
--- P2; but lines are no denser than half the pen's width
+-- a spacing along an axis, in ticks
 abbrev pub spacing_on : Axis → ℕ → ℤ
 spacing_on a spacing = round (quotient (pos (256 * (nat_abs a.slope * spacing))) a.under)
 
+-- the spacing of FT, along x, or by spacing 0 one percent of the distance from P1 to P2
 abbrev pub spacing_in : World → ℤ
 spacing_in w =
     let s = w.core.state in
     if nat_eq w.area.fill.spacing 0 then pos (length_by_percent (diagonal s.frame.points) 1000000)
     else spacing_on (line_in w.core.page s.frame X) w.area.fill.spacing
 
+-- the distance of lines of hatching: the spacing, but lines are no denser than half the pen's width
 abbrev pub hatching_distance : World → ℕ
 hatching_distance w =
     let s = w.core.state in cut_distance (int_max (spacing_in w) (pos (128 * slice_index s.widths s.pen)))
@@ -78,19 +79,22 @@ abbrev pub hatching_lines : World → ℤ → Lines
 hatching_lines w more =
     lines_at (pos w.area.fill.angle +ℤ turn_of w.core.state.frame.rotation +ℤ more) (hatching_distance w) w.area.anchor
 
--- one span of a fill: a stroke of this width, or a line in the line type. A line that gives no stroke counts as work
+-- the line of a span, whatever pen is selected
 abbrev pub span_stroke : State → Span → Segment
-span_stroke s p = stroke (with_a_pen s) p.from p.to
+span_stroke s p = stroke (by_a_pen s) p.from p.to
 
 abbrev pub with_stroke : World → Segment → World
 with_stroke w l = record w { core = core.with_strokes w.core w.core.state (l ∷ []) }
 
+-- a span of a fill as a stroke of this width
 abbrev pub inked_span : ℕ → World → Span → World
 inked_span width w p = with_stroke w (record (span_stroke w.core.state p) { width = width })
 
+-- a line that gives no stroke counts as work
 abbrev pub counted : World → World → World
 counted before after = if nat_eq (length after.core.kept) (length before.core.kept) then worked 1 after else after
 
+-- a span of a fill as a line in the line type
 abbrev pub lined_span : World → Span → World
 lined_span w p = counted w (drawn w (span_stroke w.core.state p ∷ []))
 

@@ -1,18 +1,18 @@
--- What is held back while core draws lines, and brought back when they are drawn in the line type; and which instructions
--- of core have steps of their own.
+-- What is held back while core draws lines, and brought back when they are drawn in the line type; and which
+-- instructions of core have steps of their own.
 use Rattle.std.specs.Prelude.{ℕ, Bool, true, false, List, []}
 use Rattle.plot_page.specs.Segments.{Segment}
 use Rattle.hpgl_text.specs.declared.instruction.Instruction.{Instruction}
 use Rattle.hpgl_text.specs.declared.instruction.Instruction.TheVariants.{PenWidth, PenColour, Circle, ArcAbsolute}
 use Rattle.hpgl_text.specs.declared.instruction.Instruction.TheVariants.{ArcRelative}
+use Rattle.hpgl_plot.specs.Strokes.{by_a_pen}
 use Rattle.hpgl_plot.specs.Machine as core
 use Rattle.full_plot.specs.declared.lines.Held.{Held}
-use Rattle.full_plot.specs.Lines.{with_a_pen}
 use Rattle.full_plot.specs.Worlds.{World}
 
 -- core without strokes, by a pen that draws
 abbrev pub cleared : World → core.World
-cleared w = record { page = w.core.page; state = with_a_pen w.core.state; kept = []; full = false }
+cleared w = record { page = w.core.page; state = by_a_pen w.core.state; kept = []; full = false }
 
 -- a world with these strokes and this pen
 abbrev pub with_strokes_and_pen : World → List Segment → Bool → ℕ → World

@@ -4,8 +4,9 @@ use Rattle.hpgl_text.specs.Shapes.{BodyShape, Params, Kept, Symbol}
 use Rattle.hpgl_text.specs.Shapes as shape
 use Rattle.hpgl_text.specs.declared.further.Further.{Further}
 use Rattle.hpgl_text.specs.declared.instruction.Instruction.{Instruction}
-use Rattle.hpgl_text.specs.declared.instruction.Instruction.TheVariants.{Initialize, DefaultValues, InputPoints, PenWidth}
-use Rattle.hpgl_text.specs.declared.instruction.Instruction.TheVariants.{PenColour, CharacterSize, Direction}
+use Rattle.hpgl_text.specs.declared.instruction.Instruction.TheVariants.{Initialize, DefaultValues, InputPoints}
+use Rattle.hpgl_text.specs.declared.instruction.Instruction.TheVariants.{PenWidth, PenColour, CharacterSize}
+use Rattle.hpgl_text.specs.declared.instruction.Instruction.TheVariants.{Direction}
 use Rattle.plot_settings.specs.declared.setting.Setting.TheVariants.{Start}
 use Rattle.plot_settings.specs.Meanings.{Step, Set, meaning, body_steps}
 use Rattle.full_settings.specs.declared.requests.FurtherRequest.{FurtherRequest}
@@ -15,8 +16,8 @@ use Rattle.full_settings.specs.declared.letter_setting.LetterSetting.TheVariants
 use Rattle.full_settings.specs.CurveParameters.{curve_points}
 use Rattle.full_settings.specs.FurtherRequests.{further_request}
 use Rattle.full_settings.specs.LetterParameters.{direction}
-use Rattle.full_plot.specs.Machine.{FullStep, Core, Style, Restyle, Restart, WidthBy, ColourBy, Widen, Rewiden, PointsBy}
-use Rattle.full_plot.specs.Machine.{RangesBy, Letter, Mark, Keep, Print, Place, TickBy, Tick}
+use Rattle.full_plot.specs.Machine.{FullStep, Core, Style, Restyle, Restart, WidthBy, ColourBy, Widen, Rewiden}
+use Rattle.full_plot.specs.Machine.{PointsBy, RangesBy, Letter, Mark, Keep, Print, Place, TickBy, Tick}
 use Rattle.full_plot.specs.Machine.{ArcThrough, Curve, PolygonBy, EdgeBuffer, FillBuffer, FillBy, AnchorBy, ChordsBy}
 use Rattle.full_plot.specs.Machine.{Rectangle, WedgeEdge, WedgeFill, EndSheet}
 

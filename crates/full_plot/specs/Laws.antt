@@ -13,8 +13,8 @@ use Rattle.full_plot.specs.Contexts.{context_of}
 use Rattle.full_plot.specs.Notes.{context_after, notes}
 use Rattle.full_plot.specs.Worlds.{World}
 
--- what only the profile full reads is not of core, nor is a DI along no axis; nor is a label of more than 2^32 bytes, which
--- only the profile full refuses: no plot has one, since it has at most 67,108,864 bytes
+-- what only the profile full reads is not of core, nor is a DI along no axis; nor is a label of more than 2^32 bytes,
+-- which only the profile full refuses: no plot has one, since it has at most 67,108,864 bytes
 abbrev pub is_core_body : BodyShape → Bool
 is_core_body (Params instruction ns) = not (is_off_axis instruction ns)
 is_core_body (Further f ns) = false

@@ -1,5 +1,6 @@
--- What a reader must believe: what is set, how items are read, how lines are drawn in line types, polygons and wedges, fills,
--- labels, curves, the steps of items, what plots draw, what is noted on them, and that plots of core stay as they are.
+-- What a reader must believe: what is set, how items are read, how lines are drawn in line types, polygons and wedges,
+-- fills, labels, curves, the steps of items, what plots draw, what is noted on them, and that plots of core stay as
+-- they are.
 pub mod Worlds
 pub mod Contexts
 pub mod Work

@@ -1,5 +1,5 @@
 -- Moves and figures: their lines are those of core, drawn in the line type.
-use Rattle.std.specs.Prelude.{max, List, [], nat_eq, if◌then◌else◌, Option, Some, None}
+use Rattle.std.specs.Prelude.{List, [], nat_eq, if◌then◌else◌, Option, Some, None}
 use Rattle.std.specs.List.{list_all}
 use Rattle.plot_page.specs.declared.page.Page.{Page}
 use Rattle.plot_page.specs.Segments.{Segment}
@@ -7,7 +7,7 @@ use Rattle.line_types.specs.LineTypes.{LineShape}
 use Rattle.plot_settings.specs.Meanings.{Step}
 use Rattle.hpgl_plot.specs.declared.state.State.{State}
 use Rattle.hpgl_plot.specs.Paths.{path}
-use Rattle.hpgl_plot.specs.Strokes.{are_in_range, path_strokes}
+use Rattle.hpgl_plot.specs.Strokes.{are_in_range, by_a_pen, path_strokes}
 use Rattle.hpgl_plot.specs.Machine as core
 use Rattle.full_settings.specs.LineStyles.{shape_of}
 use Rattle.full_plot.specs.Dashing.{dashed, run_through}
@@ -18,11 +18,8 @@ abbrev pub shape_in : World → LineShape
 shape_in w = shape_of w.style w.core.state.frame.points
 
 -- the lines of a step, whatever pen is selected
-abbrev pub with_a_pen : State → State
-with_a_pen s = record s { pen = max 1 s.pen }
-
 abbrev pub lines_of : Page → State → Step → List Segment
-lines_of page s t = path_strokes (with_a_pen s) (path page s t)
+lines_of page s t = path_strokes (by_a_pen s) (path page s t)
 
 -- pen 0 makes no stroke
 abbrev pub inked : State → List Segment → List Segment

@@ -1,5 +1,5 @@
--- A plot in the profile full, one step at a time: the steps of core, with lines in the line type and labels in the style
--- that is set, and further steps.
+-- A plot in the profile full, one step at a time: the steps of core, with lines in the line type and labels in the
+-- style that is set, and further steps.
 use Rattle.std.specs.Prelude.{◌≡◌, ℕ, ℤ, Bool, true, false, List, [], ◌∷◌, ◌++◌, length, nat_lt}
 use Rattle.std.specs.Prelude.{if◌then◌else◌, Option, Some, None, Result, Ok, Err, ⊤}
 use Rattle.plot_page.specs.declared.page.Page.{Page}
@@ -45,9 +45,7 @@ use Rattle.full_plot.specs.Wedges.{wedge_edged, wedge_kept}
 use Rattle.full_plot.specs.Work.{worked, then_worked}
 use Rattle.full_plot.specs.Worlds.{World, page_origin, usual_area, usual_writing, with_core, followed}
 
--- a step of core: moves, rectangles, circles and arcs are drawn in the line type, or are points of a polygon in polygon
--- mode; after a move or an arc the left margin is where the pen is, and after a move the symbol is drawn there, unless in
--- polygon mode, in which there are no dots; otherwise they are as in core
+-- the symbol of SM at the pen, unless in polygon mode
 abbrev pub marked_in : Bool → World → Option World
 marked_in true w = Some w
 marked_in false w = marked_by w.writing.symbol w
@@ -55,9 +53,11 @@ marked_in false w = marked_by w.writing.symbol w
 abbrev pub marked : World → Option World
 marked w = marked_in w.area.in_polygon w
 
+-- a move: then the left margin is where the pen is, and the symbol is drawn there
 abbrev pub moved : World → Step → Option World
 moved w t = followed (lined_step w t) (λ (v : World). marked (at_margin v))
 
+-- a dot, unless in polygon mode
 abbrev pub touched_in : Bool → World → Option World
 touched_in true w = Some w
 touched_in false w = with_core w (core.step w.core Touch)
@@ -65,6 +65,9 @@ touched_in false w = with_core w (core.step w.core Touch)
 abbrev pub touched : World → Option World
 touched w = touched_in w.area.in_polygon w
 
+-- a step of core: moves, rectangles, circles and arcs are drawn in the line type, or are points of a polygon in polygon
+-- mode; after an arc, too, the left margin is where the pen is; labels are in the style that is set; otherwise a step
+-- is as in core
 abbrev pub core_step : World → Step → Option World
 core_step w Touch = touched w
 core_step w (Move x y) = moved w (Move x y)
@@ -93,11 +96,12 @@ widened s w =
     let set_in_grains = with_widths w (grains_with s selected w.core.state.widths) in
     rewidened (record set_in_grains { percents = percents_with s selected w.percents })
 
--- after a PW with these numbers: in millimetres it is core's; wrong numbers set nothing
+-- wrong numbers set nothing
 abbrev pub widened_if : Option WidthSetting → World → World
 widened_if None w = w
 widened_if (Some s) w = widened s w
 
+-- after a PW with these numbers: in millimetres it is core's
 abbrev pub pen_width_step : Option (List (Option ℕ)) → World → List ℤ → Option World
 pen_width_step None w ns = with_core w (core.run w.core (meaning PenWidth ns).steps)
 pen_width_step (Some percents) w ns = Some (widened_if (percent_width ns) w)
@@ -130,8 +134,8 @@ abbrev pub then_rewidened : Option World → Option World
 then_rewidened None = None
 then_rewidened (Some w) = Some (rewidened w)
 
--- DF, besides what it does in core: the line style and what is set for labels and polygons are those of the start, and the
--- buffer is empty
+-- DF, besides what it does in core: the line style and what is set for labels and polygons are those of the start, and
+-- the buffer is empty
 abbrev pub restyled : World → World
 restyled w =
     record w { style = usual_style; run = None; writing = usual_writing; area = usual_area; buffer = empty }
@@ -144,10 +148,11 @@ restarted w = at_margin (record (restyled w) { percents = None; ranges = usual_r
 abbrev pub printed : World → Option World
 printed w = then_worked (length w.writing.text) (written w w.writing.text)
 
--- AC: the place of these coordinates, which must be in range
+-- a line of hatching goes through this place
 abbrev pub with_anchor : World → Spot → World
 with_anchor w q = record w { area = record w.area { anchor = q } }
 
+-- AC: the place of these coordinates, which must be in range
 abbrev pub anchored : World → Anchor → Option World
 anchored w PageOrigin = Some (with_anchor w page_origin)
 anchored w (At p) = let q = (pen_at_point w false p).place in if_in_range (q ∷ []) (Some (with_anchor w q))
@@ -158,9 +163,9 @@ then_filled None = None
 then_filled (Some w) = Some (filled false w)
 
 -- a step of core; what LT or UL sets; what DF and what IN do besides; a PW and a PC with these numbers; what WU or PT
--- sets; widths by other P1 and P2; P1 and P2 by IR; the ranges of CR; what SR, SL, DI, DR, ES, LO or DV sets; the symbol
--- of SM; the text of BL, and PB; a CP; what TL sets, and XT or YT; an AT or an RT, and a curve of BZ or BR; a PM; EP, and
--- FP by winding or not; what FT, AC and CT set; an RA or an RR; an EW, and a WG; the end of a sheet
+-- sets; widths by other P1 and P2; P1 and P2 by IR; the ranges of CR; what SR, SL, DI, DR, ES, LO or DV sets; the
+-- symbol of SM; the text of BL, and PB; a CP; what TL sets, and XT or YT; an AT or an RT, and a curve of BZ or BR; a
+-- PM; EP, and FP by winding or not; what FT, AC and CT set; an RA or an RR; an EW, and a WG; the end of a sheet
 pub data FullStep : Type 0 where
   Core : Step → FullStep
   Style : LineSetting → FullStep

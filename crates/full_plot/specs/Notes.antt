@@ -30,12 +30,13 @@ unit_after in_percent Millimetres = false
 unit_after in_percent (PercentOfAll percent) = true
 unit_after in_percent _ = in_percent
 
--- the context after an item
+-- whether polygon mode is on after a PM that asks for this, if it was or was not before
 abbrev pub is_on_after : PolygonStep → Bool → Bool
 is_on_after Begin on = true
 is_on_after Close on = on
 is_on_after End on = false
 
+-- the context after what a further instruction asks for
 abbrev pub request_after : Context → FurtherRequest → Context
 request_after c (request.Width s) = record c { in_percent = unit_after c.in_percent s }
 request_after c (request.Colours r) = record c { ranges = r }
@@ -44,11 +45,13 @@ request_after c (request.Chords usual) = record c { usual_chords = usual }
 request_after c request.Begin = first_context
 request_after c _ = c
 
+-- the context after an instruction of core
 abbrev pub params_after : Context → Instruction → Context
 params_after c Initialize = first_context
 params_after c DefaultValues = record c { in_polygon = false; usual_chords = false }
 params_after c _ = c
 
+-- the context after an item, which is read by the one before it
 abbrev pub after_body : Context → BodyShape → Context
 after_body c (shape.Further f ns) = request_after c (further_request f ns)
 after_body c (Params instruction ns) = params_after c instruction
@@ -62,8 +65,8 @@ abbrev pub bad_without : {S : Type 0} → Option S → Option NoteKind
 bad_without (Some setting) = None
 bad_without None = Some Bad
 
--- what is noted on a further instruction: that its numbers are wrong, or that it is not drawn, as patterns of FT are not;
--- numbers after those of whole curves draw nothing, and are wrong
+-- what is noted on a further instruction: that its numbers are wrong, or that it is not drawn, as patterns of FT are
+-- not; numbers after those of whole curves draw nothing, and are wrong
 abbrev pub request_noted : FurtherRequest → List ℤ → Option NoteKind
 request_noted request.Wrong ns = Some Bad
 request_noted request.Skip ns = Some Skipped
@@ -71,12 +74,13 @@ request_noted (request.Fill Pattern) ns = Some Skipped
 request_noted (request.Curves relative) ns = if are_curves ns then None else Some Bad
 request_noted _ ns = None
 
--- what is noted on an instruction of core: PW in percent and PC in ranges have rules of their own, and DI may be along no
--- axis
+-- what is noted on a PW
 abbrev pub width_noted : Bool → List ℤ → Option NoteKind
 width_noted true ns = bad_without (percent_width ns)
 width_noted false ns = parameters_noted PenWidth ns
 
+-- what is noted on an instruction of core: PW in percent and PC in ranges have rules of their own, and DI may be along
+-- no axis
 abbrev pub params_noted : Context → Instruction → List ℤ → Option NoteKind
 params_noted c PenWidth ns = width_noted c.in_percent ns
 params_noted c PenColour ns = bad_without (pen_colour_in c.ranges ns)

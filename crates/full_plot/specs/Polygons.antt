@@ -1,5 +1,5 @@
--- Polygon mode (HP-GL/2 guide: PM): the places that the pen comes to are points of a polygon, and nothing is drawn. EA, ER,
--- RA, RR, EW and WG put their figure into the buffer.
+-- Polygon mode (HP-GL/2 guide: PM): the places that the pen comes to are points of a polygon, and nothing is drawn. EA,
+-- ER, RA, RR, EW and WG put their figure into the buffer.
 use Rattle.std.specs.Prelude.{Bool, true, false, List, [], ◌∷◌, map, filter, Option, Some, None, if◌then◌else◌}
 use Rattle.std.specs.List.{list_all}
 use Rattle.exact.specs.declared.spot.Spot.{Spot}
@@ -10,12 +10,12 @@ use Rattle.polygons.specs.Buffers.{Contents, begun_at, reached_at, closed, empty
 use Rattle.polygons.specs.declared.edge.Edge.{Edge}
 use Rattle.hpgl_plot.specs.declared.state.State.{State}
 use Rattle.hpgl_plot.specs.Paths.{path}
-use Rattle.hpgl_plot.specs.Strokes.{are_in_range, stroke}
+use Rattle.hpgl_plot.specs.Strokes.{are_in_range, by_a_pen, stroke}
 use Rattle.hpgl_plot.specs.Machine as core
 use Rattle.full_settings.specs.declared.polygon_setting.PolygonStep.{PolygonStep}
 use Rattle.full_settings.specs.declared.polygon_setting.PolygonStep.TheVariants.{Begin, Close, End}
 use Rattle.full_plot.specs.Dashing.{from_of, to_of}
-use Rattle.full_plot.specs.Lines.{drawn, ended_by, line_step, lines_of, with_a_pen}
+use Rattle.full_plot.specs.Lines.{drawn, ended_by, line_step, lines_of}
 use Rattle.full_plot.specs.Worlds.{World}
 
 -- further places of a polygon
@@ -83,10 +83,11 @@ kept_step w t =
     then Some (record w { buffer = only_figure (lines_of page s t) })
     else None
 
--- PM
+-- polygon mode is on, or not
 abbrev pub in_mode : Bool → World → World
 in_mode on w = record w { area = record w.area { in_polygon = on } }
 
+-- PM
 abbrev pub polygon_set : PolygonStep → World → World
 polygon_set Begin w = in_mode true (record w { buffer = begun_at empty w.core.state.place })
 polygon_set Close w = record w { buffer = closed w.buffer w.core.state.is_down }
@@ -94,7 +95,7 @@ polygon_set End w = in_mode false (record w { buffer = closed w.buffer w.core.st
 
 -- the edges of the buffer as lines, whatever pen is selected
 abbrev pub edge_line : State → Edge → Segment
-edge_line s e = stroke (with_a_pen s) e.from e.to
+edge_line s e = stroke (by_a_pen s) e.from e.to
 
 abbrev pub drawn_edges : List Edge → List Edge
 drawn_edges edges = filter (λ e. e.is_drawn) edges

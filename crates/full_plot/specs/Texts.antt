@@ -1,6 +1,6 @@
 -- Labels, symbols and ticks (HP-GL/2 guide: LB, CP and SM; XT, YT and PB of old HP-GL). Their strokes are not dashed.
-use Rattle.std.specs.Prelude.{ℕ, ◌^◌, nat_lt, List, [], ◌∷◌, length, map, Bool, true, false, if◌then◌else◌, Option, Some, None}
-use Rattle.std.specs.Prelude.{ℤ, pos, ◌+ℤ◌, neg_ℤ}
+use Rattle.std.specs.Prelude.{ℕ, ◌^◌, nat_lt, List, [], ◌∷◌, length, map, Bool, true, false, if◌then◌else◌}
+use Rattle.std.specs.Prelude.{Option, Some, None, ℤ, pos, ◌+ℤ◌, neg_ℤ}
 use Rattle.std.specs.Int.{int_min, int_max}
 use Rattle.exact.specs.declared.spot.Spot.{Spot}
 use Rattle.directions.specs.Directions.{turned}
@@ -77,8 +77,8 @@ with_margin q (Some w) = Some (record w { margin = q })
 abbrev pub at_margin : World → World
 at_margin w = record w { margin = w.core.state.place }
 
--- a label: its strokes, and then the pen is at its end; one of more than 2^32 bytes is out of range, but no plot has one,
--- since it has at most 67,108,864 bytes
+-- a label: its strokes, and then the pen is at its end; one of more than 2^32 bytes is out of range, but no plot has
+-- one, since it has at most 67,108,864 bytes
 abbrev pub label_by : Style → core.World → List ℕ → Option core.World
 label_by style v bytes =
     if nat_lt (2 ^ 32) (length bytes) then None else
@@ -90,11 +90,12 @@ abbrev pub written : World → List ℕ → Option World
 written w bytes =
     with_margin (margin_by w.margin (margin_move (style_of w) bytes)) (with_core w (label_by (style_of w) w.core bytes))
 
--- CP without numbers: one line on from the left margin, which is then there; with numbers: as many columns to the right
--- and lines up from where the pen is, and the left margin as many lines up
+-- the pen and the left margin at a place
 abbrev pub put_at_margin : World → Spot → Option World
 put_at_margin w q = with_margin q (with_core w (put w.core q))
 
+-- CP without numbers: one line on from the left margin, which is then there; with numbers: as many columns to the right
+-- and lines up from where the pen is, and the left margin as many lines up
 abbrev pub moved_on : World → CharacterMove → Option World
 moved_on w ToMargin = put_at_margin w (margin_by w.margin (cell_offset (style_of w) (pos 0) (pos (10 ^ 6))))
 moved_on w (By n) =

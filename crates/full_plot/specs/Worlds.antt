@@ -12,8 +12,8 @@ use Rattle.full_settings.specs.LineStyles as styles
 use Rattle.full_settings.specs.TickParameters.{usual_ticks}
 use Rattle.full_plot.specs.declared.area.Area.{Area}
 
--- what is set for labels: how letters are written, the symbol at the ends of moves (SM), the text that is kept (BL), and
--- the length of ticks (TL)
+-- what is set for labels: how letters are written, the symbol at the ends of moves (SM), the text that is kept (BL),
+-- and the length of ticks (TL)
 pub record Writing : Type 0 where
   pub letters : LetterStyle
   pub symbol : Option ℕ
@@ -24,18 +24,19 @@ pub record Writing : Type 0 where
 abbrev pub usual_writing : Writing
 usual_writing = record { letters = usual_letters; symbol = None; text = []; ticks = usual_ticks }
 
--- what is set for polygons at the start, and after IN and DF: polygon mode is off, and lines of hatching are counted from
 -- the page's lower left corner
 abbrev pub page_origin : Spot
 page_origin = record { x = pos 0; y = pos 0 }
 
+-- what is set for polygons at the start, and after IN and DF: polygon mode is off, and a line of hatching goes through
+-- the page's lower left corner
 abbrev pub usual_area : Area
 usual_area = record { in_polygon = false; fill = usual_fill; anchor = page_origin; usual_chords = false }
 
 -- what core has: the page, the state and the strokes; the line style, and the run of its pattern; the widths of pens in
--- percent, or None while widths are in millimetres; what is set for labels, and their left margin, a place; the ranges of
--- colours; what is set for polygons, and the polygon buffer; how much work besides strokes counts; for each sheet that has
--- ended, how many strokes were made until then
+-- percent, or None while widths are in millimetres; what is set for labels, and their left margin, a place; the ranges
+-- of colours; what is set for polygons, and the polygon buffer; how much work besides strokes counts; for each sheet
+-- that has ended, how many strokes were made until then
 pub record World : Type 0 where
   pub core : core.World
   pub style : styles.Style

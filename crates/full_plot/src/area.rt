@@ -13,7 +13,7 @@ pub struct Area {
     pub in_polygon: bool,
     /// How polygons are filled (FT).
     pub fill: FillStyle,
-    /// Where lines of hatching are counted from (AC), a place on the page in grains.
+    /// A line of hatching goes through this place on the page, in grains (AC).
     pub anchor: Spot,
     /// Whether chords have the usual angle, whatever angle is named (CT).
     pub usual_chords: bool,

@@ -5,8 +5,9 @@ ghost use Rattle.plot_arc.specs.Arcs.{turn_after};
 ghost use Rattle.plot_settings.specs.Bounds.{IsCorner};
 ghost use Rattle.plot_settings.specs.Meanings.{Edge};
 ghost use Rattle.full_settings.specs.PolygonParameters.{IsWedge};
+ghost use Rattle.full_plot.specs.Lines.{lines_of};
 ghost use Rattle.full_plot.specs.Machine.{seen, step, Runs, Rectangle, WedgeEdge, WedgeFill};
-ghost use Rattle.full_plot.specs.Polygons.{edge_step, only_figure, with_buffer};
+ghost use Rattle.full_plot.specs.Polygons.{edge_step, kept_step, only_figure, with_buffer};
 ghost use Rattle.full_plot.specs.Wedges as wedges;
 
 use crate::plotter::FullPlotter;
@@ -24,10 +25,7 @@ impl FullPlotter {
         requires { IsCorner corner }
         ensures { Runs (edge_step (seen self.old) (Edge is_relative corner.x corner.y)) (seen self.new) result }
     {
-        let held = self.hold();
-        self.plotter.edge(is_relative, corner)?;
-        let lines = self.bring_back(held);
-        self.keep_figure(&lines)?;
+        let lines = self.keep_rectangle(is_relative, corner)?;
         self.dash(&lines)
     }
 
@@ -36,11 +34,22 @@ impl FullPlotter {
         requires { IsCorner corner }
         ensures { Runs (step (seen self.old) (Rectangle is_relative corner)) (seen self.new) result }
     {
+        self.keep_rectangle(is_relative, corner)?;
+        self.fill_polygon(false)
+    }
+
+    // Puts a rectangle into the buffer, and gives its lines.
+    fn keep_rectangle(&mut self, is_relative: bool, corner: Corner) -> Result<Vec<Stroke>, Stop>
+        requires { IsCorner corner }
+        ensures lines { IfOk result (λ lines. lines.items ≡ lines_of
+            self.old.plotter.page self.old.plotter.state (Edge is_relative corner.x corner.y)) }
+        ensures runs { Runs (kept_step (seen self.old) (Edge is_relative corner.x corner.y)) (seen self.new) result }
+    {
         let held = self.hold();
         self.plotter.edge(is_relative, corner)?;
         let lines = self.bring_back(held);
         self.keep_figure(&lines)?;
-        self.fill_polygon(false)
+        Ok(lines)
     }
 
     /// EW: the edge of a wedge.

@@ -27,7 +27,8 @@ use plot_settings::{Rotation, Setting};
 impl FullPlotter {
     /// Carries out a further instruction. One that is not drawn does nothing.
     pub fn obey_further(&mut self, further: Further, numbers: &Numbers<'_>) -> Result<(), Stop>
-        ensures { Runs (run (seen self.old) (further_steps further (numbers_read (seen self.old).area.usual_chords further numbers.now))) (seen self.new) result }
+        ensures { Runs (run (seen self.old) (further_steps further
+            (numbers_read (seen self.old).area.usual_chords further numbers.now))) (seen self.new) result }
     {
         let request = request_read(further, numbers, self.area.usual_chords);
         self.do_further(request, numbers)
@@ -139,7 +140,7 @@ impl FullPlotter {
         self.area.usual_chords = usual;
     }
 
-    // Sets where lines of hatching are counted from, by AC.
+    // Sets the place that a line of hatching goes through, by AC.
     fn set_anchor(&mut self, anchor: Anchor) -> Result<(), Stop>
         ensures { Runs (step (seen self.old) (AnchorBy anchor)) (seen self.new) result }
     {

@@ -1,5 +1,5 @@
 //! Labels, symbols, and moves by columns and lines.
-ghost use Rattle.std.specs.Prelude.{◌≡◌, ◌≤◌, ◌<◌, ◌+◌, ◌^◌, length, nat_abs, neg_ℤ, IfSome, IfOk, Some};
+ghost use Rattle.std.specs.Prelude.{◌≡◌, ◌≤◌, ◌^◌, length, nat_abs, neg_ℤ, IfSome, IfOk, Some};
 ghost use Rattle.directions.specs.Bounds.{IsWithin};
 ghost use Rattle.full_settings.specs.CharacterMoves.{IsCharacterMove};
 ghost use Rattle.full_settings.specs.LetterParameters.{IsLetterSetting};
@@ -8,7 +8,6 @@ ghost use Rattle.hpgl_plot.specs.Machine as core;
 ghost use Rattle.full_plot.specs.Items.{letters_steps};
 ghost use Rattle.full_plot.specs.Machine.{seen, step, run, Runs, Letter, marked, printed};
 ghost use Rattle.full_plot.specs.Texts as texts;
-ghost use Rattle.full_plot.specs.Work.{worked};
 ghost use Rattle.full_plot.specs.Worlds.{with_core};
 
 use crate::core_labels::is_as_in_core;
@@ -19,7 +18,6 @@ use exact::Spot;
 use full_settings::{CharacterMove, LetterSetting};
 use hpgl_plot::{Plotter, Stop};
 use lettering::Lettering;
-use plot_page::MOST_STROKES;
 use plot_settings::Rotation;
 
 // The most bytes of a label.
@@ -47,25 +45,6 @@ impl FullPlotter {
         Ok(())
     }
 
-    /// Counts work that is no stroke.
-    pub fn work(&mut self, amount: usize)
-        ensures { seen self.new ≡ worked amount (seen self.old) }
-    {
-        if amount > MOST_STROKES || self.sum() + amount > MOST_STROKES {
-            self.plotter.is_full = true;
-        } else {
-            self.extra += amount as u32;
-        }
-    }
-
-    // How many strokes there are, and how much work counts besides.
-    fn sum(&self) -> usize
-        ensures value { result ≡ length self.now.plotter.strokes.items + self.now.extra }
-        ensures most { result < 2 ^ 63 + 2 ^ 33 }
-    {
-        self.plotter.strokes.len() + self.extra as usize
-    }
-
     /// CP: puts the pen by columns and lines, or to the next line at the left margin.
     pub fn place(&mut self, way: CharacterMove) -> Result<(), Stop>
         requires { IsCharacterMove way }
@@ -89,7 +68,8 @@ impl FullPlotter {
     // Puts the pen at a place, and the left margin at another.
     fn put_with_margin(&mut self, place: Spot, margin: Spot) -> Result<(), Stop>
         requires { IsWithin (2 ^ 96) margin }
-        ensures { Runs (texts.with_margin margin (with_core (seen self.old) (texts.put (seen self.old).core place))) (seen self.new) result }
+        ensures { Runs (texts.with_margin margin (with_core (seen self.old)
+            (texts.put (seen self.old).core place))) (seen self.new) result }
     {
         self.plotter.put(place)?;
         self.margin = margin;

@@ -9,7 +9,9 @@ mod core_labels;
 mod curve_steps;
 mod dashing;
 mod drawn;
+mod edges;
 mod figures;
+mod fill_lines;
 mod fills;
 mod further;
 mod ink;
@@ -27,6 +29,7 @@ mod sheets;
 mod steps;
 mod ticks;
 mod widths;
+mod work;
 mod writing;
 
 pub use area::Area;

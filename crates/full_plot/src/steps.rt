@@ -21,7 +21,8 @@ use plot_settings::{Setting, has_wrong_numbers};
 impl FullPlotter {
     /// Carries out an item, as it is read in polygon mode and after CT. One that asks for nothing does nothing.
     pub fn take(&mut self, item: &Item<'_>) -> Result<(), Stop>
-        ensures { Runs (run (seen self.old) (full_steps (read_in (context_of (seen self.old)) item.now.body))) (seen self.new) result }
+        ensures { Runs (run (seen self.old) (full_steps
+            (read_in (context_of (seen self.old)) item.now.body))) (seen self.new) result }
     {
         if is_misplaced(&item.body, self.area.in_polygon) {
             return Ok(());

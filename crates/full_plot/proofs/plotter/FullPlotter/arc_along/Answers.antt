@@ -2,12 +2,12 @@ use Rattle.std.proofs.Common.{◌≡◌, ◌∙◌, sym, ap, subst, Option, Some
 use Rattle.std.specs.Bool.{⊤}
 use Rattle.plot_settings.specs.Meanings.{DrawArc}
 use Rattle.hpgl_plot.specs.Machine as core
-use Rattle.full_plot.specs.Holding.{cleared, restored, with_held, with_strokes_and_pen}
+use Rattle.full_plot.specs.Holding.{cleared, with_held}
 use Rattle.full_plot.specs.Worlds.{World}
 use Rattle.full_plot.specs.Machine.{seen, Runs}
 use Rattle.full_plot.specs.Lines.{line_step, drawn}
 use Rattle.full_plot.proofs.FullRuns.{solid_runs}
-use Rattle.full_plot.proofs.CoreLines.{line_runs, line_out, line_stopped, arc_lines}
+use Rattle.full_plot.proofs.CoreLines.{brought_back, line_runs, line_out, line_stopped, arc_lines}
 use Rattle.full_plot.proofs.plotter.FullPlotter.arc_along.Goals as goal
 
 pub returns-in_err-arc : goal.returns-in_err-arc
@@ -29,9 +29,7 @@ returns c =
     let h = c.hold-held.ensures in
     let t = DrawArc c.args.is_relative c.args.arc in
     let k = subst (λ (u : core.World). core.step u t ≡ Some v) h.core c.in_ok-arc.ensures in
-    let x : World = record (seen c.hold-held.new.self) { core = v } in
-    let s : x ≡ record w { core = v } = ap (λ (u : World). record u { core = v }) h.same in
-    let e : with_held x c.hold-held.result ≡ restored w v = rw (h.kept, h.full, h.pen) (ap (λ (u : World). with_strokes_and_pen u w.core.kept w.core.full w.core.state.pen) s) in
-    let f : Some (drawn (with_held x c.hold-held.result) v.kept) ≡ line_step w t =
+    let e = brought_back w (seen c.hold-held.new.self) (cleared w) v c.hold-held.result h.same h.kept h.full h.pen in
+    let f : Some (drawn (with_held (record (seen c.hold-held.new.self) { core = v }) c.hold-held.result) v.kept) ≡ line_step w t =
     ap (λ (y : World). Some (drawn y v.kept)) e ∙ sym (line_runs w t v (arc_lines w.core.page w.core.state c.args.is_relative c.args.arc c.requires) k) in
     subst (λ (o : Option World). Runs o (seen c.release.new.self) c.release.result) f c.release.ensures

@@ -3,11 +3,11 @@ use Rattle.std.specs.Bool.{⊤}
 use Rattle.exact.specs.declared.spot.Spot.{Spot}
 use Rattle.hpgl_plot.specs.Machine as core
 use Rattle.full_plot.specs.Curves.{drawn_over}
-use Rattle.full_plot.specs.Holding.{cleared, restored, with_held, with_strokes_and_pen}
+use Rattle.full_plot.specs.Holding.{cleared, with_held}
 use Rattle.full_plot.specs.Worlds.{World}
 use Rattle.full_plot.specs.Machine.{seen, Runs}
 use Rattle.full_plot.specs.Lines.{drawn}
-use Rattle.full_plot.proofs.CoreLines.{line_stopped}
+use Rattle.full_plot.proofs.CoreLines.{brought_back, line_stopped}
 use Rattle.full_plot.proofs.LinesOver.{lined_runs, lined_out, solid_over}
 use Rattle.full_plot.proofs.plotter.FullPlotter.draw_over.Goals as goal
 
@@ -31,9 +31,7 @@ returns c =
     let h = c.hold-held.ensures in
     let places : List Spot = w.core.state.place ∷ c.args.places.now in
     let k = subst (λ (u : core.World). core.travelled u w.core.state.is_down places ≡ Some v) h.core c.in_ok-travel.ensures in
-    let x : World = record (seen c.hold-held.new.self) { core = v } in
-    let s : x ≡ record w { core = v } = ap (λ (u : World). record u { core = v }) h.same in
-    let e : with_held x c.hold-held.result ≡ restored w v = rw (h.kept, h.full, h.pen) (ap (λ (u : World). with_strokes_and_pen u w.core.kept w.core.full w.core.state.pen) s) in
-    let f : Some (drawn (with_held x c.hold-held.result) v.kept) ≡ drawn_over w c.args.places.now =
+    let e = brought_back w (seen c.hold-held.new.self) (cleared w) v c.hold-held.result h.same h.kept h.full h.pen in
+    let f : Some (drawn (with_held (record (seen c.hold-held.new.self) { core = v }) c.hold-held.result) v.kept) ≡ drawn_over w c.args.places.now =
     ap (λ (y : World). Some (drawn y v.kept)) e ∙ sym (lined_runs w c.args.places.now v c.requires k) in
     subst (λ (o : Option World). Runs o (seen c.release.new.self) c.release.result) f c.release.ensures

@@ -1,15 +1,15 @@
-use Rattle.std.proofs.Common.{rules, FitsSigned, ◌≡◌, ◌∙◌, ap, ap₂, subst, sym, [], ◌∷◌, Option}
+use Rattle.std.proofs.Common.{rules, FitsSigned, ◌≡◌, ◌∙◌, ap, ap₂, subst, sym, [], ◌∷◌, Option, true}
 use mir.Syntax.{w64, w128}
 use Rattle.std.proofs.lemmas.Int.{to_z-of_z}
 use Rattle.std.specs.Prelude.{neg_ℤ}
 use Rattle.exact.specs.declared.spot.Spot.{Spot}
 use Rattle.hpgl_plot.specs.Machine as core
+use Rattle.hpgl_plot.proofs.Polylines.{one_line}
 use Rattle.full_settings.specs.Letters.{grains_of_share}
 use Rattle.full_settings.specs.declared.tick_length.TickLength.{TickLength}
 use Rattle.full_plot.specs.Machine.{seen}
-use Rattle.full_plot.specs.Texts.{inked_at_pen, tick_distance, tick_end}
+use Rattle.full_plot.specs.Texts.{inked_at_pen, line_at, tick_distance, tick_end}
 use Rattle.full_plot.proofs.FullRuns.{with_runs}
-use Rattle.full_plot.proofs.LabelSteps.{one_inked}
 use Rattle.full_plot.proofs.plotter.FullPlotter.tick.Goals as goal
 
 pub returns : goal.returns
@@ -36,5 +36,6 @@ returns c =
     let to : c.tick_end-to.result ≡ end (part ticks.up) = (simp (to_z-of_z, c.from-up.ensures) at c.tick_end-to.ensures.value) ∙ ap end up in
     let stroke : Spot × Spot = (c.tick_end-from.result, c.tick_end-to.result) in
     let same : stroke ≡ (end (neg_ℤ (part ticks.down)), end (part ticks.up)) = ap₂ (λ (a b : Spot). (a, b)) from to in
-    let k = subst (λ (o : Option core.World). core.Runs o v c.ink_stroke.result) (sym (one_inked w.core stroke)) c.ink_stroke.ensures in
+    let one = one_line w.core true (line_at w.core.state.place stroke) in
+    let k = subst (λ (o : Option core.World). core.Runs o v c.ink_stroke.result) (sym one) c.ink_stroke.ensures in
     with_runs w _ v c.ink_stroke.result (subst (λ (s : Spot × Spot). core.Runs (inked_at_pen w.core (s ∷ [])) v c.ink_stroke.result) same k)

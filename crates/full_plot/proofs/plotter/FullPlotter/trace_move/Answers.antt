@@ -3,11 +3,11 @@ use Rattle.std.specs.Bool.{⊤}
 use Rattle.plot_page.specs.Segments.{Segment}
 use Rattle.plot_settings.specs.Meanings.{Go}
 use Rattle.hpgl_plot.specs.Machine as core
-use Rattle.full_plot.specs.Holding.{cleared, lowered_world, put_down, restored, with_held, with_strokes_and_pen}
+use Rattle.full_plot.specs.Holding.{cleared, lowered_world, put_down, restored}
 use Rattle.full_plot.specs.Polygons.{lowered, reached_by, trace_step}
 use Rattle.full_plot.specs.Worlds.{World}
 use Rattle.full_plot.specs.Machine.{seen, Runs}
-use Rattle.full_plot.proofs.CoreLines.{line_stopped, go_lines}
+use Rattle.full_plot.proofs.CoreLines.{brought_back, line_stopped, go_lines}
 use Rattle.full_plot.proofs.Traces.{HasPlaces, IsTraced, traced_out, traced_runs}
 use Rattle.full_plot.proofs.plotter.FullPlotter.trace_move.Goals as goal
 
@@ -29,9 +29,7 @@ returns c =
     let p : HasPlaces w.core.page w.core.state t = record { lines = go_lines w.core.page (lowered w.core.state) c.args.is_relative c.args.x c.args.y; places_are = refl; after_is = refl } in
     let k = subst (λ (u : core.World). core.step u t ≡ Some v) h.core c.in_ok-go.ensures in
     let r : IsTraced w t v = traced_runs w t v p k in
-    let x : World = record (seen c.hold_lowered-held.new.self) { core = v } in
-    let s : x ≡ record w { core = v } = ap (λ (u : World). record u { core = v }) h.same in
-    let e : with_held x c.hold_lowered-held.result ≡ restored w v = rw (h.kept, h.full, h.pen) (ap (λ (u : World). with_strokes_and_pen u w.core.kept w.core.full w.core.state.pen) s) in
+    let e = brought_back w (seen c.hold_lowered-held.new.self) (cleared (lowered_world w)) v c.hold_lowered-held.result h.same h.kept h.full h.pen in
     let y : seen c.take_back-lines.new.self ≡ put_down w.core.state.is_down (restored w v) =
     c.take_back-lines.ensures.world ∙ ap (λ (u : World). put_down w.core.state.is_down u) e in
     let f : Some (record (seen c.take_back-lines.new.self) { buffer = reached_by w.core.state.is_down (seen c.take_back-lines.new.self).buffer c.take_back-lines.result.items }) ≡ trace_step w t =

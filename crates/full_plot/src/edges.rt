@@ -1,0 +1,52 @@
+//! Drawing the edges of the polygons in the buffer.
+ghost use Rattle.std.specs.Prelude.{◌≡◌, ◌∷◌, [], map, Some};
+ghost use Rattle.line_types.specs.LineTypes.{line_shape};
+ghost use Rattle.full_plot.specs.Lines.{drawn, shape_in};
+ghost use Rattle.full_plot.specs.Polygons.{edge_line, drawn_edges};
+ghost use Rattle.full_plot.specs.Machine.{seen, step, Runs, EdgeBuffer};
+
+use crate::plotter::FullPlotter;
+use hpgl_plot::Stop;
+use line_types::LineType;
+use polygons::{Buffer, Edge};
+use std::mem::replace;
+
+impl FullPlotter {
+    /// EP: the edges of the polygons that are drawn, in the line type. The places in the buffer count as work.
+    pub fn edge_polygon(&mut self) -> Result<(), Stop>
+        ensures { Runs (step (seen self.old) EdgeBuffer) (seen self.new) result }
+    {
+        let buffer = replace(&mut self.buffer, Buffer::new(self.alloc));
+        let drawn = self.draw_edges(buffer.edges());
+        self.buffer = buffer;
+        let places = self.buffer.places();
+        self.work(places);
+        drawn
+    }
+
+    // Draws the edges that are drawn, in the line type.
+    fn draw_edges(&mut self, edges: &[Edge]) -> Result<(), Stop>
+        ensures { Runs (Some (drawn (seen self.old)
+            (map (edge_line (seen self.old).core.state) (drawn_edges edges.now)))) (seen self.new) result }
+    {
+        let line_type = self.style.line_type(&self.plotter.state.frame.points);
+        for edge in edges {
+            self.draw_edge(*edge, &line_type)?;
+        }
+        Ok(())
+    }
+
+    // Draws an edge in the line type, if it is drawn.
+    #[tactic(auto, using(crate::proofs::DrawnLines::none_drawn))]
+    fn draw_edge(&mut self, edge: Edge, line_type: &LineType) -> Result<(), Stop>
+        requires { line_shape line_type.now ≡ shape_in (seen self.old) }
+        ensures { Runs (Some (drawn (seen self.old)
+            (map (edge_line (seen self.old).core.state) (drawn_edges (edge ∷ []))))) (seen self.new) result }
+    {
+        if !edge.is_drawn {
+            return Ok(());
+        }
+        let line = self.plotter.line(edge.from.spot(), edge.to.spot());
+        self.dash_line(&line, line_type)
+    }
+}
