@@ -1,6 +1,7 @@
 -- Rows of bits, joined, are the rows of a PBM.
-use Rattle.std.proofs.Common.{◌≡◌, ℕ, suc, ◌+◌, ◌*◌, List, [], ◌∷◌, ◌++◌, All, length, take, drop, map, get_or}
+use Rattle.std.proofs.Common.{◌≡◌, ℕ, suc, ◌+◌, ◌*◌, ◌/◌, ◌≤◌, List, [], ◌∷◌, ◌++◌, All, length, take, drop, map, get_or}
 use Rattle.std.proofs.Common.{refl, sym, ap, ap₂, ◌∙◌, arith, length-append, Result, Ok, Err, IfOk}
+use Rattle.std.proofs.lemmas.Nat.{mul-le}
 use Rattle.std.proofs.lemmas.List.{take-append-drop, length-drop, length-map}
 use Rattle.stroke_raster.specs.Painting.{Painting, Moves, painted_rows, rows_next}
 use Rattle.stroke_raster.specs.Rows.{split_rows}
@@ -14,22 +15,15 @@ use Rattle.picture_out.specs.declared.inks.Ink.{Ink}
 use Rattle.bit_rows.specs.Bits.{bytes_for, packed}
 use Rattle.picture_out.proofs.Sizes.{packed_size}
 use Rattle.conversion.specs.Pictures.{Reach}
-use Rattle.conversion.specs.Progress.{rows_text}
+use Rattle.conversion.specs.Progress.{AreEven, rows_text}
 
 -- rows of as many cells have as many bytes
 pub packed_width : (columns : ℕ) (rows : List (List ℕ)) → All (λ (row : List ℕ). length row ≡ columns) rows → All (λ (row : List ℕ). length (packed row) ≡ bytes_for columns) rows
 packed_width columns rows wide = λ k d h. packed_size (get_or rows k d) ∙ ap bytes_for (wide k d h)
 
-tail_wide : (s : ℕ) (x : List ℕ) (xs : List (List ℕ)) → All (λ (row : List ℕ). length (packed row) ≡ s) (x ∷ xs) → All (λ (row : List ℕ). length (packed row) ≡ s) xs
-tail_wide s x xs wide = λ k d h. wide (suc k) d (omega (arith, h))
-
--- how many bytes rows have
-pub text_size : (inks : List Ink) (at s : ℕ) (rows : List (List ℕ)) → All (λ (row : List ℕ). length (packed row) ≡ s) rows → length (rows_text Pbm inks at rows) ≡ length rows * s
-text_size inks at s [] wide = omega arith
-text_size inks at s (x ∷ xs) wide =
-    let one : length (packed x) ≡ s = wide 0 [] (omega arith) in
-    let more = text_size inks (at + 1) s xs (tail_wide s x xs wide) in
-    omega (arith, one, more, length-append (packed x) (rows_text Pbm inks (at + 1) xs))
+-- so the rows of a PBM are of as many bytes
+pub pbm_even : (inks : List Ink) (at s : ℕ) (rows : List (List ℕ)) → All (λ (row : List ℕ). length (packed row) ≡ s) rows → AreEven Pbm inks at rows s
+pbm_even inks at s rows wide = λ k h. wide k [] h
 
 nothing : (xs : List ℕ) → length xs ≡ 0 → xs ≡ []
 nothing [] h = refl
@@ -67,3 +61,7 @@ inked_band p q reaches size moved shown sized =
 pub if_ok : {T E : Type 0} (r : Result T E) (P Q : T → Type 0) → IfOk r P → ((x : T) → P x → Q x) → IfOk r Q
 if_ok (Ok x) P Q h f = f x h
 if_ok (Err e) P Q h f = tt
+
+-- a page has few rows
+pub few_rows : (height resolution : ℕ) → height ≤ 65536 → resolution ≤ 1200 → (height * resolution + 508) / 1016 ≤ 77405
+few_rows height resolution h r = let m = mul-le height resolution 65536 1200 h r in omega (arith, m)

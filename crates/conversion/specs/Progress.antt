@@ -22,6 +22,11 @@ abbrev pub rows_text : Form → List Ink → ℕ → List (List ℕ) → List �
 rows_text form inks row [] = []
 rows_text form inks row (cells ∷ rows) = row_bytes form row inks cells ++ rows_text form inks (row + 1) rows
 
+-- each of these rows, the first of which has the number `at`, has as many bytes
+abbrev pub AreEven : Form → List Ink → ℕ → List (List ℕ) → ℕ → Type 0
+AreEven form inks at rows size =
+    (k : ℕ) → k < length rows → length (row_bytes form (at + k) inks (get_or rows k [])) ≡ size
+
 -- where the writing of rows from the row `at` on stopped, after `done` bytes of this run: in the k-th of them
 pub record StopsIn (form : Form) (inks : List Ink) (first at : ℕ) (rows : List (List ℕ)) (done : ℕ) (stop : Broken)
     (k : ℕ) : Type 0 where

@@ -7,6 +7,7 @@ ghost use Rattle.conversion.specs.Progress.{HasPainted};
 
 use crate::bands::Bands;
 use crate::fault::Fault;
+use crate::pcl_bands::PclBands;
 use crate::reading::buffer_of;
 use crate::stroke_inks::StrokeInks;
 use crate::writing::write_picture;
@@ -17,8 +18,8 @@ use plot_page::Stroke;
 use std::alloc::Global;
 use stroke_raster::{Gauge, Inker, Painter};
 
-/// Paints a job's strokes and writes its picture, and answers how many bytes it has. A PBM shows only
-/// which pixels have ink, so its rows are painted as bits; those of the other forms as cells.
+/// Paints a job's strokes and writes its picture, and answers how many bytes it has. PBM and PCL show
+/// only which pixels have ink, so their rows are painted as bits; those of the other forms as cells.
 ///
 /// Errors, in this order: `Paint` for a band height or a first row out of range; `Write` if the sink
 /// fails. `Memory` comes when memory is refused.
@@ -39,7 +40,8 @@ pub fn paint<G: Gauge, K: Sink>(
 {
     match job.form {
         Form::Pbm => paint_by::<Inker<'_>, G, K>(alloc, job, strokes, gauge, sink),
-        Form::Marks | Form::Ppm | Form::Pcl => {
+        Form::Pcl => paint_by::<PclBands<'_>, G, K>(alloc, job, strokes, gauge, sink),
+        Form::Marks | Form::Ppm => {
             paint_by::<Painter<'_>, G, K>(alloc, job, strokes, gauge, sink)
         }
     }

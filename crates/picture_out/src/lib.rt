@@ -8,7 +8,7 @@ mod inks;
 pub mod laws;
 mod marks;
 mod pbm;
-mod pcl;
+pub mod pcl;
 mod pieces;
 mod ppm;
 

@@ -4,6 +4,7 @@ ghost use Rattle.devices.specs.Sinks.{Writes, WritesAtMost};
 ghost use Rattle.picture_out.specs.declared.form.Form.TheVariants.{Pcl};
 ghost use Rattle.bit_rows.specs.Bits.{packed};
 ghost use Rattle.picture_out.specs.Pcl.{transfer_command};
+ghost use Rattle.picture_out.specs.Pcl as pcl;
 ghost use Rattle.picture_out.specs.Forms.{head_bytes, foot_bytes, takes_resolution};
 ghost use Rattle.picture_out.specs.Rooms.{room_of, TakesAnyRow};
 ghost use Rattle.picture_out.specs.Spans.{IsBlankOutside};
@@ -16,7 +17,7 @@ use devices::{Sink, WriteFault, append};
 use itoa::Buffer;
 
 /// The longest command with a value: ESC, two letters, ten digits and a letter.
-pub(crate) const LONGEST_COMMAND: usize = 14;
+pub const LONGEST_COMMAND: usize = 14;
 
 /// The longest header: a reset of two bytes, three commands with a value, and two of five bytes.
 pub(crate) const LONGEST_HEAD: usize = 2 + 3 * LONGEST_COMMAND + 10;
@@ -96,6 +97,19 @@ pub(crate) fn put_row<K: Sink>(
         pack_row(cells, span, &mut buffer[start..]);
         put_counted(sink, &buffer[..start + bytes])
     }
+}
+
+/// Appends a row of these bytes to the first `used` bytes of a text: the command that transfers them, and the
+/// bytes. Returns how many bytes of the text are used then.
+pub fn append_row(text: &mut [u8], used: usize, bytes: &[u8]) -> usize
+    requires bytes { length bytes.now < 2 ^ 32 }
+    requires room { used + LONGEST_COMMAND + length bytes.now ≤ length text.old }
+    ensures text { take result text.new ≡ take used text.old ++ pcl.row bytes.now }
+    ensures most { result ≤ used + LONGEST_COMMAND + length bytes.now }
+    ensures size { length text.new ≡ length text.old }
+{
+    let used = append_command(text, used, b"\x1b*b", bytes.len() as u32, b"W");
+    append(text, used, bytes)
 }
 
 // The foot: the commands after the rows.

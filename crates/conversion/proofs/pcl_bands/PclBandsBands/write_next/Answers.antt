@@ -1,0 +1,78 @@
+use Rattle.std.proofs.Common.{◌≡◌, ◌≤◌, ◌<◌, ◌+◌, ◌-◌, ◌*◌, ℕ, List, sym, ap, subst, ◌∙◌, arith}
+use Rattle.std.proofs.lemmas.Nat.{mul-le}
+use Rattle.plot_page.specs.Resolutions.{rows_of}
+use Rattle.stroke_raster.specs.Painting.{Painting, boxed_pixels, painted_rows, rows_next}
+use Rattle.picture_out.specs.declared.form.Form.{Form}
+use Rattle.conversion.specs.Progress.{WritesRows}
+use Rattle.conversion.proofs.BitRows.{if_ok}
+use Rattle.conversion.proofs.PclRows.{next_band}
+use Rattle.conversion.proofs.pcl_bands.PclBandsBands.write_next.Goals as goal
+
+pub put_rows-requires-clause-some : goal.put_rows-requires-clause-some
+put_rows-requires-clause-some g c =
+    let v : c.self.inside.inker ≡ c.args.self.now = c.self.view_is in
+    let p : Painting = c.self.inside.inker in
+    let is_left = c.ink_next.ensures.left.1 (subst (λ (z : Painting). z.next < rows_of z.page z.dots) (sym v) c.requires.left) in
+    let b = next_band p c.ink_next.new.self (g.G.Gauge.reaches c.args.gauge.now) c.next_row-at.result c.next_row.result c.columns.result c.packed_length-stride.result c.bytes-bits.result.now
+    c.ink_next.ensures.moves (c.ink_next.ensures.some is_left) (c.ink_next.ensures.rows is_left) c.bytes-bits.ensures.rows c.bytes-bits.ensures.size
+    c.next_row-at.ensures.next c.next_row.ensures.next c.columns.ensures.count c.columns.ensures.most c.packed_length-stride.ensures in
+    b.some
+
+pub put_rows-requires-clause-bits : goal.put_rows-requires-clause-bits
+put_rows-requires-clause-bits g c =
+    let v : c.self.inside.inker ≡ c.args.self.now = c.self.view_is in
+    let p : Painting = c.self.inside.inker in
+    let is_left = c.ink_next.ensures.left.1 (subst (λ (z : Painting). z.next < rows_of z.page z.dots) (sym v) c.requires.left) in
+    let b = next_band p c.ink_next.new.self (g.G.Gauge.reaches c.args.gauge.now) c.next_row-at.result c.next_row.result c.columns.result c.packed_length-stride.result c.bytes-bits.result.now
+    c.ink_next.ensures.moves (c.ink_next.ensures.some is_left) (c.ink_next.ensures.rows is_left) c.bytes-bits.ensures.rows c.bytes-bits.ensures.size
+    c.next_row-at.ensures.next c.next_row.ensures.next c.columns.ensures.count c.columns.ensures.most c.packed_length-stride.ensures in
+    b.size
+
+pub put_rows-requires-clause-few : goal.put_rows-requires-clause-few
+put_rows-requires-clause-few g c =
+    let v : c.self.inside.inker ≡ c.args.self.now = c.self.view_is in
+    let p : Painting = c.self.inside.inker in
+    let is_left = c.ink_next.ensures.left.1 (subst (λ (z : Painting). z.next < rows_of z.page z.dots) (sym v) c.requires.left) in
+    let b = next_band p c.ink_next.new.self (g.G.Gauge.reaches c.args.gauge.now) c.next_row-at.result c.next_row.result c.columns.result c.packed_length-stride.result c.bytes-bits.result.now
+    c.ink_next.ensures.moves (c.ink_next.ensures.some is_left) (c.ink_next.ensures.rows is_left) c.bytes-bits.ensures.rows c.bytes-bits.ensures.size
+    c.next_row-at.ensures.next c.next_row.ensures.next c.columns.ensures.count c.columns.ensures.most c.packed_length-stride.ensures in
+    let m = mul-le (c.next_row.result - c.next_row-at.result) (c.packed_length-stride.result + 14) 77405 9690 b.low (omega (arith, b.narrow)) in
+    omega (arith, m)
+
+pub returns-clause-rows : goal.returns-clause-rows
+returns-clause-rows g c =
+    let v : c.self.inside.inker ≡ c.args.self.now = c.self.view_is in
+    let p : Painting = c.self.inside.inker in
+    let is_left = c.ink_next.ensures.left.1 (subst (λ (z : Painting). z.next < rows_of z.page z.dots) (sym v) c.requires.left) in
+    let b = next_band p c.ink_next.new.self (g.G.Gauge.reaches c.args.gauge.now) c.next_row-at.result c.next_row.result c.columns.result c.packed_length-stride.result c.bytes-bits.result.now
+    c.ink_next.ensures.moves (c.ink_next.ensures.some is_left) (c.ink_next.ensures.rows is_left) c.bytes-bits.ensures.rows c.bytes-bits.ensures.size
+    c.next_row-at.ensures.next c.next_row.ensures.next c.columns.ensures.count c.columns.ensures.most c.packed_length-stride.ensures in
+    let reaches = g.G.Gauge.reaches c.args.gauge.now in
+    let rows : List (List ℕ) = painted_rows reaches p p.next (rows_next p) in
+    let inks = g.I.Inks.inks c.args._inks.now in
+    let old = g.K.Sink.state c.args.sink.now in
+    let new = g.K.Sink.state c.put_rows.new.sink in
+    let wrote = c.put_rows.ensures.rows inks rows b.tall b.wide b.split in
+    let P : Form → Type 0 = λ f. WritesRows f inks c.args.first c.next_row-at.result rows c.args.done old new c.put_rows.result in
+    let Q : ℕ → Type 0 = λ k. WritesRows c.args._form inks c.args.first k rows c.args.done old new c.put_rows.result in
+    let R : Painting → Type 0 = λ z. WritesRows c.args._form inks c.args.first z.next (painted_rows reaches z z.next (rows_next z)) c.args.done old new c.put_rows.result in
+    subst R v (subst Q c.next_row-at.ensures.next (subst P (sym c.requires.form) wrote))
+
+pub returns-clause-small : goal.returns-clause-small
+returns-clause-small g c =
+    let v : c.self.inside.inker ≡ c.args.self.now = c.self.view_is in
+    let p : Painting = c.self.inside.inker in
+    let is_left = c.ink_next.ensures.left.1 (subst (λ (z : Painting). z.next < rows_of z.page z.dots) (sym v) c.requires.left) in
+    let b = next_band p c.ink_next.new.self (g.G.Gauge.reaches c.args.gauge.now) c.next_row-at.result c.next_row.result c.columns.result c.packed_length-stride.result c.bytes-bits.result.now
+    c.ink_next.ensures.moves (c.ink_next.ensures.some is_left) (c.ink_next.ensures.rows is_left) c.bytes-bits.ensures.rows c.bytes-bits.ensures.size
+    c.next_row-at.ensures.next c.next_row.ensures.next c.columns.ensures.count c.columns.ensures.most c.packed_length-stride.ensures in
+    let n = c.next_row.result - c.next_row-at.result in
+    let m = mul-le n (c.packed_length-stride.result + 14) n 4194304 (omega arith) (omega (arith, b.narrow)) in
+    let many : n * 4194304 ≡ rows_next c.args.self.now * 4194304 = ap (λ (k : ℕ). k * 4194304) (b.many ∙ ap rows_next v) in
+    if_ok c.put_rows.result _ _ c.put_rows.ensures.most (λ x e. omega (arith, e, m, many))
+
+pub returns-clause-most : goal.returns-clause-most
+returns-clause-most g c =
+    let v : c.self.inside.inker ≡ c.args.self.now = c.self.view_is in
+    let is_left = c.ink_next.ensures.left.1 (subst (λ (z : Painting). z.next < rows_of z.page z.dots) (sym v) c.requires.left) in
+    subst (λ (z : Painting). g.G.Gauge.count c.ink_next.new.gauge ≤ g.G.Gauge.count c.args.gauge.now + boxed_pixels z z.next (rows_next z)) v (c.ink_next.ensures.most is_left)
