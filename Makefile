@@ -60,9 +60,11 @@ style: setup
 mutants: setup
 	tools/mutants
 
+# One job a crate, as many crates side by side as there are processors: each job reads all modules of the crates below, so
+# several at one crate cost more processor time.
 prove: setup
 	@mkdir -p build
-	rt ci 2>&1 | tee build/verdict
+	RT_JOBS=$$(nproc) rt ci 2>&1 | tee build/verdict
 	tools/audit --gate
 
 test: setup built
