@@ -1,58 +1,110 @@
+use crate::cases::{Asked, has_answers};
 use pen_list::read_pens;
-use std::process::Abort;
 use std::test::Fail;
 
-// Asserts that a text lists these pens, and no other pen from 0 to 255.
-fn assert_lists(rt: &impl Abort, text: &str, wanted: &[u8]) {
-    let Some(pens) = read_pens(text) else {
-        panic!(rt; "no list: {text}");
-    };
-    for pen in 0..=255u8 {
-        assert_eq!(rt; pens.has(pen), wanted.contains(&pen), "{pen} in {text}");
-    }
-}
+const RANGES: &str = "\
+pens 1-1 3-3 5-7
+1,3,5-7
+
+pens 7-7
+7
+
+pens 1-1 12-12
+12,1
+
+pens 9-10 120-122
+9-10,120-122
+
+pens 4-4
+4-4
+
+pens 254-255
+254-255
+";
 
 #[test]
-fn ranges(rt: HostRuntime) {
-    assert_lists(&rt, "1,3,5-7", &[1, 3, 5, 6, 7]);
-    assert_lists(&rt, "7", &[7]);
-    assert_lists(&rt, "12,1", &[1, 12]);
-    assert_lists(&rt, "9-10,120-122", &[9, 10, 120, 121, 122]);
-    assert_lists(&rt, "4-4", &[4]);
-    assert_lists(&rt, "254-255", &[254, 255]);
+fn ranges(rt: HostRuntime) -> Result<(), Fail> {
+    has_answers(&rt, rt.alloc(), Asked::Pens, "", RANGES, 6)
 }
 
-#[test]
-fn pens_listed_again(rt: HostRuntime) {
-    assert_lists(&rt, "1,1", &[1]);
-    assert_lists(&rt, "2-4,3,1-2", &[1, 2, 3, 4]);
-}
+const PENS_LISTED_AGAIN: &str = "\
+pens 1-1
+1,1
+
+pens 1-4
+2-4,3,1-2
+";
 
 #[test]
-fn leading_zeros(rt: HostRuntime) {
-    assert_lists(&rt, "001", &[1]);
-    assert_lists(&rt, "01-003", &[1, 2, 3]);
+fn pens_listed_again(rt: HostRuntime) -> Result<(), Fail> {
+    has_answers(&rt, rt.alloc(), Asked::Pens, "", PENS_LISTED_AGAIN, 2)
 }
+
+const LEADING_ZEROS: &str = "\
+pens 1-1
+001
+
+pens 1-3
+01-003
+";
+
+#[test]
+fn leading_zeros(rt: HostRuntime) -> Result<(), Fail> {
+    has_answers(&rt, rt.alloc(), Asked::Pens, "", LEADING_ZEROS, 2)
+}
+
+const ALL_PENS: &str = "\
+pens 1-255
+all
+1-255
+";
 
 #[test]
 fn all_pens(rt: HostRuntime) -> Result<(), Fail> {
-    for text in ["all", "1-255"] {
-        let pens = read_pens(text).ok_or("no list")?;
-        assert!(rt; !pens.has(0), "{text}");
-        for pen in 1..=255u8 {
-            assert!(rt; pens.has(pen), "{pen} in {text}");
-        }
-    }
-    Ok(())
+    has_answers(&rt, rt.alloc(), Asked::Pens, "", ALL_PENS, 2)
 }
 
+const NO_LISTS: &str = "\
+no list
+0
+000
+256
+999
+0001
+1000
+7-5
+0-5
+1-256
+1-
+-1
+-
+1--2
+1-2-3
+1,
+,1
+,
+1,,2
+1,0
+0,1
+ 1
+1 \n\
+1, 2
++1
+1.5
+a
+ALL
+all,1
+1,all
+al
+alll
+1;2
+1:
+1/
+\u{661}
+";
+
 #[test]
-fn no_lists(rt: HostRuntime) {
-    for text in [
-        "", "0", "000", "256", "999", "0001", "1000", "7-5", "0-5", "1-256", "1-", "-1", "-",
-        "1--2", "1-2-3", "1,", ",1", ",", "1,,2", "1,0", "0,1", " 1", "1 ", "1, 2", "+1", "1.5",
-        "a", "ALL", "all,1", "1,all", "al", "alll", "1;2", "1:", "1/", "\u{661}",
-    ] {
-        assert!(rt; read_pens(text).is_none(), "{text}");
-    }
+fn no_lists(rt: HostRuntime) -> Result<(), Fail> {
+    assert!(rt; read_pens("").is_none());
+    has_answers(&rt, rt.alloc(), Asked::Pens, "", NO_LISTS, 35)
 }

@@ -1,0 +1,158 @@
+// Cases as one text: an answer in a line, the lines that have it, and an empty line before the next answer.
+use clap::ArgMatches;
+use command_line::{Line, Task, command, parse, parse_status, settle};
+use pen_list::read_pens;
+use picture_job::Job;
+use picture_out::Form;
+use plot_page::PenSet;
+use std::alloc::{AllocError, Global};
+use std::process::Abort;
+use std::test::Fail;
+
+// What is asked of a line.
+#[derive(Clone, Copy, Drop)]
+pub enum Asked {
+    // What a command line asks for, or why it is refused. Its words have `|` between them.
+    Line,
+    // Only how a command line has the plot read, or why it is refused.
+    Reading,
+    // The pens of a list.
+    Pens,
+}
+
+// Fails unless there are so many lines, and each has the answer that its case says. `@` stands for the name.
+pub fn has_answers(
+    rt: &impl Abort,
+    alloc: Global,
+    asked: Asked,
+    name: &str,
+    cases: &str,
+    count: usize,
+) -> Result<(), Fail> {
+    let text = cases.replace(alloc, "@", name)?;
+    let mut found: usize = 0;
+    for case in text.as_str().split("\n\n") {
+        let (wanted, lines) = case.split_once("\n").ok_or("a case with no line")?;
+        for line in lines.lines() {
+            let answer = answer_of(alloc, asked, line)?;
+            assert_eq!(rt; answer.as_str(), wanted, "{line}");
+            found = found.saturating_add(1);
+        }
+    }
+    assert_eq!(rt; found, count);
+    Ok(())
+}
+
+// The same for each of these names.
+pub fn has_answers_for_each(
+    rt: &impl Abort,
+    alloc: Global,
+    asked: Asked,
+    names: &[&str],
+    cases: &str,
+    count: usize,
+) -> Result<(), Fail> {
+    for name in names {
+        has_answers(rt, alloc, asked, name, cases, count)?;
+    }
+    Ok(())
+}
+
+fn answer_of(alloc: Global, asked: Asked, line: &str) -> Result<String, Fail> {
+    match asked {
+        Asked::Line | Asked::Reading => told(alloc, asked, line),
+        Asked::Pens => Ok(list_told(alloc, line)?),
+    }
+}
+
+// What a command line comes to: if it has no matches, the kind of error and the exit status.
+fn told(alloc: Global, asked: Asked, line: &str) -> Result<String, Fail> {
+    let mut words = Vec::new(alloc);
+    for word in line.split("|") {
+        words.push(word)?;
+    }
+    match parse(command(alloc)?, words.as_slice()) {
+        Ok(matches) => Ok(matches_told(alloc, asked, &matches)?),
+        Err(error) => {
+            let (kind, status) = (error.kind(), parse_status(&error));
+            Ok(format!(in alloc; "{kind:?} {status}")?)
+        }
+    }
+}
+
+fn matches_told(
+    alloc: Global,
+    asked: Asked,
+    matches: &ArgMatches<'_>,
+) -> Result<String, AllocError> {
+    match settle(matches) {
+        Ok(line) => line_told(alloc, asked, &line),
+        Err(fault) => format!(in alloc; "{fault:?}"),
+    }
+}
+
+fn line_told(alloc: Global, asked: Asked, line: &Line<'_>) -> Result<String, AllocError> {
+    let (reading, file) = (line.reading, line.file);
+    match (asked, &line.task) {
+        (Asked::Reading, _) => format!(in alloc; "{reading:?}"),
+        (_, Task::Picture(job)) => job_told(alloc, job, file),
+        (_, Task::Report(page)) => {
+            let (width, height, left, below) = (page.width, page.height, page.left, page.below);
+            format!(in alloc; "report {width} {height} {left} {below} of {file:?}")
+        }
+    }
+}
+
+// The form, the numbers in the order of the manual page, the pens and the file.
+fn job_told(alloc: Global, job: &Job, file: Option<&str>) -> Result<String, AllocError> {
+    let page = job.page;
+    let (width, height, left, below) = (page.width, page.height, page.left, page.below);
+    let (form, dots, band, first) = (
+        name_of(job.form),
+        job.dots.per_inch(),
+        job.band,
+        job.first_row,
+    );
+    let pens = pens_told(alloc, &job.pens)?;
+    format!(in alloc;
+        "{form} {width} {height} {left} {below} {dots} {band} {first} {pens} of {file:?}"
+    )
+}
+
+fn name_of(form: Form) -> &'static str {
+    match form {
+        Form::Marks => "marks",
+        Form::Pbm => "pbm",
+        Form::Ppm => "ppm",
+        Form::Pcl => "pcl",
+    }
+}
+
+fn list_told(alloc: Global, list: &str) -> Result<String, AllocError> {
+    match read_pens(list) {
+        Some(pens) => pens_told(alloc, &pens),
+        None => format!(in alloc; "no list"),
+    }
+}
+
+// Each run of pens from 0 to 255, by its first and its last pen.
+fn pens_told(alloc: Global, pens: &PenSet) -> Result<String, AllocError> {
+    let mut text = String::new(alloc);
+    text.push_str("pens")?;
+    let mut was = false;
+    for pen in 0..=255u8 {
+        let is = pens.has(pen);
+        if is && !was {
+            write!(text, " {pen}")?;
+        }
+        if was && !is {
+            let last = pen.saturating_sub(1);
+            write!(text, "-{last}")?;
+        }
+        was = is;
+    }
+    if was {
+        text.push_str("-255")?;
+    }
+    Ok(text)
+}
