@@ -1,24 +1,27 @@
 // Cases of plots as one text. A helper writes the cases again with the answers to the plots instead of those that are
 // wanted, and fails unless both texts are equal.
-use crate::colours_set::colours_of;
-use crate::line_types_set::strokes_of;
 use crate::notes_and_sheets::notes_on;
-use crate::widths_set::widths_of;
-use full_plot::draw_full;
-use hpgl_plot::{Page, PlotFault};
-use std::alloc::Global;
+use full_plot::{FullDrawn, draw_full};
+use hpgl_plot::{Page, PlotFault, Stroke};
+use std::alloc::{AllocError, Global};
 use std::process::Abort;
 use std::test::Fail;
 
 // What a text asks of its plots.
 #[derive(Clone, Copy, Drop)]
 pub enum Asked {
+    // The ends of the strokes, and their count at each sheet's end.
     Strokes,
+    // The ends of the strokes and their widths.
+    Fills,
+    // The colours and the last ends of the strokes, on a page whose corner is left of (0,0) and below it.
     Colours,
+    // The pens of the strokes, their widths and their last ends in x.
     Widths,
-    Notes,
+    // The greatest number of a sheet with a stroke.
     Sheets,
-    Refusal,
+    // What is noted.
+    Notes,
 }
 
 // Fails unless there are so many cases, and each has the answer that it says. A case is a comment, if it has one, a
@@ -64,23 +67,53 @@ fn plot_of(asking: &str) -> &str {
 
 fn answer_of(alloc: Global, asked: Asked, plot: &[u8]) -> Result<String, Fail> {
     match asked {
-        Asked::Strokes => strokes_of(alloc, plot),
-        Asked::Colours => colours_of(alloc, plot),
-        Asked::Widths => widths_of(alloc, plot),
         Asked::Notes => notes_on(alloc, plot),
-        Asked::Sheets => sheets_of(alloc, plot),
-        Asked::Refusal => refusal_of(alloc, plot),
+        _ => drawing_told(alloc, asked, plot),
     }
 }
 
-fn sheets_of(alloc: Global, plot: &[u8]) -> Result<String, Fail> {
-    let sheets = draw_full(alloc, plot, &Page::new(1000, 1000, 0, 0)?)?.sheets();
-    Ok(format!(in alloc; "{sheets}")?)
+// What a plot draws, or why it is refused.
+fn drawing_told(alloc: Global, asked: Asked, plot: &[u8]) -> Result<String, Fail> {
+    match drawn(alloc, asked, plot)? {
+        Ok(drawn) => Ok(drawn_told(alloc, asked, &drawn)?),
+        Err(fault) => Ok(format!(in alloc; "{fault}")?),
+    }
 }
 
-fn refusal_of(alloc: Global, plot: &[u8]) -> Result<String, Fail> {
-    match draw_full(alloc, plot, &Page::new(1000, 1000, 0, 0)?) {
-        Err(PlotFault::OffRange { at }) => Ok(format!(in alloc; "off range at {at}")?),
-        _ => Err("no place out of range".into()),
+fn drawn(alloc: Global, asked: Asked, plot: &[u8]) -> Result<Result<FullDrawn, PlotFault>, Fail> {
+    let page = match asked {
+        Asked::Colours => Page::new(1000, 500, 100, 50)?,
+        _ => Page::new(1000, 1000, 0, 0)?,
+    };
+    Ok(draw_full(alloc, plot, &page))
+}
+
+fn drawn_told(alloc: Global, asked: Asked, drawn: &FullDrawn) -> Result<String, AllocError> {
+    if let Asked::Sheets = asked {
+        let sheets = drawn.sheets();
+        return format!(in alloc; "{sheets}");
+    }
+    let mut list = String::new(alloc);
+    for stroke in drawn.strokes.as_slice() {
+        list.push_str(stroke_told(alloc, asked, stroke)?.as_str())?;
+    }
+    for end in drawn.ends.as_slice() {
+        write!(list, " sheet to {end}")?;
+    }
+    if list.is_empty() {
+        list.push_str("none")?;
+    }
+    Ok(list)
+}
+
+fn stroke_told(alloc: Global, asked: Asked, s: &Stroke) -> Result<String, AllocError> {
+    let (ax, ay, bx, by) = (s.ax, s.ay, s.bx, s.by);
+    let (pen, width, colour) = (s.pen, s.width, s.colour);
+    let (red, green, blue) = (colour.red, colour.green, colour.blue);
+    match asked {
+        Asked::Fills => format!(in alloc; "{ax},{ay} {bx},{by} {width};"),
+        Asked::Colours => format!(in alloc; "{red} {green} {blue} {bx},{by};"),
+        Asked::Widths => format!(in alloc; "{pen} {width} {bx};"),
+        _ => format!(in alloc; "{ax},{ay} {bx},{by};"),
     }
 }

@@ -1,24 +1,7 @@
 // Colours in the ranges that CR sets, and P1 and P2 that IR sets, by the text of plots. What is wanted was worked out by
 // hand.
 use crate::cases::{Asked, has_answers};
-use full_plot::draw_full;
-use hpgl_plot::Page;
-use std::alloc::Global;
 use std::test::Fail;
-
-// The colours of a plot's strokes, and their last ends, on a page whose corner is left of (0,0) and below it.
-pub fn colours_of(alloc: Global, text: &[u8]) -> Result<String, Fail> {
-    let page = Page::new(1000, 500, 100, 50)?;
-    let drawn = draw_full(alloc, text, &page)?;
-    let mut list = String::new(alloc);
-    for s in drawn.strokes.as_slice() {
-        let (red, green, blue) = (s.colour.red, s.colour.green, s.colour.blue);
-        let (x, y) = (s.bx, s.by);
-        let line = format!(in alloc; "{red} {green} {blue} {x},{y};")?;
-        list.push_str(line.as_str())?;
-    }
-    Ok(list)
-}
 
 const COLOURS_IN_RANGES: &str = "\
 CR0,100,0,100,0,100;PC1,100,50,0;PD;

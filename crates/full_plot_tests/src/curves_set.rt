@@ -64,24 +64,24 @@ fn arcs_through_points(rt: HostRuntime) -> Result<(), Fail> {
 // Each point has to be in range, even if the pen does not come to it.
 const CURVES_OFF_RANGE: &str = "\
 PD;AT65537,0,65536,0;
-off range at 3
+place off range at byte 3
 
 PD;AT100,100,65536,65537;
-off range at 3
+place off range at byte 3
 
 BZ65537,0,8,4,8,0;
-off range at 0
+place off range at byte 0
 
 BZ0,4,65537,4,8,0;
-off range at 0
+place off range at byte 0
 
 BZ0,4,8,4,0,-65537;
-off range at 0
+place off range at byte 0
 
 AT0,1,65535,65535;AT65536,0,0,0;
-off range at 18";
+place off range at byte 18";
 
 #[test]
 fn curves_off_range(rt: HostRuntime) -> Result<(), Fail> {
-    has_answers(&rt, rt.alloc(), Asked::Refusal, CURVES_OFF_RANGE, 6)
+    has_answers(&rt, rt.alloc(), Asked::Strokes, CURVES_OFF_RANGE, 6)
 }

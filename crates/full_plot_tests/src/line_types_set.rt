@@ -1,27 +1,7 @@
 // Lines in the line types that LT and UL set, by the text of plots. The strokes that are wanted come from a plotter
 // that was written apart from this one. The diagonal of (0,0) to (300,400) is 8,000 grains, so ten percent are 800.
 use crate::cases::{Asked, has_answers};
-use full_plot::draw_full;
-use hpgl_plot::Page;
-use std::alloc::Global;
 use std::test::Fail;
-
-// The strokes of a plot: their ends, and their count at each sheet's end.
-pub fn strokes_of(alloc: Global, text: &[u8]) -> Result<String, Fail> {
-    let page = Page::new(1000, 1000, 0, 0)?;
-    let drawn = draw_full(alloc, text, &page)?;
-    let mut list = String::new(alloc);
-    for s in drawn.strokes.as_slice() {
-        let (ax, ay, bx, by) = (s.ax, s.ay, s.bx, s.by);
-        let line = format!(in alloc; "{ax},{ay} {bx},{by};")?;
-        list.push_str(line.as_str())?;
-    }
-    for end in drawn.ends.as_slice() {
-        let line = format!(in alloc; " sheet to {end}")?;
-        list.push_str(line.as_str())?;
-    }
-    Ok(list)
-}
 
 const LINES_IN_TYPES: &str = "\
 IP0,0,300,400;LT2,10;PU0,100;PD120,100,120,150;

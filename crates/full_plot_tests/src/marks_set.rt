@@ -73,19 +73,20 @@ fn texts_too_long(alloc: Global) -> Result<Vec<u8>, Fail> {
     Ok(text)
 }
 
+const LABELS_OFF_RANGE: &str = "\
+DI1,1;PU65000,65000;LBLLLLLLLLLL\x03
+place off range at byte 20";
+
 #[test]
 fn labels_off_range(rt: HostRuntime) -> Result<(), Fail> {
-    let page = Page::new(1000, 1000, 0, 0)?;
-    let off = draw_full(rt.alloc(), b"DI1,1;PU65000,65000;LBLLLLLLLLLL\x03", &page);
-    assert!(rt; matches!(off, Err(PlotFault::OffRange { at: 20 })));
-    Ok(())
+    has_answers(&rt, rt.alloc(), Asked::Strokes, LABELS_OFF_RANGE, 1)
 }
 
 #[test]
 fn texts_printed_too_often(rt: HostRuntime) -> Result<(), Fail> {
     let page = Page::new(1000, 1000, 0, 0)?;
     let text = texts_too_long(rt.alloc())?;
-    let many = draw_full(rt.alloc(), text.as_slice(), &page);
-    assert!(rt; matches!(many, Err(PlotFault::TooManyStrokes { at: 100_126 })));
+    let fault = draw_full(rt.alloc(), text.as_slice(), &page).err();
+    assert_eq!(rt; fault, Some(PlotFault::TooManyStrokes { at: 100_126 }));
     Ok(())
 }

@@ -139,7 +139,8 @@ fn notes_on_items_of_core(rt: HostRuntime) -> Result<(), Fail> {
     has_answers(&rt, rt.alloc(), Asked::Notes, NOTES_ON_ITEMS_OF_CORE, 5)
 }
 
-const SHEETS_WITH_STROKES: &str = "\
+const SHEETS_WITH_STROKES: &str = "\n0
+
 PG;PG;
 0
 
@@ -157,8 +158,5 @@ PD10,0;PG;PD20,0;PG;PD30,0;PG;BP;
 
 #[test]
 fn sheets_with_strokes(rt: HostRuntime) -> Result<(), Fail> {
-    has_answers(&rt, rt.alloc(), Asked::Sheets, SHEETS_WITH_STROKES, 5)?;
-    let drawn = draw_full(rt.alloc(), b"", &Page::new(1000, 1000, 0, 0)?)?;
-    assert_eq!(rt; drawn.sheets(), 0);
-    Ok(())
+    has_answers(&rt, rt.alloc(), Asked::Sheets, SHEETS_WITH_STROKES, 6)
 }

@@ -1,23 +1,7 @@
 // Widths that WU, PW and PT set, by the text of plots. The strokes that are wanted come from a plotter that was written
 // apart from this one. The diagonal of (0,0) to (300,400) is 8,000 grains, so one percent is 80.
 use crate::cases::{Asked, has_answers};
-use full_plot::draw_full;
-use hpgl_plot::Page;
-use std::alloc::Global;
 use std::test::Fail;
-
-// The strokes of a plot: their pens, their widths and their last ends in x.
-pub fn widths_of(alloc: Global, text: &[u8]) -> Result<String, Fail> {
-    let page = Page::new(1000, 1000, 0, 0)?;
-    let drawn = draw_full(alloc, text, &page)?;
-    let mut list = String::new(alloc);
-    for s in drawn.strokes.as_slice() {
-        let (pen, width, x) = (s.pen, s.width, s.bx);
-        let line = format!(in alloc; "{pen} {width} {x};")?;
-        list.push_str(line.as_str())?;
-    }
-    Ok(list)
-}
 
 const WIDTHS_IN_PERCENT: &str = "\
 // P1 and P2 are those of the moment
