@@ -58,12 +58,21 @@ fn has_answers(
 
 // The numbers of some words, and then zeros.
 fn numbers_of(words: &str) -> Result<[i64; 5], Fail> {
-    let mut numbers = [0; 5];
-    for (at, word) in words.split_whitespace().enumerate() {
-        let number = numbers.get_mut(at).ok_or("too many numbers")?;
-        *number = word.parse().ok().ok_or("no number")?;
+    let mut words = words.split_whitespace();
+    Ok([
+        number_of(words.next())?,
+        number_of(words.next())?,
+        number_of(words.next())?,
+        number_of(words.next())?,
+        number_of(words.next())?,
+    ])
+}
+
+fn number_of(word: Option<&str>) -> Result<i64, Fail> {
+    match word.unwrap_or("0").parse::<i64>() {
+        Ok(number) => Ok(number),
+        Err(_) => Err("no number".into()),
     }
-    Ok(numbers)
 }
 
 fn answer_of(alloc: Global, asked: Asked, numbers: [i64; 5]) -> Result<String, Fail> {
@@ -189,39 +198,34 @@ fn halves(rt: HostRuntime) -> Result<(), Fail> {
     has_answers(&rt, rt.alloc(), Asked::Turned, HALVES, 3)
 }
 
-// Fails unless a point turned about a centre comes to this place.
-fn turns_to(rt: &impl Abort, centre: Spot, from: Spot, thousandths: i64, x: i128, y: i128)
-    requires centre_in { IsNear centre }
-    requires from_in { IsNear from }
-{
-    assert_eq!(rt; chord_point(centre, from, thousandths), Spot { x, y });
-}
-
 #[test]
 fn farthest_points(rt: HostRuntime) {
     let (high, low) = (Spot { x: FAR, y: FAR }, Spot { x: -FAR, y: -FAR });
-    turns_to(&rt, high, low, 90_000, 3 * FAR, -FAR);
-    turns_to(
-        &rt,
-        high,
-        low,
-        45_000,
-        FAR,
-        -1_828_400_000_000_000_000_000_000,
-    );
-    turns_to(
-        &rt,
-        low,
-        high,
-        45_000,
-        -FAR,
-        1_828_400_000_000_000_000_000_000,
-    );
-    let (x, y) = (
-        -1_778_166_400_000_000_000_000_000,
-        1_530_307_200_000_000_000_000_000,
-    );
-    turns_to(&rt, high, low, i64::MIN, x, y);
+    let found = [
+        chord_point(high, low, 90_000),
+        chord_point(high, low, 45_000),
+        chord_point(low, high, 45_000),
+        chord_point(high, low, i64::MIN),
+    ];
+    let wanted = [
+        Spot {
+            x: 3 * FAR,
+            y: -FAR,
+        },
+        Spot {
+            x: FAR,
+            y: -1_828_400_000_000_000_000_000_000,
+        },
+        Spot {
+            x: -FAR,
+            y: 1_828_400_000_000_000_000_000_000,
+        },
+        Spot {
+            x: -1_778_166_400_000_000_000_000_000,
+            y: 1_530_307_200_000_000_000_000_000,
+        },
+    ];
+    assert_eq!(rt; found, wanted);
 }
 
 // 100 degrees in chords of 30 degrees end at 30, 60, 90 and 100 degrees.

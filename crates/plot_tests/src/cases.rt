@@ -1,7 +1,7 @@
 // Cases as one text. A helper writes the cases again with the answers instead of those that are wanted, and fails unless
 // both texts are equal.
 use crate::full_settings_set::{colours_of, further_settings_of, points_on_page};
-use crate::letters_set::size_after;
+use crate::letters_set::{headings_after, size_after, style_told};
 use crate::settings::settings_of;
 use std::alloc::Global;
 use std::process::Abort;
@@ -15,6 +15,8 @@ pub enum Asked {
     Points,
     Colours,
     Sizes,
+    Headings,
+    Styles,
 }
 
 // Fails unless there are so many cases, and each has the answer that it says. A case is a comment, if it has one, a
@@ -61,5 +63,7 @@ fn answer_of(alloc: Global, asked: Asked, text: &[u8]) -> Result<String, Fail> {
         Asked::Points => points_on_page(alloc, text),
         Asked::Colours => colours_of(alloc, text),
         Asked::Sizes => size_after(alloc, text),
+        Asked::Headings => headings_after(alloc, text),
+        Asked::Styles => style_told(alloc, text),
     }
 }

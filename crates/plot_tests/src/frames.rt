@@ -3,7 +3,6 @@ ghost use Rattle.plot_frame.specs.Bounds.{Both, IsPoints, IsRange, IsScaling};
 
 use plot_frame::AxisName::{X, Y};
 use plot_frame::{Ends, Factor, FittedRange, Pair, Range, Scaling, axis_of, unscaled_axis};
-use std::test::Fail;
 
 // P1 at (0, 0), P2 at (128, 64).
 fn wide() -> Pair<Ends>
@@ -49,18 +48,16 @@ fn fitted(ranges: Pair<Range>) -> Scaling
 #[test]
 fn plotter_units(rt: HostRuntime) {
     let axis = unscaled_axis(10);
-    assert_eq!(rt; axis.place(3_500_000), 216);
-    assert_eq!(rt; axis.coordinate(216), 3_500_000);
+    assert_eq!(rt;
+        [axis.place(3_500_000), axis.coordinate(216)],
+        [216, 3_500_000]
+    );
 }
 
 #[test]
 fn user_units(rt: HostRuntime) {
     let ranges = Scaling::Anisotropic(eight());
-    assert_eq!(rt; axis_of(X, &wide(), &ranges, 0).place(3_500_000), 896);
-    assert_eq!(rt; axis_of(Y, &wide(), &ranges, 5).place(3_500_000), 528);
     let fitting = fitted(eight());
-    assert_eq!(rt; axis_of(X, &wide(), &fitting, 0).place(1_000_000), 384);
-    assert_eq!(rt; axis_of(Y, &wide(), &fitting, 0).coordinate(128), 1_000_000);
     let factors = Scaling::PointFactor(Pair {
         x: Factor {
             least: 1_000_000,
@@ -71,8 +68,15 @@ fn user_units(rt: HostRuntime) {
             factor: -2_000_000,
         },
     });
-    assert_eq!(rt; axis_of(X, &wide(), &factors, 0).place(3_000_000), 16);
-    assert_eq!(rt; axis_of(Y, &wide(), &factors, 0).place(3_000_000), -64);
+    let found = [
+        axis_of(X, &wide(), &ranges, 0).place(3_500_000),
+        axis_of(Y, &wide(), &ranges, 5).place(3_500_000),
+        axis_of(X, &wide(), &fitting, 0).place(1_000_000),
+        axis_of(Y, &wide(), &fitting, 0).coordinate(128),
+        axis_of(X, &wide(), &factors, 0).place(3_000_000),
+        axis_of(Y, &wide(), &factors, 0).place(3_000_000),
+    ];
+    assert_eq!(rt; found, [896, 528, 384, 1_000_000, 16, -64]);
 }
 
 // A range that falls, and one whose units are halves of those on the other axis.
@@ -91,32 +95,34 @@ fn falling() -> Pair<Range>
     }
 }
 
+// Of the 64 units in y, 32 are left over, and half of them lie below the range.
 #[test]
 fn falling_ranges(rt: HostRuntime) {
     let axis = axis_of(X, &wide(), &Scaling::Anisotropic(falling()), 0);
-    assert_eq!(rt; axis.place(0), 2048);
-    assert_eq!(rt; axis.place(6_000_000), 512);
-    assert_eq!(rt; axis.coordinate(512), 6_000_000);
-}
-
-// Of the 64 units in y, 32 are left over, and half of them lie below the range.
-#[test]
-fn shares_of_what_is_left_over(rt: HostRuntime) {
-    let fitting = fitted(falling());
-    assert_eq!(rt; axis_of(Y, &wide(), &fitting, 0).place(1_000_000), 512);
+    let fitting = axis_of(Y, &wide(), &fitted(falling()), 0);
+    let found = [
+        axis.place(0),
+        axis.place(6_000_000),
+        axis.coordinate(512),
+        fitting.place(1_000_000),
+    ];
+    assert_eq!(rt; found, [2048, 512, 6_000_000, 512]);
 }
 
 // Two grains are 1/128 unit, 7812.5 millionths, and a half rounds up.
 #[test]
 fn coordinates_are_rounded(rt: HostRuntime) {
     let axis = axis_of(X, &wide(), &Scaling::Anisotropic(eight()), 0);
-    assert_eq!(rt; axis.coordinate(2), 7813);
-    assert_eq!(rt; axis.coordinate(-2), -7812);
+    assert_eq!(rt; [axis.coordinate(2), axis.coordinate(-2)], [7813, -7812]);
 }
 
 #[test]
 fn moves(rt: HostRuntime) {
     let axis = unscaled_axis(0);
-    assert_eq!(rt; axis.moved(axis.coordinate(40), 500_000, true), 3_000_000);
-    assert_eq!(rt; axis.moved(axis.coordinate(40), 500_000, false), 500_000);
+    let from = axis.coordinate(40);
+    let found = [
+        axis.moved(from, 500_000, true),
+        axis.moved(from, 500_000, false),
+    ];
+    assert_eq!(rt; found, [3_000_000, 500_000]);
 }

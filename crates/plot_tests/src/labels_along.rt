@@ -4,6 +4,7 @@ ghost use Rattle.std.specs.Prelude.{◌≤◌, ◌^◌, length};
 use directions::Direction;
 use exact::Spot;
 use lettering::{Lettering, LineFeed, Path, Strokes, Style};
+use std::alloc::{AllocError, Global};
 use std::process::Abort;
 
 const fn at(x: i128, y: i128) -> Spot {
@@ -32,36 +33,40 @@ fn on_path(rt: &impl Abort, path: Path, line_feed: LineFeed) -> Lettering {
     checked(rt, style)
 }
 
-// Fails unless these are the strokes, by their ends.
-fn has_strokes(rt: &impl Abort, mut strokes: Strokes<'_>, wanted: &[(Spot, Spot)]) {
-    for (from, to) in wanted {
-        match strokes.next() {
-            Some((first, last)) => {
-                assert_eq!(rt; first, *from);
-                assert_eq!(rt; last, *to);
-            }
-            None => panic!(rt; "too few strokes"),
-        }
-    }
-    assert!(rt; strokes.next().is_none());
-}
-
-// Fails unless a label of full stops has these dots, and leaves the pen there.
-fn has_dots(rt: &impl Abort, lettering: &Lettering, text: &[u8], wanted: &[Spot], end: Spot)
+// The strokes of a label, by their ends, and where it leaves the pen.
+fn told(alloc: Global, lettering: &Lettering, text: &[u8]) -> Result<String, AllocError>
     requires { length text.now ≤ 2 ^ 32 }
 {
+    let mut told = String::new(alloc);
     let mut strokes = lettering.strokes(text);
-    for spot in wanted {
-        match strokes.next() {
-            Some((first, last)) => {
-                assert_eq!(rt; first, *spot);
-                assert_eq!(rt; last, *spot);
-            }
-            None => panic!(rt; "too few dots"),
-        }
+    for _ in 0..20 {
+        told.push_str(next_told(alloc, &mut strokes)?.as_str())?;
     }
-    assert!(rt; strokes.next().is_none());
-    assert_eq!(rt; lettering.end(text), end);
+    let end = lettering.end(text);
+    write!(told, "end {},{}", end.x, end.y)?;
+    Ok(told)
+}
+
+fn next_told(alloc: Global, strokes: &mut Strokes<'_>) -> Result<String, AllocError> {
+    match strokes.next() {
+        Some((from, to)) => format!(in alloc; "{},{} to {},{}; ", from.x, from.y, to.x, to.y),
+        None => Ok(String::new(alloc)),
+    }
+}
+
+// Fails unless a label has these strokes, and leaves the pen there.
+fn has_strokes(
+    rt: &impl Abort,
+    alloc: Global,
+    lettering: &Lettering,
+    text: &[u8],
+    wanted: &str,
+) -> Result<(), AllocError>
+    requires { length text.now ≤ 2 ^ 32 }
+{
+    let told = told(alloc, lettering, text)?;
+    assert_eq!(rt; told.as_str(), wanted);
+    Ok(())
 }
 
 // A mirrored style with a slant.
@@ -74,128 +79,103 @@ fn mirrored(slant: i64) -> Style {
 }
 
 #[test]
-fn sizes_and_slants(rt: HostRuntime) {
-    let upright = [(at(0, 640), at(0, 0)), (at(0, 0), at(-480, 0))];
-    has_strokes(&rt, checked(&rt, mirrored(0)).strokes(b"L"), &upright);
-    let slanted = [(at(320, 640), at(0, 0)), (at(0, 0), at(-480, 0))];
-    has_strokes(&rt, checked(&rt, mirrored(500_000)).strokes(b"L"), &slanted);
+fn sizes_and_slants(rt: HostRuntime) -> Result<(), AllocError> {
+    let upright = checked(&rt, mirrored(0));
+    let wanted = "0,640 to 0,0; 0,0 to -480,0; end -720,0";
+    has_strokes(&rt, rt.alloc(), &upright, b"L", wanted)?;
+    let slanted = checked(&rt, mirrored(500_000));
+    let wanted = "320,640 to 0,0; 0,0 to -480,0; end -720,0";
+    has_strokes(&rt, rt.alloc(), &slanted, b"L", wanted)
 }
 
 #[test]
-fn between_the_axes(rt: HostRuntime) {
+fn between_the_axes(rt: HostRuntime) -> Result<(), AllocError> {
     let mut style = Style::usual();
     style.direction = Direction::unit(3, 4);
-    let lettering = checked(&rt, style);
-    let strokes = [(at(-1382, 1037), at(0, 0)), (at(0, 0), at(730, 973))];
-    has_strokes(&rt, lettering.strokes(b"L"), &strokes);
-    assert_eq!(rt; lettering.end(b"L"), at(1094, 1459));
+    let wanted = "-1382,1037 to 0,0; 0,0 to 730,973; end 1094,1459";
+    has_strokes(&rt, rt.alloc(), &checked(&rt, style), b"L", wanted)
 }
 
 #[test]
-fn steps(rt: HostRuntime) {
+fn steps(rt: HostRuntime) -> Result<(), AllocError> {
     let mut style = Style::usual();
     style.step_x = -500_000;
     style.step_y = 1_500_000;
     style.origin = 7;
     let lettering = checked(&rt, style);
-    let dots = [at(304, 0), at(-608, 0), at(-608, -5184)];
-    has_dots(&rt, &lettering, b"..\r\n.", &dots, at(0, -5184));
-    assert_eq!(rt; lettering.margin_move(b"..\r\n."), at(0, -5184));
-    assert_eq!(rt; lettering.margin_move(b".."), at(0, 0));
+    let wanted = "304,0 to 304,0; -608,0 to -608,0; -608,-5184 to -608,-5184; end 0,-5184";
+    has_strokes(&rt, rt.alloc(), &lettering, b"..\r\n.", wanted)?;
+    let moves = [
+        lettering.margin_move(b"..\r\n."),
+        lettering.margin_move(b".."),
+    ];
+    assert_eq!(rt; moves, [at(0, -5184), at(0, 0)]);
+    Ok(())
 }
 
 #[test]
-fn origins(rt: HostRuntime) {
-    let left = with_origin(&rt, 12);
-    has_dots(
-        &rt,
-        &left,
-        b"..",
-        &[at(1216, -864), at(3040, -864)],
-        at(3648, 0),
-    );
-    let middle = with_origin(&rt, 6);
-    has_dots(
-        &rt,
-        &middle,
-        b"..",
-        &[at(-912, -1728), at(912, -1728)],
-        at(1824, 0),
-    );
-    let right = with_origin(&rt, 17);
-    has_dots(
-        &rt,
-        &right,
-        b"..",
-        &[at(-3040, 864), at(-1216, 864)],
-        at(0, 0),
-    );
-    let parts = [at(-912, 0), at(912, 0), at(0, -3456)];
-    has_dots(
-        &rt,
-        &with_origin(&rt, 4),
-        b"..\r\n.",
-        &parts,
-        at(912, -3456),
-    );
+fn origins(rt: HostRuntime) -> Result<(), AllocError> {
+    let left = "1216,-864 to 1216,-864; 3040,-864 to 3040,-864; end 3648,0";
+    has_strokes(&rt, rt.alloc(), &with_origin(&rt, 12), b"..", left)?;
+    let middle = "-912,-1728 to -912,-1728; 912,-1728 to 912,-1728; end 1824,0";
+    has_strokes(&rt, rt.alloc(), &with_origin(&rt, 6), b"..", middle)?;
+    let right = "-3040,864 to -3040,864; -1216,864 to -1216,864; end 0,0";
+    has_strokes(&rt, rt.alloc(), &with_origin(&rt, 17), b"..", right)?;
+    let parts = "-912,0 to -912,0; 912,0 to 912,0; 0,-3456 to 0,-3456; end 912,-3456";
+    has_strokes(&rt, rt.alloc(), &with_origin(&rt, 4), b"..\r\n.", parts)
+}
+
+// Fails unless a full stop, a line feed and a full stop have these strokes on a path.
+fn has_dots(
+    rt: &(impl Abort + AllocGlobal),
+    path: Path,
+    line_feed: LineFeed,
+    wanted: &str,
+) -> Result<(), AllocError> {
+    let lettering = on_path(rt, path, line_feed);
+    has_strokes(rt, rt.alloc(), &lettering, b".\n.", wanted)
 }
 
 // LO counts only for the path to the right.
 #[test]
-fn paths(rt: HostRuntime) {
-    let down = on_path(&rt, Path::Down, LineFeed::Normal);
-    has_dots(
-        &rt,
-        &down,
-        b".\n.",
-        &[at(608, 0), at(-1216, -3456)],
-        at(-1824, -6912),
-    );
-    let down = on_path(&rt, Path::Down, LineFeed::Reverse);
-    has_dots(
-        &rt,
-        &down,
-        b".\n.",
-        &[at(608, 0), at(2432, -3456)],
-        at(1824, -6912),
-    );
-    let left = on_path(&rt, Path::Left, LineFeed::Normal);
-    has_dots(
-        &rt,
-        &left,
-        b".\n.",
-        &[at(608, 0), at(-1216, 3456)],
-        at(-3648, 3456),
-    );
-    let up = on_path(&rt, Path::Up, LineFeed::Normal);
-    has_dots(
-        &rt,
-        &up,
-        b".\n.",
-        &[at(608, 0), at(2432, 3456)],
-        at(1824, 6912),
-    );
+fn paths(rt: HostRuntime) -> Result<(), AllocError> {
+    let down = "608,0 to 608,0; -1216,-3456 to -1216,-3456; end -1824,-6912";
+    has_dots(&rt, Path::Down, LineFeed::Normal, down)?;
+    let back = "608,0 to 608,0; 2432,-3456 to 2432,-3456; end 1824,-6912";
+    has_dots(&rt, Path::Down, LineFeed::Reverse, back)?;
+    let left = "608,0 to 608,0; -1216,3456 to -1216,3456; end -3648,3456";
+    has_dots(&rt, Path::Left, LineFeed::Normal, left)?;
+    let up = "608,0 to 608,0; 2432,3456 to 2432,3456; end 1824,6912";
+    has_dots(&rt, Path::Up, LineFeed::Normal, up)
 }
 
 #[test]
 fn symbols(rt: HostRuntime) {
     let symbol = checked(&rt, Style::usual()).centred();
-    assert_eq!(rt; symbol.letter(b'.', 0), Some((at(0, -864), at(0, -864))));
-    assert_eq!(rt; symbol.letter(b'.', 1), None);
-    assert_eq!(rt; symbol.offset(2_000_000, 1_000_000), at(3648, -3456));
-    assert_eq!(rt; symbol.offset(500_000, -250_000), at(912, 864));
+    let strokes = [symbol.letter(b'.', 0), symbol.letter(b'.', 1)];
+    assert_eq!(rt; strokes, [Some((at(0, -864), at(0, -864))), None]);
+    let offsets = [
+        symbol.offset(2_000_000, 1_000_000),
+        symbol.offset(500_000, -250_000),
+    ];
+    assert_eq!(rt; offsets, [at(3648, -3456), at(912, 864)]);
 }
 
-fn is_origin(origin: u8) -> bool {
-    let mut style = Style::usual();
-    style.origin = origin;
-    Lettering::new(style).is_some()
-}
-
+// Whether each origin from 0 to 21 is one.
 #[test]
 fn ranges(rt: HostRuntime) {
-    assert!(rt; !is_origin(0) && is_origin(1) && is_origin(9) && !is_origin(10));
-    assert!(rt; is_origin(11) && is_origin(19) && !is_origin(20) && !is_origin(21));
-    assert!(rt; Lettering::new(mirrored(-1_000_000_000)).is_some());
-    assert!(rt; Lettering::new(mirrored(-1_000_000_001)).is_none());
+    let mut origins: [bool; 22] = [false; 22];
+    for origin in 0..22u8 {
+        let mut style = Style::usual();
+        style.origin = origin;
+        origins[origin as usize] = Lettering::new(style).is_some();
+    }
+    let mut wanted: [bool; 22] = [true; 22];
+    wanted[0] = false;
+    wanted[10] = false;
+    wanted[20] = false;
+    wanted[21] = false;
+    assert_eq!(rt; origins, wanted);
+    let slants = [mirrored(-1_000_000_000), mirrored(-1_000_000_001)];
+    assert!(rt; Lettering::new(slants[0]).is_some() && Lettering::new(slants[1]).is_none());
 }

@@ -3,7 +3,7 @@ ghost use Rattle.std.specs.Prelude.{IfSome};
 ghost use Rattle.full_settings.specs.LetterParameters.{IsLetterSetting};
 
 use crate::cases::{Asked, has_answers};
-use directions::{Direction, Turn};
+use directions::Turn;
 use full_settings::{
     LetterSetting, Letters, direction_setting, origin_setting, path_setting,
     relative_direction_setting, relative_size_setting, slant_setting, space_setting,
@@ -12,7 +12,6 @@ use hpgl_text::{Body, Further, Instruction, Items, Number, Profile};
 use lettering::{LineFeed, Path, Style};
 use plot_frame::{Ends, Pair};
 use std::alloc::Global;
-use std::process::Abort;
 use std::test::Fail;
 use stick_font::CharacterSize;
 
@@ -80,22 +79,39 @@ pub fn size_after(alloc: Global, text: &[u8]) -> Result<String, Fail> {
     Ok(format!(in alloc; "{width} {height}\n")?)
 }
 
-// Fails unless a style has this slant, these steps and this origin.
-fn has_numbers(rt: &impl Abort, style: &Style, slant: i64, steps: (i64, i64), origin: u8) {
-    assert_eq!(rt; style.slant, slant);
-    assert_eq!(rt; (style.step_x, style.step_y), steps);
-    assert_eq!(rt; style.origin, origin);
+// The direction of letters after a text, also where all is turned by a quarter.
+pub fn headings_after(alloc: Global, text: &[u8]) -> Result<String, Fail> {
+    let direction = style_after(text, Turn::None).direction;
+    let turned = style_after(text, Turn::Quarter).direction;
+    let (x, y, turned_x, turned_y) = (direction.x(), direction.y(), turned.x(), turned.y());
+    Ok(format!(in alloc; "{x} {y}, turned {turned_x} {turned_y}\n")?)
+}
+
+// The style of letters after a text, where all is turned by three quarters.
+pub fn style_told(alloc: Global, text: &[u8]) -> Result<String, Fail> {
+    let style = style_after(text, Turn::ThreeQuarters);
+    let (slant, step_x, step_y, origin) = (style.slant, style.step_x, style.step_y, style.origin);
+    let (path, feed) = (style.path, style.line_feed);
+    let (x, y) = (style.direction.x(), style.direction.y());
+    Ok(format!(in alloc;
+        "slant {slant}, steps {step_x} {step_y}, LO{origin}, {path:?} {feed:?}, {x} {y}\n"
+    )?)
 }
 
 #[test]
 fn at_the_start(rt: HostRuntime) -> Result<(), Fail> {
     let style = style_after(b"", Turn::None);
     let usual = Style::usual();
-    assert_eq!(rt; (style.width, style.height), (100, 200));
-    assert_eq!(rt; style.direction, usual.direction);
-    has_numbers(&rt, &style, 0, (usual.step_x, usual.step_y), 1);
-    assert!(rt; matches!(style.path, Path::Right));
-    assert!(rt; matches!(style.line_feed, LineFeed::Normal));
+    let numbers = [
+        style.width,
+        style.height,
+        style.slant,
+        style.step_x,
+        style.step_y,
+    ];
+    assert_eq!(rt; numbers, [100, 200, 0, usual.step_x, usual.step_y]);
+    assert_eq!(rt; (style.origin, style.direction), (1, usual.direction));
+    assert!(rt; matches!(style.path, Path::Right) && matches!(style.line_feed, LineFeed::Normal));
     Ok(())
 }
 
@@ -131,41 +147,46 @@ fn sizes(rt: HostRuntime) -> Result<(), Fail> {
     has_answers(&rt, rt.alloc(), Asked::Sizes, SIZES, 7)
 }
 
+const HEADINGS: &str = "\
+DI3,4;
+644245094 858993459, turned -858993459 644245094
+
+DI3,4;DI;
+1073741824 0, turned 0 1073741824
+
+// 3 percent of 300 and 4 percent of -400
+DR3,4;
+526413998 -935847107, turned 935847107 526413998
+
+DR1,0;
+1073741824 0, turned 0 1073741824
+
+DR0,-5;
+0 1073741824, turned -1073741824 0
+
+DI3,4;DR-4,3;SR1,1;
+-759250125 -759250125, turned 759250125 -759250125
+
+DR3,4;DI1,1;
+759250125 759250125, turned -759250125 759250125
+
+";
+
 #[test]
 fn headings(rt: HostRuntime) -> Result<(), Fail> {
-    let plots = [
-        (b"DI3,4;".as_slice(), Direction::unit(3, 4)),
-        (b"DI3,4;DI;", Direction::RIGHT),
-        // 3 percent of 300 and 4 percent of -400
-        (b"DR3,4;", Direction::unit(9, -16)),
-        (b"DR1,0;", Direction::RIGHT),
-        (b"DR0,-5;", Direction::unit(0, 1)),
-        (b"DI3,4;DR-4,3;SR1,1;", Direction::unit(-1, -1)),
-        (b"DR3,4;DI1,1;", Direction::unit(1, 1)),
-    ];
-    for (plot, wanted) in plots {
-        assert_eq!(rt; style_after(plot, Turn::None).direction, wanted);
-        assert_eq!(rt;
-            style_after(plot, Turn::Quarter).direction,
-            wanted.turned(Turn::Quarter)
-        );
-    }
-    Ok(())
+    has_answers(&rt, rt.alloc(), Asked::Headings, HEADINGS, 7)
 }
+
+const OTHER_SETTINGS: &str = "\
+SL-2;ES1,-.5;LO14;DV2,1;DI1,1;SI;SL5000;
+slant -2000000, steps 2000000 500000, LO14, Left Reverse, 759250125 -759250125
+
+LO21;DV3;ES;
+slant 0, steps 1000000 1000000, LO1, Up Normal, 0 -1073741824
+
+";
 
 #[test]
 fn other_settings(rt: HostRuntime) -> Result<(), Fail> {
-    let style = style_after(
-        b"SL-2;ES1,-.5;LO14;DV2,1;DI1,1;SI;SL5000;",
-        Turn::ThreeQuarters,
-    );
-    has_numbers(&rt, &style, -2_000_000, (2_000_000, 500_000), 14);
-    assert!(rt; matches!(style.path, Path::Left));
-    assert!(rt; matches!(style.line_feed, LineFeed::Reverse));
-    assert_eq!(rt; style.direction, Direction::unit(1, -1));
-    let style = style_after(b"LO21;DV3;ES;", Turn::None);
-    has_numbers(&rt, &style, 0, (1_000_000, 1_000_000), 1);
-    assert!(rt; matches!(style.path, Path::Up));
-    assert!(rt; matches!(style.line_feed, LineFeed::Normal));
-    Ok(())
+    has_answers(&rt, rt.alloc(), Asked::Styles, OTHER_SETTINGS, 2)
 }

@@ -1,5 +1,5 @@
 // Pages and strokes by public calls.
-use plot_page::{Colour, Page, PageFault, Stroke, Window};
+use plot_page::{Colour, Dots, Page, PageFault, Stroke, Window};
 
 const RED: Colour = Colour {
     red: 255,
@@ -18,24 +18,36 @@ const WINDOW: Window = Window {
 #[test]
 fn sizes_and_corners(rt: HostRuntime) {
     assert!(rt; Page::new(64, 65_536, 0, 65_536).is_ok());
-    let cases = [
-        (63, 64, 0, 0, PageFault::Size),
-        (64, 65_537, 0, 0, PageFault::Size),
-        (64, 64, 65_537, 0, PageFault::Corner),
-        (64, 64, 0, 65_537, PageFault::Corner),
-        (63, 64, 65_537, 0, PageFault::Size),
+    let sizes = [
+        Page::new(63, 64, 0, 0).err(),
+        Page::new(64, 65_537, 0, 0).err(),
+        Page::new(63, 64, 65_537, 0).err(),
+        Page::new(64, 65_537, 65_537, 0).err(),
     ];
-    for (width, height, left, below, wanted) in cases {
-        let fault = Page::new(width, height, left, below).err();
-        assert_eq!(rt; fault, Some(wanted));
-    }
+    assert_eq!(rt; sizes, [Some(PageFault::Size); 4]);
+    let corners = [
+        Page::new(64, 64, 65_537, 0).err(),
+        Page::new(64, 64, 0, 65_537).err(),
+    ];
+    assert_eq!(rt; corners, [Some(PageFault::Corner); 2]);
+}
+
+#[test]
+fn resolutions(rt: HostRuntime) {
+    let found = [
+        Dots::new(9).is_some(),
+        Dots::new(10).is_some(),
+        Dots::new(1200).is_some(),
+        Dots::new(1201).is_some(),
+    ];
+    assert_eq!(rt; found, [false, true, true, false]);
 }
 
 // A plot may have 4,194,304 strokes, so their size counts.
 #[test]
 fn strokes_of_40_bytes(rt: HostRuntime) {
     let stroke = Stroke::new(255, RED, 12_800, WINDOW, 0, 0, 1_048_576, -1_048_576);
-    assert!(rt; stroke.is_some_and(|s| s.colour == RED));
+    assert!(rt; stroke.is_some_and(|it| it.colour == RED));
     assert_eq!(rt; size_of::<Stroke>(), 40);
 }
 
@@ -46,10 +58,21 @@ fn ranges_of_strokes(rt: HostRuntime) {
         y1: 1_048_577,
         ..WINDOW
     };
-    assert!(rt; Stroke::new(0, RED, 224, WINDOW, 0, 0, 1, 1).is_none());
-    assert!(rt; Stroke::new(1, RED, 12_801, WINDOW, 0, 0, 1, 1).is_none());
-    assert!(rt; Stroke::new(1, RED, 224, low, 0, 0, 1, 1).is_none());
-    assert!(rt; Stroke::new(1, RED, 224, high, 0, 0, 1, 1).is_none());
-    assert!(rt; Stroke::new(1, RED, 224, WINDOW, -1_048_577, 0, 1, 1).is_none());
-    assert!(rt; Stroke::new(1, RED, 224, WINDOW, 0, 0, 1, 1_048_577).is_none());
+    let found = [
+        Stroke::new(0, RED, 224, WINDOW, 0, 0, 1, 1).is_some(),
+        Stroke::new(1, RED, 12_801, WINDOW, 0, 0, 1, 1).is_some(),
+        Stroke::new(1, RED, 224, low, 0, 0, 1, 1).is_some(),
+        Stroke::new(1, RED, 224, high, 0, 0, 1, 1).is_some(),
+        Stroke::new(1, RED, 224, WINDOW, -1_048_577, 0, 1, 1).is_some(),
+        Stroke::new(1, RED, 224, WINDOW, 0, 0, 1_048_577, 0).is_some(),
+        Stroke::new(1, RED, 224, WINDOW, 0, 0, 1, 1_048_577).is_some(),
+    ];
+    assert_eq!(rt; found, [false; 7]);
+    let narrow = Window {
+        x0: 0,
+        y0: 0,
+        x1: 1024,
+        y1: 1024,
+    };
+    assert!(rt; Stroke::new(1, RED, 224, narrow, 0, 0, 1024, 1024).is_some());
 }

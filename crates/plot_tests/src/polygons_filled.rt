@@ -100,62 +100,63 @@ fn a_rectangle_line_by_line(rt: HostRuntime) -> Result<(), AllocError> {
     let mut buffer = Buffer::new(rt.alloc());
     add(&mut buffer, &[(0, 0), (64, 0), (64, 48), (0, 48)])?;
     let mut fill = Fill::new(rt.alloc(), buffer.edges(), solid(), Rule::OddCounts)?;
+    let mut told = String::new(rt.alloc());
+    for _ in 0..5 {
+        let mut spans = Vec::new(rt.alloc());
+        let is_line = fill.next_line(&mut spans)?;
+        let spans = text_of(rt.alloc(), &spans)?;
+        write!(told, "{is_line} {spans}")?;
+    }
+    assert_eq!(rt;
+        told.as_str(),
+        "true 0,8 to 64,8; true 0,24 to 64,24; true 0,40 to 64,40; false false "
+    );
     let mut spans = Vec::new(rt.alloc());
-    assert!(rt; fill.next_line(&mut spans)?);
-    assert_eq!(rt; text_of(rt.alloc(), &spans)?.as_str(), "0,8 to 64,8; ");
-    assert!(rt; fill.next_line(&mut spans)?);
-    assert_eq!(rt; text_of(rt.alloc(), &spans)?.as_str(), "0,24 to 64,24; ");
-    assert!(rt; fill.next_line(&mut spans)?);
-    assert_eq!(rt; text_of(rt.alloc(), &spans)?.as_str(), "0,40 to 64,40; ");
-    assert!(rt; !fill.next_line(&mut spans)?);
-    assert!(rt; spans.is_empty());
-    assert!(rt; !fill.next_line(&mut spans)?);
     let mut empty = Fill::new(rt.alloc(), &[], solid(), Rule::Winding)?;
     assert!(rt; !empty.next_line(&mut spans)?);
     Ok(())
 }
 
-// The inner square is a hole by odd counts, and by winding only if it goes the other way round. Far
-// lines between two figures are not visited.
+// Fails unless these spans fill what a buffer holds.
+fn is_filled(
+    rt: &impl Abort,
+    alloc: Global,
+    buffer: &Buffer,
+    rule: Rule,
+    wanted: &str,
+) -> Result<(), AllocError> {
+    let spans = filled(alloc, buffer, solid(), rule)?;
+    assert_eq!(rt; spans.as_str(), wanted);
+    Ok(())
+}
+
+// The inner square is a hole by odd counts, and by winding only if it goes the other way round.
 #[test]
-fn holes_and_shared_edges(rt: HostRuntime) -> Result<(), AllocError> {
+fn holes(rt: HostRuntime) -> Result<(), AllocError> {
     let mut same = Buffer::new(rt.alloc());
     add(&mut same, &[(0, 0), (48, 0), (48, 48), (0, 48)])?;
     add(&mut same, &[(16, 16), (32, 16), (32, 32), (16, 32)])?;
     let holed = "0,8 to 48,8; 0,24 to 16,24; 32,24 to 48,24; 0,40 to 48,40; ";
-    assert_eq!(rt;
-        filled(rt.alloc(), &same, solid(), Rule::OddCounts)?.as_str(),
-        holed
-    );
+    is_filled(&rt, rt.alloc(), &same, Rule::OddCounts, holed)?;
     let whole = "0,8 to 48,8; 0,24 to 16,24; 16,24 to 32,24; 32,24 to 48,24; 0,40 to 48,40; ";
-    assert_eq!(rt;
-        filled(rt.alloc(), &same, solid(), Rule::Winding)?.as_str(),
-        whole
-    );
+    is_filled(&rt, rt.alloc(), &same, Rule::Winding, whole)?;
     let mut other = Buffer::new(rt.alloc());
     add(&mut other, &[(0, 0), (48, 0), (48, 48), (0, 48)])?;
     add(&mut other, &[(16, 16), (16, 32), (32, 32), (32, 16)])?;
-    assert_eq!(rt;
-        filled(rt.alloc(), &other, solid(), Rule::Winding)?.as_str(),
-        holed
-    );
+    is_filled(&rt, rt.alloc(), &other, Rule::Winding, holed)
+}
+
+// Far lines between two figures are not visited.
+#[test]
+fn shared_edges(rt: HostRuntime) -> Result<(), AllocError> {
     let mut beside = Buffer::new(rt.alloc());
     add(&mut beside, &[(0, 0), (32, 0), (32, 32), (0, 32)])?;
     add(&mut beside, &[(32, 0), (64, 0), (64, 32), (32, 32)])?;
-    add(
-        &mut beside,
-        &[(0, 32000), (9, 32000), (9, 32016), (0, 32016)],
-    )?;
+    let far = [(0, 32000), (9, 32000), (9, 32016), (0, 32016)];
+    add(&mut beside, &far)?;
     let parts = "0,8 to 32,8; 32,8 to 64,8; 0,24 to 32,24; 32,24 to 64,24; 0,32008 to 9,32008; ";
-    assert_eq!(rt;
-        filled(rt.alloc(), &beside, solid(), Rule::OddCounts)?.as_str(),
-        parts
-    );
-    assert_eq!(rt;
-        filled(rt.alloc(), &beside, solid(), Rule::Winding)?.as_str(),
-        parts
-    );
-    Ok(())
+    is_filled(&rt, rt.alloc(), &beside, Rule::OddCounts, parts)?;
+    is_filled(&rt, rt.alloc(), &beside, Rule::Winding, parts)
 }
 
 // Eight plotter units apart.
@@ -172,17 +173,18 @@ fn sparse() -> Lines
 #[test]
 fn a_star_by_both_rules(rt: HostRuntime) -> Result<(), AllocError> {
     let mut star = Buffer::new(rt.alloc());
-    add(
-        &mut star,
-        &[(0, 300), (176, -243), (-285, 93), (285, 93), (-176, -243)],
-    )?;
+    let places = [(0, 300), (176, -243), (-285, 93), (285, 93), (-176, -243)];
+    add(&mut star, &places)?;
+    let odd = filled(rt.alloc(), &star, sparse(), Rule::OddCounts)?;
+    let winding = filled(rt.alloc(), &star, sparse(), Rule::Winding)?;
     assert_eq!(rt;
-        filled(rt.alloc(), &star, sparse(), Rule::OddCounts)?.as_str(),
-        "-136,-120 to -7,-120; 7,-120 to 136,-120; -168,8 to -95,8; 95,8 to 168,8; -53,136 to 53,136; -12,264 to 12,264; "
-    );
-    assert_eq!(rt;
-        filled(rt.alloc(), &star, sparse(), Rule::Winding)?.as_str(),
-        "-136,-120 to -7,-120; 7,-120 to 136,-120; -168,8 to -95,8; -95,8 to 95,8; 95,8 to 168,8; -53,136 to 53,136; -12,264 to 12,264; "
+        [odd.as_str(), winding.as_str()],
+        [
+            "-136,-120 to -7,-120; 7,-120 to 136,-120; -168,8 to -95,8; 95,8 to 168,8; -53,136 to 53,136; \
+-12,264 to 12,264; ",
+            "-136,-120 to -7,-120; 7,-120 to 136,-120; -168,8 to -95,8; -95,8 to 95,8; 95,8 to 168,8; \
+-53,136 to 53,136; -12,264 to 12,264; ",
+        ]
     );
     Ok(())
 }
@@ -205,19 +207,18 @@ fn filled_at(alloc: Global, angle: i32, apart: u64, x: i16, y: i16) -> Result<St
 #[test]
 fn a_triangle_at_angles(rt: HostRuntime) -> Result<(), AllocError> {
     let aslant = filled_at(rt.alloc(), 45_000, 8192, 0, 0)?;
-    assert_eq!(rt;
-        aslant.as_str(),
-        "91,0 to 95,5; 45,0 to 73,27; 0,0 to 50,50; 0,45 to 27,73; 0,91 to 5,95; "
-    );
     let back = filled_at(rt.alloc(), 120_000, 9000, 10, 3)?;
-    assert_eq!(rt;
-        back.as_str(),
-        "93,0 to 83,17; 52,0 to 0,91; 12,0 to 0,20; "
-    );
     let down = filled_at(rt.alloc(), -30_500, 12_345, -7, 40)?;
-    assert_eq!(rt; down.as_str(), "0,36 to 61,0; 0,92 to 20,80; ");
     let up = filled_at(rt.alloc(), 90_000, 8192, 8, 0)?;
-    assert_eq!(rt; up.as_str(), "72,0 to 72,28; 40,0 to 40,60; 8,0 to 8,92; ");
+    assert_eq!(rt;
+        [aslant.as_str(), back.as_str(), down.as_str(), up.as_str()],
+        [
+            "91,0 to 95,5; 45,0 to 73,27; 0,0 to 50,50; 0,45 to 27,73; 0,91 to 5,95; ",
+            "93,0 to 83,17; 52,0 to 0,91; 12,0 to 0,20; ",
+            "0,36 to 61,0; 0,92 to 20,80; ",
+            "72,0 to 72,28; 40,0 to 40,60; 8,0 to 8,92; ",
+        ]
+    );
     Ok(())
 }
 

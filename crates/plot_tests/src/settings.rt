@@ -174,26 +174,24 @@ fn arcs(rt: HostRuntime) -> Result<(), Fail> {
 }
 
 #[test]
-fn moved_points(rt: HostRuntime) -> Result<(), Fail> {
+fn moved_points(rt: HostRuntime) {
     let points = Pair {
         x: Ends { first: 1, last: 11 },
         y: Ends { first: 2, last: 7 },
     };
     let moved = points_moved_to(points, 100, -3);
-    assert_eq!(rt; (moved.x.first, moved.x.last), (100, 110));
-    assert_eq!(rt; (moved.y.first, moved.y.last), (-3, 2));
-    Ok(())
+    let found = [moved.x.first, moved.x.last, moved.y.first, moved.y.last];
+    assert_eq!(rt; found, [100, 110, -3, 2]);
 }
 
 #[test]
-fn all_pens(rt: HostRuntime) -> Result<(), Fail> {
+fn all_pens(rt: HostRuntime) {
     let widths = width_of_all(FIRST_WIDTH);
     assert_eq!(rt; (widths[0], widths[255]), (224, 224));
     let colours = default_colours();
-    for (pen, colour) in colours.iter().enumerate() {
-        assert_eq!(rt; *colour, default_colour(pen as u8));
+    for pen in 0..=255u8 {
+        assert_eq!(rt; colours[pen as usize], default_colour(pen));
     }
     let yellow = default_colour(4);
     assert_eq!(rt; (yellow.red, yellow.green, yellow.blue), (255, 255, 0));
-    Ok(())
 }
