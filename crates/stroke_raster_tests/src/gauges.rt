@@ -40,6 +40,11 @@ fn a_gauge_with_gaps(rt: HostRuntime) -> Result<(), Fail> {
     let dots = Dots::new(127).ok_or("dots")?;
     let whole = Stroke::new(1, BLACK, 224, WHOLE, 0, 448, 1024, 448).ok_or("a stroke")?;
     let short = Stroke::new(1, BLACK, 224, WHOLE, 320, 448, 448, 448).ok_or("a stroke")?;
+    let mut wanted = [0u32; 64];
+    wanted[33] = 1;
+    wanted[35] = 2;
+    wanted[37] = 1;
+    wanted[39] = 1;
     for band_rows in [1, 3, 4096] {
         let mut gauge = Odd { tests: 0 };
         let cells = cells_by(
@@ -50,12 +55,7 @@ fn a_gauge_with_gaps(rt: HostRuntime) -> Result<(), Fail> {
             PenSet::all(),
             band_rows,
         )?;
-        assert_eq!(rt; cells.len(), 64);
-        assert_eq!(rt;
-            &cells.as_slice()[32..40],
-            [0, 1, 0, 2, 0, 1, 0, 1].as_slice()
-        );
-        assert!(rt; cells.iter().filter(|cell| **cell != 0).count() == 4);
+        assert_eq!(rt; cells.as_slice(), wanted.as_slice());
         assert_eq!(rt; gauge.tests(), 10);
     }
     Ok(())

@@ -1,7 +1,10 @@
 //! Strokes from a generator, painted in bands, against the pixel test itself, and as bits.
+ghost use Rattle.std.specs.Prelude.{◌≤◌, length};
+
 use crate::strokes::{BLACK, WHOLE, bits_by, cells_by, packed};
 use plot_page::{Dots, Page, PenSet, Stroke, Window};
 use std::alloc::Global;
+use std::process::Abort;
 use std::test::Fail;
 use stroke_raster::{Exact, Gauge, near};
 
@@ -73,31 +76,60 @@ fn cells_by_near(
     Ok(cells)
 }
 
-#[test]
-fn strokes_in_bands(rt: HostRuntime) -> Result<(), Fail> {
-    let mut numbers = Numbers { state: 7 };
-    let mut strokes = Vec::new(rt.alloc());
+// 24 strokes from the generator, and between them as many short ones if they are wanted.
+fn some_strokes(alloc: Global, seed: u32, with_short_ones: bool) -> Result<Vec<Stroke>, Fail> {
+    let mut numbers = Numbers { state: seed };
+    let mut strokes = Vec::new(alloc);
     for n in 0..24 {
         strokes.push(numbers.stroke(n).ok_or("a stroke")?)?;
-        strokes.push(numbers.short_stroke(n).ok_or("a stroke")?)?;
-    }
-    let pens = PenSet::none().with(1).with(2);
-    assert_eq!(rt; strokes.len(), 48);
-    for resolution in [127, 600] {
-        let dots = Dots::new(resolution).ok_or("a resolution")?;
-        let wanted = cells_by_near(rt.alloc(), strokes.as_slice(), dots, pens)?;
-        for band_rows in [1, 3, 4096] {
-            let mut gauge = Exact::new();
-            let cells = cells_by(
-                rt.alloc(),
-                &mut gauge,
-                strokes.as_slice(),
-                dots,
-                pens,
-                band_rows,
-            )?;
-            assert_eq!(rt; cells.as_slice(), wanted.as_slice());
+        if with_short_ones {
+            strokes.push(numbers.short_stroke(n).ok_or("a stroke")?)?;
         }
+    }
+    Ok(strokes)
+}
+
+// Fails unless the cells in bands of so many rows are those of `near`.
+fn has_cells_by_near(
+    rt: &impl Abort,
+    alloc: Global,
+    strokes: &[Stroke],
+    resolution: u32,
+    pens: PenSet,
+    band_rows: u32,
+) -> Result<(), Fail>
+    requires { length strokes.now ≤ 4194304 }
+{
+    let dots = Dots::new(resolution).ok_or("a resolution")?;
+    let wanted = cells_by_near(alloc, strokes, dots, pens)?;
+    let cells = cells_by(alloc, &mut Exact::new(), strokes, dots, pens, band_rows)?;
+    assert!(rt;
+        cells.as_slice() == wanted.as_slice(),
+        "{resolution} {band_rows}"
+    );
+    Ok(())
+}
+
+#[test]
+fn strokes_in_bands(rt: HostRuntime) -> Result<(), Fail> {
+    let strokes = some_strokes(rt.alloc(), 7, true)?;
+    assert_eq!(rt; strokes.len(), 48);
+    let pens = PenSet::none().with(1).with(2);
+    for resolution in [127, 600] {
+        for band_rows in [1, 3, 4096] {
+            has_cells_by_near(&rt, rt.alloc(), &strokes, resolution, pens, band_rows)?;
+        }
+    }
+    Ok(())
+}
+
+// Fails unless a stroke of pen 1 with these ends, in two widths, has the cells of `near`.
+fn is_wide(rt: &impl Abort, alloc: Global, ends: [i32; 4]) -> Result<(), Fail> {
+    let [ax, ay, bx, by] = ends;
+    let pens = PenSet::none().with(1);
+    for width in [224, 1000] {
+        let stroke = Stroke::new(1, BLACK, width, WHOLE, ax, ay, bx, by).ok_or("a stroke")?;
+        has_cells_by_near(rt, alloc, &[stroke], 600, pens, 4096)?;
     }
     Ok(())
 }
@@ -105,69 +137,48 @@ fn strokes_in_bands(rt: HostRuntime) -> Result<(), Fail> {
 // Rows through rounded ends, where the run is not what the stroke's sides cut out.
 #[test]
 fn wide_strokes(rt: HostRuntime) -> Result<(), Fail> {
-    let dots = Dots::new(600).ok_or("a resolution")?;
-    let pens = PenSet::none().with(1);
-    for (ax, ay, bx, by) in [
-        (512, 512, 512, 512),
-        (300, 320, 700, 500),
-        (700, 200, 340, 760),
-    ] {
-        for width in [224, 1000] {
-            let stroke = Stroke::new(1, BLACK, width, WHOLE, ax, ay, bx, by).ok_or("a stroke")?;
-            let strokes = [stroke];
-            let wanted = cells_by_near(rt.alloc(), &strokes, dots, pens)?;
-            let mut gauge = Exact::new();
-            let cells = cells_by(rt.alloc(), &mut gauge, &strokes, dots, pens, 4096)?;
-            assert_eq!(rt; cells.as_slice(), wanted.as_slice());
-        }
-    }
+    is_wide(&rt, rt.alloc(), [512, 512, 512, 512])?;
+    is_wide(&rt, rt.alloc(), [300, 320, 700, 500])?;
+    is_wide(&rt, rt.alloc(), [700, 200, 340, 760])
+}
+
+// Fails unless the bits in bands of so many rows are the cells packed, and as many tests are made for them.
+fn has_bits_of_cells(
+    rt: &impl Abort,
+    alloc: Global,
+    strokes: &[Stroke],
+    resolution: u32,
+    band_rows: u32,
+) -> Result<(), Fail>
+    requires { length strokes.now ≤ 4194304 }
+{
+    let dots = Dots::new(resolution).ok_or("a resolution")?;
+    let columns = dots.columns(&Page::new(64, 64, 0, 0)?);
+    let pens = PenSet::none().with(1).with(2);
+    let mut gauge = Exact::new();
+    let cells = cells_by(alloc, &mut gauge, strokes, dots, pens, 5)?;
+    let wanted = packed(alloc, &cells, columns)?;
+    let mut inking = Exact::new();
+    let bits = bits_by(alloc, &mut inking, strokes, dots, pens, band_rows, 0)?;
+    assert!(rt;
+        bits.as_slice() == wanted.as_slice(),
+        "{resolution} {band_rows}"
+    );
+    assert_eq!(rt; inking.tests(), gauge.tests());
+    let later = bits_by(alloc, &mut inking, strokes, dots, pens, band_rows, 4)?;
+    let before = 4 * columns.div_ceil(8) as usize;
+    assert!(rt; later.as_slice() == wanted.as_slice().get(before..).unwrap_or_default());
     Ok(())
 }
 
 // At 1200 dots a run of pixels may be longer than eight bytes take.
 #[test]
 fn strokes_as_bits(rt: HostRuntime) -> Result<(), Fail> {
-    let page = Page::new(64, 64, 0, 0)?;
-    let mut numbers = Numbers { state: 11 };
-    let mut strokes = Vec::new(rt.alloc());
-    for n in 0..24 {
-        strokes.push(numbers.stroke(n).ok_or("a stroke")?)?;
-    }
-    let pens = PenSet::none().with(1).with(2);
+    let strokes = some_strokes(rt.alloc(), 11, false)?;
     assert_eq!(rt; strokes.len(), 24);
     for resolution in [127, 600, 1200] {
-        let dots = Dots::new(resolution).ok_or("a resolution")?;
-        let columns = dots.columns(&page);
-        let mut gauge = Exact::new();
-        let cells = cells_by(rt.alloc(), &mut gauge, strokes.as_slice(), dots, pens, 5)?;
-        let wanted = packed(rt.alloc(), cells.as_slice(), columns)?;
-        let before = 4 * columns.div_ceil(8) as usize;
         for band_rows in [1, 3, 4096] {
-            let mut inking = Exact::new();
-            let bits = bits_by(
-                rt.alloc(),
-                &mut inking,
-                strokes.as_slice(),
-                dots,
-                pens,
-                band_rows,
-                0,
-            )?;
-            assert_eq!(rt; bits.as_slice(), wanted.as_slice());
-            assert_eq!(rt; inking.tests(), gauge.tests());
-            let later = bits_by(
-                rt.alloc(),
-                &mut inking,
-                strokes.as_slice(),
-                dots,
-                pens,
-                band_rows,
-                4,
-            )?;
-            assert_eq!(rt;
-                later.as_slice(),
-                wanted.as_slice().get(before..).unwrap_or_default()
-            );
+            has_bits_of_cells(&rt, rt.alloc(), &strokes, resolution, band_rows)?;
         }
     }
     Ok(())
