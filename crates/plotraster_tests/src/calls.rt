@@ -56,7 +56,7 @@ fn writes(rt: &impl Abort, alloc: Global, job: &Job) -> Result<u32, Fail> {
 
 #[test]
 fn a_band_of_a_pbm_is_one_write(rt: HostRuntime) -> Result<(), Fail> {
-    let job = eight_by_eight(Form::Pbm).ok_or("a job")?;
+    let job = eight_by_eight(Form::Pbm)?;
     for (band, wanted) in [(64, 2), (8, 2), (7, 3), (3, 4), (1, 9)] {
         assert_eq!(rt; writes(&rt, rt.alloc(), &Job { band, ..job })?, wanted);
     }
@@ -65,7 +65,7 @@ fn a_band_of_a_pbm_is_one_write(rt: HostRuntime) -> Result<(), Fail> {
 
 #[test]
 fn a_plot_is_read_in_large_pieces(rt: HostRuntime) -> Result<(), Fail> {
-    let job = eight_by_eight(Form::Pbm).ok_or("a job")?;
+    let job = eight_by_eight(Form::Pbm)?;
     let plot = [b';'; 70_000];
     let mut source = OverRead::new(Reader {
         rest: &plot,

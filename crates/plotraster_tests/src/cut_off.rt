@@ -1,50 +1,53 @@
 //! Plots that end anywhere.
-use crate::pages::{CROSSING, eight_by_eight};
+use crate::pages::eight_by_eight;
 use crate::runs::{drawn, reported};
-use plotraster::{Form, Job, OverRead, OverWrite, Page, report};
+use plotraster::{Form, OverRead, OverWrite};
 use std::alloc::Global;
+use std::process::Abort;
 use std::test::Fail;
 
-const PLOTS: [&[u8]; 14] = [
-    CROSSING,
-    b"SC0,8,0,8;PU0,3.5;PD8,3.5;",
-    b"SC0,8,0,8,2;PU0,3.5;PD8,3.5;",
-    b"SC8,0,0,8;SC0,0,0,8;PU0,3.5;PD4,3.5;",
-    b"SC0,8,0,8,1;PU0,3.5;PD8,3.5;",
-    b"PU0,28;PE\x3f\xc1\xbf;",
-    b"PU0,28;PE7?c_;",
-    b"PU0,28;PE7>c?o_;",
-    b"PU0,28;PE7:c?c_;",
-    b"PE7<=_w?c_;",
-    b"PU0,28;LBL\x03",
-    b"DT$;PU0,28;LBL$",
-    b"ZZ1,2;CO\"a;b\";PA1",
-    b"\x1b%-1BIN;SP1;PU0,28;PD64,28;SP0;\x1b%0A\x1bE",
-];
+const PLOTS: &str = "\
+SP1;PU0,28;PD64,28;SP2;PU28,0;PD28,64;SP1;PU0,12;PD64,12;
+SC0,8,0,8;PU0,3.5;PD8,3.5;
+SC0,8,0,8,2;PU0,3.5;PD8,3.5;
+SC8,0,0,8;SC0,0,0,8;PU0,3.5;PD4,3.5;
+SC0,8,0,8,1;PU0,3.5;PD8,3.5;
+PU0,28;PE7?c_;
+PU0,28;PE7>c?o_;
+PU0,28;PE7:c?c_;
+PE7<=_w?c_;
+PU0,28;LBL\x03
+DT$;PU0,28;LBL$
+ZZ1,2;CO\"a;b\";PA1
+\x1b%-1BIN;SP1;PU0,28;PD64,28;SP0;\x1b%0A\x1bE
+";
 
-// How many bytes the picture of a plot has.
-fn picture_length(alloc: Global, job: &Job, plot: &[u8]) -> Result<usize, Fail> {
-    Ok(drawn(alloc, job, plot)?.len())
-}
-
-// Whether the report on a plot begins as all do on this page.
-fn has_report(alloc: Global, page: &Page, plot: &[u8]) -> Result<bool, Fail> {
+// Fails unless the plot has a picture of all pixels, and a report that begins as all do on this page.
+fn is_read(rt: &impl Abort, alloc: Global, plot: &[u8]) -> Result<(), Fail> {
+    let job = eight_by_eight(Form::Pbm)?;
+    assert_eq!(rt; drawn(alloc, &job, plot)?.len(), 15, "{plot:?}");
     let mut sink = OverWrite::new(Vec::new(alloc));
-    reported(alloc, page, &mut OverRead::new(plot), &mut sink)?;
+    reported(alloc, &job.page, &mut OverRead::new(plot), &mut sink)?;
     let begin = b"page 64 64 0 0\nstrokes ";
-    Ok(sink.into_inner().as_slice().starts_with(begin))
+    assert!(rt; sink.into_inner().as_slice().starts_with(begin), "{plot:?}");
+    Ok(())
 }
 
 // A plot that is cut off after any of its bytes has a picture and a report.
-#[test]
-fn plots_cut_off_anywhere(rt: HostRuntime) -> Result<(), Fail> {
-    let job = eight_by_eight(Form::Pbm).ok_or("a job")?;
-    for plot in PLOTS {
-        for length in 0..=plot.len() {
-            let part = &plot[..length];
-            assert_eq!(rt; picture_length(rt.alloc(), &job, part)?, 15, "{length}");
-            assert!(rt; has_report(rt.alloc(), &job.page, part)?, "{length}");
-        }
+fn is_read_in_part(rt: &impl Abort, alloc: Global, plot: &[u8]) -> Result<(), Fail> {
+    for length in 0..=plot.len() {
+        is_read(rt, alloc, &plot[..length])?;
     }
     Ok(())
+}
+
+#[test]
+fn plots_cut_off_anywhere(rt: HostRuntime) -> Result<(), Fail> {
+    let mut count: usize = 0;
+    for plot in PLOTS.lines() {
+        is_read_in_part(&rt, rt.alloc(), plot.as_bytes())?;
+        count = count.saturating_add(1);
+    }
+    assert_eq!(rt; count, 13);
+    is_read_in_part(&rt, rt.alloc(), b"PU0,28;PE\x3f\xc1\xbf;")
 }

@@ -1,46 +1,47 @@
 //! Faults with their statuses and texts.
 use hpgl_plot::PlotFault;
 use hpgl_text::TextFault;
-use plotraster::{BuildFault, Done, Fault, LineFault, PageFault, SinkFault, exit_status, status};
-use std::alloc::Global;
-use std::fmt::Display;
-use std::process::Abort;
+use plotraster::{Done, Fault, PageFault, SinkFault, exit_status, status};
 use std::test::Fail;
 use stroke_raster::PaintFault;
 
-#[test]
-fn statuses_and_texts(rt: HostRuntime) -> Result<(), Fail> {
-    let write = Fault::Write {
+const FAULTS: [Fault; 9] = [
+    Fault::TooLong,
+    Fault::Memory,
+    Fault::Plot(PlotFault::OffRange { at: 7 }),
+    Fault::Plot(PlotFault::TooManyStrokes { at: 40775 }),
+    Fault::Paint(PaintFault::Band),
+    Fault::Paint(PaintFault::Row),
+    Fault::Write {
         row: 5,
         whole: 131,
         bytes: 141,
-    };
-    let off_range = Fault::Plot(PlotFault::OffRange { at: 7 });
-    let too_many = Fault::Plot(PlotFault::TooManyStrokes { at: 40775 });
-    let cases = [
-        (Fault::TooLong, 1, "plot is longer than 67108864 bytes"),
-        (Fault::Memory, 4, "out of memory"),
-        (off_range, 1, "place off range at byte 7"),
-        (too_many, 1, "too many strokes at byte 40775"),
-        (
-            Fault::Paint(PaintFault::Band),
-            2,
-            "band height must be 1 to 4096",
-        ),
-        (
-            Fault::Paint(PaintFault::Row),
-            2,
-            "first row is past the last row",
-        ),
-        (write, 3, "write failed: go on from row 5 after byte 131"),
-        (Fault::Read, 3, "read failed"),
-        (Fault::Resolution, 2, "resolution is not one of PCL's"),
-    ];
-    for (fault, its_status, text) in cases {
-        assert_eq!(rt; status(&fault), its_status);
-        assert_eq!(rt; exit_status(&Err(fault)), its_status);
-        reads(&rt, rt.alloc(), &fault, text)?;
+    },
+    Fault::Read,
+    Fault::Resolution,
+];
+
+// The status of each fault, that of a run that stops for it, and its text.
+const STATUSES_AND_TEXTS: &str = "\
+1 1 plot is longer than 67108864 bytes
+4 4 out of memory
+1 1 place off range at byte 7
+1 1 too many strokes at byte 40775
+2 2 band height must be 1 to 4096
+2 2 first row is past the last row
+3 3 write failed: go on from row 5 after byte 131
+3 3 read failed
+2 2 resolution is not one of PCL's
+";
+
+#[test]
+fn statuses_and_texts(rt: HostRuntime) -> Result<(), Fail> {
+    let mut text = String::new(rt.alloc());
+    for fault in FAULTS {
+        let (its_status, exit) = (status(&fault), exit_status(&Err(fault)));
+        write!(text, "{its_status} {exit} {fault}\n")?;
     }
+    assert_eq!(rt; text.as_str(), STATUSES_AND_TEXTS);
     let done = Done {
         rows: 8,
         bytes: 15,
@@ -51,59 +52,31 @@ fn statuses_and_texts(rt: HostRuntime) -> Result<(), Fail> {
     Ok(())
 }
 
-// Fails unless the text of a fault is this.
-fn reads<F: Display>(rt: &impl Abort, alloc: Global, fault: &F, wanted: &str) -> Result<(), Fail> {
-    let text = format!(in alloc; "{fault}")?;
-    assert_eq!(rt; text.as_str(), wanted);
-    Ok(())
-}
-
-#[test]
-fn texts_of_a_command_line(rt: HostRuntime) -> Result<(), Fail> {
-    reads(&rt, rt.alloc(), &LineFault::Words, "words not understood")?;
-    reads(&rt, rt.alloc(), &LineFault::Pens, "bad pen list")?;
-    reads(&rt, rt.alloc(), &LineFault::Profile, "bad profile")?;
-    let sheet = "--sheet needs --profile full";
-    reads(&rt, rt.alloc(), &LineFault::Sheet, sheet)?;
-    reads(&rt, rt.alloc(), &BuildFault::Memory, "out of memory")
-}
-
-#[test]
-fn texts_of_a_page_and_a_sink(rt: HostRuntime) -> Result<(), Fail> {
-    let size = "page width and height must be 64 to 65536";
-    reads(&rt, rt.alloc(), &PageFault::Size, size)?;
-    let corner = "page corner must be 0 to 65536 left and below";
-    reads(&rt, rt.alloc(), &PageFault::Corner, corner)?;
-    reads(&rt, rt.alloc(), &SinkFault, "the sink takes no bytes")
-}
+const TEXTS: &str = "\
+page width and height must be 64 to 65536
+page corner must be 0 to 65536 left and below
+the sink takes no bytes
+plot is longer than 67108864 bytes
+out of memory
+out of memory
+place off range at byte 7
+too many strokes at byte 40775
+band height must be 1 to 4096
+first row is past the last row
+out of memory
+";
 
 #[test]
 fn texts_of_the_faults_of_each_step(rt: HostRuntime) -> Result<(), Fail> {
-    let texts = [
-        (TextFault::TooLong, "plot is longer than 67108864 bytes"),
-        (TextFault::Memory, "out of memory"),
-    ];
-    for (fault, text) in texts {
-        reads(&rt, rt.alloc(), &fault, text)?;
-    }
-    let texts = [
-        (PlotFault::Memory, "out of memory"),
-        (PlotFault::OffRange { at: 7 }, "place off range at byte 7"),
-        (
-            PlotFault::TooManyStrokes { at: 40775 },
-            "too many strokes at byte 40775",
-        ),
-    ];
-    for (fault, text) in texts {
-        reads(&rt, rt.alloc(), &fault, text)?;
-    }
-    let texts = [
-        (PaintFault::Band, "band height must be 1 to 4096"),
-        (PaintFault::Row, "first row is past the last row"),
-        (PaintFault::Memory, "out of memory"),
-    ];
-    for (fault, text) in texts {
-        reads(&rt, rt.alloc(), &fault, text)?;
-    }
+    let (size, corner, sink) = (PageFault::Size, PageFault::Corner, SinkFault);
+    let (long, no_text) = (TextFault::TooLong, TextFault::Memory);
+    let no_drawing = PlotFault::Memory;
+    let off_range = PlotFault::OffRange { at: 7 };
+    let too_many = PlotFault::TooManyStrokes { at: 40775 };
+    let (band, row, no_band) = (PaintFault::Band, PaintFault::Row, PaintFault::Memory);
+    let text = format!(in rt.alloc();
+        "{size}\n{corner}\n{sink}\n{long}\n{no_text}\n{no_drawing}\n{off_range}\n{too_many}\n{band}\n{row}\n{no_band}\n"
+    )?;
+    assert_eq!(rt; text.as_str(), TEXTS);
     Ok(())
 }

@@ -5,7 +5,7 @@ use plotraster::{Dots, Exact, Form, Gauge, Job, OverRead, OverWrite, Page, conve
 use std::test::Fail;
 
 fn fine(form: Form) -> Result<Job, Fail> {
-    let mut job = eight_by_eight(form).ok_or("a job")?;
+    let mut job = eight_by_eight(form)?;
     job.dots = Dots::new(1200).ok_or("a resolution")?;
     Ok(job)
 }

@@ -18,7 +18,7 @@ fn picture_by<G: Gauge>(
     first_row: u32,
     band: u32,
 ) -> Result<Vec<u8>, Fail> {
-    let mut job = eight_by_eight(form).ok_or("a job")?;
+    let mut job = eight_by_eight(form)?;
     job.first_row = first_row;
     job.band = band;
     let mut sink = OverWrite::new(Vec::new(alloc));

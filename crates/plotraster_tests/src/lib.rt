@@ -4,6 +4,8 @@
 #[cfg(test)]
 mod calls;
 #[cfg(test)]
+mod cases;
+#[cfg(test)]
 mod colours;
 #[cfg(test)]
 mod cut_off;
@@ -37,7 +39,5 @@ mod refusals;
 mod reports;
 #[cfg(test)]
 mod runs;
-#[cfg(test)]
-mod settings;
 #[cfg(test)]
 mod sources;

@@ -73,8 +73,7 @@ impl Sink for Limited {
     }
 }
 
-// Breaks a picture of `size` bytes off after each number of them, and goes on from the row that the
-// fault names.
+// Breaks a picture off after each number of its bytes, and goes on from the row that the fault names.
 fn broken_off_anywhere(
     rt: &impl Abort,
     alloc: Global,
@@ -88,49 +87,59 @@ fn broken_off_anywhere(
     requires some { 0 < row_bytes }
     requires few { row_bytes ≤ 100 }
 {
-    let whole_picture = drawn(alloc, job, CROSSING)?;
-    assert_eq!(rt; whole_picture.len(), size);
+    let picture = drawn(alloc, job, CROSSING)?;
+    assert_eq!(rt; picture.len(), size);
     for room in 0..size {
-        let mut sink = Limited::ending_after(alloc, room);
-        let answer = converted(alloc, job, &mut OverRead::new(CROSSING), &mut sink);
         let (row, whole) = if room < head + row_bytes {
             (0, 0)
         } else {
             let rows = room - head;
             (rows / row_bytes, room - rows % row_bytes)
         };
-        let wanted = Fault::Write {
-            row: row as u32,
-            whole: whole as u64,
-            bytes: room as u64,
-        };
-        let stopped = matches!(answer, Err(fault) if fault == wanted);
-        assert!(rt; stopped, "{room}");
-        assert_eq!(rt; sink.bytes.as_slice(), &whole_picture.as_slice()[..room]);
-        assert_eq!(rt; sink.failures, 1);
-        let mut rest = *job;
-        rest.first_row = row as u32;
-        has_picture(
-            rt,
-            alloc,
-            &rest,
-            CROSSING,
-            &whole_picture.as_slice()[whole..],
-        )?;
+        broken_off_after(rt, alloc, job, &picture, room, (row as u32, whole))?;
     }
     Ok(())
 }
 
+// Breaks a picture off after so many bytes, of which those before a row are whole.
+fn broken_off_after(
+    rt: &impl Abort,
+    alloc: Global,
+    job: &Job,
+    picture: &[u8],
+    room: usize,
+    written: (u32, usize),
+) -> Result<(), Fail> {
+    let (row, whole) = written;
+    let mut sink = Limited::ending_after(alloc, room);
+    let answer = converted(alloc, job, &mut OverRead::new(CROSSING), &mut sink);
+    let wanted = Fault::Write {
+        row,
+        whole: whole as u64,
+        bytes: room as u64,
+    };
+    assert_eq!(rt; answer, Err(wanted), "{room}");
+    assert!(rt;
+        Some(sink.bytes.as_slice()) == picture.get(..room),
+        "{room}"
+    );
+    assert_eq!(rt; sink.failures, 1);
+    let mut rest = *job;
+    rest.first_row = row;
+    let from = picture.get(whole..).unwrap_or_default();
+    has_picture(rt, alloc, &rest, CROSSING, from)
+}
+
 #[test]
 fn a_pixmap_broken_off_anywhere(rt: HostRuntime) -> Result<(), Fail> {
-    let job = eight_by_eight(Form::Ppm).ok_or("a job")?;
+    let job = eight_by_eight(Form::Ppm)?;
     broken_off_anywhere(&rt, rt.alloc(), &job, 203, 11, 24)
 }
 
 // Three bytes a row, and bands of one row, of several and a last one of fewer, and of all.
 #[test]
 fn a_bitmap_broken_off_anywhere(rt: HostRuntime) -> Result<(), Fail> {
-    let mut job = eight_by_eight(Form::Pbm).ok_or("a job")?;
+    let mut job = eight_by_eight(Form::Pbm)?;
     job.dots = Dots::new(381).ok_or("381 dots per inch")?;
     for band in [1, 7, 64] {
         job.band = band;

@@ -66,7 +66,7 @@ fn a_reader_is_not_asked_again(rt: HostRuntime) -> Result<(), Fail> {
 }
 
 fn reads_fail_once(rt: &impl Abort, alloc: Global, kind: ErrorKind) -> Result<(), Fail> {
-    let job = eight_by_eight(Form::Pbm).ok_or("a job")?;
+    let job = eight_by_eight(Form::Pbm)?;
     let mut source = OverRead::new(Reader {
         rest: CROSSING,
         kind,
@@ -74,8 +74,7 @@ fn reads_fail_once(rt: &impl Abort, alloc: Global, kind: ErrorKind) -> Result<()
     });
     let mut sink = OverWrite::new(Vec::new(alloc));
     let answer = converted(alloc, &job, &mut source, &mut sink);
-    let is_refused = matches!(answer, Err(Fault::Read));
-    assert!(rt; is_refused);
+    assert_eq!(rt; answer, Err(Fault::Read));
     assert_eq!(rt; source.failures(), 1);
     assert_eq!(rt; source.into_inner().calls, 3);
     assert!(rt; sink.into_inner().is_empty());
@@ -91,7 +90,7 @@ fn a_writer_is_not_asked_again(rt: HostRuntime) -> Result<(), Fail> {
 }
 
 fn writes_fail_once(rt: &impl Abort, alloc: Global, kind: ErrorKind) -> Result<(), Fail> {
-    let job = eight_by_eight(Form::Ppm).ok_or("a job")?;
+    let job = eight_by_eight(Form::Ppm)?;
     let mut sink = OverWrite::new(Writer {
         bytes: Vec::new(alloc),
         kind,
@@ -104,8 +103,7 @@ fn writes_fail_once(rt: &impl Abort, alloc: Global, kind: ErrorKind) -> Result<(
         whole: 0,
         bytes: 11,
     };
-    let is_stopped = matches!(answer, Err(fault) if fault == wanted);
-    assert!(rt; is_stopped);
+    assert_eq!(rt; answer, Err(wanted));
     assert_eq!(rt; sink.failures(), 1);
     let writer = sink.into_inner();
     assert_eq!(rt; writer.calls, 3);

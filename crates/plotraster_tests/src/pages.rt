@@ -1,5 +1,6 @@
 //! The page that most tests draw on, and the plots that they draw.
-use plotraster::{Colour, Dots, Form, Job, Page, PenSet};
+use plotraster::{Dots, Form, Job, Page, PenSet};
+use std::test::Fail;
 
 /// A horizontal line in the middle of row 4.
 pub const LINE: &[u8] = b"SP1;PU0,28;PD64,28;";
@@ -7,19 +8,11 @@ pub const LINE: &[u8] = b"SP1;PU0,28;PD64,28;";
 /// A line of pen 1 in row 4, one of pen 2 in column 3 over it, and one of pen 1 in row 6 over both.
 pub const CROSSING: &[u8] = b"SP1;PU0,28;PD64,28;SP2;PU28,0;PD28,64;SP1;PU0,12;PD64,12;";
 
-/// The colour of pen 1.
-pub const BLACK: Colour = Colour {
-    red: 0,
-    green: 0,
-    blue: 0,
-};
-
 /// A page of 8 by 8 pixels, each of 8 by 8 plotter units, whole, of all pens.
-pub fn eight_by_eight(form: Form) -> Option<Job> {
-    let page = Page::new(64, 64, 0, 0).ok()?;
-    Some(Job {
-        page,
-        dots: Dots::new(127)?,
+pub fn eight_by_eight(form: Form) -> Result<Job, Fail> {
+    Ok(Job {
+        page: Page::new(64, 64, 0, 0)?,
+        dots: Dots::new(127).ok_or("a resolution")?,
         pens: PenSet::all(),
         band: 64,
         first_row: 0,

@@ -65,7 +65,7 @@ fn wanted_bits(alloc: Global, job: &Job, plot: &[u8]) -> Result<Vec<u8>, Fail> {
 
 // Whether the plot has a picture: then it is that of `near`, in bands of any height.
 fn has_exact_picture(alloc: Global, resolution: u32, plot: &[u8]) -> Result<bool, Fail> {
-    let mut job = eight_by_eight(Form::Pbm).ok_or("a job")?;
+    let mut job = eight_by_eight(Form::Pbm)?;
     job.dots = Dots::new(resolution).ok_or("a resolution")?;
     let picture = match drawn(alloc, &job, plot) {
         Ok(picture) => picture,
