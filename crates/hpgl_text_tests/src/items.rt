@@ -1,5 +1,5 @@
 // Plots and what they are cut into, by the printed forms of their items.
-use hpgl_text::{Base, Number, TextFault, lex, read_coded, read_number};
+use hpgl_text::{Base, TextFault, lex, read_coded, read_number};
 use std::alloc::Global;
 use std::process::Abort;
 use std::test::Fail;
@@ -49,107 +49,85 @@ fn items_of_all(alloc: Global, cases: &str) -> Result<(String, usize), Fail> {
     Ok((lines, count))
 }
 
-#[test]
-fn small_letters(rt: HostRuntime) -> Result<(), Fail> {
-    has_items(
-        &rt,
-        rt.alloc(),
-        b"pu0,28pd-64.5,.25",
-        "\
+const LETTERS_AND_NUMBERS: &str = "\
+pu0,28pd-64.5,.25
 Item { at: 0, body: Params(PenUp, [Number { millionths: 0 }, Number { millionths: 28000000 }]), \
     code: [80, 85], unended: false }
 Item { at: 6, body: Params(PenDown, [Number { millionths: -64500000 }, Number { millionths: 250000 }]), \
     code: [80, 68], unended: false }
-",
-    )
-}
 
-#[test]
-fn lists_of_each_length(rt: HostRuntime) -> Result<(), Fail> {
-    has_items(
-        &rt,
-        rt.alloc(),
-        b"PU;SP3;AA4,5,6",
-        "\
+PU;SP3;AA4,5,6
 Item { at: 0, body: Params(PenUp, []), code: [80, 85], unended: false }
 Item { at: 3, body: Params(SelectPen, [Number { millionths: 3000000 }]), code: [83, 80], unended: false }
 Item { at: 7, body: Params(ArcAbsolute, [Number { millionths: 4000000 }, Number { millionths: 5000000 }, \
     Number { millionths: 6000000 }]), code: [65, 65], unended: false }
-",
-    )
+
+";
+
+#[test]
+fn letters_and_numbers(rt: HostRuntime) -> Result<(), Fail> {
+    has_items_of_all(&rt, rt.alloc(), LETTERS_AND_NUMBERS, 2)
 }
+
+const LABELS: &str = "\
+DT$;LBL$
+Item { at: 0, body: Terminator(36), code: [68, 84], unended: false }
+Item { at: 4, body: Label([76]), code: [76, 66], unended: false }
+
+LBL
+Item { at: 0, body: Label([76]), code: [76, 66], unended: true }
+
+";
 
 #[test]
 fn labels(rt: HostRuntime) -> Result<(), Fail> {
-    has_items(
-        &rt,
-        rt.alloc(),
-        b"DT$;LBL$",
-        "\
-Item { at: 0, body: Terminator(36), code: [68, 84], unended: false }
-Item { at: 4, body: Label([76]), code: [76, 66], unended: false }
-",
-    )?;
-    has_items(
-        &rt,
-        rt.alloc(),
-        b"LBL",
-        "Item { at: 0, body: Label([76]), code: [76, 66], unended: true }\n",
-    )
+    has_items_of_all(&rt, rt.alloc(), LABELS, 2)
 }
 
 // A terminator holds until another is defined, or until IN or DF.
-#[test]
-fn terminators(rt: HostRuntime) -> Result<(), Fail> {
-    has_items(
-        &rt,
-        rt.alloc(),
-        b"DT$;PU;LBA$",
-        "\
+const TERMINATORS: &str = "\
+DT$;PU;LBA$
 Item { at: 0, body: Terminator(36), code: [68, 84], unended: false }
 Item { at: 4, body: Params(PenUp, []), code: [80, 85], unended: false }
 Item { at: 7, body: Label([65]), code: [76, 66], unended: false }
-",
-    )?;
-    has_items(
-        &rt,
-        rt.alloc(),
-        b"DT$;IN;LB$\x03",
-        "\
+
+DT$;IN;LB$\x03
 Item { at: 0, body: Terminator(36), code: [68, 84], unended: false }
 Item { at: 4, body: Params(Initialize, []), code: [73, 78], unended: false }
 Item { at: 7, body: Label([36]), code: [76, 66], unended: false }
-",
-    )
+
+";
+
+#[test]
+fn terminators(rt: HostRuntime) -> Result<(), Fail> {
+    has_items_of_all(&rt, rt.alloc(), TERMINATORS, 2)
 }
 
 // The byte after SM is the symbol, also a quote.
-#[test]
-fn symbols(rt: HostRuntime) -> Result<(), Fail> {
-    has_items(
-        &rt,
-        rt.alloc(),
-        b"SM\";PU",
-        "\
+const SYMBOLS: &str = "\
+SM\";PU
 Item { at: 0, body: Skipped, code: [83, 77], unended: false }
 Item { at: 4, body: Params(PenUp, []), code: [80, 85], unended: false }
-",
-    )
-}
+
+";
 
 #[test]
-fn skipped_and_stray(rt: HostRuntime) -> Result<(), Fail> {
-    has_items(
-        &rt,
-        rt.alloc(),
-        b"ZZ1,2;CO\"a;b\";PA1:\x1b%-1B\x1b.(;!\x1bE",
-        "\
+fn symbols(rt: HostRuntime) -> Result<(), Fail> {
+    has_items_of_all(&rt, rt.alloc(), SYMBOLS, 1)
+}
+
+const SKIPPED_AND_STRAY: &str = "\
+ZZ1,2;CO\"a;b\";PA1:\x1b%-1B\x1b.(;!\x1bE
 Item { at: 0, body: Skipped, code: [90, 90], unended: false }
 Item { at: 6, body: Skipped, code: [67, 79], unended: false }
 Item { at: 14, body: Bad, code: [80, 65], unended: false }
 Item { at: 27, body: Stray(33), code: [0, 0], unended: false }
-",
-    )
+
+";
+
+#[test]
+fn skipped_and_stray(rt: HostRuntime) -> Result<(), Fail> {
+    has_items_of_all(&rt, rt.alloc(), SKIPPED_AND_STRAY, 1)
 }
 
 #[test]
@@ -164,17 +142,18 @@ fn mnemonics(rt: HostRuntime) -> Result<(), Fail> {
 }
 
 #[test]
-fn numbers(rt: HostRuntime) {
-    let millionths = |found: Option<(Number, usize)>| found.map(|(number, next)| (
-        number.millionths(),
-        next,
-    ));
+fn numbers(rt: HostRuntime) -> Result<(), Fail> {
+    let found = [
+        read_number(b"PA-1.5,7", 2),
+        read_number(b"8388608", 0),
+        read_number(b"12", 3),
+    ];
+    let told = format!(in rt.alloc(); "{found:?}")?;
     assert_eq!(rt;
-        millionths(read_number(b"PA-1.5,7", 2)),
-        Some((-1_500_000, 6))
+        told.as_str(),
+        "[Some((Number { millionths: -1500000 }, 6)), None, None]"
     );
-    assert_eq!(rt; millionths(read_number(b"8388608", 0)), None);
-    assert_eq!(rt; millionths(read_number(b"12", 3)), None);
+    Ok(())
 }
 
 const ENCODED_LINES: &str = "\
@@ -254,60 +233,59 @@ Item { at: 7, body: Coded([Entry { at: 9, what: Bad }]), code: [80, 69], unended
 }
 
 // Two bits of each coordinate are a fraction.
+const FRACTIONS: &str = "\
+PE7>c_?o;
+Item { at: 0, body: Coded([Entry { at: 5, what: Pair { up: false, absolute: false, \
+    x: Number { millionths: 0 }, y: Number { millionths: 64000000 } } }]), code: [80, 69], unended: false }
+
+";
+
 #[test]
 fn fractions(rt: HostRuntime) -> Result<(), Fail> {
-    has_items(
-        &rt,
-        rt.alloc(),
-        b"PE7>c_?o;",
-        "Item { at: 0, body: Coded([Entry { at: 5, what: Pair { up: false, absolute: false, \
-             x: Number { millionths: 0 }, y: Number { millionths: 64000000 } } }]), \
-             code: [80, 69], unended: false }\n",
-    )
+    has_items_of_all(&rt, rt.alloc(), FRACTIONS, 1)
 }
 
 // A number without its last digit is bad if the polyline has its end.
+const BROKEN_NUMBERS: &str = "\
+PE??;
+Item { at: 0, body: Coded([Entry { at: 2, what: Bad }]), code: [80, 69], unended: false }
+
+PEG
+Item { at: 0, body: Coded([]), code: [80, 69], unended: true }
+
+PE??????
+Item { at: 0, body: Coded([Entry { at: 2, what: Bad }]), code: [80, 69], unended: true }
+
+";
+
 #[test]
 fn broken_numbers(rt: HostRuntime) -> Result<(), Fail> {
-    has_items(
-        &rt,
-        rt.alloc(),
-        b"PE??;",
-        "Item { at: 0, body: Coded([Entry { at: 2, what: Bad }]), code: [80, 69], unended: false }\n",
-    )
-}
-
-#[test]
-fn cut_polylines(rt: HostRuntime) -> Result<(), Fail> {
-    has_items(
-        &rt,
-        rt.alloc(),
-        b"PEG",
-        "Item { at: 0, body: Coded([]), code: [80, 69], unended: true }\n",
-    )?;
-    has_items(
-        &rt,
-        rt.alloc(),
-        b"PE??????",
-        "Item { at: 0, body: Coded([Entry { at: 2, what: Bad }]), code: [80, 69], unended: true }\n",
-    )
-}
-
-// Fails unless this is the number at a place, and where it ends.
-fn reads(rt: &impl Abort, plot: &[u8], at: usize, base: Base, wanted: Option<(i64, usize)>) {
-    assert_eq!(rt; read_coded(plot, at, base), wanted);
+    has_items_of_all(&rt, rt.alloc(), BROKEN_NUMBERS, 3)
 }
 
 #[test]
 fn coded_numbers(rt: HostRuntime) {
-    reads(&rt, b"G\xc2", 0, Base::SixtyFour, Some((100, 2)));
-    reads(&rt, b"Ge", 0, Base::ThirtyTwo, Some((100, 2)));
-    reads(&rt, b"PE\xc6", 2, Base::SixtyFour, Some((-3, 3)));
-    reads(&rt, b"?????\xbf", 0, Base::SixtyFour, Some((0, 6)));
-    reads(&rt, b"??????\xbf", 0, Base::SixtyFour, None);
-    reads(&rt, b"??????_", 0, Base::ThirtyTwo, Some((0, 7)));
-    reads(&rt, b"???????_", 0, Base::ThirtyTwo, None);
-    reads(&rt, b"_", 1, Base::ThirtyTwo, None);
+    let found = [
+        read_coded(b"G\xc2", 0, Base::SixtyFour),
+        read_coded(b"Ge", 0, Base::ThirtyTwo),
+        read_coded(b"PE\xc6", 2, Base::SixtyFour),
+        read_coded(b"?????\xbf", 0, Base::SixtyFour),
+        read_coded(b"??????\xbf", 0, Base::SixtyFour),
+        read_coded(b"??????_", 0, Base::ThirtyTwo),
+        read_coded(b"???????_", 0, Base::ThirtyTwo),
+        read_coded(b"_", 1, Base::ThirtyTwo),
+    ];
+    let wanted = [
+        Some((100, 2)),
+        Some((100, 2)),
+        Some((-3, 3)),
+        Some((0, 6)),
+        None,
+        Some((0, 7)),
+        None,
+        None,
+    ];
+    assert_eq!(rt; found, wanted);
 }
 
 #[test]

@@ -46,9 +46,12 @@ fn why(item: &Item<'_>) -> Option<&'static str> {
 
 // Whether something in a PE is noted.
 fn has_notes(polyline: &Polyline<'_>) -> bool {
-    polyline
-        .entries()
-        .any(|entry| matches!(&entry.what, Part::Bad | Part::Stray(_)))
+    for entry in polyline.entries() {
+        if matches!(&entry.what, Part::Bad | Part::Stray(_)) {
+            return true;
+        }
+    }
+    false
 }
 
 // `plot [-5:5] sin(x) with linespoints` of gnuplot 5.4 by its terminal `hpgl 6 eject`, with 4 samples.
