@@ -1,23 +1,18 @@
 -- Rows of bits, each after the command that transfers it, are the rows of PCL.
-use Rattle.std.proofs.Common.{◌≡◌, ℕ, zero, suc, ◌+◌, ◌-◌, ◌*◌, ◌/◌, ◌<◌, ◌≤◌, List, [], ◌∷◌, ◌++◌, All, length, take, drop, map, get_or}
-use Rattle.std.proofs.Common.{flat_map, refl, sym, ap, ap₂, subst, ◌∙◌, arith, length-append}
+use Rattle.std.proofs.Common.{◌≡◌, ℕ, zero, suc, ◌+◌, ◌*◌, ◌/◌, ◌<◌, List, [], ◌∷◌, ◌++◌, All, length, take, drop, map, get_or}
+use Rattle.std.proofs.Common.{flat_map, refl, sym, ap, ◌∙◌, arith, length-append}
 use Rattle.std.proofs.Math.Nat.{div-eq_of_eq-mul_left}
 use Rattle.std.proofs.lemmas.Grind.{take_at_read}
 use Rattle.std.proofs.lemmas.List.{flat_map_more, length-drop, length-take-le}
 use Rattle.std.proofs.lemmas.List.Concat.{flat_map-cons}
-use Rattle.plot_page.specs.Segments.{Segment}
-use Rattle.plot_page.specs.Resolutions.{columns_of}
-use Rattle.stroke_raster.specs.Painting.{Painting, Moves, painted_rows, rows_next}
 use Rattle.stroke_raster.specs.Rows.{split_rows}
-use Rattle.stroke_raster.proofs.Rows.{get_or-split_rows, length-split_rows, rows_width}
-use Rattle.bit_rows.specs.Bits.{bytes_for, packed}
+use Rattle.stroke_raster.proofs.Rows.{get_or-split_rows, length-split_rows}
+use Rattle.bit_rows.specs.Bits.{packed}
 use Rattle.picture_out.specs.declared.form.Form.TheVariants.{Pcl}
 use Rattle.picture_out.specs.declared.inks.Ink.{Ink}
 use Rattle.picture_out.specs.Pcl as pcl
 use Rattle.picture_out.specs.Pcl.{transfer_command}
-use Rattle.conversion.specs.Pictures.{Reach}
 use Rattle.conversion.specs.Progress.{AreEven, rows_text}
-use Rattle.conversion.proofs.BitRows.{few_rows, inked_band, packed_width}
 
 -- one more row
 pub row_more : (s k n i : ℕ) (bits text next : List ℕ) → i < n → k ≡ s → text ≡ flat_map pcl.row (take i (split_rows s n bits))
@@ -68,40 +63,3 @@ even_part inks at s size rows one wide = rw one (even inks at s rows wide)
 
 pub whole_text : (inks : List Ink) (at : ℕ) (rows parts : List (List ℕ)) (text : List ℕ) → parts ≡ map packed rows → text ≡ flat_map pcl.row parts → text ≡ rows_text Pcl inks at rows
 whole_text inks at rows parts text split made = made ∙ ap (flat_map pcl.row) split ∙ text_is inks at rows
-
--- the n rows of s bytes each that a painting p, which became q, has in a band of these bits
-pub record IsNextBand (p : Painting) (rows : List (List ℕ)) (n s : ℕ) (bits : List ℕ) : Type 0 where
-  pub tall : length rows ≡ n
-  pub many : n ≡ rows_next p
-  pub some : 1 ≤ n
-  pub low : n ≤ 77405
-  pub narrow : s ≤ 9676
-  pub size : length bits ≡ n * s
-  pub wide : All (λ row. length (packed row) ≡ s) rows
-  pub split : split_rows s n bits ≡ map packed rows
-
-pub next_band : (p q : Painting) (reaches : Reach) (at after columns s : ℕ) (bits : List ℕ) → Moves p q → 1 ≤ rows_next p
-    → q.last.rows ≡ map packed (painted_rows reaches p p.next (rows_next p))
-    → split_rows (bytes_for (columns_of q.page q.dots)) (length q.last.rows) bits ≡ q.last.rows
-    → length bits ≡ length q.last.rows * bytes_for (columns_of q.page q.dots)
-    → at ≡ p.next → after ≡ q.next → columns ≡ columns_of p.page p.dots → columns ≤ 77405 → s ≡ bytes_for columns
-    → IsNextBand p (painted_rows reaches p p.next (rows_next p)) (after - at) s bits
-next_band p q reaches at after columns s bits moved some shown split sized at_is after_is columns_is few s_is =
-    let rows : List (List ℕ) = painted_rows reaches p p.next (rows_next p) in
-    let band = inked_band p q reaches (length bits) moved shown sized in
-    let tall : length rows ≡ after - at = omega (arith, at_is, after_is, moved.next, band.tall) in
-    let stride : s ≡ bytes_for (columns_of p.page p.dots) = s_is ∙ ap bytes_for columns_is in
-    let stride' : bytes_for (columns_of q.page q.dots) ≡ s = ap bytes_for band.same ∙ sym stride in
-    let covers = λ (t : Segment). reaches t p.page p.dots in
-    let wide = packed_width (columns_of p.page p.dots) rows (rows_width covers p.pens p.strokes (columns_of p.page p.dots) p.next (rows_next p)) in
-    let rows_in = few_rows p.page.height p.dots.resolution (omega (arith, p.page.height_in)) (omega (arith, p.dots.at_most)) in
-    record {
-      tall = tall;
-      many = sym tall ∙ band.tall;
-      some = omega (arith, sym tall, band.tall, some);
-      low = omega (arith, tall, band.tall, rows_in);
-      narrow = omega (arith, s_is, few);
-      size = band.total ∙ ap₂ (λ (a b : ℕ). a * b) tall (sym stride);
-      wide = subst (λ (k : ℕ). All (λ (row : List ℕ). length (packed row) ≡ k) rows) (sym stride) wide;
-      split = sym (ap₂ (λ (a b : ℕ). split_rows a b bits) stride' (band.many ∙ tall)) ∙ split ∙ shown;
-    }

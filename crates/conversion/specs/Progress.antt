@@ -105,3 +105,8 @@ HasPainted job reaches strokes sink sink' (Err (Write row whole bytes)) =
 HasPainted job reaches strokes sink sink' (Err (Paint fault)) = job_fault job ≡ Some (Paint fault)
 HasPainted job reaches strokes sink sink' (Err Memory) = ⊤
 HasPainted job reaches strokes sink sink' (Err _) = ⊥
+
+-- what is painted as cells, and the form in which its rows are written
+pub record CellPainting : Type 0 where
+  pub painting : Painting
+  pub form : Form

@@ -7,13 +7,12 @@ ghost use Rattle.stroke_raster.specs.declared.painter.PaintFault.TheVariants.{Ba
 ghost use Rattle.stroke_raster.specs.BandHeights.{is_band_height};
 ghost use Rattle.stroke_raster.specs.Painting.{Painting, Moves, boxed_pixels, painted_rows, rows_next};
 ghost use Rattle.picture_out.specs.declared.form.Form.{Form};
-ghost use Rattle.picture_out.specs.Rooms.{room_of};
 ghost use Rattle.conversion.specs.Pictures.{inks_of};
 ghost use Rattle.conversion.specs.Progress.{WritesRows};
 
 use crate::writing::Broken;
 use devices::Sink;
-use picture_out::{Form, Inks};
+use picture_out::Form;
 use plot_page::{Dots, Page, PenSet, Stroke};
 use std::alloc::Global;
 use stroke_raster::{Gauge, PaintFault};
@@ -23,12 +22,16 @@ pub trait Bands<'a>: Sized {
     // What is painted, and the next row.
     ghost painting: { Self → Painting };
 
-    // It writes rows of this form.
+    // The form of the rows that are written.
+    ghost form_of: { Self → Form };
+
+    // Rows can be written in this form.
     ghost can_write: { Form → Type 0 };
 
-    /// The bands of a picture, as `Painter::new` begins them.
+    /// The bands of a picture in this form, as `Painter::new` begins them.
     fn begin(
         alloc: Global,
+        form: Form,
         strokes: &'a [Stroke],
         page: Page,
         dots: Dots,
@@ -36,7 +39,9 @@ pub trait Bands<'a>: Sized {
         band_rows: u32,
         first_row: u32,
     ) -> Result<Self, PaintFault>
-        requires { length strokes.now ≤ MOST_STROKES }
+        requires form { can_write form }
+        requires few { length strokes.now ≤ MOST_STROKES }
+        ensures form { IfOk result (λ b. form_of b ≡ form) }
         ensures band { (result ≡ Err Band) ↔ (is_band_height band_rows ≡ false) }
         ensures row { (result ≡ Err Row) ↔ ((is_band_height band_rows ≡ true) × (rows_of page dots < first_row)) }
         ensures strokes { IfOk result (λ b. (painting b).strokes ≡ strokes.entry.now) }
@@ -66,26 +71,20 @@ pub trait Bands<'a>: Sized {
 
     /// Paints the next band, and writes its rows after `done` bytes. Answers how many bytes there are
     /// then. Row `first` is the one that the picture begins with.
-    fn write_next<G: Gauge, I: Inks, K: Sink>(
+    fn write_next<G: Gauge, K: Sink>(
         &mut self,
-        form: Form,
         first: u32,
         done: u64,
         gauge: &mut G,
-        inks: &I,
-        buffer: &mut [u8],
         sink: &mut K,
     ) -> Result<u64, Broken>
-        requires form { can_write form }
         requires left { (painting self.old).next < rows_of (painting self.old).page (painting self.old).dots }
         requires sinking { (K.state sink.old).faults < 2 ^ 64 - 1 }
-        requires inks { I.inks inks.now ≡ inks_of (painting self.old).strokes }
-        requires room { room_of form (columns_of (painting self.old).page (painting self.old).dots)
-            ≤ length buffer.old }
         requires done_in { done ≤ 2 ^ 62 }
+        ensures form { form_of self.new ≡ form_of self.old }
         ensures moves { Moves (painting self.old) (painting self.new) }
         ensures some { 1 ≤ rows_next (painting self.old) }
-        ensures rows { WritesRows form (I.inks inks.now) first (painting self.old).next
+        ensures rows { WritesRows (form_of self.old) (inks_of (painting self.old).strokes) first (painting self.old).next
             (painted_rows (G.reaches gauge.old) (painting self.old)
             (painting self.old).next (rows_next (painting self.old))) done
             (K.state sink.old) (K.state sink.new) result }

@@ -7,7 +7,7 @@ use crate::even_rows::write_rows;
 use crate::writing::Broken;
 use bit_rows::packed_length;
 use devices::Sink;
-use picture_out::{Form, Inks};
+use picture_out::Form;
 use plot_page::{Dots, Page, PenSet, Stroke};
 use std::alloc::Global;
 use stroke_raster::{Gauge, Inker, PaintFault};
@@ -18,10 +18,13 @@ pub const ROOM: u32 = 262_144;
 impl<'a> Bands<'a> for Inker<'a> {
     ghost painting = { λ p. p };
 
+    ghost form_of = { λ _. Pbm };
+
     ghost can_write = { λ form. form ≡ Pbm };
 
     fn begin(
         alloc: Global,
+        _form: Form,
         strokes: &'a [Stroke],
         page: Page,
         dots: Dots,
@@ -50,14 +53,11 @@ impl<'a> Bands<'a> for Inker<'a> {
         Inker::dots(self)
     }
 
-    fn write_next<G: Gauge, I: Inks, K: Sink>(
+    fn write_next<G: Gauge, K: Sink>(
         &mut self,
-        _form: Form,
         first: u32,
         done: u64,
         gauge: &mut G,
-        _inks: &I,
-        _buffer: &mut [u8],
         sink: &mut K,
     ) -> Result<u64, Broken> {
         let at = Inker::next_row(self);

@@ -6,62 +6,108 @@ ghost use Rattle.picture_out.specs.Rooms.{room_of};
 ghost use Rattle.conversion.specs.Progress.{WritesRows};
 
 use crate::bands::{Bands, height_within};
+use crate::reading::buffer_of;
+use crate::stroke_inks::StrokeInks;
 use crate::writing::{Broken, whole_before};
 use devices::Sink;
-use picture_out::{Cells, Form, Inks, put_row};
+use picture_out::{Cells, Form, Inks, put_row, row_space};
 use plot_page::{Dots, Page, PenSet, Stroke};
 use std::alloc::Global;
+use std::marker::Model;
 use stroke_raster::{Band, Gauge, PaintFault, Painter};
 
 // The most bytes of a band of more than one row, which fit the processor's second cache.
 const ROOM: u32 = 524_288;
 
-impl<'a> Bands<'a> for Painter<'a> {
-    ghost painting = { λ p. p };
+/// A painter, and what its rows are written with: their form, the inks of the strokes, and a buffer for a row.
+#[derive(Drop)]
+pub struct CellBands<'a> {
+    painter: Painter<'a>,
+    form: Form,
+    inks: StrokeInks<'a>,
+    buffer: Vec<u8>,
+}
+
+impl<'a> Model for CellBands<'a> {
+    ghost use Rattle.std.specs.Prelude.{◌≡◌, ◌≤◌, length};
+    ghost use Rattle.plot_page.specs.Resolutions.{columns_of};
+    ghost use Rattle.picture_out.specs.Rooms.{room_of};
+    ghost use Rattle.conversion.specs.Pictures.{inks_of};
+    ghost use Rattle.conversion.specs.Inks.{inks_held};
+    ghost use Rattle.conversion.specs.Progress.{CellPainting};
+
+    ghost Value = { CellPainting };
+
+    ghost view = { λ b. record { painting = b.painter; form = b.form } };
+
+    ghost invariant = { λ b. (inks_held b.inks ≡ inks_of b.painter.strokes)
+        × (room_of b.form (columns_of b.painter.page b.painter.dots) ≤ length b.buffer.items) };
+}
+
+impl<'a> Bands<'a> for CellBands<'a> {
+    ghost painting = { λ b. b.painting };
+
+    ghost form_of = { λ b. b.form };
 
     ghost can_write = { λ _. ⊤ };
 
     fn begin(
         alloc: Global,
+        form: Form,
         strokes: &'a [Stroke],
         page: Page,
         dots: Dots,
         pens: PenSet,
         band_rows: u32,
         first_row: u32,
-    ) -> Result<Painter<'a>, PaintFault> {
-        let height = height_within(band_rows, 4 * dots.columns(&page), ROOM);
-        Painter::new(alloc, strokes, page, dots, pens, height, first_row)
+    ) -> Result<CellBands<'a>, PaintFault> {
+        let columns = dots.columns(&page);
+        let height = height_within(band_rows, 4 * columns, ROOM);
+        let painter = Painter::new(alloc, strokes, page, dots, pens, height, first_row)?;
+        let Ok(buffer) = buffer_of(alloc, row_space(form, columns)) else {
+            return Err(PaintFault::Memory);
+        };
+        Ok(CellBands {
+            painter,
+            form,
+            inks: StrokeInks::new(strokes),
+            buffer,
+        })
     }
 
     fn next_row(&self) -> u32 {
-        Painter::next_row(self)
+        self.painter.next_row()
     }
 
     fn columns(&self) -> u32 {
-        Painter::columns(self)
+        self.painter.columns()
     }
 
     fn rows(&self) -> u32 {
-        Painter::rows(self)
+        self.painter.rows()
     }
 
     fn dots(&self) -> Dots {
-        Painter::dots(self)
+        self.painter.dots()
     }
 
-    fn write_next<G: Gauge, I: Inks, K: Sink>(
+    fn write_next<G: Gauge, K: Sink>(
         &mut self,
-        form: Form,
         first: u32,
         done: u64,
         gauge: &mut G,
-        inks: &I,
-        buffer: &mut [u8],
         sink: &mut K,
     ) -> Result<u64, Broken> {
-        match self.next_band(gauge) {
-            Some(band) => write_band(form, first, &band, done, inks, buffer, sink),
+        match self.painter.next_band(gauge) {
+            Some(band) => write_band(
+                self.form,
+                first,
+                &band,
+                done,
+                &self.inks,
+                &mut self.buffer,
+                sink,
+            ),
             // Not reached, since a row is left.
             None => Ok(done),
         }

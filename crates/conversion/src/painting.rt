@@ -6,17 +6,16 @@ ghost use Rattle.conversion.specs.Conversions.{is_write};
 ghost use Rattle.conversion.specs.Progress.{HasPainted};
 
 use crate::bands::Bands;
+use crate::cell_bands::CellBands;
 use crate::fault::Fault;
 use crate::pcl_bands::PclBands;
-use crate::reading::buffer_of;
-use crate::stroke_inks::StrokeInks;
 use crate::writing::write_picture;
 use devices::Sink;
 use picture_job::Job;
-use picture_out::{Form, row_space};
+use picture_out::Form;
 use plot_page::Stroke;
 use std::alloc::Global;
-use stroke_raster::{Gauge, Inker, Painter};
+use stroke_raster::{Gauge, Inker};
 
 /// Paints a job's strokes and writes its picture, and answers how many bytes it has. PBM and PCL show
 /// only which pixels have ink, so their rows are painted as bits; those of the other forms as cells.
@@ -42,7 +41,7 @@ pub fn paint<G: Gauge, K: Sink>(
         Form::Pbm => paint_by::<Inker<'_>, G, K>(alloc, job, strokes, gauge, sink),
         Form::Pcl => paint_by::<PclBands<'_>, G, K>(alloc, job, strokes, gauge, sink),
         Form::Marks | Form::Ppm => {
-            paint_by::<Painter<'_>, G, K>(alloc, job, strokes, gauge, sink)
+            paint_by::<CellBands<'_>, G, K>(alloc, job, strokes, gauge, sink)
         }
     }
 }
@@ -67,6 +66,7 @@ fn paint_by<'a, B: Bands<'a> + Drop, G: Gauge, K: Sink>(
 {
     let mut bands = B::begin(
         alloc,
+        job.form,
         strokes,
         job.page,
         job.dots,
@@ -74,15 +74,6 @@ fn paint_by<'a, B: Bands<'a> + Drop, G: Gauge, K: Sink>(
         job.band,
         job.first_row,
     )?;
-    let mut buffer = buffer_of(alloc, row_space(job.form, bands.columns()))?;
-    let inks = StrokeInks::new(strokes);
-    let bytes = write_picture(
-        job.form,
-        &mut bands,
-        gauge,
-        &inks,
-        buffer.as_mut_slice(),
-        sink,
-    )?;
+    let bytes = write_picture(job.form, &mut bands, gauge, sink)?;
     Ok(bytes)
 }

@@ -13,8 +13,8 @@ use crate::even_rows::write_rows;
 use crate::writing::Broken;
 use bit_rows::packed_length;
 use devices::Sink;
+use picture_out::Form;
 use picture_out::pcl::{LONGEST_COMMAND, append_row};
-use picture_out::{Form, Inks};
 use plot_page::{Dots, Page, PenSet, Stroke};
 use std::alloc::Global;
 use std::marker::Model;
@@ -31,6 +31,7 @@ impl<'a> Model for PclBands<'a> {
     ghost use Rattle.std.specs.Prelude.{◌+◌, ◌*◌, ◌≤◌, length};
     ghost use Rattle.bit_rows.specs.Bits.{bytes_for};
     ghost use Rattle.plot_page.specs.Resolutions.{columns_of};
+    ghost use Rattle.picture_out.specs.declared.pcl.TheConstants.{LONGEST_COMMAND};
     ghost use Rattle.stroke_raster.specs.Painting.{Painting};
 
     ghost Value = { Painting };
@@ -38,16 +39,19 @@ impl<'a> Model for PclBands<'a> {
     ghost view = { λ p. p.inker };
 
     ghost invariant = { λ p.
-        p.inker.band_rows * (bytes_for (columns_of p.inker.page p.inker.dots) + 14) ≤ length p.text.items };
+        p.inker.band_rows * (bytes_for (columns_of p.inker.page p.inker.dots) + LONGEST_COMMAND) ≤ length p.text.items };
 }
 
 impl<'a> Bands<'a> for PclBands<'a> {
     ghost painting = { λ p. p };
 
+    ghost form_of = { λ _. Pcl };
+
     ghost can_write = { λ form. form ≡ Pcl };
 
     fn begin(
         alloc: Global,
+        _form: Form,
         strokes: &'a [Stroke],
         page: Page,
         dots: Dots,
@@ -81,14 +85,11 @@ impl<'a> Bands<'a> for PclBands<'a> {
         self.inker.dots()
     }
 
-    fn write_next<G: Gauge, I: Inks, K: Sink>(
+    fn write_next<G: Gauge, K: Sink>(
         &mut self,
-        _form: Form,
         first: u32,
         done: u64,
         gauge: &mut G,
-        _inks: &I,
-        _buffer: &mut [u8],
         sink: &mut K,
     ) -> Result<u64, Broken> {
         let at = self.inker.next_row();

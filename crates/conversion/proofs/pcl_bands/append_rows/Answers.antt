@@ -1,6 +1,7 @@
-use Rattle.std.proofs.Common.{arith, rules, ap, ◌∙◌, take, flat_map, length, ◌+◌, ◌≤◌}
+use Rattle.std.proofs.Common.{arith, rules, ap, ◌∙◌, flat_map, ◌+◌, ◌≤◌}
 use Rattle.std.proofs.lemmas.List.{take_all}
 use Rattle.picture_out.specs.Pcl as pcl
+use Rattle.picture_out.specs.declared.pcl.TheConstants.{LONGEST_COMMAND}
 use Rattle.stroke_raster.specs.Rows.{split_rows}
 use Rattle.stroke_raster.proofs.Rows.{length-split_rows}
 use Rattle.conversion.proofs.PclRows.{row_more}
@@ -10,7 +11,7 @@ pub loop-i-preserved : goal.loop-i-preserved
 loop-i-preserved c =
     let inv = c.loop-i.invariant in
     let s = c.args.stride in
-    let short : c.append_row-used.result ≤ c.loop-i.used + 14 + s = search (rules) in
+    let short : c.append_row-used.result ≤ c.loop-i.used + LONGEST_COMMAND + s = search (rules) in
     record {
       so_far = row_more s _ c.args.rows c.loop-i.i c.args.bytes.now _ _ c.loop-i-test.true (omega arith) inv.so_far c.append_row-used.ensures.text;
       most = omega (arith, inv.most, short);

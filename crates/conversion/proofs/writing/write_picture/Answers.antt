@@ -1,5 +1,5 @@
 use Rattle.std.proofs.Common.{arith, ◌≡◌, ◌<◌, ◌≤◌, ◌+◌, ◌-◌, ◌*◌, ◌++◌, List, [], length, ℕ, take, drop, subst}
-use Rattle.std.proofs.Common.{sym, ap, ap₂, ◌∙◌, append-nil, length-drop, map, nat_eq, if◌then◌else◌, Err}
+use Rattle.std.proofs.Common.{refl, sym, ap, ap₂, ◌∙◌, append-nil, length-drop, map, nat_eq, if◌then◌else◌, Ok, Err}
 use Rattle.std.specs.Io.KnownBytes.{Appends}
 use Rattle.std.specs.List.{range_with_len}
 use Rattle.plot_page.specs.Segments.{Segment}
@@ -11,11 +11,11 @@ use Rattle.stroke_raster.specs.Rows.{rows_shown}
 use Rattle.stroke_raster.specs.Boxes.{boxes, selected, in_box}
 use Rattle.stroke_raster.proofs.BoxCounts.{boxes_after, boxes_fewer}
 use Rattle.stroke_raster.specs.Painting.{painted_rows, rows_next}
-use Rattle.picture_out.specs.declared.inks.Ink.{Ink}
+use Rattle.picture_out.specs.declared.form.Form.{Form}
 use Rattle.picture_out.specs.Forms.{foot_bytes, row_bytes}
 use Rattle.devices.specs.Sinks.{taken_of, SinkState}
 use Rattle.devices.proofs.KnownBytes.{written_next, cut_next, written_all}
-use Rattle.conversion.specs.Pictures.{rows_bytes, picture_of, head_of, row_of}
+use Rattle.conversion.specs.Pictures.{rows_bytes, picture_of, head_of, inks_of, row_of}
 use Rattle.conversion.specs.Stops.{bytes_before}
 use Rattle.conversion.specs.Progress.{rows_text, WritesRows}
 use Rattle.conversion.proofs.Pictures.{before_rows, stopped_at}
@@ -36,9 +36,9 @@ each-preserved g c =
     let all = picture_of head row foot rows p.next in
     let at = c.each.at in
     let n = rows_next q in
-    let inks : List Ink = g.I.Inks.inks c.args.inks.now in
+    let inks = inks_of p.strokes in
     let pens = λ (r : ℕ). row_shown (λ (s : Segment). g.G.Gauge.reaches c.args.gauge.now s p.page p.dots) p.pens p.strokes (columns_of p.page p.dots) r in
-    let made : (r : ℕ) → row r ≡ row_bytes form r inks (pens r) = λ r. ap (λ (z : List Ink). row_bytes form r z (pens r)) (sym c.requires.inks) in
+    let made : (r : ℕ) → row r ≡ row_bytes form r inks (pens r) = λ r. refl in
     let list : List (List ℕ) = painted_rows (g.G.Gauge.reaches c.each.gauge) q q.next n in
     let shown : list ≡ map pens (range_with_len at n) =
     same_rows (λ f l ss pg d r. rows_shown (λ s. f s pg d) l ss (columns_of pg d) r n) _ _ _ _ _ _ _ _ _ _ _ _ inv.same inv.pens inv.strokes inv.page inv.dots inv.next in
@@ -50,7 +50,9 @@ each-preserved g c =
     let rest = rows_bytes row (at + n) (rows - (at + n)) ++ foot in
     let split : drop c.each.done all ≡ rows_text form inks q.next list ++ rest =
     inv.rest ∙ band_next form inks row pens foot rows at n made fit ∙ ap (λ (z : List ℕ). z ++ rest) (sym shows) in
-    let wrote = c.in-Ok-write_next.ensures.rows in
+    let bytes = c.in-Ok-write_next.bytes in
+    let W : Form → List Segment → Type 0 = λ f ss. WritesRows f (inks_of ss) c.next_row-first.result q.next list c.each.done (g.K.Sink.state c.each.sink) (g.K.Sink.state c.write_next.new.sink) (Ok bytes) in
+    let wrote = subst (W form) inv.strokes (subst (λ (f : Form). W f q.strokes) inv.form c.in-Ok-write_next.ensures.rows) in
     let next = written_next _ _ _ _ _ _ all (rows_text form inks q.next list) rest c.each.done split inv.within inv.so_far inv.quiet (wrote.written, wrote.sound) in
     let count : c.in-Ok-write_next.bytes ≡ c.each.done + length (rows_text form inks q.next list) = wrote.count in
     let some = c.in-Ok-write_next.ensures.some in
@@ -60,6 +62,7 @@ each-preserved g c =
     let size : c.in-Ok-write_next.bytes ≤ c.each.done + n * 4194304 = c.in-Ok-write_next.ensures.small in
     let P : ℕ → Type 0 = λ k. Appends (g.K.Sink.state c.args.sink.now).held (g.K.Sink.state c.write_next.new.sink).held (take k all) in
     record {
+      form = c.in-Ok-write_next.ensures.form ∙ inv.form;
       rest = ap (λ (k : ℕ). drop k all) count ∙ next.2 ∙ ap (λ (k : ℕ). rows_bytes row k (rows - k) ++ foot) (sym there);
       so_far = subst P (sym count) next.0;
       within = omega (arith, count, next.3);
@@ -96,9 +99,9 @@ returns-in-Err-write_next g c =
     let all = picture_of head row foot rows p.next in
     let at = c.each.at in
     let n = rows_next q in
-    let inks : List Ink = g.I.Inks.inks c.args.inks.now in
+    let inks = inks_of p.strokes in
     let pens = λ (r : ℕ). row_shown (λ (s : Segment). g.G.Gauge.reaches c.args.gauge.now s p.page p.dots) p.pens p.strokes (columns_of p.page p.dots) r in
-    let made : (r : ℕ) → row r ≡ row_bytes form r inks (pens r) = λ r. ap (λ (z : List Ink). row_bytes form r z (pens r)) (sym c.requires.inks) in
+    let made : (r : ℕ) → row r ≡ row_bytes form r inks (pens r) = λ r. refl in
     let shown : painted_rows (g.G.Gauge.reaches c.each.gauge) q q.next n ≡ map pens (range_with_len at n) =
     same_rows (λ f l ss pg d r. rows_shown (λ s. f s pg d) l ss (columns_of pg d) r n) _ _ _ _ _ _ _ _ _ _ _ _ inv.same inv.pens inv.strokes inv.page inv.dots inv.next in
     let list = map pens (range_with_len at n) in
@@ -113,7 +116,9 @@ returns-in-Err-write_next g c =
     let P : ℕ → Type 0 = λ k. WritesRows form inks c.next_row-first.result k (painted_rows (g.G.Gauge.reaches c.each.gauge) q q.next n) c.each.done was is (Err stopped) in
     let Q : List (List ℕ) → Type 0 = λ z. WritesRows form inks c.next_row-first.result at z c.each.done was is (Err stopped) in
     let R : ℕ → Type 0 = λ k. WritesRows form inks k at list c.each.done was is (Err stopped) in
-    let wrote = subst R c.next_row-first.ensures.next (subst Q shown (subst P inv.next c.in-Err-write_next.ensures.rows)) in
+    let W : Form → List Segment → Type 0 = λ f ss. WritesRows f (inks_of ss) c.next_row-first.result q.next (painted_rows (g.G.Gauge.reaches c.each.gauge) q q.next n) c.each.done was is (Err stopped) in
+    let told = subst (W form) inv.strokes (subst (λ (f : Form). W f q.strokes) inv.form c.in-Err-write_next.ensures.rows) in
+    let wrote = subst R c.next_row-first.ensures.next (subst Q shown (subst P inv.next told)) in
     let stop = band_stop form inks head row pens made rows p.next at n c.each.done stopped wrote.k inv.from fit inv.before wrote.stopped in
     let whole : stopped.bytes ≡ c.each.done + (stopped.bytes - c.each.done) = omega (arith, stop.from) in
     let cut = cut_next _ _ _ _ _ _ all (rows_text form inks at list) rest c.each.done _ _ split inv.within inv.so_far inv.quiet (wrote.written, stop.to, wrote.failed) whole in

@@ -1,11 +1,14 @@
 use Rattle.std.proofs.Common.{◌≡◌, ◌≤◌, ◌<◌, ◌+◌, ◌-◌, ◌*◌, ℕ, List, sym, ap, subst, ◌∙◌, arith}
 use Rattle.std.proofs.lemmas.Nat.{mul-le}
 use Rattle.plot_page.specs.Resolutions.{rows_of}
+use Rattle.plot_page.specs.declared.dots.TheConstants.{MOST_PIXELS_A_SIDE}
 use Rattle.stroke_raster.specs.Painting.{Painting, boxed_pixels, painted_rows, rows_next}
-use Rattle.picture_out.specs.declared.form.Form.{Form}
+use Rattle.picture_out.specs.declared.form.Form.TheVariants.{Pcl}
+use Rattle.picture_out.specs.declared.pcl.TheConstants.{LONGEST_COMMAND}
+use Rattle.bit_rows.specs.Bits.{bytes_for}
+use Rattle.conversion.specs.Pictures.{inks_of}
 use Rattle.conversion.specs.Progress.{WritesRows}
-use Rattle.conversion.proofs.BitRows.{if_ok}
-use Rattle.conversion.proofs.PclRows.{next_band}
+use Rattle.conversion.proofs.BitRows.{if_ok, next_band}
 use Rattle.conversion.proofs.pcl_bands.PclBandsBands.write_next.Goals as goal
 
 pub put_rows-requires-clause-some : goal.put_rows-requires-clause-some
@@ -13,9 +16,11 @@ put_rows-requires-clause-some g c =
     let v : c.self.inside.inker ≡ c.args.self.now = c.self.view_is in
     let p : Painting = c.self.inside.inker in
     let is_left = c.ink_next.ensures.left.1 (subst (λ (z : Painting). z.next < rows_of z.page z.dots) (sym v) c.requires.left) in
-    let b = next_band p c.ink_next.new.self (g.G.Gauge.reaches c.args.gauge.now) c.next_row-at.result c.next_row.result c.columns.result c.packed_length-stride.result c.bytes-bits.result.now
-    c.ink_next.ensures.moves (c.ink_next.ensures.some is_left) (c.ink_next.ensures.rows is_left) c.bytes-bits.ensures.rows c.bytes-bits.ensures.size
-    c.next_row-at.ensures.next c.next_row.ensures.next c.columns.ensures.count c.columns.ensures.most c.packed_length-stride.ensures in
+    let n = c.next_row.result - c.next_row-at.result in
+    let n_is : n ≡ rows_next p = omega (arith, c.next_row-at.ensures.next, c.next_row.ensures.next, c.ink_next.ensures.moves.next) in
+    let b = next_band p c.ink_next.new.self (g.G.Gauge.reaches c.args.gauge.now) n c.columns.result c.packed_length-stride.result c.bytes-bits.result.now
+    c.ink_next.ensures.moves n_is (c.ink_next.ensures.some is_left) (c.ink_next.ensures.rows is_left) c.bytes-bits.ensures.rows c.bytes-bits.ensures.size
+    c.columns.ensures.count c.columns.ensures.most c.packed_length-stride.ensures in
     b.some
 
 pub put_rows-requires-clause-bits : goal.put_rows-requires-clause-bits
@@ -23,9 +28,11 @@ put_rows-requires-clause-bits g c =
     let v : c.self.inside.inker ≡ c.args.self.now = c.self.view_is in
     let p : Painting = c.self.inside.inker in
     let is_left = c.ink_next.ensures.left.1 (subst (λ (z : Painting). z.next < rows_of z.page z.dots) (sym v) c.requires.left) in
-    let b = next_band p c.ink_next.new.self (g.G.Gauge.reaches c.args.gauge.now) c.next_row-at.result c.next_row.result c.columns.result c.packed_length-stride.result c.bytes-bits.result.now
-    c.ink_next.ensures.moves (c.ink_next.ensures.some is_left) (c.ink_next.ensures.rows is_left) c.bytes-bits.ensures.rows c.bytes-bits.ensures.size
-    c.next_row-at.ensures.next c.next_row.ensures.next c.columns.ensures.count c.columns.ensures.most c.packed_length-stride.ensures in
+    let n = c.next_row.result - c.next_row-at.result in
+    let n_is : n ≡ rows_next p = omega (arith, c.next_row-at.ensures.next, c.next_row.ensures.next, c.ink_next.ensures.moves.next) in
+    let b = next_band p c.ink_next.new.self (g.G.Gauge.reaches c.args.gauge.now) n c.columns.result c.packed_length-stride.result c.bytes-bits.result.now
+    c.ink_next.ensures.moves n_is (c.ink_next.ensures.some is_left) (c.ink_next.ensures.rows is_left) c.bytes-bits.ensures.rows c.bytes-bits.ensures.size
+    c.columns.ensures.count c.columns.ensures.most c.packed_length-stride.ensures in
     b.size
 
 pub put_rows-requires-clause-few : goal.put_rows-requires-clause-few
@@ -33,10 +40,12 @@ put_rows-requires-clause-few g c =
     let v : c.self.inside.inker ≡ c.args.self.now = c.self.view_is in
     let p : Painting = c.self.inside.inker in
     let is_left = c.ink_next.ensures.left.1 (subst (λ (z : Painting). z.next < rows_of z.page z.dots) (sym v) c.requires.left) in
-    let b = next_band p c.ink_next.new.self (g.G.Gauge.reaches c.args.gauge.now) c.next_row-at.result c.next_row.result c.columns.result c.packed_length-stride.result c.bytes-bits.result.now
-    c.ink_next.ensures.moves (c.ink_next.ensures.some is_left) (c.ink_next.ensures.rows is_left) c.bytes-bits.ensures.rows c.bytes-bits.ensures.size
-    c.next_row-at.ensures.next c.next_row.ensures.next c.columns.ensures.count c.columns.ensures.most c.packed_length-stride.ensures in
-    let m = mul-le (c.next_row.result - c.next_row-at.result) (c.packed_length-stride.result + 14) 77405 9690 b.low (omega (arith, b.narrow)) in
+    let n = c.next_row.result - c.next_row-at.result in
+    let n_is : n ≡ rows_next p = omega (arith, c.next_row-at.ensures.next, c.next_row.ensures.next, c.ink_next.ensures.moves.next) in
+    let b = next_band p c.ink_next.new.self (g.G.Gauge.reaches c.args.gauge.now) n c.columns.result c.packed_length-stride.result c.bytes-bits.result.now
+    c.ink_next.ensures.moves n_is (c.ink_next.ensures.some is_left) (c.ink_next.ensures.rows is_left) c.bytes-bits.ensures.rows c.bytes-bits.ensures.size
+    c.columns.ensures.count c.columns.ensures.most c.packed_length-stride.ensures in
+    let m = mul-le n (c.packed_length-stride.result + LONGEST_COMMAND) MOST_PIXELS_A_SIDE (bytes_for MOST_PIXELS_A_SIDE + LONGEST_COMMAND) b.low (omega (arith, b.narrow)) in
     omega (arith, m)
 
 pub returns-clause-rows : goal.returns-clause-rows
@@ -44,30 +53,32 @@ returns-clause-rows g c =
     let v : c.self.inside.inker ≡ c.args.self.now = c.self.view_is in
     let p : Painting = c.self.inside.inker in
     let is_left = c.ink_next.ensures.left.1 (subst (λ (z : Painting). z.next < rows_of z.page z.dots) (sym v) c.requires.left) in
-    let b = next_band p c.ink_next.new.self (g.G.Gauge.reaches c.args.gauge.now) c.next_row-at.result c.next_row.result c.columns.result c.packed_length-stride.result c.bytes-bits.result.now
-    c.ink_next.ensures.moves (c.ink_next.ensures.some is_left) (c.ink_next.ensures.rows is_left) c.bytes-bits.ensures.rows c.bytes-bits.ensures.size
-    c.next_row-at.ensures.next c.next_row.ensures.next c.columns.ensures.count c.columns.ensures.most c.packed_length-stride.ensures in
+    let n = c.next_row.result - c.next_row-at.result in
+    let n_is : n ≡ rows_next p = omega (arith, c.next_row-at.ensures.next, c.next_row.ensures.next, c.ink_next.ensures.moves.next) in
+    let b = next_band p c.ink_next.new.self (g.G.Gauge.reaches c.args.gauge.now) n c.columns.result c.packed_length-stride.result c.bytes-bits.result.now
+    c.ink_next.ensures.moves n_is (c.ink_next.ensures.some is_left) (c.ink_next.ensures.rows is_left) c.bytes-bits.ensures.rows c.bytes-bits.ensures.size
+    c.columns.ensures.count c.columns.ensures.most c.packed_length-stride.ensures in
     let reaches = g.G.Gauge.reaches c.args.gauge.now in
     let rows : List (List ℕ) = painted_rows reaches p p.next (rows_next p) in
-    let inks = g.I.Inks.inks c.args._inks.now in
+    let inks = inks_of p.strokes in
     let old = g.K.Sink.state c.args.sink.now in
     let new = g.K.Sink.state c.put_rows.new.sink in
     let wrote = c.put_rows.ensures.rows inks rows b.tall b.wide b.split in
-    let P : Form → Type 0 = λ f. WritesRows f inks c.args.first c.next_row-at.result rows c.args.done old new c.put_rows.result in
-    let Q : ℕ → Type 0 = λ k. WritesRows c.args._form inks c.args.first k rows c.args.done old new c.put_rows.result in
-    let R : Painting → Type 0 = λ z. WritesRows c.args._form inks c.args.first z.next (painted_rows reaches z z.next (rows_next z)) c.args.done old new c.put_rows.result in
-    subst R v (subst Q c.next_row-at.ensures.next (subst P (sym c.requires.form) wrote))
+    let P : ℕ → Type 0 = λ k. WritesRows Pcl inks c.args.first k rows c.args.done old new c.put_rows.result in
+    let Q : Painting → Type 0 = λ z. WritesRows Pcl (inks_of z.strokes) c.args.first z.next (painted_rows reaches z z.next (rows_next z)) c.args.done old new c.put_rows.result in
+    subst Q v (subst P c.next_row-at.ensures.next wrote)
 
 pub returns-clause-small : goal.returns-clause-small
 returns-clause-small g c =
     let v : c.self.inside.inker ≡ c.args.self.now = c.self.view_is in
     let p : Painting = c.self.inside.inker in
     let is_left = c.ink_next.ensures.left.1 (subst (λ (z : Painting). z.next < rows_of z.page z.dots) (sym v) c.requires.left) in
-    let b = next_band p c.ink_next.new.self (g.G.Gauge.reaches c.args.gauge.now) c.next_row-at.result c.next_row.result c.columns.result c.packed_length-stride.result c.bytes-bits.result.now
-    c.ink_next.ensures.moves (c.ink_next.ensures.some is_left) (c.ink_next.ensures.rows is_left) c.bytes-bits.ensures.rows c.bytes-bits.ensures.size
-    c.next_row-at.ensures.next c.next_row.ensures.next c.columns.ensures.count c.columns.ensures.most c.packed_length-stride.ensures in
     let n = c.next_row.result - c.next_row-at.result in
-    let m = mul-le n (c.packed_length-stride.result + 14) n 4194304 (omega arith) (omega (arith, b.narrow)) in
+    let n_is : n ≡ rows_next p = omega (arith, c.next_row-at.ensures.next, c.next_row.ensures.next, c.ink_next.ensures.moves.next) in
+    let b = next_band p c.ink_next.new.self (g.G.Gauge.reaches c.args.gauge.now) n c.columns.result c.packed_length-stride.result c.bytes-bits.result.now
+    c.ink_next.ensures.moves n_is (c.ink_next.ensures.some is_left) (c.ink_next.ensures.rows is_left) c.bytes-bits.ensures.rows c.bytes-bits.ensures.size
+    c.columns.ensures.count c.columns.ensures.most c.packed_length-stride.ensures in
+    let m = mul-le n (c.packed_length-stride.result + LONGEST_COMMAND) n 4194304 (omega arith) (omega (arith, b.narrow)) in
     let many : n * 4194304 ≡ rows_next c.args.self.now * 4194304 = ap (λ (k : ℕ). k * 4194304) (b.many ∙ ap rows_next v) in
     if_ok c.put_rows.result _ _ c.put_rows.ensures.most (λ x e. omega (arith, e, m, many))
 
