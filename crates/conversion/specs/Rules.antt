@@ -7,7 +7,7 @@ use Rattle.hpgl_plot.specs.declared.fault.PlotFault.{PlotFault}
 use Rattle.hpgl_plot.specs.Notes as core
 use Rattle.hpgl_plot.specs.declared.note.Note.{Note}
 use Rattle.full_plot.specs.Drawings.{outcome, refusal_in, strokes_in, ends_in, sheet_strokes, sheet_count}
-use Rattle.full_plot.specs.Notes as full
+use Rattle.full_notes.specs.Notes as full
 use Rattle.plot_page.specs.Segments.{Segment}
 use Rattle.plot_page.specs.declared.page.Page.{Page}
 use Rattle.picture_job.specs.declared.job.Job.{Job}

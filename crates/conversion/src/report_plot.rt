@@ -12,7 +12,7 @@ use crate::draw_source::draw_as;
 use crate::fault::Fault;
 use crate::reading::read_plot;
 use devices::{Sink, Source, WriteFault};
-use full_plot::FullNotes;
+use full_notes::FullNotes;
 use hpgl_plot::Notes;
 use picture_job::Reading;
 use plot_page::{Page, Stroke};

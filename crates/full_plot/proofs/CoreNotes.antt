@@ -19,8 +19,8 @@ use Rattle.hpgl_plot.specs.Notes as core
 use Rattle.full_settings.specs.LetterParameters.{direction, is_vector, pair}
 use Rattle.full_settings.specs.declared.letter_setting.LetterSetting.TheVariants as letter
 use Rattle.full_plot.specs.Laws.{is_core_body, IsCoreItem}
-use Rattle.full_plot.specs.Contexts.{Context, first_context}
-use Rattle.full_plot.specs.Notes.{bad_without, body_noted, context_after, params_after, params_noted, notes_from, notes}
+use Rattle.full_notes.specs.Contexts.{Context, first_context}
+use Rattle.full_notes.specs.Notes.{bad_without, body_noted, context_after, params_after, params_noted, notes_from, notes}
 
 abbrev bad_if : Bool → Option NoteKind
 bad_if is_wrong = if is_wrong then Some kind.Bad else None

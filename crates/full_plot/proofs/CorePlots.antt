@@ -31,11 +31,11 @@ use Rattle.full_settings.specs.declared.colour_range.ColourRanges.{ColourRanges}
 use Rattle.full_settings.specs.declared.heading.Heading.TheVariants.{Absolute}
 use Rattle.full_settings.specs.declared.letter_setting.LetterSetting.TheVariants as letter
 use Rattle.full_plot.specs.Items.{as_core, letters_steps, more_steps, params_steps, full_steps}
-use Rattle.full_plot.specs.Worlds.{World, followed, with_core}
+use Rattle.full_plot.specs.Worlds.{World, context_of, followed, with_core}
 use Rattle.full_plot.specs.Machine.{FullStep, Core, Letter, Restart, Restyle, Rewiden, pen_width_step, rewidened, run, set_if, widths_in, with_widths}
 use Rattle.full_plot.specs.Drawings.{at_start, ended, is_too_much, runs, refusal_in, strokes_in, ends_in}
 use Rattle.full_plot.specs.Laws.{core_part, is_core_body, IsCoreItem, SameRefusal, SameStrokes, OneSheet}
-use Rattle.full_plot.specs.Contexts.{body_read, context_of, is_misplaced, read_in}
+use Rattle.full_notes.specs.Contexts.{body_read, is_misplaced, read_in}
 use Rattle.full_plot.specs.Texts.{turn_by}
 use Rattle.full_plot.proofs.CoreLabels.{axis_leads}
 use Rattle.full_plot.proofs.CoreSteps.{AllStill, IsAsInCore, IsLed, IsLikeCore, Leads, LikeIn, core_of, one_step, still_steps}

@@ -17,11 +17,11 @@ use Rattle.full_settings.specs.declared.letter_setting.LetterSetting.{LetterSett
 use Rattle.full_settings.specs.declared.width_setting.WidthSetting.{WidthSetting}
 use Rattle.full_plot.specs.Items.{full_steps}
 use Rattle.full_plot.specs.Texts.{lettered, sets_margin}
-use Rattle.full_plot.specs.Worlds.{World, followed, with_core}
+use Rattle.full_plot.specs.Worlds.{World, context_of, followed, with_core}
 use Rattle.full_plot.specs.Machine.{FullStep, Core, Style, Restyle, Restart, WidthBy, ColourBy, Widen, Rewiden, PointsBy, RangesBy, Letter, Mark, Keep, Print, Place, TickBy, Tick, ArcThrough, Curve, PolygonBy, EdgeBuffer, FillBuffer, FillBy, AnchorBy, ChordsBy, Rectangle, WedgeEdge, WedgeFill, EndSheet}
 use Rattle.full_plot.specs.Machine.{anchored, step, run, pen_width_step, then_filled, widened_if, then_rewidened, points_set}
 use Rattle.full_plot.specs.Work.{worked, then_worked}
-use Rattle.full_plot.specs.Contexts.{context_of, read_in}
+use Rattle.full_notes.specs.Contexts.{read_in}
 use Rattle.full_plot.specs.Curves.{pen_at_point}
 use Rattle.full_plot.specs.Polygons.{kept_step}
 use Rattle.full_plot.specs.Wedges.{wedge_edged, wedge_kept, wedge_places}

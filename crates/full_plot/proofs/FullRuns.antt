@@ -23,7 +23,7 @@ use Rattle.full_settings.specs.PolygonParameters.{wedge}
 use Rattle.full_settings.specs.declared.points.ArcPoints.{ArcPoints}
 use Rattle.full_settings.specs.declared.polygon_setting.Wedge.{Wedge}
 use Rattle.full_settings.specs.declared.requests.FurtherRequest.TheVariants as request
-use Rattle.full_plot.specs.Contexts.{numbers_read, params_read}
+use Rattle.full_notes.specs.Contexts.{numbers_read, params_read}
 use Rattle.full_plot.specs.Items.{as_core, further_steps, more_steps, params_steps, request_steps}
 use Rattle.full_plot.specs.Holding.{is_own}
 use Rattle.full_settings.specs.LineStyles.{is_solid, shape_by}

@@ -1,7 +1,6 @@
 mod Examples
 pub mod PlotExamples
 mod PolygonPlotExamples
-mod NoteExamples
 pub mod WidthTables
 pub mod Kept
 pub mod DrawnLines
@@ -15,7 +14,6 @@ pub mod Filled
 pub mod Aside
 pub mod Wedged
 pub mod FewStrokes
-pub mod FewNotes
 pub mod Told
 pub mod CoreNotes
 pub mod CoreLabels

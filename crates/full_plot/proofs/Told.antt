@@ -28,7 +28,7 @@ use Rattle.full_settings.specs.WidthParameters.{percent_width}
 use Rattle.full_settings.specs.Widths.{percents_set}
 use Rattle.full_plot.specs.Items.{as_core, letters_steps, more_steps, request_steps, params_steps, full_steps}
 use Rattle.full_plot.specs.Texts.{lettered, sets_margin}
-use Rattle.full_plot.specs.Worlds.{World, followed, with_core}
+use Rattle.full_plot.specs.Worlds.{World, context_of, followed, with_core}
 use Rattle.full_plot.specs.Machine.{FullStep, Core, Style, Restyle, Restart, WidthBy, ColourBy, Widen, Rewiden, PointsBy, RangesBy, Letter, Mark, Keep, Print, Place, TickBy, Tick, ArcThrough, Curve, PolygonBy, EdgeBuffer, FillBuffer, FillBy, AnchorBy, ChordsBy, Rectangle, WedgeEdge, WedgeFill, EndSheet}
 use Rattle.full_plot.specs.Machine.{anchored, step, run, pen_width_step, points_set, then_filled, then_rewidened, widened, widened_if}
 use Rattle.full_plot.specs.Work.{then_worked, worked}
@@ -46,8 +46,8 @@ use Rattle.hpgl_plot.specs.Paths.{path}
 use Rattle.hpgl_plot.specs.Strokes.{are_in_range}
 use Rattle.full_plot.proofs.Filled.{edges_are_filled, is_filled, IsFilled}
 use Rattle.full_plot.specs.Drawings.{ended, is_too_much, runs, CarriesOut}
-use Rattle.full_plot.specs.Contexts.{Context, context_of, first_context, read_in}
-use Rattle.full_plot.specs.Notes.{after_body, context_after, is_on_after, params_after, request_after, unit_after}
+use Rattle.full_notes.specs.Contexts.{Context, first_context, read_in}
+use Rattle.full_notes.specs.Notes.{after_body, context_after, is_on_after, params_after, request_after, unit_after}
 use Rattle.full_plot.proofs.Nexts.{NextIn, next_arc, next_core, next_core_step, next_curve, next_moved_on, next_run, next_set, next_ticked, next_written}
 
 -- unless there is a refusal, this is the context

@@ -13,8 +13,8 @@ use Rattle.hpgl_plot.specs.Machine as core
 use Rattle.full_plot.specs.Items.{full_steps}
 use Rattle.full_settings.specs.ColourRanges.{usual_ranges}
 use Rattle.full_settings.specs.LineStyles.{usual_style}
-use Rattle.full_plot.specs.Contexts.{context_of, read_in}
-use Rattle.full_plot.specs.Worlds.{World, usual_area, usual_writing}
+use Rattle.full_notes.specs.Contexts.{read_in}
+use Rattle.full_plot.specs.Worlds.{World, context_of, usual_area, usual_writing}
 use Rattle.polygons.specs.Buffers.{empty}
 use Rattle.full_plot.specs.Machine.{run, ends_with}
 

@@ -9,9 +9,8 @@ use Rattle.hpgl_plot.specs.Machine as core
 use Rattle.hpgl_plot.specs.Strokes.{strokes, refusal}
 use Rattle.hpgl_plot.specs.Notes as noting
 use Rattle.full_plot.specs.Drawings.{at_start, runs, refusal_in, strokes_in, ends_in}
-use Rattle.full_plot.specs.Contexts.{context_of}
-use Rattle.full_plot.specs.Notes.{context_after, notes}
-use Rattle.full_plot.specs.Worlds.{World}
+use Rattle.full_plot.specs.Worlds.{World, context_of}
+use Rattle.full_notes.specs.Notes.{context_after, notes}
 
 -- what only the profile full reads is not of core, nor is a DI along no axis; nor is a label of more than 2^32 bytes,
 -- which only the profile full refuses: no plot has one, since it has at most 67,108,864 bytes

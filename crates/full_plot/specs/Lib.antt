@@ -1,8 +1,6 @@
--- What a reader must believe: what is set, how items are read, how lines are drawn in line types, polygons and wedges,
--- fills, labels, curves, the steps of items, what plots draw, what is noted on them, and that plots of core stay as
--- they are.
+-- What a reader must believe: what is set, how lines are drawn in line types, polygons and wedges, fills, labels, curves,
+-- the steps of items, what plots draw, and that plots of core stay as they are.
 pub mod Worlds
-pub mod Contexts
 pub mod Work
 pub mod Dashing
 pub mod Lines
@@ -14,7 +12,6 @@ pub mod Curves
 pub mod Machine
 pub mod Items
 pub mod Drawings
-pub mod Notes
 pub mod Laws
 -- What contracts of private calls need: what is held back while core draws lines, and ranges.
 pub mod Holding

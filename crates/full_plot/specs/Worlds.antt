@@ -1,5 +1,6 @@
 -- What is set, where the pen is, and what is drawn in the profile full: what core has, and more.
 use Rattle.std.specs.Prelude.{ℕ, pos, false, List, [], Option, Some, None}
+use Rattle.std.specs.Option.{is_some}
 use Rattle.exact.specs.declared.spot.Spot.{Spot}
 use Rattle.line_types.specs.declared.run.Run.{Run}
 use Rattle.hpgl_plot.specs.Machine as core
@@ -10,6 +11,7 @@ use Rattle.full_settings.specs.FillParameters.{usual_fill}
 use Rattle.full_settings.specs.Letters.{LetterStyle, usual_letters}
 use Rattle.full_settings.specs.LineStyles as styles
 use Rattle.full_settings.specs.TickParameters.{usual_ticks}
+use Rattle.full_notes.specs.Contexts.{Context}
 use Rattle.full_plot.specs.declared.area.Area.{Area}
 
 -- what is set for labels: how letters are written, the symbol at the ends of moves (SM), the text that is kept (BL),
@@ -49,6 +51,15 @@ pub record World : Type 0 where
   pub buffer : Contents
   pub extra : ℕ
   pub ends : List ℕ
+
+-- what decides how the next item is read, and what is noted on it
+abbrev pub context_of : World → Context
+context_of w = record {
+  in_percent = is_some w.percents;
+  ranges = w.ranges;
+  in_polygon = w.area.in_polygon;
+  usual_chords = w.area.usual_chords;
+}
 
 -- what core leaves, or None if it stops
 abbrev pub with_core : World → Option core.World → Option World

@@ -2,12 +2,12 @@
 ghost use Rattle.std.specs.Prelude.{◌≡◌};
 ghost use Rattle.full_plot.specs.Drawings.{at_start, is_too_much, CarriesOut};
 ghost use Rattle.full_plot.specs.Machine.{seen};
-ghost use Rattle.full_plot.specs.Contexts.{context_of};
+ghost use Rattle.full_plot.specs.Worlds.{context_of};
 
 use crate::area::Area;
-use crate::context::Context;
 use crate::plotter::FullPlotter;
 use crate::writing::Writing;
+use full_notes::Context;
 use full_settings::{ColourRanges, LineStyle};
 use hpgl_plot::{PlotFault, Plotter, Stop};
 use hpgl_text::Item;

@@ -4,11 +4,11 @@ ghost use Rattle.plot_page.specs.declared.stroke.TheConstants.{MOST_STROKES};
 ghost use Rattle.hpgl_text.specs.Cut.{cut_by};
 ghost use Rattle.hpgl_text.specs.declared.profile.Profile.TheVariants.{Full};
 ghost use Rattle.full_plot.specs.Drawings.{outcome, refusal_in, strokes_in, ends_in, sheet_count, Explains};
-ghost use Rattle.full_plot.specs.Notes as notes;
+ghost use Rattle.full_notes.specs.Notes as notes;
 
-use crate::noting::noted_kind;
 use crate::plotter::FullPlotter;
 use crate::steps::last_end;
+use full_notes::noted_kind;
 use hpgl_plot::{PlotFault, count_notes};
 use hpgl_text::{Items, Profile};
 use plot_page::{Page, Stroke};

@@ -6,15 +6,15 @@ ghost use Rattle.full_settings.specs.FurtherRequests.{IsFurtherRequest};
 ghost use Rattle.full_settings.specs.LineStyles.{IsLineSetting};
 ghost use Rattle.full_settings.specs.RelativePoints.{IsRelativePoints};
 ghost use Rattle.full_settings.specs.TickParameters.{IsTickLength};
-ghost use Rattle.full_plot.specs.Contexts.{numbers_read};
+ghost use Rattle.full_notes.specs.Contexts.{numbers_read};
 ghost use Rattle.full_plot.specs.Items.{further_steps, request_steps};
 ghost use Rattle.full_plot.specs.Machine as machine;
 ghost use Rattle.full_plot.specs.Machine.{seen, step, run, Runs, Style, RangesBy, TickBy, PointsBy, ColourBy};
 ghost use Rattle.full_plot.specs.Machine.{FillBy, AnchorBy, ChordsBy};
 
 use crate::plotter::FullPlotter;
-use crate::reading::request_read;
 use exact::Spot;
+use full_notes::request_read;
 use full_settings::{
     Anchor, ColourRanges, FillSetting, FurtherRequest, LineSetting, RelativePoints, TickLength,
     colour_in, points_of,

@@ -1,10 +1,9 @@
 //! What a plot draws in the profile full: the instructions of core, line types, labels in any direction, symbols,
-//! ticks, curves, polygons and their fills, widths in percent and ranges of colours; and what is noted on it.
+//! ticks, curves, polygons and their fills, widths in percent and ranges of colours.
 #![tactic(auto)]
 
 mod area;
 mod carrying;
-mod context;
 mod core_labels;
 mod curve_steps;
 mod dashing;
@@ -18,12 +17,9 @@ mod ink;
 mod labels;
 pub mod laws;
 mod lines;
-mod notes;
-mod noting;
 mod plain;
 mod plotter;
 mod polygons_traced;
-mod reading;
 mod requests;
 mod sheets;
 mod steps;
@@ -33,9 +29,7 @@ mod work;
 mod writing;
 
 pub use area::Area;
-pub use context::Context;
 pub use drawn::{FullDrawn, draw_full};
-pub use notes::FullNotes;
 pub use plotter::FullPlotter;
 pub use sheets::keep_sheet;
 pub use writing::Writing;

@@ -4,15 +4,16 @@ ghost use Rattle.hpgl_text.specs.Shapes.{Params};
 ghost use Rattle.hpgl_text.specs.declared.instruction.Instruction.TheVariants as of;
 ghost use Rattle.plot_settings.specs.Meanings.{asks, DrawArc, entry_steps, part_steps};
 ghost use Rattle.plot_settings.specs.Parameters.{arced};
-ghost use Rattle.full_plot.specs.Contexts.{context_of, params_read, read_in};
+ghost use Rattle.full_notes.specs.Contexts.{params_read, read_in};
+ghost use Rattle.full_plot.specs.Worlds.{context_of};
 ghost use Rattle.full_plot.specs.Items.{full_steps, more_steps, params_steps, as_core};
 ghost use Rattle.full_plot.specs.Holding.{is_own};
 ghost use Rattle.full_plot.specs.Machine.{seen, step, run, last_end, Runs, Restyle, Restart, EndSheet};
 
 use crate::area::Area;
 use crate::plotter::FullPlotter;
-use crate::reading::{arc_read, circle_read, is_misplaced};
 use crate::writing::Writing;
+use full_notes::{arc_read, circle_read, is_misplaced};
 use full_settings::{ColourRanges, LetterSetting, LineStyle, direction_setting};
 use hpgl_plot::Stop;
 use hpgl_text::{Body, Entries, Entry, Instruction, Item, Numbers, Part};

@@ -1,6 +1,7 @@
 // What is noted on plots in the profile full, and how many sheets they have.
 use crate::cases::{Asked, has_answers};
-use full_plot::{FullNotes, draw_full};
+use full_notes::FullNotes;
+use full_plot::draw_full;
 use hpgl_plot::{NoteKind, Page};
 use std::alloc::Global;
 use std::test::Fail;

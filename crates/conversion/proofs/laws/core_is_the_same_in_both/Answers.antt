@@ -4,7 +4,7 @@ use Rattle.hpgl_text.specs.Cut.{cut, cut_by}
 use Rattle.hpgl_text.specs.Shapes.{ItemShape}
 use Rattle.hpgl_text.specs.declared.profile.Profile.TheVariants.{Full}
 use Rattle.full_plot.specs.Drawings.{runs, at_start, refusal_in, strokes_in, ends_in, sheet_strokes}
-use Rattle.full_plot.specs.Notes as full
+use Rattle.full_notes.specs.Notes as full
 use Rattle.full_plot.proofs.CorePlots.{draws_as_in_core}
 use Rattle.full_plot.proofs.CoreNotes.{noted_as_in_core}
 use Rattle.conversion.proofs.laws.core_is_the_same_in_both.Goals as goal

@@ -6,9 +6,10 @@ use Rattle.hpgl_plot.specs.declared.note.NoteKind.{NoteKind}
 use Rattle.hpgl_plot.specs.Notes.{notes_with}
 use Rattle.full_plot.specs.Drawings.{runs}
 use Rattle.full_plot.specs.Machine.{seen}
-use Rattle.full_plot.specs.Contexts.{Context, context_of}
-use Rattle.full_plot.specs.Notes.{body_noted, context_after, notes_from}
-use Rattle.full_plot.proofs.FewNotes.{few_notes}
+use Rattle.full_notes.specs.Contexts.{Context}
+use Rattle.full_plot.specs.Worlds.{context_of}
+use Rattle.full_notes.specs.Notes.{body_noted, context_after, notes_from}
+use Rattle.full_notes.proofs.FewNotes.{few_notes}
 use Rattle.full_plot.proofs.FewStrokes.{few_strokes}
 use Rattle.full_plot.proofs.Told.{told_as_set, carried_out}
 use Rattle.full_plot.proofs.drawn.draw_full.Goals as goal

@@ -3,8 +3,8 @@ use Rattle.hpgl_text.specs.Cut.{cut_by}
 use Rattle.hpgl_text.specs.declared.profile.Profile.TheVariants.{Full}
 use Rattle.full_plot.specs.Drawings.{outcome, runs}
 use Rattle.full_plot.specs.Machine.{seen}
-use Rattle.full_plot.specs.Contexts.{context_of}
-use Rattle.full_plot.specs.Notes.{notes_from, notes}
+use Rattle.full_plot.specs.Worlds.{context_of}
+use Rattle.full_notes.specs.Notes.{notes_from, notes}
 use Rattle.full_plot.proofs.drawn.draw_full.Given as goal
 
 -- the items that are left come to the outcome of the plot, and have the notes that are not counted yet

@@ -2,7 +2,7 @@ use Rattle.std.proofs.Common.{sym, subst, append-nil, rules, false, true, ℤ, L
 use Rattle.plot_settings.specs.Meanings.{asks, DrawArc}
 use Rattle.plot_settings.specs.Parameters.{arced}
 use Rattle.hpgl_text.specs.declared.instruction.Instruction.TheVariants as of
-use Rattle.full_plot.specs.Contexts.{params_read}
+use Rattle.full_notes.specs.Contexts.{params_read}
 use Rattle.full_plot.specs.Items.{as_core, params_steps}
 use Rattle.full_plot.specs.Machine.{FullStep, seen, run, Runs}
 use Rattle.full_plot.proofs.FullRuns.{all_read}

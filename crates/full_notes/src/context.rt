@@ -1,6 +1,6 @@
 //! What decides how items are read, and what is noted on them.
 ghost use Rattle.std.specs.Prelude.{◌≡◌};
-ghost use Rattle.full_plot.specs.Contexts.{first_context};
+ghost use Rattle.full_notes.specs.Contexts.{first_context};
 
 use full_settings::ColourRanges;
 use std::marker::Model;
@@ -19,7 +19,7 @@ pub struct Context {
 
 impl Model for Context {
     ghost use Rattle.full_settings.specs.ColourRanges.{IsColourRanges};
-    ghost use Rattle.full_plot.specs.Contexts.{Context};
+    ghost use Rattle.full_notes.specs.Contexts.{Context};
 
     ghost Value = { Context };
 

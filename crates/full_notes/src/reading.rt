@@ -7,8 +7,8 @@ ghost use Rattle.full_settings.specs.FurtherRequests as requests;
 ghost use Rattle.full_settings.specs.FurtherRequests.{IsFurtherRequest};
 ghost use Rattle.hpgl_text.specs.Seen.{body_shape};
 ghost use Rattle.full_settings.specs.PolygonParameters as polygons;
-ghost use Rattle.full_plot.specs.Contexts as contexts;
-ghost use Rattle.full_plot.specs.Contexts.{closes, numbers_read, params_read};
+ghost use Rattle.full_notes.specs.Contexts as contexts;
+ghost use Rattle.full_notes.specs.Contexts.{closes, numbers_read, params_read};
 
 use full_settings::{
     FurtherRequest, PolygonStep, further_request, polygon_step, request_without_chord,

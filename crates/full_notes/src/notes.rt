@@ -3,7 +3,7 @@ ghost use Rattle.std.specs.Prelude.{◌≡◌, ◌≤◌, length};
 ghost use Rattle.std.specs.Iterator.{YieldsFirst, item_count};
 ghost use Rattle.hpgl_text.specs.Cut.{cut_by};
 ghost use Rattle.hpgl_text.specs.declared.profile.Profile.TheVariants.{Full};
-ghost use Rattle.full_plot.specs.Notes.{notes};
+ghost use Rattle.full_notes.specs.Notes.{notes};
 
 use crate::context::Context;
 use crate::noting::{context_after, noted_kind};
@@ -24,7 +24,7 @@ pub struct FullNotes<'a> {
 impl<'a> Model for FullNotes<'a> {
     ghost use Rattle.std.specs.Prelude.{◌++◌, List};
     ghost use Rattle.hpgl_plot.specs.declared.note.Note.{Note};
-    ghost use Rattle.full_plot.specs.Notes.{notes_from};
+    ghost use Rattle.full_notes.specs.Notes.{notes_from};
 
     ghost Value = { List Note };
 

@@ -1,6 +1,6 @@
 use Rattle.std.proofs.Common.{◌∙◌}
-use Rattle.full_plot.proofs.WidthTables.{circle_numbers}
-use Rattle.full_plot.proofs.reading.circle_read.Goals as goal
+use Rattle.full_notes.proofs.ReadNumbers.{circle_numbers}
+use Rattle.full_notes.proofs.reading.circle_read.Goals as goal
 
 pub returns-clause-value : goal.returns-clause-value
 returns-clause-value c =

@@ -2,9 +2,9 @@
 ghost use Rattle.std.specs.Prelude.{◌≡◌};
 ghost use Rattle.hpgl_text.specs.Shapes.{Params};
 ghost use Rattle.full_settings.specs.FurtherRequests.{IsFurtherRequest};
-ghost use Rattle.full_plot.specs.Contexts.{params_read};
-ghost use Rattle.full_plot.specs.Notes.{bad_without, request_noted, width_noted, params_noted, body_noted};
-ghost use Rattle.full_plot.specs.Notes.{unit_after, is_on_after, request_after, params_after, context_after};
+ghost use Rattle.full_notes.specs.Contexts.{params_read};
+ghost use Rattle.full_notes.specs.Notes.{bad_without, request_noted, width_noted, params_noted, body_noted};
+ghost use Rattle.full_notes.specs.Notes.{unit_after, is_on_after, request_after, params_after, context_after};
 
 use crate::context::Context;
 use crate::reading::{arc_read, circle_read, is_misplaced, request_read};

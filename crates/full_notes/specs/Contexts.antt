@@ -1,7 +1,6 @@
 -- What has been set before an item that decides how it is read: in polygon mode some instructions may not be there, and
 -- after CT 1 no chord is read (HP-GL/2 guide: PM and CT).
 use Rattle.std.specs.Prelude.{ℤ, Bool, true, false, if◌then◌else◌, List, take, Option, Some, None}
-use Rattle.std.specs.Option.{is_some}
 use Rattle.hpgl_text.specs.Shapes.{BodyShape, Params, Further, Label, Bad}
 use Rattle.hpgl_text.specs.declared.further.Further as further
 use Rattle.hpgl_text.specs.declared.further.Further.TheVariants as of
@@ -14,7 +13,6 @@ use Rattle.full_settings.specs.declared.polygon_setting.PolygonStep.TheVariants.
 use Rattle.full_settings.specs.ColourRanges.{usual_ranges}
 use Rattle.full_settings.specs.PolygonParameters as polygons
 use Rattle.full_settings.specs.PolygonParameters.{polygon_step}
-use Rattle.full_plot.specs.Worlds.{World}
 
 -- whether widths are in percent, the ranges of colours, whether polygon mode is on, and whether chords have the usual
 -- angle
@@ -27,14 +25,6 @@ pub record Context : Type 0 where
 -- at the start, and after IN and BP
 abbrev pub first_context : Context
 first_context = record { in_percent = false; ranges = usual_ranges; in_polygon = false; usual_chords = false }
-
-abbrev pub context_of : World → Context
-context_of w = record {
-  in_percent = is_some w.percents;
-  ranges = w.ranges;
-  in_polygon = w.area.in_polygon;
-  usual_chords = w.area.usual_chords;
-}
 
 -- in polygon mode nothing is filled, no figure but a circle is drawn, and nothing is written
 abbrev pub is_bad_further : further.Further → Bool

@@ -1,6 +1,6 @@
 use Rattle.std.proofs.Common.{◌≡◌, ◌++◌, length}
-use Rattle.full_plot.specs.Notes.{notes_from}
-use Rattle.full_plot.proofs.notes.FullNotesIterator.next.Given as goal
+use Rattle.full_notes.specs.Notes.{notes_from}
+use Rattle.full_notes.proofs.notes.FullNotesIterator.next.Given as goal
 
 -- what is left on the item at hand, and on the items after it, is all
 abbrev pub invariant-items : goal.invariant-items

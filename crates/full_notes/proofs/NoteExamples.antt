@@ -6,7 +6,7 @@ use Rattle.hpgl_text.specs.declared.profile.Profile.TheVariants.{Full}
 use Rattle.hpgl_plot.specs.declared.note.Note.{Note}
 use Rattle.hpgl_plot.specs.declared.note.NoteKind.{NoteKind}
 use Rattle.hpgl_plot.specs.declared.note.NoteKind.TheVariants.{Skipped, Bad, Stray, Open}
-use Rattle.full_plot.specs.Notes.{notes}
+use Rattle.full_notes.specs.Notes.{notes}
 
 abbrev noted : List ℕ → List Note
 noted plot = notes (cut_by Full plot)

@@ -8,8 +8,8 @@ use Rattle.hpgl_plot.specs.declared.note.NoteKind.{NoteKind}
 use Rattle.hpgl_plot.specs.declared.note.NoteKind.TheVariants.{Bad}
 use Rattle.hpgl_plot.specs.Notes.{notes_with, note_at, open_noted, entry_note, entries_in}
 use Rattle.hpgl_plot.proofs.NoteCounts.{few_in_profile, notes_by}
-use Rattle.full_plot.specs.Contexts.{Context, first_context}
-use Rattle.full_plot.specs.Notes.{body_noted, context_after, notes_from, notes}
+use Rattle.full_notes.specs.Contexts.{Context, first_context}
+use Rattle.full_notes.specs.Notes.{body_noted, context_after, notes_from, notes}
 
 -- there are no more than if something were noted at the first byte of each item
 abbrev always : BodyShape → Option NoteKind

@@ -22,7 +22,7 @@ use Rattle.full_settings.specs.CurveParameters.{are_curves}
 use Rattle.full_settings.specs.FurtherRequests.{further_request}
 use Rattle.full_settings.specs.LetterParameters.{direction}
 use Rattle.full_settings.specs.WidthParameters.{percent_width}
-use Rattle.full_plot.specs.Contexts.{Context, first_context, read_in}
+use Rattle.full_notes.specs.Contexts.{Context, first_context, read_in}
 
 -- whether widths are in percent after a WU that asks for this, if they were or were not before
 abbrev pub unit_after : Bool → WidthSetting → Bool

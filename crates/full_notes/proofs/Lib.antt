@@ -1,0 +1,3 @@
+mod NoteExamples
+pub mod ReadNumbers
+pub mod FewNotes
