@@ -1,5 +1,5 @@
 -- Polygons: what small plots draw, by their text.
-use Rattle.std.proofs.Common.{◌≡◌, ℕ, [], ◌∷◌, refl, pos, Some}
+use Rattle.std.proofs.Common.{◌≡◌, [], ◌∷◌, refl, Some}
 use Rattle.std.specs.Prelude.{codes}
 use Rattle.plot_settings.specs.Colours.{default_colours}
 use Rattle.plot_settings.specs.Settings.{all_pens}

@@ -1,5 +1,5 @@
 -- The lines of a label, byte by byte and stroke by stroke.
-use Rattle.std.proofs.Common.{◌≡◌, ◌∙◌, ◌≤◌, ◌<◌, ap, ap₂, sym, subst, refl, ℕ, suc, true, inl, inr, List, [], ◌∷◌, ◌++◌, length, map, drop, slice_get, ◌+◌, append_assoc, append-nil, nat_eq, Option, None, Some, ◌+ℤ◌, arith}
+use Rattle.std.proofs.Common.{◌≡◌, ◌∙◌, ◌≤◌, ◌<◌, ap, ap₂, sym, refl, ℕ, suc, true, inl, inr, List, [], ◌∷◌, ◌++◌, length, map, drop, slice_get, ◌+◌, append_assoc, append-nil, nat_eq, Option, None, Some, ◌+ℤ◌, arith}
 use Rattle.std.specs.Prelude.{reverse}
 use Rattle.std.proofs.lemmas.List.{map-append, reverse-append}
 use Rattle.std.proofs.Math.ListN.{drop_of_length-le}

@@ -1,5 +1,5 @@
 -- A polyline has at most as many entries as bytes: a piece has one of its own, and one for each stray in its gap.
-use Rattle.std.proofs.Common.{◌≡◌, ℕ, zero, suc, ◌+◌, ◌-◌, ◌<◌, ◌≤◌, Bool, true, false, ◌==◌, nat_lt, if◌then◌else◌, List, [], ◌∷◌, length, drop, slice_index, Option, option_map, Some, None, refl, arith, nat_abs}
+use Rattle.std.proofs.Common.{◌≡◌, ℕ, zero, suc, ◌+◌, ◌-◌, ◌<◌, ◌≤◌, Bool, true, false, nat_lt, if◌then◌else◌, List, [], ◌∷◌, length, drop, slice_index, Option, option_map, Some, None, refl, arith, nat_abs}
 use Rattle.std.specs.Bool.{⊤}
 use Rattle.std.specs.List.{cons_option}
 use Rattle.std.proofs.Common.{length-drop, length-append}

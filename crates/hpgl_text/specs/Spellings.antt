@@ -1,7 +1,7 @@
 -- The spelling of coded numbers.
 use Rattle.std.specs.Prelude.{◌≡◌, ℕ, zero, suc, ◌+◌, ◌*◌, ◌/◌, ◌%◌, ◌^◌, ◌<◌, nat_lt, if◌then◌else◌}
 use Rattle.std.specs.Prelude.{List, [], ◌∷◌, ◌++◌, length, Some, ℤ, pos, negsuc, nat_abs}
-use Rattle.hpgl_text.specs.Coded.{Digits, digits_of, CodedNumber, coded_number}
+use Rattle.hpgl_text.specs.Coded.{Digits, digits_of, coded_number}
 use Rattle.hpgl_text.specs.declared.polyline.base.Base.{Base}
 use Rattle.hpgl_text.specs.declared.polyline.base.Base.TheVariants.{SixtyFour, ThirtyTwo}
 

@@ -1,7 +1,7 @@
 -- The settings that hold before a step, by the most recent step that sets each: `before` has the steps, the newest
 -- first. What IN (Initialize) and DF (Default Values) set is the guide's; that pen 1 is selected at the start is our
 -- choice.
-use Rattle.std.specs.Prelude.{ℕ, Bool, false, List, [], ◌∷◌, Option, Some, None, nat_eq, if◌then◌else◌, replicate, set}
+use Rattle.std.specs.Prelude.{ℕ, Bool, false, List, [], ◌∷◌, Option, Some, None, replicate, set}
 use Rattle.stick_font.specs.declared.size.CharacterSize.{CharacterSize}
 use Rattle.plot_frame.specs.declared.scaling.Scaling.{Scaling}
 use Rattle.plot_frame.specs.declared.scaling.Scaling.TheVariants.{Off}
@@ -12,7 +12,7 @@ use Rattle.plot_settings.specs.declared.setting.Setting.{Setting}
 use Rattle.plot_settings.specs.declared.setting.Setting.TheVariants.{Start, Defaults, Scale, Rotate, Pen, Width}
 use Rattle.plot_settings.specs.declared.setting.Setting.TheVariants.{WidthOfAll, PenColour, DefaultColours, Size}
 use Rattle.plot_settings.specs.declared.setting.Setting.TheVariants.{Direction}
-use Rattle.plot_settings.specs.Colours.{default_colour, default_colours}
+use Rattle.plot_settings.specs.Colours.{default_colours}
 use Rattle.plot_settings.specs.Parameters.{usual_size}
 use Rattle.plot_settings.specs.Meanings.{Step, Set, Lower, Relate}
 

@@ -1,5 +1,5 @@
 -- Directions along no axis, which are noted.
-use Rattle.std.specs.Prelude.{ℤ, pos, Bool, false, not, ◌&&◌, List, [], ◌∷◌}
+use Rattle.std.specs.Prelude.{ℤ, pos, Bool, false, not, ◌&&◌, List, ◌∷◌}
 use Rattle.std.specs.Ordering.{int_eq}
 use Rattle.hpgl_text.specs.declared.instruction.Instruction.{Instruction}
 use Rattle.hpgl_text.specs.declared.instruction.Instruction.TheVariants.{Direction}

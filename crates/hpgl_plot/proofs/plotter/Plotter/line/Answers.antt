@@ -1,6 +1,5 @@
 use Rattle.std.proofs.Common.{◌≡◌, ◌∙◌, max, arith, refl}
 use Rattle.plot_settings.proofs.PenTables.{width_within}
-use Rattle.hpgl_plot.specs.Strokes.{by_a_pen, stroke}
 use Rattle.hpgl_plot.proofs.plotter.Plotter.line.Goals as goal
 
 pub line_of_width-requires-clause-width : goal.line_of_width-requires-clause-width
