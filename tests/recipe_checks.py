@@ -300,11 +300,19 @@ def archive_by_parallel(made):
         yield f"refused.txt has {made.lines('refused.txt')}"
 
 
+def archive_by_machines(made):
+    yield from archive_by_parallel(made)
+    jobs = made.lines("jobs.txt")
+    failed = [job for job in jobs[1:] if job.split("\t")[6] != "0"]
+    if (len(jobs), len(failed)) != (1 + len(ARCHIVE), len(REFUSED)):
+        yield f"jobs.txt has {jobs}"
+
+
 def parts(made):
     page = ["--width", str(A0[0]), "--height", str(A0[1]), "--dots", "600"]
     if made.read("plan.pbm") != made.run("pbm", *page, "plan.plt"):
         yield "the joined picture is not the whole one"
-    if made.output or any(name.startswith("part.") for name in os.listdir(made.folder)):
+    if made.output or any(name.startswith(("part.", "strip.")) for name in os.listdir(made.folder)):
         yield f"left {os.listdir(made.folder)}, and said {made.output!r}"
 
 
@@ -441,6 +449,8 @@ CHECKS = {
         "Other colours and widths": [Check(recoloured)],
         "An archive of plots": [Check(archive, PNG, ARCHIVE), Check(blank_plots, (), ARCHIVE),
                                 Check(archive_by_parallel, ("parallel",), ARCHIVE)],
+        "Several machines": [Check(archive_by_machines, ("parallel",), ARCHIVE),
+                             Check(parts, ("parallel",), {"plan.plt": plan(*A0)})],
         "A large page in parts": [Check(parts, (), {"plan.plt": plan(*A0)})],
         "A picture for each pen": [Check(pens)],
         "Resume after a failed write": [Check(continued, (), {}, failed_write)],
