@@ -1,7 +1,8 @@
 # Bash completion of plotraster: its commands, their options, and the names of files.
 _plotraster() {
     local word="${COMP_WORDS[COMP_CWORD]}" before="${COMP_WORDS[COMP_CWORD - 1]}"
-    local command="${COMP_WORDS[1]}" options="--width --height --left --below --profile --sheet"
+    local command="${COMP_WORDS[1]}" options="--width --height --page --left --below --profile --sheet"
+    local papers="a0 a1 a2 a3 a4 a5 b4 letter legal tabloid ansi-a ansi-b ansi-c ansi-d ansi-e arch-d arch-e"
     COMPREPLY=()
     if [ "$COMP_CWORD" -eq 1 ]; then
         COMPREPLY=($(compgen -W "marks pbm ppm pcl report --help --version" -- "$word"))
@@ -26,6 +27,10 @@ _plotraster() {
         esac
     fi
     case "$before" in
+        --page)
+            COMPREPLY=($(compgen -W "$papers ${papers// /-portrait }-portrait" -- "$word"))
+            return
+            ;;
         --profile)
             COMPREPLY=($(compgen -W "core full" -- "$word"))
             return

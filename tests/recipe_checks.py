@@ -423,15 +423,14 @@ def sizes(made):
     bitmap = read_bitmap(made.read("plan.pbm"))
     if (bitmap.columns, bitmap.rows) != (pixels(A0[1], 200), pixels(A0[0], 200)):
         yield f"{bitmap.columns} by {bitmap.rows} pixels"
-    rows = [row for row in made.section["rows"] if row[0] != "Size"]
-    if len(rows) != 10:
-        yield f"{len(rows)} sizes"
-    for name, landscape, portrait in rows:
-        (long, unit), (short, _) = re.findall(r"([0-9.]+) (mm|in)", name)
+    rows = [row for row in made.section["rows"] if row[0] != "Paper"]
+    if len(rows) != 17:
+        yield f"{len(rows)} papers"
+    for name, size, landscape in rows:
+        (long, unit), (short, _) = re.findall(r"([0-9.]+) (mm|in)", size)
         long, short = (round(float(side) * {"mm": 40, "in": 1016}[unit]) for side in (long, short))
-        wanted = f"`--width {long} --height {short}`", f"`--width {short} --height {long}`"
-        if (landscape, portrait) != wanted:
-            yield f"{name}: {landscape}, {portrait}"
+        if landscape != f"`--width {long} --height {short}`":
+            yield f"{name}: {landscape}"
 
 
 # `made` gives what is wrong with what a block made, `needs` are commands, `plots` are files that the block needs

@@ -273,7 +273,9 @@ def names_a_file(words):
     split = shlex.split(words)
     if not split or split[0].startswith("-"):
         return True
-    takes_value = {"--width", "--height", "--left", "--below", "--profile", "--sheet", "--dots", "--pens", "--band", "--from"}
+    takes_value = {
+        "--width", "--height", "--page", "--left", "--below", "--profile", "--sheet", "--dots", "--pens", "--band", "--from",
+    }
     free = [it for before, it in zip(split, split[1:]) if not it.startswith("-") and before not in takes_value]
     return bool(free) or "--help" in split
 

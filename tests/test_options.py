@@ -12,7 +12,7 @@ import re
 import subprocess
 
 from reference.outputs import FORMS
-from shared import TOP, assert_nothing, run
+from shared import TOP, assert_nothing, read, run
 
 PAGE = os.path.join(TOP, "man", "plotraster.1")
 COMPLETION = os.path.join(TOP, "completions", "plotraster.bash")
@@ -20,6 +20,8 @@ SECONDS = 10
 HELP = "--help"
 VERSION = "--version"
 EVERY_COMMAND = "All commands"
+PAPER = "--page"
+PORTRAIT = "-portrait"
 
 
 def range_in(text):
@@ -53,7 +55,7 @@ def options_in_help(program, command):
         name = re.match(r" +(?:-\w, )?(--[a-z]+)", line)
         if name is None or name[1] == HELP:
             continue
-        says = re.fullmatch(r" +--[a-z]+ <([A-Z]+)> +(.*) \[default: (.*)\]", line)
+        says = re.fullmatch(r" +--[a-z]+ <([A-Z]+)> +(.*) \[default: ([^]]*)\]", line)
         assert says is not None, f"{command} {HELP}: no value or no default: {line}"
         found[name[1]] = (says[1], range_in(says[2]), says[3])
     return found
@@ -64,6 +66,16 @@ def words_in_help(program, command):
     lines = [re.match(r" +(--[a-z]+) <.*", line) for line in help_of(program, [command])]
     found = {line[1]: re.findall(r"'(\w+)'", line[0]) for line in lines if line}
     return {name: words for name, words in found.items() if words}
+
+
+def papers_in_help(program, command):
+    """The names of papers that the help of a command gives: in landscape, and in portrait."""
+    line = next(it for it in help_of(program, [command]) if it.startswith(f"      {PAPER} "))
+    found = []
+    for text in re.split(r", | or ", re.search(r"--height: (.*);", line)[1]):
+        first, _, last = text.partition(" to ")
+        found += [first[:-1] + chr(it) for it in range(ord(first[-1]), ord(last[-1]) + 1)] if last else [first]
+    return [*found, *(f"{it}{PORTRAIT}" for it in found)]
 
 
 def ends(values):
@@ -212,7 +224,8 @@ def test_options(program):
         assert len(options) >= 4
         assert_nothing(wrong_ranges(program, command, options))
         assert_nothing(wrong_options(command, options, commands))
-        assert_nothing(wrong_values(command, options, words_in_help(program, command)))
+        words = {**words_in_help(program, command), PAPER: papers_in_help(program, command)}
+        assert_nothing(wrong_values(command, options, words))
 
 
 def sentences_of_help(program, commands):
@@ -234,7 +247,7 @@ def test_page_begins_with_the_sentences_of_help(program):
     page = {(name, head.split()[0]): text for name in ("COMMANDS", "OPTIONS")
             for _, head, text in entries(section(name))}
     sentences = list(sentences_of_help(program, commands))
-    assert len(sentences) == len(commands) + 10 + 6
+    assert len(sentences) == len(commands) + 11 + 7
     assert_nothing(f"{name}: the page has {page[part, name]!r}, the help {says!r}"
                    for part, name, says in sentences if not page[part, name].startswith(says + ". "))
 
@@ -247,6 +260,29 @@ def test_quoted_values_of_help(program):
         for name, values in words.items():
             assert options_in_help(program, command)[name][2] in values
             assert all(takes(program, command, f"{name}={word}") for word in values)
+
+
+def papers_in_recipes():
+    """The width and the height of each paper in docs/RECIPES.md, by its name."""
+    rows = re.findall(r"^\| `--page (.+)` \| .+ \| `--width (\d+) --height (\d+)` \|$", read("docs", "RECIPES.md"), re.M)
+    landscape = {name: (int(width), int(height)) for name, width, height in rows}
+    return {**landscape, **{f"{name}{PORTRAIT}": (height, width) for name, (width, height) in landscape.items()}}
+
+
+def test_papers(program):
+    """Help and docs/RECIPES.md have the same papers, which are of the sizes that RECIPES has."""
+    papers = papers_in_recipes()
+    assert list(papers) == papers_in_help(program, "report")
+    for name, (width, height) in papers.items():
+        done = run(program, ["report", f"{PAPER}={name}"], SECONDS, text=True)
+        assert (done.returncode, done.stdout.splitlines()[0]) == (0, f"page {width} {height} 0 0"), name
+
+
+def test_message_of_papers(program):
+    """The message on a bad name has the names as help has them."""
+    names = re.search(r"--height: (.*);", "\n".join(help_of(program, ["report"])))[1]
+    done = run(program, ["report", f"{PAPER}=none"], SECONDS, text=True)
+    assert done.stderr == f"plotraster: bad page: use {names}, or one of these with {PORTRAIT}\n"
 
 
 def test_completion_is_registered():

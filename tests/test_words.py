@@ -29,6 +29,8 @@ OFF_RANGE = (1, b"plotraster: place off range at byte 0\n")
 USAGE = (2, b"error: ")
 NO_TEXT = (2, b"plotraster: words not understood\n")
 BAD_LIST = (2, b"plotraster: bad pen list\n")
+BAD_PAGE = (2, b"plotraster: bad page: use a0 to a5, b4, letter, legal, tabloid, ansi-a to ansi-e, arch-d or arch-e, ")
+PAGE_AND_SIDE = (2, b"plotraster: --page may not be given with --width or --height\n")
 BAD_PROFILE = (2, b"plotraster: bad profile\n")
 NO_SHEETS = (2, b"plotraster: --sheet needs --profile full\n")
 NOT_OF_PCL = (2, b"plotraster: resolution is not one of PCL's\n")
@@ -43,6 +45,10 @@ ROWS = 6
 PAGE_RANGES = {
     "--width": (64, 65536), "--height": (64, 65536), "--left": (0, 65536), "--below": (0, 65536),
 }
+PAPERS = [
+    "a0", "a1", "a2", "a3", "a4", "a5", "b4", "letter", "legal", "tabloid",
+    "ansi-a", "ansi-b", "ansi-c", "ansi-d", "ansi-e", "arch-d", "arch-e",
+]
 PICTURE_RANGES = {"--dots": (10, 1200), "--band": (1, 4096), "--from": (0, 99999)}
 RANGES = {**PAGE_RANGES, **PICTURE_RANGES}
 PCL_DOTS = [75, 100, 150, 200, 300, 600]
@@ -71,7 +77,7 @@ def commands():
     yield ["--", "pbm", "line.plt"], USAGE
     for option in RANGES:
         yield [option, "100", "pbm"], USAGE
-    for option, value in [("--pens", "all"), ("--profile", "full"), ("--sheet", "1")]:
+    for option, value in [("--page", "a4"), ("--pens", "all"), ("--profile", "full"), ("--sheet", "1")]:
         yield [option, value, "pbm"], USAGE
 
 
@@ -114,7 +120,7 @@ def no_numbers():
 
 def values_missing():
     """Options without a value, and values that look like options."""
-    for name in [*RANGES, "--pens", "--profile", "--sheet"]:
+    for name in [*RANGES, "--page", "--pens", "--profile", "--sheet"]:
         yield ["pbm", name], USAGE
         yield ["pbm", "line.plt", name], USAGE
         yield ["pbm", name, "--", "line.plt"], USAGE
@@ -125,12 +131,12 @@ def values_missing():
 
 def options_twice():
     """An option that is given twice, with the same value or another, in both forms."""
-    texts = [("--pens", "all", "1"), ("--profile", "full", "core")]
+    texts = [("--page", "a4", "a5"), ("--pens", "all", "1"), ("--profile", "full", "core")]
     for name, value, other in [*((it, "100", "101") for it in [*RANGES, "--sheet"]), *texts]:
         yield ["marks", name, value, name, value], USAGE
         yield ["pbm", f"{name}={value}", f"{name}={other}"], USAGE
         yield ["ppm", f"{name}={value}", "line.plt", name, other], USAGE
-    for name in [*PAGE_RANGES, "--sheet", "--profile"]:
+    for name in [*PAGE_RANGES, "--page", "--sheet", "--profile"]:
         yield ["report", name, "100", "line.plt", f"{name}=100"], USAGE
 
 
@@ -169,6 +175,27 @@ def lists_of_pens():
         yield ["ppm", f"--pens={text}"], BAD_LIST
         if not text.startswith("-"):
             yield ["marks", "--pens", text, "line.plt"], BAD_LIST
+
+
+def pages():
+    """The papers, words that are none, and papers beside a width or a height."""
+    for paper in PAPERS:
+        yield ["report", "--page", paper, "line.plt"], DONE
+        yield ["marks", f"--page={paper}-portrait", "--dots=10", "line.plt"], DONE
+    for command in COMMANDS:
+        yield [command, "--page=a5", "--left", "1", "line.plt"], DONE
+        yield [command, "--page=a5", "far.plt"], OFF_RANGE
+        yield [command, "--page=a4", "--width=11880"], PAGE_AND_SIDE
+        yield [command, "--height", "64", "line.plt", "--page", "a4"], PAGE_AND_SIDE
+        yield [command, *SMALL, "--page=a5-portrait"], PAGE_AND_SIDE
+    for word in [
+        "", " ", "A4", "a6", "a", "4", "a4 ", " a4", "a4\n", "a4-", "a4-landscape", "a4-Portrait", "a4-portrait-portrait",
+        "portrait", "a4,a5", "a0 to a5", "297x210", "11880", "letters", "ansi", "ansi-f", "arch-a", "\u00e4", "a" * LONG,
+        "-portrait" * (LONG // 9),
+    ]:
+        yield ["pbm", f"--page={word}"], BAD_PAGE
+        if not word.startswith("-"):
+            yield ["report", "--page", word, "--width=64"], BAD_PAGE
 
 
 def profiles():
@@ -261,7 +288,16 @@ def calls_for_help():
 
 
 def orders_of_refusal():
-    """Command lines with two things wrong: usage, the list of pens, profile and sheet, the file, then the picture's."""
+    """Command lines with two things wrong: usage, the list of pens, the page, profile and sheet, the file, then the picture's."""
+    yield ["pbm", "--page=none", "--width=63"], USAGE
+    yield ["pbm", "--page=none", "--pens=0"], BAD_LIST
+    yield ["ppm", "--page=a4", "--width=64", "--pens=0"], BAD_LIST
+    yield ["report", "--page=none", "--height=64"], BAD_PAGE
+    yield ["marks", "--page=none", "--profile=none"], BAD_PAGE
+    yield ["report", "--page=a4", "--height=64", "--profile=none"], PAGE_AND_SIDE
+    yield ["pcl", "--page=a4", "--width=64", "--sheet=1", "--dots=127"], PAGE_AND_SIDE
+    yield ["pbm", "--page=none", "missing.plt"], BAD_PAGE
+    yield ["report", "--page=a4", "--width=64", "missing.plt"], PAGE_AND_SIDE
     yield ["pbm", "--profile=none", "--sheet=-1"], USAGE
     yield ["pbm", "--profile=none", "--pens=0"], BAD_LIST
     yield ["pcl", "--sheet=1", "--pens=0"], BAD_LIST
@@ -297,7 +333,7 @@ def bytes_that_are_no_text():
 
 GENERATORS = [
     plain, commands, numbers_in_range, numbers_out_of_range, no_numbers, values_missing, options_twice, unknown_options,
-    options_of_pictures, lists_of_pens, profiles, sheets, resolutions_of_pcl, files, after_two_hyphens, calls_for_help,
+    options_of_pictures, lists_of_pens, pages, profiles, sheets, resolutions_of_pcl, files, after_two_hyphens, calls_for_help,
     orders_of_refusal, bytes_that_are_no_text,
 ]
 

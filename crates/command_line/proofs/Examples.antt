@@ -9,7 +9,8 @@ use Rattle.picture_out.specs.declared.form.Form.TheVariants as form
 use Rattle.command_line.specs.declared.subcommands.Output.TheVariants as output
 use Rattle.command_line.specs.declared.fault.LineFault.{LineFault}
 use Rattle.command_line.specs.declared.fault.LineFault.TheVariants as fault
-use Rattle.command_line.specs.Lines.{fault_of_values, has_bad_list, number_in, output_named, pens_text, profile_text, sheet_in}
+use Rattle.command_line.specs.Lines.{fault_of_values, has_bad_list, number_in, output_named, page_size, pens_text, profile_text, sheet_in}
+use Rattle.command_line.specs.Papers.{paper_of}
 use Rattle.command_line.specs.Options.{plot_app}
 use Rattle.command_line.specs.Statuses.{parse_status_of}
 
@@ -37,6 +38,21 @@ report_describes = refl
 no_such_name : output_named (codes "png") ≡ None
 no_such_name = refl
 
+b4_is_a_paper : paper_of (codes "b4") ≡ Some (14120, 10000)
+b4_is_a_paper = refl
+
+legal_in_portrait : paper_of (codes "legal-portrait") ≡ Some (8636, 14224)
+legal_in_portrait = refl
+
+no_capitals : paper_of (codes "A4") ≡ None
+no_capitals = refl
+
+no_landscape : paper_of (codes "a4-landscape") ≡ None
+no_landscape = refl
+
+no_paper : paper_of (codes "-portrait") ≡ None
+no_paper = refl
+
 -- the words of a command line, the program's name before them
 abbrev after_name : List Text → List Text
 after_name words = codes "plotraster" ∷ words
@@ -45,7 +61,7 @@ after_name words = codes "plotraster" ∷ words
 abbrev number_on : List Text → Text → Option ℕ
 number_on words name = option_and_then (λ p. number_in p.1 name) (subcommand_of plot_app (after_name words))
 
-width_left_out : number_on (codes "pbm" ∷ []) (codes "width") ≡ Some 11880
+width_left_out : number_on (codes "pbm" ∷ []) (codes "width") ≡ None
 unfolding clap_on_literals
 width_left_out = refl
 
@@ -60,6 +76,26 @@ pcl_is_a_subcommand = refl
 plus_sign : number_on (codes "ppm" ∷ codes "--from=+7" ∷ []) (codes "from") ≡ Some 7
 unfolding clap_on_literals
 plus_sign = refl
+
+-- the width and the height of the page on a command line
+abbrev size_on : List Text → Option (ℕ × ℕ)
+size_on words = option_and_then (λ p. page_size p.1) (subcommand_of plot_app (after_name words))
+
+size_left_out : size_on (codes "pbm" ∷ []) ≡ Some (11880, 8400)
+unfolding clap_on_literals
+size_left_out = refl
+
+a4_is_the_default : size_on (codes "pbm" ∷ codes "--page" ∷ codes "a4" ∷ []) ≡ size_on (codes "pbm" ∷ [])
+unfolding clap_on_literals
+a4_is_the_default = refl
+
+letter_in_portrait : size_on (codes "report" ∷ codes "--page=letter-portrait" ∷ []) ≡ Some (8636, 11176)
+unfolding clap_on_literals
+letter_in_portrait = refl
+
+height_given : size_on (codes "pcl" ∷ codes "--height=64" ∷ []) ≡ Some (11880, 64)
+unfolding clap_on_literals
+height_given = refl
 
 -- the text that the option for the list of pens has on a command line
 abbrev pens_on : List Text → Option Text
@@ -117,6 +153,22 @@ list_before_sheet : value_fault_on (codes "pcl" ∷ codes "--pens=0" ∷ codes "
 unfolding clap_on_literals
 list_before_sheet = refl
 
+no_such_paper : value_fault_on (codes "pbm" ∷ codes "--page=a6" ∷ codes "--width=64" ∷ []) ≡ Some fault.Paper
+unfolding clap_on_literals
+no_such_paper = refl
+
+paper_and_width : value_fault_on (codes "report" ∷ codes "--width=11880" ∷ codes "--page=a4" ∷ []) ≡ Some fault.Size
+unfolding clap_on_literals
+paper_and_width = refl
+
+list_before_paper : value_fault_on (codes "ppm" ∷ codes "--page=a6" ∷ codes "--pens=0" ∷ []) ≡ Some fault.Pens
+unfolding clap_on_literals
+list_before_paper = refl
+
+paper_before_profile : value_fault_on (codes "marks" ∷ codes "--profile=none" ∷ codes "--page=a4" ∷ codes "--height=64" ∷ []) ≡ Some fault.Size
+unfolding clap_on_literals
+paper_before_profile = refl
+
 -- a command line asks for a picture by a text that is no list of pens
 abbrev bad_list_on : List Text → Bool
 bad_list_on words = option_map_or has_bad_list (subcommand_of plot_app (after_name words)) false
@@ -152,6 +204,10 @@ dots_too_few = refl
 band_twice : faults_on (codes "pbm" ∷ codes "--band" ∷ codes "8" ∷ codes "--band" ∷ codes "8" ∷ []) ≡ kind.ArgumentConflict ∷ []
 unfolding clap_on_literals
 band_twice = refl
+
+page_twice : faults_on (codes "pbm" ∷ codes "--page=a4" ∷ codes "--page=a4" ∷ []) ≡ kind.ArgumentConflict ∷ []
+unfolding clap_on_literals
+page_twice = refl
 
 profile_twice : faults_on (codes "report" ∷ codes "--profile=full" ∷ codes "--profile=full" ∷ []) ≡ kind.ArgumentConflict ∷ []
 unfolding clap_on_literals

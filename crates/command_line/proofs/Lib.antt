@@ -1,4 +1,5 @@
 pub mod Table
+pub mod PaperSizes
 pub mod CommandLaw
 pub mod ReadingLaw
 pub mod Given

@@ -20,7 +20,7 @@ use Rattle.command_line.specs.declared.subcommands.Output.{Output}
 use Rattle.command_line.specs.declared.subcommands.Output.TheVariants.{Picture, Report}
 use Rattle.command_line.specs.Lines.{number_in, output_named}
 use Rattle.command_line.specs.Options.{picture_app, plot_app, report_app, subcommand_app, subcommands}
-use Rattle.command_line.specs.Readings.{HasNumber, HasPageNumbers, HasPictureValues, HasReadingValues, HasValues}
+use Rattle.command_line.specs.Readings.{HasNumber, HasPageNumbers, HasPictureValues, HasReadingValues, HasValues, MayHaveNumber}
 
 -- a row of an argument: its value passes, and is read as the argument's parser says
 record IsRowOf (a : Rule) (r : Row) : Type 0 where
@@ -95,39 +95,43 @@ row_there name (r ∷ rest) has = branch (bytes_eq r.id name) refl (row_there na
     branch true same later = rw same refl
     branch false other later = rw other (later (rw other at has))
 
+number_if_there : (c : List Rule) (a : Rule) (name : Text) (rows : List Row) (low high : ℕ) → arg_by_id c name ≡ Some a → a.parser ≡ Some (vp.Signed (pos low) (pos high))
+    → AllByRecursion (RowOf c) rows → MayHaveNumber rows name low high
+number_if_there c a name rows low high found parser all = λ given. number_there c a name rows low high found parser all (row_there name rows given)
+
 reading_values : (c : List Rule) (a b : Rule) (rows : List Row) → arg_by_id c (codes "profile") ≡ Some a → arg_by_id c (codes "sheet") ≡ Some b
     → b.parser ≡ Some (vp.Signed (pos 0) (pos 4194304)) → AllByRecursion (RowOf c) rows → has_row (codes "profile") rows ≡ true → HasReadingValues rows
 reading_values c a b rows profile sheet parser all has = record {
   profile = text_there c a (codes "profile") rows profile all has;
-  sheet = λ given. number_there c b (codes "sheet") rows 0 4194304 sheet parser all (row_there (codes "sheet") rows given);
+  sheet = number_if_there c b (codes "sheet") rows 0 4194304 sheet parser all;
 }
 
 report_reading : (name : Text) (rows : List Row) → RowsOf (built_leaf (report_app name).top).rules rows → HasReadingValues rows
-report_reading name rows good = reading_values _ _ _ rows refl refl refl good.each (good.defaults.1.1.1.1.0 (omega arith))
+report_reading name rows good = reading_values _ _ _ rows refl refl refl good.each (good.defaults.1.1.1.1.1.0 (omega arith))
 
 picture_reading : (name : Text) (rows : List Row) → RowsOf (built_leaf (picture_app name).top).rules rows → HasReadingValues rows
-picture_reading name rows good = reading_values _ _ _ rows refl refl refl good.each (good.defaults.1.1.1.1.0 (omega arith))
+picture_reading name rows good = reading_values _ _ _ rows refl refl refl good.each (good.defaults.1.1.1.1.1.0 (omega arith))
 
 report_numbers : (name : Text) (rows : List Row) → RowsOf (built_leaf (report_app name).top).rules rows → HasPageNumbers rows
 report_numbers name rows good = record {
-  width = number_there _ _ (codes "width") rows 64 65536 refl refl good.each (good.defaults.0 (omega arith));
-  height = number_there _ _ (codes "height") rows 64 65536 refl refl good.each (good.defaults.1.0 (omega arith));
-  left = number_there _ _ (codes "left") rows 0 65536 refl refl good.each (good.defaults.1.1.0 (omega arith));
-  below = number_there _ _ (codes "below") rows 0 65536 refl refl good.each (good.defaults.1.1.1.0 (omega arith));
+  width = number_if_there _ _ (codes "width") rows 64 65536 refl refl good.each;
+  height = number_if_there _ _ (codes "height") rows 64 65536 refl refl good.each;
+  left = number_there _ _ (codes "left") rows 0 65536 refl refl good.each (good.defaults.1.1.1.0 (omega arith));
+  below = number_there _ _ (codes "below") rows 0 65536 refl refl good.each (good.defaults.1.1.1.1.0 (omega arith));
 }
 
 picture_values : (name : Text) (rows : List Row) → RowsOf (built_leaf (picture_app name).top).rules rows → HasPictureValues rows
 picture_values name rows good = record {
   page = record {
-    width = number_there _ _ (codes "width") rows 64 65536 refl refl good.each (good.defaults.0 (omega arith));
-    height = number_there _ _ (codes "height") rows 64 65536 refl refl good.each (good.defaults.1.0 (omega arith));
-    left = number_there _ _ (codes "left") rows 0 65536 refl refl good.each (good.defaults.1.1.0 (omega arith));
-    below = number_there _ _ (codes "below") rows 0 65536 refl refl good.each (good.defaults.1.1.1.0 (omega arith));
+    width = number_if_there _ _ (codes "width") rows 64 65536 refl refl good.each;
+    height = number_if_there _ _ (codes "height") rows 64 65536 refl refl good.each;
+    left = number_there _ _ (codes "left") rows 0 65536 refl refl good.each (good.defaults.1.1.1.0 (omega arith));
+    below = number_there _ _ (codes "below") rows 0 65536 refl refl good.each (good.defaults.1.1.1.1.0 (omega arith));
   };
-  dots = number_there _ _ (codes "dots") rows 10 1200 refl refl good.each (good.defaults.1.1.1.1.1.1.0 (omega arith));
-  pens = text_there _ _ (codes "pens") rows refl good.each (good.defaults.1.1.1.1.1.1.1.0 (omega arith));
-  band = number_there _ _ (codes "band") rows 1 4096 refl refl good.each (good.defaults.1.1.1.1.1.1.1.1.0 (omega arith));
-  first_row = number_there _ _ (codes "from") rows 0 99999 refl refl good.each (good.defaults.1.1.1.1.1.1.1.1.1.0 (omega arith));
+  dots = number_there _ _ (codes "dots") rows 10 1200 refl refl good.each (good.defaults.1.1.1.1.1.1.1.0 (omega arith));
+  pens = text_there _ _ (codes "pens") rows refl good.each (good.defaults.1.1.1.1.1.1.1.1.0 (omega arith));
+  band = number_there _ _ (codes "band") rows 1 4096 refl refl good.each (good.defaults.1.1.1.1.1.1.1.1.1.0 (omega arith));
+  first_row = number_there _ _ (codes "from") rows 0 99999 refl refl good.each (good.defaults.1.1.1.1.1.1.1.1.1.1.0 (omega arith));
 }
 
 -- the rows of a subcommand give its options values

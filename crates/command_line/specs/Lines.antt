@@ -1,7 +1,7 @@
 -- What the matches of a command line ask for.
 use Rattle.std.specs.Prelude.{◌≡◌, ◌<◌, ◌&&◌, ◌||◌, ℕ, Bool, true, false, not, List, Option, Some, None, codes}
 use Rattle.std.specs.Prelude.{option_map, option_and_then, unwrap_or, is_some, find, if◌then◌else◌}
-use Rattle.std.specs.Option.{option_map_or}
+use Rattle.std.specs.Option.{option_map_or, option_or}
 use Rattle.std.specs.Str.{bytes_eq}
 use Rattle.std.specs.Str.Parse.{digits_value, without_leading_plus}
 use Rattle.clap.specs.Words.{Row, Text, first_of, one_of, subcommand_rows_of}
@@ -11,12 +11,13 @@ use Rattle.plot_page.specs.declared.pens.PenSet.{PenSet}
 use Rattle.plot_page.specs.Pens.{has_pen}
 use Rattle.clap_parses.specs.Parses.{HasGoodMatches}
 use Rattle.command_line.specs.Options.{subcommands, plot_app}
+use Rattle.command_line.specs.Papers.{paper_of}
 use Rattle.pen_list.specs.Lists.{is_listed, is_pen_list}
 use Rattle.picture_job.specs.declared.job.Job.{Job}
 use Rattle.picture_job.specs.declared.reading.Reading.{Reading}
 use Rattle.picture_job.specs.declared.reading.Reading.TheVariants.{Core, Full}
 use Rattle.command_line.specs.declared.fault.LineFault.{LineFault}
-use Rattle.command_line.specs.declared.fault.LineFault.TheVariants.{Pens, Profile, Sheet}
+use Rattle.command_line.specs.declared.fault.LineFault.TheVariants.{Pens, Paper, Size, Profile, Sheet}
 use Rattle.command_line.specs.declared.line.Line.{Line}
 use Rattle.command_line.specs.declared.line.Task.{Task}
 use Rattle.command_line.specs.declared.line.Task.TheVariants.{Picture, Report}
@@ -30,6 +31,10 @@ number_in rows name = option_map (λ t. digits_value 10 (without_leading_plus t)
 -- the text of the option for the list of pens
 abbrev pub pens_text : List Row → Option Text
 pens_text rows = first_of (codes "pens") rows
+
+-- the name of the paper, or None if none is named
+abbrev pub paper_text : List Row → Option Text
+paper_text rows = first_of (codes "page") rows
 
 -- the name of the profile
 abbrev pub profile_text : List Row → Option Text
@@ -48,10 +53,23 @@ abbrev pub is_picture : Output → Bool
 is_picture (output.Picture form) = true
 is_picture output.Report = false
 
--- each number of the page is its option's
+-- the width and the height that are given, or 11880 and 8400, those of A4 in landscape
+abbrev pub given_size : List Row → ℕ × ℕ
+given_size rows = (unwrap_or (number_in rows (codes "width")) 11880, unwrap_or (number_in rows (codes "height")) 8400)
+
+-- the width and the height of the page: those of the paper, if one is named
+abbrev pub page_size : List Row → Option (ℕ × ℕ)
+page_size rows = option_map_or paper_of (paper_text rows) (Some (given_size rows))
+
+-- a paper is named, and a width or a height is given
+abbrev pub has_paper_and_side : List Row → Bool
+has_paper_and_side rows =
+    is_some (paper_text rows) && (is_some (number_in rows (codes "width")) || is_some (number_in rows (codes "height")))
+
+-- the page has the size that the options give, in one way only, and the corner that they give
 pub record IsPageOf (rows : List Row) (page : Page) : Type 0 where
-  pub width : number_in rows (codes "width") ≡ Some page.width
-  pub height : number_in rows (codes "height") ≡ Some page.height
+  pub size : page_size rows ≡ Some (page.width, page.height)
+  pub one_way : has_paper_and_side rows ≡ false
   pub left : number_in rows (codes "left") ≡ Some page.left
   pub below : number_in rows (codes "below") ≡ Some page.below
 
@@ -105,6 +123,15 @@ has_bad_list (name, rows) = option_map_or is_picture (output_named name) false &
 abbrev pub asks_bad_list : ArgMatches → Bool
 asks_bad_list m = option_map_or has_bad_list (subcommand_rows_of m) false
 
+-- there is no paper of this name
+abbrev pub has_bad_paper : List Row → Bool
+has_bad_paper rows = option_map_or (λ name. not (is_some (paper_of name))) (paper_text rows) false
+
+-- what is wrong with the size of the page
+abbrev pub page_fault : List Row → Option LineFault
+page_fault rows =
+    if has_bad_paper rows then Some Paper else if has_paper_and_side rows then Some Size else None
+
 -- the profile has this name
 abbrev pub has_profile : List Row → Text → Bool
 has_profile rows name = option_map_or (λ text. bytes_eq text name) (profile_text rows) false
@@ -122,9 +149,13 @@ abbrev pub reading_fault : List Row → Option LineFault
 reading_fault rows =
     if has_bad_profile rows then Some Profile else if has_stray_sheet rows then Some Sheet else None
 
--- what is wrong with the values of a subcommand's options: first comes the list of pens, then the reading
+-- what is wrong with the values for the task: first comes the list of pens, then the page
+abbrev pub task_fault : Text × List Row → Option LineFault
+task_fault (name, rows) = if has_bad_list (name, rows) then Some Pens else page_fault rows
+
+-- what is wrong with the values of a subcommand's options: first comes the task, then the reading
 abbrev pub fault_of_values : Text × List Row → Option LineFault
-fault_of_values (name, rows) = if has_bad_list (name, rows) then Some Pens else reading_fault rows
+fault_of_values (name, rows) = option_or (task_fault (name, rows)) (reading_fault rows)
 
 -- the same for the matches
 abbrev pub line_fault : ArgMatches → Option LineFault

@@ -35,11 +35,12 @@ number_rule name low high given = option_rule name (whole_number low high) given
 abbrev pub file_rule : Rule
 file_rule = record (new_rule (codes "FILE")) { action = Some Set }
 
--- the page, in plotter units
+-- the page: its sides in plotter units or the name of a paper, which have no defaults, and its corner
 abbrev pub with_page : App → App
-with_page a = with_rule (with_rule (with_rule (with_rule a
-    (number_rule (codes "width") 64 65536 (codes "11880")))
-    (number_rule (codes "height") 64 65536 (codes "8400")))
+with_page a = with_rule (with_rule (with_rule (with_rule (with_rule a
+    (bare_rule (codes "width") (whole_number 64 65536)))
+    (bare_rule (codes "height") (whole_number 64 65536)))
+    (bare_rule (codes "page") vp.String))
     (number_rule (codes "left") 0 65536 (codes "0")))
     (number_rule (codes "below") 0 65536 (codes "0"))
 

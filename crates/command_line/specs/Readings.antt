@@ -1,11 +1,15 @@
 -- What a faultless parse of this command leaves for `settle` to read.
-use Rattle.std.specs.Prelude.{◌≡◌, ℕ, true, List, Some, IsSomeAnd, is_some, codes, pos}
+use Rattle.std.specs.Prelude.{◌≡◌, ℕ, Bool, true, false, List, Option, Some, None, Result, Ok, Err, IsSomeAnd, is_some, codes, pos}
+use Rattle.std.specs.Prelude.{if◌then◌else◌}
 use Rattle.clap.specs.Lexer.{without_minus}
 use Rattle.clap.specs.Values.{IsSignedIn}
 use Rattle.clap.specs.Words.{Row, Text, one_of}
 use Rattle.command_line.specs.declared.subcommands.Output.{Output}
 use Rattle.command_line.specs.declared.subcommands.Output.TheVariants.{Picture, Report}
-use Rattle.command_line.specs.Lines.{output_named, pens_text, profile_text, sheet_in}
+use Rattle.command_line.specs.declared.fault.LineFault.{LineFault}
+use Rattle.command_line.specs.declared.fault.LineFault.TheVariants.{Pens, Paper, Size}
+use Rattle.command_line.specs.Papers.{paper_of}
+use Rattle.command_line.specs.Lines.{lists_no_pens, number_in, output_named, page_fault, pens_text, profile_text}
 
 -- the option has a text that is a whole number from low to high
 pub record HasNumber (rows : List Row) (name : Text) (low high : ℕ) : Type 0 where
@@ -13,9 +17,13 @@ pub record HasNumber (rows : List Row) (name : Text) (low high : ℕ) : Type 0 w
   pub given : one_of name rows ≡ Some (without_minus text)
   pub within : IsSignedIn (pos low) (pos high) text
 
+-- the same of an option, if it has a number
+abbrev pub MayHaveNumber : List Row → Text → ℕ → ℕ → Type 0
+MayHaveNumber rows name low high = is_some (number_in rows name) ≡ true → HasNumber rows name low high
+
 pub record HasPageNumbers (rows : List Row) : Type 0 where
-  pub width : HasNumber rows (codes "width") 64 65536
-  pub height : HasNumber rows (codes "height") 64 65536
+  pub width : MayHaveNumber rows (codes "width") 64 65536
+  pub height : MayHaveNumber rows (codes "height") 64 65536
   pub left : HasNumber rows (codes "left") 0 65536
   pub below : HasNumber rows (codes "below") 0 65536
 
@@ -26,6 +34,20 @@ pub record HasPictureValues (rows : List Row) : Type 0 where
   pub pens : is_some (pens_text rows) ≡ true
   pub band : HasNumber rows (codes "band") 1 4096
   pub first_row : HasNumber rows (codes "from") 0 99999
+
+-- the size of a paper, unless there is none, or a side is given too
+abbrev pub size_or_fault : Option (ℕ × ℕ) → Bool → Result (ℕ × ℕ) LineFault
+size_or_fault None _ = Err Paper
+size_or_fault (Some size) true = Err Size
+size_or_fault (Some size) false = Ok size
+
+-- the same of the paper of this name
+abbrev pub paper_or_fault : Text → Bool → Result (ℕ × ℕ) LineFault
+paper_or_fault name has_side = size_or_fault (paper_of name) has_side
+
+-- what is wrong with the values of a picture's options
+abbrev pub picture_fault : List Row → Option LineFault
+picture_fault rows = if lists_no_pens rows then Some Pens else page_fault rows
 
 -- each option for what is written has a value
 abbrev pub HasValuesOf : Output → List Row → Type 0
@@ -39,7 +61,7 @@ HasTaskValues name rows = IsSomeAnd (output_named name) (λ output. HasValuesOf 
 -- the profile has a name, and the sheet, if one is given, is a number
 pub record HasReadingValues (rows : List Row) : Type 0 where
   pub profile : is_some (profile_text rows) ≡ true
-  pub sheet : is_some (sheet_in rows) ≡ true → HasNumber rows (codes "sheet") 0 4194304
+  pub sheet : MayHaveNumber rows (codes "sheet") 0 4194304
 
 -- each option that a subcommand needs has a value
 abbrev pub HasValues : Text → List Row → Type 0

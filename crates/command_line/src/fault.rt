@@ -23,6 +23,12 @@ pub enum LineFault {
     /// The text after `--pens` is no list of pens.
     #[error("bad pen list")]
     Pens,
+    /// The word after `--page` names no paper.
+    #[error("bad page: use a0 to a5, b4, letter, legal, tabloid, ansi-a to ansi-e, arch-d or arch-e, or one of these with -portrait")]
+    Paper,
+    /// `--page` is given with `--width` or `--height`.
+    #[error("--page may not be given with --width or --height")]
+    Size,
     /// The word after `--profile` names no profile.
     #[error("bad profile")]
     Profile,

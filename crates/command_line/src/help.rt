@@ -17,14 +17,21 @@ pub(crate) struct HelpPage<'a> {
     pub(crate) example: &'a str,
 }
 
+// `clap` knows of no default of `WIDTH`, `HEIGHT` and `PAGE`, so that it is known which are given.
 pub(crate) const WIDTH: HelpLine<'static> = HelpLine {
     value: "UNITS",
-    help: "Width of the page in plotter units of 1/40 mm, 64 to 65536 (11880 is A4's 297 mm)",
+    help: "Width of the page in plotter units of 1/40 mm, 64 to 65536 (11880 is A4's 297 mm) [default: 11880]",
 };
 
 pub(crate) const HEIGHT: HelpLine<'static> = HelpLine {
     value: "UNITS",
-    help: "Height of the page in plotter units of 1/40 mm, 64 to 65536 (8400 is A4's 210 mm)",
+    help: "Height of the page in plotter units of 1/40 mm, 64 to 65536 (8400 is A4's 210 mm) [default: 8400]",
+};
+
+pub(crate) const PAGE: HelpLine<'static> = HelpLine {
+    value: "NAME",
+    help: "Paper of the page, instead of --width and --height: a0 to a5, b4, letter, legal, tabloid, ansi-a to ansi-e, \
+        arch-d or arch-e; landscape, or portrait with -portrait after the name [default: a4]",
 };
 
 pub(crate) const LEFT: HelpLine<'static> = HelpLine {

@@ -5,6 +5,7 @@ mod fault;
 mod help;
 mod line;
 mod options;
+mod papers;
 mod subcommands;
 
 pub use fault::{BuildFault, LineFault, parse_status};

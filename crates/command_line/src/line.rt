@@ -1,14 +1,18 @@
 //! What a command line asks for.
-ghost use Rattle.std.specs.Prelude.{◌≡◌, ◌↔◌, ◌<◌, ◌≤◌, ◌^◌, ℕ, Some, Err, IfOk, IfErr, IsOk, IsOkAnd, true, is_some};
-ghost use Rattle.std.specs.Prelude.{codes, ◌≢◌};
+ghost use Rattle.std.specs.Prelude.{◌≡◌, ◌↔◌, ◌<◌, ◌≤◌, ◌^◌, ℕ, Some, Err, IfOk, IfErr, IsOkAnd, true, false, is_some};
+ghost use Rattle.std.specs.Prelude.{codes, ◌≢◌, ◌||◌, IfSome};
 ghost use Rattle.std.specs.Result.{result_err};
 ghost use Rattle.clap.specs.Words.{found_of, rows_of};
 ghost use Rattle.command_line.specs.Lines.{number_in, lists_no_pens, has_bad_list, asks_bad_list};
 ghost use Rattle.command_line.specs.Lines.{ArePensOf, IsPageOf, IsJobOf, IsTaskOf, IsLineOf, AreOfThisCommand};
-ghost use Rattle.command_line.specs.Lines.{IsReadingOf, line_fault, pens_text, reading_fault, sheet_in};
+ghost use Rattle.command_line.specs.Lines.{IsReadingOf, line_fault, page_fault, pens_text, reading_fault, task_fault};
+ghost use Rattle.command_line.specs.Lines.{has_paper_and_side, page_size};
 ghost use Rattle.command_line.specs.Readings.{HasNumber, HasPageNumbers, HasPictureValues, HasReadingValues, HasTaskValues};
+ghost use Rattle.command_line.specs.Readings.{MayHaveNumber, paper_or_fault, picture_fault};
+ghost use Rattle.plot_page.specs.Pages.{has_page_size};
 
 use crate::fault::LineFault;
+use crate::papers::paper_named;
 use crate::subcommands::{Output, output_of};
 use clap::ArgMatches;
 use pen_list::read_pens;
@@ -39,9 +43,10 @@ pub struct Line<'a> {
 /// The values of the matches of `command`'s command.
 ///
 /// Errors, of which the first is given: `Pens` if a picture is asked for and `--pens` is not a valid
-/// list, `Profile` if `--profile` is neither `core` nor `full`, and `Sheet` if `--sheet` is given
-/// with the profile core; no other one after a `parse` that succeeded. `Words` if the matches are of
-/// another command.
+/// list, `Paper` if `--page` names no paper, `Size` if `--page` is given with `--width` or
+/// `--height`, `Profile` if `--profile` is neither `core` nor `full`, and `Sheet` if `--sheet` is
+/// given with the profile core; no other one after a `parse` that succeeded. `Words` if the matches
+/// are of another command.
 pub fn settle<'a>(matches: &ArgMatches<'a>) -> Result<Line<'a>, LineFault>
     ensures line { IfOk result (IsLineOf matches.now) }
     ensures pens { (result ≡ Err LineFault.Pens) ↔ (asks_bad_list matches.now ≡ true) }
@@ -58,8 +63,8 @@ pub fn settle<'a>(matches: &ArgMatches<'a>) -> Result<Line<'a>, LineFault>
 fn task_of(name: &str, options: &ArgMatches<'_>) -> Result<Task, LineFault>
     ensures task { IfOk result (IsTaskOf name.now (rows_of (found_of options.now))) }
     ensures pens { (result ≡ Err LineFault.Pens) ↔ (has_bad_list (name.now, rows_of (found_of options.now)) ≡ true) }
-    ensures understood { HasTaskValues name.now (rows_of (found_of options.now)) →
-        IfErr result (λ fault. fault ≡ LineFault.Pens) }
+    ensures refused { HasTaskValues name.now (rows_of (found_of options.now)) →
+        result_err result ≡ task_fault (name.now, rows_of (found_of options.now)) }
 {
     match output_of(name).ok_or(LineFault::Words)? {
         Output::Picture(form) => Ok(Task::Picture(job_of(options, form)?)),
@@ -71,8 +76,8 @@ fn job_of(options: &ArgMatches<'_>, form: Form) -> Result<Job, LineFault>
     ensures job { IfOk result (IsJobOf (rows_of (found_of options.now))) }
     ensures form { IfOk result (λ job. job.form ≡ form) }
     ensures pens { (result ≡ Err LineFault.Pens) ↔ (lists_no_pens (rows_of (found_of options.now)) ≡ true) }
-    ensures understood { HasPictureValues (rows_of (found_of options.now)) →
-        IfErr result (λ fault. fault ≡ LineFault.Pens) }
+    ensures refused { HasPictureValues (rows_of (found_of options.now)) →
+        result_err result ≡ picture_fault (rows_of (found_of options.now)) }
 {
     let pens = pens_of(options)?;
     Ok(Job {
@@ -99,14 +104,43 @@ fn pens_of(options: &ArgMatches<'_>) -> Result<PenSet, LineFault>
 
 fn page_of(options: &ArgMatches<'_>) -> Result<Page, LineFault>
     ensures page { IfOk result (IsPageOf (rows_of (found_of options.now))) }
-    ensures understood { HasPageNumbers (rows_of (found_of options.now)) → IsOk result }
-    ensures fault { IfErr result (λ fault. fault ≡ LineFault.Words) }
+    ensures pens { result ≢ Err LineFault.Pens }
+    ensures refused { HasPageNumbers (rows_of (found_of options.now)) →
+        result_err result ≡ page_fault (rows_of (found_of options.now)) }
 {
-    let width = number_of(options, "width")?;
-    let height = number_of(options, "height")?;
+    let (width, height) = size_of(options)?;
     let left = number_of(options, "left")?;
     let below = number_of(options, "below")?;
     Page::new(width, height, left, below).map_err(|_| LineFault::Words)
+}
+
+// The width and the height of the page. By default they are those of A4 in landscape.
+fn size_of(options: &ArgMatches<'_>) -> Result<(u32, u32), LineFault>
+    ensures size { IfOk result (λ size. page_size (rows_of (found_of options.now)) ≡ Some size) }
+    ensures one_way { IfOk result (λ _. has_paper_and_side (rows_of (found_of options.now)) ≡ false) }
+    ensures pens { result ≢ Err LineFault.Pens }
+    ensures within { HasPageNumbers (rows_of (found_of options.now)) →
+        IfOk result (λ size. has_page_size size.0 size.1 ≡ true) }
+    ensures refused { HasPageNumbers (rows_of (found_of options.now)) →
+        result_err result ≡ page_fault (rows_of (found_of options.now)) }
+{
+    let width = number_if_given(options, "width")?;
+    let height = number_if_given(options, "height")?;
+    match options.get_str("page") {
+        None => Ok((width.unwrap_or(11880), height.unwrap_or(8400))),
+        Some(name) => paper_size(name, width, height),
+    }
+}
+
+// The size of the paper of this name, beside which no width and no height may be given.
+fn paper_size(name: &str, width: Option<u32>, height: Option<u32>) -> Result<(u32, u32), LineFault>
+    ensures { result ≡ paper_or_fault name.now (is_some width || is_some height) }
+{
+    let size = paper_named(name).ok_or(LineFault::Paper)?;
+    if width.is_some() || height.is_some() {
+        return Err(LineFault::Size);
+    }
+    Ok(size)
 }
 
 fn reading_of(options: &ArgMatches<'_>) -> Result<Reading, LineFault>
@@ -116,7 +150,7 @@ fn reading_of(options: &ArgMatches<'_>) -> Result<Reading, LineFault>
         result_err result ≡ reading_fault (rows_of (found_of options.now)) }
 {
     let profile = options.get_str("profile").ok_or(LineFault::Words)?;
-    let sheet = sheet_of(options)?;
+    let sheet = number_if_given(options, "sheet")?;
     if profile == "full" {
         return Ok(Reading::Full {
             sheet: sheet.unwrap_or(1),
@@ -131,16 +165,17 @@ fn reading_of(options: &ArgMatches<'_>) -> Result<Reading, LineFault>
     }
 }
 
-// The sheet, or `None` if none is given.
-fn sheet_of(options: &ArgMatches<'_>) -> Result<Option<u32>, LineFault>
-    ensures sheet { IfOk result (λ sheet. sheet_in (rows_of (found_of options.now)) ≡ sheet) }
-    ensures understood { HasReadingValues (rows_of (found_of options.now)) → IsOk result }
+// The number of an option, or `None` if it is not given.
+fn number_if_given(options: &ArgMatches<'_>, name: &str) -> Result<Option<u32>, LineFault>
+    ensures number { IfOk result (λ number. number_in (rows_of (found_of options.now)) name.now ≡ number) }
+    ensures understood { (low high : ℕ) → high < 2 ^ 32 → MayHaveNumber (rows_of (found_of options.now)) name.now low high →
+        IsOkAnd result (λ number. IfSome number (λ n. (low ≤ n) × (n ≤ high))) }
     ensures fault { IfErr result (λ fault. fault ≡ LineFault.Words) }
 {
-    if options.get_str("sheet").is_none() {
+    if options.get_str(name).is_none() {
         return Ok(None);
     }
-    Ok(Some(number_of(options, "sheet")?))
+    Ok(Some(number_of(options, name)?))
 }
 
 fn number_of(options: &ArgMatches<'_>, name: &str) -> Result<u32, LineFault>

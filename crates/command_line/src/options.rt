@@ -14,8 +14,8 @@ ghost use Rattle.clap_parses.specs.Parses.{HasGoodMatches};
 
 use crate::fault::BuildFault;
 use crate::help::{
-    BAND, BELOW, FILE, FROM, HEIGHT, HelpLine, HelpPage, LEFT, PENS, PROFILE, SHEET, TOP, VERSION,
-    WIDTH,
+    BAND, BELOW, FILE, FROM, HEIGHT, HelpLine, HelpPage, LEFT, PAGE, PENS, PROFILE, SHEET, TOP,
+    VERSION, WIDTH,
 };
 use crate::subcommands::{Output, SUBCOMMANDS, dots_line};
 use clap::builder::ValueParser;
@@ -71,6 +71,21 @@ fn number_of<'a>(
     option_of(alloc, name, parser, given, line)
 }
 
+// The same, without a default, so that it is known whether it is given.
+fn bare_number_of<'a>(
+    alloc: Global,
+    name: &'a str,
+    low: u32,
+    high: u32,
+    line: HelpLine<'a>,
+) -> Arg<'a>
+    ensures rule { rule_of result ≡ bare_rule name.entry.now (whole_number low high) }
+    ensures local { result.global ≡ false }
+{
+    let parser = ValueParser::signed(i64::from(low), i64::from(high));
+    bare_option(alloc, name, parser, line)
+}
+
 // `--pens LIST`
 fn pens_of<'a>(alloc: Global) -> Arg<'a>
     ensures rule { rule_of result ≡ option_rule (codes "pens") ValueParser.String (codes "all") }
@@ -87,12 +102,12 @@ fn profile_of<'a>(alloc: Global) -> Arg<'a>
     option_of(alloc, "profile", ValueParser::string(), "core", PROFILE)
 }
 
-// `--sheet N`, without a default, so that it is known whether it is given.
-fn sheet_of<'a>(alloc: Global) -> Arg<'a>
-    ensures rule { rule_of result ≡ bare_rule (codes "sheet") (whole_number 0 4194304) }
+// `--page NAME`, without a default, so that it is known whether it is given.
+fn page_of<'a>(alloc: Global) -> Arg<'a>
+    ensures rule { rule_of result ≡ bare_rule (codes "page") ValueParser.String }
     ensures local { result.global ≡ false }
 {
-    bare_option(alloc, "sheet", ValueParser::signed(0, 4194304), SHEET)
+    bare_option(alloc, "page", ValueParser::string(), PAGE)
 }
 
 fn file_of<'a>(alloc: Global) -> Arg<'a>
@@ -122,12 +137,14 @@ fn add_page<'a>(alloc: Global, command: Command<'a>) -> Result<Command<'a>, Allo
     requires { (fields_of command).has_globals ≡ false }
     ensures { IfOk result (IsOf (with_page (app_of command.entry))) }
 {
-    let width = number_of(alloc, "width", 64, 65536, "11880", WIDTH);
-    let height = number_of(alloc, "height", 64, 65536, "8400", HEIGHT);
+    let width = bare_number_of(alloc, "width", 64, 65536, WIDTH);
+    let height = bare_number_of(alloc, "height", 64, 65536, HEIGHT);
+    let page = page_of(alloc);
     let left = number_of(alloc, "left", 0, 65536, "0", LEFT);
     let below = number_of(alloc, "below", 0, 65536, "0", BELOW);
     let command = add(command, width)?;
     let command = add(command, height)?;
+    let command = add(command, page)?;
     let command = add(command, left)?;
     add(command, below)
 }
@@ -137,7 +154,7 @@ fn add_reading<'a>(alloc: Global, command: Command<'a>) -> Result<Command<'a>, A
     ensures { IfOk result (IsOf (with_reading (app_of command.entry))) }
 {
     let profile = profile_of(alloc);
-    let sheet = sheet_of(alloc);
+    let sheet = bare_number_of(alloc, "sheet", 0, 4194304, SHEET);
     add(add(command, profile)?, sheet)
 }
 

@@ -265,12 +265,18 @@ fn refuses_other_matches(rt: HostRuntime) -> Result<(), Fail> {
 
 #[test]
 fn prints_faults(rt: HostRuntime) -> Result<(), Fail> {
-    let (words, pens, profile) = (LineFault::Words, LineFault::Pens, LineFault::Profile);
-    let (sheet, memory) = (LineFault::Sheet, BuildFault::Memory);
-    let texts = format!(in rt.alloc(); "{words}, {pens}, {profile}, {sheet}, {memory}")?;
+    let (words, pens, size) = (LineFault::Words, LineFault::Pens, LineFault::Size);
+    let (profile, sheet, memory) = (LineFault::Profile, LineFault::Sheet, BuildFault::Memory);
+    let texts = format!(in rt.alloc(); "{words}, {pens}, {size}, {profile}, {sheet}, {memory}")?;
     assert_eq!(rt;
         texts.as_str(),
-        "words not understood, bad pen list, bad profile, --sheet needs --profile full, out of memory"
+        "words not understood, bad pen list, --page may not be given with --width or --height, bad profile, \
+         --sheet needs --profile full, out of memory"
+    );
+    let text = format!(in rt.alloc(); "{}", LineFault::Paper)?;
+    assert_eq!(rt;
+        text.as_str(),
+        "bad page: use a0 to a5, b4, letter, legal, tabloid, ansi-a to ansi-e, arch-d or arch-e, or one of these with -portrait"
     );
     Ok(())
 }

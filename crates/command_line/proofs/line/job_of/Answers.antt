@@ -3,20 +3,20 @@ use Rattle.std.proofs.lemmas.Bool.Decides.{nat_tests}
 use Rattle.plot_page.specs.Pages.{is_resolution}
 use Rattle.command_line.proofs.line.job_of.Goals as goal
 
-pub returns-in_err-number_of-clause-understood : goal.returns-in_err-number_of-clause-understood
-returns-in_err-number_of-clause-understood c = λ has. absurd (c.in_err-number_of.ensures.understood 10 1200 (omega arith) has.dots)
+pub returns-in_err-number_of-clause-refused : goal.returns-in_err-number_of-clause-refused
+returns-in_err-number_of-clause-refused c = λ has. absurd (c.in_err-number_of.ensures.understood 10 1200 (omega arith) has.dots)
 
 resolution : (dots : ℕ) → 10 ≤ dots → dots ≤ 1200 → is_resolution dots ≡ true
 resolution dots least most = grind (arith, nat_tests)
 
-pub returns-in_err-ok_or-clause-understood : goal.returns-in_err-ok_or-clause-understood
-returns-in_err-ok_or-clause-understood c = λ has.
+pub returns-in_err-ok_or-clause-refused : goal.returns-in_err-ok_or-clause-refused
+returns-in_err-ok_or-clause-refused c = λ has.
     let dots = c.in_ok-number_of.ensures.understood 10 1200 (omega arith) has.dots in
     let bad : false ≡ true = c.in_err-ok_or.ensures.variant ∙ c.new.ensures.given ∙ resolution _ dots.0 dots.1 in
     absurd (cc)
 
-pub returns-in_err-number_of-2-clause-understood : goal.returns-in_err-number_of-2-clause-understood
-returns-in_err-number_of-2-clause-understood c = λ has. absurd (c.in_err-number_of-2.ensures.understood 1 4096 (omega arith) has.band)
+pub returns-in_err-number_of-2-clause-refused : goal.returns-in_err-number_of-2-clause-refused
+returns-in_err-number_of-2-clause-refused c = λ has. absurd (c.in_err-number_of-2.ensures.understood 1 4096 (omega arith) has.band)
 
-pub returns-in_err-number_of-3-clause-understood : goal.returns-in_err-number_of-3-clause-understood
-returns-in_err-number_of-3-clause-understood c = λ has. absurd (c.in_err-number_of-3.ensures.understood 0 99999 (omega arith) has.first_row)
+pub returns-in_err-number_of-3-clause-refused : goal.returns-in_err-number_of-3-clause-refused
+returns-in_err-number_of-3-clause-refused c = λ has. absurd (c.in_err-number_of-3.ensures.understood 0 99999 (omega arith) has.first_row)

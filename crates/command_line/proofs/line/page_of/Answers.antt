@@ -1,4 +1,4 @@
-use Rattle.std.proofs.Common.{◌≡◌, ◌∙◌, ◌≤◌, ◌↔◌, ℕ, Result, Ok, Err, true, false, refl, arith}
+use Rattle.std.proofs.Common.{◌≡◌, ◌≤◌, ◌↔◌, ℕ, Result, Ok, Err, true, false, refl, arith}
 use Rattle.std.specs.Prelude.{IsOk}
 use Rattle.std.proofs.lemmas.Bool.Decides.{nat_tests}
 use Rattle.plot_page.specs.Pages.{has_page_size, has_page_corner}
@@ -6,20 +6,11 @@ use Rattle.plot_page.specs.declared.page.Page.{Page}
 use Rattle.plot_page.specs.declared.page.PageFault.{PageFault}
 use Rattle.command_line.proofs.line.page_of.Goals as goal
 
-pub returns-in_err-width-clause-understood : goal.returns-in_err-width-clause-understood
-returns-in_err-width-clause-understood c = λ has. absurd (c.in_err-width.ensures.understood 64 65536 (omega arith) has.width)
+pub returns-in_err-left-clause-refused : goal.returns-in_err-left-clause-refused
+returns-in_err-left-clause-refused c = λ has. absurd (c.in_err-left.ensures.understood 0 65536 (omega arith) has.left)
 
-pub returns-in_err-height-clause-understood : goal.returns-in_err-height-clause-understood
-returns-in_err-height-clause-understood c = λ has. absurd (c.in_err-height.ensures.understood 64 65536 (omega arith) has.height)
-
-pub returns-in_err-left-clause-understood : goal.returns-in_err-left-clause-understood
-returns-in_err-left-clause-understood c = λ has. absurd (c.in_err-left.ensures.understood 0 65536 (omega arith) has.left)
-
-pub returns-in_err-below-clause-understood : goal.returns-in_err-below-clause-understood
-returns-in_err-below-clause-understood c = λ has. absurd (c.in_err-below.ensures.understood 0 65536 (omega arith) has.below)
-
-page_size : (width height : ℕ) → 64 ≤ width → width ≤ 65536 → 64 ≤ height → height ≤ 65536 → has_page_size width height ≡ true
-page_size width height w1 w2 h1 h2 = grind (arith, nat_tests)
+pub returns-in_err-below-clause-refused : goal.returns-in_err-below-clause-refused
+returns-in_err-below-clause-refused c = λ has. absurd (c.in_err-below.ensures.understood 0 65536 (omega arith) has.below)
 
 page_corner : (left below : ℕ) → left ≤ 65536 → below ≤ 65536 → has_page_corner left below ≡ true
 page_corner left below l b = grind (arith, nat_tests)
@@ -34,13 +25,3 @@ page_made (Err PageFault.Size) width height left below size corner has_size has_
 page_made (Err PageFault.Corner) width height left below size corner has_size has_corner =
     let bad = (corner.0 refl).1 in
     absurd (cc)
-
-pub returns-clause-understood : goal.returns-clause-understood
-returns-clause-understood c = λ has.
-    let width = c.in_ok-width.ensures.understood 64 65536 (omega arith) has.width in
-    let height = c.in_ok-height.ensures.understood 64 65536 (omega arith) has.height in
-    let left = c.in_ok-left.ensures.understood 0 65536 (omega arith) has.left in
-    let below = c.in_ok-below.ensures.understood 0 65536 (omega arith) has.below in
-    let made = page_made c.new.result c.in_ok-width.width c.in_ok-height.height c.in_ok-left.left c.in_ok-below.below c.new.ensures.size c.new.ensures.corner
-    (page_size _ _ width.0 width.1 height.0 height.1) (page_corner _ _ left.1 below.1) in
-    c.map_err.ensures.variant ∙ made

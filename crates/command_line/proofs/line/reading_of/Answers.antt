@@ -1,4 +1,4 @@
-use Rattle.std.proofs.Common.{◌≡◌, ◌∙◌, ℕ, List, Option, Some, None, true, false, is_some, refl, sym, ap, codes}
+use Rattle.std.proofs.Common.{◌≡◌, ◌∙◌, ℕ, List, Option, Some, None, true, false, is_some, refl, sym, ap, codes, arith}
 use Rattle.std.specs.Prelude.{Bool, not, option_map}
 use Rattle.std.specs.Option.{unwrap_or}
 use Rattle.std.specs.Str.{bytes_eq}
@@ -40,7 +40,7 @@ pub returns-then-eq-clause-reading : goal.returns-then-eq-clause-reading
 returns-then-eq-clause-reading c =
     let F = found_of c.args.options.now in
     let is = passed _ c.get_str.result _ _ _ (c.get_str.ensures ∙ first_value-rows F (codes "profile")) (sym c.ok_or.ensures.value ∙ c.in_ok-profile.was) in
-    (named (rows_of F) _ (codes "full") is (sym c.if-eq.ensures), ap (λ s. unwrap_or s 1) c.in_ok-sheet.ensures.sheet ∙ sym c.unwrap_or.ensures)
+    (named (rows_of F) _ (codes "full") is (sym c.if-eq.ensures), ap (λ s. unwrap_or s 1) c.in_ok-sheet.ensures.number ∙ sym c.unwrap_or.ensures)
 
 pub returns-then-eq-clause-refused : goal.returns-then-eq-clause-refused
 returns-then-eq-clause-refused c = λ has.
@@ -58,16 +58,19 @@ pub returns-in-None-clause-reading : goal.returns-in-None-clause-reading
 returns-in-None-clause-reading c =
     let F = found_of c.args.options.now in
     let is = passed _ c.get_str.result _ _ _ (c.get_str.ensures ∙ first_value-rows F (codes "profile")) (sym c.ok_or.ensures.value ∙ c.in_ok-profile.was) in
-    (named (rows_of F) _ (codes "core") is (not_flipped _ _ c.if-ne.ensures), c.in_ok-sheet.ensures.sheet ∙ c.in-None.is)
+    (named (rows_of F) _ (codes "core") is (not_flipped _ _ c.if-ne.ensures), c.in_ok-sheet.ensures.number ∙ c.in-None.is)
 
 pub returns-in-None-clause-refused : goal.returns-in-None-clause-refused
 returns-in-None-clause-refused c = λ has.
     let F = found_of c.args.options.now in
     let is = passed _ c.get_str.result _ _ _ (c.get_str.ensures ∙ first_value-rows F (codes "profile")) (sym c.ok_or.ensures.value ∙ c.in_ok-profile.was) in
-    sym (core_has_no_sheet (rows_of F) None (named (rows_of F) _ (codes "core") is (not_flipped _ _ c.if-ne.ensures)) (c.in_ok-sheet.ensures.sheet ∙ c.in-None.is))
+    sym (core_has_no_sheet (rows_of F) None (named (rows_of F) _ (codes "core") is (not_flipped _ _ c.if-ne.ensures)) (c.in_ok-sheet.ensures.number ∙ c.in-None.is))
 
 pub returns-in-Some-clause-refused : goal.returns-in-Some-clause-refused
 returns-in-Some-clause-refused c = λ has.
     let F = found_of c.args.options.now in
     let is = passed _ c.get_str.result _ _ _ (c.get_str.ensures ∙ first_value-rows F (codes "profile")) (sym c.ok_or.ensures.value ∙ c.in_ok-profile.was) in
-    sym (core_has_no_sheet (rows_of F) (Some _) (named (rows_of F) _ (codes "core") is (not_flipped _ _ c.if-ne.ensures)) (c.in_ok-sheet.ensures.sheet ∙ c.in-Some.is))
+    sym (core_has_no_sheet (rows_of F) (Some _) (named (rows_of F) _ (codes "core") is (not_flipped _ _ c.if-ne.ensures)) (c.in_ok-sheet.ensures.number ∙ c.in-Some.is))
+
+pub returns-in_err-sheet-clause-refused : goal.returns-in_err-sheet-clause-refused
+returns-in_err-sheet-clause-refused c = λ has. absurd (c.in_err-sheet.ensures.understood 0 4194304 (omega arith) has.sheet)

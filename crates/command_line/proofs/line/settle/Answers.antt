@@ -1,11 +1,12 @@
-use Rattle.std.proofs.Common.{◌≡◌, ◌∙◌, ap, ap₂, cond, refl, sym, ◌↔◌, Bool, true, false, List, Result, Err, Option, Some, None, Ok, codes}
+use Rattle.std.proofs.Common.{◌≡◌, ◌∙◌, ap, ap₂, sym, ◌↔◌, Bool, true, List, Result, Err, Option, Some, None, Ok, codes}
 use Rattle.std.specs.Prelude.{option_and_then, option_map}
+use Rattle.std.specs.Option.{option_or}
 use Rattle.std.specs.Result.{IsErrAnd, result_err}
 use Rattle.clap.specs.Words.{Row, Text, found_of, rows_of, subcommand_rows_of}
 use Rattle.clap.specs.declared.parser.matches.ArgMatches.{ArgMatches}
 use Rattle.clap.proofs.WalkLemmas.{first_value-rows}
 use Rattle.command_line.specs.declared.fault.LineFault.{LineFault}
-use Rattle.command_line.specs.Lines.{fault_of_values, has_bad_list, line_fault, reading_fault}
+use Rattle.command_line.specs.Lines.{fault_of_values, line_fault, reading_fault, task_fault}
 use Rattle.command_line.proofs.Given.{was_some}
 use Rattle.command_line.proofs.ReadingLaw.{values_there}
 use Rattle.command_line.proofs.line.settle.Goals as goal
@@ -43,16 +44,13 @@ returns-clause-line c =
       file = c.get_str.ensures ∙ first_value-rows (found_of c.in_ok-name.options.now) (codes "FILE");
     }
 
-bad_list : (m : ArgMatches) (name : Text) (rows : List Row) → subcommand_rows_of m ≡ Some (name, rows) → has_bad_list (name, rows) ≡ true → line_fault m ≡ Some LineFault.Pens
-bad_list m name rows is bad = ap (option_and_then fault_of_values) is ∙ ap (λ (b : Bool). cond b (Some LineFault.Pens) (reading_fault rows)) bad
+bad_task : (m : ArgMatches) (name : Text) (rows : List Row) (fault : LineFault) → subcommand_rows_of m ≡ Some (name, rows) → Some fault ≡ task_fault (name, rows)
+    → line_fault m ≡ Some fault
+bad_task m name rows fault is bad = ap (option_and_then fault_of_values) is ∙ ap (λ (o : Option LineFault). option_or o (reading_fault rows)) (sym bad)
 
-good_list : (m : ArgMatches) (name : Text) (rows : List Row) → subcommand_rows_of m ≡ Some (name, rows) → has_bad_list (name, rows) ≡ false → line_fault m ≡ reading_fault rows
-good_list m name rows is good = ap (option_and_then fault_of_values) is ∙ ap (λ (b : Bool). cond b (Some LineFault.Pens) (reading_fault rows)) good
-
--- a task that is given had a good list
-no_fault : {X : Type 0} (r : Result X LineFault) (x : X) (bad : Bool) → r ≡ Ok x → (r ≡ Err LineFault.Pens) ↔ (bad ≡ true) → bad ≡ false
-no_fault r x true is pens = let fault = pens.1 refl in absurd (cc)
-no_fault r x false is pens = refl
+good_task : (m : ArgMatches) (name : Text) (rows : List Row) → subcommand_rows_of m ≡ Some (name, rows) → None ≡ task_fault (name, rows)
+    → line_fault m ≡ reading_fault rows
+good_task m name rows is good = ap (option_and_then fault_of_values) is ∙ ap (λ (o : Option LineFault). option_or o (reading_fault rows)) (sym good)
 
 -- a fault that is passed on is the fault
 passed_on : {X : Type 0} (r : Result X LineFault) (e : LineFault) → IsErrAnd r (λ f. f ≡ e) → result_err r ≡ Some e
@@ -72,9 +70,7 @@ returns-in_err-task_of-clause-refused c = λ of.
     let matches = paired _ _ _ _ _ (sym c.subcommand.ensures.name ∙ ap (option_map (λ p. p.0.now)) met)
     (sym c.subcommand.ensures.rows ∙ ap (option_map (λ p. rows_of (found_of p.1.now))) met) in
     let values = values_there of.0 c.args.matches.now _ _ of.1 matches in
-    let pens : c.in_err-task_of.field-0.0 ≡ LineFault.Pens = c.in_err-task_of.ensures.understood values.0 in
-    let bad = c.in_err-task_of.ensures.pens.0 (ap Err pens) in
-    passed_on _ _ c.from_residual-in_err-task_of.ensures.1 ∙ ap Some pens ∙ sym (bad_list c.args.matches.now _ _ matches bad)
+    passed_on _ _ c.from_residual-in_err-task_of.ensures.1 ∙ sym (bad_task c.args.matches.now _ _ _ matches (c.in_err-task_of.ensures.refused values.0))
 
 pub returns-in_err-reading_of-clause-refused : goal.returns-in_err-reading_of-clause-refused
 returns-in_err-reading_of-clause-refused c = λ of.
@@ -82,8 +78,7 @@ returns-in_err-reading_of-clause-refused c = λ of.
     let matches = paired _ _ _ _ _ (sym c.subcommand.ensures.name ∙ ap (option_map (λ p. p.0.now)) met)
     (sym c.subcommand.ensures.rows ∙ ap (option_map (λ p. rows_of (found_of p.1.now))) met) in
     let values = values_there of.0 c.args.matches.now _ _ of.1 matches in
-    let good = no_fault _ _ _ c.in_ok-task_of.was c.task_of.ensures.pens in
-    passed_on _ _ c.from_residual-in_err-reading_of.ensures.1 ∙ c.in_err-reading_of.ensures.refused values.1 ∙ sym (good_list c.args.matches.now _ _ matches good)
+    passed_on _ _ c.from_residual-in_err-reading_of.ensures.1 ∙ c.in_err-reading_of.ensures.refused values.1 ∙ sym (good_task c.args.matches.now _ _ matches (c.in_ok-task_of.ensures.refused values.0))
 
 pub returns-clause-refused : goal.returns-clause-refused
 returns-clause-refused c = λ of.
@@ -91,5 +86,4 @@ returns-clause-refused c = λ of.
     let matches = paired _ _ _ _ _ (sym c.subcommand.ensures.name ∙ ap (option_map (λ p. p.0.now)) met)
     (sym c.subcommand.ensures.rows ∙ ap (option_map (λ p. rows_of (found_of p.1.now))) met) in
     let values = values_there of.0 c.args.matches.now _ _ of.1 matches in
-    let good = no_fault _ _ _ c.in_ok-task_of.was c.task_of.ensures.pens in
-    c.in_ok-reading_of.ensures.refused values.1 ∙ sym (good_list c.args.matches.now _ _ matches good)
+    c.in_ok-reading_of.ensures.refused values.1 ∙ sym (good_task c.args.matches.now _ _ matches (c.in_ok-task_of.ensures.refused values.0))

@@ -1,0 +1,54 @@
+//! The papers that `--page` names.
+ghost use Rattle.std.specs.Prelude.{◌≡◌, map};
+ghost use Rattle.command_line.specs.Papers.{landscape_of, paper_of, size_in};
+
+// The name of each paper, and its width and height in landscape, in plotter units.
+const PAPERS: [(&str, (u32, u32)); 17] = [
+    ("a0", (47560, 33640)),
+    ("a1", (33640, 23760)),
+    ("a2", (23760, 16800)),
+    ("a3", (16800, 11880)),
+    ("a4", (11880, 8400)),
+    ("a5", (8400, 5920)),
+    ("b4", (14120, 10000)),
+    ("letter", (11176, 8636)),
+    ("legal", (14224, 8636)),
+    ("tabloid", (17272, 11176)),
+    ("ansi-a", (11176, 8636)),
+    ("ansi-b", (17272, 11176)),
+    ("ansi-c", (22352, 17272)),
+    ("ansi-d", (34544, 22352)),
+    ("ansi-e", (44704, 34544)),
+    ("arch-d", (36576, 24384)),
+    ("arch-e", (48768, 36576)),
+];
+
+/// The width and the height of the paper of this name, in plotter units: in landscape, or in
+/// portrait if `-portrait` follows the name.
+pub(crate) fn paper_named(name: &str) -> Option<(u32, u32)>
+    ensures { result ≡ paper_of name.now }
+{
+    let Some(paper) = name.strip_suffix("-portrait") else {
+        return landscape_named(name);
+    };
+    let (width, height) = landscape_named(paper)?;
+    Some((height, width))
+}
+
+fn landscape_named(name: &str) -> Option<(u32, u32)>
+    ensures { result ≡ landscape_of name.now }
+{
+    size_in(&PAPERS, name)
+}
+
+// The size in the first row of this name.
+fn size_in(rows: &[(&str, (u32, u32))], name: &str) -> Option<(u32, u32)>
+    ensures { result ≡ size_in (map (λ row. (row.0.now, row.1)) rows.now) name.now }
+{
+    for &(paper, size) in rows {
+        if paper == name {
+            return Some(size);
+        }
+    }
+    None
+}
