@@ -35,7 +35,6 @@ BAD_PROFILE = (2, b"plotraster: bad profile\n")
 NO_SHEETS = (2, b"plotraster: --sheet needs --profile full\n")
 NOT_OF_PCL = (2, b"plotraster: resolution is not one of PCL's\n")
 PAST_THE_END = (2, b"plotraster: first row is past the last row\n")
-NOT_OPENED = (3, b"plotraster: cannot open ")
 NOT_READ = (3, b"plotraster: read failed\n")
 
 COMMANDS = [*FORMS, "report"]
@@ -54,6 +53,11 @@ RANGES = {**PAGE_RANGES, **PICTURE_RANGES}
 PCL_DOTS = [75, 100, 150, 200, 300, 600]
 # As many letters as Linux lets a word have, nearly.
 LONG = 120000
+
+
+def not_opened(name, reason="no such file"):
+    """What a run must end with if a file cannot be opened."""
+    return 3, f"plotraster: cannot open {name}: {reason}\n".encode()
 
 
 def plain():
@@ -235,10 +239,11 @@ def files():
     """Files that are there or not, and more files than one."""
     for command in COMMANDS:
         for name in [
-            "missing.plt", "", "-", " ", "line.plt/", "folder/none", "pbm", "report", "\u00e9.plt", "=", "+1", "far.plt ",
-            "n" * LONG,
+            "missing.plt", "", "-", " ", "folder/none", "pbm", "report", "\u00e9.plt", "=", "+1", "far.plt ",
         ]:
-            yield [command, name], NOT_OPENED
+            yield [command, name], not_opened(name)
+        for name, reason in [("line.plt/", "Not a directory (os error 20)"), ("n" * LONG, "File name too long (os error 36)")]:
+            yield [command, name], not_opened(name, reason)
         for name in ["folder", ".", "..", "/"]:
             yield [command, name], NOT_READ
         for name in ["./line.plt", " line.plt", "line.plt "]:
@@ -255,10 +260,8 @@ def after_two_hyphens():
         yield [command, "line.plt", "--"], DONE
         yield [command, "--", "line.plt"], DONE
         yield [command, "--left=1", "--", "--left"], DONE
-        yield [command, "--", "--"], NOT_OPENED
-        yield [command, "--", "--help"], NOT_OPENED
-        yield [command, "--", "-h"], NOT_OPENED
-        yield [command, "--", "--width=1"], NOT_OPENED
+        for name in ["--", "--help", "-h", "--width=1"]:
+            yield [command, "--", name], not_opened(name)
         yield [command, "--", "--left", "1"], USAGE
         yield [command, "line.plt", "--", "--left"], USAGE
 
@@ -308,7 +311,7 @@ def orders_of_refusal():
     yield ["pbm", "--dots=9", "missing.plt"], USAGE
     yield ["pbm", "--pens=0", "missing.plt"], BAD_LIST
     yield ["pcl", "--pens=0", "--dots=127"], BAD_LIST
-    yield ["pcl", "--dots=127", "missing.plt"], NOT_OPENED
+    yield ["pcl", "--dots=127", "missing.plt"], not_opened("missing.plt")
     yield ["pcl", "--dots=127", "folder"], NOT_OF_PCL
     yield ["pcl", "--dots=127", "far.plt"], NOT_OF_PCL
     yield ["pcl", "--dots=127", "--from=99999"], NOT_OF_PCL
@@ -389,4 +392,5 @@ def test_unreadable_file(program):
         write(os.path.join(folder, "locked.plt"), LINE, 0)
         for command in COMMANDS:
             done = run(copy, [command, "locked.plt"], SECONDS, cwd=folder, **another)
-            assert (done.returncode, done.stdout, done.stderr) == (3, b"", b"plotraster: cannot open locked.plt\n")
+            assert (done.returncode, done.stderr) == not_opened("locked.plt", "permission denied")
+            assert done.stdout == b""

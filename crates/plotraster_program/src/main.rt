@@ -6,8 +6,9 @@ use plotraster::{
     Fault, Line, LineFault, OverRead, OverWrite, command, exit_status, parse, parse_status,
     run_task, settle, status,
 };
+use std::fmt::Display;
 use std::fs::File;
-use std::io::{ErrorKind, Read};
+use std::io::{Error, ErrorKind, Read};
 use std::process::ExitCode;
 
 // The exit status of a command line that is not understood.
@@ -64,10 +65,7 @@ fn work(rt: &HostRuntime, matches: &ArgMatches<'_>) -> u8 {
         None => perform(rt, &line, rt.stdin()),
         Some(path) => match File::open(rt, path) {
             Ok(file) => perform(rt, &line, file),
-            Err(_) => {
-                let _ = eprintln!(rt; "plotraster: cannot open {path}");
-                DEVICE
-            }
+            Err(error) => refuse_file(rt, path, &error),
         },
     }
 }
@@ -82,6 +80,20 @@ fn perform<R: Read + Drop>(rt: &HostRuntime, line: &Line<'_>, plot: R) -> u8 {
         let _ = eprintln!(rt; "plotraster: {fault}");
     }
     exit_status(&outcome)
+}
+
+// Says why the file cannot be opened.
+fn refuse_file(rt: &HostRuntime, path: &str, error: &Error) -> u8 {
+    match error.kind() {
+        ErrorKind::NotFound => cannot_open(rt, path, &"no such file"),
+        ErrorKind::PermissionDenied => cannot_open(rt, path, &"permission denied"),
+        _ => cannot_open(rt, path, error),
+    }
+}
+
+fn cannot_open<R: Display>(rt: &HostRuntime, path: &str, reason: &R) -> u8 {
+    let _ = eprintln!(rt; "plotraster: cannot open {path}: {reason}");
+    DEVICE
 }
 
 fn refuse(rt: &HostRuntime, fault: &Fault) -> u8 {
