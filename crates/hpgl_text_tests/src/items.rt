@@ -1,55 +1,11 @@
 // Plots and what they are cut into, by the printed forms of their items.
-use hpgl_text::{Base, TextFault, lex, read_coded, read_number};
-use std::alloc::Global;
-use std::process::Abort;
+use crate::cases::{Asked, has_answer, has_answers};
+use crate::texts::has_text;
+use hpgl_text::{Base, lex, read_coded, read_number};
+use std::alloc::{AllocError, Global};
 use std::test::Fail;
 
-// The items of a plot, a line each.
-fn items_of(alloc: Global, plot: &[u8]) -> Result<String, Fail> {
-    let program = lex(alloc, plot)?;
-    let mut lines = String::new(alloc);
-    for item in program.items() {
-        let line = format!(in alloc; "{item:?}\n")?;
-        lines.push_str(line.as_str())?;
-    }
-    Ok(lines)
-}
-
-// Fails unless these are the items of a plot.
-fn has_items(rt: &impl Abort, alloc: Global, plot: &[u8], wanted: &str) -> Result<(), Fail> {
-    let items = items_of(alloc, plot)?;
-    assert_eq!(rt; items.as_str(), wanted);
-    Ok(())
-}
-
-// Fails unless there are so many cases, and each has the items that it says. A case is a plot in a line, a line for
-// each item, and an empty line.
-fn has_items_of_all(rt: &impl Abort, alloc: Global, cases: &str, count: usize) -> Result<(), Fail> {
-    let (lines, found) = items_of_all(alloc, cases)?;
-    assert_eq!(rt; lines.as_str(), cases);
-    assert_eq!(rt; found, count);
-    Ok(())
-}
-
-// The cases with the items of their plots, and how many they are.
-fn items_of_all(alloc: Global, cases: &str) -> Result<(String, usize), Fail> {
-    let mut lines = String::new(alloc);
-    let mut count: usize = 0;
-    let mut first = true;
-    for line in cases.lines() {
-        if first {
-            lines.push_str(line)?;
-            lines.push_str("\n")?;
-            lines.push_str(items_of(alloc, line.as_bytes())?.as_str())?;
-            lines.push_str("\n")?;
-            count = count.saturating_add(1);
-        }
-        first = line.is_empty();
-    }
-    Ok((lines, count))
-}
-
-const LETTERS_AND_NUMBERS: &str = "\
+const INSTRUCTIONS: &str = "\
 pu0,28pd-64.5,.25
 Item { at: 0, body: Params(PenUp, [Number { millionths: 0 }, Number { millionths: 28000000 }]), \
     code: [80, 85], unended: false }
@@ -62,14 +18,6 @@ Item { at: 3, body: Params(SelectPen, [Number { millionths: 3000000 }]), code: [
 Item { at: 7, body: Params(ArcAbsolute, [Number { millionths: 4000000 }, Number { millionths: 5000000 }, \
     Number { millionths: 6000000 }]), code: [65, 65], unended: false }
 
-";
-
-#[test]
-fn letters_and_numbers(rt: HostRuntime) -> Result<(), Fail> {
-    has_items_of_all(&rt, rt.alloc(), LETTERS_AND_NUMBERS, 2)
-}
-
-const LABELS: &str = "\
 DT$;LBL$
 Item { at: 0, body: Terminator(36), code: [68, 84], unended: false }
 Item { at: 4, body: Label([76]), code: [76, 66], unended: false }
@@ -77,15 +25,7 @@ Item { at: 4, body: Label([76]), code: [76, 66], unended: false }
 LBL
 Item { at: 0, body: Label([76]), code: [76, 66], unended: true }
 
-";
-
-#[test]
-fn labels(rt: HostRuntime) -> Result<(), Fail> {
-    has_items_of_all(&rt, rt.alloc(), LABELS, 2)
-}
-
 // A terminator holds until another is defined, or until IN or DF.
-const TERMINATORS: &str = "\
 DT$;PU;LBA$
 Item { at: 0, body: Terminator(36), code: [68, 84], unended: false }
 Item { at: 4, body: Params(PenUp, []), code: [80, 85], unended: false }
@@ -96,67 +36,47 @@ Item { at: 0, body: Terminator(36), code: [68, 84], unended: false }
 Item { at: 4, body: Params(Initialize, []), code: [73, 78], unended: false }
 Item { at: 7, body: Label([36]), code: [76, 66], unended: false }
 
-";
-
-#[test]
-fn terminators(rt: HostRuntime) -> Result<(), Fail> {
-    has_items_of_all(&rt, rt.alloc(), TERMINATORS, 2)
-}
-
 // The byte after SM is the symbol, also a quote.
-const SYMBOLS: &str = "\
 SM\";PU
 Item { at: 0, body: Skipped, code: [83, 77], unended: false }
 Item { at: 4, body: Params(PenUp, []), code: [80, 85], unended: false }
 
-";
-
-#[test]
-fn symbols(rt: HostRuntime) -> Result<(), Fail> {
-    has_items_of_all(&rt, rt.alloc(), SYMBOLS, 1)
-}
-
-const SKIPPED_AND_STRAY: &str = "\
 ZZ1,2;CO\"a;b\";PA1:\x1b%-1B\x1b.(;!\x1bE
 Item { at: 0, body: Skipped, code: [90, 90], unended: false }
 Item { at: 6, body: Skipped, code: [67, 79], unended: false }
 Item { at: 14, body: Bad, code: [80, 65], unended: false }
 Item { at: 27, body: Stray(33), code: [0, 0], unended: false }
 
+INDFIPSCROIWSPPWPCPUPDPAPREAERCIAAARSIDI
+Item { at: 0, body: Params(Initialize, []), code: [73, 78], unended: false }
+Item { at: 2, body: Params(DefaultValues, []), code: [68, 70], unended: false }
+Item { at: 4, body: Params(InputPoints, []), code: [73, 80], unended: false }
+Item { at: 6, body: Params(Scale, []), code: [83, 67], unended: false }
+Item { at: 8, body: Params(Rotate, []), code: [82, 79], unended: false }
+Item { at: 10, body: Params(InputWindow, []), code: [73, 87], unended: false }
+Item { at: 12, body: Params(SelectPen, []), code: [83, 80], unended: false }
+Item { at: 14, body: Params(PenWidth, []), code: [80, 87], unended: false }
+Item { at: 16, body: Params(PenColour, []), code: [80, 67], unended: false }
+Item { at: 18, body: Params(PenUp, []), code: [80, 85], unended: false }
+Item { at: 20, body: Params(PenDown, []), code: [80, 68], unended: false }
+Item { at: 22, body: Params(PlotAbsolute, []), code: [80, 65], unended: false }
+Item { at: 24, body: Params(PlotRelative, []), code: [80, 82], unended: false }
+Item { at: 26, body: Params(EdgeAbsolute, []), code: [69, 65], unended: false }
+Item { at: 28, body: Params(EdgeRelative, []), code: [69, 82], unended: false }
+Item { at: 30, body: Params(Circle, []), code: [67, 73], unended: false }
+Item { at: 32, body: Params(ArcAbsolute, []), code: [65, 65], unended: false }
+Item { at: 34, body: Params(ArcRelative, []), code: [65, 82], unended: false }
+Item { at: 36, body: Params(CharacterSize, []), code: [83, 73], unended: false }
+Item { at: 38, body: Params(Direction, []), code: [68, 73], unended: false }
+
 ";
 
 #[test]
-fn skipped_and_stray(rt: HostRuntime) -> Result<(), Fail> {
-    has_items_of_all(&rt, rt.alloc(), SKIPPED_AND_STRAY, 1)
+fn instructions(rt: HostRuntime) -> Result<(), Fail> {
+    has_answers(&rt, rt.alloc(), Asked::Items, INSTRUCTIONS, 9)
 }
 
-#[test]
-fn mnemonics(rt: HostRuntime) -> Result<(), Fail> {
-    let known = b"INDFIPSCROIWSPPWPCPUPDPAPREAERCIAAARSIDI";
-    let program = lex(rt.alloc(), known)?;
-    assert_eq!(rt; program.items().len(), 20);
-    for item in program.items() {
-        assert!(rt; matches!(&item.body, hpgl_text::Body::Params(_, _)));
-    }
-    Ok(())
-}
-
-#[test]
-fn numbers(rt: HostRuntime) -> Result<(), Fail> {
-    let found = [
-        read_number(b"PA-1.5,7", 2),
-        read_number(b"8388608", 0),
-        read_number(b"12", 3),
-    ];
-    let told = format!(in rt.alloc(); "{found:?}")?;
-    assert_eq!(rt;
-        told.as_str(),
-        "[Some((Number { millionths: -1500000 }, 6)), None, None]"
-    );
-    Ok(())
-}
-
-const ENCODED_LINES: &str = "\
+const POLYLINES: &str = "\
 PU0,28;PE7?c_;
 Item { at: 0, body: Params(PenUp, [Number { millionths: 0 }, Number { millionths: 28000000 }]), \
     code: [80, 85], unended: false }
@@ -184,25 +104,6 @@ Item { at: 7, body: Coded([Entry { at: 12, what: Pair { up: true, absolute: true
     Entry { at: 14, what: Pair { up: false, absolute: false, x: Number { millionths: 64000000 }, \
     y: Number { millionths: 0 } } }]), code: [80, 69], unended: false }
 
-";
-
-#[test]
-fn encoded_lines(rt: HostRuntime) -> Result<(), Fail> {
-    has_items(
-        &rt,
-        rt.alloc(),
-        b"PU0,28;PE\x3f\xc1\xbf;",
-        "\
-Item { at: 0, body: Params(PenUp, [Number { millionths: 0 }, Number { millionths: 28000000 }]), \
-    code: [80, 85], unended: false }
-Item { at: 7, body: Coded([Entry { at: 9, what: Pair { up: false, absolute: false, \
-    x: Number { millionths: 64000000 }, y: Number { millionths: 0 } } }]), code: [80, 69], unended: false }
-",
-    )?;
-    has_items_of_all(&rt, rt.alloc(), ENCODED_LINES, 4)
-}
-
-const WRONG_POLYLINES: &str = "\
 PU0,28;PE:;
 Item { at: 0, body: Params(PenUp, [Number { millionths: 0 }, Number { millionths: 28000000 }]), \
     code: [80, 85], unended: false }
@@ -215,38 +116,12 @@ Item { at: 7, body: Coded([Entry { at: 10, what: Pair { up: false, absolute: fal
     x: Number { millionths: 64000000 }, y: Number { millionths: 0 } } }, Entry { at: 12, what: Stray(33) }, \
     Entry { at: 14, what: Stray(35) }, Entry { at: 15, what: Bad }]), code: [80, 69], unended: false }
 
-";
-
-#[test]
-fn wrong_polylines(rt: HostRuntime) -> Result<(), Fail> {
-    has_items(
-        &rt,
-        rt.alloc(),
-        b"PU0,28;PE\x3f\xc1;",
-        "\
-Item { at: 0, body: Params(PenUp, [Number { millionths: 0 }, Number { millionths: 28000000 }]), \
-    code: [80, 85], unended: false }
-Item { at: 7, body: Coded([Entry { at: 9, what: Bad }]), code: [80, 69], unended: false }
-",
-    )?;
-    has_items_of_all(&rt, rt.alloc(), WRONG_POLYLINES, 2)
-}
-
 // Two bits of each coordinate are a fraction.
-const FRACTIONS: &str = "\
 PE7>c_?o;
 Item { at: 0, body: Coded([Entry { at: 5, what: Pair { up: false, absolute: false, \
     x: Number { millionths: 0 }, y: Number { millionths: 64000000 } } }]), code: [80, 69], unended: false }
 
-";
-
-#[test]
-fn fractions(rt: HostRuntime) -> Result<(), Fail> {
-    has_items_of_all(&rt, rt.alloc(), FRACTIONS, 1)
-}
-
 // A number without its last digit is bad if the polyline has its end.
-const BROKEN_NUMBERS: &str = "\
 PE??;
 Item { at: 0, body: Coded([Entry { at: 2, what: Bad }]), code: [80, 69], unended: false }
 
@@ -258,34 +133,86 @@ Item { at: 0, body: Coded([Entry { at: 2, what: Bad }]), code: [80, 69], unended
 
 ";
 
+// Digits of their last places, with bytes that are no text.
+const DIGITS_OF_EIGHT_BITS: &[u8] = b"PU0,28;PE\x3f\xc1\xbf;";
+
+const ITEMS_OF_EIGHT_BITS: &str = "\
+Item { at: 0, body: Params(PenUp, [Number { millionths: 0 }, Number { millionths: 28000000 }]), \
+    code: [80, 85], unended: false }
+Item { at: 7, body: Coded([Entry { at: 9, what: Pair { up: false, absolute: false, \
+    x: Number { millionths: 64000000 }, y: Number { millionths: 0 } } }]), code: [80, 69], unended: false }
+";
+
+const A_PAIR_WITH_ONE_NUMBER: &[u8] = b"PU0,28;PE\x3f\xc1;";
+
+const ITEMS_OF_ONE_NUMBER: &str = "\
+Item { at: 0, body: Params(PenUp, [Number { millionths: 0 }, Number { millionths: 28000000 }]), \
+    code: [80, 85], unended: false }
+Item { at: 7, body: Coded([Entry { at: 9, what: Bad }]), code: [80, 69], unended: false }
+";
+
 #[test]
-fn broken_numbers(rt: HostRuntime) -> Result<(), Fail> {
-    has_items_of_all(&rt, rt.alloc(), BROKEN_NUMBERS, 3)
+fn polylines(rt: HostRuntime) -> Result<(), Fail> {
+    has_answers(&rt, rt.alloc(), Asked::Items, POLYLINES, 10)?;
+    has_answer(
+        &rt,
+        rt.alloc(),
+        Asked::Items,
+        DIGITS_OF_EIGHT_BITS,
+        ITEMS_OF_EIGHT_BITS,
+    )?;
+    has_answer(
+        &rt,
+        rt.alloc(),
+        Asked::Items,
+        A_PAIR_WITH_ONE_NUMBER,
+        ITEMS_OF_ONE_NUMBER,
+    )
+}
+
+// A number and where it ends.
+fn number_told(alloc: Global, text: &[u8], at: usize) -> Result<String, AllocError> {
+    match read_number(text, at) {
+        Some((number, end)) => format!(in alloc; "{number:?} to {end}; "),
+        None => format!(in alloc; "none; "),
+    }
 }
 
 #[test]
-fn coded_numbers(rt: HostRuntime) {
-    let found = [
-        read_coded(b"G\xc2", 0, Base::SixtyFour),
-        read_coded(b"Ge", 0, Base::ThirtyTwo),
-        read_coded(b"PE\xc6", 2, Base::SixtyFour),
-        read_coded(b"?????\xbf", 0, Base::SixtyFour),
-        read_coded(b"??????\xbf", 0, Base::SixtyFour),
-        read_coded(b"??????_", 0, Base::ThirtyTwo),
-        read_coded(b"???????_", 0, Base::ThirtyTwo),
-        read_coded(b"_", 1, Base::ThirtyTwo),
-    ];
-    let wanted = [
-        Some((100, 2)),
-        Some((100, 2)),
-        Some((-3, 3)),
-        Some((0, 6)),
-        None,
-        Some((0, 7)),
-        None,
-        None,
-    ];
-    assert_eq!(rt; found, wanted);
+fn numbers(rt: HostRuntime) -> Result<(), Fail> {
+    let mut told = number_told(rt.alloc(), b"PA-1.5,7", 2)?;
+    told.push_str(number_told(rt.alloc(), b"8388608", 0)?.as_str())?;
+    told.push_str(number_told(rt.alloc(), b"12", 3)?.as_str())?;
+    has_text(
+        &rt,
+        told.as_str(),
+        "Number { millionths: -1500000 } to 6; none; none; ",
+    );
+    Ok(())
+}
+
+// Adds a number of a polyline and where it ends.
+fn tell_coded(told: &mut String, text: &[u8], at: usize, base: Base) -> Result<(), AllocError> {
+    match read_coded(text, at, base) {
+        Some((number, end)) => write!(told, "{number} to {end}; "),
+        None => told.push_str("none; "),
+    }
+}
+
+#[test]
+fn coded_numbers(rt: HostRuntime) -> Result<(), Fail> {
+    let mut told = String::new(rt.alloc());
+    tell_coded(&mut told, b"G\xc2", 0, Base::SixtyFour)?;
+    tell_coded(&mut told, b"Ge", 0, Base::ThirtyTwo)?;
+    tell_coded(&mut told, b"PE\xc6", 2, Base::SixtyFour)?;
+    tell_coded(&mut told, b"?????\xbf", 0, Base::SixtyFour)?;
+    tell_coded(&mut told, b"??????\xbf", 0, Base::SixtyFour)?;
+    tell_coded(&mut told, b"??????_", 0, Base::ThirtyTwo)?;
+    tell_coded(&mut told, b"???????_", 0, Base::ThirtyTwo)?;
+    tell_coded(&mut told, b"_", 1, Base::ThirtyTwo)?;
+    let wanted = "100 to 2; 100 to 2; -3 to 3; 0 to 6; none; 0 to 7; none; none; ";
+    has_text(&rt, told.as_str(), wanted);
+    Ok(())
 }
 
 #[test]
@@ -293,11 +220,21 @@ fn items_are_small(rt: HostRuntime) {
     assert_eq!(rt; std::mem::size_of::<hpgl_text::Item<'static>>(), 56);
 }
 
+// How many items a plot has, or why it is refused.
+fn cut(alloc: Global, plot: &[u8]) -> Result<String, AllocError> {
+    match lex(alloc, plot) {
+        Ok(program) => format!(in alloc; "{} items", program.items().len()),
+        Err(fault) => format!(in alloc; "{fault:?}"),
+    }
+}
+
 #[test]
 fn longest_plots(rt: HostRuntime) -> Result<(), Fail> {
     let mut plot = vec![in rt.alloc(); b';'; 67_108_864]?;
-    assert_eq!(rt; lex(rt.alloc(), plot.as_slice())?.items().len(), 0);
+    let longest = cut(rt.alloc(), plot.as_slice())?;
     plot.push(b';')?;
-    assert!(rt; matches!(lex(rt.alloc(), plot.as_slice()), Err(TextFault::TooLong)));
+    let longer = cut(rt.alloc(), plot.as_slice())?;
+    has_text(&rt, longest.as_str(), "0 items");
+    has_text(&rt, longer.as_str(), "TooLong");
     Ok(())
 }

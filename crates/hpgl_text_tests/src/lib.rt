@@ -2,8 +2,12 @@
 #![tactic(auto)]
 
 #[cfg(test)]
+mod cases;
+#[cfg(test)]
 mod further;
 #[cfg(test)]
 mod items;
 #[cfg(test)]
 mod real_plots;
+#[cfg(test)]
+mod texts;

@@ -1,5 +1,6 @@
 // Plots that gnuplot and plotutils wrote: what is noted in them. The notes that are wanted come from
 // a reader of plots that was written apart from this one.
+use crate::texts::has_text;
 use hpgl_text::{Body, Item, Part, Polyline, lex};
 use std::alloc::Global;
 use std::process::Abort;
@@ -26,7 +27,7 @@ fn notes_of(alloc: Global, plot: &[u8]) -> Result<String, Fail> {
 // Fails unless these are the notes of a plot.
 fn has_notes_at(rt: &impl Abort, alloc: Global, plot: &[u8], wanted: &str) -> Result<(), Fail> {
     let notes = notes_of(alloc, plot)?;
-    assert_eq!(rt; notes.as_str(), wanted);
+    has_text(rt, notes.as_str(), wanted);
     Ok(())
 }
 
