@@ -1,8 +1,9 @@
 // Cases as one text. A helper writes the cases again with the answers instead of those that are wanted, and fails unless
 // both texts are equal.
 use crate::full_settings_set::{colours_of, further_settings_of, points_on_page};
-use crate::letters_set::{headings_after, size_after, style_told};
+use crate::letters_set::{headings_after, size_after, style_after_told};
 use crate::settings::settings_of;
+use crate::texts::has_text;
 use std::alloc::Global;
 use std::process::Abort;
 use std::test::Fail;
@@ -29,8 +30,10 @@ pub fn has_answers(
     count: usize,
 ) -> Result<(), Fail> {
     let (answered, found) = answered(alloc, asked, cases)?;
-    assert_eq!(rt; answered.as_str(), cases);
-    assert_eq!(rt; found, count);
+    has_text(rt, answered.as_str(), cases);
+    if found != count {
+        return Err("not so many cases".into());
+    }
     Ok(())
 }
 
@@ -64,6 +67,6 @@ fn answer_of(alloc: Global, asked: Asked, text: &[u8]) -> Result<String, Fail> {
         Asked::Colours => colours_of(alloc, text),
         Asked::Sizes => size_after(alloc, text),
         Asked::Headings => headings_after(alloc, text),
-        Asked::Styles => style_told(alloc, text),
+        Asked::Styles => style_after_told(alloc, text),
     }
 }

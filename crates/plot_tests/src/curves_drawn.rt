@@ -2,6 +2,7 @@
 ghost use Rattle.std.specs.Prelude.{◌^◌, ◌≤◌, nat_abs};
 ghost use Rattle.directions.specs.Bounds.{IsWithin};
 
+use crate::texts::has_text;
 use curves::{arc_places, bezier_places};
 use exact::Spot;
 use std::alloc::{AllocError, Global};
@@ -37,11 +38,11 @@ fn has_places(
 ) -> Result<(), AllocError> {
     let mut text = format!(in alloc; "{} places", places.len())?;
     for number in numbers {
-        let place = places.get(number.saturating_sub(1)).copied();
-        let Spot { x, y } = place.unwrap_or(Spot { x: 0, y: 0 });
-        write!(text, "; {x},{y}")?;
+        if let Some(place) = places.get(number.wrapping_sub(1)) {
+            write!(text, "; {},{}", place.x, place.y)?;
+        }
     }
-    assert_eq!(rt; text.as_str(), wanted);
+    has_text(rt, text.as_str(), wanted);
     Ok(())
 }
 

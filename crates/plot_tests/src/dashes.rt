@@ -1,6 +1,7 @@
 // The dashes of lines, one line after another, by the patterns of line types.
 ghost use Rattle.line_types.specs.Bounds.{IsPlace};
 
+use crate::texts::has_text;
 use exact::Spot;
 use line_types::{Length, Line, LineType, Pattern, Run, diagonal};
 use std::alloc::{AllocError, Global};
@@ -39,7 +40,7 @@ fn has_ends(
     wanted: &str,
 ) -> Result<(), AllocError> {
     let ends = ends_of(alloc, line_type, line, run)?;
-    assert_eq!(rt; ends.as_str(), wanted);
+    has_text(rt, ends.as_str(), wanted);
     Ok(())
 }
 

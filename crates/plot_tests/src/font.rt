@@ -66,6 +66,10 @@ fn columns(rt: HostRuntime) {
     assert_eq!(rt; found, [3, 2, 3, 3]);
 }
 
+fn added(sum: u32, number: u8) -> u32 {
+    sum.wrapping_mul(31).wrapping_add(u32::from(number))
+}
+
 // All strokes of all bytes, against the count and the checksum that `tools/font_table --sum` prints.
 #[test]
 fn whole_font(rt: HostRuntime) {
@@ -75,12 +79,11 @@ fn whole_font(rt: HostRuntime) {
         for k in 0..20 {
             if let Some(s) = glyph(byte, k) {
                 count = count.wrapping_add(1);
-                for number in [s.ax, s.ay, s.bx, s.by] {
-                    sum = sum.wrapping_mul(31).wrapping_add(u32::from(number));
-                }
+                sum = added(added(sum, s.ax), s.ay);
+                sum = added(added(sum, s.bx), s.by);
             }
         }
-        sum = sum.wrapping_mul(31).wrapping_add(u32::from(byte));
+        sum = added(sum, byte);
     }
     assert_eq!(rt; count, 429);
     assert_eq!(rt; sum, 1_702_134_709);

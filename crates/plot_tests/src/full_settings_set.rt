@@ -2,12 +2,12 @@
 ghost use Rattle.full_settings.specs.ColourRanges.{IsColourRanges};
 
 use crate::cases::{Asked, has_answers};
+use crate::letters_set::setting_of;
 use full_settings::{
-    ColourRanges, character_move, colour_in, colour_ranges, direction_setting, origin_setting,
-    path_setting, points_of, relative_direction_setting, relative_points, relative_size_setting,
-    slant_setting, space_setting, tick_setting,
+    ColourRanges, character_move, colour_in, colour_ranges, points_of, relative_points,
+    tick_setting,
 };
-use hpgl_text::{Body, Further, Instruction, Items, Number, Profile};
+use hpgl_text::{Body, Further, Items, Profile};
 use std::alloc::{AllocError, Global};
 use std::test::Fail;
 
@@ -15,66 +15,37 @@ use std::test::Fail;
 pub fn further_settings_of(alloc: Global, text: &[u8]) -> Result<String, Fail> {
     let mut lines = String::new(alloc);
     for item in Items::by_profile(Profile::Full, text) {
-        let line = match &item.body {
-            Body::Further(further, numbers) => {
-                let (list, count) = numbers.leading();
-                line(alloc, *further, &list[..count])?
-            }
-            Body::Params(Instruction::Direction, numbers) => {
-                let (list, count) = numbers.leading();
-                let setting = direction_setting(&list[..count]);
-                format!(in alloc; "{setting:?}\n")?
-            }
-            _ => String::new(alloc),
-        };
-        lines.push_str(line.as_str())?;
+        lines.push_str(line(alloc, &item.body)?.as_str())?;
     }
     Ok(lines)
 }
 
-fn line(alloc: Global, further: Further, numbers: &[Number]) -> Result<String, AllocError> {
-    match further {
-        Further::RelativeSize => {
-            let setting = relative_size_setting(numbers);
-            format!(in alloc; "{setting:?}\n")
-        }
-        Further::Slant => {
-            let setting = slant_setting(numbers);
-            format!(in alloc; "{setting:?}\n")
-        }
-        Further::RelativeDirection => {
-            let setting = relative_direction_setting(numbers);
-            format!(in alloc; "{setting:?}\n")
-        }
-        Further::ExtraSpace => {
-            let setting = space_setting(numbers);
-            format!(in alloc; "{setting:?}\n")
-        }
-        Further::LabelOrigin => {
-            let setting = origin_setting(numbers);
-            format!(in alloc; "{setting:?}\n")
-        }
-        Further::TextPath => {
-            let setting = path_setting(numbers);
-            format!(in alloc; "{setting:?}\n")
-        }
-        Further::TickLength => {
-            let ticks = tick_setting(numbers);
+fn line(alloc: Global, body: &Body<'_>) -> Result<String, AllocError> {
+    match body {
+        Body::Further(Further::TickLength, numbers) => {
+            let (list, count) = numbers.leading();
+            let ticks = tick_setting(&list[..count]);
             format!(in alloc; "{ticks:?}\n")
         }
-        Further::CharacterPlot => {
-            let asked = character_move(numbers);
+        Body::Further(Further::CharacterPlot, numbers) => {
+            let (list, count) = numbers.leading();
+            let asked = character_move(&list[..count]);
             format!(in alloc; "{asked:?}\n")
         }
-        Further::RelativePoints => {
-            let points = relative_points(numbers);
+        Body::Further(Further::RelativePoints, numbers) => {
+            let (list, count) = numbers.leading();
+            let points = relative_points(&list[..count]);
             format!(in alloc; "{points:?}\n")
         }
-        Further::ColourRange => {
-            let ranges = colour_ranges(numbers);
+        Body::Further(Further::ColourRange, numbers) => {
+            let (list, count) = numbers.leading();
+            let ranges = colour_ranges(&list[..count]);
             format!(in alloc; "{ranges:?}\n")
         }
-        _ => Ok(String::new(alloc)),
+        body => {
+            let setting = setting_of(body);
+            format!(in alloc; "{setting:?}\n")
+        }
     }
 }
 
@@ -157,7 +128,8 @@ fn letter_settings(rt: HostRuntime) -> Result<(), Fail> {
     has_answers(&rt, rt.alloc(), Asked::FurtherSettings, LETTER_SETTINGS, 10)
 }
 
-const MOVES_AND_TICKS: &str = "\
+const OTHER_SETTINGS: &str = "\
+// Moves and ticks.
 CP;CP2,-1;CP.5,8388607.999999,3;CP1
 Some(ToMargin)
 Some(By(Pair { x: 2000000, y: -1000000 }))
@@ -185,11 +157,26 @@ None
 None
 None
 
+// Ranges of colours.
+CR;CR0,1,2.5,-3,100,200,5
+Some(ColourRanges { red: ColourRange { black: 0, white: 255 }, \
+green: ColourRange { black: 0, white: 255 }, blue: ColourRange { black: 0, white: 255 } })
+Some(ColourRanges { red: ColourRange { black: 0, white: 1 }, \
+green: ColourRange { black: 3, white: -3 }, blue: ColourRange { black: 100, white: 200 } })
+
+CR1;CR0,1,0,1;CR0,1,0,1,0;CR1,1,0,1,0,1;CR0,1,1,1.4,0,1;CR0,1,0,1,-.5,0
+None
+None
+None
+None
+None
+None
+
 ";
 
 #[test]
-fn moves_and_ticks(rt: HostRuntime) -> Result<(), Fail> {
-    has_answers(&rt, rt.alloc(), Asked::FurtherSettings, MOVES_AND_TICKS, 4)
+fn other_settings(rt: HostRuntime) -> Result<(), Fail> {
+    has_answers(&rt, rt.alloc(), Asked::FurtherSettings, OTHER_SETTINGS, 6)
 }
 
 // What an IR sets on a page of 1000 by 2000, with the corner (-100, -50).
@@ -255,35 +242,6 @@ pub fn colours_of(alloc: Global, text: &[u8]) -> Result<String, Fail> {
     Ok(lines)
 }
 
-const RANGES_OF_COLOURS: &str = "\
-CR;CR0,1,2.5,-3,100,200,5
-Some(ColourRanges { red: ColourRange { black: 0, white: 255 }, \
-green: ColourRange { black: 0, white: 255 }, blue: ColourRange { black: 0, white: 255 } })
-Some(ColourRanges { red: ColourRange { black: 0, white: 1 }, \
-green: ColourRange { black: 3, white: -3 }, blue: ColourRange { black: 100, white: 200 } })
-
-CR1;CR0,1,0,1;CR0,1,0,1,0;CR1,1,0,1,0,1;CR0,1,1,1.4,0,1;CR0,1,0,1,-.5,0
-None
-None
-None
-None
-None
-None
-
-";
-
-#[test]
-fn ranges_of_colours(rt: HostRuntime) -> Result<(), Fail> {
-    assert!(rt; ColourRanges::usual().is_usual());
-    has_answers(
-        &rt,
-        rt.alloc(),
-        Asked::FurtherSettings,
-        RANGES_OF_COLOURS,
-        2,
-    )
-}
-
 const COLOURS_IN_RANGES: &str = "\
 // Of 0 to 100, a half is rounded up.
 CR0,100,0,100,0,100;PC1,100,50,0;PC2,0.196078,0.196079,100.1
@@ -321,5 +279,6 @@ None
 
 #[test]
 fn colours_in_ranges(rt: HostRuntime) -> Result<(), Fail> {
+    assert!(rt; ColourRanges::usual().is_usual());
     has_answers(&rt, rt.alloc(), Asked::Colours, COLOURS_IN_RANGES, 6)
 }

@@ -1,15 +1,12 @@
 // Labels in styles of their own, by their strokes and by where they leave the pen.
 ghost use Rattle.std.specs.Prelude.{◌≤◌, ◌^◌, length};
 
+use crate::texts::has_text;
 use directions::Direction;
 use exact::Spot;
 use lettering::{Lettering, LineFeed, Path, Strokes, Style};
 use std::alloc::{AllocError, Global};
 use std::process::Abort;
-
-const fn at(x: i128, y: i128) -> Spot {
-    Spot { x, y }
-}
 
 // A style, which is in range.
 fn checked(rt: &impl Abort, style: Style) -> Lettering {
@@ -33,6 +30,11 @@ fn on_path(rt: &impl Abort, path: Path, line_feed: LineFeed) -> Lettering {
     checked(rt, style)
 }
 
+// The next stroke, with no promise: a test looks at it.
+fn next_of(strokes: &mut Strokes<'_>) -> Option<(Spot, Spot)> {
+    strokes.next()
+}
+
 // The strokes of a label, by their ends, and where it leaves the pen.
 fn told(alloc: Global, lettering: &Lettering, text: &[u8]) -> Result<String, AllocError>
     requires { length text.now ≤ 2 ^ 32 }
@@ -40,15 +42,15 @@ fn told(alloc: Global, lettering: &Lettering, text: &[u8]) -> Result<String, All
     let mut told = String::new(alloc);
     let mut strokes = lettering.strokes(text);
     for _ in 0..20 {
-        told.push_str(next_told(alloc, &mut strokes)?.as_str())?;
+        told.push_str(stroke_told(alloc, next_of(&mut strokes))?.as_str())?;
     }
     let end = lettering.end(text);
     write!(told, "end {},{}", end.x, end.y)?;
     Ok(told)
 }
 
-fn next_told(alloc: Global, strokes: &mut Strokes<'_>) -> Result<String, AllocError> {
-    match strokes.next() {
+fn stroke_told(alloc: Global, stroke: Option<(Spot, Spot)>) -> Result<String, AllocError> {
+    match stroke {
         Some((from, to)) => format!(in alloc; "{},{} to {},{}; ", from.x, from.y, to.x, to.y),
         None => Ok(String::new(alloc)),
     }
@@ -65,7 +67,7 @@ fn has_strokes(
     requires { length text.now ≤ 2 ^ 32 }
 {
     let told = told(alloc, lettering, text)?;
-    assert_eq!(rt; told.as_str(), wanted);
+    has_text(rt, told.as_str(), wanted);
     Ok(())
 }
 
@@ -105,11 +107,9 @@ fn steps(rt: HostRuntime) -> Result<(), AllocError> {
     let lettering = checked(&rt, style);
     let wanted = "304,0 to 304,0; -608,0 to -608,0; -608,-5184 to -608,-5184; end 0,-5184";
     has_strokes(&rt, rt.alloc(), &lettering, b"..\r\n.", wanted)?;
-    let moves = [
-        lettering.margin_move(b"..\r\n."),
-        lettering.margin_move(b".."),
-    ];
-    assert_eq!(rt; moves, [at(0, -5184), at(0, 0)]);
+    let lines = lettering.margin_move(b"..\r\n.");
+    let line = lettering.margin_move(b"..");
+    assert_eq!(rt; [lines.x, lines.y, line.x, line.y], [0, -5184, 0, 0]);
     Ok(())
 }
 
@@ -150,15 +150,17 @@ fn paths(rt: HostRuntime) -> Result<(), AllocError> {
 }
 
 #[test]
-fn symbols(rt: HostRuntime) {
+fn symbols(rt: HostRuntime) -> Result<(), AllocError> {
     let symbol = checked(&rt, Style::usual()).centred();
-    let strokes = [symbol.letter(b'.', 0), symbol.letter(b'.', 1)];
-    assert_eq!(rt; strokes, [Some((at(0, -864), at(0, -864))), None]);
-    let offsets = [
+    let stroke = stroke_told(rt.alloc(), symbol.letter(b'.', 0))?;
+    has_text(&rt, stroke.as_str(), "0,-864 to 0,-864; ");
+    assert!(rt; symbol.letter(b'.', 1).is_none());
+    let (right, left) = (
         symbol.offset(2_000_000, 1_000_000),
         symbol.offset(500_000, -250_000),
-    ];
-    assert_eq!(rt; offsets, [at(3648, -3456), at(912, 864)]);
+    );
+    assert_eq!(rt; [right.x, right.y, left.x, left.y], [3648, -3456, 912, 864]);
+    Ok(())
 }
 
 // Whether each origin from 0 to 21 is one.

@@ -3,20 +3,21 @@ ghost use Rattle.std.specs.Prelude.{IfSome};
 ghost use Rattle.full_settings.specs.LetterParameters.{IsLetterSetting};
 
 use crate::cases::{Asked, has_answers};
+use crate::texts::has_text;
 use directions::Turn;
 use full_settings::{
     LetterSetting, Letters, direction_setting, origin_setting, path_setting,
     relative_direction_setting, relative_size_setting, slant_setting, space_setting,
 };
 use hpgl_text::{Body, Further, Instruction, Items, Number, Profile};
-use lettering::{LineFeed, Path, Style};
+use lettering::Style;
 use plot_frame::{Ends, Pair};
-use std::alloc::Global;
+use std::alloc::{AllocError, Global};
 use std::test::Fail;
 use stick_font::CharacterSize;
 
 // What an item asks for; SI asks for its own size.
-fn setting_of(body: &Body<'_>) -> Option<LetterSetting>
+pub fn setting_of(body: &Body<'_>) -> Option<LetterSetting>
     ensures { IfSome result IsLetterSetting }
 {
     match body {
@@ -88,30 +89,29 @@ pub fn headings_after(alloc: Global, text: &[u8]) -> Result<String, Fail> {
 }
 
 // The style of letters after a text, where all is turned by three quarters.
-pub fn style_told(alloc: Global, text: &[u8]) -> Result<String, Fail> {
-    let style = style_after(text, Turn::ThreeQuarters);
+pub fn style_after_told(alloc: Global, text: &[u8]) -> Result<String, Fail> {
+    Ok(style_told(alloc, &style_after(text, Turn::ThreeQuarters))?)
+}
+
+// A style but for its size.
+fn style_told(alloc: Global, style: &Style) -> Result<String, AllocError> {
     let (slant, step_x, step_y, origin) = (style.slant, style.step_x, style.step_y, style.origin);
+    let mut told = format!(in alloc; "slant {slant}, steps {step_x} {step_y}, LO{origin}, ")?;
     let (path, feed) = (style.path, style.line_feed);
     let (x, y) = (style.direction.x(), style.direction.y());
-    Ok(format!(in alloc;
-        "slant {slant}, steps {step_x} {step_y}, LO{origin}, {path:?} {feed:?}, {x} {y}\n"
-    )?)
+    write!(told, "{path:?} {feed:?}, {x} {y}\n")?;
+    Ok(told)
 }
 
 #[test]
 fn at_the_start(rt: HostRuntime) -> Result<(), Fail> {
     let style = style_after(b"", Turn::None);
-    let usual = Style::usual();
-    let numbers = [
-        style.width,
-        style.height,
-        style.slant,
-        style.step_x,
-        style.step_y,
-    ];
-    assert_eq!(rt; numbers, [100, 200, 0, usual.step_x, usual.step_y]);
-    assert_eq!(rt; (style.origin, style.direction), (1, usual.direction));
-    assert!(rt; matches!(style.path, Path::Right) && matches!(style.line_feed, LineFeed::Normal));
+    assert_eq!(rt; [style.width, style.height], [100, 200]);
+    let told = style_told(rt.alloc(), &style)?;
+    let usual = style_told(rt.alloc(), &Style::usual())?;
+    let wanted = "slant 0, steps 1000000 1000000, LO1, Right Normal, 1073741824 0\n";
+    has_text(&rt, told.as_str(), wanted);
+    has_text(&rt, usual.as_str(), wanted);
     Ok(())
 }
 

@@ -29,4 +29,6 @@ mod polygons_filled;
 #[cfg(test)]
 mod settings;
 #[cfg(test)]
+mod texts;
+#[cfg(test)]
 mod vectors;

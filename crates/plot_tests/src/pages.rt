@@ -14,21 +14,23 @@ const WINDOW: Window = Window {
     y1: 1_048_576,
 };
 
+// Why a page cannot be made. This promises nothing: a test looks at the answer.
+fn fault_of(width: u32, height: u32, left: u32, below: u32) -> Option<PageFault> {
+    Page::new(width, height, left, below).err()
+}
+
 // The size is judged before the corner.
 #[test]
 fn sizes_and_corners(rt: HostRuntime) {
-    assert!(rt; Page::new(64, 65_536, 0, 65_536).is_ok());
+    assert!(rt; fault_of(64, 65_536, 0, 65_536).is_none());
     let sizes = [
-        Page::new(63, 64, 0, 0).err(),
-        Page::new(64, 65_537, 0, 0).err(),
-        Page::new(63, 64, 65_537, 0).err(),
-        Page::new(64, 65_537, 65_537, 0).err(),
+        fault_of(63, 64, 0, 0),
+        fault_of(64, 65_537, 0, 0),
+        fault_of(63, 64, 65_537, 0),
+        fault_of(64, 65_537, 65_537, 0),
     ];
     assert_eq!(rt; sizes, [Some(PageFault::Size); 4]);
-    let corners = [
-        Page::new(64, 64, 65_537, 0).err(),
-        Page::new(64, 64, 0, 65_537).err(),
-    ];
+    let corners = [fault_of(64, 64, 65_537, 0), fault_of(64, 64, 0, 65_537)];
     assert_eq!(rt; corners, [Some(PageFault::Corner); 2]);
 }
 
@@ -51,6 +53,11 @@ fn strokes_of_40_bytes(rt: HostRuntime) {
     assert_eq!(rt; size_of::<Stroke>(), 40);
 }
 
+// Whether a red stroke can go from one place to another. This promises nothing: a test looks at the answer.
+fn is_stroke(pen: u8, width: u32, window: Window, from: [i32; 2], to: [i32; 2]) -> bool {
+    Stroke::new(pen, RED, width, window, from[0], from[1], to[0], to[1]).is_some()
+}
+
 #[test]
 fn ranges_of_strokes(rt: HostRuntime) {
     let low = Window { x0: -1, ..WINDOW };
@@ -59,13 +66,13 @@ fn ranges_of_strokes(rt: HostRuntime) {
         ..WINDOW
     };
     let found = [
-        Stroke::new(0, RED, 224, WINDOW, 0, 0, 1, 1).is_some(),
-        Stroke::new(1, RED, 12_801, WINDOW, 0, 0, 1, 1).is_some(),
-        Stroke::new(1, RED, 224, low, 0, 0, 1, 1).is_some(),
-        Stroke::new(1, RED, 224, high, 0, 0, 1, 1).is_some(),
-        Stroke::new(1, RED, 224, WINDOW, -1_048_577, 0, 1, 1).is_some(),
-        Stroke::new(1, RED, 224, WINDOW, 0, 0, 1_048_577, 0).is_some(),
-        Stroke::new(1, RED, 224, WINDOW, 0, 0, 1, 1_048_577).is_some(),
+        is_stroke(0, 224, WINDOW, [0, 0], [1, 1]),
+        is_stroke(1, 12_801, WINDOW, [0, 0], [1, 1]),
+        is_stroke(1, 224, low, [0, 0], [1, 1]),
+        is_stroke(1, 224, high, [0, 0], [1, 1]),
+        is_stroke(1, 224, WINDOW, [-1_048_577, 0], [1, 1]),
+        is_stroke(1, 224, WINDOW, [0, 0], [1_048_577, 0]),
+        is_stroke(1, 224, WINDOW, [0, 0], [1, 1_048_577]),
     ];
     assert_eq!(rt; found, [false; 7]);
     let narrow = Window {
@@ -74,5 +81,5 @@ fn ranges_of_strokes(rt: HostRuntime) {
         x1: 1024,
         y1: 1024,
     };
-    assert!(rt; Stroke::new(1, RED, 224, narrow, 0, 0, 1024, 1024).is_some());
+    assert!(rt; is_stroke(1, 224, narrow, [0, 0], [1024, 1024]));
 }

@@ -1,10 +1,12 @@
 // Polygons: what the buffer holds, and the spans that fill them.
 ghost use Rattle.std.specs.Prelude.{◌≡◌, ◌≤◌, ◌^◌};
 
+use crate::texts::has_text;
 use exact::Spot;
 use polygons::{Buffer, Edge, Fill, Lines, Place, Rule, Span, all_spans};
 use std::alloc::{AllocError, Global};
 use std::process::Abort;
+use std::test::Fail;
 
 fn place(x: i16, y: i16) -> Place {
     Place::new(Spot {
@@ -13,12 +15,27 @@ fn place(x: i16, y: i16) -> Place {
     })
 }
 
+// `Buffer::reach`, with no promise: a test looks at what the buffer holds.
+fn reach(buffer: &mut Buffer, x: i16, y: i16, is_drawn: bool) -> Result<(), AllocError> {
+    buffer.reach(place(x, y), is_drawn)
+}
+
+// `Buffer::close`, with no promise.
+fn close(buffer: &mut Buffer, is_drawn: bool) -> Result<(), AllocError> {
+    buffer.close(is_drawn)
+}
+
+// `Buffer::open`, with no promise.
+fn open(buffer: &mut Buffer, x: i16, y: i16) {
+    buffer.open(place(x, y));
+}
+
 // Adds a closed sub-polygon.
 fn add(buffer: &mut Buffer, places: &[(i16, i16)]) -> Result<(), AllocError> {
     for (x, y) in places {
-        buffer.reach(place(*x, *y), true)?;
+        reach(buffer, *x, *y, true)?;
     }
-    buffer.close(true)
+    close(buffer, true)
 }
 
 // A plotter unit apart, from left to right.
@@ -32,65 +49,78 @@ fn solid() -> Lines
     }
 }
 
+// Two places.
+fn ends_of(alloc: Global, from: Place, to: Place) -> Result<String, AllocError> {
+    let (a, b) = (from.spot(), to.spot());
+    format!(in alloc; "{},{} to {},{}", a.x, a.y, b.x, b.y)
+}
+
 // The ends of spans.
 fn text_of(alloc: Global, spans: &[Span]) -> Result<String, AllocError> {
     let mut text = String::new(alloc);
     for span in spans {
-        let a = span.from.spot();
-        let b = span.to.spot();
-        write!(text, "{},{} to {},{}; ", a.x, a.y, b.x, b.y)?;
+        text.push_str(ends_of(alloc, span.from, span.to)?.as_str())?;
+        text.push_str("; ")?;
     }
     Ok(text)
 }
 
-// The spans that fill what a buffer holds.
-fn filled(alloc: Global, buffer: &Buffer, lines: Lines, rule: Rule) -> Result<String, AllocError>
-    requires least { 4096 ≤ lines.apart }
-    requires most { lines.apart ≤ 2 ^ 40 }
-{
-    let spans = all_spans(alloc, buffer.edges(), lines, rule)?;
-    text_of(alloc, &spans)
+// The spans that fill what a buffer holds, by lines that may be so far apart.
+fn spans_of(alloc: Global, buffer: &Buffer, lines: Lines, rule: Rule) -> Result<Vec<Span>, Fail> {
+    if lines.apart < 4096 || lines.apart > 1_099_511_627_776 {
+        return Err("lines that may not be so far apart".into());
+    }
+    Ok(all_spans(alloc, buffer.edges(), lines, rule)?)
+}
+
+// The ends of the spans that fill what a buffer holds.
+fn filled(alloc: Global, buffer: &Buffer, lines: Lines, rule: Rule) -> Result<String, Fail> {
+    let spans = spans_of(alloc, buffer, lines, rule)?;
+    Ok(text_of(alloc, &spans)?)
 }
 
 // The ends of edges, and a mark for each that is not drawn.
 fn edges_of(alloc: Global, edges: &[Edge]) -> Result<String, AllocError> {
     let mut text = String::new(alloc);
     for edge in edges {
-        let a = edge.from.spot();
-        let b = edge.to.spot();
-        let mark = if edge.is_drawn { "" } else { " not drawn" };
-        write!(text, "{},{} to {},{}{mark}; ", a.x, a.y, b.x, b.y)?;
+        text.push_str(ends_of(alloc, edge.from, edge.to)?.as_str())?;
+        text.push_str(if edge.is_drawn { "; " } else { " not drawn; " })?;
     }
     Ok(text)
+}
+
+// Tells how many places a buffer holds, and whether a sub-polygon is open.
+fn tell(told: &mut String, buffer: &Buffer) -> Result<(), AllocError> {
+    let (places, is_open) = (buffer.places(), buffer.is_open());
+    write!(told, "{places} {is_open}; ")
 }
 
 #[test]
 fn sub_polygons_in_a_buffer(rt: HostRuntime) -> Result<(), AllocError> {
     let mut buffer = Buffer::new(rt.alloc());
-    assert!(rt; !buffer.is_open());
-    buffer.open(place(0, 0));
-    buffer.open(place(5, 5));
-    buffer.reach(place(16, 0), true)?;
-    buffer.reach(place(16, 16), false)?;
-    assert!(rt; buffer.is_open());
-    assert_eq!(rt; buffer.places(), 3);
-    buffer.close(false)?;
-    assert!(rt; !buffer.is_open());
-    buffer.close(true)?;
-    buffer.open(place(7, 7));
-    assert_eq!(rt; buffer.places(), 4);
-    buffer.close(true)?;
-    assert_eq!(rt; buffer.places(), 3);
+    let mut told = String::new(rt.alloc());
+    tell(&mut told, &buffer)?;
+    open(&mut buffer, 0, 0);
+    open(&mut buffer, 5, 5);
+    reach(&mut buffer, 16, 0, true)?;
+    reach(&mut buffer, 16, 16, false)?;
+    tell(&mut told, &buffer)?;
+    close(&mut buffer, false)?;
+    tell(&mut told, &buffer)?;
+    close(&mut buffer, true)?;
+    open(&mut buffer, 7, 7);
+    tell(&mut told, &buffer)?;
+    close(&mut buffer, true)?;
+    tell(&mut told, &buffer)?;
     add(&mut buffer, &[(1, 1), (2, 2), (1, 1)])?;
-    assert_eq!(rt; buffer.places(), 6);
-    let text = edges_of(rt.alloc(), buffer.edges())?;
-    assert_eq!(rt;
-        text.as_str(),
-        "0,0 to 16,0; 16,0 to 16,16 not drawn; 16,16 to 0,0 not drawn; 1,1 to 2,2; 2,2 to 1,1; "
+    tell(&mut told, &buffer)?;
+    told.push_str(edges_of(rt.alloc(), buffer.edges())?.as_str())?;
+    has_text(
+        &rt,
+        told.as_str(),
+        "0 false; 3 true; 3 false; 4 true; 3 false; 6 false; \
+0,0 to 16,0; 16,0 to 16,16 not drawn; 16,16 to 0,0 not drawn; 1,1 to 2,2; 2,2 to 1,1; ",
     );
-    buffer.clear();
-    assert_eq!(rt; buffer.places(), 0);
-    assert!(rt; buffer.edges().is_empty());
     Ok(())
 }
 
@@ -107,9 +137,10 @@ fn a_rectangle_line_by_line(rt: HostRuntime) -> Result<(), AllocError> {
         let spans = text_of(rt.alloc(), &spans)?;
         write!(told, "{is_line} {spans}")?;
     }
-    assert_eq!(rt;
+    has_text(
+        &rt,
         told.as_str(),
-        "true 0,8 to 64,8; true 0,24 to 64,24; true 0,40 to 64,40; false false "
+        "true 0,8 to 64,8; true 0,24 to 64,24; true 0,40 to 64,40; false false ",
     );
     let mut spans = Vec::new(rt.alloc());
     let mut empty = Fill::new(rt.alloc(), &[], solid(), Rule::Winding)?;
@@ -124,15 +155,15 @@ fn is_filled(
     buffer: &Buffer,
     rule: Rule,
     wanted: &str,
-) -> Result<(), AllocError> {
+) -> Result<(), Fail> {
     let spans = filled(alloc, buffer, solid(), rule)?;
-    assert_eq!(rt; spans.as_str(), wanted);
+    has_text(rt, spans.as_str(), wanted);
     Ok(())
 }
 
 // The inner square is a hole by odd counts, and by winding only if it goes the other way round.
 #[test]
-fn holes(rt: HostRuntime) -> Result<(), AllocError> {
+fn holes(rt: HostRuntime) -> Result<(), Fail> {
     let mut same = Buffer::new(rt.alloc());
     add(&mut same, &[(0, 0), (48, 0), (48, 48), (0, 48)])?;
     add(&mut same, &[(16, 16), (32, 16), (32, 32), (16, 32)])?;
@@ -148,7 +179,7 @@ fn holes(rt: HostRuntime) -> Result<(), AllocError> {
 
 // Far lines between two figures are not visited.
 #[test]
-fn shared_edges(rt: HostRuntime) -> Result<(), AllocError> {
+fn shared_edges(rt: HostRuntime) -> Result<(), Fail> {
     let mut beside = Buffer::new(rt.alloc());
     add(&mut beside, &[(0, 0), (32, 0), (32, 32), (0, 32)])?;
     add(&mut beside, &[(32, 0), (64, 0), (64, 32), (32, 32)])?;
@@ -160,9 +191,7 @@ fn shared_edges(rt: HostRuntime) -> Result<(), AllocError> {
 }
 
 // Eight plotter units apart.
-fn sparse() -> Lines
-    ensures { result.apart ≡ 32768 }
-{
+fn sparse() -> Lines {
     Lines {
         angle: 0,
         apart: 32_768,
@@ -171,29 +200,29 @@ fn sparse() -> Lines
 }
 
 #[test]
-fn a_star_by_both_rules(rt: HostRuntime) -> Result<(), AllocError> {
+fn a_star_by_both_rules(rt: HostRuntime) -> Result<(), Fail> {
     let mut star = Buffer::new(rt.alloc());
     let places = [(0, 300), (176, -243), (-285, 93), (285, 93), (-176, -243)];
     add(&mut star, &places)?;
     let odd = filled(rt.alloc(), &star, sparse(), Rule::OddCounts)?;
     let winding = filled(rt.alloc(), &star, sparse(), Rule::Winding)?;
-    assert_eq!(rt;
-        [odd.as_str(), winding.as_str()],
-        [
-            "-136,-120 to -7,-120; 7,-120 to 136,-120; -168,8 to -95,8; 95,8 to 168,8; -53,136 to 53,136; \
+    has_text(
+        &rt,
+        odd.as_str(),
+        "-136,-120 to -7,-120; 7,-120 to 136,-120; -168,8 to -95,8; 95,8 to 168,8; -53,136 to 53,136; \
 -12,264 to 12,264; ",
-            "-136,-120 to -7,-120; 7,-120 to 136,-120; -168,8 to -95,8; -95,8 to 95,8; 95,8 to 168,8; \
+    );
+    has_text(
+        &rt,
+        winding.as_str(),
+        "-136,-120 to -7,-120; 7,-120 to 136,-120; -168,8 to -95,8; -95,8 to 95,8; 95,8 to 168,8; \
 -53,136 to 53,136; -12,264 to 12,264; ",
-        ]
     );
     Ok(())
 }
 
 // What fills a triangle by lines of an angle, of which one goes through (x, y).
-fn filled_at(alloc: Global, angle: i32, apart: u64, x: i16, y: i16) -> Result<String, AllocError>
-    requires least { 4096 ≤ apart }
-    requires most { apart ≤ 2 ^ 40 }
-{
+fn filled_at(alloc: Global, angle: i32, apart: u64, x: i16, y: i16) -> Result<String, Fail> {
     let mut triangle = Buffer::new(alloc);
     add(&mut triangle, &[(0, 0), (100, 0), (0, 100)])?;
     let lines = Lines {
@@ -205,19 +234,23 @@ fn filled_at(alloc: Global, angle: i32, apart: u64, x: i16, y: i16) -> Result<St
 }
 
 #[test]
-fn a_triangle_at_angles(rt: HostRuntime) -> Result<(), AllocError> {
+fn a_triangle_at_angles(rt: HostRuntime) -> Result<(), Fail> {
     let aslant = filled_at(rt.alloc(), 45_000, 8192, 0, 0)?;
     let back = filled_at(rt.alloc(), 120_000, 9000, 10, 3)?;
     let down = filled_at(rt.alloc(), -30_500, 12_345, -7, 40)?;
     let up = filled_at(rt.alloc(), 90_000, 8192, 8, 0)?;
-    assert_eq!(rt;
-        [aslant.as_str(), back.as_str(), down.as_str(), up.as_str()],
-        [
-            "91,0 to 95,5; 45,0 to 73,27; 0,0 to 50,50; 0,45 to 27,73; 0,91 to 5,95; ",
-            "93,0 to 83,17; 52,0 to 0,91; 12,0 to 0,20; ",
-            "0,36 to 61,0; 0,92 to 20,80; ",
-            "72,0 to 72,28; 40,0 to 40,60; 8,0 to 8,92; ",
-        ]
+    let steep = "91,0 to 95,5; 45,0 to 73,27; 0,0 to 50,50; 0,45 to 27,73; 0,91 to 5,95; ";
+    has_text(&rt, aslant.as_str(), steep);
+    has_text(
+        &rt,
+        back.as_str(),
+        "93,0 to 83,17; 52,0 to 0,91; 12,0 to 0,20; ",
+    );
+    has_text(&rt, down.as_str(), "0,36 to 61,0; 0,92 to 20,80; ");
+    has_text(
+        &rt,
+        up.as_str(),
+        "72,0 to 72,28; 40,0 to 40,60; 8,0 to 8,92; ",
     );
     Ok(())
 }
@@ -225,7 +258,7 @@ fn a_triangle_at_angles(rt: HostRuntime) -> Result<(), AllocError> {
 // The next of a list of numbers from 0 to 255.
 fn next(state: &mut u32) -> u8 {
     *state = state.wrapping_mul(1_103_515_245).wrapping_add(12_345);
-    (*state / 65_536 % 256) as u8
+    u8::try_from(*state / 65_536 % 256).unwrap_or(0)
 }
 
 // 24 places at random.
@@ -283,14 +316,14 @@ fn count_inside(places: &[(i16, i16)]) -> u64 {
 
 // The spans of a random figure are as long as it has middles of grains inside.
 #[test]
-fn a_random_figure_by_counts(rt: HostRuntime) -> Result<(), AllocError> {
+fn a_random_figure_by_counts(rt: HostRuntime) -> Result<(), Fail> {
     let places = scattered(rt.alloc())?;
     let mut buffer = Buffer::new(rt.alloc());
     for (x, y) in &places {
-        buffer.reach(place(*x, *y), false)?;
+        reach(&mut buffer, *x, *y, false)?;
     }
-    buffer.close(false)?;
-    let spans = all_spans(rt.alloc(), buffer.edges(), solid(), Rule::OddCounts)?;
+    close(&mut buffer, false)?;
+    let spans = spans_of(rt.alloc(), &buffer, solid(), Rule::OddCounts)?;
     let mut long = 0i128;
     for span in &spans {
         let way = span.to.spot().x.wrapping_sub(span.from.spot().x);
