@@ -1,7 +1,6 @@
 // Circles and arcs. The drawings that are wanted come from a plotter that was written apart from
 // this one.
-use crate::cases::{has_drawings, has_refusals};
-use crate::drawings::square;
+use crate::cases::{Asked, has_answers};
 use std::test::Fail;
 
 const CIRCLES: &str = "\
@@ -42,11 +41,6 @@ SP0;PU32,32;CI16;
 
 ";
 
-#[test]
-fn circles(rt: HostRuntime) -> Result<(), Fail> {
-    has_drawings(&rt, rt.alloc(), &square()?, CIRCLES, 7)
-}
-
 const ARCS: &str = "\
 PU48,32;PD;AA32,32,-90,40;
 768,512 to 768,512
@@ -82,16 +76,8 @@ PD1,2;AA9,9,0;
 0,0 to 16,32
 16,32 to 16,32
 
-";
-
-#[test]
-fn arcs(rt: HostRuntime) -> Result<(), Fail> {
-    has_drawings(&rt, rt.alloc(), &square()?, ARCS, 5)
-}
-
-// A circle leaves the pen where and as it is, and an arc takes it along, also if it is up. Roundings
-// do not add up on the way.
-const WHERE_THE_PEN_IS_LEFT: &str = "\
+// A circle leaves the pen where and as it is, and an arc takes it along, also if it is up. Roundings do not add up
+// on the way.
 PU32,32;PW0;CI0,180;PD40,32;
 1 0 in 0 0 1024 1024: 512,512 to 512,512
 1 0 in 0 0 1024 1024: 512,512 to 512,512
@@ -106,15 +92,7 @@ PU48,32;AA32,32,90;PD;
 PU48,32;AA32,32,360,.5;PD;
 768,512 to 768,512
 
-";
-
-#[test]
-fn where_the_pen_is_left(rt: HostRuntime) -> Result<(), Fail> {
-    has_drawings(&rt, rt.alloc(), &square()?, WHERE_THE_PEN_IS_LEFT, 4)
-}
-
 // Angles are rounded to thousandths of a degree before they are tested.
-const LIMITS_OF_ANGLES: &str = "\
 SP0;CI1,0.4995;CI1,180.0004;
 
 SP0;CI1,0.4994;CI1,180.0005;
@@ -139,18 +117,7 @@ note 25 AA Bad
 ";
 
 #[test]
-fn limits_of_angles(rt: HostRuntime) -> Result<(), Fail> {
-    has_drawings(&rt, rt.alloc(), &square()?, LIMITS_OF_ANGLES, 5)
-}
-
-// A place out of range, drawn or not, comes before a stroke too many.
-const CIRCLES_THAT_ARE_REFUSED: &str = "\
-0 CI70000;
-10 SP0;PU1,1;AA1,70000,180;
-26 SC0,.000001,0,.000001;SP0;AA8388607,8388607,1;
-";
-
-#[test]
-fn circles_that_are_refused(rt: HostRuntime) -> Result<(), Fail> {
-    has_refusals(&rt, rt.alloc(), CIRCLES_THAT_ARE_REFUSED, 3)
+fn circles_and_arcs(rt: HostRuntime) -> Result<(), Fail> {
+    has_answers(&rt, rt.alloc(), Asked::Drawing, CIRCLES, 7)?;
+    has_answers(&rt, rt.alloc(), Asked::Drawing, ARCS, 14)
 }

@@ -13,3 +13,7 @@ mod labels;
 mod limits;
 #[cfg(test)]
 mod settings;
+#[cfg(test)]
+mod texts;
+#[cfg(test)]
+mod told;

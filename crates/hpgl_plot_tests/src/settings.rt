@@ -1,10 +1,9 @@
 // What instructions set, what stays as it was, and the edges of rectangles.
-use crate::cases::has_drawings;
-use crate::drawings::{square, wide};
-use hpgl_plot::draw_plot;
+use crate::cases::{Asked, has_answers};
 use std::test::Fail;
 
-const SETTINGS_THAT_STAY: &str = "\
+const SETTINGS_AND_EDGES: &str = "\
+// Settings that stay.
 RO90;DF;PU0,28;PD64,28;
 576,0 to 576,1024
 
@@ -25,14 +24,7 @@ IW0,0,20,64;PD1,0;IW;PD2,0;
 1 224 in 0 0 320 1024: 0,0 to 16,0
 16,0 to 32,0
 
-";
-
-#[test]
-fn settings_that_stay(rt: HostRuntime) -> Result<(), Fail> {
-    has_drawings(&rt, rt.alloc(), &square()?, SETTINGS_THAT_STAY, 6)
-}
-
-const EDGES: &str = "\
+// The edges of rectangles.
 PU8,8;EA16,24;
 128,128 to 256,128
 256,128 to 256,384
@@ -51,14 +43,7 @@ PU8,8;ER8,16;
 256,384 to 128,384
 128,384 to 128,128
 
-";
-
-#[test]
-fn edges(rt: HostRuntime) -> Result<(), Fail> {
-    has_drawings(&rt, rt.alloc(), &square()?, EDGES, 3)
-}
-
-const LIMITS_OF_NUMBERS: &str = "\
+// Limits of numbers.
 SC0,0,0,1,2;PU0,0;PD1,1;
 0,0 to 16,16
 note 0 SC Bad
@@ -72,27 +57,7 @@ note 29 PD Bad
 
 ";
 
-const LIMITS_OF_NUMBERS_ON_A_WIDE_PAGE: &str = "\
-IW0,0,200,200;PD1,0;
-1 224 in 0 0 2048 1024: 0,0 to 16,0
-
-";
-
 #[test]
-fn limits_of_numbers(rt: HostRuntime) -> Result<(), Fail> {
-    has_drawings(&rt, rt.alloc(), &square()?, LIMITS_OF_NUMBERS, 3)?;
-    has_drawings(
-        &rt,
-        rt.alloc(),
-        &wide()?,
-        LIMITS_OF_NUMBERS_ON_A_WIDE_PAGE,
-        1,
-    )
-}
-
-#[test]
-fn notes_within_a_polyline(rt: HostRuntime) -> Result<(), Fail> {
-    let lines = draw_plot(rt.alloc(), b"PE!#;", &square()?)?;
-    assert_eq!(rt; lines.notes, 2);
-    Ok(())
+fn settings_and_edges(rt: HostRuntime) -> Result<(), Fail> {
+    has_answers(&rt, rt.alloc(), Asked::Drawing, SETTINGS_AND_EDGES, 12)
 }
