@@ -2,8 +2,9 @@
 ghost use Rattle.std.specs.Prelude.{◌≡◌, ◌%◌, ◌&&◌, nat_eq};
 ghost use Rattle.stroke_raster.specs.Covers.{covers};
 
-use crate::strokes::{BLACK, WHOLE, bits_by, cells_by};
+use crate::strokes::{WHOLE, bits_by, cells_by, dots, page, stroke, tell_bytes, tell_cells};
 use plot_page::{Dots, Page, PenSet, Stroke};
+use std::alloc::Global;
 use std::test::Fail;
 use stroke_raster::{Exact, Gauge, laws, near};
 
@@ -34,64 +35,62 @@ impl Gauge for Odd {
     }
 }
 
+// The cells of strokes by this gauge and the number of its tests, and then the bits and the number of tests for them.
+fn told_by_odd(alloc: Global, strokes: &[Stroke], band_rows: u32) -> Result<String, Fail> {
+    let (dots, pens) = (dots(127)?, PenSet::all());
+    let mut told = String::new(alloc);
+    let mut gauge = Odd { tests: 0 };
+    let cells = cells_by(alloc, &mut gauge, strokes, dots, pens, band_rows)?;
+    tell_cells(&mut told, cells.as_slice())?;
+    let tests = gauge.tests;
+    write!(told, "{tests} tests\n")?;
+    let mut inking = Odd { tests: 0 };
+    let bits = bits_by(alloc, &mut inking, strokes, dots, pens, band_rows, 0)?;
+    tell_bytes(&mut told, bits.as_slice())?;
+    let tests = inking.tests;
+    write!(told, "{tests} tests\n")?;
+    Ok(told)
+}
+
+const BY_ODD: &str = "\
+........
+........
+........
+........
+.1.2.1.1
+........
+........
+........
+10 tests
+ 00 00 00 00 55 00 00 00
+10 tests
+";
+
 // The box of the first stroke is row 4, that of the second has two columns of it.
 #[test]
 fn a_gauge_with_gaps(rt: HostRuntime) -> Result<(), Fail> {
-    let dots = Dots::new(127).ok_or("dots")?;
-    let whole = Stroke::new(1, BLACK, 224, WHOLE, 0, 448, 1024, 448).ok_or("a stroke")?;
-    let short = Stroke::new(1, BLACK, 224, WHOLE, 320, 448, 448, 448).ok_or("a stroke")?;
-    let mut wanted = [0u32; 64];
-    wanted[33] = 1;
-    wanted[35] = 2;
-    wanted[37] = 1;
-    wanted[39] = 1;
+    let whole = stroke(1, 224, WHOLE, [0, 448, 1024, 448])?;
+    let short = stroke(1, 224, WHOLE, [320, 448, 448, 448])?;
     for band_rows in [1, 3, 4096] {
-        let mut gauge = Odd { tests: 0 };
-        let cells = cells_by(
-            rt.alloc(),
-            &mut gauge,
-            &[whole, short],
-            dots,
-            PenSet::all(),
-            band_rows,
-        )?;
-        assert_eq!(rt; cells.as_slice(), wanted.as_slice());
-        assert_eq!(rt; gauge.tests(), 10);
+        let told = told_by_odd(rt.alloc(), &[whole, short], band_rows)?;
+        assert_eq!(rt; told.as_str(), BY_ODD, "bands of {band_rows}");
     }
     Ok(())
 }
 
-#[test]
-fn bits_by_a_gauge_with_gaps(rt: HostRuntime) -> Result<(), Fail> {
-    let dots = Dots::new(127).ok_or("dots")?;
-    let whole = Stroke::new(1, BLACK, 224, WHOLE, 0, 448, 1024, 448).ok_or("a stroke")?;
-    let short = Stroke::new(1, BLACK, 224, WHOLE, 320, 448, 448, 448).ok_or("a stroke")?;
-    for band_rows in [1, 3, 4096] {
-        let mut gauge = Odd { tests: 0 };
-        let bits = bits_by(
-            rt.alloc(),
-            &mut gauge,
-            &[whole, short],
-            dots,
-            PenSet::all(),
-            band_rows,
-            0,
-        )?;
-        assert_eq!(rt; bits.as_slice(), [0, 0, 0, 0, 0x55, 0, 0, 0].as_slice());
-        assert_eq!(rt; gauge.tests(), 10);
-    }
-    Ok(())
+// Whether the exact gauge finds that the stroke reaches the first pixel of row 4.
+fn meets(gauge: &mut Exact, stroke: &Stroke, page: &Page, dots: Dots) -> bool {
+    4 < dots.rows(page) && 0 < dots.columns(page) && gauge.meets(stroke, page, dots, 4, 0)
 }
 
 #[test]
 fn pixels_are_counted_once(rt: HostRuntime) -> Result<(), Fail> {
-    let page = Page::new(64, 64, 0, 0)?;
-    let dots = Dots::new(127).ok_or("dots")?;
-    let whole = Stroke::new(1, BLACK, 224, WHOLE, 0, 448, 1024, 448).ok_or("a stroke")?;
+    let dots = dots(127)?;
+    let whole = stroke(1, 224, WHOLE, [0, 448, 1024, 448])?;
     let mut gauge = Exact::new();
     cells_by(rt.alloc(), &mut gauge, &[whole], dots, PenSet::all(), 3)?;
     assert_eq!(rt; gauge.tests(), 8);
-    assert!(rt; gauge.meets(&whole, &page, dots, 4, 0));
+    assert!(rt; meets(&mut gauge, &whole, &page()?, dots));
     assert_eq!(rt; gauge.tests(), 9);
     Ok(())
 }

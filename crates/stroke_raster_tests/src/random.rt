@@ -1,12 +1,13 @@
 //! Strokes from a generator, painted in bands, against the pixel test itself, and as bits.
-ghost use Rattle.std.specs.Prelude.{◌≤◌, length};
-
-use crate::strokes::{BLACK, WHOLE, bits_by, cells_by, packed};
-use plot_page::{Dots, Page, PenSet, Stroke, Window};
+use crate::strokes::{WHOLE, bits_by, cells_by, dots, is_near, packed, page, stroke};
+use plot_page::{Dots, PenSet, Stroke, Window};
 use std::alloc::Global;
 use std::process::Abort;
 use std::test::Fail;
-use stroke_raster::{Exact, Gauge, near};
+use stroke_raster::{Exact, Gauge};
+
+// The heights of bands.
+const BANDS: [u32; 3] = [1, 3, 4096];
 
 // A linear congruential generator.
 #[derive(Drop)]
@@ -25,7 +26,7 @@ impl Numbers {
     }
 
     // A stroke of one of three pens, in the page's window or in a part of it.
-    fn stroke(&mut self, n: u32) -> Option<Stroke> {
+    fn any_stroke(&mut self, n: u32) -> Result<Stroke, Fail> {
         let window = if n % 3 == 0 {
             Window {
                 x0: 300,
@@ -39,15 +40,15 @@ impl Numbers {
         let width = [0, 16, 224, 1000][(n % 4) as usize];
         let (ax, ay) = (self.place(), self.place());
         let (bx, by) = (self.place(), self.place());
-        Stroke::new((n % 3 + 1) as u8, BLACK, width, window, ax, ay, bx, by)
+        stroke((n % 3 + 1) as u8, width, window, [ax, ay, bx, by])
     }
 
     // A stroke of at most 31 grains in each direction, whose box has few pixels.
-    fn short_stroke(&mut self, n: u32) -> Option<Stroke> {
+    fn short_stroke(&mut self, n: u32) -> Result<Stroke, Fail> {
         let (ax, ay) = (self.place(), self.place());
         let bx = ax.wrapping_add(self.place() % 32);
         let by = ay.wrapping_add(self.place() % 32);
-        Stroke::new((n % 3 + 1) as u8, BLACK, 16, WHOLE, ax, ay, bx, by)
+        stroke((n % 3 + 1) as u8, 16, WHOLE, [ax, ay, bx, by])
     }
 }
 
@@ -58,7 +59,7 @@ fn cells_by_near(
     dots: Dots,
     pens: PenSet,
 ) -> Result<Vec<u32>, Fail> {
-    let page = Page::new(64, 64, 0, 0)?;
+    let page = page()?;
     let mut cells = Vec::new(alloc);
     for row in 0..dots.rows(&page) {
         for column in 0..dots.columns(&page) {
@@ -66,7 +67,7 @@ fn cells_by_near(
             let mut position = 0u32;
             for stroke in strokes {
                 position = position.wrapping_add(1);
-                if pens.has(stroke.pen) && near(stroke, &page, dots, row, column) {
+                if pens.has(stroke.pen) && is_near(stroke, &page, dots, row, column) {
                     cell = position;
                 }
             }
@@ -81,32 +82,31 @@ fn some_strokes(alloc: Global, seed: u32, with_short_ones: bool) -> Result<Vec<S
     let mut numbers = Numbers { state: seed };
     let mut strokes = Vec::new(alloc);
     for n in 0..24 {
-        strokes.push(numbers.stroke(n).ok_or("a stroke")?)?;
+        strokes.push(numbers.any_stroke(n)?)?;
         if with_short_ones {
-            strokes.push(numbers.short_stroke(n).ok_or("a stroke")?)?;
+            strokes.push(numbers.short_stroke(n)?)?;
         }
     }
     Ok(strokes)
 }
 
-// Fails unless the cells in bands of so many rows are those of `near`.
+// Fails unless the cells in bands of any height are those of `near`.
 fn has_cells_by_near(
     rt: &impl Abort,
     alloc: Global,
     strokes: &[Stroke],
     resolution: u32,
     pens: PenSet,
-    band_rows: u32,
-) -> Result<(), Fail>
-    requires { length strokes.now ≤ 4194304 }
-{
-    let dots = Dots::new(resolution).ok_or("a resolution")?;
+) -> Result<(), Fail> {
+    let dots = dots(resolution)?;
     let wanted = cells_by_near(alloc, strokes, dots, pens)?;
-    let cells = cells_by(alloc, &mut Exact::new(), strokes, dots, pens, band_rows)?;
-    assert!(rt;
-        cells.as_slice() == wanted.as_slice(),
-        "{resolution} {band_rows}"
-    );
+    for band_rows in BANDS {
+        let cells = cells_by(alloc, &mut Exact::new(), strokes, dots, pens, band_rows)?;
+        assert!(rt;
+            cells.as_slice() == wanted.as_slice(),
+            "{resolution} {band_rows}"
+        );
+    }
     Ok(())
 }
 
@@ -115,21 +115,15 @@ fn strokes_in_bands(rt: HostRuntime) -> Result<(), Fail> {
     let strokes = some_strokes(rt.alloc(), 7, true)?;
     assert_eq!(rt; strokes.len(), 48);
     let pens = PenSet::none().with(1).with(2);
-    for resolution in [127, 600] {
-        for band_rows in [1, 3, 4096] {
-            has_cells_by_near(&rt, rt.alloc(), &strokes, resolution, pens, band_rows)?;
-        }
-    }
-    Ok(())
+    has_cells_by_near(&rt, rt.alloc(), &strokes, 127, pens)?;
+    has_cells_by_near(&rt, rt.alloc(), &strokes, 600, pens)
 }
 
-// Fails unless a stroke of pen 1 with these ends, in two widths, has the cells of `near`.
+// Fails unless a stroke with these ends, in two widths, has the cells of `near`.
 fn is_wide(rt: &impl Abort, alloc: Global, ends: [i32; 4]) -> Result<(), Fail> {
-    let [ax, ay, bx, by] = ends;
-    let pens = PenSet::none().with(1);
     for width in [224, 1000] {
-        let stroke = Stroke::new(1, BLACK, width, WHOLE, ax, ay, bx, by).ok_or("a stroke")?;
-        has_cells_by_near(rt, alloc, &[stroke], 600, pens, 4096)?;
+        let stroke = stroke(1, width, WHOLE, ends)?;
+        has_cells_by_near(rt, alloc, &[stroke], 600, PenSet::none().with(1))?;
     }
     Ok(())
 }
@@ -142,32 +136,31 @@ fn wide_strokes(rt: HostRuntime) -> Result<(), Fail> {
     is_wide(&rt, rt.alloc(), [700, 200, 340, 760])
 }
 
-// Fails unless the bits in bands of so many rows are the cells packed, and as many tests are made for them.
+// Fails unless the bits in bands of any height are the cells packed, and as many tests are made for them.
 fn has_bits_of_cells(
     rt: &impl Abort,
     alloc: Global,
     strokes: &[Stroke],
     resolution: u32,
-    band_rows: u32,
-) -> Result<(), Fail>
-    requires { length strokes.now ≤ 4194304 }
-{
-    let dots = Dots::new(resolution).ok_or("a resolution")?;
-    let columns = dots.columns(&Page::new(64, 64, 0, 0)?);
+) -> Result<(), Fail> {
+    let dots = dots(resolution)?;
+    let columns = dots.columns(&page()?);
     let pens = PenSet::none().with(1).with(2);
     let mut gauge = Exact::new();
     let cells = cells_by(alloc, &mut gauge, strokes, dots, pens, 5)?;
     let wanted = packed(alloc, &cells, columns)?;
-    let mut inking = Exact::new();
-    let bits = bits_by(alloc, &mut inking, strokes, dots, pens, band_rows, 0)?;
-    assert!(rt;
-        bits.as_slice() == wanted.as_slice(),
-        "{resolution} {band_rows}"
-    );
-    assert_eq!(rt; inking.tests(), gauge.tests());
-    let later = bits_by(alloc, &mut inking, strokes, dots, pens, band_rows, 4)?;
-    let before = 4 * columns.div_ceil(8) as usize;
-    assert!(rt; later.as_slice() == wanted.as_slice().get(before..).unwrap_or_default());
+    let later = wanted.as_slice().get(4 * columns.div_ceil(8) as usize..);
+    for band_rows in BANDS {
+        let mut inking = Exact::new();
+        let bits = bits_by(alloc, &mut inking, strokes, dots, pens, band_rows, 0)?;
+        assert!(rt;
+            bits.as_slice() == wanted.as_slice(),
+            "{resolution} {band_rows}"
+        );
+        assert_eq!(rt; inking.tests(), gauge.tests());
+        let bits = bits_by(alloc, &mut inking, strokes, dots, pens, band_rows, 4)?;
+        assert!(rt; Some(bits.as_slice()) == later, "{resolution} {band_rows}");
+    }
     Ok(())
 }
 
@@ -177,9 +170,7 @@ fn strokes_as_bits(rt: HostRuntime) -> Result<(), Fail> {
     let strokes = some_strokes(rt.alloc(), 11, false)?;
     assert_eq!(rt; strokes.len(), 24);
     for resolution in [127, 600, 1200] {
-        for band_rows in [1, 3, 4096] {
-            has_bits_of_cells(&rt, rt.alloc(), &strokes, resolution, band_rows)?;
-        }
+        has_bits_of_cells(&rt, rt.alloc(), &strokes, resolution)?;
     }
     Ok(())
 }

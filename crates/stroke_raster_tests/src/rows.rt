@@ -1,241 +1,246 @@
-//! Bands, rows and marks of a painter, and bands of an inker.
-ghost use Rattle.std.specs.Prelude.{◌≤◌, length};
-
-use crate::strokes::{BLACK, WHOLE, painter};
+//! Bands, rows and marks of a painter, bands of an inker, and which pixels a stroke covers.
+use crate::strokes::{
+    WHOLE, dots, inked, inker, is_near, next_band, page, painter, stroke, tell_bytes, tell_cells,
+};
 use plot_page::{Dots, Page, PenSet, Stroke, Window};
 use std::alloc::{AllocError, Global};
 use std::test::Fail;
-use stroke_raster::{Band, Exact, Inker, PaintFault, Painter, near};
+use stroke_raster::{Band, Exact, Inker, PaintFault, Painter};
 
 // A stroke of pen 1 in row 4 and one of pen 2 in column 3, on a page of 8 by 8 pixels.
 fn cross() -> Result<[Stroke; 2], Fail> {
-    let across = Stroke::new(1, BLACK, 224, WHOLE, 0, 448, 1024, 448).ok_or("a stroke")?;
-    let down = Stroke::new(2, BLACK, 224, WHOLE, 448, 0, 448, 1024).ok_or("a stroke")?;
+    let across = stroke(1, 224, WHOLE, [0, 448, 1024, 448])?;
+    let down = stroke(2, 224, WHOLE, [448, 0, 448, 1024])?;
     Ok([across, down])
 }
 
-// The next band's first row, its height, and what its first row shows.
-fn next_of(
-    painter: &mut Painter<'_>,
-    gauge: &mut Exact,
-    alloc: Global,
-) -> Result<Option<(u32, u32, Vec<u32>)>, Fail> {
-    match painter.next_band(gauge) {
-        Some(band) => {
-            if band.rows() == 0 {
-                return Ok(None);
-            }
-            Ok(Some((band.first(), band.rows(), band.row(0).to_vec(alloc)?)))
-        }
-        None => Ok(None),
+// The next band's first row and its height, a line each, and its rows.
+fn tell_band(told: &mut String, painter: &mut Painter<'_>) -> Result<(), AllocError> {
+    let Some(band) = next_band(painter, &mut Exact::new()) else {
+        return told.push_str("none\n");
+    };
+    let (first, height) = (band.first(), band.rows());
+    write!(told, "from {first}, {height} rows\n")?;
+    for i in 0..height {
+        tell_cells(told, band.row(i))?;
     }
+    Ok(())
 }
+
+const BANDS: &str = "\
+from 1, 3 rows
+...2....
+...2....
+...2....
+from 4, 3 rows
+11121111
+...2....
+...2....
+from 7, 1 rows
+...2....
+none
+none
+";
 
 #[test]
 fn bands_of_three_rows(rt: HostRuntime) -> Result<(), Fail> {
-    let page = Page::new(64, 64, 0, 0)?;
-    let dots = Dots::new(127).ok_or("dots")?;
     let strokes = cross()?;
-    let mut gauge = Exact::new();
-    let mut painter = Painter::new(rt.alloc(), &strokes, page, dots, PenSet::all(), 3, 1)?;
-    let wanted = [
-        (1, 3, [0, 0, 0, 2, 0, 0, 0, 0]),
-        (4, 3, [1, 1, 1, 2, 1, 1, 1, 1]),
-        (7, 1, [0, 0, 0, 2, 0, 0, 0, 0]),
-    ];
-    for (first, height, cells) in wanted {
-        let (its_first, its_height, its_cells) = next_of(
-            &mut painter,
-            &mut gauge,
-            rt.alloc(),
-        )?.ok_or("a band")?;
-        assert_eq!(rt; its_first, first);
-        assert_eq!(rt; its_height, height);
-        assert_eq!(rt; its_cells.as_slice(), cells.as_slice());
+    let mut painter = painter(rt.alloc(), &strokes, dots(127)?, PenSet::all(), 3, 1)?;
+    let mut told = String::new(rt.alloc());
+    for _ in 0..5 {
+        tell_band(&mut told, &mut painter)?;
     }
-    assert!(rt; next_of(&mut painter, &mut gauge, rt.alloc())?.is_none());
-    assert!(rt; next_of(&mut painter, &mut gauge, rt.alloc())?.is_none());
+    assert_eq!(rt; told.as_str(), BANDS);
     Ok(())
 }
 
-// A page of 9 by 8 pixels, so that a row has padding.
+// The bytes of the next band of an inker.
+fn tell_inked(told: &mut String, inker: &mut Inker<'_>) -> Result<(), AllocError> {
+    match inked(inker, &mut Exact::new()) {
+        Some(bytes) => tell_bytes(told, bytes),
+        None => told.push_str("none\n"),
+    }
+}
+
+const INKED_BANDS: &str = "
+ 10 00 10 00 10 00
+ ff 00 10 00 10 00
+ 10 00
+none
+none
+";
+
+// A page of 9 by 8 pixels, so that a row has padding. Before the first band there are no bytes.
 #[test]
 fn bits_in_bands_of_three_rows(rt: HostRuntime) -> Result<(), Fail> {
-    let page = Page::new(72, 64, 0, 0)?;
-    let dots = Dots::new(127).ok_or("dots")?;
+    let page = Page::new(72, 64, 0, 0).ok().ok_or("a page")?;
     let strokes = cross()?;
-    let mut gauge = Exact::new();
-    let mut inker = Inker::new(rt.alloc(), &strokes, page, dots, PenSet::all(), 3, 1)?;
-    assert!(rt; inker.bytes().is_empty());
-    for wanted in [
-        [0x10, 0, 0x10, 0, 0x10, 0].as_slice(),
-        [0xff, 0, 0x10, 0, 0x10, 0].as_slice(),
-        [0x10, 0].as_slice(),
-    ] {
-        assert!(rt; inker.ink_next(&mut gauge));
-        assert_eq!(rt; inker.bytes(), wanted);
+    let mut inker = inker(rt.alloc(), &strokes, page, dots(127)?, PenSet::all(), 3, 1)?;
+    let mut told = String::new(rt.alloc());
+    tell_bytes(&mut told, inker.bytes())?;
+    for _ in 0..5 {
+        tell_inked(&mut told, &mut inker)?;
     }
-    assert!(rt; !inker.ink_next(&mut gauge));
-    assert!(rt; !inker.ink_next(&mut gauge));
+    assert_eq!(rt; told.as_str(), INKED_BANDS);
     Ok(())
 }
 
-// Which faults inkers and painters of no strokes have, on a page of 8 rows.
-const FAULTS: [Option<PaintFault>; 3] = [Some(PaintFault::Band), Some(PaintFault::Row), None];
+fn fault_told(fault: Option<PaintFault>) -> &'static str {
+    match fault {
+        Some(PaintFault::Band) => "band",
+        Some(PaintFault::Row) => "row",
+        Some(PaintFault::Memory) => "memory",
+        None => "none",
+    }
+}
 
-#[test]
-fn inkers_that_are_refused(rt: HostRuntime) -> Result<(), Fail> {
-    let page = Page::new(64, 64, 0, 0)?;
-    let dots = Dots::new(127).ok_or("dots")?;
-    let found = [
-        Inker::new(rt.alloc(), &[], page, dots, PenSet::all(), 0, 9).err(),
-        Inker::new(rt.alloc(), &[], page, dots, PenSet::all(), 1, 9).err(),
-        Inker::new(rt.alloc(), &[], page, dots, PenSet::all(), 4096, 8).err(),
-    ];
-    assert_eq!(rt; found, FAULTS);
+// Adds a line with the faults that a painter and an inker of no strokes have, on a page of 8 rows.
+fn tell_faults(
+    alloc: Global,
+    told: &mut String,
+    band_rows: u32,
+    first_row: u32,
+) -> Result<(), Fail> {
+    let (page, dots, pens) = (page()?, dots(127)?, PenSet::all());
+    let painter = Painter::new(alloc, &[], page, dots, pens, band_rows, first_row);
+    let painting = fault_told(painter.err());
+    let inker = Inker::new(alloc, &[], page, dots, pens, band_rows, first_row);
+    let inking = fault_told(inker.err());
+    write!(told, "{painting} {inking}\n")?;
     Ok(())
 }
 
 #[test]
-fn painters_that_are_refused(rt: HostRuntime) -> Result<(), Fail> {
-    let page = Page::new(64, 64, 0, 0)?;
-    let dots = Dots::new(127).ok_or("dots")?;
-    let found = [
-        Painter::new(rt.alloc(), &[], page, dots, PenSet::all(), 0, 9).err(),
-        Painter::new(rt.alloc(), &[], page, dots, PenSet::all(), 1, 9).err(),
-        Painter::new(rt.alloc(), &[], page, dots, PenSet::all(), 4096, 8).err(),
-    ];
-    assert_eq!(rt; found, FAULTS);
+fn painters_and_inkers_that_are_refused(rt: HostRuntime) -> Result<(), Fail> {
+    let mut told = String::new(rt.alloc());
+    tell_faults(rt.alloc(), &mut told, 0, 9)?;
+    tell_faults(rt.alloc(), &mut told, 1, 9)?;
+    tell_faults(rt.alloc(), &mut told, 4096, 8)?;
+    assert_eq!(rt; told.as_str(), "band band\nrow row\nnone none\n");
     Ok(())
 }
 
 // The marks of the bands of two rows, from row 3 on, on a page of 8 by 8 pixels: of each band a line.
-fn marks_told(alloc: Global, strokes: &[Stroke], pens: PenSet) -> Result<String, Fail>
-    requires { length strokes.now ≤ 4194304 }
-{
-    let dots = Dots::new(127).ok_or("dots")?;
-    let mut painter = painter(alloc, strokes, dots, pens, 2, 3)?;
-    let mut told = String::new(alloc);
+fn tell_marks(
+    alloc: Global,
+    told: &mut String,
+    strokes: &[Stroke],
+    pens: PenSet,
+) -> Result<(), Fail> {
+    let mut painter = painter(alloc, strokes, dots(127)?, pens, 2, 3)?;
     for _ in 0..4 {
-        match painter.next_band(&mut Exact::new()) {
-            Some(band) => told.push_str(marks_of(alloc, &band)?.as_str())?,
-            None => told.push_str("none")?,
+        match next_band(&mut painter, &mut Exact::new()) {
+            Some(band) => tell_marks_of(told, &band)?,
+            None => told.push_str("none\n")?,
         }
     }
-    Ok(told)
-}
-
-fn marks_of(alloc: Global, band: &Band<'_>) -> Result<String, AllocError> {
-    let mut told = String::new(alloc);
-    for (row, column, position) in band.marks() {
-        write!(told, "{row} {column} {position}, ")?;
-    }
-    told.push_str("\n")?;
-    Ok(told)
-}
-
-#[test]
-fn marks_of_a_band(rt: HostRuntime) -> Result<(), Fail> {
-    let told = marks_told(rt.alloc(), &cross()?, PenSet::none().with(2))?;
-    assert_eq!(rt;
-        told.as_str(),
-        "3 3 2, 4 3 2, \n5 3 2, 6 3 2, \n7 3 2, \nnone"
-    );
     Ok(())
 }
 
-// Two strokes down the page, with blank columns before, between and after them.
+fn tell_marks_of(told: &mut String, band: &Band<'_>) -> Result<(), AllocError> {
+    for (row, column, position) in band.marks() {
+        write!(told, "[{row} {column} {position}]")?;
+    }
+    told.push_str("\n")
+}
+
+const MARKS: &str = "\
+[3 3 2][4 3 2]
+[5 3 2][6 3 2]
+[7 3 2]
+none
+[3 1 1][3 5 2][4 1 1][4 5 2]
+[5 1 1][5 5 2][6 1 1][6 5 2]
+[7 1 1][7 5 2]
+none
+";
+
+// One of two strokes, and two strokes down the page, with blank columns before, between and after them.
 #[test]
-fn marks_beside_blanks(rt: HostRuntime) -> Result<(), Fail> {
-    let left = Stroke::new(1, BLACK, 224, WHOLE, 192, 0, 192, 1024).ok_or("a stroke")?;
-    let right = Stroke::new(2, BLACK, 224, WHOLE, 704, 0, 704, 1024).ok_or("a stroke")?;
-    let told = marks_told(rt.alloc(), &[left, right], PenSet::all())?;
-    assert_eq!(rt;
-        told.as_str(),
-        "3 1 1, 3 5 2, 4 1 1, 4 5 2, \n5 1 1, 5 5 2, 6 1 1, 6 5 2, \n7 1 1, 7 5 2, \nnone"
-    );
+fn marks_of_bands(rt: HostRuntime) -> Result<(), Fail> {
+    let mut told = String::new(rt.alloc());
+    tell_marks(rt.alloc(), &mut told, &cross()?, PenSet::none().with(2))?;
+    let left = stroke(1, 224, WHOLE, [192, 0, 192, 1024])?;
+    let right = stroke(2, 224, WHOLE, [704, 0, 704, 1024])?;
+    tell_marks(rt.alloc(), &mut told, &[left, right], PenSet::all())?;
+    assert_eq!(rt; told.as_str(), MARKS);
     Ok(())
 }
 
 #[test]
 fn sets_of_pens(rt: HostRuntime) {
-    let found = [
-        PenSet::none().with(0).has(0),
-        PenSet::all().has(0),
-        PenSet::all().has(255),
-    ];
-    assert_eq!(rt; found, [true, false, true]);
+    assert!(rt; PenSet::none().with(0).has(0));
+    assert!(rt; !PenSet::all().has(0));
+    assert!(rt; PenSet::all().has(255));
+}
+
+// Adds a line with the rows and the columns of a page at a resolution.
+fn tell_size(told: &mut String, width: u32, height: u32, per_inch: u32) -> Result<(), Fail> {
+    let page = Page::new(width, height, 0, 0).ok().ok_or("a page")?;
+    let dots = dots(per_inch)?;
+    let (rows, columns) = (dots.rows(&page), dots.columns(&page));
+    write!(told, "{rows} by {columns}\n")?;
+    Ok(())
 }
 
 // A pixel of which half is on the page counts.
 #[test]
 fn rows_and_columns(rt: HostRuntime) -> Result<(), Fail> {
-    let whole = Page::new(64, 64, 0, 0)?;
-    let half = Page::new(127, 126, 0, 0)?;
-    let (fine, coarse) = (Dots::new(127).ok_or("dots")?, Dots::new(20).ok_or("dots")?);
-    let found = [
-        fine.rows(&whole),
-        fine.columns(&whole),
-        coarse.columns(&half),
-        coarse.rows(&half),
-    ];
-    assert_eq!(rt; found, [8, 8, 3, 2]);
+    let mut told = String::new(rt.alloc());
+    tell_size(&mut told, 64, 64, 127)?;
+    tell_size(&mut told, 127, 126, 20)?;
+    assert_eq!(rt; told.as_str(), "8 by 8\n2 by 3\n");
     Ok(())
 }
 
-// Which pixels of a row a horizontal stroke covers; the ends are in x.
-fn covered(
+// Which pixels of a row of eight a horizontal stroke covers, in a line before a name; the ends are in x.
+fn tell_covered(
+    told: &mut String,
+    name: &str,
     width: u32,
     window: Window,
     y: i32,
-    ends: (i32, i32),
+    ends: [i32; 2],
     row: u32,
-) -> Result<[bool; 8], Fail> {
-    let page = Page::new(64, 64, 0, 0)?;
-    let dots = Dots::new(127).ok_or("dots")?;
-    let stroke = Stroke::new(1, BLACK, width, window, ends.0, y, ends.1, y).ok_or("a stroke")?;
-    let mut found: [bool; 8] = [false; 8];
-    for column in 0..8u32 {
-        if row < dots.rows(&page) && column < dots.columns(&page) {
-            found[column as usize] = near(&stroke, &page, dots, row, column);
-        }
+) -> Result<(), Fail> {
+    let (page, dots) = (page()?, dots(127)?);
+    let [from, to] = ends;
+    let stroke = stroke(1, width, window, [from, y, to, y])?;
+    for column in 0..8 {
+        let is_covered = is_near(&stroke, &page, dots, row, column);
+        told.push_str(if is_covered { "#" } else { "." })?;
     }
-    Ok(found)
-}
-
-#[test]
-fn a_tie_counts(rt: HostRuntime) -> Result<(), Fail> {
-    let tie = covered(256, WHOLE, 448, (0, 1024), 3)?;
-    let thin = covered(255, WHOLE, 448, (0, 1024), 3)?;
-    assert_eq!(rt; [tie, thin], [[true; 8], [false; 8]]);
+    write!(told, " {name}\n")?;
     Ok(())
 }
 
-// Nothing is in a window whose edges are the wrong way round, not even its edges.
+const COVERED: &str = "\
+######## a tie
+........ less than a tie
+........ a window whose edges are the wrong way round
+######## a tie of the least width
+........ more than the least width
+.####... past the ends
+";
+
+// Nothing is in a window whose edges are the wrong way round, not even its edges. A line is drawn at least one and a
+// half pixels wide, 192 grains here. Past an end only the distance to that end counts, not the one to the line.
 #[test]
-fn an_empty_window(rt: HostRuntime) -> Result<(), Fail> {
+fn covered_pixels(rt: HostRuntime) -> Result<(), Fail> {
+    let told = &mut String::new(rt.alloc());
+    let whole = [0, 1024];
+    tell_covered(told, "a tie", 256, WHOLE, 448, whole, 3)?;
+    tell_covered(told, "less than a tie", 255, WHOLE, 448, whole, 3)?;
     let empty = Window {
         x0: 448,
         x1: 0,
         ..WHOLE
     };
-    assert_eq!(rt; covered(224, empty, 448, (0, 1024), 4)?, [false; 8]);
-    Ok(())
-}
-
-// A line is drawn at least one and a half pixels wide, 192 grains here.
-#[test]
-fn the_least_width(rt: HostRuntime) -> Result<(), Fail> {
-    let tie = covered(0, WHOLE, 544, (0, 1024), 4)?;
-    let beyond = covered(0, WHOLE, 545, (0, 1024), 4)?;
-    assert_eq!(rt; [tie, beyond], [[true; 8], [false; 8]]);
-    Ok(())
-}
-
-// Beyond an end only the distance to that end counts, not the one to the line.
-#[test]
-fn past_the_ends(rt: HostRuntime) -> Result<(), Fail> {
-    let wanted = [false, true, true, true, true, false, false, false];
-    assert_eq!(rt; covered(224, WHOLE, 448, (256, 512), 4)?, wanted);
+    let name = "a window whose edges are the wrong way round";
+    tell_covered(told, name, 224, empty, 448, whole, 4)?;
+    tell_covered(told, "a tie of the least width", 0, WHOLE, 544, whole, 4)?;
+    tell_covered(told, "more than the least width", 0, WHOLE, 545, whole, 4)?;
+    tell_covered(told, "past the ends", 224, WHOLE, 448, [256, 512], 4)?;
+    assert_eq!(rt; told.as_str(), COVERED);
     Ok(())
 }

@@ -1,10 +1,9 @@
-//! What the tests paint, and what is painted.
-ghost use Rattle.std.specs.Prelude.{◌≤◌, length};
-
-use plot_page::{Colour, Dots, Page, PenSet, Stroke, Window};
+//! What the tests paint, and what is painted. No contract here promises anything, so that no proof of a test reads what
+//! the painter and the inker are proved to do: a test looks at the answers.
+use plot_page::{Colour, Dots, MOST_STROKES, Page, PenSet, Stroke, Window};
 use std::alloc::{AllocError, Global};
 use std::test::Fail;
-use stroke_raster::{Gauge, Inker, Painter};
+use stroke_raster::{Band, Gauge, Inker, Painter, near};
 
 pub const BLACK: Colour = Colour {
     red: 0,
@@ -20,8 +19,28 @@ pub const WHOLE: Window = Window {
     y1: 1024,
 };
 
-/// A painter of a page of 64 by 64 plotter units. Its contract promises nothing, so that no proof of a test reads what
-/// `Painter::new` is proved to do.
+/// The page of 64 by 64 plotter units.
+pub fn page() -> Result<Page, Fail> {
+    Ok(Page::new(64, 64, 0, 0).ok().ok_or("a page")?)
+}
+
+/// A resolution; at 127 dots per inch the page has 8 by 8 pixels.
+pub fn dots(per_inch: u32) -> Result<Dots, Fail> {
+    Ok(Dots::new(per_inch).ok_or("a resolution")?)
+}
+
+/// A black stroke from the first two coordinates to the last two.
+pub fn stroke(pen: u8, width: u32, window: Window, ends: [i32; 4]) -> Result<Stroke, Fail> {
+    let [ax, ay, bx, by] = ends;
+    Ok(Stroke::new(pen, BLACK, width, window, ax, ay, bx, by).ok_or("a stroke")?)
+}
+
+/// Whether a stroke is near a pixel, which is on the page.
+pub fn is_near(stroke: &Stroke, page: &Page, dots: Dots, row: u32, column: u32) -> bool {
+    row < dots.rows(page) && column < dots.columns(page) && near(stroke, page, dots, row, column)
+}
+
+/// A painter of the page.
 pub fn painter<'a>(
     alloc: Global,
     strokes: &'a [Stroke],
@@ -29,11 +48,18 @@ pub fn painter<'a>(
     pens: PenSet,
     band_rows: u32,
     first_row: u32,
-) -> Result<Painter<'a>, Fail>
-    requires { length strokes.now ≤ 4194304 }
-{
-    let page = Page::new(64, 64, 0, 0)?;
-    Ok(Painter::new(alloc, strokes, page, dots, pens, band_rows, first_row)?)
+) -> Result<Painter<'a>, Fail> {
+    if strokes.len() > MOST_STROKES {
+        return Err("too many strokes".into());
+    }
+    let page = page()?;
+    let painter = Painter::new(alloc, strokes, page, dots, pens, band_rows, first_row);
+    Ok(painter.ok().ok_or("a painter")?)
+}
+
+/// The next band of a painter, by a gauge.
+pub fn next_band<'b, G: Gauge>(painter: &'b mut Painter<'_>, gauge: &mut G) -> Option<Band<'b>> {
+    painter.next_band(gauge)
 }
 
 /// The cells of the page, row after row, painted in bands of so many rows.
@@ -44,9 +70,7 @@ pub fn cells_by<G: Gauge>(
     dots: Dots,
     pens: PenSet,
     band_rows: u32,
-) -> Result<Vec<u32>, Fail>
-    requires { length strokes.now ≤ 4194304 }
-{
+) -> Result<Vec<u32>, Fail> {
     let mut painter = painter(alloc, strokes, dots, pens, band_rows, 0)?;
     let mut cells = Vec::new(alloc);
     for _ in 0..5000 {
@@ -63,7 +87,7 @@ fn has_more_cells<G: Gauge>(
     gauge: &mut G,
     cells: &mut Vec<u32>,
 ) -> Result<bool, AllocError> {
-    let Some(band) = painter.next_band(gauge) else {
+    let Some(band) = next_band(painter, gauge) else {
         return Ok(false);
     };
     for i in 0..band.rows() {
@@ -72,19 +96,30 @@ fn has_more_cells<G: Gauge>(
     Ok(true)
 }
 
-/// An inker of the same page. Its contract, too, promises nothing.
+/// An inker of a page.
 pub fn inker<'a>(
     alloc: Global,
     strokes: &'a [Stroke],
+    page: Page,
     dots: Dots,
     pens: PenSet,
     band_rows: u32,
     first_row: u32,
-) -> Result<Inker<'a>, Fail>
-    requires { length strokes.now ≤ 4194304 }
-{
-    let page = Page::new(64, 64, 0, 0)?;
-    Ok(Inker::new(alloc, strokes, page, dots, pens, band_rows, first_row)?)
+) -> Result<Inker<'a>, Fail> {
+    if strokes.len() > MOST_STROKES {
+        return Err("too many strokes".into());
+    }
+    let inker = Inker::new(alloc, strokes, page, dots, pens, band_rows, first_row);
+    Ok(inker.ok().ok_or("an inker")?)
+}
+
+/// The bytes of the next band of an inker, by a gauge, if there is one.
+pub fn inked<'b, G: Gauge>(inker: &'b mut Inker<'_>, gauge: &mut G) -> Option<&'b [u8]> {
+    if inker.ink_next(gauge) {
+        Some(inker.bytes())
+    } else {
+        None
+    }
 }
 
 /// The rows of the page from `first_row` on as an inker has them, inked in bands of so many rows.
@@ -96,18 +131,41 @@ pub fn bits_by<G: Gauge>(
     pens: PenSet,
     band_rows: u32,
     first_row: u32,
-) -> Result<Vec<u8>, Fail>
-    requires { length strokes.now ≤ 4194304 }
-{
-    let mut inker = inker(alloc, strokes, dots, pens, band_rows, first_row)?;
+) -> Result<Vec<u8>, Fail> {
+    let mut inker = inker(alloc, strokes, page()?, dots, pens, band_rows, first_row)?;
     let mut bytes = Vec::new(alloc);
     for _ in 0..5000 {
-        if !inker.ink_next(gauge) {
-            return Ok(bytes);
+        match inked(&mut inker, gauge) {
+            Some(band) => bytes.extend_from_slice(band)?,
+            None => return Ok(bytes),
         }
-        bytes.extend_from_slice(inker.bytes())?;
     }
     Err("more bands than rows".into())
+}
+
+/// Rows of eight cells as lines, `.` for a cell that shows no stroke.
+pub fn tell_cells(told: &mut String, cells: &[u32]) -> Result<(), AllocError> {
+    let mut column = 0u32;
+    for cell in cells {
+        if *cell == 0 {
+            told.push_str(".")?;
+        } else {
+            write!(told, "{cell}")?;
+        }
+        column = column.wrapping_add(1);
+        if column % 8 == 0 {
+            told.push_str("\n")?;
+        }
+    }
+    Ok(())
+}
+
+/// Bytes as a line of hexadecimal numbers.
+pub fn tell_bytes(told: &mut String, bytes: &[u8]) -> Result<(), AllocError> {
+    for byte in bytes {
+        write!(told, " {byte:02x}")?;
+    }
+    told.push_str("\n")
 }
 
 /// Rows of cells as bits, 1 for a cell that shows a stroke, the leftmost of eight in the highest bit.
@@ -118,7 +176,7 @@ pub fn packed(alloc: Global, cells: &[u32], columns: u32) -> Result<Vec<u8>, Fai
     let mut bit = 128u8;
     for cell in cells {
         if *cell != 0 {
-            byte |= bit;
+            byte = byte.wrapping_add(bit);
         }
         bit /= 2;
         column = column.wrapping_add(1);
