@@ -1,22 +1,16 @@
 //! Cases of plots as one text: a plot, a line that begins with `=`, and the rest of the answer; an empty line separates
 //! cases.
 use crate::pages::eight_by_eight;
-use crate::runs::{converted, reported};
-use plotraster::{Form, OverRead, OverWrite, Source};
+use crate::runs::{Asked, run};
+use crate::streams::{Reader, Writer};
+use plotraster::Form;
 use std::alloc::Global;
 use std::process::Abort;
 use std::test::Fail;
 
-/// What is asked of a plot.
-#[derive(Clone, Copy, Drop)]
-pub enum Asked {
-    /// What the conversion to marks answers, and how many bytes it writes.
-    Marks,
-    /// What the report answers, how often it meets the plot's end, and the report.
-    Report,
-}
-
-/// Fails unless there are so many cases, and each plot has the answer that its case says.
+/// Fails unless there are so many cases, and each plot has the answer that its case says: of a picture, in marks, what
+/// the conversion answers and how many bytes it writes, and of a report what it answers, how often it meets the plot's
+/// end, and the report.
 pub fn has_answers(
     rt: &impl Abort,
     alloc: Global,
@@ -36,32 +30,26 @@ pub fn has_answers(
 }
 
 fn answer_of(alloc: Global, asked: Asked, plot: &[u8]) -> Result<String, Fail> {
+    let job = eight_by_eight(Form::Marks)?;
+    let outcome = run(alloc, asked, &job, Reader::new(plot), Writer::new(alloc));
+    let (answer, bytes) = (outcome.answer, outcome.writer.bytes.as_slice());
     match asked {
-        Asked::Marks => marks_told(alloc, plot),
-        Asked::Report => report_told(alloc, plot),
+        Asked::Picture => {
+            let count = bytes.len();
+            Ok(format!(in alloc; "{answer:?}, {count} bytes")?)
+        }
+        Asked::Report => {
+            let ends = outcome.ends;
+            let report = text_of(bytes)?.trim_end();
+            Ok(format!(in alloc; "{answer:?}, {ends} ends, {report}")?)
+        }
     }
 }
 
-fn marks_told(alloc: Global, plot: &[u8]) -> Result<String, Fail> {
-    let job = eight_by_eight(Form::Marks)?;
-    let mut sink = OverWrite::new(Vec::new(alloc));
-    let answer = converted(alloc, &job, &mut OverRead::new(plot), &mut sink);
-    let bytes = sink.into_inner().len();
-    Ok(format!(in alloc; "{answer:?}, {bytes} bytes")?)
-}
-
-fn report_told(alloc: Global, plot: &[u8]) -> Result<String, Fail> {
-    let page = eight_by_eight(Form::Marks)?.page;
-    let mut source = OverRead::new(plot);
-    let mut sink = OverWrite::new(Vec::new(alloc));
-    let answer = reported(alloc, &page, &mut source, &mut sink);
-    let ends = source.ends();
-    let written = sink.into_inner();
-    match std::str::from_utf8(written.as_slice()) {
-        Ok(report) => {
-            let lines = report.trim_end();
-            Ok(format!(in alloc; "{answer:?}, {ends} ends, {lines}")?)
-        }
+/// These bytes as a text.
+pub fn text_of(bytes: &[u8]) -> Result<&str, Fail> {
+    match std::str::from_utf8(bytes) {
+        Ok(text) => Ok(text),
         Err(_) => Err("no text".into()),
     }
 }

@@ -1,7 +1,8 @@
 //! Plots that end anywhere.
 use crate::pages::eight_by_eight;
-use crate::runs::{drawn, reported};
-use plotraster::{Form, OverRead, OverWrite};
+use crate::runs::{Asked, drawn, run};
+use crate::streams::{Reader, Writer};
+use plotraster::Form;
 use std::alloc::Global;
 use std::process::Abort;
 use std::test::Fail;
@@ -25,11 +26,14 @@ ZZ1,2;CO\"a;b\";PA1
 // Fails unless the plot has a picture of all pixels, and a report that begins as all do on this page.
 fn is_read(rt: &impl Abort, alloc: Global, plot: &[u8]) -> Result<(), Fail> {
     let job = eight_by_eight(Form::Pbm)?;
-    assert_eq!(rt; drawn(alloc, &job, plot)?.len(), 15, "{plot:?}");
-    let mut sink = OverWrite::new(Vec::new(alloc));
-    reported(alloc, &job.page, &mut OverRead::new(plot), &mut sink)?;
+    let length = plot.len();
+    assert_eq!(rt; drawn(alloc, &job, plot)?.len(), 15, "after {length}");
+    let (reader, writer) = (Reader::new(plot), Writer::new(alloc));
+    let outcome = run(alloc, Asked::Report, &job, reader, writer);
+    outcome.answer?;
     let begin = b"page 64 64 0 0\nstrokes ";
-    assert!(rt; sink.into_inner().as_slice().starts_with(begin), "{plot:?}");
+    let report = outcome.writer.bytes.as_slice();
+    assert!(rt; report.starts_with(begin), "after {length}");
     Ok(())
 }
 

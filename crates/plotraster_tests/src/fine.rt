@@ -1,7 +1,9 @@
 //! Pictures at 1200 dots per inch, and of the largest page.
 use crate::pages::{LINE, eight_by_eight};
-use crate::runs::drawn;
-use plotraster::{Dots, Exact, Form, Gauge, Job, OverRead, OverWrite, Page, convert};
+use crate::runs::{drawn, drawn_by};
+use plotraster::{Dots, Exact, Form, Gauge, Job, Page};
+use std::alloc::Global;
+use std::process::Abort;
 use std::test::Fail;
 
 fn fine(form: Form) -> Result<Job, Fail> {
@@ -14,47 +16,49 @@ fn fine(form: Form) -> Result<Job, Fail> {
 #[test]
 fn a_line_at_1200_dots(rt: HostRuntime) -> Result<(), Fail> {
     let mut gauge = Exact::new();
-    let mut sink = OverWrite::new(Vec::new(rt.alloc()));
-    convert(
-        rt.alloc(),
-        &fine(Form::Pbm)?,
-        &mut gauge,
-        &mut OverRead::new(LINE),
-        &mut sink,
-    )?;
+    let picture = drawn_by(rt.alloc(), &fine(Form::Pbm)?, &mut gauge, LINE)?;
     assert_eq!(rt; gauge.tests(), 1292);
-    let picture = sink.into_inner();
     assert_eq!(rt; picture.len(), 769);
-    let (head, rows) = picture.as_slice().split_at(9);
-    assert_eq!(rt; head, b"P4\n76 76\n".as_slice());
-    let blank = [0u8; 10];
-    let black = [255, 255, 255, 255, 255, 255, 255, 255, 255, 0xf0];
-    for (row, bits) in rows.chunks_exact(10).enumerate() {
-        let wanted = if (34..=50).contains(&row) {
-            &black
+    let mut wanted = Vec::from_slice(rt.alloc(), b"P4\n76 76\n")?;
+    for row in 0..76 {
+        let bits = if row < 34 || 50 < row {
+            b"\0\0\0\0\0\0\0\0\0\0"
         } else {
-            &blank
+            b"\xff\xff\xff\xff\xff\xff\xff\xff\xff\xf0"
         };
-        assert_eq!(rt; bits, wanted.as_slice(), "row {row}");
+        wanted.extend_from_slice(bits)?;
     }
+    assert!(rt; picture.as_slice() == wanted.as_slice());
+    Ok(())
+}
+
+// Fails unless the largest page has so many rows and columns at a resolution, and its last row, where a line is, so
+// many bytes, all black and the last one of these bits.
+fn has_last_row(
+    rt: &impl Abort,
+    alloc: Global,
+    dots: u32,
+    side: u32,
+    bytes: usize,
+    last_byte: u8,
+) -> Result<(), Fail> {
+    let mut job = fine(Form::Pbm)?;
+    job.page = Page::new(65536, 65536, 0, 0)?;
+    job.dots = Dots::new(dots).ok_or("a resolution")?;
+    assert_eq!(rt; job.dots.columns(&job.page), side);
+    assert_eq!(rt; job.dots.rows(&job.page), side);
+    job.first_row = side.saturating_sub(1);
+    job.band = 1;
+    let bits = drawn(alloc, &job, b"PU0,0;PD65536,0;")?;
+    assert_eq!(rt; bits.len(), bytes);
+    let (last, rest) = bits.as_slice().split_last().ok_or("no bytes")?;
+    assert_eq!(rt; *last, last_byte);
+    assert!(rt; rest.iter().all(|byte| *byte == 255));
     Ok(())
 }
 
 #[test]
 fn the_last_row_of_the_largest_page(rt: HostRuntime) -> Result<(), Fail> {
-    for (dots, side, bytes, last_byte) in [(600, 38702, 4838, 0xfc), (1200, 77405, 9676, 0xf8)] {
-        let mut job = fine(Form::Pbm)?;
-        job.page = Page::new(65536, 65536, 0, 0)?;
-        job.dots = Dots::new(dots).ok_or("a resolution")?;
-        assert_eq!(rt; job.dots.columns(&job.page), side);
-        assert_eq!(rt; job.dots.rows(&job.page), side);
-        job.first_row = side - 1;
-        job.band = 1;
-        let bits = drawn(rt.alloc(), &job, b"PU0,0;PD65536,0;")?;
-        assert_eq!(rt; bits.len(), bytes);
-        let (last, rest) = bits.as_slice().split_last().ok_or("no bytes")?;
-        assert_eq!(rt; *last, last_byte);
-        assert!(rt; rest.iter().all(|byte| *byte == 255));
-    }
-    Ok(())
+    has_last_row(&rt, rt.alloc(), 600, 38702, 4838, 0xfc)?;
+    has_last_row(&rt, rt.alloc(), 1200, 77405, 9676, 0xf8)
 }

@@ -1,5 +1,6 @@
 //! Plots as they are found: small letters, decimals, escapes, what is not known.
-use crate::cases::{Asked, has_answers};
+use crate::cases::has_answers;
+use crate::runs::Asked;
 use std::test::Fail;
 
 const ONE_LINE_IN_MANY_SPELLINGS: &str = "\
@@ -21,7 +22,7 @@ SP0.5;PU0,28;PD64,28;
 #[test]
 fn one_line_in_many_spellings(rt: HostRuntime) -> Result<(), Fail> {
     let cases = ONE_LINE_IN_MANY_SPELLINGS;
-    has_answers(&rt, rt.alloc(), Asked::Marks, cases, 5)
+    has_answers(&rt, rt.alloc(), Asked::Picture, cases, 5)
 }
 
 const NOTED: &str = "\
@@ -45,5 +46,5 @@ PA8388608,0;PA1,,2,;PA1..5;
 
 #[test]
 fn what_is_noted(rt: HostRuntime) -> Result<(), Fail> {
-    has_answers(&rt, rt.alloc(), Asked::Marks, NOTED, 6)
+    has_answers(&rt, rt.alloc(), Asked::Picture, NOTED, 6)
 }

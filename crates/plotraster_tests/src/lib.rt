@@ -2,7 +2,7 @@
 #![tactic(auto)]
 
 #[cfg(test)]
-mod calls;
+mod broken_off;
 #[cfg(test)]
 mod cases;
 #[cfg(test)]
@@ -17,10 +17,6 @@ mod fine;
 mod gauges;
 #[cfg(test)]
 mod lexed;
-#[cfg(test)]
-mod limited;
-#[cfg(test)]
-mod once;
 #[cfg(test)]
 mod pages;
 #[cfg(test)]
@@ -40,4 +36,4 @@ mod reports;
 #[cfg(test)]
 mod runs;
 #[cfg(test)]
-mod sources;
+mod streams;

@@ -1,16 +1,9 @@
-//! Pictures in PCL.
-use crate::limited::Limited;
-use crate::pages::{CROSSING, LINE, eight_by_eight};
-use crate::refusals::answered;
-use crate::runs::{converted, drawn, has_picture};
-use crate::sources::Semicolons;
-use plotraster::{Dots, Fault, Form, Job, OverRead};
-use std::alloc::Global;
-use std::process::Abort;
+//! The resolutions of pictures in PCL.
+use crate::pages::{CROSSING, eight_by_eight};
+use crate::runs::{Asked, drawn, told};
+use crate::streams::{Reader, Writer};
+use plotraster::{Dots, Fault, Form, Job};
 use std::test::Fail;
-
-const LINE_PICTURE: &[u8] = b"\x1bE\x1b*t75R\x1b*r5S\x1b*r5T\x1b*r0A\x1b*b0M\
-\x1b*b1W\x00\x1b*b1W\x00\x1b*b1W\xf8\x1b*b1W\x00\x1b*b1W\x00\x1b*rB\x1bE";
 
 fn job(dots: u32) -> Result<Job, Fail> {
     let mut job = eight_by_eight(Form::Pcl)?;
@@ -37,40 +30,23 @@ fn resolutions_of_pcl(rt: HostRuntime) -> Result<(), Fail> {
 fn the_resolution_is_judged_first(rt: HostRuntime) -> Result<(), Fail> {
     let mut wrong = job(127)?;
     wrong.band = 0;
-    let told = answered(rt.alloc(), &wrong, &mut Semicolons::failing())?;
-    assert_eq!(rt;
-        told.as_str(),
-        "Err(Resolution), 0 bytes, 10 left, 0 asked, 0 failures, 0 ends"
-    );
-    Ok(())
-}
-
-// Breaks the picture off after so many bytes, and goes on from the row that the fault names. A row is whole after its
-// last byte, which follows its command.
-fn broken_off_after(rt: &impl Abort, alloc: Global, room: usize) -> Result<(), Fail> {
-    let mut sink = Limited::ending_after(alloc, room);
-    let answer = converted(alloc, &job(75)?, &mut OverRead::new(LINE), &mut sink);
-    let row = (room.saturating_sub(28) / 6).min(5);
-    let whole = if row == 0 { 0 } else { 28 + 6 * row };
-    let wanted = Fault::Write {
-        row: row as u32,
-        whole: whole as u64,
-        bytes: room as u64,
+    let reader = Reader {
+        semicolons: 10,
+        room: 0,
+        ..Reader::new(b"")
     };
-    assert_eq!(rt; answer, Err(wanted), "{room}");
-    assert!(rt;
-        Some(sink.bytes.as_slice()) == LINE_PICTURE.get(..room),
-        "{room}"
+    let found = told(
+        rt.alloc(),
+        Asked::Picture,
+        &wrong,
+        reader,
+        Writer::new(rt.alloc()),
+    )?;
+    assert_eq!(rt;
+        found.as_str(),
+        "Err(Resolution)\n\
+0 reads of at most 0, 10 left, 0 failures, 0 ends\n\
+0 writes, 0 bytes, 0 failures\n"
     );
-    let mut rest = job(75)?;
-    rest.first_row = row as u32;
-    has_picture(rt, alloc, &rest, LINE, &LINE_PICTURE[whole..])
-}
-
-#[test]
-fn a_printer_that_stops_anywhere(rt: HostRuntime) -> Result<(), Fail> {
-    for room in 0..64usize {
-        broken_off_after(&rt, rt.alloc(), room)?;
-    }
     Ok(())
 }

@@ -1,7 +1,8 @@
 //! Plots that are read in the profile full.
+use crate::cases::text_of;
 use crate::pages::eight_by_eight;
-use crate::runs::{drawn_as, reported_as};
-use plotraster::{Form, OverRead, OverWrite, Reading};
+use crate::runs::drawn_as;
+use plotraster::{Form, OverRead, OverWrite, Page, Reading, report_as};
 use std::alloc::Global;
 use std::process::Abort;
 use std::test::Fail;
@@ -22,7 +23,7 @@ fn has_rows(
 ) -> Result<(), Fail> {
     let picture = drawn_as(alloc, reading, &eight_by_eight(Form::Pbm)?, plot)?;
     let found = picture.as_slice().strip_prefix(b"P4\n8 8\n");
-    assert_eq!(rt; found, Some(rows.as_slice()), "{reading:?}");
+    assert!(rt; found == Some(rows.as_slice()), "{reading:?}");
     Ok(())
 }
 
@@ -55,17 +56,23 @@ fn a_sheet_or_all(rt: HostRuntime) -> Result<(), Fail> {
     Ok(())
 }
 
+// What `report_as` answers and writes.
+fn reported_as(alloc: Global, reading: Reading, page: &Page, plot: &[u8]) -> Result<String, Fail> {
+    let mut sink = OverWrite::new(Vec::new(alloc));
+    let done = report_as(alloc, reading, page, &mut OverRead::new(plot), &mut sink)?;
+    let written = sink.into_inner();
+    let report = text_of(written.as_slice())?;
+    Ok(format!(in alloc; "{done:?}\n{report}")?)
+}
+
 #[test]
 fn a_report_on_a_sheet(rt: HostRuntime) -> Result<(), Fail> {
-    let page = eight_by_eight(Form::Pbm)?.page;
-    let mut source = OverRead::new(SHEETS);
-    let mut sink = OverWrite::new(Vec::new(rt.alloc()));
     let second = Reading::Full { sheet: 2 };
-    let done = reported_as(rt.alloc(), second, &page, &mut source, &mut sink)?;
-    assert_eq!(rt; (done.strokes, done.notes), (1, 0));
+    let report = reported_as(rt.alloc(), second, &eight_by_eight(Form::Pbm)?.page, SHEETS)?;
     assert_eq!(rt;
-        sink.into_inner().as_slice(),
-        b"page 64 64 0 0\nsheets 2\nstrokes 1\npen 1 strokes 1 widest 224 box 448 0 448 1024\n".as_slice()
+        report.as_str(),
+        "Done { rows: 0, bytes: 80, strokes: 1, notes: 0 }\n\
+page 64 64 0 0\nsheets 2\nstrokes 1\npen 1 strokes 1 widest 224 box 448 0 448 1024\n"
     );
     Ok(())
 }

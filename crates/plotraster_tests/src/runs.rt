@@ -1,56 +1,103 @@
 //! The library's calls as tests make them. Their contracts promise nothing: what a test knows of an answer
 //! it must find by looking, so no proof of a test reads what the calls are proved to do.
-ghost use Rattle.std.specs.Prelude.{◌-◌, ◌^◌, ◌<◌};
-
+use crate::streams::{Reader, Writer};
 use plotraster::{
-    Done, Exact, Fault, Job, Page, Reading, Sink, Source, convert, picture_bytes, picture_bytes_as,
-    report, report_as,
+    Done, Exact, Fault, Gauge, Job, OverRead, OverWrite, Reading, Sink, Source, convert,
+    picture_bytes, picture_bytes_as, report,
 };
-use std::alloc::Global;
+use std::alloc::{AllocError, Global};
 use std::process::Abort;
 use std::test::Fail;
 
-/// What `convert` answers with the exact gauge.
-pub fn converted<S: Source, K: Sink>(
+/// What is asked of a plot.
+#[derive(Clone, Copy, Drop)]
+pub enum Asked {
+    /// The picture of a job, with the exact gauge.
+    Picture,
+    /// The report on the job's page.
+    Report,
+}
+
+/// What a run answers, and what it leaves of its source and its sink.
+#[derive(Drop)]
+pub struct Outcome<'a> {
+    pub answer: Result<Done, Fault>,
+    pub reader: Reader<'a>,
+    pub read_failures: u64,
+    pub ends: u64,
+    pub writer: Writer,
+    pub write_failures: u64,
+}
+
+/// A run of `convert` or `report` over a reader and a writer.
+pub fn run<'a>(
+    alloc: Global,
+    asked: Asked,
+    job: &Job,
+    reader: Reader<'a>,
+    writer: Writer,
+) -> Outcome<'a> {
+    let mut source = OverRead::new(reader);
+    let mut sink = OverWrite::new(writer);
+    let answer = match asked {
+        Asked::Picture => convert(alloc, job, &mut Exact::new(), &mut source, &mut sink),
+        Asked::Report => report(alloc, &job.page, &mut source, &mut sink),
+    };
+    let (read_failures, ends, write_failures) = (source.failures(), source.ends(), sink.failures());
+    Outcome {
+        answer,
+        reader: source.into_inner(),
+        read_failures,
+        ends,
+        writer: sink.into_inner(),
+        write_failures,
+    }
+}
+
+/// What a run answers, and what its reader and its writer have counted.
+pub fn told(
+    alloc: Global,
+    asked: Asked,
+    job: &Job,
+    reader: Reader<'_>,
+    writer: Writer,
+) -> Result<String, AllocError> {
+    let outcome = run(alloc, asked, job, reader, writer);
+    let answer = outcome.answer;
+    let mut told = format!(in alloc; "{answer:?}\n")?;
+    tell_reads(&mut told, &outcome)?;
+    tell_writes(&mut told, &outcome)?;
+    Ok(told)
+}
+
+fn tell_reads(told: &mut String, outcome: &Outcome<'_>) -> Result<(), AllocError> {
+    let reader = &outcome.reader;
+    let (calls, asked) = (reader.calls, reader.most_asked);
+    let left = reader.rest.len().saturating_add(reader.semicolons);
+    let (failures, ends) = (outcome.read_failures, outcome.ends);
+    write!(
+        told,
+        "{calls} reads of at most {asked}, {left} left, {failures} failures, {ends} ends\n"
+    )
+}
+
+fn tell_writes(told: &mut String, outcome: &Outcome<'_>) -> Result<(), AllocError> {
+    let writer = &outcome.writer;
+    let (calls, bytes) = (writer.calls, writer.bytes.len());
+    let failures = outcome.write_failures;
+    write!(told, "{calls} writes, {bytes} bytes, {failures} failures\n")
+}
+
+/// What `convert` writes with a gauge.
+pub fn drawn_by<G: Gauge>(
     alloc: Global,
     job: &Job,
-    source: &mut S,
-    sink: &mut K,
-) -> Result<Done, Fault>
-    requires failing { (S.state source.old).faults < 2 ^ 64 - 1 }
-    requires ending { (S.state source.old).ends < 2 ^ 64 - 1 }
-    requires sinking { (K.state sink.old).faults < 2 ^ 64 - 1 }
-{
-    convert(alloc, job, &mut Exact::new(), source, sink)
-}
-
-/// What `report` answers.
-pub fn reported<S: Source, K: Sink>(
-    alloc: Global,
-    page: &Page,
-    source: &mut S,
-    sink: &mut K,
-) -> Result<Done, Fault>
-    requires failing { (S.state source.old).faults < 2 ^ 64 - 1 }
-    requires ending { (S.state source.old).ends < 2 ^ 64 - 1 }
-    requires sinking { (K.state sink.old).faults < 2 ^ 64 - 1 }
-{
-    report(alloc, page, source, sink)
-}
-
-/// What `report_as` answers.
-pub fn reported_as<S: Source, K: Sink>(
-    alloc: Global,
-    reading: Reading,
-    page: &Page,
-    source: &mut S,
-    sink: &mut K,
-) -> Result<Done, Fault>
-    requires failing { (S.state source.old).faults < 2 ^ 64 - 1 }
-    requires ending { (S.state source.old).ends < 2 ^ 64 - 1 }
-    requires sinking { (K.state sink.old).faults < 2 ^ 64 - 1 }
-{
-    report_as(alloc, reading, page, source, sink)
+    gauge: &mut G,
+    plot: &[u8],
+) -> Result<Vec<u8>, Fault> {
+    let mut sink = OverWrite::new(Vec::new(alloc));
+    convert(alloc, job, gauge, &mut OverRead::new(plot), &mut sink)?;
+    Ok(sink.into_inner())
 }
 
 /// What `picture_bytes_as` answers.
@@ -72,6 +119,10 @@ pub fn has_picture(
     wanted: &[u8],
 ) -> Result<(), Fail> {
     let picture = drawn(alloc, job, plot)?;
-    assert_eq!(rt; picture.as_slice(), wanted);
+    let size = picture.len();
+    assert!(rt;
+        picture.as_slice() == wanted,
+        "another picture, of {size} bytes"
+    );
     Ok(())
 }
