@@ -3,6 +3,7 @@ use crate::cases::{Asked, has_answer, has_answers};
 use crate::texts::has_text;
 use hpgl_text::{Base, lex, read_coded, read_number};
 use std::alloc::{AllocError, Global};
+use std::process::Abort;
 use std::test::Fail;
 
 const INSTRUCTIONS: &str = "\
@@ -171,8 +172,8 @@ fn polylines(rt: HostRuntime) -> Result<(), Fail> {
 }
 
 // A number and where it ends.
-fn number_told(alloc: Global, text: &[u8], at: usize) -> Result<String, AllocError> {
-    match read_number(text, at) {
+fn number_told(alloc: Global, text: &str, at: usize) -> Result<String, AllocError> {
+    match read_number(text.as_bytes(), at) {
         Some((number, end)) => format!(in alloc; "{number:?} to {end}; "),
         None => format!(in alloc; "none; "),
     }
@@ -180,9 +181,9 @@ fn number_told(alloc: Global, text: &[u8], at: usize) -> Result<String, AllocErr
 
 #[test]
 fn numbers(rt: HostRuntime) -> Result<(), Fail> {
-    let mut told = number_told(rt.alloc(), b"PA-1.5,7", 2)?;
-    told.push_str(number_told(rt.alloc(), b"8388608", 0)?.as_str())?;
-    told.push_str(number_told(rt.alloc(), b"12", 3)?.as_str())?;
+    let mut told = number_told(rt.alloc(), "PA-1.5,7", 2)?;
+    told.push_str(number_told(rt.alloc(), "8388608", 0)?.as_str())?;
+    told.push_str(number_told(rt.alloc(), "12", 3)?.as_str())?;
     has_text(
         &rt,
         told.as_str(),
@@ -191,28 +192,36 @@ fn numbers(rt: HostRuntime) -> Result<(), Fail> {
     Ok(())
 }
 
-// Adds a number of a polyline and where it ends.
-fn tell_coded(told: &mut String, text: &[u8], at: usize, base: Base) -> Result<(), AllocError> {
+// A number of a polyline and where it ends.
+fn coded_told(alloc: Global, text: &[u8], at: usize, base: Base) -> Result<String, AllocError> {
     match read_coded(text, at, base) {
-        Some((number, end)) => write!(told, "{number} to {end}; "),
-        None => told.push_str("none; "),
+        Some((number, end)) => format!(in alloc; "{number} to {end}"),
+        None => format!(in alloc; "none"),
     }
 }
 
-#[test]
-fn coded_numbers(rt: HostRuntime) -> Result<(), Fail> {
-    let mut told = String::new(rt.alloc());
-    tell_coded(&mut told, b"G\xc2", 0, Base::SixtyFour)?;
-    tell_coded(&mut told, b"Ge", 0, Base::ThirtyTwo)?;
-    tell_coded(&mut told, b"PE\xc6", 2, Base::SixtyFour)?;
-    tell_coded(&mut told, b"?????\xbf", 0, Base::SixtyFour)?;
-    tell_coded(&mut told, b"??????\xbf", 0, Base::SixtyFour)?;
-    tell_coded(&mut told, b"??????_", 0, Base::ThirtyTwo)?;
-    tell_coded(&mut told, b"???????_", 0, Base::ThirtyTwo)?;
-    tell_coded(&mut told, b"_", 1, Base::ThirtyTwo)?;
-    let wanted = "100 to 2; 100 to 2; -3 to 3; 0 to 6; none; 0 to 7; none; none; ";
-    has_text(&rt, told.as_str(), wanted);
+// Fails unless this is a number of a polyline.
+fn has_coded(
+    rt: &(impl Abort + AllocGlobal),
+    text: &[u8],
+    at: usize,
+    base: Base,
+    wanted: &str,
+) -> Result<(), AllocError> {
+    has_text(rt, coded_told(rt.alloc(), text, at, base)?.as_str(), wanted);
     Ok(())
+}
+
+#[test]
+fn coded_numbers(rt: HostRuntime) -> Result<(), AllocError> {
+    has_coded(&rt, b"G\xc2", 0, Base::SixtyFour, "100 to 2")?;
+    has_coded(&rt, b"Ge", 0, Base::ThirtyTwo, "100 to 2")?;
+    has_coded(&rt, b"PE\xc6", 2, Base::SixtyFour, "-3 to 3")?;
+    has_coded(&rt, b"?????\xbf", 0, Base::SixtyFour, "0 to 6")?;
+    has_coded(&rt, b"??????\xbf", 0, Base::SixtyFour, "none")?;
+    has_coded(&rt, b"??????_", 0, Base::ThirtyTwo, "0 to 7")?;
+    has_coded(&rt, b"???????_", 0, Base::ThirtyTwo, "none")?;
+    has_coded(&rt, b"_", 1, Base::ThirtyTwo, "none")
 }
 
 #[test]
