@@ -1,6 +1,7 @@
 // Sines, ends of chords and turns by their numbers.
 ghost use Rattle.plot_arc.specs.Bounds.{IsNear};
 
+use crate::numbers::number_of;
 use crate::texts::has_text;
 use exact::Spot;
 use plot_arc::{chord_point, sine, turn, turn_count};
@@ -69,23 +70,6 @@ fn numbers_of(words: &str) -> [i64; 5] {
         number_of(words.next()),
         number_of(words.next()),
     ]
-}
-
-// The number of a word of digits; std's `parse` is much dearer to prove.
-fn number_of(word: Option<&str>) -> i64 {
-    let word = word.unwrap_or("0");
-    let mut negated: i64 = 0;
-    for byte in word.bytes() {
-        if byte.is_ascii_digit() {
-            let digit = i64::from(byte).wrapping_sub(48);
-            negated = negated.wrapping_mul(10).wrapping_sub(digit);
-        }
-    }
-    if word.starts_with("-") {
-        negated
-    } else {
-        negated.wrapping_neg()
-    }
 }
 
 fn answer_of(alloc: Global, asked: Asked, numbers: [i64; 5]) -> Result<String, Fail> {

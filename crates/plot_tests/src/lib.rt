@@ -23,6 +23,8 @@ mod labels_along;
 #[cfg(test)]
 mod letters_set;
 #[cfg(test)]
+mod numbers;
+#[cfg(test)]
 mod pages;
 #[cfg(test)]
 mod polygons_filled;

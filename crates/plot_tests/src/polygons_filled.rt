@@ -30,12 +30,14 @@ fn open(buffer: &mut Buffer, x: i16, y: i16) {
     buffer.open(place(x, y));
 }
 
-// Adds a closed sub-polygon.
-fn add(buffer: &mut Buffer, places: &[(i16, i16)]) -> Result<(), AllocError> {
+// A buffer with a closed sub-polygon more.
+fn with(buffer: Buffer, places: &[(i16, i16)]) -> Result<Buffer, AllocError> {
+    let mut buffer = buffer;
     for (x, y) in places {
-        reach(buffer, *x, *y, true)?;
+        reach(&mut buffer, *x, *y, true)?;
     }
-    close(buffer, true)
+    close(&mut buffer, true)?;
+    Ok(buffer)
 }
 
 // A plotter unit apart, from left to right.
@@ -112,7 +114,7 @@ fn sub_polygons_in_a_buffer(rt: HostRuntime) -> Result<(), AllocError> {
     tell(&mut told, &buffer)?;
     close(&mut buffer, true)?;
     tell(&mut told, &buffer)?;
-    add(&mut buffer, &[(1, 1), (2, 2), (1, 1)])?;
+    buffer = with(buffer, &[(1, 1), (2, 2), (1, 1)])?;
     tell(&mut told, &buffer)?;
     told.push_str(edges_of(rt.alloc(), buffer.edges())?.as_str())?;
     has_text(
@@ -128,7 +130,7 @@ fn sub_polygons_in_a_buffer(rt: HostRuntime) -> Result<(), AllocError> {
 #[test]
 fn a_rectangle_line_by_line(rt: HostRuntime) -> Result<(), AllocError> {
     let mut buffer = Buffer::new(rt.alloc());
-    add(&mut buffer, &[(0, 0), (64, 0), (64, 48), (0, 48)])?;
+    buffer = with(buffer, &[(0, 0), (64, 0), (64, 48), (0, 48)])?;
     let mut fill = Fill::new(rt.alloc(), buffer.edges(), solid(), Rule::OddCounts)?;
     let mut told = String::new(rt.alloc());
     for _ in 0..5 {
@@ -165,15 +167,15 @@ fn is_filled(
 #[test]
 fn holes(rt: HostRuntime) -> Result<(), Fail> {
     let mut same = Buffer::new(rt.alloc());
-    add(&mut same, &[(0, 0), (48, 0), (48, 48), (0, 48)])?;
-    add(&mut same, &[(16, 16), (32, 16), (32, 32), (16, 32)])?;
+    same = with(same, &[(0, 0), (48, 0), (48, 48), (0, 48)])?;
+    same = with(same, &[(16, 16), (32, 16), (32, 32), (16, 32)])?;
     let holed = "0,8 to 48,8; 0,24 to 16,24; 32,24 to 48,24; 0,40 to 48,40; ";
     is_filled(&rt, rt.alloc(), &same, Rule::OddCounts, holed)?;
     let whole = "0,8 to 48,8; 0,24 to 16,24; 16,24 to 32,24; 32,24 to 48,24; 0,40 to 48,40; ";
     is_filled(&rt, rt.alloc(), &same, Rule::Winding, whole)?;
     let mut other = Buffer::new(rt.alloc());
-    add(&mut other, &[(0, 0), (48, 0), (48, 48), (0, 48)])?;
-    add(&mut other, &[(16, 16), (16, 32), (32, 32), (32, 16)])?;
+    other = with(other, &[(0, 0), (48, 0), (48, 48), (0, 48)])?;
+    other = with(other, &[(16, 16), (16, 32), (32, 32), (32, 16)])?;
     is_filled(&rt, rt.alloc(), &other, Rule::Winding, holed)
 }
 
@@ -181,10 +183,10 @@ fn holes(rt: HostRuntime) -> Result<(), Fail> {
 #[test]
 fn shared_edges(rt: HostRuntime) -> Result<(), Fail> {
     let mut beside = Buffer::new(rt.alloc());
-    add(&mut beside, &[(0, 0), (32, 0), (32, 32), (0, 32)])?;
-    add(&mut beside, &[(32, 0), (64, 0), (64, 32), (32, 32)])?;
+    beside = with(beside, &[(0, 0), (32, 0), (32, 32), (0, 32)])?;
+    beside = with(beside, &[(32, 0), (64, 0), (64, 32), (32, 32)])?;
     let far = [(0, 32000), (9, 32000), (9, 32016), (0, 32016)];
-    add(&mut beside, &far)?;
+    beside = with(beside, &far)?;
     let parts = "0,8 to 32,8; 32,8 to 64,8; 0,24 to 32,24; 32,24 to 64,24; 0,32008 to 9,32008; ";
     is_filled(&rt, rt.alloc(), &beside, Rule::OddCounts, parts)?;
     is_filled(&rt, rt.alloc(), &beside, Rule::Winding, parts)
@@ -203,7 +205,7 @@ fn sparse() -> Lines {
 fn a_star_by_both_rules(rt: HostRuntime) -> Result<(), Fail> {
     let mut star = Buffer::new(rt.alloc());
     let places = [(0, 300), (176, -243), (-285, 93), (285, 93), (-176, -243)];
-    add(&mut star, &places)?;
+    star = with(star, &places)?;
     let odd = filled(rt.alloc(), &star, sparse(), Rule::OddCounts)?;
     let winding = filled(rt.alloc(), &star, sparse(), Rule::Winding)?;
     has_text(
@@ -224,7 +226,7 @@ fn a_star_by_both_rules(rt: HostRuntime) -> Result<(), Fail> {
 // What fills a triangle by lines of an angle, of which one goes through (x, y).
 fn filled_at(alloc: Global, angle: i32, apart: u64, x: i16, y: i16) -> Result<String, Fail> {
     let mut triangle = Buffer::new(alloc);
-    add(&mut triangle, &[(0, 0), (100, 0), (0, 100)])?;
+    triangle = with(triangle, &[(0, 0), (100, 0), (0, 100)])?;
     let lines = Lines {
         angle,
         apart,
@@ -255,20 +257,25 @@ fn a_triangle_at_angles(rt: HostRuntime) -> Result<(), Fail> {
     Ok(())
 }
 
-// The next of a list of numbers from 0 to 255.
-fn next(state: &mut u32) -> u8 {
-    *state = state.wrapping_mul(1_103_515_245).wrapping_add(12_345);
-    u8::try_from(*state / 65_536 % 256).unwrap_or(0)
+// The next of a list of numbers at random.
+fn next(state: u32) -> u32 {
+    state.wrapping_mul(1_103_515_245).wrapping_add(12_345)
+}
+
+// The number from 0 to 255 that is taken from one of the list.
+fn byte_of(state: u32) -> u8 {
+    state.to_be_bytes()[1]
 }
 
 // 24 places at random.
 fn scattered(alloc: Global) -> Result<Vec<(i16, i16)>, AllocError> {
-    let mut state = 1;
+    let mut state: u32 = 1;
     let mut places = Vec::new(alloc);
     for _ in 0..24 {
-        let x = next(&mut state);
-        let y = next(&mut state);
-        places.push((i16::from(x), i16::from(y)))?;
+        let x = next(state);
+        let y = next(x);
+        places.push((i16::from(byte_of(x)), i16::from(byte_of(y))))?;
+        state = y;
     }
     Ok(places)
 }
