@@ -1,5 +1,5 @@
 // Polygons: what the buffer holds, and the spans that fill them.
-ghost use Rattle.std.specs.Prelude.{◌≡◌, ◌≤◌, ◌^◌};
+ghost use Rattle.std.specs.Prelude.{◌≡◌};
 
 use crate::texts::has_text;
 use exact::Spot;
