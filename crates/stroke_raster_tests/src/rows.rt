@@ -14,7 +14,7 @@ fn cross() -> Result<[Stroke; 2], Fail> {
     Ok([across, down])
 }
 
-// The next band's first row and its height, a line each, and its rows.
+// Adds the next band: a line with its first row and its height, and then its rows.
 fn tell_band(told: &mut String, painter: &mut Painter<'_>) -> Result<(), AllocError> {
     let Some(band) = next_band(painter, &mut Exact::new()) else {
         return told.push_str("none\n");
@@ -54,7 +54,7 @@ fn bands_of_three_rows(rt: HostRuntime) -> Result<(), Fail> {
     Ok(())
 }
 
-// The bytes of the next band of an inker.
+// Adds the bytes of the next band of an inker.
 fn tell_inked(told: &mut String, inker: &mut Inker<'_>) -> Result<(), AllocError> {
     match inked(inker, &mut Exact::new()) {
         Some(bytes) => tell_bytes(told, bytes),
@@ -120,7 +120,7 @@ fn painters_and_inkers_that_are_refused(rt: HostRuntime) -> Result<(), Fail> {
     Ok(())
 }
 
-// The marks of the bands of two rows, from row 3 on, on a page of 8 by 8 pixels: of each band a line.
+// Adds the marks of the bands of two rows, from row 3 on, on a page of 8 by 8 pixels: a line for each band.
 fn tell_marks(
     alloc: Global,
     told: &mut String,
@@ -193,7 +193,7 @@ fn rows_and_columns(rt: HostRuntime) -> Result<(), Fail> {
     Ok(())
 }
 
-// Which pixels of a row of eight a horizontal stroke covers, in a line before a name; the ends are in x.
+// Adds a line with the pixels of a row of eight that a horizontal stroke covers, and a name; the ends are in x.
 fn tell_covered(
     told: &mut String,
     name: &str,
