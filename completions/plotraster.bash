@@ -1,7 +1,7 @@
 # Bash completion of plotraster: its commands, their options, and the names of files.
 _plotraster() {
     local word="${COMP_WORDS[COMP_CWORD]}" before="${COMP_WORDS[COMP_CWORD - 1]}"
-    local command="${COMP_WORDS[1]}" options="--width --height --page --left --below --profile --sheet"
+    local command="${COMP_WORDS[1]}" options="--width --height --page --left --below --profile --sheet --output"
     local papers="a0 a1 a2 a3 a4 a5 b4 letter legal tabloid ansi-a ansi-b ansi-c ansi-d ansi-e arch-d arch-e"
     COMPREPLY=()
     if [ "$COMP_CWORD" -eq 1 ]; then
@@ -33,6 +33,10 @@ _plotraster() {
             ;;
         --profile)
             COMPREPLY=($(compgen -W "core full" -- "$word"))
+            return
+            ;;
+        -o | --output)
+            COMPREPLY=($(compgen -f -- "$word"))
             return
             ;;
         --width | --height | --left | --below | --sheet) return ;;

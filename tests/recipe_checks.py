@@ -295,6 +295,8 @@ def archive_by_parallel(made):
     for name in set(ARCHIVE) - set(REFUSED):
         if made.read(name[:-4] + ".pbm") != made.run("pbm", "--dots", "300", name):
             yield f"{name}: another picture"
+    if len(made.files(".pbm")) != len(ARCHIVE) - len(REFUSED) or made.files(".part"):
+        yield f"made {made.files('.pbm')} and {made.files('.part')}"
     wanted = sorted(f"{name}\t{why}" for name, why in REFUSED.items())
     if sorted(made.lines("refused.txt")) != wanted:
         yield f"refused.txt has {made.lines('refused.txt')}"

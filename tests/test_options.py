@@ -21,6 +21,7 @@ HELP = "--help"
 VERSION = "--version"
 EVERY_COMMAND = "All commands"
 PAPER = "--page"
+OUTPUT = "--output"
 PORTRAIT = "-portrait"
 
 
@@ -49,14 +50,15 @@ def commands_in_help(program):
 
 
 def options_in_help(program, command):
-    """The options of a command, in order: a name, and the name of its value, range and default."""
+    """The options of a command, in order: a name, and the name of its value, range and default, if it has one."""
     found = {}
     for line in help_of(program, [command]):
         name = re.match(r" +(?:-\w, )?(--[a-z]+)", line)
         if name is None or name[1] == HELP:
             continue
-        says = re.fullmatch(r" +--[a-z]+ <([A-Z]+)> +(.*) \[default: ([^]]*)\]", line)
-        assert says is not None, f"{command} {HELP}: no value or no default: {line}"
+        says = re.fullmatch(r" +(?:-\w, )?--[a-z]+ <([A-Z]+)> +(.*?)(?: \[default: ([^]]*)\])?", line)
+        assert says is not None, f"{command} {HELP}: no value: {line}"
+        assert (says[3] is None) == (name[1] == OUTPUT), f"{command} {HELP}: no default: {line}"
         found[name[1]] = (says[1], range_in(says[2]), says[3])
     return found
 
@@ -142,6 +144,12 @@ def commands_in_synopsis():
     return choices or [[]]
 
 
+def name_of(head):
+    """The long name in the head of an entry, without the short one, or the first word."""
+    words = head.replace(",", "").split()
+    return next((it for it in words if it.startswith("--")), words[0])
+
+
 def options_in_page(command, commands):
     """The options of a command, as `options_in_help` gives them."""
     found = {}
@@ -150,10 +158,11 @@ def options_in_page(command, commands):
         names = commands if part == EVERY_COMMAND else re.findall(r"[a-z]+", part.replace(" and ", ","))
         if {HELP, VERSION} & set(words) or command not in names:
             continue
+        name = name_of(head)
         own = re.search(rf"For {command} it is ([^.]*)\.", text)
         values = range_in(own[1] if own else re.sub(r"For \w+ it is [^.]*\.", "", text))
         default = re.search(r"The default is ([^ ,.]+)", text)
-        found[words[0]] = (words[1], values, default[1] if default else None)
+        found[name] = (words[-1], values, default[1] if default else None)
     return found
 
 
@@ -203,9 +212,9 @@ def allowed(values, offered):
 
 
 def wrong_values(command, options, words):
-    """The options of a command whose values the completion gets wrong. It may offer no number."""
+    """The options of a command whose values the completion gets wrong. It may offer no number, and files only for --output."""
     for name, (_, values, _) in options.items():
-        offered = completed(command, name, "")
+        offered = [] if name == OUTPUT else completed(command, name, "")
         if offered or name in words:
             wanted = words[name] if name in words else allowed(values, offered)
             yield from differ(f"{command} {name}", "the program", wanted, "the completion", offered)
@@ -236,7 +245,7 @@ def sentences_of_help(program, commands):
             yield "COMMANDS", found[1], found[2]
     for command in ("pbm", "report"):
         for line in help_of(program, [command]):
-            found = re.fullmatch(r" +(--[a-z]+) <[A-Z]+> +(.*) \[default: .*\]", line)
+            found = re.fullmatch(r" +(?:-\w, )?(--[a-z]+) <[A-Z]+> +(.*?)(?: \[default: .*\])?", line)
             if found:
                 yield "OPTIONS", found[1], found[2]
 
@@ -244,10 +253,10 @@ def sentences_of_help(program, commands):
 def test_page_begins_with_the_sentences_of_help(program):
     """Each entry of the page begins with what the program's help says, as a sentence."""
     commands = commands_in_help(program)
-    page = {(name, head.split()[0]): text for name in ("COMMANDS", "OPTIONS")
+    page = {(name, name_of(head)): text for name in ("COMMANDS", "OPTIONS")
             for _, head, text in entries(section(name))}
     sentences = list(sentences_of_help(program, commands))
-    assert len(sentences) == len(commands) + 11 + 7
+    assert len(sentences) == len(commands) + 12 + 8
     assert_nothing(f"{name}: the page has {page[part, name]!r}, the help {says!r}"
                    for part, name, says in sentences if not page[part, name].startswith(says + ". "))
 
@@ -300,3 +309,5 @@ def test_completion_offers_files(tmp_path):
     for command in ("pbm", "report"):
         assert completed(command, "ex", folder=tmp_path) == ["example.plt"]
         assert sorted(completed(command, "--left", "5", "", folder=tmp_path)) == ["example.plt", "other.plt"]
+        for option in ("-o", OUTPUT):
+            assert completed(command, option, "o", folder=tmp_path) == ["other.plt"]

@@ -21,8 +21,10 @@ SOURCES = (
     "stroke_raster/src/painter.rt",
     "conversion/src/fault.rt",
     "command_line/src/fault.rt",
-    "plotraster_program/src/main.rt",
+    "plotraster_program/src/messages.rt",
 )
+# The words for `{deed}` in a message, by the calls of `refuse_file` in the program.
+DEEDS = re.compile(r'refuse_file\(rt, "(\w+)"')
 # A word that the manual page must have where it describes an exit status.
 STATUSES = {0: "was written", 1: "refused", 2: "command line", 3: "failed", 4: "Memory"}
 
@@ -35,12 +37,18 @@ def plain(path):
     return re.sub(r"\s+", " ", text)
 
 
+def deeds_of_the_program():
+    """What the program may be unable to do with a file."""
+    return {deed for name in ("main.rt", "output.rt") for deed in DEEDS.findall(read("crates", "plotraster_program", "src", name))}
+
+
 def messages_of_sources():
     """The messages of the program, each value in braces."""
     for source in SOURCES:
         text = read("crates", source)
         yield from re.findall(r'#\[error\("(.+)"\)\]', text)
-        yield from re.findall(r'"plotraster: (cannot .+)"', text)
+        for message in re.findall(r'"plotraster: (cannot .+)"', text):
+            yield from (message.replace("{deed}", deed) for deed in deeds_of_the_program())
 
 
 def messages_of_the_page():

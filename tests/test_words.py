@@ -36,6 +36,7 @@ NO_SHEETS = (2, b"plotraster: --sheet needs --profile full\n")
 NOT_OF_PCL = (2, b"plotraster: resolution is not one of PCL's\n")
 PAST_THE_END = (2, b"plotraster: first row is past the last row\n")
 NOT_READ = (3, b"plotraster: read failed\n")
+NOT_WRITTEN = (3, b"plotraster: cannot write folder: Is a directory (os error 21)\n")
 
 COMMANDS = [*FORMS, "report"]
 # A page of 64 by 64 units: 6 rows at the default resolution.
@@ -81,7 +82,7 @@ def commands():
     yield ["--", "pbm", "line.plt"], USAGE
     for option in RANGES:
         yield [option, "100", "pbm"], USAGE
-    for option, value in [("--page", "a4"), ("--pens", "all"), ("--profile", "full"), ("--sheet", "1")]:
+    for option, value in [("--page", "a4"), ("--pens", "all"), ("--profile", "full"), ("--sheet", "1"), ("--output", "o")]:
         yield [option, value, "pbm"], USAGE
 
 
@@ -124,7 +125,7 @@ def no_numbers():
 
 def values_missing():
     """Options without a value, and values that look like options."""
-    for name in [*RANGES, "--page", "--pens", "--profile", "--sheet"]:
+    for name in [*RANGES, "--page", "--pens", "--profile", "--sheet", "--output", "-o"]:
         yield ["pbm", name], USAGE
         yield ["pbm", "line.plt", name], USAGE
         yield ["pbm", name, "--", "line.plt"], USAGE
@@ -140,8 +141,9 @@ def options_twice():
         yield ["marks", name, value, name, value], USAGE
         yield ["pbm", f"{name}={value}", f"{name}={other}"], USAGE
         yield ["ppm", f"{name}={value}", "line.plt", name, other], USAGE
-    for name in [*PAGE_RANGES, "--page", "--sheet", "--profile"]:
+    for name in [*PAGE_RANGES, "--page", "--sheet", "--profile", "--output"]:
         yield ["report", name, "100", "line.plt", f"{name}=100"], USAGE
+    yield ["pcl", "-o", "picture", "line.plt", "--output=picture"], USAGE
 
 
 def unknown_options():
@@ -312,6 +314,9 @@ def orders_of_refusal():
     yield ["pbm", "--pens=0", "missing.plt"], BAD_LIST
     yield ["pcl", "--pens=0", "--dots=127"], BAD_LIST
     yield ["pcl", "--dots=127", "missing.plt"], not_opened("missing.plt")
+    yield ["report", "missing.plt", "-o", "folder"], not_opened("missing.plt")
+    yield ["pcl", "--dots=127", "-o", "folder"], NOT_WRITTEN
+    yield ["marks", "far.plt", "--output=folder"], NOT_WRITTEN
     yield ["pcl", "--dots=127", "folder"], NOT_OF_PCL
     yield ["pcl", "--dots=127", "far.plt"], NOT_OF_PCL
     yield ["pcl", "--dots=127", "--from=99999"], NOT_OF_PCL

@@ -13,7 +13,7 @@ use Rattle.command_line.specs.Options.{picture_app, plot_app, report_app, subcom
 use Rattle.clap_parses.specs.Parses.{HasGoodMatches, IsSingleShape}
 use Rattle.clap_parses.proofs.ParseLaw.{parse_good}
 
--- width, height, page, left, below, profile, sheet, dots, pens, band, from and FILE take one value each; the last one is help
+-- width, height, page, left, below, profile, sheet, output, dots, pens, band, from and FILE take one value each; the last one is help
 picture_single : (name : Text) → IsSingleShape (built_leaf (picture_app name).top)
 picture_single name = record {
   single = (
@@ -40,7 +40,10 @@ picture_single name = record {
                         record { found = refl; kind = inl (refl, refl); defaults = search rules },
                         (
                           record { found = refl; kind = inl (refl, refl); defaults = search rules },
-                          (record { found = refl; kind = inr refl; defaults = search rules }, tt),
+                          (
+                            record { found = refl; kind = inl (refl, refl); defaults = search rules },
+                            (record { found = refl; kind = inr refl; defaults = search rules }, tt),
+                          ),
                         ),
                       ),
                     ),
@@ -56,7 +59,7 @@ picture_single name = record {
   no_again = refl;
 }
 
--- width, height, page, left, below, profile, sheet and FILE take one value each; the last one is help
+-- width, height, page, left, below, profile, sheet, output and FILE take one value each; the last one is help
 report_single : (name : Text) → IsSingleShape (built_leaf (report_app name).top)
 report_single name = record {
   single = (
@@ -75,7 +78,10 @@ report_single name = record {
                 record { found = refl; kind = inl (refl, refl); defaults = search rules },
                 (
                   record { found = refl; kind = inl (refl, refl); defaults = search rules },
-                  (record { found = refl; kind = inr refl; defaults = search rules }, tt),
+                  (
+                    record { found = refl; kind = inl (refl, refl); defaults = search rules },
+                    (record { found = refl; kind = inr refl; defaults = search rules }, tt),
+                  ),
                 ),
               ),
             ),

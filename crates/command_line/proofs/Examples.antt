@@ -2,7 +2,7 @@
 use Rattle.std.proofs.Common.{◌≡◌, ◌∷◌, [], Bool, List, Option, Some, None, ℕ, true, codes, refl}
 use Rattle.std.specs.Prelude.{option_and_then, option_map, false}
 use Rattle.std.specs.Option.{option_map_or}
-use Rattle.clap.specs.Words.{Kinds, Text, fault_of, subcommand_of, takes}
+use Rattle.clap.specs.Words.{Kinds, Text, fault_of, first_of, subcommand_of, takes}
 use Rattle.clap.proofs.OnLiterals.{clap_on_literals}
 use Rattle.clap.specs.declared.error.kind.ErrorKind.TheVariants as kind
 use Rattle.picture_out.specs.declared.form.Form.TheVariants as form
@@ -168,6 +168,22 @@ list_before_paper = refl
 paper_before_profile : value_fault_on (codes "marks" ∷ codes "--profile=none" ∷ codes "--page=a4" ∷ codes "--height=64" ∷ []) ≡ Some fault.Size
 unfolding clap_on_literals
 paper_before_profile = refl
+
+-- the name of the file to write on a command line
+abbrev output_on : List Text → Option Text
+output_on words = option_and_then (λ p. first_of (codes "output") p.1) (subcommand_of plot_app (after_name words))
+
+output_left_out : output_on (codes "pbm" ∷ codes "plan.plt" ∷ []) ≡ None
+unfolding clap_on_literals
+output_left_out = refl
+
+output_in_full : output_on (codes "report" ∷ codes "--output=plan.txt" ∷ []) ≡ Some (codes "plan.txt")
+unfolding clap_on_literals
+output_in_full = refl
+
+output_in_short : output_on (codes "pbm" ∷ codes "plan.plt" ∷ codes "-o" ∷ codes "plan.pbm" ∷ []) ≡ Some (codes "plan.pbm")
+unfolding clap_on_literals
+output_in_short = refl
 
 -- a command line asks for a picture by a text that is no list of pens
 abbrev bad_list_on : List Text → Bool

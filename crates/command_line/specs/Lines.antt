@@ -106,6 +106,7 @@ pub record IsLineOf (m : ArgMatches) (line : Line) : Type 0 where
   pub task : IsTaskOf name rows line.task
   pub reading : IsReadingOf rows line.reading
   pub file : option_map (λ s. s.now) line.file ≡ first_of (codes "FILE") rows
+  pub output : option_map (λ s. s.now) line.output ≡ first_of (codes "output") rows
 
 -- the matches are those of a command line in which `plotraster` finds no fault
 abbrev pub AreOfThisCommand : ArgMatches → Type 0

@@ -50,6 +50,14 @@ with_reading a = with_rule (with_rule a
     (option_rule (codes "profile") vp.String (codes "core")))
     (bare_rule (codes "sheet") (whole_number 0 4194304))
 
+-- `--output PATH` or `-o PATH`, without a default: the file that is written
+abbrev pub output_rule : Rule
+output_rule = record (bare_rule (codes "output") vp.String) { short = Some 111 }
+
+-- what each subcommand takes: the page, how the plot is read, and where the output goes
+abbrev pub with_plot : App → App
+with_plot a = with_rule (with_reading (with_page a)) output_rule
+
 -- how a picture is made: dots per inch, pens, rows in a band, first row
 abbrev pub with_picture : App → App
 with_picture a = with_rule (with_rule (with_rule (with_rule a
@@ -60,11 +68,11 @@ with_picture a = with_rule (with_rule (with_rule (with_rule a
 
 -- a subcommand that writes a picture
 abbrev pub picture_app : Text → App
-picture_app name = with_rule (with_picture (with_reading (with_page (new_app name)))) file_rule
+picture_app name = with_rule (with_picture (with_plot (new_app name))) file_rule
 
 -- a subcommand that describes a plot
 abbrev pub report_app : Text → App
-report_app name = with_rule (with_reading (with_page (new_app name))) file_rule
+report_app name = with_rule (with_plot (new_app name)) file_rule
 
 -- `plotraster` itself: it has a version, a subcommand has to be named, and `help` is none
 abbrev pub top_app : App

@@ -55,6 +55,11 @@ pub(crate) const SHEET: HelpLine<'static> = HelpLine {
     help: "Sheet to draw in the profile full, 0 to 4194304: counted from 1, or 0 for all sheets [default: 1]",
 };
 
+pub(crate) const OUTPUT: HelpLine<'static> = HelpLine {
+    value: "PATH",
+    help: "File to write instead of standard output; it has this name only when it is whole",
+};
+
 pub(crate) const DOTS: HelpLine<'static> = HelpLine {
     value: "DPI",
     help: "Resolution in dots per inch, 10 to 1200",

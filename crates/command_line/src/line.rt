@@ -29,7 +29,7 @@ pub enum Task {
     Report(Page),
 }
 
-/// What is to be done, and with which plot.
+/// What is to be done, with which plot, and where the output goes.
 #[derive(Clone, Copy)]
 pub struct Line<'a> {
     /// What is to be done.
@@ -38,6 +38,8 @@ pub struct Line<'a> {
     pub reading: Reading,
     /// The name of the plot's file, or `None` if the plot comes on standard input.
     pub file: Option<&'a str>,
+    /// The name of the file to write, or `None` for standard output.
+    pub output: Option<&'a str>,
 }
 
 /// The values of the matches of `command`'s command.
@@ -57,6 +59,7 @@ pub fn settle<'a>(matches: &ArgMatches<'a>) -> Result<Line<'a>, LineFault>
         task: task_of(name, options)?,
         reading: reading_of(options)?,
         file: options.get_str("FILE"),
+        output: options.get_str("output"),
     })
 }
 

@@ -7,15 +7,15 @@ ghost use Rattle.clap.specs.Words.{app_of, rule_of, is_simple_and_free, new_app,
 ghost use Rattle.clap.specs.declared.builder.command.Command.TheViews.{out-Command as fields_of};
 ghost use Rattle.clap.specs.declared.builder.value_parser.ValueParser.TheVariants as ValueParser;
 ghost use Rattle.command_line.specs.Options.{bare_rule, option_rule, whole_number, number_rule, file_rule};
-ghost use Rattle.command_line.specs.Options.{with_page, with_reading, with_picture};
+ghost use Rattle.command_line.specs.Options.{output_rule, with_page, with_reading, with_plot, with_picture};
 ghost use Rattle.command_line.specs.Options.{picture_app, report_app, subcommand_app, add_subcommand, plot_app};
 ghost use Rattle.command_line.specs.Options.{top_app, IsOf};
 ghost use Rattle.clap_parses.specs.Parses.{HasGoodMatches};
 
 use crate::fault::BuildFault;
 use crate::help::{
-    BAND, BELOW, FILE, FROM, HEIGHT, HelpLine, HelpPage, LEFT, PAGE, PENS, PROFILE, SHEET, TOP,
-    VERSION, WIDTH,
+    BAND, BELOW, FILE, FROM, HEIGHT, HelpLine, HelpPage, LEFT, OUTPUT, PAGE, PENS, PROFILE, SHEET,
+    TOP, VERSION, WIDTH,
 };
 use crate::subcommands::{Output, SUBCOMMANDS, dots_line};
 use clap::builder::ValueParser;
@@ -110,6 +110,14 @@ fn page_of<'a>(alloc: Global) -> Arg<'a>
     bare_option(alloc, "page", ValueParser::string(), PAGE)
 }
 
+// `--output PATH` or `-o PATH`
+fn output_of<'a>(alloc: Global) -> Arg<'a>
+    ensures rule { rule_of result ≡ output_rule }
+    ensures local { result.global ≡ false }
+{
+    bare_option(alloc, "output", ValueParser::string(), OUTPUT).short('o')
+}
+
 fn file_of<'a>(alloc: Global) -> Arg<'a>
     ensures rule { rule_of result ≡ file_rule }
     ensures local { result.global ≡ false }
@@ -160,9 +168,10 @@ fn add_reading<'a>(alloc: Global, command: Command<'a>) -> Result<Command<'a>, A
 
 fn add_plot<'a>(alloc: Global, command: Command<'a>) -> Result<Command<'a>, AllocError>
     requires { (fields_of command).has_globals ≡ false }
-    ensures { IfOk result (IsOf (with_reading (with_page (app_of command.entry)))) }
+    ensures { IfOk result (IsOf (with_plot (app_of command.entry))) }
 {
-    add_reading(alloc, add_page(alloc, command)?)
+    let command = add_reading(alloc, add_page(alloc, command)?)?;
+    add(command, output_of(alloc))
 }
 
 fn add_picture<'a>(

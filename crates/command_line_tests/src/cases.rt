@@ -16,6 +16,8 @@ pub enum Asked {
     Line,
     // Only how a command line has the plot read, or why it is refused.
     Reading,
+    // Only the file that a command line has written and the one that it has read, or why it is refused.
+    Files,
     // The pens of a list.
     Pens,
 }
@@ -60,7 +62,7 @@ pub fn has_answers_for_each(
 
 fn answer_of(alloc: Global, asked: Asked, line: &str) -> Result<String, Fail> {
     match asked {
-        Asked::Line | Asked::Reading => told(alloc, asked, line),
+        Asked::Line | Asked::Reading | Asked::Files => told(alloc, asked, line),
         Asked::Pens => Ok(list_told(alloc, line)?),
     }
 }
@@ -92,9 +94,10 @@ fn matches_told(
 }
 
 fn line_told(alloc: Global, asked: Asked, line: &Line<'_>) -> Result<String, AllocError> {
-    let (reading, file) = (line.reading, line.file);
+    let (reading, file, output) = (line.reading, line.file, line.output);
     match (asked, &line.task) {
         (Asked::Reading, _) => format!(in alloc; "{reading:?}"),
+        (Asked::Files, _) => format!(in alloc; "{output:?} of {file:?}"),
         (_, Task::Picture(job)) => job_told(alloc, job, file),
         (_, Task::Report(page)) => {
             let (width, height, left, below) = (page.width, page.height, page.left, page.below);

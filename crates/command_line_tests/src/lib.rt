@@ -6,6 +6,8 @@ mod cases;
 #[cfg(test)]
 mod options;
 #[cfg(test)]
+mod outputs;
+#[cfg(test)]
 mod papers;
 #[cfg(test)]
 mod pens;

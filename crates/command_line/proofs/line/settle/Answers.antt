@@ -42,6 +42,7 @@ returns-clause-line c =
       task = c.in_ok-task_of.ensures.task;
       reading = c.in_ok-reading_of.ensures.reading;
       file = c.get_str.ensures ∙ first_value-rows (found_of c.in_ok-name.options.now) (codes "FILE");
+      output = c.get_str-2.ensures ∙ first_value-rows (found_of c.in_ok-name.options.now) (codes "output");
     }
 
 bad_task : (m : ArgMatches) (name : Text) (rows : List Row) (fault : LineFault) → subcommand_rows_of m ≡ Some (name, rows) → Some fault ≡ task_fault (name, rows)

@@ -1,0 +1,34 @@
+//! Messages on standard error, and the exit status of a run that ends with one.
+use plotraster::{Fault, LineFault, status};
+use std::fmt::Display;
+use std::io::{Error, ErrorKind};
+
+// The exit status of a command line that is not understood.
+const USAGE: u8 = 2;
+
+// The exit status if a file cannot be opened or written.
+const DEVICE: u8 = 3;
+
+pub(crate) fn refuse(rt: &HostRuntime, fault: &Fault) -> u8 {
+    let _ = eprintln!(rt; "plotraster: {fault}");
+    status(fault)
+}
+
+pub(crate) fn refuse_words(rt: &HostRuntime, fault: LineFault) -> u8 {
+    let _ = eprintln!(rt; "plotraster: {fault}");
+    USAGE
+}
+
+// Says why a file cannot be opened, or written, as `deed` says.
+pub(crate) fn refuse_file(rt: &HostRuntime, deed: &str, path: &str, error: &Error) -> u8 {
+    match error.kind() {
+        ErrorKind::NotFound => cannot(rt, deed, path, &"no such file"),
+        ErrorKind::PermissionDenied => cannot(rt, deed, path, &"permission denied"),
+        _ => cannot(rt, deed, path, error),
+    }
+}
+
+fn cannot<R: Display>(rt: &HostRuntime, deed: &str, path: &str, reason: &R) -> u8 {
+    let _ = eprintln!(rt; "plotraster: cannot {deed} {path}: {reason}");
+    DEVICE
+}

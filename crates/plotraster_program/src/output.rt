@@ -1,0 +1,73 @@
+//! Where the output goes: standard output, a device, or a new file that gets its name when it is whole.
+use crate::messages::{refuse, refuse_file};
+use plotraster::{Done, Fault, Line, OverRead, OverWrite, exit_status, run_task};
+use std::fs::{File, OpenOptions, metadata, remove_file, rename};
+use std::io::{Read, Write};
+
+// Does what the line asks of the plot that the reader gives, and writes it where the line says.
+pub(crate) fn deliver<R: Read + Drop>(rt: &HostRuntime, line: &Line<'_>, plot: R) -> u8 {
+    match line.output {
+        None => exit_status(&perform(rt, line, plot, rt.stdout())),
+        Some(path) if is_device(rt, path) => write_device(rt, line, plot, path),
+        Some(path) => write_file(rt, line, plot, path),
+    }
+}
+
+// Writes without a buffer, so a fault's count of bytes is what the device or the file took.
+fn perform<R: Read + Drop, W: Write + Drop>(
+    rt: &HostRuntime,
+    line: &Line<'_>,
+    plot: R,
+    to: W,
+) -> Result<Done, Fault> {
+    let mut source = OverRead::new(plot);
+    let mut sink = OverWrite::new(to);
+    let outcome = run_task(rt.alloc(), line.reading, &line.task, &mut source, &mut sink);
+    if let Err(fault) = &outcome {
+        refuse(rt, fault);
+    }
+    outcome
+}
+
+// There is something of this name that is no regular file.
+fn is_device(rt: &HostRuntime, path: &str) -> bool {
+    match metadata(rt, path) {
+        Ok(found) => !found.is_file(),
+        Err(_) => false,
+    }
+}
+
+fn write_device<R: Read + Drop>(rt: &HostRuntime, line: &Line<'_>, plot: R, path: &str) -> u8 {
+    match OpenOptions::new().write(true).open(rt, path) {
+        Ok(device) => exit_status(&perform(rt, line, plot, device)),
+        Err(error) => refuse_file(rt, "write", path, &error),
+    }
+}
+
+// Writes a file of another name beside the one that is asked for.
+fn write_file<R: Read + Drop>(rt: &HostRuntime, line: &Line<'_>, plot: R, path: &str) -> u8 {
+    let Ok(part) = format!(in rt.alloc(); "{path}.part") else {
+        return refuse(rt, &Fault::Memory);
+    };
+    match File::create(rt, part.as_str()) {
+        Ok(file) => settle_part(rt, part.as_str(), path, &perform(rt, line, plot, file)),
+        Err(error) => refuse_file(rt, "write", part.as_str(), &error),
+    }
+}
+
+// Gives the file its name if it is whole. After a failed write it stays under its own, since the
+// message says where to go on.
+fn settle_part(rt: &HostRuntime, part: &str, path: &str, outcome: &Result<Done, Fault>) -> u8 {
+    match outcome {
+        Ok(_) => {
+            if let Err(error) = rename(rt, part, path) {
+                return refuse_file(rt, "write", path, &error);
+            }
+        }
+        Err(Fault::Write { .. }) => (),
+        Err(_) => {
+            let _ = remove_file(rt, part);
+        }
+    }
+    exit_status(outcome)
+}

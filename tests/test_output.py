@@ -1,0 +1,139 @@
+"""What the program does with the file that `-o` or `--output` names."""
+
+import os
+import re
+import resource
+import shutil
+import signal
+import stat
+import subprocess
+import tempfile
+
+import pytest
+from reference.outputs import FORMS
+from shared import read_bytes, run, write
+
+SECONDS = 30
+SMALL = ["--width", "4000", "--height", "3000"]
+LINE = b"SP1;PU0,0;PD3000,2000;"
+OLD = b"an older picture\n"
+
+
+def write_to(program, folder, words, plot=LINE, **how):
+    """A run in a folder, on a small page."""
+    done = run(program, [*words, *SMALL], SECONDS, input=plot, cwd=folder, **how)
+    assert done.stdout == b""
+    return done.returncode, done.stderr
+
+
+def cannot_write(name, reason):
+    return 3, f"plotraster: cannot write {name}: {reason}\n".encode()
+
+
+def wanted(program, command, plot=LINE):
+    """What the program writes to standard output."""
+    done = run(program, [command, *SMALL], SECONDS, input=plot)
+    assert (done.returncode, done.stderr) == (0, b"")
+    return done.stdout
+
+
+@pytest.mark.parametrize("command", [*FORMS, "report"])
+def test_file_has_what_standard_output_has(program, tmp_path, command):
+    for name, words in [("a", ["-o", "a"]), ("b", ["--output=b"]), ("c.c", ["-oc.c"]), ("-", ["--output", "-"])]:
+        assert write_to(program, tmp_path, [command, *words]) == (0, b"")
+        assert read_bytes(tmp_path / name) == wanted(program, command)
+    assert sorted(os.listdir(tmp_path)) == ["-", "a", "b", "c.c"]
+
+
+def test_old_file_is_replaced(program, tmp_path):
+    """Also by a shorter one, over an older FILE.part, and if it is the plot."""
+    write(str(tmp_path / "out"), OLD * 9999)
+    write(str(tmp_path / "out.part"), OLD * 9999)
+    assert write_to(program, tmp_path, ["report", "-o", "out"]) == (0, b"")
+    assert read_bytes(tmp_path / "out") == wanted(program, "report")
+    write(str(tmp_path / "out"), LINE)
+    assert write_to(program, tmp_path, ["pbm", "out", "-o", "out"]) == (0, b"")
+    assert read_bytes(tmp_path / "out") == wanted(program, "pbm")
+    assert os.listdir(tmp_path) == ["out"]
+
+
+@pytest.mark.parametrize("words, plot, ends", [
+    ([], b"PD99999,0;", (1, b"plotraster: place off range at byte 0\n")),
+    (["--dots=10", "--from=999"], LINE, (2, b"plotraster: first row is past the last row\n")),
+    (["folder"], LINE, (3, b"plotraster: read failed\n")),
+    (["missing.plt"], LINE, (3, b"plotraster: cannot open missing.plt: no such file\n")),
+    (["--pens=0"], LINE, (2, b"plotraster: bad pen list\n")),
+])
+def test_refused_plot_leaves_the_old_file(program, tmp_path, words, plot, ends):
+    os.mkdir(tmp_path / "folder")
+    write(str(tmp_path / "out"), OLD)
+    assert write_to(program, tmp_path, ["pbm", *words, "-o", "out"], plot) == ends
+    assert write_to(program, tmp_path, ["pbm", *words, "-o", "new"], plot) == ends
+    assert (sorted(os.listdir(tmp_path)), read_bytes(tmp_path / "out")) == (["folder", "out"], OLD)
+
+
+def test_files_that_cannot_be_written(program, tmp_path):
+    os.mkdir(tmp_path / "folder")
+    for name, refused, reason in [
+        ("missing/out", "missing/out.part", "no such file"),
+        ("folder", "folder", "Is a directory (os error 21)"),
+        ("n" * 255, "n" * 255 + ".part", "File name too long (os error 36)"),
+    ]:
+        assert write_to(program, tmp_path, ["ppm", "-o", name]) == cannot_write(refused, reason)
+    assert os.listdir(tmp_path) == ["folder"]
+
+
+def test_file_that_cannot_be_renamed(program, tmp_path):
+    """The output stays in FILE.part."""
+    assert write_to(program, tmp_path, ["ppm", "--output="]) == cannot_write("", "no such file")
+    assert os.listdir(tmp_path) == [".part"]
+    assert read_bytes(tmp_path / ".part") == wanted(program, "ppm")
+
+
+def test_refusal_of_the_plot_file_comes_first(program, tmp_path):
+    ends = (3, b"plotraster: cannot open missing.plt: no such file\n")
+    assert write_to(program, tmp_path, ["pbm", "missing.plt", "-o", "missing/out"]) == ends
+    ends = cannot_write("missing/out.part", "no such file")
+    assert write_to(program, tmp_path, ["pbm", "-o", "missing/out"], b"PD99999,0;") == ends
+
+
+def test_folder_that_may_not_be_written(program):
+    """Root may write to all, so root runs the program as another user."""
+    another = {"user": 65534} if os.geteuid() == 0 else {}
+    with tempfile.TemporaryDirectory() as folder:
+        os.chmod(folder, 0o755)
+        copy = shutil.copy(program, folder)
+        os.chmod(copy, 0o755)
+        os.mkdir(os.path.join(folder, "locked"), 0o555)
+        ends = cannot_write("locked/out.part", "permission denied")
+        assert write_to(copy, folder, ["pbm", "-o", "locked/out"], **another) == ends
+        assert os.listdir(os.path.join(folder, "locked")) == []
+
+
+def test_devices_stay_what_they_are(program, tmp_path):
+    assert write_to(program, tmp_path, ["pbm", "-o", "/dev/null"]) == (0, b"")
+    assert stat.S_ISCHR(os.stat("/dev/null").st_mode) and not os.path.exists("/dev/null.part")
+    status, message = write_to(program, tmp_path, ["pbm", "-o", "/dev/full"])
+    assert (status, message) == (3, b"plotraster: write failed: go on from row 0 after byte 0\n")
+    os.mkfifo(tmp_path / "pipe")
+    with open(tmp_path / "read", "wb") as to, subprocess.Popen(["cat", "pipe"], stdout=to, cwd=tmp_path) as reader:
+        assert write_to(program, tmp_path, ["ppm", "--output", "pipe"]) == (0, b"")
+        assert reader.wait(SECONDS) == 0
+    assert read_bytes(tmp_path / "read") == wanted(program, "ppm")
+    assert sorted(os.listdir(tmp_path)) == ["pipe", "read"] and stat.S_ISFIFO(os.stat(tmp_path / "pipe").st_mode)
+
+
+def test_full_disk(program, tmp_path):
+    """FILE stays as it was, and FILE.part has the bytes that the message names."""
+    def limit():
+        signal.signal(signal.SIGXFSZ, signal.SIG_IGN)
+        resource.setrlimit(resource.RLIMIT_FSIZE, (20000, 20000))
+    write(str(tmp_path / "out"), OLD)
+    status, message = write_to(program, tmp_path, ["ppm", "-o", "out"], preexec_fn=limit)
+    found = re.fullmatch(rb"plotraster: write failed: go on from row (\d+) after byte (\d+)\n", message)
+    row, whole = map(int, found.groups())
+    assert status == 3 and 0 < whole <= 20000 and read_bytes(tmp_path / "out") == OLD
+    picture, part = wanted(program, "ppm"), read_bytes(tmp_path / "out.part")
+    assert len(part) == 20000 and picture.startswith(part)
+    rest = run(program, ["ppm", *SMALL, "--from", str(row)], SECONDS, input=LINE)
+    assert part[:whole] + rest.stdout == picture
