@@ -97,6 +97,14 @@ def test_refusal_of_the_plot_file_comes_first(program, tmp_path):
     assert write_to(program, tmp_path, ["pbm", "-o", "missing/out"], b"PD99999,0;") == ends
 
 
+def test_plot_is_not_overwritten(program, tmp_path):
+    write(str(tmp_path / "out.part"), LINE)
+    os.symlink("out.part", tmp_path / "link")
+    for name in ["out.part", "./out.part", "link"]:
+        assert write_to(program, tmp_path, ["pbm", name, "-o", "out"]) == cannot_write("out.part", "it is the plot")
+    assert (sorted(os.listdir(tmp_path)), read_bytes(tmp_path / "out.part")) == (["link", "out.part"], LINE)
+
+
 def test_folder_that_may_not_be_written(program):
     """Root may write to all, so root runs the program as another user."""
     another = {"user": 65534} if os.geteuid() == 0 else {}

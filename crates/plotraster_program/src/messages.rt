@@ -28,7 +28,8 @@ pub(crate) fn refuse_file(rt: &HostRuntime, deed: &str, path: &str, error: &Erro
     }
 }
 
-fn cannot<R: Display>(rt: &HostRuntime, deed: &str, path: &str, reason: &R) -> u8 {
+// Says what cannot be done with a file, and why.
+pub(crate) fn cannot<R: Display>(rt: &HostRuntime, deed: &str, path: &str, reason: &R) -> u8 {
     let _ = eprintln!(rt; "plotraster: cannot {deed} {path}: {reason}");
     DEVICE
 }

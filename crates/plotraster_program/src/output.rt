@@ -1,8 +1,9 @@
 //! Where the output goes: standard output, a device, or a new file that gets its name when it is whole.
-use crate::messages::{refuse, refuse_file};
+use crate::messages::{cannot, refuse, refuse_file};
 use plotraster::{Done, Fault, Line, OverRead, OverWrite, exit_status, run_task};
 use std::fs::{File, OpenOptions, metadata, remove_file, rename};
 use std::io::{Read, Write};
+use std::os::unix::fs::MetadataExt;
 
 // Does what the line asks of the plot that the reader gives, and writes it where the line says.
 pub(crate) fn deliver<R: Read + Drop>(rt: &HostRuntime, line: &Line<'_>, plot: R) -> u8 {
@@ -49,9 +50,23 @@ fn write_file<R: Read + Drop>(rt: &HostRuntime, line: &Line<'_>, plot: R, path: 
     let Ok(part) = format!(in rt.alloc(); "{path}.part") else {
         return refuse(rt, &Fault::Memory);
     };
+    if line
+        .file
+        .is_some_and(|plot| is_same_file(rt, plot, part.as_str()))
+    {
+        return cannot(rt, "write", part.as_str(), &"it is the plot");
+    }
     match File::create(rt, part.as_str()) {
         Ok(file) => settle_part(rt, part.as_str(), path, &perform(rt, line, plot, file)),
         Err(error) => refuse_file(rt, "write", part.as_str(), &error),
+    }
+}
+
+// Both are names of one file.
+fn is_same_file(rt: &HostRuntime, one: &str, other: &str) -> bool {
+    match (metadata(rt, one), metadata(rt, other)) {
+        (Ok(one), Ok(other)) => one.dev() == other.dev() && one.ino() == other.ino(),
+        _ => false,
     }
 }
 
