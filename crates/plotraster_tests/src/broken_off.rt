@@ -1,8 +1,8 @@
 //! Pictures and reports that are broken off after each number of their bytes.
-use crate::pages::{CROSSING, LINE, eight_by_eight};
+use crate::pages::{CROSSING, LINE, eight_by_eight, job_at};
 use crate::runs::{Asked, drawn, has_picture, run};
 use crate::streams::{Reader, Writer};
-use plotraster::{Dots, Fault, Form, Job};
+use plotraster::{Fault, Form, Job};
 use std::alloc::Global;
 use std::process::Abort;
 use std::test::Fail;
@@ -15,17 +15,18 @@ struct Whole<'a> {
     bytes: &'a [u8],
 }
 
-// Breaks it off after so many bytes. The fault names the first row that is not whole, and how many bytes come before it.
-fn is_broken_off_after(
+// Breaks it off by a writer that has no room for all of it. The fault names the first row that is not whole, and the
+// bytes before that row.
+fn is_broken_off_by(
     rt: &impl Abort,
     alloc: Global,
     job: &Job,
     whole: &Whole<'_>,
-    room: usize,
+    writer: Writer,
     row: u32,
     before: usize,
 ) -> Result<(), Fail> {
-    let writer = Writer::ending_after(alloc, room);
+    let room = writer.room;
     let outcome = run(alloc, whole.asked, job, Reader::new(whole.plot), writer);
     let Err(
         Fault::Write {
@@ -74,7 +75,8 @@ fn is_broken_off_anywhere(
             before = room;
             next = room.wrapping_add(row_bytes);
         }
-        is_broken_off_after(rt, alloc, job, &whole, room, rest.first_row, before)?;
+        let writer = Writer::ending_after(alloc, room);
+        is_broken_off_by(rt, alloc, job, &whole, writer, rest.first_row, before)?;
         let wanted = whole.bytes.get(before..).unwrap_or_default();
         has_picture(rt, alloc, &rest, plot, wanted)?;
     }
@@ -91,8 +93,7 @@ fn a_pixmap_broken_off_anywhere(rt: HostRuntime) -> Result<(), Fail> {
 // Three bytes a row, and bands of one row, of several and a last one of fewer, and of all.
 #[test]
 fn a_bitmap_broken_off_anywhere(rt: HostRuntime) -> Result<(), Fail> {
-    let mut job = eight_by_eight(Form::Pbm)?;
-    job.dots = Dots::new(381).ok_or("381 dots per inch")?;
+    let mut job = job_at(Form::Pbm, 381)?;
     for band in [1, 7, 64] {
         job.band = band;
         assert_eq!(rt; drawn(rt.alloc(), &job, CROSSING)?.len(), 81);
@@ -107,8 +108,7 @@ const LINE_IN_PCL: &[u8] = b"\x1bE\x1b*t75R\x1b*r5S\x1b*r5T\x1b*r0A\x1b*b0M\
 // A row is whole after its last byte, which follows its command.
 #[test]
 fn a_printer_that_stops_anywhere(rt: HostRuntime) -> Result<(), Fail> {
-    let mut job = eight_by_eight(Form::Pcl)?;
-    job.dots = Dots::new(75).ok_or("75 dots per inch")?;
+    let job = job_at(Form::Pcl, 75)?;
     has_picture(&rt, rt.alloc(), &job, LINE, LINE_IN_PCL)?;
     is_broken_off_anywhere(&rt, rt.alloc(), &job, LINE, 34, 6, 5)
 }
@@ -121,8 +121,13 @@ fn marks_broken_off_in_their_first_line(rt: HostRuntime) -> Result<(), Fail> {
         asked: Asked::Picture,
         bytes: b"4 0 1 000",
     };
+    let writer = Writer {
+        piece: 1,
+        room: 9,
+        ..Writer::new(rt.alloc())
+    };
     let marks = eight_by_eight(Form::Marks)?;
-    is_broken_off_after(&rt, rt.alloc(), &marks, &whole, 9, 4, 0)
+    is_broken_off_by(&rt, rt.alloc(), &marks, &whole, writer, 4, 0)
 }
 
 const SKIPPED: Whole<'static> = Whole {
@@ -135,7 +140,8 @@ const SKIPPED: Whole<'static> = Whole {
 fn a_report_broken_off_anywhere(rt: HostRuntime) -> Result<(), Fail> {
     let job = eight_by_eight(Form::Pbm)?;
     for room in 0..SKIPPED.bytes.len() {
-        is_broken_off_after(&rt, rt.alloc(), &job, &SKIPPED, room, 0, 0)?;
+        let writer = Writer::ending_after(rt.alloc(), room);
+        is_broken_off_by(&rt, rt.alloc(), &job, &SKIPPED, writer, 0, 0)?;
     }
     Ok(())
 }

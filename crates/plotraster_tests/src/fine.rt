@@ -1,22 +1,16 @@
 //! Pictures at 1200 dots per inch, and of the largest page.
-use crate::pages::{LINE, eight_by_eight};
+use crate::pages::{LINE, job_at};
 use crate::runs::{drawn, drawn_by};
-use plotraster::{Dots, Exact, Form, Gauge, Job, Page};
+use plotraster::{Exact, Form, Gauge, Page};
 use std::alloc::Global;
 use std::process::Abort;
 use std::test::Fail;
-
-fn fine(form: Form) -> Result<Job, Fail> {
-    let mut job = eight_by_eight(form)?;
-    job.dots = Dots::new(1200).ok_or("a resolution")?;
-    Ok(job)
-}
 
 // 76 by 76 pixels, of which the line covers the rows 34 to 50.
 #[test]
 fn a_line_at_1200_dots(rt: HostRuntime) -> Result<(), Fail> {
     let mut gauge = Exact::new();
-    let picture = drawn_by(rt.alloc(), &fine(Form::Pbm)?, &mut gauge, LINE)?;
+    let picture = drawn_by(rt.alloc(), &job_at(Form::Pbm, 1200)?, &mut gauge, LINE)?;
     assert_eq!(rt; gauge.tests(), 1292);
     assert_eq!(rt; picture.len(), 769);
     let mut wanted = Vec::from_slice(rt.alloc(), b"P4\n76 76\n")?;
@@ -42,18 +36,17 @@ fn has_last_row(
     bytes: usize,
     last_byte: u8,
 ) -> Result<(), Fail> {
-    let mut job = fine(Form::Pbm)?;
+    let mut job = job_at(Form::Pbm, dots)?;
     job.page = Page::new(65536, 65536, 0, 0)?;
-    job.dots = Dots::new(dots).ok_or("a resolution")?;
     assert_eq!(rt; job.dots.columns(&job.page), side);
     assert_eq!(rt; job.dots.rows(&job.page), side);
     job.first_row = side.saturating_sub(1);
     job.band = 1;
     let bits = drawn(alloc, &job, b"PU0,0;PD65536,0;")?;
     assert_eq!(rt; bits.len(), bytes);
-    let (last, rest) = bits.as_slice().split_last().ok_or("no bytes")?;
-    assert_eq!(rt; *last, last_byte);
-    assert!(rt; rest.iter().all(|byte| *byte == 255));
+    let mut wanted = vec![in alloc; 255u8; bytes.saturating_sub(1)]?;
+    wanted.push(last_byte)?;
+    assert!(rt; bits.as_slice() == wanted.as_slice());
     Ok(())
 }
 

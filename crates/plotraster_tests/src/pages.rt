@@ -10,9 +10,14 @@ pub const CROSSING: &[u8] = b"SP1;PU0,28;PD64,28;SP2;PU28,0;PD28,64;SP1;PU0,12;P
 
 /// A page of 8 by 8 pixels, each of 8 by 8 plotter units, whole, of all pens.
 pub fn eight_by_eight(form: Form) -> Result<Job, Fail> {
+    job_at(form, 127)
+}
+
+/// The same page at a resolution.
+pub fn job_at(form: Form, per_inch: u32) -> Result<Job, Fail> {
     Ok(Job {
         page: Page::new(64, 64, 0, 0)?,
-        dots: Dots::new(127).ok_or("a resolution")?,
+        dots: Dots::new(per_inch).ok_or("a resolution")?,
         pens: PenSet::all(),
         band: 64,
         first_row: 0,

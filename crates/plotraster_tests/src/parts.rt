@@ -1,8 +1,8 @@
 //! Readers and writers that give or take a part a call, how often they are called, and what is left if one fails.
-use crate::pages::{CROSSING, LINE, eight_by_eight};
+use crate::pages::{CROSSING, LINE, eight_by_eight, job_at};
 use crate::runs::{Asked, drawn, run, told};
 use crate::streams::{Reader, Writer};
-use plotraster::{Dots, Form, Job};
+use plotraster::{Form, Job};
 use std::alloc::Global;
 use std::io::ErrorKind;
 use std::process::Abort;
@@ -65,12 +65,6 @@ PU48,32;PD;AA32,32,37.5;
 PU0,28;PE7:c?c_;ZZ
 ";
 
-fn job(form: Form) -> Result<Job, Fail> {
-    let mut job = eight_by_eight(form)?;
-    job.dots = Dots::new(75).ok_or("a resolution")?;
-    Ok(job)
-}
-
 // What is written of a plot that comes and goes in pieces of at most so many bytes.
 fn written(
     alloc: Global,
@@ -95,12 +89,12 @@ fn written(
 // Fails unless a plot that comes and goes byte by byte has the same picture in each form, and the same report.
 fn is_the_same_in_bytes(rt: &impl Abort, alloc: Global, plot: &[u8]) -> Result<(), Fail> {
     for form in Form::ALL {
-        let job = job(form)?;
+        let job = job_at(form, 75)?;
         let wanted = drawn(alloc, &job, plot)?;
         let picture = written(alloc, Asked::Picture, &job, plot, 1)?;
         assert!(rt; picture.as_slice() == wanted.as_slice());
     }
-    let job = job(Form::Pbm)?;
+    let job = job_at(Form::Pbm, 75)?;
     let wanted = written(alloc, Asked::Report, &job, plot, usize::MAX)?;
     let report = written(alloc, Asked::Report, &job, plot, 1)?;
     assert!(rt; report.as_slice() == wanted.as_slice());
@@ -126,7 +120,13 @@ fn a_source_that_fails_anywhere(rt: HostRuntime) -> Result<(), Fail> {
             ..Reader::new(LINE)
         };
         let writer = Writer::new(rt.alloc());
-        let found = told(rt.alloc(), Asked::Picture, &job(Form::Pbm)?, reader, writer)?;
+        let found = told(
+            rt.alloc(),
+            Asked::Picture,
+            &job_at(Form::Pbm, 75)?,
+            reader,
+            writer,
+        )?;
         assert!(rt;
             found.as_str().starts_with("Err(Read)\n"),
             "{room}: {found}"

@@ -1,21 +1,15 @@
 //! The resolutions of pictures in PCL.
-use crate::pages::{CROSSING, eight_by_eight};
+use crate::pages::{CROSSING, eight_by_eight, job_at};
 use crate::runs::{Asked, drawn, told};
 use crate::streams::{Reader, Writer};
-use plotraster::{Dots, Fault, Form, Job};
+use plotraster::{Fault, Form};
 use std::test::Fail;
-
-fn job(dots: u32) -> Result<Job, Fail> {
-    let mut job = eight_by_eight(Form::Pcl)?;
-    job.dots = Dots::new(dots).ok_or("dots")?;
-    Ok(job)
-}
 
 #[test]
 fn resolutions_of_pcl(rt: HostRuntime) -> Result<(), Fail> {
     let mut taken = String::new(rt.alloc());
     for dots in 10..=1200 {
-        match drawn(rt.alloc(), &job(dots)?, CROSSING) {
+        match drawn(rt.alloc(), &job_at(Form::Pcl, dots)?, CROSSING) {
             Ok(_) => write!(taken, "{dots} ")?,
             Err(Fault::Resolution) => {}
             Err(_) => return Err("another fault".into()),
@@ -28,7 +22,7 @@ fn resolutions_of_pcl(rt: HostRuntime) -> Result<(), Fail> {
 // The resolution comes before all else: the source, which fails, is not asked.
 #[test]
 fn the_resolution_is_judged_first(rt: HostRuntime) -> Result<(), Fail> {
-    let mut wrong = job(127)?;
+    let mut wrong = eight_by_eight(Form::Pcl)?;
     wrong.band = 0;
     let reader = Reader {
         semicolons: 10,

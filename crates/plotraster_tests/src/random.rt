@@ -2,7 +2,7 @@
 ghost use Rattle.std.specs.Prelude.{◌<◌};
 ghost use Rattle.plot_page.specs.Resolutions.{columns_of, rows_of};
 
-use crate::pages::eight_by_eight;
+use crate::pages::job_at;
 use crate::runs::drawn;
 use hpgl_plot::{Stroke, draw_plot};
 use plotraster::{Dots, Fault, Form, Job, Page};
@@ -65,8 +65,7 @@ fn wanted_bits(alloc: Global, job: &Job, plot: &[u8]) -> Result<Vec<u8>, Fail> {
 
 // Whether the plot has a picture: then it is that of `near`, in bands of any height.
 fn has_exact_picture(alloc: Global, resolution: u32, plot: &[u8]) -> Result<bool, Fail> {
-    let mut job = eight_by_eight(Form::Pbm)?;
-    job.dots = Dots::new(resolution).ok_or("a resolution")?;
+    let mut job = job_at(Form::Pbm, resolution)?;
     let picture = match drawn(alloc, &job, plot) {
         Ok(picture) => picture,
         Err(Fault::Plot(_)) => return Ok(false),
