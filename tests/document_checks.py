@@ -75,7 +75,7 @@ def transcript(text):
 
 def pictures(made):
     """Each file that the block names as output is a picture, and what is printed is for a printer."""
-    named = set(re.findall(r"> (\S+)", made.block))
+    named = set(re.findall(r"(?:>|plt -o) (\S+)", made.block))
     for name in named:
         data = made.of_png(name) if name.endswith(".png") else made.read(name)
         about = netpbm(["pamfile", "-"], data)
@@ -158,7 +158,7 @@ DOCUMENT_CHECKS = {
         "Use": [Check(pictures, (*SCALED, "pamfile", "pnmtops"))],
     },
     "man/plotraster.1": {
-        "EXAMPLES": [Check(pictures, ("pamfile",)), Check(pictures, (*SCALED, "pamfile")),
+        "EXAMPLES": [Check(pictures, ("pamfile",)), Check(pictures, ("pamfile",)), Check(pictures, (*SCALED, "pamfile")),
                      Check(pictures, ("pamfile",)), Check(pictures), Check(notes, (), {"plan.plt": b"WU1;;SC0,0,0,9;" + plan(*A4)}),
                      Check(centred, ()), Check(eight_marks)],
     },
