@@ -308,6 +308,24 @@ def archive_by_machines(made):
     failed = [job for job in jobs[1:] if job.split("\t")[6] != "0"]
     if (len(jobs), len(failed)) != (1 + len(ARCHIVE), len(REFUSED)):
         yield f"jobs.txt has {jobs}"
+    yield from resumed(made, jobs)
+
+
+def resumed(made, jobs):
+    """The same commands again, as if the run had been stopped before one job ended: they do that job, and no other."""
+    picture, other = "plots/first.pbm", "plots/a folder/first.pbm"
+    os.remove(made.path(picture))
+    write(made.path(other), b"done before")
+    finished = [job for job in jobs if " plots/first.plt " not in job]
+    write(made.path("jobs.txt"), "".join(f"{job}\n" for job in finished).encode())
+    path = f"{made.commands}:{os.environ['PATH']}"
+    subprocess.run(["bash", "-c", made.block], cwd=made.folder, env=dict(os.environ, PATH=path), check=True, timeout=SECONDS)
+    if len(finished) != len(jobs) - 1 or len(made.lines("jobs.txt")) != len(jobs):
+        yield f"jobs.txt has {made.lines('jobs.txt')}"
+    if made.read(other) != b"done before" or len(made.lines("refused.txt")) != len(REFUSED):
+        yield "a finished job was done again"
+    if made.read(picture) != made.run("pbm", "--dots", "300", "plots/first.plt"):
+        yield "another picture of the missing job"
 
 
 def parts(made):

@@ -23,8 +23,8 @@ SOURCES = (
     "command_line/src/fault.rt",
     "plotraster_program/src/messages.rt",
 )
-# The words for `{deed}` in a message, by the calls of `refuse_file` in the program.
-DEEDS = re.compile(r'refuse_file\(rt, "(\w+)"')
+# The words for `{action}` in a message, by the calls of `refuse_file` in the program.
+ACTIONS = re.compile(r'refuse_file\(rt, "(\w+)"')
 # A word that the manual page must have where it describes an exit status.
 STATUSES = {0: "was written", 1: "refused", 2: "command line", 3: "failed", 4: "Memory"}
 
@@ -37,9 +37,10 @@ def plain(path):
     return re.sub(r"\s+", " ", text)
 
 
-def deeds_of_the_program():
+def actions_of_the_program():
     """What the program may be unable to do with a file."""
-    return {deed for name in ("main.rt", "output.rt") for deed in DEEDS.findall(read("crates", "plotraster_program", "src", name))}
+    sources = (read("crates", "plotraster_program", "src", name) for name in ("main.rt", "output.rt"))
+    return {action for source in sources for action in ACTIONS.findall(source)}
 
 
 def messages_of_sources():
@@ -48,7 +49,7 @@ def messages_of_sources():
         text = read("crates", source)
         yield from re.findall(r'#\[error\("(.+)"\)\]', text)
         for message in re.findall(r'"plotraster: (cannot .+)"', text):
-            yield from (message.replace("{deed}", deed) for deed in deeds_of_the_program())
+            yield from (message.replace("{action}", action) for action in actions_of_the_program())
 
 
 def messages_of_the_page():

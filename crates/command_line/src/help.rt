@@ -17,7 +17,7 @@ pub(crate) struct HelpPage<'a> {
     pub(crate) example: &'a str,
 }
 
-// `clap` knows of no default of `WIDTH`, `HEIGHT` and `PAGE`, so that it is known which are given.
+// `clap` is given no default for `WIDTH`, `HEIGHT` and `PAGE`, so that it is known which are given.
 pub(crate) const WIDTH: HelpLine<'static> = HelpLine {
     value: "UNITS",
     help: "Width of the page in plotter units of 1/40 mm, 64 to 65536 (11880 is A4's 297 mm) [default: 11880]",

@@ -19,17 +19,17 @@ pub(crate) fn refuse_words(rt: &HostRuntime, fault: LineFault) -> u8 {
     USAGE
 }
 
-// Says why a file cannot be opened, or written, as `deed` says.
-pub(crate) fn refuse_file(rt: &HostRuntime, deed: &str, path: &str, error: &Error) -> u8 {
+// Says why a file cannot be opened or written; `action` is `open` or `write`.
+pub(crate) fn refuse_file(rt: &HostRuntime, action: &str, path: &str, error: &Error) -> u8 {
     match error.kind() {
-        ErrorKind::NotFound => cannot(rt, deed, path, &"no such file"),
-        ErrorKind::PermissionDenied => cannot(rt, deed, path, &"permission denied"),
-        _ => cannot(rt, deed, path, error),
+        ErrorKind::NotFound => cannot(rt, action, path, &"no such file"),
+        ErrorKind::PermissionDenied => cannot(rt, action, path, &"permission denied"),
+        _ => cannot(rt, action, path, error),
     }
 }
 
 // Says what cannot be done with a file, and why.
-pub(crate) fn cannot<R: Display>(rt: &HostRuntime, deed: &str, path: &str, reason: &R) -> u8 {
-    let _ = eprintln!(rt; "plotraster: cannot {deed} {path}: {reason}");
+pub(crate) fn cannot<R: Display>(rt: &HostRuntime, action: &str, path: &str, reason: &R) -> u8 {
+    let _ = eprintln!(rt; "plotraster: cannot {action} {path}: {reason}");
     DEVICE
 }
