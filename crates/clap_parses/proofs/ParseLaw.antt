@@ -1,5 +1,5 @@
 -- A parse with no fault gives rows that pass.
-use Rattle.std.proofs.Common.{◌≡◌, ◌<◌, ◌≤◌, ℕ, zero, suc, true, false, Bool, List, [], ◌∷◌, ◌++◌, Option, Some, None, length, refl, ap, sym, ◌∙◌, subst, inl, inr, arith, cond, ◌&&◌, ◌||◌, drop}
+use Rattle.std.proofs.Common.{◌≡◌, ◌<◌, ◌≤◌, ◌⊎◌, ℕ, zero, suc, true, false, Bool, List, [], ◌∷◌, ◌++◌, Option, Some, None, length, refl, ap, sym, ◌∙◌, subst, inl, inr, arith, cond, ◌&&◌, ◌||◌, drop}
 use Rattle.std.specs.List.{AllByRecursion}
 use Rattle.std.specs.Prelude.{◌==◌, not, nat_eq}
 use Rattle.std.specs.Option.{option_map_or}
@@ -17,12 +17,12 @@ use Rattle.std.specs.Prelude.{option_map}
 use Rattle.clap.specs.Kinds.{Kinds, or_else, range_kinds, request_kinds, check_kinds}
 use Rattle.clap.specs.Faults.{use_fault, action_fault, set_fault, settle_fault, react_fault, values_fault, repeat_fault, option_fault, long_fault, short_fault, bundle_step_fault, flags_fault, bundle_fault, flag_word_fault, other_fault, word_fault, positional_fault, step_fault, turn_fault, walk_fault, default_fault, given_default_fault, defaults_fault, level_fault, stray_fault, entered_fault, fault_of}
 use Rattle.clap.specs.declared.builder.action.ArgAction.{ArgAction}
-use Rattle.clap.specs.declared.builder.action.ArgAction.TheVariants.{Set, Help}
+use Rattle.clap.specs.declared.builder.action.ArgAction.TheVariants.{Set, SetTrue, Help}
 use Rattle.clap.specs.declared.error.kind.ErrorKind.{ErrorKind}
 use Rattle.clap.specs.declared.error.kind.ErrorKind.TheVariants.{InvalidValue, WrongNumberOfValues, ArgumentConflict, TooManyValues}
 use Rattle.clap.specs.declared.parser.matches.ValueSource.TheVariants.{DefaultValue, CommandLine}
 use Rattle.clap.specs.declared.builder.value_parser.Reading.{Reading}
-use Rattle.clap_parses.specs.Parses.{RowOf, RowsOf, ParsesTo, IsIn, first, past, one, IsSingle, IsSingleShape}
+use Rattle.clap_parses.specs.Parses.{RowOf, RowsOf, ParsesTo, IsFlag, IsIn, first, past, one, IsSingle, IsSingleShape, TakesOne}
 
 or_none : (a b : Kinds) → or_else a b ≡ [] → (a ≡ []) × (b ≡ [])
 or_none [] b e = (refl, e)
@@ -86,56 +86,110 @@ some_values : (a : Rule) (vs : List Text) → length vs ≡ 1 → values_or_miss
 some_values a [] e = absurd (omega arith)
 some_values a (v ∷ vs) e = refl
 
+is_nil : (vs : List Text) → length vs ≡ 0 → vs ≡ []
+is_nil [] e = refl
+is_nil (v ∷ vs) e = absurd (omega arith)
+
+no_value : (vs : List Text) → range_kinds 0 0 (length vs) ≡ [] → vs ≡ []
+no_value vs e =
+    let same : (0 == length vs) ≡ true = if_none _ _ _ e in
+    is_nil vs (grind (arith, nat_tests))
+
 if_fault : (b : Bool) (k : ErrorKind) (ks : Kinds) → cond (b && true) (k ∷ ks) [] ≡ [] → b ≡ false
 if_fault true k ks e = absurd (cc)
 if_fault false k ks e = refl
 
--- a use of an argument of one value, where it has no fault
+-- a use that sets one value, where it has no fault
+record SetsOne (a : Rule) (vs : List Text) (rows : List Row) : Type 0 where
+  pub one : length vs ≡ 1
+  pub absent : has_row a.id rows ≡ false
+  pub passes : values_pass a vs ≡ true
+
+sets_one : (a : Rule) (vs : List Text) (rows : List Row) → length vs ≡ 1 → set_fault false a vs rows ≡ [] → SetsOne a vs rows
+sets_one a vs rows one none =
+    let both = or_none (repeat_fault false a.id rows) (values_fault a vs) none in
+    record { one = one; absent = if_fault (has_row a.id rows) ArgumentConflict [] both.0; passes = values_taken a vs both.1 }
+
+-- the use of an argument of one value
 set_parts : (a : Rule) (vs : List Text) (rows : List Row) (x : ArgAction) (least most : ℕ) → x ≡ Set → least ≡ 1 → most ≡ 1
     → or_else (range_kinds least most (length vs)) (action_fault x false a (values_or_missing a vs) rows) ≡ []
-    → (length vs ≡ 1) × (has_row a.id rows ≡ false) × (values_pass a vs ≡ true)
+    → SetsOne a (values_or_missing a vs) rows
 set_parts a vs rows x least most is_set is_least is_most none =
     let e = rw (is_set, is_least, is_most) at none in
     let both = or_none (range_kinds 1 1 (length vs)) (set_fault false a (values_or_missing a vs) rows) e in
     let has_one = one_value vs both.0 in
-    let inner = or_none (repeat_fault false a.id rows) (values_fault a (values_or_missing a vs)) both.1 in
-    let absent = if_fault (has_row a.id rows) ArgumentConflict [] inner.0 in
-    let taken = values_taken a vs (rw (some_values a vs has_one) at inner.1) in
-    (has_one, absent, taken)
+    sets_one a (values_or_missing a vs) rows (rw (some_values a vs has_one) has_one) both.1
+
+-- the use of a flag
+flag_parts : (a : Rule) (vs : List Text) (rows : List Row) (x : ArgAction) (least most : ℕ) → x ≡ SetTrue → least ≡ 0 → most ≡ 0
+    → length a.missing ≡ 1 → or_else (range_kinds least most (length vs)) (action_fault x false a (values_or_missing a vs) rows) ≡ []
+    → SetsOne a (values_or_missing a vs) rows
+flag_parts a vs rows x least most is_set is_least is_most stands none =
+    let e = rw (is_set, is_least, is_most) at none in
+    let both = or_none (range_kinds 0 0 (length vs)) (set_fault false a (values_or_missing a vs) rows) e in
+    let none_given : vs ≡ [] = no_value vs both.0 in
+    sets_one a (values_or_missing a vs) rows (rw none_given stands) both.1
 
 set_row : Text → Reading → List Text → Row
 set_row id how vs = record { id = id; values = vs; count = None; source = Some CommandLine; reading = how }
 
-used_is : (x : ArgAction) (id : Text) (how : Reading) (vs : List Text) (rows : List Row) → x ≡ Set → has_row id rows ≡ false
-    → used_as x id how vs rows ≡ rows ++ set_row id how vs ∷ []
+set_used : (id : Text) (how : Reading) (vs : List Text) (rows : List Row) → has_row id rows ≡ false
+    → used_as Set id how vs rows ≡ rows ++ set_row id how vs ∷ []
 unfolding set_row
-used_is x id how vs rows is_set absent =
+set_used id how vs rows absent =
     let kept : without id rows ≡ rows = no_at_row id (λ _. []) [] rows absent ∙ append_nil rows in
-    rw is_set (rw kept (no_at_row id (more_values CommandLine vs) (set_row id how vs ∷ []) rows absent))
+    rw kept (no_at_row id (more_values CommandLine vs) (set_row id how vs ∷ []) rows absent)
+
+-- the actions that set one value
+Sets : ArgAction → Type 0
+Sets x = (x ≡ Set) ⊎ (x ≡ SetTrue)
+
+used_is : (x : ArgAction) (id : Text) (how : Reading) (vs : List Text) (rows : List Row) → Sets x → has_row id rows ≡ false
+    → used_as x id how vs rows ≡ rows ++ set_row id how vs ∷ []
+unfolding Sets
+used_is x id how vs rows sets absent = elim sets [
+  | inl is_set ↦ rw is_set (set_used id how vs rows absent)
+  | inr is_flag ↦ rw is_flag (set_used id how vs rows absent)
+]
 
 module _ (c : List Rule) (single : AllByRecursion (IsSingle c) c) where
   abbrev Good : List Row → Type 0
   Good rows = AllByRecursion (RowOf c) rows
 
-  set_good : (a : Rule) (vs : List Text) (rows : List Row) → arg_by_id c a.id ≡ Some a → a.action ≡ Some Set → a.range ≡ Some one
-      → use_fault false a vs rows ≡ [] → Good rows → Good (used a vs rows)
+  set_good : (a : Rule) (vs : List Text) (rows : List Row) → arg_by_id c a.id ≡ Some a → Sets (action_of a)
+      → SetsOne a (values_or_missing a vs) rows → Good rows → Good (used a vs rows)
   unfolding set_row
-  set_good a vs rows found is_set is_one none good =
-      let action_is : action_of a ≡ Set = rw is_set refl in
-      let parts = set_parts a vs rows (action_of a) (unwrap_or_range a.range).start_inclusive (most_values a) action_is (rw is_one refl) (rw is_one refl) none in
-      let same = some_values a vs parts.0 in
-      let made : used a vs rows ≡ rows ++ set_row a.id (reading_by a) vs ∷ [] =
-      rw same (used_is (action_of a) a.id (reading_by a) vs rows action_is parts.1) in
-      let here : RowOf c (set_row a.id (reading_by a) vs) = record { rule = a; found = found; one = parts.0; passes = parts.2; reading = refl; given = λ e. absurd (cc) } in
-      rw made (all_append (RowOf c) rows (set_row a.id (reading_by a) vs ∷ []) good (here, tt))
+  set_good a vs rows found sets parts good =
+      let values = values_or_missing a vs in
+      let made : used a vs rows ≡ rows ++ set_row a.id (reading_by a) values ∷ [] =
+      used_is (action_of a) a.id (reading_by a) values rows sets parts.absent in
+      let here : RowOf c (set_row a.id (reading_by a) values) = record { rule = a; found = found; one = parts.one; passes = parts.passes; reading = refl; given = λ e. absurd (cc) } in
+      rw made (all_append (RowOf c) rows (set_row a.id (reading_by a) values ∷ []) good (here, tt))
+
+  one_good : (a : Rule) (vs : List Text) (rows : List Row) → arg_by_id c a.id ≡ Some a → TakesOne a → use_fault false a vs rows ≡ [] → Good rows → Good (used a vs rows)
+  unfolding Sets
+  one_good a vs rows found is none good =
+      let action_is : action_of a ≡ Set = rw is.sets refl in
+      let parts = set_parts a vs rows (action_of a) (unwrap_or_range a.range).start_inclusive (most_values a) action_is (rw is.takes refl) (rw is.takes refl) none in
+      set_good a vs rows found (inl action_is) parts good
+
+  flag_use_good : (a : Rule) (vs : List Text) (rows : List Row) → arg_by_id c a.id ≡ Some a → IsFlag a → use_fault false a vs rows ≡ [] → Good rows → Good (used a vs rows)
+  unfolding Sets
+  flag_use_good a vs rows found is none good =
+      let action_is : action_of a ≡ SetTrue = rw is.sets refl in
+      let parts = flag_parts a vs rows (action_of a) (unwrap_or_range a.range).start_inclusive (most_values a) action_is (rw is.takes refl) (rw is.takes refl) is.stands none in
+      set_good a vs rows found (inr action_is) parts good
 
   help_used : (a : Rule) (vs : List Text) (rows : List Row) → a.action ≡ Some Help → rows ≡ used a vs rows
   help_used a vs rows is = rw is refl
 
   use_good : (a : Rule) (vs : List Text) (rows : List Row) → IsSingle c a → use_fault false a vs rows ≡ [] → Good rows → Good (used a vs rows)
   use_good a vs rows s none good = elim s.kind [
-    | inl k ↦ set_good a vs rows s.found k.0 k.1 none good
-    | inr h ↦ subst Good (help_used a vs rows h) good
+    | inl k ↦ one_good a vs rows s.found k none good
+    | inr other ↦ elim other [
+      | inl f ↦ flag_use_good a vs rows s.found f none good
+      | inr h ↦ subst Good (help_used a vs rows h) good
+    ]
   ]
 
   pending_good : (p : Option (Text × List Text)) (rows : List Row)

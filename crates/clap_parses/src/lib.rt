@@ -1,4 +1,4 @@
-//! A law of `clap`'s parses, for commands whose arguments take one value each.
+//! A law of `clap`'s parses, for commands whose arguments take one value each, or are flags.
 #![tactic(auto)]
 
 ghost use Rattle.clap_parses.specs.Parses.{FaultlessParsesPass};
