@@ -1,15 +1,16 @@
 # Bash completion of plotraster: its commands, their options, and the names of files.
 _plotraster() {
     local word="${COMP_WORDS[COMP_CWORD]}" before="${COMP_WORDS[COMP_CWORD - 1]}"
-    local command="${COMP_WORDS[1]}" options="--width --height --page --left --below --profile --sheet --output"
+    local command="${COMP_WORDS[1]}" options="--width --height --page --left --below --fit --margin"
     local papers="a0 a1 a2 a3 a4 a5 b4 letter legal tabloid ansi-a ansi-b ansi-c ansi-d ansi-e arch-d arch-e"
+    options="$options --profile --sheet --output"
     COMPREPLY=()
     if [ "$COMP_CWORD" -eq 1 ]; then
         COMPREPLY=($(compgen -W "marks pbm ppm pcl report --help --version" -- "$word"))
         return
     fi
     if [ "$command" != report ]; then
-        options="$options --dots --pens --band --from"
+        options="$options --dots --pens --band --from --verbose"
         case "$before" in
             --dots)
                 local dots="75 100 150 200 300 600 1200"
@@ -39,7 +40,7 @@ _plotraster() {
             COMPREPLY=($(compgen -f -- "$word"))
             return
             ;;
-        --width | --height | --left | --below | --sheet) return ;;
+        --width | --height | --left | --below | --margin | --sheet) return ;;
     esac
     case "$word" in
         -*) COMPREPLY=($(compgen -W "$options --help" -- "$word")) ;;

@@ -3,7 +3,7 @@
 
     examples/centred.py > examples/centred.plt
 
-The drawing reaches left of (0,0) and below it, so it needs a page of its own; examples/fit finds it.
+The drawing reaches left of (0,0) and below it, so it needs a page of its own; --fit finds it.
 """
 
 import itertools

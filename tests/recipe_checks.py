@@ -51,14 +51,6 @@ def samples():
 
 # Pictures.
 
-def margins(bitmap):
-    """How many rows and columns are white on the left, at the bottom, on the right and at the top."""
-    inked = [row for row, line in enumerate(bitmap.lines) if line]
-    every = functools.reduce(int.__or__, bitmap.lines)
-    trailing = (every & -every).bit_length() - 1
-    return bitmap.columns - every.bit_length(), bitmap.rows - 1 - inked[-1], trailing, inked[0]
-
-
 class Made:
     """What a block made: its folder, its standard output, and the words and data of each job that it printed."""
 
@@ -200,75 +192,11 @@ def pcl(made):
         yield "another bitmap in landscape"
 
 
-def fit(made, plot):
-    """The words, standard error and status of examples/fit."""
-    search = made.commands + os.pathsep + os.environ["PATH"]
-    ran = subprocess.run(["examples/fit", plot], cwd=made.folder, env=dict(os.environ, PATH=search),
-                         capture_output=True, text=True, timeout=SECONDS)
-    return ran.stdout.split(), ran.stderr, ran.returncode
-
-
-def fitted(made, plot):
-    """What is wrong with the page for a plot, by pictures with a pixel a unit."""
-    words, errors, status = fit(made, plot)
-    if status or errors:
-        yield f"{plot}: status {status}: {errors}"
-        return
-    more = 500
-    width, height, left, below = map(int, words[1::2])
-    larger = ["--width", str(width + 2 * more), "--height", str(height + 2 * more),
-              "--left", str(left + more), "--below", str(below + more)]
-    page = read_bitmap(made.run("pbm", *words, "--dots", "1016", "--", plot))
-    around = read_bitmap(made.run("pbm", *larger, "--dots", "1016", "--", plot))
-    if min(margins(around)) <= more or ink(page) != ink(around):
-        yield f"{plot}: {ink(page)} pixels of {ink(around)} are on the page"
-    free = [left == 0, below == 0, False, False]
-    for side, may, margin in zip(("left", "below", "right", "above"), free, margins(page)):
-        # A millimetre, and more if the outermost line is not the pen's widest.
-        if margin < 40 or (margin > 50 and not may):
-            yield f"{plot}: {margin} units are free {side}"
-
-
-FITTED = {
-    "left.plt": b"PW20;PU-5000,-3000;PD-4000,-2000;",
-    "right.plt": b"PU3000,2000;CI100;",
-    "dot.plt": b"PW0.1;PD;",
-    "-x.plt": b"PW1;PD100,100;",
-    "scaled.plt": b"IP-1000,-1000,1000,1000;SC0,1,0,1;SP2;PA.5,.5;CI.5;",
-}
-# A plot with half a unit at each side, and its page: half units count as whole ones.
-HALVES = b"PW0;PU-10.5,-20.5;PD30.5,40.5;"
-PAGE_OF_HALVES = "--width 122 --height 142 --left 51 --below 61".split()
-# Plots that have no such page, and the status of examples/fit.
-NOT_FITTED = {
-    "scale.plt": (b"SC0,9,0,9;PD5,5;", 1),
-    "corners.plt": (b"IP;SC0,9,0,9;PD5,5;", 1),
-    "turned.plt": (b"RO90;PD5,5;", 1),
-    "none.plt": (b"PU5,5;", 1),
-    "off.plt": (OFF_RANGE, 1),
-    "wide.plt": (b"PU-60000,0;PD60000,0;", 2),
-}
-
-
 def fitted_page(made):
-    words, *_ = fit(made, "examples/centred.plt")
-    fine = made.run("ppm", *words, "--dots", "600", "examples/centred.plt")
+    fine = made.run("ppm", "--fit", "--dots", "600", "examples/centred.plt")
     reduced = netpbm(["pamscale", "-reduce", "4"], fine)
     if made.of_png("centred.png") != netpbm(["pnmquant", "64"], reduced):
         yield "another picture"
-    for name in ("centred", "figures", "rose", "line"):
-        yield from fitted(made, f"examples/{name}.plt")
-    for name, plot in FITTED.items():
-        write(made.path(name), plot)
-        yield from fitted(made, name)
-    write(made.path("halves.plt"), HALVES)
-    if fit(made, "halves.plt")[0] != PAGE_OF_HALVES:
-        yield f"halves.plt: {fit(made, 'halves.plt')}"
-    for name, (plot, status) in NOT_FITTED.items():
-        write(made.path(name), plot)
-        given = fit(made, name)
-        if given[0] or not given[1] or given[2] != status:
-            yield f"{name}: {given}"
 
 
 def archive(made):
@@ -276,10 +204,7 @@ def archive(made):
     if made.files(".png") != {name[:-4] + ".png" for name in drawn} or made.files(".pbm"):
         yield f"made {sorted(made.files('.png') | made.files('.pbm'))}"
     for name in drawn:
-        page, _, status = fit(made, name)
-        if (status == 0) == (name == "plots/no plot.plt"):
-            yield f"{name}: examples/fit ends with {status}"
-        if made.of_png(name[:-4] + ".png") != made.run("pbm", *page, "--dots", "300", "--", name):
+        if made.of_png(name[:-4] + ".png") != made.run("pbm", "--fit", "--dots", "300", "--", name):
             yield f"{name}: another picture"
     wanted = sorted(f"{name}: {why}" for name, why in REFUSED.items())
     if sorted(made.lines("refused.txt")) != wanted:
@@ -388,8 +313,8 @@ def continued(made):
 CAUSES = [
     (b"IN;SP0;PU100,100;PD5000,5000;", r"strokes 0\n\Z", "sed"),
     (b"%PDF-1.4\n1 0 obj\n<< /Type /Catalog >>\n" * 9, r"strokes 1\n.*\n(note \d+ (stray|skipped) \S+\n){9}", "head"),
-    (b"PU-9000,-9000;PD-100,-100;", r"box -144000 -144000 -1600 -1600\n\Z", "fit"),
-    (b"PU20000,20000;PD30000,30000;", r"box 320000 320000 480000 480000\n\Z", "fit"),
+    (b"PU-9000,-9000;PD-100,-100;", r"box -144000 -144000 -1600 -1600\n\Z", "--fit"),
+    (b"PU20000,20000;PD30000,30000;", r"box 320000 320000 480000 480000\n\Z", "--fit"),
     (b"IN;SC0,0,0,9;PA1,1;PD5,5;", r"box 16 16 80 80\nnote 3 bad SC\n\Z", "tail"),
     (b"IW90000,90000,90001,90001;PD5000,5000;", r"box 0 0 80000 80000\n\Z", "sed"),
     (b"PC1,255,255,255;PD5000,5000;", r"box 0 0 80000 80000\n\Z", "pbm"),
@@ -402,8 +327,8 @@ def remedied(made, cell, remedy, note):
     """What a row's remedy gives: a picture, or the text that it shows."""
     command = next((span for span in re.findall(r"`([^`]+)`", cell) if span.startswith(remedy)), "")
     run = functools.partial(subprocess.run, cwd=made.folder, capture_output=True, check=True, timeout=SECONDS)
-    if remedy == "fit":
-        return made.run("pbm", *fit(made, "plan.plt")[0], "plan.plt")
+    if remedy == "--fit":
+        return made.run("pbm", "--fit", "plan.plt")
     if remedy == "pbm":
         return made.run("pbm", "plan.plt")
     shown = run(["bash", "-c", command.replace("\\|", "|")], env=dict(os.environ, AT=note)).stdout

@@ -17,6 +17,8 @@ from shared import TOP, assert_nothing, read, run
 PAGE = os.path.join(TOP, "man", "plotraster.1")
 COMPLETION = os.path.join(TOP, "completions", "plotraster.bash")
 SECONDS = 10
+# Options that take no value.
+FLAGS = ("--fit", "--verbose")
 HELP = "--help"
 VERSION = "--version"
 EVERY_COMMAND = "All commands"
@@ -50,11 +52,15 @@ def commands_in_help(program):
 
 
 def options_in_help(program, command):
-    """The options of a command, in order: a name, and the name of its value, range and default, if it has one."""
+    """The options of a command, in order: a name, and the name of its value, range and default, if it has them."""
     found = {}
     for line in help_of(program, [command]):
         name = re.match(r" +(?:-\w, )?(--[a-z]+)", line)
         if name is None or name[1] == HELP:
+            continue
+        if name[1] in FLAGS:
+            assert re.fullmatch(r" +--[a-z]+ +[A-Z].*", line), f"{command} {HELP}: a value: {line}"
+            found[name[1]] = (None, None, None)
             continue
         says = re.fullmatch(r" +(?:-\w, )?--[a-z]+ <([A-Z]+)> +(.*?)(?: \[default: ([^]]*)\])?", line)
         assert says is not None, f"{command} {HELP}: no value: {line}"
@@ -91,7 +97,7 @@ def ends(values):
 
 def takes(program, command, option):
     """Whether the program takes an option, written with its value, on a small page and an empty plot."""
-    small = [it for it in ["--width=64", "--height=64"] if it.split("=")[0] != option.split("=")[0]]
+    small = [it for it in ["--width=64", "--height=64", "--fit"] if it.split("=")[0] != option.split("=")[0]]
     done = run(program, [command, *small, option], SECONDS)
     return not done.stderr.startswith((b"error: ", b"plotraster: resolution is not", b"plotraster: bad "))
 
@@ -159,6 +165,9 @@ def options_in_page(command, commands):
         if {HELP, VERSION} & set(words) or command not in names:
             continue
         name = name_of(head)
+        if name in FLAGS:
+            found[name] = (None, None, None) if words == [name] else (words[-1], None, None)
+            continue
         own = re.search(rf"For {command} it is ([^.]*)\.", text)
         values = range_in(own[1] if own else re.sub(r"For \w+ it is [^.]*\.", "", text))
         default = re.search(r"The default is ([^ ,.]+)", text)
@@ -214,7 +223,7 @@ def allowed(values, offered):
 def wrong_values(command, options, words):
     """The options of a command whose values the completion gets wrong. It may offer no number, and files only for --output."""
     for name, (_, values, _) in options.items():
-        offered = [] if name == OUTPUT else completed(command, name, "")
+        offered = [] if name in (OUTPUT, *FLAGS) else completed(command, name, "")
         if offered or name in words:
             wanted = words[name] if name in words else allowed(values, offered)
             yield from differ(f"{command} {name}", "the program", wanted, "the completion", offered)
@@ -245,8 +254,8 @@ def sentences_of_help(program, commands):
             yield "COMMANDS", found[1], found[2]
     for command in ("pbm", "report"):
         for line in help_of(program, [command]):
-            found = re.fullmatch(r" +(?:-\w, )?(--[a-z]+) <[A-Z]+> +(.*?)(?: \[default: .*\])?", line)
-            if found:
+            found = re.fullmatch(r" +(?:-\w, )?(--[a-z]+)(?: <[A-Z]+>)? +(.*?)(?: \[default: .*\])?", line)
+            if found and found[1] != HELP:
                 yield "OPTIONS", found[1], found[2]
 
 
@@ -256,7 +265,7 @@ def test_page_begins_with_the_sentences_of_help(program):
     page = {(name, name_of(head)): text for name in ("COMMANDS", "OPTIONS")
             for _, head, text in entries(section(name))}
     sentences = list(sentences_of_help(program, commands))
-    assert len(sentences) == len(commands) + 12 + 8
+    assert len(sentences) == len(commands) + 15 + 10
     assert_nothing(f"{name}: the page has {page[part, name]!r}, the help {says!r}"
                    for part, name, says in sentences if not page[part, name].startswith(says + ". "))
 

@@ -32,6 +32,7 @@ BAD_LIST = (2, b"plotraster: bad pen list\n")
 BAD_PAGE = (2, b"plotraster: bad page: use a0 to a5, b4, letter, legal, tabloid, ansi-a to ansi-e, arch-d or arch-e, ")
 PAGE_AND_SIDE = (2, b"plotraster: --page may not be given with --width or --height\n")
 BAD_PROFILE = (2, b"plotraster: bad profile\n")
+NO_FIT = (2, b"plotraster: --margin needs --fit\n")
 NO_SHEETS = (2, b"plotraster: --sheet needs --profile full\n")
 NOT_OF_PCL = (2, b"plotraster: resolution is not one of PCL's\n")
 PAST_THE_END = (2, b"plotraster: first row is past the last row\n")
@@ -125,7 +126,7 @@ def no_numbers():
 
 def values_missing():
     """Options without a value, and values that look like options."""
-    for name in [*RANGES, "--page", "--pens", "--profile", "--sheet", "--output", "-o"]:
+    for name in [*RANGES, "--page", "--pens", "--profile", "--sheet", "--margin", "--output", "-o"]:
         yield ["pbm", name], USAGE
         yield ["pbm", "line.plt", name], USAGE
         yield ["pbm", name, "--", "line.plt"], USAGE
@@ -137,12 +138,14 @@ def values_missing():
 def options_twice():
     """An option that is given twice, with the same value or another, in both forms."""
     texts = [("--page", "a4", "a5"), ("--pens", "all", "1"), ("--profile", "full", "core")]
-    for name, value, other in [*((it, "100", "101") for it in [*RANGES, "--sheet"]), *texts]:
+    for name, value, other in [*((it, "100", "101") for it in [*RANGES, "--sheet", "--margin"]), *texts]:
         yield ["marks", name, value, name, value], USAGE
         yield ["pbm", f"{name}={value}", f"{name}={other}"], USAGE
         yield ["ppm", f"{name}={value}", "line.plt", name, other], USAGE
-    for name in [*PAGE_RANGES, "--page", "--sheet", "--profile", "--output"]:
+    for name in [*PAGE_RANGES, "--page", "--sheet", "--margin", "--profile", "--output"]:
         yield ["report", name, "100", "line.plt", f"{name}=100"], USAGE
+    yield ["report", "--fit", "line.plt", "--fit"], USAGE
+    yield ["pbm", "--verbose", "--verbose", "line.plt"], USAGE
     yield ["pcl", "-o", "picture", "line.plt", "--output=picture"], USAGE
 
 
@@ -150,7 +153,7 @@ def unknown_options():
     """Options that there are not, abbreviations among them."""
     for word in [
         "--dot", "--d", "--pen", "--wid", "--Dots", "--DOTS", "--dots-per-inch", "--dotss", "--dots ", "--version", "-V",
-        "--verbose", "-v", "-w", "--prof", "--sheets", "-dots", "-1", "-0", "--1", "--=", "--=5", "---", "---dots", "--\u00e9",
+        "--verb", "--verbos", "-v", "-w", "--fi", "--fit=1", "--fit=", "--fits", "--margins=1", "--prof", "--sheets", "-dots", "-1", "-0", "--1", "--=", "--=5", "---", "---dots", "--\u00e9",
         "-\u00e9", "--" + "w" * LONG, "-" + "w" * LONG,
     ]:
         yield ["pbm", word], USAGE
@@ -161,6 +164,7 @@ def unknown_options():
 
 def options_of_pictures():
     """A report has no options of a picture."""
+    yield ["report", "--verbose"], USAGE
     for word in ["--dots=100", "--pens=all", "--band=64", "--from=0"]:
         yield ["report", word], USAGE
         yield ["report", *word.split("="), "line.plt"], USAGE
@@ -181,6 +185,21 @@ def lists_of_pens():
         yield ["ppm", f"--pens={text}"], BAD_LIST
         if not text.startswith("-"):
             yield ["marks", "--pens", text, "line.plt"], BAD_LIST
+
+
+def fitted_pages():
+    """Pages that are fitted, with a margin or without, and margins without --fit."""
+    for command in COMMANDS:
+        yield [command, "--fit", "line.plt"], DONE
+        yield [command, "--page=a0", "line.plt", "--fit", "--left=7"], DONE
+        yield [command, "--margin=5"], NO_FIT
+        yield [command, "line.plt", "--margin", "0"], NO_FIT
+        yield [command, "--fit", "far.plt"], OFF_RANGE
+        for margin in ["0", "1", "+7", "1000"]:
+            yield [command, "--fit", "--margin", margin, "line.plt"], DONE
+            yield [command, f"--margin={margin}", "--fit", "line.plt"], DONE
+        for margin in ["", "-1", "1001", "1.5", "one", "1mm", str(2**32)]:
+            yield [command, "--fit", f"--margin={margin}", "line.plt"], USAGE
 
 
 def pages():

@@ -13,36 +13,46 @@ use Rattle.command_line.specs.Options.{picture_app, plot_app, report_app, subcom
 use Rattle.clap_parses.specs.Parses.{HasGoodMatches, IsSingleShape}
 use Rattle.clap_parses.proofs.ParseLaw.{parse_good}
 
--- width, height, page, left, below, profile, sheet, output, dots, pens, band, from and FILE take one value each; the last one is help
+-- width, height, page, left, below, margin, profile, sheet, output, dots, pens, band, from and FILE take one value each; fit and
+-- verbose are flags; the last one is help
 picture_single : (name : Text) → IsSingleShape (built_leaf (picture_app name).top)
 picture_single name = record {
   single = (
-    record { found = refl; kind = inl (refl, refl); defaults = search rules },
+    record { found = refl; kind = inl (record { sets = refl; takes = refl }); defaults = search rules },
     (
-      record { found = refl; kind = inl (refl, refl); defaults = search rules },
+      record { found = refl; kind = inl (record { sets = refl; takes = refl }); defaults = search rules },
       (
-        record { found = refl; kind = inl (refl, refl); defaults = search rules },
+        record { found = refl; kind = inl (record { sets = refl; takes = refl }); defaults = search rules },
         (
-          record { found = refl; kind = inl (refl, refl); defaults = search rules },
+          record { found = refl; kind = inl (record { sets = refl; takes = refl }); defaults = search rules },
           (
-            record { found = refl; kind = inl (refl, refl); defaults = search rules },
+            record { found = refl; kind = inl (record { sets = refl; takes = refl }); defaults = search rules },
             (
-              record { found = refl; kind = inl (refl, refl); defaults = search rules },
+              record { found = refl; kind = inr (inl (record { sets = refl; takes = refl; stands = search rules })); defaults = search rules },
               (
-                record { found = refl; kind = inl (refl, refl); defaults = search rules },
+                record { found = refl; kind = inl (record { sets = refl; takes = refl }); defaults = search rules },
                 (
-                  record { found = refl; kind = inl (refl, refl); defaults = search rules },
+                  record { found = refl; kind = inl (record { sets = refl; takes = refl }); defaults = search rules },
                   (
-                    record { found = refl; kind = inl (refl, refl); defaults = search rules },
+                    record { found = refl; kind = inl (record { sets = refl; takes = refl }); defaults = search rules },
                     (
-                      record { found = refl; kind = inl (refl, refl); defaults = search rules },
+                      record { found = refl; kind = inl (record { sets = refl; takes = refl }); defaults = search rules },
                       (
-                        record { found = refl; kind = inl (refl, refl); defaults = search rules },
+                        record { found = refl; kind = inl (record { sets = refl; takes = refl }); defaults = search rules },
                         (
-                          record { found = refl; kind = inl (refl, refl); defaults = search rules },
+                          record { found = refl; kind = inl (record { sets = refl; takes = refl }); defaults = search rules },
                           (
-                            record { found = refl; kind = inl (refl, refl); defaults = search rules },
-                            (record { found = refl; kind = inr refl; defaults = search rules }, tt),
+                            record { found = refl; kind = inl (record { sets = refl; takes = refl }); defaults = search rules },
+                            (
+                              record { found = refl; kind = inl (record { sets = refl; takes = refl }); defaults = search rules },
+                              (
+                                record { found = refl; kind = inr (inl (record { sets = refl; takes = refl; stands = search rules })); defaults = search rules },
+                                (
+                                  record { found = refl; kind = inl (record { sets = refl; takes = refl }); defaults = search rules },
+                                  (record { found = refl; kind = inr (inr refl); defaults = search rules }, tt),
+                                ),
+                              ),
+                            ),
                           ),
                         ),
                       ),
@@ -59,28 +69,34 @@ picture_single name = record {
   no_again = refl;
 }
 
--- width, height, page, left, below, profile, sheet, output and FILE take one value each; the last one is help
+-- width, height, page, left, below, margin, profile, sheet, output and FILE take one value each; fit is a flag; the last one is help
 report_single : (name : Text) → IsSingleShape (built_leaf (report_app name).top)
 report_single name = record {
   single = (
-    record { found = refl; kind = inl (refl, refl); defaults = search rules },
+    record { found = refl; kind = inl (record { sets = refl; takes = refl }); defaults = search rules },
     (
-      record { found = refl; kind = inl (refl, refl); defaults = search rules },
+      record { found = refl; kind = inl (record { sets = refl; takes = refl }); defaults = search rules },
       (
-        record { found = refl; kind = inl (refl, refl); defaults = search rules },
+        record { found = refl; kind = inl (record { sets = refl; takes = refl }); defaults = search rules },
         (
-          record { found = refl; kind = inl (refl, refl); defaults = search rules },
+          record { found = refl; kind = inl (record { sets = refl; takes = refl }); defaults = search rules },
           (
-            record { found = refl; kind = inl (refl, refl); defaults = search rules },
+            record { found = refl; kind = inl (record { sets = refl; takes = refl }); defaults = search rules },
             (
-              record { found = refl; kind = inl (refl, refl); defaults = search rules },
+              record { found = refl; kind = inr (inl (record { sets = refl; takes = refl; stands = search rules })); defaults = search rules },
               (
-                record { found = refl; kind = inl (refl, refl); defaults = search rules },
+                record { found = refl; kind = inl (record { sets = refl; takes = refl }); defaults = search rules },
                 (
-                  record { found = refl; kind = inl (refl, refl); defaults = search rules },
+                  record { found = refl; kind = inl (record { sets = refl; takes = refl }); defaults = search rules },
                   (
-                    record { found = refl; kind = inl (refl, refl); defaults = search rules },
-                    (record { found = refl; kind = inr refl; defaults = search rules }, tt),
+                    record { found = refl; kind = inl (record { sets = refl; takes = refl }); defaults = search rules },
+                    (
+                      record { found = refl; kind = inl (record { sets = refl; takes = refl }); defaults = search rules },
+                      (
+                        record { found = refl; kind = inl (record { sets = refl; takes = refl }); defaults = search rules },
+                        (record { found = refl; kind = inr (inr refl); defaults = search rules }, tt),
+                      ),
+                    ),
                   ),
                 ),
               ),

@@ -9,7 +9,7 @@ use Rattle.picture_out.specs.declared.form.Form.TheVariants as form
 use Rattle.command_line.specs.declared.subcommands.Output.TheVariants as output
 use Rattle.command_line.specs.declared.fault.LineFault.{LineFault}
 use Rattle.command_line.specs.declared.fault.LineFault.TheVariants as fault
-use Rattle.command_line.specs.Lines.{fault_of_values, has_bad_list, number_in, output_named, page_size, pens_text, profile_text, sheet_in}
+use Rattle.command_line.specs.Lines.{fault_of_values, has_bad_list, has_flag, number_in, output_named, page_size, pens_text, profile_text, sheet_in}
 use Rattle.command_line.specs.Papers.{paper_of}
 use Rattle.command_line.specs.Options.{plot_app}
 use Rattle.command_line.specs.Statuses.{parse_status_of}
@@ -248,3 +248,23 @@ asked_for_the_version = refl
 subcommand_has_no_version : faults_on (codes "pbm" ∷ codes "--version" ∷ []) ≡ kind.UnknownArgument ∷ []
 unfolding clap_on_literals
 subcommand_has_no_version = refl
+
+-- whether a flag is given on a command line
+abbrev flag_on : List Text → Text → Option Bool
+flag_on words name = option_map (λ p. has_flag p.1 name) (subcommand_of plot_app (after_name words))
+
+fit_given : flag_on (codes "pbm" ∷ codes "--fit" ∷ codes "a.plt" ∷ []) (codes "fit") ≡ Some true
+unfolding clap_on_literals
+fit_given = refl
+
+fit_left_out : flag_on (codes "report" ∷ codes "--margin=5" ∷ []) (codes "fit") ≡ Some false
+unfolding clap_on_literals
+fit_left_out = refl
+
+fit_twice : faults_on (codes "ppm" ∷ codes "--fit" ∷ codes "--fit" ∷ []) ≡ kind.ArgumentConflict ∷ []
+unfolding clap_on_literals
+fit_twice = refl
+
+report_says_no_more : faults_on (codes "report" ∷ codes "--verbose" ∷ []) ≡ kind.UnknownArgument ∷ []
+unfolding clap_on_literals
+report_says_no_more = refl

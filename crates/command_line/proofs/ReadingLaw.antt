@@ -20,7 +20,7 @@ use Rattle.command_line.specs.declared.subcommands.Output.{Output}
 use Rattle.command_line.specs.declared.subcommands.Output.TheVariants.{Picture, Report}
 use Rattle.command_line.specs.Lines.{number_in, output_named}
 use Rattle.command_line.specs.Options.{picture_app, plot_app, report_app, subcommand_app, subcommands}
-use Rattle.command_line.specs.Readings.{HasNumber, HasPageNumbers, HasPictureValues, HasReadingValues, HasValues, MayHaveNumber}
+use Rattle.command_line.specs.Readings.{HasChoiceValues, HasNumber, HasPageNumbers, HasPictureValues, HasReadingValues, HasValues, MayHaveNumber}
 
 -- a row of an argument: its value passes, and is read as the argument's parser says
 record IsRowOf (a : Rule) (r : Row) : Type 0 where
@@ -107,10 +107,10 @@ reading_values c a b rows profile sheet parser all has = record {
 }
 
 report_reading : (name : Text) (rows : List Row) → RowsOf (built_leaf (report_app name).top).rules rows → HasReadingValues rows
-report_reading name rows good = reading_values _ _ _ rows refl refl refl good.each (good.defaults.1.1.1.1.1.0 (omega arith))
+report_reading name rows good = reading_values _ _ _ rows refl refl refl good.each (good.defaults.1.1.1.1.1.1.1.0 (omega arith))
 
 picture_reading : (name : Text) (rows : List Row) → RowsOf (built_leaf (picture_app name).top).rules rows → HasReadingValues rows
-picture_reading name rows good = reading_values _ _ _ rows refl refl refl good.each (good.defaults.1.1.1.1.1.0 (omega arith))
+picture_reading name rows good = reading_values _ _ _ rows refl refl refl good.each (good.defaults.1.1.1.1.1.1.1.0 (omega arith))
 
 report_numbers : (name : Text) (rows : List Row) → RowsOf (built_leaf (report_app name).top).rules rows → HasPageNumbers rows
 report_numbers name rows good = record {
@@ -128,11 +128,17 @@ picture_values name rows good = record {
     left = number_there _ _ (codes "left") rows 0 65536 refl refl good.each (good.defaults.1.1.1.0 (omega arith));
     below = number_there _ _ (codes "below") rows 0 65536 refl refl good.each (good.defaults.1.1.1.1.0 (omega arith));
   };
-  dots = number_there _ _ (codes "dots") rows 10 1200 refl refl good.each (good.defaults.1.1.1.1.1.1.1.1.0 (omega arith));
-  pens = text_there _ _ (codes "pens") rows refl good.each (good.defaults.1.1.1.1.1.1.1.1.1.0 (omega arith));
-  band = number_there _ _ (codes "band") rows 1 4096 refl refl good.each (good.defaults.1.1.1.1.1.1.1.1.1.1.0 (omega arith));
-  first_row = number_there _ _ (codes "from") rows 0 99999 refl refl good.each (good.defaults.1.1.1.1.1.1.1.1.1.1.1.0 (omega arith));
+  dots = number_there _ _ (codes "dots") rows 10 1200 refl refl good.each (good.defaults.1.1.1.1.1.1.1.1.1.1.0 (omega arith));
+  pens = text_there _ _ (codes "pens") rows refl good.each (good.defaults.1.1.1.1.1.1.1.1.1.1.1.0 (omega arith));
+  band = number_there _ _ (codes "band") rows 1 4096 refl refl good.each (good.defaults.1.1.1.1.1.1.1.1.1.1.1.1.0 (omega arith));
+  first_row = number_there _ _ (codes "from") rows 0 99999 refl refl good.each (good.defaults.1.1.1.1.1.1.1.1.1.1.1.1.1.0 (omega arith));
 }
+
+report_choice : (name : Text) (rows : List Row) → RowsOf (built_leaf (report_app name).top).rules rows → HasChoiceValues rows
+report_choice name rows good = number_if_there _ _ (codes "margin") rows 0 1000 refl refl good.each
+
+picture_choice : (name : Text) (rows : List Row) → RowsOf (built_leaf (picture_app name).top).rules rows → HasChoiceValues rows
+picture_choice name rows good = number_if_there _ _ (codes "margin") rows 0 1000 refl refl good.each
 
 -- the rows of a subcommand give its options values
 abbrev Reads : Shape → Type 0
@@ -146,8 +152,16 @@ all_named : AllByRecursion IsNamed subcommands
 all_named = search rules
 
 row_reads : (it : Text × Output) → IsNamed it → Reads (built_leaf (subcommand_app it).top)
-row_reads (name, Picture form) named = λ rows good. (rw named (picture_values name rows good), picture_reading name rows good)
-row_reads (name, Report) named = λ rows good. (rw named (report_numbers name rows good), report_reading name rows good)
+row_reads (name, Picture form) named = λ rows good. record {
+  task = rw named (picture_values name rows good);
+  reading = picture_reading name rows good;
+  choice = picture_choice name rows good;
+}
+row_reads (name, Report) named = λ rows good. record {
+  task = rw named (report_numbers name rows good);
+  reading = report_reading name rows good;
+  choice = report_choice name rows good;
+}
 
 reads : (its : List (Text × Output)) → AllByRecursion IsNamed its → AllByRecursion Reads (map (λ (it : Text × Output). built_leaf (subcommand_app it).top) its)
 reads [] named = tt

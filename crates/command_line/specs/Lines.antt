@@ -16,8 +16,10 @@ use Rattle.pen_list.specs.Lists.{is_listed, is_pen_list}
 use Rattle.picture_job.specs.declared.job.Job.{Job}
 use Rattle.picture_job.specs.declared.reading.Reading.{Reading}
 use Rattle.picture_job.specs.declared.reading.Reading.TheVariants.{Core, Full}
+use Rattle.picture_job.specs.declared.page_choice.PageChoice.{PageChoice}
+use Rattle.picture_job.specs.declared.page_choice.PageChoice.TheVariants.{Given, Fitted}
 use Rattle.command_line.specs.declared.fault.LineFault.{LineFault}
-use Rattle.command_line.specs.declared.fault.LineFault.TheVariants.{Pens, Paper, Size, Profile, Sheet}
+use Rattle.command_line.specs.declared.fault.LineFault.TheVariants.{Pens, Paper, Size, Profile, Sheet, Margin}
 use Rattle.command_line.specs.declared.line.Line.{Line}
 use Rattle.command_line.specs.declared.line.Task.{Task}
 use Rattle.command_line.specs.declared.line.Task.TheVariants.{Picture, Report}
@@ -43,6 +45,18 @@ profile_text rows = first_of (codes "profile") rows
 -- the number of the sheet, or None if none is given
 abbrev pub sheet_in : List Row → Option ℕ
 sheet_in rows = number_in rows (codes "sheet")
+
+-- the flag of this name is given
+abbrev pub has_flag : List Row → Text → Bool
+has_flag rows name = option_map_or (λ text. bytes_eq text (codes "true")) (first_of name rows) false
+
+-- the page is to be fitted to the drawing
+abbrev pub has_fit : List Row → Bool
+has_fit rows = has_flag rows (codes "fit")
+
+-- the margin in millimetres, or None if none is given
+abbrev pub margin_in : List Row → Option ℕ
+margin_in rows = number_in rows (codes "margin")
 
 -- what the subcommand of this name writes
 abbrev pub output_named : Text → Option Output
@@ -98,6 +112,11 @@ abbrev pub IsReadingOf : List Row → Reading → Type 0
 IsReadingOf rows Core = (profile_text rows ≡ Some (codes "core")) × (sheet_in rows ≡ None)
 IsReadingOf rows (Full sheet) = (profile_text rows ≡ Some (codes "full")) × (unwrap_or (sheet_in rows) 1 ≡ sheet)
 
+-- the page is the given one, or it is fitted to the drawing, with the given margin, or with 1 mm if none is given
+abbrev pub IsChoiceOf : List Row → PageChoice → Type 0
+IsChoiceOf rows Given = (has_fit rows ≡ false) × (margin_in rows ≡ None)
+IsChoiceOf rows (Fitted margin) = (has_fit rows ≡ true) × (unwrap_or (margin_in rows) 1 ≡ margin)
+
 -- the line is what the matches m ask for: by the subcommand, its options and FILE
 pub record IsLineOf (m : ArgMatches) (line : Line) : Type 0 where
   pub name : Text
@@ -105,8 +124,10 @@ pub record IsLineOf (m : ArgMatches) (line : Line) : Type 0 where
   pub matches : subcommand_rows_of m ≡ Some (name, rows)
   pub task : IsTaskOf name rows line.task
   pub reading : IsReadingOf rows line.reading
+  pub choice : IsChoiceOf rows line.choice
   pub file : option_map (λ s. s.now) line.file ≡ first_of (codes "FILE") rows
   pub output : option_map (λ s. s.now) line.output ≡ first_of (codes "output") rows
+  pub verbose : line.verbose ≡ has_flag rows (codes "verbose")
 
 -- the matches are those of a command line in which `plotraster` finds no fault
 abbrev pub AreOfThisCommand : ArgMatches → Type 0
@@ -150,13 +171,18 @@ abbrev pub reading_fault : List Row → Option LineFault
 reading_fault rows =
     if has_bad_profile rows then Some Profile else if has_stray_sheet rows then Some Sheet else None
 
+-- what is wrong with the choice of the page: a margin is given, and the page is not to be fitted
+abbrev pub choice_fault : List Row → Option LineFault
+choice_fault rows = if not (has_fit rows) && is_some (margin_in rows) then Some Margin else None
+
 -- what is wrong with the values for the task: first comes the list of pens, then the page
 abbrev pub task_fault : Text × List Row → Option LineFault
 task_fault (name, rows) = if has_bad_list (name, rows) then Some Pens else page_fault rows
 
--- what is wrong with the values of a subcommand's options: first comes the task, then the reading
+-- what is wrong with the values of a subcommand's options: first comes the task, then the reading, then the choice of the
+-- page
 abbrev pub fault_of_values : Text × List Row → Option LineFault
-fault_of_values (name, rows) = option_or (task_fault (name, rows)) (reading_fault rows)
+fault_of_values (name, rows) = option_or (task_fault (name, rows)) (option_or (reading_fault rows) (choice_fault rows))
 
 -- the same for the matches
 abbrev pub line_fault : ArgMatches → Option LineFault

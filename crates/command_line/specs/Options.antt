@@ -3,7 +3,7 @@ use Rattle.std.specs.Prelude.{◌≡◌, ℕ, List, [], ◌∷◌, Some, codes, 
 use Rattle.clap.specs.Words.{App, Rule, Text, app_of, new_app, new_rule, with_rule, with_subcommand}
 use Rattle.clap.specs.declared.builder.command.Command.{Command}
 use Rattle.clap.specs.declared.builder.command.Command.TheViews.{out-Command}
-use Rattle.clap.specs.declared.builder.action.ArgAction.TheVariants.{Set}
+use Rattle.clap.specs.declared.builder.action.ArgAction.TheVariants.{Set, SetTrue}
 use Rattle.clap.specs.declared.builder.value_parser.ValueParser.{ValueParser}
 use Rattle.clap.specs.declared.builder.value_parser.ValueParser.TheVariants as vp
 use Rattle.picture_out.specs.declared.form.Form.TheVariants.{Marks, Pbm, Ppm, Pcl}
@@ -31,6 +31,10 @@ whole_number low high = vp.Signed (pos low) (pos high)
 abbrev pub number_rule : Text → ℕ → ℕ → Text → Rule
 number_rule name low high given = option_rule name (whole_number low high) given
 
+-- `--NAME`, at most once
+abbrev pub flag_rule : Text → Rule
+flag_rule name = record (new_rule name) { long = Some name; action = Some SetTrue }
+
 -- FILE, the only word that is neither an option nor a subcommand
 abbrev pub file_rule : Rule
 file_rule = record (new_rule (codes "FILE")) { action = Some Set }
@@ -44,6 +48,10 @@ with_page a = with_rule (with_rule (with_rule (with_rule (with_rule a
     (number_rule (codes "left") 0 65536 (codes "0")))
     (number_rule (codes "below") 0 65536 (codes "0"))
 
+-- whether the page is fitted to the drawing, and the margin in millimetres, which has no default
+abbrev pub with_fit : App → App
+with_fit a = with_rule (with_rule a (flag_rule (codes "fit"))) (bare_rule (codes "margin") (whole_number 0 1000))
+
 -- how the plot is read: the profile, and the sheet, which has no default
 abbrev pub with_reading : App → App
 with_reading a = with_rule (with_rule a
@@ -56,15 +64,16 @@ output_rule = record (bare_rule (codes "output") vp.String) { short = Some 111 }
 
 -- what each subcommand takes: the page, how the plot is read, and where the output goes
 abbrev pub with_plot : App → App
-with_plot a = with_rule (with_reading (with_page a)) output_rule
+with_plot a = with_rule (with_reading (with_fit (with_page a))) output_rule
 
--- how a picture is made: dots per inch, pens, rows in a band, first row
+-- how a picture is made: dots per inch, pens, rows in a band, first row; and whether to say what was drawn
 abbrev pub with_picture : App → App
-with_picture a = with_rule (with_rule (with_rule (with_rule a
+with_picture a = with_rule (with_rule (with_rule (with_rule (with_rule a
     (number_rule (codes "dots") 10 1200 (codes "100")))
     (option_rule (codes "pens") vp.String (codes "all")))
     (number_rule (codes "band") 1 4096 (codes "4096")))
-    (number_rule (codes "from") 0 99999 (codes "0"))
+    (number_rule (codes "from") 0 99999 (codes "0")))
+    (flag_rule (codes "verbose"))
 
 -- a subcommand that writes a picture
 abbrev pub picture_app : Text → App

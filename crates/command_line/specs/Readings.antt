@@ -63,6 +63,12 @@ pub record HasReadingValues (rows : List Row) : Type 0 where
   pub profile : is_some (profile_text rows) ≡ true
   pub sheet : MayHaveNumber rows (codes "sheet") 0 4194304
 
+-- the margin, if one is given, is a number
+abbrev pub HasChoiceValues : List Row → Type 0
+HasChoiceValues rows = MayHaveNumber rows (codes "margin") 0 1000
+
 -- each option that a subcommand needs has a value
-abbrev pub HasValues : Text → List Row → Type 0
-HasValues name rows = HasTaskValues name rows × HasReadingValues rows
+pub record HasValues (name : Text) (rows : List Row) : Type 0 where
+  pub task : HasTaskValues name rows
+  pub reading : HasReadingValues rows
+  pub choice : HasChoiceValues rows

@@ -35,6 +35,9 @@ pub enum LineFault {
     /// `--sheet` is given with the profile core, which has no sheets.
     #[error("--sheet needs --profile full")]
     Sheet,
+    /// `--margin` is given without `--fit`.
+    #[error("--margin needs --fit")]
+    Margin,
 }
 
 /// The exit status if words gave no matches: 0 if help or the version was asked for, 4 if memory

@@ -6,8 +6,8 @@ ghost use Rattle.clap.specs.Words.{found_of, rows_of};
 ghost use Rattle.command_line.specs.Lines.{number_in, lists_no_pens, has_bad_list, asks_bad_list};
 ghost use Rattle.command_line.specs.Lines.{ArePensOf, IsPageOf, IsJobOf, IsTaskOf, IsLineOf, AreOfThisCommand};
 ghost use Rattle.command_line.specs.Lines.{IsReadingOf, line_fault, page_fault, pens_text, reading_fault, task_fault};
-ghost use Rattle.command_line.specs.Lines.{has_paper_and_side, page_size};
-ghost use Rattle.command_line.specs.Readings.{HasNumber, HasPageNumbers, HasPictureValues, HasReadingValues, HasTaskValues};
+ghost use Rattle.command_line.specs.Lines.{IsChoiceOf, choice_fault, has_flag, has_paper_and_side, page_size};
+ghost use Rattle.command_line.specs.Readings.{HasChoiceValues, HasNumber, HasPageNumbers, HasPictureValues, HasReadingValues, HasTaskValues};
 ghost use Rattle.command_line.specs.Readings.{MayHaveNumber, paper_or_fault, picture_fault};
 ghost use Rattle.plot_page.specs.Pages.{has_page_size};
 
@@ -16,7 +16,7 @@ use crate::papers::paper_named;
 use crate::subcommands::{Output, output_of};
 use clap::ArgMatches;
 use pen_list::read_pens;
-use picture_job::{Job, Reading};
+use picture_job::{Job, PageChoice, Reading};
 use picture_out::Form;
 use plot_page::{Dots, Page, PenSet};
 
@@ -36,19 +36,23 @@ pub struct Line<'a> {
     pub task: Task,
     /// How the plot is read.
     pub reading: Reading,
+    /// Which page it is drawn on.
+    pub choice: PageChoice,
     /// The name of the plot's file, or `None` if the plot comes on standard input.
     pub file: Option<&'a str>,
     /// The name of the file to write, or `None` for standard output.
     pub output: Option<&'a str>,
+    /// Whether to say on standard error what was drawn.
+    pub verbose: bool,
 }
 
 /// The values of the matches of `command`'s command.
 ///
 /// Errors, of which the first is given: `Pens` if a picture is asked for and `--pens` is not a valid
 /// list, `Paper` if `--page` names no paper, `Size` if `--page` is given with `--width` or
-/// `--height`, `Profile` if `--profile` is neither `core` nor `full`, and `Sheet` if `--sheet` is
-/// given with the profile core; no other one after a `parse` that succeeded. `Words` if the matches
-/// are of another command.
+/// `--height`, `Profile` if `--profile` is neither `core` nor `full`, `Sheet` if `--sheet` is
+/// given with the profile core, and `Margin` if `--margin` is given without `--fit`; no other one
+/// after a `parse` that succeeded. `Words` if the matches are of another command.
 pub fn settle<'a>(matches: &ArgMatches<'a>) -> Result<Line<'a>, LineFault>
     ensures line { IfOk result (IsLineOf matches.now) }
     ensures pens { (result ≡ Err LineFault.Pens) ↔ (asks_bad_list matches.now ≡ true) }
@@ -58,8 +62,10 @@ pub fn settle<'a>(matches: &ArgMatches<'a>) -> Result<Line<'a>, LineFault>
     Ok(Line {
         task: task_of(name, options)?,
         reading: reading_of(options)?,
+        choice: choice_of(options)?,
         file: options.get_str("FILE"),
         output: options.get_str("output"),
+        verbose: has_flag(options, "verbose"),
     })
 }
 
@@ -165,6 +171,34 @@ fn reading_of(options: &ArgMatches<'_>) -> Result<Reading, LineFault>
     match sheet {
         None => Ok(Reading::Core),
         Some(_) => Err(LineFault::Sheet),
+    }
+}
+
+fn choice_of(options: &ArgMatches<'_>) -> Result<PageChoice, LineFault>
+    ensures choice { IfOk result (IsChoiceOf (rows_of (found_of options.now))) }
+    ensures pens { result ≢ Err LineFault.Pens }
+    ensures refused { HasChoiceValues (rows_of (found_of options.now)) →
+        result_err result ≡ choice_fault (rows_of (found_of options.now)) }
+{
+    let margin = number_if_given(options, "margin")?;
+    if has_flag(options, "fit") {
+        return Ok(PageChoice::Fitted {
+            margin: margin.unwrap_or(1),
+        });
+    }
+    match margin {
+        None => Ok(PageChoice::Given),
+        Some(_) => Err(LineFault::Margin),
+    }
+}
+
+// Whether a flag is given.
+fn has_flag(options: &ArgMatches<'_>, name: &str) -> bool
+    ensures { result ≡ has_flag (rows_of (found_of options.now)) name.now }
+{
+    match options.get_str(name) {
+        Some(text) => text == "true",
+        None => false,
     }
 }
 

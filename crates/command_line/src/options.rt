@@ -6,16 +6,16 @@ ghost use Rattle.clap.specs.declared.parser.matches.ArgMatches.{ArgMatches};
 ghost use Rattle.clap.specs.Words.{app_of, rule_of, is_simple_and_free, new_app, with_rule, with_subcommand};
 ghost use Rattle.clap.specs.declared.builder.command.Command.TheViews.{out-Command as fields_of};
 ghost use Rattle.clap.specs.declared.builder.value_parser.ValueParser.TheVariants as ValueParser;
-ghost use Rattle.command_line.specs.Options.{bare_rule, option_rule, whole_number, number_rule, file_rule};
-ghost use Rattle.command_line.specs.Options.{output_rule, with_page, with_reading, with_plot, with_picture};
+ghost use Rattle.command_line.specs.Options.{bare_rule, option_rule, whole_number, number_rule, flag_rule, file_rule};
+ghost use Rattle.command_line.specs.Options.{output_rule, with_fit, with_page, with_reading, with_plot, with_picture};
 ghost use Rattle.command_line.specs.Options.{picture_app, report_app, subcommand_app, add_subcommand, plot_app};
 ghost use Rattle.command_line.specs.Options.{top_app, IsOf};
 ghost use Rattle.clap_parses.specs.Parses.{HasGoodMatches};
 
 use crate::fault::BuildFault;
 use crate::help::{
-    BAND, BELOW, FILE, FROM, HEIGHT, HelpLine, HelpPage, LEFT, OUTPUT, PAGE, PENS, PROFILE, SHEET,
-    TOP, VERSION, WIDTH,
+    BAND, BELOW, FILE, FIT, FROM, HEIGHT, HelpLine, HelpPage, LEFT, MARGIN, OUTPUT, PAGE, PENS,
+    PROFILE, SHEET, TOP, VERBOSE, VERSION, WIDTH,
 };
 use crate::subcommands::{Output, SUBCOMMANDS, dots_line};
 use clap::builder::ValueParser;
@@ -118,6 +118,17 @@ fn output_of<'a>(alloc: Global) -> Arg<'a>
     bare_option(alloc, "output", ValueParser::string(), OUTPUT).short('o')
 }
 
+// `--name`, at most once.
+fn flag_of<'a>(alloc: Global, name: &'a str, help: &'a str) -> Arg<'a>
+    ensures rule { rule_of result ≡ flag_rule name.entry.now }
+    ensures local { result.global ≡ false }
+{
+    Arg::new(alloc, name)
+        .long(name)
+        .action(ArgAction::SetTrue)
+        .help(help)
+}
+
 fn file_of<'a>(alloc: Global) -> Arg<'a>
     ensures rule { rule_of result ≡ file_rule }
     ensures local { result.global ≡ false }
@@ -157,6 +168,15 @@ fn add_page<'a>(alloc: Global, command: Command<'a>) -> Result<Command<'a>, Allo
     add(command, below)
 }
 
+fn add_fit<'a>(alloc: Global, command: Command<'a>) -> Result<Command<'a>, AllocError>
+    requires { (fields_of command).has_globals ≡ false }
+    ensures { IfOk result (IsOf (with_fit (app_of command.entry))) }
+{
+    let fit = flag_of(alloc, "fit", FIT);
+    let margin = bare_number_of(alloc, "margin", 0, 1000, MARGIN);
+    add(add(command, fit)?, margin)
+}
+
 fn add_reading<'a>(alloc: Global, command: Command<'a>) -> Result<Command<'a>, AllocError>
     requires { (fields_of command).has_globals ≡ false }
     ensures { IfOk result (IsOf (with_reading (app_of command.entry))) }
@@ -170,7 +190,8 @@ fn add_plot<'a>(alloc: Global, command: Command<'a>) -> Result<Command<'a>, Allo
     requires { (fields_of command).has_globals ≡ false }
     ensures { IfOk result (IsOf (with_plot (app_of command.entry))) }
 {
-    let command = add_reading(alloc, add_page(alloc, command)?)?;
+    let command = add_fit(alloc, add_page(alloc, command)?)?;
+    let command = add_reading(alloc, command)?;
     add(command, output_of(alloc))
 }
 
@@ -189,7 +210,8 @@ fn add_picture<'a>(
     let command = add(command, dots)?;
     let command = add(command, pens)?;
     let command = add(command, band)?;
-    add(command, from)
+    let command = add(command, from)?;
+    add(command, flag_of(alloc, "verbose", VERBOSE))
 }
 
 fn picture_command<'a>(

@@ -16,6 +16,8 @@ pub enum Asked {
     Line,
     // Only how a command line has the plot read, or why it is refused.
     Reading,
+    // Only which page a command line chooses, and whether more is to be said, or why it is refused.
+    Page,
     // Only the file that a command line has written and the one that it has read, or why it is refused.
     Files,
     // The pens of a list.
@@ -62,7 +64,7 @@ pub fn has_answers_for_each(
 
 fn answer_of(alloc: Global, asked: Asked, line: &str) -> Result<String, Fail> {
     match asked {
-        Asked::Line | Asked::Reading | Asked::Files => told(alloc, asked, line),
+        Asked::Line | Asked::Reading | Asked::Page | Asked::Files => told(alloc, asked, line),
         Asked::Pens => Ok(list_told(alloc, line)?),
     }
 }
@@ -97,6 +99,10 @@ fn line_told(alloc: Global, asked: Asked, line: &Line<'_>) -> Result<String, All
     let (reading, file, output) = (line.reading, line.file, line.output);
     match (asked, &line.task) {
         (Asked::Reading, _) => format!(in alloc; "{reading:?}"),
+        (Asked::Page, _) => {
+            let (choice, verbose) = (line.choice, line.verbose);
+            format!(in alloc; "{choice:?} {verbose}")
+        }
         (Asked::Files, _) => format!(in alloc; "{output:?} of {file:?}"),
         (_, Task::Picture(job)) => job_told(alloc, job, file),
         (_, Task::Report(page)) => {

@@ -4,6 +4,8 @@
 #[cfg(test)]
 mod cases;
 #[cfg(test)]
+mod choices;
+#[cfg(test)]
 mod options;
 #[cfg(test)]
 mod outputs;

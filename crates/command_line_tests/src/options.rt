@@ -266,12 +266,14 @@ fn refuses_other_matches(rt: HostRuntime) -> Result<(), Fail> {
 #[test]
 fn prints_faults(rt: HostRuntime) -> Result<(), Fail> {
     let (words, pens, size) = (LineFault::Words, LineFault::Pens, LineFault::Size);
-    let (profile, sheet, memory) = (LineFault::Profile, LineFault::Sheet, BuildFault::Memory);
-    let texts = format!(in rt.alloc(); "{words}, {pens}, {size}, {profile}, {sheet}, {memory}")?;
+    let (profile, sheet) = (LineFault::Profile, LineFault::Sheet);
+    let (margin, memory) = (LineFault::Margin, BuildFault::Memory);
+    let texts =
+        format!(in rt.alloc(); "{words}, {pens}, {size}, {profile}, {sheet}, {margin}, {memory}")?;
     assert_eq!(rt;
         texts.as_str(),
         "words not understood, bad pen list, --page may not be given with --width or --height, bad profile, \
-         --sheet needs --profile full, out of memory"
+         --sheet needs --profile full, --margin needs --fit, out of memory"
     );
     let text = format!(in rt.alloc(); "{}", LineFault::Paper)?;
     assert_eq!(rt;

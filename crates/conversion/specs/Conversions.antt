@@ -12,8 +12,15 @@ use Rattle.devices.specs.Sinks.{SinkState}
 use Rattle.devices.specs.Sources.{SourceState}
 use Rattle.conversion.specs.declared.done.Done.{Done}
 use Rattle.conversion.specs.declared.fault.Fault.{Fault}
-use Rattle.conversion.specs.declared.fault.Fault.TheVariants.{TooLong, Memory, Write, Read, Resolution}
+use Rattle.conversion.specs.declared.fault.Fault.TheVariants.{TooLong, Memory, Paint, Write, Read, Resolution}
 use Rattle.conversion.specs.Boxes.{strokes_boxes}
+use Rattle.plot_page.specs.declared.page.Page.{Page}
+use Rattle.picture_job.specs.declared.page_choice.PageChoice.{PageChoice}
+use Rattle.picture_job.specs.declared.page_choice.PageChoice.TheVariants.{Given}
+use Rattle.conversion.specs.Placements.{IsPlaced}
+use Rattle.page_fit.specs.Census.{census_of}
+use Rattle.conversion.specs.declared.placement.Placement.{Placement}
+use Rattle.conversion.specs.declared.outcome.Outcome.{Outcome}
 
 -- the whole picture was written
 pub record IsWritten (rules : Rules) (job : Job) (reaches : Reach) (input : List ℕ) (before after : SourceState)
@@ -70,6 +77,37 @@ pub record HasConvertedBy (rules : Rules) (job : Job) (reaches : Reach) (before 
 abbrev pub HasConverted : Job → Reach → SourceState → SourceState → SinkState → SinkState → ℕ → ℕ → Result Done Fault →
     Type 0
 HasConverted = HasConvertedBy core_rules
+
+-- the job, on another page
+abbrev pub on_page : Page → Job → Job
+on_page page job = record job { page = page }
+
+-- what each answer says where the page was chosen: that of the job on the page that the plot is drawn on
+abbrev pub ConvertsOn : Rules → PageChoice → Job → Page → Reach → List ℕ → SourceState → SourceState → SinkState →
+    SinkState → Result Outcome Fault → Type 0
+ConvertsOn rules choice job page reaches input before after sink sink' (Ok outcome) =
+    IsPlaced choice rules job.pens job.page input outcome.placement page
+    × IsWritten rules (on_page page job) reaches input before after sink sink' outcome.done
+    × (outcome.census ≡ census_of job.pens page (rules.strokes page input))
+ConvertsOn rules choice job page reaches input before after sink sink' (Err (Write row whole bytes)) =
+    ((placement : Placement) × IsPlaced choice rules job.pens job.page input placement page)
+    × IsCutShort rules (on_page page job) reaches input before after sink sink' row whole bytes
+ConvertsOn rules choice job page reaches input before after sink sink' (Err (Paint fault)) =
+    ((placement : Placement) × IsPlaced choice rules job.pens job.page input placement page)
+    × IsRefused rules (on_page page job) input before after (Paint fault)
+ConvertsOn rules choice job page reaches input before after sink sink' (Err fault) =
+    Converts rules job reaches input before after sink sink' (Err fault)
+
+-- a conversion by these rules where the page was chosen, as HasConvertedBy
+pub record HasConvertedOn (rules : Rules) (choice : PageChoice) (job : Job) (reaches : Reach)
+    (before after : SourceState) (sink sink' : SinkState) (tests tests' : ℕ)
+    (answer : Result Outcome Fault) : Type 0 where
+  pub input : List ℕ
+  pub taken : Consumes before.left after.left input
+  pub page : Page
+  pub given : choice ≡ Given → page ≡ job.page
+  pub converts : ConvertsOn rules choice job page reaches input before after sink sink' answer
+  pub tested : tests' ≤ tests + strokes_boxes (on_page page job) (rules.strokes page input)
 
 -- the sink failed
 abbrev pub is_write : Fault → Bool

@@ -1,4 +1,4 @@
--- What reading a plot and drawing it on a page answers.
+-- What reading a plot and drawing it on the page that was chosen answers.
 use Rattle.std.specs.Prelude.{◌≡◌, ℕ, ◌+◌, ◌≤◌, List, length, Result, Ok, Err, Option, None, Some, option_map, ⊤}
 use Rattle.std.specs.Io.KnownBytes.{Consumes}
 use Rattle.hpgl_plot.specs.declared.fault.PlotFault.{PlotFault}
@@ -6,7 +6,11 @@ use Rattle.hpgl_plot.specs.declared.fault.PlotFault.TheVariants as plot
 use Rattle.plot_page.specs.declared.page.Page.{Page}
 use Rattle.plot_page.specs.declared.stroke.TheConstants.{MOST_STROKES}
 use Rattle.conversion.specs.Rules.{Rules}
-use Rattle.conversion.specs.declared.draw_source.Lines.{Lines}
+use Rattle.plot_page.specs.declared.pens.PenSet.{PenSet}
+use Rattle.picture_job.specs.declared.page_choice.PageChoice.{PageChoice}
+use Rattle.conversion.specs.Placements.{IsPlaced}
+use Rattle.conversion.specs.declared.lines.Lines.{Lines}
+use Rattle.conversion.specs.declared.place.Placed.{Placed}
 use Rattle.conversion.specs.Readings.{WasRead, WasTooLong}
 use Rattle.devices.specs.Sources.{SourceState}
 use Rattle.conversion.specs.declared.fault.Fault.{Fault}
@@ -17,14 +21,20 @@ abbrev pub IsReason : PlotFault → Option PlotFault → Type 0
 IsReason plot.Memory refusal = ⊤
 IsReason fault refusal = refusal ≡ Some fault
 
--- the plot was read whole and is accepted for the page; these are its strokes, and how many notes there are on it
-pub record IsDrawn (rules : Rules) (page : Page) (input : List ℕ) (before after : SourceState)
-    (lines : Lines) : Type 0 where
-  pub read : WasRead input before after
-  pub accepted : rules.refusal page input ≡ None
-  pub strokes_are : lines.strokes.items ≡ rules.strokes page input
-  pub notes_are : lines.notes ≡ rules.notes input
+-- the plot is accepted for the page, and these are what it draws there, and how many notes there are on it
+pub record AreLinesOf (rules : Rules) (page : Page) (plot : List ℕ) (lines : Lines) : Type 0 where
+  pub accepted : rules.refusal page plot ≡ None
+  pub strokes_are : lines.strokes.items ≡ rules.strokes page plot
+  pub notes_are : lines.notes ≡ rules.notes plot
+  pub sheets_are : lines.sheets ≡ rules.sheets page plot
   pub few : length lines.strokes.items ≤ MOST_STROKES
+
+-- the plot was read whole, and this is what it draws on the page that was chosen
+pub record IsDrawn (rules : Rules) (choice : PageChoice) (pens : PenSet) (given : Page) (input : List ℕ)
+    (before after : SourceState) (drawn : Placed) : Type 0 where
+  pub read : WasRead input before after
+  pub placed : IsPlaced choice rules pens given input drawn.placement drawn.page
+  pub lines : AreLinesOf rules drawn.page input drawn.lines
 
 -- the plot was read whole and is refused for the page
 pub record IsNotDrawn (rules : Rules) (page : Page) (input : List ℕ) (before after : SourceState)
@@ -33,16 +43,16 @@ pub record IsNotDrawn (rules : Rules) (page : Page) (input : List ℕ) (before a
   pub refused : option_map Plot (rules.refusal page input) ≡ Some fault
 
 -- what each answer says of what was read; want of memory says only that the source did not fail
-abbrev pub Draws : Rules → Page → List ℕ → SourceState → SourceState → Result Lines Fault → Type 0
-Draws rules page input before after (Ok lines) = IsDrawn rules page input before after lines
-Draws rules page input before after (Err TooLong) = WasTooLong input before after
-Draws rules page input before after (Err Read) = after.faults ≡ before.faults + 1
-Draws rules page input before after (Err Memory) = after.faults ≡ before.faults
-Draws rules page input before after (Err fault) = IsNotDrawn rules page input before after fault
+abbrev pub Draws : Rules → PageChoice → PenSet → Page → List ℕ → SourceState → SourceState → Result Placed Fault → Type 0
+Draws rules choice pens given input before after (Ok drawn) = IsDrawn rules choice pens given input before after drawn
+Draws rules choice pens given input before after (Err TooLong) = WasTooLong input before after
+Draws rules choice pens given input before after (Err Read) = after.faults ≡ before.faults + 1
+Draws rules choice pens given input before after (Err Memory) = after.faults ≡ before.faults
+Draws rules choice pens given input before after (Err fault) = IsNotDrawn rules given input before after fault
 
 -- a drawing: what it took from the source, and its answer
-pub record HasDrawn (rules : Rules) (page : Page) (before after : SourceState)
-    (answer : Result Lines Fault) : Type 0 where
+pub record HasDrawn (rules : Rules) (choice : PageChoice) (pens : PenSet) (given : Page) (before after : SourceState)
+    (answer : Result Placed Fault) : Type 0 where
   pub input : List ℕ
   pub taken : Consumes before.left after.left input
-  pub draws : Draws rules page input before after answer
+  pub draws : Draws rules choice pens given input before after answer

@@ -1,5 +1,5 @@
 -- The report on a plot, and what a report answers, from what it read.
-use Rattle.std.specs.Prelude.{◌≡◌, ℕ, ◌+◌, ◌<◌, List, length, take, Result, Ok, Err, None}
+use Rattle.std.specs.Prelude.{◌≡◌, ℕ, ◌+◌, ◌<◌, List, length, take, Result, Ok, Err, None, nat_le}
 use Rattle.std.specs.Io.KnownBytes.{Consumes, Appends}
 use Rattle.plot_page.specs.declared.page.Page.{Page}
 use Rattle.devices.specs.Sinks.{SinkState}
@@ -9,6 +9,13 @@ use Rattle.plot_report.specs.Report.{report_of, full_report_of}
 use Rattle.picture_job.specs.declared.reading.Reading.{Reading}
 use Rattle.picture_job.specs.declared.reading.Reading.TheVariants.{Core, Full}
 use Rattle.conversion.specs.Rules.{core_notes, full_notes, rules_of}
+use Rattle.plot_page.specs.Pens.{has_pen}
+use Rattle.plot_page.specs.declared.pens.PenSet.{PenSet}
+use Rattle.picture_job.specs.declared.page_choice.PageChoice.{PageChoice}
+use Rattle.conversion.specs.Placements.{IsPlaced}
+use Rattle.page_fit.specs.Census.{census_of}
+use Rattle.conversion.specs.declared.placement.Placement.{Placement}
+use Rattle.conversion.specs.declared.outcome.Outcome.{Outcome}
 use Rattle.conversion.specs.Readings.{WasRead, WasTooLong}
 use Rattle.devices.specs.Sources.{SourceState}
 use Rattle.conversion.specs.declared.done.Done.{Done}
@@ -71,3 +78,30 @@ pub record HasReportedAs (reading : Reading) (page : Page) (before after : Sourc
 -- a report in the profile core
 abbrev pub HasReported : Page → SourceState → SourceState → SinkState → SinkState → Result Done Fault → Type 0
 HasReported = HasReportedAs Core
+
+-- the pens 1 to 255
+abbrev pub AreAllPens : PenSet → Type 0
+AreAllPens pens = (pen : ℕ) → pen < 256 → has_pen pens pen ≡ nat_le 1 pen
+
+-- what each answer says where the page was chosen, by what all pens draw: that of the page that the plot is drawn on
+abbrev pub ReportsOn : Reading → PageChoice → PenSet → Page → Page → List ℕ → SourceState → SourceState → SinkState →
+    SinkState → Result Outcome Fault → Type 0
+ReportsOn reading choice pens given page input before after sink sink' (Ok outcome) =
+    IsPlaced choice (rules_of reading) pens given input outcome.placement page
+    × IsReported reading page input before after sink sink' outcome.done
+    × (outcome.census ≡ census_of pens page ((rules_of reading).strokes page input))
+ReportsOn reading choice pens given page input before after sink sink' (Err (Write row whole bytes)) =
+    ((placement : Placement) × IsPlaced choice (rules_of reading) pens given input placement page)
+    × IsReportCutShort reading page input before after sink sink' row whole bytes
+ReportsOn reading choice pens given page input before after sink sink' (Err fault) =
+    Reports reading given input before after sink sink' (Err fault)
+
+-- a report where the page was chosen, as HasReportedAs
+pub record HasReportedOn (reading : Reading) (choice : PageChoice) (given : Page) (before after : SourceState)
+    (sink sink' : SinkState) (answer : Result Outcome Fault) : Type 0 where
+  pub input : List ℕ
+  pub taken : Consumes before.left after.left input
+  pub pens : PenSet
+  pub all : AreAllPens pens
+  pub page : Page
+  pub reports : ReportsOn reading choice pens given page input before after sink sink' answer

@@ -1,16 +1,18 @@
 //! The conversion: read, cut, draw, paint, write.
 ghost use Rattle.std.specs.Prelude.{◌≡◌, ℕ, ◌+◌, ◌-◌, ◌^◌, ◌<◌, ◌↔◌, Err, IfErr, false};
 ghost use Rattle.std.specs.Io.KnownBytes.{IsAtEnd};
-ghost use Rattle.conversion.specs.Conversions.{HasConverted, HasConvertedBy, is_write};
+ghost use Rattle.conversion.specs.Conversions.{HasConverted, HasConvertedBy, HasConvertedOn, is_write};
 ghost use Rattle.conversion.specs.Pictures.{has_resolution};
 ghost use Rattle.conversion.specs.Rules.{rules_of};
 
 use crate::done::Done;
 use crate::draw_source::draw_source;
 use crate::fault::Fault;
+use crate::outcome::Outcome;
 use crate::painting::paint;
 use devices::{Sink, Source};
-use picture_job::{Job, Reading};
+use page_fit::census_of;
+use picture_job::{Job, PageChoice, Reading};
 use picture_out::takes_resolution;
 use std::alloc::Global;
 use stroke_raster::Gauge;
@@ -70,20 +72,62 @@ pub fn convert_as<G: Gauge, S: Source, K: Sink>(
     ensures same { G.reaches gauge.new ≡ G.reaches gauge.old }
     ensures untouched { IfErr result (λ fault. is_write fault ≡ false → sink.new ≡ sink.old) }
 {
+    match convert_on(alloc, reading, PageChoice::Given, job, gauge, source, sink) {
+        Ok(outcome) => Ok(outcome.done),
+        Err(fault) => Err(fault),
+    }
+}
+
+/// Writes the picture of the plot that the source gives, as `convert_as` does, on the page that is chosen:
+/// that of the job, or the page around what the job's pens draw on it.
+///
+/// A plot is drawn again on the page around its drawing. If that is another drawing, the page of the job
+/// is kept.
+///
+/// Errors: those of `convert`, in the same order.
+pub fn convert_on<G: Gauge, S: Source, K: Sink>(
+    alloc: Global,
+    reading: Reading,
+    choice: PageChoice,
+    job: &Job,
+    gauge: &mut G,
+    source: &mut S,
+    sink: &mut K,
+) -> Result<Outcome, Fault>
+    requires failing { (S.state source.old).faults < 2 ^ 64 - 1 }
+    requires ending { (S.state source.old).ends < 2 ^ 64 - 1 }
+    requires sinking { (K.state sink.old).faults < 2 ^ 64 - 1 }
+    ensures resolution { (result ≡ Err Fault.Resolution) ↔ (has_resolution job.now ≡ false) }
+    ensures converts { HasConvertedOn (rules_of reading) choice job.now (G.reaches gauge.old)
+        (S.state source.old) (S.state source.new) (K.state sink.old) (K.state sink.new)
+        (G.count gauge.old) (G.count gauge.new) result }
+    ensures end { (S.state source.new).ends ≡ (S.state source.old).ends + 1 → IsAtEnd (S.state source.new).left }
+    ensures same { G.reaches gauge.new ≡ G.reaches gauge.old }
+    ensures untouched { IfErr result (λ fault. is_write fault ≡ false → sink.new ≡ sink.old) }
+{
     if !takes_resolution(job.form, job.dots.per_inch()) {
         return Err(Fault::Resolution);
     }
-    let lines = draw_source(alloc, reading, &job.page, source)?;
-    let strokes = lines.strokes.as_slice();
-    let bytes = match paint(alloc, job, strokes, gauge, sink) {
+    let drawn = draw_source(alloc, reading, choice, job.pens, &job.page, source)?;
+    let job = Job {
+        page: drawn.page,
+        ..*job
+    };
+    let strokes = drawn.lines.strokes.as_slice();
+    let bytes = match paint(alloc, &job, strokes, gauge, sink) {
         Ok(bytes) => bytes,
         Err(fault) => return Err(fault),
     };
     let rows = job.dots.rows(&job.page) - job.first_row;
-    Ok(Done {
+    let done = Done {
         rows,
         bytes,
         strokes: strokes.len(),
-        notes: lines.notes,
+        notes: drawn.lines.notes,
+    };
+    Ok(Outcome {
+        done,
+        placement: drawn.placement,
+        census: census_of(strokes, job.pens, &job.page),
     })
 }

@@ -1,103 +1,37 @@
-//! Drawing a plot as it is read: in the profile core, or in the profile full and of one sheet.
-ghost use Rattle.std.specs.Prelude.{◌≡◌, ◌+◌, ◌-◌, ◌^◌, ◌<◌, ◌≤◌, None, OnOk, IfOk, IfErr, length};
+//! Reading a plot from a source and drawing it.
+ghost use Rattle.std.specs.Prelude.{◌≡◌, ◌+◌, ◌-◌, ◌^◌, ◌<◌};
 ghost use Rattle.std.specs.Io.KnownBytes.{IsAtEnd};
-ghost use Rattle.plot_page.specs.declared.stroke.TheConstants.{MOST_STROKES};
-ghost use Rattle.conversion.specs.Drawings.{HasDrawn, IsReason};
-ghost use Rattle.conversion.specs.Rules.{core_rules, full_rules, rules_of};
+ghost use Rattle.conversion.specs.Drawings.{HasDrawn};
+ghost use Rattle.conversion.specs.Rules.{rules_of};
 
 use crate::fault::Fault;
+use crate::place::{Placed, draw_placed};
 use crate::reading::read_plot;
 use devices::Source;
-use full_plot::{draw_full, keep_sheet};
-use hpgl_plot::{PlotFault, draw_plot};
-use picture_job::Reading;
-use plot_page::{Page, Stroke};
+use picture_job::{PageChoice, Reading};
+use plot_page::{Page, PenSet};
 use std::alloc::Global;
 
-/// What a plot draws that is read so: the strokes of the sheet, how many notes there are on it, and how
-/// many sheets have strokes in the profile full; in core this is not counted, and 0.
-#[derive(Drop)]
-pub struct Lines {
-    pub strokes: Vec<Stroke>,
-    pub notes: usize,
-    pub sheets: usize,
-}
-
-/// What the plot draws on a page that the source gives. Of the plot nothing else is kept.
+/// What the plot that the source gives draws on the page that was chosen, by what the selected pens draw.
+/// Of the plot nothing else is kept.
 ///
 /// Errors, in this order: `Read` if the source fails; `TooLong` if it gives more than 67,108,864
-/// bytes; `Plot` if the plot is refused for the page. `Memory` comes when
+/// bytes; `Plot` if the plot is refused for the page that is given. `Memory` comes when
 /// memory is refused.
 pub fn draw_source<S: Source>(
     alloc: Global,
     reading: Reading,
+    choice: PageChoice,
+    pens: PenSet,
     page: &Page,
     source: &mut S,
-) -> Result<Lines, Fault>
+) -> Result<Placed, Fault>
     requires failing { (S.state source.old).faults < 2 ^ 64 - 1 }
     requires ending { (S.state source.old).ends < 2 ^ 64 - 1 }
-    ensures draws { HasDrawn (rules_of reading) page.now (S.state source.old) (S.state source.new) result }
+    ensures draws { HasDrawn (rules_of reading) choice pens page.now (S.state source.old) (S.state source.new) result }
     ensures end { (S.state source.new).ends ≡ (S.state source.old).ends + 1 → IsAtEnd (S.state source.new).left }
 {
     let plot = read_plot(alloc, source)?;
-    let lines = draw_as(alloc, reading, plot.as_slice(), page)?;
-    Ok(lines)
-}
-
-/// What the text of a plot draws on a page.
-///
-/// Errors: the refusal of the plot for the page; `Memory` if memory runs out.
-pub fn draw_as(
-    alloc: Global,
-    reading: Reading,
-    text: &[u8],
-    page: &Page,
-) -> Result<Lines, PlotFault>
-    ensures accepted { OnOk result ((rules_of reading).refusal page.now text.now ≡ None) }
-    ensures strokes { IfOk result (λ drawn. drawn.strokes.items ≡ (rules_of reading).strokes page.now text.now) }
-    ensures notes { IfOk result (λ drawn. drawn.notes ≡ (rules_of reading).notes text.now) }
-    ensures sheets { IfOk result (λ drawn. drawn.sheets ≡ (rules_of reading).sheets page.now text.now) }
-    ensures limit { IfOk result (λ drawn. length drawn.strokes.items ≤ MOST_STROKES) }
-    ensures refused { IfErr result (λ fault. IsReason fault ((rules_of reading).refusal page.now text.now)) }
-{
-    match reading {
-        Reading::Core => draw_core(alloc, text, page),
-        Reading::Full { sheet } => draw_sheet(alloc, sheet, text, page),
-    }
-}
-
-// The same in the profile core.
-fn draw_core(alloc: Global, text: &[u8], page: &Page) -> Result<Lines, PlotFault>
-    ensures accepted { OnOk result (core_rules.refusal page.now text.now ≡ None) }
-    ensures strokes { IfOk result (λ drawn. drawn.strokes.items ≡ core_rules.strokes page.now text.now) }
-    ensures notes { IfOk result (λ drawn. drawn.notes ≡ core_rules.notes text.now) }
-    ensures sheets { IfOk result (λ drawn. drawn.sheets ≡ 0) }
-    ensures limit { IfOk result (λ drawn. length drawn.strokes.items ≤ MOST_STROKES) }
-    ensures refused { IfErr result (λ fault. IsReason fault (core_rules.refusal page.now text.now)) }
-{
-    let drawn = draw_plot(alloc, text, page)?;
-    Ok(Lines {
-        strokes: drawn.strokes,
-        notes: drawn.notes,
-        sheets: 0,
-    })
-}
-
-// The same in the profile full, for a sheet.
-fn draw_sheet(alloc: Global, sheet: u32, text: &[u8], page: &Page) -> Result<Lines, PlotFault>
-    ensures accepted { OnOk result ((full_rules sheet).refusal page.now text.now ≡ None) }
-    ensures strokes { IfOk result (λ drawn. drawn.strokes.items ≡ (full_rules sheet).strokes page.now text.now) }
-    ensures notes { IfOk result (λ drawn. drawn.notes ≡ (full_rules sheet).notes text.now) }
-    ensures sheets { IfOk result (λ drawn. drawn.sheets ≡ (full_rules sheet).sheets page.now text.now) }
-    ensures limit { IfOk result (λ drawn. length drawn.strokes.items ≤ MOST_STROKES) }
-    ensures refused { IfErr result (λ fault. IsReason fault ((full_rules sheet).refusal page.now text.now)) }
-{
-    let mut drawn = draw_full(alloc, text, page)?;
-    let sheets = drawn.sheets();
-    keep_sheet(&mut drawn.strokes, drawn.ends.as_slice(), sheet);
-    Ok(Lines {
-        strokes: drawn.strokes,
-        notes: drawn.notes,
-        sheets,
-    })
+    let drawn = draw_placed(alloc, reading, choice, pens, page, plot.as_slice())?;
+    Ok(drawn)
 }

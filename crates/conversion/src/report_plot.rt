@@ -5,17 +5,19 @@ ghost use Rattle.plot_page.specs.declared.stroke.TheConstants.{MOST_STROKES};
 ghost use Rattle.hpgl_text.specs.declared.program.TheConstants.{LONGEST_PLOT};
 ghost use Rattle.devices.specs.Sinks.{Writes};
 ghost use Rattle.conversion.specs.Conversions.{is_write};
-ghost use Rattle.conversion.specs.Reports.{HasReported, HasReportedAs, report_on};
+ghost use Rattle.conversion.specs.Reports.{HasReported, HasReportedAs, HasReportedOn, report_on};
 
 use crate::done::Done;
-use crate::draw_source::draw_as;
 use crate::fault::Fault;
+use crate::outcome::Outcome;
+use crate::place::draw_placed;
 use crate::reading::read_plot;
 use devices::{Sink, Source, WriteFault};
 use full_notes::FullNotes;
 use hpgl_plot::Notes;
-use picture_job::Reading;
-use plot_page::{Page, Stroke};
+use page_fit::census_of;
+use picture_job::{PageChoice, Reading};
+use plot_page::{Page, PenSet, Stroke};
 use plot_report::{write_full_report, write_report};
 use std::alloc::Global;
 
@@ -62,16 +64,50 @@ pub fn report_as<S: Source, K: Sink>(
     ensures end { (S.state source.new).ends ≡ (S.state source.old).ends + 1 → IsAtEnd (S.state source.new).left }
     ensures untouched { IfErr result (λ fault. is_write fault ≡ false → sink.new ≡ sink.old) }
 {
+    match report_on(alloc, reading, PageChoice::Given, page, source, sink) {
+        Ok(outcome) => Ok(outcome.done),
+        Err(fault) => Err(fault),
+    }
+}
+
+/// Writes the report on the plot that the source gives, as `report_as` does, on the page that is chosen:
+/// the page that is given, or the page around what all pens draw on it.
+///
+/// Errors: those of `report`, in the same order.
+pub fn report_on<S: Source, K: Sink>(
+    alloc: Global,
+    reading: Reading,
+    choice: PageChoice,
+    page: &Page,
+    source: &mut S,
+    sink: &mut K,
+) -> Result<Outcome, Fault>
+    requires failing { (S.state source.old).faults < 2 ^ 64 - 1 }
+    requires ending { (S.state source.old).ends < 2 ^ 64 - 1 }
+    requires sinking { (K.state sink.old).faults < 2 ^ 64 - 1 }
+    ensures reports { HasReportedOn reading choice page.now
+        (S.state source.old) (S.state source.new) (K.state sink.old) (K.state sink.new) result }
+    ensures end { (S.state source.new).ends ≡ (S.state source.old).ends + 1 → IsAtEnd (S.state source.new).left }
+    ensures untouched { IfErr result (λ fault. is_write fault ≡ false → sink.new ≡ sink.old) }
+{
     let plot = read_plot(alloc, source)?;
-    let lines = draw_as(alloc, reading, plot.as_slice(), page)?;
-    let strokes = lines.strokes.as_slice();
-    match write_as(reading, page, strokes, lines.sheets, plot.as_slice(), sink) {
-        Ok(bytes) => Ok(Done {
-            rows: 0,
-            bytes,
-            strokes: strokes.len(),
-            notes: lines.notes,
-        }),
+    let pens = PenSet::all();
+    let drawn = draw_placed(alloc, reading, choice, pens, page, plot.as_slice())?;
+    let strokes = drawn.lines.strokes.as_slice();
+    match write_as(reading, &drawn.page, strokes, drawn.lines.sheets, plot.as_slice(), sink) {
+        Ok(bytes) => {
+            let done = Done {
+                rows: 0,
+                bytes,
+                strokes: strokes.len(),
+                notes: drawn.lines.notes,
+            };
+            Ok(Outcome {
+                done,
+                placement: drawn.placement,
+                census: census_of(strokes, pens, &drawn.page),
+            })
+        }
         Err(fault) => Err(Fault::Write {
             row: 0,
             whole: 0,

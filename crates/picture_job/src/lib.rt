@@ -1,8 +1,11 @@
-//! What a picture is asked for by: the page, the resolution, the pens, the form; and how its plot is read.
+//! What a picture is asked for by: the page, the resolution, the pens, the form; and how its plot is read
+//! and placed.
 #![tactic(auto)]
 
 mod job;
+mod page_choice;
 mod reading;
 
 pub use job::Job;
+pub use page_choice::PageChoice;
 pub use reading::Reading;

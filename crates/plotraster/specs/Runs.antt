@@ -3,22 +3,25 @@ use Rattle.std.specs.Prelude.{◌≡◌, ℕ, Bool, true, Result, Ok, Err}
 use Rattle.command_line.specs.declared.line.Task.{Task}
 use Rattle.command_line.specs.declared.line.Task.TheVariants.{Picture, Report}
 use Rattle.picture_job.specs.declared.reading.Reading.{Reading}
+use Rattle.picture_job.specs.declared.page_choice.PageChoice.{PageChoice}
 use Rattle.conversion.specs.Rules.{rules_of}
-use Rattle.conversion.specs.Conversions.{HasConvertedBy}
+use Rattle.conversion.specs.Conversions.{HasConvertedOn}
 use Rattle.conversion.specs.Pictures.{exact, has_resolution}
 use Rattle.conversion.specs.Faults.{status_of}
-use Rattle.conversion.specs.Reports.{HasReportedAs}
+use Rattle.conversion.specs.Reports.{HasReportedOn}
 use Rattle.devices.specs.Sinks.{SinkState}
 use Rattle.devices.specs.Sources.{SourceState}
-use Rattle.conversion.specs.declared.done.Done.{Done}
+use Rattle.conversion.specs.declared.outcome.Outcome.{Outcome}
 use Rattle.conversion.specs.declared.fault.Fault.{Fault}
 
--- a picture is converted by the exact gauge, after no tests; a report is written; both of a plot that is read so
-abbrev pub HasRun : Reading → Task → SourceState → SourceState → SinkState → SinkState → Result Done Fault → Type 0
-HasRun reading (Picture job) before after sink sink' answer =
-    (tests : ℕ) × HasConvertedBy (rules_of reading) job exact before after sink sink' 0 tests answer
-HasRun reading (Report page) before after sink sink' answer =
-    HasReportedAs reading page before after sink sink' answer
+-- a picture is converted by the exact gauge, after no tests; a report is written; both of a plot that is read so, on the
+-- page that was chosen
+abbrev pub HasRun : Reading → PageChoice → Task → SourceState → SourceState → SinkState → SinkState → Result Outcome Fault →
+    Type 0
+HasRun reading choice (Picture job) before after sink sink' answer =
+    (tests : ℕ) × HasConvertedOn (rules_of reading) choice job exact before after sink sink' 0 tests answer
+HasRun reading choice (Report page) before after sink sink' answer =
+    HasReportedOn reading choice page before after sink sink' answer
 
 -- the form of a picture has its resolution; a report needs none
 abbrev pub task_has_resolution : Task → Bool
@@ -26,6 +29,6 @@ task_has_resolution (Picture job) = has_resolution job
 task_has_resolution (Report page) = true
 
 -- 0 if all was written, else the status of the fault
-abbrev pub exit_status_of : Result Done Fault → ℕ
+abbrev pub exit_status_of : Result Outcome Fault → ℕ
 exit_status_of (Ok _) = 0
 exit_status_of (Err fault) = status_of fault

@@ -5,39 +5,43 @@ ghost use Rattle.conversion.specs.Conversions.{is_write};
 ghost use Rattle.plotraster.specs.Runs.{HasRun, task_has_resolution, exit_status_of};
 
 use command_line::Task;
-use conversion::{Done, Fault, convert_as, report_as, status};
+use conversion::{Fault, Outcome, convert_on, report_on, status};
 use devices::{Sink, Source};
-use picture_job::Reading;
+use picture_job::{PageChoice, Reading};
 use std::alloc::Global;
 use stroke_raster::Exact;
 
-/// Does what the task says with the plot that the source gives, which is read so: writes its picture,
-/// by the gauge `Exact`, or the report on it. The errors are those of `convert_as` and of `report_as`.
+/// Does what the task says with the plot that the source gives, which is read so, on the page that is
+/// chosen: writes its picture, by the gauge `Exact`, or the report on it. The errors are those of
+/// `convert_on` and of `report_on`.
 pub fn run_task<S: Source, K: Sink>(
     alloc: Global,
     reading: Reading,
+    choice: PageChoice,
     task: &Task,
     source: &mut S,
     sink: &mut K,
-) -> Result<Done, Fault>
+) -> Result<Outcome, Fault>
     requires failing { (S.state source.old).faults < 2 ^ 64 - 1 }
     requires ending { (S.state source.old).ends < 2 ^ 64 - 1 }
     requires sinking { (K.state sink.old).faults < 2 ^ 64 - 1 }
     ensures resolution { (result ≡ Err Fault.Resolution) ↔ (task_has_resolution task.now ≡ false) }
-    ensures runs { HasRun reading task.now
+    ensures runs { HasRun reading choice task.now
         (S.state source.old) (S.state source.new) (K.state sink.old) (K.state sink.new) result }
     ensures end { (S.state source.new).ends ≡ (S.state source.old).ends + 1 → IsAtEnd (S.state source.new).left }
     ensures untouched { IfErr result (λ fault. is_write fault ≡ false → sink.new ≡ sink.old) }
 {
     match task {
-        Task::Picture(job) => convert_as(alloc, reading, job, &mut Exact::new(), source, sink),
-        Task::Report(page) => report_as(alloc, reading, page, source, sink),
+        Task::Picture(job) => {
+            convert_on(alloc, reading, choice, job, &mut Exact::new(), source, sink)
+        }
+        Task::Report(page) => report_on(alloc, reading, choice, page, source, sink),
     }
 }
 
 /// The exit status of a run: 0 exactly if the whole picture or report was written, else that of the
 /// fault.
-pub fn exit_status(outcome: &Result<Done, Fault>) -> u8
+pub fn exit_status(outcome: &Result<Outcome, Fault>) -> u8
     ensures { result ≡ exit_status_of outcome.now }
 {
     match outcome {

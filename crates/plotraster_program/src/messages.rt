@@ -1,5 +1,5 @@
 //! Messages on standard error, and the exit status of a run that ends with one.
-use plotraster::{Fault, LineFault, status};
+use plotraster::{Fault, LineFault, Outcome, Placement, status};
 use std::fmt::Display;
 use std::io::{Error, ErrorKind};
 
@@ -32,4 +32,42 @@ pub(crate) fn refuse_file(rt: &HostRuntime, action: &str, path: &str, error: &Er
 pub(crate) fn cannot<R: Display>(rt: &HostRuntime, action: &str, path: &str, reason: &R) -> u8 {
     let _ = eprintln!(rt; "plotraster: cannot {action} {path}: {reason}");
     DEVICE
+}
+
+// Says why the page is not the one around the drawing, if that was asked; and what was drawn, if more is to be said.
+pub(crate) fn tell_outcome(rt: &HostRuntime, outcome: &Outcome, verbose: bool) {
+    if let Some(reason) = reason_of(outcome.placement) {
+        let _ = eprintln!(rt; "plotraster: the page is not fitted: {reason}");
+    }
+    if verbose {
+        tell_drawn(rt, outcome);
+    }
+}
+
+// Why a page is not fitted.
+fn reason_of(placement: Placement) -> Option<&'static str> {
+    match placement {
+        Placement::Given | Placement::Fitted => None,
+        Placement::Blank => Some("nothing is drawn"),
+        Placement::TooLarge => Some("the drawing is larger than a page can be"),
+        Placement::Follows => Some("the drawing depends on the page"),
+    }
+}
+
+// Says how many lines the selected pens drew, how many of them lie off the page, and how many notes there are.
+fn tell_drawn(rt: &HostRuntime, outcome: &Outcome) {
+    let lines = outcome.census.strokes;
+    let off_page = outcome.census.off_page;
+    let notes = outcome.done.notes;
+    let nothing = if off_page == lines {
+        "nothing is drawn: "
+    } else {
+        ""
+    };
+    let line = if lines == 1 { "line" } else { "lines" };
+    let note = if notes == 1 { "note" } else { "notes" };
+    let _ = eprintln!(
+        rt;
+        "plotraster: {nothing}{lines} {line}, {off_page} off the page; {notes} {note}, see plotraster report"
+    );
 }

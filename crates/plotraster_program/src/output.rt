@@ -1,6 +1,6 @@
 //! Where the output goes: standard output, a device, or a new file that gets its name when it is whole.
-use crate::messages::{cannot, refuse, refuse_file};
-use plotraster::{Done, Fault, Line, OverRead, OverWrite, exit_status, run_task};
+use crate::messages::{cannot, refuse, refuse_file, tell_outcome};
+use plotraster::{Fault, Line, Outcome, OverRead, OverWrite, exit_status, run_task};
 use std::fs::{File, OpenOptions, metadata, remove_file, rename};
 use std::io::{Read, Write};
 use std::os::unix::fs::MetadataExt;
@@ -20,12 +20,22 @@ fn perform<R: Read + Drop, W: Write + Drop>(
     line: &Line<'_>,
     plot: R,
     to: W,
-) -> Result<Done, Fault> {
+) -> Result<Outcome, Fault> {
     let mut source = OverRead::new(plot);
     let mut sink = OverWrite::new(to);
-    let outcome = run_task(rt.alloc(), line.reading, &line.task, &mut source, &mut sink);
-    if let Err(fault) = &outcome {
-        refuse(rt, fault);
+    let outcome = run_task(
+        rt.alloc(),
+        line.reading,
+        line.choice,
+        &line.task,
+        &mut source,
+        &mut sink,
+    );
+    match &outcome {
+        Ok(outcome) => tell_outcome(rt, outcome, line.verbose),
+        Err(fault) => {
+            refuse(rt, fault);
+        }
     }
     outcome
 }
@@ -72,7 +82,7 @@ fn is_same_file(rt: &HostRuntime, one: &str, other: &str) -> bool {
 
 // Gives the file its name if it is whole. After a failed write it stays under its own, since the
 // message says where to go on.
-fn settle_part(rt: &HostRuntime, part: &str, path: &str, outcome: &Result<Done, Fault>) -> u8 {
+fn settle_part(rt: &HostRuntime, part: &str, path: &str, outcome: &Result<Outcome, Fault>) -> u8 {
     match outcome {
         Ok(_) => {
             if let Err(error) = rename(rt, part, path) {

@@ -1,7 +1,9 @@
 //! Faults with their statuses and texts.
 use hpgl_plot::PlotFault;
 use hpgl_text::TextFault;
-use plotraster::{Done, Fault, PageFault, SinkFault, exit_status, status};
+use plotraster::{
+    Census, Done, Fault, Outcome, PageFault, Placement, SinkFault, exit_status, status,
+};
 use std::test::Fail;
 use stroke_raster::PaintFault;
 
@@ -48,7 +50,15 @@ fn statuses_and_texts(rt: HostRuntime) -> Result<(), Fail> {
         strokes: 2,
         notes: 0,
     };
-    assert_eq!(rt; exit_status(&Ok(done)), 0);
+    let outcome = Outcome {
+        done,
+        placement: Placement::Given,
+        census: Census {
+            strokes: 2,
+            off_page: 0,
+        },
+    };
+    assert_eq!(rt; exit_status(&Ok(outcome)), 0);
     Ok(())
 }
 

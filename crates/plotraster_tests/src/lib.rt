@@ -24,6 +24,8 @@ mod parts;
 #[cfg(test)]
 mod pictures;
 #[cfg(test)]
+mod placements;
+#[cfg(test)]
 mod printer;
 #[cfg(test)]
 mod random;

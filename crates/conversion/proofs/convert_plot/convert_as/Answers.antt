@@ -1,51 +1,11 @@
-use Rattle.std.proofs.Common.{◌≡◌, ◌≤◌, ◌+◌, ◌-◌, List, length, ℕ, ap, subst, ◌∙◌, Ok, Err, None}
-use Rattle.plot_page.specs.Segments.{Segment}
-use Rattle.conversion.specs.Boxes.{boxes_from}
-use Rattle.conversion.specs.Rules.{Rules, rules_of}
-use Rattle.conversion.specs.Progress.{HasPainted}
-use Rattle.devices.specs.Sinks.{SinkState}
-use Rattle.conversion.proofs.Refusals.{job_faults, not_painted}
+use Rattle.conversion.specs.Rules.{rules_of}
+use Rattle.conversion.proofs.Choices.{converted_on_it}
 use Rattle.conversion.proofs.convert_plot.convert_as.Goals as goal
 
-pub returns-clause-converts : goal.returns-clause-converts
-returns-clause-converts g c =
-    let job = c.args.job.now in
-    let rules : Rules = rules_of c.args.reading in
-    let drawing = c.in_ok-lines.ensures.draws in
-    let input : List ℕ = drawing.input in
-    let was : SinkState = g.K.Sink.state c.args.sink.now in
-    let is : SinkState = g.K.Sink.state c.paint.new.sink in
-    let drawn : c.as_slice-strokes.result.now ≡ rules.strokes job.page input = c.as_slice-strokes.ensures.value ∙ drawing.draws.strokes_are in
-    let painted = subst (λ (ss : List Segment). HasPainted job (g.G.Gauge.reaches c.args.gauge.now) ss was is (Ok c.in-Ok.bytes)) drawn c.in-Ok.ensures.paints in
-    record {
-      input = input;
-      taken = drawing.taken;
-      converts = record {
-        read = drawing.draws.read;
-        accepted = job_faults job (rules.refusal job.page input) None drawing.draws.accepted painted.0;
-        written = painted.1.written;
-        sound = painted.1.sound;
-        rows = ap (λ (n : ℕ). n - job.first_row) c.rows.ensures.count;
-        bytes = painted.1.count;
-        strokes_count = ap length drawn;
-        notes = drawing.draws.notes_are;
-      };
-      tested = subst (λ (ss : List Segment). g.G.Gauge.count c.paint.new.gauge ≤ g.G.Gauge.count c.args.gauge.now + boxes_from job.pens ss job.page job.dots job.first_row) drawn c.in-Ok.ensures.tests;
-    }
+pub returns-in-Ok-clause-converts : goal.returns-in-Ok-clause-converts
+returns-in-Ok-clause-converts g c =
+    converted_on_it (rules_of c.args.reading) c.args.job.now (g.G.Gauge.reaches c.args.gauge.now) _ _ _ _ _ _ _ c.in-Ok.ensures.converts
 
 pub returns-in-Err-clause-converts : goal.returns-in-Err-clause-converts
 returns-in-Err-clause-converts g c =
-    let job = c.args.job.now in
-    let rules : Rules = rules_of c.args.reading in
-    let drawing = c.in_ok-lines.ensures.draws in
-    let input : List ℕ = drawing.input in
-    let was : SinkState = g.K.Sink.state c.args.sink.now in
-    let is : SinkState = g.K.Sink.state c.paint.new.sink in
-    let drawn : c.as_slice-strokes.result.now ≡ rules.strokes job.page input = c.as_slice-strokes.ensures.value ∙ drawing.draws.strokes_are in
-    record {
-      input = input;
-      taken = drawing.taken;
-      converts = not_painted rules job (g.G.Gauge.reaches c.args.gauge.now) input _ _ was is c.in-Err.fault drawing.draws.read drawing.draws.accepted
-          (subst (λ (ss : List Segment). HasPainted job (g.G.Gauge.reaches c.args.gauge.now) ss was is (Err c.in-Err.fault)) drawn c.in-Err.ensures.paints);
-      tested = subst (λ (ss : List Segment). g.G.Gauge.count c.paint.new.gauge ≤ g.G.Gauge.count c.args.gauge.now + boxes_from job.pens ss job.page job.dots job.first_row) drawn c.in-Err.ensures.tests;
-    }
+    converted_on_it (rules_of c.args.reading) c.args.job.now (g.G.Gauge.reaches c.args.gauge.now) _ _ _ _ _ _ _ c.in-Err.ensures.converts

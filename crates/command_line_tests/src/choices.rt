@@ -1,0 +1,88 @@
+use crate::cases::{Asked, has_answers, has_answers_for_each};
+use std::test::Fail;
+
+const COMMANDS: [&str; 5] = ["marks", "pbm", "ppm", "pcl", "report"];
+const PICTURES: [&str; 4] = ["marks", "pbm", "ppm", "pcl"];
+
+const FITTED_PAGES: &str = "\
+Given false
+plotraster|@
+plotraster|@|--page=a0|a.plt
+
+Fitted { margin: 1 } false
+plotraster|@|--fit
+plotraster|@|a.plt|--fit|--page|a0
+plotraster|@|--fit|--width=64|--margin=+1
+
+Fitted { margin: 0 } false
+plotraster|@|--margin=0|--fit
+plotraster|@|--fit|--margin=-0
+
+Fitted { margin: 1000 } false
+plotraster|@|--fit|--margin|1000
+
+Margin
+plotraster|@|--margin=1
+plotraster|@|--margin|0|a.plt
+
+ArgumentConflict 2
+plotraster|@|--fit|--fit
+plotraster|@|--margin=1|--fit|--margin=1
+
+TooManyValues 2
+plotraster|@|--fit=1
+
+ValueValidation 2
+plotraster|@|--fit|--margin=1001
+plotraster|@|--fit|--margin=1.5
+";
+
+#[test]
+fn fitted_pages(rt: HostRuntime) -> Result<(), Fail> {
+    has_answers_for_each(&rt, rt.alloc(), Asked::Page, &COMMANDS, FITTED_PAGES, 15)
+}
+
+const SAYING_MORE: &str = "\
+Given true
+plotraster|@|--verbose
+plotraster|@|a.plt|--verbose
+
+Fitted { margin: 2 } true
+plotraster|@|--fit|--verbose|--margin=2
+
+ArgumentConflict 2
+plotraster|@|--verbose|--verbose
+";
+
+#[test]
+fn saying_more(rt: HostRuntime) -> Result<(), Fail> {
+    has_answers_for_each(&rt, rt.alloc(), Asked::Page, &PICTURES, SAYING_MORE, 4)
+}
+
+const ORDER_OF_FAULTS: &str = "\
+Pens
+plotraster|pbm|--margin=1|--pens=0
+
+Paper
+plotraster|pbm|--margin=1|--page=none
+
+Size
+plotraster|report|--margin=1|--page=a4|--width=64
+
+Profile
+plotraster|ppm|--margin=1|--profile=none
+
+Sheet
+plotraster|pcl|--margin=1|--sheet=2
+
+Margin
+plotraster|marks|--margin=1|--profile=full|--sheet=2
+
+UnknownArgument 2
+plotraster|report|--verbose
+";
+
+#[test]
+fn order_of_faults(rt: HostRuntime) -> Result<(), Fail> {
+    has_answers(&rt, rt.alloc(), Asked::Page, "", ORDER_OF_FAULTS, 7)
+}

@@ -1,0 +1,98 @@
+-- Runs on the page that is given.
+use Rattle.std.proofs.Common.{◌≡◌, ◌≤◌, ◌+◌, ℕ, List, Result, Ok, Err, None, refl, sym, subst}
+use Rattle.plot_page.specs.declared.page.Page.{Page}
+use Rattle.plot_page.specs.declared.pens.PenSet.{PenSet}
+use Rattle.picture_job.specs.declared.job.Job.{Job}
+use Rattle.picture_job.specs.declared.page_choice.PageChoice.{PageChoice}
+use Rattle.picture_job.specs.declared.page_choice.PageChoice.TheVariants as choice
+use Rattle.picture_job.specs.declared.reading.Reading.{Reading}
+use Rattle.conversion.specs.Boxes.{strokes_boxes}
+use Rattle.conversion.specs.Conversions.{Converts, ConvertsOn, HasConvertedBy, HasConvertedOn, IsCutShort, IsRefused, IsWritten, on_page}
+use Rattle.conversion.specs.Pictures.{Reach}
+use Rattle.conversion.specs.Placements.{IsPlaced}
+use Rattle.conversion.specs.Progress.{HasPainted}
+use Rattle.conversion.specs.Readings.{WasRead}
+use Rattle.conversion.specs.Reports.{HasReportedAs, HasReportedOn, IsReportCutShort, IsReported, Reports, ReportsOn}
+use Rattle.conversion.specs.Rules.{Rules}
+use Rattle.conversion.specs.declared.done.Done.{Done}
+use Rattle.conversion.specs.declared.outcome.Outcome.{Outcome}
+use Rattle.conversion.specs.declared.placement.Placement.{Placement}
+use Rattle.conversion.specs.declared.fault.Fault.{Fault}
+use Rattle.conversion.specs.declared.fault.Fault.TheVariants.{Memory, Paint, Plot, Read, Resolution, TooLong, Write}
+use Rattle.conversion.proofs.Refusals.{not_painted}
+use Rattle.devices.specs.Sinks.{SinkState}
+use Rattle.devices.specs.Sources.{SourceState}
+
+-- the answer of a run, without the page
+abbrev pub done_of : Result Outcome Fault → Result Done Fault
+done_of (Ok o) = Ok o.done
+done_of (Err fault) = Err fault
+
+-- by this choice the page is the given one
+pub given_page : (c : PageChoice) (rules : Rules) (pens : PenSet) (given : Page) (plot : List ℕ) (p : Placement) (page : Page) → IsPlaced c rules pens given plot p page
+    → c ≡ choice.Given → page ≡ given
+given_page choice.Given rules pens given plot p page placed is = placed.1
+given_page (choice.Fitted margin) rules pens given plot p page placed is = absurd (cc)
+
+-- a job that was not painted on the page that the plot is drawn on
+pub not_painted_on : (rules : Rules) (c : PageChoice) (job : Job) (page : Page) (p : Placement) (reaches : Reach) (input : List ℕ) (before after : SourceState)
+    (sink sink' : SinkState) (fault : Fault) → IsPlaced c rules job.pens job.page input p page → WasRead input before after → rules.refusal page input ≡ None
+    → HasPainted (on_page page job) reaches (rules.strokes page input) sink sink' (Err fault) → ConvertsOn rules c job page reaches input before after sink sink' (Err fault)
+not_painted_on rules c job page p reaches input before after sink sink' TooLong placed read accepted h = absurd h
+not_painted_on rules c job page p reaches input before after sink sink' Memory placed read accepted h = read.sound
+not_painted_on rules c job page p reaches input before after sink sink' (Plot refusal) placed read accepted h = absurd h
+not_painted_on rules c job page p reaches input before after sink sink' (Paint refusal) placed read accepted h =
+    ((p, placed), not_painted rules (on_page page job) reaches input before after sink sink' (Paint refusal) read accepted h)
+not_painted_on rules c job page p reaches input before after sink sink' (Write row whole bytes) placed read accepted h =
+    ((p, placed), not_painted rules (on_page page job) reaches input before after sink sink' (Write row whole bytes) read accepted h)
+not_painted_on rules c job page p reaches input before after sink sink' Read placed read accepted h = absurd h
+not_painted_on rules c job page p reaches input before after sink sink' Resolution placed read accepted h = absurd h
+
+-- the answer of a run on the given page
+converts_on_it : (rules : Rules) (job : Job) (page : Page) (reaches : Reach) (input : List ℕ) (before after : SourceState) (sink sink' : SinkState)
+    (answer : Result Outcome Fault) → page ≡ job.page → ConvertsOn rules choice.Given job page reaches input before after sink sink' answer
+    → Converts rules job reaches input before after sink sink' (done_of answer)
+converts_on_it rules job page reaches input before after sink sink' (Ok o) is h =
+    subst (λ (x : Page). IsWritten rules (on_page x job) reaches input before after sink sink' o.done) is h.1
+converts_on_it rules job page reaches input before after sink sink' (Err (Write row whole bytes)) is h =
+    subst (λ (x : Page). IsCutShort rules (on_page x job) reaches input before after sink sink' row whole bytes) is h.1
+converts_on_it rules job page reaches input before after sink sink' (Err (Paint fault)) is h =
+    subst (λ (x : Page). IsRefused rules (on_page x job) input before after (Paint fault)) is h.1
+converts_on_it rules job page reaches input before after sink sink' (Err TooLong) is h = h
+converts_on_it rules job page reaches input before after sink sink' (Err Memory) is h = h
+converts_on_it rules job page reaches input before after sink sink' (Err (Plot fault)) is h = h
+converts_on_it rules job page reaches input before after sink sink' (Err Read) is h = h
+converts_on_it rules job page reaches input before after sink sink' (Err Resolution) is h = h
+
+pub converted_on_it : (rules : Rules) (job : Job) (reaches : Reach) (before after : SourceState) (sink sink' : SinkState) (tests tests' : ℕ)
+    (answer : Result Outcome Fault) → HasConvertedOn rules choice.Given job reaches before after sink sink' tests tests' answer
+    → HasConvertedBy rules job reaches before after sink sink' tests tests' (done_of answer)
+converted_on_it rules job reaches before after sink sink' tests tests' answer h = record {
+  input = h.input;
+  taken = h.taken;
+  converts = converts_on_it rules job h.page reaches h.input before after sink sink' answer (h.given refl) h.converts;
+  tested = subst (λ (x : Page). tests' ≤ tests + strokes_boxes (on_page x job) (rules.strokes x h.input)) (h.given refl) h.tested;
+}
+
+reports_on_it : (reading : Reading) (pens : PenSet) (given page : Page) (input : List ℕ) (before after : SourceState) (sink sink' : SinkState)
+    (answer : Result Outcome Fault) → ReportsOn reading choice.Given pens given page input before after sink sink' answer
+    → Reports reading given input before after sink sink' (done_of answer)
+reports_on_it reading pens given page input before after sink sink' (Ok o) h =
+    subst (λ (x : Page). IsReported reading x input before after sink sink' o.done) h.0.1 h.1
+reports_on_it reading pens given page input before after sink sink' (Err (Write row whole bytes)) h =
+    subst (λ (x : Page). IsReportCutShort reading x input before after sink sink' row whole bytes) h.0.1.1 h.1
+reports_on_it reading pens given page input before after sink sink' (Err (Paint fault)) h = h
+reports_on_it reading pens given page input before after sink sink' (Err TooLong) h = h
+reports_on_it reading pens given page input before after sink sink' (Err Memory) h = h
+reports_on_it reading pens given page input before after sink sink' (Err (Plot fault)) h = h
+reports_on_it reading pens given page input before after sink sink' (Err Read) h = h
+reports_on_it reading pens given page input before after sink sink' (Err Resolution) h = h
+
+pub reported_on_it : (reading : Reading) (given : Page) (before after : SourceState) (sink sink' : SinkState) (answer : Result Outcome Fault)
+    → HasReportedOn reading choice.Given given before after sink sink' answer
+    → HasReportedAs reading given before after sink sink' (done_of answer)
+reported_on_it reading given before after sink sink' answer h = record {
+  input = h.input;
+  taken = h.taken;
+  reports = reports_on_it reading h.pens given h.page h.input before after sink sink' answer h.reports;
+}

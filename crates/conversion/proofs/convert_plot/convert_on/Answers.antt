@@ -1,0 +1,65 @@
+use Rattle.std.proofs.Common.{◌≡◌, ◌≤◌, ◌+◌, ◌-◌, List, length, ℕ, ap, subst, ◌∙◌, Ok, Err, None}
+use Rattle.plot_page.specs.Segments.{Segment}
+use Rattle.page_fit.specs.Census.{census_of}
+use Rattle.conversion.specs.Boxes.{boxes_from}
+use Rattle.conversion.specs.Conversions.{on_page}
+use Rattle.conversion.specs.Rules.{Rules, rules_of}
+use Rattle.conversion.specs.Progress.{HasPainted}
+use Rattle.devices.specs.Sinks.{SinkState}
+use Rattle.conversion.proofs.Choices.{given_page, not_painted_on}
+use Rattle.conversion.proofs.Refusals.{job_faults}
+use Rattle.conversion.proofs.convert_plot.convert_on.Goals as goal
+
+pub returns-clause-converts : goal.returns-clause-converts
+returns-clause-converts g c =
+    let page = c.in_ok-drawn.drawn.page in
+    let job = on_page page c.args.job.now in
+    let rules : Rules = rules_of c.args.reading in
+    let drawing = c.in_ok-drawn.ensures.draws in
+    let input : List ℕ = drawing.input in
+    let was : SinkState = g.K.Sink.state c.args.sink.now in
+    let is : SinkState = g.K.Sink.state c.paint.new.sink in
+    let drawn : c.as_slice-strokes.result.now ≡ rules.strokes page input = c.as_slice-strokes.ensures.value ∙ drawing.draws.lines.strokes_are in
+    let painted = subst (λ (ss : List Segment). HasPainted job (g.G.Gauge.reaches c.args.gauge.now) ss was is (Ok c.in-Ok.bytes)) drawn c.in-Ok.ensures.paints in
+    record {
+      input = input;
+      taken = drawing.taken;
+      page = page;
+      given = given_page c.args.choice rules job.pens c.args.job.now.page input _ page drawing.draws.placed;
+      converts = (
+        drawing.draws.placed,
+        record {
+          read = drawing.draws.read;
+          accepted = job_faults job (rules.refusal page input) None drawing.draws.lines.accepted painted.0;
+          written = painted.1.written;
+          sound = painted.1.sound;
+          rows = ap (λ (n : ℕ). n - job.first_row) c.rows.ensures.count;
+          bytes = painted.1.count;
+          strokes_count = ap length drawn;
+          notes = drawing.draws.lines.notes_are;
+        },
+        c.census_of.ensures ∙ ap (λ (ss : List Segment). census_of job.pens page ss) drawn,
+      );
+      tested = subst (λ (ss : List Segment). g.G.Gauge.count c.paint.new.gauge ≤ g.G.Gauge.count c.args.gauge.now + boxes_from job.pens ss job.page job.dots job.first_row) drawn c.in-Ok.ensures.tests;
+    }
+
+pub returns-in-Err-clause-converts : goal.returns-in-Err-clause-converts
+returns-in-Err-clause-converts g c =
+    let page = c.in_ok-drawn.drawn.page in
+    let job = on_page page c.args.job.now in
+    let rules : Rules = rules_of c.args.reading in
+    let drawing = c.in_ok-drawn.ensures.draws in
+    let input : List ℕ = drawing.input in
+    let was : SinkState = g.K.Sink.state c.args.sink.now in
+    let is : SinkState = g.K.Sink.state c.paint.new.sink in
+    let drawn : c.as_slice-strokes.result.now ≡ rules.strokes page input = c.as_slice-strokes.ensures.value ∙ drawing.draws.lines.strokes_are in
+    record {
+      input = input;
+      taken = drawing.taken;
+      page = page;
+      given = given_page c.args.choice rules job.pens c.args.job.now.page input _ page drawing.draws.placed;
+      converts = not_painted_on rules c.args.choice c.args.job.now page _ (g.G.Gauge.reaches c.args.gauge.now) input _ _ was is c.in-Err.fault
+          drawing.draws.placed drawing.draws.read drawing.draws.lines.accepted
+          (subst (λ (ss : List Segment). HasPainted job (g.G.Gauge.reaches c.args.gauge.now) ss was is (Err c.in-Err.fault)) drawn c.in-Err.ensures.paints);
+      tested = subst (λ (ss : List Segment). g.G.Gauge.count c.paint.new.gauge ≤ g.G.Gauge.count c.args.gauge.now + boxes_from job.pens ss job.page job.dots job.first_row) drawn c.in-Err.ensures.tests;
+    }

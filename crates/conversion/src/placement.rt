@@ -1,0 +1,16 @@
+//! Where a plot is drawn.
+
+/// Where a plot is drawn: on the page that was given, or on the page around the drawing.
+#[derive(Clone, Copy, Debug, PartialEq, Eq)]
+pub enum Placement {
+    /// On the page that was given, as was asked.
+    Given,
+    /// On the page around the drawing.
+    Fitted,
+    /// On the page that was given: the selected pens draw nothing there.
+    Blank,
+    /// On the page that was given: no page is large enough for the drawing.
+    TooLarge,
+    /// On the page that was given: the drawing follows the page, so it is another one on the page around it.
+    Follows,
+}

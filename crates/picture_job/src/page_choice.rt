@@ -1,0 +1,13 @@
+//! Which page a plot is drawn on.
+
+/// Which page a plot is drawn on.
+#[derive(Clone, Copy, Debug, PartialEq, Eq)]
+pub enum PageChoice {
+    /// The page that is given.
+    Given,
+    /// The page around what the selected pens draw on the page that is given.
+    Fitted {
+        /// How much is left free around the drawing, in millimetres.
+        margin: u32,
+    },
+}

@@ -1,0 +1,131 @@
+//! Plots that are drawn on the page around their drawing.
+use crate::cases::text_of;
+use crate::pages::eight_by_eight;
+use plotraster::{
+    Exact, Form, Job, OverRead, OverWrite, PageChoice, PenSet, Reading, convert_on, report_on,
+};
+use std::alloc::Global;
+use std::test::Fail;
+
+// A plot on a line, and on the next what becomes of it: the placement, the strokes and how many of them lie off the page, and
+// the page of the report. The margin is 1 mm.
+const CASES: &str = "\
+SP1;PW1;PU0,0;PD100,200;
+Fitted 1 0 page 220 320 60 60
+
+SP1;PW1;PU-100,0;PD100,-200;
+Fitted 1 0 page 320 320 160 260
+
+SP1;PW0;PU1000,1000;PD1010.5,1000;
+Fitted 1 0 page 1051 1040 0 0
+
+SP1;PW0;PD;
+Fitted 1 0 page 80 80 40 40
+
+SP1;PW0;PU-5000,0;PD-5000,5;
+Fitted 1 0 page 80 85 5040 40
+
+SP1;PW1;PU0,0;PD100,200;SP2;PW2;PU500,0;PD500,1;
+Fitted 2 0 page 640 340 60 80
+
+PU100,200;
+Blank 0 0 page 64 64 0 0
+
+SP1;PU-60000,0;PD60000,0;
+TooLarge 1 0 page 64 64 0 0
+
+SP1;PU65000,0;PD65500,0;
+TooLarge 1 1 page 64 64 0 0
+
+SP1;SC0,9,0,9;PD5,5;
+Follows 1 0 page 64 64 0 0
+
+SP1;RO90;PD5,5;
+Follows 1 0 page 64 64 0 0
+
+SP1;RO90;PU0,65000;PD0,65100;
+Follows 1 1 page 64 64 0 0
+";
+
+// What `report_on` says of a plot.
+fn placed(alloc: Global, choice: PageChoice, plot: &str) -> Result<String, Fail> {
+    let page = eight_by_eight(Form::Pbm)?.page;
+    let mut sink = OverWrite::new(Vec::new(alloc));
+    let mut source = OverRead::new(plot.as_bytes());
+    let outcome = report_on(alloc, Reading::Core, choice, &page, &mut source, &mut sink)?;
+    let written = sink.into_inner();
+    let line = text_of(written.as_slice())?.lines().next().ok_or("no line")?;
+    let (placement, census) = (outcome.placement, outcome.census);
+    let (strokes, off_page) = (census.strokes, census.off_page);
+    Ok(format!(in alloc; "{placement:?} {strokes} {off_page} {line}")?)
+}
+
+#[test]
+fn pages_around_drawings(rt: HostRuntime) -> Result<(), Fail> {
+    let mut found: usize = 0;
+    for case in CASES.trim_end().split("\n\n") {
+        let (plot, wanted) = case.split_once("\n").ok_or("a case with no answer")?;
+        let answer = placed(rt.alloc(), PageChoice::Fitted { margin: 1 }, plot)?;
+        assert_eq!(rt; answer.as_str(), wanted, "{plot}");
+        found = found.saturating_add(1);
+    }
+    assert_eq!(rt; found, 12);
+    Ok(())
+}
+
+const MARGINS: [(u32, &str); 4] = [
+    (0, "Fitted 1 0 page 140 240 20 20"),
+    (1, "Fitted 1 0 page 220 320 60 60"),
+    (1000, "TooLarge 1 0 page 64 64 0 0"),
+    (4_294_967_295, "TooLarge 1 0 page 64 64 0 0"),
+];
+
+#[test]
+fn margins_around_drawings(rt: HostRuntime) -> Result<(), Fail> {
+    let plot = "SP1;PW1;PU0,0;PD100,200;";
+    for (margin, wanted) in MARGINS {
+        let answer = placed(rt.alloc(), PageChoice::Fitted { margin }, plot)?;
+        assert_eq!(rt; answer.as_str(), wanted);
+    }
+    let answer = placed(rt.alloc(), PageChoice::Given, plot)?;
+    assert_eq!(rt; answer.as_str(), "Given 1 0 page 64 64 0 0");
+    Ok(())
+}
+
+// The lines of a picture in marks that these pens draw, on the page around them, and what is said of it.
+fn drawn(alloc: Global, pens: PenSet, plot: &[u8]) -> Result<String, Fail> {
+    let job = Job {
+        pens,
+        ..eight_by_eight(Form::Marks)?
+    };
+    let mut sink = OverWrite::new(Vec::new(alloc));
+    let choice = PageChoice::Fitted { margin: 0 };
+    let outcome = convert_on(
+        alloc,
+        Reading::Core,
+        choice,
+        &job,
+        &mut Exact::new(),
+        &mut OverRead::new(plot),
+        &mut sink,
+    )?;
+    let written = sink.into_inner();
+    let marks = text_of(written.as_slice())?;
+    let (rows, placement, census) = (outcome.done.rows, outcome.placement, outcome.census);
+    let (strokes, off_page) = (census.strokes, census.off_page);
+    Ok(format!(in alloc; "{rows} rows, {placement:?}, {strokes} and {off_page}\n{marks}")?)
+}
+
+// Dots of two pens, which are pixels of 8 units: a page that is not long enough for one is 64 units long.
+const DOTS: &[u8] = b"SP1;PW0.1;PU4,4;PD;PU;SP2;PU124,4;PD;";
+
+#[test]
+fn the_selected_pens_choose_the_page(rt: HostRuntime) -> Result<(), Fail> {
+    let first = drawn(rt.alloc(), PenSet::none().with(1), DOTS)?;
+    assert_eq!(rt; first.as_str(), "8 rows, Fitted, 1 and 0\n7 0 1 000000\n");
+    let second = drawn(rt.alloc(), PenSet::none().with(2), DOTS)?;
+    assert_eq!(rt; second.as_str(), "8 rows, Fitted, 1 and 0\n7 15 2 ff0000\n");
+    let neither = drawn(rt.alloc(), PenSet::none().with(3), DOTS)?;
+    assert_eq!(rt; neither.as_str(), "8 rows, Blank, 0 and 0\n");
+    Ok(())
+}

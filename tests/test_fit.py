@@ -1,0 +1,219 @@
+"""What `--fit`, `--margin` and `--verbose` do: the page around a drawing, and what is said of the drawing."""
+
+import functools
+import os
+import re
+
+import pytest
+from reference.outputs import FORMS
+from shared import EXAMPLES, assert_nothing, ink, read_bitmap, read_bytes, run
+
+SECONDS = 60
+# A pixel a unit.
+UNITS = ["--dots", "1016"]
+FITTED = {
+    "left": b"PW20;PU-5000,-3000;PD-4000,-2000;",
+    "right": b"PU3000,2000;CI100;",
+    "dot": b"PW0.1;PD;",
+    "thin": b"PW1;PD100,100;",
+    "scaled": b"IP-1000,-1000,1000,1000;SC0,1,0,1;SP2;PA.5,.5;CI.5;",
+    "off the page": b"PU20000,20000;PD30000,30000;",
+    "in a window": b"IW0,0,10,10;PU100,100;PD2000,2000;",
+}
+EXAMPLES_FITTED = ("centred", "figures", "rose", "line")
+# Plots whose page is kept, and why.
+DEPENDS = "the drawing depends on the page"
+KEPT = {
+    "scale": (b"SC0,9,0,9;PD5,5;", DEPENDS),
+    "corners": (b"IP;SC0,9,0,9;PD5,5;", DEPENDS),
+    "turned": (b"RO90;PD5,5;", DEPENDS),
+    "refused on the page around it": (b"RO90;PU8400,70000;PD8400,70100;", DEPENDS),
+    "nothing": (b"PU5,5;", "nothing is drawn"),
+    "of no plot": (b"%!\n", "nothing is drawn"),
+    "too wide": (b"PU-60000,0;PD60000,0;", "the drawing is larger than a page can be"),
+    "too far": (b"PU65000,0;PD65536,0;", "the drawing is larger than a page can be"),
+}
+
+
+def plots():
+    found = {name: read_bytes(os.path.join(EXAMPLES, f"{name}.plt")) for name in EXAMPLES_FITTED}
+    return {**found, **FITTED}
+
+
+def page_of(program, words, plot, errors=b""):
+    """The options of the page that a report has."""
+    done = run(program, ["report", *words], SECONDS, input=plot)
+    assert (done.returncode, done.stderr) == (0, errors)
+    numbers = done.stdout.split(b"\n")[0].decode().split()[1:]
+    return [f"--{side}={number}" for side, number in zip(("width", "height", "left", "below"), numbers)]
+
+
+def drawn(program, words, plot, errors=b""):
+    done = run(program, words, SECONDS, input=plot)
+    assert (done.returncode, done.stderr) == (0, errors), words
+    return done.stdout
+
+
+def kept(why):
+    return f"plotraster: the page is not fitted: {why}\n".encode()
+
+
+def margins(bitmap):
+    """How many rows and columns are white on the left, at the bottom, on the right and at the top."""
+    inked = [row for row, line in enumerate(bitmap.lines) if line]
+    every = functools.reduce(int.__or__, bitmap.lines)
+    trailing = (every & -every).bit_length() - 1
+    return bitmap.columns - every.bit_length(), bitmap.rows - 1 - inked[-1], trailing, inked[0]
+
+
+def larger(page, more):
+    """The options of a page that is larger on each side."""
+    width, height, left, below = (int(it.split("=")[1]) for it in page)
+    return [f"--width={width + 2 * more}", f"--height={height + 2 * more}", f"--left={left + more}", f"--below={below + more}"]
+
+
+def wrong_margins(program, name, plot, margin):
+    """What is wrong with the page around a drawing, by pictures with a pixel a unit."""
+    more = 500
+    page = page_of(program, ["--fit", f"--margin={margin}"], plot)
+    inside = read_bitmap(drawn(program, ["pbm", *page, *UNITS], plot))
+    around = read_bitmap(drawn(program, ["pbm", *larger(page, more), *UNITS], plot))
+    if min(margins(around)) < more or ink(inside) != ink(around):
+        yield f"{name}: {ink(inside)} pixels of {ink(around)} are on the page"
+    free = ["--left=0" in page, "--below=0" in page, False, False]
+    for side, may, found in zip(("left", "below", "right", "above"), free, margins(inside)):
+        if found < 40 * margin or (found > 40 * margin + 2 and not may):
+            yield f"{name}: {found} units are free {side}"
+
+
+def test_margins(program):
+    """All that is drawn lies on the page, with the margin around it. What a window hides counts too."""
+    for name, plot in plots().items():
+        if name not in ("in a window", "scaled"):
+            assert_nothing(wrong_margins(program, name, plot, 1))
+    for margin in (0, 3):
+        assert_nothing(wrong_margins(program, "right", FITTED["right"], margin))
+
+
+def test_page_of_half_units(program):
+    """A plot with half a unit at each side: half units count as whole ones."""
+    plot = b"PW0;PU-10.5,-20.5;PD30.5,40.5;"
+    assert page_of(program, ["--fit"], plot) == ["--width=122", "--height=142", "--left=51", "--below=61"]
+    assert page_of(program, ["--fit", "--margin=0"], plot) == ["--width=64", "--height=64", "--left=11", "--below=21"]
+
+
+@pytest.mark.parametrize("command", FORMS)
+def test_picture_is_that_of_the_page(program, command):
+    """The picture of a fitted page is the picture of the page that the report has."""
+    dots = ["--dots", "75"]
+    for name, plot in plots().items():
+        for words in ([], ["--page=a0", "--left=300"], ["--profile=full"], ["--margin=7"]):
+            page = page_of(program, ["--fit", *words], plot)
+            others = [it for it in words if it.startswith("--profile")]
+            fitted = drawn(program, [command, "--fit", *words, *dots], plot)
+            assert fitted == drawn(program, [command, *page, *others, *dots], plot), (name, words)
+
+
+def test_page_that_is_kept(program):
+    """The page is kept, and a line says why. The picture is that of the page."""
+    for name, (plot, why) in KEPT.items():
+        for words in ([], ["--page=a5", "--below=100"]):
+            assert page_of(program, [*words, "--fit"], plot, kept(why)) == page_of(program, words, plot), name
+            assert drawn(program, ["pbm", "--fit", *words], plot, kept(why)) == drawn(program, ["pbm", *words], plot)
+
+
+def test_drawing_that_follows_the_page_may_fit(program):
+    """A plot in user units fits the page around it if its corners are set."""
+    plot = b"IP0,0,1000,1000;SC0,10,0,10;PU1,1;PD9,9;"
+    assert page_of(program, ["--fit", "--page=a5"], plot) == page_of(program, ["--fit", "--page=a0"], plot)
+
+
+def test_pens_choose_the_page(program):
+    """The page is around what the selected pens draw."""
+    plot = b"SP1;PU0,0;PD1000,1000;PU;SP2;PU5000,5000;PD6000,5500;"
+    both, first = (page_of(program, ["--fit"], it) for it in (plot, plot.split(b"SP2")[0]))
+    for pens, page in (("all", both), ("1", first), ("1-2", both), ("2", both)):
+        words = ["pbm", f"--pens={pens}"]
+        assert drawn(program, [*words, "--fit"], plot) == drawn(program, [*words, *page], plot), pens
+    words = ["pbm", "--pens=3", "--fit"]
+    assert drawn(program, words, plot, kept("nothing is drawn")) == drawn(program, words[:2], plot)
+
+
+def test_sheets_choose_the_page(program):
+    plot = b"SP1;PU0,0;PD1000,1000;PG;SP1;PU0,0;PD3000,500;"
+    for sheet in (1, 2, 0):
+        words = ["--profile=full", f"--sheet={sheet}"]
+        page = page_of(program, ["--fit", *words], plot)
+        assert drawn(program, ["ppm", "--fit", *words], plot) == drawn(program, ["ppm", *page, *words], plot)
+    assert page_of(program, ["--fit", "--profile=full", "--sheet=9"], plot, kept("nothing is drawn"))[0] == "--width=11880"
+
+
+def test_refused_plots(program):
+    """A plot that is refused on the page that is given is refused, and nothing is written."""
+    for words in (["pbm"], ["report"], ["marks", "--margin=0"]):
+        done = run(program, [*words, "--fit"], SECONDS, input=b"IN;PU0,0;PD70000,0;")
+        assert (done.returncode, done.stdout, done.stderr) == (1, b"", b"plotraster: place off range at byte 9\n")
+
+
+def test_rows_and_bands_of_a_fitted_page(program):
+    """Pictures from a later row on, and in bands, are those of the page."""
+    plot = read_bytes(os.path.join(EXAMPLES, "figures.plt"))
+    whole = drawn(program, ["marks", "--fit"], plot)
+    assert whole == drawn(program, ["marks", "--fit", "--band=7"], plot)
+    late = b"".join(it for it in whole.splitlines(True) if int(it.split()[0]) >= 40)
+    assert drawn(program, ["marks", "--fit", "--from=40"], plot) == late
+    done = run(program, ["pbm", "--fit", "--from=99999"], SECONDS, input=plot)
+    assert (done.returncode, done.stderr) == (2, b"plotraster: first row is past the last row\n")
+
+
+# Plots, the words, and what --verbose says of them.
+SAID = [
+    (b"SP1;PD100,100;", [], "1 line, 0 off the page; 0 notes"),
+    (b"SP1;PD100,100,200,0;", [], "2 lines, 0 off the page; 0 notes"),
+    (b"SP1;PD100,100;PU-900,-900;PD-500,-500;XX;", [], "2 lines, 1 off the page; 1 note"),
+    (b"SP1;PD100,100;SP2;PD20000,9000;XX;XX;", ["--pens=1"], "1 line, 0 off the page; 2 notes"),
+    (b"SP1;PU-900,-900;PD-500,-500;", [], "nothing is drawn: 1 line, 1 off the page; 0 notes"),
+    (b"SP1;PU20000,0;PD20000,500;PU0,9000;PD500,9000;", [], "nothing is drawn: 2 lines, 2 off the page; 0 notes"),
+    (b"SP1;PU20000,0;PD20000,500;", ["--page=a0"], "1 line, 0 off the page; 0 notes"),
+    (b"SP2;PD100,100;", ["--pens=1"], "nothing is drawn: 0 lines, 0 off the page; 0 notes"),
+    (b"", [], "nothing is drawn: 0 lines, 0 off the page; 0 notes"),
+    (b"UC1,1;", ["--profile=full"], "nothing is drawn: 0 lines, 0 off the page; 1 note"),
+    # A line of 0.35 mm is 14 units wide: it reaches the page from 7 units beside it, and not from 8.
+    (b"SP1;PU-7,0;PD-7,100;", [], "1 line, 0 off the page; 0 notes"),
+    (b"SP1;PU-8,0;PD-8,100;", [], "nothing is drawn: 1 line, 1 off the page; 0 notes"),
+]
+
+
+def test_verbose(program):
+    """One line on standard error after the picture, which is the same as without."""
+    for plot, words, said in SAID:
+        errors = f"plotraster: {said}, see plotraster report\n".encode()
+        for command in FORMS:
+            picture = drawn(program, [command, *words, "--verbose"], plot, errors)
+            assert picture == drawn(program, [command, *words], plot)
+
+
+def test_verbose_and_fitted(program):
+    """The line on the page comes before that on the drawing, which is as it lies on the fitted page."""
+    plot = b"SP1;PU20000,0;PD20000,500;"
+    errors = b"plotraster: 1 line, 0 off the page; 0 notes, see plotraster report\n"
+    drawn(program, ["pbm", "--fit", "--verbose"], plot, errors)
+    errors = kept("nothing is drawn")
+    errors += b"plotraster: nothing is drawn: 0 lines, 0 off the page; 0 notes, see plotraster report\n"
+    drawn(program, ["pbm", "--fit", "--verbose"], b"", errors)
+
+
+def test_verbose_and_refused(program):
+    """Of a plot that is refused only the refusal is said."""
+    done = run(program, ["pbm", "--verbose"], SECONDS, input=b"PD70000,0;")
+    assert (done.returncode, done.stdout, done.stderr) == (1, b"", b"plotraster: place off range at byte 0\n")
+
+
+def test_verbose_counts_what_the_report_counts(program):
+    for name in EXAMPLES_FITTED:
+        plot = read_bytes(os.path.join(EXAMPLES, f"{name}.plt"))
+        report = drawn(program, ["report"], plot).decode()
+        said = run(program, ["pbm", "--verbose"], SECONDS, input=plot).stderr.decode()
+        lines, notes = (int(re.search(rf"(\d+) {it}", said)[1]) for it in ("line", "note"))
+        assert lines == int(re.search(r"^strokes (\d+)$", report, re.M)[1])
+        assert notes == len(re.findall(r"^note ", report, re.M))
