@@ -9,7 +9,7 @@
 # make fuzz       compares the built command with tests/reference on new random plots, for SECONDS=600
 # make install    copies the command, its manual page and its completion under PREFIX (/usr/local), below DESTDIR if it is set
 # make uninstall  removes them
-# make dist       makes build/plotraster-VERSION-x86_64-linux.tar.gz and build/plotraster_VERSION_amd64.deb
+# make dist       makes build/plotraster-VERSION-x86_64-linux.tar.gz and build/plotraster_VERSION_amd64.deb, which lintian checks
 # make clean      removes all that was built; the next build proves everything again
 SHELL = /bin/bash
 .SHELLFLAGS = -o pipefail -c

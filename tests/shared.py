@@ -11,7 +11,7 @@ HERE = os.path.dirname(os.path.abspath(__file__))
 TOP = os.path.dirname(HERE)
 EXAMPLES = os.path.join(TOP, "examples")
 DEBIAN = {
-    "cc": "gcc libc6-dev", "dpkg-deb": "dpkg", "gs": "ghostscript", "man": "man-db", "parallel": "parallel",
+    "cc": "gcc libc6-dev", "dpkg-deb": "dpkg", "gs": "ghostscript", "lintian": "lintian", "man": "man-db", "parallel": "parallel",
     "ps2pdf": "ghostscript", "readelf": "binutils",
 }
 

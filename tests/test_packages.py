@@ -1,9 +1,11 @@
 """Makes the packages of the built program, and uses what is in them.
 
 `tools/dist` makes them twice, and the bytes must be the same. Each package is unpacked into an empty folder,
-where the command, the manual page and the documents must be those of the repository; the command draws the
-first plot there, and `man` shows the page. Copies of the repository with another version or without a file,
-and a command that needs more than the C library, must be refused.
+where the command, the manual page and the documents must be those of the repository, with all that `make install`
+copies; the command draws there what the program under test draws, `man` shows the page, and bash completes words.
+dpkg installs the package for Debian below a folder, and removes all of it. Copies of the repository with another
+version, without a file, or with a field that lintian refuses, and a command that needs more than the C library,
+must be refused.
 """
 
 import filecmp
@@ -43,10 +45,10 @@ def run(words, folder, **environment):
                           env=dict(os.environ, **environment))
 
 
-def make(program, top, folder, umask=0o022):
+def make(program, top, folder, *options, umask=0o022):
     """Runs the script of a copy of the repository, and gives its exit status and what it says."""
     os.makedirs(folder)
-    ran = subprocess.run([os.path.join(top, "tools", "dist"), program, folder], umask=umask, capture_output=True,
+    ran = subprocess.run([os.path.join(top, "tools", "dist"), *options, program, folder], umask=umask, capture_output=True,
                          text=True, env=dict(os.environ, SOURCE_DATE_EPOCH=str(MOMENT)), timeout=SECONDS)
     return ran.returncode, ran.stdout + ran.stderr
 
@@ -57,13 +59,13 @@ def listed(root):
 
 
 def wrong_files(program, root, wanted):
-    """Compares an unpacked package with what it must have: for each file the one that it is a copy of."""
+    """Compares an unpacked package with what it must have: for each file the one that it is a copy of, if any."""
     if listed(root) != set(wanted):
         yield f"the files differ in {sorted(listed(root) ^ set(wanted))}"
         return
     for name, source in wanted.items():
         path = os.path.join(root, name)
-        if read(path) != read(TOP, source):
+        if source and read(path) != read(TOP, source):
             yield f"{name} is not {source}"
         mode = 0o755 if source == program else 0o644
         if os.stat(path).st_mode & 0o777 != mode:
@@ -71,25 +73,51 @@ def wrong_files(program, root, wanted):
 
 
 def wrong_entries(entries):
-    """All entries belong to root, and have the same time."""
+    """All entries belong to root, and have the same time and the usual modes."""
     for entry in entries:
-        if (entry.uid, entry.gid, entry.mtime) != (0, 0, MOMENT):
-            yield f"{entry.name}: owner {entry.uid}:{entry.gid}, time {entry.mtime}"
+        owner = f"{entry.uid}:{entry.gid} {entry.uname}:{entry.gname}"
+        mode = 0o755 if entry.isdir() or entry.name.endswith("/bin/plotraster") else 0o644
+        if (owner, entry.mtime, entry.mode) != ("0:0 root:root", MOMENT, mode):
+            yield f"{entry.name}: owner {owner}, time {entry.mtime}, mode {entry.mode:o}"
 
 
-def wrong_use(command, page, folder):
-    """What the unpacked command draws, and how its manual page is shown."""
+def missing_of_install(program, root, folder):
+    """What `make install` copies, and what an unpacked package has otherwise. It may compress a file."""
+    done = run(["make", "--silent", "install", f"PROGRAM={program}", f"DESTDIR={folder}", "PREFIX="], TOP)
+    if done.returncode or len(listed(folder)) < 3:
+        yield f"make install: {done.stderr}"
+    for name in listed(folder):
+        copies = [each for each in (name, f"{name}.gz") if os.path.exists(os.path.join(root, each))]
+        if len(copies) != 1 or read(root, copies[0]) != read(folder, name):
+            yield f"{name} of make install is not in the package, or is another file"
+
+
+def wrong_completion(path, folder):
+    """Bash reads the completion, and completes a command and a value of its option."""
+    script = """. "$1"; complete -p plotraster; complete_word() { COMP_WORDS=("$@"); COMP_CWORD=$(($# - 1)); _plotraster; }
+        complete_word plotraster pp; echo "${COMPREPLY[@]}"; complete_word plotraster ppm --profile f; echo "${COMPREPLY[@]}" """
+    ran = run(["bash", "--norc", "-eu", "-c", script, "bash", path], folder)
+    if (ran.returncode, ran.stderr) != (0, "") or ran.stdout.splitlines()[1:] != ["ppm", "full"]:
+        yield f"bash: status {ran.returncode}, {ran.stdout!r}, {ran.stderr!r}"
+
+
+def wrong_use(program, root, page, folder):
+    """What the unpacked command draws, how its manual page is shown, and what else `make install` copies."""
     os.makedirs(folder)
+    command = f"{root}/bin/plotraster"
+    yield from missing_of_install(program, root, os.path.join(folder, "installed"))
+    yield from wrong_completion(f"{root}/share/bash-completion/completions/plotraster", folder)
     shutil.copy(os.path.join(TOP, "examples", "line.plt"), folder)
     shutil.copy(os.path.join(TOP, "examples", "rose.plt"), os.path.join(folder, "plan.plt"))
     ran = run([command, *FIRST.split()], folder)
     if (ran.returncode, ran.stdout, ran.stderr) != (0, FIRST_MARKS, ""):
         yield f"{FIRST}: status {ran.returncode}, {ran.stdout!r}, {ran.stderr!r}"
-    first = re.search(r"^plotraster (.+?) \|", read(TOP, "README.md").decode(), re.M)[1]
-    drawn = subprocess.run([command, *first.split()], cwd=folder, capture_output=True, timeout=SECONDS)
-    if drawn.returncode or not drawn.stdout.startswith(b"P6\n1754 1240\n255\n") or b"\0\0\0" not in drawn.stdout:
+    first = re.search(r"^plotraster (ppm .+? plan\.plt)", read(TOP, "README.md").decode(), re.M)[1].split()
+    drawn, wanted = (subprocess.run([each, *first], cwd=folder, capture_output=True, timeout=SECONDS)
+                     for each in (command, program))
+    if drawn.returncode or drawn.stdout != wanted.stdout or not re.match(rb"P6\n\d{4} \d{4}\n255\n", drawn.stdout):
         yield f"{first}: status {drawn.returncode}, {drawn.stdout[:20]!r}, {drawn.stderr!r}"
-    shown = run(["man", "--warnings", "-l", page], folder, MANWIDTH="100", LC_ALL="C.UTF-8")
+    shown = run(["man", "--warnings", "-l", f"{root}/share/man/man1/{page}"], folder, MANWIDTH="100", LC_ALL="C.UTF-8")
     if shown.returncode or shown.stderr or "draw an HP-GL or HP-GL/2 plot" not in shown.stdout:
         yield f"man: status {shown.returncode}, {shown.stderr!r}"
 
@@ -112,7 +140,29 @@ def wrong_archive(program, made, number, folder):
               "share/bash-completion/completions/plotraster": "completions/plotraster.bash"}
     wanted.update({f"share/doc/plotraster/{name}": name for name in DOCUMENTS})
     yield from wrong_files(program, root, wanted)
-    yield from wrong_use(f"{root}/bin/plotraster", f"{root}/share/man/man1/plotraster.1", os.path.join(folder, "use"))
+    yield from wrong_use(program, root, "plotraster.1", os.path.join(folder, "use"))
+
+
+def versions(text, heading):
+    """The words of a changelog under each version, without marks of points and headings."""
+    return {number: re.findall(r"[^\s*\[\]#-]\S*", said) for number, said in re.findall(heading, text, re.M | re.S)}
+
+
+def wrong_control(control, root, number, files):
+    """The sums and the fields of a package for Debian."""
+    sums = run(["md5sum", "--check", "--quiet", "--strict", f"{control}/md5sums"], root)
+    if sums.returncode or len(read(control, "md5sums").splitlines()) != files:
+        yield f"md5sums: {sums.stdout}{sums.stderr}"
+    text = read(control, "control").decode()
+    fields = dict(re.findall(r"^([\w-]+): (.+)$", text, re.M))
+    named = {"Package": "plotraster", "Version": number, "Architecture": "amd64"}
+    if not named.items() <= fields.items() or not re.fullmatch(r"libc6 \(>= 2\.\d+\)", fields["Depends"]):
+        yield f"control: {fields}"
+    if re.search("@[A-Z]+@", text):
+        yield f"control has a mark that is not replaced: {text}"
+    size = sum(os.path.getsize(os.path.join(root, name)) for name in listed(root)) / 1024
+    if abs(int(fields["Installed-Size"]) - size) > max(size / 10, 4 * files):
+        yield f"Installed-Size is {fields['Installed-Size']}, the files have {size:.0f} KiB"
 
 
 def wrong_package(program, made, number, folder):
@@ -123,24 +173,30 @@ def wrong_package(program, made, number, folder):
         yield from wrong_entries(data)
     for words in (["--extract", path, root], ["--control", path, control]):
         subprocess.run(["dpkg-deb", *words], check=True, timeout=SECONDS)
+    changes = "usr/share/doc/plotraster/changelog.gz"
     wanted = {"usr/bin/plotraster": program, "usr/share/man/man1/plotraster.1.gz": "man/plotraster.1",
               "usr/share/bash-completion/completions/plotraster": "completions/plotraster.bash",
-              "usr/share/doc/plotraster/changelog.gz": "CHANGELOG.md",
-              "usr/share/doc/plotraster/copyright": "packaging/copyright"}
+              changes: None, "usr/share/doc/plotraster/copyright": "packaging/copyright"}
     wanted.update({f"usr/share/doc/plotraster/{name}": name for name in DOCUMENTS if name != "CHANGELOG.md"})
     yield from wrong_files(program, root, wanted)
-    sums = run(["md5sum", "--check", "--quiet", "--strict", f"{control}/md5sums"], root)
-    if sums.returncode or len(read(control, "md5sums").splitlines()) != len(wanted):
-        yield f"md5sums: {sums.stdout}{sums.stderr}"
-    fields = dict(re.findall(r"^([\w-]+): (.+)$", read(control, "control").decode(), re.M))
-    if fields["Version"] != number or not re.fullmatch(r"libc6 \(>= 2\.\d+\)", fields["Depends"]) or "@" in str(fields):
-        yield f"control: {fields}"
-    if (fields["Package"], fields["Architecture"]) != ("plotraster", "amd64"):
-        yield f"control: {fields}"
-    size = sum(os.path.getsize(os.path.join(root, name)) for name in listed(root)) / 1024
-    if abs(int(fields["Installed-Size"]) - size) > max(size / 10, 4 * len(wanted)):
-        yield f"Installed-Size is {fields['Installed-Size']}, the files have {size:.0f} KiB"
-    yield from wrong_use(f"{root}/usr/bin/plotraster", f"{root}/usr/share/man/man1/plotraster.1.gz", f"{folder}/use")
+    said = versions(read(root, changes).decode(), r"^plotraster \((\S+)\) unstable; urgency=medium$(.*?)^ -- ")
+    if said != versions(read(TOP, "CHANGELOG.md").decode(), r"^## (\S+) \(.+?\)$(.*?)(?=^## |\Z)"):
+        yield f"{changes} has other words than CHANGELOG.md: {said}"
+    yield from wrong_control(control, root, number, len(wanted))
+    yield from wrong_use(program, f"{root}/usr", "plotraster.1.gz", f"{folder}/use")
+
+
+def wrong_installation(package, folder):
+    """dpkg installs a package below a folder, finds its files as their sums say, and removes all of them."""
+    dpkg = ["dpkg", f"--root={folder}", "--log=/dev/null", "--force-depends,not-root,bad-path"]
+    ran = [run([*dpkg, *words], folder) for words in (["--install", package], ["--verify", "plotraster"])]
+    shown = run([f"{folder}/usr/bin/plotraster", "--version"], folder)
+    ran.append(run([*dpkg, "--purge", "plotraster"], folder))
+    if any(each.returncode for each in ran) or ran[1].stdout or not shown.stdout.startswith("plotraster "):
+        yield f"dpkg: {[(each.returncode, each.stdout, each.stderr) for each in (*ran, shown)]}"
+    left = [name for name in listed(folder) if not name.startswith("var/lib/dpkg/")]
+    if left:
+        yield f"dpkg --purge leaves {left}"
 
 
 def copy_of_sources(folder, but=None):
@@ -152,14 +208,22 @@ def copy_of_sources(folder, but=None):
     return folder
 
 
+def change(path, pattern, text):
+    """Replaces the first match in a file."""
+    with open(path, encoding="utf-8") as file:
+        changed = re.sub(pattern, text, file.read(), count=1)
+    with open(path, "w", encoding="utf-8") as file:
+        file.write(changed)
+
+
 def wrong_refusals(program, number, folder):
     """What must be refused, and the unchanged copy, which must not."""
-    status, said = make(program, copy_of_sources(f"{folder}/same"), f"{folder}/of-same")
+    status, said = make(program, copy_of_sources(f"{folder}/same"), f"{folder}/of-same", "--unchecked")
     if status:
         yield f"an unchanged copy is refused: {said}"
     for name in SOURCES:
         if name != "tools/dist":
-            status, _ = make(program, copy_of_sources(f"{folder}/{name}", name), f"{folder}/of/{name}")
+            status, _ = make(program, copy_of_sources(f"{folder}/{name}", name), f"{folder}/of/{name}", "--unchecked")
             if status == 0:
                 yield f"without {name} nothing is refused"
     named = ("CHANGELOG.md", "README.md", "man/plotraster.1")
@@ -167,12 +231,11 @@ def wrong_refusals(program, number, folder):
     for at, names in enumerate([*([name] for name in named), named]):
         top = copy_of_sources(f"{folder}/version/{at}")
         for name in names:
-            with open(os.path.join(top, name), "w", encoding="utf-8") as file:
-                file.write(read(TOP, name).decode().replace(number, number + "1", 1))
-        status, said = make(program, top, f"{folder}/of-version/{at}")
+            change(os.path.join(top, name), re.escape(number), number + "1")
+        status, said = make(program, top, f"{folder}/of-version/{at}", "--unchecked")
         if status == 0 or "the versions differ" not in said:
             yield f"another version in {', '.join(names)}: status {status}, {said}"
-    status, said = make("/bin/ls", TOP, f"{folder}/other")
+    status, said = make("/bin/ls", TOP, f"{folder}/other", "--unchecked")
     if status == 0 or "dist: /bin/ls needs" not in said:
         yield f"a command with more libraries: status {status}, {said}"
 
@@ -185,26 +248,41 @@ def number():
 
 @pytest.fixture(scope="module")
 def made(program, pytestconfig, tmp_path_factory):
-    """The packages, made twice under different masks."""
+    """The folder with the packages."""
     need(pytestconfig, "readelf", "dpkg-deb", "man")
-    folders = [str(tmp_path_factory.mktemp("packages") / name) for name in ("first", "second")]
-    for folder, umask in zip(folders, (0o022, 0o077)):
-        status, said = make(program, TOP, folder, umask)
-        assert status == 0, said
-        time.sleep(1.1)  # so that a time of its own would differ
-    return folders
+    folder = str(tmp_path_factory.mktemp("packages") / "first")
+    status, said = make(program, TOP, folder, "--unchecked")
+    assert status == 0 and len(os.listdir(folder)) == 2, said
+    return folder
 
 
-def test_same_bytes_each_time(made):
-    first, second = made
-    assert len(os.listdir(first)) == 2
-    for name in sorted(os.listdir(first)):
-        assert filecmp.cmp(os.path.join(first, name), os.path.join(second, name), shallow=False), name
+def test_same_bytes_each_time(program, made, pytestconfig, tmp_path):
+    """A second time, under another mask and later, so that a time of its own would differ. lintian must accept it."""
+    need(pytestconfig, "lintian")
+    time.sleep(1.1)
+    status, said = make(program, TOP, tmp_path / "second", umask=0o077)
+    assert status == 0 and "lintian" not in said, said
+    for name in sorted(os.listdir(made)):
+        assert filecmp.cmp(os.path.join(made, name), tmp_path / "second" / name, shallow=False), name
+
+
+def test_what_lintian_refuses(program, pytestconfig, tmp_path):
+    """A field that lintian refuses: nothing is put into the folder."""
+    need(pytestconfig, "readelf", "dpkg-deb", "lintian")
+    top = copy_of_sources(str(tmp_path / "sources"))
+    change(os.path.join(top, "packaging", "control"), "(?m)^Maintainer: .*", "Maintainer: nobody")
+    status, said = make(program, top, tmp_path / "made")
+    assert status and "E: plotraster: malformed-contact" in said
+    assert os.listdir(tmp_path / "made") == []
 
 
 @pytest.mark.parametrize("wrong", [wrong_archive, wrong_package])
 def test_package(wrong, program, made, number, tmp_path):
-    assert_nothing(wrong(program, made[0], number, str(tmp_path)))
+    assert_nothing(wrong(program, made, number, str(tmp_path)))
+
+
+def test_installation_by_dpkg(made, number, tmp_path):
+    assert_nothing(wrong_installation(os.path.join(made, f"plotraster_{number}_amd64.deb"), str(tmp_path)))
 
 
 def test_times_are_those_of_the_commit(program, made, tmp_path):
@@ -213,8 +291,8 @@ def test_times_are_those_of_the_commit(program, made, tmp_path):
     if said.returncode:
         pytest.skip("this is no checkout of git, so there is no commit")
     surroundings = {key: value for key, value in os.environ.items() if key != "SOURCE_DATE_EPOCH"}
-    subprocess.run([os.path.join(TOP, "tools", "dist"), program, tmp_path], env=surroundings, check=True, timeout=SECONDS,
-                   stdout=subprocess.DEVNULL)
+    words = [os.path.join(TOP, "tools", "dist"), "--unchecked", program, tmp_path]
+    subprocess.run(words, env=surroundings, check=True, timeout=SECONDS, stdout=subprocess.DEVNULL)
     archive, = glob.glob(os.path.join(tmp_path, "*.tar.gz"))
     with tarfile.open(archive) as entries:
         assert {entry.mtime for entry in entries} == {int(said.stdout)}
