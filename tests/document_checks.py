@@ -154,8 +154,8 @@ GALLERY["A detail at 1200 dots per inch"] = [Check(stored, (*PNG, "pamcut"))]
 DOCUMENT_CHECKS = {
     "docs/GALLERY.md": GALLERY,
     "README.md": {
-        "plotraster": [Check(pictures, PNG)],
-        "Use": [Check(pictures, (*SCALED, "pamfile", "pnmtops"))],
+        "Use": [Check(pictures, (*SCALED, "pamfile"))],
+        "More": [Check(pictures, ("pamfile",))],
     },
     "man/plotraster.1": {
         "EXAMPLES": [Check(pictures, ("pamfile",)), Check(pictures, ("pamfile",)), Check(pictures, (*SCALED, "pamfile")),
