@@ -180,7 +180,7 @@ def wrong_package(program, made, number, folder):
     wanted.update({f"usr/share/doc/plotraster/{name}": name for name in DOCUMENTS if name != "CHANGELOG.md"})
     yield from wrong_files(program, root, wanted)
     said = versions(read(root, changes).decode(), r"^plotraster \((\S+)\) unstable; urgency=medium$(.*?)^ -- ")
-    if said != versions(read(TOP, "CHANGELOG.md").decode(), r"^## (\S+) \(.+?\)$(.*?)(?=^## |\Z)"):
+    if said != versions(read(TOP, "CHANGELOG.md").decode(), r"^## (\S+) \([\d-]+\)$(.*?)(?=^## |\Z)"):
         yield f"{changes} has other words than CHANGELOG.md: {said}"
     yield from wrong_control(control, root, number, len(wanted))
     yield from wrong_use(program, f"{root}/usr", "plotraster.1.gz", f"{folder}/use")
