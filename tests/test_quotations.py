@@ -3,7 +3,7 @@
 Each `rust` block of a page in PAGES must stand in one source file of its crates, line for line, and each `antt`
 block in one of their specs/. Each line of a `text` block must stand in crates.txt. Each public function of the
 crate library_examples must be shown in docs/LIBRARY.md. The table of definitions in docs/PROOF.md must be what
-tools/path prints.
+tools/path prints, and the figures of speed in docs/SPEED.md and README.md those of bench/results.
 """
 
 import glob
@@ -53,6 +53,7 @@ def test_functions_of_the_examples_are_shown():
     assert_nothing(f"not shown: {name}" for name in names if not re.search(rf"^pub fn {name}\b", shown, re.M))
 
 
-def test_path_of_the_proof():
-    done = subprocess.run([os.path.join(TOP, "tools", "path"), "--check"], capture_output=True, text=True, timeout=SECONDS)
+@pytest.mark.parametrize("script", ["tools/path", "bench/typical"])
+def test_tables_that_scripts_write(script):
+    done = subprocess.run([os.path.join(TOP, script), "--check"], capture_output=True, text=True, timeout=SECONDS)
     assert (done.returncode, done.stderr) == (0, "")
