@@ -143,7 +143,8 @@ SCALED = (*PNG, "pamscale")
 GALLERY = {
     heading: [Check(stored, (*SCALED, "pnmquant"))]
     for heading in ("Lines in six colours", "A part drawing", "A map", "A chart by gnuplot", "Text in four directions",
-                    "Isotropic scaling", "Windows", "Wide pens", "Encoded polylines", "Colours set by the plot")
+                    "Isotropic scaling", "Windows", "Wide pens", "Encoded polylines", "Colours set by the plot",
+                    "Line types and widths", "Lettering", "Fills")
 }
 BESIDE = (
     "A chart in both profiles", "A part with hidden edges", "A chart of a harbour", "A sheet of labels", "A ribbon of curves",
