@@ -1,8 +1,9 @@
 """Makes the packages of the built program, and uses what is in them.
 
 `tools/dist` makes them twice, and the bytes must be the same. Each package is unpacked into an empty folder,
-where the command, the manual page and the documents must be those of the repository, with all that `make install`
-copies; the command draws there what the program under test draws, `man` shows the page, and bash completes words.
+where the command, without its symbols, the manual page and the documents must be those of the repository, with all
+that `make install` copies; the command draws there what the program under test draws, `man` shows the page, and bash
+completes words.
 dpkg installs the package for Debian below a folder, and removes all of it. Copies of the repository with another
 version, without a file, or with a field that lintian refuses, and a command that needs more than the C library,
 must be refused.
@@ -58,7 +59,7 @@ def listed(root):
     return {os.path.relpath(os.path.join(at, name), root) for at, _, names in os.walk(root) for name in names}
 
 
-def wrong_files(program, root, wanted):
+def wrong_files(root, wanted):
     """Compares an unpacked package with what it must have: for each file the one that it is a copy of, if any."""
     if listed(root) != set(wanted):
         yield f"the files differ in {sorted(listed(root) ^ set(wanted))}"
@@ -67,7 +68,7 @@ def wrong_files(program, root, wanted):
         path = os.path.join(root, name)
         if source and read(path) != read(TOP, source):
             yield f"{name} is not {source}"
-        mode = 0o755 if source == program else 0o644
+        mode = 0o755 if name.endswith("bin/plotraster") else 0o644
         if os.stat(path).st_mode & 0o777 != mode:
             yield f"{name} has the mode {os.stat(path).st_mode & 0o777:o}"
 
@@ -81,9 +82,9 @@ def wrong_entries(entries):
             yield f"{entry.name}: owner {owner}, time {entry.mtime}, mode {entry.mode:o}"
 
 
-def missing_of_install(program, root, folder):
+def missing_of_install(stripped, root, folder):
     """What `make install` copies, and what an unpacked package has otherwise. It may compress a file."""
-    done = run(["make", "--silent", "install", f"PROGRAM={program}", f"DESTDIR={folder}", "PREFIX="], TOP)
+    done = run(["make", "--silent", "install", f"PROGRAM={stripped}", f"DESTDIR={folder}", "PREFIX="], TOP)
     if done.returncode or len(listed(folder)) < 3:
         yield f"make install: {done.stderr}"
     for name in listed(folder):
@@ -101,11 +102,11 @@ def wrong_completion(path, folder):
         yield f"bash: status {ran.returncode}, {ran.stdout!r}, {ran.stderr!r}"
 
 
-def wrong_use(program, root, page, folder):
+def wrong_use(program, stripped, root, page, folder):
     """What the unpacked command draws, how its manual page is shown, and what else `make install` copies."""
     os.makedirs(folder)
     command = f"{root}/bin/plotraster"
-    yield from missing_of_install(program, root, os.path.join(folder, "installed"))
+    yield from missing_of_install(stripped, root, os.path.join(folder, "installed"))
     yield from wrong_completion(f"{root}/share/bash-completion/completions/plotraster", folder)
     shutil.copy(os.path.join(TOP, "examples", "line.plt"), folder)
     shutil.copy(os.path.join(TOP, "examples", "rose.plt"), os.path.join(folder, "plan.plt"))
@@ -122,7 +123,7 @@ def wrong_use(program, root, page, folder):
         yield f"man: status {shown.returncode}, {shown.stderr!r}"
 
 
-def wrong_archive(program, made, number, folder):
+def wrong_archive(program, stripped, made, number, folder):
     title = f"plotraster-{number}-x86_64-linux"
     path, root = os.path.join(made, f"{title}.tar.gz"), os.path.join(folder, "archive")
     with tarfile.open(path) as archive:
@@ -136,11 +137,11 @@ def wrong_archive(program, made, number, folder):
     ran = run(["tar", "xzf", os.path.join(made, said[1]), *said[2].split(), "-C", root], folder)
     if ran.returncode or f"apt install ./build/plotraster_{number}_amd64.deb " not in readme:
         yield f"not as in the README: {ran.stderr}"
-    wanted = {"bin/plotraster": program, "share/man/man1/plotraster.1": "man/plotraster.1",
+    wanted = {"bin/plotraster": stripped, "share/man/man1/plotraster.1": "man/plotraster.1",
               "share/bash-completion/completions/plotraster": "completions/plotraster.bash"}
     wanted.update({f"share/doc/plotraster/{name}": name for name in DOCUMENTS})
-    yield from wrong_files(program, root, wanted)
-    yield from wrong_use(program, root, "plotraster.1", os.path.join(folder, "use"))
+    yield from wrong_files(root, wanted)
+    yield from wrong_use(program, stripped, root, "plotraster.1", os.path.join(folder, "use"))
 
 
 def versions(text, heading):
@@ -165,7 +166,7 @@ def wrong_control(control, root, number, files):
         yield f"Installed-Size is {fields['Installed-Size']}, the files have {size:.0f} KiB"
 
 
-def wrong_package(program, made, number, folder):
+def wrong_package(program, stripped, made, number, folder):
     path, root, control = os.path.join(made, f"plotraster_{number}_amd64.deb"), f"{folder}/package", f"{folder}/control"
     with open(f"{folder}/data.tar", "wb") as data:
         subprocess.run(["dpkg-deb", "--fsys-tarfile", path], stdout=data, check=True, timeout=SECONDS)
@@ -174,16 +175,16 @@ def wrong_package(program, made, number, folder):
     for words in (["--extract", path, root], ["--control", path, control]):
         subprocess.run(["dpkg-deb", *words], check=True, timeout=SECONDS)
     changes = "usr/share/doc/plotraster/changelog.gz"
-    wanted = {"usr/bin/plotraster": program, "usr/share/man/man1/plotraster.1.gz": "man/plotraster.1",
+    wanted = {"usr/bin/plotraster": stripped, "usr/share/man/man1/plotraster.1.gz": "man/plotraster.1",
               "usr/share/bash-completion/completions/plotraster": "completions/plotraster.bash",
               changes: None, "usr/share/doc/plotraster/copyright": "packaging/copyright"}
     wanted.update({f"usr/share/doc/plotraster/{name}": name for name in DOCUMENTS if name != "CHANGELOG.md"})
-    yield from wrong_files(program, root, wanted)
+    yield from wrong_files(root, wanted)
     said = versions(read(root, changes).decode(), r"^plotraster \((\S+)\) unstable; urgency=medium$(.*?)^ -- ")
     if said != versions(read(TOP, "CHANGELOG.md").decode(), r"^## (\S+) \([\d-]+\)$(.*?)(?=^## |\Z)"):
         yield f"{changes} has other words than CHANGELOG.md: {said}"
     yield from wrong_control(control, root, number, len(wanted))
-    yield from wrong_use(program, f"{root}/usr", "plotraster.1.gz", f"{folder}/use")
+    yield from wrong_use(program, stripped, f"{root}/usr", "plotraster.1.gz", f"{folder}/use")
 
 
 def wrong_installation(package, folder):
@@ -216,6 +217,19 @@ def change(path, pattern, text):
         file.write(changed)
 
 
+def wrong_versions(program, number, folder):
+    """Another version in one place after another, and in the last copy in all places but the command."""
+    places = (("CHANGELOG.md", "## "), ("man/plotraster.1", "plotraster "), ("README.md", "version "),
+              ("README.md", "plotraster_"), ("README.md", "plotraster-"))
+    for at, changed in enumerate([*([place] for place in places), places]):
+        top = copy_of_sources(f"{folder}/version/{at}")
+        for name, before in changed:
+            change(os.path.join(top, name), before + re.escape(number), f"{before}{number}1")
+        status, said = make(program, top, f"{folder}/of-version/{at}", "--unchecked")
+        if status == 0 or "the versions differ" not in said:
+            yield f"another version in {changed}: status {status}, {said}"
+
+
 def wrong_refusals(program, number, folder):
     """What must be refused, and the unchanged copy, which must not."""
     status, said = make(program, copy_of_sources(f"{folder}/same"), f"{folder}/of-same", "--unchecked")
@@ -226,15 +240,7 @@ def wrong_refusals(program, number, folder):
             status, _ = make(program, copy_of_sources(f"{folder}/{name}", name), f"{folder}/of/{name}", "--unchecked")
             if status == 0:
                 yield f"without {name} nothing is refused"
-    named = ("CHANGELOG.md", "README.md", "man/plotraster.1")
-    # In the last copy only the command has another version.
-    for at, names in enumerate([*([name] for name in named), named]):
-        top = copy_of_sources(f"{folder}/version/{at}")
-        for name in names:
-            change(os.path.join(top, name), re.escape(number), number + "1")
-        status, said = make(program, top, f"{folder}/of-version/{at}", "--unchecked")
-        if status == 0 or "the versions differ" not in said:
-            yield f"another version in {', '.join(names)}: status {status}, {said}"
+    yield from wrong_versions(program, number, folder)
     status, said = make("/bin/ls", TOP, f"{folder}/other", "--unchecked")
     if status == 0 or "dist: /bin/ls needs" not in said:
         yield f"a command with more libraries: status {status}, {said}"
@@ -278,7 +284,9 @@ def test_what_lintian_refuses(program, pytestconfig, tmp_path):
 
 @pytest.mark.parametrize("wrong", [wrong_archive, wrong_package])
 def test_package(wrong, program, made, number, tmp_path):
-    assert_nothing(wrong(program, made, number, str(tmp_path)))
+    stripped = str(tmp_path / "stripped")
+    subprocess.run(["strip", "--remove-section=.comment", "-o", stripped, program], check=True, timeout=SECONDS)
+    assert_nothing(wrong(program, stripped, made, number, str(tmp_path)))
 
 
 def test_installation_by_dpkg(made, number, tmp_path):
