@@ -31,6 +31,7 @@ DOCUMENTS = ("CHANGELOG.md", "LICENSE-APACHE", "LICENSE-MIT", "README.md", "docs
 SOURCES = ("Makefile", "man/plotraster.1", "completions/plotraster.bash", "packaging/control", "packaging/copyright",
            "tools/dist", *DOCUMENTS)
 FIRST = "marks --width 64 --height 64 --dots 127 line.plt"
+ROSE = "ppm --dots 150 rose.plt"
 FIRST_MARKS = "".join(f"4 {column} 1 000000\n" for column in range(8))
 
 
@@ -109,15 +110,14 @@ def wrong_use(program, stripped, root, page, folder):
     yield from missing_of_install(stripped, root, os.path.join(folder, "installed"))
     yield from wrong_completion(f"{root}/share/bash-completion/completions/plotraster", folder)
     shutil.copy(os.path.join(TOP, "examples", "line.plt"), folder)
-    shutil.copy(os.path.join(TOP, "examples", "rose.plt"), os.path.join(folder, "plan.plt"))
+    shutil.copy(os.path.join(TOP, "examples", "rose.plt"), folder)
     ran = run([command, *FIRST.split()], folder)
     if (ran.returncode, ran.stdout, ran.stderr) != (0, FIRST_MARKS, ""):
         yield f"{FIRST}: status {ran.returncode}, {ran.stdout!r}, {ran.stderr!r}"
-    first = re.search(r"^plotraster (ppm .+? plan\.plt)", read(TOP, "README.md").decode(), re.M)[1].split()
-    drawn, wanted = (subprocess.run([each, *first], cwd=folder, capture_output=True, timeout=SECONDS)
+    drawn, wanted = (subprocess.run([each, *ROSE.split()], cwd=folder, capture_output=True, timeout=SECONDS)
                      for each in (command, program))
-    if drawn.returncode or drawn.stdout != wanted.stdout or not re.match(rb"P6\n\d{4} \d{4}\n255\n", drawn.stdout):
-        yield f"{first}: status {drawn.returncode}, {drawn.stdout[:20]!r}, {drawn.stderr!r}"
+    if drawn.returncode or drawn.stdout != wanted.stdout or not drawn.stdout.startswith(b"P6\n1754 1240\n255\n"):
+        yield f"{ROSE}: status {drawn.returncode}, {drawn.stdout[:20]!r}, {drawn.stderr!r}"
     shown = run(["man", "--warnings", "-l", f"{root}/share/man/man1/{page}"], folder, MANWIDTH="100", LC_ALL="C.UTF-8")
     if shown.returncode or shown.stderr or "draw an HP-GL or HP-GL/2 plot" not in shown.stdout:
         yield f"man: status {shown.returncode}, {shown.stderr!r}"
