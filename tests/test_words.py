@@ -153,8 +153,8 @@ def unknown_options():
     """Options that there are not, abbreviations among them."""
     for word in [
         "--dot", "--d", "--pen", "--wid", "--Dots", "--DOTS", "--dots-per-inch", "--dotss", "--dots ", "--version", "-V",
-        "--verb", "--verbos", "-v", "-w", "--fi", "--fit=1", "--fit=", "--fits", "--margins=1", "--prof", "--sheets", "-dots", "-1", "-0", "--1", "--=", "--=5", "---", "---dots", "--\u00e9",
-        "-\u00e9", "--" + "w" * LONG, "-" + "w" * LONG,
+        "--verb", "--verbos", "-v", "-w", "--fi", "--fit=1", "--fit=", "--fits", "--margins=1", "--prof", "--sheets", "-dots",
+        "-1", "-0", "--1", "--=", "--=5", "---", "---dots", "--\u00e9", "-\u00e9", "--" + "w" * LONG, "-" + "w" * LONG,
     ]:
         yield ["pbm", word], USAGE
         yield ["report", "line.plt", word], USAGE
@@ -328,6 +328,9 @@ def orders_of_refusal():
     yield ["ppm", "--profile=none", "--sheet=1", "missing.plt"], BAD_PROFILE
     yield ["report", "--sheet=1", "missing.plt"], NO_SHEETS
     yield ["pcl", "--sheet=1", "--dots=127"], NO_SHEETS
+    yield ["pbm", "--margin=1", "--sheet=1"], NO_SHEETS
+    yield ["ppm", "--margin=1", "--pens=0"], BAD_LIST
+    yield ["report", "--margin=1", "missing.plt"], NO_FIT
     yield ["pbm", "--pens=0", "--dots=9"], USAGE
     yield ["pbm", "--dots=9", "missing.plt"], USAGE
     yield ["pbm", "--pens=0", "missing.plt"], BAD_LIST
@@ -360,8 +363,8 @@ def bytes_that_are_no_text():
 
 GENERATORS = [
     plain, commands, numbers_in_range, numbers_out_of_range, no_numbers, values_missing, options_twice, unknown_options,
-    options_of_pictures, lists_of_pens, pages, profiles, sheets, resolutions_of_pcl, files, after_two_hyphens, calls_for_help,
-    orders_of_refusal, bytes_that_are_no_text,
+    options_of_pictures, lists_of_pens, fitted_pages, pages, profiles, sheets, resolutions_of_pcl, files,
+    after_two_hyphens, calls_for_help, orders_of_refusal, bytes_that_are_no_text,
 ]
 
 

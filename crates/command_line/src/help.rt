@@ -44,7 +44,8 @@ pub(crate) const BELOW: HelpLine<'static> = HelpLine {
     help: "How far the page reaches below the plot's (0,0), in plotter units, 0 to 65536",
 };
 
-pub(crate) const FIT: &str = "Fit the page to what the selected pens draw, and a margin; the page that the other options give is kept, with a \
+pub(crate) const FIT: &str =
+    "Fit the page to what the selected pens draw, and a margin; the page that the other options give is kept, with a \
     message, if that is not possible";
 
 // `clap` knows of no default: a margin that is given without `--fit` is a mistake, whichever it is.
@@ -69,7 +70,8 @@ pub(crate) const OUTPUT: HelpLine<'static> = HelpLine {
     help: "File to write instead of standard output; it has this name only when it is whole",
 };
 
-pub(crate) const VERBOSE: &str = "Say on standard error what was drawn, what lies off the page, and what was skipped";
+pub(crate) const VERBOSE: &str =
+    "Say on standard error what was drawn, what lies off the page, and what was skipped";
 
 pub(crate) const DOTS: HelpLine<'static> = HelpLine {
     value: "DPI",

@@ -2,6 +2,7 @@ use crate::cases::{Asked, has_answers, has_answers_for_each};
 use std::test::Fail;
 
 const COMMANDS: [&str; 5] = ["marks", "pbm", "ppm", "pcl", "report"];
+
 const PICTURES: [&str; 4] = ["marks", "pbm", "ppm", "pcl"];
 
 const FITTED_PAGES: &str = "\

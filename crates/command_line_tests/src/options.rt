@@ -268,8 +268,9 @@ fn prints_faults(rt: HostRuntime) -> Result<(), Fail> {
     let (words, pens, size) = (LineFault::Words, LineFault::Pens, LineFault::Size);
     let (profile, sheet) = (LineFault::Profile, LineFault::Sheet);
     let (margin, memory) = (LineFault::Margin, BuildFault::Memory);
-    let texts =
-        format!(in rt.alloc(); "{words}, {pens}, {size}, {profile}, {sheet}, {margin}, {memory}")?;
+    let texts = format!(in rt.alloc();
+        "{words}, {pens}, {size}, {profile}, {sheet}, {margin}, {memory}"
+    )?;
     assert_eq!(rt;
         texts.as_str(),
         "words not understood, bad pen list, --page may not be given with --width or --height, bad profile, \

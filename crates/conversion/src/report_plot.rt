@@ -94,7 +94,14 @@ pub fn report_on<S: Source, K: Sink>(
     let pens = PenSet::all();
     let drawn = draw_placed(alloc, reading, choice, pens, page, plot.as_slice())?;
     let strokes = drawn.lines.strokes.as_slice();
-    match write_as(reading, &drawn.page, strokes, drawn.lines.sheets, plot.as_slice(), sink) {
+    match write_as(
+        reading,
+        &drawn.page,
+        strokes,
+        drawn.lines.sheets,
+        plot.as_slice(),
+        sink,
+    ) {
         Ok(bytes) => {
             let done = Done {
                 rows: 0,

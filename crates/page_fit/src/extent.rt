@@ -102,12 +102,7 @@ pub fn extent_of(strokes: &[Stroke], pens: PenSet, margin: u32) -> Option<Extent
 }
 
 // With a stroke, if its pen is selected.
-fn with_stroke(
-    found: Option<Extent>,
-    stroke: &Stroke,
-    pens: PenSet,
-    margin: u32,
-) -> Option<Extent>
+fn with_stroke(found: Option<Extent>, stroke: &Stroke, pens: PenSet, margin: u32) -> Option<Extent>
     requires { IfSome found IsNear }
     ensures value { result ≡ with_stroke pens margin found stroke.now }
     ensures near { IfSome result IsNear }

@@ -66,8 +66,7 @@ fn tell_drawn(rt: &HostRuntime, outcome: &Outcome) {
     };
     let line = if lines == 1 { "line" } else { "lines" };
     let note = if notes == 1 { "note" } else { "notes" };
-    let _ = eprintln!(
-        rt;
+    let _ = eprintln!(rt;
         "plotraster: {nothing}{lines} {line}, {off_page} off the page; {notes} {note}, see plotraster report"
     );
 }

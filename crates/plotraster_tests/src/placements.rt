@@ -54,7 +54,10 @@ fn placed(alloc: Global, choice: PageChoice, plot: &str) -> Result<String, Fail>
     let mut source = OverRead::new(plot.as_bytes());
     let outcome = report_on(alloc, Reading::Core, choice, &page, &mut source, &mut sink)?;
     let written = sink.into_inner();
-    let line = text_of(written.as_slice())?.lines().next().ok_or("no line")?;
+    let line = text_of(written.as_slice())?
+        .lines()
+        .next()
+        .ok_or("no line")?;
     let (placement, census) = (outcome.placement, outcome.census);
     let (strokes, off_page) = (census.strokes, census.off_page);
     Ok(format!(in alloc; "{placement:?} {strokes} {off_page} {line}")?)

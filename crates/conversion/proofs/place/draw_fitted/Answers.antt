@@ -18,8 +18,7 @@ returns-in_ok-lines-in-None-clause-placed c =
     let page = c.args.page.now in
     let drawn = c.as_slice.ensures.value ∙ c.requires.strokes_are in
     let reach = sym (ap (extent_of c.args.pens c.args.margin) drawn) ∙ sym c.extent_of.ensures.value ∙ c.in-Some.is in
-    let around = sym c.page_around.ensures ∙ ap (option_map sides_of) c.in-Some-page_around.is in
-    (
+    let around = sym c.page_around.ensures ∙ ap (option_map sides_of) c.in-Some-page_around.is in (
       refl,
       record {
         tried = c.in-Some-page_around.around;
