@@ -184,10 +184,11 @@ fn numbers(rt: HostRuntime) -> Result<(), Fail> {
     let mut told = number_told(rt.alloc(), "PA-1.5,7", 2)?;
     told.push_str(number_told(rt.alloc(), "8388608", 0)?.as_str())?;
     told.push_str(number_told(rt.alloc(), "12", 3)?.as_str())?;
+    told.push_str(number_told(rt.alloc(), "2.25", 0)?.as_str())?;
     has_text(
         &rt,
         told.as_str(),
-        "Number { millionths: -1500000 } to 6; none; none; ",
+        "Number { millionths: -1500000 } to 6; none; none; Number { millionths: 2250000 } to 4; ",
     );
     Ok(())
 }
