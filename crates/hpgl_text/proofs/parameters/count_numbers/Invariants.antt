@@ -5,10 +5,11 @@ use Rattle.hpgl_text.proofs.parameters.count_numbers.Given as goal
 -- those that were counted, and those that are left, are all
 abbrev pub invariant-numbers : goal.invariant-numbers
 invariant-numbers l = record {
-  counted : l.count + length (numbers (drop l.at l.text)) ≡ length (numbers l.text);
-  past : past_numbers (drop l.at l.text) ≡ past_numbers l.text;
-  within : l.at ≤ length l.text;
+  counted : l.count + length (numbers l.left) ≡ length (numbers l.text);
+  past : past_numbers l.left ≡ past_numbers l.text;
+  within : length l.left ≤ length l.text;
+  is_left : drop (length l.text - length l.left) l.text ≡ l.left;
 }
 
 abbrev pub decreases-numbers : goal.decreases-numbers
-decreases-numbers l = length l.text - l.at
+decreases-numbers l = length l.left
