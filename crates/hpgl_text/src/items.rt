@@ -5,7 +5,7 @@ ghost use Rattle.hpgl_text.specs.Cut.{cut, cut_by, silent_at};
 ghost use Rattle.hpgl_text.specs.Left.{left_from};
 ghost use Rattle.hpgl_text.specs.declared.profile.Profile.{Profile};
 
-use crate::bytes::after;
+use crate::bytes::past;
 use crate::content::FIRST_TERMINATOR;
 use crate::item::Item;
 use crate::profile::Profile;
@@ -67,7 +67,7 @@ impl<'a> Iterator for Items<'a> {
             self.at = at;
             return None;
         }
-        let (item, bytes) = read_item(self.profile, at, after(self.plot, at), self.terminator);
+        let (item, bytes) = read_item(self.profile, at, past(self.plot, at), self.terminator);
         self.terminator = terminator_left_by(&item, self.terminator);
         self.at = at + bytes;
         Some(item)
@@ -82,7 +82,7 @@ fn past_silence(plot: &[u8], from: usize) -> usize
 {
     let mut at = from;
     'silent: while at < plot.len() {
-        let silent = silent_count(after(plot, at));
+        let silent = silent_count(past(plot, at));
         if silent == 0 {
             return at;
         }
