@@ -1,5 +1,8 @@
 -- Runs on the page that is given.
-use Rattle.std.proofs.Common.{◌≡◌, ◌≤◌, ◌+◌, ℕ, List, Result, Ok, Err, None, refl, sym, subst}
+use Rattle.std.proofs.Common.{◌≡◌, ◌≤◌, ◌+◌, ℕ, List, Option, Result, Ok, Err, Some, None, refl, subst}
+use Rattle.std.specs.Prelude.{option_map}
+use Rattle.hpgl_plot.specs.declared.fault.PlotFault.{PlotFault}
+use Rattle.plot_page.specs.Segments.{Segment}
 use Rattle.plot_page.specs.declared.page.Page.{Page}
 use Rattle.plot_page.specs.declared.pens.PenSet.{PenSet}
 use Rattle.picture_job.specs.declared.job.Job.{Job}
@@ -8,18 +11,19 @@ use Rattle.picture_job.specs.declared.page_choice.PageChoice.TheVariants as choi
 use Rattle.picture_job.specs.declared.reading.Reading.{Reading}
 use Rattle.conversion.specs.Boxes.{strokes_boxes}
 use Rattle.conversion.specs.Conversions.{Converts, ConvertsOn, HasConvertedBy, HasConvertedOn, IsCutShort, IsRefused, IsWritten, on_page}
+use Rattle.conversion.specs.Drawings.{Draws}
 use Rattle.conversion.specs.Pictures.{Reach}
 use Rattle.conversion.specs.Placements.{IsPlaced}
 use Rattle.conversion.specs.Progress.{HasPainted}
-use Rattle.conversion.specs.Readings.{WasRead}
-use Rattle.conversion.specs.Reports.{HasReportedAs, HasReportedOn, IsReportCutShort, IsReported, Reports, ReportsOn}
+use Rattle.conversion.specs.Readings.{Reads, WasRead}
+use Rattle.conversion.specs.Reports.{HasReportedAs, HasReportedOn, IsReportCutShort, IsReported, Reports, ReportsOn, report_on}
 use Rattle.conversion.specs.Rules.{Rules}
 use Rattle.conversion.specs.declared.done.Done.{Done}
 use Rattle.conversion.specs.declared.outcome.Outcome.{Outcome}
 use Rattle.conversion.specs.declared.placement.Placement.{Placement}
 use Rattle.conversion.specs.declared.fault.Fault.{Fault}
 use Rattle.conversion.specs.declared.fault.Fault.TheVariants.{Memory, Paint, Plot, Read, Resolution, TooLong, Write}
-use Rattle.conversion.proofs.Refusals.{not_painted}
+use Rattle.conversion.proofs.Refusals.{not_painted, plot_fault}
 use Rattle.devices.specs.Sinks.{SinkState}
 use Rattle.devices.specs.Sources.{SourceState}
 
@@ -47,6 +51,38 @@ not_painted_on rules c job page p reaches input before after sink sink' (Write r
     ((p, placed), not_painted rules (on_page page job) reaches input before after sink sink' (Write row whole bytes) read accepted h)
 not_painted_on rules c job page p reaches input before after sink sink' Read placed read accepted h = absurd h
 not_painted_on rules c job page p reaches input before after sink sink' Resolution placed read accepted h = absurd h
+
+-- a plot that was not drawn
+no_such_plot : (refusal : Option PlotFault) (fault : Fault) → option_map Plot refusal ≡ Some fault → ((f : PlotFault) → Plot f ≡ fault → ⊥) → ⊥
+no_such_plot None fault is other = absurd (cc)
+no_such_plot (Some f) fault is other = other f (let same : Plot f ≡ fault = cc in same)
+
+pub not_drawn_on : (rules : Rules) (c : PageChoice) (job : Job) (reaches : Reach) (input : List ℕ) (before after : SourceState) (sink sink' : SinkState) (fault : Fault)
+    → Draws rules c job.pens job.page input before after (Err fault) → ConvertsOn rules c job job.page reaches input before after sink sink' (Err fault)
+not_drawn_on rules c job reaches input before after sink sink' TooLong h = h
+not_drawn_on rules c job reaches input before after sink sink' Memory h = h
+not_drawn_on rules c job reaches input before after sink sink' Read h = h
+not_drawn_on rules c job reaches input before after sink sink' (Plot refusal) h = record { read = h.read; refused = plot_fault job (rules.refusal job.page input) (Plot refusal) h.refused }
+not_drawn_on rules c job reaches input before after sink sink' (Paint fault) h = absurd (no_such_plot (rules.refusal job.page input) (Paint fault) h.refused (λ f is. absurd (cc)))
+not_drawn_on rules c job reaches input before after sink sink' (Write row whole bytes) h =
+    absurd (no_such_plot (rules.refusal job.page input) (Write row whole bytes) h.refused (λ f is. absurd (cc)))
+not_drawn_on rules c job reaches input before after sink sink' Resolution h = absurd (no_such_plot (rules.refusal job.page input) Resolution h.refused (λ f is. absurd (cc)))
+
+-- reports of the same strokes, sheets and plot are the same
+pub same_report : (reading : Reading) (page : Page) (ss ss' : List Segment) (n n' : ℕ) (plot plot' : List ℕ) → ss ≡ ss' → n ≡ n' → plot ≡ plot'
+    → report_on reading page ss n plot ≡ report_on reading page ss' n' plot'
+same_report reading page ss ss' n n' plot plot' strokes sheets text = rw (strokes, sheets, text) refl
+
+-- a report on a plot that was not read
+pub not_read_on : (reading : Reading) (c : PageChoice) (pens : PenSet) (given : Page) (input : List ℕ) (before after : SourceState) (sink sink' : SinkState) (fault : Fault)
+    → Reads input before after (Err fault) → ReportsOn reading c pens given given input before after sink sink' (Err fault)
+not_read_on reading c pens given input before after sink sink' TooLong h = h
+not_read_on reading c pens given input before after sink sink' Memory h = h
+not_read_on reading c pens given input before after sink sink' Read h = h
+not_read_on reading c pens given input before after sink sink' (Plot refusal) h = absurd h
+not_read_on reading c pens given input before after sink sink' (Paint fault) h = absurd h
+not_read_on reading c pens given input before after sink sink' (Write row whole bytes) h = absurd h
+not_read_on reading c pens given input before after sink sink' Resolution h = absurd h
 
 -- the answer of a run on the given page
 converts_on_it : (rules : Rules) (job : Job) (page : Page) (reaches : Reach) (input : List ℕ) (before after : SourceState) (sink sink' : SinkState)

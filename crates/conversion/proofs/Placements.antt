@@ -1,9 +1,8 @@
 -- Where a plot is drawn is determined.
-use Rattle.std.proofs.Common.{◌≡◌, ◌≤◌, ◌∙◌, ℕ, List, Option, Some, None, true, false, is_some, refl, sym, ap, subst}
+use Rattle.std.proofs.Common.{◌≡◌, ◌≤◌, ◌∙◌, ℕ, List, Option, Some, None, refl, sym, ap, subst}
 use Rattle.std.proofs.Props.{props}
 use Rattle.std.specs.Prelude.{option_and_then}
 use mathlib.Core.HLevel.{is_prop→PathP}
-use Rattle.plot_page.specs.Segments.{Segment}
 use Rattle.plot_page.specs.declared.page.Page.{Page}
 use Rattle.plot_page.specs.declared.pens.PenSet.{PenSet}
 use Rattle.page_fit.specs.Around.{Sides, sides_around, sides_of}

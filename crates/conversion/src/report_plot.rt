@@ -90,8 +90,8 @@ pub fn report_on<S: Source, K: Sink>(
     ensures end { (S.state source.new).ends ≡ (S.state source.old).ends + 1 → IsAtEnd (S.state source.new).left }
     ensures untouched { IfErr result (λ fault. is_write fault ≡ false → sink.new ≡ sink.old) }
 {
-    let plot = read_plot(alloc, source)?;
     let pens = PenSet::all();
+    let plot = read_plot(alloc, source)?;
     let drawn = draw_placed(alloc, reading, choice, pens, page, plot.as_slice())?;
     let strokes = drawn.lines.strokes.as_slice();
     match write_as(

@@ -1,12 +1,12 @@
 -- The page that has given numbers.
-use Rattle.std.proofs.Common.{◌≡◌, ℕ, Result, Ok, Err, Some, true, false, refl, ap}
+use Rattle.std.proofs.Common.{◌≡◌, ℕ, Result, Ok, Err, true, false, refl}
 use Rattle.std.specs.Prelude.{IfOk, option_map, ◌↔◌}
 use Rattle.std.specs.Result.{result_ok}
 use Rattle.plot_page.specs.Pages.{has_page_corner, has_page_size}
 use Rattle.plot_page.specs.declared.page.Page.{Page}
 use Rattle.plot_page.specs.declared.page.PageFault.{PageFault}
 use Rattle.plot_page.specs.declared.page.PageFault.TheVariants.{Size, Corner}
-use Rattle.page_fit.specs.Around.{Sides, checked, sides_of}
+use Rattle.page_fit.specs.Around.{checked, sides_of}
 
 pub made : (r : Result Page PageFault) (w h l b : ℕ) → has_page_size w h ≡ true → has_page_corner l b ≡ true
     → ((r ≡ Err Size) ↔ (has_page_size w h ≡ false))

@@ -1,5 +1,5 @@
 -- How far strokes reach, in grains from the lower left corner of the page that they are drawn on.
-use Rattle.std.specs.Prelude.{ℕ, ◌+◌, ◌*◌, ◌/◌, ◌≤◌, ◌^◌, ℤ, pos, ◌+ℤ◌, ◌-ℤ◌, nat_abs, List, Option, Some, None, fold}
+use Rattle.std.specs.Prelude.{ℕ, ◌+◌, ◌*◌, ◌/◌, ◌≤◌, ◌^◌, pos, ◌+ℤ◌, ◌-ℤ◌, nat_abs, List, Option, Some, None, fold}
 use Rattle.std.specs.Prelude.{if◌then◌else◌}
 use Rattle.std.specs.Option.{option_map_or}
 use Rattle.std.specs.Int.{int_max, int_min}

@@ -1,13 +1,15 @@
-use Rattle.std.proofs.Common.{◌≡◌, ◌≤◌, ◌+◌, ◌-◌, List, length, ℕ, ap, subst, ◌∙◌, Ok, Err, None}
+use Rattle.std.proofs.Common.{◌≡◌, ◌≤◌, ◌+◌, ◌-◌, List, [], length, ℕ, ap, subst, sym, refl, ◌∙◌, Result, Ok, Err, None, arith, rules}
 use Rattle.plot_page.specs.Segments.{Segment}
 use Rattle.page_fit.specs.Census.{census_of}
 use Rattle.conversion.specs.Boxes.{boxes_from}
-use Rattle.conversion.specs.Conversions.{on_page}
+use Rattle.conversion.specs.Conversions.{HasConvertedOn, on_page}
 use Rattle.conversion.specs.Rules.{Rules, rules_of}
 use Rattle.conversion.specs.Progress.{HasPainted}
+use Rattle.conversion.specs.declared.fault.Fault.{Fault}
+use Rattle.conversion.specs.declared.outcome.Outcome.{Outcome}
 use Rattle.devices.specs.Sinks.{SinkState}
-use Rattle.conversion.proofs.Choices.{given_page, not_painted_on}
-use Rattle.conversion.proofs.Refusals.{job_faults}
+use Rattle.conversion.proofs.Choices.{given_page, not_drawn_on, not_painted_on}
+use Rattle.conversion.proofs.Refusals.{job_faults, passed_on}
 use Rattle.conversion.proofs.convert_plot.convert_on.Goals as goal
 
 pub returns-clause-converts : goal.returns-clause-converts
@@ -63,3 +65,32 @@ returns-in-Err-clause-converts g c =
           (subst (λ (ss : List Segment). HasPainted job (g.G.Gauge.reaches c.args.gauge.now) ss was is (Err c.in-Err.fault)) drawn c.in-Err.ensures.paints);
       tested = subst (λ (ss : List Segment). g.G.Gauge.count c.paint.new.gauge ≤ g.G.Gauge.count c.args.gauge.now + boxes_from job.pens ss job.page job.dots job.first_row) drawn c.in-Err.ensures.tests;
     }
+
+pub returns-then-not-takes_resolution-clause-converts : goal.returns-then-not-takes_resolution-clause-converts
+returns-then-not-takes_resolution-clause-converts g c = record {
+  input = [];
+  taken = search rules;
+  page = c.args.job.now.page;
+  given = λ is. refl;
+  converts = refl;
+  tested = omega arith;
+}
+
+pub returns-in_err-drawn-clause-converts : goal.returns-in_err-drawn-clause-converts
+returns-in_err-drawn-clause-converts g c =
+    let job = c.args.job.now in
+    let drawing = c.in_err-drawn.ensures.draws in
+    let was = g.S.Source.state c.args.source.now in
+    let is = g.S.Source.state c.draw_source.new.source in
+    let sink : SinkState = g.K.Sink.state c.args.sink.now in
+    let count = g.G.Gauge.count c.args.gauge.now in
+    subst (λ (answer : Result Outcome Fault). HasConvertedOn (rules_of c.args.reading) c.args.choice job (g.G.Gauge.reaches c.args.gauge.now) was is sink sink count count answer)
+    (sym (passed_on _ _ c.from_residual.ensures.1))
+    (record {
+      input = drawing.input;
+      taken = drawing.taken;
+      page = job.page;
+      given = λ is. refl;
+      converts = not_drawn_on (rules_of c.args.reading) c.args.choice job (g.G.Gauge.reaches c.args.gauge.now) drawing.input was is sink sink _ drawing.draws;
+      tested = omega arith;
+    })

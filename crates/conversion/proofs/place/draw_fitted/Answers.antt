@@ -1,9 +1,7 @@
-use Rattle.std.proofs.Common.{◌≡◌, ◌∙◌, Option, Some, None, ap, sym, subst, refl}
+use Rattle.std.proofs.Common.{◌≡◌, ◌∙◌, Option, Some, None, ap, sym, refl}
 use Rattle.std.specs.Prelude.{IfNone, option_and_then, option_map}
 use Rattle.page_fit.specs.Around.{sides_around, sides_of}
 use Rattle.page_fit.specs.Extents.{extent_of}
-use Rattle.conversion.specs.Placements.{Fits, sides_about}
-use Rattle.conversion.specs.Rules.{rules_of}
 use Rattle.conversion.specs.declared.lines.Lines.{Lines}
 use Rattle.conversion.proofs.place.draw_fitted.Goals as goal
 

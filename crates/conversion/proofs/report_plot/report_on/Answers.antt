@@ -1,0 +1,103 @@
+use Rattle.std.proofs.Common.{◌≡◌, ◌<◌, ◌∙◌, List, ℕ, length, take, ap, sym, subst, refl, Result}
+use Rattle.std.specs.Io.KnownBytes.{Appends}
+use Rattle.devices.specs.Sinks.{SinkState}
+use Rattle.page_fit.specs.Census.{census_of}
+use Rattle.plot_page.specs.Segments.{Segment}
+use Rattle.conversion.specs.Drawings.{AreLinesOf}
+use Rattle.conversion.specs.Placements.{IsPlaced}
+use Rattle.conversion.specs.Reports.{HasReportedOn, report_on}
+use Rattle.conversion.specs.Rules.{Rules, rules_of}
+use Rattle.conversion.specs.declared.fault.Fault.{Fault}
+use Rattle.conversion.specs.declared.outcome.Outcome.{Outcome}
+use Rattle.conversion.proofs.Choices.{not_read_on, same_report}
+use Rattle.conversion.proofs.Refusals.{passed_on}
+use Rattle.conversion.proofs.report_plot.report_on.Goals as goal
+
+pub returns-in_err-plot-clause-reports : goal.returns-in_err-plot-clause-reports
+returns-in_err-plot-clause-reports g c =
+    let reads = c.in_err-plot.ensures.reads in
+    let was = g.S.Source.state c.args.source.now in
+    let is = g.S.Source.state c.read_plot.new.source in
+    let sink : SinkState = g.K.Sink.state c.args.sink.now in
+    subst (λ (answer : Result Outcome Fault). HasReportedOn c.args.reading c.args.choice c.args.page.now was is sink sink answer) (sym (passed_on _ _ c.from_residual.ensures.1))
+    (record {
+      input = reads.input;
+      taken = reads.taken;
+      pens = c.all-pens.result;
+      all = c.all-pens.ensures;
+      page = c.args.page.now;
+      reports = not_read_on c.args.reading c.args.choice c.all-pens.result c.args.page.now reads.input was is sink sink _ reads.reads;
+    })
+
+pub returns-in-Ok-clause-reports : goal.returns-in-Ok-clause-reports
+returns-in-Ok-clause-reports g c =
+    let reads = c.in_ok-plot.ensures.reads in
+    let input : List ℕ = reads.input in
+    let rules : Rules = rules_of c.args.reading in
+    let page = c.in_ok-drawn.drawn.page in
+    let pens = c.all-pens.result in
+    let was : SinkState = g.K.Sink.state c.args.sink.now in
+    let is : SinkState = g.K.Sink.state c.write_as.new.sink in
+    let same : c.as_slice.result.now ≡ input = c.as_slice.ensures.value ∙ reads.reads.0 in
+    let lines = subst (λ (plot : List ℕ). AreLinesOf rules page plot c.in_ok-drawn.drawn.lines) same c.in_ok-drawn.ensures.lines in
+    let drawn : c.as_slice-strokes.result.now ≡ rules.strokes page input = c.as_slice-strokes.ensures.value ∙ lines.strokes_are in
+    let text = same_report c.args.reading page _ _ _ _ _ _ drawn lines.sheets_are (c.as_slice-2.ensures.value ∙ reads.reads.0) in
+    record {
+      input = input;
+      taken = reads.taken;
+      pens = pens;
+      all = c.all-pens.ensures;
+      page = page;
+      reports = (
+        subst (λ (plot : List ℕ). IsPlaced c.args.choice rules pens c.args.page.now plot c.in_ok-drawn.drawn.placement page) same c.in_ok-drawn.ensures.placed,
+        record {
+          read = reads.reads.1;
+          accepted = lines.accepted;
+          written = subst (λ (t : List ℕ). Appends was.held is.held t) text c.in-Ok.ensures.writes.0;
+          sound = c.in-Ok.ensures.writes.1;
+          rows = refl;
+          bytes = c.in-Ok.ensures.count ∙ ap length text;
+          strokes_count = ap length drawn;
+          notes = lines.notes_are;
+        },
+        c.census_of.ensures ∙ ap (λ (ss : List Segment). census_of pens page ss) drawn,
+      );
+    }
+
+pub returns-clause-reports : goal.returns-clause-reports
+returns-clause-reports g c =
+    let reads = c.in_ok-plot.ensures.reads in
+    let input : List ℕ = reads.input in
+    let rules : Rules = rules_of c.args.reading in
+    let page = c.in_ok-drawn.drawn.page in
+    let pens = c.all-pens.result in
+    let was : SinkState = g.K.Sink.state c.args.sink.now in
+    let is : SinkState = g.K.Sink.state c.write_as.new.sink in
+    let same : c.as_slice.result.now ≡ input = c.as_slice.ensures.value ∙ reads.reads.0 in
+    let lines = subst (λ (plot : List ℕ). AreLinesOf rules page plot c.in_ok-drawn.drawn.lines) same c.in_ok-drawn.ensures.lines in
+    let drawn : c.as_slice-strokes.result.now ≡ rules.strokes page input = c.as_slice-strokes.ensures.value ∙ lines.strokes_are in
+    let text = same_report c.args.reading page _ _ _ _ _ _ drawn lines.sheets_are (c.as_slice-2.ensures.value ∙ reads.reads.0) in
+    let whole : List ℕ = report_on c.args.reading page c.as_slice-strokes.result.now c.in_ok-drawn.drawn.lines.sheets c.as_slice-2.result.now in
+    let taken = sym c.bytes.ensures in
+    record {
+      input = input;
+      taken = reads.taken;
+      pens = pens;
+      all = c.all-pens.ensures;
+      page = page;
+      reports = (
+        (
+          c.in_ok-drawn.drawn.placement,
+          subst (λ (plot : List ℕ). IsPlaced c.args.choice rules pens c.args.page.now plot c.in_ok-drawn.drawn.placement page) same c.in_ok-drawn.ensures.placed,
+        ),
+        record {
+          read = reads.reads.1;
+          accepted = lines.accepted;
+          written = subst (λ (t : List ℕ). Appends was.held is.held (take c.bytes.result t)) text (subst (λ (n : ℕ). Appends was.held is.held (take n whole)) taken c.in-Err.ensures.writes.0);
+          within = subst (λ (t : List ℕ). c.bytes.result < length t) text (subst (λ (n : ℕ). n < length whole) taken c.in-Err.ensures.writes.1);
+          failed = c.in-Err.ensures.writes.2;
+          no_row = refl;
+          no_whole_row = refl;
+        },
+      );
+    }
