@@ -25,6 +25,7 @@ pub fn chord_count(curve: Curve) -> u32
 }
 
 /// Where the `k`-th chord of a curve ends.
+#[inline(always)]
 pub fn curve_point(curve: Curve, k: u32) -> Spot
     requires centre { IsNear curve.centre }
     requires from { IsNear curve.from }

@@ -4,7 +4,7 @@ use Rattle.std.proofs.lemmas.Bool.{cases_lt}
 use Rattle.std.proofs.lemmas.Bool.Decides.{nat_tests}
 use Rattle.std.proofs.lemmas.Int.{ints, int_rem_euclid_is}
 use Rattle.std.specs.Int.{int_rem_euclid}
-use Rattle.plot_arc.specs.Arcs.{sine_to_90, sine_to_360, sine_of, cosine_of}
+use Rattle.plot_arc.specs.Arcs.{sine_to_90, sine_to_360, sine_of}
 use Rattle.plot_arc.specs.Laws.{SineSymmetries}
 
 -- an angle and whole turns, which is not below 0
@@ -120,13 +120,3 @@ mirror t =
 
 pub symmetries : SineSymmetries
 symmetries = record { period = period; odd = odd; mirror = mirror }
-
--- the cosine, from the angle's rest
-pub of_rest : (t : ℤ) → sine_of (int_rem_euclid t (pos 360000) +ℤ pos 90000) ≡ cosine_of t
-of_rest t =
-    let e = from_0_is t in
-    let m = from_0 t in
-    let n = m % 360000 in
-    ap (λ (z : ℤ). sine_of (z +ℤ pos 90000)) (rest_is t (nat_abs t) m e)
-    ∙ at_rest (pos n +ℤ pos 90000) 0 (n + 90000) ((m + 90000) % 360000) (omega (arith, ints)) (omega arith)
-    ∙ sym (at_rest (t +ℤ pos 90000) (nat_abs t) (m + 90000) ((m + 90000) % 360000) (omega (arith, ints)) refl)

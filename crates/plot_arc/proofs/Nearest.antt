@@ -11,12 +11,12 @@ use Rattle.plot_arc.specs.Laws.{ChordsAreRounded, WholeTurnsLeadBack, ten_millio
 nearest_meets : (z : ℤ) → IsRounded (ten_millionths z) (nearest z)
 nearest_meets z = meets_lem (ten_millionths z) (omega arith)
 
--- the two coordinates of the turned vector, from their parts
-pub x_is : (centre from v : Spot) (t s k p q n : ℤ) → v ≡ vector centre from → s ≡ sine_of t → k ≡ cosine_of t → p ≡ v.x *ℤ k → q ≡ v.y *ℤ s → n ≡ nearest (p -ℤ q) → n ≡ nearest (turned_x (vector centre from) t)
-x_is centre from v t s k p q n e f g h i j = j ∙ rw (h, i, e, f, g) refl
+-- the two coordinates of the turned vector, from its parts
+pub x_is : (centre from v : Spot) (t s k n : ℤ) → v ≡ vector centre from → s ≡ sine_of t → k ≡ cosine_of t → n ≡ nearest (v.x *ℤ k -ℤ v.y *ℤ s) → n ≡ nearest (turned_x (vector centre from) t)
+x_is centre from v t s k n e f g j = j ∙ rw (e, f, g) refl
 
-pub y_is : (centre from v : Spot) (t s k p q n : ℤ) → v ≡ vector centre from → s ≡ sine_of t → k ≡ cosine_of t → p ≡ v.x *ℤ s → q ≡ v.y *ℤ k → n ≡ nearest (p +ℤ q) → n ≡ nearest (turned_y (vector centre from) t)
-y_is centre from v t s k p q n e f g h i j = j ∙ rw (h, i, e, f, g) refl
+pub y_is : (centre from v : Spot) (t s k n : ℤ) → v ≡ vector centre from → s ≡ sine_of t → k ≡ cosine_of t → n ≡ nearest (v.x *ℤ s +ℤ v.y *ℤ k) → n ≡ nearest (turned_y (vector centre from) t)
+y_is centre from v t s k n e f g j = j ∙ rw (e, f, g) refl
 
 way_back : (c n : ℤ) → (c +ℤ n) -ℤ c ≡ n
 way_back c n = omega (arith, ints)

@@ -1,9 +1,10 @@
 //! The ends of the chords of an arc.
-ghost use Rattle.std.specs.Prelude.{◌≡◌, ◌≤◌, ◌*◌, ◌^◌, nat_abs, ◌*ℤ◌};
+ghost use Rattle.std.specs.Prelude.{◌≡◌, ◌≤◌, ◌*◌, ◌^◌, nat_abs, ◌+ℤ◌, ◌-ℤ◌, ◌*ℤ◌};
+ghost use Rattle.std.specs.Bool.{OnTrue};
 ghost use Rattle.plot_arc.specs.Bounds.{IsNear};
 ghost use Rattle.plot_arc.specs.Arcs.{vector, nearest, chord_point_of};
 
-use crate::sines::{cosine, sine};
+use crate::sines::{SineCosine, sine_and_cosine};
 use exact::{Spot, rounded};
 
 // The vector that leads from the centre to a point.
@@ -39,22 +40,103 @@ fn nearest(z: i128) -> i128
     rounded(z, 10_000_000)
 }
 
+// The greatest coordinate of a vector that is turned in 64 bits, which is faster.
+const MOST_SHORT: i128 = 1 << 37;
+
+// Whether a coordinate of a vector is small enough for that.
+#[inline]
+fn is_short(a: i128) -> bool
+    ensures { OnTrue result (nat_abs a ≤ 2 ^ 37) }
+{
+    -MOST_SHORT <= a && a <= MOST_SHORT
+}
+
+// A vector that is turned by an angle.
+#[inline]
+fn turned(v: Spot, by: SineCosine) -> Spot
+    requires x_in { nat_abs v.x ≤ 2 * 10 ^ 24 }
+    requires y_in { nat_abs v.y ≤ 2 * 10 ^ 24 }
+    requires sine_in { nat_abs by.sine ≤ 10000000 }
+    requires cosine_in { nat_abs by.cosine ≤ 10000000 }
+    ensures x { result.x ≡ nearest (v.x *ℤ by.cosine -ℤ v.y *ℤ by.sine) }
+    ensures y { result.y ≡ nearest (v.x *ℤ by.sine +ℤ v.y *ℤ by.cosine) }
+    ensures x_most { nat_abs result.x ≤ 5 * 10 ^ 31 }
+    ensures y_most { nat_abs result.y ≤ 5 * 10 ^ 31 }
+{
+    if is_short(v.x) && is_short(v.y) {
+        short_turned(v.x as i64, v.y as i64, by)
+    } else {
+        long_turned(v, by)
+    }
+}
+
+fn long_turned(v: Spot, by: SineCosine) -> Spot
+    requires x_in { nat_abs v.x ≤ 2 * 10 ^ 24 }
+    requires y_in { nat_abs v.y ≤ 2 * 10 ^ 24 }
+    requires sine_in { nat_abs by.sine ≤ 10000000 }
+    requires cosine_in { nat_abs by.cosine ≤ 10000000 }
+    ensures x { result.x ≡ nearest (v.x *ℤ by.cosine -ℤ v.y *ℤ by.sine) }
+    ensures y { result.y ≡ nearest (v.x *ℤ by.sine +ℤ v.y *ℤ by.cosine) }
+    ensures x_most { nat_abs result.x ≤ 5 * 10 ^ 31 }
+    ensures y_most { nat_abs result.y ≤ 5 * 10 ^ 31 }
+{
+    Spot {
+        x: nearest(product(v.x, by.cosine) - product(v.y, by.sine)),
+        y: nearest(product(v.x, by.sine) + product(v.y, by.cosine)),
+    }
+}
+
+#[inline]
+fn short_turned(x: i64, y: i64, by: SineCosine) -> Spot
+    requires x_in { nat_abs x ≤ 2 ^ 37 }
+    requires y_in { nat_abs y ≤ 2 ^ 37 }
+    requires sine_in { nat_abs by.sine ≤ 10000000 }
+    requires cosine_in { nat_abs by.cosine ≤ 10000000 }
+    ensures x { result.x ≡ nearest (x *ℤ by.cosine -ℤ y *ℤ by.sine) }
+    ensures y { result.y ≡ nearest (x *ℤ by.sine +ℤ y *ℤ by.cosine) }
+    ensures x_most { nat_abs result.x ≤ 2 ^ 39 }
+    ensures y_most { nat_abs result.y ≤ 2 ^ 39 }
+{
+    Spot {
+        x: short_nearest(short_product(x, by.cosine) - short_product(y, by.sine)),
+        y: short_nearest(short_product(x, by.sine) + short_product(y, by.cosine)),
+    }
+}
+
+#[inline]
+fn short_product(a: i64, p: i64) -> i64
+    requires a_in { nat_abs a ≤ 2 ^ 37 }
+    requires p_in { nat_abs p ≤ 10000000 }
+    ensures value { result ≡ a *ℤ p }
+    ensures most { nat_abs result ≤ 2 ^ 37 * 10000000 }
+{
+    a * p
+}
+
+#[inline]
+fn short_nearest(z: i64) -> i128
+    requires { nat_abs z ≤ 2 ^ 38 * 10000000 }
+    ensures value { result ≡ nearest z }
+    ensures most { nat_abs result ≤ 2 ^ 39 }
+{
+    i128::from((2 * z + 10_000_000).div_euclid(20_000_000))
+}
+
 /// The point at which the point `from` arrives if it is turned about `centre` by an angle in
 /// thousandths of a degree, counterclockwise if the angle is above 0.
 ///
 /// All coordinates are in millionths of the current unit, and those of `centre` and `from` lie
 /// within 10^24 of 0. The sine is [`sine`](crate::sine), the cosine is the sine of 90 degrees more,
 /// and each coordinate is rounded once, halves upward.
+#[inline(always)]
 pub fn chord_point(centre: Spot, from: Spot, thousandths: i64) -> Spot
     requires centre_in { IsNear centre }
     requires from_in { IsNear from }
     ensures { result ≡ chord_point_of centre from thousandths }
 {
-    let v = vector(centre, from);
-    let sine = sine(thousandths);
-    let cosine = cosine(thousandths);
+    let way = turned(vector(centre, from), sine_and_cosine(thousandths));
     Spot {
-        x: centre.x + nearest(product(v.x, cosine) - product(v.y, sine)),
-        y: centre.y + nearest(product(v.x, sine) + product(v.y, cosine)),
+        x: centre.x + way.x,
+        y: centre.y + way.y,
     }
 }

@@ -1,6 +1,13 @@
 //! Sines and cosines. Angles are in thousandths of a degree, sines in ten-millionths.
-ghost use Rattle.std.specs.Prelude.{◌≡◌, ◌≤◌, nat_abs};
-ghost use Rattle.plot_arc.specs.Arcs.{sine_to_90, sine_to_180, sine_of, cosine_of};
+ghost use Rattle.std.specs.Prelude.{◌≡◌, ◌≤◌, ◌<◌, ◌+◌, ◌-◌, ◌*◌, nat_abs, pos, neg_ℤ};
+ghost use Rattle.plot_arc.specs.Arcs.{sine_to_90, sine_of, cosine_of};
+
+/// The sine and the cosine of an angle, in ten-millionths.
+#[derive(Clone, Copy)]
+pub struct SineCosine {
+    pub sine: i64,
+    pub cosine: i64,
+}
 
 // The sines of 0, 1, .. 90 degrees in ten-thousandths, rounded to the nearest. `tools/sine_table`
 // computes and prints them in this form.
@@ -13,32 +20,70 @@ const SINES: [u16; 91] = [
     9877, 9903, 9925, 9945, 9962, 9976, 9986, 9994, 9998, 10000,
 ];
 
-// The sine of an angle from 0 to 90 degrees. Between whole degrees it is a straight line.
-fn sine_to_90(t: u32) -> u32
-    requires { t ≤ 90000 }
-    ensures value { result ≡ sine_to_90 t }
-    ensures most { result ≤ 10000000 }
+// Those of an angle from 0 up to 90 degrees. Between whole degrees both are straight lines.
+#[inline]
+fn of_quarter(t: u32) -> SineCosine
+    requires { t < 90000 }
+    ensures sine { result.sine ≡ pos (sine_to_90 t) }
+    ensures cosine { result.cosine ≡ pos (sine_to_90 (90000 - t)) }
+    ensures sine_in { nat_abs result.sine ≤ 10000000 }
+    ensures cosine_in { nat_abs result.cosine ≤ 10000000 }
 {
     let degree = (t / 1000) as usize;
     let part = t % 1000;
-    let here = u32::from(SINES[degree]);
-    if part == 0 {
-        return here * 1000;
+    SineCosine {
+        sine: between(SINES[degree], SINES[degree + 1], part),
+        cosine: between(SINES[90 - degree], SINES[89 - degree], part),
     }
-    here * (1000 - part) + u32::from(SINES[degree + 1]) * part
 }
 
-// The sine of an angle from 0 to 180 degrees.
-fn sine_to_180(t: u32) -> u32
-    requires { t ≤ 180000 }
-    ensures value { result ≡ sine_to_180 t }
-    ensures most { result ≤ 10000000 }
+// The value after this many thousandths of the way from one entry to another.
+#[inline]
+fn between(from: u16, to: u16, part: u32) -> i64
+    requires from_in { from ≤ 10000 }
+    requires to_in { to ≤ 10000 }
+    requires part_in { part < 1000 }
+    ensures value { result ≡ pos (from * (1000 - part) + to * part) }
+    ensures most { nat_abs result ≤ 10000000 }
 {
-    if t <= 90_000 {
-        sine_to_90(t)
-    } else {
-        sine_to_90(180_000 - t)
+    i64::from(u32::from(from) * (1000 - part) + u32::from(to) * part)
+}
+
+// Those of the angle 90 degrees further on.
+#[inline]
+fn quarter_on(of: SineCosine) -> SineCosine
+    requires sine_in { nat_abs of.sine ≤ 10000000 }
+    requires cosine_in { nat_abs of.cosine ≤ 10000000 }
+    ensures sine { result.sine ≡ of.cosine }
+    ensures cosine { result.cosine ≡ neg_ℤ of.sine }
+    ensures sine_in { nat_abs result.sine ≤ 10000000 }
+    ensures cosine_in { nat_abs result.cosine ≤ 10000000 }
+{
+    SineCosine {
+        sine: of.cosine,
+        cosine: -of.sine,
     }
+}
+
+/// The sine and the cosine of an angle in thousandths of a degree.
+#[inline]
+pub fn sine_and_cosine(thousandths: i64) -> SineCosine
+    ensures sine { result.sine ≡ sine_of thousandths }
+    ensures cosine { result.cosine ≡ cosine_of thousandths }
+    ensures sine_in { nat_abs result.sine ≤ 10000000 }
+    ensures cosine_in { nat_abs result.cosine ≤ 10000000 }
+{
+    let turn = thousandths.rem_euclid(360_000) as u32;
+    if turn < 90_000 {
+        return of_quarter(turn);
+    }
+    if turn < 180_000 {
+        return quarter_on(of_quarter(turn - 90_000));
+    }
+    if turn < 270_000 {
+        return quarter_on(quarter_on(of_quarter(turn - 180_000)));
+    }
+    quarter_on(quarter_on(quarter_on(of_quarter(turn - 270_000))))
 }
 
 /// The sine of an angle in thousandths of a degree, in ten-millionths: -10,000,000 to 10,000,000.
@@ -49,19 +94,5 @@ pub fn sine(thousandths: i64) -> i64
     ensures value { result ≡ sine_of thousandths }
     ensures most { nat_abs result ≤ 10000000 }
 {
-    let turn = thousandths.rem_euclid(360_000) as u32;
-    if turn <= 180_000 {
-        i64::from(sine_to_180(turn))
-    } else {
-        -i64::from(sine_to_180(turn - 180_000))
-    }
-}
-
-// The cosine of an angle in thousandths of a degree, in ten-millionths: the sine of the angle 90
-// degrees further on.
-pub fn cosine(thousandths: i64) -> i64
-    ensures value { result ≡ cosine_of thousandths }
-    ensures most { nat_abs result ≤ 10000000 }
-{
-    sine(thousandths.rem_euclid(360_000) + 90_000)
+    sine_and_cosine(thousandths).sine
 }

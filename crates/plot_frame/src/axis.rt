@@ -20,6 +20,7 @@ pub struct Axis {
 
 impl Axis {
     /// The place of a coordinate, in grains.
+    #[inline(always)]
     pub fn place(&self, u: i128) -> i128
         requires line { IsLine self.now }
         requires near { nat_abs (self.now.slope *ℤ u) ≤ 2 ^ 118 }

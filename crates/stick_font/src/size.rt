@@ -1,5 +1,6 @@
 //! The size of characters, and what it makes of a label's points.
 ghost use Rattle.std.specs.Prelude.{◌≡◌, ◌≤◌, ◌^◌, nat_abs};
+ghost use Rattle.std.specs.Bool.{OnTrue};
 ghost use Rattle.stick_font.specs.Bounds.{IsLabelPoint};
 ghost use Rattle.stick_font.specs.Labels as points;
 
@@ -36,8 +37,43 @@ impl CharacterSize {
     }
 }
 
+// The greatest number of parts of which a share is computed in 64 bits, which is faster.
+const MOST_SHORT: i128 = 1 << 29;
+
+// Whether a number of parts is small enough for that.
+#[inline]
+fn is_short(count: i128) -> bool
+    ensures { OnTrue result (nat_abs count ≤ 2 ^ 29) }
+{
+    -MOST_SHORT <= count && count <= MOST_SHORT
+}
+
 // This many parts of a size, of which it has `parts`.
+#[inline]
 fn share(count: i128, size: i32, parts: u8) -> i128
+    requires count_in { nat_abs count ≤ 2 ^ 72 }
+    requires parts_in { 1 ≤ parts }
+    ensures value { result ≡ points.share count size parts }
+    ensures most { nat_abs result ≤ 2 ^ 104 }
+{
+    if is_short(count) {
+        i128::from(short_share(count as i64, size, parts))
+    } else {
+        long_share(count, size, parts)
+    }
+}
+
+#[inline]
+fn short_share(count: i64, size: i32, parts: u8) -> i64
+    requires count_in { nat_abs count ≤ 2 ^ 29 }
+    requires parts_in { 1 ≤ parts }
+    ensures { result ≡ points.share count size parts }
+{
+    let parts = i64::from(parts);
+    (2 * (count * i64::from(size)) + parts).div_euclid(2 * parts)
+}
+
+fn long_share(count: i128, size: i32, parts: u8) -> i128
     requires count_in { nat_abs count ≤ 2 ^ 72 }
     requires parts_in { 1 ≤ parts }
     ensures value { result ≡ points.share count size parts }

@@ -10,7 +10,7 @@ ghost use Rattle.hpgl_plot.specs.Paths.{pen_at, right_of, target};
 ghost use Rattle.plot_settings.specs.Meanings.{DrawCircle, DrawArc};
 
 use crate::curve::{Curve, chord_count, curve_point};
-use crate::place::target_of;
+use crate::place::{place_on, target_of};
 use crate::plotter::{Plotter, Stop};
 use crate::state::Position;
 use exact::Spot;
@@ -99,6 +99,9 @@ impl Plotter {
         ensures runs { Runs (travelled (seen self.old) draws
             (start ∷ curves.curve_places self.old.page self.old.state.frame curve)) (seen self.new) result }
     {
+        let page = self.page;
+        let frame = self.state.frame;
+        let axes = self.axes;
         self.begin(start)?;
         let mut end = Position {
             place: start,
@@ -106,7 +109,7 @@ impl Plotter {
         };
         for k in 0..chord_count(curve) {
             let coordinates = curve_point(curve, k + 1);
-            let place = self.place_of(coordinates);
+            let place = place_on(&page, &frame, &axes, coordinates);
             self.reach(end.place, place, draws)?;
             end = Position { place, coordinates };
         }

@@ -67,6 +67,7 @@ impl Plotter {
     }
 
     /// Where coordinates lie on the page.
+    #[inline(always)]
     pub fn place_of(&self, coordinates: Spot) -> Spot
         requires x_near { nat_abs (self.now.axes.x.slope *ℤ coordinates.x) ≤ 2 ^ 118 }
         requires y_near { nat_abs (self.now.axes.y.slope *ℤ coordinates.y) ≤ 2 ^ 118 }
@@ -90,6 +91,7 @@ impl Plotter {
     }
 
     /// Travels from a place to another, in a stroke if it draws. The pen stays where it is.
+    #[inline(always)]
     pub fn travel_to(&mut self, start: Spot, place: Spot, draws: bool) -> Result<(), Stop>
         ensures { Runs (travelled (seen self.old) draws (start ∷ (place ∷ []))) (seen self.new) result }
     {
@@ -111,6 +113,7 @@ impl Plotter {
     }
 
     /// Comes to the next place of a path, in a stroke if it draws.
+    #[inline(always)]
     pub fn reach(&mut self, from: Spot, place: Spot, draws: bool) -> Result<(), Stop>
         requires from_in { IsInRange from }
         ensures in_range { IfOk result (λ _. IsInRange place) }
@@ -148,6 +151,7 @@ impl Plotter {
     }
 
     // A stroke between two places, unless the pen is 0.
+    #[inline(always)]
     fn draw(&mut self, a: Spot, b: Spot) -> Result<(), Stop>
         requires a_in { IsInRange a }
         requires b_in { IsInRange b }

@@ -3,7 +3,7 @@ use mir.Syntax.{w32, w128}
 use Rattle.std.proofs.lemmas.Int.{ints, to_z-of_z}
 use Rattle.exact.proofs.Fit.{product_within}
 use Rattle.stick_font.proofs.Shares.{round_in}
-use Rattle.stick_font.proofs.size.share.Goals as goal
+use Rattle.stick_font.proofs.size.long_share.Goals as goal
 
 pub returns-clause-value : goal.returns-clause-value
 returns-clause-value c =
