@@ -7,6 +7,6 @@ pub mod laws;
 mod sines;
 mod turns;
 
-pub use chords::chord_point;
+pub use chords::{chord_point, is_short_spot, short_chord_point};
 pub use sines::sine;
 pub use turns::{turn, turn_count};

@@ -1,6 +1,6 @@
 -- What keeps the arithmetic in 128 bits: the sizes of P1, P2 and SC's numbers, of the lines, and of the coordinates on
 -- them.
-use Rattle.std.specs.Prelude.{◌≢◌, ◌<◌, ◌+◌, ◌*◌, ◌^◌, ◌≤◌, ℤ, pos, ◌+ℤ◌, ◌*ℤ◌, ◌<ℤ◌, ◌≤ℤ◌, ◌-ℤ◌, nat_abs, ⊤}
+use Rattle.std.specs.Prelude.{◌≡◌, ◌≢◌, ◌<◌, ◌+◌, ◌*◌, ◌^◌, ◌≤◌, ℤ, pos, ◌+ℤ◌, ◌*ℤ◌, ◌<ℤ◌, ◌≤ℤ◌, ◌-ℤ◌, nat_abs, ⊤}
 use Rattle.plot_frame.specs.declared.axis.Axis.{Axis}
 use Rattle.plot_frame.specs.declared.pair.AxisName.{AxisName}
 use Rattle.plot_frame.specs.declared.pair.Pair.{Pair}
@@ -19,6 +19,12 @@ pub record IsLine (a : Axis) : Type 0 where
   pub offset_in : nat_abs a.offset ≤ 2 ^ 104
   pub under_in : nat_abs a.under ≤ 2 ^ 72
   pub under_above : pos 0 <ℤ a.under
+
+-- a line on which coordinates are plotter units, and places are computed in 64 bits
+pub record IsUnscaled (a : Axis) : Type 0 where
+  pub slope_is : a.slope ≡ pos 16
+  pub under_is : a.under ≡ pos 1000000
+  pub offset_in : nat_abs a.offset ≤ 2 ^ 55
 
 -- the coordinate of a place that is not far from the page, or one that is rounded to it
 pub record IsNear (a : Axis) (u : ℤ) : Type 0 where

@@ -9,8 +9,8 @@ ghost use Rattle.hpgl_plot.specs.Machine.{seen, step, Runs, travelled};
 ghost use Rattle.hpgl_plot.specs.Paths.{pen_at, right_of, target};
 ghost use Rattle.plot_settings.specs.Meanings.{DrawCircle, DrawArc};
 
-use crate::curve::{Curve, chord_count, curve_point};
-use crate::place::{place_on, target_of};
+use crate::curve::{Curve, chord_count, chord_end, is_short_curve};
+use crate::place::target_of;
 use crate::plotter::{Plotter, Stop};
 use crate::state::Position;
 use exact::Spot;
@@ -102,16 +102,16 @@ impl Plotter {
         let page = self.page;
         let frame = self.state.frame;
         let axes = self.axes;
+        let is_short = is_short_curve(&axes, curve);
         self.begin(start)?;
         let mut end = Position {
             place: start,
             coordinates: curve.from,
         };
         for k in 0..chord_count(curve) {
-            let coordinates = curve_point(curve, k + 1);
-            let place = place_on(&page, &frame, &axes, coordinates);
-            self.reach(end.place, place, draws)?;
-            end = Position { place, coordinates };
+            let next = chord_end(&page, &frame, &axes, curve, k + 1, is_short);
+            self.reach(end.place, next.place, draws)?;
+            end = next;
         }
         Ok(end)
     }

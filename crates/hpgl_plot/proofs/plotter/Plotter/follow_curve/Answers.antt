@@ -1,8 +1,9 @@
-use Rattle.std.proofs.Common.{◌∙◌, ◌+◌, ◌<◌, ◌∷◌, [], refl}
+use Rattle.std.proofs.Common.{◌∙◌, ◌<◌, ◌∷◌, [], ap}
 use Rattle.std.specs.Bool.{⊤}
+use Rattle.hpgl_plot.specs.declared.state.Position.{Position}
 use Rattle.hpgl_plot.specs.Paths.{chord_count, curve_places}
 use Rattle.hpgl_plot.specs.Machine.{seen, travelled}
-use Rattle.hpgl_plot.proofs.Curves.{point_right, point_above, one_chord, no_chord, stopped_by}
+use Rattle.hpgl_plot.proofs.Curves.{one_chord, no_chord, stopped_by}
 use Rattle.hpgl_plot.proofs.Fed.{travelled_out}
 use Rattle.hpgl_plot.proofs.Travels.{travelled_keeps}
 use Rattle.hpgl_plot.proofs.plotter.Plotter.follow_curve.Goals as goal
@@ -16,16 +17,6 @@ returns-in_err-begin-clause-runs c =
     (travelled w draws (c.args.start ∷ places)) w w c.in_err-begin.field-0.0 c.from_residual.result
     (travelled_out w draws c.args.start places) (c.in_err-begin.ensures.runs draws) c.from_residual.ensures.1
 
-pub place_on-place-requires-clause-x_near : goal.place_on-place-requires-clause-x_near
-place_on-place-requires-clause-x_near c =
-    let p = c.args.self.now in
-    rw c.curve_point-coordinates.ensures (point_right p.page p.state.frame p.axes c.args.curve (c.loop-k.k + 1) p.sound.framed c.requires)
-
-pub place_on-place-requires-clause-y_near : goal.place_on-place-requires-clause-y_near
-place_on-place-requires-clause-y_near c =
-    let p = c.args.self.now in
-    rw c.curve_point-coordinates.ensures (point_above p.page p.state.frame p.axes c.args.curve (c.loop-k.k + 1) p.sound.framed c.requires)
-
 pub returns-in_err-reach-clause-runs : goal.returns-in_err-reach-clause-runs
 returns-in_err-reach-clause-runs c =
     let w = seen c.args.self.now in
@@ -36,10 +27,10 @@ returns-in_err-reach-clause-runs c =
     let k = c.loop-k.k in
     let i = c.loop-k.invariant in
     let from = c.loop-k.end.place in
-    let q = c.place_on-place.result in
+    let q = c.chord_end-next.result.place in
     let places = curve_places w.page f c.args.curve in
     let h : k < chord_count c.args.curve = rw (c.chord_count-k-end.ensures) at c.loop-k-test.true in
-    let e = rw c.curve_point-coordinates.ensures at c.place_on-place.ensures in
+    let e = ap (λ (p : Position). p.place) c.chord_end-next.ensures in
     stopped_by ⊤ (travelled v draws (from ∷ (q ∷ [])))
     (travelled w draws (c.args.start ∷ places)) u u c.in_err-reach.field-0.0 c.from_residual-in_err-reach.result
     (no_chord w.page f c.args.curve draws v w from q c.args.start k h e i.same) c.in_err-reach.ensures.runs c.from_residual-in_err-reach.ensures.1
@@ -52,13 +43,13 @@ loop-k-preserved c =
     let f = w.state.frame in
     let k = c.loop-k.k in
     let i = c.loop-k.invariant in
-    let q = c.place_on-place.result in
+    let q = c.chord_end-next.result.place in
     let h : k < chord_count c.args.curve = rw (c.chord_count-k-end.ensures) at c.loop-k-test.true in
-    let e = rw c.curve_point-coordinates.ensures at c.place_on-place.ensures in
+    let e = ap (λ (p : Position). p.place) c.chord_end-next.ensures in
     let t = travelled_keeps v u c.args.draws (c.loop-k.end.place ∷ (q ∷ [])) c.in_ok-reach.ensures.runs in
     record {
       kept = record { page_is = t.page_is ∙ i.kept.page_is; state_is = t.state_is ∙ i.kept.state_is };
       place_in = c.in_ok-reach.ensures.in_range;
-      end_is = λ z. rw (e, c.curve_point-coordinates.ensures) refl;
+      end_is = λ z. c.chord_end-next.ensures;
       same = one_chord w.page f c.args.curve c.args.draws v u w c.loop-k.end.place q c.args.start k h e i.same c.in_ok-reach.ensures.runs;
     }
