@@ -131,8 +131,10 @@ def test_drawing_that_follows_the_page_may_fit(program):
 def test_pens_choose_the_page(program):
     """The page is around what the selected pens draw."""
     plot = b"SP1;PU0,0;PD1000,1000;PU;SP2;PU5000,5000;PD6000,5500;"
-    both, first = (page_of(program, ["--fit"], it) for it in (plot, plot.split(b"SP2")[0]))
-    for pens, page in (("all", both), ("1", first), ("1-2", both), ("2", both)):
+    first, second = plot.split(b"PU;")
+    pages = [page_of(program, ["--fit"], it) for it in (plot, first, second)]
+    assert len(set(map(tuple, pages))) == 3
+    for pens, page in (("all", pages[0]), ("1", pages[1]), ("2", pages[2]), ("1-2", pages[0])):
         words = ["pbm", f"--pens={pens}"]
         assert drawn(program, [*words, "--fit"], plot) == drawn(program, [*words, *page], plot), pens
     words = ["pbm", "--pens=3", "--fit"]

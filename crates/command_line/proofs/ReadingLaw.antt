@@ -135,10 +135,10 @@ picture_values name rows good = record {
 }
 
 report_choice : (name : Text) (rows : List Row) → RowsOf (built_leaf (report_app name).top).rules rows → HasChoiceValues rows
-report_choice name rows good = number_if_there _ _ (codes "margin") rows 0 1000 refl refl good.each
+report_choice name rows good = number_if_there _ _ (codes "margin") rows 0 100 refl refl good.each
 
 picture_choice : (name : Text) (rows : List Row) → RowsOf (built_leaf (picture_app name).top).rules rows → HasChoiceValues rows
-picture_choice name rows good = number_if_there _ _ (codes "margin") rows 0 1000 refl refl good.each
+picture_choice name rows good = number_if_there _ _ (codes "margin") rows 0 100 refl refl good.each
 
 -- the rows of a subcommand give its options values
 abbrev Reads : Shape → Type 0

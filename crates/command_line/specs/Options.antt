@@ -50,7 +50,7 @@ with_page a = with_rule (with_rule (with_rule (with_rule (with_rule a
 
 -- whether the page is fitted to the drawing, and the margin in millimetres, which has no default
 abbrev pub with_fit : App → App
-with_fit a = with_rule (with_rule a (flag_rule (codes "fit"))) (bare_rule (codes "margin") (whole_number 0 1000))
+with_fit a = with_rule (with_rule a (flag_rule (codes "fit"))) (bare_rule (codes "margin") (whole_number 0 100))
 
 -- how the plot is read: the profile, and the sheet, which has no default
 abbrev pub with_reading : App → App

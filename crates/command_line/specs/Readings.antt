@@ -65,7 +65,7 @@ pub record HasReadingValues (rows : List Row) : Type 0 where
 
 -- the margin, if one is given, is a number
 abbrev pub HasChoiceValues : List Row → Type 0
-HasChoiceValues rows = MayHaveNumber rows (codes "margin") 0 1000
+HasChoiceValues rows = MayHaveNumber rows (codes "margin") 0 100
 
 -- each option that a subcommand needs has a value
 pub record HasValues (name : Text) (rows : List Row) : Type 0 where

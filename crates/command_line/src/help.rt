@@ -51,7 +51,7 @@ pub(crate) const FIT: &str =
 // `clap` knows of no default: a margin that is given without `--fit` is a mistake, whichever it is.
 pub(crate) const MARGIN: HelpLine<'static> = HelpLine {
     value: "MM",
-    help: "Margin of --fit around the drawing, in millimetres, 0 to 1000 [default: 1]",
+    help: "Margin of --fit around the drawing, in millimetres, 0 to 100 [default: 1]",
 };
 
 pub(crate) const PROFILE: HelpLine<'static> = HelpLine {

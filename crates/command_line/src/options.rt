@@ -173,7 +173,7 @@ fn add_fit<'a>(alloc: Global, command: Command<'a>) -> Result<Command<'a>, Alloc
     ensures { IfOk result (IsOf (with_fit (app_of command.entry))) }
 {
     let fit = flag_of(alloc, "fit", FIT);
-    let margin = bare_number_of(alloc, "margin", 0, 1000, MARGIN);
+    let margin = bare_number_of(alloc, "margin", 0, 100, MARGIN);
     add(add(command, fit)?, margin)
 }
 

@@ -19,8 +19,8 @@ Fitted { margin: 0 } false
 plotraster|@|--margin=0|--fit
 plotraster|@|--fit|--margin=-0
 
-Fitted { margin: 1000 } false
-plotraster|@|--fit|--margin|1000
+Fitted { margin: 100 } false
+plotraster|@|--fit|--margin|100
 
 Margin
 plotraster|@|--margin=1
@@ -34,7 +34,7 @@ TooManyValues 2
 plotraster|@|--fit=1
 
 ValueValidation 2
-plotraster|@|--fit|--margin=1001
+plotraster|@|--fit|--margin=101
 plotraster|@|--fit|--margin=1.5
 ";
 

@@ -56,8 +56,8 @@ module _ (rules : Rules) (pens : PenSet) (margin : ℕ) (given : Page) (plot : L
   unfolding Alike
   fitted_once page page' a b = (refl, by_sides page page' about a.0 b.0)
 
-  not_vain : (page page' : Page) → Is Fitted page → Is Follows page' → ⊥
-  not_vain page page' a b =
+  no_misfit : (page page' : Page) → Is Fitted page → Is Follows page' → ⊥
+  no_misfit page page' a b =
       let same : page ≡ b.1.tried = by_sides page b.1.tried about a.0 b.1.around in
       b.1.misfit (subst (λ (p : Page). Fits rules pens margin p plot) same a.1)
 
@@ -70,7 +70,7 @@ module _ (rules : Rules) (pens : PenSet) (margin : ℕ) (given : Page) (plot : L
   fitted_alike Fitted Fitted page page' a b = fitted_once page page' a b
   fitted_alike Fitted Blank page page' a b = absurd (clash about (sides_of page) (blank b.1) a.0)
   fitted_alike Fitted TooLarge page page' a b = absurd (clash about (sides_of page) b.2 a.0)
-  fitted_alike Fitted Follows page page' a b = absurd (not_vain page page' a b)
+  fitted_alike Fitted Follows page page' a b = absurd (no_misfit page page' a b)
   fitted_alike Fitted Given page page' a b = absurd b
   fitted_alike Blank Fitted page page' a b = absurd (clash about (sides_of page') (blank a.1) b.0)
   fitted_alike Blank Blank page page' a b = kept Blank page page' a.0 b.0
@@ -82,7 +82,7 @@ module _ (rules : Rules) (pens : PenSet) (margin : ℕ) (given : Page) (plot : L
   fitted_alike TooLarge TooLarge page page' a b = kept TooLarge page page' a.0 b.0
   fitted_alike TooLarge Follows page page' a b = absurd (clash about (sides_of b.1.tried) a.2 b.1.around)
   fitted_alike TooLarge Given page page' a b = absurd b
-  fitted_alike Follows Fitted page page' a b = absurd (not_vain page' page b a)
+  fitted_alike Follows Fitted page page' a b = absurd (no_misfit page' page b a)
   fitted_alike Follows Blank page page' a b = absurd (clash about (sides_of a.1.tried) (blank b.1) a.1.around)
   fitted_alike Follows TooLarge page page' a b = absurd (clash about (sides_of a.1.tried) b.2 a.1.around)
   fitted_alike Follows Follows page page' a b = kept Follows page page' a.0 b.0

@@ -20,8 +20,8 @@ pub record Fits (rules : Rules) (pens : PenSet) (margin : ℕ) (page : Page) (pl
   pub accepted : rules.refusal page plot ≡ None
   pub around : sides_about pens margin page (rules.strokes page plot) ≡ Some (sides_of page)
 
--- a page around what a plot draws on the given page, and the plot does not fit it
-pub record IsTriedInVain (rules : Rules) (pens : PenSet) (margin : ℕ) (given : Page) (plot : List ℕ) : Type 0 where
+-- the plot does not fit the page around what it draws on the given page
+pub record DependsOnPage (rules : Rules) (pens : PenSet) (margin : ℕ) (given : Page) (plot : List ℕ) : Type 0 where
   pub tried : Page
   pub around : sides_about pens margin given (rules.strokes given plot) ≡ Some (sides_of tried)
   pub misfit : Fits rules pens margin tried plot → ⊥
@@ -35,7 +35,7 @@ IsFitted rules pens margin given plot Blank page =
 IsFitted rules pens margin given plot TooLarge page =
     (page ≡ given) × (is_some (extent_of pens margin (rules.strokes given plot)) ≡ true)
     × (sides_about pens margin given (rules.strokes given plot) ≡ None)
-IsFitted rules pens margin given plot Follows page = (page ≡ given) × IsTriedInVain rules pens margin given plot
+IsFitted rules pens margin given plot Follows page = (page ≡ given) × DependsOnPage rules pens margin given plot
 IsFitted rules pens margin given plot Given page = ⊥
 
 -- a plot that is accepted for the given page is drawn on this page, and why

@@ -24,17 +24,18 @@ pub fn census_of(strokes: &[Stroke], pens: PenSet, page: &Page) -> Census
         off_page: 0,
     };
     for stroke in strokes {
-        census = census.with(stroke, pens, page);
+        census = census.with(stroke, &pens, page);
     }
     census
 }
 
 impl Census {
     // With a stroke, if its pen is selected.
-    fn with(self, stroke: &Stroke, pens: PenSet, page: &Page) -> Census
+    #[inline]
+    fn with(self, stroke: &Stroke, pens: &PenSet, page: &Page) -> Census
         requires strokes { self.strokes < 2 ^ 64 - 1 }
         requires off_page { self.off_page < 2 ^ 64 - 1 }
-        ensures value { result ≡ counted pens page.now self stroke.now }
+        ensures value { result ≡ counted pens.now page.now self stroke.now }
         ensures strokes { result.strokes ≤ self.strokes + 1 }
         ensures off_page { result.off_page ≤ self.off_page + 1 }
     {

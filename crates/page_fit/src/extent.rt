@@ -96,15 +96,16 @@ pub fn extent_of(strokes: &[Stroke], pens: PenSet, margin: u32) -> Option<Extent
 {
     let mut found = None;
     for stroke in strokes {
-        found = with_stroke(found, stroke, pens, margin);
+        found = with_stroke(found, stroke, &pens, margin);
     }
     found
 }
 
 // With a stroke, if its pen is selected.
-fn with_stroke(found: Option<Extent>, stroke: &Stroke, pens: PenSet, margin: u32) -> Option<Extent>
+#[inline]
+fn with_stroke(found: Option<Extent>, stroke: &Stroke, pens: &PenSet, margin: u32) -> Option<Extent>
     requires { IfSome found IsNear }
-    ensures value { result ≡ with_stroke pens margin found stroke.now }
+    ensures value { result ≡ with_stroke pens.now margin found stroke.now }
     ensures near { IfSome result IsNear }
 {
     if !pens.has(stroke.pen) {
