@@ -22,6 +22,9 @@ Fitted 1 0 page 1051 1040 0 0
 SP1;PW0;PD;
 Fitted 1 0 page 80 80 40 40
 
+SP1;PW0.001;PD;
+Fitted 1 0 page 82 82 41 41
+
 SP1;PW0;PU-5000,0;PD-5000,5;
 Fitted 1 0 page 80 85 5040 40
 
@@ -72,7 +75,7 @@ fn pages_around_drawings(rt: HostRuntime) -> Result<(), Fail> {
         assert_eq!(rt; answer.as_str(), wanted, "{plot}");
         found = found.saturating_add(1);
     }
-    assert_eq!(rt; found, 12);
+    assert_eq!(rt; found, 13);
     Ok(())
 }
 
