@@ -1,2 +1,3 @@
--- Lemmas.
+-- Lemmas and worked examples.
 pub mod Pages
+mod FitExamples
