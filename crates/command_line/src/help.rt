@@ -48,7 +48,7 @@ pub(crate) const FIT: &str =
     "Fit the page to what the selected pens draw, and a margin; the page that the other options give is kept, with a \
     message, if that is not possible";
 
-// `clap` knows of no default: a margin that is given without `--fit` is a mistake, whichever it is.
+// `clap` is given no default: a margin that is given without `--fit` is a mistake, whichever it is.
 pub(crate) const MARGIN: HelpLine<'static> = HelpLine {
     value: "MM",
     help: "Margin of --fit around the drawing, in millimetres, 0 to 100 [default: 1]",

@@ -10,6 +10,7 @@ pub struct Outcome {
     pub done: Done,
     /// On which page the plot was drawn, and why.
     pub placement: Placement,
-    /// How many strokes the selected pens draw, of a report all pens, and how many of these lie off the page.
+    /// How many strokes the selected pens draw, or in a report all pens, and how many of these lie off the
+    /// page.
     pub census: Census,
 }

@@ -11,6 +11,6 @@ pub enum Placement {
     Blank,
     /// On the page that was given: no page is large enough for the drawing.
     TooLarge,
-    /// On the page that was given: the drawing follows the page, so it is another one on the page around it.
+    /// On the page that was given: the drawing depends on the page, and is another one on the page around it.
     Follows,
 }

@@ -8,7 +8,7 @@ use Rattle.plot_page.specs.Pens.{has_pen}
 use Rattle.plot_page.specs.declared.pens.PenSet.{PenSet}
 use Rattle.page_fit.specs.declared.extent.Extent.{Extent}
 
--- half the width of a stroke and a margin of millimetres, in grains
+-- half the width of a stroke and a margin in millimetres, both in grains
 abbrev pub around : ℕ → Segment → ℕ
 around margin s = (s.width + 1) / 2 + 640 * margin
 

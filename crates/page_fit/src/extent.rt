@@ -18,7 +18,7 @@ pub struct Extent {
 }
 
 impl Extent {
-    // A stroke with half its width and a margin of millimetres around it.
+    // A stroke with half its width and a margin in millimetres around it.
     pub(crate) fn of(stroke: &Stroke, margin: u32) -> Extent
         ensures value { result ≡ reach margin stroke.now }
         ensures near { IsNear result }
@@ -88,7 +88,7 @@ fn greater(a: i64, b: i64) -> i64
     a.max(b)
 }
 
-/// How far the strokes of the selected pens reach, with half their width and a margin of millimetres
+/// How far the strokes of the selected pens reach, with half their width and a margin in millimetres
 /// around them. `None` if there are none. No window cuts them.
 pub fn extent_of(strokes: &[Stroke], pens: PenSet, margin: u32) -> Option<Extent>
     ensures value { result ≡ extent_of pens margin strokes.now }
