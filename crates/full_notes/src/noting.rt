@@ -1,8 +1,9 @@
 //! Noting what is skipped or wrong in the profile full.
-ghost use Rattle.std.specs.Prelude.{◌≡◌};
+ghost use Rattle.std.specs.Prelude.{◌≡◌, IsTrue};
 ghost use Rattle.hpgl_text.specs.Shapes.{Params};
 ghost use Rattle.full_settings.specs.FurtherRequests.{IsFurtherRequest};
-ghost use Rattle.full_notes.specs.Contexts.{params_read};
+ghost use Rattle.hpgl_plot.specs.Notes.{item_noted};
+ghost use Rattle.full_notes.specs.Contexts.{Context, params_read};
 ghost use Rattle.full_notes.specs.Notes.{bad_without, request_noted, width_noted, params_noted, body_noted};
 ghost use Rattle.full_notes.specs.Notes.{unit_after, is_on_after, request_after, params_after, context_after};
 
@@ -14,6 +15,23 @@ use full_settings::{
 };
 use hpgl_plot::NoteKind;
 use hpgl_text::{Body, Instruction, Item, Numbers};
+
+/// Whether an item is PU, PD, PA or PR. On these the same is noted as in core, whatever was set before.
+#[inline(always)]
+pub fn is_move(item: &Item<'_>) -> bool
+    ensures { IsTrue result → (c : Context) → body_noted c item.now.body ≡ item_noted item.now }
+{
+    match &item.body {
+        Body::Params(instruction, _) => matches!(
+            instruction,
+            Instruction::PenUp
+                | Instruction::PenDown
+                | Instruction::PlotAbsolute
+                | Instruction::PlotRelative
+        ),
+        _ => false,
+    }
+}
 
 /// What is noted on an item at its first byte, by the context before it.
 pub fn noted_kind(item: &Item<'_>, context: &Context) -> Option<NoteKind>

@@ -17,6 +17,7 @@ use hpgl_text::{Body, Further, Instruction, Numbers};
 use plot_settings::{Arc, Circle, arc_from, circle_from};
 
 /// Whether an item may not be there: in polygon mode, or, as PM 1 and PM 2, out of it.
+#[inline(always)]
 pub fn is_misplaced(body: &Body<'_>, in_polygon: bool) -> bool
     ensures { result ≡ contexts.is_misplaced in_polygon (body_shape body.now) }
 {
@@ -60,6 +61,7 @@ fn is_bad_further(further: Further) -> bool
     }
 }
 
+#[inline(always)]
 fn is_bad_outside(body: &Body<'_>) -> bool
     ensures { result ≡ contexts.is_bad_outside (body_shape body.now) }
 {

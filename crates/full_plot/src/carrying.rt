@@ -1,5 +1,6 @@
 //! Carrying out a plot, one item at a time.
 ghost use Rattle.std.specs.Prelude.{◌≡◌};
+ghost use Rattle.full_notes.specs.Notes.{body_noted};
 ghost use Rattle.full_plot.specs.Drawings.{at_start, is_too_much, CarriesOut};
 ghost use Rattle.full_plot.specs.Machine.{seen};
 ghost use Rattle.full_plot.specs.Worlds.{context_of};
@@ -7,9 +8,9 @@ ghost use Rattle.full_plot.specs.Worlds.{context_of};
 use crate::area::Area;
 use crate::plotter::FullPlotter;
 use crate::writing::Writing;
-use full_notes::Context;
+use full_notes::{Context, is_move, noted_kind};
 use full_settings::{ColourRanges, LineStyle};
-use hpgl_plot::{PlotFault, Plotter, Stop};
+use hpgl_plot::{NoteKind, PlotFault, Plotter, Stop};
 use hpgl_text::Item;
 use plot_page::{MOST_STROKES, Page};
 use polygons::Buffer;
@@ -53,6 +54,17 @@ impl FullPlotter {
             Err(Stop::Memory) => Err(PlotFault::Memory),
             Err(Stop::OffRange) => Err(PlotFault::OffRange { at: item.at }),
         }
+    }
+
+    /// What is noted on the next item at its first byte.
+    #[inline(always)]
+    pub fn noted(&self, item: &Item<'_>) -> Option<NoteKind>
+        ensures { result ≡ body_noted (context_of (seen self.now)) item.now.body }
+    {
+        if is_move(item) {
+            return hpgl_plot::noted_kind(item);
+        }
+        noted_kind(item, &self.context())
     }
 
     /// What the notes on the next item depend on.

@@ -8,7 +8,6 @@ ghost use Rattle.full_notes.specs.Notes as notes;
 
 use crate::plotter::FullPlotter;
 use crate::steps::last_end;
-use full_notes::noted_kind;
 use hpgl_plot::{PlotFault, count_notes};
 use hpgl_text::{Items, Profile};
 use plot_page::{Page, Stroke};
@@ -52,7 +51,7 @@ pub fn draw_full(alloc: Global, text: &[u8], page: &Page) -> Result<FullDrawn, P
     let mut plotter = FullPlotter::new(alloc, page);
     let mut noted: usize = 0;
     'items: while let Some(item) = items.next() {
-        let own = noted_kind(&item, &plotter.context());
+        let own = plotter.noted(&item);
         plotter.carry_out(&item)?;
         noted += count_notes(&item, own);
     }

@@ -77,6 +77,7 @@ impl FullPlotter {
     }
 
     /// Draws the symbol of SM at the pen, if there is one, and polygon mode is off.
+    #[inline(always)]
     pub fn mark(&mut self) -> Result<(), Stop>
         ensures { Runs (marked (seen self.old)) (seen self.new) result }
     {

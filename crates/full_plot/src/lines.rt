@@ -36,6 +36,7 @@ impl FullPlotter {
 
     /// A move to coordinates, drawn if the pen is down. Then the left margin is where the pen is, and the
     /// symbol is drawn there. In polygon mode the end is a point of the polygon.
+    #[inline(always)]
     pub fn go(&mut self, is_relative: bool, x: Number, y: Number) -> Result<(), Stop>
         ensures { Runs (core_step (seen self.old) (Go is_relative x y)) (seen self.new) result }
     {
@@ -45,6 +46,7 @@ impl FullPlotter {
     }
 
     // The line of a move, or a point of a polygon.
+    #[inline(always)]
     fn go_lined(&mut self, is_relative: bool, x: Number, y: Number) -> Result<(), Stop>
         ensures { Runs (lined_step (seen self.old) (Go is_relative x y)) (seen self.new) result }
     {
@@ -56,6 +58,7 @@ impl FullPlotter {
     }
 
     // The line of a move.
+    #[inline(always)]
     fn go_along(&mut self, is_relative: bool, x: Number, y: Number) -> Result<(), Stop>
         ensures { Runs (line_step (seen self.old) (Go is_relative x y)) (seen self.new) result }
     {

@@ -1,6 +1,6 @@
 //! Noting what is skipped, wrong or open.
-ghost use Rattle.std.specs.Prelude.{◌≡◌, ◌<◌, ◌^◌, ◌++◌, IfOk, length};
-ghost use Rattle.hpgl_plot.specs.Notes.{notes_of, notes_with, item_noted};
+ghost use Rattle.std.specs.Prelude.{◌≡◌, ◌<◌, ◌^◌, ◌++◌, ℕ, List, IfOk, length};
+ghost use Rattle.hpgl_plot.specs.Notes.{item_noted, note_at, notes_of, notes_with, open_noted};
 
 use crate::item_notes::ItemNotes;
 use crate::note::{Note, NoteKind};
@@ -24,12 +24,40 @@ pub fn count_notes(item: &Item<'_>, own: Option<NoteKind>) -> usize
     requires { length (notes_with own item.now) < 2 ^ 63 }
     ensures { result ≡ length (notes_with own item.now) }
 {
+    match &item.body {
+        Body::Coded(_) => count_left(ItemNotes::new(item, own)),
+        _ => count_at_first(own) + count_at_first(open_kind(item.unended)),
+    }
+}
+
+// How many notes are to come.
+fn count_left(notes: ItemNotes<'_>) -> usize
+    requires { length notes < 2 ^ 63 }
+    ensures { result ≡ length notes.entry }
+{
     let mut count = 0;
-    let mut rest = ItemNotes::new(item, own);
+    let mut rest = notes;
     'notes: while let Some(_) = rest.next() {
         count += 1;
     }
     count
+}
+
+// How many notes on an item's first byte this is.
+fn count_at_first(kind: Option<NoteKind>) -> usize
+    ensures { (code : List ℕ) (at : ℕ) → result ≡ length (note_at code at kind) }
+{
+    match kind {
+        Some(_) => 1,
+        None => 0,
+    }
+}
+
+// What is noted on an item that is open or not.
+fn open_kind(unended: bool) -> Option<NoteKind>
+    ensures { result ≡ open_noted unended }
+{
+    if unended { Some(NoteKind::Open) } else { None }
 }
 
 /// What is noted on an item at its first byte.

@@ -49,6 +49,7 @@ pub enum Request {
 /// What an instruction asks for by its numbers. Numbers after the last that it has are ignored. Of the
 /// instructions with moves the numbers themselves are the coordinates, and one without its pair is
 /// invalid, but changes nothing for the pairs before it.
+#[inline(always)]
 pub fn request_of(instruction: Instruction, numbers: &Numbers<'_>) -> Request
     ensures meaning { request_meaning result numbers.now ≡ meaning instruction numbers.now }
     ensures sound { IsRequest result }
@@ -77,6 +78,7 @@ fn moves_of(instruction: Instruction) -> Option<Moves>
 }
 
 // What each other instruction asks for by its first numbers.
+#[inline(never)]
 fn request_by_first(instruction: Instruction, numbers: &[Number]) -> Request
     requires small { All IsNumber numbers.now }
     requires other { plots_pairs instruction ≡ false }

@@ -36,6 +36,7 @@ struct Sides {
 }
 
 /// The box of a stroke, on the page.
+#[inline(always)]
 pub fn extent_of(stroke: &Stroke, page: &Page, dots: Dots) -> Extent
     ensures rows { result.rows.end ≤ rows_of page.now dots }
     ensures columns { result.columns.end ≤ columns_of page.now dots }

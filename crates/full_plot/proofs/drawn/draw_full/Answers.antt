@@ -20,7 +20,7 @@ count_notes-noted-requires c =
     let item = c.in-Some.item in
     let before : Context = context_of (seen c.items.plotter) in
     let own = body_noted before item.body in
-    let noted : c.noted_kind-own.result ≡ own = c.noted_kind-own.ensures ∙ ap (λ (b : Context). body_noted b item.body) c.context.ensures in
+    let noted : c.noted-own.result ≡ own = c.noted-own.ensures in
     omega (
       arith,
       c.items.invariant.noted,
@@ -35,7 +35,7 @@ overflow_add-noted c =
     let item = c.in-Some.item in
     let before : Context = context_of (seen c.items.plotter) in
     let own = body_noted before item.body in
-    let noted : c.noted_kind-own.result ≡ own = c.noted_kind-own.ensures ∙ ap (λ (b : Context). body_noted b item.body) c.context.ensures in
+    let noted : c.noted-own.result ≡ own = c.noted-own.ensures in
     omega (
       arith,
       c.items.invariant.noted,
@@ -55,7 +55,7 @@ items-preserved c =
     let new = seen c.carry_out.new.self in
     let before : Context = context_of (seen c.items.plotter) in
     let own = body_noted before item.body in
-    let noted : c.noted_kind-own.result ≡ own = c.noted_kind-own.ensures ∙ ap (λ (b : Context). body_noted b item.body) c.context.ensures in
+    let noted : c.noted-own.result ≡ own = c.noted-own.ensures in
     let goes_on : (more : List ItemShape) → runs old (item ∷ more) ≡ runs new more =
     carried_out old new item c.carry_out.result c.in_ok-carry_out.field-0 c.carry_out.ensures c.in_ok-carry_out.was in
     record {
