@@ -4,7 +4,7 @@
 # make test       every test of the built command
 # make mutants    a test on each mutant, with nothing proved
 # make prove      every proof and the tests of the crates (rt ci), and the mutants of mutants/gate.txt
-# make check      all of these: what fails early comes first
+# make check      all of these, some side by side: what fails early comes first
 # make audit      hands every mutant to the prover, for a release or after a change of a contract
 # make fuzz       compares the built command with tests/reference on new random plots, for SECONDS=600
 # make install    copies the command, its manual page and its completion under PREFIX (/usr/local), below DESTDIR if it is set
@@ -58,24 +58,30 @@ style: setup
 	$(PYTEST) $(SOURCE_TESTS)
 
 mutants: setup
-	tools/mutants
+	nice -n 19 tools/mutants
+
+prove: proofs
+	@$(MAKE) --no-print-directory refusals
 
 # One job a crate, as many crates side by side as there are processors: each job reads all modules of the crates below, so
 # several at one crate cost more processor time.
-prove: setup
+proofs: setup
 	@mkdir -p build
 	RT_JOBS=$$(nproc) rt ci 2>&1 | tee build/verdict
+
+refusals: built
 	tools/audit --gate
 
 test: setup built
 	$(PYTEST) -n auto tests
 
-# Each part by itself, so that they come one after the other. The verdict of rt ci is said again as the last line.
+# What fails early comes first. Proofs wait for each other, crate for crate, and the mutants take the processors that are
+# free then; so do the tests beside the mutants that are handed to the prover. The verdict of rt ci is said again as the
+# last line.
 check:
 	@$(MAKE) --no-print-directory style
-	@$(MAKE) --no-print-directory mutants
-	@$(MAKE) --no-print-directory prove
-	@$(MAKE) --no-print-directory test
+	@$(MAKE) --no-print-directory -j 2 proofs mutants
+	@$(MAKE) --no-print-directory -j 2 refusals test
 	@tail -n 1 build/verdict
 
 audit: setup build
@@ -101,4 +107,4 @@ dist: built
 clean:
 	rm -rf build crates/*/out
 
-.PHONY: build first demo setup style mutants prove test check audit fuzz built install uninstall dist clean
+.PHONY: build first demo setup style mutants prove proofs refusals test check audit fuzz built install uninstall dist clean

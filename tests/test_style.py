@@ -1,12 +1,17 @@
-"""The format of the code, the scripts by flake8 and shellcheck, and the names that two things must not share."""
+"""The format of the code, the scripts by flake8 and shellcheck, the names that two things must not share, and the texts
+that mutants change."""
 
 import os
 import re
 import subprocess
+import sys
 
 import pytest
 
 from shared import TOP, need
+
+sys.path.insert(0, os.path.join(TOP, "tools"))
+from edits import CRATES, all_edits, changes, dependencies, function_of  # noqa: E402
 
 SECONDS = 60
 
@@ -54,6 +59,28 @@ def test_names_of_scripts():
     names = [name for folder in ("bench", "tests", "tools") for name in os.listdir(os.path.join(TOP, folder))]
     names = [it for it in names if it != "__pycache__"]
     assert len(names) == len(set(names)), sorted(it for it in names if names.count(it) > 1)
+
+
+def sources(crate):
+    """The text of each source file of a crate, by its path in the crate."""
+    for folder, _, files in os.walk(os.path.join(CRATES, crate, "src")):
+        for file in files:
+            path = os.path.join(folder, file)
+            with open(path, encoding="utf-8") as text:
+                yield os.path.relpath(path, os.path.join(CRATES, crate)), text.read()
+
+
+def test_mutants():
+    """Each mutant changes texts that stand in its files once, and the function that it names is one of its crate."""
+    edits, wrong = all_edits(dependencies()), []
+    assert len(edits) > 400
+    for name, path in edits.items():
+        texts = dict(sources(name.split("/")[0]))
+        wrong += [f"{name}: {old}" for file, old, _ in changes(path) if texts[file].count(old) != 1]
+        function = function_of(path)
+        if function and not any(re.search(rf"\bfn {function.split('::')[-1]}\b", it) for it in texts.values()):
+            wrong.append(f"{name}: fn {function}")
+    assert not wrong, wrong
 
 
 def test_options_that_make_passes():
