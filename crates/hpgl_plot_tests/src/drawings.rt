@@ -116,6 +116,9 @@ PC1.4,255.4,-0.5,0,7;CR;PU0,28;PD64,28;
 PC0,9,9,9;SP0;PU0,28;PD64,28;
 0 notes
 
+PC2,3;SP0;LBx
+2 notes
+
 PC2,10,20,30;PU0,28;PE7:c?c_;
 2 10 20 30: 0,448 to 1024,448
 0 notes
@@ -147,7 +150,7 @@ SP1;PD9,9,9;!WU1;PE<=7!!;PU1;EA5,5;PE!
 
 #[test]
 fn colours(rt: HostRuntime) -> Result<(), Fail> {
-    has_answers(&rt, rt.alloc(), Asked::Colours, COLOURS, 11)
+    has_answers(&rt, rt.alloc(), Asked::Colours, COLOURS, 12)
 }
 
 const MOVES_AND_POLYLINES: &str = "\
