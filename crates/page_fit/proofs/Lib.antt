@@ -1,3 +1,4 @@
 -- Lemmas and worked examples.
+pub mod Beside
 pub mod Pages
 mod FitExamples

@@ -1,7 +1,8 @@
 //! How many strokes are drawn, and how many of them lie off the page.
-ghost use Rattle.std.specs.Prelude.{◌≡◌, ◌+◌, ◌-◌, ◌*◌, ◌^◌, ◌<◌, ◌≤◌, ◌||◌, int_lt, pos};
+ghost use Rattle.std.specs.Prelude.{◌≡◌, ℕ, ℤ, ◌+◌, ◌-◌, ◌*◌, ◌^◌, ◌<◌, ◌≤◌, ◌||◌, int_lt, pos, ◌+ℤ◌, ◌-ℤ◌, false, IsTrue};
+ghost use Rattle.std.specs.Int.{int_max, int_min};
 ghost use Rattle.page_fit.specs.Census.{census_of, counted, is_beside};
-ghost use Rattle.page_fit.specs.Extents.{IsNear};
+ghost use Rattle.page_fit.specs.Extents.{IsNear, reach};
 
 use crate::extent::Extent;
 use plot_page::{Page, PenSet, Stroke};
@@ -42,18 +43,29 @@ impl Census {
         if !pens.has(stroke.pen) {
             return self;
         }
-        let strokes = self.strokes + 1;
-        if is_beside(page, Extent::of(stroke, 0)) {
-            return Census {
-                strokes,
-                off_page: self.off_page + 1,
-            };
-        }
+        let lies_beside = !begins_on(page, stroke) && is_beside(page, Extent::of(stroke, 0));
         Census {
-            strokes,
-            off_page: self.off_page,
+            strokes: self.strokes + 1,
+            off_page: self.off_page + usize::from(lies_beside),
         }
     }
+}
+
+// Whether a stroke's first end lies on the page, as most do. Then the stroke does not lie beside it.
+#[inline]
+fn begins_on(page: &Page, stroke: &Stroke) -> bool
+    ensures { IsTrue result → is_beside page.now (reach 0 stroke.now) ≡ false }
+{
+    is_within(page.width, stroke.ax) && is_within(page.height, stroke.ay)
+}
+
+// Whether a place lies within a side of the page. Then nothing that reaches it lies beside that side.
+#[inline]
+fn is_within(side: u32, place: i32) -> bool
+    ensures { IsTrue result → (other : ℤ) (around : ℕ) → (int_lt (int_max place other +ℤ pos around) (pos 0)
+        || int_lt (pos (16 * side)) (int_min place other -ℤ pos around)) ≡ false }
+{
+    0 <= place && i64::from(place) <= 16 * i64::from(side)
 }
 
 // Whether no place of an extent lies on the page.
