@@ -88,6 +88,24 @@ def pictures(made):
         yield "made nothing"
 
 
+def more_pictures(made):
+    """Beside these, pictures of two plots in a folder."""
+    yield from pictures(made)
+    for name in ("plan", "centred"):
+        if made.read(f"pictures/{name}.pbm") != made.run("pbm", f"{name}.plt"):
+            yield f"{name}: another picture in the folder"
+
+
+PLOTS = {"plots/one.plt": plan(*A4), "plots/two.plt": b"SP1;PU0,0;PD9000,9000;"}
+
+
+def pictures_of_a_folder(made):
+    for name in PLOTS:
+        picture = "pictures/" + os.path.basename(name)[:-4] + ".pbm"
+        if made.read(picture) != made.run("pbm", "--dots", "300", name):
+            yield f"{name}: another picture"
+
+
 # The Netpbm that made the pictures in docs/. Another version may choose colours in another way.
 PICTURES_BY = b"Netpbm 11.1.0\n"
 
@@ -156,11 +174,11 @@ DOCUMENT_CHECKS = {
     "docs/GALLERY.md": GALLERY,
     "README.md": {
         "Use": [Check(pictures, (*SCALED, "pamfile"))],
-        "More": [Check(pictures, ("pamfile",))],
+        "More": [Check(more_pictures, ("pamfile",))],
     },
     "man/plotraster.1": {
-        "EXAMPLES": [Check(pictures, ("pamfile",)), Check(pictures, ("pamfile",)), Check(pictures, (*SCALED, "pamfile")),
-                     Check(pictures, ("pamfile",)), Check(pictures), Check(notes, (), {"plan.plt": b"WU1;;SC0,0,0,9;" + plan(*A4)}),
-                     Check(centred, ()), Check(eight_marks)],
+        "EXAMPLES": [Check(pictures, ("pamfile",)), Check(pictures, ("pamfile",)), Check(pictures_of_a_folder, (), PLOTS),
+                     Check(pictures, (*SCALED, "pamfile")), Check(pictures, ("pamfile",)), Check(pictures),
+                     Check(notes, (), {"plan.plt": b"WU1;;SC0,0,0,9;" + plan(*A4)}), Check(centred, ()), Check(eight_marks)],
     },
 }

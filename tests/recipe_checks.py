@@ -211,6 +211,19 @@ def archive(made):
         yield f"refused.txt has {made.lines('refused.txt')}"
 
 
+def archive_in_one_run(made):
+    names = {name[6:-4]: name for name in ARCHIVE if name.count("/") == 1}
+    drawn = {name for name in names if names[name] not in REFUSED}
+    if made.files(".pbm") != {f"pictures/{name}.pbm" for name in drawn} or made.files(".part"):
+        yield f"made {made.files('.pbm')} and {made.files('.part')}"
+    for name in drawn:
+        if made.read(f"pictures/{name}.pbm") != made.run("pbm", "--dots", "300", names[name]):
+            yield f"{name}: another picture"
+    wanted = [f"plotraster: {name}: {REFUSED[name].removeprefix('plotraster: ')}" for name in names.values() if name in REFUSED]
+    if made.lines("refused.txt") != wanted:
+        yield f"refused.txt has {made.lines('refused.txt')}"
+
+
 def blank_plots(made):
     if made.lines("empty.txt") != ["plots/no plot.plt"]:
         yield f"empty.txt has {made.lines('empty.txt')}"
@@ -391,8 +404,8 @@ CHECKS = {
         "A PCL printer": [Check(pcl, ("pamflip", "pbmtolj"))],
         "A page that fits the drawing": [Check(fitted_page, (*PNG, "pamscale", "pnmquant"))],
         "Other colours and widths": [Check(recoloured)],
-        "An archive of plots": [Check(archive, PNG, ARCHIVE), Check(blank_plots, (), ARCHIVE),
-                                Check(archive_by_parallel, ("parallel",), ARCHIVE)],
+        "An archive of plots": [Check(archive_in_one_run, (), ARCHIVE), Check(archive, PNG, ARCHIVE),
+                                Check(blank_plots, (), ARCHIVE), Check(archive_by_parallel, ("parallel",), ARCHIVE)],
         "Several machines": [Check(archive_by_machines, ("parallel",), ARCHIVE),
                              Check(parts, ("parallel",), {"plan.plt": plan(*A0)})],
         "A large page in parts": [Check(parts, (), {"plan.plt": plan(*A0)})],

@@ -61,7 +61,7 @@ def test_old_file_is_replaced(program, tmp_path):
     ([], b"PD99999,0;", (1, b"plotraster: place off range at byte 0\n")),
     (["--dots=10", "--from=999"], LINE, (2, b"plotraster: first row is past the last row\n")),
     (["folder"], LINE, (3, b"plotraster: read failed\n")),
-    (["missing.plt"], LINE, (3, b"plotraster: cannot open missing.plt: no such file\n")),
+    (["missing.plt"], LINE, (3, b"plotraster: cannot open missing.plt: no such file or folder\n")),
     (["--pens=0"], LINE, (2, b"plotraster: bad pen list\n")),
 ])
 def test_refused_plot_leaves_the_old_file(program, tmp_path, words, plot, ends):
@@ -75,7 +75,7 @@ def test_refused_plot_leaves_the_old_file(program, tmp_path, words, plot, ends):
 def test_files_that_cannot_be_written(program, tmp_path):
     os.mkdir(tmp_path / "folder")
     for name, refused, reason in [
-        ("missing/out", "missing/out.part", "no such file"),
+        ("missing/out", "missing/out.part", "no such folder"),
         ("folder", "folder", "Is a directory (os error 21)"),
         ("n" * 255, "n" * 255 + ".part", "File name too long (os error 36)"),
     ]:
@@ -85,15 +85,15 @@ def test_files_that_cannot_be_written(program, tmp_path):
 
 def test_file_that_cannot_be_renamed(program, tmp_path):
     """The output stays in FILE.part."""
-    assert write_to(program, tmp_path, ["ppm", "--output="]) == cannot_write("", "no such file")
+    assert write_to(program, tmp_path, ["ppm", "--output="]) == cannot_write("", "no such folder")
     assert os.listdir(tmp_path) == [".part"]
     assert read_bytes(tmp_path / ".part") == wanted(program, "ppm")
 
 
 def test_refusal_of_the_plot_file_comes_first(program, tmp_path):
-    ends = (3, b"plotraster: cannot open missing.plt: no such file\n")
+    ends = (3, b"plotraster: cannot open missing.plt: no such file or folder\n")
     assert write_to(program, tmp_path, ["pbm", "missing.plt", "-o", "missing/out"]) == ends
-    ends = cannot_write("missing/out.part", "no such file")
+    ends = cannot_write("missing/out.part", "no such folder")
     assert write_to(program, tmp_path, ["pbm", "-o", "missing/out"], b"PD99999,0;") == ends
 
 

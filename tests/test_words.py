@@ -33,10 +33,12 @@ BAD_PAGE = (2, b"plotraster: bad page: use a0 to a5, b4, letter, legal, tabloid,
 PAGE_AND_SIDE = (2, b"plotraster: --page may not be given with --width or --height\n")
 BAD_PROFILE = (2, b"plotraster: bad profile\n")
 NO_FIT = (2, b"plotraster: --margin needs --fit\n")
+NO_FOLDER = (2, b"plotraster: several plots need --output FOLDER\n")
 NO_SHEETS = (2, b"plotraster: --sheet needs --profile full\n")
 NOT_OF_PCL = (2, b"plotraster: resolution is not one of PCL's\n")
 PAST_THE_END = (2, b"plotraster: first row is past the last row\n")
 NOT_READ = (3, b"plotraster: read failed\n")
+NOT_A_FOLDER = (3, b"plotraster: cannot write line.plt: it is not a folder\n")
 NOT_WRITTEN = (3, b"plotraster: cannot write folder: Is a directory (os error 21)\n")
 
 COMMANDS = [*FORMS, "report"]
@@ -57,7 +59,7 @@ PCL_DOTS = [75, 100, 150, 200, 300, 600]
 LONG = 120000
 
 
-def not_opened(name, reason="no such file"):
+def not_opened(name, reason="no such file or folder"):
     """What a run must end with if a file cannot be opened."""
     return 3, f"plotraster: cannot open {name}: {reason}\n".encode()
 
@@ -269,9 +271,10 @@ def files():
             yield [command, name], NOT_READ
         for name in ["./line.plt", " line.plt", "line.plt "]:
             yield [command, name], DONE
-        yield [command, "line.plt", "line.plt"], USAGE
-        yield [command, "line.plt", ""], USAGE
-        yield [command, *["line.plt"] * 2000], USAGE
+        yield [command, "line.plt", "line.plt"], NO_FOLDER
+        yield [command, "line.plt", ""], NO_FOLDER
+        yield [command, *["line.plt"] * 2000], NO_FOLDER
+        yield [command, "line.plt", "missing.plt", "-o", "line.plt"], NOT_A_FOLDER
 
 
 def after_two_hyphens():
@@ -283,8 +286,8 @@ def after_two_hyphens():
         yield [command, "--left=1", "--", "--left"], DONE
         for name in ["--", "--help", "-h", "--width=1"]:
             yield [command, "--", name], not_opened(name)
-        yield [command, "--", "--left", "1"], USAGE
-        yield [command, "line.plt", "--", "--left"], USAGE
+        yield [command, "--", "--left", "1"], NO_FOLDER
+        yield [command, "line.plt", "--", "--left"], NO_FOLDER
 
 
 def calls_for_help():
@@ -338,7 +341,9 @@ def orders_of_refusal():
     yield ["pcl", "--dots=127", "missing.plt"], not_opened("missing.plt")
     yield ["report", "missing.plt", "-o", "folder"], not_opened("missing.plt")
     yield ["pcl", "--dots=127", "-o", "folder"], NOT_WRITTEN
-    yield ["marks", "far.plt", "--output=folder"], NOT_WRITTEN
+    yield ["marks", "far.plt", "--output=folder"], OFF_RANGE
+    yield ["report", "far.plt", "far.plt", "--margin=1"], NO_FIT
+    yield ["marks", "missing.plt", "far.plt", "--sheet=1"], NO_SHEETS
     yield ["pcl", "--dots=127", "folder"], NOT_OF_PCL
     yield ["pcl", "--dots=127", "far.plt"], NOT_OF_PCL
     yield ["pcl", "--dots=127", "--from=99999"], NOT_OF_PCL

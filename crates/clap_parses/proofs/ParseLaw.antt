@@ -1,156 +1,32 @@
 -- A parse with no fault gives rows that pass.
-use Rattle.std.proofs.Common.{◌≡◌, ◌<◌, ◌≤◌, ◌⊎◌, ℕ, zero, suc, true, false, Bool, List, [], ◌∷◌, ◌++◌, Option, Some, None, length, refl, ap, sym, ◌∙◌, subst, inl, inr, arith, cond, ◌&&◌, ◌||◌, drop}
+use Rattle.std.proofs.Common.{◌≡◌, ◌<◌, ◌≤◌, ◌⊎◌, ℕ, rules, zero, suc, true, false, Bool, List, [], ◌∷◌, ◌++◌, Option, Some, None, length, refl, ap, sym, ◌∙◌, subst, inl, inr, arith, cond, ◌&&◌, ◌||◌, drop}
 use Rattle.std.specs.List.{AllByRecursion}
 use Rattle.std.specs.Prelude.{◌==◌, not, nat_eq}
 use Rattle.std.specs.Option.{option_map_or}
 use Rattle.std.proofs.lemmas.Bool.Decides.{nat_tests}
+use Rattle.std.proofs.lemmas.List.{length-append}
+use Rattle.std.proofs.lemmas.Slice.Eq.{bytes_eq-Decides}
 use Rattle.std.specs.Prelude.{find, fold, encode_utf8, slice_get, is_some}
 use Rattle.std.specs.Str.{bytes_eq, chars}
 use Rattle.clap.specs.Lexer.{long_of, short_of}
-use Rattle.clap.specs.Walk.{Row, Rule, Text, Held, Names, Outcome, Step, Walk, Waiting, arg_by_id, arg_by_long, arg_by_short, arg_by_index, has_row, action_of, used, used_as, more_values, without, at_row, settled, settled_rows, used_by_id, has_short, has_long, reacted, reading_by, values_or_missing, takes_values, most_values, takes_several, is_pending, option_met, flag_met, long_met, short_met, attached_value, bundle_step, bundle_met, bundle, after_flag, plain_word, option_word, short_or_plain, long_or_other, subcommand_or_other, subcommand_met, word_met, to_positional, after_step, walked, walked_from, walk, default_rows, with_default, is_empty, nothing_held, rows_after, walk_from, pushed}
+use Rattle.clap.specs.Walk.{Row, Rule, Text, Held, Names, Outcome, Step, Walk, Waiting, arg_by_id, arg_by_long, arg_by_short, arg_by_index, has_row, action_of, used, used_as, more_values, without, at_row, settled, settled_rows, used_by_id, has_short, has_long, reacted, reading_by, values_or_missing, takes_values, most_values, takes_several, is_pending, option_met, flag_met, long_met, short_met, attached_value, bundle_step, bundle_met, bundle, after_flag, plain_word, option_word, short_or_plain, long_or_other, subcommand_or_other, subcommand_met, word_met, to_positional, after_step, walked, walked_from, walk, default_rows, with_default, is_empty, nothing_held, rows_after, walk_from, pushed, is_append}
 use Rattle.clap.specs.Walk.{done, waits, plain, refused, idle, option, positional, next, trailing, subcommand, value}
-use Rattle.clap.specs.Facts.{unwrap_or_range}
+use Rattle.clap.specs.Facts.{explicit_source, unwrap_or_range}
 use Rattle.clap.specs.Takes.{values_pass, value_passes}
 use Rattle.clap.specs.Simple.{App, Shape, built, subcommand_of, argument_words, names_of, entered, label_of, rows_at}
-use Rattle.clap.specs.Walk.{stop_after, answers_to}
+use Rattle.clap.specs.Walk.{stop_after, answers_to, stronger}
 use Rattle.std.specs.Prelude.{option_map}
 use Rattle.clap.specs.Kinds.{Kinds, or_else, range_kinds, request_kinds, check_kinds}
 use Rattle.clap.specs.Faults.{use_fault, action_fault, set_fault, settle_fault, react_fault, values_fault, repeat_fault, option_fault, long_fault, short_fault, bundle_step_fault, flags_fault, bundle_fault, flag_word_fault, other_fault, word_fault, positional_fault, step_fault, turn_fault, walk_fault, default_fault, given_default_fault, defaults_fault, level_fault, stray_fault, entered_fault, fault_of}
 use Rattle.clap.specs.declared.builder.action.ArgAction.{ArgAction}
-use Rattle.clap.specs.declared.builder.action.ArgAction.TheVariants.{Set, SetTrue, Help}
+use Rattle.clap.specs.declared.builder.action.ArgAction.TheVariants.{Set, SetTrue, Append, Help}
 use Rattle.clap.specs.declared.error.kind.ErrorKind.{ErrorKind}
 use Rattle.clap.specs.declared.error.kind.ErrorKind.TheVariants.{InvalidValue, WrongNumberOfValues, ArgumentConflict, TooManyValues}
+use Rattle.clap.specs.declared.parser.matches.ValueSource.{ValueSource}
 use Rattle.clap.specs.declared.parser.matches.ValueSource.TheVariants.{DefaultValue, CommandLine}
 use Rattle.clap.specs.declared.builder.value_parser.Reading.{Reading}
-use Rattle.clap_parses.specs.Parses.{RowOf, RowsOf, ParsesTo, IsFlag, IsIn, first, past, one, IsSingle, IsSingleShape, TakesOne}
-
-or_none : (a b : Kinds) → or_else a b ≡ [] → (a ≡ []) × (b ≡ [])
-or_none [] b e = (refl, e)
-or_none (k ∷ ks) b e = absurd (cc)
-
-if_none : (b : Bool) (k : ErrorKind) (ks : Kinds) → cond b [] (k ∷ ks) ≡ [] → b ≡ true
-if_none true k ks e = refl
-if_none false k ks e = absurd (cc)
-
-find_has : {X : Type 0} (p : X → Bool) (P : X → Type 0) (xs : List X) (x : X) → AllByRecursion P xs → find p xs ≡ Some x → P x
-find_has p P [] x all e = absurd (cc)
-find_has {X} p P (y ∷ ys) x all e = go (p y) e (λ r. find_has p P ys x all.1 r)
-  where
-    go : (b : Bool) → cond b (Some y) (find p ys) ≡ Some x → (find p ys ≡ Some x → P x) → P x
-    go true e later = let same : y ≡ x = cc in subst P same all.0
-    go false e later = later e
-
-all_append : {X : Type 0} (P : X → Type 0) (xs ys : List X) → AllByRecursion P xs → AllByRecursion P ys → AllByRecursion P (xs ++ ys)
-all_append P [] ys a b = b
-all_append P (x ∷ xs) ys a b = (a.0, all_append P xs ys a.1 b)
-
-values_taken : (a : Rule) (vs : List Text) → values_fault a vs ≡ [] → values_pass a vs ≡ true
-values_taken a [] e = refl
-values_taken a (v ∷ vs) e =
-    let both = or_none _ _ e in
-    let here : value_passes a v ≡ true = if_none _ _ _ both.0 in
-    rw here (values_taken a vs both.1)
-
--- ---- rows
-
-same_text_is : (t : Text) → bytes_eq t t ≡ true
-same_text_is [] = refl
-same_text_is (x ∷ xs) = let here : nat_eq x x ≡ true = grind (arith, nat_tests) in rw here (same_text_is xs)
-
-or_false : (a b : Bool) → (a || b) ≡ false → (a ≡ false) × (b ≡ false)
-or_false true b e = absurd (cc)
-or_false false b e = (refl, e)
-
-no_at_row : (id : Text) (change : Row → List Row) (missing rows : List Row) → has_row id rows ≡ false → at_row id change missing rows ≡ rows ++ missing
-no_at_row id change missing [] e = refl
-no_at_row id change missing (r ∷ rs) e =
-    let both = or_false (bytes_eq r.id id) (has_row id rs) e in
-    rw both.0 (ap (λ (t : List Row). r ∷ t) (no_at_row id change missing rs both.1))
-
-append_nil : {X : Type 0} (xs : List X) → xs ++ [] ≡ xs
-append_nil [] = refl
-append_nil (x ∷ xs) = ap (λ t. x ∷ t) (append_nil xs)
-
--- one value in a use that has no fault
--- where neither test fails, n is 1
-one_of_tests : (n : ℕ) (empty same : Bool) → (same ≡ true → n ≡ 1)
-    → cond empty (InvalidValue ∷ []) (cond same [] (WrongNumberOfValues ∷ [])) ≡ [] → n ≡ 1
-one_of_tests n true same tells e = absurd (cc)
-one_of_tests n false true tells e = tells refl
-one_of_tests n false false tells e = absurd (cc)
-
-one_value : (vs : List Text) → range_kinds 1 1 (length vs) ≡ [] → length vs ≡ 1
-one_value vs e = one_of_tests (length vs) (length vs == 0) (1 == length vs) (λ t. grind (arith, nat_tests)) e
-
-some_values : (a : Rule) (vs : List Text) → length vs ≡ 1 → values_or_missing a vs ≡ vs
-some_values a [] e = absurd (omega arith)
-some_values a (v ∷ vs) e = refl
-
-is_nil : (vs : List Text) → length vs ≡ 0 → vs ≡ []
-is_nil [] e = refl
-is_nil (v ∷ vs) e = absurd (omega arith)
-
-no_value : (vs : List Text) → range_kinds 0 0 (length vs) ≡ [] → vs ≡ []
-no_value vs e =
-    let same : (0 == length vs) ≡ true = if_none _ _ _ e in
-    is_nil vs (grind (arith, nat_tests))
-
-if_fault : (b : Bool) (k : ErrorKind) (ks : Kinds) → cond (b && true) (k ∷ ks) [] ≡ [] → b ≡ false
-if_fault true k ks e = absurd (cc)
-if_fault false k ks e = refl
-
--- a use that sets one value, where it has no fault
-record SetsOne (a : Rule) (vs : List Text) (rows : List Row) : Type 0 where
-  pub one : length vs ≡ 1
-  pub absent : has_row a.id rows ≡ false
-  pub passes : values_pass a vs ≡ true
-
-sets_one : (a : Rule) (vs : List Text) (rows : List Row) → length vs ≡ 1 → set_fault false a vs rows ≡ [] → SetsOne a vs rows
-sets_one a vs rows one none =
-    let both = or_none (repeat_fault false a.id rows) (values_fault a vs) none in
-    record { one = one; absent = if_fault (has_row a.id rows) ArgumentConflict [] both.0; passes = values_taken a vs both.1 }
-
--- the use of an argument of one value
-set_parts : (a : Rule) (vs : List Text) (rows : List Row) (x : ArgAction) (least most : ℕ) → x ≡ Set → least ≡ 1 → most ≡ 1
-    → or_else (range_kinds least most (length vs)) (action_fault x false a (values_or_missing a vs) rows) ≡ []
-    → SetsOne a (values_or_missing a vs) rows
-set_parts a vs rows x least most is_set is_least is_most none =
-    let e = rw (is_set, is_least, is_most) at none in
-    let both = or_none (range_kinds 1 1 (length vs)) (set_fault false a (values_or_missing a vs) rows) e in
-    let has_one = one_value vs both.0 in
-    sets_one a (values_or_missing a vs) rows (rw (some_values a vs has_one) has_one) both.1
-
--- the use of a flag
-flag_parts : (a : Rule) (vs : List Text) (rows : List Row) (x : ArgAction) (least most : ℕ) → x ≡ SetTrue → least ≡ 0 → most ≡ 0
-    → length a.missing ≡ 1 → or_else (range_kinds least most (length vs)) (action_fault x false a (values_or_missing a vs) rows) ≡ []
-    → SetsOne a (values_or_missing a vs) rows
-flag_parts a vs rows x least most is_set is_least is_most stands none =
-    let e = rw (is_set, is_least, is_most) at none in
-    let both = or_none (range_kinds 0 0 (length vs)) (set_fault false a (values_or_missing a vs) rows) e in
-    let none_given : vs ≡ [] = no_value vs both.0 in
-    sets_one a (values_or_missing a vs) rows (rw none_given stands) both.1
-
-set_row : Text → Reading → List Text → Row
-set_row id how vs = record { id = id; values = vs; count = None; source = Some CommandLine; reading = how }
-
-set_used : (id : Text) (how : Reading) (vs : List Text) (rows : List Row) → has_row id rows ≡ false
-    → used_as Set id how vs rows ≡ rows ++ set_row id how vs ∷ []
-unfolding set_row
-set_used id how vs rows absent =
-    let kept : without id rows ≡ rows = no_at_row id (λ _. []) [] rows absent ∙ append_nil rows in
-    rw kept (no_at_row id (more_values CommandLine vs) (set_row id how vs ∷ []) rows absent)
-
--- the actions that set one value
-Sets : ArgAction → Type 0
-Sets x = (x ≡ Set) ⊎ (x ≡ SetTrue)
-
-used_is : (x : ArgAction) (id : Text) (how : Reading) (vs : List Text) (rows : List Row) → Sets x → has_row id rows ≡ false
-    → used_as x id how vs rows ≡ rows ++ set_row id how vs ∷ []
-unfolding Sets
-used_is x id how vs rows sets absent = elim sets [
-  | inl is_set ↦ rw is_set (set_used id how vs rows absent)
-  | inr is_flag ↦ rw is_flag (set_used id how vs rows absent)
-]
+use Rattle.clap_parses.specs.Parses.{RowOf, RowsOf, ParsesTo, IsFlag, IsIn, first, past, one, IsSingle, IsSingleShape, TakesMore, TakesOne}
+use Rattle.clap_parses.proofs.Uses.{or_none, find_has, all_append, values_taken, same_text_is, no_at_row, SetsOne, set_parts, flag_parts, set_row, Sets, used_is, more_parts, append_used, both_pass, given_now}
 
 module _ (c : List Rule) (single : AllByRecursion (IsSingle c) c) where
   abbrev Good : List Row → Type 0
@@ -163,7 +39,7 @@ module _ (c : List Rule) (single : AllByRecursion (IsSingle c) c) where
       let values = values_or_missing a vs in
       let made : used a vs rows ≡ rows ++ set_row a.id (reading_by a) values ∷ [] =
       used_is (action_of a) a.id (reading_by a) values rows sets parts.absent in
-      let here : RowOf c (set_row a.id (reading_by a) values) = record { rule = a; found = found; one = parts.one; passes = parts.passes; reading = refl; given = λ e. absurd (cc) } in
+      let here : RowOf c (set_row a.id (reading_by a) values) = record { rule = a; found = found; some = omega (arith, parts.one); one = λ _. parts.one; passes = parts.passes; reading = refl; given = λ e. absurd (cc) } in
       rw made (all_append (RowOf c) rows (set_row a.id (reading_by a) values ∷ []) good (here, tt))
 
   one_good : (a : Rule) (vs : List Text) (rows : List Row) → arg_by_id c a.id ≡ Some a → TakesOne a → use_fault false a vs rows ≡ [] → Good rows → Good (used a vs rows)
@@ -180,6 +56,56 @@ module _ (c : List Rule) (single : AllByRecursion (IsSingle c) c) where
       let parts = flag_parts a vs rows (action_of a) (unwrap_or_range a.range).start_inclusive (most_values a) action_is (rw is.takes refl) (rw is.takes refl) is.stands none in
       set_good a vs rows found (inr action_is) parts good
 
+  -- a row with the values of one more use
+  grown_row : (a : Rule) (vs : List Text) (r : Row) → arg_by_id c a.id ≡ Some a → action_of a ≡ Append → values_pass a vs ≡ true
+      → bytes_eq r.id a.id ≡ true → RowOf c r → Good (more_values CommandLine vs r)
+  grown_row a vs r found appends passes same row =
+      let named : r.id ≡ a.id = (bytes_eq-Decides r.id a.id).0 same in
+      let both : Some row.rule ≡ Some a = sym row.found ∙ ap (arg_by_id c) named ∙ found in
+      let is : row.rule ≡ a = cc in
+      let kept = subst (λ (x : Rule). values_pass x r.values ≡ true) is row.passes in
+      let lengths = length-append r.values vs in (
+        record {
+          rule = a;
+          found = ap (arg_by_id c) named ∙ found;
+          some = omega (arith, row.some, lengths);
+          one = λ e. absurd (let no : is_append Append ≡ false = rw appends at e in cc);
+          passes = both_pass a r.values vs kept passes;
+          reading = row.reading ∙ ap reading_by is;
+          given = λ e. absurd (let yes = given_now r.source in cc);
+        },
+        tt,
+      )
+
+  at_row_good : (a : Rule) (vs : List Text) (missing rows : List Row) → arg_by_id c a.id ≡ Some a → action_of a ≡ Append → values_pass a vs ≡ true
+      → Good missing → Good rows → Good (at_row a.id (more_values CommandLine vs) missing rows)
+  at_row_good a vs missing [] found appends passes new good = new
+  at_row_good a vs missing (r ∷ rs) found appends passes new good =
+      branch (bytes_eq r.id a.id) refl (at_row_good a vs missing rs found appends passes new good.1)
+    where
+      branch : (b : Bool) → bytes_eq r.id a.id ≡ b → Good (at_row a.id (more_values CommandLine vs) missing rs)
+          → Good (cond b (more_values CommandLine vs r ++ rs) (r ∷ at_row a.id (more_values CommandLine vs) missing rs))
+      branch true same later = all_append (RowOf c) (more_values CommandLine vs r) rs (grown_row a vs r found appends passes same good.0) good.1
+      branch false other later = (good.0, later)
+
+  more_good : (a : Rule) (vs : List Text) (rows : List Row) → arg_by_id c a.id ≡ Some a → TakesMore a → use_fault false a vs rows ≡ [] → Good rows → Good (used a vs rows)
+  unfolding set_row
+  more_good a vs rows found is none good =
+      let values = values_or_missing a vs in
+      let appends : action_of a ≡ Append = rw is.appends refl in
+      let parts = more_parts a vs rows (action_of a) (unwrap_or_range a.range).start_inclusive (most_values a) appends (rw is.takes refl) (rw is.takes refl) none in
+      let here : RowOf c (set_row a.id (reading_by a) values) = record {
+        rule = a;
+        found = found;
+        some = omega (arith, parts.one);
+        one = λ _. parts.one;
+        passes = parts.passes;
+        reading = refl;
+        given = λ e. absurd (cc);
+      } in
+      rw (append_used (action_of a) a.id (reading_by a) values rows appends)
+      (at_row_good a values (set_row a.id (reading_by a) values ∷ []) rows found appends parts.passes (here, tt) good)
+
   help_used : (a : Rule) (vs : List Text) (rows : List Row) → a.action ≡ Some Help → rows ≡ used a vs rows
   help_used a vs rows is = rw is refl
 
@@ -188,7 +114,10 @@ module _ (c : List Rule) (single : AllByRecursion (IsSingle c) c) where
     | inl k ↦ one_good a vs rows s.found k none good
     | inr other ↦ elim other [
       | inl f ↦ flag_use_good a vs rows s.found f none good
-      | inr h ↦ subst Good (help_used a vs rows h) good
+      | inr more ↦ elim more [
+        | inl m ↦ more_good a vs rows s.found m none good
+        | inr h ↦ subst Good (help_used a vs rows h) good
+      ]
     ]
   ]
 
@@ -299,7 +228,7 @@ module _ (c : List Rule) (single : AllByRecursion (IsSingle c) c) where
       let both = or_none (request_kinds (action_of a)) (values_fault a (v ∷ [])) none in
       let taken = values_taken a (v ∷ []) both.1 in
       let row : Row = record { id = a.id; values = v ∷ []; count = None; source = Some DefaultValue; reading = reading_by a } in
-      let here : RowOf c row = record { rule = a; found = s.found; one = refl; passes = taken; reading = refl; given = λ e. is } in
+      let here : RowOf c row = record { rule = a; found = s.found; some = search rules; one = λ _. refl; passes = taken; reading = refl; given = λ e. is } in
       let made : default_rows a.id (reading_by a) (v ∷ []) rows ≡ rows ++ row ∷ [] = no_at_row a.id (more_values DefaultValue (v ∷ [])) (row ∷ []) rows absent in
       subst Good (sym made) (all_append (RowOf c) rows (row ∷ []) good (here, tt))
   default_good a (v ∷ u ∷ vs) rows s is absent none good =

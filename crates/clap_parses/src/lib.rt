@@ -1,4 +1,4 @@
-//! A law of `clap`'s parses, for commands whose arguments take one value each, or are flags.
+//! A law of `clap`'s parses, for commands whose arguments take one value at each use, or are flags.
 #![tactic(auto)]
 
 ghost use Rattle.clap_parses.specs.Parses.{FaultlessParsesPass};

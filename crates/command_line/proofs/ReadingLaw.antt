@@ -1,11 +1,11 @@
 -- A faultless parse leaves a value for each option of this command.
-use Rattle.std.proofs.Common.{◌≡◌, ◌∙◌, ℕ, Bool, List, [], ◌∷◌, Option, Some, true, false, length, refl, ap, sym, subst, map, arith, codes, rules}
+use Rattle.std.proofs.Common.{◌≡◌, ◌∙◌, ◌≤◌, ℕ, Bool, List, [], ◌∷◌, Option, Some, true, false, length, refl, ap, sym, subst, map, arith, codes, rules}
 use Rattle.std.specs.Prelude.{find, is_some, pos, ◌&&◌, ◌||◌}
 use Rattle.std.specs.List.{AllByRecursion}
 use Rattle.std.specs.Str.{bytes_eq}
 use Rattle.std.proofs.lemmas.Slice.Eq.{bytes_eq-Decides}
 use Rattle.clap.specs.Simple.{Shape, built, built_leaf, subcommand_rows_of}
-use Rattle.clap.specs.Takes.{values_pass}
+use Rattle.clap.specs.Takes.{value_passes, values_pass}
 use Rattle.clap.specs.Facts.{parser_of_value}
 use Rattle.clap.specs.ValueTests.{accepts}
 use Rattle.clap.specs.Values.{IsSignedIn}
@@ -22,24 +22,29 @@ use Rattle.command_line.specs.Lines.{number_in, output_named}
 use Rattle.command_line.specs.Options.{picture_app, plot_app, report_app, subcommand_app, subcommands}
 use Rattle.command_line.specs.Readings.{HasChoiceValues, HasNumber, HasPageNumbers, HasPictureValues, HasReadingValues, HasValues, MayHaveNumber}
 
--- a row of an argument: its value passes, and is read as the argument's parser says
+-- a row of an argument: its first value passes, and is read as the argument's parser says
 record IsRowOf (a : Rule) (r : Row) : Type 0 where
   text : Text
-  values : r.values ≡ text ∷ []
-  passes : values_pass a (text ∷ []) ≡ true
+  more : List Text
+  values : r.values ≡ text ∷ more
+  passes : value_passes a text ≡ true
   reading : r.reading ≡ reading_by a
 
-one_value : (a : Rule) (r : Row) (vs : List Text) → r.values ≡ vs → length vs ≡ 1 → values_pass a vs ≡ true → r.reading ≡ reading_by a → IsRowOf a r
-one_value a r [] is one passes reading = absurd (omega arith)
-one_value a r (t ∷ []) is one passes reading = record { text = t; values = is; passes = passes; reading = reading }
-one_value a r (t ∷ u ∷ vs) is one passes reading = absurd (omega arith)
+left_true : (b c : Bool) → (b && c) ≡ true → b ≡ true
+left_true true c passes = refl
+left_true false c passes = absurd (cc)
+
+first_value : (a : Rule) (r : Row) (vs : List Text) → r.values ≡ vs → 1 ≤ length vs → values_pass a vs ≡ true → r.reading ≡ reading_by a → IsRowOf a r
+first_value a r [] is some passes reading = absurd (omega arith)
+first_value a r (t ∷ vs) is some passes reading =
+    record { text = t; more = vs; values = is; passes = left_true (value_passes a t) (values_pass a vs) passes; reading = reading }
 
 row_of_rule : (c : List Rule) (a : Rule) (name : Text) (r : Row) → arg_by_id c name ≡ Some a → bytes_eq r.id name ≡ true → RowOf c r → IsRowOf a r
 row_of_rule c a name r found same row =
     let named : r.id ≡ name = (bytes_eq-Decides r.id name).0 same in
     let both : Some row.rule ≡ Some a = sym row.found ∙ ap (arg_by_id c) named ∙ found in
     let is : row.rule ≡ a = cc in
-    one_value a r r.values refl row.one (subst (λ (x : Rule). values_pass x r.values ≡ true) is row.passes) (row.reading ∙ ap reading_by is)
+    first_value a r r.values refl row.some (subst (λ (x : Rule). values_pass x r.values ≡ true) is row.passes) (row.reading ∙ ap reading_by is)
 
 -- the first row of an argument
 record FirstRow (a : Rule) (name : Text) (rows : List Row) : Type 0 where
@@ -58,15 +63,11 @@ first_row c a name (r ∷ rest) found all has =
         let next = later has in
         record { row = next.row; found = rw other next.found; good = next.good }
 
-only_value : (b : Bool) → (b && true) ≡ true → b ≡ true
-only_value true passes = refl
-only_value false passes = absurd (cc)
-
--- the only value of an argument with this parser is a number in the parser's range
+-- a value of an argument with this parser is a number in the parser's range
 within_range : (ignore_case : Bool) (parser : Option ValueParser) (low high : ℕ) (text : Text) → parser ≡ Some (vp.Signed (pos low) (pos high))
-    → (accepts ignore_case (parser_of_value parser) text && true) ≡ true → IsSignedIn (pos low) (pos high) text
+    → accepts ignore_case (parser_of_value parser) text ≡ true → IsSignedIn (pos low) (pos high) text
 within_range ignore_case parser low high text is passes =
-    accepts-Accepts ignore_case (vp.Signed (pos low) (pos high)) text (only_value _ (rw is at passes))
+    accepts-Accepts ignore_case (vp.Signed (pos low) (pos high)) text (rw is at passes)
 
 number_there : (c : List Rule) (a : Rule) (name : Text) (rows : List Row) (low high : ℕ) → arg_by_id c name ≡ Some a → a.parser ≡ Some (vp.Signed (pos low) (pos high))
     → AllByRecursion (RowOf c) rows → has_row name rows ≡ true → HasNumber rows name low high

@@ -1,10 +1,10 @@
 -- What the matches of a command line ask for.
-use Rattle.std.specs.Prelude.{◌≡◌, ◌<◌, ◌&&◌, ◌||◌, ℕ, Bool, true, false, not, List, Option, Some, None, codes}
-use Rattle.std.specs.Prelude.{option_map, option_and_then, unwrap_or, is_some, find, if◌then◌else◌}
+use Rattle.std.specs.Prelude.{◌≡◌, ◌<◌, ◌&&◌, ◌||◌, ℕ, Bool, true, false, not, List, [], Option, Some, None, codes}
+use Rattle.std.specs.Prelude.{option_map, option_and_then, unwrap_or, is_some, find, if◌then◌else◌, map, length, nat_lt}
 use Rattle.std.specs.Option.{option_map_or, option_or}
 use Rattle.std.specs.Str.{bytes_eq}
 use Rattle.std.specs.Str.Parse.{digits_value, without_leading_plus}
-use Rattle.clap.specs.Words.{Row, Text, first_of, one_of, subcommand_rows_of}
+use Rattle.clap.specs.Words.{Row, Text, all_of, first_of, one_of, subcommand_rows_of}
 use Rattle.clap.specs.declared.parser.matches.ArgMatches.{ArgMatches}
 use Rattle.plot_page.specs.declared.page.Page.{Page}
 use Rattle.plot_page.specs.declared.pens.PenSet.{PenSet}
@@ -19,7 +19,7 @@ use Rattle.picture_job.specs.declared.reading.Reading.TheVariants.{Core, Full}
 use Rattle.picture_job.specs.declared.page_choice.PageChoice.{PageChoice}
 use Rattle.picture_job.specs.declared.page_choice.PageChoice.TheVariants.{Given, Fitted}
 use Rattle.command_line.specs.declared.fault.LineFault.{LineFault}
-use Rattle.command_line.specs.declared.fault.LineFault.TheVariants.{Pens, Paper, Size, Profile, Sheet, Margin}
+use Rattle.command_line.specs.declared.fault.LineFault.TheVariants.{Pens, Paper, Size, Profile, Sheet, Margin, Several}
 use Rattle.command_line.specs.declared.line.Line.{Line}
 use Rattle.command_line.specs.declared.line.Task.{Task}
 use Rattle.command_line.specs.declared.line.Task.TheVariants.{Picture, Report}
@@ -57,6 +57,18 @@ has_fit rows = has_flag rows (codes "fit")
 -- the margin in millimetres, or None if none is given
 abbrev pub margin_in : List Row → Option ℕ
 margin_in rows = number_in rows (codes "margin")
+
+-- the names of the plots' files, in order; none if the plot comes on standard input
+abbrev pub files_in : List Row → List Text
+files_in rows = unwrap_or (all_of (codes "FILE") rows) []
+
+-- the name of the file to write, or of the folder of the files to write
+abbrev pub output_text : List Row → Option Text
+output_text rows = first_of (codes "output") rows
+
+-- several plots are given, and nothing says where their output goes
+abbrev pub has_no_place : List Row → Bool
+has_no_place rows = nat_lt 1 (length (files_in rows)) && not (is_some (output_text rows))
 
 -- what the subcommand of this name writes
 abbrev pub output_named : Text → Option Output
@@ -117,7 +129,7 @@ abbrev pub IsChoiceOf : List Row → PageChoice → Type 0
 IsChoiceOf rows Given = (has_fit rows ≡ false) × (margin_in rows ≡ None)
 IsChoiceOf rows (Fitted margin) = (has_fit rows ≡ true) × (unwrap_or (margin_in rows) 1 ≡ margin)
 
--- the line is what the matches m ask for: by the subcommand, its options and FILE
+-- the line is what the matches m ask for: by the subcommand, its options and its files
 pub record IsLineOf (m : ArgMatches) (line : Line) : Type 0 where
   pub name : Text
   pub rows : List Row
@@ -125,8 +137,9 @@ pub record IsLineOf (m : ArgMatches) (line : Line) : Type 0 where
   pub task : IsTaskOf name rows line.task
   pub reading : IsReadingOf rows line.reading
   pub choice : IsChoiceOf rows line.choice
-  pub file : option_map (λ s. s.now) line.file ≡ first_of (codes "FILE") rows
-  pub output : option_map (λ s. s.now) line.output ≡ first_of (codes "output") rows
+  pub files : map (λ s. s.now) line.files.now ≡ files_in rows
+  pub output : option_map (λ s. s.now) line.output ≡ output_text rows
+  pub placed : has_no_place rows ≡ false
   pub verbose : line.verbose ≡ has_flag rows (codes "verbose")
 
 -- the matches are those of a command line in which `plotraster` finds no fault
@@ -175,14 +188,19 @@ reading_fault rows =
 abbrev pub choice_fault : List Row → Option LineFault
 choice_fault rows = if not (has_fit rows) && is_some (margin_in rows) then Some Margin else None
 
+-- what is wrong with where the output goes: nothing says it, and there are several plots
+abbrev pub output_fault : List Row → Option LineFault
+output_fault rows = if has_no_place rows then Some Several else None
+
 -- what is wrong with the values for the task: first comes the list of pens, then the page
 abbrev pub task_fault : Text × List Row → Option LineFault
 task_fault (name, rows) = if has_bad_list (name, rows) then Some Pens else page_fault rows
 
 -- what is wrong with the values of a subcommand's options: first comes the task, then the reading, then the choice of the
--- page
+-- page, then the output
 abbrev pub fault_of_values : Text × List Row → Option LineFault
-fault_of_values (name, rows) = option_or (task_fault (name, rows)) (option_or (reading_fault rows) (choice_fault rows))
+fault_of_values (name, rows) =
+    option_or (task_fault (name, rows)) (option_or (reading_fault rows) (option_or (choice_fault rows) (output_fault rows)))
 
 -- the same for the matches
 abbrev pub line_fault : ArgMatches → Option LineFault

@@ -3,7 +3,7 @@ use Rattle.std.specs.Prelude.{◌≡◌, ℕ, List, [], ◌∷◌, Some, codes, 
 use Rattle.clap.specs.Words.{App, Rule, Text, app_of, new_app, new_rule, with_rule, with_subcommand}
 use Rattle.clap.specs.declared.builder.command.Command.{Command}
 use Rattle.clap.specs.declared.builder.command.Command.TheViews.{out-Command}
-use Rattle.clap.specs.declared.builder.action.ArgAction.TheVariants.{Set, SetTrue}
+use Rattle.clap.specs.declared.builder.action.ArgAction.TheVariants.{Set, SetTrue, Append}
 use Rattle.clap.specs.declared.builder.value_parser.ValueParser.{ValueParser}
 use Rattle.clap.specs.declared.builder.value_parser.ValueParser.TheVariants as vp
 use Rattle.picture_out.specs.declared.form.Form.TheVariants.{Marks, Pbm, Ppm, Pcl}
@@ -35,9 +35,9 @@ number_rule name low high given = option_rule name (whole_number low high) given
 abbrev pub flag_rule : Text → Rule
 flag_rule name = record (new_rule name) { long = Some name; action = Some SetTrue }
 
--- FILE, the only word that is neither an option nor a subcommand
+-- FILE, each word that is neither an option nor a subcommand
 abbrev pub file_rule : Rule
-file_rule = record (new_rule (codes "FILE")) { action = Some Set }
+file_rule = record (new_rule (codes "FILE")) { action = Some Append }
 
 -- the page: its sides in plotter units or the name of a paper, which have no defaults, and its corner
 abbrev pub with_page : App → App
@@ -58,7 +58,7 @@ with_reading a = with_rule (with_rule a
     (option_rule (codes "profile") vp.String (codes "core")))
     (bare_rule (codes "sheet") (whole_number 0 4194304))
 
--- `--output PATH` or `-o PATH`, without a default: the file that is written
+-- `--output PATH` or `-o PATH`, without a default: the file that is written, or the folder of the files
 abbrev pub output_rule : Rule
 output_rule = record (bare_rule (codes "output") vp.String) { short = Some 111 }
 

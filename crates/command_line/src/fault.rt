@@ -38,6 +38,9 @@ pub enum LineFault {
     /// `--margin` is given without `--fit`.
     #[error("--margin needs --fit")]
     Margin,
+    /// Several plots are given without `--output`.
+    #[error("several plots need --output FOLDER")]
+    Several,
 }
 
 /// The exit status if words gave no matches: 0 if help or the version was asked for, 4 if memory

@@ -67,7 +67,8 @@ pub(crate) const SHEET: HelpLine<'static> = HelpLine {
 
 pub(crate) const OUTPUT: HelpLine<'static> = HelpLine {
     value: "PATH",
-    help: "File to write instead of standard output; it has this name only when it is whole",
+    help: "File to write instead of standard output, or folder of the files to write; a file has its name only when it \
+        is whole",
 };
 
 pub(crate) const VERBOSE: &str =
@@ -98,7 +99,8 @@ pub(crate) const FROM: HelpLine<'static> = HelpLine {
     help: "First row of pixels to write, counted from 0 at the top, 0 to 99999; only row 0 comes with a header",
 };
 
-pub(crate) const FILE: &str = "The plot file; without one the plot is read from standard input";
+pub(crate) const FILE: &str =
+    "The plot files; without one the plot is read from standard input, and several need --output and a folder";
 
 pub(crate) const TOP: HelpPage<'static> = HelpPage {
     about: "Turn an HP-GL or HP-GL/2 plot into a raster picture with exact pixels, or describe it",

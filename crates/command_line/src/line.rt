@@ -1,12 +1,13 @@
 //! What a command line asks for.
 ghost use Rattle.std.specs.Prelude.{◌≡◌, ◌↔◌, ◌<◌, ◌≤◌, ◌^◌, ℕ, Some, Err, IfOk, IfErr, IsOkAnd, true, false, is_some};
-ghost use Rattle.std.specs.Prelude.{codes, ◌≢◌, ◌||◌, IfSome};
+ghost use Rattle.std.specs.Prelude.{codes, ◌≢◌, ◌||◌, IfSome, map, option_map};
 ghost use Rattle.std.specs.Result.{result_err};
 ghost use Rattle.clap.specs.Words.{found_of, rows_of};
 ghost use Rattle.command_line.specs.Lines.{number_in, lists_no_pens, has_bad_list, asks_bad_list};
 ghost use Rattle.command_line.specs.Lines.{ArePensOf, IsPageOf, IsJobOf, IsTaskOf, IsLineOf, AreOfThisCommand};
 ghost use Rattle.command_line.specs.Lines.{IsReadingOf, line_fault, page_fault, pens_text, reading_fault, task_fault};
 ghost use Rattle.command_line.specs.Lines.{IsChoiceOf, choice_fault, has_flag, has_paper_and_side, page_size};
+ghost use Rattle.command_line.specs.Lines.{files_in, has_no_place, output_fault, output_text};
 ghost use Rattle.command_line.specs.Readings.{HasChoiceValues, HasNumber, HasPageNumbers, HasPictureValues, HasReadingValues, HasTaskValues};
 ghost use Rattle.command_line.specs.Readings.{MayHaveNumber, paper_or_fault, picture_fault};
 ghost use Rattle.plot_page.specs.Pages.{has_page_size};
@@ -29,7 +30,7 @@ pub enum Task {
     Report(Page),
 }
 
-/// What is to be done, with which plot, and where the output goes.
+/// What is to be done, with which plots, and where the output goes.
 #[derive(Clone, Copy)]
 pub struct Line<'a> {
     /// What is to be done.
@@ -38,9 +39,10 @@ pub struct Line<'a> {
     pub reading: Reading,
     /// Which page it is drawn on.
     pub choice: PageChoice,
-    /// The name of the plot's file, or `None` if the plot comes on standard input.
-    pub file: Option<&'a str>,
-    /// The name of the file to write, or `None` for standard output.
+    /// The names of the plots' files, in order; none if the plot comes on standard input.
+    pub files: &'a [&'a str],
+    /// The name of the file to write, or of the folder of the files to write; `None`, for standard
+    /// output, only if there is at most one plot.
     pub output: Option<&'a str>,
     /// Whether to say on standard error what was drawn.
     pub verbose: bool,
@@ -51,9 +53,10 @@ pub struct Line<'a> {
 /// Errors, of which the first is given: `Pens` if a picture is asked for and `--pens` is not a valid
 /// list, `Paper` if `--page` names no paper, `Size` if `--page` is given with `--width` or
 /// `--height`, `Profile` if `--profile` is neither `core` nor `full`, `Sheet` if `--sheet` is
-/// given with the profile core, and `Margin` if `--margin` is given without `--fit`; no other one
-/// after a `parse` that succeeded. `Words` if the matches are of another command.
-pub fn settle<'a>(matches: &ArgMatches<'a>) -> Result<Line<'a>, LineFault>
+/// given with the profile core, `Margin` if `--margin` is given without `--fit`, and `Several` if
+/// several files are given without `--output`; no other one after a `parse` that succeeded. `Words`
+/// if the matches are of another command.
+pub fn settle<'a>(matches: &'a ArgMatches<'a>) -> Result<Line<'a>, LineFault>
     ensures line { IfOk result (IsLineOf matches.now) }
     ensures pens { (result ≡ Err LineFault.Pens) ↔ (asks_bad_list matches.now ≡ true) }
     ensures refused { AreOfThisCommand matches.now → result_err result ≡ line_fault matches.now }
@@ -63,8 +66,8 @@ pub fn settle<'a>(matches: &ArgMatches<'a>) -> Result<Line<'a>, LineFault>
         task: task_of(name, options)?,
         reading: reading_of(options)?,
         choice: choice_of(options)?,
-        file: options.get_str("FILE"),
-        output: options.get_str("output"),
+        files: files_of(options),
+        output: place_of(options)?,
         verbose: has_flag(options, "verbose"),
     })
 }
@@ -190,6 +193,29 @@ fn choice_of(options: &ArgMatches<'_>) -> Result<PageChoice, LineFault>
         None => Ok(PageChoice::Given),
         Some(_) => Err(LineFault::Margin),
     }
+}
+
+fn files_of<'a>(options: &'a ArgMatches<'a>) -> &'a [&'a str]
+    ensures { map (λ file. file.now) result.now ≡ files_in (rows_of (found_of options.now)) }
+{
+    match options.get_strs("FILE") {
+        Some(files) => files,
+        None => &[],
+    }
+}
+
+// Where the output goes, which has to be said if there are several files.
+fn place_of<'a>(options: &'a ArgMatches<'a>) -> Result<Option<&'a str>, LineFault>
+    ensures place { IfOk result (λ place. option_map (λ path. path.now) place ≡ output_text (rows_of (found_of options.now))) }
+    ensures placed { IfOk result (λ _. has_no_place (rows_of (found_of options.now)) ≡ false) }
+    ensures pens { result ≢ Err LineFault.Pens }
+    ensures refused { result_err result ≡ output_fault (rows_of (found_of options.now)) }
+{
+    let place = options.get_str("output");
+    if files_of(options).len() > 1 && place.is_none() {
+        return Err(LineFault::Several);
+    }
+    Ok(place)
 }
 
 // Whether a flag is given.

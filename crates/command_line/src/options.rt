@@ -129,11 +129,12 @@ fn flag_of<'a>(alloc: Global, name: &'a str, help: &'a str) -> Arg<'a>
         .help(help)
 }
 
+// `FILE`, any number of times.
 fn file_of<'a>(alloc: Global) -> Arg<'a>
     ensures rule { rule_of result ≡ file_rule }
     ensures local { result.global ≡ false }
 {
-    Arg::new(alloc, "FILE").action(ArgAction::Set).help(FILE)
+    Arg::new(alloc, "FILE").action(ArgAction::Append).help(FILE)
 }
 
 fn bare<'a>(alloc: Global, name: &'a str, page: HelpPage<'a>) -> Command<'a>

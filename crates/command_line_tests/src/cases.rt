@@ -18,7 +18,7 @@ pub enum Asked {
     Reading,
     // Only which page a command line chooses, and whether more is to be said, or why it is refused.
     Page,
-    // Only the file that a command line has written and the one that it has read, or why it is refused.
+    // Only what a command line has written and the files that it has read, or why it is refused.
     Files,
     // The pens of a list.
     Pens,
@@ -96,20 +96,29 @@ fn matches_told(
 }
 
 fn line_told(alloc: Global, asked: Asked, line: &Line<'_>) -> Result<String, AllocError> {
-    let (reading, file, output) = (line.reading, line.file, line.output);
+    let (reading, file) = (line.reading, line.files.first().copied());
     match (asked, &line.task) {
         (Asked::Reading, _) => format!(in alloc; "{reading:?}"),
         (Asked::Page, _) => {
             let (choice, verbose) = (line.choice, line.verbose);
             format!(in alloc; "{choice:?} {verbose}")
         }
-        (Asked::Files, _) => format!(in alloc; "{output:?} of {file:?}"),
+        (Asked::Files, _) => files_told(alloc, line.output, line.files),
         (_, Task::Picture(job)) => job_told(alloc, job, file),
         (_, Task::Report(page)) => {
             let (width, height, left, below) = (page.width, page.height, page.left, page.below);
             format!(in alloc; "report {width} {height} {left} {below} of {file:?}")
         }
     }
+}
+
+// Where the output goes, and the files.
+fn files_told(alloc: Global, output: Option<&str>, files: &[&str]) -> Result<String, AllocError> {
+    let mut text = format!(in alloc; "{output:?} of")?;
+    for file in files {
+        write!(text, " {file:?}")?;
+    }
+    Ok(text)
 }
 
 // The form, the numbers in the order of the manual page, the pens and the file.

@@ -152,8 +152,6 @@ UnknownArgument 2
 plotraster|pbm|-V
 plotraster|--dots|100|pbm
 plotraster|pbm|--dot|100
-plotraster|marks|a|b
-plotraster|report|a|b
 plotraster|report|--dots|100
 plotraster|report|--pens|1
 
@@ -168,7 +166,7 @@ plotraster|ppm|--pens
 
 #[test]
 fn refuses_words(rt: HostRuntime) -> Result<(), Fail> {
-    has_answers(&rt, rt.alloc(), Asked::Line, "", REFUSED, 15)
+    has_answers(&rt, rt.alloc(), Asked::Line, "", REFUSED, 13)
 }
 
 // The options with a number.
@@ -267,14 +265,14 @@ fn refuses_other_matches(rt: HostRuntime) -> Result<(), Fail> {
 fn prints_faults(rt: HostRuntime) -> Result<(), Fail> {
     let (words, pens, size) = (LineFault::Words, LineFault::Pens, LineFault::Size);
     let (profile, sheet) = (LineFault::Profile, LineFault::Sheet);
-    let (margin, memory) = (LineFault::Margin, BuildFault::Memory);
+    let (margin, several, memory) = (LineFault::Margin, LineFault::Several, BuildFault::Memory);
     let texts = format!(in rt.alloc();
-        "{words}, {pens}, {size}, {profile}, {sheet}, {margin}, {memory}"
+        "{words}, {pens}, {size}, {profile}, {sheet}, {margin}, {several}, {memory}"
     )?;
     assert_eq!(rt;
         texts.as_str(),
         "words not understood, bad pen list, --page may not be given with --width or --height, bad profile, \
-         --sheet needs --profile full, --margin needs --fit, out of memory"
+         --sheet needs --profile full, --margin needs --fit, several plots need --output FOLDER, out of memory"
     );
     let text = format!(in rt.alloc(); "{}", LineFault::Paper)?;
     assert_eq!(rt;

@@ -1,11 +1,13 @@
-//! `plotraster`: reads a plot and writes its picture or a report on it, as the command line asks.
+//! `plotraster`: reads plots and writes their pictures or reports on them, as the command line asks.
 #![tactic(auto)]
 
 mod messages;
 mod output;
+mod several;
 
-use crate::messages::{refuse, refuse_file, refuse_words};
+use crate::messages::{About, refuse, refuse_file, refuse_words};
 use crate::output::deliver;
+use crate::several::{deliver_each, has_folder};
 use clap::ArgMatches;
 use plotraster::{Fault, LineFault, command, parse, parse_status, settle};
 use std::fs::File;
@@ -25,8 +27,12 @@ fn words_of(rt: &HostRuntime) -> Result<Vec<String>, u8> {
     match std::env::args(rt) {
         Ok(words) => words
             .collect(rt.alloc())
-            .map_err(|_| refuse(rt, &Fault::Memory)),
-        Err(error) if error.kind() == ErrorKind::OutOfMemory => Err(refuse(rt, &Fault::Memory)),
+            .map_err(|_| refuse(rt, About::Run, &Fault::Memory)),
+        Err(error) if error.kind() == ErrorKind::OutOfMemory => Err(refuse(
+            rt,
+            About::Run,
+            &Fault::Memory,
+        )),
         Err(_) => Err(refuse_words(rt, LineFault::Words)),
     }
 }
@@ -34,7 +40,7 @@ fn words_of(rt: &HostRuntime) -> Result<Vec<String>, u8> {
 // The exit status of the whole run.
 fn run(rt: &HostRuntime, words: &[String]) -> u8 {
     let Ok(command) = command(rt.alloc()) else {
-        return refuse(rt, &Fault::Memory);
+        return refuse(rt, About::Run, &Fault::Memory);
     };
     match parse(command, words) {
         Ok(matches) => work(rt, &matches),
@@ -45,7 +51,7 @@ fn run(rt: &HostRuntime, words: &[String]) -> u8 {
 // Prints help, the version, or what is wrong with the words.
 fn tell(rt: &HostRuntime, error: &clap::Error) -> u8 {
     if error.kind() == clap::error::ErrorKind::OutOfMemory {
-        return refuse(rt, &Fault::Memory);
+        return refuse(rt, About::Run, &Fault::Memory);
     }
     let _ = error.print(rt);
     parse_status(error)
@@ -56,11 +62,12 @@ fn work(rt: &HostRuntime, matches: &ArgMatches<'_>) -> u8 {
         Ok(line) => line,
         Err(fault) => return refuse_words(rt, fault),
     };
-    match line.file {
-        None => deliver(rt, &line, rt.stdin()),
-        Some(path) => match File::open(rt, path) {
+    match line.files {
+        [] => deliver(rt, &line, rt.stdin()),
+        [plot] if !has_folder(rt, &line) => match File::open(rt, plot) {
             Ok(file) => deliver(rt, &line, file),
-            Err(error) => refuse_file(rt, "open", path, &error),
+            Err(error) => refuse_file(rt, About::Run, "open", plot, &error),
         },
+        _ => deliver_each(rt, &line),
     }
 }

@@ -1,6 +1,6 @@
 //! Messages on standard error, and the exit status of a run that ends with one.
 use plotraster::{Fault, LineFault, Outcome, Placement, status};
-use std::fmt::Display;
+use std::fmt::{Display, Formatter, Result, Write};
 use std::io::{Error, ErrorKind};
 
 // The exit status of a command line that is not understood.
@@ -9,8 +9,24 @@ const USAGE: u8 = 2;
 // The exit status if a file cannot be opened or written.
 const DEVICE: u8 = 3;
 
-pub(crate) fn refuse(rt: &HostRuntime, fault: &Fault) -> u8 {
-    let _ = eprintln!(rt; "plotraster: {fault}");
+// What a message is about: the run, or one plot of several, which it names.
+#[derive(Clone, Copy)]
+pub(crate) enum About<'a> {
+    Run,
+    Plot(&'a str),
+}
+
+impl Display for About<'_> {
+    fn fmt<W: Write>(&self, f: &mut Formatter<W>) -> Result {
+        match self {
+            About::Run => Ok(()),
+            About::Plot(file) => write!(f, "{file}: "),
+        }
+    }
+}
+
+pub(crate) fn refuse(rt: &HostRuntime, about: About<'_>, fault: &Fault) -> u8 {
+    let _ = eprintln!(rt; "plotraster: {about}{fault}");
     status(fault)
 }
 
@@ -20,27 +36,42 @@ pub(crate) fn refuse_words(rt: &HostRuntime, fault: LineFault) -> u8 {
 }
 
 // Says why a file cannot be opened or written; `action` is `open` or `write`.
-pub(crate) fn refuse_file(rt: &HostRuntime, action: &str, path: &str, error: &Error) -> u8 {
+pub(crate) fn refuse_file(
+    rt: &HostRuntime,
+    about: About<'_>,
+    action: &str,
+    path: &str,
+    error: &Error,
+) -> u8 {
     match error.kind() {
-        ErrorKind::NotFound => cannot(rt, action, path, &"no such file"),
-        ErrorKind::PermissionDenied => cannot(rt, action, path, &"permission denied"),
-        _ => cannot(rt, action, path, error),
+        ErrorKind::NotFound if action == "write" => {
+            cannot(rt, about, action, path, &"no such folder")
+        }
+        ErrorKind::NotFound => cannot(rt, about, action, path, &"no such file or folder"),
+        ErrorKind::PermissionDenied => cannot(rt, about, action, path, &"permission denied"),
+        _ => cannot(rt, about, action, path, error),
     }
 }
 
 // Says what cannot be done with a file, and why.
-pub(crate) fn cannot<R: Display>(rt: &HostRuntime, action: &str, path: &str, reason: &R) -> u8 {
-    let _ = eprintln!(rt; "plotraster: cannot {action} {path}: {reason}");
+pub(crate) fn cannot<R: Display>(
+    rt: &HostRuntime,
+    about: About<'_>,
+    action: &str,
+    path: &str,
+    reason: &R,
+) -> u8 {
+    let _ = eprintln!(rt; "plotraster: {about}cannot {action} {path}: {reason}");
     DEVICE
 }
 
 // Says why the page is not the one around the drawing, if that was asked; and what was drawn, if more is to be said.
-pub(crate) fn tell_outcome(rt: &HostRuntime, outcome: &Outcome, verbose: bool) {
+pub(crate) fn tell_outcome(rt: &HostRuntime, about: About<'_>, outcome: &Outcome, verbose: bool) {
     if let Some(reason) = reason_of(outcome.placement) {
-        let _ = eprintln!(rt; "plotraster: the page is not fitted: {reason}");
+        let _ = eprintln!(rt; "plotraster: {about}the page is not fitted: {reason}");
     }
     if verbose {
-        tell_drawn(rt, outcome);
+        tell_drawn(rt, about, outcome);
     }
 }
 
@@ -55,7 +86,7 @@ fn reason_of(placement: Placement) -> Option<&'static str> {
 }
 
 // Says how many lines the selected pens drew, how many of them lie off the page, and how many notes there are.
-fn tell_drawn(rt: &HostRuntime, outcome: &Outcome) {
+fn tell_drawn(rt: &HostRuntime, about: About<'_>, outcome: &Outcome) {
     let lines = outcome.census.strokes;
     let off_page = outcome.census.off_page;
     let notes = outcome.done.notes;
@@ -67,6 +98,6 @@ fn tell_drawn(rt: &HostRuntime, outcome: &Outcome) {
     let line = if lines == 1 { "line" } else { "lines" };
     let note = if notes == 1 { "note" } else { "notes" };
     let _ = eprintln!(rt;
-        "plotraster: {nothing}{lines} {line}, {off_page} off the page; {notes} {note}, see plotraster report"
+        "plotraster: {about}{nothing}{lines} {line}, {off_page} off the page; {notes} {note}, see plotraster report"
     );
 }

@@ -1,5 +1,5 @@
-//! Where the output goes: standard output, a device, or a new file that gets its name when it is whole.
-use crate::messages::{cannot, refuse, refuse_file, tell_outcome};
+//! Where the output of a plot goes: standard output, a device, or a new file that gets its name when it is whole.
+use crate::messages::{About, cannot, refuse, refuse_file, tell_outcome};
 use plotraster::{Fault, Line, Outcome, OverRead, OverWrite, exit_status, run_task};
 use std::fs::{File, OpenOptions, metadata, remove_file, rename};
 use std::io::{Read, Write};
@@ -8,9 +8,23 @@ use std::os::unix::fs::MetadataExt;
 // Does what the line asks of the plot that the reader gives, and writes it where the line says.
 pub(crate) fn deliver<R: Read + Drop>(rt: &HostRuntime, line: &Line<'_>, plot: R) -> u8 {
     match line.output {
-        None => exit_status(&perform(rt, line, plot, rt.stdout())),
-        Some(path) if is_device(rt, path) => write_device(rt, line, plot, path),
-        Some(path) => write_file(rt, line, plot, path),
+        None => exit_status(&perform(rt, line, About::Run, plot, rt.stdout())),
+        Some(path) => deliver_to(rt, line, About::Run, plot, path),
+    }
+}
+
+// The same, into the file or the device of this name.
+pub(crate) fn deliver_to<R: Read + Drop>(
+    rt: &HostRuntime,
+    line: &Line<'_>,
+    about: About<'_>,
+    plot: R,
+    path: &str,
+) -> u8 {
+    if is_device(rt, path) {
+        write_device(rt, line, about, plot, path)
+    } else {
+        write_file(rt, line, about, plot, path)
     }
 }
 
@@ -18,6 +32,7 @@ pub(crate) fn deliver<R: Read + Drop>(rt: &HostRuntime, line: &Line<'_>, plot: R
 fn perform<R: Read + Drop, W: Write + Drop>(
     rt: &HostRuntime,
     line: &Line<'_>,
+    about: About<'_>,
     plot: R,
     to: W,
 ) -> Result<Outcome, Fault> {
@@ -32,9 +47,9 @@ fn perform<R: Read + Drop, W: Write + Drop>(
         &mut sink,
     );
     match &outcome {
-        Ok(outcome) => tell_outcome(rt, outcome, line.verbose),
+        Ok(outcome) => tell_outcome(rt, about, outcome, line.verbose),
         Err(fault) => {
-            refuse(rt, fault);
+            refuse(rt, about, fault);
         }
     }
     outcome
@@ -48,45 +63,82 @@ fn is_device(rt: &HostRuntime, path: &str) -> bool {
     }
 }
 
-fn write_device<R: Read + Drop>(rt: &HostRuntime, line: &Line<'_>, plot: R, path: &str) -> u8 {
+fn write_device<R: Read + Drop>(
+    rt: &HostRuntime,
+    line: &Line<'_>,
+    about: About<'_>,
+    plot: R,
+    path: &str,
+) -> u8 {
     match OpenOptions::new().write(true).open(rt, path) {
-        Ok(device) => exit_status(&perform(rt, line, plot, device)),
-        Err(error) => refuse_file(rt, "write", path, &error),
+        Ok(device) => exit_status(&perform(rt, line, about, plot, device)),
+        Err(error) => refuse_file(rt, about, "write", path, &error),
     }
 }
 
 // Writes a file of another name beside the one that is asked for.
-fn write_file<R: Read + Drop>(rt: &HostRuntime, line: &Line<'_>, plot: R, path: &str) -> u8 {
+fn write_file<R: Read + Drop>(
+    rt: &HostRuntime,
+    line: &Line<'_>,
+    about: About<'_>,
+    plot: R,
+    path: &str,
+) -> u8 {
     let Ok(part) = format!(in rt.alloc(); "{path}.part") else {
-        return refuse(rt, &Fault::Memory);
+        return refuse(rt, about, &Fault::Memory);
     };
-    if line
-        .file
-        .is_some_and(|plot| is_same_file(rt, plot, part.as_str()))
-    {
-        return cannot(rt, "write", part.as_str(), &"it is the plot");
+    let part = part.as_str();
+    if is_plot(rt, line, part) {
+        return refuse_plot(rt, line, about, part);
     }
-    match File::create(rt, part.as_str()) {
-        Ok(file) => settle_part(rt, part.as_str(), path, &perform(rt, line, plot, file)),
-        Err(error) => refuse_file(rt, "write", part.as_str(), &error),
+    match File::create(rt, part) {
+        Ok(file) => {
+            let outcome = perform(rt, line, about, plot, file);
+            settle_part(rt, about, part, path, &outcome)
+        }
+        Err(error) => refuse_file(rt, about, "write", part, &error),
     }
 }
 
-// Both are names of one file.
-fn is_same_file(rt: &HostRuntime, one: &str, other: &str) -> bool {
-    match (metadata(rt, one), metadata(rt, other)) {
-        (Ok(one), Ok(other)) => one.dev() == other.dev() && one.ino() == other.ino(),
-        _ => false,
+// There is a file of this name, and it is one of the plots.
+fn is_plot(rt: &HostRuntime, line: &Line<'_>, path: &str) -> bool {
+    let Some(found) = id_of(rt, path) else {
+        return false;
+    };
+    line.files.iter().any(|plot| id_of(rt, plot) == Some(found))
+}
+
+// Says that a file is not written, since it is a plot.
+pub(crate) fn refuse_plot(rt: &HostRuntime, line: &Line<'_>, about: About<'_>, path: &str) -> u8 {
+    let reason = if line.files.len() > 1 {
+        "it is one of the plots"
+    } else {
+        "it is the plot"
+    };
+    cannot(rt, about, "write", path, &reason)
+}
+
+// What is one for all names of a file: its device, and its number there.
+pub(crate) fn id_of(rt: &HostRuntime, path: &str) -> Option<(u64, u64)> {
+    match metadata(rt, path) {
+        Ok(found) => Some((found.dev(), found.ino())),
+        Err(_) => None,
     }
 }
 
 // Gives the file its name if it is whole. After a failed write it stays under its own, since the
 // message says where to go on.
-fn settle_part(rt: &HostRuntime, part: &str, path: &str, outcome: &Result<Outcome, Fault>) -> u8 {
+fn settle_part(
+    rt: &HostRuntime,
+    about: About<'_>,
+    part: &str,
+    path: &str,
+    outcome: &Result<Outcome, Fault>,
+) -> u8 {
     match outcome {
         Ok(_) => {
             if let Err(error) = rename(rt, part, path) {
-                return refuse_file(rt, "write", path, &error);
+                return refuse_file(rt, about, "write", path, &error);
             }
         }
         Err(Fault::Write { .. }) => (),

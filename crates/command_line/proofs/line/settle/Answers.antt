@@ -4,9 +4,8 @@ use Rattle.std.specs.Option.{option_or}
 use Rattle.std.specs.Result.{IsErrAnd, result_err}
 use Rattle.clap.specs.Words.{Row, Text, found_of, rows_of, subcommand_rows_of}
 use Rattle.clap.specs.declared.parser.matches.ArgMatches.{ArgMatches}
-use Rattle.clap.proofs.WalkLemmas.{first_value-rows}
 use Rattle.command_line.specs.declared.fault.LineFault.{LineFault}
-use Rattle.command_line.specs.Lines.{choice_fault, fault_of_values, line_fault, reading_fault, task_fault}
+use Rattle.command_line.specs.Lines.{choice_fault, fault_of_values, line_fault, output_fault, reading_fault, task_fault}
 use Rattle.command_line.proofs.Given.{was_some}
 use Rattle.command_line.proofs.ReadingLaw.{values_there}
 use Rattle.command_line.proofs.line.settle.Goals as goal
@@ -42,27 +41,47 @@ returns-clause-line c =
       task = c.in_ok-task_of.ensures.task;
       reading = c.in_ok-reading_of.ensures.reading;
       choice = c.in_ok-choice_of.ensures.choice;
-      file = c.get_str.ensures ∙ first_value-rows (found_of c.in_ok-name.options.now) (codes "FILE");
-      output = c.get_str-2.ensures ∙ first_value-rows (found_of c.in_ok-name.options.now) (codes "output");
+      files = c.files_of.ensures;
+      output = c.in_ok-place_of.ensures.place;
+      placed = c.in_ok-place_of.ensures.placed;
       verbose = c.has_flag.ensures;
     }
 
--- the fault of a line is that of its task, or else that of its reading, or else that of its choice of the page
+-- what is wrong with the choice of the page, or else with the output
+abbrev after_reading : List Row → Option LineFault
+after_reading rows = option_or (choice_fault rows) (output_fault rows)
+
+-- what is wrong with the reading, or else with these
+abbrev after_task : List Row → Option LineFault
+after_task rows = option_or (reading_fault rows) (after_reading rows)
+
+-- the fault of a line is that of its task, or else that of its reading, or else that of its choice of the page, or else that of
+-- its output
 bad_task : (m : ArgMatches) (name : Text) (rows : List Row) (fault : LineFault) → subcommand_rows_of m ≡ Some (name, rows) → Some fault ≡ task_fault (name, rows)
     → line_fault m ≡ Some fault
-bad_task m name rows fault is bad = ap (option_and_then fault_of_values) is ∙ ap (λ (o : Option LineFault). option_or o (option_or (reading_fault rows) (choice_fault rows))) (sym bad)
+bad_task m name rows fault is bad = ap (option_and_then fault_of_values) is ∙ ap (λ (o : Option LineFault). option_or o (after_task rows)) (sym bad)
 
 good_task : (m : ArgMatches) (name : Text) (rows : List Row) → subcommand_rows_of m ≡ Some (name, rows) → None ≡ task_fault (name, rows)
-    → line_fault m ≡ option_or (reading_fault rows) (choice_fault rows)
-good_task m name rows is good = ap (option_and_then fault_of_values) is ∙ ap (λ (o : Option LineFault). option_or o (option_or (reading_fault rows) (choice_fault rows))) (sym good)
+    → line_fault m ≡ after_task rows
+good_task m name rows is good = ap (option_and_then fault_of_values) is ∙ ap (λ (o : Option LineFault). option_or o (after_task rows)) (sym good)
 
 bad_reading : (m : ArgMatches) (name : Text) (rows : List Row) (fault : LineFault) → subcommand_rows_of m ≡ Some (name, rows) → None ≡ task_fault (name, rows)
     → Some fault ≡ reading_fault rows → line_fault m ≡ Some fault
-bad_reading m name rows fault is good bad = good_task m name rows is good ∙ ap (λ (o : Option LineFault). option_or o (choice_fault rows)) (sym bad)
+bad_reading m name rows fault is good bad = good_task m name rows is good ∙ ap (λ (o : Option LineFault). option_or o (after_reading rows)) (sym bad)
 
 good_reading : (m : ArgMatches) (name : Text) (rows : List Row) → subcommand_rows_of m ≡ Some (name, rows) → None ≡ task_fault (name, rows)
-    → None ≡ reading_fault rows → line_fault m ≡ choice_fault rows
-good_reading m name rows is good read = good_task m name rows is good ∙ ap (λ (o : Option LineFault). option_or o (choice_fault rows)) (sym read)
+    → None ≡ reading_fault rows → line_fault m ≡ after_reading rows
+good_reading m name rows is good read = good_task m name rows is good ∙ ap (λ (o : Option LineFault). option_or o (after_reading rows)) (sym read)
+
+bad_choice : (m : ArgMatches) (name : Text) (rows : List Row) (fault : LineFault) → subcommand_rows_of m ≡ Some (name, rows) → None ≡ task_fault (name, rows)
+    → None ≡ reading_fault rows → Some fault ≡ choice_fault rows → line_fault m ≡ Some fault
+bad_choice m name rows fault is good read bad =
+    good_reading m name rows is good read ∙ ap (λ (o : Option LineFault). option_or o (output_fault rows)) (sym bad)
+
+good_choice : (m : ArgMatches) (name : Text) (rows : List Row) → subcommand_rows_of m ≡ Some (name, rows) → None ≡ task_fault (name, rows)
+    → None ≡ reading_fault rows → None ≡ choice_fault rows → line_fault m ≡ output_fault rows
+good_choice m name rows is good read chosen =
+    good_reading m name rows is good read ∙ ap (λ (o : Option LineFault). option_or o (output_fault rows)) (sym chosen)
 
 -- a fault that is passed on is the fault
 passed_on : {X : Type 0} (r : Result X LineFault) (e : LineFault) → IsErrAnd r (λ f. f ≡ e) → result_err r ≡ Some e
@@ -99,8 +118,19 @@ returns-in_err-choice_of-clause-refused c = λ of.
     let matches = paired _ _ _ _ _ (sym c.subcommand.ensures.name ∙ ap (option_map (λ p. p.0.now)) met)
     (sym c.subcommand.ensures.rows ∙ ap (option_map (λ p. rows_of (found_of p.1.now))) met) in
     let values = values_there of.0 c.args.matches.now _ _ of.1 matches in
-    passed_on _ _ c.from_residual-in_err-choice_of.ensures.1 ∙ c.in_err-choice_of.ensures.refused values.choice
-    ∙ sym (good_reading c.args.matches.now _ _ matches (c.in_ok-task_of.ensures.refused values.task) (c.in_ok-reading_of.ensures.refused values.reading))
+    passed_on _ _ c.from_residual-in_err-choice_of.ensures.1
+    ∙ sym (bad_choice c.args.matches.now _ _ _ matches (c.in_ok-task_of.ensures.refused values.task) (c.in_ok-reading_of.ensures.refused values.reading)
+    (c.in_err-choice_of.ensures.refused values.choice))
+
+pub returns-in_err-place_of-clause-refused : goal.returns-in_err-place_of-clause-refused
+returns-in_err-place_of-clause-refused c = λ of.
+    let met = was_some c.subcommand.result _ _ (sym c.ok_or.ensures.value ∙ c.in_ok-name.was) in
+    let matches = paired _ _ _ _ _ (sym c.subcommand.ensures.name ∙ ap (option_map (λ p. p.0.now)) met)
+    (sym c.subcommand.ensures.rows ∙ ap (option_map (λ p. rows_of (found_of p.1.now))) met) in
+    let values = values_there of.0 c.args.matches.now _ _ of.1 matches in
+    passed_on _ _ c.from_residual-in_err-place_of.ensures.1 ∙ c.in_err-place_of.ensures.refused
+    ∙ sym (good_choice c.args.matches.now _ _ matches (c.in_ok-task_of.ensures.refused values.task) (c.in_ok-reading_of.ensures.refused values.reading)
+    (c.in_ok-choice_of.ensures.refused values.choice))
 
 pub returns-clause-refused : goal.returns-clause-refused
 returns-clause-refused c = λ of.
@@ -108,5 +138,6 @@ returns-clause-refused c = λ of.
     let matches = paired _ _ _ _ _ (sym c.subcommand.ensures.name ∙ ap (option_map (λ p. p.0.now)) met)
     (sym c.subcommand.ensures.rows ∙ ap (option_map (λ p. rows_of (found_of p.1.now))) met) in
     let values = values_there of.0 c.args.matches.now _ _ of.1 matches in
-    c.in_ok-choice_of.ensures.refused values.choice
-    ∙ sym (good_reading c.args.matches.now _ _ matches (c.in_ok-task_of.ensures.refused values.task) (c.in_ok-reading_of.ensures.refused values.reading))
+    c.in_ok-place_of.ensures.refused
+    ∙ sym (good_choice c.args.matches.now _ _ matches (c.in_ok-task_of.ensures.refused values.task) (c.in_ok-reading_of.ensures.refused values.reading)
+    (c.in_ok-choice_of.ensures.refused values.choice))

@@ -1,0 +1,243 @@
+"""What the program does with several plots in one run, and with a plot whose output goes into a folder."""
+
+import os
+import re
+import resource
+import signal
+import stat
+
+import pytest
+
+from reference.outputs import FORMS
+from shared import read_bytes, run, write
+
+SECONDS = 60
+SMALL = ["--width", "4000", "--height", "3000"]
+LINE = b"SP1;PU0,0;PD3000,2000;"
+DOWN = b"SP2;PU0,2900;PD3900,100;"
+OFF_RANGE = b"PD99999,0;"
+OLD = b"an older picture\n"
+COMMANDS = [*FORMS, "report"]
+
+
+@pytest.fixture
+def folder(tmp_path):
+    """Plots, and an empty folder `out`."""
+    for name, plot in [("a.plt", LINE), ("b.plt", DOWN), ("far.plt", OFF_RANGE), ("deep/a.plt", DOWN)]:
+        write(str(tmp_path / name), plot)
+    os.mkdir(tmp_path / "out")
+    return tmp_path
+
+
+def ends_of(program, folder, words, **how):
+    """The exit status and the lines on standard error of a run in a folder, which writes nothing to standard output."""
+    done = run(program, [*words, *SMALL], SECONDS, cwd=folder, **how)
+    assert done.stdout == b""
+    return done.returncode, done.stderr.decode().splitlines()
+
+
+def drawn(program, command, plot):
+    """What the program writes to standard output for one plot."""
+    done = run(program, [command, *SMALL], SECONDS, input=plot)
+    assert (done.returncode, done.stderr) == (0, b"")
+    return done.stdout
+
+
+def files_in(folder):
+    return sorted(os.listdir(folder))
+
+
+@pytest.mark.parametrize("command", COMMANDS)
+def test_each_plot_has_a_file(program, folder, command):
+    assert ends_of(program, folder, [command, "-o", "out", "a.plt", "b.plt"]) == (0, [])
+    assert files_in(folder / "out") == [f"a.{command}", f"b.{command}"]
+    assert read_bytes(folder / "out" / f"a.{command}") == drawn(program, command, LINE)
+    assert read_bytes(folder / "out" / f"b.{command}") == drawn(program, command, DOWN)
+
+
+@pytest.mark.parametrize("words", [
+    ["b.plt", "a.plt", "-o", "out"], ["a.plt", "--output=out/", "b.plt"], ["-o", "./out//", "--", "./a.plt", "deep/../b.plt"],
+])
+def test_orders_of_words(program, folder, words):
+    assert ends_of(program, folder, ["pbm", *words]) == (0, [])
+    assert files_in(folder / "out") == ["a.pbm", "b.pbm"]
+
+
+def test_names(program, folder):
+    """The last extension of a file's name is replaced, or the name gets one."""
+    wanted = {
+        "plan": "plan.ppm", "plan.v2.hpgl": "plan.v2.ppm", ".plan": ".plan.ppm", "dot.": "dot.ppm", "a plan.PLT": "a plan.ppm",
+        "-": "-.ppm", "pl\u00e4n.plt": "pl\u00e4n.ppm", "..plt": "..ppm", "deep/x.y/z": "z.ppm", "out.d/inner.plt": "inner.ppm",
+    }
+    for name in wanted:
+        write(str(folder / name), LINE)
+    assert ends_of(program, folder, ["ppm", "-oout", "--", *wanted]) == (0, [])
+    assert files_in(folder / "out") == sorted(wanted.values())
+
+
+def test_one_plot_into_a_folder(program, folder):
+    """The messages are those of one plot."""
+    assert ends_of(program, folder, ["pbm", "a.plt", "-o", "out"]) == (0, [])
+    assert read_bytes(folder / "out" / "a.pbm") == drawn(program, "pbm", LINE)
+    assert ends_of(program, folder, ["pbm", "far.plt", "-o", "out"]) == (1, ["plotraster: place off range at byte 0"])
+    status, (line,) = ends_of(program, folder, ["pbm", "--verbose", "a.plt", "-o", "out"])
+    assert (status, line) == (0, "plotraster: 1 line, 0 off the page; 0 notes, see plotraster report")
+    assert files_in(folder / "out") == ["a.pbm"]
+
+
+def test_refused_plots(program, folder):
+    """Each has one line, and the others are drawn. The exit status is the greatest."""
+    lines = [
+        "plotraster: far.plt: place off range at byte 0",
+        "plotraster: cannot open none.plt: no such file or folder",
+        "plotraster: deep: read failed",
+        "plotraster: ..: read failed",
+    ]
+    plots = ["a.plt", "far.plt", "none.plt", "deep", "..", "b.plt"]
+    assert ends_of(program, folder, ["pbm", "-o", "out", *plots]) == (3, lines)
+    assert files_in(folder / "out") == ["a.pbm", "b.pbm"]
+    assert ends_of(program, folder, ["report", "-o", "out", *reversed(plots)]) == (3, lines[::-1])
+    assert files_in(folder / "out") == ["a.pbm", "a.report", "b.pbm", "b.report"]
+
+
+@pytest.mark.parametrize("plots, status", [
+    (["far.plt", "a.plt"], 1), (["a.plt", "far.plt"], 1), (["none.plt", "far.plt"], 3), (["far.plt", "none.plt"], 3),
+])
+def test_exit_status_is_the_greatest(program, folder, plots, status):
+    assert ends_of(program, folder, ["marks", "-o", "out", *plots])[0] == status
+
+
+def test_refused_for_the_options(program, folder):
+    """Each plot has its line: a resolution that PCL lacks, and a first row past the last row."""
+    lines = [f"plotraster: {name}: resolution is not one of PCL's" for name in ("a.plt", "b.plt")]
+    assert ends_of(program, folder, ["pcl", "--dots=127", "-o", "out", "a.plt", "b.plt"]) == (2, lines)
+    lines = [f"plotraster: {name}: first row is past the last row" for name in ("a.plt", "b.plt")]
+    assert ends_of(program, folder, ["pbm", "--from=9999", "-o", "out", "a.plt", "b.plt"]) == (2, lines)
+    assert files_in(folder / "out") == []
+
+
+def test_rows_from_a_row_on(program, folder):
+    assert ends_of(program, folder, ["pbm", "--from=200", "-o", "out", "a.plt", "b.plt"]) == (0, [])
+    assert drawn(program, "pbm", LINE).endswith(read_bytes(folder / "out" / "a.pbm"))
+    assert drawn(program, "pbm", DOWN).endswith(read_bytes(folder / "out" / "b.pbm"))
+
+
+def test_old_files(program, folder):
+    """A file is replaced if the plot is drawn, and stays if it is refused."""
+    for name in ("a.pbm", "far.pbm", "b.pbm.part"):
+        write(str(folder / "out" / name), OLD)
+    assert ends_of(program, folder, ["pbm", "-o", "out", "a.plt", "b.plt", "far.plt"])[0] == 1
+    assert files_in(folder / "out") == ["a.pbm", "b.pbm", "far.pbm"]
+    assert read_bytes(folder / "out" / "a.pbm") == drawn(program, "pbm", LINE)
+    assert read_bytes(folder / "out" / "b.pbm") == drawn(program, "pbm", DOWN)
+    assert read_bytes(folder / "out" / "far.pbm") == OLD
+
+
+def test_plots_of_one_name(program, folder):
+    """Only the first of them is drawn."""
+    write(str(folder / "a.hpgl"), DOWN)
+    plots = ["a.plt", "deep/a.plt", "b.plt", "a.hpgl", "./a.plt"]
+    lines = [f"plotraster: {name}: cannot write out/a.pbm: it is written for another plot"
+             for name in ("deep/a.plt", "a.hpgl", "./a.plt")]
+    assert ends_of(program, folder, ["pbm", "-o", "out", *plots]) == (3, lines)
+    assert files_in(folder / "out") == ["a.pbm", "b.pbm"]
+    assert read_bytes(folder / "out" / "a.pbm") == drawn(program, "pbm", LINE)
+
+
+def test_plot_that_is_missing_takes_no_name(program, folder):
+    lines = ["plotraster: cannot open none/a.plt: no such file or folder"]
+    assert ends_of(program, folder, ["pbm", "-o", "out", "none/a.plt", "a.plt"]) == (3, lines)
+    assert files_in(folder / "out") == ["a.pbm"]
+
+
+def test_plots_are_not_overwritten(program, folder):
+    """Also through a link, if the plot comes later, or as FILE.part."""
+    write(str(folder / "out" / "a.pbm"), LINE)
+    write(str(folder / "out" / "c.pbm.part"), LINE)
+    write(str(folder / "c.plt"), DOWN)
+    os.symlink("out/a.pbm", folder / "link.plt")
+    os.link(folder / "b.plt", folder / "out" / "b.pbm")
+    plots = ["a.plt", "b.plt", "link.plt", "c.plt", "out/c.pbm.part"]
+    status, lines = ends_of(program, folder, ["pbm", "-o", "out", *plots])
+    assert status == 3 and lines == [
+        "plotraster: a.plt: cannot write out/a.pbm: it is one of the plots",
+        "plotraster: b.plt: cannot write out/b.pbm: it is one of the plots",
+        "plotraster: c.plt: cannot write out/c.pbm.part: it is one of the plots",
+    ]
+    assert read_bytes(folder / "out" / "a.pbm") == read_bytes(folder / "out" / "c.pbm.part") == LINE
+    assert read_bytes(folder / "out" / "b.pbm") == DOWN
+    assert files_in(folder / "out") == ["a.pbm", "b.pbm", "c.pbm.part", "c.pbm.pbm", "link.pbm"]
+
+
+def test_the_only_plot_is_not_overwritten(program, folder):
+    write(str(folder / "a.pbm"), LINE)
+    lines = ["plotraster: cannot write ./a.pbm: it is the plot"]
+    assert ends_of(program, folder, ["pbm", "-o", ".", "a.pbm"]) == (3, lines)
+    assert read_bytes(folder / "a.pbm") == LINE
+
+
+def test_no_folder(program, folder):
+    """Nothing is read or written if the plots have no folder to go to."""
+    needs = (2, ["plotraster: several plots need --output FOLDER"])
+    for command in COMMANDS:
+        assert ends_of(program, folder, [command, "a.plt", "none.plt"]) == needs
+    for name, reason in [("none", "no such folder"), ("none/out", "no such folder"), ("", "no such folder"),
+                         ("b.plt", "it is not a folder"), ("b.plt/out", "Not a directory (os error 20)"),
+                         ("/dev/null", "it is not a folder")]:
+        lines = [f"plotraster: cannot write {name}: {reason}"]
+        assert ends_of(program, folder, ["ppm", f"--output={name}", "a.plt", "none.plt"]) == (3, lines)
+    assert files_in(folder) == ["a.plt", "b.plt", "deep", "far.plt", "out"]
+
+
+def test_standard_input_has_no_name(program, folder):
+    lines = ["plotraster: cannot write out: Is a directory (os error 21)"]
+    assert ends_of(program, folder, ["pbm", "-o", "out"], input=LINE) == (3, lines)
+
+
+def test_what_is_said_of_each_plot(program, folder):
+    """The lines of --verbose and of --fit name the plots, as those of refused plots do."""
+    write(str(folder / "blank.plt"), b"IN;")
+    status, lines = ends_of(program, folder, ["pbm", "--fit", "--verbose", "-o", "out", "a.plt", "blank.plt", "far.plt"])
+    assert status == 1 and lines == [
+        "plotraster: a.plt: 1 line, 0 off the page; 0 notes, see plotraster report",
+        "plotraster: blank.plt: the page is not fitted: nothing is drawn",
+        "plotraster: blank.plt: nothing is drawn: 0 lines, 0 off the page; 0 notes, see plotraster report",
+        "plotraster: far.plt: place off range at byte 0",
+    ]
+
+
+def test_files_that_cannot_be_written(program, folder):
+    """A folder under the name of the output, and a name that is too long; a device of this name is written."""
+    os.mkdir(folder / "out" / "a.pbm.part")
+    write(str(folder / ("n" * 251)), LINE)
+    os.symlink("/dev/null", folder / "out" / "deep.pbm")
+    write(str(folder / "deep.plt"), LINE)
+    status, lines = ends_of(program, folder, ["pbm", "-o", "out", "a.plt", "n" * 251, "deep.plt", "b.plt"])
+    assert status == 3 and lines == [
+        "plotraster: a.plt: cannot write out/a.pbm.part: Is a directory (os error 21)",
+        f"plotraster: {'n' * 251}: cannot write out/{'n' * 251}.pbm.part: File name too long (os error 36)",
+    ]
+    assert files_in(folder / "out") == ["a.pbm.part", "b.pbm", "deep.pbm"]
+    assert stat.S_ISCHR(os.stat(folder / "out" / "deep.pbm").st_mode)
+
+
+def test_limit_on_files(program, folder):
+    """A failed write names its plot, and its part of the picture stays; a plot whose report is short is written."""
+    def limit():
+        signal.signal(signal.SIGXFSZ, signal.SIG_IGN)
+        resource.setrlimit(resource.RLIMIT_FSIZE, (20000, 20000))
+    status, lines = ends_of(program, folder, ["ppm", "-o", "out", "a.plt", "b.plt"], preexec_fn=limit)
+    found = [re.fullmatch(r"plotraster: (.)\.plt: write failed: go on from row \d+ after byte \d+", it)[1] for it in lines]
+    assert (status, found) == (3, ["a", "b"])
+    assert files_in(folder / "out") == ["a.ppm.part", "b.ppm.part"]
+    assert drawn(program, "ppm", LINE).startswith(read_bytes(folder / "out" / "a.ppm.part"))
+
+
+def test_many_plots(program, folder):
+    """Again, when all files are there."""
+    names = [f"many/{number}.plt" for number in range(500)]
+    for name in names:
+        write(str(folder / name), LINE)
+    for _ in range(2):
+        assert ends_of(program, folder, ["pbm", "-o", "out", "--dots=10", *names]) == (0, [])
+    assert len(files_in(folder / "out")) == 500
