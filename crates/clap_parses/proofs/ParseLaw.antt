@@ -1,31 +1,26 @@
 -- A parse with no fault gives rows that pass.
-use Rattle.std.proofs.Common.{◌≡◌, ◌<◌, ◌≤◌, ◌⊎◌, ℕ, rules, zero, suc, true, false, Bool, List, [], ◌∷◌, ◌++◌, Option, Some, None, length, refl, ap, sym, ◌∙◌, subst, inl, inr, arith, cond, ◌&&◌, ◌||◌, drop}
+use Rattle.std.proofs.Common.{◌≡◌, ◌<◌, ◌≤◌, ℕ, rules, zero, suc, true, false, Bool, List, [], ◌∷◌, ◌++◌, Option, Some, None, length, refl, ap, sym, ◌∙◌, subst, inl, inr, arith, cond, ◌&&◌, ◌||◌, drop}
 use Rattle.std.specs.List.{AllByRecursion}
-use Rattle.std.specs.Prelude.{◌==◌, not, nat_eq}
+use Rattle.std.specs.Prelude.{not}
 use Rattle.std.specs.Option.{option_map_or}
-use Rattle.std.proofs.lemmas.Bool.Decides.{nat_tests}
 use Rattle.std.proofs.lemmas.List.{length-append}
 use Rattle.std.proofs.lemmas.Slice.Eq.{bytes_eq-Decides}
 use Rattle.std.specs.Prelude.{find, fold, encode_utf8, slice_get, is_some}
 use Rattle.std.specs.Str.{bytes_eq, chars}
 use Rattle.clap.specs.Lexer.{long_of, short_of}
-use Rattle.clap.specs.Walk.{Row, Rule, Text, Held, Names, Outcome, Step, Walk, Waiting, arg_by_id, arg_by_long, arg_by_short, arg_by_index, has_row, action_of, used, used_as, more_values, without, at_row, settled, settled_rows, used_by_id, has_short, has_long, reacted, reading_by, values_or_missing, takes_values, most_values, takes_several, is_pending, option_met, flag_met, long_met, short_met, attached_value, bundle_step, bundle_met, bundle, after_flag, plain_word, option_word, short_or_plain, long_or_other, subcommand_or_other, subcommand_met, word_met, to_positional, after_step, walked, walked_from, walk, default_rows, with_default, is_empty, nothing_held, rows_after, walk_from, pushed, is_append}
+use Rattle.clap.specs.Walk.{Row, Rule, Text, Held, Names, Outcome, Step, Walk, Waiting, arg_by_id, arg_by_long, arg_by_short, arg_by_index, has_row, action_of, used, more_values, at_row, settled, settled_rows, used_by_id, has_short, has_long, reacted, reading_by, values_or_missing, takes_values, most_values, takes_several, is_pending, option_met, flag_met, long_met, short_met, attached_value, bundle_step, bundle_met, bundle, after_flag, plain_word, option_word, short_or_plain, long_or_other, subcommand_or_other, subcommand_met, word_met, to_positional, after_step, walked, walked_from, walk, default_rows, with_default, is_empty, nothing_held, rows_after, walk_from, pushed, is_append}
 use Rattle.clap.specs.Walk.{done, waits, plain, refused, idle, option, positional, next, trailing, subcommand, value}
-use Rattle.clap.specs.Facts.{explicit_source, unwrap_or_range}
-use Rattle.clap.specs.Takes.{values_pass, value_passes}
+use Rattle.clap.specs.Facts.{unwrap_or_range}
+use Rattle.clap.specs.Takes.{values_pass}
 use Rattle.clap.specs.Simple.{App, Shape, built, subcommand_of, argument_words, names_of, entered, label_of, rows_at}
-use Rattle.clap.specs.Walk.{stop_after, answers_to, stronger}
+use Rattle.clap.specs.Walk.{stop_after, answers_to}
 use Rattle.std.specs.Prelude.{option_map}
-use Rattle.clap.specs.Kinds.{Kinds, or_else, range_kinds, request_kinds, check_kinds}
-use Rattle.clap.specs.Faults.{use_fault, action_fault, set_fault, settle_fault, react_fault, values_fault, repeat_fault, option_fault, long_fault, short_fault, bundle_step_fault, flags_fault, bundle_fault, flag_word_fault, other_fault, word_fault, positional_fault, step_fault, turn_fault, walk_fault, default_fault, given_default_fault, defaults_fault, level_fault, stray_fault, entered_fault, fault_of}
-use Rattle.clap.specs.declared.builder.action.ArgAction.{ArgAction}
+use Rattle.clap.specs.Kinds.{Kinds, or_else, request_kinds, check_kinds}
+use Rattle.clap.specs.Faults.{use_fault, settle_fault, react_fault, values_fault, option_fault, long_fault, short_fault, bundle_step_fault, flags_fault, bundle_fault, flag_word_fault, other_fault, word_fault, positional_fault, step_fault, turn_fault, walk_fault, default_fault, given_default_fault, defaults_fault, level_fault, stray_fault, entered_fault, fault_of}
 use Rattle.clap.specs.declared.builder.action.ArgAction.TheVariants.{Set, SetTrue, Append, Help}
-use Rattle.clap.specs.declared.error.kind.ErrorKind.{ErrorKind}
-use Rattle.clap.specs.declared.error.kind.ErrorKind.TheVariants.{InvalidValue, WrongNumberOfValues, ArgumentConflict, TooManyValues}
-use Rattle.clap.specs.declared.parser.matches.ValueSource.{ValueSource}
+use Rattle.clap.specs.declared.error.kind.ErrorKind.TheVariants.{TooManyValues}
 use Rattle.clap.specs.declared.parser.matches.ValueSource.TheVariants.{DefaultValue, CommandLine}
-use Rattle.clap.specs.declared.builder.value_parser.Reading.{Reading}
-use Rattle.clap_parses.specs.Parses.{RowOf, RowsOf, ParsesTo, IsFlag, IsIn, first, past, one, IsSingle, IsSingleShape, TakesMore, TakesOne}
+use Rattle.clap_parses.specs.Parses.{RowOf, RowsOf, ParsesTo, IsFlag, IsIn, first, past, IsSingle, IsSingleShape, TakesMore, TakesOne}
 use Rattle.clap_parses.proofs.Uses.{or_none, find_has, all_append, values_taken, same_text_is, no_at_row, SetsOne, set_parts, flag_parts, set_row, Sets, used_is, more_parts, append_used, both_pass, given_now}
 
 module _ (c : List Rule) (single : AllByRecursion (IsSingle c) c) where

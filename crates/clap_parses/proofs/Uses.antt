@@ -1,31 +1,25 @@
 -- One use of an argument: where it has no fault, its values pass, and this is the row that it makes or adds to.
-use Rattle.std.proofs.Common.{◌≡◌, ◌<◌, ◌≤◌, ◌⊎◌, ℕ, rules, zero, suc, true, false, Bool, List, [], ◌∷◌, ◌++◌, Option, Some, None, length, refl, ap, sym, ◌∙◌, subst, inl, inr, arith, cond, ◌&&◌, ◌||◌, drop}
+use Rattle.std.proofs.Common.{◌≡◌, ◌⊎◌, ℕ, true, false, Bool, List, [], ◌∷◌, ◌++◌, Option, Some, None, length, refl, ap, ◌∙◌, subst, inl, inr, arith, cond, ◌&&◌, ◌||◌}
 use Rattle.std.specs.List.{AllByRecursion}
-use Rattle.std.specs.Prelude.{◌==◌, not, nat_eq}
-use Rattle.std.specs.Option.{option_map_or}
+use Rattle.std.specs.Prelude.{◌==◌, nat_eq}
 use Rattle.std.proofs.lemmas.Bool.Decides.{nat_tests}
-use Rattle.std.proofs.lemmas.List.{length-append}
-use Rattle.std.proofs.lemmas.Slice.Eq.{bytes_eq-Decides}
-use Rattle.std.specs.Prelude.{find, fold, encode_utf8, slice_get, is_some}
-use Rattle.std.specs.Str.{bytes_eq, chars}
-use Rattle.clap.specs.Lexer.{long_of, short_of}
-use Rattle.clap.specs.Walk.{Row, Rule, Text, Held, Names, Outcome, Step, Walk, Waiting, arg_by_id, arg_by_long, arg_by_short, arg_by_index, has_row, action_of, used, used_as, more_values, without, at_row, settled, settled_rows, used_by_id, has_short, has_long, reacted, reading_by, values_or_missing, takes_values, most_values, takes_several, is_pending, option_met, flag_met, long_met, short_met, attached_value, bundle_step, bundle_met, bundle, after_flag, plain_word, option_word, short_or_plain, long_or_other, subcommand_or_other, subcommand_met, word_met, to_positional, after_step, walked, walked_from, walk, default_rows, with_default, is_empty, nothing_held, rows_after, walk_from, pushed, is_append}
-use Rattle.clap.specs.Walk.{done, waits, plain, refused, idle, option, positional, next, trailing, subcommand, value}
-use Rattle.clap.specs.Facts.{explicit_source, unwrap_or_range}
+use Rattle.std.proofs.lemmas.List.Folds.{list_all-append}
+use Rattle.std.specs.Prelude.{find}
+use Rattle.std.specs.Str.{bytes_eq}
+use Rattle.clap.specs.Walk.{Row, Rule, Text, has_row, used_as, more_values, without, at_row, values_or_missing, is_append}
+use Rattle.clap.specs.Facts.{explicit_source}
 use Rattle.clap.specs.Takes.{values_pass, value_passes}
-use Rattle.clap.specs.Simple.{App, Shape, built, subcommand_of, argument_words, names_of, entered, label_of, rows_at}
-use Rattle.clap.specs.Walk.{stop_after, answers_to, stronger}
-use Rattle.std.specs.Prelude.{option_map}
-use Rattle.clap.specs.Kinds.{Kinds, or_else, range_kinds, request_kinds, check_kinds}
-use Rattle.clap.specs.Faults.{use_fault, action_fault, set_fault, settle_fault, react_fault, values_fault, repeat_fault, option_fault, long_fault, short_fault, bundle_step_fault, flags_fault, bundle_fault, flag_word_fault, other_fault, word_fault, positional_fault, step_fault, turn_fault, walk_fault, default_fault, given_default_fault, defaults_fault, level_fault, stray_fault, entered_fault, fault_of}
+use Rattle.clap.specs.Walk.{stronger}
+use Rattle.clap.specs.Kinds.{Kinds, or_else, range_kinds}
+use Rattle.clap.specs.Faults.{action_fault, set_fault, values_fault, repeat_fault}
 use Rattle.clap.specs.declared.builder.action.ArgAction.{ArgAction}
-use Rattle.clap.specs.declared.builder.action.ArgAction.TheVariants.{Set, SetTrue, Append, Help}
+use Rattle.clap.specs.declared.builder.action.ArgAction.TheVariants.{Set, SetTrue, Append}
 use Rattle.clap.specs.declared.error.kind.ErrorKind.{ErrorKind}
-use Rattle.clap.specs.declared.error.kind.ErrorKind.TheVariants.{InvalidValue, WrongNumberOfValues, ArgumentConflict, TooManyValues}
+use Rattle.clap.specs.declared.error.kind.ErrorKind.TheVariants.{InvalidValue, WrongNumberOfValues, ArgumentConflict}
 use Rattle.clap.specs.declared.parser.matches.ValueSource.{ValueSource}
 use Rattle.clap.specs.declared.parser.matches.ValueSource.TheVariants.{DefaultValue, CommandLine}
 use Rattle.clap.specs.declared.builder.value_parser.Reading.{Reading}
-use Rattle.clap_parses.specs.Parses.{RowOf, RowsOf, ParsesTo, IsFlag, IsIn, first, past, one, IsSingle, IsSingleShape, TakesMore, TakesOne}
+use Rattle.clap_parses.specs.Parses.{one}
 
 pub or_none : (a b : Kinds) → or_else a b ≡ [] → (a ≡ []) × (b ≡ [])
 or_none [] b e = (refl, e)
@@ -133,7 +127,7 @@ flag_parts a vs rows x least most is_set is_least is_most stands none =
     let none_given : vs ≡ [] = no_value vs both.0 in
     sets_one a (values_or_missing a vs) rows (rw none_given stands) both.1
 
-pub set_row : Text → Reading → List Text → Row
+unfoldable pub set_row : Text → Reading → List Text → Row
 set_row id how vs = record { id = id; values = vs; count = None; source = Some CommandLine; reading = how }
 
 set_used : (id : Text) (how : Reading) (vs : List Text) (rows : List Row) → has_row id rows ≡ false
@@ -144,7 +138,7 @@ set_used id how vs rows absent =
     rw kept (no_at_row id (more_values CommandLine vs) (set_row id how vs ∷ []) rows absent)
 
 -- the actions that set one value
-pub Sets : ArgAction → Type 0
+unfoldable pub Sets : ArgAction → Type 0
 Sets x = (x ≡ Set) ⊎ (x ≡ SetTrue)
 
 pub used_is : (x : ArgAction) (id : Text) (how : Reading) (vs : List Text) (rows : List Row) → Sets x → has_row id rows ≡ false
@@ -175,12 +169,7 @@ unfolding set_row
 append_used x id how vs rows is = rw is refl
 
 pub both_pass : (a : Rule) (us vs : List Text) → values_pass a us ≡ true → values_pass a vs ≡ true → values_pass a (us ++ vs) ≡ true
-both_pass a [] vs here there = there
-both_pass a (u ∷ us) vs here there = branch (value_passes a u) here
-  where
-    branch : (b : Bool) → (b && values_pass a us) ≡ true → (b && values_pass a (us ++ vs)) ≡ true
-    branch true e = both_pass a us vs e there
-    branch false e = absurd (cc)
+both_pass a us vs here there = list_all-append (value_passes a) us vs ∙ rw (here, there) refl
 
 -- after one more use a row is given by the words
 pub given_now : (s : Option ValueSource) → explicit_source (Some (stronger s CommandLine)) ≡ true

@@ -9,7 +9,7 @@ use Rattle.picture_out.specs.declared.form.Form.TheVariants as form
 use Rattle.command_line.specs.declared.subcommands.Output.TheVariants as output
 use Rattle.command_line.specs.declared.fault.LineFault.{LineFault}
 use Rattle.command_line.specs.declared.fault.LineFault.TheVariants as fault
-use Rattle.command_line.specs.Lines.{fault_of_values, has_bad_list, has_flag, number_in, output_named, page_size, pens_text, profile_text, sheet_in}
+use Rattle.command_line.specs.Lines.{fault_of_values, files_in, has_bad_list, has_flag, number_in, output_named, page_size, pens_text, profile_text, sheet_in}
 use Rattle.command_line.specs.Papers.{paper_of}
 use Rattle.command_line.specs.Options.{plot_app}
 use Rattle.command_line.specs.Statuses.{parse_status_of}
@@ -168,6 +168,35 @@ list_before_paper = refl
 paper_before_profile : value_fault_on (codes "marks" ∷ codes "--profile=none" ∷ codes "--page=a4" ∷ codes "--height=64" ∷ []) ≡ Some fault.Size
 unfolding clap_on_literals
 paper_before_profile = refl
+
+-- the plots' files on a command line
+abbrev files_on : List Text → Option (List Text)
+files_on words = option_map (λ p. files_in p.1) (subcommand_of plot_app (after_name words))
+
+no_file : files_on (codes "pbm" ∷ codes "--left=1" ∷ []) ≡ Some []
+unfolding clap_on_literals
+no_file = refl
+
+files_in_order : files_on (codes "pbm" ∷ codes "b.plt" ∷ codes "-o" ∷ codes "out" ∷ codes "a.plt" ∷ codes "b.plt" ∷ [])
+    ≡ Some (codes "b.plt" ∷ codes "a.plt" ∷ codes "b.plt" ∷ [])
+unfolding clap_on_literals
+files_in_order = refl
+
+files_after_hyphens : files_on (codes "report" ∷ codes "a.plt" ∷ codes "--" ∷ codes "--fit" ∷ []) ≡ Some (codes "a.plt" ∷ codes "--fit" ∷ [])
+unfolding clap_on_literals
+files_after_hyphens = refl
+
+no_place : value_fault_on (codes "ppm" ∷ codes "a.plt" ∷ codes "b.plt" ∷ []) ≡ Some fault.Several
+unfolding clap_on_literals
+no_place = refl
+
+margin_before_place : value_fault_on (codes "report" ∷ codes "a.plt" ∷ codes "--margin=1" ∷ codes "b.plt" ∷ []) ≡ Some fault.Margin
+unfolding clap_on_literals
+margin_before_place = refl
+
+a_place_for_several : value_fault_on (codes "pbm" ∷ codes "a.plt" ∷ codes "b.plt" ∷ codes "--output=out" ∷ []) ≡ None
+unfolding clap_on_literals
+a_place_for_several = refl
 
 -- the name of the file to write on a command line
 abbrev output_on : List Text → Option Text

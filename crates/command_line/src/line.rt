@@ -198,10 +198,10 @@ fn choice_of(options: &ArgMatches<'_>) -> Result<PageChoice, LineFault>
 fn files_of<'a>(options: &'a ArgMatches<'a>) -> &'a [&'a str]
     ensures { map (λ file. file.now) result.now ≡ files_in (rows_of (found_of options.now)) }
 {
-    match options.get_strs("FILE") {
-        Some(files) => files,
-        None => &[],
-    }
+    let Some(files) = options.get_strs("FILE") else {
+        return &[];
+    };
+    files
 }
 
 // Where the output goes, which has to be said if there are several files.
