@@ -1,6 +1,6 @@
 //! What a command line asks for.
 ghost use Rattle.std.specs.Prelude.{◌≡◌, ◌↔◌, ◌<◌, ◌≤◌, ◌^◌, ℕ, Some, Err, IfOk, IfErr, IsOkAnd, true, false, is_some};
-ghost use Rattle.std.specs.Prelude.{codes, ◌≢◌, ◌||◌, IfSome, map, option_map};
+ghost use Rattle.std.specs.Prelude.{codes, ◌≢◌, ◌||◌, IfSome, [], map, option_map};
 ghost use Rattle.std.specs.Result.{result_err};
 ghost use Rattle.clap.specs.Words.{found_of, rows_of};
 ghost use Rattle.command_line.specs.Lines.{number_in, lists_no_pens, has_bad_list, asks_bad_list};
@@ -32,7 +32,7 @@ pub enum Task {
 
 /// What is to be done, with which plots, and where the output goes.
 #[derive(Clone, Copy)]
-pub struct Line<'a> {
+pub struct Line<'m, 'a> {
     /// What is to be done.
     pub task: Task,
     /// How the plot is read.
@@ -40,7 +40,7 @@ pub struct Line<'a> {
     /// Which page it is drawn on.
     pub choice: PageChoice,
     /// The names of the plots' files, in order; none if the plot comes on standard input.
-    pub files: &'a [&'a str],
+    pub files: &'m [&'a str],
     /// The name of the file to write, or of the folder of the files to write; `None`, for standard
     /// output, only if there is at most one plot.
     pub output: Option<&'a str>,
@@ -56,7 +56,7 @@ pub struct Line<'a> {
 /// given with the profile core, `Margin` if `--margin` is given without `--fit`, and `Several` if
 /// several files are given without `--output`; no other one after a `parse` that succeeded. `Words`
 /// if the matches are of another command.
-pub fn settle<'a>(matches: &'a ArgMatches<'a>) -> Result<Line<'a>, LineFault>
+pub fn settle<'m, 'a>(matches: &'m ArgMatches<'a>) -> Result<Line<'m, 'a>, LineFault>
     ensures line { IfOk result (IsLineOf matches.now) }
     ensures pens { (result ≡ Err LineFault.Pens) ↔ (asks_bad_list matches.now ≡ true) }
     ensures refused { AreOfThisCommand matches.now → result_err result ≡ line_fault matches.now }
@@ -195,17 +195,23 @@ fn choice_of(options: &ArgMatches<'_>) -> Result<PageChoice, LineFault>
     }
 }
 
-fn files_of<'a>(options: &'a ArgMatches<'a>) -> &'a [&'a str]
+fn files_of<'m, 'a>(options: &'m ArgMatches<'a>) -> &'m [&'a str]
     ensures { map (λ file. file.now) result.now ≡ files_in (rows_of (found_of options.now)) }
 {
     let Some(files) = options.get_strs("FILE") else {
-        return &[];
+        return no_items();
     };
     files
 }
 
+fn no_items<'a, T>() -> &'a [T]
+    ensures { result.now ≡ [] }
+{
+    &[]
+}
+
 // Where the output goes, which has to be said if there are several files.
-fn place_of<'a>(options: &'a ArgMatches<'a>) -> Result<Option<&'a str>, LineFault>
+fn place_of<'a>(options: &ArgMatches<'a>) -> Result<Option<&'a str>, LineFault>
     ensures place { IfOk result (λ place. option_map (λ path. path.now) place ≡ output_text (rows_of (found_of options.now))) }
     ensures placed { IfOk result (λ _. has_no_place (rows_of (found_of options.now)) ≡ false) }
     ensures pens { result ≢ Err LineFault.Pens }

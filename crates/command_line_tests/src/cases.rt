@@ -95,7 +95,7 @@ fn matches_told(
     }
 }
 
-fn line_told(alloc: Global, asked: Asked, line: &Line<'_>) -> Result<String, AllocError> {
+fn line_told(alloc: Global, asked: Asked, line: &Line<'_, '_>) -> Result<String, AllocError> {
     let (reading, file) = (line.reading, line.files.first().copied());
     match (asked, &line.task) {
         (Asked::Reading, _) => format!(in alloc; "{reading:?}"),

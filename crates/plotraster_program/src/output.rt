@@ -6,7 +6,7 @@ use std::io::{Read, Write};
 use std::os::unix::fs::MetadataExt;
 
 // Does what the line asks of the plot that the reader gives, and writes it where the line says.
-pub(crate) fn deliver<R: Read + Drop>(rt: &HostRuntime, line: &Line<'_>, plot: R) -> u8 {
+pub(crate) fn deliver<R: Read + Drop>(rt: &HostRuntime, line: &Line<'_, '_>, plot: R) -> u8 {
     match line.output {
         None => exit_status(&perform(rt, line, About::Run, plot, rt.stdout())),
         Some(path) => deliver_to(rt, line, About::Run, plot, path),
@@ -16,7 +16,7 @@ pub(crate) fn deliver<R: Read + Drop>(rt: &HostRuntime, line: &Line<'_>, plot: R
 // The same, into the file or the device of this name.
 pub(crate) fn deliver_to<R: Read + Drop>(
     rt: &HostRuntime,
-    line: &Line<'_>,
+    line: &Line<'_, '_>,
     about: About<'_>,
     plot: R,
     path: &str,
@@ -31,7 +31,7 @@ pub(crate) fn deliver_to<R: Read + Drop>(
 // Writes without a buffer, so a fault's count of bytes is what the device or the file took.
 fn perform<R: Read + Drop, W: Write + Drop>(
     rt: &HostRuntime,
-    line: &Line<'_>,
+    line: &Line<'_, '_>,
     about: About<'_>,
     plot: R,
     to: W,
@@ -65,7 +65,7 @@ fn is_device(rt: &HostRuntime, path: &str) -> bool {
 
 fn write_device<R: Read + Drop>(
     rt: &HostRuntime,
-    line: &Line<'_>,
+    line: &Line<'_, '_>,
     about: About<'_>,
     plot: R,
     path: &str,
@@ -79,7 +79,7 @@ fn write_device<R: Read + Drop>(
 // Writes a file of another name beside the one that is asked for.
 fn write_file<R: Read + Drop>(
     rt: &HostRuntime,
-    line: &Line<'_>,
+    line: &Line<'_, '_>,
     about: About<'_>,
     plot: R,
     path: &str,
@@ -101,7 +101,7 @@ fn write_file<R: Read + Drop>(
 }
 
 // There is a file of this name, and it is one of the plots.
-fn is_plot(rt: &HostRuntime, line: &Line<'_>, path: &str) -> bool {
+fn is_plot(rt: &HostRuntime, line: &Line<'_, '_>, path: &str) -> bool {
     let Some(found) = id_of(rt, path) else {
         return false;
     };
@@ -109,7 +109,12 @@ fn is_plot(rt: &HostRuntime, line: &Line<'_>, path: &str) -> bool {
 }
 
 // Says that a file is not written, since it is a plot.
-pub(crate) fn refuse_plot(rt: &HostRuntime, line: &Line<'_>, about: About<'_>, path: &str) -> u8 {
+pub(crate) fn refuse_plot(
+    rt: &HostRuntime,
+    line: &Line<'_, '_>,
+    about: About<'_>,
+    path: &str,
+) -> u8 {
     let reason = if line.files.len() > 1 {
         "it is one of the plots"
     } else {

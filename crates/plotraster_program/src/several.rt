@@ -17,7 +17,7 @@ struct Taken<'a> {
 }
 
 // The output goes into a folder, not into a file.
-pub(crate) fn has_folder(rt: &HostRuntime, line: &Line<'_>) -> bool {
+pub(crate) fn has_folder(rt: &HostRuntime, line: &Line<'_, '_>) -> bool {
     match line.output {
         Some(path) => metadata(rt, path).is_ok_and(|found| found.is_dir()),
         None => false,
@@ -25,7 +25,7 @@ pub(crate) fn has_folder(rt: &HostRuntime, line: &Line<'_>) -> bool {
 }
 
 // Draws each plot into the folder. The exit status is the greatest of those of the plots.
-pub(crate) fn deliver_each(rt: &HostRuntime, line: &Line<'_>) -> u8 {
+pub(crate) fn deliver_each(rt: &HostRuntime, line: &Line<'_, '_>) -> u8 {
     let Some(folder) = line.output else {
         return refuse_words(rt, LineFault::Several);
     };
@@ -71,7 +71,7 @@ fn plots_of<'a>(rt: &HostRuntime, files: &[&str]) -> Result<Taken<'a>, AllocErro
 
 fn deliver_one<'a>(
     rt: &HostRuntime,
-    line: &Line<'_>,
+    line: &Line<'_, '_>,
     about: About<'_>,
     taken: &mut Taken<'a>,
     file: &'a str,

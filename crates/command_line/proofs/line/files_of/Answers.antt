@@ -6,7 +6,8 @@ use Rattle.command_line.proofs.line.files_of.Goals as goal
 
 pub returns-in_default : goal.returns-in_default
 returns-in_default c =
-    ap (λ (found : Option (List Text)). unwrap_or found []) (c.in_default.ensures ∙ raw_values-rows (found_of c.args.options.now) (codes "FILE"))
+    rw c.no_items.ensures
+    (ap (λ (found : Option (List Text)). unwrap_or found []) (c.in_default.ensures ∙ raw_values-rows (found_of c.args.options.now) (codes "FILE")))
 
 pub returns : goal.returns
 returns c =
