@@ -1,0 +1,3 @@
+-- Lemmas and worked examples.
+mod Reading
+mod SizeExamples

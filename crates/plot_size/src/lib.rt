@@ -1,0 +1,8 @@
+//! The size of the page that a plot asks for.
+#![tactic(auto)]
+
+mod asked;
+mod bytes;
+mod measures;
+
+pub use asked::page_asked;
