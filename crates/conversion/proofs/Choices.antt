@@ -1,7 +1,8 @@
 -- Runs on the page that is given.
-use Rattle.std.proofs.Common.{◌≡◌, ◌≤◌, ◌+◌, ℕ, List, Option, Result, Ok, Err, Some, None, refl, subst}
+use Rattle.std.proofs.Common.{◌≡◌, ◌≤◌, ◌+◌, ℕ, List, Option, Result, Ok, Err, Some, None, refl, ap, subst}
 use Rattle.std.specs.Prelude.{option_map}
 use Rattle.hpgl_plot.specs.declared.fault.PlotFault.{PlotFault}
+use Rattle.hpgl_plot.specs.declared.fault.PlotFault.TheVariants as plot
 use Rattle.plot_page.specs.Segments.{Segment}
 use Rattle.plot_page.specs.declared.page.Page.{Page}
 use Rattle.plot_page.specs.declared.pens.PenSet.{PenSet}
@@ -11,18 +12,20 @@ use Rattle.picture_job.specs.declared.page_choice.PageChoice.TheVariants as choi
 use Rattle.picture_job.specs.declared.reading.Reading.{Reading}
 use Rattle.conversion.specs.Boxes.{strokes_boxes}
 use Rattle.conversion.specs.Conversions.{Converts, ConvertsOn, HasConvertedBy, HasConvertedOn, IsCutShort, IsRefused, IsWritten, on_page}
-use Rattle.conversion.specs.Drawings.{Draws}
+use Rattle.conversion.specs.Drawings.{Draws, IsNotDrawn, IsReasonOnFirst}
+use Rattle.conversion.specs.Faults.{of_plot}
 use Rattle.conversion.specs.Pictures.{Reach}
 use Rattle.conversion.specs.Placements.{IsPlaced}
 use Rattle.conversion.specs.Progress.{HasPainted}
 use Rattle.conversion.specs.Readings.{Reads, WasRead}
 use Rattle.conversion.specs.Reports.{HasReportedAs, HasReportedOn, IsReportCutShort, IsReported, Reports, ReportsOn, report_on}
-use Rattle.conversion.specs.Rules.{Rules}
+use Rattle.conversion.specs.Rules.{Rules, rules_of}
 use Rattle.conversion.specs.declared.done.Done.{Done}
 use Rattle.conversion.specs.declared.outcome.Outcome.{Outcome}
 use Rattle.conversion.specs.declared.placement.Placement.{Placement}
 use Rattle.conversion.specs.declared.fault.Fault.{Fault}
 use Rattle.conversion.specs.declared.fault.Fault.TheVariants.{Memory, Paint, Plot, Read, Resolution, TooLong, Write}
+use Rattle.conversion.proofs.Placements.{first_given}
 use Rattle.conversion.proofs.Refusals.{not_painted, plot_fault}
 use Rattle.devices.specs.Sinks.{SinkState}
 use Rattle.devices.specs.Sources.{SourceState}
@@ -36,6 +39,7 @@ done_of (Err fault) = Err fault
 pub given_page : (c : PageChoice) (rules : Rules) (pens : PenSet) (given : Page) (plot : List ℕ) (p : Placement) (page : Page) → IsPlaced c rules pens given plot p page
     → c ≡ choice.Given → page ≡ given
 given_page choice.Given rules pens given plot p page placed is = placed.1
+given_page choice.Asked rules pens given plot p page placed is = absurd (cc)
 given_page (choice.Fitted margin) rules pens given plot p page placed is = absurd (cc)
 
 -- a job that was not painted on the page that the plot is drawn on
@@ -57,16 +61,37 @@ no_such_plot : (refusal : Option PlotFault) (fault : Fault) → option_map Plot 
 no_such_plot None fault is other = absurd (cc)
 no_such_plot (Some f) fault is other = other f (let same : Plot f ≡ fault = cc in same)
 
+-- what is said of it on the page that it is refused for
+abbrev pub ConvertsOnSome : Rules → PageChoice → Job → Reach → List ℕ → SourceState → SourceState → SinkState → SinkState → Fault → Type 0
+ConvertsOnSome rules c job reaches input before after sink sink' fault =
+    (page : Page) × (c ≡ choice.Given → page ≡ job.page) × ConvertsOn rules c job page reaches input before after sink sink' (Err fault)
+
 pub not_drawn_on : (rules : Rules) (c : PageChoice) (job : Job) (reaches : Reach) (input : List ℕ) (before after : SourceState) (sink sink' : SinkState) (fault : Fault)
-    → Draws rules c job.pens job.page input before after (Err fault) → ConvertsOn rules c job job.page reaches input before after sink sink' (Err fault)
-not_drawn_on rules c job reaches input before after sink sink' TooLong h = h
-not_drawn_on rules c job reaches input before after sink sink' Memory h = h
-not_drawn_on rules c job reaches input before after sink sink' Read h = h
-not_drawn_on rules c job reaches input before after sink sink' (Plot refusal) h = record { read = h.read; refused = plot_fault job (rules.refusal job.page input) (Plot refusal) h.refused }
-not_drawn_on rules c job reaches input before after sink sink' (Paint fault) h = absurd (no_such_plot (rules.refusal job.page input) (Paint fault) h.refused (λ f is. absurd (cc)))
+    → Draws rules c job.pens job.page input before after (Err fault) → ConvertsOnSome rules c job reaches input before after sink sink' fault
+not_drawn_on rules c job reaches input before after sink sink' TooLong h = (job.page, λ is. refl, h)
+not_drawn_on rules c job reaches input before after sink sink' Memory h = (job.page, λ is. refl, h)
+not_drawn_on rules c job reaches input before after sink sink' Read h = (job.page, λ is. refl, h)
+not_drawn_on rules c job reaches input before after sink sink' (Plot refusal) h =
+    (h.0, first_given c rules job.page input h.0 h.1, (h.1, record { read = h.2.read; refused = plot_fault (on_page h.0 job) (rules.refusal h.0 input) (Plot refusal) h.2.refused }))
+not_drawn_on rules c job reaches input before after sink sink' (Paint fault) h = absurd (no_such_plot (rules.refusal h.0 input) (Paint fault) h.2.refused (λ f is. absurd (cc)))
 not_drawn_on rules c job reaches input before after sink sink' (Write row whole bytes) h =
-    absurd (no_such_plot (rules.refusal job.page input) (Write row whole bytes) h.refused (λ f is. absurd (cc)))
-not_drawn_on rules c job reaches input before after sink sink' Resolution h = absurd (no_such_plot (rules.refusal job.page input) Resolution h.refused (λ f is. absurd (cc)))
+    absurd (no_such_plot (rules.refusal h.0 input) (Write row whole bytes) h.2.refused (λ f is. absurd (cc)))
+not_drawn_on rules c job reaches input before after sink sink' Resolution h = absurd (no_such_plot (rules.refusal h.0 input) Resolution h.2.refused (λ f is. absurd (cc)))
+
+-- a plot that was read, and is refused for its first page
+pub not_drawn : (rules : Rules) (c : PageChoice) (pens : PenSet) (given : Page) (input : List ℕ) (before after : SourceState) (fault : PlotFault) → WasRead input before after
+    → IsReasonOnFirst c rules given input fault → Draws rules c pens given input before after (Err (of_plot fault))
+not_drawn rules c pens given input before after plot.Memory read h = read.sound
+not_drawn rules c pens given input before after (plot.OffRange at) read h = (h.0, h.1, record { read = read; refused = ap (option_map Plot) h.2 })
+not_drawn rules c pens given input before after (plot.TooManyStrokes at) read h = (h.0, h.1, record { read = read; refused = ap (option_map Plot) h.2 })
+
+-- the same for a report
+pub not_reported : (reading : Reading) (c : PageChoice) (pens : PenSet) (given : Page) (input : List ℕ) (before after : SourceState) (sink sink' : SinkState) (fault : PlotFault)
+    → WasRead input before after → IsReasonOnFirst c (rules_of reading) given input fault
+    → (page : Page) × ReportsOn reading c pens given page input before after sink sink' (Err (of_plot fault))
+not_reported reading c pens given input before after sink sink' plot.Memory read h = (given, read.sound)
+not_reported reading c pens given input before after sink sink' (plot.OffRange at) read h = (h.0, (h.1, record { read = read; refused = ap (option_map Plot) h.2 }))
+not_reported reading c pens given input before after sink sink' (plot.TooManyStrokes at) read h = (h.0, (h.1, record { read = read; refused = ap (option_map Plot) h.2 }))
 
 -- reports of the same strokes, sheets and plot are the same
 pub same_report : (reading : Reading) (page : Page) (ss ss' : List Segment) (n n' : ℕ) (plot plot' : List ℕ) → ss ≡ ss' → n ≡ n' → plot ≡ plot'
@@ -96,7 +121,8 @@ converts_on_it rules job page reaches input before after sink sink' (Err (Paint 
     subst (λ (x : Page). IsRefused rules (on_page x job) input before after (Paint fault)) is h.1
 converts_on_it rules job page reaches input before after sink sink' (Err TooLong) is h = h
 converts_on_it rules job page reaches input before after sink sink' (Err Memory) is h = h
-converts_on_it rules job page reaches input before after sink sink' (Err (Plot fault)) is h = h
+converts_on_it rules job page reaches input before after sink sink' (Err (Plot fault)) is h =
+    subst (λ (x : Page). IsRefused rules (on_page x job) input before after (Plot fault)) is h.1
 converts_on_it rules job page reaches input before after sink sink' (Err Read) is h = h
 converts_on_it rules job page reaches input before after sink sink' (Err Resolution) is h = h
 
@@ -120,7 +146,8 @@ reports_on_it reading pens given page input before after sink sink' (Err (Write 
 reports_on_it reading pens given page input before after sink sink' (Err (Paint fault)) h = h
 reports_on_it reading pens given page input before after sink sink' (Err TooLong) h = h
 reports_on_it reading pens given page input before after sink sink' (Err Memory) h = h
-reports_on_it reading pens given page input before after sink sink' (Err (Plot fault)) h = h
+reports_on_it reading pens given page input before after sink sink' (Err (Plot fault)) h =
+    subst (λ (x : Page). IsNotDrawn (rules_of reading) x input before after (Plot fault)) h.0.1.1 h.1
 reports_on_it reading pens given page input before after sink sink' (Err Read) h = h
 reports_on_it reading pens given page input before after sink sink' (Err Resolution) h = h
 

@@ -12,12 +12,12 @@ use Rattle.devices.specs.Sinks.{SinkState}
 use Rattle.devices.specs.Sources.{SourceState}
 use Rattle.conversion.specs.declared.done.Done.{Done}
 use Rattle.conversion.specs.declared.fault.Fault.{Fault}
-use Rattle.conversion.specs.declared.fault.Fault.TheVariants.{TooLong, Memory, Paint, Write, Read, Resolution}
+use Rattle.conversion.specs.declared.fault.Fault.TheVariants.{TooLong, Memory, Paint, Plot, Write, Read, Resolution}
 use Rattle.conversion.specs.Boxes.{strokes_boxes}
 use Rattle.plot_page.specs.declared.page.Page.{Page}
 use Rattle.picture_job.specs.declared.page_choice.PageChoice.{PageChoice}
 use Rattle.picture_job.specs.declared.page_choice.PageChoice.TheVariants.{Given}
-use Rattle.conversion.specs.Placements.{IsPlaced}
+use Rattle.conversion.specs.Placements.{IsFirstPage, IsPlaced}
 use Rattle.page_fit.specs.Census.{census_of}
 use Rattle.conversion.specs.declared.placement.Placement.{Placement}
 use Rattle.conversion.specs.declared.outcome.Outcome.{Outcome}
@@ -95,6 +95,8 @@ ConvertsOn rules choice job page reaches input before after sink sink' (Err (Wri
 ConvertsOn rules choice job page reaches input before after sink sink' (Err (Paint fault)) =
     ((placement : Placement) × IsPlaced choice rules job.pens job.page input placement page)
     × IsRefused rules (on_page page job) input before after (Paint fault)
+ConvertsOn rules choice job page reaches input before after sink sink' (Err (Plot fault)) =
+    IsFirstPage choice rules job.page input page × IsRefused rules (on_page page job) input before after (Plot fault)
 ConvertsOn rules choice job page reaches input before after sink sink' (Err fault) =
     Converts rules job reaches input before after sink sink' (Err fault)
 

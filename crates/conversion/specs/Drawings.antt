@@ -8,7 +8,7 @@ use Rattle.plot_page.specs.declared.stroke.TheConstants.{MOST_STROKES}
 use Rattle.conversion.specs.Rules.{Rules}
 use Rattle.plot_page.specs.declared.pens.PenSet.{PenSet}
 use Rattle.picture_job.specs.declared.page_choice.PageChoice.{PageChoice}
-use Rattle.conversion.specs.Placements.{IsPlaced}
+use Rattle.conversion.specs.Placements.{IsFirstPage, IsPlaced}
 use Rattle.conversion.specs.declared.lines.Lines.{Lines}
 use Rattle.conversion.specs.declared.place.Placed.{Placed}
 use Rattle.conversion.specs.Readings.{WasRead, WasTooLong}
@@ -20,6 +20,11 @@ use Rattle.conversion.specs.declared.fault.Fault.TheVariants.{TooLong, Memory, P
 abbrev pub IsReason : PlotFault → Option PlotFault → Type 0
 IsReason plot.Memory refusal = ⊤
 IsReason fault refusal = refusal ≡ Some fault
+
+-- memory aside, the fault is the refusal of the plot for its first page
+abbrev pub IsReasonOnFirst : PageChoice → Rules → Page → List ℕ → PlotFault → Type 0
+IsReasonOnFirst choice rules given plot fault =
+    (page : Page) × IsFirstPage choice rules given plot page × IsReason fault (rules.refusal page plot)
 
 -- the plot is accepted for the page, and these are what it draws there, and how many notes there are on it
 pub record AreLinesOf (rules : Rules) (page : Page) (plot : List ℕ) (lines : Lines) : Type 0 where
@@ -48,7 +53,8 @@ Draws rules choice pens given input before after (Ok drawn) = IsDrawn rules choi
 Draws rules choice pens given input before after (Err TooLong) = WasTooLong input before after
 Draws rules choice pens given input before after (Err Read) = after.faults ≡ before.faults + 1
 Draws rules choice pens given input before after (Err Memory) = after.faults ≡ before.faults
-Draws rules choice pens given input before after (Err fault) = IsNotDrawn rules given input before after fault
+Draws rules choice pens given input before after (Err fault) =
+    (page : Page) × IsFirstPage choice rules given input page × IsNotDrawn rules page input before after fault
 
 -- a drawing: what it took from the source, and its answer
 pub record HasDrawn (rules : Rules) (choice : PageChoice) (pens : PenSet) (given : Page) (before after : SourceState)

@@ -12,7 +12,7 @@ use Rattle.conversion.specs.Rules.{core_notes, full_notes, rules_of}
 use Rattle.plot_page.specs.Pens.{has_pen}
 use Rattle.plot_page.specs.declared.pens.PenSet.{PenSet}
 use Rattle.picture_job.specs.declared.page_choice.PageChoice.{PageChoice}
-use Rattle.conversion.specs.Placements.{IsPlaced}
+use Rattle.conversion.specs.Placements.{IsFirstPage, IsPlaced}
 use Rattle.page_fit.specs.Census.{census_of}
 use Rattle.conversion.specs.declared.placement.Placement.{Placement}
 use Rattle.conversion.specs.declared.outcome.Outcome.{Outcome}
@@ -20,7 +20,7 @@ use Rattle.conversion.specs.Readings.{WasRead, WasTooLong}
 use Rattle.devices.specs.Sources.{SourceState}
 use Rattle.conversion.specs.declared.done.Done.{Done}
 use Rattle.conversion.specs.declared.fault.Fault.{Fault}
-use Rattle.conversion.specs.declared.fault.Fault.TheVariants.{TooLong, Memory, Write, Read}
+use Rattle.conversion.specs.declared.fault.Fault.TheVariants.{TooLong, Memory, Plot, Write, Read}
 
 -- the report on a plot that is read so, by its strokes and sheets
 abbrev pub report_on : Reading → Page → List Segment → ℕ → List ℕ → List ℕ
@@ -93,6 +93,9 @@ ReportsOn reading choice pens given page input before after sink sink' (Ok outco
 ReportsOn reading choice pens given page input before after sink sink' (Err (Write row whole bytes)) =
     ((placement : Placement) × IsPlaced choice (rules_of reading) pens given input placement page)
     × IsReportCutShort reading page input before after sink sink' row whole bytes
+ReportsOn reading choice pens given page input before after sink sink' (Err (Plot fault)) =
+    IsFirstPage choice (rules_of reading) given input page
+    × IsNotDrawn (rules_of reading) page input before after (Plot fault)
 ReportsOn reading choice pens given page input before after sink sink' (Err fault) =
     Reports reading given input before after sink sink' (Err fault)
 

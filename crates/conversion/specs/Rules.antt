@@ -8,6 +8,8 @@ use Rattle.hpgl_plot.specs.Notes as core
 use Rattle.hpgl_plot.specs.declared.note.Note.{Note}
 use Rattle.full_plot.specs.Drawings.{outcome, refusal_in, strokes_in, ends_in, sheet_strokes, sheet_count}
 use Rattle.full_notes.specs.Notes as full
+use Rattle.page_fit.specs.Around.{Sides}
+use Rattle.plot_size.specs.Sizes.{sides_asked}
 use Rattle.plot_page.specs.Segments.{Segment}
 use Rattle.plot_page.specs.declared.page.Page.{Page}
 use Rattle.picture_job.specs.declared.job.Job.{Job}
@@ -18,12 +20,14 @@ use Rattle.conversion.specs.declared.fault.Fault.{Fault}
 use Rattle.conversion.specs.declared.fault.Fault.TheVariants.{TooLong, Memory, Write, Read, Resolution}
 
 -- the strokes of a plot that is accepted for a page, the first refusal, or None if it is accepted, how many notes there
--- are on it, and how many sheets have strokes, 0 where that is not counted
+-- are on it, how many sheets have strokes, 0 where that is not counted, and the page that it asks for where one is given,
+-- or None if it asks for none
 pub record Rules : Type 0 where
   pub strokes : Page → List ℕ → List Segment
   pub refusal : Page → List ℕ → Option PlotFault
   pub notes : List ℕ → ℕ
   pub sheets : Page → List ℕ → ℕ
+  pub asked : Page → List ℕ → Option Sides
 
 -- what is noted on a plot in the profile core
 abbrev pub core_notes : List ℕ → List Note
@@ -36,6 +40,7 @@ core_rules = record {
   refusal = plot_refusal;
   notes = λ plot. length (core_notes plot);
   sheets = λ page plot. 0;
+  asked = sides_asked profile.Core;
 }
 
 -- what is noted on a plot in the profile full
@@ -53,6 +58,7 @@ full_rules sheet = record {
   sheets = λ page plot.
       let drawn = outcome page plot in
       sheet_count (ends_in drawn) (length (strokes_in drawn));
+  asked = sides_asked profile.Full;
 }
 
 -- how a plot is drawn that is read so

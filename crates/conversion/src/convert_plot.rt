@@ -79,12 +79,14 @@ pub fn convert_as<G: Gauge, S: Source, K: Sink>(
 }
 
 /// Writes the picture of the plot that the source gives, as `convert_as` does, on the page that is chosen:
-/// that of the job, or the page around what the job's pens draw on it.
+/// that of the job, the page of the size that the plot asks for, or the page around what the job's pens draw
+/// on that of the job.
 ///
 /// A plot is drawn again on the page around its drawing. If that is another drawing, the page of the job
 /// is kept.
 ///
-/// Errors: those of `convert`, in the same order.
+/// Errors: those of `convert`, in the same order. The plot is refused for the page that it asks for, if that is
+/// chosen and it asks for one, else for that of the job.
 pub fn convert_on<G: Gauge, S: Source, K: Sink>(
     alloc: Global,
     reading: Reading,

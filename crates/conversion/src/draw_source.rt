@@ -12,11 +12,11 @@ use picture_job::{PageChoice, Reading};
 use plot_page::{Page, PenSet};
 use std::alloc::Global;
 
-/// What the plot that the source gives draws on the page that was chosen, by what the selected pens draw.
-/// Of the plot nothing else is kept.
+/// What the plot that the source gives draws on the page that was chosen, by what the plot asks for or by what
+/// the selected pens draw. Of the plot nothing else is kept.
 ///
 /// Errors, in this order: `Read` if the source fails; `TooLong` if it gives more than 67,108,864
-/// bytes; `Plot` if the plot is refused for the page that is given. `Memory` comes when
+/// bytes; `Plot` if the plot is refused for the page that it is drawn on first. `Memory` comes when
 /// memory is refused.
 pub fn draw_source<S: Source>(
     alloc: Global,

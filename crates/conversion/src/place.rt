@@ -1,16 +1,19 @@
 //! Drawing a plot on the page that was chosen.
-ghost use Rattle.std.specs.Prelude.{◌≡◌, ◌↔◌, IsTrue, Some, IfOk, IfErr, IfSome, IfNone};
+ghost use Rattle.std.specs.Prelude.{◌≡◌, ◌↔◌, ℕ, List, IsTrue, Some, IfOk, IfErr, IfSome, IfNone};
 ghost use Rattle.page_fit.specs.Around.{sides_of};
-ghost use Rattle.conversion.specs.Drawings.{AreLinesOf, IsReason};
-ghost use Rattle.conversion.specs.Placements.{Fits, IsFitted, IsPlaced, sides_about};
+ghost use Rattle.plot_size.specs.Sizes.{sides_asked};
+ghost use Rattle.conversion.specs.Drawings.{AreLinesOf, IsReason, IsReasonOnFirst};
+ghost use Rattle.conversion.specs.Placements.{Fits, IsAsked, IsBegunOn, IsFitted, IsPlaced, sides_about};
 ghost use Rattle.conversion.specs.Rules.{rules_of};
 
 use crate::lines::{Lines, draw_as};
 use crate::placement::Placement;
 use hpgl_plot::PlotFault;
+use hpgl_text::Profile;
 use page_fit::{extent_of, page_around};
 use picture_job::{PageChoice, Reading};
 use plot_page::{Page, PenSet, Stroke};
+use plot_size::page_asked;
 use std::alloc::Global;
 
 /// What a plot draws, on which page, and why on this one.
@@ -21,9 +24,11 @@ pub struct Placed {
     pub lines: Lines,
 }
 
-/// What the text of a plot draws on the page that was chosen, by what the selected pens draw.
+/// What the text of a plot draws on the page that was chosen, by what the plot asks for or by what the
+/// selected pens draw.
 ///
-/// Errors: the refusal of the plot for the page that is given; `Memory` if memory runs out.
+/// Errors: the refusal of the plot for the page that it asks for, if that was chosen and it asks for one, else
+/// for the page that is given; `Memory` if memory runs out.
 pub fn draw_placed(
     alloc: Global,
     reading: Reading,
@@ -35,18 +40,49 @@ pub fn draw_placed(
     ensures placed { IfOk result (λ drawn. IsPlaced choice (rules_of reading) pens page.now text.now
         drawn.placement drawn.page) }
     ensures lines { IfOk result (λ drawn. AreLinesOf (rules_of reading) drawn.page text.now drawn.lines) }
-    ensures refused { IfErr result (λ fault. IsReason fault ((rules_of reading).refusal page.now text.now)) }
+    ensures refused { IfErr result (IsReasonOnFirst choice (rules_of reading) page.now text.now) }
 {
-    let lines = draw_as(alloc, reading, text, page)?;
+    let (placement, first) = first_page(reading, choice, page, text);
+    let lines = draw_as(alloc, reading, text, &first)?;
     match choice {
-        PageChoice::Given => Ok(Placed {
-            placement: Placement::Given,
-            page: *page,
+        PageChoice::Fitted { margin } => {
+            draw_fitted(alloc, reading, pens, margin, &first, text, lines)
+        }
+        PageChoice::Given | PageChoice::Asked => Ok(Placed {
+            placement,
+            page: first,
             lines,
         }),
-        PageChoice::Fitted { margin } => {
-            draw_fitted(alloc, reading, pens, margin, page, text, lines)
-        }
+    }
+}
+
+// The page that the plot is drawn on first, and why.
+fn first_page(reading: Reading, choice: PageChoice, page: &Page, text: &[u8]) -> (Placement, Page)
+    ensures { IsBegunOn choice (rules_of reading) page.now text.now result.0 result.1 }
+{
+    match choice {
+        PageChoice::Asked => asked_or_given(reading, page, text),
+        PageChoice::Given | PageChoice::Fitted { .. } => (Placement::Given, *page),
+    }
+}
+
+// The page that the plot asks for, or the one that is given if it asks for none.
+fn asked_or_given(reading: Reading, page: &Page, text: &[u8]) -> (Placement, Page)
+    ensures { IsAsked (rules_of reading) page.now text.now result.0 result.1 }
+{
+    match page_asked(profile_of(reading), page, text) {
+        Some(asked) => (Placement::Asked, asked),
+        None => (Placement::Unasked, *page),
+    }
+}
+
+// The profile by which a plot is read.
+fn profile_of(reading: Reading) -> Profile
+    ensures { (page : Page) (plot : List ℕ) → (rules_of reading).asked page plot ≡ sides_asked result page plot }
+{
+    match reading {
+        Reading::Core => Profile::Core,
+        Reading::Full { .. } => Profile::Full,
     }
 }
 

@@ -71,9 +71,11 @@ pub fn report_as<S: Source, K: Sink>(
 }
 
 /// Writes the report on the plot that the source gives, as `report_as` does, on the page that is chosen:
-/// the page that is given, or the page around what all pens draw on it.
+/// the page that is given, the page of the size that the plot asks for, or the page around what all pens draw
+/// on the page that is given.
 ///
-/// Errors: those of `report`, in the same order.
+/// Errors: those of `report`, in the same order. The plot is refused for the page that it asks for, if that is
+/// chosen and it asks for one, else for the page that is given.
 pub fn report_on<S: Source, K: Sink>(
     alloc: Global,
     reading: Reading,

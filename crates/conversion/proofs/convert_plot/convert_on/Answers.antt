@@ -84,13 +84,14 @@ returns-in_err-drawn-clause-converts g c =
     let is = g.S.Source.state c.draw_source.new.source in
     let sink : SinkState = g.K.Sink.state c.args.sink.now in
     let count = g.G.Gauge.count c.args.gauge.now in
+    let refused = not_drawn_on (rules_of c.args.reading) c.args.choice job (g.G.Gauge.reaches c.args.gauge.now) drawing.input was is sink sink _ drawing.draws in
     subst (λ (answer : Result Outcome Fault). HasConvertedOn (rules_of c.args.reading) c.args.choice job (g.G.Gauge.reaches c.args.gauge.now) was is sink sink count count answer)
     (sym (passed_on _ _ c.from_residual.ensures.1))
     (record {
       input = drawing.input;
       taken = drawing.taken;
-      page = job.page;
-      given = λ is. refl;
-      converts = not_drawn_on (rules_of c.args.reading) c.args.choice job (g.G.Gauge.reaches c.args.gauge.now) drawing.input was is sink sink _ drawing.draws;
+      page = refused.0;
+      given = refused.1;
+      converts = refused.2;
       tested = omega arith;
     })

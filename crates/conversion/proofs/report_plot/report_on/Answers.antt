@@ -3,13 +3,13 @@ use Rattle.std.specs.Io.KnownBytes.{Appends}
 use Rattle.devices.specs.Sinks.{SinkState}
 use Rattle.page_fit.specs.Census.{census_of}
 use Rattle.plot_page.specs.Segments.{Segment}
-use Rattle.conversion.specs.Drawings.{AreLinesOf}
+use Rattle.conversion.specs.Drawings.{AreLinesOf, IsReasonOnFirst}
 use Rattle.conversion.specs.Placements.{IsPlaced}
 use Rattle.conversion.specs.Reports.{HasReportedOn, report_on}
 use Rattle.conversion.specs.Rules.{Rules, rules_of}
 use Rattle.conversion.specs.declared.fault.Fault.{Fault}
 use Rattle.conversion.specs.declared.outcome.Outcome.{Outcome}
-use Rattle.conversion.proofs.Choices.{not_read_on, same_report}
+use Rattle.conversion.proofs.Choices.{not_read_on, not_reported, same_report}
 use Rattle.conversion.proofs.Refusals.{passed_on}
 use Rattle.conversion.proofs.report_plot.report_on.Goals as goal
 
@@ -27,6 +27,27 @@ returns-in_err-plot-clause-reports g c =
       all = c.all-pens.ensures;
       page = c.args.page.now;
       reports = not_read_on c.args.reading c.args.choice c.all-pens.result c.args.page.now reads.input was is sink sink _ reads.reads;
+    })
+
+pub returns-in_err-drawn-clause-reports : goal.returns-in_err-drawn-clause-reports
+returns-in_err-drawn-clause-reports g c =
+    let reads = c.in_ok-plot.ensures.reads in
+    let was = g.S.Source.state c.args.source.now in
+    let is = g.S.Source.state c.read_plot.new.source in
+    let sink : SinkState = g.K.Sink.state c.args.sink.now in
+    let same : c.as_slice.result.now ≡ reads.input = c.as_slice.ensures.value ∙ reads.reads.0 in
+    let reason =
+    subst (λ (plot : List ℕ). IsReasonOnFirst c.args.choice (rules_of c.args.reading) c.args.page.now plot c.in_err-drawn.field-0.0) same c.in_err-drawn.ensures.refused in
+    let refused = not_reported c.args.reading c.args.choice c.all-pens.result c.args.page.now reads.input was is sink sink c.in_err-drawn.field-0.0 reads.reads.1 reason in
+    subst (λ (answer : Result Outcome Fault). HasReportedOn c.args.reading c.args.choice c.args.page.now was is sink sink answer)
+    (sym (passed_on _ _ c.from_residual-in_err-drawn.ensures.1))
+    (record {
+      input = reads.input;
+      taken = reads.taken;
+      pens = c.all-pens.result;
+      all = c.all-pens.ensures;
+      page = refused.0;
+      reports = refused.1;
     })
 
 pub returns-in-Ok-clause-reports : goal.returns-in-Ok-clause-reports
