@@ -10,7 +10,7 @@ use Rattle.std.proofs.lemmas.List.Folds.{find-append}
 use Rattle.std.proofs.lemmas.Slice.Eq.{bytes_eq-Decides}
 use Rattle.clap.specs.Words.{Text}
 use Rattle.plot_page.specs.Pages.{has_page_size}
-use Rattle.command_line.specs.Papers.{landscape_of, paper_of, papers, portrait, size_in}
+use Rattle.command_line.specs.Papers.{landscape_of, names_plot, paper_of, papers, portrait, size_in, size_named}
 
 abbrev Paper : Type 0
 Paper = Text × (ℕ × ℕ)
@@ -102,3 +102,12 @@ found_fits (it ∷ its) name all = branch (bytes_eq it.0 name) refl (found_fits 
 -- the size of each paper is one of a page
 pub paper_fits : (name : Text) → IfSome (paper_of name) (λ size. has_page_size size.0 size.1 ≡ true)
 paper_fits name = found_fits (papers ++ map portrait papers) name all_fit
+
+-- so is the size that a name gives
+pub named_fits : (name : Text) → IfSome (size_named name) (λ size. has_page_size size.0 size.1 ≡ true)
+named_fits name = branch (names_plot name) refl (paper_fits name)
+  where
+    branch : (b : Bool) → names_plot name ≡ b → IfSome (paper_of name) (λ size. has_page_size size.0 size.1 ≡ true)
+        → IfSome (size_named name) (λ size. has_page_size size.0 size.1 ≡ true)
+    branch true same fits = rw same refl
+    branch false other fits = rw other fits

@@ -11,15 +11,16 @@ use Rattle.plot_page.specs.declared.pens.PenSet.{PenSet}
 use Rattle.plot_page.specs.Pens.{has_pen}
 use Rattle.clap_parses.specs.Parses.{HasGoodMatches}
 use Rattle.command_line.specs.Options.{subcommands, plot_app}
-use Rattle.command_line.specs.Papers.{paper_of}
+use Rattle.command_line.specs.Papers.{names_plot, size_named}
 use Rattle.pen_list.specs.Lists.{is_listed, is_pen_list}
 use Rattle.picture_job.specs.declared.job.Job.{Job}
 use Rattle.picture_job.specs.declared.reading.Reading.{Reading}
 use Rattle.picture_job.specs.declared.reading.Reading.TheVariants.{Core, Full}
 use Rattle.picture_job.specs.declared.page_choice.PageChoice.{PageChoice}
-use Rattle.picture_job.specs.declared.page_choice.PageChoice.TheVariants.{Given, Fitted}
+use Rattle.picture_job.specs.declared.page_choice.PageChoice.TheVariants.{Given, Asked, Fitted}
 use Rattle.command_line.specs.declared.fault.LineFault.{LineFault}
-use Rattle.command_line.specs.declared.fault.LineFault.TheVariants.{Pens, Paper, Size, Profile, Sheet, Margin, Several}
+use Rattle.command_line.specs.declared.fault.LineFault.TheVariants.{Pens, Paper, Size, Profile, Sheet, Fit, Margin}
+use Rattle.command_line.specs.declared.fault.LineFault.TheVariants.{Several}
 use Rattle.command_line.specs.declared.line.Line.{Line}
 use Rattle.command_line.specs.declared.line.Task.{Task}
 use Rattle.command_line.specs.declared.line.Task.TheVariants.{Picture, Report}
@@ -34,7 +35,7 @@ number_in rows name = option_map (λ t. digits_value 10 (without_leading_plus t)
 abbrev pub pens_text : List Row → Option Text
 pens_text rows = first_of (codes "pens") rows
 
--- the name of the paper, or None if none is named
+-- the name of the paper, or `plot`, or None if none is named
 abbrev pub paper_text : List Row → Option Text
 paper_text rows = first_of (codes "page") rows
 
@@ -53,6 +54,10 @@ has_flag rows name = option_map_or (λ text. bytes_eq text (codes "true")) (firs
 -- the page is to be fitted to the drawing
 abbrev pub has_fit : List Row → Bool
 has_fit rows = has_flag rows (codes "fit")
+
+-- the page is to have the size that the plot asks for
+abbrev pub asks_plot : List Row → Bool
+asks_plot rows = option_map_or names_plot (paper_text rows) false
 
 -- the margin in millimetres, or None if none is given
 abbrev pub margin_in : List Row → Option ℕ
@@ -83,9 +88,9 @@ is_picture output.Report = false
 abbrev pub given_size : List Row → ℕ × ℕ
 given_size rows = (unwrap_or (number_in rows (codes "width")) 11880, unwrap_or (number_in rows (codes "height")) 8400)
 
--- the width and the height of the page: those of the paper, if one is named
+-- the width and the height of the page: those of what `--page` names, if it names something
 abbrev pub page_size : List Row → Option (ℕ × ℕ)
-page_size rows = option_map_or paper_of (paper_text rows) (Some (given_size rows))
+page_size rows = option_map_or size_named (paper_text rows) (Some (given_size rows))
 
 -- a paper is named, and a width or a height is given
 abbrev pub has_paper_and_side : List Row → Bool
@@ -124,10 +129,13 @@ abbrev pub IsReadingOf : List Row → Reading → Type 0
 IsReadingOf rows Core = (profile_text rows ≡ Some (codes "core")) × (sheet_in rows ≡ None)
 IsReadingOf rows (Full sheet) = (profile_text rows ≡ Some (codes "full")) × (unwrap_or (sheet_in rows) 1 ≡ sheet)
 
--- the page is the given one, or it is fitted to the drawing, with the given margin, or with 1 mm if none is given
+-- the page is the given one, or that which the plot asks for, or it is fitted to the drawing, with the given margin, or
+-- with 1 mm if none is given
 abbrev pub IsChoiceOf : List Row → PageChoice → Type 0
-IsChoiceOf rows Given = (has_fit rows ≡ false) × (margin_in rows ≡ None)
-IsChoiceOf rows (Fitted margin) = (has_fit rows ≡ true) × (unwrap_or (margin_in rows) 1 ≡ margin)
+IsChoiceOf rows Given = (has_fit rows ≡ false) × (asks_plot rows ≡ false) × (margin_in rows ≡ None)
+IsChoiceOf rows Asked = (has_fit rows ≡ false) × (asks_plot rows ≡ true) × (margin_in rows ≡ None)
+IsChoiceOf rows (Fitted margin) =
+    (has_fit rows ≡ true) × (asks_plot rows ≡ false) × (unwrap_or (margin_in rows) 1 ≡ margin)
 
 -- the line is what the matches m ask for: by the subcommand, its options and its files
 pub record IsLineOf (m : ArgMatches) (line : Line) : Type 0 where
@@ -158,9 +166,9 @@ has_bad_list (name, rows) = option_map_or is_picture (output_named name) false &
 abbrev pub asks_bad_list : ArgMatches → Bool
 asks_bad_list m = option_map_or has_bad_list (subcommand_rows_of m) false
 
--- there is no paper of this name
+-- there is no such name
 abbrev pub has_bad_paper : List Row → Bool
-has_bad_paper rows = option_map_or (λ name. not (is_some (paper_of name))) (paper_text rows) false
+has_bad_paper rows = option_map_or (λ name. not (is_some (size_named name))) (paper_text rows) false
 
 -- what is wrong with the size of the page
 abbrev pub page_fault : List Row → Option LineFault
@@ -184,9 +192,13 @@ abbrev pub reading_fault : List Row → Option LineFault
 reading_fault rows =
     if has_bad_profile rows then Some Profile else if has_stray_sheet rows then Some Sheet else None
 
--- what is wrong with the choice of the page: a margin is given, and the page is not to be fitted
+-- what is wrong with the choice of the page: it is to be fitted, and the plot is asked for it, or a margin is given, and it
+-- is not to be fitted
 abbrev pub choice_fault : List Row → Option LineFault
-choice_fault rows = if not (has_fit rows) && is_some (margin_in rows) then Some Margin else None
+choice_fault rows =
+    if has_fit rows && asks_plot rows then Some Fit else
+    if not (has_fit rows) && is_some (margin_in rows) then Some Margin else
+    None
 
 -- what is wrong with where the output goes: nothing says it, and there are several plots
 abbrev pub output_fault : List Row → Option LineFault

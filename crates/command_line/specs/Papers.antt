@@ -1,5 +1,6 @@
--- The papers that `--page` names, with their sizes in plotter units of 1/40 mm: those of ISO 216, and American ones.
-use Rattle.std.specs.Prelude.{ℕ, List, [], ◌∷◌, ◌++◌, map, Option, codes, find, option_map}
+-- What `--page` names: papers, with their sizes in plotter units of 1/40 mm: those of ISO 216, and American ones;
+-- or the plot.
+use Rattle.std.specs.Prelude.{ℕ, Bool, List, [], ◌∷◌, ◌++◌, map, Option, Some, codes, find, option_map, if◌then◌else◌}
 use Rattle.std.specs.Str.{bytes_eq}
 use Rattle.clap.specs.Words.{Text}
 
@@ -40,3 +41,11 @@ landscape_of name = size_in papers name
 -- of all papers
 abbrev pub paper_of : Text → Option (ℕ × ℕ)
 paper_of name = size_in (papers ++ map portrait papers) name
+
+-- the plot is named, whose size is to be that which it asks for
+abbrev pub names_plot : Text → Bool
+names_plot name = bytes_eq name (codes "plot")
+
+-- the size of the page that is given by a name: that of the paper, or for the plot the default one
+abbrev pub size_named : Text → Option (ℕ × ℕ)
+size_named name = if names_plot name then Some (11880, 8400) else paper_of name

@@ -8,7 +8,7 @@ use Rattle.command_line.specs.declared.subcommands.Output.{Output}
 use Rattle.command_line.specs.declared.subcommands.Output.TheVariants.{Picture, Report}
 use Rattle.command_line.specs.declared.fault.LineFault.{LineFault}
 use Rattle.command_line.specs.declared.fault.LineFault.TheVariants.{Pens, Paper, Size}
-use Rattle.command_line.specs.Papers.{paper_of}
+use Rattle.command_line.specs.Papers.{size_named}
 use Rattle.command_line.specs.Lines.{lists_no_pens, number_in, output_named, page_fault, pens_text, profile_text}
 
 -- the option has a text that is a whole number from low to high
@@ -35,15 +35,15 @@ pub record HasPictureValues (rows : List Row) : Type 0 where
   pub band : HasNumber rows (codes "band") 1 4096
   pub first_row : HasNumber rows (codes "from") 0 99999
 
--- the size of a paper, unless there is none, or a side is given too
+-- the size that a name gives, unless it names nothing, or a side is given too
 abbrev pub size_or_fault : Option (ℕ × ℕ) → Bool → Result (ℕ × ℕ) LineFault
 size_or_fault None _ = Err Paper
 size_or_fault (Some size) true = Err Size
 size_or_fault (Some size) false = Ok size
 
--- the same of the paper of this name
+-- the same of this name
 abbrev pub paper_or_fault : Text → Bool → Result (ℕ × ℕ) LineFault
-paper_or_fault name has_side = size_or_fault (paper_of name) has_side
+paper_or_fault name has_side = size_or_fault (size_named name) has_side
 
 -- what is wrong with the values of a picture's options
 abbrev pub picture_fault : List Row → Option LineFault

@@ -23,7 +23,7 @@ pub enum LineFault {
     /// The text after `--pens` is no list of pens.
     #[error("bad pen list")]
     Pens,
-    /// The word after `--page` names no paper.
+    /// The word after `--page` names no paper, and is not `plot`.
     #[error("bad page: use a0 to a5, b4, letter, legal, tabloid, ansi-a to ansi-e, arch-d or arch-e, or one of these with -portrait")]
     Paper,
     /// `--page` is given with `--width` or `--height`.
@@ -35,6 +35,9 @@ pub enum LineFault {
     /// `--sheet` is given with the profile core, which has no sheets.
     #[error("--sheet needs --profile full")]
     Sheet,
+    /// `--fit` is given with `--page plot`.
+    #[error("--fit may not be given with --page plot")]
+    Fit,
     /// `--margin` is given without `--fit`.
     #[error("--margin needs --fit")]
     Margin,

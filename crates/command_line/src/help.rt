@@ -31,7 +31,8 @@ pub(crate) const HEIGHT: HelpLine<'static> = HelpLine {
 pub(crate) const PAGE: HelpLine<'static> = HelpLine {
     value: "NAME",
     help: "Paper of the page, instead of --width and --height: a0 to a5, b4, letter, legal, tabloid, ansi-a to ansi-e, \
-        arch-d or arch-e; landscape, or portrait with -portrait after the name [default: a4]",
+        arch-d or arch-e; landscape, or portrait with -portrait after the name, or plot for the size that the plot asks \
+        for by PS [default: a4]",
 };
 
 pub(crate) const LEFT: HelpLine<'static> = HelpLine {

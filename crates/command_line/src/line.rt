@@ -6,14 +6,14 @@ ghost use Rattle.clap.specs.Words.{found_of, rows_of};
 ghost use Rattle.command_line.specs.Lines.{number_in, lists_no_pens, has_bad_list, asks_bad_list};
 ghost use Rattle.command_line.specs.Lines.{ArePensOf, IsPageOf, IsJobOf, IsTaskOf, IsLineOf, AreOfThisCommand};
 ghost use Rattle.command_line.specs.Lines.{IsReadingOf, line_fault, page_fault, pens_text, reading_fault, task_fault};
-ghost use Rattle.command_line.specs.Lines.{IsChoiceOf, choice_fault, has_flag, has_paper_and_side, page_size};
+ghost use Rattle.command_line.specs.Lines.{IsChoiceOf, asks_plot, choice_fault, has_flag, has_paper_and_side, page_size};
 ghost use Rattle.command_line.specs.Lines.{files_in, has_no_place, output_fault, output_text};
 ghost use Rattle.command_line.specs.Readings.{HasChoiceValues, HasNumber, HasPageNumbers, HasPictureValues, HasReadingValues, HasTaskValues};
 ghost use Rattle.command_line.specs.Readings.{MayHaveNumber, paper_or_fault, picture_fault};
 ghost use Rattle.plot_page.specs.Pages.{has_page_size};
 
 use crate::fault::LineFault;
-use crate::papers::paper_named;
+use crate::papers::{names_plot, size_named};
 use crate::subcommands::{Output, output_of};
 use clap::ArgMatches;
 use pen_list::read_pens;
@@ -51,11 +51,11 @@ pub struct Line<'m, 'a> {
 /// The values of the matches of `command`'s command.
 ///
 /// Errors, of which the first is given: `Pens` if a picture is asked for and `--pens` is not a valid
-/// list, `Paper` if `--page` names no paper, `Size` if `--page` is given with `--width` or
+/// list, `Paper` if `--page` names no paper and not the plot, `Size` if `--page` is given with `--width` or
 /// `--height`, `Profile` if `--profile` is neither `core` nor `full`, `Sheet` if `--sheet` is
-/// given with the profile core, `Margin` if `--margin` is given without `--fit`, and `Several` if
-/// several files are given without `--output`; no other one after a `parse` that succeeded. `Words`
-/// if the matches are of another command.
+/// given with the profile core, `Fit` if `--fit` is given with `--page plot`, `Margin` if `--margin` is
+/// given without `--fit`, and `Several` if several files are given without `--output`; no other one
+/// after a `parse` that succeeded. `Words` if the matches are of another command.
 pub fn settle<'m, 'a>(matches: &'m ArgMatches<'a>) -> Result<Line<'m, 'a>, LineFault>
     ensures line { IfOk result (IsLineOf matches.now) }
     ensures pens { (result ≡ Err LineFault.Pens) ↔ (asks_bad_list matches.now ≡ true) }
@@ -144,11 +144,11 @@ fn size_of(options: &ArgMatches<'_>) -> Result<(u32, u32), LineFault>
     }
 }
 
-// The size of the paper of this name, beside which no width and no height may be given.
+// The size that this name gives, beside which no width and no height may be given.
 fn paper_size(name: &str, width: Option<u32>, height: Option<u32>) -> Result<(u32, u32), LineFault>
     ensures { result ≡ paper_or_fault name.now (is_some width || is_some height) }
 {
-    let size = paper_named(name).ok_or(LineFault::Paper)?;
+    let size = size_named(name).ok_or(LineFault::Paper)?;
     if width.is_some() || height.is_some() {
         return Err(LineFault::Size);
     }
@@ -184,14 +184,29 @@ fn choice_of(options: &ArgMatches<'_>) -> Result<PageChoice, LineFault>
         result_err result ≡ choice_fault (rows_of (found_of options.now)) }
 {
     let margin = number_if_given(options, "margin")?;
+    let asks_plot = asks_plot(options);
     if has_flag(options, "fit") {
+        if asks_plot {
+            return Err(LineFault::Fit);
+        }
         return Ok(PageChoice::Fitted {
             margin: margin.unwrap_or(1),
         });
     }
     match margin {
+        None if asks_plot => Ok(PageChoice::Asked),
         None => Ok(PageChoice::Given),
         Some(_) => Err(LineFault::Margin),
+    }
+}
+
+// Whether the page is to have the size that the plot asks for.
+fn asks_plot(options: &ArgMatches<'_>) -> bool
+    ensures { result ≡ asks_plot (rows_of (found_of options.now)) }
+{
+    match options.get_str("page") {
+        Some(name) => names_plot(name),
+        None => false,
     }
 }
 

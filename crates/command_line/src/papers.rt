@@ -1,6 +1,6 @@
-//! The papers that `--page` names.
+//! What `--page` names: papers, or the plot.
 ghost use Rattle.std.specs.Prelude.{◌≡◌, map};
-ghost use Rattle.command_line.specs.Papers.{landscape_of, paper_of, size_in};
+ghost use Rattle.command_line.specs.Papers.{landscape_of, names_plot, paper_of, size_in, size_named};
 
 // The name of each paper, and its width and height in landscape, in plotter units.
 const PAPERS: [(&str, (u32, u32)); 17] = [
@@ -23,9 +23,30 @@ const PAPERS: [(&str, (u32, u32)); 17] = [
     ("arch-e", (48768, 36576)),
 ];
 
-/// The width and the height of the paper of this name, in plotter units: in landscape, or in
-/// portrait if `-portrait` follows the name.
-pub(crate) fn paper_named(name: &str) -> Option<(u32, u32)>
+// The width and the height of A4 in landscape.
+const A4: (u32, u32) = (11880, 8400);
+
+/// Whether the plot is named, whose size is to be that which it asks for.
+pub(crate) fn names_plot(name: &str) -> bool
+    ensures { result ≡ names_plot name.now }
+{
+    name == "plot"
+}
+
+/// The width and the height of the page that is given by a name, in plotter units: those of the paper,
+/// or for the plot those of A4 in landscape.
+pub(crate) fn size_named(name: &str) -> Option<(u32, u32)>
+    ensures { result ≡ size_named name.now }
+{
+    if names_plot(name) {
+        return Some(A4);
+    }
+    paper_named(name)
+}
+
+// The width and the height of the paper of this name: in landscape, or in portrait if `-portrait`
+// follows the name.
+fn paper_named(name: &str) -> Option<(u32, u32)>
     ensures { result ≡ paper_of name.now }
 {
     let Some(paper) = name.strip_suffix("-portrait") else {

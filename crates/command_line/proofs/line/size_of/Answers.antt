@@ -8,9 +8,9 @@ use Rattle.plot_page.specs.Pages.{has_page_size}
 use Rattle.command_line.specs.declared.fault.LineFault.{LineFault}
 use Rattle.command_line.specs.declared.fault.LineFault.TheVariants.{Pens}
 use Rattle.command_line.specs.Lines.{has_paper_and_side, number_in, page_fault, page_size, paper_text}
-use Rattle.command_line.specs.Papers.{paper_of}
+use Rattle.command_line.specs.Papers.{size_named}
 use Rattle.command_line.specs.Readings.{paper_or_fault, size_or_fault}
-use Rattle.command_line.proofs.PaperSizes.{paper_fits}
+use Rattle.command_line.proofs.PaperSizes.{named_fits}
 use Rattle.command_line.proofs.line.size_of.Goals as goal
 
 -- what the size of a page is to be if no paper is given
@@ -33,10 +33,10 @@ record WithPaper (rows : List Row) (r : Result (ℕ × ℕ) LineFault) : Type 0 
 
 with_paper : (rows : List Row) (name : Text) (width height : Option ℕ) → paper_text rows ≡ Some name → number_in rows (codes "width") ≡ width
     → number_in rows (codes "height") ≡ height → WithPaper rows (paper_or_fault name (is_some width || is_some height))
-with_paper rows name width height some w h = branch (paper_of name) (is_some width || is_some height) refl refl (paper_fits name)
+with_paper rows name width height some w h = branch (size_named name) (is_some width || is_some height) refl refl (named_fits name)
   where
-    branch : (o : Option (ℕ × ℕ)) (b : Bool) → paper_of name ≡ o → (is_some width || is_some height) ≡ b
-        → IfSome (paper_of name) (λ size. has_page_size size.0 size.1 ≡ true) → WithPaper rows (size_or_fault o b)
+    branch : (o : Option (ℕ × ℕ)) (b : Bool) → size_named name ≡ o → (is_some width || is_some height) ≡ b
+        → IfSome (size_named name) (λ size. has_page_size size.0 size.1 ≡ true) → WithPaper rows (size_or_fault o b)
     branch None b is side fit = record { size = tt; one_way = tt; pens = λ e. absurd (cc); fits = tt; fault = rw (some, is) refl }
     branch (Some size) true is side fit = record { size = tt; one_way = tt; pens = λ e. absurd (cc); fits = tt; fault = rw (some, is, w, h, side) refl }
     branch (Some size) false is side fit = record {
