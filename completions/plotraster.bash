@@ -10,7 +10,7 @@ _plotraster() {
         return
     fi
     if [ "$command" != report ]; then
-        options="$options --dots --pens --band --from --verbose"
+        options="$options --dots --pens --band --from --verbose --progress"
         case "$before" in
             --dots)
                 local dots="75 100 150 200 300 600 1200"

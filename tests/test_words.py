@@ -147,7 +147,8 @@ def options_twice():
     for name in [*PAGE_RANGES, "--page", "--sheet", "--margin", "--profile", "--output"]:
         yield ["report", name, "100", "line.plt", f"{name}=100"], USAGE
     yield ["report", "--fit", "line.plt", "--fit"], USAGE
-    yield ["pbm", "--verbose", "--verbose", "line.plt"], USAGE
+    for flag in ["--verbose", "--progress"]:
+        yield ["pbm", flag, flag, "line.plt"], USAGE
     yield ["pcl", "-o", "picture", "line.plt", "--output=picture"], USAGE
 
 
@@ -155,6 +156,7 @@ def unknown_options():
     """Options that there are not, abbreviations among them."""
     for word in [
         "--dot", "--d", "--pen", "--wid", "--Dots", "--DOTS", "--dots-per-inch", "--dotss", "--dots ", "--version", "-V",
+        "--progres", "--progress=1", "-p",
         "--verb", "--verbos", "-v", "-w", "--fi", "--fit=1", "--fit=", "--fits", "--margins=1", "--prof", "--sheets", "-dots",
         "-1", "-0", "--1", "--=", "--=5", "---", "---dots", "--\u00e9", "-\u00e9", "--" + "w" * LONG, "-" + "w" * LONG,
     ]:
@@ -166,7 +168,8 @@ def unknown_options():
 
 def options_of_pictures():
     """A report has no options of a picture."""
-    yield ["report", "--verbose"], USAGE
+    for flag in ["--verbose", "--progress"]:
+        yield ["report", flag], USAGE
     for word in ["--dots=100", "--pens=all", "--band=64", "--from=0"]:
         yield ["report", word], USAGE
         yield ["report", *word.split("="), "line.plt"], USAGE

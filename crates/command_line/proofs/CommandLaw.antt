@@ -13,8 +13,8 @@ use Rattle.command_line.specs.Options.{picture_app, plot_app, report_app, subcom
 use Rattle.clap_parses.specs.Parses.{HasGoodMatches, IsSingleShape}
 use Rattle.clap_parses.proofs.ParseLaw.{parse_good}
 
--- width, height, page, left, below, margin, profile, sheet, output, dots, pens, band and from take one value each; fit and
--- verbose are flags; FILE takes one value at each use; the last one is help
+-- width, height, page, left, below, margin, profile, sheet, output, dots, pens, band and from take one value each; fit,
+-- verbose and progress are flags; FILE takes one value at each use; the last one is help
 picture_single : (name : Text) → IsSingleShape (built_leaf (picture_app name).top)
 picture_single name = record {
   single = (
@@ -48,8 +48,11 @@ picture_single name = record {
                               (
                                 record { found = refl; kind = inr (inl (record { sets = refl; takes = refl; stands = search rules })); defaults = search rules },
                                 (
-                                  record { found = refl; kind = inr (inr (inl (record { appends = refl; takes = refl }))); defaults = search rules },
-                                  (record { found = refl; kind = inr (inr (inr refl)); defaults = search rules }, tt),
+                                  record { found = refl; kind = inr (inl (record { sets = refl; takes = refl; stands = search rules })); defaults = search rules },
+                                  (
+                                    record { found = refl; kind = inr (inr (inl (record { appends = refl; takes = refl }))); defaults = search rules },
+                                    (record { found = refl; kind = inr (inr (inr refl)); defaults = search rules }, tt),
+                                  ),
                                 ),
                               ),
                             ),

@@ -149,6 +149,7 @@ pub record IsLineOf (m : ArgMatches) (line : Line) : Type 0 where
   pub output : option_map (λ s. s.now) line.output ≡ output_text rows
   pub placed : has_no_place rows ≡ false
   pub verbose : line.verbose ≡ has_flag rows (codes "verbose")
+  pub progress : line.progress ≡ has_flag rows (codes "progress")
 
 -- the matches are those of a command line in which `plotraster` finds no fault
 abbrev pub AreOfThisCommand : ArgMatches → Type 0

@@ -66,14 +66,16 @@ output_rule = record (bare_rule (codes "output") vp.String) { short = Some 111 }
 abbrev pub with_plot : App → App
 with_plot a = with_rule (with_reading (with_fit (with_page a))) output_rule
 
--- how a picture is made: dots per inch, pens, rows in a band, first row; and whether to say what was drawn
+-- how a picture is made: dots per inch, pens, rows in a band, first row; whether to say what was drawn, and whether to
+-- show how far the picture is
 abbrev pub with_picture : App → App
-with_picture a = with_rule (with_rule (with_rule (with_rule (with_rule a
+with_picture a = with_rule (with_rule (with_rule (with_rule (with_rule (with_rule a
     (number_rule (codes "dots") 10 1200 (codes "100")))
     (option_rule (codes "pens") vp.String (codes "all")))
     (number_rule (codes "band") 1 4096 (codes "4096")))
     (number_rule (codes "from") 0 99999 (codes "0")))
-    (flag_rule (codes "verbose"))
+    (flag_rule (codes "verbose")))
+    (flag_rule (codes "progress"))
 
 -- a subcommand that writes a picture
 abbrev pub picture_app : Text → App

@@ -75,6 +75,9 @@ pub(crate) const OUTPUT: HelpLine<'static> = HelpLine {
 pub(crate) const VERBOSE: &str =
     "Say on standard error what was drawn, what lies off the page, and what was skipped";
 
+pub(crate) const PROGRESS: &str =
+    "Show on standard error, if it is a terminal, how many rows of a long picture are written, and how many are left";
+
 pub(crate) const DOTS: HelpLine<'static> = HelpLine {
     value: "DPI",
     help: "Resolution in dots per inch, 10 to 1200",

@@ -46,6 +46,8 @@ pub struct Line<'m, 'a> {
     pub output: Option<&'a str>,
     /// Whether to say on standard error what was drawn.
     pub verbose: bool,
+    /// Whether to show on standard error how far the picture is.
+    pub progress: bool,
 }
 
 /// The values of the matches of `command`'s command.
@@ -69,6 +71,7 @@ pub fn settle<'m, 'a>(matches: &'m ArgMatches<'a>) -> Result<Line<'m, 'a>, LineF
         files: files_of(options),
         output: place_of(options)?,
         verbose: has_flag(options, "verbose"),
+        progress: has_flag(options, "progress"),
     })
 }
 

@@ -15,7 +15,7 @@ ghost use Rattle.clap_parses.specs.Parses.{HasGoodMatches};
 use crate::fault::BuildFault;
 use crate::help::{
     BAND, BELOW, FILE, FIT, FROM, HEIGHT, HelpLine, HelpPage, LEFT, MARGIN, OUTPUT, PAGE, PENS,
-    PROFILE, SHEET, TOP, VERBOSE, VERSION, WIDTH,
+    PROFILE, PROGRESS, SHEET, TOP, VERBOSE, VERSION, WIDTH,
 };
 use crate::subcommands::{Output, SUBCOMMANDS, dots_line};
 use clap::builder::ValueParser;
@@ -208,11 +208,14 @@ fn add_picture<'a>(
     let pens = pens_of(alloc);
     let band = number_of(alloc, "band", 1, 4096, "4096", BAND);
     let from = number_of(alloc, "from", 0, 99999, "0", FROM);
+    let verbose = flag_of(alloc, "verbose", VERBOSE);
+    let progress = flag_of(alloc, "progress", PROGRESS);
     let command = add(command, dots)?;
     let command = add(command, pens)?;
     let command = add(command, band)?;
     let command = add(command, from)?;
-    add(command, flag_of(alloc, "verbose", VERBOSE))
+    let command = add(command, verbose)?;
+    add(command, progress)
 }
 
 fn picture_command<'a>(

@@ -18,6 +18,8 @@ pub enum Asked {
     Reading,
     // Only which page a command line chooses, and whether more is to be said, or why it is refused.
     Page,
+    // Only which messages a command line asks for, or why it is refused.
+    Messages,
     // Only what a command line has written and the files that it has read, or why it is refused.
     Files,
     // The pens of a list.
@@ -64,7 +66,9 @@ pub fn has_answers_for_each(
 
 fn answer_of(alloc: Global, asked: Asked, line: &str) -> Result<String, Fail> {
     match asked {
-        Asked::Line | Asked::Reading | Asked::Page | Asked::Files => told(alloc, asked, line),
+        Asked::Line | Asked::Reading | Asked::Page | Asked::Messages | Asked::Files => {
+            told(alloc, asked, line)
+        }
         Asked::Pens => Ok(list_told(alloc, line)?),
     }
 }
@@ -102,6 +106,10 @@ fn line_told(alloc: Global, asked: Asked, line: &Line<'_, '_>) -> Result<String,
         (Asked::Page, _) => {
             let (choice, verbose) = (line.choice, line.verbose);
             format!(in alloc; "{choice:?} {verbose}")
+        }
+        (Asked::Messages, _) => {
+            let (verbose, progress) = (line.verbose, line.progress);
+            format!(in alloc; "verbose {verbose}, progress {progress}")
         }
         (Asked::Files, _) => files_told(alloc, line.output, line.files),
         (_, Task::Picture(job)) => job_told(alloc, job, file),

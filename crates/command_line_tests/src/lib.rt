@@ -6,6 +6,8 @@ mod cases;
 #[cfg(test)]
 mod choices;
 #[cfg(test)]
+mod messages;
+#[cfg(test)]
 mod options;
 #[cfg(test)]
 mod outputs;

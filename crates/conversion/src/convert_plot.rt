@@ -10,6 +10,7 @@ use crate::draw_source::draw_source;
 use crate::fault::Fault;
 use crate::outcome::Outcome;
 use crate::painting::paint;
+use crate::watcher::{Unwatched, Watcher};
 use devices::{Sink, Source};
 use page_fit::census_of;
 use picture_job::{Job, PageChoice, Reading};
@@ -107,6 +108,43 @@ pub fn convert_on<G: Gauge, S: Source, K: Sink>(
     ensures same { G.reaches gauge.new ≡ G.reaches gauge.old }
     ensures untouched { IfErr result (λ fault. is_write fault ≡ false → sink.new ≡ sink.old) }
 {
+    convert_watched(
+        alloc,
+        reading,
+        choice,
+        job,
+        gauge,
+        source,
+        sink,
+        &mut Unwatched,
+    )
+}
+
+/// Writes the picture of the plot that the source gives, as `convert_on` does, and tells the watcher after each band of
+/// rows how many are written. A picture without rows has no bands, and the watcher is told nothing.
+///
+/// Errors: those of `convert`, in the same order.
+pub fn convert_watched<G: Gauge, S: Source, K: Sink, W: Watcher>(
+    alloc: Global,
+    reading: Reading,
+    choice: PageChoice,
+    job: &Job,
+    gauge: &mut G,
+    source: &mut S,
+    sink: &mut K,
+    watcher: &mut W,
+) -> Result<Outcome, Fault>
+    requires failing { (S.state source.old).faults < 2 ^ 64 - 1 }
+    requires ending { (S.state source.old).ends < 2 ^ 64 - 1 }
+    requires sinking { (K.state sink.old).faults < 2 ^ 64 - 1 }
+    ensures resolution { (result ≡ Err Fault.Resolution) ↔ (has_resolution job.now ≡ false) }
+    ensures converts { HasConvertedOn (rules_of reading) choice job.now (G.reaches gauge.old)
+        (S.state source.old) (S.state source.new) (K.state sink.old) (K.state sink.new)
+        (G.count gauge.old) (G.count gauge.new) result }
+    ensures end { (S.state source.new).ends ≡ (S.state source.old).ends + 1 → IsAtEnd (S.state source.new).left }
+    ensures same { G.reaches gauge.new ≡ G.reaches gauge.old }
+    ensures untouched { IfErr result (λ fault. is_write fault ≡ false → sink.new ≡ sink.old) }
+{
     if !takes_resolution(job.form, job.dots.per_inch()) {
         return Err(Fault::Resolution);
     }
@@ -116,7 +154,7 @@ pub fn convert_on<G: Gauge, S: Source, K: Sink>(
         ..*job
     };
     let strokes = drawn.lines.strokes.as_slice();
-    let bytes = match paint(alloc, &job, strokes, gauge, sink) {
+    let bytes = match paint(alloc, &job, strokes, gauge, sink, watcher) {
         Ok(bytes) => bytes,
         Err(fault) => return Err(fault),
     };

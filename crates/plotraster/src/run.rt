@@ -5,22 +5,23 @@ ghost use Rattle.conversion.specs.Conversions.{is_write};
 ghost use Rattle.plotraster.specs.Runs.{HasRun, task_has_resolution, exit_status_of};
 
 use command_line::Task;
-use conversion::{Fault, Outcome, convert_on, report_on, status};
+use conversion::{Fault, Outcome, Watcher, convert_watched, report_on, status};
 use devices::{Sink, Source};
 use picture_job::{PageChoice, Reading};
 use std::alloc::Global;
 use stroke_raster::Exact;
 
 /// Does what the task says with the plot that the source gives, which is read so, on the page that is
-/// chosen: writes its picture, by the gauge `Exact`, or the report on it. The errors are those of
-/// `convert_on` and of `report_on`.
-pub fn run_task<S: Source, K: Sink>(
+/// chosen: writes its picture, by the gauge `Exact`, or the report on it. The watcher is told how far a picture is, and
+/// nothing of a report. The errors are those of `convert_on` and of `report_on`.
+pub fn run_task<S: Source, K: Sink, W: Watcher>(
     alloc: Global,
     reading: Reading,
     choice: PageChoice,
     task: &Task,
     source: &mut S,
     sink: &mut K,
+    watcher: &mut W,
 ) -> Result<Outcome, Fault>
     requires failing { (S.state source.old).faults < 2 ^ 64 - 1 }
     requires ending { (S.state source.old).ends < 2 ^ 64 - 1 }
@@ -33,7 +34,16 @@ pub fn run_task<S: Source, K: Sink>(
 {
     match task {
         Task::Picture(job) => {
-            convert_on(alloc, reading, choice, job, &mut Exact::new(), source, sink)
+            convert_watched(
+                alloc,
+                reading,
+                choice,
+                job,
+                &mut Exact::new(),
+                source,
+                sink,
+                watcher,
+            )
         }
         Task::Report(page) => report_on(alloc, reading, choice, page, source, sink),
     }

@@ -3,6 +3,7 @@
 
 mod messages;
 mod output;
+mod progress;
 mod several;
 
 use crate::messages::{About, refuse, refuse_file, refuse_words};

@@ -1,5 +1,6 @@
 //! Where the output of a plot goes: standard output, a device, or a new file that gets its name when it is whole.
 use crate::messages::{About, cannot, refuse, refuse_file, tell_outcome};
+use crate::progress::Progress;
 use plotraster::{Fault, Line, Outcome, OverRead, OverWrite, exit_status, run_task};
 use std::fs::{File, OpenOptions, metadata, remove_file, rename};
 use std::io::{Read, Write};
@@ -38,6 +39,7 @@ fn perform<R: Read + Drop, W: Write + Drop>(
 ) -> Result<Outcome, Fault> {
     let mut source = OverRead::new(plot);
     let mut sink = OverWrite::new(to);
+    let mut progress = Progress::new(rt, about, line.progress);
     let outcome = run_task(
         rt.alloc(),
         line.reading,
@@ -45,7 +47,9 @@ fn perform<R: Read + Drop, W: Write + Drop>(
         &line.task,
         &mut source,
         &mut sink,
+        &mut progress,
     );
+    progress.end();
     match &outcome {
         Ok(outcome) => tell_outcome(rt, about, outcome, line.verbose),
         Err(fault) => {

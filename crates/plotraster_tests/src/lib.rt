@@ -39,3 +39,5 @@ mod reports;
 mod runs;
 #[cfg(test)]
 mod streams;
+#[cfg(test)]
+mod watched;

@@ -45,6 +45,7 @@ returns-clause-line c =
       output = c.in_ok-place_of.ensures.place;
       placed = c.in_ok-place_of.ensures.placed;
       verbose = c.has_flag.ensures;
+      progress = c.has_flag-2.ensures;
     }
 
 -- what is wrong with the choice of the page, or else with the output

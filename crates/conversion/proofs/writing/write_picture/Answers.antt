@@ -86,6 +86,24 @@ each-preserved g c =
           rw more (omega (arith, inv.tests, few, join)));
     }
 
+pub tell-requires-clause-some : goal.tell-requires-clause-some
+tell-requires-clause-some g c =
+    let q = g.B.Bands.painting c.each.bands in
+    let inv = c.each.invariant in
+    let moved = c.in-Ok-write_next.ensures.moves in
+    let there : c.next_row-at.result ≡ c.each.at + rows_next q = c.next_row-at.ensures.next ∙ moved.next ∙ ap (λ (k : ℕ). k + rows_next q) inv.next in
+    omega (arith, there, c.next_row-first.ensures.next, inv.from, c.in-Ok-write_next.ensures.some)
+
+pub tell-requires-clause-within : goal.tell-requires-clause-within
+tell-requires-clause-within g c =
+    let p = g.B.Bands.painting c.args.bands.now in
+    let q = g.B.Bands.painting c.each.bands in
+    let inv = c.each.invariant in
+    let moved = c.in-Ok-write_next.ensures.moves in
+    let there : c.next_row-at.result ≡ c.each.at + rows_next q = c.next_row-at.ensures.next ∙ moved.next ∙ ap (λ (k : ℕ). k + rows_next q) inv.next in
+    let page_rows : rows_of q.page q.dots ≡ rows_of p.page p.dots = ap (λ (z : Page). rows_of z q.dots) inv.page ∙ ap (λ (d : Dots). rows_of p.page d) inv.dots in
+    omega (arith, there, c.each-test.true, c.rows-rows.ensures.count, page_rows, inv.next)
+
 pub returns-in-Err-write_next : goal.returns-in-Err-write_next
 returns-in-Err-write_next g c =
     let p = g.B.Bands.painting c.args.bands.now in

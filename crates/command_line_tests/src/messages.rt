@@ -1,0 +1,46 @@
+use crate::cases::{Asked, has_answers, has_answers_for_each};
+use std::test::Fail;
+
+const PICTURES: [&str; 4] = ["marks", "pbm", "ppm", "pcl"];
+
+const ASKED_FOR: &str = "\
+verbose false, progress false
+plotraster|@
+plotraster|@|--fit|a.plt
+
+verbose true, progress false
+plotraster|@|--verbose|a.plt
+
+verbose false, progress true
+plotraster|@|--progress
+plotraster|@|a.plt|--progress|--fit
+
+verbose true, progress true
+plotraster|@|--progress|--verbose
+plotraster|@|--verbose|a.plt|--progress
+
+ArgumentConflict 2
+plotraster|@|--progress|--progress
+plotraster|@|--progress|--verbose|--progress
+
+TooManyValues 2
+plotraster|@|--progress=1
+";
+
+#[test]
+fn messages_that_are_asked_for(rt: HostRuntime) -> Result<(), Fail> {
+    has_answers_for_each(&rt, rt.alloc(), Asked::Messages, &PICTURES, ASKED_FOR, 10)
+}
+
+const OF_A_REPORT: &str = "\
+verbose false, progress false
+plotraster|report
+
+UnknownArgument 2
+plotraster|report|--progress
+";
+
+#[test]
+fn messages_of_a_report(rt: HostRuntime) -> Result<(), Fail> {
+    has_answers(&rt, rt.alloc(), Asked::Messages, "", OF_A_REPORT, 2)
+}

@@ -1,0 +1,81 @@
+//! Pictures that are watched while they are written.
+use crate::pages::{CROSSING, eight_by_eight, job_at};
+use crate::runs::drawn;
+use crate::streams::Writer;
+use plotraster::{
+    Exact, Form, Job, OverRead, OverWrite, PageChoice, Reading, Watcher, convert_watched,
+};
+use std::alloc::Global;
+use std::process::Abort;
+use std::test::Fail;
+
+// Keeps what it is told.
+#[derive(Drop)]
+struct Diary {
+    told: String,
+}
+
+impl Watcher for Diary {
+    fn rows_written(&mut self, done: u32, rows: u32) {
+        let _ = write!(self.told, "{done}/{rows} ");
+    }
+}
+
+// Fails unless this is told of a picture of which so many bytes are written.
+fn is_told(
+    rt: &impl Abort,
+    alloc: Global,
+    job: &Job,
+    room: usize,
+    wanted: &str,
+) -> Result<(), Fail> {
+    let mut writer = Writer::new(alloc);
+    writer.room = room;
+    let mut sink = OverWrite::new(writer);
+    let mut diary = Diary {
+        told: String::new(alloc),
+    };
+    let answer = convert_watched(
+        alloc,
+        Reading::Core,
+        PageChoice::Given,
+        job,
+        &mut Exact::new(),
+        &mut OverRead::new(CROSSING),
+        &mut sink,
+        &mut diary,
+    );
+    assert_eq!(rt; diary.told.as_str(), wanted);
+    let picture = drawn(alloc, job, CROSSING)?;
+    let written = sink.into_inner().bytes;
+    assert_eq!(rt; answer.is_ok(), written.len() == picture.len());
+    assert!(rt; picture.as_slice().starts_with(written.as_slice()));
+    Ok(())
+}
+
+// The bitmap has a header of 9 bytes, and 3 bytes a row.
+#[test]
+fn watchers_are_told_after_each_band(rt: HostRuntime) -> Result<(), Fail> {
+    let mut job = job_at(Form::Pbm, 381)?;
+    is_told(&rt, rt.alloc(), &job, 81, "24/24 ")?;
+    job.band = 7;
+    is_told(&rt, rt.alloc(), &job, 81, "7/24 14/24 21/24 24/24 ")?;
+    is_told(&rt, rt.alloc(), &job, 71, "7/24 14/24 ")?;
+    is_told(&rt, rt.alloc(), &job, 29, "")?;
+    job.first_row = 12;
+    is_told(&rt, rt.alloc(), &job, 36, "7/12 12/12 ")?;
+    job.first_row = 24;
+    is_told(&rt, rt.alloc(), &job, 0, "")
+}
+
+#[test]
+fn watchers_of_other_forms(rt: HostRuntime) -> Result<(), Fail> {
+    for form in [Form::Marks, Form::Ppm] {
+        let mut job = eight_by_eight(form)?;
+        job.band = 3;
+        is_told(&rt, rt.alloc(), &job, 1000, "3/8 6/8 8/8 ")?;
+    }
+    let mut job = job_at(Form::Pcl, 75)?;
+    job.band = 1;
+    is_told(&rt, rt.alloc(), &job, 1000, "1/5 2/5 3/5 4/5 5/5 ")
+}
