@@ -25,6 +25,8 @@ EVERY_COMMAND = "All commands"
 PAPER = "--page"
 OUTPUT = "--output"
 PORTRAIT = "-portrait"
+# What --page names besides papers.
+PLOT = "plot"
 
 
 def range_in(text):
@@ -242,7 +244,7 @@ def test_options(program):
         assert len(options) >= 4
         assert_nothing(wrong_ranges(program, command, options))
         assert_nothing(wrong_options(command, options, commands))
-        words = {**words_in_help(program, command), PAPER: papers_in_help(program, command)}
+        words = {**words_in_help(program, command), PAPER: [*papers_in_help(program, command), PLOT]}
         assert_nothing(wrong_values(command, options, words))
 
 

@@ -87,3 +87,43 @@ plotraster|report|--verbose
 fn order_of_faults(rt: HostRuntime) -> Result<(), Fail> {
     has_answers(&rt, rt.alloc(), Asked::Page, "", ORDER_OF_FAULTS, 7)
 }
+
+const PAGES_ASKED_FOR: &str = "\
+Asked false
+plotraster|@|--page=plot
+plotraster|@|a.plt|--page|plot|--left=5|--below=6
+
+Size
+plotraster|@|--page=plot|--width=11880
+plotraster|@|--fit|--height|64|--page=plot
+
+Paper
+plotraster|@|--page=plot-portrait
+plotraster|@|--page=Plot
+plotraster|@|--page|plots|--fit
+
+Fit
+plotraster|@|--fit|--page=plot
+plotraster|@|--page|plot|--margin=1|a.plt|--fit
+
+Profile
+plotraster|@|--page=plot|--fit|--profile=none
+
+Margin
+plotraster|@|--page=plot|--margin=1
+";
+
+#[test]
+fn pages_asked_for(rt: HostRuntime) -> Result<(), Fail> {
+    has_answers_for_each(&rt, rt.alloc(), Asked::Page, &COMMANDS, PAGES_ASKED_FOR, 11)
+}
+
+const DEFAULT_PAGE: &str = "\
+report 11880 8400 5 6 of None
+plotraster|report|--page=plot|--left=5|--below=6
+";
+
+#[test]
+fn the_page_without_a_size(rt: HostRuntime) -> Result<(), Fail> {
+    has_answers(&rt, rt.alloc(), Asked::Line, "", DEFAULT_PAGE, 1)
+}

@@ -274,6 +274,8 @@ fn prints_faults(rt: HostRuntime) -> Result<(), Fail> {
         "words not understood, bad pen list, --page may not be given with --width or --height, bad profile, \
          --sheet needs --profile full, --margin needs --fit, several plots need --output FOLDER, out of memory"
     );
+    let text = format!(in rt.alloc(); "{}", LineFault::Fit)?;
+    assert_eq!(rt; text.as_str(), "--fit may not be given with --page plot");
     let text = format!(in rt.alloc(); "{}", LineFault::Paper)?;
     assert_eq!(rt;
         text.as_str(),

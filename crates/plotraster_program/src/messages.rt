@@ -65,23 +65,24 @@ pub(crate) fn cannot<R: Display>(
     DEVICE
 }
 
-// Says why the page is not the one around the drawing, if that was asked; and what was drawn, if more is to be said.
+// Says why the page is not the one that was asked for, if that is so; and what was drawn, if more is to be said.
 pub(crate) fn tell_outcome(rt: &HostRuntime, about: About<'_>, outcome: &Outcome, verbose: bool) {
     if let Some(reason) = reason_of(outcome.placement) {
-        let _ = eprintln!(rt; "plotraster: {about}the page is not fitted: {reason}");
+        let _ = eprintln!(rt; "plotraster: {about}the page is {reason}");
     }
     if verbose {
         tell_drawn(rt, about, outcome);
     }
 }
 
-// Why a page is not fitted.
+// What page it is instead, and why.
 fn reason_of(placement: Placement) -> Option<&'static str> {
     match placement {
-        Placement::Given | Placement::Fitted => None,
-        Placement::Blank => Some("nothing is drawn"),
-        Placement::TooLarge => Some("the drawing is larger than a page can be"),
-        Placement::Follows => Some("the drawing depends on the page"),
+        Placement::Given | Placement::Asked | Placement::Fitted => None,
+        Placement::Unasked => Some("the default one: the plot asks for no size"),
+        Placement::Blank => Some("not fitted: nothing is drawn"),
+        Placement::TooLarge => Some("not fitted: the drawing is larger than a page can be"),
+        Placement::Follows => Some("not fitted: the drawing depends on the page"),
     }
 }
 

@@ -20,6 +20,8 @@ mod lexed;
 #[cfg(test)]
 mod pages;
 #[cfg(test)]
+mod pages_asked;
+#[cfg(test)]
 mod parts;
 #[cfg(test)]
 mod pictures;
