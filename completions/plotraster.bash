@@ -29,7 +29,7 @@ _plotraster() {
     fi
     case "$before" in
         --page)
-            COMPREPLY=($(compgen -W "$papers ${papers// /-portrait }-portrait" -- "$word"))
+            COMPREPLY=($(compgen -W "$papers ${papers// /-portrait }-portrait plot" -- "$word"))
             return
             ;;
         --profile)
