@@ -1,5 +1,9 @@
-//! The page that most tests draw on, and the plots that they draw.
-use plotraster::{Dots, Form, Job, Page, PenSet};
+//! The page that most tests draw on, the plots that they draw, and where plots are placed.
+use crate::cases::text_of;
+use plotraster::{
+    Dots, Form, Job, OverRead, OverWrite, Page, PageChoice, PenSet, Reading, report_on,
+};
+use std::alloc::Global;
 use std::test::Fail;
 
 /// A horizontal line in the middle of row 4.
@@ -23,4 +27,26 @@ pub fn job_at(form: Form, per_inch: u32) -> Result<Job, Fail> {
         first_row: 0,
         form,
     })
+}
+
+/// What `report_on` says of a plot: the placement, how many strokes there are and how many of them lie off the page, and the
+/// page.
+pub fn placed_on(
+    alloc: Global,
+    page: &Page,
+    reading: Reading,
+    choice: PageChoice,
+    plot: &str,
+) -> Result<String, Fail> {
+    let mut sink = OverWrite::new(Vec::new(alloc));
+    let mut source = OverRead::new(plot.as_bytes());
+    let outcome = report_on(alloc, reading, choice, page, &mut source, &mut sink)?;
+    let written = sink.into_inner();
+    let line = text_of(written.as_slice())?
+        .lines()
+        .next()
+        .ok_or("no line")?;
+    let (placement, census) = (outcome.placement, outcome.census);
+    let (strokes, off_page) = (census.strokes, census.off_page);
+    Ok(format!(in alloc; "{placement:?} {strokes} {off_page} {line}")?)
 }

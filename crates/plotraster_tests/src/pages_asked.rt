@@ -1,5 +1,6 @@
 //! Plots that are drawn on the page that they ask for.
 use crate::cases::text_of;
+use crate::pages::placed_on;
 use plotraster::{
     Dots, Exact, Fault, Form, Job, OverRead, OverWrite, Page, PageChoice, PenSet, PlotFault,
     Reading, convert_on, report_on,
@@ -45,25 +46,7 @@ fn given() -> Result<Page, Fail> {
 
 // What `report_on` says of a plot, on the page that it asks for.
 fn placed(alloc: Global, reading: Reading, plot: &str) -> Result<String, Fail> {
-    let page = given()?;
-    let mut sink = OverWrite::new(Vec::new(alloc));
-    let mut source = OverRead::new(plot.as_bytes());
-    let outcome = report_on(
-        alloc,
-        reading,
-        PageChoice::Asked,
-        &page,
-        &mut source,
-        &mut sink,
-    )?;
-    let written = sink.into_inner();
-    let line = text_of(written.as_slice())?
-        .lines()
-        .next()
-        .ok_or("no line")?;
-    let (placement, census) = (outcome.placement, outcome.census);
-    let (strokes, off_page) = (census.strokes, census.off_page);
-    Ok(format!(in alloc; "{placement:?} {strokes} {off_page} {line}")?)
+    placed_on(alloc, &given()?, reading, PageChoice::Asked, plot)
 }
 
 #[test]

@@ -1,9 +1,7 @@
 //! Plots that are drawn on the page around their drawing.
 use crate::cases::text_of;
-use crate::pages::eight_by_eight;
-use plotraster::{
-    Exact, Form, Job, OverRead, OverWrite, PageChoice, PenSet, Reading, convert_on, report_on,
-};
+use crate::pages::{eight_by_eight, placed_on};
+use plotraster::{Exact, Form, Job, OverRead, OverWrite, PageChoice, PenSet, Reading, convert_on};
 use std::alloc::Global;
 use std::test::Fail;
 
@@ -50,20 +48,10 @@ SP1;RO90;PU0,65000;PD0,65100;
 Follows 1 1 page 64 64 0 0
 ";
 
-// What `report_on` says of a plot.
+// What `report_on` says of a plot on a page of 64 units a side.
 fn placed(alloc: Global, choice: PageChoice, plot: &str) -> Result<String, Fail> {
     let page = eight_by_eight(Form::Pbm)?.page;
-    let mut sink = OverWrite::new(Vec::new(alloc));
-    let mut source = OverRead::new(plot.as_bytes());
-    let outcome = report_on(alloc, Reading::Core, choice, &page, &mut source, &mut sink)?;
-    let written = sink.into_inner();
-    let line = text_of(written.as_slice())?
-        .lines()
-        .next()
-        .ok_or("no line")?;
-    let (placement, census) = (outcome.placement, outcome.census);
-    let (strokes, off_page) = (census.strokes, census.off_page);
-    Ok(format!(in alloc; "{placement:?} {strokes} {off_page} {line}")?)
+    placed_on(alloc, &page, Reading::Core, choice, plot)
 }
 
 #[test]
