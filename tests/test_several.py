@@ -31,7 +31,7 @@ def folder(tmp_path):
 
 def ends_of(program, folder, words, **how):
     """The exit status and the lines on standard error of a run in a folder, which writes nothing to standard output."""
-    done = run(program, [*words, *SMALL], SECONDS, cwd=folder, **how)
+    done = run(program, [words[0], *SMALL, *words[1:]], SECONDS, cwd=folder, **how)
     assert done.stdout == b""
     return done.returncode, done.stderr.decode().splitlines()
 
