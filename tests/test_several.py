@@ -241,3 +241,23 @@ def test_many_plots(program, folder):
     for _ in range(2):
         assert ends_of(program, folder, ["pbm", "-o", "out", "--dots=10", *names]) == (0, [])
     assert len(files_in(folder / "out")) == 500
+
+
+def test_refused_allocations(program, folder, refuse):
+    """Each allocation of a run is refused in turn: all plots are drawn, or all but one, or none, and each time a line says why."""
+    write(str(folder / "c.plt"), LINE)
+    names, found, number, without_effect = ["a", "b", "c"], set(), 0, 0
+    while without_effect < 10:
+        number += 1
+        surroundings = dict(os.environ, LD_PRELOAD=refuse, MEMORY_FAILS=str(number))
+        status, lines = ends_of(program, folder, ["pbm", "-o", "out", *(f"{name}.plt" for name in names)], env=surroundings)
+        drawn_names = [name.removesuffix(".pbm") for name in files_in(folder / "out")]
+        for name in drawn_names:
+            os.remove(folder / "out" / f"{name}.pbm")
+        lost = [name for name in names if name not in drawn_names]
+        about = "" if len(lost) == 3 else "".join(f"{name}.plt: " for name in lost)
+        assert len(lost) in (0, 1, 3)
+        assert (status, lines) == ((4, [f"plotraster: {about}out of memory"]) if lost else (0, []))
+        found.add((status, about))
+        without_effect = 0 if lost else without_effect + 1
+    assert found == {(0, ""), (4, ""), *((4, f"{name}.plt: ") for name in names)}
