@@ -8,7 +8,7 @@ pub(crate) struct HelpLine<'a> {
 }
 
 /// The version that `--version` prints, which is the changelog's.
-pub(crate) const VERSION: &str = "0.1.0";
+pub(crate) const VERSION: &str = "0.2.0";
 
 /// What help says of a command, and an example of its use.
 #[derive(Clone, Copy)]
