@@ -75,9 +75,9 @@ refusals: built
 test: setup built
 	$(PYTEST) -n auto tests
 
-# What fails early comes first. Proofs wait for each other, crate for crate, and the mutants take the processors that are
-# free then; so do the tests beside the mutants that are handed to the prover. The verdict of rt ci is said again as the
-# last line.
+# What fails early comes first. A crate is proved after those below it, so processors are idle at times: the mutants, at the
+# lowest priority, take these. Then the tests of the command run beside the mutants that are handed to the prover. The
+# verdict of rt ci is said again as the last line.
 check:
 	@$(MAKE) --no-print-directory style
 	@$(MAKE) --no-print-directory -j 2 proofs mutants

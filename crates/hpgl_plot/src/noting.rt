@@ -43,7 +43,7 @@ fn count_left(notes: ItemNotes<'_>) -> usize
     count
 }
 
-// How many notes on an item's first byte this is.
+// How many notes this makes at a place: one, or none.
 fn count_at_first(kind: Option<NoteKind>) -> usize
     ensures { (code : List ℕ) (at : ℕ) → result ≡ length (note_at code at kind) }
 {
@@ -53,7 +53,7 @@ fn count_at_first(kind: Option<NoteKind>) -> usize
     }
 }
 
-// What is noted on an item that is open or not.
+// What is noted on an item if its end is missing.
 fn open_kind(unended: bool) -> Option<NoteKind>
     ensures { result ≡ open_noted unended }
 {

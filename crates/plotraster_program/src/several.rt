@@ -47,7 +47,7 @@ pub(crate) fn deliver_each(rt: &HostRuntime, line: &Line<'_, '_>) -> u8 {
     greatest
 }
 
-// Says why the folder can't be one, if so.
+// Says why the output cannot go into this folder, if so.
 fn refuse_folder(rt: &HostRuntime, folder: &str) -> Option<u8> {
     match metadata(rt, folder) {
         Ok(found) if found.is_dir() => None,
