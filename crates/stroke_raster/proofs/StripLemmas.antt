@@ -99,7 +99,7 @@ beside_line v w r d l h k =
     roots (2 * nat_abs (cross v w)) (d * l) (omega (arith, i, m))
 
 -- twice the cross product, some columns on
-cross_on : (v w u : Vector) (i : ℕ) → u.x ≡ w.x +ℤ pos (16256 * i) → u.y ≡ w.y → pos 2 *ℤ cross v u ≡ pos 2 *ℤ cross v w -ℤ pos (32512 * i) *ℤ v.y
+pub cross_on : (v w u : Vector) (i : ℕ) → u.x ≡ w.x +ℤ pos (16256 * i) → u.y ≡ w.y → pos 2 *ℤ cross v u ≡ pos 2 *ℤ cross v w -ℤ pos (32512 * i) *ℤ v.y
 cross_on v w u i e f =
     let a = ap (λ (z : ℤ). v.y *ℤ z) e in
     let b = ap (λ (z : ℤ). v.x *ℤ z) f in

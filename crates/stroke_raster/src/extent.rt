@@ -28,11 +28,11 @@ impl Extent {
     }
 }
 
-// The least and the greatest that the double of a coordinate may be.
+/// The least and the greatest that the double of a coordinate may be.
 #[derive(Clone, Copy, Debug)]
-struct Sides {
-    low: i64,
-    high: i64,
+pub struct Sides {
+    pub low: i64,
+    pub high: i64,
 }
 
 /// The box of a stroke, on the page.
@@ -87,9 +87,9 @@ fn doubled(r: u32, z: i32) -> i64
     i64::from(2 * r) * i64::from(z)
 }
 
-// The rows or columns i below `count` for which (2 * i + 1) * 16256 is between two numbers. A pixel
-// is 16,256 steps wide, so this is the double of its centre's coordinate.
-fn places_between(low: i64, high: i64, count: u32) -> Span
+/// The rows or columns i below `count` for which (2 * i + 1) * 16256 is between two numbers. A pixel
+/// is 16,256 steps wide, so this is the double of its centre's coordinate.
+pub fn places_between(low: i64, high: i64, count: u32) -> Span
     requires low_in { nat_abs low ≤ 2 ^ 50 }
     requires high_in { nat_abs high ≤ 2 ^ 50 }
     ensures order { result.low ≤ result.end }

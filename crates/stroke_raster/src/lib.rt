@@ -2,6 +2,7 @@
 #![tactic(auto)]
 
 mod band;
+mod edges;
 mod extent;
 mod fill;
 mod gauge;

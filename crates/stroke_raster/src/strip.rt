@@ -32,9 +32,9 @@ pub fn strip(trace: &Trace<'_>, start: Vector, length: u32) -> Span
     within(beside, slope.most, slope.step, slope.inverse, length)
 }
 
-// The number, negated if `sign` is below 0.
+/// The number, negated if `sign` is below 0.
 #[inline(always)]
-fn turned(z: i64, sign: i64) -> i64
+pub fn turned(z: i64, sign: i64) -> i64
     requires { nat_abs z ≤ 2 ^ 56 }
     ensures value { result ≡ cond (int_le (pos 0) sign) z (neg_ℤ z) }
     ensures small { nat_abs result ≡ nat_abs z }
