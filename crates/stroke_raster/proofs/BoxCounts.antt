@@ -1,5 +1,5 @@
 -- The pixels of boxes, row by row and stroke by stroke.
-use Rattle.std.proofs.Common.{◌≡◌, ℕ, zero, suc, ◌+◌, ◌-◌, ◌<◌, ◌≤◌, Bool, true, min, List, [], ◌∷◌, ◌++◌, length, get_or, take, sum_by, refl, sym, ap, ◌∙◌, arith, inl, inr, cond}
+use Rattle.std.proofs.Common.{◌≡◌, ℕ, zero, suc, ◌+◌, ◌-◌, ◌*◌, ◌<◌, ◌≤◌, Bool, true, min, List, [], ◌∷◌, ◌++◌, length, get_or, take, sum_by, refl, sym, ap, ◌∙◌, arith, inl, inr, cond}
 use Rattle.std.proofs.lemmas.Bool.{cases_lt, cases_Bool}
 use Rattle.std.proofs.lemmas.Grind.{take_at_read}
 use Rattle.std.proofs.lemmas.List.Sums.{sum_by-append, sum_by-cons, sum-map}
@@ -61,6 +61,27 @@ boxes_rows inside s first n columns (suc k) =
 
 pub boxes_rows_to : (inside : Segment → ℕ → ℕ → Bool) (s : Segment) (first n m columns : ℕ) → n ≤ m → box_pixels inside s first n columns ≤ box_pixels inside s first m columns
 boxes_rows_to inside s first n m columns h = let z : n + (m - n) ≡ m = omega arith in let j = boxes_rows inside s first n columns (m - n) in rw z at j
+
+-- rows and columns that lie in the box
+box_part : (inside : Segment → ℕ → ℕ → Bool) (s : Segment) (first low n columns from upto : ℕ) → first ≤ low → ((row c : ℕ) → low ≤ row → row < low + n → from ≤ c → c < upto → inside s row c ≡ true) → upto ≤ columns
+    → n * (upto - from) ≤ box_pixels inside s first (low - first + n) columns
+box_part inside s first low zero columns from upto h full w = omega arith
+box_part inside s first low (suc n) columns from upto h full w =
+    let i = box_part inside s first low n columns from upto h (λ row c a b d e. full row c a (omega (arith, b)) d e) w in
+    let r : first + (low - first + n) ≡ low + n = omega (arith, h) in
+    let b = box_row inside s first (low - first + n) columns from upto (λ c d e. rw r (full (low + n) c (omega arith) (omega arith) d e)) w in
+    let z : low - first + n + 1 ≡ low - first + suc n = omega arith in
+    let b' = rw z at b in
+    omega (arith, i, b')
+
+pub box_part_in : (inside : Segment → ℕ → ℕ → Bool) (s : Segment) (first rows low end columns from upto : ℕ) → first ≤ low → low ≤ end → end ≤ first + rows
+    → ((row c : ℕ) → low ≤ row → row < end → from ≤ c → c < upto → inside s row c ≡ true) → upto ≤ columns
+    → (end - low) * (upto - from) ≤ box_pixels inside s first rows columns
+box_part_in inside s first rows low end columns from upto h order to full w =
+    let e : low + (end - low) ≡ end = omega (arith, order) in
+    let a = box_part inside s first low (end - low) columns from upto h (λ row c x y. full row c x (omega (arith, y, e))) w in
+    let b = boxes_rows_to inside s first (low - first + (end - low)) rows columns (omega (arith, h, order, to)) in
+    omega (arith, a, b)
 
 -- the rows of a box in two runs
 box_rows_join : (inside : Segment → ℕ → ℕ → Bool) (s : Segment) (first n m columns : ℕ) → box_pixels inside s first (n + m) columns ≡ box_pixels inside s first n columns + box_pixels inside s (first + n) m columns

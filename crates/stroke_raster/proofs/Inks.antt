@@ -6,7 +6,6 @@ use Rattle.std.proofs.lemmas.Bool.{cases_eq, cases_lt, cases_Bool}
 use Rattle.std.proofs.lemmas.List.{get_or-set_same, get_or-set_other, length-set}
 use Rattle.std.proofs.lemmas.Bool.Decides.{nat_tests}
 use Rattle.std.proofs.lemmas.Nat.{mul-le}
-use borrow.Rule.Slice.PartMut.{put_mid, mid_of}
 use Rattle.plot_page.specs.Segments.{Segment}
 use Rattle.plot_page.specs.declared.page.Page.{Page}
 use Rattle.plot_page.specs.declared.dots.Dots.{Dots}
@@ -16,7 +15,6 @@ use Rattle.stroke_raster.specs.Shown.{shown}
 use Rattle.stroke_raster.specs.Slots.{stroke_at}
 use Rattle.stroke_raster.specs.Inks.{ink, ink_at, AreReached, IsInked, IsMask, IsReached, ShowsInk}
 use Rattle.stroke_raster.proofs.Slots.{skip, shown_slot}
-use Rattle.stroke_raster.proofs.Middle.{mid_below, mid_at, mid_old}
 
 -- a part of a byte's value
 pub high_part : (a b : ℕ) → a + b ≡ 8 → 256 / 2 ^ a ≡ 2 ^ b
@@ -120,7 +118,7 @@ pub bit_in_row : (s r k : ℕ) → (8 * (r * s) + k) % 8 ≡ k % 8
 bit_in_row s r k = omega arith
 
 -- pixel k of a row that begins d bytes after the line
-ink_as : (bits line : List ℕ) (s r d k : ℕ) → get_or bits (r * s + k / 8) 0 ≡ get_or line (d + k / 8) 0 → ink_at s bits r k ≡ ink line (8 * d + k)
+pub ink_as : (bits line : List ℕ) (s r d k : ℕ) → get_or bits (r * s + k / 8) 0 ≡ get_or line (d + k / 8) 0 → ink_at s bits r k ≡ ink line (8 * d + k)
 ink_as bits line s r d k e =
     let p : d + k / 8 ≡ (8 * d + k) / 8 = omega arith in
     let q : k % 8 ≡ (8 * d + k) % 8 = omega arith in
@@ -130,98 +128,26 @@ ink_as bits line s r d k e =
     ∙ ap (λ (n : ℕ). bit_at (get_or line n 0) (7 - k % 8)) p
     ∙ ap (λ (n : ℕ). bit_at (get_or line ((8 * d + k) / 8) 0) (7 - n)) q
 
-ink_here : (bits line : List ℕ) (s r k : ℕ) → get_or bits (r * s + k / 8) 0 ≡ get_or line (k / 8) 0 → ink_at s bits r k ≡ ink line k
+pub ink_here : (bits line : List ℕ) (s r k : ℕ) → get_or bits (r * s + k / 8) 0 ≡ get_or line (k / 8) 0 → ink_at s bits r k ≡ ink line k
 ink_here bits line s r k e =
     let z : k / 8 ≡ 0 + k / 8 = omega arith in
     let w : 8 * 0 + k ≡ k = omega arith in
     ink_as bits line s r 0 k (e ∙ ap (λ (n : ℕ). get_or line n 0) z) ∙ ap (λ (n : ℕ). ink line n) w
 
-ink_same : (old new : List ℕ) (s r k : ℕ) → get_or new (r * s + k / 8) 0 ≡ get_or old (r * s + k / 8) 0 → ink_at s new r k ≡ ink_at s old r k
+pub ink_same : (old new : List ℕ) (s r k : ℕ) → get_or new (r * s + k / 8) 0 ≡ get_or old (r * s + k / 8) 0 → ink_at s new r k ≡ ink_at s old r k
 ink_same old new s r k e =
     ap (λ (n : ℕ). bit_at (get_or new n 0) (7 - (8 * (r * s) + k) % 8)) (byte_at_row s r k)
     ∙ ap (λ (n : ℕ). bit_at n (7 - (8 * (r * s) + k) % 8)) e
     ∙ sym (ap (λ (n : ℕ). bit_at (get_or old n 0) (7 - (8 * (r * s) + k) % 8)) (byte_at_row s r k))
 
-none_here : (b : Bool) (n : ℕ) → b ≡ false → cond b 1 n ≡ n
-none_here b n e = rw e refl
-
--- one more row inked
-pub row_inked : (reached : ℕ → ℕ → Bool) (first row rows columns from many s A K : ℕ) (old bits line : List ℕ)
-    → first ≤ row → row < first + rows → from + many ≤ columns → columns ≤ 8 * s → length bits ≡ rows * s → A ≡ (row - first) * s → K ≡ length bits - A → length line ≡ K
-    → ((k : ℕ) → k < from → reached row k ≡ false) → ((k : ℕ) → from + many ≤ k → k < columns → reached row k ≡ false)
-    → ((r k : ℕ) → r < rows → k < 8 * s → ink_at s bits r k ≡ cond (nat_lt (first + r) row && (nat_lt k columns && reached (first + r) k)) 1 (ink_at s old r k))
-    → IsReached (reached row) from many (mid_of A K bits) line
-    → (r k : ℕ) → r < rows → k < 8 * s → ink_at s (put_mid A K bits line) r k ≡ cond (nat_lt (first + r) (row + 1) && (nat_lt k columns && reached (first + r) k)) 1 (ink_at s old r k)
-row_inked reached first row rows columns from many s A K old bits line low high wide fit len eA eK long before after inv new r k u v =
-    let place : k / 8 < s = omega (arith, v) in
-    let whole : (r + 1) * s ≤ rows * s = mul-le (r + 1) s rows s (omega (arith, u)) (omega arith) in
-    let here : (row - first + 1) * s ≤ rows * s = mul-le (row - first + 1) s rows s (omega (arith, low, high)) (omega arith) in
-    let inside : A + s ≤ length bits = omega (arith, here, eA, len) in
-    let AK : A + K ≤ length bits = omega (arith, inside, eK) in
-    elim (cases_eq r (row - first)) [
-      | inl e ↦ (let w : first + r ≡ row = omega (arith, e, low) in
-          let a : nat_lt (first + r) row ≡ false = grind (arith, nat_tests) in
-          let b : nat_lt (first + r) (row + 1) ≡ true = grind (arith, nat_tests) in
-          let rs : r * s ≡ A = ap (λ (n : ℕ). n * s) e ∙ sym eA in
-          let n1 : get_or (put_mid A K bits line) (r * s + k / 8) 0 ≡ get_or line (k / 8) 0 = ap (λ (n : ℕ). get_or (put_mid A K bits line) (n + k / 8) 0) rs ∙ mid_at A K bits line (k / 8) (omega (arith, place, inside, eK)) AK long in
-          let o1 : get_or bits (r * s + k / 8) 0 ≡ get_or (mid_of A K bits) (k / 8) 0 = ap (λ (n : ℕ). get_or bits (n + k / 8) 0) rs ∙ sym (mid_old A K bits (k / 8) (omega (arith, place, inside, eK)) AK) in
-          let n2 : ink_at s (put_mid A K bits line) r k ≡ ink line k = ink_here (put_mid A K bits line) line s r k n1 in
-          let o2 : ink_at s bits r k ≡ ink (mid_of A K bits) k = ink_here bits (mid_of A K bits) s r k o1 in
-          let o3 : ink_at s bits r k ≡ ink_at s old r k = rw a at (inv r k u v) in
-          let o4 : ink (mid_of A K bits) k ≡ ink_at s old r k = sym o2 ∙ o3 in
-          elim (cases_lt k from) [
-            | inl l ↦ (let f : reached (first + r) k ≡ false = rw w (before k l) in
-                n2 ∙ new.before k l ∙ o4 ∙ sym (rw (b, f) (none_here (nat_lt k columns && false) (ink_at s old r k) (grind (arith, nat_tests)))))
-            | inr l ↦ elim (cases_lt k (from + many)) [
-              | inl m ↦ (let z : from + (k - from) ≡ k = omega (arith, l) in
-                  let c : nat_lt k columns ≡ true = grind (arith, nat_tests) in
-                  let x = new.within (k - from) (omega (arith, l, m)) in
-                  let y : ink line k ≡ cond (reached row k) 1 (ink (mid_of A K bits) k) = rw z at x in
-                  n2 ∙ y ∙ ap (λ (n : ℕ). cond (reached row k) 1 n) o4 ∙ ap (λ (n : ℕ). cond (reached n k) 1 (ink_at s old r k)) (sym w) ∙ sym (rw (b, c) refl))
-              | inr m ↦ elim (cases_lt k columns) [
-                | inl q ↦ (let f : reached (first + r) k ≡ false = rw w (after k m q) in
-                    n2 ∙ new.after k m ∙ o4 ∙ sym (rw (b, f) (none_here (nat_lt k columns && false) (ink_at s old r k) (grind (arith, nat_tests)))))
-                | inr q ↦ (let c : nat_lt k columns ≡ false = grind (arith, nat_tests) in
-                    n2 ∙ new.after k m ∙ o4 ∙ sym (rw (b, c) refl))
-              ]
-            ]
-          ])
-      | inr ne ↦ (let a : nat_lt (first + r) row ≡ nat_lt (first + r) (row + 1) = grind (arith, nat_tests) in
-          let t : ink_at s (put_mid A K bits line) r k ≡ ink_at s bits r k = elim (cases_lt r (row - first)) [
-            | inl l ↦ (let p : (r + 1) * s ≤ (row - first) * s = mul-le (r + 1) s (row - first) s (omega (arith, l)) (omega arith) in
-                ink_same bits (put_mid A K bits line) s r k (mid_below A K bits line (r * s + k / 8) (omega (arith, p, place, eA)) AK long))
-            | inr l ↦ (let p : (row - first + 1) * s ≤ r * s = mul-le (row - first + 1) s r s (omega (arith, l, ne)) (omega arith) in
-                let d : A + (r * s - A) ≡ r * s = omega (arith, p, eA) in
-                let in_ : r * s - A + k / 8 < K = omega (arith, whole, place, len, eK, d) in
-                let at : r * s + k / 8 ≡ A + (r * s - A + k / 8) = omega (arith, d) in
-                let n1 : get_or (put_mid A K bits line) (r * s + k / 8) 0 ≡ get_or line (r * s - A + k / 8) 0 = ap (λ (n : ℕ). get_or (put_mid A K bits line) n 0) at ∙ mid_at A K bits line (r * s - A + k / 8) in_ AK long in
-                let o1 : get_or bits (r * s + k / 8) 0 ≡ get_or (mid_of A K bits) (r * s - A + k / 8) 0 = ap (λ (n : ℕ). get_or bits n 0) at ∙ sym (mid_old A K bits (r * s - A + k / 8) in_ AK) in
-                ink_as (put_mid A K bits line) line s r (r * s - A) k n1
-                ∙ new.after (8 * (r * s - A) + k) (omega (arith, p, eA, wide, fit))
-                ∙ sym (ink_as bits (mid_of A K bits) s r (r * s - A) k o1))
-          ] in
-          t ∙ inv r k u v ∙ ap (λ (x : Bool). cond (x && (nat_lt k columns && reached (first + r) k)) 1 (ink_at s old r k)) a)
-    ]
-
 -- tests of numbers
 pub lt_of : (a b : ℕ) → nat_lt a b ≡ true → a < b
 lt_of a b h = grind (arith, nat_tests)
-
-pub ge_of : (a b : ℕ) → nat_lt a b ≡ false → b ≤ a
-ge_of a b h = grind (arith, nat_tests)
 
 -- pixels that are not reached stay as they are
 pub unreached : (b r : Bool) (n : ℕ) → (b ≡ true → r ≡ false) → cond (b && r) 1 n ≡ n
 unreached true r n h = rw (h refl) refl
 unreached false r n h = refl
-
-pub before_rows : (a b r : Bool) (n : ℕ) → (a ≡ true → b ≡ true → r ≡ false) → n ≡ cond (a && (b && r)) 1 n
-before_rows true b r n h = sym (unreached b r n (h refl))
-before_rows false b r n h = refl
-
-pub all_rows : (a b r : Bool) (m n : ℕ) → (a ≡ false → b ≡ true → r ≡ false) → m ≡ cond (a && (b && r)) 1 n → m ≡ cond (b && r) 1 n
-all_rows true b r m n h e = e
-all_rows false b r m n h e = e ∙ sym (unreached b r n (h refl))
 
 -- one pixel, one stroke more
 ink_cell : (b t : Bool) (p n x y : ℕ) → 0 < p → x ≡ cond (b && t) 1 y → y ≡ cond b (min 1 n) 0 → x ≡ cond b (min 1 (cond t p n)) 0

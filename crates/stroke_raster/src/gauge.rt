@@ -1,5 +1,6 @@
 //! Gauges decide whether a stroke reaches a pixel, and count the tests.
-ghost use Rattle.std.specs.Prelude.{◌≡◌, ℕ, ◌+◌, ◌*◌, ◌<◌, ◌≤◌, Bool, true, false, cond, get_or, length, min};
+ghost use Rattle.std.specs.Prelude.{◌≡◌, ℕ, ◌+◌, ◌-◌, ◌*◌, ◌<◌, ◌≤◌, ◌^◌, Bool, true, false, cond, get_or};
+ghost use Rattle.std.specs.Prelude.{length, min};
 ghost use Rattle.plot_page.specs.Segments.{Segment};
 ghost use Rattle.plot_page.specs.declared.page.Page.{Page};
 ghost use Rattle.plot_page.specs.declared.dots.Dots.{Dots};
@@ -7,10 +8,13 @@ ghost use Rattle.plot_page.specs.Resolutions.{columns_of, rows_of};
 ghost use Rattle.stroke_raster.specs.Tests.{next_count, reached, MOST_TESTS};
 ghost use Rattle.stroke_raster.specs.Covers.{covers};
 ghost use Rattle.stroke_raster.specs.Boxes.{in_box, BoxHolds};
+ghost use Rattle.stroke_raster.specs.Extents.{AreBoxed};
 ghost use Rattle.stroke_raster.specs.Inks.{IsReached};
+ghost use Rattle.stroke_raster.specs.Parts.{ArePartInked, IsPart};
 
 use crate::fill::fill;
 use crate::ink::ink_run;
+use crate::layout::Layout;
 use crate::nearness::near;
 use crate::run::run;
 use crate::strip::Span;
@@ -120,6 +124,63 @@ pub trait Gauge {
             let end = if is_met { low + 1 } else { low };
             ink_run(line, Span { low, end });
         }
+    }
+
+    /// Inks a part of a stroke's box by one call of `ink` for each row: each pixel of the rows of `part`
+    /// and of these columns that the stroke reaches becomes black. The count rises by at most the
+    /// pixels of the part.
+    #[inline(always)]
+    fn ink_each(
+        &mut self,
+        trace: &Trace<'_>,
+        page: &Page,
+        part: Span,
+        columns: Span,
+        layout: Layout,
+        bits: &mut [u8],
+    )
+        requires part { IsPart page.now trace.now.dots layout part columns }
+        requires stride_small { layout.stride ≤ 2 ^ 20 }
+        requires size { length bits.old ≡ layout.rows * layout.stride }
+        requires boxed { AreBoxed trace.now.stroke.now page.now trace.now.dots part columns }
+        ensures size { length bits.new ≡ length bits.old }
+        ensures bits { ArePartInked (reaches self.old trace.now.stroke.now page.now trace.now.dots) layout
+            part columns bits.old bits.new }
+        ensures same { reaches self.new ≡ reaches self.old }
+        ensures most { count self.new ≤ count self.old + (part.end - part.low) * (columns.end - columns.low) }
+        ensures grows { count self.old ≤ count self.new }
+    {
+        let many = columns.end - columns.low;
+        for row in part.low..part.end {
+            let start = (row - layout.first) as usize * layout.stride as usize;
+            let line = &mut bits[start..];
+            self.ink(trace, page, row, columns.low, many, line);
+        }
+    }
+
+    /// Does what `ink_each` does. A gauge that knows more of a stroke may do it in another way.
+    #[inline(always)]
+    fn ink_rows(
+        &mut self,
+        trace: &Trace<'_>,
+        page: &Page,
+        part: Span,
+        columns: Span,
+        layout: Layout,
+        bits: &mut [u8],
+    )
+        requires part { IsPart page.now trace.now.dots layout part columns }
+        requires stride_small { layout.stride ≤ 2 ^ 20 }
+        requires size { length bits.old ≡ layout.rows * layout.stride }
+        requires boxed { AreBoxed trace.now.stroke.now page.now trace.now.dots part columns }
+        ensures size { length bits.new ≡ length bits.old }
+        ensures bits { ArePartInked (reaches self.old trace.now.stroke.now page.now trace.now.dots) layout
+            part columns bits.old bits.new }
+        ensures same { reaches self.new ≡ reaches self.old }
+        ensures most { count self.new ≤ count self.old + (part.end - part.low) * (columns.end - columns.low) }
+        ensures grows { count self.old ≤ count self.new }
+    {
+        self.ink_each(trace, page, part, columns, layout, bits);
     }
 }
 

@@ -19,6 +19,7 @@ ghost use Rattle.stroke_raster.specs.Tests.{MOST_TESTS};
 
 use crate::extent::extent_of;
 use crate::gauge::Gauge;
+use crate::layout::Layout;
 use crate::scene::Scene;
 use crate::strip::Span;
 use crate::trace::trace_of;
@@ -128,16 +129,22 @@ fn ink_stroke<G: Gauge>(
     if extent.columns.low == extent.columns.end {
         return extent.rows.end;
     }
-    let from = extent.columns.low;
-    let many = extent.columns.end - from;
-    let below = extent.rows.end.min(first + rows).max(first);
-    let top = extent.rows.low.max(first).min(below);
+    let end = extent.rows.end.min(first + rows).max(first);
+    let low = extent.rows.low.max(first).min(end);
     let trace = trace_of(stroke, dots, extent.is_small());
-    for row in top..below {
-        let start = (row - first) as usize * stride as usize;
-        let line = &mut bits[start..];
-        gauge.ink(&trace, page, row, from, many, line);
-    }
+    let layout = Layout {
+        first,
+        rows,
+        stride,
+    };
+    gauge.ink_rows(
+        &trace,
+        page,
+        Span { low, end },
+        extent.columns,
+        layout,
+        bits,
+    );
     extent.rows.end
 }
 
