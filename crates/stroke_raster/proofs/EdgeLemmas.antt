@@ -176,6 +176,12 @@ rows_left end row p h =
     let e : end - row ≡ end - (row + 1) + 1 = omega (arith, h) in
     ap (λ (n : ℕ). n * p) e ∙ omega arith
 
+-- an edge has room for one more row
+pub edge_room : (t : Trace) (page : Page) (from : ℕ) (e : Edges) (row at : ℕ) → IsEdge t page from e row at → (e.pace ≤ at) × (at + e.pace < 2 ^ 64)
+edge_room t page from e row at d =
+    let left = rows_left e.rows.end row e.pace d.end in
+    (omega (arith, left, d.room_low), omega (arith, left, d.room_high))
+
 pub edge_falls : (t : Trace) (page : Page) (from : ℕ) (e : Edges) (row at to : ℕ) → IsEdge t page from e row at → row + 1 < e.rows.end → e.falls ≡ true → to + e.pace ≡ at
     → IsEdge t page from e (row + 1) to
 edge_falls t page from e row at to d last f g =

@@ -6,7 +6,7 @@ use Rattle.std.proofs.lemmas.Nat.{mul-le}
 use borrow.Rule.Slice.PartMut.{put_mid, mid_of}
 use Rattle.stroke_raster.specs.declared.strip.Span.{Span}
 use Rattle.stroke_raster.specs.declared.layout.Layout.{Layout}
-use Rattle.stroke_raster.specs.Inks.{ink, ink_at, AreReached, IsReached}
+use Rattle.stroke_raster.specs.Inks.{ink, ink_at, AreReached, IsInked, IsReached}
 use Rattle.stroke_raster.specs.Parts.{ArePartInked}
 use Rattle.stroke_raster.proofs.Inks.{ink_as, ink_here, ink_same, lt_of}
 use Rattle.stroke_raster.proofs.Middle.{mid_below, mid_at, mid_old}
@@ -88,6 +88,23 @@ row_inked reached layout row from many A K bits line low high fit len eA eK long
           ] in
           rw a t)
     ]
+
+-- the pixels of a run are those that are reached
+pub run_reached : (p : ℕ → Bool) (from many low end : ℕ) (old new : List ℕ) → low ≤ end → end ≤ many
+    → ((i : ℕ) → i < low → p (from + i) ≡ false) → ((i : ℕ) → low ≤ i → i < end → p (from + i) ≡ true) → ((i : ℕ) → end ≤ i → i < many → p (from + i) ≡ false)
+    → IsInked (from + low) (from + end) old new → IsReached p from many old new
+run_reached p from many low end old new order high before inside after inked = record {
+  length = inked.length;
+  within = λ i u. elim (cases_lt i low) [
+    | inl l ↦ rw (before i l) (inked.before (from + i) (omega (arith, l)))
+    | inr l ↦ elim (cases_lt i end) [
+      | inl m ↦ rw (inside i l m) (inked.inside (from + i) (omega (arith, l)) (omega (arith, m)))
+      | inr m ↦ rw (after i m u) (inked.after (from + i) (omega (arith, m)))
+    ]
+  ];
+  before = λ i u. inked.before i (omega (arith, u));
+  after = λ i u. inked.after i (omega (arith, u, high));
+}
 
 -- no row inked
 pub none_inked : (reached : ℕ → ℕ → Bool) (layout : Layout) (row : ℕ) (columns : Span) (bits : List ℕ)

@@ -12,6 +12,8 @@ ghost use Rattle.stroke_raster.specs.Extents.{AreBoxed};
 ghost use Rattle.stroke_raster.specs.Inks.{IsReached};
 ghost use Rattle.stroke_raster.specs.Parts.{ArePartInked, IsPart};
 
+use crate::beside::ink_beside;
+use crate::edges::edges_of;
 use crate::fill::fill;
 use crate::ink::ink_run;
 use crate::layout::Layout;
@@ -184,6 +186,9 @@ pub trait Gauge {
     }
 }
 
+// How many rows of a stroke repay the work for its edges.
+const MANY: u32 = 16;
+
 /// The gauge that asks `near`.
 #[derive(Debug, Drop)]
 pub struct Exact {
@@ -205,6 +210,43 @@ impl Exact {
         ensures { result ≡ 0 }
     {
         Exact { tests: 0 }
+    }
+
+    // Inks many rows of a stroke's box. Where only the long sides of the stroke bound it, its edges lead
+    // from row to row.
+    #[inline(never)]
+    fn ink_long(
+        &mut self,
+        trace: &Trace<'_>,
+        page: &Page,
+        part: Span,
+        columns: Span,
+        layout: Layout,
+        bits: &mut [u8],
+    )
+        requires part { IsPart page.now trace.now.dots layout part columns }
+        requires stride_small { layout.stride ≤ 2 ^ 20 }
+        requires size { length bits.old ≡ layout.rows * layout.stride }
+        requires boxed { AreBoxed trace.now.stroke.now page.now trace.now.dots part columns }
+        ensures size { length bits.new ≡ length bits.old }
+        ensures bits { ArePartInked (covers trace.now.stroke.now page.now trace.now.dots) layout part columns
+            bits.old bits.new }
+        ensures most { self.new ≤ self.old + (part.end - part.low) * (columns.end - columns.low) }
+        ensures grows { self.old ≤ self.new }
+    {
+        let edges = edges_of(trace, page, part, columns.low);
+        let above = Span {
+            low: part.low,
+            end: edges.rows.low,
+        };
+        self.ink_each(trace, page, above, columns, layout, bits);
+        let beside = ink_beside(trace, page, &edges, columns, layout, bits);
+        self.tests = self.tests.saturating_add(beside);
+        let below = Span {
+            low: edges.rows.end,
+            end: part.end,
+        };
+        self.ink_each(trace, page, below, columns, layout, bits);
     }
 }
 
@@ -256,6 +298,24 @@ impl Gauge for Exact {
         };
         ink_run(line, black);
         self.tests = self.tests.saturating_add(u64::from(black.end - black.low));
+    }
+
+    // The edges of a stroke cost some work of their own, which a few rows do not repay.
+    #[inline(always)]
+    fn ink_rows(
+        &mut self,
+        trace: &Trace<'_>,
+        page: &Page,
+        part: Span,
+        columns: Span,
+        layout: Layout,
+        bits: &mut [u8],
+    ) {
+        if part.end < part.low + MANY {
+            self.ink_each(trace, page, part, columns, layout, bits);
+        } else {
+            self.ink_long(trace, page, part, columns, layout, bits);
+        }
     }
 
     fn tests(&self) -> u64 {

@@ -2,6 +2,7 @@
 #![tactic(auto)]
 
 mod band;
+mod beside;
 mod edges;
 mod extent;
 mod fill;
