@@ -33,11 +33,13 @@ pub fn ink_beside(
         columns bits.old bits.new }
     ensures most { result ≤ (edges.now.rows.end - edges.now.rows.low) * (columns.end - columns.low) }
 {
+    // A copy, which stays in registers while the bits change.
+    let fixed = *edges;
     let many = columns.end - columns.low;
     let mut count = 0u64;
-    let mut at = edges.end;
+    let mut at = fixed.end;
     for row in edges.rows.low..edges.rows.end {
-        let run = beside_run(trace, page, row, columns.low, many, edges, at);
+        let run = beside_run(trace, page, row, columns.low, many, &fixed, at);
         let start = (row - layout.first) as usize * layout.stride as usize;
         let black = Span {
             low: columns.low + run.low,
@@ -45,7 +47,7 @@ pub fn ink_beside(
         };
         ink_run(&mut bits[start..], black);
         count += u64::from(run.end - run.low);
-        at = edges.next(at);
+        at = fixed.next(at);
     }
     count
 }

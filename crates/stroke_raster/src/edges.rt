@@ -18,8 +18,8 @@ use crate::strip::{Span, turned};
 use crate::trace::Trace;
 use plot_page::Page;
 
-// How many columns places are counted from before a row's first pixel.
-const BEFORE: u64 = 1 << 30;
+// The number of the column before a row's first pixel, where places are counted from.
+const BEFORE: u64 = (1 << 30) - 1;
 
 // In fewer rows the edges cost more than they save.
 const MANY: u32 = 16;
@@ -295,8 +295,8 @@ fn clear_span(near: u64, far: u64, margin: u32, length: u32) -> Span
     ensures order { result.low ≤ result.end }
     ensures clear { result.low < result.end → IsClearSpan margin near far length result }
 {
-    let low = ((near >> 32) + 1).saturating_sub(BEFORE);
-    let end = ((far >> 32) + 1).saturating_sub(BEFORE).min(u64::from(length));
+    let low = (near >> 32).saturating_sub(BEFORE);
+    let end = (far >> 32).saturating_sub(BEFORE).min(u64::from(length));
     if is_clear(near, margin) && is_clear(far, margin) && low < end {
         Span {
             low: low as u32,
@@ -314,5 +314,5 @@ fn is_clear(place: u64, margin: u32) -> bool
     ensures { result ≡ true → IsClear margin place }
 {
     let parts = (place % (1 << 32)) as u32;
-    margin <= parts && parts < u32::MAX - margin
+    parts.wrapping_sub(margin) < u32::MAX - 2 * margin
 }
