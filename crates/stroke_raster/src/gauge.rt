@@ -14,13 +14,14 @@ ghost use Rattle.stroke_raster.specs.Parts.{ArePartInked, IsPart};
 
 use crate::beside::ink_beside;
 use crate::edges::edges_of;
+use crate::extent::Extent;
 use crate::fill::fill;
 use crate::ink::ink_run;
 use crate::layout::Layout;
 use crate::nearness::near;
 use crate::run::run;
 use crate::strip::Span;
-use crate::trace::Trace;
+use crate::trace::{Trace, trace_of};
 use plot_page::{Dots, Page, Stroke};
 use std::marker::Model;
 
@@ -160,29 +161,36 @@ pub trait Gauge {
         }
     }
 
-    /// Does what `ink_each` does. A gauge that knows more of a stroke may do it in another way.
+    /// Inks a part of a stroke's box, as `ink_each` does. A gauge that knows more of its strokes may do it
+    /// in another way.
     #[inline(always)]
     fn ink_rows(
         &mut self,
-        trace: &Trace<'_>,
+        stroke: &Stroke,
         page: &Page,
+        dots: Dots,
         part: Span,
         columns: Span,
         layout: Layout,
         bits: &mut [u8],
     )
-        requires part { IsPart page.now trace.now.dots layout part columns }
+        requires part { IsPart page.now dots layout part columns }
         requires stride_small { layout.stride ≤ 2 ^ 20 }
         requires size { length bits.old ≡ layout.rows * layout.stride }
-        requires boxed { AreBoxed trace.now.stroke.now page.now trace.now.dots part columns }
+        requires boxed { AreBoxed stroke.now page.now dots part columns }
         ensures size { length bits.new ≡ length bits.old }
-        ensures bits { ArePartInked (reaches self.old trace.now.stroke.now page.now trace.now.dots) layout
-            part columns bits.old bits.new }
+        ensures bits { ArePartInked (reaches self.old stroke.now page.now dots) layout part columns
+            bits.old bits.new }
         ensures same { reaches self.new ≡ reaches self.old }
         ensures most { count self.new ≤ count self.old + (part.end - part.low) * (columns.end - columns.low) }
         ensures grows { count self.old ≤ count self.new }
     {
-        self.ink_each(trace, page, part, columns, layout, bits);
+        let box_part = Extent {
+            rows: part,
+            columns,
+        };
+        let trace = trace_of(stroke, dots, box_part.is_small());
+        self.ink_each(&trace, page, part, columns, layout, bits);
     }
 }
 
@@ -217,36 +225,38 @@ impl Exact {
     #[inline(never)]
     fn ink_long(
         &mut self,
-        trace: &Trace<'_>,
+        stroke: &Stroke,
         page: &Page,
+        dots: Dots,
         part: Span,
         columns: Span,
         layout: Layout,
         bits: &mut [u8],
     )
-        requires part { IsPart page.now trace.now.dots layout part columns }
+        requires part { IsPart page.now dots layout part columns }
         requires stride_small { layout.stride ≤ 2 ^ 20 }
         requires size { length bits.old ≡ layout.rows * layout.stride }
-        requires boxed { AreBoxed trace.now.stroke.now page.now trace.now.dots part columns }
+        requires boxed { AreBoxed stroke.now page.now dots part columns }
         ensures size { length bits.new ≡ length bits.old }
-        ensures bits { ArePartInked (covers trace.now.stroke.now page.now trace.now.dots) layout part columns
+        ensures bits { ArePartInked (covers stroke.now page.now dots) layout part columns
             bits.old bits.new }
         ensures most { self.new ≤ self.old + (part.end - part.low) * (columns.end - columns.low) }
         ensures grows { self.old ≤ self.new }
     {
-        let edges = edges_of(trace, page, part, columns.low);
+        let trace = trace_of(stroke, dots, false);
+        let edges = edges_of(&trace, page, part, columns.low);
         let above = Span {
             low: part.low,
             end: edges.rows.low,
         };
-        self.ink_each(trace, page, above, columns, layout, bits);
-        let beside = ink_beside(trace, page, &edges, columns, layout, bits);
+        self.ink_each(&trace, page, above, columns, layout, bits);
+        let beside = ink_beside(&trace, page, &edges, columns, layout, bits);
         self.tests = self.tests.saturating_add(beside);
         let below = Span {
             low: edges.rows.end,
             end: part.end,
         };
-        self.ink_each(trace, page, below, columns, layout, bits);
+        self.ink_each(&trace, page, below, columns, layout, bits);
     }
 }
 
@@ -300,21 +310,28 @@ impl Gauge for Exact {
         self.tests = self.tests.saturating_add(u64::from(black.end - black.low));
     }
 
-    // The edges of a stroke cost some work of their own, which a few rows do not repay.
+    // The edges of a stroke cost some work of their own, which a few rows do not repay. Each way makes its
+    // own trace: that of a few rows then has no place in memory.
     #[inline(always)]
     fn ink_rows(
         &mut self,
-        trace: &Trace<'_>,
+        stroke: &Stroke,
         page: &Page,
+        dots: Dots,
         part: Span,
         columns: Span,
         layout: Layout,
         bits: &mut [u8],
     ) {
         if part.end < part.low + MANY {
-            self.ink_each(trace, page, part, columns, layout, bits);
+            let box_part = Extent {
+                rows: part,
+                columns,
+            };
+            let trace = trace_of(stroke, dots, box_part.is_small());
+            self.ink_each(&trace, page, part, columns, layout, bits);
         } else {
-            self.ink_long(trace, page, part, columns, layout, bits);
+            self.ink_long(stroke, page, dots, part, columns, layout, bits);
         }
     }
 

@@ -131,20 +131,13 @@ fn ink_stroke<G: Gauge>(
     }
     let end = extent.rows.end.min(first + rows).max(first);
     let low = extent.rows.low.max(first).min(end);
-    let trace = trace_of(stroke, dots, extent.is_small());
     let layout = Layout {
         first,
         rows,
         stride,
     };
-    gauge.ink_rows(
-        &trace,
-        page,
-        Span { low, end },
-        extent.columns,
-        layout,
-        bits,
-    );
+    let part = Span { low, end };
+    gauge.ink_rows(stroke, page, dots, part, extent.columns, layout, bits);
     extent.rows.end
 }
 

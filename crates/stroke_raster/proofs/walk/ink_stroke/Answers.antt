@@ -1,6 +1,5 @@
-use Rattle.std.proofs.Common.{ℕ, ◌+◌, sym, ap₂, ◌∙◌, arith}
+use Rattle.std.proofs.Common.{ℕ, ◌+◌, sym, arith}
 use Rattle.plot_page.specs.Segments.{Segment}
-use Rattle.plot_page.specs.declared.dots.Dots.{Dots}
 use Rattle.stroke_raster.specs.Boxes.{in_box}
 use Rattle.plot_page.specs.Resolutions.{columns_of}
 use Rattle.stroke_raster.proofs.BoxCounts.{box_part_in}
@@ -17,14 +16,13 @@ returns-then-extent-clause-bits g c =
 
 pub returns-clause-bits : goal.returns-clause-bits
 returns-clause-bits g c =
-    let inked = rw (c.trace_of-trace.ensures.stroke, c.trace_of-trace.ensures.dots) at c.ink_rows.ensures in
     let reaches = λ (r k : ℕ). g.G.Gauge.reaches c.args.gauge.now c.args.stroke.now c.args.page.now c.args.dots r k in
     whole_inked reaches _ _ c.extent_of-extent.result.columns (columns_of c.args.page.now c.args.dots) c.args.bits.now _ c.extent_of-extent.ensures.columns
     (λ r k u v f. let b = c.requires.boxed c.args.stroke.now c.args.page.now c.args.dots (c.args.first + r) k f in
     let x = c.extent_of-extent.ensures.row_in (c.args.first + r) k (omega (arith, u, c.requires.rows_in)) b in
     let y = c.extent_of-extent.ensures.column_in (c.args.first + r) k v b in
     (omega (arith, x.0, c.min-low.ensures, c.max.ensures), (omega (arith, x.1, u, c.max-end.ensures, c.min.ensures), y)))
-    inked.bits
+    c.ink_rows.ensures.bits
 
 pub returns-clause-most : goal.returns-clause-most
 returns-clause-most g c =
@@ -37,5 +35,4 @@ returns-clause-most g c =
 pub ink_rows-requires-clause-boxed : goal.ink_rows-requires-clause-boxed
 ink_rows-requires-clause-boxed g c =
     λ row k x y a b.
-    ap₂ (λ (s : Segment) (d : Dots). in_box s c.args.page.now d row k) c.trace_of-trace.ensures.stroke c.trace_of-trace.ensures.dots
-    ∙ c.extent_of-extent.ensures.full row k (omega (arith, x, y, c.min-low.ensures, c.max.ensures)) (omega (arith, x, y, c.min-low.ensures, c.max-end.ensures, c.min.ensures, c.max.ensures)) a b
+    c.extent_of-extent.ensures.full row k (omega (arith, x, y, c.min-low.ensures, c.max.ensures)) (omega (arith, x, y, c.min-low.ensures, c.max-end.ensures, c.min.ensures, c.max.ensures)) a b
