@@ -11,9 +11,10 @@ use Rattle.hpgl_plot.specs.declared.plotter.Stop.TheVariants.{Memory, OffRange}
 use Rattle.exact.specs.declared.spot.Spot.{Spot}
 use Rattle.hpgl_plot.specs.declared.state.Position.{Position}
 use Rattle.hpgl_plot.specs.declared.state.State.{State}
-use Rattle.plot_settings.specs.Meanings.{Step, Go, Edge}
+use Rattle.plot_settings.specs.Meanings.{Step, Move, Go, Edge}
+use Rattle.hpgl_plot.specs.Bounds.{IsPlain}
 use Rattle.hpgl_plot.specs.Frames.{place}
-use Rattle.hpgl_plot.specs.Paths.{Path, path, along, position, target}
+use Rattle.hpgl_plot.specs.Paths.{Path, path, along, pen_at, position, target}
 use Rattle.hpgl_plot.specs.Strokes.{are_in_range, path_strokes}
 use Rattle.hpgl_plot.specs.Machine.{World, with_strokes, step, after, moved, travelled, travelled_all, ends_in, Runs}
 use Rattle.hpgl_plot.proofs.Polylines.{lines_are, one_line}
@@ -111,6 +112,23 @@ pub go_path : (page : Page) (s : State) (relative : Bool) (x y : ℤ) (u q : Spo
     → u ≡ target relative s.coordinates x y → q ≡ place page s.frame u
     → path page s (Go relative x y) ≡ along (s.place ∷ (q ∷ [])) s.is_down (record { place = q; coordinates = u })
 go_path page s relative x y u q eu eq = rw (eq, eu) refl
+
+-- a move is travelled from the pen to its end, and the pen comes there
+pub go_is : (w : World) (relative : Bool) (x y : ℤ) (end : Position) → end ≡ pen_at w.page w.state.frame (target relative w.state.coordinates x y)
+    → step w (Go relative x y) ≡ ends_in (moved w.state end) (travelled w w.state.is_down (w.state.place ∷ (end.place ∷ [])))
+go_is w relative x y end e =
+    let s = w.state in
+    let p : Line = record { places = s.place ∷ (end.place ∷ []); draws = s.is_down; ends = end } in
+    let q : path w.page s (Go relative x y) ≡ along p.places p.draws p.ends = rw e refl in
+    step_along w (Go relative x y) p q ∙ ap (λ (r : Path). ends_in (moved s r.ends) (travelled w p.draws p.places)) q
+
+-- a plain frame is as plain after a move
+pub plain_after : (w v : World) (x y : ℤ) → step w (Move x y) ≡ Some v → IsPlain w.page w.state.frame → IsPlain v.page v.state.frame
+unfolding step
+plain_after w v x y h p = elim (cases_Bool (list_all are_in_range (path w.page w.state (Move x y)).lines)) [
+  | inl t ↦ (let e = same_Some _ _ (rw t at h) in subst (λ (u : World). IsPlain u.page u.state.frame) e p)
+  | inr t ↦ absurd (none-some v (rw t at h))
+]
 
 -- the corners b, c and d of a rectangle, from the coordinates t opposite of the pen and p and q beside it
 pub record AreCorners (page : Page) (s : State) (relative : Bool) (x y : ℤ) (t p q b c d : Spot) : Type 0 where

@@ -7,6 +7,7 @@ mod arcs;
 mod figures;
 mod labels;
 mod moves;
+mod plain;
 mod settings;
 
 use crate::fault::PlotFault;
@@ -163,12 +164,13 @@ impl Plotter {
     fn follow(&mut self, numbers: &Numbers<'_>) -> Result<(), Stop>
         ensures { Runs (run (seen self.old) (moves numbers.now)) (seen self.new) result }
     {
+        let is_plain = self.is_plain();
         let mut rest = numbers.iter();
         'pairs: while let Some(x) = rest.next() {
             let Some(y) = rest.next() else {
                 return Ok(());
             };
-            self.move_to(x, y)?;
+            self.move_to(x, y, is_plain)?;
         }
         Ok(())
     }

@@ -49,7 +49,7 @@ impl Axis {
     #[inline(always)]
     pub fn unscaled_place(&self, u: i128) -> i128
         requires unscaled { IsUnscaled self.now }
-        requires short { nat_abs u ≤ 2 ^ 40 }
+        requires short { nat_abs u ≤ 2 ^ 57 }
         ensures value { result ≡ place self.now u }
         ensures bound { nat_abs result ≤ 2 ^ 120 }
     {
@@ -98,7 +98,7 @@ fn is_short(a: i128) -> bool
 #[inline(always)]
 fn unscaled_place(offset: i64, u: i64) -> i64
     requires offset_in { nat_abs offset ≤ 2 ^ 55 }
-    requires u_in { nat_abs u ≤ 2 ^ 40 }
+    requires u_in { nat_abs u ≤ 2 ^ 57 }
     ensures { result ≡ round (quotient (pos 16 *ℤ u +ℤ offset) (pos 1000000)) }
 {
     (2 * (16 * u + offset) + 1_000_000).div_euclid(2_000_000)

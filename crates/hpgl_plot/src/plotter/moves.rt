@@ -1,7 +1,7 @@
 //! Moves, and the strokes along a path.
-ghost use Rattle.std.specs.Prelude.{◌≡◌, ◌≤◌, ◌^◌, ◌*ℤ◌, Bool, [], ◌∷◌, nat_abs, IfOk, IfErr, Some};
+ghost use Rattle.std.specs.Prelude.{◌≡◌, ◌≤◌, ◌^◌, ◌*ℤ◌, Bool, [], ◌∷◌, nat_abs, true, IfOk, IfErr, Some};
 ghost use Rattle.plot_frame.specs.Bounds.{IsNear};
-ghost use Rattle.hpgl_plot.specs.Bounds.{IsInRange};
+ghost use Rattle.hpgl_plot.specs.Bounds.{IsInRange, IsPlain};
 ghost use Rattle.hpgl_plot.specs.Frames as frames;
 ghost use Rattle.hpgl_plot.specs.Machine.{seen, step, Runs, kept_with, full_with, moved, travelled, ends_in, put_at};
 ghost use Rattle.hpgl_plot.specs.Paths as paths;
@@ -18,13 +18,16 @@ use hpgl_text::Number;
 use plot_page::{MOST_STROKES, Stroke};
 
 impl Plotter {
-    /// A move to coordinates, which are relative or absolute by the most recent PA or PR.
+    /// A move to coordinates, which are relative or absolute by the most recent PA or PR. If the frame
+    /// is plain, which `is_plain` tells once for many moves, it is faster.
     #[tactic(auto, unfolding(crate::specs::Machine::step))]
-    pub fn move_to(&mut self, x: Number, y: Number) -> Result<(), Stop>
+    #[inline(always)]
+    pub(crate) fn move_to(&mut self, x: Number, y: Number, is_plain: bool) -> Result<(), Stop>
+        requires { is_plain ≡ true → IsPlain self.old.page self.old.state.frame }
         ensures { Runs (step (seen self.old) (Move x y)) (seen self.new) result }
     {
         let is_relative = self.state.is_relative;
-        self.go(is_relative, x, y)?;
+        self.go_by(is_relative, x, y, is_plain)?;
         Ok(())
     }
 
@@ -32,12 +35,52 @@ impl Plotter {
     pub fn go(&mut self, is_relative: bool, x: Number, y: Number) -> Result<(), Stop>
         ensures { Runs (step (seen self.old) (Go is_relative x y)) (seen self.new) result }
     {
+        let is_plain = self.is_plain();
+        self.go_by(is_relative, x, y, is_plain)
+    }
+
+    /// The same. If the frame is plain, which `is_plain` tells once for many moves, it is faster.
+    #[inline(always)]
+    pub(crate) fn go_by(
+        &mut self,
+        is_relative: bool,
+        x: Number,
+        y: Number,
+        is_plain: bool,
+    ) -> Result<(), Stop>
+        requires { is_plain ≡ true → IsPlain self.old.page self.old.state.frame }
+        ensures { Runs (step (seen self.old) (Go is_relative x y)) (seen self.new) result }
+    {
+        if is_plain {
+            let end = self.plain_end(is_relative, x, y);
+            self.come_to(end)
+        } else {
+            let end = self.end_of(is_relative, x, y);
+            self.come_to(end)
+        }
+    }
+
+    // Where the pen is after a move to coordinates.
+    fn end_of(&self, is_relative: bool, x: Number, y: Number) -> Position
+        ensures { result ≡ paths.pen_at self.now.page self.now.state.frame
+            (paths.target is_relative self.now.state.coordinates x y) }
+    {
         let coordinates = self.target(is_relative, x, y);
         let place = self.place_of(coordinates);
+        Position { place, coordinates }
+    }
+
+    // The pen moves to a position, drawn if it is down.
+    #[inline(always)]
+    fn come_to(&mut self, end: Position) -> Result<(), Stop>
+        requires { end ≡ paths.pen_at self.old.page self.old.state.frame end.coordinates }
+        ensures { Runs (ends_in (moved self.old.state end) (travelled (seen self.old) self.old.state.is_down
+            (self.old.state.place ∷ (end.place ∷ [])))) (seen self.new) result }
+    {
         let start = self.state.place;
         let draws = self.state.is_down;
-        self.travel_to(start, place, draws)?;
-        self.arrive(Position { place, coordinates });
+        self.reach(start, end.place, draws)?;
+        self.arrive(end);
         Ok(())
     }
 
