@@ -13,6 +13,7 @@ use Rattle.exact.specs.declared.spot.Spot.{Spot}
 use Rattle.hpgl_plot.specs.declared.state.State.{State}
 use Rattle.hpgl_plot.specs.declared.state.Position.{Position}
 use Rattle.plot_settings.specs.Meanings.{Write}
+use Rattle.hpgl_plot.specs.Bounds.{IsLevel}
 use Rattle.hpgl_plot.specs.Frames.{back}
 use Rattle.hpgl_plot.specs.Paths.{label_place, stroke_places, pen_at_point, pen_placed, path}
 use Rattle.hpgl_plot.specs.OnPage.{turned_vector}
@@ -90,6 +91,11 @@ next_line cell byte = elim (cases_Bool (nat_eq byte 10)) [
 pub place_is : (s : State) (p : Spot) (u a o : Spot) → u ≡ offset s.size p → a ≡ turned_vector s.direction u → o ≡ turned_vector s.frame.rotation a
     → record { x = s.place.x +ℤ o.x; y = s.place.y +ℤ o.y } ≡ label_place s p
 place_is s p u a o e f g = rw (g, f, e) refl
+
+-- where it lies if the label is level
+pub level_place_is : (s : State) (p : Spot) (o : Spot) → o ≡ offset s.size p → IsLevel s
+    → record { x = s.place.x +ℤ o.x; y = s.place.y +ℤ o.y } ≡ label_place s p
+level_place_is s p o e l = rw (l.direction_is, l.rotation_is, e) refl
 
 -- the places of a stroke
 pub stroke_is : (s : State) (t : LabelStroke) (a b : Spot) → a ≡ label_place s t.from → b ≡ label_place s t.to

@@ -17,6 +17,19 @@ pub record IsLabelPoint (p : Spot) : Type 0 where
   pub x_in : nat_abs p.x ≤ 2 ^ 72
   pub y_in : nat_abs p.y ≤ 2 ^ 72
 
+-- a cell near the label's start, the offsets of whose points are computed in 64 bits
+pub record IsShortCell (cell : Cell) : Type 0 where
+  pub column_in : cell.column ≤ 2 ^ 23
+  pub line_in : cell.line ≤ 2 ^ 23
+
+pub record IsShortPoint (p : Spot) : Type 0 where
+  pub x_in : nat_abs p.x ≤ 2 ^ 29
+  pub y_in : nat_abs p.y ≤ 2 ^ 29
+
+pub record IsShortStroke (s : LabelStroke) : Type 0 where
+  pub from_in : IsShortPoint s.from
+  pub to_in : IsShortPoint s.to
+
 pub record IsLabelStroke (s : LabelStroke) : Type 0 where
   pub from_in : IsLabelPoint s.from
   pub to_in : IsLabelPoint s.to

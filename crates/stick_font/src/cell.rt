@@ -1,6 +1,7 @@
 //! The cells of a label, each of which has room for a character.
 ghost use Rattle.std.specs.Prelude.{◌≡◌, ◌+◌, ◌<◌, ◌^◌};
-ghost use Rattle.stick_font.specs.Bounds.{IsLabelPoint, moved_on};
+ghost use Rattle.std.specs.Bool.{OnTrue};
+ghost use Rattle.stick_font.specs.Bounds.{IsLabelPoint, IsShortCell, moved_on};
 ghost use Rattle.stick_font.specs.Labels as points;
 
 use crate::label::grid_point;
@@ -9,6 +10,9 @@ use exact::Spot;
 const LINE_FEED: u8 = b'\n';
 
 const CARRIAGE_RETURN: u8 = b'\r';
+
+// The greatest column and line of a cell near the label's start.
+const MOST_SHORT: u64 = 1 << 23;
 
 /// A cell of a label: its column, counted from the label's start, and its line, counted downward.
 #[derive(Clone, Copy, Debug, PartialEq, Eq)]
@@ -43,6 +47,14 @@ impl Cell {
             },
             _ => self,
         }
+    }
+
+    /// Whether it is near the label's start, so that `CharacterSize::short_offset` takes its points.
+    #[inline]
+    pub fn is_short(self) -> bool
+        ensures { OnTrue result (IsShortCell self) }
+    {
+        self.column <= MOST_SHORT && self.line <= MOST_SHORT
     }
 
     /// Its lower left corner, the point (0, 0) of its character's grid: twelfths of a character's width

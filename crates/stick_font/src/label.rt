@@ -1,6 +1,6 @@
 //! The strokes of a label, before its characters have a size.
 ghost use Rattle.std.specs.Prelude.{◌≡◌, ◌<◌, map, slice_get, IfSome};
-ghost use Rattle.stick_font.specs.Bounds.{IsLabelPoint, IsLabelStroke};
+ghost use Rattle.stick_font.specs.Bounds.{IsLabelPoint, IsLabelStroke, IsShortCell, IsShortPoint, IsShortStroke};
 ghost use Rattle.stick_font.specs.Labels as points;
 
 use crate::cell::Cell;
@@ -17,9 +17,11 @@ pub struct LabelStroke {
 
 /// The point (i, j) of the grid of a character in a cell, if the grid's columns are `unit` twelfths of
 /// a character's width apart.
+#[inline(always)]
 pub(crate) fn grid_point(cell: Cell, unit: u8, i: u8, j: u8) -> Spot
     ensures value { result ≡ points.grid_point cell unit i j }
     ensures within { IsLabelPoint result }
+    ensures short { IsShortCell cell → IsShortPoint result }
 {
     let unit = i128::from(unit);
     Spot {
@@ -29,9 +31,11 @@ pub(crate) fn grid_point(cell: Cell, unit: u8, i: u8, j: u8) -> Spot
 }
 
 /// Stroke `k` of a byte in a cell, or `None` if `k` is past its last. Strokes are numbered from 0.
+#[inline(always)]
 pub fn label_stroke(cell: Cell, byte: u8, k: usize) -> Option<LabelStroke>
     ensures value { result ≡ slice_get (points.character_strokes cell byte) k }
     ensures within { IfSome result (λ s. IsLabelStroke s) }
+    ensures short { IsShortCell cell → IfSome result (λ s. IsShortStroke s) }
     ensures few { IfSome result (λ _. k < 15) }
 {
     match glyph(byte, k) {

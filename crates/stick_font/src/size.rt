@@ -1,7 +1,7 @@
 //! The size of characters, and what it makes of a label's points.
 ghost use Rattle.std.specs.Prelude.{◌≡◌, ◌≤◌, ◌^◌, nat_abs};
 ghost use Rattle.std.specs.Bool.{OnTrue};
-ghost use Rattle.stick_font.specs.Bounds.{IsLabelPoint};
+ghost use Rattle.stick_font.specs.Bounds.{IsLabelPoint, IsShortPoint};
 ghost use Rattle.stick_font.specs.Labels as points;
 
 use exact::{Spot, rounded};
@@ -33,6 +33,20 @@ impl CharacterSize {
         Spot {
             x: share(point.x, self.width, 12),
             y: share(point.y, self.height, 18),
+        }
+    }
+
+    /// The same for a point within 2^29 of the start. It is faster.
+    #[inline(always)]
+    pub fn short_offset(self, point: Spot) -> Spot
+        requires { IsShortPoint point }
+        ensures value { result ≡ points.offset self point }
+        ensures x_in { nat_abs result.x ≤ 2 ^ 104 }
+        ensures y_in { nat_abs result.y ≤ 2 ^ 104 }
+    {
+        Spot {
+            x: i128::from(short_share(point.x as i64, self.width, 12)),
+            y: i128::from(short_share(point.y as i64, self.height, 18)),
         }
     }
 }

@@ -1,13 +1,15 @@
 //! Labels, stroke by stroke.
 ghost use Rattle.std.specs.Prelude.{◌≡◌, true, map};
-ghost use Rattle.stick_font.specs.Bounds.{IsLabelPoint, IsLabelStroke};
+ghost use Rattle.std.specs.Bool.{OnTrue};
+ghost use Rattle.stick_font.specs.Bounds.{IsLabelPoint, IsLabelStroke, IsShortCell, IsShortPoint, IsShortStroke};
+ghost use Rattle.hpgl_plot.specs.Bounds.{IsLevel};
 ghost use Rattle.stick_font.specs.Labels.{character_strokes};
 ghost use Rattle.hpgl_plot.specs.Paths as labels;
 ghost use Rattle.hpgl_plot.specs.Machine.{seen, step, Runs, travelled, travelled_all, put_at};
 ghost use Rattle.plot_settings.specs.Meanings.{Write};
 
 use crate::plotter::{Plotter, Stop};
-use crate::turn::turned_vector;
+use crate::turn::{is_unturned, turned_vector};
 use exact::Spot;
 use stick_font::{Cell, LabelStroke, label_stroke};
 
@@ -25,29 +27,85 @@ impl Plotter {
         self.end_label(cell.corner())
     }
 
-    // The strokes of a byte in a cell.
+    // The strokes of a byte in a cell. Most labels are level, which needs less arithmetic.
     fn write_byte(&mut self, cell: Cell, byte: u8) -> Result<(), Stop>
+        ensures { Runs
+            (travelled_all (seen self.old) true
+            (map (labels.stroke_places self.old.state) (character_strokes cell byte))) (seen self.new) result }
+    {
+        if self.is_level() && cell.is_short() {
+            self.write_byte_by(cell, byte, true)
+        } else {
+            self.write_byte_by(cell, byte, false)
+        }
+    }
+
+    // The same, for a label that is level and a cell near its start, or for any.
+    #[inline(always)]
+    fn write_byte_by(&mut self, cell: Cell, byte: u8, is_level: bool) -> Result<(), Stop>
+        requires level { is_level ≡ true → IsLevel self.old.state }
+        requires short { is_level ≡ true → IsShortCell cell }
         ensures { Runs
             (travelled_all (seen self.old) true
             (map (labels.stroke_places self.old.state) (character_strokes cell byte))) (seen self.new) result }
     {
         let mut k = 0;
         'strokes: while let Some(stroke) = label_stroke(cell, byte, k) {
-            self.write_stroke(stroke)?;
+            self.write_stroke(stroke, is_level)?;
             k += 1;
         }
         Ok(())
     }
 
     // A stroke, drawn whether the pen is down or not. The pen stays at the label's start.
-    fn write_stroke(&mut self, stroke: LabelStroke) -> Result<(), Stop>
-        requires { IsLabelStroke stroke }
+    #[inline(always)]
+    fn write_stroke(&mut self, stroke: LabelStroke, is_level: bool) -> Result<(), Stop>
+        requires stroke { IsLabelStroke stroke }
+        requires level { is_level ≡ true → IsLevel self.old.state }
+        requires short { is_level ≡ true → IsShortStroke stroke }
         ensures { Runs (travelled (seen self.old) true (labels.stroke_places self.old.state stroke))
             (seen self.new) result }
     {
-        let from = self.label_place(stroke.from);
-        let to = self.label_place(stroke.to);
+        let from = self.point_place(stroke.from, is_level);
+        let to = self.point_place(stroke.to, is_level);
         self.travel_to(from, to, true)
+    }
+
+    // Where a point of a label lies on the page.
+    #[inline(always)]
+    fn point_place(&self, point: Spot, is_level: bool) -> Spot
+        requires point { IsLabelPoint point }
+        requires level { is_level ≡ true → IsLevel self.now.state }
+        requires short { is_level ≡ true → IsShortPoint point }
+        ensures { result ≡ labels.label_place self.now.state point }
+    {
+        if is_level {
+            self.level_place(point)
+        } else {
+            self.label_place(point)
+        }
+    }
+
+    // Whether neither DI nor RO turns a label.
+    #[inline]
+    fn is_level(&self) -> bool
+        ensures { OnTrue result (IsLevel self.now.state) }
+    {
+        is_unturned(self.state.direction) && is_unturned(self.state.frame.rotation)
+    }
+
+    // The same as `label_place`, for a point near the start of a level label.
+    #[inline(always)]
+    fn level_place(&self, point: Spot) -> Spot
+        requires level { IsLevel self.now.state }
+        requires short { IsShortPoint point }
+        ensures { result ≡ labels.label_place self.now.state point }
+    {
+        let on_page = self.state.size.short_offset(point);
+        Spot {
+            x: self.state.place.x + on_page.x,
+            y: self.state.place.y + on_page.y,
+        }
     }
 
     // The pen goes to the end of the label.

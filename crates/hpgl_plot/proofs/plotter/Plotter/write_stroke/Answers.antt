@@ -8,5 +8,5 @@ pub returns : goal.returns
 returns c =
     let w = seen c.args.self.now in
     subst (λ (places : List Spot). Runs (travelled w true places) (seen c.travel_to.new.self) c.travel_to.result)
-    (stroke_is w.state c.args.stroke c.label_place-from.result c.label_place-to.result c.label_place-from.ensures c.label_place-to.ensures)
+    (stroke_is w.state c.args.stroke c.point_place-from.result c.point_place-to.result c.point_place-from.ensures c.point_place-to.ensures)
     c.travel_to.ensures

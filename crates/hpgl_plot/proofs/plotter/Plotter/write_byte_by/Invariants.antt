@@ -3,7 +3,7 @@ use Rattle.stick_font.specs.Labels.{character_strokes}
 use Rattle.hpgl_plot.specs.Paths.{stroke_places}
 use Rattle.hpgl_plot.specs.Machine.{seen, travelled_all}
 use Rattle.hpgl_plot.proofs.Travels.{IsKept}
-use Rattle.hpgl_plot.proofs.plotter.Plotter.write_byte.Given as goal
+use Rattle.hpgl_plot.proofs.plotter.Plotter.write_byte_by.Given as goal
 
 -- the strokes that are left come to what all of them come to
 abbrev pub invariant-strokes : goal.invariant-strokes

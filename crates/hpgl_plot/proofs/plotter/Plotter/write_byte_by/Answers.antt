@@ -8,7 +8,7 @@ use Rattle.hpgl_plot.specs.Machine.{seen, travelled, travelled_all}
 use Rattle.hpgl_plot.proofs.Letters.{one_stroke, no_more_strokes}
 use Rattle.hpgl_plot.proofs.Polylines.{lines_more, lines_out}
 use Rattle.hpgl_plot.proofs.Travels.{stopped, travelled_keeps}
-use Rattle.hpgl_plot.proofs.plotter.Plotter.write_byte.Goals as goal
+use Rattle.hpgl_plot.proofs.plotter.Plotter.write_byte_by.Goals as goal
 
 pub returns-in_err-write_stroke : goal.returns-in_err-write_stroke
 returns-in_err-write_stroke c =
