@@ -107,12 +107,6 @@ stopped o p u v e (Ok x) n h i = absurd i
 stopped o p u v Memory (Err f) n h i = rw i tt
 stopped o p u v OffRange (Err f) n h i = rw i (n h)
 
--- the path of a move
-pub go_path : (page : Page) (s : State) (relative : Bool) (x y : ℤ) (u q : Spot)
-    → u ≡ target relative s.coordinates x y → q ≡ place page s.frame u
-    → path page s (Go relative x y) ≡ along (s.place ∷ (q ∷ [])) s.is_down (record { place = q; coordinates = u })
-go_path page s relative x y u q eu eq = rw (eq, eu) refl
-
 -- a move is travelled from the pen to its end, and the pen comes there
 pub go_is : (w : World) (relative : Bool) (x y : ℤ) (end : Position) → end ≡ pen_at w.page w.state.frame (target relative w.state.coordinates x y)
     → step w (Go relative x y) ≡ ends_in (moved w.state end) (travelled w w.state.is_down (w.state.place ∷ (end.place ∷ [])))

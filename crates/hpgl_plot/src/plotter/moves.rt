@@ -61,6 +61,7 @@ impl Plotter {
     }
 
     // Where the pen is after a move to coordinates.
+    #[inline(always)]
     fn end_of(&self, is_relative: bool, x: Number, y: Number) -> Position
         ensures { result ≡ paths.pen_at self.now.page self.now.state.frame
             (paths.target is_relative self.now.state.coordinates x y) }
