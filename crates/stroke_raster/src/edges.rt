@@ -1,8 +1,8 @@
 //! The edges of the strip along a stroke, from row to row.
 //!
-//! In a row that crosses both long sides of a stroke and is far from its ends, the run is the strip's. From
-//! each such row to the next the strip's edges move by the same way. They are kept in parts of a column,
-//! rounded; only where an edge is within the rounding of a pixel's centre, the run is found by tests.
+//! In a row that is far from both ends of a stroke the run is all of the strip along the stroke's line. From
+//! each such row to the next the strip's edges move by the same distance. They are kept in parts of a column,
+//! rounded. Only if one of them is within the rounding of a pixel's centre, tests find the run.
 ghost use Rattle.std.specs.Prelude.{◌≡◌, ℕ, ◌+◌, ◌-◌, ◌*◌, ◌<◌, ◌≤◌, ◌^◌, true, false, cond, nat_abs, pos, ◌≤ℤ◌, IfSome};
 ghost use Rattle.plot_page.specs.Resolutions.{columns_of, rows_of};
 ghost use Rattle.stroke_raster.specs.Boxes.{in_box};
@@ -18,7 +18,8 @@ use crate::strip::{Span, turned};
 use crate::trace::Trace;
 use plot_page::Page;
 
-// The number of the column before a row's first pixel, where places are counted from.
+// How many more whole columns a place has than pixels of the row lie up to it: places are counted from
+// 2^30 columns before the first pixel.
 const BEFORE: u64 = (1 << 30) - 1;
 
 // In fewer rows the edges cost more than they save.
@@ -37,7 +38,7 @@ pub struct Edges {
     pub falls: bool,
     /// The strip's width in a row, in parts.
     pub width: u64,
-    /// Within how many parts of a pixel's centre an edge may lie on either side of it.
+    /// An edge within this many parts of a pixel's centre may in truth lie on its other side.
     pub margin: u32,
 }
 
