@@ -119,7 +119,7 @@ met_in_span t page from e row at length span d fit c i u v =
     let l : 2 ^ 32 * (i + 2 ^ 30) + s.gap ≤ at = omega (arith, v, c.end, far.0, far.1, m) in
     let o : at + (row - e.rows.low + 1) + s.gap ≤ 2 ^ 32 * (i + 2 ^ 30) + e.width = omega (arith, u, c.low, near.0, near.1, m, fit, d.end, d.low) in
     let b : nat_abs (way_of t page from row -ℤ pos (i * t.slope.step)) ≤ width_of t * s.under = between (way_of t page from row) t.slope.step s.most e.width (row - e.rows.low + 1) s.gap (width_of t * s.under) at i d.edge
-        (edge_of t page from e row at d) d.under d.over s.width_low s.gap_is l o in
+    (edge_of t page from e row at d) d.under d.over s.width_low s.gap_is l o in
     let step : t.slope.step ≡ 32512 * nat_abs t.course.y = t.sound.slope_is.step in
     let b' : nat_abs (way_of t page from row -ℤ pos (i * (32512 * nat_abs t.course.y))) ≤ width_of t * s.under = rw step at b in
     let x = turn_back t.course.y (pos 2 *ℤ cross t.course (way_to t page row from)) i (width_of t * s.under) b' in

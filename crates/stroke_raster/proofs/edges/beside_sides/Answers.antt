@@ -137,7 +137,7 @@ returns-then-trace-lt0-clause-beside c =
     let above' = simp to_z-of_z at above in
     let below' = simp to_z-of_z at below in
     beside_falling c.args.trace.now c.args.page.now row (pos 2 *ℤ c.from-top.result) (pos 2 *ℤ c.from-top.result -ℤ pos 2 *ℤ c.args.trace.now.first.y) (pos 2 *ℤ c.from-top.result -ℤ pos 2 *ℤ c.args.trace.now.first.y -ℤ pos 2 *ℤ c.args.trace.now.scaled_course.y) (pos 2 *ℤ c.from-top.result -ℤ pos 2 *ℤ c.args.trace.now.first.y +ℤ c.from-width.result) (pos 2 *ℤ c.from-top.result -ℤ pos 2 *ℤ c.args.trace.now.first.y -ℤ pos 2 *ℤ c.args.trace.now.scaled_course.y -ℤ c.from-width.result)
-        (ap (λ (n : ℤ). pos 2 *ℤ n) c.from-top.ensures) refl refl (ap (λ (n : ℤ). pos 2 *ℤ c.from-top.result -ℤ pos 2 *ℤ c.args.trace.now.first.y +ℤ n) d) (ap (λ (n : ℤ). pos 2 *ℤ c.from-top.result -ℤ pos 2 *ℤ c.args.trace.now.first.y -ℤ pos 2 *ℤ c.args.trace.now.scaled_course.y -ℤ n) d) c.args.trace.now.course.y refl sign above' below'
+    (ap (λ (n : ℤ). pos 2 *ℤ n) c.from-top.ensures) refl refl (ap (λ (n : ℤ). pos 2 *ℤ c.from-top.result -ℤ pos 2 *ℤ c.args.trace.now.first.y +ℤ n) d) (ap (λ (n : ℤ). pos 2 *ℤ c.from-top.result -ℤ pos 2 *ℤ c.args.trace.now.first.y -ℤ pos 2 *ℤ c.args.trace.now.scaled_course.y -ℤ n) d) c.args.trace.now.course.y refl sign above' below'
 
 pub overflow_add-result-2 : goal.overflow_add-result-2
 overflow_add-result-2 c =
@@ -243,4 +243,4 @@ returns-clause-beside c =
     let above' = simp to_z-of_z at above in
     let below' = simp to_z-of_z at below in
     beside_rising c.args.trace.now c.args.page.now row (pos 2 *ℤ c.from-top.result) (pos 2 *ℤ c.from-top.result -ℤ pos 2 *ℤ c.args.trace.now.first.y) (pos 2 *ℤ c.from-top.result -ℤ pos 2 *ℤ c.args.trace.now.first.y -ℤ pos 2 *ℤ c.args.trace.now.scaled_course.y) (pos 2 *ℤ c.from-top.result -ℤ pos 2 *ℤ c.args.trace.now.first.y -ℤ pos 2 *ℤ c.args.trace.now.scaled_course.y +ℤ c.from-width.result) (pos 2 *ℤ c.from-top.result -ℤ pos 2 *ℤ c.args.trace.now.first.y -ℤ c.from-width.result)
-        (ap (λ (n : ℤ). pos 2 *ℤ n) c.from-top.ensures) refl refl (ap (λ (n : ℤ). pos 2 *ℤ c.from-top.result -ℤ pos 2 *ℤ c.args.trace.now.first.y -ℤ pos 2 *ℤ c.args.trace.now.scaled_course.y +ℤ n) d) (ap (λ (n : ℤ). pos 2 *ℤ c.from-top.result -ℤ pos 2 *ℤ c.args.trace.now.first.y -ℤ n) d) c.args.trace.now.course.y refl sign above' below'
+    (ap (λ (n : ℤ). pos 2 *ℤ n) c.from-top.ensures) refl refl (ap (λ (n : ℤ). pos 2 *ℤ c.from-top.result -ℤ pos 2 *ℤ c.args.trace.now.first.y -ℤ pos 2 *ℤ c.args.trace.now.scaled_course.y +ℤ n) d) (ap (λ (n : ℤ). pos 2 *ℤ c.from-top.result -ℤ pos 2 *ℤ c.args.trace.now.first.y -ℤ n) d) c.args.trace.now.course.y refl sign above' below'
