@@ -5,10 +5,10 @@ use Rattle.std.specs.Int.{w64, bit_at, to_be_bytes, to_le_bytes, from_le_bytes}
 use Rattle.std.proofs.lemmas.Bool.{cases_lt}
 use Rattle.std.proofs.lemmas.List.{get_or_past}
 use Rattle.std.proofs.lemmas.Nat.{le_bytes_8, div-add-mod', div-mul-add, pow-add, pow_pos, shr-shr}
-use Rattle.std.proofs.lemmas.Nat.Bits.{bit_at_cat_low, bit_at_mask_above, bit_at_mask_below, bit_at_mask_inside, bit_at_or, bit_at-lt}
-use Rattle.std.proofs.Math.Nat.{pow-le-pow_right}
+use Rattle.std.proofs.lemmas.Nat.Bits.{bit_at_above, bit_at_cat_high, bit_at_cat_low, bit_at_mask_above, bit_at_mask_below, bit_at_mask_inside, bit_at_or, bit_at-lt, bit_at-zero}
+use Rattle.std.proofs.Math.Nat.{mul-le-mul_right, pow-le-pow_right}
 use borrow.Rule.Slice.PartMut.{put_mid, mid_of, same_len_mid}
-use Rattle.stroke_raster.specs.Inks.{ink, IsInked}
+use Rattle.stroke_raster.specs.Inks.{ink, AreMaskInked, IsInked, IsWordInked}
 use Rattle.stroke_raster.proofs.Middle.{mid_above, mid_at, mid_below, mid_length, mid_old}
 
 -- the shifted ones of a word
@@ -148,33 +148,91 @@ joined old at w t m i et fit read from to =
     ∙ ap (λ (n : ℕ). max (bit_at w (place (i - 8 * at))) n) (turned_ink t m (i - 8 * at) et j)
     ∙ ap (λ (n : ℕ). max n (bit_at m (63 - (i - 8 * at)))) (read (i - 8 * at) j ∙ in_old old at i fit from to)
 
--- a run that was inked by one word
-pub word_inked : (low end at a b w t m : ℕ) (old : List ℕ) → at ≡ low / 8 → a ≡ low % 8 → b ≡ low % 8 + (end - low) → low ≤ end → end ≤ low + 56 → at + 8 ≤ length old
-    → ((k : ℕ) → k < 64 → bit_at w (8 * (k / 8) + (7 - k % 8)) ≡ ink (mid_of at 8 old) k) → m ≡ 2 ^ (64 - a) - 2 ^ (64 - b) → t ≡ from_le_bytes w64 (to_be_bytes w64 m)
-    → IsInked low end old (put_mid at 8 old (masked w t))
-word_inked low end at a b w t m old e ea eb order few fit read em et =
+-- a word that was inked
+pub word_inked : (at w t m : ℕ) (old : List ℕ) → at + 8 ≤ length old
+    → ((k : ℕ) → k < 64 → bit_at w (8 * (k / 8) + (7 - k % 8)) ≡ ink (mid_of at 8 old) k) → t ≡ from_le_bytes w64 (to_be_bytes w64 m)
+    → IsWordInked at m old (put_mid at 8 old (masked w t))
+word_inked at w t m old fit read et =
     let eight : length (masked w t) ≡ 8 = refl in
-    let bit : (k : ℕ) → bit_at m k ≡ bit_at (2 ^ (64 - a) - 2 ^ (64 - b)) k = λ k. ap (λ (n : ℕ). bit_at n k) em in
     record {
       length = same_len_mid at 8 old (masked w t) (eight ∙ sym (mid_length at 8 old fit));
+      within = λ i from to. joined old at w t m i et fit read from to;
+      before = λ i u. beside_word old (masked w t) at i fit eight (λ g. absurd (omega (arith, g, u)));
+      after = λ i u. beside_word old (masked w t) at i fit eight (λ _. u);
+    }
+
+-- a run that was inked by one word
+pub few_inked : (low end at a b m : ℕ) (old new : List ℕ) → at ≡ low / 8 → a ≡ low % 8 → b ≡ low % 8 + (end - low) → low ≤ end → end ≤ low + 56
+    → m ≡ 2 ^ (64 - a) - 2 ^ (64 - b) → IsWordInked at m old new → IsInked low end old new
+few_inked low end at a b m old new e ea eb order few em word =
+    let bit : (k : ℕ) → bit_at m k ≡ bit_at (2 ^ (64 - a) - 2 ^ (64 - b)) k = λ k. ap (λ (n : ℕ). bit_at n k) em in
+    record {
+      length = word.length;
       before = λ i u. elim (cases_lt (i / 8) at) [
-        | inl l ↦ beside_word old (masked w t) at i fit eight (λ g. absurd (omega (arith, g, l)))
+        | inl l ↦ word.before i l
         | inr g ↦ (let to : i / 8 < at + 8 = omega (arith, u, e) in
-            let s = joined old at w t m i et fit read g to in
+            let s = word.within i g to in
             let z = bit (63 - (i - 8 * at)) ∙ bit_at_mask_above (64 - b) (64 - a) (63 - (i - 8 * at)) (omega (arith, u, e, ea, g)) in
             omega (arith, s, z))
       ];
       inside = λ i u v. (let from : at ≤ i / 8 = omega (arith, u, e) in
           let to : i / 8 < at + 8 = omega (arith, v, e, few) in
-          let s = joined old at w t m i et fit read from to in
+          let s = word.within i from to in
           let z = bit (63 - (i - 8 * at)) ∙ bit_at_mask_inside (64 - b) (64 - a) (63 - (i - 8 * at)) (omega (arith, v, e, ea, eb, order, few)) (omega (arith, u, e, ea)) in
           let o = bit_at-lt (get_or old (i / 8) 0) (7 - i % 8) in
           omega (arith, s, z, o));
       after = λ i u. elim (cases_lt (i / 8) (at + 8)) [
         | inl l ↦ (let from : at ≤ i / 8 = omega (arith, u, e, order) in
-            let s = joined old at w t m i et fit read from l in
+            let s = word.within i from l in
             let z = bit (63 - (i - 8 * at)) ∙ bit_at_mask_below (64 - b) (64 - a) (63 - (i - 8 * at)) (omega (arith, u, l, e, ea, eb, order, few)) in
             omega (arith, s, z))
-        | inr g ↦ beside_word old (masked w t) at i fit eight (λ w. g)
+        | inr g ↦ word.after i g
+      ];
+    }
+
+-- a bit of a number times a power of 2
+moved_bit : (m k j : ℕ) → k ≤ j → bit_at (m * 2 ^ k) j ≡ bit_at m (j - k)
+moved_bit m k j h = ap (λ (n : ℕ). bit_at n j) (omega arith) ∙ bit_at_cat_high m k 0 j (pow_pos k) h
+
+no_bit : (m k j : ℕ) → j < k → bit_at (m * 2 ^ k) j ≡ 0
+no_bit m k j h = ap (λ (n : ℕ). bit_at n j) (omega arith) ∙ bit_at_cat_low m k 0 j h ∙ bit_at-zero j
+
+-- a small number times a power of 2 fits in a word
+fits_word : (m n k : ℕ) → m < 2 ^ n → n + k ≤ 64 → m * 2 ^ k % 18446744073709551616 ≡ m * 2 ^ k
+fits_word m n k small fit =
+    let p : 2 ^ (n + k) ≡ 2 ^ n * 2 ^ k = pow-add 2 n k in
+    let q : 2 ^ (n + k) ≤ 2 ^ 64 = pow-le-pow_right (omega arith) fit in
+    let pk = pow_pos k in
+    let l : (m + 1) * 2 ^ k ≤ 2 ^ n * 2 ^ k = mul-le-mul_right (2 ^ k) (omega (arith, small)) in
+    omega (arith, p, q, l, pk)
+
+-- a mask that was inked by one word
+pub mask_inked : (low many m v : ℕ) (old new : List ℕ) → many ≤ 56 → m < 2 ^ many → v ≡ m * 2 ^ (64 - low % 8 - many) % 18446744073709551616 → IsWordInked (low / 8) v old new
+    → AreMaskInked low many m old new
+mask_inked low many m v old new few small ev' word =
+    let ev : v ≡ m * 2 ^ (64 - low % 8 - many) = ev' ∙ fits_word m many (64 - low % 8 - many) small (omega (arith, few)) in
+    let bit : (j : ℕ) → bit_at v j ≡ bit_at (m * 2 ^ (64 - low % 8 - many)) j = λ j. ap (λ (n : ℕ). bit_at n j) ev in
+    record {
+      length = word.length;
+      within = λ i u. (let from : low / 8 ≤ (low + i) / 8 = omega arith in
+          let to : (low + i) / 8 < low / 8 + 8 = omega (arith, u, few) in
+          let s = word.within (low + i) from to in
+          let z = bit (63 - (low + i - 8 * (low / 8))) ∙ moved_bit m (64 - low % 8 - many) (63 - (low + i - 8 * (low / 8))) (omega (arith, u, few)) in
+          let e : 63 - (low + i - 8 * (low / 8)) - (64 - low % 8 - many) ≡ many - 1 - i = omega (arith, u, few) in
+          s ∙ ap (λ (n : ℕ). max (ink old (low + i)) n) (z ∙ ap (bit_at m) e));
+      before = λ i u. elim (cases_lt (i / 8) (low / 8)) [
+        | inl l ↦ word.before i l
+        | inr g ↦ (let to : i / 8 < low / 8 + 8 = omega (arith, u) in
+            let s = word.within i g to in
+            let z = bit (63 - (i - 8 * (low / 8))) ∙ moved_bit m (64 - low % 8 - many) (63 - (i - 8 * (low / 8))) (omega (arith, u, few, g))
+            ∙ bit_at_above m many (63 - (i - 8 * (low / 8)) - (64 - low % 8 - many)) small (omega (arith, u, few, g)) in
+            omega (arith, s, z))
+      ];
+      after = λ i u. elim (cases_lt (i / 8) (low / 8 + 8)) [
+        | inl l ↦ (let from : low / 8 ≤ i / 8 = omega (arith, u) in
+            let s = word.within i from l in
+            let z = bit (63 - (i - 8 * (low / 8))) ∙ no_bit m (64 - low % 8 - many) (63 - (i - 8 * (low / 8))) (omega (arith, u, l, few)) in
+            omega (arith, s, z))
+        | inr g ↦ word.after i g
       ];
     }

@@ -1,5 +1,5 @@
 -- Pixels as the bits of bytes, the leftmost of eight in the highest bit.
-use Rattle.std.specs.Prelude.{◌≡◌, ℕ, ◌+◌, ◌-◌, ◌*◌, ◌/◌, ◌%◌, ◌<◌, ◌≤◌, Bool, nat_lt, ◌&&◌, cond, min, List, length}
+use Rattle.std.specs.Prelude.{◌≡◌, ℕ, ◌+◌, ◌-◌, ◌*◌, ◌/◌, ◌%◌, ◌<◌, ◌≤◌, Bool, nat_lt, ◌&&◌, cond, min, max, List, length}
 use Rattle.std.specs.Prelude.{get_or}
 use Rattle.std.specs.Int.{bit_at}
 use Rattle.plot_page.specs.Segments.{Segment}
@@ -22,6 +22,20 @@ pub record IsMask (low end place mask : ℕ) : Type 0 where
   pub before : (k : ℕ) → k < 8 → 8 * place + k < low → bit_at mask (7 - k) ≡ 0
   pub inside : (k : ℕ) → k < 8 → low ≤ 8 * place + k → 8 * place + k < end → bit_at mask (7 - k) ≡ 1
   pub after : (k : ℕ) → k < 8 → end ≤ 8 * place + k → bit_at mask (7 - k) ≡ 0
+
+-- the pixels of a word, the highest bit first, from byte `at` on are black, and the others are as they were
+pub record IsWordInked (at word : ℕ) (old new : List ℕ) : Type 0 where
+  pub length : length new ≡ length old
+  pub within : (i : ℕ) → at ≤ i / 8 → i / 8 < at + 8 → ink new i ≡ max (ink old i) (bit_at word (63 - (i - 8 * at)))
+  pub before : (i : ℕ) → i / 8 < at → ink new i ≡ ink old i
+  pub after : (i : ℕ) → at + 8 ≤ i / 8 → ink new i ≡ ink old i
+
+-- so are the pixels of a mask, of which the lowest bit is that of the last of n pixels from column `low` on
+pub record AreMaskInked (low n mask : ℕ) (old new : List ℕ) : Type 0 where
+  pub length : length new ≡ length old
+  pub within : (i : ℕ) → i < n → ink new (low + i) ≡ max (ink old (low + i)) (bit_at mask (n - 1 - i))
+  pub before : (i : ℕ) → i < low → ink new i ≡ ink old i
+  pub after : (i : ℕ) → low + n ≤ i → ink new i ≡ ink old i
 
 -- of n pixels from column `from` on those that are reached are black, and all others are as they were
 pub record IsReached (reached : ℕ → Bool) (from n : ℕ) (old new : List ℕ) : Type 0 where

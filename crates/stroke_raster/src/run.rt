@@ -75,7 +75,7 @@ fn meets_ends(trace: &Trace<'_>, start: Vector, span: Span) -> bool
 
 // The way to the pixel i columns to the right of the one to which `start` leads.
 #[inline(always)]
-fn pixel_at(start: Vector, i: u32) -> Vector
+pub fn pixel_at(start: Vector, i: u32) -> Vector
     requires start_in { Within (2 ^ 32) start }
     requires i_in { i ≤ 2 ^ 17 }
     ensures value { result ≡ rightward start i }
