@@ -1,5 +1,5 @@
 -- Parts of the rows and columns of a band, and what the inking of a part leaves.
-use Rattle.std.specs.Prelude.{◌≡◌, ℕ, ◌+◌, ◌*◌, ◌<◌, ◌≤◌, Bool, ◌&&◌, cond, List}
+use Rattle.std.specs.Prelude.{◌≡◌, ℕ, ◌+◌, ◌-◌, ◌*◌, ◌<◌, ◌≤◌, Bool, ◌&&◌, cond, List}
 use Rattle.plot_page.specs.declared.page.Page.{Page}
 use Rattle.plot_page.specs.declared.dots.Dots.{Dots}
 use Rattle.plot_page.specs.Resolutions.{columns_of, rows_of}
@@ -7,6 +7,7 @@ use Rattle.stroke_raster.specs.declared.strip.Span.{Span}
 use Rattle.stroke_raster.specs.declared.layout.Layout.{Layout}
 use Rattle.stroke_raster.specs.Inks.{ink_at}
 use Rattle.stroke_raster.specs.Spans.{holds}
+use Rattle.stroke_raster.specs.Tests.{reached_pixels}
 
 -- these rows and columns lie in the band, and the band's rows lie on the page
 pub record IsPart (page : Page) (dots : Dots) (layout : Layout) (part columns : Span) : Type 0 where
@@ -24,3 +25,8 @@ ArePartInked reached layout part columns old new =
     (r k : ℕ) → r < layout.rows → k < 8 * layout.stride →
     ink_at layout.stride new r k
     ≡ cond (holds part (layout.first + r) && (holds columns k && reached (layout.first + r) k)) 1 (ink_at layout.stride old r k)
+
+-- how many pixels of these rows and columns are reached
+abbrev pub reached_in : (ℕ → ℕ → Bool) → Span → Span → ℕ
+reached_in covers part columns =
+    reached_pixels covers part.low (part.end - part.low) columns.low (columns.end - columns.low)

@@ -3,7 +3,7 @@ ghost use Rattle.std.specs.Prelude.{◌≡◌, ◌+◌, ◌-◌, ◌*◌, ◌≤
 ghost use Rattle.stroke_raster.specs.Covers.{covers};
 ghost use Rattle.stroke_raster.specs.Edges.{AreEdges};
 ghost use Rattle.stroke_raster.specs.Extents.{AreBoxed};
-ghost use Rattle.stroke_raster.specs.Parts.{ArePartInked, IsPart};
+ghost use Rattle.stroke_raster.specs.Parts.{ArePartInked, IsPart, reached_in};
 
 use crate::edges::{Edges, beside_run};
 use crate::ink::ink_run;
@@ -31,6 +31,7 @@ pub fn ink_beside(
     ensures size { length bits.new ≡ length bits.old }
     ensures bits { ArePartInked (covers trace.now.stroke.now page.now trace.now.dots) layout edges.now.rows
         columns bits.old bits.new }
+    ensures least { reached_in (covers trace.now.stroke.now page.now trace.now.dots) edges.now.rows columns ≤ result }
     ensures most { result ≤ (edges.now.rows.end - edges.now.rows.low) * (columns.end - columns.low) }
 {
     // A copy, which stays in registers while the bits change.

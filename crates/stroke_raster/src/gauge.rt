@@ -10,7 +10,7 @@ ghost use Rattle.stroke_raster.specs.Covers.{covers};
 ghost use Rattle.stroke_raster.specs.Boxes.{in_box, BoxHolds};
 ghost use Rattle.stroke_raster.specs.Extents.{AreBoxed};
 ghost use Rattle.stroke_raster.specs.Inks.{IsReached};
-ghost use Rattle.stroke_raster.specs.Parts.{ArePartInked, IsPart};
+ghost use Rattle.stroke_raster.specs.Parts.{ArePartInked, IsPart, reached_in};
 
 use crate::beside::ink_beside;
 use crate::edges::edges_of;
@@ -130,8 +130,8 @@ pub trait Gauge {
     }
 
     /// Inks a part of a stroke's box by one call of `ink` for each row: each pixel of the rows of `part`
-    /// and of these columns that the stroke reaches becomes black. The count rises by at most the
-    /// pixels of the part.
+    /// and of these columns that the stroke reaches becomes black. The count rises by at least the pixels
+    /// reached and at most those of the part, or to 2^64 - 1, where it stays.
     #[inline(always)]
     fn ink_each(
         &mut self,
@@ -150,6 +150,9 @@ pub trait Gauge {
         ensures bits { ArePartInked (reaches self.old trace.now.stroke.now page.now trace.now.dots) layout
             part columns bits.old bits.new }
         ensures same { reaches self.new ≡ reaches self.old }
+        ensures least { min (count self.old + reached_in
+            (reaches self.old trace.now.stroke.now page.now trace.now.dots) part columns) MOST_TESTS
+            ≤ count self.new }
         ensures most { count self.new ≤ count self.old + (part.end - part.low) * (columns.end - columns.low) }
         ensures grows { count self.old ≤ count self.new }
     {
@@ -182,6 +185,8 @@ pub trait Gauge {
         ensures bits { ArePartInked (reaches self.old stroke.now page.now dots) layout part columns
             bits.old bits.new }
         ensures same { reaches self.new ≡ reaches self.old }
+        ensures least { min (count self.old + reached_in
+            (reaches self.old stroke.now page.now dots) part columns) MOST_TESTS ≤ count self.new }
         ensures most { count self.new ≤ count self.old + (part.end - part.low) * (columns.end - columns.low) }
         ensures grows { count self.old ≤ count self.new }
     {
@@ -240,6 +245,8 @@ impl Exact {
         ensures size { length bits.new ≡ length bits.old }
         ensures bits { ArePartInked (covers stroke.now page.now dots) layout part columns
             bits.old bits.new }
+        ensures least { min (self.old + reached_in (covers stroke.now page.now dots) part columns) MOST_TESTS
+            ≤ self.new }
         ensures most { self.new ≤ self.old + (part.end - part.low) * (columns.end - columns.low) }
         ensures grows { self.old ≤ self.new }
     {

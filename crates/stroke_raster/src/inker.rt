@@ -1,12 +1,13 @@
 //! An inker lends a picture's rows as bits, band by band, in one buffer.
-ghost use Rattle.std.specs.Prelude.{◌≡◌, ℕ, ◌+◌, ◌*◌, ◌<◌, ◌≤◌, ◌↔◌, length, map, IfOk, IsTrue, Err, true, false};
+ghost use Rattle.std.specs.Prelude.{◌≡◌, ℕ, ◌+◌, ◌*◌, ◌<◌, ◌≤◌, ◌↔◌, length, map, min, IfOk, IsTrue, Err, true, false};
 ghost use Rattle.plot_page.specs.declared.stroke.TheConstants.{MOST_STROKES};
 ghost use Rattle.plot_page.specs.declared.dots.TheConstants.{MOST_PIXELS_A_SIDE};
 ghost use Rattle.plot_page.specs.Resolutions.{columns_of, rows_of};
 ghost use Rattle.bit_rows.specs.Bits.{bytes_for, packed};
 ghost use Rattle.stroke_raster.specs.BandHeights.{is_band_height};
 ghost use Rattle.stroke_raster.specs.Painting.{painted_rows, boxed_pixels, rows_next, Moves};
-ghost use Rattle.stroke_raster.specs.Rows.{split_rows};
+ghost use Rattle.stroke_raster.specs.Rows.{marked_in_rows, split_rows};
+ghost use Rattle.stroke_raster.specs.Tests.{MOST_TESTS};
 
 use crate::gauge::Gauge;
 use crate::painter::PaintFault;
@@ -149,8 +150,9 @@ impl<'a> Inker<'a> {
         self.scene.dots
     }
 
-    /// Inks the next band, if a row is left. The gauge's count rises by at most the pixels that the
-    /// selected strokes' boxes have in the band's rows.
+    /// Inks the next band, if a row is left. The gauge's count rises by at least the band's black pixels
+    /// and at most the pixels that the selected strokes' boxes have in the band's rows, or to 2^64 - 1,
+    /// where it stays.
     pub fn ink_next<G: Gauge>(&mut self, gauge: &mut G) -> bool
         ensures left { IsTrue result ↔ (self.old.next < rows_of self.old.page self.old.dots) }
         ensures moves { Moves self.old self.new }
@@ -160,6 +162,9 @@ impl<'a> Inker<'a> {
             ≡ map packed (painted_rows (G.reaches gauge.old) self.old self.old.next (rows_next self.old)) }
         ensures same { G.reaches gauge.new ≡ G.reaches gauge.old }
         ensures idle { result ≡ false → gauge.new ≡ gauge.old }
+        ensures least { IsTrue result → min (G.count gauge.old + marked_in_rows
+            (painted_rows (G.reaches gauge.old) self.old self.old.next (rows_next self.old))) MOST_TESTS
+            ≤ G.count gauge.new }
         ensures most { IsTrue result →
             G.count gauge.new ≤ G.count gauge.old + boxed_pixels self.old self.old.next (rows_next self.old) }
         ensures grows { G.count gauge.old ≤ G.count gauge.new }

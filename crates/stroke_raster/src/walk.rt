@@ -15,7 +15,7 @@ ghost use Rattle.stroke_raster.specs.Slots.{band_from, reaches_cell};
 ghost use Rattle.stroke_raster.specs.Spans.{Spanned, holds, none};
 ghost use Rattle.stroke_raster.specs.Inks.{AreReached, ShowsInk};
 ghost use Rattle.bit_rows.specs.Bits.{bytes_for, packed};
-ghost use Rattle.stroke_raster.specs.Tests.{MOST_TESTS};
+ghost use Rattle.stroke_raster.specs.Tests.{MOST_TESTS, reached_pixels};
 
 use crate::extent::extent_of;
 use crate::gauge::Gauge;
@@ -121,6 +121,8 @@ fn ink_stroke<G: Gauge>(
     ensures bits { AreReached (G.reaches gauge.old stroke.now page.now dots) first rows (columns_of page.now dots)
         stride bits.old bits.new }
     ensures same { G.reaches gauge.new ≡ G.reaches gauge.old }
+    ensures least { min (G.count gauge.old + reached_pixels (G.reaches gauge.old stroke.now page.now dots)
+        first rows 0 (columns_of page.now dots)) MOST_TESTS ≤ G.count gauge.new }
     ensures most { G.count gauge.new ≤ G.count gauge.old + box_pixels
         (λ s. in_box s page.now dots) stroke.now first rows (columns_of page.now dots) }
     ensures grows { G.count gauge.old ≤ G.count gauge.new }
@@ -231,6 +233,8 @@ fn ink_walk<G: Gauge>(
     ensures bits { ShowsInk (λ s. G.reaches gauge.old s scene.now.page scene.now.dots) scene.now.pens
         scene.now.strokes.now first rows (width_of scene.now) stride bits.new }
     ensures same { G.reaches gauge.new ≡ G.reaches gauge.old }
+    ensures least { min (G.count gauge.old + marked_in_rows
+        (scene_rows (G.reaches gauge.old) scene.now first rows)) MOST_TESTS ≤ G.count gauge.new }
     ensures most { G.count gauge.new ≤ G.count gauge.old + scene_boxes scene.now first rows }
     ensures grows { G.count gauge.old ≤ G.count gauge.new }
 {
@@ -396,6 +400,8 @@ pub fn ink_band<G: Gauge>(
     ensures rows { split_rows stride rows bits.new
         ≡ map packed (scene_rows (G.reaches gauge.old) scene.now first rows) }
     ensures same { G.reaches gauge.new ≡ G.reaches gauge.old }
+    ensures least { min (G.count gauge.old + marked_in_rows
+        (scene_rows (G.reaches gauge.old) scene.now first rows)) MOST_TESTS ≤ G.count gauge.new }
     ensures most { G.count gauge.new ≤ G.count gauge.old + scene_boxes scene.now first rows }
     ensures grows { G.count gauge.old ≤ G.count gauge.new }
 {

@@ -4,12 +4,19 @@ use Rattle.stroke_raster.specs.Covers.{covers}
 use Rattle.stroke_raster.proofs.EdgeLemmas.{edge_room}
 use Rattle.stroke_raster.proofs.Middle.{mid_length}
 use Rattle.stroke_raster.proofs.Parts.{parts_joined, row_inked, row_more, run_reached}
+use Rattle.stroke_raster.proofs.Reached.{reached_within}
+use Rattle.stroke_raster.proofs.ReachedRows.{row_counted}
 use Rattle.stroke_raster.proofs.beside.ink_beside.Goals as goal
 
 pub returns-clause-bits : goal.returns-clause-bits
 returns-clause-bits c =
     let e : c.loop-row.row ≡ c.args.edges.now.rows.end = omega (arith, c.loop-row.auto.row-end c.requires.part.order, c.loop-row-test.false) in
     rw e at c.loop-row.invariant.inked
+
+pub returns-clause-least : goal.returns-clause-least
+returns-clause-least c =
+    let e : c.loop-row.row ≡ c.args.edges.now.rows.end = omega (arith, c.loop-row.auto.row-end c.requires.part.order, c.loop-row-test.false) in
+    rw e at c.loop-row.invariant.least
 
 pub next-at-requires-clause-low : goal.next-at-requires-clause-low
 next-at-requires-clause-low c = (edge_room _ _ _ _ _ _ (c.loop-row.invariant.edge c.loop-row-test.true)).0
@@ -35,6 +42,9 @@ loop-row-preserved c =
     low tall (omega (arith, many, c.requires.part.line_in)) len refl refl (reached.length ∙ lm) reached in
     record {
       inked = parts_joined covered c.args.layout c.args.edges.now.rows.low c.loop-row.row (c.loop-row.row + 1) c.args.columns c.args.bits.now c.loop-row.bits _ c.loop-row.auto.row (omega arith) inv.inked (rw many at line);
+      least = (let n = row_counted covered c.args.edges.now.rows.low c.loop-row.row c.args.columns.low (c.args.columns.end - c.args.columns.low) c.loop-row.auto.row in
+          let w = reached_within (covered c.loop-row.row) c.args.columns.low c.beside_run-run.result.low c.beside_run-run.result.end run.order (c.args.columns.end - c.args.columns.low) run.before run.after in
+          rw n (omega (arith, w, run.order, run.high, c.from-count.ensures, inv.least)));
       most = (let r = row_more c.args.edges.now.rows.low c.loop-row.row (c.args.columns.end - c.args.columns.low) c.loop-row.auto.row in
           omega (arith, r, run.order, run.high, c.from-count.ensures, inv.most));
       edge = λ h. c.next-at.ensures c.args.trace.now c.args.page.now c.args.columns.low c.loop-row.row (inv.edge c.loop-row-test.true) h;

@@ -5,6 +5,7 @@ use Rattle.plot_page.specs.Resolutions.{columns_of}
 use Rattle.stroke_raster.proofs.BoxCounts.{box_part_in}
 use Rattle.stroke_raster.proofs.Inks.{lt_of, unreached}
 use Rattle.stroke_raster.proofs.Parts.{whole_inked}
+use Rattle.stroke_raster.proofs.ReachedRows.{none_has, part_has_all}
 use Rattle.stroke_raster.proofs.Slots.{beside}
 use Rattle.stroke_raster.proofs.walk.ink_stroke.Goals as goal
 
@@ -23,6 +24,24 @@ returns-clause-bits g c =
     let y = c.extent_of-extent.ensures.column_in (c.args.first + r) k v b in
     (omega (arith, x.0, c.min-low.ensures, c.max.ensures), (omega (arith, x.1, u, c.max-end.ensures, c.min.ensures), y)))
     c.ink_rows.ensures.bits
+
+pub returns-then-extent-clause-least : goal.returns-then-extent-clause-least
+returns-then-extent-clause-least g c =
+    let reaches = λ (r k : ℕ). g.G.Gauge.reaches c.args.gauge.now c.args.stroke.now c.args.page.now c.args.dots r k in
+    let n = none_has reaches c.args.first c.args.rows (columns_of c.args.page.now c.args.dots) (λ r k u v. beside _ _ (c.requires.boxed c.args.stroke.now c.args.page.now c.args.dots (c.args.first + r) k)
+    (λ b. let x = c.extent_of-extent.ensures.column_in (c.args.first + r) k v b in absurd (omega (arith, x.0, x.1, c.if-extent.true)))) in
+    rw n (omega arith)
+
+pub returns-clause-least : goal.returns-clause-least
+returns-clause-least g c =
+    let reaches = λ (r k : ℕ). g.G.Gauge.reaches c.args.gauge.now c.args.stroke.now c.args.page.now c.args.dots r k in
+    let h = part_has_all reaches c.args.first c.min-low.result c.max-end.result c.extent_of-extent.result.columns.low c.extent_of-extent.result.columns.end (columns_of c.args.page.now c.args.dots) c.args.rows
+    (omega (arith, c.min-low.ensures, c.max-end.ensures, c.max.ensures)) (omega (arith, c.min-low.ensures)) (omega (arith, c.max-end.ensures, c.min.ensures))
+    (λ r k u v f. let b = c.requires.boxed c.args.stroke.now c.args.page.now c.args.dots (c.args.first + r) k f in
+    let x = c.extent_of-extent.ensures.row_in (c.args.first + r) k (omega (arith, u, c.requires.rows_in)) b in
+    let y = c.extent_of-extent.ensures.column_in (c.args.first + r) k v b in
+    (omega (arith, x.0, c.min-low.ensures, c.max.ensures), (omega (arith, x.1, u, c.max-end.ensures, c.min.ensures), y))) in
+    omega (arith, h, c.ink_rows.ensures.least)
 
 pub returns-clause-most : goal.returns-clause-most
 returns-clause-most g c =

@@ -1,4 +1,4 @@
-use Rattle.std.proofs.Common.{◌≡◌, ℕ, ◌+◌, ◌-◌, ◌<◌, ◌≤◌, true, nat_lt, length, get_or, take, refl, sym, ap, ◌∙◌, arith}
+use Rattle.std.proofs.Common.{◌≡◌, ℕ, ◌+◌, ◌-◌, ◌<◌, ◌≤◌, true, false, nat_lt, length, get_or, take, refl, sym, ap, ◌∙◌, arith}
 use Rattle.plot_page.specs.Segments.{Segment}
 use Rattle.stroke_raster.specs.Boxes.{in_box}
 use Rattle.stroke_raster.specs.Extents.{end_row_of}
@@ -9,6 +9,8 @@ use Rattle.stroke_raster.specs.Slots.{band_of, goes_on, stroke_at}
 use Rattle.stroke_raster.proofs.Chains.{start, step, finish, due_began}
 use Rattle.stroke_raster.proofs.Inks.{inked_as, inked_start, inked_step}
 use Rattle.stroke_raster.proofs.BoxCounts.{boxes_slot, boxes_grow}
+use Rattle.stroke_raster.proofs.ReachedRows.{least_as, least_joined}
+use Rattle.stroke_raster.proofs.ShownCounts.{counted_start, counted_step, shown_at_most}
 use Rattle.stroke_raster.proofs.Slots.{goes_on_falls, goes_is, slot_is, quiet, due_selected, take_whole}
 use Rattle.stroke_raster.proofs.walk.ink_walk.Goals as goal
 
@@ -25,14 +27,16 @@ slots-init g c =
     let o = linked.first in
     let w = linked.begin c.args.band (omega arith) c.requires.next.in_range in
     let ho = o.high in
+    let out : (j r k : ℕ) → 0 < j → j < c.min-slot.result → r < c.args.rows → has_pen c.args.scene.now.pens (stroke_at xs j).pen ≡ true → covers (stroke_at xs j) (c.args.first + r) k ≡ false = λ j r k u v rr sel.
+    quiet c.args.scene.now.pens c.args.scene.now.page c.args.scene.now.dots c.args.scene.now.first_row c.args.scene.now.band_rows bands xs covers (λ t r c'. c.keeps_to_boxes.ensures t c.args.scene.now.page c.args.scene.now.dots r c') c.args.band j c.args.first c.args.scene.now.at_least c.requires.next.at
+    (o.none j u (omega (arith, v, c.min-slot.ensures))) (w.none j u (omega (arith, v, c.min-slot.ensures))) r k (omega (arith, rr, c.requires.next.rows_fit)) (omega (arith, rr, c.requires.next.rows_in)) sel in
     record {
       lesser = c.min-slot.ensures;
       ahead = s.0;
       kept = s.1;
-      inked = inked_start covers c.args.scene.now.pens xs c.args.first c.args.rows (columns_of c.args.scene.now.page c.args.scene.now.dots) c.args.stride c.min-slot.result c.args.bits.now (omega (arith, c.min-slot.ensures)) (omega (arith, c.min-slot.ensures)) c.requires.wide c.requires.blank
-          (λ j r k u v rr sel. quiet c.args.scene.now.pens c.args.scene.now.page c.args.scene.now.dots c.args.scene.now.first_row c.args.scene.now.band_rows bands xs covers (λ t r c'. c.keeps_to_boxes.ensures t c.args.scene.now.page c.args.scene.now.dots r c') c.args.band j c.args.first c.args.scene.now.at_least c.requires.next.at
-          (o.none j u (omega (arith, v, c.min-slot.ensures))) (w.none j u (omega (arith, v, c.min-slot.ensures))) r k (omega (arith, rr, c.requires.next.rows_fit)) (omega (arith, rr, c.requires.next.rows_in)) sel);
+      inked = inked_start covers c.args.scene.now.pens xs c.args.first c.args.rows (columns_of c.args.scene.now.page c.args.scene.now.dots) c.args.stride c.min-slot.result c.args.bits.now (omega (arith, c.min-slot.ensures)) (omega (arith, c.min-slot.ensures)) c.requires.wide c.requires.blank out;
       same = refl;
+      least = (let n = counted_start covers c.args.scene.now.pens xs c.args.first c.args.rows (columns_of c.args.scene.now.page c.args.scene.now.dots) c.min-slot.result (omega (arith, c.min-slot.ensures)) (omega (arith, c.min-slot.ensures)) out in rw n (omega arith));
       most = omega arith;
       grows = omega arith;
     }
@@ -83,16 +87,20 @@ slots-preserved g c =
     let end : c.min-slot-in-slots.result ≤ length xs + 1 = omega (arith, c.min-slot-in-slots.ensures, ho) in
     let began : band c.slots.slot ≤ c.args.band = rw inv.lesser (due_began (length xs) band goes c.args.band c.args.links.now c.slots.links c.slots.old c.slots.new inv.ahead (omega (arith, inv.lesser, fit))) in
     let sel : has_pen c.args.scene.now.pens (stroke_at xs c.slots.slot).pen ≡ true = due_selected c.args.scene.now.pens c.args.scene.now.page c.args.scene.now.dots c.args.scene.now.first_row c.args.scene.now.band_rows bands xs c.slots.slot (omega (arith, began, c.requires.next.in_range)) in
+    let out : (j r q : ℕ) → c.slots.slot < j → j < c.min-slot-in-slots.result → r < c.args.rows → has_pen c.args.scene.now.pens (stroke_at xs j).pen ≡ true → covers (stroke_at xs j) (c.args.first + r) q ≡ false = λ j r q u v rr se.
+    let b = between j u (omega (arith, v, c.min-slot-in-slots.ensures)) in
+    quiet c.args.scene.now.pens c.args.scene.now.page c.args.scene.now.dots c.args.scene.now.first_row c.args.scene.now.band_rows bands xs covers (λ t' r' c'. c.keeps_to_boxes.ensures t' c.args.scene.now.page c.args.scene.now.dots r' c') c.args.band j c.args.first c.args.scene.now.at_least c.requires.next.at
+    b.0 b.1 r q (omega (arith, rr, c.requires.next.rows_fit)) (omega (arith, rr, c.requires.next.rows_in)) se in
     record {
       lesser = c.min-slot-in-slots.ensures;
       ahead = a;
       kept = k;
       inked = inked_step covers c.args.scene.now.pens xs c.args.first c.args.rows (columns_of c.args.scene.now.page c.args.scene.now.dots) c.args.stride c.slots.slot c.min-slot-in-slots.result c.slots.bits c.ink_stroke-bottom.new.bits pos fit next end sel inv.inked
-          (inked_as (g.G.Gauge.reaches c.slots.gauge) (g.G.Gauge.reaches c.args.gauge.now) inv.same c.index-strokes-slot.result (stroke_at xs c.slots.slot) (sym t) c.args.scene.now.page c.args.scene.now.dots c.args.first c.args.rows (columns_of c.args.scene.now.page c.args.scene.now.dots) c.args.stride c.slots.bits c.ink_stroke-bottom.new.bits c.ink_stroke-bottom.ensures.bits)
-          (λ j r q u v rr se. let b = between j u (omega (arith, v, c.min-slot-in-slots.ensures)) in
-          quiet c.args.scene.now.pens c.args.scene.now.page c.args.scene.now.dots c.args.scene.now.first_row c.args.scene.now.band_rows bands xs covers (λ t' r' c'. c.keeps_to_boxes.ensures t' c.args.scene.now.page c.args.scene.now.dots r' c') c.args.band j c.args.first c.args.scene.now.at_least c.requires.next.at
-          b.0 b.1 r q (omega (arith, rr, c.requires.next.rows_fit)) (omega (arith, rr, c.requires.next.rows_in)) se);
+          (inked_as (g.G.Gauge.reaches c.slots.gauge) (g.G.Gauge.reaches c.args.gauge.now) inv.same c.index-strokes-slot.result (stroke_at xs c.slots.slot) (sym t) c.args.scene.now.page c.args.scene.now.dots c.args.first c.args.rows (columns_of c.args.scene.now.page c.args.scene.now.dots) c.args.stride c.slots.bits c.ink_stroke-bottom.new.bits c.ink_stroke-bottom.ensures.bits) out;
       same = c.ink_stroke-bottom.ensures.same ∙ inv.same;
+      least = (let n = counted_step covers c.args.scene.now.pens xs c.args.first c.args.rows (columns_of c.args.scene.now.page c.args.scene.now.dots) c.slots.slot c.min-slot-in-slots.result pos fit next end sel out in
+          let m = least_as (g.G.Gauge.reaches c.slots.gauge) (g.G.Gauge.reaches c.args.gauge.now) inv.same c.index-strokes-slot.result (stroke_at xs c.slots.slot) (sym t) c.args.scene.now.page c.args.scene.now.dots c.args.first c.args.rows (columns_of c.args.scene.now.page c.args.scene.now.dots) (g.G.Gauge.count c.slots.gauge) (g.G.Gauge.count c.ink_stroke-bottom.new.gauge) c.ink_stroke-bottom.ensures.least in
+          rw n (least_joined (g.G.Gauge.count c.args.gauge.now) _ _ (g.G.Gauge.count c.slots.gauge) (g.G.Gauge.count c.ink_stroke-bottom.new.gauge) inv.least m));
       most = (let x = boxes_slot c.args.scene.now.pens inside xs c.slots.slot c.args.first c.args.rows (columns_of c.args.scene.now.page c.args.scene.now.dots) pos fit sel in
           let y = boxes_grow c.args.scene.now.pens inside xs c.args.first c.args.rows (columns_of c.args.scene.now.page c.args.scene.now.dots) c.slots.slot (c.min-slot-in-slots.result - 1) (omega arith) (omega arith) in
           let m : g.G.Gauge.count c.ink_stroke-bottom.new.gauge ≤ g.G.Gauge.count c.slots.gauge + box_pixels inside (stroke_at xs c.slots.slot) c.args.first c.args.rows (columns_of c.args.scene.now.page c.args.scene.now.dots) = rw t c.ink_stroke-bottom.ensures.most in
@@ -116,3 +124,15 @@ returns-clause-bits g c =
     let e : c.slots.slot - 1 ≡ length xs = omega (arith, c.slots-test.false, inv.lesser, ho) in
     let w : take (c.slots.slot - 1) xs ≡ xs = ap (λ (n : ℕ). take n xs) e ∙ take_whole xs in
     λ r k u v. rw w at (inv.inked r k u v)
+
+pub returns-clause-least : goal.returns-clause-least
+returns-clause-least g c =
+    let xs = c.args.scene.now.strokes.now in
+    let inv = c.slots.invariant in
+    let ho = inv.ahead.old_next.high in
+    let covers = λ (s : Segment). g.G.Gauge.reaches c.args.gauge.now s c.args.scene.now.page c.args.scene.now.dots in
+    let e : c.slots.slot - 1 ≡ length xs = omega (arith, c.slots-test.false, inv.lesser, ho) in
+    let w : take (c.slots.slot - 1) xs ≡ xs = ap (λ (n : ℕ). take n xs) e ∙ take_whole xs in
+    let m = rw w at inv.least in
+    let s = shown_at_most covers c.args.scene.now.pens xs (columns_of c.args.scene.now.page c.args.scene.now.dots) c.args.first c.args.rows in
+    omega (arith, m, s)

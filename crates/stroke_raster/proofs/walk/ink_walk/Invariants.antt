@@ -4,6 +4,7 @@ use Rattle.stroke_raster.specs.Boxes.{in_box}
 use Rattle.plot_page.specs.Resolutions.{columns_of}
 use Rattle.stroke_raster.specs.Boxes.{selected, boxes}
 use Rattle.stroke_raster.specs.Inks.{ShowsInk}
+use Rattle.stroke_raster.specs.Tests.{MOST_TESTS}
 use Rattle.stroke_raster.specs.Chains.{Ahead, Kept}
 use Rattle.stroke_raster.specs.Slots.{band_of, goes_on}
 use Rattle.stroke_raster.proofs.walk.ink_walk.Given as goal
@@ -23,6 +24,7 @@ invariant-slots g l =
       kept : Kept (length l.scene.strokes.now) band goes l.band l.links l.tail (min l.old l.new);
       inked : ShowsInk covers l.scene.pens (take (l.slot - 1) l.scene.strokes.now) l.first l.rows (columns_of l.scene.page l.scene.dots) l.stride l.bits;
       same : reaches l.gauge ≡ reaches l.fn.gauge;
+      least : min (count l.fn.gauge + boxes covers (selected l.scene.pens (take (l.slot - 1) l.scene.strokes.now)) l.first l.rows (columns_of l.scene.page l.scene.dots)) MOST_TESTS ≤ count l.gauge;
       most : count l.gauge ≤ count l.fn.gauge + boxes inside (selected l.scene.pens (take (l.slot - 1) l.scene.strokes.now)) l.first l.rows (columns_of l.scene.page l.scene.dots);
       grows : count l.fn.gauge ≤ count l.gauge;
     }

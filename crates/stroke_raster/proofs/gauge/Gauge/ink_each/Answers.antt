@@ -3,6 +3,7 @@ use Rattle.std.proofs.lemmas.Nat.{mul-le}
 use Rattle.stroke_raster.specs.Inks.{IsReached}
 use Rattle.stroke_raster.proofs.Middle.{mid_length}
 use Rattle.stroke_raster.proofs.Parts.{none_inked, parts_joined, row_inked, row_more}
+use Rattle.stroke_raster.proofs.ReachedRows.{least_joined, none_counted, row_counted}
 use Rattle.stroke_raster.proofs.gauge.Gauge.ink_each.Goals as goal
 
 pub loop-row-init : goal.loop-row-init
@@ -12,6 +13,7 @@ loop-row-init g c =
     record {
       inked = none_inked reaches c.args.layout c.args.part.low c.args.columns c.args.bits.now;
       same = refl;
+      least = (let n = none_counted reaches c.args.part.low c.args.columns.low (c.args.columns.end - c.args.columns.low) in rw n (omega arith));
       most = rw z (omega arith);
       grows = omega arith;
     }
@@ -20,6 +22,11 @@ pub returns-clause-bits : goal.returns-clause-bits
 returns-clause-bits g c =
     let e : c.loop-row.row ≡ c.args.part.end = omega (arith, c.loop-row.auto.row-end c.requires.part.order, c.loop-row-test.false) in
     rw e at c.loop-row.invariant.inked
+
+pub returns-clause-least : goal.returns-clause-least
+returns-clause-least g c =
+    let e : c.loop-row.row ≡ c.args.part.end = omega (arith, c.loop-row.auto.row-end c.requires.part.order, c.loop-row-test.false) in
+    rw e at c.loop-row.invariant.least
 
 pub returns-clause-most : goal.returns-clause-most
 returns-clause-most g c =
@@ -65,6 +72,9 @@ loop-row-preserved g c =
     record {
       inked = parts_joined reaches layout c.args.part.low c.loop-row.row (c.loop-row.row + 1) c.args.columns c.args.bits.now c.loop-row.bits _ c.loop-row.auto.row (omega arith) inv.inked (rw many at line);
       same = inked.same ∙ inv.same;
+      least = (let r = row_counted reaches c.args.part.low c.loop-row.row c.args.columns.low (c.args.columns.end - c.args.columns.low) c.loop-row.auto.row in
+          let m = rw inv.same at inked.least in
+          rw r (least_joined (g.Self.Gauge.count c.args.self.now) _ _ (g.Self.Gauge.count c.loop-row.self) (g.Self.Gauge.count c.ink.new.self) inv.least m));
       most = (let r = row_more c.args.part.low c.loop-row.row (c.args.columns.end - c.args.columns.low) c.loop-row.auto.row in
           omega (arith, r, inked.most, inv.most));
       grows = omega (arith, inked.grows, inv.grows);

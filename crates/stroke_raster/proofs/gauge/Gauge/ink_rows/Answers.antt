@@ -7,6 +7,9 @@ use Rattle.stroke_raster.proofs.gauge.Gauge.ink_rows.Goals as goal
 pub returns-clause-bits : goal.returns-clause-bits
 returns-clause-bits g c = rw (c.trace_of-trace.ensures.stroke, c.trace_of-trace.ensures.dots) at c.ink_each.ensures.bits
 
+pub returns-clause-least : goal.returns-clause-least
+returns-clause-least g c = rw (c.trace_of-trace.ensures.stroke, c.trace_of-trace.ensures.dots) at c.ink_each.ensures.least
+
 pub ink_each-requires-clause-boxed : goal.ink_each-requires-clause-boxed
 ink_each-requires-clause-boxed g c =
     λ row k x y a b.

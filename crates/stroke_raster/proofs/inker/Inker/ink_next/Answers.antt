@@ -4,7 +4,8 @@ use Rattle.stroke_raster.specs.Boxes.{selected, boxes}
 use Rattle.stroke_raster.specs.Boxes.{in_box}
 use Rattle.plot_page.specs.Resolutions.{columns_of, rows_of}
 use Rattle.bit_rows.specs.Bits.{packed}
-use Rattle.stroke_raster.specs.Rows.{split_rows, rows_shown}
+use Rattle.stroke_raster.specs.Rows.{split_rows, rows_shown, marked_in_rows}
+use Rattle.stroke_raster.specs.Tests.{MOST_TESTS}
 use Rattle.stroke_raster.specs.Painting.{Painting, rows_next}
 use Rattle.stroke_raster.proofs.Written.{whole}
 use Rattle.stroke_raster.proofs.inker.Inker.ink_next.Goals as goal
@@ -20,6 +21,14 @@ returns-clause-rows g c = λ _.
     (ap (split_rows p.stride c.min-count.result) (whole c.ink_band.new.bits _ p.bits.len len)
     ∙ c.ink_band.ensures.rows
     ∙ ap (λ (n : ℕ). map packed (rows_shown (λ (s : Segment). g.G.Gauge.reaches c.args.gauge.now s p.scene.page p.scene.dots) p.scene.pens p.scene.strokes.now (columns_of p.scene.page p.scene.dots) p.next n)) count)
+
+pub returns-clause-least : goal.returns-clause-least
+returns-clause-least g c = λ _.
+    let p = c.self.inside in
+    let count : c.min-count.result ≡ min p.scene.band_rows (rows_of p.scene.page p.scene.dots - p.next) = c.min-count.ensures ∙ ap (λ (n : ℕ). min p.scene.band_rows (n - p.next)) c.rows-rows.ensures.count in
+    let P : Painting → Type 0 = λ q. min (g.G.Gauge.count c.args.gauge.now + marked_in_rows (rows_shown (λ (s : Segment). g.G.Gauge.reaches c.args.gauge.now s q.page q.dots) q.pens q.strokes (columns_of q.page q.dots) q.next (rows_next q))) MOST_TESTS ≤ g.G.Gauge.count c.ink_band.new.gauge in
+    let Q : ℕ → Type 0 = λ n. min (g.G.Gauge.count c.args.gauge.now + marked_in_rows (rows_shown (λ (s : Segment). g.G.Gauge.reaches c.args.gauge.now s p.scene.page p.scene.dots) p.scene.pens p.scene.strokes.now (columns_of p.scene.page p.scene.dots) p.next n)) MOST_TESTS ≤ g.G.Gauge.count c.ink_band.new.gauge in
+    subst P c.self.view_is (subst Q count c.ink_band.ensures.least)
 
 pub returns-clause-most : goal.returns-clause-most
 returns-clause-most g c = λ _.
