@@ -2,9 +2,7 @@
 use Rattle.std.proofs.Common.{◌≡◌, ℕ, zero, suc, ◌+◌, ◌-◌, ◌*◌, ◌<◌, ◌≤◌, Bool, true, min, List, [], ◌∷◌, ◌++◌, length, get_or, take, sum_by, refl, sym, ap, ◌∙◌, arith, inl, inr, cond}
 use Rattle.std.proofs.lemmas.Bool.{cases_lt, cases_Bool}
 use Rattle.std.proofs.lemmas.Grind.{take_at_read}
-use Rattle.std.proofs.lemmas.List.Sums.{sum_by-append, sum_by-cons, sum-map}
-use Rattle.std.proofs.lemmas.List.FromFn.{sum_by-map-range_with_len_more}
-use Rattle.std.specs.List.{range_with_len}
+use Rattle.std.proofs.lemmas.List.Sums.{sum_by-append, sum_by-cons}
 use Rattle.plot_page.specs.Segments.{Segment}
 use Rattle.plot_page.specs.declared.pens.PenSet.{PenSet}
 use Rattle.plot_page.specs.Pens.{has_pen}
@@ -12,15 +10,13 @@ use Rattle.stroke_raster.specs.Tests.{reached}
 use Rattle.stroke_raster.specs.Boxes.{selected, boxes, box_pixels}
 use Rattle.stroke_raster.specs.Slots.{nobody, stroke_at}
 use Rattle.stroke_raster.proofs.Reached.{reached_more}
+use Rattle.stroke_raster.proofs.ReachedRows.{row_reached, runs_reached}
 use Rattle.stroke_raster.proofs.Slots.{take_slot}
 use Rattle.stroke_raster.proofs.Tops.{selected-push_yes, selected-push_no}
 
 -- one more row of a box
 box_more : (inside : Segment → ℕ → ℕ → Bool) (s : Segment) (first n columns : ℕ) → box_pixels inside s first (n + 1) columns ≡ box_pixels inside s first n columns + reached (inside s (first + n)) 0 columns
-box_more inside s first n columns =
-    let e = sum_by-map-range_with_len_more (λ k. k) (λ row. reached (inside s row) 0 columns) first n (first + n) refl in
-    sym (sum-map (λ row. reached (inside s row) 0 columns) (range_with_len first (n + 1))) ∙ e
-    ∙ ap (λ (k : ℕ). k + reached (inside s (first + n)) 0 columns) (sum-map (λ row. reached (inside s row) 0 columns) (range_with_len first n))
+box_more inside s first n columns = row_reached (inside s) first n 0 columns
 
 one_of : (b : Bool) (n : ℕ) → n ≡ cond b 1 0 → b ≡ true → n ≡ 1
 one_of b n h e = h ∙ rw e refl
@@ -85,19 +81,7 @@ box_part_in inside s first rows low end columns from upto h order to full w =
 
 -- the rows of a box in two runs
 box_rows_join : (inside : Segment → ℕ → ℕ → Bool) (s : Segment) (first n m columns : ℕ) → box_pixels inside s first (n + m) columns ≡ box_pixels inside s first n columns + box_pixels inside s (first + n) m columns
-box_rows_join inside s first n zero columns = let z : n ≡ n + 0 = omega arith in rw (← z) (omega arith)
-box_rows_join inside s first n (suc m) columns =
-    let i = box_rows_join inside s first n m columns in
-    let a = box_more inside s first (n + m) columns in
-    let b = box_more inside s (first + n) m columns in
-    let y : (n + m) + 1 ≡ n + suc m = omega arith in
-    let z : m + 1 ≡ suc m = omega arith in
-    let r : first + (n + m) ≡ first + n + m = omega arith in
-    let a' : box_pixels inside s first (n + suc m) columns ≡ box_pixels inside s first (n + m) columns + reached (inside s (first + n + m)) 0 columns =
-    ap (λ (k : ℕ). box_pixels inside s first k columns) (sym y) ∙ a ∙ ap (λ (k : ℕ). box_pixels inside s first (n + m) columns + reached (inside s k) 0 columns) r in
-    let b' : box_pixels inside s (first + n) (suc m) columns ≡ box_pixels inside s (first + n) m columns + reached (inside s (first + n + m)) 0 columns =
-    ap (λ (k : ℕ). box_pixels inside s (first + n) k columns) (sym z) ∙ b in
-    omega (arith, i, a', b')
+box_rows_join inside s first n m columns = runs_reached (inside s) first n m 0 columns
 
 -- the rows of boxes in two runs
 pub boxes_join : (inside : Segment → ℕ → ℕ → Bool) (ss : List Segment) (first n m columns : ℕ) → boxes inside ss first (n + m) columns ≡ boxes inside ss first n columns + boxes inside ss (first + n) m columns

@@ -76,7 +76,7 @@ row_reached p first n from m =
     ∙ ap (λ (k : ℕ). k + reached (p (first + n)) from m) (sum-map (λ row. reached (p row) from m) (range_with_len first n))
 
 -- rows in two runs
-runs_reached : (p : ℕ → ℕ → Bool) (first n k from m : ℕ) → reached_pixels p first (n + k) from m ≡ reached_pixels p first n from m + reached_pixels p (first + n) k from m
+pub runs_reached : (p : ℕ → ℕ → Bool) (first n k from m : ℕ) → reached_pixels p first (n + k) from m ≡ reached_pixels p first n from m + reached_pixels p (first + n) k from m
 runs_reached p first n zero from m = let z : n ≡ n + 0 = omega arith in rw (← z) (omega arith)
 runs_reached p first n (suc k) from m =
     let i = runs_reached p first n k from m in
