@@ -1,7 +1,7 @@
 //! The inking of small boxes of short strokes.
 //!
 //! All pixels of such a box are tested, row by row, without a branch that the processor might guess wrong.
-ghost use Rattle.std.specs.Prelude.{◌≡◌, ℕ, ◌+◌, ◌-◌, ◌*◌, ◌/◌, ◌<◌, ◌≤◌, ◌^◌, ◌&&◌, ◌||◌, length, nat_abs, pos, ◌*ℤ◌, int_le};
+ghost use Rattle.std.specs.Prelude.{◌≡◌, ℕ, ◌+◌, ◌-◌, ◌*◌, ◌/◌, ◌<◌, ◌≤◌, ◌^◌, ◌&&◌, ◌||◌, length, nat_abs, pos, ◌*ℤ◌, int_le, true};
 ghost use Rattle.stroke_raster.specs.Bounds.{Within};
 ghost use Rattle.stroke_raster.specs.Covers.{covers};
 ghost use Rattle.stroke_raster.specs.Extents.{AreBoxed};
@@ -19,6 +19,35 @@ use crate::short::{Short, doubled, short_of};
 use crate::strip::Span;
 use crate::vector::Vector;
 use plot_page::{Dots, Page, Stroke};
+
+// The most columns of a small box.
+const FEW: u32 = 8;
+
+/// Whether a box has few columns, but not none.
+#[inline(always)]
+pub fn has_few_columns(columns: Span) -> bool
+    requires { columns.low ≤ columns.end }
+    ensures some { result ≡ true → columns.low < columns.end }
+    ensures few { result ≡ true → columns.end ≤ columns.low + 8 }
+{
+    let many = columns.end - columns.low;
+    0 < many && many <= FEW
+}
+
+/// Whether a band has eight bytes from the first column's on in each row of a part.
+#[inline(always)]
+pub fn has_room(part: Span, columns: Span, layout: Layout) -> bool
+    requires from { layout.first ≤ part.low }
+    requires order { part.low ≤ part.end }
+    requires to { part.end ≤ layout.first + layout.rows }
+    requires stride_small { layout.stride ≤ 2 ^ 20 }
+    ensures { result ≡ true → (row : ℕ) → part.low ≤ row → row < part.end →
+        (row - layout.first) * layout.stride + (columns.low / 8 + 8) ≤ layout.rows * layout.stride }
+{
+    let stride = u64::from(layout.stride);
+    let below = u64::from(layout.first) + u64::from(layout.rows) - u64::from(part.end);
+    u64::from(columns.low / 8) + 8 <= (below + 1) * stride
+}
 
 // Whether the place to which `w` leads from the first end is within half of the drawn width of the stroke.
 #[inline(always)]

@@ -5,9 +5,7 @@ ghost use Rattle.stroke_raster.specs.Covers.{drawn_width, first_end, last_end};
 ghost use Rattle.stroke_raster.specs.Gap.{scaled, way};
 ghost use Rattle.stroke_raster.specs.ShortNumbers.{AreShort, IsShort};
 
-use crate::pixel::{
-    drawn_width_of, first_end_of, last_end_of, squared_length, times, way_between,
-};
+use crate::pixel::{drawn_width_of, first_end_of, last_end_of, squared_length, times, way_between};
 use crate::vector::Vector;
 use plot_page::{Dots, Stroke};
 

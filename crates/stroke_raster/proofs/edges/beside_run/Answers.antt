@@ -1,4 +1,4 @@
-use Rattle.std.proofs.Common.{◌≡◌, ◌+◌, ◌-◌, ◌<◌, ◌≤◌, ℕ, arith, refl, ◌∙◌}
+use Rattle.std.proofs.Common.{◌≡◌, ◌+◌, ◌<◌, ◌≤◌, ℕ, arith, refl, ◌∙◌}
 use Rattle.stroke_raster.specs.Covers.{covers}
 use Rattle.stroke_raster.specs.Edges.{way_to}
 use Rattle.stroke_raster.specs.Traces.{is_met}
