@@ -22,8 +22,8 @@ use plot_page::Page;
 // 2^30 columns before the first pixel.
 const BEFORE: u64 = (1 << 30) - 1;
 
-// In fewer rows the edges cost more than they save.
-const MANY: u32 = 16;
+/// In fewer rows the edges cost more than they save.
+pub const MANY: u32 = 16;
 
 /// The edges of a stroke's strip in some rows. A column has 2^32 parts.
 #[derive(Clone, Copy, Debug)]

@@ -14,7 +14,7 @@ ghost use Rattle.stroke_raster.specs.ShortNumbers.{IsShort};
 ghost use Rattle.stroke_raster.specs.Parts.{ArePartInked, IsPart, reached_in};
 
 use crate::beside::ink_beside;
-use crate::edges::edges_of;
+use crate::edges::{MANY, edges_of};
 use crate::extent::Extent;
 use crate::fill::fill;
 use crate::ink::ink_run;
@@ -201,9 +201,6 @@ pub trait Gauge {
         self.ink_each(&trace, page, part, columns, layout, bits);
     }
 }
-
-// How many rows of a stroke repay the work for its edges.
-const MANY: u32 = 16;
 
 /// The gauge that asks `near`.
 #[derive(Debug, Drop)]

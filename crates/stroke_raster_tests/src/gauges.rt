@@ -35,7 +35,40 @@ impl Gauge for Odd {
     }
 }
 
-// The cells of strokes by this gauge and the number of its tests, and then the bits and the number of tests for them.
+/// A gauge that is asked for each pixel of each box.
+#[derive(Drop)]
+pub struct Plain {
+    tests: u64,
+}
+
+impl Plain {
+    pub fn new() -> Plain {
+        Plain { tests: 0 }
+    }
+}
+
+impl Gauge for Plain {
+    ghost reaches = { λ _ stroke page dots row column. covers stroke page dots row column };
+
+    ghost count = { λ g. g.tests };
+
+    fn meets(&mut self, stroke: &Stroke, page: &Page, dots: Dots, row: u32, column: u32) -> bool {
+        if self.tests < u64::MAX {
+            self.tests += 1;
+        }
+        near(stroke, page, dots, row, column)
+    }
+
+    fn tests(&self) -> u64 {
+        self.tests
+    }
+
+    fn keeps_to_boxes(&self) {
+        laws::covered_pixels_in_the_box();
+    }
+}
+
+// The cells of strokes by the gauge of odd columns and the number of its tests, and then the bits and the number of tests for them.
 fn told_by_odd(alloc: Global, strokes: &[Stroke], band_rows: u32) -> Result<String, Fail> {
     let (dots, pens) = (dots(127)?, PenSet::all());
     let mut told = String::new(alloc);

@@ -1,4 +1,5 @@
 //! Strokes from a generator, painted in bands, against the pixel test itself, and as bits.
+use crate::gauges::Plain;
 use crate::strokes::{WHOLE, bits_by, cells_by, dots, is_near, packed, page, stroke};
 use plot_page::{Dots, PenSet, Stroke, Window};
 use std::alloc::Global;
@@ -50,6 +51,15 @@ impl Numbers {
         let by = ay.wrapping_add(self.place() % 32);
         stroke((n % 3 + 1) as u8, 16, WHOLE, [ax, ay, bx, by])
     }
+
+    // A narrow stroke of at most 127 grains in each direction.
+    fn narrow_stroke(&mut self, n: u32) -> Result<Stroke, Fail> {
+        let width = [0, 30, 60, 120][(n % 4) as usize];
+        let (ax, ay) = (self.place(), self.place());
+        let bx = ax.wrapping_add(self.place() % 128);
+        let by = ay.wrapping_add(self.place() % 128);
+        stroke((n % 3 + 1) as u8, width, WHOLE, [ax, ay, bx, by])
+    }
 }
 
 // The cells of the whole page, each the position of the last stroke that is near, or 0.
@@ -77,15 +87,13 @@ fn cells_by_near(
     Ok(cells)
 }
 
-// 24 strokes from the generator, and between them as many short ones if they are wanted.
-fn some_strokes(alloc: Global, seed: u32, with_short_ones: bool) -> Result<Vec<Stroke>, Fail> {
+// 24 strokes from the generator, and a short one after each.
+fn some_strokes(alloc: Global, seed: u32) -> Result<Vec<Stroke>, Fail> {
     let mut numbers = Numbers { state: seed };
     let mut strokes = Vec::new(alloc);
     for n in 0..24 {
         strokes.push(numbers.any_stroke(n)?)?;
-        if with_short_ones {
-            strokes.push(numbers.short_stroke(n)?)?;
-        }
+        strokes.push(numbers.short_stroke(n)?)?;
     }
     Ok(strokes)
 }
@@ -112,7 +120,7 @@ fn has_cells_by_near(
 
 #[test]
 fn strokes_in_bands(rt: HostRuntime) -> Result<(), Fail> {
-    let strokes = some_strokes(rt.alloc(), 7, true)?;
+    let strokes = some_strokes(rt.alloc(), 7)?;
     assert_eq!(rt; strokes.len(), 48);
     let pens = PenSet::none().with(1).with(2);
     has_cells_by_near(&rt, rt.alloc(), &strokes, 127, pens)?;
@@ -136,7 +144,8 @@ fn wide_strokes(rt: HostRuntime) -> Result<(), Fail> {
     is_wide(&rt, rt.alloc(), [700, 200, 340, 760])
 }
 
-// Fails unless the bits in bands of any height are the cells packed, and as many tests are made for them.
+// Fails unless the bits in bands of any height are the cells packed, and the tests that are made for them are at
+// least as many as the pixels covered, each counted for each stroke, and at most as many as a plain gauge makes.
 fn has_bits_of_cells(
     rt: &impl Abort,
     alloc: Global,
@@ -149,6 +158,9 @@ fn has_bits_of_cells(
     let mut gauge = Exact::new();
     let cells = cells_by(alloc, &mut gauge, strokes, dots, pens, 5)?;
     let wanted = packed(alloc, &cells, columns)?;
+    let mut plain = Plain::new();
+    let tested = bits_by(alloc, &mut plain, strokes, dots, pens, 4096, 0)?;
+    assert!(rt; tested.as_slice() == wanted.as_slice());
     let later = wanted.as_slice().get(4 * columns.div_ceil(8) as usize..);
     for band_rows in BANDS {
         let mut inking = Exact::new();
@@ -157,7 +169,7 @@ fn has_bits_of_cells(
             bits.as_slice() == wanted.as_slice(),
             "{resolution} {band_rows}"
         );
-        assert_eq!(rt; inking.tests(), gauge.tests());
+        assert!(rt; gauge.tests() <= inking.tests() && inking.tests() <= plain.tests());
         let bits = bits_by(alloc, &mut inking, strokes, dots, pens, band_rows, 4)?;
         assert!(rt; Some(bits.as_slice()) == later, "{resolution} {band_rows}");
     }
@@ -167,9 +179,23 @@ fn has_bits_of_cells(
 // At 1200 dots a run of pixels may be longer than eight bytes take.
 #[test]
 fn strokes_as_bits(rt: HostRuntime) -> Result<(), Fail> {
-    let strokes = some_strokes(rt.alloc(), 11, false)?;
-    assert_eq!(rt; strokes.len(), 24);
+    let strokes = some_strokes(rt.alloc(), 11)?;
+    assert_eq!(rt; strokes.len(), 48);
     for resolution in [127, 600, 1200] {
+        has_bits_of_cells(&rt, rt.alloc(), &strokes, resolution)?;
+    }
+    Ok(())
+}
+
+// Strokes in boxes of a few pixels, which no wide stroke covers.
+#[test]
+fn narrow_strokes_as_bits(rt: HostRuntime) -> Result<(), Fail> {
+    let mut numbers = Numbers { state: 3 };
+    let mut strokes = Vec::new(rt.alloc());
+    for n in 0..60 {
+        strokes.push(numbers.narrow_stroke(n)?)?;
+    }
+    for resolution in [300, 600, 1000] {
         has_bits_of_cells(&rt, rt.alloc(), &strokes, resolution)?;
     }
     Ok(())
