@@ -1,5 +1,5 @@
 -- A step is its path, and the state after it: what each figure leaves.
-use Rattle.std.proofs.Common.{◌≡◌, ◌∙◌, ap, sym, subst, refl, inl, inr, Bool, true, ℤ, List, [], ◌∷◌, Option, Some, None, Result, Ok, Err}
+use Rattle.std.proofs.Common.{◌≡◌, ◌∙◌, ap, sym, subst, refl, inl, inr, Bool, true, not, ℤ, List, [], ◌∷◌, Option, Some, None, Result, Ok, Err}
 use Rattle.std.proofs.lemmas.Bool.{cases_Bool}
 use Rattle.std.proofs.lemmas.Option.{none-some, same_Some}
 use Rattle.std.specs.List.{list_all}
@@ -11,12 +11,15 @@ use Rattle.hpgl_plot.specs.declared.plotter.Stop.TheVariants.{Memory, OffRange}
 use Rattle.exact.specs.declared.spot.Spot.{Spot}
 use Rattle.hpgl_plot.specs.declared.state.Position.{Position}
 use Rattle.hpgl_plot.specs.declared.state.State.{State}
-use Rattle.plot_settings.specs.Meanings.{Step, Move, Go, Edge}
+use Rattle.hpgl_text.specs.EntryShapes.{PartShape, Pen, Pair, Bad, Stray}
+use Rattle.plot_settings.specs.Meanings.{Step, Set, Lower, Move, Go, Edge, part_steps}
+use Rattle.plot_settings.specs.declared.setting.Setting.TheVariants as setting
+use Rattle.hpgl_plot.specs.declared.state.Frame.{Frame}
 use Rattle.hpgl_plot.specs.Bounds.{IsPlain}
 use Rattle.hpgl_plot.specs.Frames.{place}
 use Rattle.hpgl_plot.specs.Paths.{Path, path, along, pen_at, position, target}
 use Rattle.hpgl_plot.specs.Strokes.{are_in_range, path_strokes}
-use Rattle.hpgl_plot.specs.Machine.{World, with_strokes, step, after, moved, travelled, travelled_all, ends_in, Runs}
+use Rattle.hpgl_plot.specs.Machine.{World, with_strokes, step, after, moved, travelled, travelled_all, ends_in, followed, run, Runs}
 use Rattle.hpgl_plot.proofs.Polylines.{lines_are, one_line}
 
 step_is : (w : World) (s : Step)
@@ -123,6 +126,35 @@ plain_after w v x y h p = elim (cases_Bool (list_all are_in_range (path w.page w
   | inl t ↦ (let e = same_Some _ _ (rw t at h) in subst (λ (u : World). IsPlain u.page u.state.frame) e p)
   | inr t ↦ absurd (none-some v (rw t at h))
 ]
+
+-- nor does any other step that leaves the frame make it less plain
+pub kept_plain : (w v : World) (s : Step) → (after w.page w.state s).frame ≡ w.state.frame → step w s ≡ Some v → IsPlain w.page w.state.frame → IsPlain v.page v.state.frame
+unfolding step
+kept_plain w v s k h p = elim (cases_Bool (list_all are_in_range (path w.page w.state s).lines)) [
+  | inl t ↦ (let e = same_Some _ _ (rw t at h) in
+      subst (λ (u : World). IsPlain u.page u.state.frame) e (subst (λ (f : Frame). IsPlain w.page f) (sym k) p))
+  | inr t ↦ absurd (none-some v (rw t at h))
+]
+
+-- what ran to its end went through a first step
+first_ran : (o : Option World) (f : World → Option World) (v : World) → followed o f ≡ Some v → (u : World) × (o ≡ Some u) × (f u ≡ Some v)
+first_ran None f v h = absurd (none-some v h)
+first_ran (Some u) f v h = (u, refl, h)
+
+-- a plain frame is as plain after a part of a PE
+pub plain_part : (w v : World) (part : PartShape) → run w (part_steps part) ≡ Some v → IsPlain w.page w.state.frame → IsPlain v.page v.state.frame
+plain_part w v (Pen n) h p =
+    let set = first_ran (step w (Set (setting.Pen n))) _ v h in
+    let e = same_Some _ _ set.2 in
+    subst (λ (u : World). IsPlain u.page u.state.frame) e (kept_plain w set.0 (Set (setting.Pen n)) refl set.1 p)
+plain_part w v (Pair up absolute x y) h p =
+    let lowered = first_ran (step w (Lower (not up))) _ v h in
+    let gone = first_ran (step lowered.0 (Go (not absolute) x y)) _ v lowered.2 in
+    let e = same_Some _ _ gone.2 in
+    subst (λ (u : World). IsPlain u.page u.state.frame) e
+    (kept_plain lowered.0 gone.0 (Go (not absolute) x y) refl gone.1 (kept_plain w lowered.0 (Lower (not up)) refl lowered.1 p))
+plain_part w v Bad h p = subst (λ (u : World). IsPlain u.page u.state.frame) (same_Some _ _ h) p
+plain_part w v (Stray byte) h p = subst (λ (u : World). IsPlain u.page u.state.frame) (same_Some _ _ h) p
 
 -- the corners b, c and d of a rectangle, from the coordinates t opposite of the pen and p and q beside it
 pub record AreCorners (page : Page) (s : State) (relative : Bool) (x y : ℤ) (t p q b c d : Spot) : Type 0 where

@@ -13,7 +13,7 @@ mod settings;
 use crate::fault::PlotFault;
 use crate::place::{start_axes, start_of};
 use crate::state::State;
-use hpgl_text::{Body, Entries, Entry, Instruction, Item, Numbers, Part};
+use hpgl_text::{Body, Entries, Instruction, Item, Numbers, Part};
 use plot_frame::{Axis, Pair};
 use plot_page::{Page, Stroke};
 use plot_settings::{Moves, Request, request_of};
@@ -41,7 +41,9 @@ pub struct Plotter {
 }
 
 impl Plotter {
-    ghost use Rattle.std.specs.Prelude.{◌≡◌, Some};
+    ghost use Rattle.std.specs.Prelude.{◌≡◌, Some, true};
+    ghost use Rattle.hpgl_text.specs.SeenEntries.{part_shape};
+    ghost use Rattle.hpgl_plot.specs.Bounds.{IsPlain};
     ghost use Rattle.plot_settings.specs.Requests.{request_meaning, move_steps, IsRequest};
     ghost use Rattle.hpgl_plot.specs.Machine.{seen, at_start, step, run, Runs, CarriesOut};
     ghost use Rattle.plot_settings.specs.Meanings.{Lower, Relate, moves, lowered_then, part_steps, entry_steps};
@@ -179,24 +181,28 @@ impl Plotter {
     fn follow_entries(&mut self, entries: Entries<'_>) -> Result<(), Stop>
         ensures { Runs (run (seen self.old) (entry_steps entries.entry)) (seen self.new) result }
     {
+        let is_plain = self.is_plain();
         let mut rest = entries;
         'entries: while let Some(entry) = rest.next() {
-            self.follow_entry(&entry)?;
+            self.follow_part(entry.what, is_plain)?;
         }
         Ok(())
     }
 
-    fn follow_entry(&mut self, entry: &Entry) -> Result<(), Stop>
-        ensures { Runs (run (seen self.old) (part_steps entry.now.what)) (seen self.new) result }
+    // What a part of a PE asks for. If the frame is plain, which `is_plain` tells once for all parts, it is faster.
+    #[inline(always)]
+    fn follow_part(&mut self, part: Part, is_plain: bool) -> Result<(), Stop>
+        requires { is_plain ≡ true → IsPlain self.old.page self.old.state.frame }
+        ensures { Runs (run (seen self.old) (part_steps (part_shape part))) (seen self.new) result }
     {
-        match entry.what {
+        match part {
             Part::Pen(pen) => {
                 self.select(pen);
                 Ok(())
             }
             Part::Pair { up, absolute, x, y } => {
                 self.set_down(!up);
-                self.go(!absolute, x, y)?;
+                self.go_by(!absolute, x, y, is_plain)?;
                 Ok(())
             }
             Part::Bad | Part::Stray(_) => Ok(()),

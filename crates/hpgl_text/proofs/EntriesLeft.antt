@@ -1,5 +1,5 @@
 -- What is left of the entries of a polyline, a piece at a time.
-use Rattle.std.proofs.Common.{◌≡◌, ℕ, zero, suc, ◌+◌, ◌<◌, ◌≤◌, Bool, true, false, not, nat_lt, List, [], ◌∷◌, ◌++◌, length, drop, Option, option_map, Some, None, inl, inr, refl, ap, ap₂, sym, ◌∙◌, arith, append-nil, length-drop}
+use Rattle.std.proofs.Common.{◌≡◌, ℕ, ℤ, zero, suc, ◌+◌, ◌<◌, ◌≤◌, Bool, true, false, not, nat_lt, List, [], ◌∷◌, ◌++◌, length, drop, Option, option_map, Some, None, inl, inr, refl, ap, ap₂, sym, ◌∙◌, arith, append-nil, length-drop}
 use Rattle.std.proofs.lemmas.Bool.{cases_lt}
 use Rattle.std.proofs.lemmas.Bool.Decides.{nat_tests}
 use Rattle.std.proofs.lemmas.List.Sums.{take_while-cons}
@@ -10,7 +10,7 @@ use Rattle.hpgl_text.specs.declared.polyline.kind.PieceKind.TheVariants.{Blank, 
 use Rattle.hpgl_text.specs.EntryShapes.{PartShape, EntryShape}
 use Rattle.hpgl_text.specs.Polylines.{Piece, piece_at, is_final, base_after, pieces_from}
 use Rattle.hpgl_text.specs.Polylines.{bits_after, is_pair, is_up, is_absolute, since_pair, coding_after, part_of, entry, strays, entries_of, entries_from, entries}
-use Rattle.hpgl_text.specs.Carried.{next_coding, entries_by, entries_left}
+use Rattle.hpgl_text.specs.Carried.{next_coding, entries_by, entries_left, IsClosePair}
 use Rattle.hpgl_text.proofs.EntryCounts.{piece_takes}
 
 abbrev piece_by : PieceKind → ℕ → List ℕ → ℕ → Piece
@@ -132,6 +132,20 @@ next_read closed coding coding' at at' text text' piece part within h p f e w c 
     ∙ ap₂ (λ (x : Option PartShape) (es : List EntryShape). cons_option (option_map (entry at) x) es ++ entries_left closed coding' (at + piece.bytes) (drop piece.bytes text)) e (sym w)
     ∙ ap₂ (λ (n : ℕ) (t : List ℕ). cons_option (option_map (entry at) part) within ++ entries_left closed coding' n t) (sym a) (sym t)
     ∙ with_rest part at within (entries_left closed coding' at' text')
+
+-- a pair whose numbers nothing separates
+pub pair_read : (closed : Bool) (coding coding' : Coding) (at at' : ℕ) (text text' : List ℕ) (x y : ℤ) (bytes : ℕ) (what : PartShape) → 0 < length text
+    → IsClosePair (piece_at coding.base closed text) x y bytes → part_of coding (Pair x y) ≡ Some what → coding' ≡ next_coding coding (Pair x y) → at' ≡ at + bytes → text' ≡ drop bytes text
+    → entries_left closed coding at text ≡ entry at what ∷ entries_left closed coding' at' text'
+pair_read closed coding coding' at at' text text' x y bytes what h p e c a t =
+    let piece = piece_at coding.base closed text in
+    next_read closed coding coding' at at' text text' piece (Some what) [] h refl
+    (ap (λ (k : PieceKind). is_final k) p.kind_is)
+    (ap (λ (k : PieceKind). part_of coding k) p.kind_is ∙ e)
+    (sym (ap (λ (g : List ℕ). strays (at + piece.gap_at) g) p.gap_is))
+    (c ∙ sym (ap (λ (k : PieceKind). next_coding coding k) p.kind_is))
+    (a ∙ sym (ap (λ (n : ℕ). at + n) p.bytes_is))
+    (t ∙ sym (ap (λ (n : ℕ). drop n text) p.bytes_is))
 
 -- looking back comes to the same
 after_piece : (final : Bool) (before : List Piece) (at : ℕ) (pieces : List Piece) (es : List EntryShape) → entries_from before at pieces ≡ es

@@ -1,5 +1,6 @@
 //! The strays within a piece of a PE.
-ghost use Rattle.std.specs.Prelude.{◌≡◌, ◌+◌, ◌<◌, ◌^◌, length};
+ghost use Rattle.std.specs.Prelude.{◌≡◌, [], ◌+◌, ◌<◌, ◌^◌, length};
+ghost use Rattle.std.specs.Bool.{OnTrue};
 ghost use Rattle.std.specs.Iterator.{YieldsFirst, item_count};
 ghost use Rattle.hpgl_text.specs.Polylines.{strays};
 
@@ -34,6 +35,14 @@ impl<'a> Strays<'a> {
         ensures { result ≡ strays at gap.now }
     {
         Strays { at, gap }
+    }
+
+    /// Whether the whole gap was passed, so that no strays are to come.
+    #[inline(always)]
+    pub fn is_done(&self) -> bool
+        ensures { OnTrue result (self.now ≡ []) }
+    {
+        self.gap.is_empty()
     }
 }
 

@@ -5,8 +5,8 @@ use Rattle.hpgl_text.specs.Polylines.{part_of, entry}
 use Rattle.hpgl_text.specs.Polylines.{Piece}
 use Rattle.hpgl_text.specs.Carried.{entries_left}
 use Rattle.hpgl_text.proofs.EntriesLeft.{last_read, next_read}
-use Rattle.hpgl_text.proofs.polyline.entries.EntriesIterator.next.Goals as goal
-use Rattle.hpgl_text.proofs.polyline.entries.EntriesIterator.next.Goals.{then-is_final_kind, else-is_final_kind, Joined-is_final_kind}
+use Rattle.hpgl_text.proofs.polyline.entries.Entries.next_of_any.Goals as goal
+use Rattle.hpgl_text.proofs.polyline.entries.Entries.next_of_any.Goals.{then-is_final_kind, else-is_final_kind, Joined-is_final_kind}
 
 -- the entry of the piece that was read, if it has one, and what is left
 read : (c : Joined-is_final_kind) (part : Option PartShape) → part_of c.pieces.self-inside.coding c.piece.inside.kind ≡ part
@@ -26,11 +26,8 @@ read c part is_part =
           some is (sym c.is_final_kind.ensures ∙ w.if-is_final_kind.false) is_part c.new-self-inside.ensures w.carry.ensures refl w.after-self-inside.ensures)
     ])
 
-pub returns-in-Some-part-clause-steps : goal.returns-in-Some-part-clause-steps
-returns-in-Some-part-clause-steps c = read (goal.at.returns-in-Some-part-clause-steps c).Joined-is_final_kind _ c.in-Some-part.ensures
-
-pub returns-in-Some-part-clause-goes : goal.returns-in-Some-part-clause-goes
-returns-in-Some-part-clause-goes c = omega (arith, ap (λ (es : List EntryShape). length es) (returns-in-Some-part-clause-steps c))
+pub returns-in-Some-part : goal.returns-in-Some-part
+returns-in-Some-part c = read (goal.at.returns-in-Some-part c).Joined-is_final_kind _ c.in-Some-part.ensures
 
 pub pieces-preserved : goal.pieces-preserved
 pieces-preserved c = record {

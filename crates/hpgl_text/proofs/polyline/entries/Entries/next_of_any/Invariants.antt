@@ -1,6 +1,6 @@
 use Rattle.std.proofs.Common.{◌≡◌, ◌+◌, ◌<◌, ◌^◌, ◌++◌, length}
 use Rattle.hpgl_text.specs.Carried.{entries_left}
-use Rattle.hpgl_text.proofs.polyline.entries.EntriesIterator.next.Given as goal
+use Rattle.hpgl_text.proofs.polyline.entries.Entries.next_of_any.Given as goal
 
 -- what is left of the text has all the entries that are to come
 abbrev pub invariant-pieces : goal.invariant-pieces
