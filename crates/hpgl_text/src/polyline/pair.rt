@@ -8,10 +8,37 @@ use crate::polyline::base::Base;
 use crate::polyline::coded::first_coded;
 use crate::polyline::whole::Whole;
 
+// As many bytes as two numbers can have. In a longer text no digit needs a test of its own that it is there.
+const LONG: usize = 14;
+
 /// The two numbers that the text begins with, if the second follows the first at once, and how many bytes they
 /// take.
 #[inline(always)]
 pub fn first_pair(text: &[u8], base: Base) -> Option<(Whole, Whole, usize)>
+    ensures pair { (closed : Bool)
+        → IfSome result (λ read. IsClosePair (piece_at base closed text.now) read.0 read.1 read.2) }
+    ensures within { IfSome result (λ read. (0 < read.2) × (read.2 ≤ length text.now)) }
+{
+    if text.len() < LONG {
+        last_pair(text, base)
+    } else {
+        two_numbers(text, base)
+    }
+}
+
+// The same, for the end of a text.
+#[inline(never)]
+fn last_pair(text: &[u8], base: Base) -> Option<(Whole, Whole, usize)>
+    ensures pair { (closed : Bool)
+        → IfSome result (λ read. IsClosePair (piece_at base closed text.now) read.0 read.1 read.2) }
+    ensures within { IfSome result (λ read. (0 < read.2) × (read.2 ≤ length text.now)) }
+{
+    two_numbers(text, base)
+}
+
+// The same, for any text.
+#[inline(always)]
+fn two_numbers(text: &[u8], base: Base) -> Option<(Whole, Whole, usize)>
     ensures pair { (closed : Bool)
         → IfSome result (λ read. IsClosePair (piece_at base closed text.now) read.0 read.1 read.2) }
     ensures within { IfSome result (λ read. (0 < read.2) × (read.2 ≤ length text.now)) }

@@ -1,7 +1,7 @@
 use Rattle.std.proofs.Common.{◌∙◌, ap, sym, List, ℕ}
 use Rattle.hpgl_text.specs.Coded.{coded_number}
 use Rattle.hpgl_text.proofs.Pairs.{pair_at}
-use Rattle.hpgl_text.proofs.polyline.pair.first_pair.Goals as goal
+use Rattle.hpgl_text.proofs.polyline.pair.two_numbers.Goals as goal
 
 pub returns-clause-pair : goal.returns-clause-pair
 returns-clause-pair c = λ closed. pair_at c.args.base closed c.args.text.now _ _ c.in-Some.ensures.found
