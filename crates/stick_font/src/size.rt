@@ -41,8 +41,8 @@ impl CharacterSize {
     pub fn short_offset(self, point: Spot) -> Spot
         requires { IsShortPoint point }
         ensures value { result ≡ points.offset self point }
-        ensures x_in { nat_abs result.x ≤ 2 ^ 104 }
-        ensures y_in { nat_abs result.y ≤ 2 ^ 104 }
+        ensures x_in { nat_abs result.x ≤ 2 ^ 60 }
+        ensures y_in { nat_abs result.y ≤ 2 ^ 60 }
     {
         Spot {
             x: i128::from(short_share(point.x as i64, self.width, 12)),
@@ -81,7 +81,8 @@ fn share(count: i128, size: i32, parts: u8) -> i128
 fn short_share(count: i64, size: i32, parts: u8) -> i64
     requires count_in { nat_abs count ≤ 2 ^ 29 }
     requires parts_in { 1 ≤ parts }
-    ensures { result ≡ points.share count size parts }
+    ensures value { result ≡ points.share count size parts }
+    ensures most { nat_abs result ≤ 2 ^ 60 }
 {
     let parts = i64::from(parts);
     (2 * (count * i64::from(size)) + parts).div_euclid(2 * parts)

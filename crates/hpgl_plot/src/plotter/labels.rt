@@ -102,9 +102,10 @@ impl Plotter {
         ensures { result ≡ labels.label_place self.now.state point }
     {
         let on_page = self.state.size.short_offset(point);
+        let start = self.state.place;
         Spot {
-            x: self.state.place.x + on_page.x,
-            y: self.state.place.y + on_page.y,
+            x: i128::from(start.x as i64 + on_page.x as i64),
+            y: i128::from(start.y as i64 + on_page.y as i64),
         }
     }
 

@@ -35,4 +35,5 @@ returns-clause-most c =
     let fr : FitsSigned w128 c.rounded.result = search rules in
     let e = simp to_z-of_z at c.from.ensures in
     let r = simp to_z-of_z at (rw (e, c.from-2.ensures) at c.rounded.ensures) in
-    simp to_z-of_z (rw r (round_in (count *ℤ size) c.args.parts c.requires.parts_in p))
+    let q = round_in (count *ℤ size) c.args.parts (2 ^ 103) c.requires.parts_in p in
+    simp to_z-of_z (rw r (omega (arith, q)))
