@@ -1,6 +1,7 @@
 //! Moves in plotter units on a page that is not turned, as in most plots. 64 bits hold their numbers.
 ghost use Rattle.std.specs.Prelude.{◌≡◌, ◌≤◌, ◌^◌, ◌+ℤ◌, nat_abs, if◌then◌else◌};
 ghost use Rattle.std.specs.Bool.{OnTrue};
+ghost use Rattle.plot_frame.specs.declared.scaling.Scaling.TheVariants.{Off};
 ghost use Rattle.hpgl_plot.specs.Bounds.{IsPlain};
 ghost use Rattle.hpgl_plot.specs.Paths.{pen_at, target};
 
@@ -9,6 +10,7 @@ use crate::state::Position;
 use crate::turn::is_unturned;
 use exact::Spot;
 use hpgl_text::Number;
+use plot_frame::Scaling;
 
 impl Plotter {
     /// Whether coordinates are plotter units on a page that is not turned, so that `plain_end` takes
@@ -16,9 +18,7 @@ impl Plotter {
     pub fn is_plain(&self) -> bool
         ensures { OnTrue result (IsPlain self.now.page self.now.state.frame) }
     {
-        is_unturned(self.state.frame.rotation)
-            && self.axes.x.is_unscaled()
-            && self.axes.y.is_unscaled()
+        is_unturned(self.state.frame.rotation) && is_off(&self.state.frame.scaling)
     }
 
     /// Where the pen is after a move to coordinates. It is faster than `end_of`.
@@ -39,6 +39,17 @@ impl Plotter {
             place,
             coordinates: Spot { x: right, y: above },
         }
+    }
+}
+
+// Whether coordinates are plotter units.
+#[inline]
+fn is_off(scaling: &Scaling) -> bool
+    ensures { OnTrue result (scaling.now ≡ Off) }
+{
+    match scaling {
+        Scaling::Off => true,
+        Scaling::Anisotropic(_) | Scaling::Isotropic(_) | Scaling::PointFactor(_) => false,
     }
 }
 
