@@ -26,6 +26,11 @@ Item { at: 4, body: Label([76]), code: [76, 66], unended: false }
 LBL
 Item { at: 0, body: Label([76]), code: [76, 66], unended: true }
 
+// Any commas and blanks separate numbers.
+PA1, 2,,3 4;
+Item { at: 0, body: Params(PlotAbsolute, [Number { millionths: 1000000 }, Number { millionths: 2000000 }, \
+    Number { millionths: 3000000 }, Number { millionths: 4000000 }]), code: [80, 65], unended: false }
+
 // A terminator holds until another is defined, or until IN or DF.
 DT$;PU;LBA$
 Item { at: 0, body: Terminator(36), code: [68, 84], unended: false }
@@ -74,7 +79,7 @@ Item { at: 38, body: Params(Direction, []), code: [68, 73], unended: false }
 
 #[test]
 fn instructions(rt: HostRuntime) -> Result<(), Fail> {
-    has_answers(&rt, rt.alloc(), Asked::Items, INSTRUCTIONS, 9)
+    has_answers(&rt, rt.alloc(), Asked::Items, INSTRUCTIONS, 10)
 }
 
 const POLYLINES: &str = "\
@@ -117,6 +122,21 @@ Item { at: 7, body: Coded([Entry { at: 10, what: Pair { up: false, absolute: fal
     x: Number { millionths: 64000000 }, y: Number { millionths: 0 } } }, Entry { at: 12, what: Stray(33) }, \
     Entry { at: 14, what: Stray(35) }, Entry { at: 15, what: Bad }]), code: [80, 69], unended: false }
 
+// The flags are those of the next pair, also after a pen.
+PE7=:c_w?c_;
+Item { at: 0, body: Coded([Entry { at: 4, what: Pen(2) }, \
+    Entry { at: 6, what: Pair { up: false, absolute: true, x: Number { millionths: 0 }, \
+    y: Number { millionths: 12000000 } } }, \
+    Entry { at: 8, what: Pair { up: false, absolute: false, x: Number { millionths: 64000000 }, \
+    y: Number { millionths: 0 } } }]), code: [80, 69], unended: false }
+
+// A stray within a pair comes before the next pair.
+PE7_!_w_;
+Item { at: 0, body: Coded([Entry { at: 3, what: Pair { up: false, absolute: false, \
+    x: Number { millionths: 0 }, y: Number { millionths: 0 } } }, Entry { at: 4, what: Stray(33) }, \
+    Entry { at: 6, what: Pair { up: false, absolute: false, x: Number { millionths: 12000000 }, \
+    y: Number { millionths: 0 } } }]), code: [80, 69], unended: false }
+
 // Two bits of each coordinate are a fraction.
 PE7>c_?o;
 Item { at: 0, body: Coded([Entry { at: 5, what: Pair { up: false, absolute: false, \
@@ -154,7 +174,7 @@ Item { at: 7, body: Coded([Entry { at: 9, what: Bad }]), code: [80, 69], unended
 
 #[test]
 fn polylines(rt: HostRuntime) -> Result<(), Fail> {
-    has_answers(&rt, rt.alloc(), Asked::Items, POLYLINES, 10)?;
+    has_answers(&rt, rt.alloc(), Asked::Items, POLYLINES, 12)?;
     has_answer(
         &rt,
         rt.alloc(),
