@@ -8,7 +8,7 @@ use crate::polyline::base::Base;
 use crate::polyline::coded::first_coded;
 use crate::polyline::whole::Whole;
 
-// As many bytes as two numbers can have. In a longer text no digit needs a test of its own that it is there.
+// As many bytes as two numbers can have. In a text that is as long no digit needs a test that it is there.
 const LONG: usize = 14;
 
 /// The two numbers that the text begins with, if the second follows the first at once, and how many bytes they
