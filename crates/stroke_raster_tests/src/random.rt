@@ -52,13 +52,14 @@ impl Numbers {
         stroke((n % 3 + 1) as u8, 16, WHOLE, [ax, ay, bx, by])
     }
 
-    // A narrow stroke of at most 127 grains in each direction.
+    // A narrow stroke, of at most 127 grains in each direction or as long as it comes.
     fn narrow_stroke(&mut self, n: u32) -> Result<Stroke, Fail> {
         let width = [0, 30, 60, 120][(n % 4) as usize];
         let (ax, ay) = (self.place(), self.place());
-        let bx = ax.wrapping_add(self.place() % 128);
-        let by = ay.wrapping_add(self.place() % 128);
-        stroke((n % 3 + 1) as u8, width, WHOLE, [ax, ay, bx, by])
+        let (x, y) = (self.place(), self.place());
+        let (x, y) = if n < 40 { (x % 128, y % 128) } else { (x, y) };
+        let ends = [ax, ay, ax.wrapping_add(x), ay.wrapping_add(y)];
+        stroke((n % 3 + 1) as u8, width, WHOLE, ends)
     }
 }
 
@@ -87,13 +88,15 @@ fn cells_by_near(
     Ok(cells)
 }
 
-// 24 strokes from the generator, and a short one after each.
-fn some_strokes(alloc: Global, seed: u32) -> Result<Vec<Stroke>, Fail> {
+// 24 strokes from the generator, and between them as many short ones if they are wanted.
+fn some_strokes(alloc: Global, seed: u32, with_short_ones: bool) -> Result<Vec<Stroke>, Fail> {
     let mut numbers = Numbers { state: seed };
     let mut strokes = Vec::new(alloc);
     for n in 0..24 {
         strokes.push(numbers.any_stroke(n)?)?;
-        strokes.push(numbers.short_stroke(n)?)?;
+        if with_short_ones {
+            strokes.push(numbers.short_stroke(n)?)?;
+        }
     }
     Ok(strokes)
 }
@@ -120,7 +123,7 @@ fn has_cells_by_near(
 
 #[test]
 fn strokes_in_bands(rt: HostRuntime) -> Result<(), Fail> {
-    let strokes = some_strokes(rt.alloc(), 7)?;
+    let strokes = some_strokes(rt.alloc(), 7, true)?;
     assert_eq!(rt; strokes.len(), 48);
     let pens = PenSet::none().with(1).with(2);
     has_cells_by_near(&rt, rt.alloc(), &strokes, 127, pens)?;
@@ -179,15 +182,15 @@ fn has_bits_of_cells(
 // At 1200 dots a run of pixels may be longer than eight bytes take.
 #[test]
 fn strokes_as_bits(rt: HostRuntime) -> Result<(), Fail> {
-    let strokes = some_strokes(rt.alloc(), 11)?;
-    assert_eq!(rt; strokes.len(), 48);
+    let strokes = some_strokes(rt.alloc(), 11, false)?;
+    assert_eq!(rt; strokes.len(), 24);
     for resolution in [127, 600, 1200] {
         has_bits_of_cells(&rt, rt.alloc(), &strokes, resolution)?;
     }
     Ok(())
 }
 
-// Strokes in boxes of a few pixels, which no wide stroke covers.
+// Strokes in boxes of a few pixels, and long ones, which no wide stroke covers.
 #[test]
 fn narrow_strokes_as_bits(rt: HostRuntime) -> Result<(), Fail> {
     let mut numbers = Numbers { state: 3 };
