@@ -34,7 +34,7 @@ pub fn has_few_columns(columns: Span) -> bool
     0 < many && many <= FEW
 }
 
-/// Whether a band has eight bytes from the first column's on in each row of a part.
+/// Whether a band has eight bytes, from that of the first column on, in each row of a part.
 #[inline(always)]
 pub fn has_room(part: Span, columns: Span, layout: Layout) -> bool
     requires from { layout.first ≤ part.low }
