@@ -203,3 +203,13 @@ fn narrow_strokes_as_bits(rt: HostRuntime) -> Result<(), Fail> {
     }
     Ok(())
 }
+
+// An upright stroke nearly fills its box, so no gauge may count its pixels twice.
+#[test]
+fn an_upright_stroke_as_bits(rt: HostRuntime) -> Result<(), Fail> {
+    let upright = stroke(1, 224, WHOLE, [500, 100, 500, 900])?;
+    for resolution in [600, 1200] {
+        has_bits_of_cells(&rt, rt.alloc(), &[upright], resolution)?;
+    }
+    Ok(())
+}
