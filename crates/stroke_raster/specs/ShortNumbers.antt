@@ -10,7 +10,7 @@ use Rattle.stroke_raster.specs.Gap.{way, scaled, dot}
 abbrev pub sides : Vector → ℕ
 sides v = nat_abs v.x + nat_abs v.y
 
--- a course, in grains, of 128 plotter units at most, which are 16 pixels at most, drawn 16 pixels wide at most
+-- a course, in grains, whose sides add up to at most 128 plotter units and 16 pixels, drawn at most 16 pixels wide
 pub record IsShortCourse (v : Vector) (r d : ℕ) : Type 0 where
   pub course : sides v ≤ 2048
   pub pixels : r * sides v ≤ 262144
