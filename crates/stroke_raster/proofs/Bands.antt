@@ -1,6 +1,7 @@
 -- The rows of a painter's bands, joined.
-use Rattle.std.proofs.Common.{◌≡◌, ℕ, ◌+◌, ◌-◌, List, [], ◌∷◌, ◌++◌, flat_map, map, ap, ◌∙◌, arith, refl, zero, suc}
+use Rattle.std.proofs.Common.{◌≡◌, ℕ, ◌+◌, ◌-◌, ◌*◌, ◌/◌, ◌<◌, ◌≤◌, List, [], ◌∷◌, ◌++◌, flat_map, map, ap, ◌∙◌, arith, refl, zero, suc}
 use Rattle.std.specs.List.{range_with_len}
+use Rattle.std.proofs.Math.Nat.{div-lt_iff_lt-mul}
 use Rattle.plot_page.specs.Resolutions.{rows_of}
 use Rattle.stroke_raster.specs.Painting.{Painting, Reaches, painted_rows, Moves, rows_next}
 use Rattle.stroke_raster.specs.Laws.{LendsAll}
@@ -33,3 +34,10 @@ bands_join reaches p (rows ∷ bands) h =
     ap (λ (z : List (List ℕ)). z ++ flat_map (λ more. more) bands) band.rows_are
     ∙ ap (λ (z : List (List ℕ)). painted_rows reaches p p.next (rows_next p) ++ z) (bands_join reaches new bands h.2 ∙ rows_left reaches p new band.moves)
     ∙ rows_joined reaches p p.next (rows_next p) _ _ whole
+
+-- the bands reach the last row
+pub enough_bands : (rows first h n : ℕ) → 0 < h → first ≤ rows → n ≡ (rows - first + (h - 1)) / h → rows ≤ first + n * h
+enough_bands rows first h n pos within e =
+    let d : (rows - first + (h - 1)) / h < n + 1 = omega (arith, e) in
+    let m : rows - first + (h - 1) < (n + 1) * h = (div-lt_iff_lt-mul pos).0 d in
+    omega (arith, m, within, pos)

@@ -4,11 +4,13 @@ use Rattle.std.specs.Int.{bit_at}
 use Rattle.std.proofs.lemmas.Bool.{cases_eq, cases_lt}
 use Rattle.std.proofs.lemmas.Bool.Decides.{nat_tests}
 use Rattle.std.proofs.lemmas.Nat.{mul-le}
+use Rattle.std.proofs.lemmas.Nat.Bits.{bit_at-zero}
 use Rattle.std.proofs.lemmas.List.{ext_get_or, get_or-drop, get_or-map, get_or-take, get_or_past, length-drop, length-map, length-take-le}
 use Rattle.std.proofs.lemmas.List.FromFn.{get_or-map-range_with_len, length-map-range_with_len}
 use Rattle.plot_page.specs.Segments.{Segment}
 use Rattle.plot_page.specs.declared.pens.PenSet.{PenSet}
-use Rattle.stroke_raster.specs.Inks.{ink_at, ShowsInk}
+use Rattle.stroke_raster.specs.Canvases.{Shows}
+use Rattle.stroke_raster.specs.Inks.{ink_at}
 use Rattle.bit_rows.specs.Bits.{bit_of, byte_of, bytes_for, packed}
 use Rattle.stroke_raster.specs.Shown.{shown, row_shown}
 use Rattle.stroke_raster.specs.Rows.{rows_shown, split_rows}
@@ -18,22 +20,25 @@ use Rattle.stroke_raster.proofs.Rows.{get_or-split_rows, length-split_rows}
 byte_value : (b : ℕ) → b < 256 → b ≡ 128 * bit_at b 7 + 64 * bit_at b 6 + 32 * bit_at b 5 + 16 * bit_at b 4 + 8 * bit_at b 3 + 4 * bit_at b 2 + 2 * bit_at b 1 + bit_at b 0
 byte_value b h = omega (arith, h)
 
+-- a bit of bytes that are 0
+pub white : (stride : ℕ) (bytes : List ℕ) (r k : ℕ) → ((i : ℕ) → get_or bytes i 0 ≡ 0) → ink_at stride bytes r k ≡ 0
+white stride bytes r k h =
+    ap (λ (n : ℕ). bit_at n (7 - (8 * (r * stride) + k) % 8)) (h ((8 * (r * stride) + k) / 8)) ∙ bit_at-zero (7 - (8 * (r * stride) + k) % 8)
+
 min_bit : (n : ℕ) → min 1 n ≡ (if nat_eq n 0 then 0 else 1)
 min_bit n = elim (cases_eq n 0) [
   | inl e ↦ rw e refl
   | inr ne ↦ (let t : nat_eq n 0 ≡ false = grind (arith, nat_tests) in let m : min 1 n ≡ 1 = omega (arith, ne) in rw (t, m) refl)
 ]
 
--- a pixel's bit
-pixel : (covers : Segment → ℕ → ℕ → Bool) (pens : PenSet) (ss : List Segment) (columns row k x : ℕ) → x ≡ cond (nat_lt k columns) (min 1 (shown covers pens ss row k)) 0 → x ≡ bit_of (row_shown covers pens ss columns row) k
-pixel covers pens ss columns row k x e = elim (cases_lt k columns) [
-  | inl l ↦ (let t : nat_lt k columns ≡ true = grind (arith, nat_tests) in
-      let z : 0 + k ≡ k = omega arith in
+-- a pixel's bit, and a bit after the last column
+pixel : (covers : Segment → ℕ → ℕ → Bool) (pens : PenSet) (ss : List Segment) (columns row k x : ℕ) → (k < columns → x ≡ min 1 (shown covers pens ss row k)) → (columns ≤ k → x ≡ 0) → x ≡ bit_of (row_shown covers pens ss columns row) k
+pixel covers pens ss columns row k x inside after = elim (cases_lt k columns) [
+  | inl l ↦ (let z : 0 + k ≡ k = omega arith in
       let g : get_or (row_shown covers pens ss columns row) k 0 ≡ shown covers pens ss row k = get_or-map-range_with_len (λ column. shown covers pens ss row column) 0 columns k k 0 l z in
-      (rw t at e) ∙ min_bit (shown covers pens ss row k) ∙ ap (λ (n : ℕ). if nat_eq n 0 then 0 else 1) (sym g))
-  | inr l ↦ (let t : nat_lt k columns ≡ false = grind (arith, nat_tests) in
-      let g : get_or (row_shown covers pens ss columns row) k 0 ≡ 0 = get_or_past (row_shown covers pens ss columns row) k 0 (omega (arith, l, length-map-range_with_len (λ column. shown covers pens ss row column) 0 columns)) in
-      (rw t at e) ∙ ap (λ (n : ℕ). if nat_eq n 0 then 0 else 1) (sym g))
+      inside l ∙ min_bit (shown covers pens ss row k) ∙ ap (λ (n : ℕ). if nat_eq n 0 then 0 else 1) (sym g))
+  | inr l ↦ (let g : get_or (row_shown covers pens ss columns row) k 0 ≡ 0 = get_or_past (row_shown covers pens ss columns row) k 0 (omega (arith, l, length-map-range_with_len (λ column. shown covers pens ss row column) 0 columns)) in
+      after l ∙ ap (λ (n : ℕ). if nat_eq n 0 then 0 else 1) (sym g))
 ]
 
 bit_drop : (n i : ℕ) (cells : List ℕ) → bit_of (drop n cells) i ≡ bit_of cells (n + i)
@@ -49,13 +54,13 @@ bit_here s r j i bits h =
 
 -- a byte of a row
 byte_here : (covers : Segment → ℕ → ℕ → Bool) (pens : PenSet) (ss : List Segment) (first rows columns s : ℕ) (bits : List ℕ) (r j : ℕ)
-    → ShowsInk covers pens ss first rows columns s bits → get_or bits (r * s + j) 0 < 256 → r < rows → j < s
+    → Shows (ink_at s bits) (λ n. min 1 n) covers pens ss first rows columns → ((r k : ℕ) → r < rows → columns ≤ k → k < 8 * s → ink_at s bits r k ≡ 0) → get_or bits (r * s + j) 0 < 256 → r < rows → j < s
     → get_or bits (r * s + j) 0 ≡ byte_of (drop (8 * j) (row_shown covers pens ss columns (first + r)))
-byte_here covers pens ss first rows columns s bits r j h small u v =
+byte_here covers pens ss first rows columns s bits r j h past small u v =
     let cells : List ℕ = row_shown covers pens ss columns (first + r) in
     let b : ℕ = get_or bits (r * s + j) 0 in
     let one : (i : ℕ) → i < 8 → bit_at (get_or bits (r * s + j) 0) (7 - i) ≡ bit_of (drop (8 * j) (row_shown covers pens ss columns (first + r))) i = λ i w.
-    sym (bit_here s r j i bits w) ∙ pixel covers pens ss columns (first + r) (8 * j + i) _ (h r (8 * j + i) u (omega (arith, v, w))) ∙ sym (bit_drop (8 * j) i (row_shown covers pens ss columns (first + r))) in
+    sym (bit_here s r j i bits w) ∙ pixel covers pens ss columns (first + r) (8 * j + i) _ (h r (8 * j + i) u) (λ l. past r (8 * j + i) u l (omega (arith, v, w))) ∙ sym (bit_drop (8 * j) i (row_shown covers pens ss columns (first + r))) in
     let v0 = one 0 (omega arith) in
     let v1 = one 1 (omega arith) in
     let v2 = one 2 (omega arith) in
@@ -72,9 +77,9 @@ byte_here covers pens ss first rows columns s bits r j h small u v =
 
 -- a row
 row_here : (covers : Segment → ℕ → ℕ → Bool) (pens : PenSet) (ss : List Segment) (first rows columns s : ℕ) (bits : List ℕ) (r : ℕ)
-    → ShowsInk covers pens ss first rows columns s bits → ((i : ℕ) → i < length bits → get_or bits i 0 < 256) → length bits ≡ rows * s → s ≡ bytes_for columns → r < rows
+    → Shows (ink_at s bits) (λ n. min 1 n) covers pens ss first rows columns → ((r k : ℕ) → r < rows → columns ≤ k → k < 8 * s → ink_at s bits r k ≡ 0) → ((i : ℕ) → i < length bits → get_or bits i 0 < 256) → length bits ≡ rows * s → s ≡ bytes_for columns → r < rows
     → take s (drop (r * s) bits) ≡ packed (row_shown covers pens ss columns (first + r))
-row_here covers pens ss first rows columns s bits r h small len wide u =
+row_here covers pens ss first rows columns s bits r h past small len wide u =
     let whole : (r + 1) * s ≤ rows * s = mul-le (r + 1) s rows s (omega (arith, u)) (omega arith) in
     let ld : s ≤ length (drop (r * s) bits) = omega (arith, length-drop (r * s) bits, whole, len) in
     let lt : length (take s (drop (r * s) bits)) ≡ s = length-take-le s (drop (r * s) bits) ld in
@@ -86,14 +91,14 @@ row_here covers pens ss first rows columns s bits r h small len wide u =
     let v : j < s = omega (arith, w, lt) in
     let z : 0 + j ≡ j = omega arith in
     get_or-take s (drop (r * s) bits) j 0 v ∙ get_or-drop (r * s) bits j 0
-    ∙ byte_here covers pens ss first rows columns s bits r j h (small (r * s + j) (omega (arith, whole, v, len))) u v
+    ∙ byte_here covers pens ss first rows columns s bits r j h past (small (r * s + j) (omega (arith, whole, v, len))) u v
     ∙ sym (get_or-map-range_with_len (λ k. byte_of (drop (8 * k) (row_shown covers pens ss columns (first + r)))) 0 (bytes_for (length (row_shown covers pens ss columns (first + r)))) j j 0 (omega (arith, v, n)) z))
 
 -- all rows of a band
 pub inked_rows : (covers : Segment → ℕ → ℕ → Bool) (pens : PenSet) (ss : List Segment) (first rows columns s : ℕ) (bits : List ℕ)
-    → ShowsInk covers pens ss first rows columns s bits → ((i : ℕ) → i < length bits → get_or bits i 0 < 256) → length bits ≡ rows * s → s ≡ bytes_for columns
+    → Shows (ink_at s bits) (λ n. min 1 n) covers pens ss first rows columns → ((r k : ℕ) → r < rows → columns ≤ k → k < 8 * s → ink_at s bits r k ≡ 0) → ((i : ℕ) → i < length bits → get_or bits i 0 < 256) → length bits ≡ rows * s → s ≡ bytes_for columns
     → split_rows s rows bits ≡ map packed (rows_shown covers pens ss columns first rows)
-inked_rows covers pens ss first rows columns s bits h small len wide =
+inked_rows covers pens ss first rows columns s bits h past small len wide =
     let f : ℕ → List ℕ = λ row. row_shown covers pens ss columns row in
     let ls : length (split_rows s rows bits) ≡ rows = length-split_rows s rows bits in
     let lr : length (rows_shown covers pens ss columns first rows) ≡ rows = length-map-range_with_len (λ row. row_shown covers pens ss columns row) first rows in
@@ -101,6 +106,6 @@ inked_rows covers pens ss first rows columns s bits h small len wide =
     ext_get_or [] (split_rows s rows bits) (map packed (rows_shown covers pens ss columns first rows)) (omega (arith, ls, lr, lm)) (λ r w.
     let u : r < rows = omega (arith, w, ls) in
     get_or-split_rows s rows r bits u
-    ∙ row_here covers pens ss first rows columns s bits r h small len wide u
+    ∙ row_here covers pens ss first rows columns s bits r h past small len wide u
     ∙ sym (get_or-map packed (rows_shown covers pens ss columns first rows) r [] [] (omega (arith, u, lr))
     ∙ ap packed (get_or-map-range_with_len (λ row. row_shown covers pens ss columns row) first rows r (first + r) [] u refl)))

@@ -18,7 +18,8 @@ use Rattle.plot_page.specs.Resolutions.{rows_of}
 use Rattle.stroke_raster.specs.Extents.{first_row_of, end_row_of}
 use Rattle.stroke_raster.specs.Shown.{last_position, shown}
 use Rattle.stroke_raster.specs.Chains.{runs, begins}
-use Rattle.stroke_raster.specs.Slots.{nobody, stroke_at, band_of, goes_on, IsPainted}
+use Rattle.stroke_raster.specs.Canvases.{Shows}
+use Rattle.stroke_raster.specs.Slots.{nobody, stroke_at, band_of, goes_on}
 use Rattle.stroke_raster.proofs.Chains.{Falls, and_true_false}
 use Rattle.stroke_raster.proofs.Tops.{last_position-push}
 use Rattle.stroke_raster.proofs.ExtentLemmas.{box_rows}
@@ -68,35 +69,36 @@ shown_slot covers pens xs p r c pos fit sel =
     ∙ ap (λ (b : Bool). cond (b && covers (stroke_at xs p) r c) p (shown covers pens (take (p - 1) xs) r c)) sel
 
 -- one slot painted, and those up to the next one passed over
-pub painted_step : (covers : Segment → ℕ → ℕ → Bool) (pens : PenSet) (xs : List Segment) (first rows columns p q : ℕ) (cells cells' : List ℕ)
-    → 0 < p → p ≤ length xs → p < q → q ≤ length xs + 1 → has_pen pens (stroke_at xs p).pen ≡ true → 0 < columns → length cells ≡ rows * columns → length cells' ≡ length cells
-    → IsPainted covers pens (take (p - 1) xs) first columns cells
-    → ((i : ℕ) → i < length cells → get_or cells' i 0 ≡ cond (covers (stroke_at xs p) (first + i / columns) (i % columns)) p (get_or cells i 0))
+pub shows_step : (mark : ℕ → ℕ) (covers : Segment → ℕ → ℕ → Bool) (pens : PenSet) (xs : List Segment) (first rows columns p q : ℕ) (old new : ℕ → ℕ → ℕ)
+    → 0 < p → p ≤ length xs → p < q → q ≤ length xs + 1 → has_pen pens (stroke_at xs p).pen ≡ true
+    → Shows old mark covers pens (take (p - 1) xs) first rows columns
+    → ((r k : ℕ) → r < rows → k < columns → new r k ≡ cond (covers (stroke_at xs p) (first + r) k) (mark p) (old r k))
     → ((j r c : ℕ) → p < j → j < q → r < rows → has_pen pens (stroke_at xs j).pen ≡ true → covers (stroke_at xs j) (first + r) c ≡ false)
-    → IsPainted covers pens (take (q - 1) xs) first columns cells'
-painted_step covers pens xs first rows columns p q cells cells' pos fit lt end sel wide len len' h paint out i u =
-    let in_ : i < rows * columns = omega (arith, u, len, len') in
-    let row : i / columns < rows = (div-lt_iff_lt-mul wide).1 in_ in
+    → Shows new mark covers pens (take (q - 1) xs) first rows columns
+shows_step mark covers pens xs first rows columns p q old new pos fit lt end sel h paint out r k u v =
     let e : p + (q - 1 - p) ≡ q - 1 = omega arith in
-    let sk = skip covers pens xs (first + i / columns) (i % columns) p (q - 1 - p) (omega (arith, e)) (λ j v w s. out j (i / columns) (i % columns) v (omega (arith, w, e)) row s) in
-    paint i (omega (arith, u, len'))
-    ∙ ap (λ (z : ℕ). cond (covers (stroke_at xs p) (first + i / columns) (i % columns)) p z) (h i (omega (arith, u, len')))
-    ∙ sym (shown_slot covers pens xs p (first + i / columns) (i % columns) pos fit sel)
-    ∙ sym sk
-    ∙ ap (λ (n : ℕ). shown covers pens (take n xs) (first + i / columns) (i % columns)) e
+    let sk = skip covers pens xs (first + r) k p (q - 1 - p) (omega (arith, e)) (λ j a b s. out j r k a (omega (arith, b, e)) u s) in
+    let now : shown covers pens (take (q - 1) xs) (first + r) k ≡ cond (covers (stroke_at xs p) (first + r) k) p (shown covers pens (take (p - 1) xs) (first + r) k) =
+    ap (λ (n : ℕ). shown covers pens (take n xs) (first + r) k) (sym e) ∙ sk ∙ shown_slot covers pens xs p (first + r) k pos fit sel in
+    paint r k u v ∙ ap (λ (n : ℕ). cond (covers (stroke_at xs p) (first + r) k) (mark p) n) (h r k u v)
+    ∙ sym (marked_cond mark (covers (stroke_at xs p) (first + r) k) p (shown covers pens (take (p - 1) xs) (first + r) k))
+    ∙ ap mark (sym now)
+  where
+    marked_cond : (mark : ℕ → ℕ) (b : Bool) (p n : ℕ) → mark (cond b p n) ≡ cond b (mark p) (mark n)
+    marked_cond mark true p n = refl
+    marked_cond mark false p n = refl
 
 -- before the first slot nothing is shown
-pub painted_start : (covers : Segment → ℕ → ℕ → Bool) (pens : PenSet) (xs : List Segment) (first rows columns q : ℕ) (cells : List ℕ)
-    → 0 < q → q ≤ length xs + 1 → 0 < columns → length cells ≡ rows * columns
-    → ((i : ℕ) → i < length cells → get_or cells i 0 ≡ 0)
+pub shows_start : (mark : ℕ → ℕ) (covers : Segment → ℕ → ℕ → Bool) (pens : PenSet) (xs : List Segment) (first rows columns q : ℕ) (pixel : ℕ → ℕ → ℕ)
+    → 0 < q → q ≤ length xs + 1 → mark 0 ≡ 0
+    → ((r k : ℕ) → r < rows → k < columns → pixel r k ≡ 0)
     → ((j r c : ℕ) → 0 < j → j < q → r < rows → has_pen pens (stroke_at xs j).pen ≡ true → covers (stroke_at xs j) (first + r) c ≡ false)
-    → IsPainted covers pens (take (q - 1) xs) first columns cells
-painted_start covers pens xs first rows columns q cells pos end wide len blank out i u =
-    let in_ : i < rows * columns = omega (arith, u, len) in
-    let row : i / columns < rows = (div-lt_iff_lt-mul wide).1 in_ in
+    → Shows pixel mark covers pens (take (q - 1) xs) first rows columns
+shows_start mark covers pens xs first rows columns q pixel pos end zero_is blank out r k u v =
     let z : 0 + (q - 1) ≡ q - 1 = omega arith in
-    let sk = skip covers pens xs (first + i / columns) (i % columns) 0 (q - 1) (omega arith) (λ j v w s. out j (i / columns) (i % columns) v (omega (arith, w, pos)) row s) in
-    blank i u ∙ sym sk ∙ ap (λ (n : ℕ). shown covers pens (take n xs) (first + i / columns) (i % columns)) z
+    let sk = skip covers pens xs (first + r) k 0 (q - 1) (omega arith) (λ j a b s. out j r k a (omega (arith, b, pos)) u s) in
+    let none : shown covers pens (take (q - 1) xs) (first + r) k ≡ 0 = ap (λ (n : ℕ). shown covers pens (take n xs) (first + r) k) (sym z) ∙ sk in
+    blank r k u v ∙ sym zero_is ∙ ap mark (sym none)
 
 numbers : (x k : ℕ) → x < k + 1 → nat_lt x k ≡ false → nat_eq x k ≡ false → false ≡ true
 numbers x k m p q = grind (arith, nat_tests)
@@ -164,10 +166,10 @@ take_whole [] = refl
 take_whole (x ∷ xs) = ap (λ (ys : List Segment). x ∷ ys) (take_whole xs)
 
 -- what the painting of a stroke leaves, said of an equal stroke and an equal test
-pub painted_as : (f f' : Segment → Page → Dots → ℕ → ℕ → Bool) → f ≡ f' → (t t' : Segment) → t ≡ t' → (page : Page) (dots : Dots) (first columns place : ℕ) (cells cells' : List ℕ)
-    → ((i : ℕ) → i < length cells → get_or cells' i 0 ≡ cond (f t page dots (first + i / columns) (i % columns)) place (get_or cells i 0))
-    → (i : ℕ) → i < length cells → get_or cells' i 0 ≡ cond (f' t' page dots (first + i / columns) (i % columns)) place (get_or cells i 0)
-painted_as f f' e t t' z page dots first columns place cells cells' h i u = rw (e, z) at (h i u)
+pub painted_as : (f f' : Segment → Page → Dots → ℕ → ℕ → Bool) → f ≡ f' → (t t' : Segment) → t ≡ t' → (page : Page) (dots : Dots) (first rows columns rows' columns' : ℕ) → rows ≡ rows' → columns ≡ columns' → (m : ℕ) (old new : ℕ → ℕ → ℕ)
+    → ((r k : ℕ) → r < rows → k < columns → new r k ≡ cond (f t page dots (first + r) k) m (old r k))
+    → (r k : ℕ) → r < rows' → k < columns' → new r k ≡ cond (f' t' page dots (first + r) k) m (old r k)
+painted_as f f' e t t' z page dots first rows columns rows' columns' er ec m old new h r k u v = rw (e, z) at (h r k (omega (arith, u, er)) (omega (arith, v, ec)))
 
 pub line_as : (f f' : Segment → Page → Dots → ℕ → ℕ → Bool) → f ≡ f' → (t : Segment) (page : Page) (dots : Dots) (row from n place : ℕ) (cells cells' : List ℕ)
     → ((i : ℕ) → i < length cells → get_or cells' i 0 ≡ cond (f t page dots row (from + i)) place (get_or cells i 0)) → n ≡ length cells

@@ -6,16 +6,17 @@ use Rattle.plot_page.specs.Resolutions.{columns_of, rows_of}
 use Rattle.stroke_raster.specs.Boxes.{in_box, selected, boxes}
 use Rattle.stroke_raster.specs.Rows.{rows_shown}
 use Rattle.stroke_raster.specs.Painting.{Reaches}
-use Rattle.stroke_raster.specs.Slots.{band_of, goes_on, IsPainted}
+use Rattle.stroke_raster.specs.Canvases.{Shows}
+use Rattle.stroke_raster.specs.Slots.{band_of, goes_on}
 
 -- how many columns its rows have
 abbrev pub width_of : Scene → ℕ
 width_of scene = columns_of scene.page scene.dots
 
--- each cell of a band shows what the scene's strokes make its pixel show
-abbrev pub ShowsScene : Reaches → Scene → ℕ → List ℕ → Type 0
-ShowsScene reaches scene first cells =
-    IsPainted (λ s. reaches s scene.page scene.dots) scene.pens scene.strokes.now first (width_of scene) cells
+-- a number of its rows are shown, from a row on
+abbrev pub ShowsScene : (ℕ → ℕ → ℕ) → (ℕ → ℕ) → Reaches → Scene → ℕ → ℕ → Type 0
+ShowsScene pixel mark reaches scene first rows =
+    Shows pixel mark (λ s. reaches s scene.page scene.dots) scene.pens scene.strokes.now first rows (width_of scene)
 
 -- what a number of its rows show, from a row on
 abbrev pub scene_rows : Reaches → Scene → ℕ → ℕ → List (List ℕ)

@@ -9,10 +9,11 @@ ghost use Rattle.stroke_raster.specs.Painting.{painted_rows, boxed_pixels, rows_
 ghost use Rattle.stroke_raster.specs.Rows.{marked_in_rows, split_rows};
 ghost use Rattle.stroke_raster.specs.Tests.{MOST_TESTS};
 
+use crate::bits::{Bits, are_bytes};
 use crate::gauge::Gauge;
 use crate::painter::PaintFault;
 use crate::scene::Scene;
-use crate::walk::{chain, ink_band};
+use crate::walk::{chain, paint_band};
 use bit_rows::packed_length;
 use plot_page::{Dots, Page, PenSet, Stroke};
 use std::alloc::Global;
@@ -28,15 +29,15 @@ pub struct Inker<'a> {
     band: u32,
     heads: Vec<u32>,
     links: Vec<u32>,
-    stride: u32,
-    bits: Vec<u8>,
+    canvas: Bits,
 }
 
 impl<'a> Model for Inker<'a> {
     ghost use Rattle.std.specs.Prelude.{◌-◌};
     ghost use Rattle.stroke_raster.specs.Painting.{Painting};
     ghost use Rattle.stroke_raster.specs.Rows.{split_rows};
-    ghost use Rattle.stroke_raster.specs.Inkers.{IsInking};
+    ghost use Rattle.stroke_raster.specs.Canvases.{AreBits};
+    ghost use Rattle.stroke_raster.specs.Painters.{IsSound};
 
     ghost Value = { Painting };
 
@@ -47,10 +48,12 @@ impl<'a> Model for Inker<'a> {
       pens = p.scene.pens;
       band_rows = p.scene.band_rows;
       next = p.next;
-      last = record { first = p.next - p.inked; rows = split_rows p.stride p.inked p.bits.items };
+      last = record { first = p.next - p.inked; rows = split_rows p.canvas.stride p.inked p.canvas.bytes.items };
     } };
 
-    ghost invariant = { λ p. IsInking p.scene p.next p.band p.inked p.stride p.heads.items p.links.items p.bits.items };
+    ghost invariant = { λ p. IsSound p.scene p.next p.band p.inked p.heads.items p.links.items
+        p.canvas.rows p.canvas.columns
+        (AreBits p.canvas.columns p.canvas.rows p.canvas.stride p.canvas.bytes.items) };
 }
 
 impl<'a> Inker<'a> {
@@ -92,12 +95,13 @@ impl<'a> Inker<'a> {
             first_row,
             band_rows,
         };
-        let height = band_rows.min(rows - first_row) as usize;
-        let stride = packed_length(dots.columns(&page) as usize) as u32;
-        let length = height * stride as usize;
+        let height = band_rows.min(rows - first_row);
+        let columns = dots.columns(&page);
+        let stride = packed_length(columns as usize) as u32;
+        let length = height as usize * stride as usize;
         let bands = (rows - first_row + (band_rows - 1)) / band_rows;
         let end = strokes.len() as u32 + 1;
-        let Ok(bits) = vec![in alloc; 0u8; length] else {
+        let Ok(bytes) = vec![in alloc; 0u8; length] else {
             return Err(PaintFault::Memory);
         };
         let Ok(mut heads) = vec![in alloc; end; bands as usize] else {
@@ -114,8 +118,12 @@ impl<'a> Inker<'a> {
             band: 0,
             heads,
             links,
-            stride,
-            bits,
+            canvas: Bits {
+                columns,
+                rows: height,
+                stride,
+                bytes,
+            },
         })
     }
 
@@ -174,17 +182,17 @@ impl<'a> Inker<'a> {
             return false;
         }
         let count = self.scene.band_rows.min(rows - self.next);
-        ink_band(
+        paint_band(
             gauge,
+            &mut self.canvas,
             &self.scene,
             self.band,
             self.next,
             count,
-            self.stride,
             self.heads.as_slice(),
             self.links.as_mut_slice(),
-            self.bits.as_mut_slice(),
         );
+        are_bytes(self.canvas.bytes.as_slice());
         self.inked = count;
         self.next += count;
         self.band += 1;
@@ -198,7 +206,7 @@ impl<'a> Inker<'a> {
         ensures size { length result.now
             ≡ length self.now.last.rows * bytes_for (columns_of self.now.page self.now.dots) }
     {
-        let length = self.inked as usize * self.stride as usize;
-        &self.bits.as_slice()[..length]
+        let length = self.inked as usize * self.canvas.stride as usize;
+        &self.canvas.bytes.as_slice()[..length]
     }
 }

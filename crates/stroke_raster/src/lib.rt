@@ -3,6 +3,9 @@
 
 mod band;
 mod beside;
+mod bits;
+mod canvas;
+mod cells;
 mod edges;
 mod extent;
 mod fill;

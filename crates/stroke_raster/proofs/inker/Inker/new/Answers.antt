@@ -1,15 +1,9 @@
-use Rattle.std.proofs.Common.{rules, ◌≡◌, ◌<◌, ◌≤◌, ◌+◌, ◌-◌, ◌*◌, ◌/◌, ℕ, length, drop, arith}
-use Rattle.std.proofs.Math.Nat.{div-lt_iff_lt-mul}
+use Rattle.std.proofs.Common.{rules, ◌≡◌, ◌<◌, ◌≤◌, ◌+◌, ◌-◌, ◌*◌, ◌/◌, ℕ, List, length, get_or, drop, ap, ◌∙◌, arith}
 use Rattle.plot_page.specs.Resolutions.{rows_of}
-use Rattle.stroke_raster.proofs.Written.{whole}
+use Rattle.stroke_raster.proofs.Bands.{enough_bands}
+use Rattle.stroke_raster.proofs.InkRows.{white}
+use Rattle.stroke_raster.proofs.Written.{filled, whole}
 use Rattle.stroke_raster.proofs.inker.Inker.new.Goals as goal
-
--- the bands reach the last row
-enough_bands : (rows first h n : ℕ) → 0 < h → first ≤ rows → n ≡ (rows - first + (h - 1)) / h → rows ≤ first + n * h
-enough_bands rows first h n pos within e =
-    let d : (rows - first + (h - 1)) / h < n + 1 = omega (arith, e) in
-    let m : rows - first + (h - 1) < (n + 1) * h = (div-lt_iff_lt-mul pos).0 d in
-    omega (arith, m, within, pos)
 
 pub invariant_of-result : goal.invariant_of-result
 invariant_of-result c =
@@ -20,11 +14,17 @@ invariant_of-result c =
     rw (whole c.chain.new.heads (drop (length c.chain.new.heads) c.in-Ok-vec.heads.items) c.in-Ok-vec.heads.len heads, whole c.chain.new.links (drop (length c.chain.new.links) c.in-Ok-vec-2.links.items) c.in-Ok-vec-2.links.len links) (record {
       next_in = search rules;
       next_at = search rules;
-      inked_before = search rules;
-      inked_rows = search rules;
-      inked_bits = search rules;
-      next_bits = search rules;
-      stride_is = search rules;
+      painted_before = search rules;
+      painted_rows = search rules;
+      next_rows = search rules;
+      height_in = search rules;
+      width_is = search rules;
+      canvas = record {
+        stride_is = search rules;
+        stride_small = search rules;
+        size = search rules;
+        after = λ r k u v w. white _ _ r k (λ i. ap (λ (z : List ℕ). get_or z i 0) (c.in-Ok.ensures.items_if_clones_equal (λ y h. h)) ∙ filled _ i 0);
+      };
       slots = search rules;
       bands_few = search rules;
       bands_enough = rw heads enough;

@@ -1,32 +1,35 @@
 use Rattle.std.proofs.Common.{◌≡◌, ◌≤◌, ◌+◌, ◌-◌, min, take, length}
 use Rattle.plot_page.specs.Segments.{Segment}
 use Rattle.stroke_raster.specs.Boxes.{in_box, selected, boxes}
-use Rattle.plot_page.specs.Resolutions.{columns_of}
-use Rattle.stroke_raster.specs.Rows.{marked}
-use Rattle.stroke_raster.specs.Spans.{Spanned}
-use Rattle.stroke_raster.specs.Tests.{MOST_TESTS}
+use Rattle.stroke_raster.specs.Canvases.{Shows}
 use Rattle.stroke_raster.specs.Chains.{Ahead, Kept}
-use Rattle.stroke_raster.specs.Slots.{band_of, goes_on, IsPainted}
-use Rattle.stroke_raster.proofs.walk.walk.Given as goal
+use Rattle.stroke_raster.specs.Scenes.{width_of}
+use Rattle.stroke_raster.specs.Slots.{band_of, goes_on}
+use Rattle.stroke_raster.specs.Tests.{MOST_TESTS}
+use Rattle.stroke_raster.proofs.walk.paint_band.Given as goal
 
 -- the slots before `slot` are painted, and those of them that go on are chained
 abbrev pub invariant-slots : goal.invariant-slots
 invariant-slots g l =
     let reaches = g.G.Gauge.reaches in
     let count = g.G.Gauge.count in
+    let canvas = g.C.Canvas in
     let covers = λ (s : Segment). reaches l.fn.gauge s l.scene.page l.scene.dots in
     let inside = λ (s : Segment). in_box s l.scene.page l.scene.dots in
     let band = band_of l.scene.pens l.scene.page l.scene.dots l.scene.first_row l.scene.band_rows (length l.heads) l.scene.strokes.now in
     let goes = goes_on l.scene.page l.scene.dots l.scene.first_row l.scene.band_rows l.scene.strokes.now in
+    let painted = take (l.slot - 1) l.scene.strokes.now in
     record {
       lesser : l.slot ≡ min l.old l.new;
       ahead : Ahead (length l.scene.strokes.now) band goes l.band l.fn.links l.links l.old l.new (min l.old l.new);
       kept : Kept (length l.scene.strokes.now) band goes l.band l.links l.tail (min l.old l.new);
-      painted : IsPainted covers l.scene.pens (take (l.slot - 1) l.scene.strokes.now) l.first (columns_of l.scene.page l.scene.dots) l.cells;
+      sound : canvas.is_sound l.canvas;
+      height : canvas.height l.canvas ≡ l.rows;
+      width : canvas.width l.canvas ≡ width_of l.scene;
+      shows : Shows (canvas.pixel l.canvas) canvas.mark covers l.scene.pens painted l.first l.rows (width_of l.scene);
       same : reaches l.gauge ≡ reaches l.fn.gauge;
-      least : min (count l.fn.gauge + marked l.cells) MOST_TESTS ≤ count l.gauge;
-      most : count l.gauge ≤ count l.fn.gauge + boxes inside (selected l.scene.pens (take (l.slot - 1) l.scene.strokes.now)) l.first l.rows (columns_of l.scene.page l.scene.dots);
-      spanned : Spanned (columns_of l.scene.page l.scene.dots) l.spans l.cells;
+      least : min (count l.fn.gauge + boxes covers (selected l.scene.pens painted) l.first l.rows (width_of l.scene)) MOST_TESTS ≤ count l.gauge;
+      most : count l.gauge ≤ count l.fn.gauge + boxes inside (selected l.scene.pens painted) l.first l.rows (width_of l.scene);
       grows : count l.fn.gauge ≤ count l.gauge;
     }
 
