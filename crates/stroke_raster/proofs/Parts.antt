@@ -4,12 +4,14 @@ use Rattle.std.proofs.lemmas.Bool.{cases_eq, cases_lt}
 use Rattle.std.proofs.lemmas.Bool.Decides.{nat_tests}
 use Rattle.std.proofs.lemmas.Nat.{mul-le}
 use borrow.Rule.Slice.PartMut.{put_mid, mid_of}
+use Rattle.plot_page.specs.declared.page.Page.{Page}
+use Rattle.plot_page.specs.declared.dots.Dots.{Dots}
 use Rattle.stroke_raster.specs.declared.strip.Span.{Span}
 use Rattle.stroke_raster.specs.declared.layout.Layout.{Layout}
 use Rattle.stroke_raster.specs.Inks.{ink, ink_at, AreReached, IsInked, IsReached}
-use Rattle.stroke_raster.specs.Parts.{ArePartInked}
+use Rattle.stroke_raster.specs.Parts.{ArePartInked, IsPart}
 use Rattle.stroke_raster.proofs.Inks.{ink_as, ink_here, ink_same, lt_of}
-use Rattle.stroke_raster.proofs.Middle.{mid_below, mid_at, mid_old}
+use Rattle.stroke_raster.proofs.Middle.{mid_below, mid_at, mid_length, mid_old}
 
 le_is : (a b : ℕ) → a ≤ b → nat_le a b ≡ true
 le_is a b h = grind (arith, nat_tests)
@@ -38,7 +40,7 @@ row_beside row n ne = elim (cases_lt n row) [
 ]
 
 -- one row inked
-pub row_inked : (reached : ℕ → ℕ → Bool) (layout : Layout) (row from many A K : ℕ) (bits line : List ℕ)
+row_inked : (reached : ℕ → ℕ → Bool) (layout : Layout) (row from many A K : ℕ) (bits line : List ℕ)
     → layout.first ≤ row → row < layout.first + layout.rows → from + many ≤ 8 * layout.stride → length bits ≡ layout.rows * layout.stride → A ≡ (row - layout.first) * layout.stride → K ≡ length bits - A → length line ≡ K
     → IsReached (reached row) from many (mid_of A K bits) line
     → ArePartInked reached layout (record { low = row; end = row + 1 }) (record { low = from; end = from + many }) bits (put_mid A K bits line)
@@ -115,7 +117,7 @@ none_inked reached layout row columns bits r k u v = elim (cases_lt (layout.firs
 ]
 
 -- two parts of which the second begins where the first one ends
-pub parts_joined : (reached : ℕ → ℕ → Bool) (layout : Layout) (low mid end : ℕ) (columns : Span) (old between new : List ℕ) → low ≤ mid → mid ≤ end
+parts_joined : (reached : ℕ → ℕ → Bool) (layout : Layout) (low mid end : ℕ) (columns : Span) (old between new : List ℕ) → low ≤ mid → mid ≤ end
     → ArePartInked reached layout (record { low = low; end = mid }) columns old between → ArePartInked reached layout (record { low = mid; end = end }) columns between new
     → ArePartInked reached layout (record { low = low; end = end }) columns old new
 parts_joined reached layout low mid end columns old between new from to p q r k u v = elim (cases_lt (layout.first + r) mid) [
@@ -132,6 +134,25 @@ parts_joined reached layout low mid end columns old between new from to p q r k 
       let y = rw a at (q r k u v) in
       rw c (y ∙ ap (λ (n : ℕ). cond (nat_lt (layout.first + r) end && (nat_le columns.low k && nat_lt k columns.end && reached (layout.first + r) k)) 1 n) x))
 ]
+
+-- a row of a part lies in the band
+pub row_fits : (page : Page) (dots : Dots) (layout : Layout) (part columns : Span) (row n : ℕ) → IsPart page dots layout part columns → part.low ≤ row → row < part.end → n ≡ layout.rows * layout.stride
+    → (row - layout.first) * layout.stride + layout.stride ≤ n
+row_fits page dots layout part columns row n p low high len =
+    let m : (row - layout.first + 1) * layout.stride ≤ layout.rows * layout.stride = mul-le (row - layout.first + 1) layout.stride layout.rows layout.stride (omega (arith, low, high, p.from, p.to)) (omega arith) in
+    omega (arith, m, len)
+
+-- one row more of a part inked
+pub row_added : (page : Page) (dots : Dots) (reached : ℕ → ℕ → Bool) (layout : Layout) (part columns : Span) (row A K : ℕ) (old bits line : List ℕ)
+    → IsPart page dots layout part columns → part.low ≤ row → row < part.end → length bits ≡ layout.rows * layout.stride → A ≡ (row - layout.first) * layout.stride → K ≡ length bits - A
+    → ArePartInked reached layout (record { low = part.low; end = row }) columns old bits → IsReached (reached row) columns.low (columns.end - columns.low) (mid_of A K bits) line
+    → ArePartInked reached layout (record { low = part.low; end = row + 1 }) columns old (put_mid A K bits line)
+row_added page dots reached layout part columns row A K old bits line p low high len eA eK before new =
+    let fits = row_fits page dots layout part columns row (length bits) p low high len in
+    let all : columns.low + (columns.end - columns.low) ≡ columns.end = omega (arith, p.columns_order) in
+    let long = mid_length A K bits (omega (arith, fits, eA, eK)) in
+    let one = row_inked reached layout row columns.low (columns.end - columns.low) A K bits line (omega (arith, low, p.from)) (omega (arith, high, p.to)) (omega (arith, all, p.line_in)) len eA eK (new.length ∙ long) new in
+    parts_joined reached layout part.low row (row + 1) columns old bits (put_mid A K bits line) low (omega arith) before (rw all at one)
 
 -- the pixels of one row more
 pub row_more : (low row n : ℕ) → low ≤ row → (row + 1 - low) * n ≡ (row - low) * n + n

@@ -10,17 +10,9 @@ use Rattle.plot_page.specs.declared.dots.Dots.{Dots}
 use Rattle.stroke_raster.specs.Tests.{reached, reached_pixels, MOST_TESTS}
 use Rattle.stroke_raster.proofs.Reached.{reached_more}
 
-one_if : (b : Bool) (n : ℕ) → n ≡ cond b 1 0 → (b ≡ true → n ≡ 1) × (b ≡ false → n ≡ 0)
-one_if true n e = (λ h. e, λ h. cc h)
-one_if false n e = (λ h. cc h, λ h. e)
-
 -- one more column
-column_more : (p : ℕ → Bool) (from n : ℕ) → (p (from + n) ≡ true → reached p from (suc n) ≡ reached p from n + 1) × (p (from + n) ≡ false → reached p from (suc n) ≡ reached p from n)
-column_more p from n =
-    let z : n + 1 ≡ suc n = omega arith in
-    let r : reached p from (suc n) ≡ reached p from n + cond (p (from + n)) 1 0 = ap (λ (k : ℕ). reached p from k) (sym z) ∙ reached_more p from n in
-    let o = one_if (p (from + n)) (cond (p (from + n)) 1 0) refl in
-    (λ h. let x = o.0 h in omega (arith, r, x), λ h. let x = o.1 h in omega (arith, r, x))
+column_more : (p : ℕ → Bool) (from n : ℕ) → reached p from (suc n) ≡ reached p from n + cond (p (from + n)) 1 0
+column_more p from n = let z : n + 1 ≡ suc n = omega arith in ap (λ (k : ℕ). reached p from k) (sym z) ∙ reached_more p from n
 
 -- fewer columns, fewer pixels
 columns_up : (p : ℕ → Bool) (from n k : ℕ) → reached p from n ≤ reached p from (n + k)
@@ -29,10 +21,7 @@ columns_up p from n (suc k) =
     let i = columns_up p from n k in
     let z : n + suc k ≡ suc (n + k) = omega arith in
     let m = column_more p from (n + k) in
-    rw z (elim (cases_Bool (p (from + (n + k)))) [
-      | inl t ↦ (let x = m.0 t in omega (arith, i, x))
-      | inr f ↦ (let x = m.1 f in omega (arith, i, x))
-    ])
+    rw z (omega (arith, i, m))
 
 columns_fewer : (p : ℕ → Bool) (from n m : ℕ) → n ≤ m → reached p from n ≤ reached p from m
 columns_fewer p from n m h =
@@ -47,17 +36,18 @@ span_has p from upto (suc n) h =
     let i = span_has p from upto n (λ c u. h c (omega (arith, u))) in
     let m = column_more p 0 n in
     let y : 0 + n ≡ n = omega arith in
-    let m' : (p n ≡ true → reached p 0 (suc n) ≡ reached p 0 n + 1) × (p n ≡ false → reached p 0 (suc n) ≡ reached p 0 n) = rw y at m in
+    let m' : reached p 0 (suc n) ≡ reached p 0 n + cond (p n) 1 0 = rw y at m in
     elim (cases_Bool (p n)) [
       | inl t ↦ (let b = h n (omega arith) t in
-          let x = m'.0 t in
+          let x : reached p 0 (suc n) ≡ reached p 0 n + 1 = rw t at m' in
           let z : from + (n - from) ≡ n = omega (arith, b.0) in
-          let k = (column_more p from (n - from)).0 (rw z t) in
+          let w = column_more p from (n - from) in
+          let k : reached p from (suc (n - from)) ≡ reached p from (n - from) + 1 = rw (z, t) at w in
           let e : min n upto - from ≡ n - from = omega (arith, b.1) in
           let e' : min (suc n) upto - from ≡ suc (n - from) = omega (arith, b.0, b.1) in
           let i' : reached p 0 n ≤ reached p from (n - from) = rw e at i in
           rw e' (omega (arith, i', x, k)))
-      | inr f ↦ (let x = m'.1 f in
+      | inr f ↦ (let x : reached p 0 (suc n) ≡ reached p 0 n + 0 = rw f at m' in
           let k = columns_fewer p from (min n upto - from) (min (suc n) upto - from) (omega arith) in
           omega (arith, i, x, k))
     ]
@@ -75,21 +65,20 @@ row_reached p first n from m =
     sym (sum-map (λ row. reached (p row) from m) (range_with_len first (n + 1))) ∙ e
     ∙ ap (λ (k : ℕ). k + reached (p (first + n)) from m) (sum-map (λ row. reached (p row) from m) (range_with_len first n))
 
+next_row : (p : ℕ → ℕ → Bool) (first n from m : ℕ) → reached_pixels p first (suc n) from m ≡ reached_pixels p first n from m + reached (p (first + n)) from m
+next_row p first n from m = let z : n + 1 ≡ suc n = omega arith in ap (λ (k : ℕ). reached_pixels p first k from m) (sym z) ∙ row_reached p first n from m
+
 -- rows in two runs
 pub runs_reached : (p : ℕ → ℕ → Bool) (first n k from m : ℕ) → reached_pixels p first (n + k) from m ≡ reached_pixels p first n from m + reached_pixels p (first + n) k from m
 runs_reached p first n zero from m = let z : n ≡ n + 0 = omega arith in rw (← z) (omega arith)
 runs_reached p first n (suc k) from m =
     let i = runs_reached p first n k from m in
-    let a = row_reached p first (n + k) from m in
-    let b = row_reached p (first + n) k from m in
-    let y : (n + k) + 1 ≡ n + suc k = omega arith in
-    let z : k + 1 ≡ suc k = omega arith in
+    let y : n + suc k ≡ suc (n + k) = omega arith in
     let r : first + (n + k) ≡ first + n + k = omega arith in
-    let a' : reached_pixels p first (n + suc k) from m ≡ reached_pixels p first (n + k) from m + reached (p (first + n + k)) from m =
-    ap (λ (j : ℕ). reached_pixels p first j from m) (sym y) ∙ a ∙ ap (λ (j : ℕ). reached_pixels p first (n + k) from m + reached (p j) from m) r in
-    let b' : reached_pixels p (first + n) (suc k) from m ≡ reached_pixels p (first + n) k from m + reached (p (first + n + k)) from m =
-    ap (λ (j : ℕ). reached_pixels p (first + n) j from m) (sym z) ∙ b in
-    omega (arith, i, a', b')
+    let a = next_row p first (n + k) from m in
+    let b = next_row p (first + n) k from m in
+    let a' : reached_pixels p first (suc (n + k)) from m ≡ reached_pixels p first (n + k) from m + reached (p (first + n + k)) from m = rw r at a in
+    rw y (omega (arith, i, a', b))
 
 -- no row, one row more, and two parts of which the second begins where the first one ends
 pub none_counted : (p : ℕ → ℕ → Bool) (row from m : ℕ) → reached_pixels p row (row - row) from m ≡ 0
@@ -114,8 +103,7 @@ part_has : (p : ℕ → ℕ → Bool) (first low end from upto columns n : ℕ) 
 part_has p first low end from upto columns zero above order h = omega arith
 part_has p first low end from upto columns (suc n) above order h =
     let i = part_has p first low end from upto columns n above order (λ r c u. h r c (omega (arith, u))) in
-    let z : n + 1 ≡ suc n = omega arith in
-    let m : reached_pixels p first (suc n) 0 columns ≡ reached_pixels p first n 0 columns + reached (p (first + n)) 0 columns = ap (λ (k : ℕ). reached_pixels p first k 0 columns) (sym z) ∙ row_reached p first n 0 columns in
+    let m = next_row p first n 0 columns in
     elim (cases_lt (first + n) low) [
       | inl l ↦ (let s = span_has_all (p (first + n)) 0 0 columns (λ c u t. let b = h n c (omega arith) u t in absurd (omega (arith, b.0, l))) in
           let none : reached (p (first + n)) 0 columns ≡ 0 = omega (arith, s) in
@@ -158,16 +146,15 @@ columns_most p from (suc n) =
     let i = columns_most p from n in
     let m = column_more p from n in
     elim (cases_Bool (p (from + n))) [
-      | inl t ↦ (let x = m.0 t in omega (arith, i, x))
-      | inr f ↦ (let x = m.1 f in omega (arith, i, x))
+      | inl t ↦ (let x = rw t at m in omega (arith, i, x))
+      | inr f ↦ (let x = rw f at m in omega (arith, i, x))
     ]
 
 pub reached_most : (p : ℕ → ℕ → Bool) (first n from m : ℕ) → reached_pixels p first n from m ≤ n * m
 reached_most p first zero from m = omega arith
 reached_most p first (suc n) from m =
     let i = reached_most p first n from m in
-    let z : n + 1 ≡ suc n = omega arith in
-    let r : reached_pixels p first (suc n) from m ≡ reached_pixels p first n from m + reached (p (first + n)) from m = ap (λ (k : ℕ). reached_pixels p first k from m) (sym z) ∙ row_reached p first n from m in
+    let r = next_row p first n from m in
     let c = columns_most (p (first + n)) from m in
     let e : suc n * m ≡ n * m + m = omega arith in
     omega (arith, i, r, c, e)

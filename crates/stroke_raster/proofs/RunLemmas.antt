@@ -252,22 +252,26 @@ unmet_after t start i j k u v n h = elim (cases_Bool (is_met t start i)) [
   | inr e ↦ e
 ]
 
--- in the window a pixel is covered if and only if the way to it from the first end is near the stroke
-pub covered_is_met : (t : Trace) (page : Page) (row from i : ℕ) (start : Vector)
-    → start ≡ way (scaled (pos t.dots.resolution) (first_end t.stroke.now)) (centre page.height t.dots.resolution row from)
-    → in_box t.stroke.now page t.dots row (from + i) ≡ true → covers t.stroke.now page t.dots row (from + i) ≡ is_met t start i
-covered_is_met t page row from i start es b =
-    let r = t.dots.resolution in
-    let s = t.stroke.now in
+-- in the box a pixel is covered if and only if the way to it from the first end is near the course
+pub covered_is_gap_met : (s : Segment) (page : Page) (dots : Dots) (row from i : ℕ) (course start : Vector)
+    → course ≡ way (first_end s) (last_end s) → start ≡ way (scaled (pos dots.resolution) (first_end s)) (centre page.height dots.resolution row from)
+    → in_box s page dots row (from + i) ≡ true → covers s page dots row (from + i) ≡ gap_met (scaled (pos dots.resolution) course) (rightward start i) (drawn_width s.width dots.resolution)
+covered_is_gap_met s page dots row from i course start ec es b =
+    let r = dots.resolution in
     let p = centre page.height r row (from + i) in
     let o = scaled (pos r) (first_end s) in
     let d = drawn_width s.width r in
     let w = and_parts (in_window s.window r p) _ b in
     let x : (way o p).x ≡ (way o (centre page.height r row from)).x +ℤ pos (16256 * i) = omega (arith, ints) in
     let m : way o p ≡ rightward (way o (centre page.height r row from)) i = ap (λ (z : ℤ). point z (way o p).y) x in
-    let n : way o (scaled (pos r) (last_end s)) ≡ scaled (pos r) t.course = way-scaled (pos r) (first_end s) (last_end s) ∙ ap (λ (z : Vector). scaled (pos r) z) (sym t.sound.course_is) in
-    let g : is_gap_met s r p ≡ is_met t start i = ap₂ (λ (a z : Vector). gap_met a z d) n (m ∙ ap (λ (z : Vector). rightward z i) (sym es)) in
+    let n : way o (scaled (pos r) (last_end s)) ≡ scaled (pos r) course = way-scaled (pos r) (first_end s) (last_end s) ∙ ap (λ (z : Vector). scaled (pos r) z) (sym ec) in
+    let g : is_gap_met s r p ≡ gap_met (scaled (pos r) course) (rightward start i) d = ap₂ (λ (a z : Vector). gap_met a z d) n (m ∙ ap (λ (z : Vector). rightward z i) (sym es)) in
     rw (w.0) g
+
+pub covered_is_met : (t : Trace) (page : Page) (row from i : ℕ) (start : Vector)
+    → start ≡ way (scaled (pos t.dots.resolution) (first_end t.stroke.now)) (centre page.height t.dots.resolution row from)
+    → in_box t.stroke.now page t.dots row (from + i) ≡ true → covers t.stroke.now page t.dots row (from + i) ≡ is_met t start i
+covered_is_met t page row from i start es b = covered_is_gap_met t.stroke.now page t.dots row from i t.course start t.sound.course_is es b
 
 -- a place in the window is covered if and only if the way to it from the first end is near the stroke
 pub near_place : (t : Trace) (s : Segment) (dots : Dots) (p : Vector) → t.stroke.now ≡ s → t.dots ≡ dots → in_window s.window dots.resolution p ≡ true

@@ -1,5 +1,5 @@
 -- The scan of a small box: the mask of a row, and what its inking leaves.
-use Rattle.std.proofs.Common.{◌≡◌, ℕ, suc, ◌+◌, ◌-◌, ◌*◌, ◌/◌, ◌%◌, ◌^◌, ◌<◌, ◌≤◌, inl, inr, refl, sym, ap, ap₂, ◌∙◌, arith, ℤ, pos, ◌+ℤ◌, ◌-ℤ◌, ◌*ℤ◌, nat_abs, Bool, true, false, cond, max, List, int_le}
+use Rattle.std.proofs.Common.{◌≡◌, ℕ, suc, ◌+◌, ◌-◌, ◌*◌, ◌/◌, ◌%◌, ◌^◌, ◌<◌, ◌≤◌, inl, inr, refl, sym, ap, ◌∙◌, arith, ℤ, pos, ◌+ℤ◌, ◌-ℤ◌, ◌*ℤ◌, nat_abs, Bool, true, false, cond, max, List, int_le}
 use Rattle.std.specs.Int.{bit_at, from_bool, int_max, int_min}
 use Rattle.std.proofs.lemmas.Int.{ints, clamps, unsigned_abs-mul}
 use Rattle.std.proofs.lemmas.Bool.{cases_lt, and_parts}
@@ -14,14 +14,13 @@ use Rattle.stroke_raster.specs.declared.short.Short.{Short}
 use Rattle.stroke_raster.specs.declared.vector.Vector.{Vector}
 use Rattle.stroke_raster.specs.Bounds.{Within}
 use Rattle.stroke_raster.specs.Boxes.{in_box, widened}
-use Rattle.stroke_raster.specs.Covers.{centre, covers, drawn_width, first_end, in_window, is_gap_met, last_end}
-use Rattle.stroke_raster.specs.Gap.{way, scaled, gap_met}
+use Rattle.stroke_raster.specs.Covers.{centre, covers, drawn_width, first_end, in_window, last_end}
+use Rattle.stroke_raster.specs.Gap.{way, scaled}
 use Rattle.stroke_raster.specs.Inks.{ink, AreMaskInked, IsReached}
 use Rattle.stroke_raster.specs.ShortNumbers.{IsShort, sides}
 use Rattle.stroke_raster.specs.Shorts.{AreMasked, is_short_met}
 use Rattle.stroke_raster.specs.Traces.{rightward}
-use Rattle.stroke_raster.proofs.RunLemmas.{point}
-use Rattle.stroke_raster.proofs.Scaling.{way-scaled}
+use Rattle.stroke_raster.proofs.RunLemmas.{covered_is_gap_met}
 
 -- one pixel more in a mask
 mask_bits : (short : Short) (start : Vector) (i m b : ℕ) → b ≡ cond (is_short_met short (rightward start i)) 1 0 → b < 2 → AreMasked short start i m → AreMasked short start (i + 1) (2 * m + b)
@@ -52,23 +51,12 @@ mask_step short start i m t e fit h =
     let b : from_bool t ≡ cond (is_short_met short (rightward start i)) 1 0 = truth_bit t ∙ ap (λ (z : Bool). cond z 1 0) e in
     (omega (arith, p, fit, small), mask_bits short start i m (from_bool t) b small h)
 
--- in the box a pixel is covered if and only if the way to it from the first end is near the stroke
+-- in the box a pixel is covered if and only if the way to it from the first end is near the short stroke
 pub covered_is_short_met : (short : Short) (s : Segment) (page : Page) (dots : Dots) (row from i : ℕ) (start : Vector)
     → short.course ≡ way (first_end s) (last_end s) → short.resolution ≡ dots.resolution → short.width ≡ drawn_width s.width dots.resolution
     → start ≡ way (scaled (pos dots.resolution) (first_end s)) (centre page.height dots.resolution row from)
     → in_box s page dots row (from + i) ≡ true → covers s page dots row (from + i) ≡ is_short_met short (rightward start i)
-covered_is_short_met short s page dots row from i start ec er ed es b =
-    let r = dots.resolution in
-    let p = centre page.height r row (from + i) in
-    let o = scaled (pos r) (first_end s) in
-    let w = and_parts (in_window s.window r p) _ b in
-    let x : (way o p).x ≡ (way o (centre page.height r row from)).x +ℤ pos (16256 * i) = omega (arith, ints) in
-    let m : way o p ≡ rightward (way o (centre page.height r row from)) i = ap (λ (z : ℤ). point z (way o p).y) x in
-    let n : way o (scaled (pos r) (last_end s)) ≡ scaled (pos r) (way (first_end s) (last_end s)) = way-scaled (pos r) (first_end s) (last_end s) in
-    let g : is_gap_met s r p ≡ gap_met (scaled (pos r) (way (first_end s) (last_end s))) (rightward start i) (drawn_width s.width r) =
-    ap₂ (λ (a z : Vector). gap_met a z (drawn_width s.width r)) n (m ∙ ap (λ (z : Vector). rightward z i) (sym es)) in
-    let h : is_short_met short (rightward start i) ≡ gap_met (scaled (pos r) (way (first_end s) (last_end s))) (rightward start i) (drawn_width s.width r) = rw (ec, er, ed) refl in
-    rw (w.0) (g ∙ sym h)
+covered_is_short_met short s page dots row from i start ec er ed es b = rw (er, ed) (covered_is_gap_met s page dots row from i short.course start ec es b)
 
 -- a coordinate of the way to a place in the box of a short stroke
 axis_small : (a b p : ℤ) (r d n : ℕ) → widened (pos r *ℤ a) (pos r *ℤ b) d p ≡ true → nat_abs (b -ℤ a) ≤ n → r * n ≤ 262144 → d ≤ 262144 → nat_abs (p -ℤ pos r *ℤ a) ≤ 393216

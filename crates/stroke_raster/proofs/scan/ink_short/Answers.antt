@@ -1,5 +1,4 @@
-use Rattle.std.proofs.Common.{◌≡◌, ℕ, ◌+◌, ◌-◌, ◌*◌, ◌^◌, ◌<◌, ◌≤◌, length, pos, refl, ap, ap₂, ◌∙◌, arith}
-use Rattle.std.proofs.lemmas.Nat.{mul-le}
+use Rattle.std.proofs.Common.{◌≡◌, ℕ, ◌+◌, ◌-◌, ◌^◌, ◌<◌, pos, refl, ap, ap₂, ◌∙◌, arith}
 use Rattle.plot_page.specs.Segments.{Segment}
 use Rattle.plot_page.specs.declared.page.Page.{Page}
 use Rattle.plot_page.specs.declared.dots.Dots.{Dots}
@@ -8,8 +7,7 @@ use Rattle.stroke_raster.specs.Bounds.{Within}
 use Rattle.stroke_raster.specs.Covers.{centre, covers, first_end}
 use Rattle.stroke_raster.specs.Gap.{scaled, way}
 use Rattle.stroke_raster.proofs.BoundLemmas.{scaled_within, way_within}
-use Rattle.stroke_raster.proofs.Middle.{mid_length}
-use Rattle.stroke_raster.proofs.Parts.{parts_joined, row_inked}
+use Rattle.stroke_raster.proofs.Parts.{row_added}
 use Rattle.stroke_raster.proofs.ScanLemmas.{covered_is_short_met, mask_reached, short_way_within}
 use Rattle.stroke_raster.proofs.scan.ink_short.Goals as goal
 
@@ -43,13 +41,6 @@ returns-clause-bits c =
 pub loop-row-preserved : goal.loop-row-preserved
 loop-row-preserved c =
     let covered = λ (r k : ℕ). covers c.args.stroke.now c.args.page.now c.args.dots r k in
-    let low : c.args.layout.first ≤ c.loop-row.row = omega (arith, c.loop-row.auto.row, c.requires.part.from) in
-    let tall : c.loop-row.row < c.args.layout.first + c.args.layout.rows = omega (arith, c.loop-row-test.true, c.requires.part.to) in
-    let p : (c.loop-row.row - c.args.layout.first + 1) * c.args.layout.stride ≤ c.args.layout.rows * c.args.layout.stride = mul-le (c.loop-row.row - c.args.layout.first + 1) c.args.layout.stride c.args.layout.rows c.args.layout.stride (omega (arith, low, tall)) (omega arith) in
-    let len : length c.loop-row.bits ≡ c.args.layout.rows * c.args.layout.stride = c.loop-row.auto.bits ∙ c.requires.size in
-    let at : ℕ = (c.loop-row.row - c.args.layout.first) * c.args.layout.stride in
-    let lm = mid_length at (length c.loop-row.bits - at) c.loop-row.bits (omega (arith, p, len)) in
-    let many : c.args.columns.low + (c.args.columns.end - c.args.columns.low) ≡ c.args.columns.end = omega (arith, c.requires.part.columns_order) in
     let short = c.short_of-short.ensures in
     let start = start_is c.args.stroke.now c.args.page.now c.args.dots c.loop-row.row c.args.columns.low c.way_between-start.result c.times-first.result c.first_end_of.result c.centre_of.result
     c.way_between-start.ensures c.times-first.ensures c.first_end_of.ensures.value c.centre_of.ensures.value in
@@ -58,8 +49,7 @@ loop-row-preserved c =
     (c.requires.boxed c.loop-row.row (c.args.columns.low + i) c.loop-row.auto.row c.loop-row-test.true (omega arith) (omega (arith, u))) in
     let reached = mask_reached c.short_of-short.result c.way_between-start.result (covered c.loop-row.row) c.args.columns.low (c.args.columns.end - c.args.columns.low) c.mask_of-mask.result _ c.ink_mask.new.line
     same c.mask_of-mask.ensures.bits c.ink_mask.ensures in
-    let line = row_inked covered c.args.layout c.loop-row.row c.args.columns.low (c.args.columns.end - c.args.columns.low) at (length c.loop-row.bits - at) c.loop-row.bits c.ink_mask.new.line
-    low tall (omega (arith, many, c.requires.part.line_in)) len refl refl (reached.length ∙ lm) reached in
     record {
-      inked = parts_joined covered c.args.layout c.args.part.low c.loop-row.row (c.loop-row.row + 1) c.args.columns c.args.bits.now c.loop-row.bits _ c.loop-row.auto.row (omega arith) c.loop-row.invariant.inked (rw many at line);
+      inked = row_added c.args.page.now c.args.dots covered c.args.layout c.args.part c.args.columns c.loop-row.row _ _ c.args.bits.now c.loop-row.bits c.ink_mask.new.line
+          c.requires.part c.loop-row.auto.row c.loop-row-test.true (c.loop-row.auto.bits ∙ c.requires.size) refl refl c.loop-row.invariant.inked reached;
     }

@@ -19,21 +19,32 @@ short : (c : goal.After-saturating_sub) → (sides c.way_between-course.result �
 short c = (rw (course c) c.requires.course, rw (course c) c.requires.pixels)
 
 -- its squared length
-squared : (c : goal.After-saturating_sub) → (c.squared_length-squared.result ≡ pos (size c.way_between-course.result)) × (nat_abs c.squared_length-squared.result ≤ 4194304)
+squared : (c : goal.After-saturating_sub) → nat_abs c.squared_length-squared.result ≤ 4194304
 squared c =
-    let e = c.squared_length-squared.ensures.value ∙ size_is c.way_between-course.result in
     let s = size_small c.way_between-course.result (short c).0 in
-    (e, rw e s)
+    rw (c.squared_length-squared.ensures.value ∙ size_is c.way_between-course.result) s
+
+-- the width
+width : (c : goal.After-saturating_sub) → c.drawn_width_of-width.result ≤ 262144
+width c = rw c.drawn_width_of-width.ensures.value c.requires.width
+
+-- the dot product of the course with the way to its end, doubled, less 1
+past : (c : goal.After-saturating_sub) → c.saturating_sub.result ≡ 2 * (c.args.dots.resolution * nat_abs (dot c.way_between-course.result c.way_between-course.result)) - 1
+past c =
+    let v = c.way_between-course.result in
+    let f : FitsSigned w64 c.squared_length-squared.result = search rules in
+    let n : c.unsigned_abs.result ≡ nat_abs (dot v v) = (simp to_z-of_z at c.unsigned_abs.ensures.value) ∙ ap nat_abs c.squared_length-squared.ensures.value in
+    let e : c.saturating_sub.result ≡ 2 * c.args.dots.resolution * nat_abs (dot v v) - 1 = rw (c.from-3.ensures, n) at c.saturating_sub.ensures in
+    omega (arith, e)
 
 pub overflow_cast-result : goal.overflow_cast-result
 overflow_cast-result c =
     let v = c.way_between-course.result in
-    let q = squared c in
-    let f : FitsSigned w64 c.squared_length-squared.result = search rules in
-    let n : c.unsigned_abs.result ≡ size v = (simp to_z-of_z at c.unsigned_abs.ensures.value) ∙ ap nat_abs q.0 in
+    let e = past c in
+    let n : nat_abs (dot v v) ≡ size v = ap nat_abs (size_is v) in
     let l = along_small v c.args.dots.resolution (short c).0 (short c).1 in
-    let e : c.saturating_sub.result ≡ 2 * c.args.dots.resolution * size v - 1 = rw (c.from-3.ensures, n) at c.saturating_sub.ensures in
-    omega (arith, e, l)
+    let k : c.saturating_sub.result ≡ 2 * (c.args.dots.resolution * size v) - 1 = rw n at e in
+    omega (arith, k, l)
 
 -- the squares fit
 fits : (d : ℕ) (a b z : ℤ) → a ≡ pos d → b ≡ pos d → d ≤ 262144 → nat_abs z ≤ 4194304 → FitsSigned w64 (a *ℤ b) × FitsSigned w64 ((a *ℤ b) *ℤ z)
@@ -44,40 +55,36 @@ fits d a b z ea eb h k =
     let q = product_within (a *ℤ b) z 68719476736 4194304 p k in
     (omega (arith, ints, p), omega (arith, ints, q))
 
+products : (c : goal.After-saturating_sub) → FitsSigned w64 (c.from.result *ℤ c.from-2.result) × FitsSigned w64 ((c.from.result *ℤ c.from-2.result) *ℤ c.squared_length-squared.result)
+products c = fits c.drawn_width_of-width.result c.from.result c.from-2.result c.squared_length-squared.result c.from.ensures c.from-2.ensures (width c) (squared c)
+
 pub overflow_mul-result : goal.overflow_mul-result
 overflow_mul-result c =
-    let q = squared c in
     let f : FitsSigned w64 c.squared_length-squared.result = search rules in
     let fa : FitsSigned w64 c.from.result = search rules in
     let fb : FitsSigned w64 c.from-2.result = search rules in
-    let d : c.drawn_width_of-width.result ≤ 262144 = rw c.drawn_width_of-width.ensures.value c.requires.width in
-    let t = fits c.drawn_width_of-width.result c.from.result c.from-2.result c.squared_length-squared.result c.from.ensures c.from-2.ensures d q.1 in
+    let t = products c in
     let u = t.0 in
     simp to_z-of_z t.1
 
 pub invariant_of-result : goal.invariant_of-result
 invariant_of-result c =
     let v = c.way_between-course.result in
-    let q = squared c in
     let f : FitsSigned w64 c.squared_length-squared.result = search rules in
     let fa : FitsSigned w64 c.from.result = search rules in
     let fb : FitsSigned w64 c.from-2.result = search rules in
-    let d : c.drawn_width_of-width.result ≤ 262144 = rw c.drawn_width_of-width.ensures.value c.requires.width in
-    let t = fits c.drawn_width_of-width.result c.from.result c.from-2.result c.squared_length-squared.result c.from.ensures c.from-2.ensures d q.1 in
+    let t = products c in
     let u = t.0 in
     let w = t.1 in
-    let n : c.unsigned_abs.result ≡ nat_abs (dot v v) = (simp to_z-of_z at c.unsigned_abs.ensures.value) ∙ ap nat_abs c.squared_length-squared.ensures.value in
-    let e : c.saturating_sub.result ≡ 2 * c.args.dots.resolution * nat_abs (dot v v) - 1 = rw (c.from-3.ensures, n) at c.saturating_sub.ensures in
-    let past : c.saturating_sub.result ≡ 2 * (c.args.dots.resolution * nat_abs (dot v v)) - 1 = omega (arith, e) in
     let reach : c.from.result *ℤ c.from-2.result ≡ pos (c.drawn_width_of-width.result * c.drawn_width_of-width.result) = rw (c.from.ensures, c.from-2.ensures) refl in
     let limit : (c.from.result *ℤ c.from-2.result) *ℤ c.squared_length-squared.result ≡ pos (c.drawn_width_of-width.result * c.drawn_width_of-width.result) *ℤ dot v v =
     ap₂ ◌*ℤ◌ reach c.squared_length-squared.ensures.value in
     record {
       sound = record {
         some = omega (arith, c.args.dots.at_least);
-        short = record { course = (short c).0; pixels = (short c).1; width = d };
+        short = record { course = (short c).0; pixels = (short c).1; width = width c };
         last_is = c.doubled.ensures ∙ ap (λ (z : Vector). scaled (pos 2) z) c.times.ensures;
-        past_is = past;
+        past_is = past c;
         reach_is = simp to_z-of_z reach;
         limit_is = simp to_z-of_z limit;
       };

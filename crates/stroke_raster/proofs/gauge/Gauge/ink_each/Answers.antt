@@ -1,8 +1,7 @@
-use Rattle.std.proofs.Common.{◌≡◌, ℕ, ◌+◌, ◌-◌, ◌*◌, ◌<◌, ◌≤◌, length, refl, ◌∙◌, arith}
-use Rattle.std.proofs.lemmas.Nat.{mul-le}
+use Rattle.std.proofs.Common.{◌≡◌, ℕ, ◌+◌, ◌-◌, ◌*◌, length, refl, ◌∙◌, arith}
 use Rattle.stroke_raster.specs.Inks.{IsReached}
 use Rattle.stroke_raster.proofs.Middle.{mid_length}
-use Rattle.stroke_raster.proofs.Parts.{none_inked, parts_joined, row_inked, row_more}
+use Rattle.stroke_raster.proofs.Parts.{none_inked, row_added, row_fits, row_more}
 use Rattle.stroke_raster.proofs.ReachedRows.{least_joined, none_counted, row_counted}
 use Rattle.stroke_raster.proofs.gauge.Gauge.ink_each.Goals as goal
 
@@ -35,19 +34,15 @@ returns-clause-most g c =
 
 pub slice_bounds-line-end : goal.slice_bounds-line-end
 slice_bounds-line-end g c =
-    let tall : c.loop-row.row - c.args.layout.first < c.args.layout.rows = omega (arith, c.loop-row.auto.row, c.loop-row-test.true, c.requires.part.from, c.requires.part.to) in
-    let p : (c.loop-row.row - c.args.layout.first + 1) * c.args.layout.stride ≤ c.args.layout.rows * c.args.layout.stride = mul-le (c.loop-row.row - c.args.layout.first + 1) c.args.layout.stride c.args.layout.rows c.args.layout.stride (omega (arith, tall)) (omega arith) in
-    let len : length c.loop-row.bits ≡ length c.args.bits.now = c.loop-row.auto.bits in
-    omega (arith, p, len, c.requires.size)
+    let fits = row_fits c.args.page.now c.args.trace.now.dots c.args.layout c.args.part c.args.columns c.loop-row.row (length c.loop-row.bits) c.requires.part c.loop-row.auto.row c.loop-row-test.true (c.loop-row.auto.bits ∙ c.requires.size) in
+    omega (arith, fits)
 
 pub ink-requires-clause-line_in : goal.ink-requires-clause-line_in
 ink-requires-clause-line_in g c =
-    let tall : c.loop-row.row - c.args.layout.first < c.args.layout.rows = omega (arith, c.loop-row.auto.row, c.loop-row-test.true, c.requires.part.from, c.requires.part.to) in
-    let p : (c.loop-row.row - c.args.layout.first + 1) * c.args.layout.stride ≤ c.args.layout.rows * c.args.layout.stride = mul-le (c.loop-row.row - c.args.layout.first + 1) c.args.layout.stride c.args.layout.rows c.args.layout.stride (omega (arith, tall)) (omega arith) in
-    let len : length c.loop-row.bits ≡ c.args.layout.rows * c.args.layout.stride = c.loop-row.auto.bits ∙ c.requires.size in
     let start : ℕ = (c.loop-row.row - c.args.layout.first) * c.args.layout.stride in
-    let lm = mid_length start (length c.loop-row.bits - start) c.loop-row.bits (omega (arith, p, len)) in
-    omega (arith, lm, p, len, c.requires.part.columns_order, c.requires.part.line_in)
+    let fits = row_fits c.args.page.now c.args.trace.now.dots c.args.layout c.args.part c.args.columns c.loop-row.row (length c.loop-row.bits) c.requires.part c.loop-row.auto.row c.loop-row-test.true (c.loop-row.auto.bits ∙ c.requires.size) in
+    let long = mid_length start (length c.loop-row.bits - start) c.loop-row.bits (omega (arith, fits)) in
+    omega (arith, long, fits, c.requires.part.columns_order, c.requires.part.line_in)
 
 pub ink-requires-clause-boxed : goal.ink-requires-clause-boxed
 ink-requires-clause-boxed g c =
@@ -57,25 +52,16 @@ pub loop-row-preserved : goal.loop-row-preserved
 loop-row-preserved g c =
     let inv = c.loop-row.invariant in
     let inked = c.ink.ensures in
-    let layout = c.args.layout in
+    let many : ℕ = c.args.columns.end - c.args.columns.low in
     let reaches = λ (r k : ℕ). g.Self.Gauge.reaches c.args.self.now c.args.trace.now.stroke.now c.args.page.now c.args.trace.now.dots r k in
-    let low : c.args.layout.first ≤ c.loop-row.row = omega (arith, c.loop-row.auto.row, c.requires.part.from) in
-    let tall : c.loop-row.row < c.args.layout.first + c.args.layout.rows = omega (arith, c.loop-row-test.true, c.requires.part.to) in
-    let p : (c.loop-row.row - c.args.layout.first + 1) * c.args.layout.stride ≤ c.args.layout.rows * c.args.layout.stride = mul-le (c.loop-row.row - c.args.layout.first + 1) c.args.layout.stride c.args.layout.rows c.args.layout.stride (omega (arith, low, tall)) (omega arith) in
-    let len : length c.loop-row.bits ≡ c.args.layout.rows * c.args.layout.stride = c.loop-row.auto.bits ∙ c.requires.size in
-    let start : ℕ = (c.loop-row.row - c.args.layout.first) * c.args.layout.stride in
-    let lm = mid_length start (length c.loop-row.bits - start) c.loop-row.bits (omega (arith, p, len)) in
-    let many : c.args.columns.low + (c.args.columns.end - c.args.columns.low) ≡ c.args.columns.end = omega (arith, c.requires.part.columns_order) in
     let reached : IsReached (reaches c.loop-row.row) c.args.columns.low (c.args.columns.end - c.args.columns.low) _ c.ink.new.line = rw inv.same at inked.bits in
-    let line = row_inked reaches layout c.loop-row.row c.args.columns.low (c.args.columns.end - c.args.columns.low) start (length c.loop-row.bits - start) c.loop-row.bits c.ink.new.line
-    low tall (omega (arith, many, c.requires.part.line_in)) len refl refl (reached.length ∙ lm) reached in
     record {
-      inked = parts_joined reaches layout c.args.part.low c.loop-row.row (c.loop-row.row + 1) c.args.columns c.args.bits.now c.loop-row.bits _ c.loop-row.auto.row (omega arith) inv.inked (rw many at line);
+      inked = row_added c.args.page.now c.args.trace.now.dots reaches c.args.layout c.args.part c.args.columns c.loop-row.row _ _ c.args.bits.now c.loop-row.bits c.ink.new.line
+          c.requires.part c.loop-row.auto.row c.loop-row-test.true (c.loop-row.auto.bits ∙ c.requires.size) refl refl inv.inked reached;
       same = inked.same ∙ inv.same;
-      least = (let r = row_counted reaches c.args.part.low c.loop-row.row c.args.columns.low (c.args.columns.end - c.args.columns.low) c.loop-row.auto.row in
+      least = (let r = row_counted reaches c.args.part.low c.loop-row.row c.args.columns.low many c.loop-row.auto.row in
           let m = rw inv.same at inked.least in
           rw r (least_joined (g.Self.Gauge.count c.args.self.now) _ _ (g.Self.Gauge.count c.loop-row.self) (g.Self.Gauge.count c.ink.new.self) inv.least m));
-      most = (let r = row_more c.args.part.low c.loop-row.row (c.args.columns.end - c.args.columns.low) c.loop-row.auto.row in
-          omega (arith, r, inked.most, inv.most));
+      most = (let r = row_more c.args.part.low c.loop-row.row many c.loop-row.auto.row in omega (arith, r, inked.most, inv.most));
       grows = omega (arith, inked.grows, inv.grows);
     }
