@@ -1,5 +1,5 @@
 //! Gauges decide whether a stroke reaches a pixel, and count the tests.
-ghost use Rattle.std.specs.Prelude.{◌≡◌, ℕ, ◌+◌, ◌-◌, ◌*◌, ◌/◌, ◌<◌, ◌≤◌, ◌^◌, Bool, true, false, cond, get_or};
+ghost use Rattle.std.specs.Prelude.{◌≡◌, ℕ, ◌+◌, ◌-◌, ◌*◌, ◌<◌, ◌≤◌, ◌^◌, Bool, true, false, cond, get_or};
 ghost use Rattle.std.specs.Prelude.{length, min};
 ghost use Rattle.plot_page.specs.Segments.{Segment};
 ghost use Rattle.plot_page.specs.declared.page.Page.{Page};
@@ -10,7 +10,6 @@ ghost use Rattle.stroke_raster.specs.Covers.{covers};
 ghost use Rattle.stroke_raster.specs.Boxes.{in_box, BoxHolds};
 ghost use Rattle.stroke_raster.specs.Extents.{AreBoxed};
 ghost use Rattle.stroke_raster.specs.Inks.{IsReached};
-ghost use Rattle.stroke_raster.specs.ShortNumbers.{IsShort};
 ghost use Rattle.stroke_raster.specs.Parts.{ArePartInked, IsPart, reached_in};
 
 use crate::beside::ink_beside;
@@ -265,68 +264,6 @@ impl Exact {
         };
         self.ink_each(&trace, page, below, columns, layout, bits);
     }
-
-    // Inks a few rows of a stroke's box, each by its run.
-    #[inline(always)]
-    fn ink_runs(
-        &mut self,
-        stroke: &Stroke,
-        page: &Page,
-        dots: Dots,
-        part: Span,
-        columns: Span,
-        layout: Layout,
-        bits: &mut [u8],
-    )
-        requires part { IsPart page.now dots layout part columns }
-        requires stride_small { layout.stride ≤ 2 ^ 20 }
-        requires size { length bits.old ≡ layout.rows * layout.stride }
-        requires boxed { AreBoxed stroke.now page.now dots part columns }
-        ensures size { length bits.new ≡ length bits.old }
-        ensures bits { ArePartInked (covers stroke.now page.now dots) layout part columns
-            bits.old bits.new }
-        ensures least { min (self.old + reached_in (covers stroke.now page.now dots) part columns) MOST_TESTS
-            ≤ self.new }
-        ensures most { self.new ≤ self.old + (part.end - part.low) * (columns.end - columns.low) }
-        ensures grows { self.old ≤ self.new }
-    {
-        let trace = trace_of(stroke, dots, false);
-        self.ink_each(&trace, page, part, columns, layout, bits);
-    }
-
-    // Inks a part of the small box of a short stroke by tests of all of its pixels.
-    #[inline(always)]
-    fn ink_scanned(
-        &mut self,
-        stroke: &Stroke,
-        page: &Page,
-        dots: Dots,
-        part: Span,
-        columns: Span,
-        layout: Layout,
-        bits: &mut [u8],
-    )
-        requires short { IsShort stroke.now dots }
-        requires some { columns.low < columns.end }
-        requires few { columns.end ≤ columns.low + 8 }
-        requires part { IsPart page.now dots layout part columns }
-        requires stride_small { layout.stride ≤ 2 ^ 20 }
-        requires size { length bits.old ≡ layout.rows * layout.stride }
-        requires boxed { AreBoxed stroke.now page.now dots part columns }
-        requires room { (row : ℕ) → part.low ≤ row → row < part.end →
-            (row - layout.first) * layout.stride + (columns.low / 8 + 8) ≤ length bits.old }
-        ensures size { length bits.new ≡ length bits.old }
-        ensures bits { ArePartInked (covers stroke.now page.now dots) layout part columns
-            bits.old bits.new }
-        ensures least { min (self.old + reached_in (covers stroke.now page.now dots) part columns) MOST_TESTS
-            ≤ self.new }
-        ensures most { self.new ≤ self.old + (part.end - part.low) * (columns.end - columns.low) }
-        ensures grows { self.old ≤ self.new }
-    {
-        ink_short(stroke, page, dots, part, columns, layout, bits);
-        let pixels = u64::from(part.end - part.low) * u64::from(columns.end - columns.low);
-        self.tests = self.tests.saturating_add(pixels);
-    }
 }
 
 impl Gauge for Exact {
@@ -398,9 +335,11 @@ impl Gauge for Exact {
             && has_room(part, columns, layout)
             && is_short(stroke, dots)
         {
-            self.ink_scanned(stroke, page, dots, part, columns, layout, bits);
+            let tests = ink_short(stroke, page, dots, part, columns, layout, bits);
+            self.tests = self.tests.saturating_add(tests);
         } else {
-            self.ink_runs(stroke, page, dots, part, columns, layout, bits);
+            let trace = trace_of(stroke, dots, false);
+            self.ink_each(&trace, page, part, columns, layout, bits);
         }
     }
 

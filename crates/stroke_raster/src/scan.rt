@@ -6,7 +6,7 @@ ghost use Rattle.stroke_raster.specs.Bounds.{Within};
 ghost use Rattle.stroke_raster.specs.Covers.{covers};
 ghost use Rattle.stroke_raster.specs.Extents.{AreBoxed};
 ghost use Rattle.stroke_raster.specs.Gap.{dot};
-ghost use Rattle.stroke_raster.specs.Parts.{ArePartInked, IsPart};
+ghost use Rattle.stroke_raster.specs.Parts.{ArePartInked, IsPart, reached_in};
 ghost use Rattle.stroke_raster.specs.ShortNumbers.{IsShort};
 ghost use Rattle.stroke_raster.specs.Shorts.{AreMasked, is_short_met};
 ghost use Rattle.stroke_raster.specs.Traces.{rightward};
@@ -119,7 +119,7 @@ fn mask_of(short: &Short, start: Vector, many: u32) -> u64
     mask
 }
 
-/// Makes the pixels that a short stroke covers, of a part of its box, black.
+/// Makes the pixels that a short stroke covers, of a part of its box, black, and returns the number of tests.
 #[inline(never)]
 pub fn ink_short(
     stroke: &Stroke,
@@ -129,7 +129,7 @@ pub fn ink_short(
     columns: Span,
     layout: Layout,
     bits: &mut [u8],
-)
+) -> u64
     requires short { IsShort stroke.now dots }
     requires some { columns.low < columns.end }
     requires few { columns.end ≤ columns.low + 8 }
@@ -141,6 +141,8 @@ pub fn ink_short(
         (row - layout.first) * layout.stride + (columns.low / 8 + 8) ≤ length bits.old }
     ensures size { length bits.new ≡ length bits.old }
     ensures bits { ArePartInked (covers stroke.now page.now dots) layout part columns bits.old bits.new }
+    ensures least { reached_in (covers stroke.now page.now dots) part columns ≤ result }
+    ensures most { result ≤ (part.end - part.low) * (columns.end - columns.low) }
 {
     // A copy, which stays in registers while the bits change.
     let fixed = *page;
@@ -153,4 +155,5 @@ pub fn ink_short(
         let at = (row - layout.first) as usize * layout.stride as usize;
         ink_mask(&mut bits[at..], columns.low, many, mask);
     }
+    u64::from(part.end - part.low) * u64::from(many)
 }

@@ -8,6 +8,7 @@ use Rattle.stroke_raster.specs.Covers.{centre, covers, first_end}
 use Rattle.stroke_raster.specs.Gap.{scaled, way}
 use Rattle.stroke_raster.proofs.BoundLemmas.{scaled_within, way_within}
 use Rattle.stroke_raster.proofs.Parts.{row_added}
+use Rattle.stroke_raster.proofs.ReachedRows.{reached_most}
 use Rattle.stroke_raster.proofs.ScanLemmas.{covered_is_short_met, mask_reached, short_way_within}
 use Rattle.stroke_raster.proofs.scan.ink_short.Goals as goal
 
@@ -37,6 +38,11 @@ pub returns-clause-bits : goal.returns-clause-bits
 returns-clause-bits c =
     let e : c.loop-row.row ≡ c.args.part.end = omega (arith, c.loop-row.auto.row-end c.requires.part.order, c.loop-row-test.false) in
     rw e at c.loop-row.invariant.inked
+
+pub returns-clause-least : goal.returns-clause-least
+returns-clause-least c =
+    let r = reached_most (covers c.args.stroke.now c.args.page.now c.args.dots) c.args.part.low (c.args.part.end - c.args.part.low) c.args.columns.low (c.args.columns.end - c.args.columns.low) in
+    rw (c.from.ensures, c.from-2.ensures) r
 
 pub loop-row-preserved : goal.loop-row-preserved
 loop-row-preserved c =
