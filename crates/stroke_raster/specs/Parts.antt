@@ -1,5 +1,5 @@
 -- Parts of the rows and columns of a band, and what the inking of a part leaves.
-use Rattle.std.specs.Prelude.{◌≡◌, ℕ, ◌+◌, ◌-◌, ◌*◌, ◌<◌, ◌≤◌, Bool, ◌&&◌, cond, List}
+use Rattle.std.specs.Prelude.{◌≡◌, ℕ, ◌+◌, ◌-◌, ◌*◌, ◌/◌, ◌<◌, ◌≤◌, Bool, ◌&&◌, cond, List}
 use Rattle.plot_page.specs.declared.page.Page.{Page}
 use Rattle.plot_page.specs.declared.dots.Dots.{Dots}
 use Rattle.plot_page.specs.Resolutions.{columns_of, rows_of}
@@ -18,6 +18,12 @@ pub record IsPart (page : Page) (dots : Dots) (layout : Layout) (part columns : 
   pub columns_order : columns.low ≤ columns.end
   pub columns_in : columns.end ≤ columns_of page dots
   pub line_in : columns.end ≤ 8 * layout.stride
+
+-- the band has eight bytes, from that of the first column on, in each row of a part
+abbrev pub HasRoom : Layout → Span → Span → Type 0
+HasRoom layout part columns =
+    (row : ℕ) → part.low ≤ row → row < part.end →
+    (row - layout.first) * layout.stride + (columns.low / 8 + 8) ≤ layout.rows * layout.stride
 
 -- the pixels of these rows and columns that are reached are black, and all others are as they were
 abbrev pub ArePartInked : (ℕ → ℕ → Bool) → Layout → Span → Span → List ℕ → List ℕ → Type 0

@@ -1,12 +1,12 @@
 //! The inking of small boxes of short strokes.
 //!
 //! All pixels of such a box are tested, row by row, without a branch that the processor might guess wrong.
-ghost use Rattle.std.specs.Prelude.{◌≡◌, ℕ, ◌+◌, ◌-◌, ◌*◌, ◌/◌, ◌<◌, ◌≤◌, ◌^◌, ◌&&◌, ◌||◌, length, nat_abs, pos, ◌*ℤ◌, int_le, true};
+ghost use Rattle.std.specs.Prelude.{◌≡◌, ℕ, ◌+◌, ◌-◌, ◌*◌, ◌<◌, ◌≤◌, ◌^◌, ◌&&◌, ◌||◌, length, nat_abs, pos, ◌*ℤ◌, int_le, true};
 ghost use Rattle.stroke_raster.specs.Bounds.{Within};
 ghost use Rattle.stroke_raster.specs.Covers.{covers};
 ghost use Rattle.stroke_raster.specs.Extents.{AreBoxed};
 ghost use Rattle.stroke_raster.specs.Gap.{dot};
-ghost use Rattle.stroke_raster.specs.Parts.{ArePartInked, IsPart, reached_in};
+ghost use Rattle.stroke_raster.specs.Parts.{ArePartInked, HasRoom, IsPart, reached_in};
 ghost use Rattle.stroke_raster.specs.ShortNumbers.{IsShort};
 ghost use Rattle.stroke_raster.specs.Shorts.{AreMasked, is_short_met};
 ghost use Rattle.stroke_raster.specs.Traces.{rightward};
@@ -28,7 +28,7 @@ const FEW: u32 = 8;
 pub fn has_few_columns(columns: Span) -> bool
     requires { columns.low ≤ columns.end }
     ensures some { result ≡ true → columns.low < columns.end }
-    ensures few { result ≡ true → columns.end ≤ columns.low + 8 }
+    ensures few { result ≡ true → columns.end ≤ columns.low + FEW }
 {
     let many = columns.end - columns.low;
     0 < many && many <= FEW
@@ -41,8 +41,7 @@ pub fn has_room(part: Span, columns: Span, layout: Layout) -> bool
     requires order { part.low ≤ part.end }
     requires to { part.end ≤ layout.first + layout.rows }
     requires stride_small { layout.stride ≤ 2 ^ 20 }
-    ensures { result ≡ true → (row : ℕ) → part.low ≤ row → row < part.end →
-        (row - layout.first) * layout.stride + (columns.low / 8 + 8) ≤ layout.rows * layout.stride }
+    ensures { result ≡ true → HasRoom layout part columns }
 {
     let stride = u64::from(layout.stride);
     let below = u64::from(layout.first) + u64::from(layout.rows) - u64::from(part.end);
@@ -51,7 +50,7 @@ pub fn has_room(part: Span, columns: Span, layout: Layout) -> bool
 
 // Whether the place to which `w` leads from the first end is within half of the drawn width of the stroke.
 #[inline(always)]
-fn meets(short: &Short, w: Vector) -> bool
+fn short_stroke_meets(short: &Short, w: Vector) -> bool
     requires { Within 393216 w }
     ensures { result ≡ is_short_met short.now w }
 {
@@ -105,7 +104,7 @@ fn any_of(first: bool, last: bool, is_between: bool, line: bool) -> bool
 // Which of some pixels are met, from the one to which `start` leads on.
 #[inline(always)]
 fn mask_of(short: &Short, start: Vector, many: u32) -> u64
-    requires few { many ≤ 8 }
+    requires few { many ≤ FEW }
     requires start_in { Within (2 ^ 32) start }
     requires near { (i : ℕ) → i < many → Within 393216 (rightward start i) }
     ensures small { result < 2 ^ many }
@@ -113,7 +112,7 @@ fn mask_of(short: &Short, start: Vector, many: u32) -> u64
 {
     let mut mask = 0u64;
     for i in 0..many {
-        let is_met = meets(short, pixel_at(start, i));
+        let is_met = short_stroke_meets(short, pixel_at(start, i));
         mask = 2 * mask + u64::from(is_met);
     }
     mask
@@ -132,13 +131,12 @@ pub fn ink_short(
 ) -> u64
     requires short { IsShort stroke.now dots }
     requires some { columns.low < columns.end }
-    requires few { columns.end ≤ columns.low + 8 }
+    requires few { columns.end ≤ columns.low + FEW }
     requires part { IsPart page.now dots layout part columns }
     requires stride_small { layout.stride ≤ 2 ^ 20 }
     requires size { length bits.old ≡ layout.rows * layout.stride }
     requires boxed { AreBoxed stroke.now page.now dots part columns }
-    requires room { (row : ℕ) → part.low ≤ row → row < part.end →
-        (row - layout.first) * layout.stride + (columns.low / 8 + 8) ≤ length bits.old }
+    requires room { HasRoom layout part columns }
     ensures size { length bits.new ≡ length bits.old }
     ensures bits { ArePartInked (covers stroke.now page.now dots) layout part columns bits.old bits.new }
     ensures least { reached_in (covers stroke.now page.now dots) part columns ≤ result }

@@ -5,7 +5,7 @@ use Rattle.stroke_raster.specs.Bounds.{Within}
 use Rattle.stroke_raster.specs.Gap.{cross}
 use Rattle.stroke_raster.proofs.BoundLemmas.{scaled_within, way_within}
 use Rattle.stroke_raster.proofs.ShortLemmas.{cross_small, last_within, short_test}
-use Rattle.stroke_raster.proofs.scan.meets.Goals as goal
+use Rattle.stroke_raster.proofs.scan.short_stroke_meets.Goals as goal
 
 pub is_within-last-requires-clause-w_in : goal.is_within-last-requires-clause-w_in
 is_within-last-requires-clause-w_in c =
