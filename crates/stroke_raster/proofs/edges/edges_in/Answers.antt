@@ -11,33 +11,20 @@ use Rattle.stroke_raster.proofs.EdgeLemmas.{Made, edges_made, some_map}
 use Rattle.stroke_raster.proofs.edges.edges_in.Goals as goal
 
 pub turned-beside-requires : goal.turned-beside-requires
-turned-beside-requires c =
-    let f : FitsSigned w64 c.cross_product.result = search rules in
-    let g : FitsSigned w64 (pos 2 *ℤ c.cross_product.result) = omega (arith, ints, c.cross_product.ensures.small) in
-    simp to_z-of_z (omega (arith, ints, c.cross_product.ensures.small))
+turned-beside-requires c = omega (arith, ints, c.cross_product.ensures.small)
 
 pub overflow_add-beside : goal.overflow_add-beside
 overflow_add-beside c =
-    let p = c.args.trace.now.sound.slope_is.most_in in
-    let f : FitsSigned w64 c.cross_product.result = search rules in
-    let g : FitsSigned w64 (pos 2 *ℤ c.cross_product.result) = omega (arith, ints, c.cross_product.ensures.small) in
-    let h : FitsSigned w64 c.args.trace.now.slope.most = omega (arith, ints, p) in
-    let i : FitsSigned w64 c.turned-beside.result = search rules in
-    let e = simp to_z-of_z at c.turned-beside.ensures.small in
-    let k : FitsSigned w64 (c.turned-beside.result +ℤ c.args.trace.now.slope.most) = omega (arith, ints, e, p, c.cross_product.ensures.small) in
-    simp to_z-of_z k
+    let e : nat_abs c.turned-beside.result ≤ 2 ^ 57 = omega (arith, ints, c.turned-beside.ensures.small, c.cross_product.ensures.small) in
+    omega (arith, ints, e, c.args.trace.now.sound.slope_is.most_in)
 
 pub place_of-requires-clause-z_in : goal.place_of-requires-clause-z_in
 place_of-requires-clause-z_in c =
-    let p = c.args.trace.now.sound.slope_is.most_in in
-    let f : FitsSigned w64 c.cross_product.result = search rules in
-    let g : FitsSigned w64 (pos 2 *ℤ c.cross_product.result) = omega (arith, ints, c.cross_product.ensures.small) in
-    let h : FitsSigned w64 c.args.trace.now.slope.most = omega (arith, ints, p) in
+    let e : nat_abs c.turned-beside.result ≤ 2 ^ 57 = omega (arith, ints, c.turned-beside.ensures.small, c.cross_product.ensures.small) in
     let i : FitsSigned w64 c.turned-beside.result = search rules in
-    let e = simp to_z-of_z at c.turned-beside.ensures.small in
-    let k : FitsSigned w64 (c.turned-beside.result +ℤ c.args.trace.now.slope.most) = omega (arith, ints, e, p, c.cross_product.ensures.small) in
-    let n : nat_abs (c.turned-beside.result +ℤ c.args.trace.now.slope.most) ≤ 2 ^ 58 = omega (arith, ints, e, p, c.cross_product.ensures.small) in
-    simp to_z-of_z n
+    let h : FitsSigned w64 c.args.trace.now.slope.most = omega (arith, ints, c.args.trace.now.sound.slope_is.most_in) in
+    let k : FitsSigned w64 (c.turned-beside.result +ℤ c.args.trace.now.slope.most) = omega (arith, ints, e, c.args.trace.now.sound.slope_is.most_in) in
+    simp to_z-of_z (omega (arith, ints, e, c.args.trace.now.sound.slope_is.most_in))
 
 pub returns-clause-rows : goal.returns-clause-rows
 returns-clause-rows c = some_map Edges c.fitted.result _ _ (λ e f. f.rows_is) c.fitted.ensures
