@@ -28,7 +28,7 @@ pub trait Bands<'a>: Sized {
     // Rows can be written in this form.
     ghost can_write: { Form → Type 0 };
 
-    /// The bands of a picture in this form, as `Painter::new` begins them.
+    /// The bands of a picture in this form, as `Painter::new` begins them. They have at most `band_rows` rows each.
     fn begin(
         alloc: Global,
         form: Form,
@@ -48,7 +48,8 @@ pub trait Bands<'a>: Sized {
         ensures page { IfOk result (λ b. (painting b).page ≡ page) }
         ensures dots { IfOk result (λ b. (painting b).dots ≡ dots) }
         ensures pens { IfOk result (λ b. (painting b).pens ≡ pens) }
-        ensures first { IfOk result (λ b. (painting b).next ≡ first_row) };
+        ensures first { IfOk result (λ b. (painting b).next ≡ first_row) }
+        ensures height { IfOk result (λ b. (painting b).band_rows ≤ band_rows) };
 
     /// The number of the row that the next band begins with.
     fn next_row(&self) -> u32
@@ -97,7 +98,9 @@ pub trait Bands<'a>: Sized {
 /// The height of bands whose rows have `size` bytes each: as many rows as lie in `room` bytes, at least one and at most
 /// `most`. A height out of range stays as it is, so that it is refused.
 pub fn height_within(most: u32, size: u32, room: u32) -> u32
-    ensures { is_band_height result ≡ is_band_height most }
+    ensures range { is_band_height result ≡ is_band_height most }
+    ensures most { result ≤ most }
+    ensures room { is_band_height most ≡ true → 1 < result → result * size ≤ room }
 {
     if most < 1 || most > 4096 {
         return most;
