@@ -1,20 +1,10 @@
 -- Runs of pixels as the bits of bytes.
-use Rattle.std.proofs.Common.{◌≡◌, ℕ, zero, suc, ◌+◌, ◌-◌, ◌*◌, ◌/◌, ◌%◌, ◌<◌, ◌≤◌, ◌^◌, ◌≢◌, arith, refl, sym, ap, ◌∙◌, inl, inr, max, min, length, get_or, List, slice_set, bit_or, cond, Bool, true, false, nat_lt, ◌&&◌, take}
+use Rattle.std.proofs.Common.{◌≡◌, ℕ, zero, suc, ◌+◌, ◌-◌, ◌*◌, ◌/◌, ◌%◌, ◌<◌, ◌≤◌, ◌^◌, ◌≢◌, arith, refl, sym, ap, ◌∙◌, inl, inr, max, min, length, get_or, List, slice_set, bit_or, cond, Bool, true, false}
 use Rattle.std.specs.Int.{bit_at}
-use Rattle.std.proofs.lemmas.Nat.Bits.{bit_at-zero, bit_at_mask_above, bit_at_mask_below, bit_at_mask_inside, bit_at_or, bit_at-lt}
+use Rattle.std.proofs.lemmas.Nat.Bits.{bit_at_mask_above, bit_at_mask_below, bit_at_mask_inside, bit_at_or, bit_at-lt}
 use Rattle.std.proofs.lemmas.Bool.{cases_eq, cases_lt, cases_Bool}
 use Rattle.std.proofs.lemmas.List.{get_or-set_same, get_or-set_other, length-set}
-use Rattle.std.proofs.lemmas.Bool.Decides.{nat_tests}
-use Rattle.std.proofs.lemmas.Nat.{mul-le}
-use Rattle.plot_page.specs.Segments.{Segment}
-use Rattle.plot_page.specs.declared.page.Page.{Page}
-use Rattle.plot_page.specs.declared.dots.Dots.{Dots}
-use Rattle.plot_page.specs.declared.pens.PenSet.{PenSet}
-use Rattle.plot_page.specs.Pens.{has_pen}
-use Rattle.stroke_raster.specs.Shown.{shown}
-use Rattle.stroke_raster.specs.Slots.{stroke_at}
-use Rattle.stroke_raster.specs.Inks.{ink, ink_at, AreReached, IsInked, IsMask, IsReached, ShowsInk}
-use Rattle.stroke_raster.proofs.Slots.{skip, shown_slot}
+use Rattle.stroke_raster.specs.Inks.{ink, ink_at, IsInked, IsMask, IsReached}
 
 -- a part of a byte's value
 pub high_part : (a b : ℕ) → a + b ≡ 8 → 256 / 2 ^ a ≡ 2 ^ b
@@ -139,63 +129,6 @@ ink_same old new s r k e =
     ap (λ (n : ℕ). bit_at (get_or new n 0) (7 - (8 * (r * s) + k) % 8)) (byte_at_row s r k)
     ∙ ap (λ (n : ℕ). bit_at n (7 - (8 * (r * s) + k) % 8)) e
     ∙ sym (ap (λ (n : ℕ). bit_at (get_or old n 0) (7 - (8 * (r * s) + k) % 8)) (byte_at_row s r k))
-
--- tests of numbers
-pub lt_of : (a b : ℕ) → nat_lt a b ≡ true → a < b
-lt_of a b h = grind (arith, nat_tests)
-
--- pixels that are not reached stay as they are
-pub unreached : (b r : Bool) (n : ℕ) → (b ≡ true → r ≡ false) → cond (b && r) 1 n ≡ n
-unreached true r n h = rw (h refl) refl
-unreached false r n h = refl
-
--- one pixel, one stroke more
-ink_cell : (b t : Bool) (p n x y : ℕ) → 0 < p → x ≡ cond (b && t) 1 y → y ≡ cond b (min 1 n) 0 → x ≡ cond b (min 1 (cond t p n)) 0
-ink_cell true true p n x y pos e h = omega (arith, pos, e)
-ink_cell true false p n x y pos e h = e ∙ h
-ink_cell false t p n x y pos e h = e ∙ h
-
--- one slot inked, and those up to the next one passed over
-pub inked_step : (covers : Segment → ℕ → ℕ → Bool) (pens : PenSet) (xs : List Segment) (first rows columns stride p q : ℕ) (bits bits' : List ℕ)
-    → 0 < p → p ≤ length xs → p < q → q ≤ length xs + 1 → has_pen pens (stroke_at xs p).pen ≡ true
-    → ShowsInk covers pens (take (p - 1) xs) first rows columns stride bits
-    → AreReached (covers (stroke_at xs p)) first rows columns stride bits bits'
-    → ((j r c : ℕ) → p < j → j < q → r < rows → has_pen pens (stroke_at xs j).pen ≡ true → covers (stroke_at xs j) (first + r) c ≡ false)
-    → ShowsInk covers pens (take (q - 1) xs) first rows columns stride bits'
-inked_step covers pens xs first rows columns stride p q bits bits' pos fit lt end sel h paint out r k u v =
-    let e : p + (q - 1 - p) ≡ q - 1 = omega arith in
-    let sk = skip covers pens xs (first + r) k p (q - 1 - p) (omega (arith, e)) (λ j a b s. out j r k a (omega (arith, b, e)) u s) in
-    let now : shown covers pens (take (q - 1) xs) (first + r) k ≡ cond (covers (stroke_at xs p) (first + r) k) p (shown covers pens (take (p - 1) xs) (first + r) k) =
-    ap (λ (n : ℕ). shown covers pens (take n xs) (first + r) k) (sym e) ∙ sk ∙ shown_slot covers pens xs p (first + r) k pos fit sel in
-    ink_cell (nat_lt k columns) (covers (stroke_at xs p) (first + r) k) p (shown covers pens (take (p - 1) xs) (first + r) k) _ _ pos (paint r k u v) (h r k u v)
-    ∙ ap (λ (n : ℕ). cond (nat_lt k columns) (min 1 n) 0) (sym now)
-
-blank_cell : (b : Bool) (n : ℕ) → n ≡ 0 → 0 ≡ cond b (min 1 n) 0
-blank_cell true n e = omega (arith, e)
-blank_cell false n e = refl
-
--- before the first slot nothing is shown
-pub inked_start : (covers : Segment → ℕ → ℕ → Bool) (pens : PenSet) (xs : List Segment) (first rows columns stride q : ℕ) (bits : List ℕ)
-    → 0 < q → q ≤ length xs + 1 → length bits ≡ rows * stride
-    → ((i : ℕ) → i < length bits → get_or bits i 0 ≡ 0)
-    → ((j r c : ℕ) → 0 < j → j < q → r < rows → has_pen pens (stroke_at xs j).pen ≡ true → covers (stroke_at xs j) (first + r) c ≡ false)
-    → ShowsInk covers pens (take (q - 1) xs) first rows columns stride bits
-inked_start covers pens xs first rows columns stride q bits pos end len blank out r k u v =
-    let place : k / 8 < stride = omega (arith, v) in
-    let whole : (r + 1) * stride ≤ rows * stride = mul-le (r + 1) stride rows stride (omega (arith, u)) (omega arith) in
-    let z : 0 + (q - 1) ≡ q - 1 = omega arith in
-    let sk = skip covers pens xs (first + r) k 0 (q - 1) (omega arith) (λ j a b s. out j r k a (omega (arith, b, pos)) u s) in
-    let none : shown covers pens (take (q - 1) xs) (first + r) k ≡ 0 = ap (λ (n : ℕ). shown covers pens (take n xs) (first + r) k) (sym z) ∙ sk in
-    let byte : get_or bits (r * stride + k / 8) 0 ≡ 0 = blank (r * stride + k / 8) (omega (arith, whole, place, len)) in
-    let white : ink_at stride bits r k ≡ 0 =
-    ap (λ (n : ℕ). bit_at (get_or bits n 0) (7 - (8 * (r * stride) + k) % 8)) (byte_at_row stride r k)
-    ∙ ap (λ (n : ℕ). bit_at n (7 - (8 * (r * stride) + k) % 8)) byte ∙ bit_at-zero (7 - (8 * (r * stride) + k) % 8) in
-    white ∙ blank_cell (nat_lt k columns) (shown covers pens (take (q - 1) xs) (first + r) k) none
-
--- what the inking of a stroke leaves, said of an equal stroke and an equal test
-pub inked_as : (f f' : Segment → Page → Dots → ℕ → ℕ → Bool) → f ≡ f' → (t t' : Segment) → t ≡ t' → (page : Page) (dots : Dots) (first rows columns stride : ℕ) (bits bits' : List ℕ)
-    → AreReached (f t page dots) first rows columns stride bits bits' → AreReached (f' t' page dots) first rows columns stride bits bits'
-inked_as f f' e t t' z page dots first rows columns stride bits bits' h = rw (e, z) at h
 
 -- before the first byte of a run
 pub ink_none : (low end : ℕ) (line : List ℕ) → low ≤ end → IsInked low (min end (max low (8 * (low / 8)))) line line

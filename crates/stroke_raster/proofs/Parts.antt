@@ -8,9 +8,9 @@ use Rattle.plot_page.specs.declared.page.Page.{Page}
 use Rattle.plot_page.specs.declared.dots.Dots.{Dots}
 use Rattle.stroke_raster.specs.declared.strip.Span.{Span}
 use Rattle.stroke_raster.specs.declared.layout.Layout.{Layout}
-use Rattle.stroke_raster.specs.Inks.{ink, ink_at, AreReached, IsInked, IsReached}
+use Rattle.stroke_raster.specs.Inks.{ink, ink_at, IsInked, IsReached}
 use Rattle.stroke_raster.specs.Parts.{ArePartInked, IsPart}
-use Rattle.stroke_raster.proofs.Inks.{ink_as, ink_here, ink_same, lt_of}
+use Rattle.stroke_raster.proofs.Inks.{ink_as, ink_here, ink_same}
 use Rattle.stroke_raster.proofs.Middle.{mid_below, mid_at, mid_length, mid_old}
 
 le_is : (a b : ℕ) → a ≤ b → nat_le a b ≡ true
@@ -24,13 +24,6 @@ lt_is a b h = grind (arith, nat_tests)
 
 lt_not : (a b : ℕ) → b ≤ a → nat_lt a b ≡ false
 lt_not a b h = grind (arith, nat_tests)
-
-both : (a b : Bool) → a ≡ true → b ≡ true → (a && b) ≡ true
-both a b h k = rw (h, k) refl
-
-second : (a b : Bool) → (a && b) ≡ true → b ≡ true
-second true b h = h
-second false b h = cc h
 
 -- a row is not in a span that is only another row
 row_beside : (row n : ℕ) → n ≢ row → (nat_le row n && nat_lt n (row + 1)) ≡ false
@@ -161,24 +154,3 @@ row_more low row n h = let e : row + 1 - low ≡ (row - low) + 1 = omega (arith,
 -- the pixels of two parts
 pub rows_joined : (low mid end n : ℕ) → low ≤ mid → mid ≤ end → (mid - low) * n + (end - mid) * n ≡ (end - low) * n
 rows_joined low mid end n h k = let e : end - low ≡ (mid - low) + (end - mid) = omega (arith, h, k) in rw e (omega arith)
-
--- a part that has all the pixels that are reached
-whole_cell : (a b c r : Bool) (m n : ℕ) → (c ≡ true → r ≡ true → (a ≡ true) × (b ≡ true)) → (b ≡ true → c ≡ true) → m ≡ cond (a && (b && r)) 1 n → m ≡ cond (c && r) 1 n
-whole_cell true true true r m n h w e = e
-whole_cell true true false r m n h w e = cc (w refl)
-whole_cell true false true true m n h w e = cc (h refl refl).1
-whole_cell true false true false m n h w e = e
-whole_cell true false false r m n h w e = e
-whole_cell false b true true m n h w e = cc (h refl refl).0
-whole_cell false b true false m n h w e = e
-whole_cell false b false r m n h w e = e
-
-pub whole_inked : (reached : ℕ → ℕ → Bool) (layout : Layout) (part spanned : Span) (columns : ℕ) (old new : List ℕ) → spanned.end ≤ columns
-    → ((r k : ℕ) → r < layout.rows → k < columns → reached (layout.first + r) k ≡ true → (part.low ≤ layout.first + r) × ((layout.first + r < part.end) × ((spanned.low ≤ k) × (k < spanned.end))))
-    → ArePartInked reached layout part spanned old new → AreReached reached layout.first layout.rows columns layout.stride old new
-whole_inked reached layout part spanned columns old new w all h r k u v =
-    whole_cell _ _ (nat_lt k columns) (reached (layout.first + r) k) _ _
-    (λ t f. let x = all r k u (lt_of k columns t) f in
-    (both _ _ (le_is part.low (layout.first + r) x.0) (lt_is (layout.first + r) part.end x.1.0), both _ _ (le_is spanned.low k x.1.1.0) (lt_is k spanned.end x.1.1.1)))
-    (λ t. lt_is k columns (omega (arith, w, lt_of k spanned.end (second _ _ t))))
-    (h r k u v)

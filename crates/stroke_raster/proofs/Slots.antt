@@ -1,12 +1,11 @@
 -- What a band's strokes show, with those left out that cannot reach it.
-use Rattle.std.proofs.Common.{◌≡◌, ℕ, zero, suc, ◌+◌, ◌-◌, ◌*◌, ◌/◌, ◌%◌, ◌<◌, ◌≤◌, Bool, true, false, nat_lt, nat_eq}
+use Rattle.std.proofs.Common.{◌≡◌, ℕ, zero, suc, ◌+◌, ◌-◌, ◌*◌, ◌/◌, ◌<◌, ◌≤◌, Bool, true, false, nat_lt, nat_eq}
 use Rattle.std.proofs.Common.{◌&&◌, max, List, [], ◌∷◌, ◌++◌, length, get_or, take, add-zero, refl, sym, ap, ◌∙◌, arith}
 use Rattle.std.proofs.Common.{inl, inr, cond}
 use Rattle.std.proofs.lemmas.Bool.Decides.{nat_tests}
 use Rattle.std.proofs.lemmas.Bool.{cases_Bool}
 use Rattle.std.proofs.lemmas.Grind.{take_at_read}
 use Rattle.std.proofs.lemmas.List.{length-take-le}
-use Rattle.std.proofs.lemmas.Nat.{mul-le}
 use Rattle.std.proofs.Math.Nat.{div-lt_iff_lt-mul}
 use Rattle.plot_page.specs.Segments.{Segment}
 use Rattle.plot_page.specs.declared.page.Page.{Page}
@@ -103,9 +102,6 @@ shows_start mark covers pens xs first rows columns q pixel pos end zero_is blank
 numbers : (x k : ℕ) → x < k + 1 → nat_lt x k ≡ false → nat_eq x k ≡ false → false ≡ true
 numbers x k m p q = grind (arith, nat_tests)
 
-begun : (b : Bool) (x n k : ℕ) → b ≡ true → cond b x n ≡ x
-begun b x n k e = rw e refl
-
 -- a stroke that is due in no row of a band cannot be reached there: over the numbers of its box's rows
 unreached : (low end r0 h bands band k r : ℕ) → 0 < h
     → band ≡ cond (nat_lt (max low r0) end) ((max low r0 - r0) / h) bands
@@ -157,9 +153,6 @@ slot_is (x ∷ xs) (suc i) t h e = slot_is xs i t (omega (arith, h)) e
 
 pub goes_is : (first r0 k h e f : ℕ) → first ≡ r0 + k * h → e ≡ f → nat_lt (first + h) e ≡ nat_lt (r0 + (k + 1) * h) f
 goes_is first r0 k h e f a b = let z : first + h ≡ r0 + (k + 1) * h = omega (arith, a) in rw (z, b) refl
-
-pub wide_page : (w r : ℕ) → 64 ≤ w → 10 ≤ r → 0 < (w * r + 508) / 1016
-wide_page w r h k = let m : 64 * 10 ≤ w * r = mul-le 64 10 w r h k in omega (arith, m)
 
 pub take_whole : (xs : List Segment) → take (length xs) xs ≡ xs
 take_whole [] = refl

@@ -1,10 +1,7 @@
 -- Pixels as the bits of bytes, the leftmost of eight in the highest bit.
-use Rattle.std.specs.Prelude.{◌≡◌, ℕ, ◌+◌, ◌-◌, ◌*◌, ◌/◌, ◌%◌, ◌<◌, ◌≤◌, Bool, nat_lt, ◌&&◌, cond, min, max, List, length}
+use Rattle.std.specs.Prelude.{◌≡◌, ℕ, ◌+◌, ◌-◌, ◌*◌, ◌/◌, ◌%◌, ◌<◌, ◌≤◌, Bool, cond, max, List, length}
 use Rattle.std.specs.Prelude.{get_or}
 use Rattle.std.specs.Int.{bit_at}
-use Rattle.plot_page.specs.Segments.{Segment}
-use Rattle.plot_page.specs.declared.pens.PenSet.{PenSet}
-use Rattle.stroke_raster.specs.Shown.{shown}
 
 -- 1 for a black pixel, 0 for a white one
 abbrev pub ink : List ℕ → ℕ → ℕ
@@ -47,16 +44,3 @@ pub record IsReached (reached : ℕ → Bool) (from n : ℕ) (old new : List ℕ
 -- pixel k of row r, of rows of `stride` bytes
 abbrev pub ink_at : ℕ → List ℕ → ℕ → ℕ → ℕ
 ink_at stride bits r k = ink bits (8 * (r * stride) + k)
-
--- of rows of `stride` bytes from row `first` on, the pixels of the columns that are reached are black, and all others
--- are as they were
-abbrev pub AreReached : (ℕ → ℕ → Bool) → ℕ → ℕ → ℕ → ℕ → List ℕ → List ℕ → Type 0
-AreReached reached first rows columns stride old new =
-    (r k : ℕ) → r < rows → k < 8 * stride →
-    ink_at stride new r k ≡ cond (nat_lt k columns && reached (first + r) k) 1 (ink_at stride old r k)
-
--- a pixel is black if it shows one of these strokes, and white past the last column
-abbrev pub ShowsInk : (Segment → ℕ → ℕ → Bool) → PenSet → List Segment → ℕ → ℕ → ℕ → ℕ → List ℕ → Type 0
-ShowsInk covers pens strokes first rows columns stride bits =
-    (r k : ℕ) → r < rows → k < 8 * stride →
-    ink_at stride bits r k ≡ cond (nat_lt k columns) (min 1 (shown covers pens strokes (first + r) k)) 0

@@ -1,13 +1,12 @@
 -- The strokes of a list by slots from 1 on, and the bands in which they begin and go on.
-use Rattle.std.specs.Prelude.{◌≡◌, ℕ, ◌+◌, ◌-◌, ◌*◌, ◌/◌, ◌%◌, ◌<◌, Bool, nat_lt, ◌&&◌, if◌then◌else◌, max, List}
-use Rattle.std.specs.Prelude.{get_or, length, pos}
+use Rattle.std.specs.Prelude.{ℕ, ◌+◌, ◌-◌, ◌*◌, ◌/◌, Bool, nat_lt, ◌&&◌, if◌then◌else◌, max, List}
+use Rattle.std.specs.Prelude.{get_or, pos}
 use Rattle.plot_page.specs.declared.page.Page.{Page}
 use Rattle.plot_page.specs.Segments.{Segment}
 use Rattle.plot_page.specs.declared.dots.Dots.{Dots}
 use Rattle.plot_page.specs.declared.pens.PenSet.{PenSet}
 use Rattle.plot_page.specs.Pens.{has_pen}
 use Rattle.stroke_raster.specs.Extents.{first_row_of, end_row_of}
-use Rattle.stroke_raster.specs.Shown.{shown}
 
 abbrev pub nobody : Segment
 nobody =
@@ -38,12 +37,3 @@ band_of pens page dots r0 h bands strokes slot = band_from pens page dots r0 h b
 -- the box of the slot's stroke reaches the first row of band k, or a later one
 abbrev pub goes_on : Page → Dots → ℕ → ℕ → List Segment → ℕ → ℕ → Bool
 goes_on page dots r0 h strokes k slot = nat_lt (r0 + k * h) (end_row_of (stroke_at strokes slot) page dots)
-
--- the stroke reaches the pixel of cell q of a band
-abbrev pub reaches_cell : (ℕ → ℕ → Bool) → ℕ → ℕ → ℕ → Bool
-reaches_cell reaches first columns q = reaches (first + q / columns) (q % columns)
-
--- each cell of a band shows what these strokes make its pixel show
-abbrev pub IsPainted : (Segment → ℕ → ℕ → Bool) → PenSet → List Segment → ℕ → ℕ → List ℕ → Type 0
-IsPainted covers pens strokes first columns cells =
-    (q : ℕ) → q < length cells → get_or cells q 0 ≡ shown covers pens strokes (first + q / columns) (q % columns)

@@ -75,5 +75,4 @@ impl Canvas for Bits {
 /// Does nothing. Its contract is a law: each byte is below 2^8.
 pub fn are_bytes(bytes: &[u8])
     ensures { (i : ℕ) → i < length bytes.now → get_or bytes.now i 0 < 2 ^ 8 }
-{
-}
+{}

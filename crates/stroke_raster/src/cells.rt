@@ -40,7 +40,11 @@ impl Canvas for Cells {
         self.rows = rows;
         self.spans.truncate(rows as usize);
         self.cells.truncate(rows as usize * self.columns as usize);
-        clear_spans(self.columns, self.spans.as_mut_slice(), self.cells.as_mut_slice());
+        clear_spans(
+            self.columns,
+            self.spans.as_mut_slice(),
+            self.cells.as_mut_slice(),
+        );
     }
 
     fn paint<G: Gauge>(

@@ -1,8 +1,6 @@
-use Rattle.std.proofs.Common.{rules, ◌≡◌, ◌<◌, ◌≤◌, ◌*◌, ℕ, ◌+◌, ◌++◌, drop, length, min, cond, true, false, refl, sym, ap, ◌∙◌, arith}
+use Rattle.std.proofs.Common.{rules, ◌≡◌, ℕ, ◌+◌, min, arith}
 use Rattle.plot_page.specs.Segments.{Segment}
 use Rattle.stroke_raster.specs.Boxes.{in_box}
-use Rattle.stroke_raster.specs.Inks.{ink_at}
-use Rattle.stroke_raster.specs.Spans.{holds}
 use Rattle.stroke_raster.proofs.BoxCounts.{box_part_in}
 use Rattle.stroke_raster.proofs.Canvases.{held, part_pixels}
 use Rattle.stroke_raster.proofs.ReachedRows.{none_has, part_has_all}

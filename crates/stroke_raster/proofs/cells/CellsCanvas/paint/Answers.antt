@@ -2,15 +2,13 @@ use Rattle.std.proofs.Common.{rules, drop, ◌≡◌, ℕ, ◌+◌, ◌-◌, ◌
 use Rattle.std.proofs.Common.{get_or, cond, refl, sym, ap, ap₂, ◌∙◌, arith, inl, inr}
 use Rattle.std.proofs.lemmas.Bool.Decides.{nat_tests}
 use Rattle.std.proofs.lemmas.Bool.{cases_lt}
-use Rattle.std.proofs.Math.Nat.{div-lt_iff_lt-mul, mod-lt}
+use Rattle.std.proofs.Math.Nat.{div-lt_iff_lt-mul}
 use Rattle.std.proofs.lemmas.Nat.{div-mul-add, mod-mul-add, mul-le}
 use Rattle.std.proofs.lemmas.List.{places, length-take}
 use borrow.Rule.Slice.PartMut.{put_mid, mid_of, same_len_mid}
 use Rattle.plot_page.specs.Segments.{Segment}
-use Rattle.plot_page.specs.Resolutions.{columns_of}
 use Rattle.plot_page.specs.declared.dots.Dots.{Dots}
 use Rattle.stroke_raster.specs.Boxes.{in_box}
-use Rattle.stroke_raster.specs.Spans.{Spanned}
 use Rattle.stroke_raster.proofs.BoxCounts.{box_part_in}
 use Rattle.stroke_raster.proofs.Middle.{row_step, mid_length}
 use Rattle.stroke_raster.proofs.Parts.{row_more}

@@ -1,4 +1,4 @@
-use Rattle.std.proofs.Common.{rules, ◌≡◌, ◌≤◌, ◌+◌, ◌-◌, ◌<◌, ℕ, min, length, map, ap, subst, ◌∙◌}
+use Rattle.std.proofs.Common.{◌≡◌, ◌≤◌, ◌+◌, ◌-◌, ℕ, min, map, ap, subst, ◌∙◌}
 use Rattle.plot_page.specs.Segments.{Segment}
 use Rattle.stroke_raster.specs.Boxes.{selected, boxes}
 use Rattle.stroke_raster.specs.Boxes.{in_box}

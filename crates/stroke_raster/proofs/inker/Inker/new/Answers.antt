@@ -1,4 +1,4 @@
-use Rattle.std.proofs.Common.{rules, ◌≡◌, ◌<◌, ◌≤◌, ◌+◌, ◌-◌, ◌*◌, ◌/◌, ℕ, List, length, get_or, drop, ap, ◌∙◌, arith}
+use Rattle.std.proofs.Common.{rules, ◌≡◌, ◌≤◌, ◌+◌, ◌*◌, ℕ, List, length, get_or, drop, ap, ◌∙◌}
 use Rattle.plot_page.specs.Resolutions.{rows_of}
 use Rattle.stroke_raster.proofs.Bands.{enough_bands}
 use Rattle.stroke_raster.proofs.InkRows.{white}
