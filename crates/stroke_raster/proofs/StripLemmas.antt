@@ -1,5 +1,5 @@
 -- The strip along a stroke's line: bounds by division, and what lies outside them.
-use Rattle.std.proofs.Common.{zero, suc, ◌≡◌, ℕ, ◌+◌, ◌-◌, ◌*◌, ◌/◌, ◌<◌, ◌≤◌, inl, inr, refl, sym, subst, ap, ap₂, ◌∙◌, arith, ℤ, pos, negsuc, ◌+ℤ◌, ◌-ℤ◌, ◌*ℤ◌, ◌≤ℤ◌, ◌<ℤ◌, neg_ℤ, nat_abs, true, false, Bool, int_le, cond, min}
+use Rattle.std.proofs.Common.{zero, suc, ◌≡◌, ℕ, ◌+◌, ◌-◌, ◌*◌, ◌/◌, ◌<◌, ◌≤◌, inl, inr, refl, sym, subst, ap, ap₂, ◌∙◌, arith, ℤ, pos, negsuc, ◌+ℤ◌, ◌-ℤ◌, ◌*ℤ◌, ◌≤ℤ◌, ◌<ℤ◌, neg_ℤ, nat_abs, true, false, int_le, cond, min}
 use Rattle.std.proofs.lemmas.Int.{ints}
 use Rattle.std.specs.Int.Signed.{le_z, lt_z}
 use Rattle.std.proofs.lemmas.Bool.{cases_Bool, cases_lt}
@@ -154,10 +154,6 @@ outside_after t start k i p u = elim (cases_Bool (is_met t start i)) [
   | inl e ↦ (let q = (sides t start k i p e).0 in absurd (omega (arith, ints, q, u)))
   | inr e ↦ e
 ]
-
-pub turned_small : (b : Bool) (z : ℤ) (m : ℕ) → nat_abs z ≤ m → nat_abs (cond b z (neg_ℤ z)) ≤ m
-turned_small true z m h = h
-turned_small false z m h = omega (arith, ints, h)
 
 pub size_from : (z : ℤ) (n : ℕ) → lt_z z (pos 0) ≡ false → n ≡ nat_abs z → z ≡ pos n
 size_from (pos m) n h e = ap pos (sym e)
