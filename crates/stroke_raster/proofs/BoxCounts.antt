@@ -94,6 +94,22 @@ boxes_join inside (s ∷ ss) first n m columns =
     let c = sum_by-cons (λ (t : Segment). box_pixels inside t (first + n) m columns) s ss in
     omega (arith, i, j, a, b, c)
 
+-- the rows up to one and those after it
+pub boxes_after : (inside : Segment → ℕ → ℕ → Bool) (ss : List Segment) (first at n columns : ℕ) → first ≤ at → boxes inside ss first (at + n - first) columns ≡ boxes inside ss first (at - first) columns + boxes inside ss at n columns
+boxes_after inside ss first at n columns h =
+    let j = boxes_join inside ss first (at - first) n columns in
+    let y : (at - first) + n ≡ at + n - first = omega arith in
+    let z : first + (at - first) ≡ at = omega arith in
+    ap (λ (k : ℕ). boxes inside ss first k columns) (sym y) ∙ j ∙ ap (λ (k : ℕ). boxes inside ss first (at - first) columns + boxes inside ss k n columns) z
+
+-- fewer rows, fewer pixels
+pub boxes_fewer : (inside : Segment → ℕ → ℕ → Bool) (ss : List Segment) (first n m columns : ℕ) → n ≤ m → boxes inside ss first n columns ≤ boxes inside ss first m columns
+boxes_fewer inside ss first n m columns h =
+    let j = boxes_join inside ss first n (m - n) columns in
+    let z : n + (m - n) ≡ m = omega arith in
+    let j' : boxes inside ss first m columns ≡ boxes inside ss first n columns + boxes inside ss (first + n) (m - n) columns = ap (λ (k : ℕ). boxes inside ss first k columns) (sym z) ∙ j in
+    omega (arith, j')
+
 sum_push : (f : Segment → ℕ) (ss : List Segment) (t : Segment) → sum_by f (ss ++ t ∷ []) ≡ sum_by f ss + f t
 sum_push f ss t = let a = sum_by-append f ss (t ∷ []) in let b = sum_by-cons f t [] in omega (arith, a, b)
 
