@@ -22,8 +22,8 @@ pub record AreBits (columns rows stride : ℕ) (bytes : List ℕ) : Type 0 where
   pub size : length bytes ≡ rows * stride
   pub after : (r k : ℕ) → r < rows → columns ≤ k → k < 8 * stride → ink_at stride bytes r k ≡ 0
 
--- the pixels of a number of rows, of which `first` is the number of the first one on the page, show these strokes, as
--- `mark` says for the position of each
+-- in a number of rows, of which `first` is the number of the first one on the page, each pixel is the mark of the
+-- position of the stroke that it shows
 abbrev pub Shows : (ℕ → ℕ → ℕ) → (ℕ → ℕ) → (Segment → ℕ → ℕ → Bool) → PenSet → List Segment → ℕ → ℕ → ℕ → Type 0
 Shows pixel mark covers pens strokes first rows columns =
     (r k : ℕ) → r < rows → k < columns → pixel r k ≡ mark (shown covers pens strokes (first + r) k)

@@ -19,7 +19,7 @@ pub trait Canvas {
     // What the pixel of a row and a column shows, both counted from 0; 0 if it is blank.
     ghost pixel: { Self → ℕ → ℕ → ℕ };
 
-    // What a pixel shows after the stroke at a position of the list, counted from 1, was painted over it.
+    // What a pixel shows once the stroke at a position of the list, counted from 1, is painted over it.
     ghost mark: { ℕ → ℕ };
 
     // What holds between two calls.
@@ -34,7 +34,7 @@ pub trait Canvas {
         ensures width { width self.new ≡ width self.old }
         ensures blank { (r k : ℕ) → r < rows → k < width self.old → pixel self.new r k ≡ 0 };
 
-    /// Paints the part of a stroke that lies in its rows, of which `first` is the number of the first one
+    /// Paints the part of a stroke that lies in the canvas's rows; `first` is the number of the first of these
     /// on the page. Returns the end of the rows of the stroke's box.
     fn paint<G: Gauge>(
         &mut self,
@@ -64,6 +64,6 @@ pub trait Canvas {
             (λ s. in_box s page.now dots) stroke.now first (height self.old) (width self.old) }
         ensures grows { G.count gauge.old ≤ G.count gauge.new };
 
-    // A position that is no stroke's marks nothing.
+    // 0, the position of no stroke, is what a blank pixel shows.
     ghost blank: { mark 0 ≡ 0 };
 }

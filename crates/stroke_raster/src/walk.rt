@@ -87,7 +87,7 @@ pub fn paint_band<G: Gauge, C: Canvas>(
     links[tail as usize] = end;
 }
 
-// The band of a row, counted from the first row, in bands of so many rows. Most pages have few bands, and a
+// The band of a row, counted from the first row, in bands of `band_rows` rows. Most pages have few bands, and a
 // comparison costs less than a division.
 fn band_of_row(row: u32, band_rows: u32) -> u32
     requires { 1 ≤ band_rows }
