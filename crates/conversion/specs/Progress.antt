@@ -5,12 +5,13 @@ use Rattle.std.specs.Io.KnownBytes.{Appends}
 use Rattle.picture_out.specs.declared.form.Form.{Form}
 use Rattle.picture_out.specs.declared.inks.Ink.{Ink}
 use Rattle.picture_out.specs.Forms.{foot_bytes, row_bytes}
+use Rattle.png.specs.declared.header.Depth.{Depth}
 use Rattle.devices.specs.Sinks.{SinkState}
 use Rattle.plot_page.specs.Segments.{Segment}
 use Rattle.plot_page.specs.Resolutions.{rows_of}
 use Rattle.stroke_raster.specs.Painting.{Painting}
 use Rattle.picture_job.specs.declared.job.Job.{Job}
-use Rattle.conversion.specs.Pictures.{Reach, head_if, head_of, job_fault, picture_of, row_of}
+use Rattle.conversion.specs.Pictures.{Reach, head_of, job_fault, picture_of, row_of, rows_bytes}
 use Rattle.conversion.specs.Boxes.{boxes_from}
 use Rattle.conversion.specs.declared.fault.Fault.{Fault}
 use Rattle.conversion.specs.declared.fault.Fault.TheVariants.{Memory, Paint, Write}
@@ -44,17 +45,34 @@ pub record AreWritten (text : List ℕ) (done : ℕ) (sink sink' : SinkState) (b
   pub sound : sink'.faults ≡ sink.faults
 
 -- the sink failed in the k-th of some rows
-pub record AreCutShort (form : Form) (inks : List Ink) (first at : ℕ) (rows : List (List ℕ)) (done : ℕ)
+pub record CellsAreCutShort (form : Form) (inks : List Ink) (first at : ℕ) (rows : List (List ℕ)) (done : ℕ)
     (sink sink' : SinkState) (stop : Broken) : Type 0 where
   pub written : Appends sink.held sink'.held (take (stop.bytes - done) (rows_text form inks at rows))
   pub failed : sink'.faults ≡ sink.faults + 1
   pub k : ℕ
   pub stopped : StopsIn form inks first at rows done stop k
 
--- all the rows were written and nothing failed, or the sink failed once
-abbrev pub WritesRows : Form → List Ink → ℕ → ℕ → List (List ℕ) → ℕ → SinkState → SinkState → Result ℕ Broken → Type 0
-WritesRows form inks first at rows done sink sink' (Ok n) = AreWritten (rows_text form inks at rows) done sink sink' n
-WritesRows form inks first at rows done sink sink' (Err stop) = AreCutShort form inks first at rows done sink sink' stop
+-- all the rows of a list were written and nothing failed, or the sink failed once
+abbrev pub WritesCells : Form → List Ink → ℕ → ℕ → List (List ℕ) → ℕ → SinkState → SinkState → Result ℕ Broken → Type 0
+WritesCells form inks first at rows done sink sink' (Ok n) = AreWritten (rows_text form inks at rows) done sink sink' n
+WritesCells form inks first at rows done sink sink' (Err stop) =
+    CellsAreCutShort form inks first at rows done sink sink' stop
+
+-- the sink failed in one of the rows from `at` up to `end`, after `done` bytes of this run
+pub record AreCutShort (row : ℕ → List ℕ) (first at end done : ℕ) (sink sink' : SinkState) (stop : Broken) : Type 0 where
+  pub written : Appends sink.held sink'.held (take (stop.bytes - done) (rows_bytes row at (end - at)))
+  pub failed : sink'.faults ≡ sink.faults + 1
+  pub since : at ≤ stop.row
+  pub until : stop.row < end
+  pub from : done + length (rows_bytes row at (stop.row - at)) ≤ stop.bytes
+  pub to : stop.bytes < done + length (rows_bytes row at (stop.row - at)) + length (row stop.row)
+  pub whole : stop.whole
+      ≡ (if nat_eq stop.row first then 0 else (done + length (rows_bytes row at (stop.row - at))))
+
+-- the rows from `at` up to `end` were written and nothing failed, or the sink failed once
+abbrev pub WritesRows : (ℕ → List ℕ) → ℕ → ℕ → ℕ → ℕ → SinkState → SinkState → Result ℕ Broken → Type 0
+WritesRows row first at end done sink sink' (Ok n) = AreWritten (rows_bytes row at (end - at)) done sink sink' n
+WritesRows row first at end done sink sink' (Err stop) = AreCutShort row first at end done sink sink' stop
 
 -- a picture was written
 pub record IsWhole (text : List ℕ) (sink sink' : SinkState) (bytes : ℕ) : Type 0 where
@@ -75,19 +93,13 @@ abbrev pub WritesPicture : List ℕ → (ℕ → List ℕ) → List ℕ → ℕ 
 WritesPicture head row foot rows first sink sink' (Ok n) = IsWhole (picture_of head row foot rows first) sink sink' n
 WritesPicture head row foot rows first sink sink' (Err stop) = PictureStops head row foot rows first sink sink' stop
 
--- the head of the picture of what is painted, if it begins with row 0
-abbrev pub head_of_painting : Form → Painting → List ℕ
-head_of_painting form p = head_if (head_of form p.page p.dots) p.next
+-- the bytes of each row of what is painted, in a form
+abbrev pub painting_row : Form → Painting → Reach → ℕ → List ℕ
+painting_row form p reaches row = row_of form reaches p.pens p.strokes p.page p.dots row
 
--- a picture of what is painted was written, or the sink failed once
-abbrev pub WritesPainting : Form → Reach → Painting → SinkState → SinkState → Result ℕ Broken → Type 0
-WritesPainting form reaches p sink sink' answer =
-    WritesPicture (head_of form p.page p.dots) (row_of form reaches p.pens p.strokes p.page p.dots) (foot_bytes form)
-    (rows_of p.page p.dots) p.next sink sink' answer
-
--- how many tests its painting makes at most
-abbrev pub boxes_of : Painting → ℕ
-boxes_of p = boxes_from p.pens p.strokes p.page p.dots p.next
+-- how many tests the painting of the rows that are left makes at most
+abbrev pub tests_left : Painting → ℕ
+tests_left p = boxes_from p.pens p.strokes p.page p.dots p.next
 
 -- the job can be done on its page, and a picture of its strokes was written, or the sink failed once
 abbrev pub WritesJob : Job → Reach → List Segment → SinkState → SinkState → Result ℕ Broken → Type 0
@@ -110,3 +122,9 @@ HasPainted job reaches strokes sink sink' (Err _) = ⊥
 pub record CellPainting : Type 0 where
   pub painting : Painting
   pub form : Form
+
+-- what is painted as cells, how many bits a number takes, and the number of each stroke
+pub record NumberPainting : Type 0 where
+  pub painting : Painting
+  pub depth : Depth
+  pub numbers : List ℕ

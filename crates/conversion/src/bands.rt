@@ -1,37 +1,56 @@
 //! The bands of a picture: painted and written, one after another.
-ghost use Rattle.std.specs.Prelude.{◌≡◌, ◌+◌, ◌-◌, ◌*◌, ◌^◌, ◌<◌, ◌≤◌, ◌↔◌, IfOk, Err, length, true, false};
+ghost use Rattle.std.specs.Prelude.{◌≡◌, ℕ, List, ◌+◌, ◌-◌, ◌*◌, ◌^◌, ◌<◌, ◌≤◌, ◌↔◌, IfOk, Err, length, true, false};
 ghost use Rattle.plot_page.specs.declared.stroke.TheConstants.{MOST_STROKES};
 ghost use Rattle.plot_page.specs.declared.dots.TheConstants.{MOST_PIXELS_A_SIDE};
-ghost use Rattle.plot_page.specs.Resolutions.{columns_of, rows_of};
+ghost use Rattle.plot_page.specs.Resolutions.{rows_of};
+ghost use Rattle.plot_page.specs.Segments.{Segment};
+ghost use Rattle.plot_page.specs.declared.page.Page.{Page};
+ghost use Rattle.plot_page.specs.declared.dots.Dots.{Dots};
+ghost use Rattle.plot_page.specs.declared.pens.PenSet.{PenSet};
 ghost use Rattle.stroke_raster.specs.declared.painter.PaintFault.TheVariants.{Band, Row};
 ghost use Rattle.stroke_raster.specs.BandHeights.{is_band_height};
-ghost use Rattle.stroke_raster.specs.Painting.{Painting, Moves, boxed_pixels, painted_rows, rows_next};
-ghost use Rattle.picture_out.specs.declared.form.Form.{Form};
-ghost use Rattle.conversion.specs.Pictures.{inks_of};
+ghost use Rattle.conversion.specs.Pictures.{Reach};
 ghost use Rattle.conversion.specs.Progress.{WritesRows};
 
 use crate::writing::Broken;
 use devices::Sink;
-use picture_out::Form;
 use plot_page::{Dots, Page, PenSet, Stroke};
 use std::alloc::Global;
 use stroke_raster::{Gauge, PaintFault};
 
 /// Paints the strokes of a picture and writes its rows, band by band.
 pub trait Bands<'a>: Sized {
-    // What is painted, and the next row.
-    ghost painting: { Self → Painting };
+    /// What the rows depend on beside the strokes, the page and the resolution.
+    type Ask: Copy;
 
-    // The form of the rows that are written.
-    ghost form_of: { Self → Form };
+    // Bands can be begun for this, with these strokes.
+    ghost can_begin: { Self.Ask → List Segment → Type 0 };
 
-    // Rows can be written in this form.
-    ghost can_write: { Form → Type 0 };
+    // The bytes of each row of the picture that is asked for, by what a gauge reaches.
+    ghost asked_text: { Self.Ask → PenSet → List Segment → Page → Dots → Reach → ℕ → List ℕ };
 
-    /// The bands of a picture in this form, as `Painter::new` begins them. They have at most `band_rows` rows each.
+    // How many tests its rows take at most, from one row on.
+    ghost asked_tests: { Self.Ask → PenSet → List Segment → Page → Dots → ℕ → ℕ };
+
+    // The bytes of each row, by what a gauge reaches.
+    ghost row_text: { Self → Reach → ℕ → List ℕ };
+
+    // How many rows the picture has.
+    ghost rows: { Self → ℕ };
+
+    // The number of the row that the next band begins with.
+    ghost next: { Self → ℕ };
+
+    // How many rows a band has at most.
+    ghost height: { Self → ℕ };
+
+    // How many tests the rows that are left take at most.
+    ghost tests: { Self → ℕ };
+
+    /// The bands of a picture, from row `first_row` on. They have at most `band_rows` rows each.
     fn begin(
         alloc: Global,
-        form: Form,
+        ask: Self::Ask,
         strokes: &'a [Stroke],
         page: Page,
         dots: Dots,
@@ -39,36 +58,25 @@ pub trait Bands<'a>: Sized {
         band_rows: u32,
         first_row: u32,
     ) -> Result<Self, PaintFault>
-        requires form { can_write form }
+        requires ask { can_begin ask strokes.now }
         requires few { length strokes.now ≤ MOST_STROKES }
-        ensures form { IfOk result (λ b. form_of b ≡ form) }
         ensures band { (result ≡ Err Band) ↔ (is_band_height band_rows ≡ false) }
-        ensures row { (result ≡ Err Row) ↔ ((is_band_height band_rows ≡ true) × (rows_of page dots < first_row)) }
-        ensures strokes { IfOk result (λ b. (painting b).strokes ≡ strokes.entry.now) }
-        ensures page { IfOk result (λ b. (painting b).page ≡ page) }
-        ensures dots { IfOk result (λ b. (painting b).dots ≡ dots) }
-        ensures pens { IfOk result (λ b. (painting b).pens ≡ pens) }
-        ensures first { IfOk result (λ b. (painting b).next ≡ first_row) }
-        ensures height { IfOk result (λ b. (painting b).band_rows ≤ band_rows) };
+        ensures first { (result ≡ Err Row) ↔ ((is_band_height band_rows ≡ true) × (rows_of page dots < first_row)) }
+        ensures text { IfOk result (λ b. row_text b ≡ asked_text ask pens strokes.entry.now page dots) }
+        ensures rows { IfOk result (λ b. rows b ≡ rows_of page dots) }
+        ensures next { IfOk result (λ b. next b ≡ first_row) }
+        ensures height { IfOk result (λ b. height b ≤ band_rows) }
+        ensures tests { IfOk result (λ b. tests b ≡ asked_tests ask pens strokes.entry.now page dots first_row) };
 
     /// The number of the row that the next band begins with.
     fn next_row(&self) -> u32
-        ensures next { result ≡ (painting self.now).next }
-        ensures within { result ≤ rows_of (painting self.now).page (painting self.now).dots };
+        ensures next { result ≡ next self.now }
+        ensures within { result ≤ rows self.now };
 
-    /// How many columns of pixels the picture has.
-    fn columns(&self) -> u32
-        ensures count { result ≡ columns_of (painting self.now).page (painting self.now).dots }
-        ensures most { result ≤ MOST_PIXELS_A_SIDE };
-
-    /// How many rows of pixels the page has.
+    /// How many rows the picture has.
     fn rows(&self) -> u32
-        ensures count { result ≡ rows_of (painting self.now).page (painting self.now).dots }
+        ensures count { result ≡ rows self.now }
         ensures most { result ≤ MOST_PIXELS_A_SIDE };
-
-    /// The resolution.
-    fn dots(&self) -> Dots
-        ensures { result ≡ (painting self.now).dots };
 
     /// Paints the next band, and writes its rows after `done` bytes. Answers how many bytes there are
     /// then. Row `first` is the one that the picture begins with.
@@ -79,20 +87,20 @@ pub trait Bands<'a>: Sized {
         gauge: &mut G,
         sink: &mut K,
     ) -> Result<u64, Broken>
-        requires left { (painting self.old).next < rows_of (painting self.old).page (painting self.old).dots }
+        requires left { next self.old < rows self.old }
         requires sinking { (K.state sink.old).faults < 2 ^ 64 - 1 }
         requires done_in { done ≤ 2 ^ 62 }
-        ensures form { form_of self.new ≡ form_of self.old }
-        ensures moves { Moves (painting self.old) (painting self.new) }
-        ensures some { 1 ≤ rows_next (painting self.old) }
-        ensures rows { WritesRows (form_of self.old) (inks_of (painting self.old).strokes) first (painting self.old).next
-            (painted_rows (G.reaches gauge.old) (painting self.old)
-            (painting self.old).next (rows_next (painting self.old))) done
+        ensures text { row_text self.new ≡ row_text self.old }
+        ensures rows { rows self.new ≡ rows self.old }
+        ensures some { next self.old < next self.new }
+        ensures within { next self.new ≤ rows self.new }
+        ensures most { next self.new ≤ next self.old + height self.old }
+        ensures height { height self.new ≡ height self.old }
+        ensures writes { WritesRows (row_text self.old (G.reaches gauge.old)) first (next self.old) (next self.new) done
             (K.state sink.old) (K.state sink.new) result }
-        ensures small { IfOk result (λ bytes. bytes ≤ done + rows_next (painting self.old) * 4194304) }
+        ensures small { IfOk result (λ bytes. bytes ≤ done + (next self.new - next self.old) * 4194304) }
         ensures same { G.reaches gauge.new ≡ G.reaches gauge.old }
-        ensures most { G.count gauge.new ≤ G.count gauge.old
-            + boxed_pixels (painting self.old) (painting self.old).next (rows_next (painting self.old)) };
+        ensures tests { G.count gauge.new + tests self.new ≤ G.count gauge.old + tests self.old };
 }
 
 /// The height of bands whose rows have `size` bytes each: as many rows as lie in `room` bytes, at least one and at most

@@ -1,13 +1,16 @@
 //! Bands of bits, which are the rows of a PBM.
-ghost use Rattle.std.specs.Prelude.{◌≡◌};
+ghost use Rattle.std.specs.Prelude.{◌≡◌, ⊤};
+ghost use Rattle.plot_page.specs.Resolutions.{rows_of};
 ghost use Rattle.picture_out.specs.declared.form.Form.TheVariants.{Pbm};
+ghost use Rattle.conversion.specs.Pictures.{row_of};
+ghost use Rattle.conversion.specs.Boxes.{boxes_from};
+ghost use Rattle.conversion.specs.Progress.{painting_row, tests_left};
 
 use crate::bands::{Bands, height_within};
 use crate::even_rows::write_rows;
 use crate::writing::Broken;
 use bit_rows::packed_length;
 use devices::Sink;
-use picture_out::Form;
 use plot_page::{Dots, Page, PenSet, Stroke};
 use std::alloc::Global;
 use stroke_raster::{Gauge, Inker, PaintFault};
@@ -16,15 +19,27 @@ use stroke_raster::{Gauge, Inker, PaintFault};
 pub const ROOM: u32 = 262_144;
 
 impl<'a> Bands<'a> for Inker<'a> {
-    ghost painting = { λ p. p };
+    type Ask = ();
 
-    ghost form_of = { λ _. Pbm };
+    ghost can_begin = { λ _ _. ⊤ };
 
-    ghost can_write = { λ form. form ≡ Pbm };
+    ghost asked_text = { λ _ pens strokes page dots reaches row. row_of Pbm reaches pens strokes page dots row };
+
+    ghost asked_tests = { λ _ pens strokes page dots first. boxes_from pens strokes page dots first };
+
+    ghost row_text = { λ p. painting_row Pbm p };
+
+    ghost rows = { λ p. rows_of p.page p.dots };
+
+    ghost next = { λ p. p.next };
+
+    ghost height = { λ p. p.band_rows };
+
+    ghost tests = { λ p. tests_left p };
 
     fn begin(
         alloc: Global,
-        _form: Form,
+        _ask: (),
         strokes: &'a [Stroke],
         page: Page,
         dots: Dots,
@@ -41,16 +56,8 @@ impl<'a> Bands<'a> for Inker<'a> {
         Inker::next_row(self)
     }
 
-    fn columns(&self) -> u32 {
-        Inker::columns(self)
-    }
-
     fn rows(&self) -> u32 {
         Inker::rows(self)
-    }
-
-    fn dots(&self) -> Dots {
-        Inker::dots(self)
     }
 
     fn write_next<G: Gauge, K: Sink>(

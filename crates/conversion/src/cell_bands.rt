@@ -1,9 +1,12 @@
 //! Bands of cells: each row is written in the picture's form.
 ghost use Rattle.std.specs.Prelude.{◌≡◌, ◌+◌, ◌-◌, ◌*◌, ◌^◌, ◌<◌, ◌≤◌, All, length, IfOk, ⊤};
 ghost use Rattle.plot_page.specs.declared.dots.TheConstants.{MOST_PIXELS_A_SIDE};
+ghost use Rattle.plot_page.specs.Resolutions.{rows_of};
 ghost use Rattle.stroke_raster.specs.Bands.{first_of, rows_of_band};
 ghost use Rattle.picture_out.specs.Rooms.{room_of};
-ghost use Rattle.conversion.specs.Progress.{WritesRows};
+ghost use Rattle.conversion.specs.Pictures.{row_of};
+ghost use Rattle.conversion.specs.Boxes.{boxes_from};
+ghost use Rattle.conversion.specs.Progress.{painting_row, tests_left, WritesCells};
 
 use crate::bands::{Bands, height_within};
 use crate::reading::buffer_of;
@@ -45,11 +48,23 @@ impl<'a> Model for CellBands<'a> {
 }
 
 impl<'a> Bands<'a> for CellBands<'a> {
-    ghost painting = { λ b. b.painting };
+    type Ask = Form;
 
-    ghost form_of = { λ b. b.form };
+    ghost can_begin = { λ _ _. ⊤ };
 
-    ghost can_write = { λ _. ⊤ };
+    ghost asked_text = { λ form pens strokes page dots reaches row. row_of form reaches pens strokes page dots row };
+
+    ghost asked_tests = { λ _ pens strokes page dots first. boxes_from pens strokes page dots first };
+
+    ghost row_text = { λ b. painting_row b.form b.painting };
+
+    ghost rows = { λ b. rows_of b.painting.page b.painting.dots };
+
+    ghost next = { λ b. b.painting.next };
+
+    ghost height = { λ b. b.painting.band_rows };
+
+    ghost tests = { λ b. tests_left b.painting };
 
     fn begin(
         alloc: Global,
@@ -79,16 +94,8 @@ impl<'a> Bands<'a> for CellBands<'a> {
         self.painter.next_row()
     }
 
-    fn columns(&self) -> u32 {
-        self.painter.columns()
-    }
-
     fn rows(&self) -> u32 {
         self.painter.rows()
-    }
-
-    fn dots(&self) -> Dots {
-        self.painter.dots()
     }
 
     fn write_next<G: Gauge, K: Sink>(
@@ -132,7 +139,7 @@ fn write_band<I: Inks, K: Sink>(
     requires rows_in { first_of band.now + length (rows_of_band band.now) ≤ MOST_PIXELS_A_SIDE }
     requires done_in { done ≤ 2 ^ 62 }
     ensures small { IfOk result (λ bytes. bytes ≤ done + length (rows_of_band band.now) * 4194304) }
-    ensures rows { WritesRows form (I.inks inks.now) first (first_of band.now) (rows_of_band band.now) done
+    ensures rows { WritesCells form (I.inks inks.now) first (first_of band.now) (rows_of_band band.now) done
         (K.state sink.old) (K.state sink.new) result }
 {
     let mut written = done;

@@ -2,7 +2,7 @@
 ghost use Rattle.std.specs.Prelude.{◌≡◌, ℕ, List, ◌+◌, ◌-◌, ◌*◌, ◌^◌, ◌<◌, ◌≤◌, length, IfOk};
 ghost use Rattle.picture_out.specs.declared.form.Form.{Form};
 ghost use Rattle.picture_out.specs.declared.inks.Ink.{Ink};
-ghost use Rattle.conversion.specs.Progress.{rows_text, AreEven, WritesRows};
+ghost use Rattle.conversion.specs.Progress.{rows_text, AreEven, WritesCells};
 
 use crate::writing::{Broken, whole_before};
 use devices::{Sink, put_all};
@@ -24,7 +24,7 @@ pub fn write_rows<K: Sink>(
     requires done_in { done ≤ 2 ^ 62 }
     ensures rows { (form : Form) (inks : List Ink) (rows : List (List ℕ)) → AreEven form inks at rows size →
         bytes.now ≡ rows_text form inks at rows →
-        WritesRows form inks first at rows done (K.state sink.old) (K.state sink.new) result }
+        WritesCells form inks first at rows done (K.state sink.old) (K.state sink.new) result }
     ensures count { IfOk result (λ n. n ≡ done + length bytes.now) }
 {
     match put_all(sink, bytes) {

@@ -1,7 +1,8 @@
 //! Painting a job's strokes, and writing its picture.
 ghost use Rattle.std.specs.Prelude.{◌≡◌, ◌+◌, ◌-◌, ◌^◌, ◌<◌, ◌≤◌, length, IfErr, false};
 ghost use Rattle.plot_page.specs.declared.stroke.TheConstants.{MOST_STROKES};
-ghost use Rattle.conversion.specs.Boxes.{boxes_from};
+ghost use Rattle.conversion.specs.Boxes.{strokes_boxes};
+ghost use Rattle.conversion.specs.Pictures.{strokes_row};
 ghost use Rattle.conversion.specs.Conversions.{is_write};
 ghost use Rattle.conversion.specs.Progress.{HasPainted};
 
@@ -35,24 +36,26 @@ pub fn paint<G: Gauge, K: Sink, W: Watcher>(
     requires few { length strokes.now ≤ MOST_STROKES }
     requires sinking { (K.state sink.old).faults < 2 ^ 64 - 1 }
     ensures paints { HasPainted job.now (G.reaches gauge.old) strokes.now (K.state sink.old) (K.state sink.new) result }
-    ensures tests { G.count gauge.new ≤ G.count gauge.old
-        + boxes_from job.now.pens strokes.now job.now.page job.now.dots job.now.first_row }
+    ensures tests { G.count gauge.new ≤ G.count gauge.old + strokes_boxes job.now strokes.now }
     ensures same { G.reaches gauge.new ≡ G.reaches gauge.old }
     ensures untouched { IfErr result (λ fault. is_write fault ≡ false → sink.new ≡ sink.old) }
 {
     match job.form {
-        Form::Pbm => paint_by::<Inker<'_>, G, K, W>(alloc, job, strokes, gauge, sink, watcher),
-        Form::Pcl => paint_by::<PclBands<'_>, G, K, W>(alloc, job, strokes, gauge, sink, watcher),
-        Form::Marks | Form::Ppm => {
-            paint_by::<CellBands<'_>, G, K, W>(alloc, job, strokes, gauge, sink, watcher)
+        Form::Pbm => paint_by::<Inker<'_>, G, K, W>(alloc, job, (), strokes, gauge, sink, watcher),
+        Form::Pcl => {
+            paint_by::<PclBands<'_>, G, K, W>(alloc, job, (), strokes, gauge, sink, watcher)
+        }
+        form @ (Form::Marks | Form::Ppm) => {
+            paint_by::<CellBands<'_>, G, K, W>(alloc, job, form, strokes, gauge, sink, watcher)
         }
     }
 }
 
-// The same by these bands.
+// The same by these bands, which are asked for so.
 fn paint_by<'a, B: Bands<'a> + Drop, G: Gauge, K: Sink, W: Watcher>(
     alloc: Global,
     job: &Job,
+    ask: B::Ask,
     strokes: &'a [Stroke],
     gauge: &mut G,
     sink: &mut K,
@@ -60,17 +63,20 @@ fn paint_by<'a, B: Bands<'a> + Drop, G: Gauge, K: Sink, W: Watcher>(
 ) -> Result<u64, Fault>
     requires few { length strokes.now ≤ MOST_STROKES }
     requires sinking { (K.state sink.old).faults < 2 ^ 64 - 1 }
-    requires form { B.can_write job.now.form }
+    requires ask { B.can_begin ask strokes.now }
+    requires text { B.asked_text ask job.now.pens strokes.now job.now.page job.now.dots (G.reaches gauge.old)
+        ≡ strokes_row job.now (G.reaches gauge.old) strokes.now }
+    requires tests { B.asked_tests ask job.now.pens strokes.now job.now.page job.now.dots job.now.first_row
+        ≡ strokes_boxes job.now strokes.now }
     ensures paints { HasPainted job.now (G.reaches gauge.old) strokes.entry.now
         (K.state sink.old) (K.state sink.new) result }
-    ensures tests { G.count gauge.new ≤ G.count gauge.old
-        + boxes_from job.now.pens strokes.entry.now job.now.page job.now.dots job.now.first_row }
+    ensures tests { G.count gauge.new ≤ G.count gauge.old + strokes_boxes job.now strokes.entry.now }
     ensures same { G.reaches gauge.new ≡ G.reaches gauge.old }
     ensures untouched { IfErr result (λ fault. is_write fault ≡ false → sink.new ≡ sink.old) }
 {
     let mut bands = B::begin(
         alloc,
-        job.form,
+        ask,
         strokes,
         job.page,
         job.dots,
@@ -78,6 +84,15 @@ fn paint_by<'a, B: Bands<'a> + Drop, G: Gauge, K: Sink, W: Watcher>(
         job.band,
         job.first_row,
     )?;
-    let bytes = write_picture(job.form, &mut bands, gauge, sink, watcher)?;
+    let columns = job.dots.columns(&job.page);
+    let bytes = write_picture(
+        job.form,
+        job.dots.per_inch(),
+        columns,
+        &mut bands,
+        gauge,
+        sink,
+        watcher,
+    )?;
     Ok(bytes)
 }

@@ -1,11 +1,14 @@
 //! Bands of bits, each row of which is written after the PCL command that transfers it.
-ghost use Rattle.std.specs.Prelude.{◌≡◌, ℕ, List, ◌+◌, ◌-◌, ◌*◌, ◌^◌, ◌<◌, ◌≤◌, All, length, map, take, flat_map, IfOk};
+ghost use Rattle.std.specs.Prelude.{◌≡◌, ℕ, List, ◌+◌, ◌-◌, ◌*◌, ◌^◌, ◌<◌, ◌≤◌, All, length, map, take, flat_map, IfOk, ⊤};
+ghost use Rattle.plot_page.specs.Resolutions.{rows_of};
 ghost use Rattle.picture_out.specs.declared.form.Form.TheVariants.{Pcl};
 ghost use Rattle.picture_out.specs.declared.inks.Ink.{Ink};
 ghost use Rattle.picture_out.specs.Pcl as pcl;
 ghost use Rattle.bit_rows.specs.Bits.{packed};
 ghost use Rattle.stroke_raster.specs.Rows.{split_rows};
-ghost use Rattle.conversion.specs.Progress.{WritesRows};
+ghost use Rattle.conversion.specs.Pictures.{row_of};
+ghost use Rattle.conversion.specs.Boxes.{boxes_from};
+ghost use Rattle.conversion.specs.Progress.{painting_row, tests_left, WritesCells};
 
 use crate::bands::{Bands, height_within};
 use crate::bit_bands::ROOM;
@@ -13,7 +16,6 @@ use crate::even_rows::write_rows;
 use crate::writing::Broken;
 use bit_rows::packed_length;
 use devices::Sink;
-use picture_out::Form;
 use picture_out::pcl::{LONGEST_COMMAND, append_row};
 use plot_page::{Dots, Page, PenSet, Stroke};
 use std::alloc::Global;
@@ -43,15 +45,27 @@ impl<'a> Model for PclBands<'a> {
 }
 
 impl<'a> Bands<'a> for PclBands<'a> {
-    ghost painting = { λ p. p };
+    type Ask = ();
 
-    ghost form_of = { λ _. Pcl };
+    ghost can_begin = { λ _ _. ⊤ };
 
-    ghost can_write = { λ form. form ≡ Pcl };
+    ghost asked_text = { λ _ pens strokes page dots reaches row. row_of Pcl reaches pens strokes page dots row };
+
+    ghost asked_tests = { λ _ pens strokes page dots first. boxes_from pens strokes page dots first };
+
+    ghost row_text = { λ p. painting_row Pcl p };
+
+    ghost rows = { λ p. rows_of p.page p.dots };
+
+    ghost next = { λ p. p.next };
+
+    ghost height = { λ p. p.band_rows };
+
+    ghost tests = { λ p. tests_left p };
 
     fn begin(
         alloc: Global,
-        _form: Form,
+        _ask: (),
         strokes: &'a [Stroke],
         page: Page,
         dots: Dots,
@@ -73,16 +87,8 @@ impl<'a> Bands<'a> for PclBands<'a> {
         self.inker.next_row()
     }
 
-    fn columns(&self) -> u32 {
-        self.inker.columns()
-    }
-
     fn rows(&self) -> u32 {
         self.inker.rows()
-    }
-
-    fn dots(&self) -> Dots {
-        self.inker.dots()
     }
 
     fn write_next<G: Gauge, K: Sink>(
@@ -123,7 +129,7 @@ fn put_rows<K: Sink>(
     requires done_in { done ≤ 2 ^ 62 }
     ensures rows { (inks : List Ink) (cells : List (List ℕ)) → length cells ≡ rows →
         All (λ row. length (packed row) ≡ stride) cells → split_rows stride rows bits.now ≡ map packed cells →
-        WritesRows Pcl inks first at cells done (K.state sink.old) (K.state sink.new) result }
+        WritesCells Pcl inks first at cells done (K.state sink.old) (K.state sink.new) result }
     ensures most { IfOk result (λ n. n ≤ done + rows * (stride + LONGEST_COMMAND)) }
 {
     let used = append_rows(text, rows, stride, bits);

@@ -1,14 +1,27 @@
-use Rattle.std.proofs.Common.{◌≤◌, ◌+◌}
-use Rattle.conversion.specs.Boxes.{boxes_from}
-use Rattle.conversion.proofs.Stops.{move_parts}
+use Rattle.std.proofs.Common.{◌≡◌, ℕ, List, ap, sym, subst, ◌∙◌, Result, Ok, Err, rules, None}
+use Rattle.picture_out.specs.Forms.{foot_bytes, head_bytes}
+use Rattle.plot_page.specs.Resolutions.{rows_of}
+use Rattle.conversion.specs.Pictures.{Reach, head_of, job_fault, strokes_row}
+use Rattle.conversion.specs.Progress.{HasPainted}
+use Rattle.conversion.specs.declared.fault.Fault.{Fault}
+use Rattle.conversion.proofs.Refusals.{passed_on}
+use Rattle.conversion.proofs.WrittenRows.{stops_same}
 use Rattle.conversion.proofs.painting.paint_by.Goals as goal
 
-pub returns-clause-tests : goal.returns-clause-tests
-returns-clause-tests g c =
+pub returns-in_err-bytes-clause-paints : goal.returns-in_err-bytes-clause-paints
+returns-in_err-bytes-clause-paints g c =
+    let job = c.args.job.now in
+    let form = job.form in
     let made = c.in_ok-bands.ensures in
-    move_parts (λ l ss p d r. g.G.Gauge.count c.write_picture.new.gauge ≤ g.G.Gauge.count c.args.gauge.now + boxes_from l ss p d r) _ _ _ _ _ _ _ _ _ _ made.pens made.strokes made.page made.dots made.first c.in_ok-bytes.ensures.tests
-
-pub returns-in_err-bytes-clause-tests : goal.returns-in_err-bytes-clause-tests
-returns-in_err-bytes-clause-tests g c =
-    let made = c.in_ok-bands.ensures in
-    move_parts (λ l ss p d r. g.G.Gauge.count c.write_picture.new.gauge ≤ g.G.Gauge.count c.args.gauge.now + boxes_from l ss p d r) _ _ _ _ _ _ _ _ _ _ made.pens made.strokes made.page made.dots made.first c.in_err-bytes.ensures.tests
+    let reaches : Reach = g.G.Gauge.reaches c.args.gauge.now in
+    let bands = c.in_ok-bands.bands in
+    let rows = g.B.Bands.rows bands in
+    let text : g.B.Bands.row_text bands reaches ≡ strokes_row job reaches c.args.strokes.now = ap (λ (f : Reach → ℕ → List ℕ). f reaches) made.text ∙ c.requires.text in
+    let head : head_bytes form c.per_inch.result c.columns-columns.result rows ≡ head_of form job.page job.dots =
+    ap (λ (d : ℕ). head_bytes form d c.columns-columns.result rows) c.per_inch.ensures
+    ∙ ap (λ (n : ℕ). head_bytes form job.dots.resolution n rows) c.columns-columns.ensures.count
+    ∙ ap (head_bytes form job.dots.resolution _) made.rows in
+    let fine : job_fault job ≡ None = search rules in
+    let stops = stops_same _ (head_of form job.page job.dots) _ (strokes_row job reaches c.args.strokes.now) (foot_bytes form) rows (rows_of job.page job.dots) _ job.first_row _ _ c.in_err-bytes.field-0.0 head text made.rows made.next c.in_err-bytes.ensures.writes in
+    subst (λ (answer : Result ℕ Fault). HasPainted job reaches c.args.strokes.now (g.K.Sink.state c.args.sink.now) (g.K.Sink.state c.write_picture.new.sink) answer)
+    (sym (passed_on _ _ c.from_residual-in_err-bytes.ensures.1)) (fine, stops)

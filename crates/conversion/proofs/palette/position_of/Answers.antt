@@ -1,0 +1,18 @@
+use Rattle.std.proofs.Common.{◌≡◌, ◌||◌, Bool, ap₂, sym, ◌∙◌, [], arith, false}
+use Rattle.std.specs.Str.{bytes_eq}
+use Rattle.std.proofs.lemmas.Bool.{not-true, not-false}
+use Rattle.std.proofs.lemmas.List.Folds.{list_any_at, list_any_more}
+use Rattle.conversion.proofs.palette.position_of.Goals as goal
+
+pub loop-at-preserved : goal.loop-at-preserved
+loop-at-preserved c =
+    let lt = c.loop-at-test.true in
+    let differs : bytes_eq c.args.colour _ ≡ false = not-true _ (sym (c.if-ne.ensures {u = tt})) in
+    record {
+      within = omega arith;
+      none = list_any_more (bytes_eq c.args.colour) c.args.colours.now c.loop-at.at [] lt ∙ ap₂ (λ (a b : Bool). a || b) c.loop-at.invariant.none differs;
+    }
+
+pub returns-else-ne-clause-has : goal.returns-else-ne-clause-has
+returns-else-ne-clause-has c = λ lt.
+    list_any_at (bytes_eq c.args.colour) c.args.colours.now c.loop-at.at [] lt (not-false _ (sym (c.if-ne.ensures {u = tt})))
