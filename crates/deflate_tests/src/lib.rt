@@ -1,0 +1,11 @@
+//! Tests of the streams of `deflate` and of the checksum of `crc32`, by public calls.
+#![tactic(auto)]
+
+#[cfg(test)]
+mod checksums;
+#[cfg(test)]
+mod failures;
+#[cfg(test)]
+mod narrow;
+#[cfg(test)]
+mod streams;
