@@ -54,6 +54,14 @@ def test_format():
     assert done.returncode == 0, done.stdout + done.stderr
 
 
+@pytest.mark.parametrize("script", ["deflate_codes", "sine_table"])
+def test_tables(script):
+    """The tables of the sources are those that these scripts compute."""
+    words = [os.path.join(TOP, "tools", script), "--check"]
+    done = subprocess.run(words, capture_output=True, text=True, timeout=SECONDS)
+    assert done.returncode == 0, done.stderr
+
+
 def test_names_of_scripts():
     """A script of one folder has not the name of another folder's."""
     names = [name for folder in ("bench", "tests", "tools") for name in os.listdir(os.path.join(TOP, folder))]
