@@ -16,7 +16,7 @@ DOTS_OF_PCL = (75, 100, 150, 200, 300, 600)
 PAGE_OPTIONS = {
     "width": (64, 65536, 11880), "height": (64, 65536, 8400), "left": (0, 65536, 0), "below": (0, 65536, 0),
 }
-PICTURE_OPTIONS = {"dots": (10, 1200, 100), "band": (1, 4096, 4096), "from": (0, 99999, 0)}
+PICTURE_OPTIONS = {"dots": (10, 1200, 100), "band": (1, 4096, 64), "from": (0, 99999, 0)}
 # In the profile core a sheet may not be given.
 SHEET_OPTIONS = {"sheet": (0, 4_194_304, 1)}
 

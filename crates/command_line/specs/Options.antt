@@ -72,7 +72,7 @@ abbrev pub with_picture : App → App
 with_picture a = with_rule (with_rule (with_rule (with_rule (with_rule (with_rule a
     (number_rule (codes "dots") 10 1200 (codes "100")))
     (option_rule (codes "pens") vp.String (codes "all")))
-    (number_rule (codes "band") 1 4096 (codes "4096")))
+    (number_rule (codes "band") 1 4096 (codes "64")))
     (number_rule (codes "from") 0 99999 (codes "0")))
     (flag_rule (codes "verbose")))
     (flag_rule (codes "progress"))

@@ -206,7 +206,7 @@ fn add_picture<'a>(
 {
     let dots = number_of(alloc, "dots", 10, 1200, "100", dots_line);
     let pens = pens_of(alloc);
-    let band = number_of(alloc, "band", 1, 4096, "4096", BAND);
+    let band = number_of(alloc, "band", 1, 4096, "64", BAND);
     let from = number_of(alloc, "from", 0, 99999, "0", FROM);
     let verbose = flag_of(alloc, "verbose", VERBOSE);
     let progress = flag_of(alloc, "progress", PROGRESS);

@@ -7,7 +7,7 @@ use std::test::Fail;
 const PICTURES: [&str; 4] = ["marks", "pbm", "ppm", "pcl"];
 
 const DEFAULTS_OF_A_PICTURE: &str = "\
-@ 11880 8400 0 0 100 4096 0 pens 1-255 of None
+@ 11880 8400 0 0 100 64 0 pens 1-255 of None
 plotraster|@
 ";
 
@@ -28,25 +28,25 @@ fn defaults_of_a_report(rt: HostRuntime) -> Result<(), Fail> {
 }
 
 const ONE_NUMBER: &str = "\
-@ 64 8400 0 0 100 4096 0 pens 1-255 of None
+@ 64 8400 0 0 100 64 0 pens 1-255 of None
 plotraster|@|--width|64
 
-@ 11880 65536 0 0 100 4096 0 pens 1-255 of None
+@ 11880 65536 0 0 100 64 0 pens 1-255 of None
 plotraster|@|--height|65536
 
-@ 11880 8400 3 0 100 4096 0 pens 1-255 of None
+@ 11880 8400 3 0 100 64 0 pens 1-255 of None
 plotraster|@|--left|3
 
-@ 11880 8400 0 4 100 4096 0 pens 1-255 of None
+@ 11880 8400 0 4 100 64 0 pens 1-255 of None
 plotraster|@|--below|+4
 
-@ 11880 8400 0 0 1200 4096 0 pens 1-255 of None
+@ 11880 8400 0 0 1200 64 0 pens 1-255 of None
 plotraster|@|--dots|1200
 
 @ 11880 8400 0 0 100 8 0 pens 1-255 of None
 plotraster|@|--band|8
 
-@ 11880 8400 0 0 100 4096 99999 pens 1-255 of None
+@ 11880 8400 0 0 100 64 99999 pens 1-255 of None
 plotraster|@|--from|99999
 ";
 
@@ -78,16 +78,16 @@ fn all_options_of_a_report(rt: HostRuntime) -> Result<(), Fail> {
 }
 
 const LISTS_OF_PENS: &str = "\
-@ 11880 8400 0 0 100 4096 0 pens 1-1 of None
+@ 11880 8400 0 0 100 64 0 pens 1-1 of None
 plotraster|@|--pens|1
 
-@ 11880 8400 0 0 100 4096 0 pens 255-255 of None
+@ 11880 8400 0 0 100 64 0 pens 255-255 of None
 plotraster|@|--pens|255
 
-@ 11880 8400 0 0 100 4096 0 pens 1-1 3-3 5-7 of None
+@ 11880 8400 0 0 100 64 0 pens 1-1 3-3 5-7 of None
 plotraster|@|--pens|1,3,5-7
 
-@ 11880 8400 0 0 100 4096 0 pens 1-2 of None
+@ 11880 8400 0 0 100 64 0 pens 1-2 of None
 plotraster|@|--pens|2,2,1-2
 ";
 
@@ -115,10 +115,10 @@ fn no_lists_of_pens(rt: HostRuntime) -> Result<(), Fail> {
 }
 
 const NAMES_OF_FILES: &str = "\
-pbm 11880 8400 0 0 100 4096 0 pens 1-255 of Some(\"plan.plt\")
+pbm 11880 8400 0 0 100 64 0 pens 1-255 of Some(\"plan.plt\")
 plotraster|pbm|plan.plt
 
-ppm 11880 8400 0 0 100 4096 0 pens 1-255 of Some(\"-\")
+ppm 11880 8400 0 0 100 64 0 pens 1-255 of Some(\"-\")
 plotraster|ppm|-
 
 report 11880 8400 0 0 of Some(\"report\")
@@ -127,10 +127,10 @@ plotraster|report|report
 report 11880 8400 0 0 of Some(\"--left\")
 plotraster|report|--|--left
 
-marks 11880 8400 0 0 100 4096 0 pens 1-255 of None
+marks 11880 8400 0 0 100 64 0 pens 1-255 of None
 plotraster|marks
 
-pbm 11880 8400 0 0 10 4096 0 pens 1-255 of Some(\"\")
+pbm 11880 8400 0 0 10 64 0 pens 1-255 of Some(\"\")
 plotraster|pbm||--dots|10
 ";
 

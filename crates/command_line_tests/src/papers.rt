@@ -113,17 +113,17 @@ fn papers_in_portrait(rt: HostRuntime) -> Result<(), Fail> {
 }
 
 const PAPERS_OF_PICTURES: &str = "\
-pbm 11880 8400 0 0 100 4096 0 pens 1-255 of None
+pbm 11880 8400 0 0 100 64 0 pens 1-255 of None
 plotraster|pbm|--page|a4
 plotraster|pbm|--width|11880|--height|8400
 
-ppm 8636 11176 3 4 100 4096 0 pens 1-255 of Some(\"plan.plt\")
+ppm 8636 11176 3 4 100 64 0 pens 1-255 of Some(\"plan.plt\")
 plotraster|ppm|--left=3|--page=letter-portrait|plan.plt|--below=4
 
-marks 48768 36576 0 0 10 4096 0 pens 2-2 of None
+marks 48768 36576 0 0 10 64 0 pens 2-2 of None
 plotraster|marks|--dots=10|--page=arch-e|--pens=2
 
-pcl 8400 5920 0 0 100 4096 0 pens 1-255 of Some(\"a4\")
+pcl 8400 5920 0 0 100 64 0 pens 1-255 of Some(\"a4\")
 plotraster|pcl|a4|--page|a5
 ";
 
