@@ -140,7 +140,7 @@ class FullPlotter(FullSettings):
     def move(self, x, y):
         super().move(x, y)
         if self.symbol and not self.is_in_polygon:
-            self.write_from_the_pen(self.style()._replace(origin=IN_THE_MIDDLE), bytes([self.symbol]))
+            self.write_from_the_pen(self.style()._replace(path=0, line=0, origin=IN_THE_MIDDLE), bytes([self.symbol]))
 
     # Labels and ticks
 

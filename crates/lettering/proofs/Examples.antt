@@ -192,10 +192,14 @@ small_and_slanted : label_strokes (record usual { slant = negsuc 499999; directi
 unfolding first_rows last_rows root_by surplus
 small_and_slanted = refl
 
--- a symbol is centred
+-- a symbol is centred, also if labels lead down and have another origin
 symbol : sole_letter_strokes (centred usual) 46 ≡ (dot (pos 0) (negsuc 863)) ∷ []
 unfolding first_rows last_rows
 symbol = refl
+
+symbol_of_a_path_down : sole_letter_strokes (centred (record usual { path = Down; line_feed = Reverse; origin = 13 })) 46 ≡ (dot (pos 0) (negsuc 863)) ∷ []
+unfolding first_rows last_rows
+symbol_of_a_path_down = refl
 
 -- two columns on and a line down, and half a column on and a quarter of a line up
 two_columns_and_a_line : cell_offset usual (pos 2000000) (pos 1000000) ≡ at (pos 3648) (negsuc 3455)

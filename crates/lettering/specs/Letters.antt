@@ -10,6 +10,7 @@ use Rattle.stick_font.specs.Labels.{share}
 use Rattle.stick_font.specs.declared.cell.Cell.{Cell}
 use Rattle.stick_font.specs.declared.grid.GridStroke.{GridStroke}
 use Rattle.lettering.specs.Styles.{steps_to, parts_of}
+use Rattle.lettering.specs.declared.style.LineFeed.TheVariants.{Normal}
 use Rattle.lettering.specs.declared.style.Path.{Path}
 use Rattle.lettering.specs.declared.style.Path.TheVariants.{Right}
 use Rattle.lettering.specs.declared.style.Style.{Style}
@@ -75,9 +76,10 @@ abbrev pub letter_strokes : Style → Cell → ℕ → ℕ → List (Spot × Spo
 letter_strokes style cell n byte =
     map (letter_stroke style (letter_corner style cell n) (column_width byte)) (glyph_strokes byte)
 
--- the strokes of a label of one letter; a symbol (HP-GL/2 guide: SM) is such a letter, with LO 5
+-- the strokes of a label of one letter; a symbol (HP-GL/2 guide: SM) is such a letter, centred
 abbrev pub sole_letter_strokes : Style → ℕ → List (Spot × Spot)
 sole_letter_strokes style byte = letter_strokes style (record { column = 0; line = 0 }) 1 byte
 
+-- centred whatever DV and LO say, by the path to the right and LO 5
 abbrev pub centred : Style → Style
-centred style = record style { origin = 5 }
+centred style = record style { path = Right; line_feed = Normal; origin = 5 }

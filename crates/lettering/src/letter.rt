@@ -6,7 +6,7 @@ ghost use Rattle.lettering.specs.Letters.{letter_point, letter_strokes, sole_let
 
 use crate::checked::Lettering;
 use crate::share::share;
-use crate::style::Style;
+use crate::style::{LineFeed, Path, Style};
 use exact::Spot;
 use stick_font::{Cell, column_width, glyph};
 
@@ -17,8 +17,8 @@ const WIDTH_PARTS: u64 = 12_000_000;
 const HEIGHT_PARTS: u64 = 18_000_000;
 
 impl Lettering {
-    /// The same style, with letters that are centred at their start: as LO 5 sets it. So are symbols
-    /// (HP-GL/2: SM).
+    /// The same style, with letters that are centred at their start, whatever DV and LO say: the path to the right, and
+    /// LO 5. So are symbols (HP-GL/2: SM).
     pub fn centred(&self) -> Lettering
         ensures { result.style ≡ centred self.now.style }
     {
@@ -31,8 +31,8 @@ impl Lettering {
                 slant: style.slant,
                 step_x: style.step_x,
                 step_y: style.step_y,
-                path: style.path,
-                line_feed: style.line_feed,
+                path: Path::Right,
+                line_feed: LineFeed::Normal,
                 origin: 5,
             },
         }

@@ -151,7 +151,7 @@ fn paths(rt: HostRuntime) -> Result<(), AllocError> {
 
 #[test]
 fn symbols(rt: HostRuntime) -> Result<(), AllocError> {
-    let symbol = checked(&rt, Style::usual()).centred();
+    let symbol = on_path(&rt, Path::Down, LineFeed::Reverse).centred();
     let stroke = stroke_told(rt.alloc(), symbol.letter(b'.', 0))?;
     has_text(&rt, stroke.as_str(), "0,-864 to 0,-864; ");
     assert!(rt; symbol.letter(b'.', 1).is_none());
