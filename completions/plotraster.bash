@@ -3,14 +3,14 @@ _plotraster() {
     local word="${COMP_WORDS[COMP_CWORD]}" before="${COMP_WORDS[COMP_CWORD - 1]}"
     local command="${COMP_WORDS[1]}" options="--width --height --page --left --below --fit --margin"
     local papers="a0 a1 a2 a3 a4 a5 b4 letter legal tabloid ansi-a ansi-b ansi-c ansi-d ansi-e arch-d arch-e"
-    options="$options --profile --sheet --output"
+    options="$options --profile --sheet --output --verbose"
     COMPREPLY=()
     if [ "$COMP_CWORD" -eq 1 ]; then
         COMPREPLY=($(compgen -W "marks pbm ppm pcl report --help --version" -- "$word"))
         return
     fi
     if [ "$command" != report ]; then
-        options="$options --dots --pens --band --from --verbose --progress"
+        options="$options --dots --pens --band --from --progress"
         case "$before" in
             --dots)
                 local dots="75 100 150 200 300 600 1200"

@@ -187,12 +187,12 @@ SAID = [
 
 
 def test_verbose(program):
-    """One line on standard error after the picture, which is the same as without."""
+    """One line on standard error after the output, which is the same as without."""
     for plot, words, said in SAID:
         errors = f"plotraster: {said}, see plotraster report\n".encode()
-        for command in FORMS:
-            picture = drawn(program, [command, *words, "--verbose"], plot, errors)
-            assert picture == drawn(program, [command, *words], plot)
+        for command in FORMS if "--pens=1" in words else [*FORMS, "report"]:
+            output = drawn(program, [command, *words, "--verbose"], plot, errors)
+            assert output == drawn(program, [command, *words], plot)
 
 
 def test_verbose_and_fitted(program):

@@ -267,7 +267,7 @@ def test_page_begins_with_the_sentences_of_help(program):
     page = {(name, name_of(head)): text for name in ("COMMANDS", "OPTIONS")
             for _, head, text in entries(section(name))}
     sentences = list(sentences_of_help(program, commands))
-    assert len(sentences) == len(commands) + 16 + 10
+    assert len(sentences) == len(commands) + 16 + 11
     assert_nothing(f"{name}: the page has {page[part, name]!r}, the help {says!r}"
                    for part, name, says in sentences if not page[part, name].startswith(says + ". "))
 

@@ -61,7 +61,8 @@ def test_old_file_is_replaced(program, tmp_path):
     ([], b"PD99999,0;", (1, b"plotraster: place off range at byte 0\n")),
     (["--dots=10", "--from=999"], LINE, (2, b"plotraster: first row is past the last row\n")),
     (["folder"], LINE, (3, b"plotraster: read failed\n")),
-    (["missing.plt"], LINE, (3, b"plotraster: cannot open missing.plt: no such file or folder\n")),
+    (["missing.plt"], LINE, (3, b"plotraster: cannot open missing.plt\n")),
+    (["missing.plt", "--verbose"], LINE, (3, b"plotraster: cannot open missing.plt\nplotraster: no such file or folder\n")),
     (["--pens=0"], LINE, (2, b"plotraster: bad pen list\n")),
 ])
 def test_refused_plot_leaves_the_old_file(program, tmp_path, words, plot, ends):
@@ -91,7 +92,7 @@ def test_file_that_cannot_be_renamed(program, tmp_path):
 
 
 def test_refusal_of_the_plot_file_comes_first(program, tmp_path):
-    ends = (3, b"plotraster: cannot open missing.plt: no such file or folder\n")
+    ends = (3, b"plotraster: cannot open missing.plt\n")
     assert write_to(program, tmp_path, ["pbm", "missing.plt", "-o", "missing/out"]) == ends
     ends = cannot_write("missing/out.part", "no such folder")
     assert write_to(program, tmp_path, ["pbm", "-o", "missing/out"], b"PD99999,0;") == ends

@@ -23,8 +23,6 @@ SOURCES = (
     "command_line/src/fault.rt",
     "plotraster_program/src/messages.rt",
 )
-# The words for `{action}` in a message, by the calls of `refuse_file` in the program.
-ACTIONS = re.compile(r'refuse_file\(rt, (?:About::Run|about), "(\w+)"')
 # A word that the manual page must have where it describes an exit status.
 STATUSES = {0: "was written", 1: "refused", 2: "command line", 3: "failed", 4: "Memory"}
 
@@ -37,19 +35,12 @@ def plain(path):
     return re.sub(r"\s+", " ", text)
 
 
-def actions_of_the_program():
-    """What the program may be unable to do with a file."""
-    sources = (read("crates", "plotraster_program", "src", name) for name in ("main.rt", "output.rt", "several.rt"))
-    return {action for source in sources for action in ACTIONS.findall(source)}
-
-
 def messages_of_sources():
     """The messages of the program, each value in braces."""
     for source in SOURCES:
         text = read("crates", source)
         yield from re.findall(r'#\[error\("(.+)"\)\]', text)
-        for message in re.findall(r'"plotraster: {about}(cannot .+)"', text):
-            yield from (message.replace("{action}", action) for action in actions_of_the_program())
+        yield from re.findall(r'"plotraster: (?:{about})?(cannot .+)"', text)
 
 
 def messages_of_the_page():

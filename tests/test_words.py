@@ -59,9 +59,10 @@ PCL_DOTS = [75, 100, 150, 200, 300, 600]
 LONG = 120000
 
 
-def not_opened(name, reason="no such file or folder"):
-    """What a run must end with if a file cannot be opened."""
-    return 3, f"plotraster: cannot open {name}: {reason}\n".encode()
+def not_opened(name, reason=None):
+    """What a run must end with if a file cannot be opened; --verbose has the reason in a second line."""
+    why = f"plotraster: {reason}\n" if reason else ""
+    return 3, f"plotraster: cannot open {name}\n{why}".encode()
 
 
 def plain():
@@ -149,6 +150,7 @@ def options_twice():
     yield ["report", "--fit", "line.plt", "--fit"], USAGE
     for flag in ["--verbose", "--progress"]:
         yield ["pbm", flag, flag, "line.plt"], USAGE
+    yield ["report", "--verbose", "line.plt", "--verbose"], USAGE
     yield ["pcl", "-o", "picture", "line.plt", "--output=picture"], USAGE
 
 
@@ -168,8 +170,7 @@ def unknown_options():
 
 def options_of_pictures():
     """A report has no options of a picture."""
-    for flag in ["--verbose", "--progress"]:
-        yield ["report", flag], USAGE
+    yield ["report", "--progress"], USAGE
     for word in ["--dots=100", "--pens=all", "--band=64", "--from=0"]:
         yield ["report", word], USAGE
         yield ["report", *word.split("="), "line.plt"], USAGE
@@ -268,8 +269,12 @@ def files():
             "missing.plt", "", "-", " ", "folder/none", "pbm", "report", "\u00e9.plt", "=", "+1", "far.plt ",
         ]:
             yield [command, name], not_opened(name)
-        for name, reason in [("line.plt/", "Not a directory (os error 20)"), ("n" * LONG, "File name too long (os error 36)")]:
-            yield [command, name], not_opened(name, reason)
+        for name, reason in [
+            ("missing.plt", "no such file or folder"), ("line.plt/", "Not a directory (os error 20)"),
+            ("n" * LONG, "File name too long (os error 36)"),
+        ]:
+            yield [command, name], not_opened(name)
+            yield [command, name, "--verbose"], not_opened(name, reason)
         for name in ["folder", ".", "..", "/"]:
             yield [command, name], NOT_READ
         for name in ["./line.plt", " line.plt", "line.plt "]:
@@ -426,6 +431,7 @@ def test_unreadable_file(program):
         copy = shutil.copy(program, folder)
         write(os.path.join(folder, "locked.plt"), LINE, 0)
         for command in COMMANDS:
-            done = run(copy, [command, "locked.plt"], SECONDS, cwd=folder, **another)
-            assert (done.returncode, done.stderr) == not_opened("locked.plt", "permission denied")
-            assert done.stdout == b""
+            for more, reason in [([], None), (["--verbose"], "permission denied")]:
+                done = run(copy, [command, "locked.plt", *more], SECONDS, cwd=folder, **another)
+                assert (done.returncode, done.stderr) == not_opened("locked.plt", reason)
+                assert done.stdout == b""

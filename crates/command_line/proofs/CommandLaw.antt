@@ -38,7 +38,7 @@ picture_single name = record {
                     (
                       record { found = refl; kind = inl (record { sets = refl; takes = refl }); defaults = search rules },
                       (
-                        record { found = refl; kind = inl (record { sets = refl; takes = refl }); defaults = search rules },
+                        record { found = refl; kind = inr (inl (record { sets = refl; takes = refl; stands = search rules })); defaults = search rules },
                         (
                           record { found = refl; kind = inl (record { sets = refl; takes = refl }); defaults = search rules },
                           (
@@ -46,7 +46,7 @@ picture_single name = record {
                             (
                               record { found = refl; kind = inl (record { sets = refl; takes = refl }); defaults = search rules },
                               (
-                                record { found = refl; kind = inr (inl (record { sets = refl; takes = refl; stands = search rules })); defaults = search rules },
+                                record { found = refl; kind = inl (record { sets = refl; takes = refl }); defaults = search rules },
                                 (
                                   record { found = refl; kind = inr (inl (record { sets = refl; takes = refl; stands = search rules })); defaults = search rules },
                                   (
@@ -72,8 +72,8 @@ picture_single name = record {
   no_again = refl;
 }
 
--- width, height, page, left, below, margin, profile, sheet and output take one value each; fit is a flag; FILE takes one value at
--- each use; the last one is help
+-- width, height, page, left, below, margin, profile, sheet and output take one value each; fit and verbose are flags; FILE
+-- takes one value at each use; the last one is help
 report_single : (name : Text) → IsSingleShape (built_leaf (report_app name).top)
 report_single name = record {
   single = (
@@ -97,8 +97,11 @@ report_single name = record {
                     (
                       record { found = refl; kind = inl (record { sets = refl; takes = refl }); defaults = search rules },
                       (
-                        record { found = refl; kind = inr (inr (inl (record { appends = refl; takes = refl }))); defaults = search rules },
-                        (record { found = refl; kind = inr (inr (inr refl)); defaults = search rules }, tt),
+                        record { found = refl; kind = inr (inl (record { sets = refl; takes = refl; stands = search rules })); defaults = search rules },
+                        (
+                          record { found = refl; kind = inr (inr (inl (record { appends = refl; takes = refl }))); defaults = search rules },
+                          (record { found = refl; kind = inr (inr (inr refl)); defaults = search rules }, tt),
+                        ),
                       ),
                     ),
                   ),

@@ -294,6 +294,10 @@ fit_twice : faults_on (codes "ppm" ∷ codes "--fit" ∷ codes "--fit" ∷ []) �
 unfolding clap_on_literals
 fit_twice = refl
 
-report_says_no_more : faults_on (codes "report" ∷ codes "--verbose" ∷ []) ≡ kind.UnknownArgument ∷ []
+report_says_more : flag_on (codes "report" ∷ codes "--verbose" ∷ []) (codes "verbose") ≡ Some true
 unfolding clap_on_literals
-report_says_no_more = refl
+report_says_more = refl
+
+report_shows_no_progress : faults_on (codes "report" ∷ codes "--progress" ∷ []) ≡ kind.UnknownArgument ∷ []
+unfolding clap_on_literals
+report_shows_no_progress = refl

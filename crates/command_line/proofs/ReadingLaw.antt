@@ -129,10 +129,10 @@ picture_values name rows good = record {
     left = number_there _ _ (codes "left") rows 0 65536 refl refl good.each (good.defaults.1.1.1.0 (omega arith));
     below = number_there _ _ (codes "below") rows 0 65536 refl refl good.each (good.defaults.1.1.1.1.0 (omega arith));
   };
-  dots = number_there _ _ (codes "dots") rows 10 1200 refl refl good.each (good.defaults.1.1.1.1.1.1.1.1.1.1.0 (omega arith));
-  pens = text_there _ _ (codes "pens") rows refl good.each (good.defaults.1.1.1.1.1.1.1.1.1.1.1.0 (omega arith));
-  band = number_there _ _ (codes "band") rows 1 4096 refl refl good.each (good.defaults.1.1.1.1.1.1.1.1.1.1.1.1.0 (omega arith));
-  first_row = number_there _ _ (codes "from") rows 0 99999 refl refl good.each (good.defaults.1.1.1.1.1.1.1.1.1.1.1.1.1.0 (omega arith));
+  dots = number_there _ _ (codes "dots") rows 10 1200 refl refl good.each (good.defaults.1.1.1.1.1.1.1.1.1.1.1.0 (omega arith));
+  pens = text_there _ _ (codes "pens") rows refl good.each (good.defaults.1.1.1.1.1.1.1.1.1.1.1.1.0 (omega arith));
+  band = number_there _ _ (codes "band") rows 1 4096 refl refl good.each (good.defaults.1.1.1.1.1.1.1.1.1.1.1.1.1.0 (omega arith));
+  first_row = number_there _ _ (codes "from") rows 0 99999 refl refl good.each (good.defaults.1.1.1.1.1.1.1.1.1.1.1.1.1.1.0 (omega arith));
 }
 
 report_choice : (name : Text) (rows : List Row) → RowsOf (built_leaf (report_app name).top).rules rows → HasChoiceValues rows

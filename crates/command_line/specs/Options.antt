@@ -62,19 +62,17 @@ with_reading a = with_rule (with_rule a
 abbrev pub output_rule : Rule
 output_rule = record (bare_rule (codes "output") vp.String) { short = Some 111 }
 
--- what each subcommand takes: the page, how the plot is read, and where the output goes
+-- what each subcommand takes: the page, how the plot is read, where the output goes, and whether to say what was drawn
 abbrev pub with_plot : App → App
-with_plot a = with_rule (with_reading (with_fit (with_page a))) output_rule
+with_plot a = with_rule (with_rule (with_reading (with_fit (with_page a))) output_rule) (flag_rule (codes "verbose"))
 
--- how a picture is made: dots per inch, pens, rows in a band, first row; whether to say what was drawn, and whether to
--- show how far the picture is
+-- how a picture is made: dots per inch, pens, rows in a band, first row; and whether to show how far the picture is
 abbrev pub with_picture : App → App
-with_picture a = with_rule (with_rule (with_rule (with_rule (with_rule (with_rule a
+with_picture a = with_rule (with_rule (with_rule (with_rule (with_rule a
     (number_rule (codes "dots") 10 1200 (codes "100")))
     (option_rule (codes "pens") vp.String (codes "all")))
     (number_rule (codes "band") 1 4096 (codes "64")))
     (number_rule (codes "from") 0 99999 (codes "0")))
-    (flag_rule (codes "verbose")))
     (flag_rule (codes "progress"))
 
 -- a subcommand that writes a picture

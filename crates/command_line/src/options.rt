@@ -193,7 +193,8 @@ fn add_plot<'a>(alloc: Global, command: Command<'a>) -> Result<Command<'a>, Allo
 {
     let command = add_fit(alloc, add_page(alloc, command)?)?;
     let command = add_reading(alloc, command)?;
-    add(command, output_of(alloc))
+    let command = add(command, output_of(alloc))?;
+    add(command, flag_of(alloc, "verbose", VERBOSE))
 }
 
 fn add_picture<'a>(
@@ -208,13 +209,11 @@ fn add_picture<'a>(
     let pens = pens_of(alloc);
     let band = number_of(alloc, "band", 1, 4096, "64", BAND);
     let from = number_of(alloc, "from", 0, 99999, "0", FROM);
-    let verbose = flag_of(alloc, "verbose", VERBOSE);
     let progress = flag_of(alloc, "progress", PROGRESS);
     let command = add(command, dots)?;
     let command = add(command, pens)?;
     let command = add(command, band)?;
     let command = add(command, from)?;
-    let command = add(command, verbose)?;
     add(command, progress)
 }
 

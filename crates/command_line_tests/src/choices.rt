@@ -3,8 +3,6 @@ use std::test::Fail;
 
 const COMMANDS: [&str; 5] = ["marks", "pbm", "ppm", "pcl", "report"];
 
-const PICTURES: [&str; 4] = ["marks", "pbm", "ppm", "pcl"];
-
 const FITTED_PAGES: &str = "\
 Given false
 plotraster|@
@@ -57,7 +55,7 @@ plotraster|@|--verbose|--verbose
 
 #[test]
 fn saying_more(rt: HostRuntime) -> Result<(), Fail> {
-    has_answers_for_each(&rt, rt.alloc(), Asked::Page, &PICTURES, SAYING_MORE, 4)
+    has_answers_for_each(&rt, rt.alloc(), Asked::Page, &COMMANDS, SAYING_MORE, 4)
 }
 
 const ORDER_OF_FAULTS: &str = "\
@@ -80,7 +78,7 @@ Margin
 plotraster|marks|--margin=1|--profile=full|--sheet=2
 
 UnknownArgument 2
-plotraster|report|--verbose
+plotraster|report|--progress
 ";
 
 #[test]

@@ -36,11 +36,18 @@ const OF_A_REPORT: &str = "\
 verbose false, progress false
 plotraster|report
 
+verbose true, progress false
+plotraster|report|--verbose
+plotraster|report|a.plt|--verbose|--fit
+
+ArgumentConflict 2
+plotraster|report|--verbose|--verbose
+
 UnknownArgument 2
 plotraster|report|--progress
 ";
 
 #[test]
 fn messages_of_a_report(rt: HostRuntime) -> Result<(), Fail> {
-    has_answers(&rt, rt.alloc(), Asked::Messages, "", OF_A_REPORT, 2)
+    has_answers(&rt, rt.alloc(), Asked::Messages, "", OF_A_REPORT, 5)
 }

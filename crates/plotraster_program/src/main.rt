@@ -6,7 +6,7 @@ mod output;
 mod progress;
 mod several;
 
-use crate::messages::{About, refuse, refuse_file, refuse_words};
+use crate::messages::{About, refuse, refuse_open, refuse_words};
 use crate::output::deliver;
 use crate::several::{deliver_each, has_folder};
 use clap::ArgMatches;
@@ -67,7 +67,7 @@ fn work(rt: &HostRuntime, matches: &ArgMatches<'_>) -> u8 {
         [] => deliver(rt, &line, rt.stdin()),
         [plot] if !has_folder(rt, &line) => match File::open(rt, plot) {
             Ok(file) => deliver(rt, &line, file),
-            Err(error) => refuse_file(rt, About::Run, "open", plot, &error),
+            Err(error) => refuse_open(rt, plot, &error, line.verbose),
         },
         _ => deliver_each(rt, &line),
     }

@@ -35,33 +35,48 @@ pub(crate) fn refuse_words(rt: &HostRuntime, fault: LineFault) -> u8 {
     USAGE
 }
 
-// Says why a file cannot be opened or written; `action` is `open` or `write`.
-pub(crate) fn refuse_file(
-    rt: &HostRuntime,
-    about: About<'_>,
-    action: &str,
-    path: &str,
-    error: &Error,
-) -> u8 {
-    match error.kind() {
-        ErrorKind::NotFound if action == "write" => {
-            cannot(rt, about, action, path, &"no such folder")
+// Why a file cannot be opened or written, and what is said if it is missing.
+#[derive(Clone, Copy)]
+struct Reason<'a> {
+    error: &'a Error,
+    missing: &'static str,
+}
+
+impl Display for Reason<'_> {
+    fn fmt<W: Write>(&self, f: &mut Formatter<W>) -> Result {
+        match self.error.kind() {
+            ErrorKind::NotFound => write!(f, "{}", self.missing),
+            ErrorKind::PermissionDenied => write!(f, "permission denied"),
+            _ => write!(f, "{}", self.error),
         }
-        ErrorKind::NotFound => cannot(rt, about, action, path, &"no such file or folder"),
-        ErrorKind::PermissionDenied => cannot(rt, about, action, path, &"permission denied"),
-        _ => cannot(rt, about, action, path, error),
     }
 }
 
-// Says what cannot be done with a file, and why.
-pub(crate) fn cannot<R: Display>(
+// Says that a plot cannot be opened, and if more is to be said, why.
+pub(crate) fn refuse_open(rt: &HostRuntime, path: &str, error: &Error, verbose: bool) -> u8 {
+    let _ = eprintln!(rt; "plotraster: cannot open {path}");
+    if verbose {
+        let missing = "no such file or folder";
+        let reason = Reason { error, missing };
+        let _ = eprintln!(rt; "plotraster: {reason}");
+    }
+    DEVICE
+}
+
+// Says why a file cannot be written, by the error of the system.
+pub(crate) fn refuse_write(rt: &HostRuntime, about: About<'_>, path: &str, error: &Error) -> u8 {
+    let missing = "no such folder";
+    cannot_write(rt, about, path, &Reason { error, missing })
+}
+
+// The same, by any reason.
+pub(crate) fn cannot_write<R: Display>(
     rt: &HostRuntime,
     about: About<'_>,
-    action: &str,
     path: &str,
     reason: &R,
 ) -> u8 {
-    let _ = eprintln!(rt; "plotraster: {about}cannot {action} {path}: {reason}");
+    let _ = eprintln!(rt; "plotraster: {about}cannot write {path}: {reason}");
     DEVICE
 }
 

@@ -1,5 +1,5 @@
 //! Where the output of a plot goes: standard output, a device, or a new file that gets its name when it is whole.
-use crate::messages::{About, cannot, refuse, refuse_file, tell_outcome};
+use crate::messages::{About, cannot_write, refuse, refuse_write, tell_outcome};
 use crate::progress::Progress;
 use plotraster::{Fault, Line, Outcome, OverRead, OverWrite, exit_status, run_task};
 use std::fs::{File, OpenOptions, metadata, remove_file, rename};
@@ -76,7 +76,7 @@ fn write_device<R: Read + Drop>(
 ) -> u8 {
     match OpenOptions::new().write(true).open(rt, path) {
         Ok(device) => exit_status(&perform(rt, line, about, plot, device)),
-        Err(error) => refuse_file(rt, about, "write", path, &error),
+        Err(error) => refuse_write(rt, about, path, &error),
     }
 }
 
@@ -100,7 +100,7 @@ fn write_file<R: Read + Drop>(
             let outcome = perform(rt, line, about, plot, file);
             settle_part(rt, about, part, path, &outcome)
         }
-        Err(error) => refuse_file(rt, about, "write", part, &error),
+        Err(error) => refuse_write(rt, about, part, &error),
     }
 }
 
@@ -124,7 +124,7 @@ pub(crate) fn refuse_plot(
     } else {
         "it is the plot"
     };
-    cannot(rt, about, "write", path, &reason)
+    cannot_write(rt, about, path, &reason)
 }
 
 // What is one for all names of a file: its device, and its number there.
@@ -147,7 +147,7 @@ fn settle_part(
     match outcome {
         Ok(_) => {
             if let Err(error) = rename(rt, part, path) {
-                return refuse_file(rt, about, "write", path, &error);
+                return refuse_write(rt, about, path, &error);
             }
         }
         Err(Fault::Write { .. }) => (),

@@ -1,5 +1,5 @@
 //! Plots whose output goes into a folder: a file of its own for each plot.
-use crate::messages::{About, cannot, refuse, refuse_file, refuse_words};
+use crate::messages::{About, cannot_write, refuse, refuse_open, refuse_words, refuse_write};
 use crate::output::{deliver_to, id_of, refuse_plot};
 use plotraster::{Fault, Form, Line, LineFault, Task};
 use std::alloc::{AllocError, Global};
@@ -51,8 +51,8 @@ pub(crate) fn deliver_each(rt: &HostRuntime, line: &Line<'_, '_>) -> u8 {
 fn refuse_folder(rt: &HostRuntime, folder: &str) -> Option<u8> {
     match metadata(rt, folder) {
         Ok(found) if found.is_dir() => None,
-        Ok(_) => Some(cannot(rt, About::Run, "write", folder, &"it is not a folder")),
-        Err(error) => Some(refuse_file(rt, About::Run, "write", folder, &error)),
+        Ok(_) => Some(cannot_write(rt, About::Run, folder, &"it is not a folder")),
+        Err(error) => Some(refuse_write(rt, About::Run, folder, &error)),
     }
 }
 
@@ -79,7 +79,7 @@ fn deliver_one<'a>(
 ) -> u8 {
     let plot = match File::open(rt, file) {
         Ok(plot) => plot,
-        Err(error) => return refuse_file(rt, About::Run, "open", file, &error),
+        Err(error) => return refuse_open(rt, file, &error, line.verbose),
     };
     // Only a folder, such as `..`, has no name.
     let Some(name) = Path::new(file).file_stem() else {
@@ -91,7 +91,7 @@ fn deliver_one<'a>(
     let path = path.as_str();
     match taken.names.insert(name) {
         Ok(true) => (),
-        Ok(false) => return cannot(rt, about, "write", path, &"it is written for another plot"),
+        Ok(false) => return cannot_write(rt, about, path, &"it is written for another plot"),
         Err(_) => return refuse(rt, about, &Fault::Memory),
     }
     if id_of(rt, path).is_some_and(|id| taken.plots.contains(&id)) {

@@ -13,6 +13,5 @@ returns c =
     let second = added _ _ _ _ _ c.in_ok-command-2.ensures.app (c.in_ok-command.ensures.app ∙ first) c.pens_of-pens.ensures.rule in
     let third = added _ _ _ _ _ c.in_ok-command-3.ensures.app second c.number_of-band.ensures.rule in
     let fourth = added _ _ _ _ _ c.in_ok-command-4.ensures.app third c.number_of-from.ensures.rule in
-    let fifth = added _ _ _ _ _ c.in_ok-command-5.ensures.app fourth c.flag_of-verbose.ensures.rule in
-    let last = ap (λ (x : App). with_rule x (rule_of c.flag_of-progress.result)) fifth ∙ ap (with_rule _) c.flag_of-progress.ensures.rule in
-    subst (λ (x : App). IfOk c.add-6.result (IsOf x)) last c.add-6.ensures
+    let last = ap (λ (x : App). with_rule x (rule_of c.flag_of-progress.result)) fourth ∙ ap (with_rule _) c.flag_of-progress.ensures.rule in
+    subst (λ (x : App). IfOk c.add-5.result (IsOf x)) last c.add-5.ensures
