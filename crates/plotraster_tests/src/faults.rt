@@ -1,8 +1,8 @@
-//! Faults with their statuses and texts.
+//! Faults with their numbers, statuses and texts.
 use hpgl_plot::PlotFault;
 use hpgl_text::TextFault;
 use plotraster::{
-    Census, Done, Fault, Outcome, PageFault, Placement, SinkFault, exit_status, status,
+    Census, Done, Fault, Outcome, PageFault, Placement, SinkFault, exit_status, number, status,
 };
 use std::test::Fail;
 use stroke_raster::PaintFault;
@@ -23,27 +23,28 @@ const FAULTS: [Fault; 9] = [
     Fault::Resolution,
 ];
 
-// The status of each fault, that of a run that stops for it, and its text.
-const STATUSES_AND_TEXTS: &str = "\
-1 1 plot is longer than 67108864 bytes
-4 4 out of memory
-1 1 place off range at byte 7
-1 1 too many strokes at byte 40775
-2 2 band height must be 1 to 4096
-2 2 first row is past the last row
-3 3 write failed: go on from row 5 after byte 131
-3 3 read failed
-2 2 resolution is not one of PCL's
+// The number of each fault, its status, that of a run that stops for it, and its text.
+const NUMBERS_AND_TEXTS: &str = "\
+1 1 1 plot is longer than 67108864 bytes
+2 4 4 out of memory
+3 1 1 place off range at byte 7
+4 1 1 too many strokes at byte 40775
+5 2 2 band height must be 1 to 4096
+6 2 2 first row is past the last row
+7 3 3 write failed: go on from row 5 after byte 131
+8 3 3 read failed
+9 2 2 resolution is not one of PCL's
 ";
 
 #[test]
-fn statuses_and_texts(rt: HostRuntime) -> Result<(), Fail> {
+fn numbers_and_texts(rt: HostRuntime) -> Result<(), Fail> {
     let mut text = String::new(rt.alloc());
     for fault in FAULTS {
-        let (its_status, exit) = (status(&fault), exit_status(&Err(fault)));
-        write!(text, "{its_status} {exit} {fault}\n")?;
+        let (its_number, its_status) = (number(&fault), status(&fault));
+        let exit = exit_status(&Err(fault));
+        write!(text, "{its_number} {its_status} {exit} {fault}\n")?;
     }
-    assert_eq!(rt; text.as_str(), STATUSES_AND_TEXTS);
+    assert_eq!(rt; text.as_str(), NUMBERS_AND_TEXTS);
     let done = Done {
         rows: 8,
         bytes: 15,
