@@ -8,15 +8,18 @@ use Rattle.clap.specs.Kinds.{FailsBy}
 use Rattle.clap.specs.declared.error.Error.{Error}
 use Rattle.clap.specs.declared.parser.matches.ArgMatches.{ArgMatches}
 use Rattle.command_line.specs.declared.subcommands.Output.{Output}
-use Rattle.command_line.specs.declared.subcommands.Output.TheVariants.{Picture, Report}
-use Rattle.command_line.specs.Options.{picture_app, plot_app, report_app, subcommand_app, subcommands}
+use Rattle.command_line.specs.declared.subcommands.Output.TheVariants.{Picture, Png, Report}
+use Rattle.picture_out.specs.declared.form.Form.TheVariants.{Marks, Pbm, Ppm, Pcl}
+use Rattle.command_line.specs.Options.{picture_app, plot_app, png_app, report_app, subcommand_app, subcommands}
+use Rattle.command_line.proofs.Plain.{plain_app}
 use Rattle.clap_parses.specs.Parses.{HasGoodMatches, IsSingleShape}
 use Rattle.clap_parses.proofs.ParseLaw.{parse_good}
 
--- width, height, page, left, below, margin, profile, sheet, output, dots, pens, band and from take one value each; fit,
--- verbose and progress are flags; FILE takes one value at each use; the last one is help
-picture_single : (name : Text) → IsSingleShape (built_leaf (picture_app name).top)
-picture_single name = record {
+-- In each of these width, height, page, left, below, margin, profile, sheet and output take one value each; fit and verbose are
+-- flags; FILE takes one value at each use; the last one is help. In pictures dots and pens take one value each, and
+-- progress is a flag; band and from take one value each, and smooth too.
+plain_single : (name : Text) → IsSingleShape (built_leaf (plain_app name).top)
+plain_single name = record {
   single = (
     record { found = refl; kind = inl (record { sets = refl; takes = refl }); defaults = search rules },
     (
@@ -44,11 +47,11 @@ picture_single name = record {
                           (
                             record { found = refl; kind = inl (record { sets = refl; takes = refl }); defaults = search rules },
                             (
-                              record { found = refl; kind = inl (record { sets = refl; takes = refl }); defaults = search rules },
+                              record { found = refl; kind = inr (inl (record { sets = refl; takes = refl; stands = search rules })); defaults = search rules },
                               (
                                 record { found = refl; kind = inl (record { sets = refl; takes = refl }); defaults = search rules },
                                 (
-                                  record { found = refl; kind = inr (inl (record { sets = refl; takes = refl; stands = search rules })); defaults = search rules },
+                                  record { found = refl; kind = inl (record { sets = refl; takes = refl }); defaults = search rules },
                                   (
                                     record { found = refl; kind = inr (inr (inl (record { appends = refl; takes = refl }))); defaults = search rules },
                                     (record { found = refl; kind = inr (inr (inr refl)); defaults = search rules }, tt),
@@ -72,8 +75,120 @@ picture_single name = record {
   no_again = refl;
 }
 
--- width, height, page, left, below, margin, profile, sheet and output take one value each; fit and verbose are flags; FILE
--- takes one value at each use; the last one is help
+smoothed_single : (name : Text) → IsSingleShape (built_leaf (picture_app Ppm name).top)
+smoothed_single name = record {
+  single = (
+    record { found = refl; kind = inl (record { sets = refl; takes = refl }); defaults = search rules },
+    (
+      record { found = refl; kind = inl (record { sets = refl; takes = refl }); defaults = search rules },
+      (
+        record { found = refl; kind = inl (record { sets = refl; takes = refl }); defaults = search rules },
+        (
+          record { found = refl; kind = inl (record { sets = refl; takes = refl }); defaults = search rules },
+          (
+            record { found = refl; kind = inl (record { sets = refl; takes = refl }); defaults = search rules },
+            (
+              record { found = refl; kind = inr (inl (record { sets = refl; takes = refl; stands = search rules })); defaults = search rules },
+              (
+                record { found = refl; kind = inl (record { sets = refl; takes = refl }); defaults = search rules },
+                (
+                  record { found = refl; kind = inl (record { sets = refl; takes = refl }); defaults = search rules },
+                  (
+                    record { found = refl; kind = inl (record { sets = refl; takes = refl }); defaults = search rules },
+                    (
+                      record { found = refl; kind = inl (record { sets = refl; takes = refl }); defaults = search rules },
+                      (
+                        record { found = refl; kind = inr (inl (record { sets = refl; takes = refl; stands = search rules })); defaults = search rules },
+                        (
+                          record { found = refl; kind = inl (record { sets = refl; takes = refl }); defaults = search rules },
+                          (
+                            record { found = refl; kind = inl (record { sets = refl; takes = refl }); defaults = search rules },
+                            (
+                              record { found = refl; kind = inr (inl (record { sets = refl; takes = refl; stands = search rules })); defaults = search rules },
+                              (
+                                record { found = refl; kind = inl (record { sets = refl; takes = refl }); defaults = search rules },
+                                (
+                                  record { found = refl; kind = inl (record { sets = refl; takes = refl }); defaults = search rules },
+                                  (
+                                    record { found = refl; kind = inl (record { sets = refl; takes = refl }); defaults = search rules },
+                                    (
+                                      record { found = refl; kind = inr (inr (inl (record { appends = refl; takes = refl }))); defaults = search rules },
+                                      (record { found = refl; kind = inr (inr (inr refl)); defaults = search rules }, tt),
+                                    ),
+                                  ),
+                                ),
+                              ),
+                            ),
+                          ),
+                        ),
+                      ),
+                    ),
+                  ),
+                ),
+              ),
+            ),
+          ),
+        ),
+      ),
+    ),
+  );
+  no_again = refl;
+}
+
+png_single : (name : Text) → IsSingleShape (built_leaf (png_app name).top)
+png_single name = record {
+  single = (
+    record { found = refl; kind = inl (record { sets = refl; takes = refl }); defaults = search rules },
+    (
+      record { found = refl; kind = inl (record { sets = refl; takes = refl }); defaults = search rules },
+      (
+        record { found = refl; kind = inl (record { sets = refl; takes = refl }); defaults = search rules },
+        (
+          record { found = refl; kind = inl (record { sets = refl; takes = refl }); defaults = search rules },
+          (
+            record { found = refl; kind = inl (record { sets = refl; takes = refl }); defaults = search rules },
+            (
+              record { found = refl; kind = inr (inl (record { sets = refl; takes = refl; stands = search rules })); defaults = search rules },
+              (
+                record { found = refl; kind = inl (record { sets = refl; takes = refl }); defaults = search rules },
+                (
+                  record { found = refl; kind = inl (record { sets = refl; takes = refl }); defaults = search rules },
+                  (
+                    record { found = refl; kind = inl (record { sets = refl; takes = refl }); defaults = search rules },
+                    (
+                      record { found = refl; kind = inl (record { sets = refl; takes = refl }); defaults = search rules },
+                      (
+                        record { found = refl; kind = inr (inl (record { sets = refl; takes = refl; stands = search rules })); defaults = search rules },
+                        (
+                          record { found = refl; kind = inl (record { sets = refl; takes = refl }); defaults = search rules },
+                          (
+                            record { found = refl; kind = inl (record { sets = refl; takes = refl }); defaults = search rules },
+                            (
+                              record { found = refl; kind = inr (inl (record { sets = refl; takes = refl; stands = search rules })); defaults = search rules },
+                              (
+                                record { found = refl; kind = inl (record { sets = refl; takes = refl }); defaults = search rules },
+                                (
+                                  record { found = refl; kind = inr (inr (inl (record { appends = refl; takes = refl }))); defaults = search rules },
+                                  (record { found = refl; kind = inr (inr (inr refl)); defaults = search rules }, tt),
+                                ),
+                              ),
+                            ),
+                          ),
+                        ),
+                      ),
+                    ),
+                  ),
+                ),
+              ),
+            ),
+          ),
+        ),
+      ),
+    ),
+  );
+  no_again = refl;
+}
+
 report_single : (name : Text) → IsSingleShape (built_leaf (report_app name).top)
 report_single name = record {
   single = (
@@ -117,7 +232,11 @@ report_single name = record {
 }
 
 single : (it : Text × Output) → IsSingleShape (built_leaf (subcommand_app it).top)
-single (name, Picture form) = picture_single name
+single (name, Picture Marks) = plain_single name
+single (name, Picture Pbm) = plain_single name
+single (name, Picture Ppm) = smoothed_single name
+single (name, Picture Pcl) = plain_single name
+single (name, Png) = png_single name
 single (name, Report) = report_single name
 
 pub all_made : {X Y : Type 0} (f : X → Y) (P : Y → Type 0) → ((x : X) → P (f x)) → (xs : List X) → AllByRecursion P (map f xs)

@@ -35,7 +35,10 @@ pcl_is_for_a_printer = refl
 report_describes : output_named (codes "report") ≡ Some output.Report
 report_describes = refl
 
-no_such_name : output_named (codes "png") ≡ None
+png_is_for_browsers : output_named (codes "png") ≡ Some output.Png
+png_is_for_browsers = refl
+
+no_such_name : output_named (codes "gif") ≡ None
 no_such_name = refl
 
 b4_is_a_paper : paper_of (codes "b4") ≡ Some (14120, 10000)
@@ -148,6 +151,30 @@ no_such_profile = refl
 sheet_in_core : value_fault_on (codes "report" ∷ codes "--sheet=1" ∷ []) ≡ Some fault.Sheet
 unfolding clap_on_literals
 sheet_in_core = refl
+
+too_fine : value_fault_on (codes "png" ∷ codes "--dots=601" ∷ codes "--smooth=2" ∷ []) ≡ Some fault.Smooth
+unfolding clap_on_literals
+too_fine = refl
+
+fine_enough : value_fault_on (codes "ppm" ∷ codes "--dots=150" ∷ codes "--smooth=8" ∷ []) ≡ None
+unfolding clap_on_literals
+fine_enough = refl
+
+list_before_smoothing : value_fault_on (codes "png" ∷ codes "--dots=1200" ∷ codes "--smooth=2" ∷ codes "--pens=0" ∷ []) ≡ Some fault.Pens
+unfolding clap_on_literals
+list_before_smoothing = refl
+
+smoothing_before_paper : value_fault_on (codes "ppm" ∷ codes "--dots=1200" ∷ codes "--smooth=2" ∷ codes "--page=a6" ∷ []) ≡ Some fault.Smooth
+unfolding clap_on_literals
+smoothing_before_paper = refl
+
+smooth_given : number_on (codes "png" ∷ codes "--smooth" ∷ codes "4" ∷ []) (codes "smooth") ≡ Some 4
+unfolding clap_on_literals
+smooth_given = refl
+
+smooth_left_out : number_on (codes "ppm" ∷ []) (codes "smooth") ≡ None
+unfolding clap_on_literals
+smooth_left_out = refl
 
 list_before_sheet : value_fault_on (codes "pcl" ∷ codes "--pens=0" ∷ codes "--sheet=1" ∷ []) ≡ Some fault.Pens
 unfolding clap_on_literals
@@ -297,6 +324,18 @@ fit_twice = refl
 report_says_more : flag_on (codes "report" ∷ codes "--verbose" ∷ []) (codes "verbose") ≡ Some true
 unfolding clap_on_literals
 report_says_more = refl
+
+bitmap_is_not_smoothed : faults_on (codes "pbm" ∷ codes "--smooth=2" ∷ []) ≡ kind.UnknownArgument ∷ []
+unfolding clap_on_literals
+bitmap_is_not_smoothed = refl
+
+png_has_no_first_row : faults_on (codes "png" ∷ codes "--from=0" ∷ []) ≡ kind.UnknownArgument ∷ []
+unfolding clap_on_literals
+png_has_no_first_row = refl
+
+png_has_no_bands : faults_on (codes "png" ∷ codes "--band=64" ∷ []) ≡ kind.UnknownArgument ∷ []
+unfolding clap_on_literals
+png_has_no_bands = refl
 
 report_shows_no_progress : faults_on (codes "report" ∷ codes "--progress" ∷ []) ≡ kind.UnknownArgument ∷ []
 unfolding clap_on_literals

@@ -1,7 +1,7 @@
 use crate::cases::{Asked, has_answers, has_answers_for_each};
 use std::test::Fail;
 
-const COMMANDS: [&str; 5] = ["marks", "pbm", "ppm", "pcl", "report"];
+const COMMANDS: [&str; 6] = ["png", "marks", "pbm", "ppm", "pcl", "report"];
 
 const FITTED_PAGES: &str = "\
 Given false

@@ -17,3 +17,5 @@ mod papers;
 mod pens;
 #[cfg(test)]
 mod readings;
+#[cfg(test)]
+mod smoothing;

@@ -1,7 +1,7 @@
 use crate::cases::{Asked, has_answers, has_answers_for_each};
 use std::test::Fail;
 
-const PICTURES: [&str; 4] = ["marks", "pbm", "ppm", "pcl"];
+const PICTURES: [&str; 5] = ["png", "marks", "pbm", "ppm", "pcl"];
 
 const ASKED_FOR: &str = "\
 verbose false, progress false

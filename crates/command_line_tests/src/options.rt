@@ -3,7 +3,7 @@ use command_line::{BuildFault, LineFault, parse_status, settle};
 use std::alloc::{AllocError, Global};
 use std::test::Fail;
 
-// The subcommands that write a picture.
+// The subcommands that write a picture in a form.
 const PICTURES: [&str; 4] = ["marks", "pbm", "ppm", "pcl"];
 
 const DEFAULTS_OF_A_PICTURE: &str = "\
@@ -214,13 +214,14 @@ plotraster|marks|--help
 plotraster|pbm|-h
 plotraster|ppm|plan.plt|--help
 plotraster|pcl|--help
+plotraster|png|--help
 plotraster|report|--help
 plotraster|report|--left|1|-h
 ";
 
 #[test]
 fn asks_for_help(rt: HostRuntime) -> Result<(), Fail> {
-    has_answers(&rt, rt.alloc(), Asked::Line, "", HELP, 8)
+    has_answers(&rt, rt.alloc(), Asked::Line, "", HELP, 9)
 }
 
 const VERSION: &str = "\
@@ -276,6 +277,8 @@ fn prints_faults(rt: HostRuntime) -> Result<(), Fail> {
     );
     let text = format!(in rt.alloc(); "{}", LineFault::Fit)?;
     assert_eq!(rt; text.as_str(), "--fit may not be given with --page plot");
+    let text = format!(in rt.alloc(); "{}", LineFault::Smooth)?;
+    assert_eq!(rt; text.as_str(), "--dots times --smooth is over 1200");
     let text = format!(in rt.alloc(); "{}", LineFault::Paper)?;
     assert_eq!(rt;
         text.as_str(),

@@ -2,7 +2,7 @@ use crate::cases::{Asked, has_answers, has_answers_for_each};
 use std::test::Fail;
 
 // All subcommands: each has both options.
-const COMMANDS: [&str; 5] = ["marks", "pbm", "ppm", "pcl", "report"];
+const COMMANDS: [&str; 6] = ["png", "marks", "pbm", "ppm", "pcl", "report"];
 
 const PROFILES_AND_SHEETS: &str = "\
 Core

@@ -67,7 +67,7 @@ fn work(rt: &HostRuntime, matches: &ArgMatches<'_>) -> u8 {
         [] => deliver(rt, &line, rt.stdin()),
         [plot] if !has_folder(rt, &line) => match File::open(rt, plot) {
             Ok(file) => deliver(rt, &line, file),
-            Err(error) => refuse_open(rt, plot, &error, line.verbose),
+            Err(error) => refuse_open(rt, &line, plot, &error),
         },
         _ => deliver_each(rt, &line),
     }

@@ -1,5 +1,5 @@
 //! Messages on standard error, and the exit status of a run that ends with one.
-use plotraster::{Fault, LineFault, Outcome, Placement, status};
+use plotraster::{Fault, Line, LineFault, Outcome, Placement, Task, status};
 use std::fmt::{Display, Formatter, Result, Write};
 use std::io::{Error, ErrorKind};
 
@@ -52,12 +52,21 @@ impl Display for Reason<'_> {
     }
 }
 
-// Says that a plot cannot be opened, and if more is to be said, why.
-pub(crate) fn refuse_open(rt: &HostRuntime, path: &str, error: &Error, verbose: bool) -> u8 {
+// Says that a plot cannot be opened, and why: of a document always, else in a second line if more is to be said.
+pub(crate) fn refuse_open(
+    rt: &HostRuntime,
+    line: &Line<'_, '_>,
+    path: &str,
+    error: &Error,
+) -> u8 {
+    let missing = "no such file or folder";
+    let reason = Reason { error, missing };
+    if matches!(&line.task, Task::Png(_)) {
+        let _ = eprintln!(rt; "plotraster: cannot open {path}: {reason}");
+        return DEVICE;
+    }
     let _ = eprintln!(rt; "plotraster: cannot open {path}");
-    if verbose {
-        let missing = "no such file or folder";
-        let reason = Reason { error, missing };
+    if line.verbose {
         let _ = eprintln!(rt; "plotraster: {reason}");
     }
     DEVICE

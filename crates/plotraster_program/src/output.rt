@@ -38,15 +38,14 @@ fn perform<R: Read + Drop, W: Write + Drop>(
     to: W,
 ) -> Result<Outcome, Fault> {
     let mut source = OverRead::new(plot);
-    let mut sink = OverWrite::new(to);
     let mut progress = Progress::new(rt, about, line.progress);
-    let outcome = run_task(
+    let (_, outcome) = run_task(
         rt.alloc(),
         line.reading,
         line.choice,
         &line.task,
         &mut source,
-        &mut sink,
+        OverWrite::new(to),
         &mut progress,
     );
     progress.end();
@@ -135,8 +134,8 @@ pub(crate) fn id_of(rt: &HostRuntime, path: &str) -> Option<(u64, u64)> {
     }
 }
 
-// Gives the file its name if it is whole. After a failed write it stays under its own, since the
-// message says where to go on.
+// Gives the file its name if it is whole. After a failed write that says where to go on it stays under its own; what was
+// written of a document is of no use.
 fn settle_part(
     rt: &HostRuntime,
     about: About<'_>,

@@ -79,7 +79,7 @@ fn deliver_one<'a>(
 ) -> u8 {
     let plot = match File::open(rt, file) {
         Ok(plot) => plot,
-        Err(error) => return refuse_open(rt, file, &error, line.verbose),
+        Err(error) => return refuse_open(rt, line, file, &error),
     };
     // Only a folder, such as `..`, has no name.
     let Some(name) = Path::new(file).file_stem() else {
@@ -104,7 +104,8 @@ fn deliver_one<'a>(
 fn path_in(alloc: Global, folder: &str, name: &str, task: &Task) -> Result<String, AllocError> {
     let slash = if folder.ends_with("/") { "" } else { "/" };
     let extension = match task {
-        Task::Picture(job) => extension_of(job.form),
+        Task::Picture { job, .. } => extension_of(job.form),
+        Task::Png(_) => "png",
         Task::Report(_) => "report",
     };
     format!(in alloc; "{folder}{slash}{name}.{extension}")

@@ -5,6 +5,8 @@ use Rattle.std.specs.Result.{IsErrAnd, result_err}
 use Rattle.clap.specs.Words.{Row, Text, found_of, rows_of, subcommand_rows_of}
 use Rattle.clap.specs.declared.parser.matches.ArgMatches.{ArgMatches}
 use Rattle.command_line.specs.declared.fault.LineFault.{LineFault}
+use Rattle.command_line.specs.declared.line.Task.{Task}
+use Rattle.command_line.specs.Lines.{asks_bad_list, has_bad_list}
 use Rattle.command_line.specs.Lines.{choice_fault, fault_of_values, line_fault, output_fault, reading_fault, task_fault}
 use Rattle.command_line.proofs.Given.{was_some}
 use Rattle.command_line.proofs.ReadingLaw.{values_there}
@@ -103,6 +105,45 @@ returns-in_err-task_of-clause-refused c = λ of.
     (sym c.subcommand.ensures.rows ∙ ap (option_map (λ p. rows_of (found_of p.1.now))) met) in
     let values = values_there of.0 c.args.matches.now _ _ of.1 matches in
     passed_on _ _ c.from_residual-in_err-task_of.ensures.1 ∙ sym (bad_task c.args.matches.now _ _ _ matches (c.in_err-task_of.ensures.refused values.task))
+
+-- a task is none with a bad list
+no_bad_list : (m : ArgMatches) (name : Text) (rows : List Row) (task : Task) → subcommand_rows_of m ≡ Some (name, rows)
+    → (◌≡◌ {A = Result Task LineFault} (Ok task) (Err LineFault.Pens)) ↔ (has_bad_list (name, rows) ≡ true) → asks_bad_list m ≡ true → ⊥
+no_bad_list m name rows task is pens bad =
+    let here : has_bad_list (name, rows) ≡ true = rw is at bad in
+    let wrong = pens.1 here in
+    absurd (cc)
+
+pub returns-in_err-reading_of-clause-pens : goal.returns-in_err-reading_of-clause-pens
+returns-in_err-reading_of-clause-pens c =
+    let met = was_some c.subcommand.result _ _ (sym c.ok_or.ensures.value ∙ c.in_ok-name.was) in
+    let matches = paired _ _ _ _ _ (sym c.subcommand.ensures.name ∙ ap (option_map (λ p. p.0.now)) met)
+    (sym c.subcommand.ensures.rows ∙ ap (option_map (λ p. rows_of (found_of p.1.now))) met) in
+    same_pens _ _ _ c.from_residual-in_err-reading_of.ensures.1
+    (λ h. absurd (c.in_err-reading_of.ensures.pens h), λ bad. absurd (no_bad_list c.args.matches.now _ _ _ matches c.in_ok-task_of.ensures.pens bad))
+
+pub returns-in_err-choice_of-clause-pens : goal.returns-in_err-choice_of-clause-pens
+returns-in_err-choice_of-clause-pens c =
+    let met = was_some c.subcommand.result _ _ (sym c.ok_or.ensures.value ∙ c.in_ok-name.was) in
+    let matches = paired _ _ _ _ _ (sym c.subcommand.ensures.name ∙ ap (option_map (λ p. p.0.now)) met)
+    (sym c.subcommand.ensures.rows ∙ ap (option_map (λ p. rows_of (found_of p.1.now))) met) in
+    same_pens _ _ _ c.from_residual-in_err-choice_of.ensures.1
+    (λ h. absurd (c.in_err-choice_of.ensures.pens h), λ bad. absurd (no_bad_list c.args.matches.now _ _ _ matches c.in_ok-task_of.ensures.pens bad))
+
+pub returns-in_err-place_of-clause-pens : goal.returns-in_err-place_of-clause-pens
+returns-in_err-place_of-clause-pens c =
+    let met = was_some c.subcommand.result _ _ (sym c.ok_or.ensures.value ∙ c.in_ok-name.was) in
+    let matches = paired _ _ _ _ _ (sym c.subcommand.ensures.name ∙ ap (option_map (λ p. p.0.now)) met)
+    (sym c.subcommand.ensures.rows ∙ ap (option_map (λ p. rows_of (found_of p.1.now))) met) in
+    same_pens _ _ _ c.from_residual-in_err-place_of.ensures.1
+    (λ h. absurd (c.in_err-place_of.ensures.pens h), λ bad. absurd (no_bad_list c.args.matches.now _ _ _ matches c.in_ok-task_of.ensures.pens bad))
+
+pub returns-clause-pens : goal.returns-clause-pens
+returns-clause-pens c =
+    let met = was_some c.subcommand.result _ _ (sym c.ok_or.ensures.value ∙ c.in_ok-name.was) in
+    let matches = paired _ _ _ _ _ (sym c.subcommand.ensures.name ∙ ap (option_map (λ p. p.0.now)) met)
+    (sym c.subcommand.ensures.rows ∙ ap (option_map (λ p. rows_of (found_of p.1.now))) met) in
+    (λ h. absurd (cc), λ bad. absurd (no_bad_list c.args.matches.now _ _ _ matches c.in_ok-task_of.ensures.pens bad))
 
 pub returns-in_err-reading_of-clause-refused : goal.returns-in_err-reading_of-clause-refused
 returns-in_err-reading_of-clause-refused c = λ of.

@@ -11,7 +11,5 @@ pub returns : goal.returns
 returns c =
     let first = ap (with_rule (app_of c.args.command)) c.number_of-dots.ensures.rule in
     let second = added _ _ _ _ _ c.in_ok-command-2.ensures.app (c.in_ok-command.ensures.app ∙ first) c.pens_of-pens.ensures.rule in
-    let third = added _ _ _ _ _ c.in_ok-command-3.ensures.app second c.number_of-band.ensures.rule in
-    let fourth = added _ _ _ _ _ c.in_ok-command-4.ensures.app third c.number_of-from.ensures.rule in
-    let last = ap (λ (x : App). with_rule x (rule_of c.flag_of-progress.result)) fourth ∙ ap (with_rule _) c.flag_of-progress.ensures.rule in
-    subst (λ (x : App). IfOk c.add-5.result (IsOf x)) last c.add-5.ensures
+    let last = ap (λ (x : App). with_rule x (rule_of c.flag_of-progress.result)) second ∙ ap (with_rule _) c.flag_of-progress.ensures.rule in
+    subst (λ (x : App). IfOk c.add-3.result (IsOf x)) last c.add-3.ensures
