@@ -12,6 +12,9 @@ use Rattle.picture_job.specs.declared.page_choice.PageChoice.TheVariants as choi
 use Rattle.picture_job.specs.declared.reading.Reading.{Reading}
 use Rattle.conversion.specs.Boxes.{strokes_boxes}
 use Rattle.conversion.specs.Conversions.{Converts, ConvertsOn, HasConvertedBy, HasConvertedOn, IsCutShort, IsRefused, IsWritten, on_page}
+use Rattle.picture_job.specs.declared.png_job.PngJob.{PngJob}
+use Rattle.png.specs.Samples.{Picture}
+use Rattle.conversion.specs.Documents.{ConvertsToPng, HasPaintedPng}
 use Rattle.conversion.specs.Drawings.{Draws, IsNotDrawn, IsReasonOnFirst}
 use Rattle.conversion.specs.Faults.{of_plot}
 use Rattle.conversion.specs.Pictures.{Reach}
@@ -24,7 +27,7 @@ use Rattle.conversion.specs.declared.done.Done.{Done}
 use Rattle.conversion.specs.declared.outcome.Outcome.{Outcome}
 use Rattle.conversion.specs.declared.placement.Placement.{Placement}
 use Rattle.conversion.specs.declared.fault.Fault.{Fault}
-use Rattle.conversion.specs.declared.fault.Fault.TheVariants.{Memory, Paint, Plot, Read, Resolution, TooLong, Write}
+use Rattle.conversion.specs.declared.fault.Fault.TheVariants.{Memory, Paint, Plot, Read, Resolution, TooLong, Unfinished, Write}
 use Rattle.conversion.proofs.Placements.{first_given}
 use Rattle.conversion.proofs.Refusals.{not_painted, plot_fault}
 use Rattle.devices.specs.Sinks.{SinkState}
@@ -48,6 +51,7 @@ pub not_painted_on : (rules : Rules) (c : PageChoice) (job : Job) (page : Page) 
     → HasPainted (on_page page job) reaches (rules.strokes page input) sink sink' (Err fault) → ConvertsOn rules c job page reaches input before after sink sink' (Err fault)
 not_painted_on rules c job page p reaches input before after sink sink' TooLong placed read accepted h = absurd h
 not_painted_on rules c job page p reaches input before after sink sink' Memory placed read accepted h = read.sound
+not_painted_on rules c job page p reaches input before after sink sink' Unfinished placed read accepted h = absurd h
 not_painted_on rules c job page p reaches input before after sink sink' (Plot refusal) placed read accepted h = absurd h
 not_painted_on rules c job page p reaches input before after sink sink' (Paint refusal) placed read accepted h =
     ((p, placed), not_painted rules (on_page page job) reaches input before after sink sink' (Paint refusal) read accepted h)
@@ -77,6 +81,7 @@ not_drawn_on rules c job reaches input before after sink sink' (Paint fault) h =
 not_drawn_on rules c job reaches input before after sink sink' (Write row whole bytes) h =
     absurd (no_such_plot (rules.refusal h.0 input) (Write row whole bytes) h.2.refused (λ f is. absurd (cc)))
 not_drawn_on rules c job reaches input before after sink sink' Resolution h = absurd (no_such_plot (rules.refusal h.0 input) Resolution h.2.refused (λ f is. absurd (cc)))
+not_drawn_on rules c job reaches input before after sink sink' Unfinished h = absurd (no_such_plot (rules.refusal h.0 input) Unfinished h.2.refused (λ f is. absurd (cc)))
 
 -- a plot that was read, and is refused for its first page
 pub not_drawn : (rules : Rules) (c : PageChoice) (pens : PenSet) (given : Page) (input : List ℕ) (before after : SourceState) (fault : PlotFault) → WasRead input before after
@@ -108,6 +113,7 @@ not_read_on reading c pens given input before after sink sink' (Plot refusal) h 
 not_read_on reading c pens given input before after sink sink' (Paint fault) h = absurd h
 not_read_on reading c pens given input before after sink sink' (Write row whole bytes) h = absurd h
 not_read_on reading c pens given input before after sink sink' Resolution h = absurd h
+not_read_on reading c pens given input before after sink sink' Unfinished h = absurd h
 
 -- the answer of a run on the given page
 converts_on_it : (rules : Rules) (job : Job) (page : Page) (reaches : Reach) (input : List ℕ) (before after : SourceState) (sink sink' : SinkState)
@@ -125,6 +131,7 @@ converts_on_it rules job page reaches input before after sink sink' (Err (Plot f
     subst (λ (x : Page). IsRefused rules (on_page x job) input before after (Plot fault)) is h.1
 converts_on_it rules job page reaches input before after sink sink' (Err Read) is h = h
 converts_on_it rules job page reaches input before after sink sink' (Err Resolution) is h = h
+converts_on_it rules job page reaches input before after sink sink' (Err Unfinished) is h = h
 
 pub converted_on_it : (rules : Rules) (job : Job) (reaches : Reach) (before after : SourceState) (sink sink' : SinkState) (tests tests' : ℕ)
     (answer : Result Outcome Fault) → HasConvertedOn rules choice.Given job reaches before after sink sink' tests tests' answer
@@ -150,6 +157,7 @@ reports_on_it reading pens given page input before after sink sink' (Err (Plot f
     subst (λ (x : Page). IsNotDrawn (rules_of reading) x input before after (Plot fault)) h.0.1.1 h.1
 reports_on_it reading pens given page input before after sink sink' (Err Read) h = h
 reports_on_it reading pens given page input before after sink sink' (Err Resolution) h = h
+reports_on_it reading pens given page input before after sink sink' (Err Unfinished) h = h
 
 pub reported_on_it : (reading : Reading) (given : Page) (before after : SourceState) (sink sink' : SinkState) (answer : Result Outcome Fault)
     → HasReportedOn reading choice.Given given before after sink sink' answer
@@ -159,3 +167,29 @@ reported_on_it reading given before after sink sink' answer h = record {
   taken = h.taken;
   reports = reports_on_it reading h.pens given h.page h.input before after sink sink' answer h.reports;
 }
+
+-- a plot that was not drawn has no PNG
+pub png_not_drawn : (rules : Rules) (c : PageChoice) (job : PngJob) (reaches : Reach) (input : List ℕ) (before after : SourceState) (sink sink' : SinkState) (fault : Fault)
+    → Draws rules c job.pens job.page input before after (Err fault)
+    → (page : Page) × (c ≡ choice.Given → page ≡ job.page) × ConvertsToPng rules c job page reaches input before after sink sink' (Err fault)
+png_not_drawn rules c job reaches input before after sink sink' TooLong h = (job.page, λ is. refl, h)
+png_not_drawn rules c job reaches input before after sink sink' Memory h = (job.page, λ is. refl, h)
+png_not_drawn rules c job reaches input before after sink sink' Read h = (job.page, λ is. refl, h)
+png_not_drawn rules c job reaches input before after sink sink' (Plot fault) h = (h.0, first_given c rules job.page input h.0 h.1, (h.1, h.2))
+png_not_drawn rules c job reaches input before after sink sink' (Paint fault) h = (h.0, first_given c rules job.page input h.0 h.1, (h.1, h.2))
+png_not_drawn rules c job reaches input before after sink sink' (Write row whole bytes) h = (h.0, first_given c rules job.page input h.0 h.1, (h.1, h.2))
+png_not_drawn rules c job reaches input before after sink sink' Resolution h = (h.0, first_given c rules job.page input h.0 h.1, (h.1, h.2))
+png_not_drawn rules c job reaches input before after sink sink' Unfinished h = absurd (no_such_plot (rules.refusal h.0 input) Unfinished h.2.refused (λ f is. absurd (cc)))
+
+-- the PNG of a plot that was read and accepted was not painted
+pub png_not_painted : (rules : Rules) (c : PageChoice) (job : PngJob) (page : Page) (p : Placement) (reaches : Reach) (input : List ℕ) (before after : SourceState) (sink sink' : SinkState)
+    (fault : Fault) (picture : Picture) → IsPlaced c rules job.pens job.page input p page → WasRead input before after → rules.refusal page input ≡ None
+    → HasPaintedPng {U = Unit {0}} picture sink sink' (Err fault) → ConvertsToPng rules c job page reaches input before after sink sink' (Err fault)
+png_not_painted rules c job page p reaches input before after sink sink' TooLong picture placed read accepted h = absurd h
+png_not_painted rules c job page p reaches input before after sink sink' Memory picture placed read accepted h = read.sound
+png_not_painted rules c job page p reaches input before after sink sink' Unfinished picture placed read accepted h = ((p, placed), record { read = read; accepted = accepted; failed = h })
+png_not_painted rules c job page p reaches input before after sink sink' (Plot refusal) picture placed read accepted h = absurd h
+png_not_painted rules c job page p reaches input before after sink sink' (Paint refusal) picture placed read accepted h = absurd h
+png_not_painted rules c job page p reaches input before after sink sink' (Write row whole bytes) picture placed read accepted h = absurd h
+png_not_painted rules c job page p reaches input before after sink sink' Read picture placed read accepted h = absurd h
+png_not_painted rules c job page p reaches input before after sink sink' Resolution picture placed read accepted h = absurd h

@@ -12,15 +12,15 @@ use Rattle.plot_page.specs.Pens.{has_pen}
 use Rattle.plot_page.specs.declared.pens.PenSet.{PenSet}
 use Rattle.stroke_raster.specs.Boxes.{selected}
 use Rattle.picture_out.specs.Inks.{colour_of, paper}
-use Rattle.conversion.specs.Palettes.{AreNumbers, IsNumbered, colour_bytes, palette, with_colour}
+use Rattle.conversion.specs.Palettes.{AreNumbers, IsNumbered, colour_bytes, colours_used, with_colour}
 
 -- the palette of one stroke more
 pub palette_more : (pens : PenSet) (ss : List Segment) (i : ℕ) (s : Segment) → i < length ss → s ≡ get_or ss i s
-    → palette pens (take (i + 1) ss) ≡ cond (has_pen pens s.pen) (with_colour (palette pens (take i ss)) (colour_bytes s)) (palette pens (take i ss))
+    → colours_used pens (take (i + 1) ss) ≡ cond (has_pen pens s.pen) (with_colour (colours_used pens (take i ss)) (colour_bytes s)) (colours_used pens (take i ss))
 palette_more pens ss i s lt is =
     let front = take i ss in
     let white = colour_of paper ∷ [] in
-    let old = palette pens front in
+    let old = colours_used pens front in
     let all : take (i + 1) ss ≡ front ++ s ∷ [] = take_more ss i s lt ∙ ap (λ (t : Segment). front ++ t ∷ []) (sym is) in
     let chosen : selected pens (take (i + 1) ss) ≡ selected pens front ++ selected pens (s ∷ []) = ap (selected pens) all ∙ filter-append (λ (t : Segment). has_pen pens t.pen) front (s ∷ []) in
     let colours : map colour_bytes (selected pens (take (i + 1) ss)) ≡ map colour_bytes (selected pens front) ++ map colour_bytes (selected pens (s ∷ [])) =

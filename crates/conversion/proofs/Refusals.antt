@@ -12,7 +12,7 @@ use Rattle.conversion.specs.Progress.{HasPainted}
 use Rattle.devices.specs.Sinks.{SinkState}
 use Rattle.devices.specs.Sources.{SourceState}
 use Rattle.conversion.specs.declared.fault.Fault.{Fault}
-use Rattle.conversion.specs.declared.fault.Fault.TheVariants.{Memory, Paint, Plot, Read, Resolution, TooLong, Write}
+use Rattle.conversion.specs.declared.fault.Fault.TheVariants.{Memory, Paint, Plot, Read, Resolution, TooLong, Unfinished, Write}
 
 -- of an accepted plot the job's fault is that of both
 pub job_faults : (job : Job) (refusal : Option PlotFault) (fault : Option Fault) → refusal ≡ None → job_fault job ≡ fault → refused_fault job refusal ≡ fault
@@ -23,6 +23,7 @@ pub not_painted : (rules : Rules) (job : Job) (reaches : Reach) (input : List �
     → HasPainted job reaches (rules.strokes job.page input) sink sink' (Err fault) → Converts rules job reaches input before after sink sink' (Err fault)
 not_painted rules job reaches input before after sink sink' TooLong read accepted h = absurd h
 not_painted rules job reaches input before after sink sink' Memory read accepted h = read.sound
+not_painted rules job reaches input before after sink sink' Unfinished read accepted h = absurd h
 not_painted rules job reaches input before after sink sink' (Plot refusal) read accepted h = absurd h
 not_painted rules job reaches input before after sink sink' (Paint refusal) read accepted h = record { read = read; refused = job_faults job (rules.refusal job.page input) (Some (Paint refusal)) accepted h }
 not_painted rules job reaches input before after sink sink' (Write row whole bytes) read accepted h = record {

@@ -12,7 +12,7 @@ use Rattle.devices.specs.Sinks.{SinkState}
 use Rattle.devices.specs.Sources.{SourceState}
 use Rattle.conversion.specs.declared.done.Done.{Done}
 use Rattle.conversion.specs.declared.fault.Fault.{Fault}
-use Rattle.conversion.specs.declared.fault.Fault.TheVariants.{TooLong, Memory, Paint, Plot, Write, Read, Resolution}
+use Rattle.conversion.specs.declared.fault.Fault.TheVariants.{TooLong, Memory, Paint, Plot, Write, Unfinished, Read, Resolution}
 use Rattle.conversion.specs.Boxes.{strokes_boxes}
 use Rattle.plot_page.specs.declared.page.Page.{Page}
 use Rattle.picture_job.specs.declared.page_choice.PageChoice.{PageChoice}
@@ -114,4 +114,5 @@ pub record HasConvertedOn (rules : Rules) (choice : PageChoice) (job : Job) (rea
 -- the sink failed
 abbrev pub is_write : Fault → Bool
 is_write (Write row whole bytes) = true
+is_write Unfinished = true
 is_write _ = false

@@ -5,7 +5,7 @@
 pub struct Done {
     /// How many rows were written: none by a report.
     pub rows: u32,
-    /// How many bytes were written.
+    /// How many bytes were written, of a picture or a report; those of a document are not counted, and this is 0.
     pub bytes: u64,
     /// How many strokes the plot has, those of pens that are not drawn among them.
     pub strokes: usize,

@@ -2,7 +2,7 @@
 ghost use Rattle.std.specs.Prelude.{◌≡◌, ℕ, List, ◌<◌, ◌≤◌, ◌∷◌, [], All, IfOk, IfSome, length, get_or, take, true, false};
 ghost use Rattle.std.specs.List.{list_any};
 ghost use Rattle.std.specs.Str.{bytes_eq};
-ghost use Rattle.conversion.specs.Palettes.{AreNumbers, IsNumbered, palette, with_colour};
+ghost use Rattle.conversion.specs.Palettes.{AreNumbers, IsNumbered, colours_used, with_colour};
 
 use plot_page::{Colour, PenSet, Stroke};
 use std::alloc::{AllocError, Global};
@@ -26,7 +26,7 @@ pub fn palette_of(
     strokes: &[Stroke],
     pens: PenSet,
 ) -> Result<Option<Palette>, AllocError>
-    ensures colours { IfOk result (λ found. IfSome found (λ p. p.colours.items ≡ palette pens strokes.now)) }
+    ensures colours { IfOk result (λ found. IfSome found (λ p. p.colours.items ≡ colours_used pens strokes.now)) }
     ensures few { IfOk result (λ found. IfSome found (λ p. length p.colours.items ≤ MOST_COLOURS)) }
     ensures numbers { IfOk result (λ found. IfSome found (λ p. AreNumbers pens strokes.now p.colours.items p.numbers.items)) }
 {

@@ -1,5 +1,5 @@
 use Rattle.std.proofs.Common.{◌≡◌, ◌<◌, ◌≤◌, length, take}
-use Rattle.conversion.specs.Palettes.{AreNumbers, palette}
+use Rattle.conversion.specs.Palettes.{AreNumbers, colours_used}
 use Rattle.conversion.proofs.palette.palette_of.Given as goal
 
 -- the colours and the numbers are those of the strokes so far
@@ -9,6 +9,6 @@ invariant-loop-stroke l =
     record {
       some : 0 < length l.colours.items;
       few : length l.colours.items ≤ 256;
-      colours : l.colours.items ≡ palette l.pens so_far;
+      colours : l.colours.items ≡ colours_used l.pens so_far;
       numbers : AreNumbers l.pens so_far l.colours.items l.numbers.items;
     }

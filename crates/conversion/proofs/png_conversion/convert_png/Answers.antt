@@ -1,0 +1,80 @@
+use Rattle.std.proofs.Common.{◌≡◌, ◌≤◌, ◌+◌, List, length, ℕ, ap, subst, ◌∙◌, Result, Ok, Err, arith}
+use Rattle.plot_page.specs.Segments.{Segment}
+use Rattle.page_fit.specs.Census.{census_of}
+use Rattle.conversion.specs.Rules.{Rules, rules_of}
+use Rattle.conversion.specs.Documents.{HasPaintedPng, picture_shown, png_boxes, png_on_page}
+use Rattle.conversion.specs.declared.fault.Fault.{Fault}
+use Rattle.devices.specs.Sinks.{SinkState}
+use Rattle.conversion.proofs.Choices.{given_page, png_not_drawn, png_not_painted}
+use Rattle.conversion.proofs.png_conversion.convert_png.Goals as goal
+
+pub returns-in-Err-clause-converts : goal.returns-in-Err-clause-converts
+returns-in-Err-clause-converts g c =
+    let job = c.args.job.now in
+    let drawing = c.in-Err.ensures.draws in
+    let sink : SinkState = g.K.Sink.state c.args.sink in
+    let refused = png_not_drawn (rules_of c.args.reading) c.args.choice job (g.G.Gauge.reaches c.args.gauge.now) drawing.input _ _ sink sink c.in-Err.fault drawing.draws in
+    record {
+      input = drawing.input;
+      taken = drawing.taken;
+      page = refused.0;
+      given = refused.1;
+      converts = refused.2;
+      tested = omega arith;
+    }
+
+pub returns-in-Err-painted-clause-converts : goal.returns-in-Err-painted-clause-converts
+returns-in-Err-painted-clause-converts g c =
+    let page = c.in-Ok.drawn.page in
+    let given = c.args.job.now in
+    let job = png_on_page page given in
+    let rules : Rules = rules_of c.args.reading in
+    let reaches = g.G.Gauge.reaches c.args.gauge.now in
+    let drawing = c.in-Ok.ensures.draws in
+    let was : SinkState = g.K.Sink.state c.args.sink in
+    let is : SinkState = g.K.Sink.state c.paint_png-sink.result.0 in
+    let drawn : c.as_slice-strokes.result.now ≡ rules.strokes page drawing.input = c.as_slice-strokes.ensures.value ∙ drawing.draws.lines.strokes_are in
+    let painted = rw c.in-Err-painted.is at c.paint_png-sink.ensures.paints in
+    record {
+      input = drawing.input;
+      taken = drawing.taken;
+      page = page;
+      given = given_page c.args.choice rules given.pens given.page drawing.input _ page drawing.draws.placed;
+      converts = png_not_painted rules c.args.choice given page _ reaches drawing.input _ _ was is c.in-Err-painted.fault (picture_shown job reaches c.as_slice-strokes.result.now)
+          drawing.draws.placed drawing.draws.read drawing.draws.lines.accepted painted;
+      tested = subst (λ (ss : List Segment). g.G.Gauge.count c.paint_png-sink.new.gauge ≤ g.G.Gauge.count c.args.gauge.now + png_boxes job ss) drawn c.paint_png-sink.ensures.tests;
+    }
+
+pub returns-clause-converts : goal.returns-clause-converts
+returns-clause-converts g c =
+    let page = c.in-Ok.drawn.page in
+    let given = c.args.job.now in
+    let job = png_on_page page given in
+    let rules : Rules = rules_of c.args.reading in
+    let reaches = g.G.Gauge.reaches c.args.gauge.now in
+    let drawing = c.in-Ok.ensures.draws in
+    let was : SinkState = g.K.Sink.state c.args.sink in
+    let is : SinkState = g.K.Sink.state c.paint_png-sink.result.0 in
+    let drawn : c.as_slice-strokes.result.now ≡ rules.strokes page drawing.input = c.as_slice-strokes.ensures.value ∙ drawing.draws.lines.strokes_are in
+    let done = rw c.in_default.is at c.paint_png-sink.ensures.paints in
+    let painted = subst (λ (ss : List Segment). HasPaintedPng {U = Unit {0}} (picture_shown job reaches ss) was is (Ok c.in_default.field-0)) drawn done in
+    record {
+      input = drawing.input;
+      taken = drawing.taken;
+      page = page;
+      given = given_page c.args.choice rules given.pens given.page drawing.input _ page drawing.draws.placed;
+      converts = (
+        drawing.draws.placed,
+        record {
+          read = drawing.draws.read;
+          accepted = drawing.draws.lines.accepted;
+          holds = painted.0;
+          sound = painted.1;
+          rows = c.rows.ensures.count;
+          strokes_count = ap length drawn;
+          notes = drawing.draws.lines.notes_are;
+        },
+        c.census_of.ensures ∙ ap (λ (ss : List Segment). census_of given.pens page ss) drawn,
+      );
+      tested = subst (λ (ss : List Segment). g.G.Gauge.count c.paint_png-sink.new.gauge ≤ g.G.Gauge.count c.args.gauge.now + png_boxes job ss) drawn c.paint_png-sink.ensures.tests;
+    }

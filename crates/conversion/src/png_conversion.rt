@@ -1,0 +1,74 @@
+//! The conversion to PNG: read, cut, draw, paint, encode.
+ghost use Rattle.std.specs.Prelude.{◌≡◌, ◌+◌, ◌-◌, ◌^◌, ◌<◌, IfErr, false};
+ghost use Rattle.std.specs.Io.KnownBytes.{IsAtEnd};
+ghost use Rattle.conversion.specs.Conversions.{is_write};
+ghost use Rattle.conversion.specs.Documents.{HasConvertedToPng};
+ghost use Rattle.conversion.specs.Rules.{rules_of};
+
+use crate::done::Done;
+use crate::draw_source::draw_source;
+use crate::fault::Fault;
+use crate::outcome::Outcome;
+use crate::png_picture::paint_png;
+use crate::watcher::Watcher;
+use devices::{Sink, Source};
+use page_fit::census_of;
+use picture_job::{PageChoice, PngJob, Reading};
+use std::alloc::Global;
+use stroke_raster::Gauge;
+
+/// Writes the picture of the plot that the source gives as a PNG, drawn on the page that is chosen as by `convert_on`, and
+/// gives the sink back. If the sink held nothing, it then holds a PNG; reading it gives the size of the picture, its
+/// resolution in pixels a metre, and the colour of each pixel, which is that of the PPM of this job. Its palette is white
+/// and then each further colour of the selected strokes, in the order in which it first comes; a picture of more than 256
+/// colours has no palette. The watcher is told after each band of rows how many are written.
+///
+/// Errors, in this order: those of reading and drawing the plot (`Read`, `TooLong`, `Plot`); `Unfinished` if the sink
+/// fails, and what it has taken is of no use. `Memory` comes when memory is refused. After every error but `Unfinished`
+/// the sink is as it was.
+pub fn convert_png<G: Gauge, S: Source, K: Sink, W: Watcher>(
+    alloc: Global,
+    reading: Reading,
+    choice: PageChoice,
+    job: &PngJob,
+    gauge: &mut G,
+    source: &mut S,
+    sink: K,
+    watcher: &mut W,
+) -> (K, Result<Outcome, Fault>)
+    requires failing { (S.state source.old).faults < 2 ^ 64 - 1 }
+    requires ending { (S.state source.old).ends < 2 ^ 64 - 1 }
+    requires sinking { (K.state sink).faults < 2 ^ 64 - 1 }
+    ensures converts { HasConvertedToPng (rules_of reading) choice job.now (G.reaches gauge.old)
+        (S.state source.old) (S.state source.new) (K.state sink) (K.state result.0)
+        (G.count gauge.old) (G.count gauge.new) result.1 }
+    ensures end { (S.state source.new).ends ≡ (S.state source.old).ends + 1 → IsAtEnd (S.state source.new).left }
+    ensures same { G.reaches gauge.new ≡ G.reaches gauge.old }
+    ensures untouched { IfErr result.1 (λ fault. is_write fault ≡ false → result.0 ≡ sink) }
+{
+    let drawn = match draw_source(alloc, reading, choice, job.pens, &job.page, source) {
+        Ok(drawn) => drawn,
+        Err(fault) => return (sink, Err(fault)),
+    };
+    let job = PngJob {
+        page: drawn.page,
+        ..*job
+    };
+    let strokes = drawn.lines.strokes.as_slice();
+    let (sink, painted) = paint_png(alloc, &job, strokes, gauge, sink, watcher);
+    if let Err(fault) = painted {
+        return (sink, Err(fault));
+    }
+    let done = Done {
+        rows: job.dots.rows(&job.page),
+        bytes: 0,
+        strokes: strokes.len(),
+        notes: drawn.lines.notes,
+    };
+    let outcome = Outcome {
+        done,
+        placement: drawn.placement,
+        census: census_of(strokes, job.pens, &job.page),
+    };
+    (sink, Ok(outcome))
+}
