@@ -4,4 +4,3 @@ pub mod CommandLaw
 pub mod ReadingLaw
 pub mod Given
 mod Examples
-pub mod Plain

@@ -16,6 +16,6 @@ mod papers;
 #[cfg(test)]
 mod pens;
 #[cfg(test)]
-mod readings;
+mod png;
 #[cfg(test)]
-mod smoothing;
+mod readings;

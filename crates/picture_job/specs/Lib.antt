@@ -1,2 +1,0 @@
--- How much finer a picture may be painted.
-pub mod Smoothings
