@@ -9,13 +9,19 @@ use Rattle.std.proofs.Math.Nat.{pow-suc, mul_assoc}
 use Rattle.crc32.specs.Crc.{times_x, times_power, polynomial, remainder}
 use Rattle.crc32.specs.declared.table.TheConstants.{TABLE}
 
-table_checked : map (λ i. slice_index TABLE i) (range_with_len 0 256) ≡ map (λ i. times_power 8 i) (range_with_len 0 256)
+table_checked : map (λ i. slice_index TABLE i) (range_with_len 0 2048) ≡ map (λ i. times_power (8 * (i / 256 + 1)) (i % 256)) (range_with_len 0 2048)
 unfolding times_power
 table_checked = refl
 
-pub in_table : (i : ℕ) → i < 256 → get_or TABLE i 0 ≡ times_power 8 i
-in_table i h =
-    sym (get_or-map-range_with_len (λ i. slice_index TABLE i) 0 256 i i 0 h (omega arith)) ∙ ap (λ z. get_or z i 0) table_checked ∙ get_or-map-range_with_len (λ i. times_power 8 i) 0 256 i i 0 h (omega arith)
+pub in_table : (k b : ℕ) → k < 8 → b < 256 → get_or TABLE (256 * k + b) 0 ≡ times_power (8 * (k + 1)) b
+in_table k b h l =
+    let n : ℕ = 256 * k + b in
+    let inside : 256 * k + b < 2048 = omega arith in
+    let row : (256 * k + b) / 256 ≡ k = omega arith in
+    let column : (256 * k + b) % 256 ≡ b = omega arith in
+    sym (get_or-map-range_with_len (λ i. slice_index TABLE i) 0 2048 (256 * k + b) (256 * k + b) 0 inside (omega arith)) ∙ ap (λ z. get_or z (256 * k + b) 0) table_checked
+    ∙ get_or-map-range_with_len (λ i. times_power (8 * (i / 256 + 1)) (i % 256)) 0 2048 (256 * k + b) (256 * k + b) 0 inside (omega arith)
+    ∙ ap₂ (λ (m n : ℕ). times_power (8 * (m + 1)) n) row column
 
 -- what a bit that leaves adds
 part : ℕ → ℕ
@@ -67,16 +73,19 @@ times_power_high (suc k) high =
     let step : times_x (high * 2 ^ suc k) ≡ high * 2 ^ k = times_x_is (high * 2 ^ suc k) ∙ ap₂ (λ (h b : ℕ). bit_xor h (part b)) half even ∙ xor_zero_r (high * 2 ^ k) in
     ap (times_power k) step ∙ times_power_high k high
 
+-- a number is its lowest byte and the rest
+pub halves : (n : ℕ) → bit_xor (n / 256 * 256) (n % 256) ≡ n
+halves n =
+    ap₂ bit_xor (let e : n / 256 * 256 ≡ n / 256 * 2 ^ 8 + 0 = omega arith in e) (let f : n % 256 ≡ 0 * 2 ^ 8 + n % 256 = omega arith in f)
+    ∙ xor_block 8 (n / 256) 0 0 (n % 256) (omega arith) (omega arith)
+    ∙ ap (λ (z : ℕ). z * 2 ^ 8 + n % 256) (xor_zero_r (n / 256)) ∙ (let g : n / 256 * 2 ^ 8 + n % 256 ≡ n = omega arith in g)
+
 -- one byte by the table
 pub by_table : (n : ℕ) → bit_xor (get_or TABLE (n % 256) 0) (n / 256) ≡ times_power 8 n
 by_table n =
-    let split : bit_xor (n / 256 * 256) (n % 256) ≡ n =
-    ap₂ bit_xor (let e : n / 256 * 256 ≡ n / 256 * 2 ^ 8 + 0 = omega arith in e) (let f : n % 256 ≡ 0 * 2 ^ 8 + n % 256 = omega arith in f)
-    ∙ xor_block 8 (n / 256) 0 0 (n % 256) (omega arith) (omega arith)
-    ∙ ap (λ (z : ℕ). z * 2 ^ 8 + n % 256) (xor_zero_r (n / 256)) ∙ (let g : n / 256 * 2 ^ 8 + n % 256 ≡ n = omega arith in g) in
     xor_comm (get_or TABLE (n % 256) 0) (n / 256)
-    ∙ ap₂ bit_xor (sym (times_power_high 8 (n / 256))) (in_table (n % 256) (omega arith))
-    ∙ sym (times_power_xor 8 (n / 256 * 256) (n % 256)) ∙ ap (times_power 8) split
+    ∙ ap₂ bit_xor (sym (times_power_high 8 (n / 256))) (ap (λ (m : ℕ). get_or TABLE m 0) (let e : n % 256 ≡ 256 * 0 + n % 256 = omega arith in e) ∙ in_table 0 (n % 256) (omega arith) (omega arith))
+    ∙ sym (times_power_xor 8 (n / 256 * 256) (n % 256)) ∙ ap (times_power 8) (halves n)
 
 -- the remainder after more bytes
 pub remainder-append : (xs ys : List ℕ) (r : ℕ) → remainder r (xs ++ ys) ≡ remainder (remainder r xs) ys
@@ -88,3 +97,7 @@ remainder-append (x ∷ xs) ys r = remainder-append xs ys (times_power 8 (bit_xo
 pub remainder_more : (r : ℕ) (bytes : List ℕ) (i : ℕ) → i < length bytes → times_power 8 (bit_xor (remainder r (take i bytes)) (get_or bytes i 0)) ≡ remainder r (take (i + 1) bytes)
 unfolding remainder
 remainder_more r bytes i h = sym (ap (remainder r) (take_more bytes i 0 h) ∙ remainder-append (take i bytes) (get_or bytes i 0 ∷ []) r)
+
+-- the remainder after bytes in two parts
+pub remainder_twice : (r : ℕ) (bytes first rest : List ℕ) → first ++ rest ≡ bytes → remainder (remainder r first) rest ≡ remainder r bytes
+remainder_twice r bytes first rest e = sym (remainder-append first rest r) ∙ ap (remainder r) e

@@ -1,19 +1,13 @@
-use Rattle.std.proofs.Common.{◌∙◌, ℕ, ap, sym, refl, bit_xor, get_or, arith}
-use Rattle.std.proofs.lemmas.List.{take_all}
-use Rattle.crc32.specs.Crc.{remainder, times_power, ones}
-use Rattle.crc32.proofs.Division.{remainder_more, remainder-append}
+use Rattle.std.proofs.Common.{◌∙◌, ◌*◌, ◌/◌, ◌-◌, ◌++◌, ℕ, List, length, take, drop, refl, ap}
+use Rattle.std.proofs.lemmas.List.{take_rest, take-append-drop}
+use Rattle.crc32.specs.Crc.{remainder, ones}
+use Rattle.crc32.proofs.Division.{remainder_twice}
 use Rattle.crc32.proofs.crc.Crc.add.Goals as goal
-
-pub loop-byte-init : goal.loop-byte-init
-unfolding remainder
-loop-byte-init c = refl
-
-pub loop-byte-preserved : goal.loop-byte-preserved
-loop-byte-preserved c =
-    c.next-remainder.ensures ∙ ap (λ (r : ℕ). times_power 8 (bit_xor r (get_or c.args.bytes.now c.loop-byte.byte-index 0))) c.loop-byte.invariant
-    ∙ remainder_more c.args.self.now.remainder c.args.bytes.now c.loop-byte.byte-index (omega arith)
 
 pub returns : goal.returns
 returns c = λ before e.
-    c.loop-byte.invariant ∙ ap (remainder c.args.self.now.remainder) (take_all c.loop-byte.byte-index c.args.bytes.now c.loop-byte-test.false)
-    ∙ ap (λ (r : ℕ). remainder r c.args.bytes.now) e ∙ sym (remainder-append before c.args.bytes.now ones)
+    c.after_bytes-self.ensures
+    ∙ ap (λ (z : ℕ). remainder z (take (length c.args.bytes.now - length c.args.bytes.now / 8 * 8) (drop (length c.args.bytes.now / 8 * 8) c.args.bytes.now))) c.after_eights-remainder.ensures
+    ∙ remainder_twice c.args.self.now.remainder c.args.bytes.now _ _
+    (ap (λ (z : List ℕ). take (length c.args.bytes.now / 8 * 8) c.args.bytes.now ++ z) (take_rest c.args.bytes.now (length c.args.bytes.now / 8 * 8)) ∙ take-append-drop (length c.args.bytes.now / 8 * 8) c.args.bytes.now)
+    ∙ ap (λ (z : ℕ). remainder z c.args.bytes.now) e ∙ remainder_twice ones (before ++ c.args.bytes.now) before c.args.bytes.now refl
