@@ -176,9 +176,9 @@ png_not_drawn rules c job reaches input before after sink sink' TooLong h = (job
 png_not_drawn rules c job reaches input before after sink sink' Memory h = (job.page, λ is. refl, h)
 png_not_drawn rules c job reaches input before after sink sink' Read h = (job.page, λ is. refl, h)
 png_not_drawn rules c job reaches input before after sink sink' (Plot fault) h = (h.0, first_given c rules job.page input h.0 h.1, (h.1, h.2))
-png_not_drawn rules c job reaches input before after sink sink' (Paint fault) h = (h.0, first_given c rules job.page input h.0 h.1, (h.1, h.2))
-png_not_drawn rules c job reaches input before after sink sink' (Write row whole bytes) h = (h.0, first_given c rules job.page input h.0 h.1, (h.1, h.2))
-png_not_drawn rules c job reaches input before after sink sink' Resolution h = (h.0, first_given c rules job.page input h.0 h.1, (h.1, h.2))
+png_not_drawn rules c job reaches input before after sink sink' (Paint fault) h = absurd (no_such_plot (rules.refusal h.0 input) (Paint fault) h.2.refused (λ f is. absurd (cc)))
+png_not_drawn rules c job reaches input before after sink sink' (Write row whole bytes) h = absurd (no_such_plot (rules.refusal h.0 input) (Write row whole bytes) h.2.refused (λ f is. absurd (cc)))
+png_not_drawn rules c job reaches input before after sink sink' Resolution h = absurd (no_such_plot (rules.refusal h.0 input) Resolution h.2.refused (λ f is. absurd (cc)))
 png_not_drawn rules c job reaches input before after sink sink' Unfinished h = absurd (no_such_plot (rules.refusal h.0 input) Unfinished h.2.refused (λ f is. absurd (cc)))
 
 -- the PNG of a plot that was read and accepted was not painted

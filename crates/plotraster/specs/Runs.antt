@@ -1,11 +1,12 @@
 -- What a task does, and the status that a run of it ends with.
 use Rattle.std.specs.Prelude.{◌≡◌, ℕ, Bool, true, Result, Ok, Err}
 use Rattle.command_line.specs.declared.line.Task.{Task}
-use Rattle.command_line.specs.declared.line.Task.TheVariants.{Picture, Report}
+use Rattle.command_line.specs.declared.line.Task.TheVariants.{Picture, Png, Report}
 use Rattle.picture_job.specs.declared.reading.Reading.{Reading}
 use Rattle.picture_job.specs.declared.page_choice.PageChoice.{PageChoice}
 use Rattle.conversion.specs.Rules.{rules_of}
 use Rattle.conversion.specs.Conversions.{HasConvertedOn}
+use Rattle.conversion.specs.Documents.{HasConvertedToPng}
 use Rattle.conversion.specs.Pictures.{exact, has_resolution}
 use Rattle.conversion.specs.Faults.{status_of}
 use Rattle.conversion.specs.Reports.{HasReportedOn}
@@ -14,18 +15,21 @@ use Rattle.devices.specs.Sources.{SourceState}
 use Rattle.conversion.specs.declared.outcome.Outcome.{Outcome}
 use Rattle.conversion.specs.declared.fault.Fault.{Fault}
 
--- a picture is converted by the exact gauge, after no tests; a report is written; both of a plot that is read so, on the
--- page that was chosen
+-- a picture is converted by the exact gauge, after no tests, to a form or to a PNG; a report is written; each of a plot
+-- that is read so, on the page that was chosen
 abbrev pub HasRun : Reading → PageChoice → Task → SourceState → SourceState → SinkState → SinkState → Result Outcome Fault →
     Type 0
 HasRun reading choice (Picture job) before after sink sink' answer =
     (tests : ℕ) × HasConvertedOn (rules_of reading) choice job exact before after sink sink' 0 tests answer
+HasRun reading choice (Png job) before after sink sink' answer =
+    (tests : ℕ) × HasConvertedToPng (rules_of reading) choice job exact before after sink sink' 0 tests answer
 HasRun reading choice (Report page) before after sink sink' answer =
     HasReportedOn reading choice page before after sink sink' answer
 
--- the form of a picture has its resolution; a report needs none
+-- the form of a picture has its resolution; a PNG and a report have any
 abbrev pub task_has_resolution : Task → Bool
 task_has_resolution (Picture job) = has_resolution job
+task_has_resolution (Png job) = true
 task_has_resolution (Report page) = true
 
 -- 0 if all was written, else the status of the fault

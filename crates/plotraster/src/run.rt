@@ -5,47 +5,51 @@ ghost use Rattle.conversion.specs.Conversions.{is_write};
 ghost use Rattle.plotraster.specs.Runs.{HasRun, task_has_resolution, exit_status_of};
 
 use command_line::Task;
-use conversion::{Fault, Outcome, Watcher, convert_watched, report_on, status};
+use conversion::{Fault, Outcome, Watcher, convert_png, convert_watched, report_on, status};
 use devices::{Sink, Source};
 use picture_job::{PageChoice, Reading};
 use std::alloc::Global;
 use stroke_raster::Exact;
 
 /// Does what the task says with the plot that the source gives, which is read so, on the page that is
-/// chosen: writes its picture, by the gauge `Exact`, or the report on it. The watcher is told how far a picture is, and
-/// nothing of a report. The errors are those of `convert_on` and of `report_on`.
+/// chosen: writes its picture, by the gauge `Exact`, or the report on it. Gives the sink back. The watcher is told how far
+/// a picture is, and nothing of a report. The errors are those of `convert_on`, of `convert_png` and of `report_on`.
 pub fn run_task<S: Source, K: Sink, W: Watcher>(
     alloc: Global,
     reading: Reading,
     choice: PageChoice,
     task: &Task,
     source: &mut S,
-    sink: &mut K,
+    sink: K,
     watcher: &mut W,
-) -> Result<Outcome, Fault>
+) -> (K, Result<Outcome, Fault>)
     requires failing { (S.state source.old).faults < 2 ^ 64 - 1 }
     requires ending { (S.state source.old).ends < 2 ^ 64 - 1 }
-    requires sinking { (K.state sink.old).faults < 2 ^ 64 - 1 }
-    ensures resolution { (result ≡ Err Fault.Resolution) ↔ (task_has_resolution task.now ≡ false) }
+    requires sinking { (K.state sink).faults < 2 ^ 64 - 1 }
+    ensures resolution { (result.1 ≡ Err Fault.Resolution) ↔ (task_has_resolution task.now ≡ false) }
     ensures runs { HasRun reading choice task.now
-        (S.state source.old) (S.state source.new) (K.state sink.old) (K.state sink.new) result }
+        (S.state source.old) (S.state source.new) (K.state sink) (K.state result.0) result.1 }
     ensures end { (S.state source.new).ends ≡ (S.state source.old).ends + 1 → IsAtEnd (S.state source.new).left }
-    ensures untouched { IfErr result (λ fault. is_write fault ≡ false → sink.new ≡ sink.old) }
+    ensures untouched { IfErr result.1 (λ fault. is_write fault ≡ false → result.0 ≡ sink) }
 {
+    let mut gauge = Exact::new();
+    let mut sink = sink;
     match task {
         Task::Picture(job) => {
-            convert_watched(
-                alloc,
-                reading,
-                choice,
-                job,
-                &mut Exact::new(),
-                source,
-                sink,
-                watcher,
+            let outcome = convert_watched(
+                alloc, reading, choice, job, &mut gauge, source, &mut sink, watcher,
+            );
+            (sink, outcome)
+        }
+        Task::Png(job) => {
+            convert_png(
+                alloc, reading, choice, job, &mut gauge, source, sink, watcher,
             )
         }
-        Task::Report(page) => report_on(alloc, reading, choice, page, source, sink),
+        Task::Report(page) => {
+            let outcome = report_on(alloc, reading, choice, page, source, &mut sink);
+            (sink, outcome)
+        }
     }
 }
 
