@@ -69,9 +69,9 @@ numbers_more pens ss i s old new numbers n lt is before one =
       within = All-append (λ (m : ℕ). m < length new) numbers (n ∷ [])
           (λ k d inside. omega (arith, before.within k d inside, more.longer))
           (λ k d inside. elim (cases_lt k 1) as (λ _. get_or (n ∷ []) k d < length new) [
-        | inl small ↦ (let first : 0 ≡ k = omega (arith, small) in subst (λ (j : ℕ). get_or (n ∷ []) j d < length new) first one.within)
-        | inr large ↦ absurd (omega (arith, large, inside))
-      ]);
+            | inl small ↦ (let first : 0 ≡ k = omega (arith, small) in subst (λ (j : ℕ). get_or (n ∷ []) j d < length new) first one.within)
+            | inr large ↦ absurd (omega (arith, large, inside))
+          ]);
       named = λ k t inside has.
           let upto : k < i + 1 = omega (arith, inside, all) in
           let there : get_or (take (i + 1) ss) k t ≡ get_or ss k t = get_or-take (i + 1) ss k t upto in

@@ -53,12 +53,7 @@ impl Display for Reason<'_> {
 }
 
 // Says that a plot cannot be opened, and why: of a document always, else in a second line if more is to be said.
-pub(crate) fn refuse_open(
-    rt: &HostRuntime,
-    line: &Line<'_, '_>,
-    path: &str,
-    error: &Error,
-) -> u8 {
+pub(crate) fn refuse_open(rt: &HostRuntime, line: &Line<'_, '_>, path: &str, error: &Error) -> u8 {
     let missing = "no such file or folder";
     let reason = Reason { error, missing };
     if matches!(&line.task, Task::Png(_)) {

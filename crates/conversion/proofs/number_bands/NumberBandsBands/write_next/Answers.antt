@@ -30,10 +30,10 @@ returns-in-Some-clause-writes g c =
     let begins : at ≡ p.next = c.in-Some.ensures.first in
     let made : (k : ℕ) → k < length rows → row (at + k) ≡ packed_samples depth (numbers_bytes depth inside.row.columns) (map (number_of numbers) (get_or rows k [])) =
     λ k lt.
-        let within : k < n = omega (arith, lt, c.in-Some.ensures.height) in
-        let shown : get_or rows k [] ≡ pens (at + k) = ap (λ (z : List (List ℕ)). get_or z k []) c.in-Some.ensures.rows ∙ get_or-map-range_with_len pens p.next n k (at + k) [] within (omega (arith, begins)) in
-        ap (λ (w : ℕ). packed_samples depth (numbers_bytes depth w) (map (number_of numbers) (pens (at + k)))) (sym c.self.invariant.2)
-        ∙ ap (λ (z : List ℕ). packed_samples depth (numbers_bytes depth inside.row.columns) (map (number_of numbers) z)) (sym shown) in
+    let within : k < n = omega (arith, lt, c.in-Some.ensures.height) in
+    let shown : get_or rows k [] ≡ pens (at + k) = ap (λ (z : List (List ℕ)). get_or z k []) c.in-Some.ensures.rows ∙ get_or-map-range_with_len pens p.next n k (at + k) [] within (omega (arith, begins)) in
+    ap (λ (w : ℕ). packed_samples depth (numbers_bytes depth w) (map (number_of numbers) (pens (at + k)))) (sym c.self.invariant.2)
+    ∙ ap (λ (z : List ℕ). packed_samples depth (numbers_bytes depth inside.row.columns) (map (number_of numbers) z)) (sym shown) in
     let wrote = c.write_numbers.ensures.rows row made in
     let W : ℕ → ℕ → Type 0 = λ a e. WritesRows row c.args.first a e c.args.done old new c.write_numbers.result in
     let ends : at + length rows ≡ end = omega (arith, begins, c.in-Some.ensures.height, (c.next_band.follows.holds-at-none).next) in
