@@ -6,11 +6,16 @@ _plotraster() {
     options="$options --profile --sheet --output --verbose"
     COMPREPLY=()
     if [ "$COMP_CWORD" -eq 1 ]; then
-        COMPREPLY=($(compgen -W "marks pbm ppm pcl report --help --version" -- "$word"))
+        COMPREPLY=($(compgen -W "png marks pbm ppm pcl report --help --version" -- "$word"))
         return
     fi
     if [ "$command" != report ]; then
-        options="$options --dots --pens --band --from --progress"
+        options="$options --dots --pens --progress"
+        case "$command" in
+            png) options="$options --smooth" ;;
+            ppm) options="$options --smooth --band --from" ;;
+            *) options="$options --band --from" ;;
+        esac
         case "$before" in
             --dots)
                 local dots="75 100 150 200 300 600 1200"
@@ -24,7 +29,7 @@ _plotraster() {
                 COMPREPLY=($(compgen -W "all" -- "$word"))
                 return
                 ;;
-            --band | --from) return ;;
+            --smooth | --band | --from) return ;;
         esac
     fi
     case "$before" in

@@ -42,7 +42,7 @@ pub(crate) const SUBCOMMANDS: [(&str, Output, &str, &str); 6] = [
         "ppm",
         Output::Picture(Form::Ppm),
         "Write a colour picture, Netpbm's portable pixmap (P6)",
-        "Example, on to TIFF by Netpbm:\n  plotraster ppm --dots 150 plan.plt | pnmtotiff > plan.tiff",
+        "Example:\n  plotraster ppm --dots 150 plan.plt > plan.ppm",
     ),
     (
         "pcl",
