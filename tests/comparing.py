@@ -1,13 +1,14 @@
 """The built program beside tests/reference, a plain plotter: do they answer a case alike?
 
-Standard output, status and standard error must be the same. Of a mistake in usage only the status and
-the beginning of the text are compared. The longest plot and the most strokes take the reference too
-long; tests/cases has them.
+Standard output, status and standard error must be the same; of a PNG what tests/reference reads in it. Of a mistake in
+usage only the status and the beginning of the text are compared. The longest plot and the most strokes take the reference
+too long; tests/cases has them.
 """
 
 import subprocess
 
 from reference.outputs import USAGE, Answer, answer
+from reference.png import Wrong, read_png
 
 TIMEOUT = 20
 
@@ -23,7 +24,17 @@ def answer_of(program, case):
         ran = subprocess.run([program, *words_of(case)], input=case.plot, capture_output=True, timeout=TIMEOUT)
     except subprocess.TimeoutExpired:
         return Answer(-1, b"", f"no end after {TIMEOUT} seconds")
-    return Answer(ran.returncode, ran.stdout, ran.stderr.decode(errors="replace"))
+    output = shown(ran.stdout) if case.form == "png" and ran.returncode == 0 else ran.stdout
+    return Answer(ran.returncode, output, ran.stderr.decode(errors="replace"))
+
+
+def shown(data):
+    """What a PNG shows, as the reference has it: how many pixels a metre has, and a pixmap; or why it is no PNG."""
+    try:
+        picture = read_png(data)
+    except Wrong as wrong:
+        return f"no PNG: {wrong}".encode()
+    return b"%d pixels a metre\n" % picture.per_metre + picture.ppm()
 
 
 def answers(program, case):

@@ -92,7 +92,7 @@ def more_pictures(made):
     """Beside these, pictures of two plots in a folder."""
     yield from pictures(made)
     for name in ("plan", "centred"):
-        if made.read(f"pictures/{name}.pbm") != made.run("pbm", f"{name}.plt"):
+        if made.read(f"pictures/{name}.png") != made.run("png", f"{name}.plt"):
             yield f"{name}: another picture in the folder"
 
 
@@ -173,12 +173,12 @@ GALLERY["A detail at 1200 dots per inch"] = [Check(stored, (*PNG, "pamcut"))]
 DOCUMENT_CHECKS = {
     "docs/GALLERY.md": GALLERY,
     "README.md": {
-        "Use": [Check(pictures, (*SCALED, "pamfile"))],
-        "More": [Check(more_pictures, ("pamfile",))],
+        "Use": [Check(pictures, (*PNG, "pamfile"))],
+        "More": [Check(more_pictures, (*PNG, "pamfile"))],
     },
     "man/plotraster.1": {
         "EXAMPLES": [Check(pictures, ("pamfile",)), Check(pictures, ("pamfile",)), Check(pictures_of_a_folder, (), PLOTS),
-                     Check(pictures, (*SCALED, "pamfile")), Check(pictures, ("pamfile",)), Check(pictures),
+                     Check(pictures, (*PNG, "pamfile")), Check(pictures, ("pamfile",)), Check(pictures),
                      Check(notes, (), {"plan.plt": b"WU1;;SC0,0,0,9;" + plan(*A4)}), Check(centred, ()), Check(eight_marks)],
     },
 }

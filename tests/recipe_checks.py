@@ -88,6 +88,10 @@ class Made:
         """A PNG file as Netpbm reads it."""
         return netpbm(["pngtopam", self.path(name)], None)
 
+    def pixmap(self, name):
+        """The same as a pixmap, also if all its colours are grey."""
+        return netpbm(["ppmtoppm"], self.of_png(name))
+
 
 def netpbm(command, data, errors=False):
     """What a command writes to standard output, or to standard error."""
@@ -193,9 +197,7 @@ def pcl(made):
 
 
 def fitted_page(made):
-    fine = made.run("ppm", "--fit", "--dots", "600", "examples/centred.plt")
-    reduced = netpbm(["pamscale", "-reduce", "4"], fine)
-    if made.of_png("centred.png") != netpbm(["pnmquant", "64"], reduced):
+    if made.pixmap("centred.png") != made.run("ppm", "--fit", "--dots", "150", "--smooth", "4", "examples/centred.plt"):
         yield "another picture"
 
 
@@ -204,7 +206,7 @@ def archive(made):
     if made.files(".png") != {name[:-4] + ".png" for name in drawn} or made.files(".pbm"):
         yield f"made {sorted(made.files('.png') | made.files('.pbm'))}"
     for name in drawn:
-        if made.of_png(name[:-4] + ".png") != made.run("pbm", "--fit", "--dots", "300", "--", name):
+        if made.pixmap(name[:-4] + ".png") != made.run("ppm", "--fit", "--dots", "300", "--", name):
             yield f"{name}: another picture"
     wanted = sorted(f"{name}: {why}" for name, why in REFUSED.items())
     if sorted(made.lines("refused.txt")) != wanted:
@@ -397,12 +399,12 @@ Check = collections.namedtuple("Check", "made needs plots prepare", defaults=(()
 PNG = ("pnmtopng", "pngtopam")
 CHECKS = {
     "docs/RECIPES.md": {
-        "PNG, smoothed": [Check(smoothed_png, (*PNG, "pamscale"))],
+        "PNG, smoothed": [Check(smoothed_png, PNG)],
         "PNG, black and white": [Check(black_png, PNG)],
         "PDF and TIFF, true to size": [Check(pdf, ("pnmtops", "ps2pdf")), Check(tiff, ("pamtotiff", "tifftopnm"))],
         "A PostScript printer, true to size": [Check(postscript, ("pnmtops",))],
         "A PCL printer": [Check(pcl, ("pamflip", "pbmtolj"))],
-        "A page that fits the drawing": [Check(fitted_page, (*PNG, "pamscale", "pnmquant"))],
+        "A page that fits the drawing": [Check(fitted_page, PNG)],
         "Other colours and widths": [Check(recoloured)],
         "An archive of plots": [Check(archive_in_one_run, (), ARCHIVE), Check(archive, PNG, ARCHIVE),
                                 Check(blank_plots, (), ARCHIVE), Check(archive_by_parallel, ("parallel",), ARCHIVE)],

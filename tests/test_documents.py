@@ -185,12 +185,12 @@ def test_block(section, block, check, program, pytestconfig):
 
 # Those that do not just make a picture.
 HELP_CHECKS = {
-    "marks": Check(eight_marks), "ppm": Check(pictures, PNG),
+    "": Check(pictures, PNG), "png": Check(pictures, PNG), "marks": Check(eight_marks),
     "report": Check(box_of_pen_2, (), {"plan.plt": b"SP2;PU0,0;PD100,200;"}),
 }
 
 
-@pytest.mark.parametrize("command", ["", *FORMS, "report"])
+@pytest.mark.parametrize("command", ["", "png", *FORMS, "report"])
 def test_example_of_help(command, program, pytestconfig):
     """The example that ends each page of help."""
     words = [program, *([command] if command else []), "--help"]
@@ -205,7 +205,7 @@ def test_example_of_help(command, program, pytestconfig):
 def test_formats_of_each_command():
     """docs/FORMATS.md has a section for each form, and one for the report."""
     sections = re.findall(r"^## ([a-z]+)$", read("docs", "FORMATS.md"), re.M)
-    assert sections == [*FORMS, "report"]
+    assert sections == ["png", *FORMS, "report"]
 
 
 def test_number_of_blocks():

@@ -102,7 +102,7 @@ def test_page_of_half_units(program):
     assert page_of(program, ["--fit", "--margin=0"], plot) == ["--width=64", "--height=64", "--left=11", "--below=21"]
 
 
-@pytest.mark.parametrize("command", FORMS)
+@pytest.mark.parametrize("command", ["png", *FORMS])
 def test_picture_is_that_of_the_page(program, command):
     """The picture of a fitted page is the picture of the page that the report has."""
     dots = ["--dots", "75"]
@@ -190,7 +190,7 @@ def test_verbose(program):
     """One line on standard error after the output, which is the same as without."""
     for plot, words, said in SAID:
         errors = f"plotraster: {said}, see plotraster report\n".encode()
-        for command in FORMS if "--pens=1" in words else [*FORMS, "report"]:
+        for command in ["png", *FORMS] if "--pens=1" in words else ["png", *FORMS, "report"]:
             output = drawn(program, [command, *words, "--verbose"], plot, errors)
             assert output == drawn(program, [command, *words], plot)
 

@@ -37,7 +37,7 @@ def wanted(program, command, plot=LINE):
     return done.stdout
 
 
-@pytest.mark.parametrize("command", [*FORMS, "report"])
+@pytest.mark.parametrize("command", ["png", *FORMS, "report"])
 def test_file_has_what_standard_output_has(program, tmp_path, command):
     for name, words in [("a", ["-o", "a"]), ("b", ["--output=b"]), ("c.c", ["-oc.c"]), ("-", ["--output", "-"])]:
         assert write_to(program, tmp_path, [command, *words]) == (0, b"")

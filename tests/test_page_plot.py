@@ -66,7 +66,7 @@ def test_profiles(program):
     assert page_of(program, [*ASKED, "--profile=full"], plot) == (500, 200, 0, 0)
 
 
-@pytest.mark.parametrize("command", FORMS)
+@pytest.mark.parametrize("command", ["png", *FORMS])
 def test_pictures(program, command):
     """The picture and the report are those of the page that is asked for."""
     for plot, size in PLOTS.items():
@@ -113,6 +113,6 @@ def test_conflicts(program):
         (["--margin=3", "--fit"], "--fit may not be given with --page plot"),
         (["--margin=3"], "--margin needs --fit"),
     ]:
-        for command in (*FORMS, "report"):
+        for command in ("png", *FORMS, "report"):
             done = run(program, [command, *ASKED, *words], SECONDS, input=b"PS400,300;")
             assert (done.returncode, done.stdout, done.stderr) == (2, b"", f"plotraster: {message}\n".encode()), words

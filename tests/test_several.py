@@ -17,7 +17,7 @@ LINE = b"SP1;PU0,0;PD3000,2000;"
 DOWN = b"SP2;PU0,2900;PD3900,100;"
 OFF_RANGE = b"PD99999,0;"
 OLD = b"an older picture\n"
-COMMANDS = [*FORMS, "report"]
+COMMANDS = ["png", *FORMS, "report"]
 
 
 @pytest.fixture

@@ -29,6 +29,7 @@ OFF_RANGE = (1, b"plotraster: place off range at byte 0\n")
 USAGE = (2, b"error: ")
 NO_TEXT = (2, b"plotraster: words not understood\n")
 BAD_LIST = (2, b"plotraster: bad pen list\n")
+TOO_FINE = (2, b"plotraster: --dots times --smooth is over 1200\n")
 BAD_PAGE = (2, b"plotraster: bad page: use a0 to a5, b4, letter, legal, tabloid, ansi-a to ansi-e, arch-d or arch-e, ")
 PAGE_AND_SIDE = (2, b"plotraster: --page may not be given with --width or --height\n")
 BAD_PROFILE = (2, b"plotraster: bad profile\n")
@@ -41,7 +42,7 @@ NOT_READ = (3, b"plotraster: read failed\n")
 NOT_A_FOLDER = (3, b"plotraster: cannot write line.plt: it is not a folder\n")
 NOT_WRITTEN = (3, b"plotraster: cannot write folder: Is a directory (os error 21)\n")
 
-COMMANDS = [*FORMS, "report"]
+COMMANDS = ["png", *FORMS, "report"]
 # A page of 64 by 64 units: 6 rows at the default resolution.
 SMALL = ["--width=64", "--height=64"]
 ROWS = 6
@@ -59,8 +60,11 @@ PCL_DOTS = [75, 100, 150, 200, 300, 600]
 LONG = 120000
 
 
-def not_opened(name, reason=None):
-    """What a run must end with if a file cannot be opened; --verbose has the reason in a second line."""
+def not_opened(name, reason=None, command="pbm"):
+    """What a run must end with if a file cannot be opened. With --verbose the reason is in a second line; of a document it
+    is always in the first."""
+    if command == "png":
+        return 3, f"plotraster: cannot open {name}: {reason or 'no such file or folder'}\n".encode()
     why = f"plotraster: {reason}\n" if reason else ""
     return 3, f"plotraster: cannot open {name}\n{why}".encode()
 
@@ -77,7 +81,7 @@ def commands():
     """No command, or one that is none."""
     yield [], USAGE
     for word in [
-        "", " ", "mark", "markss", "pb", "PBM", "Report", "help", "version", "png", "pbm ", " pbm", "pbm\n", "pbm,ppm",
+        "", " ", "mark", "markss", "pb", "PBM", "Report", "help", "version", "gif", "pbm ", " pbm", "pbm\n", "pbm,ppm",
         "pbm=1", "pbm\t", "line.plt", "-", "--", "---", "=", "\u00e9", "\U0001f58a", "1", "-1", "p" * LONG,
     ]:
         yield [word], USAGE
@@ -177,6 +181,26 @@ def options_of_pictures():
         yield ["report", "line.plt", word], USAGE
 
 
+def smoothing():
+    """Smoothing of PNG and PPM, and options that a PNG has not."""
+    for command in ["png", "ppm"]:
+        for words in [["--smooth=1"], ["--smooth", "+8"], ["--smooth=8", "--dots=150"], ["--dots=600", "--smooth", "2"]]:
+            yield [command, *SMALL, *words, "line.plt"], DONE
+        for words in [["--smooth=8", "--dots=151"], ["--dots=1200", "--smooth", "2"], ["--smooth=3", "--dots=401"]]:
+            yield [command, *words, "line.plt"], TOO_FINE
+            yield [command, *words, "--page=none", "missing.plt"], TOO_FINE
+            yield [command, *words, "--pens=0"], BAD_LIST
+        for text in ["0", "9", "-1", "1.5", "", "two", "2x", str(2**32 + 1)]:
+            yield [command, f"--smooth={text}"], USAGE
+        yield [command, "--smooth"], USAGE
+        yield [command, "--smooth=2", "--smooth=2"], USAGE
+    for command in ["marks", "pbm", "pcl", "report"]:
+        yield [command, "--smooth=1"], USAGE
+    for word in ["--from=0", "--band=64"]:
+        yield ["png", word], USAGE
+        yield ["png", "line.plt", *word.split("=")], USAGE
+
+
 def lists_of_pens():
     """Lists of pens, good ones and bad ones."""
     every = ",".join(str(pen) for pen in range(1, 256))
@@ -268,13 +292,13 @@ def files():
         for name in [
             "missing.plt", "", "-", " ", "folder/none", "pbm", "report", "\u00e9.plt", "=", "+1", "far.plt ",
         ]:
-            yield [command, name], not_opened(name)
+            yield [command, name], not_opened(name, None, command)
         for name, reason in [
             ("missing.plt", "no such file or folder"), ("line.plt/", "Not a directory (os error 20)"),
             ("n" * LONG, "File name too long (os error 36)"),
         ]:
-            yield [command, name], not_opened(name)
-            yield [command, name, "--verbose"], not_opened(name, reason)
+            yield [command, name], not_opened(name, reason if command == "png" else None, command)
+            yield [command, name, "--verbose"], not_opened(name, reason, command)
         for name in ["folder", ".", "..", "/"]:
             yield [command, name], NOT_READ
         for name in ["./line.plt", " line.plt", "line.plt "]:
@@ -293,7 +317,7 @@ def after_two_hyphens():
         yield [command, "--", "line.plt"], DONE
         yield [command, "--left=1", "--", "--left"], DONE
         for name in ["--", "--help", "-h", "--width=1"]:
-            yield [command, "--", name], not_opened(name)
+            yield [command, "--", name], not_opened(name, None, command)
         yield [command, "--", "--left", "1"], NO_FOLDER
         yield [command, "line.plt", "--", "--left"], NO_FOLDER
 
@@ -376,7 +400,7 @@ def bytes_that_are_no_text():
 
 GENERATORS = [
     plain, commands, numbers_in_range, numbers_out_of_range, no_numbers, values_missing, options_twice, unknown_options,
-    options_of_pictures, lists_of_pens, fitted_pages, pages, profiles, sheets, resolutions_of_pcl, files,
+    options_of_pictures, smoothing, lists_of_pens, fitted_pages, pages, profiles, sheets, resolutions_of_pcl, files,
     after_two_hyphens, calls_for_help, orders_of_refusal, bytes_that_are_no_text,
 ]
 
@@ -431,7 +455,7 @@ def test_unreadable_file(program):
         copy = shutil.copy(program, folder)
         write(os.path.join(folder, "locked.plt"), LINE, 0)
         for command in COMMANDS:
-            for more, reason in [([], None), (["--verbose"], "permission denied")]:
+            for more, reason in [([], "permission denied" if command == "png" else None), (["--verbose"], "permission denied")]:
                 done = run(copy, [command, "locked.plt", *more], SECONDS, cwd=folder, **another)
-                assert (done.returncode, done.stderr) == not_opened("locked.plt", reason)
+                assert (done.returncode, done.stderr) == not_opened("locked.plt", reason, command)
                 assert done.stdout == b""

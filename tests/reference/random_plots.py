@@ -12,7 +12,7 @@ from .random_numbers import Numbers, coded, spelled
 from .raster import PIXEL, count
 
 # Marks and reports show most.
-OUTPUTS = ("marks", "marks", *FORMS, "report", "report", "report")
+OUTPUTS = ("marks", "marks", *FORMS, "png", "png", "report", "report", "report")
 # Pixels whose centres are whole grains, and others.
 DOTS = (127, 127, 127, 254, 508, 1016, 100, 75, 150, 300, 10, 33, 64, 96, 600, 1200)
 MOST_PIXELS = 1200
@@ -109,8 +109,10 @@ class Writer(Numbers):
         options = {"width": self.width, "height": self.height, "left": self.left, "below": self.below}
         if form != "report":
             options.update(self.picture_settings(form))
+        if form == "pcl" and self.chance(4):
+            options["dots"] = self.pick(*DOTS)
         if self.chance(0.5):
-            options[self.pick("width", "left", "dots", "from", "band")] = self.pick("0", "-1", "+70", "65537", "x", "")
+            options[self.pick("width", "left", "dots", "from", "band", "smooth")] = self.pick("0", "-1", "+70", "65537", "x", "")
         return form, {name: str(value) for name, value in options.items() if str(value) != "0" or self.chance(20)}
 
     def length(self):
@@ -125,19 +127,31 @@ class Writer(Numbers):
     def picture_settings(self, form):
         options = {"dots": self.dots}
         columns, rows = count(self.width, self.dots), count(self.height, self.dots)
+        if form in ("png", "ppm") and self.chance(50):
+            options["smooth"] = self.smoothing(columns * rows)
         most = max(1, MOST_PIXELS // max(1, columns))
+        if form == "png":
+            return self.pens_settings(options)
         if rows > most:
             options["from"] = self.random.randint(rows - most, rows)
         elif self.chance(15):
             options["from"] = min(99999, self.upto(rows + 1))
         if self.chance(25):
             options["band"] = self.pick(1, 2, 3, 5, 64, 4096)
+        return self.pens_settings(options)
+
+    def smoothing(self, pixels):
+        """How much finer a picture is painted: mostly as the resolution allows, and not too fine for the reference."""
+        if self.chance(2):
+            return self.pick(0, 1, 8, 9)
+        allowed = [times for times in range(1, 9) if times * self.dots <= 1200 and times * times * pixels <= 4 * MOST_PIXELS]
+        return self.pick(*allowed or [1])
+
+    def pens_settings(self, options):
         if self.chance(15):
             options["pens"] = self.pick("all", "1", "2", "1,3", "2-255", "001-003,9", "1,1,2", "1-4,250-255")
         if self.chance(1.5):
             options["pens"] = self.pick("3-1", "0-2", "1,", "256", "", "1-2-3", "-1", " 1", "1 ", "0001", "ALL", "+1")
-        if form == "pcl" and self.chance(4):
-            options["dots"] = self.pick(*DOTS)
         return options
 
     # Plots

@@ -1,0 +1,323 @@
+"""PNG and smoothing. Netpbm, PIL, pngcheck and the reader of tests/reference find in a PNG the pixels that `ppm` has, and
+a smoothed picture has the means of a finer one."""
+
+import functools
+import glob
+import io
+import os
+import resource
+import signal
+import struct
+import subprocess
+
+import pytest
+from PIL import Image
+
+from reference.png import GREY, PALETTE, TRUECOLOUR, chunks, read_png
+from shared import EXAMPLES, need, pixels, read_bytes, run, write
+from test_full_reference import options_of, plot_of, rows
+from test_pictures import cases, words_of
+
+SECONDS = 60
+WHITE = b"\xff\xff\xff"
+SMALL = ["--width=4000", "--height=3000"]
+LINE = b"SP1;PU0,0;PD3000,2000;"
+OLD = b"an older picture\n"
+NOT_WRITTEN = (3, b"plotraster: write failed\n")
+NAMES = [os.path.basename(path)[:-4] for path in sorted(glob.glob(os.path.join(EXAMPLES, "*.plt")))]
+# A pixel of 10 dots per inch has 102 units or so: up to 126 pixels there are as many as here.
+UNITS_AT_10_DOTS = 102
+
+
+def drawn(program, words, plot):
+    """What the program writes, without a message."""
+    done = run(program, words, SECONDS, input=plot)
+    assert (done.returncode, done.stderr) == (0, b""), words
+    return done.stdout
+
+
+def ends_of(program, words, plot, **how):
+    """The exit status and the message of a run that writes nothing to standard output."""
+    done = run(program, words, SECONDS, input=plot, **how)
+    assert done.stdout == b"", words
+    return done.returncode, done.stderr
+
+
+def filtered(command, data):
+    """What a command makes of data."""
+    return subprocess.run(command, input=data, capture_output=True, check=True, timeout=SECONDS).stdout
+
+
+def has_same_pixels(data, pixmap):
+    """Whether all readers find the pixels of a pixmap in a PNG. Netpbm gives one without colours as a graymap."""
+    picture = read_png(data)
+    shown = Image.open(io.BytesIO(data))
+    shown.load()
+    filtered(["pngcheck", "-q"], data)
+    assert picture.ppm() == pixmap
+    assert filtered(["ppmtoppm"], filtered(["pngtopnm"], data)) == pixmap
+    assert (*shown.size, shown.convert("RGB").tobytes()) == (picture.columns, picture.rows, picture.pixels)
+    return picture
+
+
+def same_as_ppm(program, words, plot):
+    """The PNG of these words, which has the pixels that PPM has."""
+    return has_same_pixels(drawn(program, ["png", *words], plot), drawn(program, ["ppm", *words], plot))
+
+
+@pytest.fixture(autouse=True)
+def readers(pytestconfig):
+    need(pytestconfig, "pngtopnm", "ppmtoppm", "pngcheck")
+
+
+@pytest.mark.parametrize("name", NAMES)
+def test_examples(program, name):
+    plot = read_bytes(os.path.join(EXAMPLES, f"{name}.plt"))
+    for words in (["--dots=30"], ["--dots=100", "--profile=full", *SMALL], ["--dots=25", "--smooth=3", "--profile=full"]):
+        dots = int(words[0].removeprefix("--dots="))
+        picture = same_as_ppm(program, words, plot)
+        assert picture.per_metre == (20000 * dots + 254) // 508
+
+
+def test_small_plots(program):
+    """The plots of pictures.txt, whose options of rows a PNG has not."""
+    for words, plot, _ in cases():
+        if words[0] != "report" and not {"--from", "--band"} & set(words):
+            same_as_ppm(program, words_of(words)[1:], plot)
+
+
+def test_full_examples(program):
+    for _, keys in rows():
+        options = options_of(keys)
+        if "refused" not in keys and int(options["width"]) * int(options["height"]) <= 2000 * 2000:
+            words = [f"--{name}={value}" for name, value in options.items()]
+            same_as_ppm(program, [*words, "--dots=60"], plot_of(keys["plot"][0]))
+
+
+def page_of(columns, count):
+    return [f"--width={max(64, UNITS_AT_10_DOTS * columns)}", f"--height={max(64, UNITS_AT_10_DOTS * count)}", "--dots=10"]
+
+
+@pytest.mark.parametrize("times", [1, 2, 7])
+def test_odd_widths(program, times):
+    """Pages of 1 to 70 columns, in black and white, in colours, and blank."""
+    for columns in range(1, 71):
+        for plot in (b"SP1;PU0,0;PD9000,500;PU9000,0;PD0,700;", b"SP2;PU0,0;PD7000,300;SP3;PU0,600;PD7000,20;", b""):
+            picture = same_as_ppm(program, [*page_of(columns, 5), f"--smooth={times}"], plot)
+            assert (picture.columns, picture.rows) == (columns, 5)
+
+
+def colours(count):
+    """So many colours, of which the first is white."""
+    return [WHITE, *(bytes((i * 7 % 256, i // 256, 255 - i % 256)) for i in range(1, count))]
+
+
+def plot_in(its_colours):
+    """A plot with a dot of a pixel in each colour but white, in rows of 100."""
+    dots = []
+    for number, colour in enumerate(its_colours[1:]):
+        column, row = number % 100, number // 100
+        dots.append("PC1,%d,%d,%d;PU%d,%d;PD;" % (*colour, 16 * column + 4, 16 * row + 4))
+    return "".join(["SP1;PW0;", *dots]).encode()
+
+
+# Columns and colours: rows of about 8,192 bytes, and of about 32,768, as a deflate window has.
+LONG = [(columns, 2) for columns in (65535, 65536)] + [(columns, 17) for columns in (32767, 32768, 32769)]
+LONG += [(columns, 257) for columns in (10922, 10923)]
+
+
+@pytest.mark.parametrize("columns, count", LONG)
+def test_long_rows(program, columns, count):
+    """A pixel is a plotter unit."""
+    plot = plot_in(colours(count)) + b"PU0,60;PD65536,64;"
+    picture = same_as_ppm(program, [f"--width={columns}", "--height=64", "--dots=1016"], plot)
+    assert (picture.columns, picture.rows) == (columns, 64)
+
+
+def depth_of(count):
+    """The depth that a palette of so many colours has."""
+    return next(depth for depth in (1, 2, 4, 8) if count <= 2**depth)
+
+
+@pytest.mark.parametrize("count", [1, 2, 3, 4, 5, 16, 17, 255, 256, 257, 4000])
+def test_numbers_of_colours(program, count):
+    """White comes first in the palette, and then each colour as it first comes."""
+    wanted = colours(count)
+    picture = same_as_ppm(program, ["--width=1600", "--height=700", "--dots=127"], plot_in(wanted))
+    if count > 256:
+        assert (picture.type, picture.depth) == (TRUECOLOUR, 8)
+    else:
+        assert (picture.type, picture.depth, picture.palette) == (PALETTE, depth_of(count), wanted)
+    assert len({picture.pixels[at:at + 3] for at in range(0, len(picture.pixels), 3)}) == count
+
+
+def test_colours_of_the_palette(program):
+    """Those of the selected pens, each once, white not again, whether a pixel shows them or not."""
+    plot = b"SP2;PD100,100;SP3;PD200,100;SP2;PC2,255,255,255;PD300,100;PC2,1,2,3;PU0,0;PD50000,0;SP5;PD1,1;"
+    palette = [WHITE, b"\xff\0\0", b"\0\xff\0", b"\1\2\3", b"\0\0\xff"]
+    assert same_as_ppm(program, SMALL, plot).palette == palette
+    assert same_as_ppm(program, [*SMALL, "--pens=2"], plot).palette == [WHITE, palette[1], palette[3]]
+    hidden = b"SP2;PU100,100;PD200,100;SP1;PW2;PU100,100;PD200,100;"
+    assert same_as_ppm(program, SMALL, hidden).palette == [WHITE, b"\xff\0\0", b"\0\0\0"]
+
+
+# ---- smoothed pictures
+
+
+def parts_of(data):
+    """The columns, the rows and the pixels of a pixmap, which may lack its header."""
+    magic, size, most, found = data.split(b"\n", 3)
+    assert (magic, most) == (b"P6", b"255")
+    return (*map(int, size.split()), found)
+
+
+def reduced(fine, times, columns, count):
+    """The means of times by times pixels of a pixmap; what is beyond it is white."""
+    fine_columns, fine_count, found = parts_of(fine)
+
+    def part(row, column, channel):
+        is_there = row < fine_count and column < fine_columns
+        return found[3 * (row * fine_columns + column) + channel] if is_there else 255
+
+    means = bytearray()
+    for row in range(count):
+        for column in range(columns):
+            for channel in range(3):
+                total = sum(part(times * row + i, times * column + j, channel) for i in range(times) for j in range(times))
+                means.append((2 * total + times**2) // (2 * times**2))
+    return b"P6\n%d %d\n255\n" % (columns, count) + means
+
+
+SMOOTHED = [
+    (b"SP1;PU0,0;PD900,700;CI300;", 30, 2), (b"SP2;PU5,5;PD900,20;SP3;PU0,700;PD900,0;SP5;PU450,350;CI200;", 33, 3),
+    (b"SP1;PW5;PU0,0;PD1000,800;", 25, 8), (b"", 20, 4), (b"SP6;PW9;PU1000,800;PD1000,800,0,800;", 41, 5),
+    (b"PC1,128,128,128;PU0,0;PD999,799;PC1,3,3,3;PU0,799;PD999,0;", 29, 7), (b"SP4;PU500,0;PD500,800;", 150, 1),
+]
+
+
+@pytest.mark.parametrize("plot, dots, times", SMOOTHED)
+def test_means(program, plot, dots, times):
+    page = ["--width=1000", "--height=800"]
+    fine = drawn(program, ["ppm", *page, f"--dots={dots * times}"], plot)
+    wanted = reduced(fine, times, pixels(1000, dots), pixels(800, dots))
+    words = [*page, f"--dots={dots}", f"--smooth={times}"]
+    assert drawn(program, ["ppm", *words], plot) == wanted
+    picture = has_same_pixels(drawn(program, ["png", *words], plot), wanted)
+    assert picture.per_metre == (20000 * dots + 254) // 508
+
+
+def test_rows_and_bands_of_smoothed_pictures(program):
+    """A picture from a later row on is the end of the whole one, in whatever bands it is painted."""
+    plot = read_bytes(os.path.join(EXAMPLES, "figures.plt"))
+    words = ["ppm", *SMALL, "--dots=20", "--smooth=3"]
+    whole = drawn(program, words, plot)
+    columns, count = pixels(4000, 20), pixels(3000, 20)
+    for band in (1, 2, 3, 7, 4096):
+        assert drawn(program, [*words, f"--band={band}"], plot) == whole
+    for row in (1, 2, 17, count - 1, count):
+        assert drawn(program, [*words, f"--from={row}", "--band=5"], plot) == whole[len(whole) - 3 * columns * (count - row):]
+    done = run(program, [*words, f"--from={count + 1}"], SECONDS, input=plot)
+    assert (done.returncode, done.stderr) == (2, b"plotraster: first row is past the last row\n")
+
+
+def test_types_of_smoothed_pictures(program):
+    """Grey if all colours of the palette are; else a palette of the colours as they first come, if they are few enough."""
+    words = [*SMALL, "--dots=50", "--smooth=4"]
+    for plot in (LINE, b"PC1,9,9,9;" + LINE, b""):
+        picture = same_as_ppm(program, words, plot)
+        assert (picture.type, picture.depth) == (GREY, 8)
+    picture = same_as_ppm(program, words, b"SP2;PU0,0;PD3000,2000;")
+    found = [picture.pixels[at:at + 3] for at in range(0, len(picture.pixels), 3)]
+    assert (picture.type, picture.palette) == (PALETTE, list(dict.fromkeys(found)))
+    assert picture.depth == depth_of(len(picture.palette)) and len(picture.palette) > 4
+    many = "".join(f"PC1,{9 * i},{255 - 9 * i},{i % 7 * 30};PU0,{100 * i};PD4000,{100 * i + 77};" for i in range(28))
+    assert same_as_ppm(program, words, b"SP1;" + many.encode()).type == TRUECOLOUR
+
+
+# ---- refusals, and writes that fail
+
+
+@pytest.mark.parametrize("words, plot, ends", [
+    ([], b"PD99999,0;", (1, b"plotraster: place off range at byte 0\n")),
+    (["--pens=0"], LINE, (2, b"plotraster: bad pen list\n")),
+    (["--dots=601", "--smooth=2"], LINE, (2, b"plotraster: --dots times --smooth is over 1200\n")),
+    (["missing.plt"], LINE, (3, b"plotraster: cannot open missing.plt: no such file or folder\n")),
+    (["folder"], LINE, (3, b"plotraster: read failed\n")),
+])
+def test_refusals(program, tmp_path, words, plot, ends):
+    """Nothing is written, and an old file stays."""
+    os.mkdir(tmp_path / "folder")
+    write(str(tmp_path / "out"), OLD)
+    for where in ([], ["-o", "out"], ["-o", "new"]):
+        assert ends_of(program, ["png", *words, *where], plot, cwd=tmp_path) == ends
+    assert (sorted(os.listdir(tmp_path)), read_bytes(tmp_path / "out")) == (["folder", "out"], OLD)
+
+
+def test_options_of_rows(program):
+    for word in ("--from=0", "--from=5", "--band=64"):
+        status, message = ends_of(program, ["png", word], LINE)
+        assert status == 2 and message.startswith(b"error: ")
+
+
+def test_full_device(program):
+    with open("/dev/full", "wb") as full:
+        done = subprocess.run(["plotraster", "png", *SMALL], executable=program, input=LINE, stdout=full,
+                              stderr=subprocess.PIPE, timeout=SECONDS)
+    assert (done.returncode, done.stderr) == NOT_WRITTEN
+    assert ends_of(program, ["png", *SMALL, "-o", "/dev/full"], LINE) == NOT_WRITTEN
+    assert not os.path.exists("/dev/full.part")
+
+
+def limit(size):
+    """From here on no file may have more bytes, and a write beyond them fails."""
+    signal.signal(signal.SIGXFSZ, signal.SIG_IGN)
+    resource.setrlimit(resource.RLIMIT_FSIZE, (size, size))
+
+
+@pytest.mark.parametrize("size", [0, 1, 100])
+def test_full_disk(program, tmp_path, size):
+    """FILE stays as it was, and FILE.part is removed, since there is nowhere to go on from."""
+    write(str(tmp_path / "out"), OLD)
+    limited = functools.partial(limit, size)
+    for name in ("out", "new"):
+        assert ends_of(program, ["png", *SMALL, "-o", name], LINE, cwd=tmp_path, preexec_fn=limited) == NOT_WRITTEN
+    assert (os.listdir(tmp_path), read_bytes(tmp_path / "out")) == (["out"], OLD)
+
+
+def test_each_write_fails(program, refuse):
+    """What was written before is a beginning of the picture."""
+    plot = read_bytes(os.path.join(EXAMPLES, "figures.plt"))
+    words = ["png", *SMALL, "--dots=300"]
+    whole, number = drawn(program, words, plot), 0
+    while True:
+        number += 1
+        surroundings = dict(os.environ, LD_PRELOAD=refuse, WRITE_FAILS=str(number))
+        done = run(program, words, SECONDS, input=plot, env=surroundings)
+        assert whole.startswith(done.stdout)
+        if done.returncode == 0:
+            break
+        assert (done.returncode, done.stderr) == NOT_WRITTEN and done.stdout != whole
+    assert number > 1 and done.stdout == whole
+
+
+@pytest.mark.parametrize("words", [[], ["--smooth=2"]])
+def test_refused_allocations(program, refuse, words):
+    """Each allocation of a run is refused in turn: nothing is written, or the whole picture."""
+    words, number, without_effect = ["png", "--width=64", "--height=64", *words], 0, 0
+    whole = drawn(program, words, LINE)
+    while without_effect < 10:
+        number += 1
+        surroundings = dict(os.environ, LD_PRELOAD=refuse, MEMORY_FAILS=str(number))
+        done = run(program, words, SECONDS, input=LINE, env=surroundings)
+        ended = (done.returncode, done.stdout, done.stderr)
+        assert ended in ((0, whole, b""), (4, b"", b"plotraster: out of memory\n"))
+        without_effect = 0 if done.returncode else without_effect + 1
+    assert number > 11
+
+
+def test_blank_sheets_are_small(program):
+    """A blank A0 page at 600 dots per inch takes at most 140 KB."""
+    data = drawn(program, ["png", "--page=a0", "--dots=600"], b"")
+    name, header = next(chunks(data))
+    assert name == b"IHDR" and struct.unpack(">II", header[:8]) == (pixels(47560, 600), pixels(33640, 600))
+    assert len(data) <= 140_000
