@@ -28,6 +28,8 @@ mod pictures;
 #[cfg(test)]
 mod placements;
 #[cfg(test)]
+mod pngs;
+#[cfg(test)]
 mod printer;
 #[cfg(test)]
 mod random;
