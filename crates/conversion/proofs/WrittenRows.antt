@@ -1,5 +1,5 @@
 -- Rows that were written, by the cells of a band and band after band.
-use Rattle.std.proofs.Common.{◌≡◌, ℕ, zero, suc, ◌+◌, ◌-◌, ◌<◌, ◌≤◌, List, [], ◌++◌, length, take, drop, map, get_or}
+use Rattle.std.proofs.Common.{◌≡◌, ℕ, ◌+◌, ◌-◌, ◌<◌, ◌≤◌, List, [], ◌++◌, length, take, drop, map, get_or}
 use Rattle.std.proofs.Common.{refl, sym, ap, ◌∙◌, subst, arith, length-append, append-nil, append_assoc, cond, nat_eq, Result, Ok, Err}
 use Rattle.std.proofs.Math.Seq.{take-append_seam, drop-append_seam}
 use Rattle.std.proofs.lemmas.List.{take-append-le}
@@ -7,7 +7,7 @@ use Rattle.std.proofs.lemmas.List.FromFn.{take-map-range_with_len, get_or-map-ra
 use Rattle.std.specs.List.{range_with_len}
 use Rattle.std.specs.Io.KnownBytes.{Appends}
 use Rattle.devices.specs.Sinks.{SinkState}
-use Rattle.devices.proofs.KnownBytes.{Appends-join, Appends-more, Appends-none}
+use Rattle.devices.proofs.KnownBytes.{Appends-join, Appends-more}
 use Rattle.picture_out.specs.declared.form.Form.{Form}
 use Rattle.picture_out.specs.declared.inks.Ink.{Ink}
 use Rattle.picture_out.specs.Forms.{row_bytes}
@@ -57,17 +57,6 @@ rows_meet row at mid end from to =
     let parts : end - at ≡ (mid - at) + (end - mid) = omega arith in
     let there : at + (mid - at) ≡ mid = omega arith in
     ap (rows_bytes row at) parts ∙ rows_join row at (mid - at) (end - mid) ∙ ap (λ (r : ℕ). rows_bytes row at (mid - at) ++ rows_bytes row r (end - mid)) there
-
--- no rows were written yet
-pub rows_none : (row : ℕ → List ℕ) (first at done : ℕ) (s : SinkState) → WritesRows row first at at done s s (Ok done)
-rows_none row first at done s =
-    let none : at - at ≡ 0 = omega arith in
-    let nothing : rows_bytes row at (at - at) ≡ [] = ap (rows_bytes row at) none in
-    record {
-      written = Appends-none s.held (rows_bytes row at (at - at)) nothing;
-      count = omega (arith, ap length nothing);
-      sound = refl;
-    }
 
 -- rows up to `mid` were written, and then those up to `end`, or the sink failed in one of them
 pub rows_after : (row : ℕ → List ℕ) (first at mid end done bytes : ℕ) (s t u : SinkState) (answer : Result ℕ Broken) → at ≤ mid → mid ≤ end

@@ -1,5 +1,5 @@
 -- What a task does, and the status that a run of it ends with.
-use Rattle.std.specs.Prelude.{◌≡◌, ℕ, Bool, true, Result, Ok, Err}
+use Rattle.std.specs.Prelude.{ℕ, Bool, true, Result, Ok, Err}
 use Rattle.command_line.specs.declared.line.Task.{Task}
 use Rattle.command_line.specs.declared.line.Task.TheVariants.{Picture, Png, Report}
 use Rattle.picture_job.specs.declared.reading.Reading.{Reading}

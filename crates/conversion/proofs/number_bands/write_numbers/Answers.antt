@@ -1,4 +1,4 @@
-use Rattle.std.proofs.Common.{◌≡◌, ◌<◌, ◌≤◌, ◌+◌, ◌*◌, ℕ, List, [], length, take, map, get_or, sym, ap, subst, ◌∙◌, arith, cond, nat_eq, Ok, Err}
+use Rattle.std.proofs.Common.{◌≡◌, ◌<◌, ◌≤◌, ◌+◌, ℕ, List, [], length, take, map, get_or, sym, ap, subst, ◌∙◌, arith, cond, nat_eq, Ok, Err}
 use Rattle.std.specs.Io.KnownBytes.{Appends}
 use Rattle.stroke_raster.specs.Bands.{first_of, rows_of_band}
 use Rattle.png.specs.declared.header.Depth.{Depth}

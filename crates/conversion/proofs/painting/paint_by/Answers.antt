@@ -1,4 +1,4 @@
-use Rattle.std.proofs.Common.{◌≡◌, ℕ, List, ap, sym, subst, ◌∙◌, Result, Ok, Err, rules, None}
+use Rattle.std.proofs.Common.{◌≡◌, ℕ, List, ap, sym, subst, ◌∙◌, Result, rules, None}
 use Rattle.picture_out.specs.Forms.{foot_bytes, head_bytes}
 use Rattle.plot_page.specs.Resolutions.{rows_of}
 use Rattle.conversion.specs.Pictures.{Reach, head_of, job_fault, strokes_row}

@@ -1,5 +1,5 @@
-use Rattle.std.proofs.Common.{◌≡◌, ◌<◌, ◌≤◌, ◌+◌, ℕ, List, [], ◌∷◌, ◌++◌, length, take, sym, ap, subst, ◌∙◌, arith, cond}
-use Rattle.conversion.specs.Palettes.{AreNumbers, IsNumbered, colour_bytes, colours_used, with_colour}
+use Rattle.std.proofs.Common.{◌≡◌, ◌+◌, ℕ, List, [], ◌∷◌, ◌++◌, take, sym, ap, subst, ◌∙◌, arith, cond}
+use Rattle.conversion.specs.Palettes.{AreNumbers, IsNumbered, colour_bytes, with_colour}
 use Rattle.plot_page.specs.Pens.{has_pen}
 use Rattle.conversion.proofs.Colours.{grows, numbers_more, palette_more}
 use Rattle.conversion.proofs.palette.palette_of.Goals as goal

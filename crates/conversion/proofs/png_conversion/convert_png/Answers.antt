@@ -1,9 +1,8 @@
-use Rattle.std.proofs.Common.{◌≡◌, ◌≤◌, ◌+◌, List, length, ℕ, ap, subst, ◌∙◌, Result, Ok, Err, arith}
+use Rattle.std.proofs.Common.{◌≡◌, ◌≤◌, ◌+◌, List, length, ap, subst, ◌∙◌, Ok, arith}
 use Rattle.plot_page.specs.Segments.{Segment}
 use Rattle.page_fit.specs.Census.{census_of}
 use Rattle.conversion.specs.Rules.{Rules, rules_of}
 use Rattle.conversion.specs.Documents.{HasPaintedPng, picture_shown, png_boxes, png_on_page}
-use Rattle.conversion.specs.declared.fault.Fault.{Fault}
 use Rattle.devices.specs.Sinks.{SinkState}
 use Rattle.conversion.proofs.Choices.{given_page, png_not_drawn, png_not_painted}
 use Rattle.conversion.proofs.png_conversion.convert_png.Goals as goal

@@ -1,4 +1,4 @@
-use Rattle.std.proofs.Common.{◌≡◌, ◌<◌, ◌≤◌, ◌+◌, ◌-◌, ◌*◌, ℕ, List, sym, ap, subst, ◌∙◌, arith, Result, Ok, Err}
+use Rattle.std.proofs.Common.{◌≡◌, ◌≤◌, ℕ, List, sym, ap, subst, ◌∙◌, arith, Result, Ok, Err}
 use Rattle.conversion.specs.declared.writing.Broken.{Broken}
 use Rattle.conversion.specs.Pictures.{Reach}
 use Rattle.conversion.specs.Progress.{WritesRows}

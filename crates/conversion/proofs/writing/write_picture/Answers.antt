@@ -1,10 +1,9 @@
-use Rattle.std.proofs.Common.{◌≡◌, ◌<◌, ◌≤◌, ◌+◌, ◌-◌, ◌++◌, ℕ, List, [], length, take, sym, ap, subst, ◌∙◌, arith, length-append, cond, nat_eq}
-use Rattle.std.proofs.Math.Seq.{take-append_seam}
+use Rattle.std.proofs.Common.{◌≡◌, ◌+◌, ◌-◌, ◌++◌, ℕ, List, length, ap, subst, ◌∙◌, arith, length-append}
 use Rattle.std.specs.Io.KnownBytes.{Appends}
 use Rattle.picture_out.specs.Forms.{foot_bytes, head_bytes}
 use Rattle.devices.specs.Sinks.{taken_of}
 use Rattle.devices.proofs.KnownBytes.{Appends-join, cut_second}
-use Rattle.conversion.specs.Pictures.{Reach, head_if, picture_of, rows_bytes}
+use Rattle.conversion.specs.Pictures.{head_if, rows_bytes}
 use Rattle.conversion.proofs.WrittenRows.{foot_cut, picture_cut}
 use Rattle.conversion.proofs.writing.write_picture.Goals as goal
 

@@ -1,6 +1,3 @@
-use Rattle.conversion.specs.Boxes.{boxes_from}
-use Rattle.conversion.specs.Progress.{tests_left}
-use Rattle.std.proofs.Common.{◌≡◌, Ok, Err}
 use Rattle.conversion.proofs.Potentials.{begun_tests}
 use Rattle.conversion.proofs.bit_bands.InkerBands.begin.Goals as goal
 
