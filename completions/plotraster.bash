@@ -11,11 +11,9 @@ _plotraster() {
     fi
     if [ "$command" != report ]; then
         options="$options --dots --pens --progress"
-        case "$command" in
-            png) options="$options --smooth" ;;
-            ppm) options="$options --smooth --band --from" ;;
-            *) options="$options --band --from" ;;
-        esac
+        if [ "$command" != png ]; then
+            options="$options --band --from"
+        fi
         case "$before" in
             --dots)
                 local dots="75 100 150 200 300 600 1200"
@@ -29,7 +27,7 @@ _plotraster() {
                 COMPREPLY=($(compgen -W "all" -- "$word"))
                 return
                 ;;
-            --smooth | --band | --from) return ;;
+            --band | --from) return ;;
         esac
     fi
     case "$before" in

@@ -173,12 +173,13 @@ GALLERY["A detail at 1200 dots per inch"] = [Check(stored, (*PNG, "pamcut"))]
 DOCUMENT_CHECKS = {
     "docs/GALLERY.md": GALLERY,
     "README.md": {
-        "Use": [Check(pictures, (*PNG, "pamfile"))],
+        "Use": [Check(pictures, (*SCALED, "pamfile"))],
         "More": [Check(more_pictures, (*PNG, "pamfile"))],
     },
     "man/plotraster.1": {
         "EXAMPLES": [Check(pictures, ("pamfile",)), Check(pictures, ("pamfile",)), Check(pictures_of_a_folder, (), PLOTS),
-                     Check(pictures, (*PNG, "pamfile")), Check(pictures, ("pamfile",)), Check(pictures),
+                     Check(pictures, (*PNG, "pamfile")), Check(pictures, (*SCALED, "pamfile")), Check(pictures, ("pamfile",)),
+                     Check(pictures),
                      Check(notes, (), {"plan.plt": b"WU1;;SC0,0,0,9;" + plan(*A4)}), Check(centred, ()), Check(eight_marks)],
     },
 }

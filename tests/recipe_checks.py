@@ -101,9 +101,14 @@ def netpbm(command, data, errors=False):
 
 # What the blocks must have made. Each check gives what is wrong, a line each.
 
+def coloured_png(made):
+    if made.pixmap("plan.png") != made.run("ppm", "--dots", "150", "plan.plt"):
+        yield "another picture"
+
+
 def smoothed_png(made):
     magic, size, most, data = made.of_png("plan.png").split(b"\n", 3)
-    wanted = tuple(pixels(units, 100) for units in A4)
+    wanted = tuple(pixels(units, 150) for units in A4)
     if magic != b"P6" or tuple(map(int, size.split())) != wanted or most != b"255":
         yield f"{magic!r}, {size!r} instead of {wanted}, {most!r}"
     values = set(data)
@@ -197,7 +202,9 @@ def pcl(made):
 
 
 def fitted_page(made):
-    if made.pixmap("centred.png") != made.run("ppm", "--fit", "--dots", "150", "--smooth", "4", "examples/centred.plt"):
+    fine = made.run("ppm", "--fit", "--dots", "600", "examples/centred.plt")
+    reduced = netpbm(["pamscale", "-reduce", "4"], fine)
+    if made.of_png("centred.png") != netpbm(["pnmquant", "64"], reduced):
         yield "another picture"
 
 
@@ -399,12 +406,13 @@ Check = collections.namedtuple("Check", "made needs plots prepare", defaults=(()
 PNG = ("pnmtopng", "pngtopam")
 CHECKS = {
     "docs/RECIPES.md": {
-        "PNG, smoothed": [Check(smoothed_png, PNG)],
+        "PNG, in colour": [Check(coloured_png, PNG)],
+        "PNG, smoothed": [Check(smoothed_png, (*PNG, "pamscale"))],
         "PNG, black and white": [Check(black_png, PNG)],
         "PDF and TIFF, true to size": [Check(pdf, ("pnmtops", "ps2pdf")), Check(tiff, ("pamtotiff", "tifftopnm"))],
         "A PostScript printer, true to size": [Check(postscript, ("pnmtops",))],
         "A PCL printer": [Check(pcl, ("pamflip", "pbmtolj"))],
-        "A page that fits the drawing": [Check(fitted_page, PNG)],
+        "A page that fits the drawing": [Check(fitted_page, (*PNG, "pamscale", "pnmquant"))],
         "Other colours and widths": [Check(recoloured)],
         "An archive of plots": [Check(archive_in_one_run, (), ARCHIVE), Check(archive, PNG, ARCHIVE),
                                 Check(blank_plots, (), ARCHIVE), Check(archive_by_parallel, ("parallel",), ARCHIVE)],

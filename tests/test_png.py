@@ -1,5 +1,4 @@
-"""PNG and smoothing. Netpbm, PIL, pngcheck and the reader of tests/reference find in a PNG the pixels that `ppm` has, and
-a smoothed picture has the means of a finer one."""
+"""PNG: Netpbm, PIL, pngcheck and the reader of tests/reference find in it the pixels that `ppm` has."""
 
 import functools
 import glob
@@ -13,7 +12,7 @@ import subprocess
 import pytest
 from PIL import Image
 
-from reference.png import GREY, PALETTE, TRUECOLOUR, chunks, read_png
+from reference.png import PALETTE, TRUECOLOUR, chunks, read_png
 from shared import EXAMPLES, need, pixels, read_bytes, run, write
 from test_full_reference import options_of, plot_of, rows
 from test_pictures import cases, words_of
@@ -73,7 +72,7 @@ def readers(pytestconfig):
 @pytest.mark.parametrize("name", NAMES)
 def test_examples(program, name):
     plot = read_bytes(os.path.join(EXAMPLES, f"{name}.plt"))
-    for words in (["--dots=30"], ["--dots=100", "--profile=full", *SMALL], ["--dots=25", "--smooth=3", "--profile=full"]):
+    for words in (["--dots=30"], ["--dots=100", "--profile=full", *SMALL], ["--dots=25", "--profile=full"]):
         dots = int(words[0].removeprefix("--dots="))
         picture = same_as_ppm(program, words, plot)
         assert picture.per_metre == (20000 * dots + 254) // 508
@@ -98,12 +97,11 @@ def page_of(columns, count):
     return [f"--width={max(64, UNITS_AT_10_DOTS * columns)}", f"--height={max(64, UNITS_AT_10_DOTS * count)}", "--dots=10"]
 
 
-@pytest.mark.parametrize("times", [1, 2, 7])
-def test_odd_widths(program, times):
+def test_odd_widths(program):
     """Pages of 1 to 70 columns, in black and white, in colours, and blank."""
     for columns in range(1, 71):
         for plot in (b"SP1;PU0,0;PD9000,500;PU9000,0;PD0,700;", b"SP2;PU0,0;PD7000,300;SP3;PU0,600;PD7000,20;", b""):
-            picture = same_as_ppm(program, [*page_of(columns, 5), f"--smooth={times}"], plot)
+            picture = same_as_ppm(program, page_of(columns, 5), plot)
             assert (picture.columns, picture.rows) == (columns, 5)
 
 
@@ -161,86 +159,12 @@ def test_colours_of_the_palette(program):
     assert same_as_ppm(program, SMALL, hidden).palette == [WHITE, b"\xff\0\0", b"\0\0\0"]
 
 
-# ---- smoothed pictures
-
-
-def parts_of(data):
-    """The columns, the rows and the pixels of a pixmap, which may lack its header."""
-    magic, size, most, found = data.split(b"\n", 3)
-    assert (magic, most) == (b"P6", b"255")
-    return (*map(int, size.split()), found)
-
-
-def reduced(fine, times, columns, count):
-    """The means of times by times pixels of a pixmap; what is beyond it is white."""
-    fine_columns, fine_count, found = parts_of(fine)
-
-    def part(row, column, channel):
-        is_there = row < fine_count and column < fine_columns
-        return found[3 * (row * fine_columns + column) + channel] if is_there else 255
-
-    means = bytearray()
-    for row in range(count):
-        for column in range(columns):
-            for channel in range(3):
-                total = sum(part(times * row + i, times * column + j, channel) for i in range(times) for j in range(times))
-                means.append((2 * total + times**2) // (2 * times**2))
-    return b"P6\n%d %d\n255\n" % (columns, count) + means
-
-
-SMOOTHED = [
-    (b"SP1;PU0,0;PD900,700;CI300;", 30, 2), (b"SP2;PU5,5;PD900,20;SP3;PU0,700;PD900,0;SP5;PU450,350;CI200;", 33, 3),
-    (b"SP1;PW5;PU0,0;PD1000,800;", 25, 8), (b"", 20, 4), (b"SP6;PW9;PU1000,800;PD1000,800,0,800;", 41, 5),
-    (b"PC1,128,128,128;PU0,0;PD999,799;PC1,3,3,3;PU0,799;PD999,0;", 29, 7), (b"SP4;PU500,0;PD500,800;", 150, 1),
-]
-
-
-@pytest.mark.parametrize("plot, dots, times", SMOOTHED)
-def test_means(program, plot, dots, times):
-    page = ["--width=1000", "--height=800"]
-    fine = drawn(program, ["ppm", *page, f"--dots={dots * times}"], plot)
-    wanted = reduced(fine, times, pixels(1000, dots), pixels(800, dots))
-    words = [*page, f"--dots={dots}", f"--smooth={times}"]
-    assert drawn(program, ["ppm", *words], plot) == wanted
-    picture = has_same_pixels(drawn(program, ["png", *words], plot), wanted)
-    assert picture.per_metre == (20000 * dots + 254) // 508
-
-
-def test_rows_and_bands_of_smoothed_pictures(program):
-    """A picture from a later row on is the end of the whole one, in whatever bands it is painted."""
-    plot = read_bytes(os.path.join(EXAMPLES, "figures.plt"))
-    words = ["ppm", *SMALL, "--dots=20", "--smooth=3"]
-    whole = drawn(program, words, plot)
-    columns, count = pixels(4000, 20), pixels(3000, 20)
-    for band in (1, 2, 3, 7, 4096):
-        assert drawn(program, [*words, f"--band={band}"], plot) == whole
-    for row in (1, 2, 17, count - 1, count):
-        assert drawn(program, [*words, f"--from={row}", "--band=5"], plot) == whole[len(whole) - 3 * columns * (count - row):]
-    done = run(program, [*words, f"--from={count + 1}"], SECONDS, input=plot)
-    assert (done.returncode, done.stderr) == (2, b"plotraster: first row is past the last row\n")
-
-
-def test_types_of_smoothed_pictures(program):
-    """Grey if all colours of the palette are; else a palette of the colours as they first come, if they are few enough."""
-    words = [*SMALL, "--dots=50", "--smooth=4"]
-    for plot in (LINE, b"PC1,9,9,9;" + LINE, b""):
-        picture = same_as_ppm(program, words, plot)
-        assert (picture.type, picture.depth) == (GREY, 8)
-    picture = same_as_ppm(program, words, b"SP2;PU0,0;PD3000,2000;")
-    found = [picture.pixels[at:at + 3] for at in range(0, len(picture.pixels), 3)]
-    assert (picture.type, picture.palette) == (PALETTE, list(dict.fromkeys(found)))
-    assert picture.depth == depth_of(len(picture.palette)) and len(picture.palette) > 4
-    many = "".join(f"PC1,{9 * i},{255 - 9 * i},{i % 7 * 30};PU0,{100 * i};PD4000,{100 * i + 77};" for i in range(28))
-    assert same_as_ppm(program, words, b"SP1;" + many.encode()).type == TRUECOLOUR
-
-
 # ---- refusals, and writes that fail
 
 
 @pytest.mark.parametrize("words, plot, ends", [
     ([], b"PD99999,0;", (1, b"plotraster: place off range at byte 0\n")),
     (["--pens=0"], LINE, (2, b"plotraster: bad pen list\n")),
-    (["--dots=601", "--smooth=2"], LINE, (2, b"plotraster: --dots times --smooth is over 1200\n")),
     (["missing.plt"], LINE, (3, b"plotraster: cannot open missing.plt: no such file or folder\n")),
     (["folder"], LINE, (3, b"plotraster: read failed\n")),
 ])
@@ -300,15 +224,15 @@ def test_each_write_fails(program, refuse):
     assert number > 1 and done.stdout == whole
 
 
-@pytest.mark.parametrize("words", [[], ["--smooth=2"]])
-def test_refused_allocations(program, refuse, words):
+@pytest.mark.parametrize("plot", [LINE, plot_in(colours(257))], ids=["palette", "truecolour"])
+def test_refused_allocations(program, refuse, plot):
     """Each allocation of a run is refused in turn: nothing is written, or the whole picture."""
-    words, number, without_effect = ["png", "--width=64", "--height=64", *words], 0, 0
-    whole = drawn(program, words, LINE)
+    words, number, without_effect = ["png", "--width=64", "--height=64"], 0, 0
+    whole = drawn(program, words, plot)
     while without_effect < 10:
         number += 1
         surroundings = dict(os.environ, LD_PRELOAD=refuse, MEMORY_FAILS=str(number))
-        done = run(program, words, SECONDS, input=LINE, env=surroundings)
+        done = run(program, words, SECONDS, input=plot, env=surroundings)
         ended = (done.returncode, done.stdout, done.stderr)
         assert ended in ((0, whole, b""), (4, b"", b"plotraster: out of memory\n"))
         without_effect = 0 if done.returncode else without_effect + 1
