@@ -2,7 +2,7 @@
 
 Each `rust` block of a page in PAGES must stand in one source file of its crates, line for line, and each `antt`
 block in one of their specs/. Each line of a `text` block must stand in crates.txt. Each public function of the
-crate library_examples must be shown in docs/LIBRARY.md. The table of definitions in docs/PROOF.md must be what
+crate library_examples must be shown in docs/LIBRARY.md. The tables of definitions in docs/PROOF.md must be what
 tools/path prints, and the figures of speed in docs/SPEED.md and README.md those of bench/results.
 """
 
