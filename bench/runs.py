@@ -19,8 +19,9 @@ def adopt_orphans():
     ctypes.CDLL(None).prctl(PR_SET_CHILD_SUBREAPER, 1, 0, 0, 0)
 
 
-def run(words, picture):
-    """One run that writes a PBM: what went wrong or None, the seconds, and the bytes of memory.
+def run(words, picture, reads=read_pbm):
+    """One run that writes a picture, a PBM if none else is said: what went wrong or None, the seconds, and the bytes of
+    memory. `reads` gives None of a file that is no such picture.
 
     A shell starts it and ends. The greatest memory that is reported for a process is at least that of
     the process that started it, and a shell has less than a script in Python."""
@@ -33,7 +34,7 @@ def run(words, picture):
     failure = None
     if code != 0:
         failure = f"status {code}" if code > 0 else signal.Signals(-code).name
-    elif read_pbm(picture) is None:
+    elif reads(picture) is None:
         failure = "no picture"
     return Run(failure, used.ru_utime + used.ru_stime, used.ru_maxrss * 1024)
 
