@@ -1,6 +1,8 @@
-//! Tests of pictures as PNGs, by public calls.
+//! Tests of pictures as PNGs, of the streams of `deflate` and of the checksum of `crc32`, by public calls.
 #![tactic(auto)]
 
+#[cfg(test)]
+mod checksums;
 #[cfg(test)]
 mod failures;
 #[cfg(test)]
@@ -9,3 +11,7 @@ mod narrow;
 mod packed;
 #[cfg(test)]
 mod pictures;
+#[cfg(test)]
+mod stream_failures;
+#[cfg(test)]
+mod streams;

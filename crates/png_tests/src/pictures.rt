@@ -117,7 +117,7 @@ fn a_picture_in_colours(rt: HostRuntime) -> Result<(), Fail> {
 }
 
 #[test]
-fn smoothed_pictures(rt: HostRuntime) -> Result<(), Fail> {
+fn shades_and_colours(rt: HostRuntime) -> Result<(), Fail> {
     let grey = Header {
         columns: 3,
         rows: 3,

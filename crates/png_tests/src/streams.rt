@@ -33,7 +33,7 @@ const LINES: &[u8] = b"\
 \x10\x14\x68\x38\xda\xc4\xa1\xe7\x04\x21\x96\x38\x46\x0a\x25\x11\x44\x78\x35\x91\x57\x7b\xb5\xe0\
 \x55\x1b\x62\xdd\x3c";
 
-const SMOOTHED: &[u8] = b"\
+const SHADES: &[u8] = b"\
 \x78\x01\xed\xc1\x07\x80\x1c\x6d\x41\xc7\xe1\xdf\x0d\x52\xe4\x6b\x6f\x94\x5e\xfc\xe6\x44\x94\x26\
 \x99\x53\x41\x05\x35\x33\x22\x0a\xb6\xec\x2a\xc5\x4a\x66\x54\xec\x92\x5d\xb1\x22\xba\xb3\x8a\x58\
 \x71\x37\xd8\x45\x9d\x09\x56\x8a\xee\xc6\x06\x8a\x38\x13\x15\x54\x50\x77\x82\x34\x45\xbc\x89\xf4\
@@ -75,8 +75,8 @@ fn runs(rt: HostRuntime) -> Result<(), Fail> {
     for size in [1, 2, 700, 10000] {
         let lines = stream_of(&rt, rt.alloc(), Code::Lines, &text, size)?;
         assert_eq!(rt; lines.as_slice(), LINES, "pieces of {size}");
-        let smoothed = stream_of(&rt, rt.alloc(), Code::Smoothed, &text, size)?;
-        assert_eq!(rt; smoothed.as_slice(), SMOOTHED, "pieces of {size}");
+        let shades = stream_of(&rt, rt.alloc(), Code::Shades, &text, size)?;
+        assert_eq!(rt; shades.as_slice(), SHADES, "pieces of {size}");
     }
     Ok(())
 }
@@ -97,8 +97,8 @@ fn no_runs(rt: HostRuntime) -> Result<(), Fail> {
     let text = noise(rt.alloc(), 10000)?;
     let lines = stream_of(&rt, rt.alloc(), Code::Lines, &text, 10000)?;
     assert_eq!(rt; (lines.len(), crc_of(&lines)), (13836, 0xbdd16f49));
-    let smoothed = stream_of(&rt, rt.alloc(), Code::Smoothed, &text, 10000)?;
-    assert_eq!(rt; (smoothed.len(), crc_of(&smoothed)), (13505, 0x469cd8b8));
+    let shades = stream_of(&rt, rt.alloc(), Code::Shades, &text, 10000)?;
+    assert_eq!(rt; (shades.len(), crc_of(&shades)), (13505, 0x469cd8b8));
     Ok(())
 }
 
