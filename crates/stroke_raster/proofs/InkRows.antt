@@ -4,7 +4,6 @@ use Rattle.std.specs.Int.{bit_at}
 use Rattle.std.proofs.lemmas.Bool.{cases_eq, cases_lt}
 use Rattle.std.proofs.lemmas.Bool.Decides.{nat_tests}
 use Rattle.std.proofs.lemmas.Nat.{mul-le}
-use Rattle.std.proofs.lemmas.Nat.Bits.{bit_at-zero}
 use Rattle.std.proofs.lemmas.List.{ext_get_or, get_or-drop, get_or-map, get_or-take, get_or_past, length-drop, length-map, length-take-le}
 use Rattle.std.proofs.lemmas.List.FromFn.{get_or-map-range_with_len, length-map-range_with_len}
 use Rattle.plot_page.specs.Segments.{Segment}
@@ -19,11 +18,6 @@ use Rattle.stroke_raster.proofs.Rows.{get_or-split_rows, length-split_rows}
 -- a byte is the sum of its bits
 byte_value : (b : ℕ) → b < 256 → b ≡ 128 * bit_at b 7 + 64 * bit_at b 6 + 32 * bit_at b 5 + 16 * bit_at b 4 + 8 * bit_at b 3 + 4 * bit_at b 2 + 2 * bit_at b 1 + bit_at b 0
 byte_value b h = omega (arith, h)
-
--- a bit of bytes that are 0
-pub white : (stride : ℕ) (bytes : List ℕ) (r k : ℕ) → ((i : ℕ) → get_or bytes i 0 ≡ 0) → ink_at stride bytes r k ≡ 0
-white stride bytes r k h =
-    ap (λ (n : ℕ). bit_at n (7 - (8 * (r * stride) + k) % 8)) (h ((8 * (r * stride) + k) / 8)) ∙ bit_at-zero (7 - (8 * (r * stride) + k) % 8)
 
 min_bit : (n : ℕ) → min 1 n ≡ (if nat_eq n 0 then 0 else 1)
 min_bit n = elim (cases_eq n 0) [

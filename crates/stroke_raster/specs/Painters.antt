@@ -1,4 +1,4 @@
--- What holds of a painter, or of an inker, between two calls.
+-- What holds of a painter between two calls.
 use Rattle.std.specs.Prelude.{◌≡◌, ℕ, ◌+◌, ◌-◌, ◌*◌, ◌<◌, ◌≤◌, List, length, min}
 use Rattle.stroke_raster.specs.declared.scene.Scene.{Scene}
 use Rattle.plot_page.specs.Resolutions.{rows_of}

@@ -7,25 +7,30 @@ use crate::extent::extent_of;
 use crate::gauge::Gauge;
 use crate::layout::Layout;
 use crate::strip::Span;
+use bit_rows::packed_length;
 use plot_page::{Dots, Page, Stroke};
+use std::alloc::{AllocError, Global};
 
 /// Rows of bytes, whose bits are 1 for the pixels that show a stroke, the leftmost pixel in the highest bit
 /// of the first byte.
 #[derive(Drop)]
 pub struct Bits {
     /// How many columns of pixels there are.
-    pub columns: u32,
+    pub(crate) columns: u32,
     /// How many rows there are.
-    pub rows: u32,
+    pub(crate) rows: u32,
     /// How many bytes a row has.
-    pub stride: u32,
+    pub(crate) stride: u32,
     /// The bytes, row after row.
-    pub bytes: Vec<u8>,
+    pub(crate) bytes: Vec<u8>,
 }
 
 impl Canvas for Bits {
     ghost use Rattle.std.specs.Prelude.{refl};
+    ghost use Rattle.std.specs.Prelude.{map};
+    ghost use Rattle.bit_rows.specs.Bits.{packed};
     ghost use Rattle.stroke_raster.specs.Canvases.{AreBits};
+    ghost use Rattle.stroke_raster.specs.Rows.{split_rows};
 
     ghost height = { λ b. b.rows };
 
@@ -35,7 +40,22 @@ impl Canvas for Bits {
 
     ghost mark = { λ position. min 1 position };
 
+    ghost lent = { λ b count. split_rows b.stride count b.bytes.items };
+
+    ghost lends = { λ rows. map packed rows };
+
     ghost is_sound = { λ b. AreBits b.columns b.rows b.stride b.bytes.items };
+
+    fn of_size(alloc: Global, columns: u32, rows: u32) -> Result<Bits, AllocError> {
+        let stride = packed_length(columns as usize) as u32;
+        let bytes = vec![in alloc; 0u8; rows as usize * stride as usize]?;
+        Ok(Bits {
+            columns,
+            rows,
+            stride,
+            bytes,
+        })
+    }
 
     fn clear(&mut self, rows: u32) {
         self.rows = rows;
@@ -69,10 +89,14 @@ impl Canvas for Bits {
         extent.rows.end
     }
 
+    fn lends_what_it_shows(&self) {
+        are_bytes(self.bytes.as_slice());
+    }
+
     ghost blank = { refl };
 }
 
-/// Does nothing. Its contract is a law: each byte is below 2^8.
-pub fn are_bytes(bytes: &[u8])
+// Does nothing. Its contract is a law: each byte is below 2^8.
+fn are_bytes(bytes: &[u8])
     ensures { (i : ℕ) → i < length bytes.now → get_or bytes.now i 0 < 2 ^ 8 }
 {}

@@ -1,15 +1,21 @@
 //! What a band's strokes are painted on.
-ghost use Rattle.std.specs.Prelude.{◌≡◌, ℕ, ◌+◌, ◌<◌, ◌≤◌, cond, min};
+ghost use Rattle.std.specs.Prelude.{◌≡◌, ℕ, ◌+◌, ◌<◌, ◌≤◌, Bool, List, IfOk, cond, min};
+ghost use Rattle.plot_page.specs.Segments.{Segment};
+ghost use Rattle.plot_page.specs.declared.pens.PenSet.{PenSet};
+ghost use Rattle.plot_page.specs.declared.dots.TheConstants.{MOST_PIXELS_A_SIDE};
 ghost use Rattle.plot_page.specs.Resolutions.{columns_of, rows_of};
 ghost use Rattle.stroke_raster.specs.Boxes.{box_pixels, in_box, BoxHolds};
+ghost use Rattle.stroke_raster.specs.Canvases.{Shows};
 ghost use Rattle.stroke_raster.specs.Extents.{end_row_of};
+ghost use Rattle.stroke_raster.specs.Rows.{rows_shown};
 ghost use Rattle.stroke_raster.specs.Tests.{MOST_TESTS, reached_pixels};
 
 use crate::gauge::Gauge;
 use plot_page::{Dots, Page, Stroke};
+use std::alloc::{AllocError, Global};
 
 /// The pixels of a band, over which strokes are painted one after another.
-pub trait Canvas {
+pub trait Canvas: Sized + Drop {
     // How many rows of pixels it has.
     ghost height: { Self → ℕ };
 
@@ -22,8 +28,23 @@ pub trait Canvas {
     // What a pixel shows once the stroke at a position of the list, counted from 1, is painted over it.
     ghost mark: { ℕ → ℕ };
 
+    // A number of its first rows, as they are lent.
+    ghost lent: { Self → ℕ → List (List ℕ) };
+
+    // How rows are lent whose pixels show the strokes at these positions.
+    ghost lends: { List (List ℕ) → List (List ℕ) };
+
     // What holds between two calls.
     ghost is_sound: { Self → Type 0 };
+
+    /// A canvas of this many columns and rows.
+    fn of_size(alloc: Global, columns: u32, rows: u32) -> Result<Self, AllocError>
+        requires some { 0 < columns }
+        requires wide { columns ≤ MOST_PIXELS_A_SIDE }
+        requires tall { rows ≤ 4096 }
+        ensures sound { IfOk result (λ c. is_sound c) }
+        ensures height { IfOk result (λ c. height c ≡ rows) }
+        ensures width { IfOk result (λ c. width c ≡ columns) };
 
     /// Makes the first `rows` rows blank, and drops those after them.
     fn clear(&mut self, rows: u32)
@@ -63,6 +84,14 @@ pub trait Canvas {
         ensures most { G.count gauge.new ≤ G.count gauge.old + box_pixels
             (λ s. in_box s page.now dots) stroke.now first (height self.old) (width self.old) }
         ensures grows { G.count gauge.old ≤ G.count gauge.new };
+
+    /// Does nothing. Its contract is a law: rows whose pixels show what strokes do are lent as such rows are.
+    fn lends_what_it_shows(&self)
+        requires sound { is_sound self.now }
+        ensures { (covers : Segment → ℕ → ℕ → Bool) (pens : PenSet) (strokes : List Segment) (first : ℕ) →
+            Shows (pixel self.now) mark covers pens strokes first (height self.now) (width self.now) →
+            lent self.now (height self.now)
+            ≡ lends (rows_shown covers pens strokes (width self.now) first (height self.now)) };
 
     // 0, the position of no stroke, is what a blank pixel shows.
     ghost blank: { mark 0 ≡ 0 };

@@ -8,23 +8,25 @@ use crate::gauge::Gauge;
 use crate::strip::Span;
 use crate::trace::trace_of;
 use plot_page::{Dots, Page, Stroke};
+use std::alloc::{AllocError, Global};
 
 /// Cells in rows, one for each pixel: the position of the stroke that it shows, counted from 1, or 0.
 #[derive(Drop)]
 pub struct Cells {
     /// How many columns there are.
-    pub columns: u32,
+    pub(crate) columns: u32,
     /// How many rows there are.
-    pub rows: u32,
+    pub(crate) rows: u32,
     /// For each row, the columns outside which its cells are 0.
-    pub spans: Vec<Span>,
+    pub(crate) spans: Vec<Span>,
     /// The cells, row after row.
-    pub cells: Vec<u32>,
+    pub(crate) cells: Vec<u32>,
 }
 
 impl Canvas for Cells {
     ghost use Rattle.std.specs.Prelude.{refl};
     ghost use Rattle.stroke_raster.specs.Canvases.{AreCells};
+    ghost use Rattle.stroke_raster.specs.Rows.{split_rows};
 
     ghost height = { λ c. c.rows };
 
@@ -34,7 +36,22 @@ impl Canvas for Cells {
 
     ghost mark = { λ position. position };
 
+    ghost lent = { λ c count. split_rows c.columns count c.cells.items };
+
+    ghost lends = { λ rows. rows };
+
     ghost is_sound = { λ c. AreCells c.columns c.rows c.spans.items c.cells.items };
+
+    fn of_size(alloc: Global, columns: u32, rows: u32) -> Result<Cells, AllocError> {
+        let cells = vec![in alloc; 0u32; rows as usize * columns as usize]?;
+        let spans = vec![in alloc; Span { low: 0, end: 0 }; rows as usize]?;
+        Ok(Cells {
+            columns,
+            rows,
+            spans,
+            cells,
+        })
+    }
 
     fn clear(&mut self, rows: u32) {
         self.rows = rows;
@@ -81,6 +98,8 @@ impl Canvas for Cells {
         }
         extent.rows.end
     }
+
+    fn lends_what_it_shows(&self) {}
 
     ghost blank = { refl };
 }

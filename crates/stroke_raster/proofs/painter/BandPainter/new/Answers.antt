@@ -1,12 +1,11 @@
-use Rattle.std.proofs.Common.{rules, ◌≡◌, ◌≤◌, ◌+◌, ◌*◌, ℕ, List, length, get_or, drop, ap, ◌∙◌}
+use Rattle.std.proofs.Common.{rules, ◌≡◌, ◌≤◌, ◌+◌, ◌*◌, length, drop}
 use Rattle.plot_page.specs.Resolutions.{rows_of}
 use Rattle.stroke_raster.proofs.Bands.{enough_bands}
-use Rattle.stroke_raster.proofs.InkRows.{white}
-use Rattle.stroke_raster.proofs.Written.{filled, whole}
-use Rattle.stroke_raster.proofs.inker.Inker.new.Goals as goal
+use Rattle.stroke_raster.proofs.Written.{whole}
+use Rattle.stroke_raster.proofs.painter.BandPainter.new.Goals as goal
 
 pub invariant_of-result : goal.invariant_of-result
-invariant_of-result c =
+invariant_of-result g c =
     let heads : length c.chain.new.heads ≡ c.in-Ok-vec.heads.len = search rules in
     let links : length c.chain.new.links ≡ c.in-Ok-vec-2.links.len = search rules in
     let enough : rows_of c.args.page c.args.dots ≤ c.args.first_row + c.in-Ok-vec.heads.len * c.args.band_rows =
@@ -19,12 +18,7 @@ invariant_of-result c =
       next_rows = search rules;
       height_in = search rules;
       width_is = search rules;
-      canvas = record {
-        stride_is = search rules;
-        stride_small = search rules;
-        size = search rules;
-        after = λ r k u v w. white _ _ r k (λ i. ap (λ (z : List ℕ). get_or z i 0) (c.in-Ok.ensures.items_if_clones_equal (λ y h. h)) ∙ filled _ i 0);
-      };
+      canvas = search rules;
       slots = search rules;
       bands_few = search rules;
       bands_enough = rw heads enough;
