@@ -1,13 +1,15 @@
-//! What a picture is asked for by: the page, the resolution, the pens, the form; and how its plot is read
-//! and placed.
+//! What a picture is asked for by: the page, the resolution, the pens, the form, the smoothing; and how its plot is
+//! read and placed.
 #![tactic(auto)]
 
 mod job;
 mod page_choice;
 mod png_job;
 mod reading;
+mod smoothing;
 
 pub use job::Job;
 pub use page_choice::PageChoice;
 pub use png_job::PngJob;
 pub use reading::Reading;
+pub use smoothing::Smoothing;

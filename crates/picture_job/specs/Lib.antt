@@ -1,0 +1,2 @@
+-- How much finer a picture may be painted.
+pub mod Smoothings

@@ -1,0 +1,135 @@
+//! Sums of red, green and blue over the finer pixels of a pixel.
+ghost use Rattle.std.specs.Prelude.{◌≡◌, ℕ, [], ◌+◌, ◌*◌, ◌^◌, ◌<◌, ◌≤◌, All, get_or, length};
+ghost use Rattle.smoothing.specs.Smoothings.{mean};
+ghost use Rattle.smoothing.specs.declared.sums.Sums.{Sums};
+ghost use Rattle.picture_out.specs.Inks.{cell_colour};
+ghost use Rattle.smoothing.specs.Totals.{AreWhite, AtLeast, AtMost, HasCell, HasCells, HaveCells, means};
+
+use picture_out::Inks;
+
+/// The sums of red, green and blue over the finer pixels of a pixel.
+#[derive(Clone, Copy)]
+pub(crate) struct Sums {
+    pub(crate) red: u16,
+    pub(crate) green: u16,
+    pub(crate) blue: u16,
+}
+
+impl Sums {
+    // Those of white pixels, `times` by `times` of them.
+    pub(crate) fn white(times: u32) -> Sums
+        requires { times ≤ 8 }
+        ensures { AreWhite times result }
+    {
+        let sum = (255 * (times * times)) as u16;
+        Sums {
+            red: sum,
+            green: sum,
+            blue: sum,
+        }
+    }
+
+    // The means of `times` by `times` pixels.
+    pub(crate) fn means(self, times: u32) -> [u8; 3]
+        requires least { 1 ≤ times }
+        requires most { times ≤ 8 }
+        requires sums { AtMost (255 * (times * times)) self }
+        ensures { result ≡ means times self }
+    {
+        [
+            mean(self.red, times),
+            mean(self.green, times),
+            mean(self.blue, times),
+        ]
+    }
+
+    // The same with a cell in the place of a white pixel.
+    #[inline(always)]
+    fn with_cell<I: Inks>(self, cell: u32, inks: &I) -> Sums
+        requires ink { cell ≤ length (I.inks inks.now) }
+        requires enough { AtLeast 255 self }
+        ensures { HasCell (cell_colour (I.inks inks.now) cell) self result }
+    {
+        if cell == 0 {
+            return self;
+        }
+        let ink = inks.ink(cell);
+        Sums {
+            red: self.red - (255 - ink.red as u16),
+            green: self.green - (255 - ink.green as u16),
+            blue: self.blue - (255 - ink.blue as u16),
+        }
+    }
+}
+
+// The mean of `times` by `times` bytes by their sum, rounded to the nearest.
+fn mean(sum: u16, times: u32) -> u8
+    requires least { 1 ≤ times }
+    requires most { times ≤ 8 }
+    requires sum { sum ≤ 255 * (times * times) }
+    ensures { result ≡ mean times sum }
+{
+    let count = times * times;
+    ((2 * sum as u32 + count) / (2 * count)) as u8
+}
+
+// Puts the cells of a row in the place of white pixels, as many to each pixel as `times` says.
+pub(crate) fn add_row<I: Inks>(cells: &[u32], times: u32, inks: &I, sums: &mut [Sums])
+    requires inks { All (λ cell. cell ≤ length (I.inks inks.now)) cells.now }
+    requires most { times ≤ 8 }
+    requires few { length sums.old < 2 ^ 32 }
+    requires enough { (k : ℕ) (d : Sums) → k < length sums.old → AtLeast (255 * times) (get_or sums.old k d) }
+    ensures size { length sums.new ≡ length sums.old }
+    ensures cells { HaveCells (I.inks inks.now) cells.now times sums.old sums.new }
+{
+    for column in 0..sums.len() {
+        let first = times as usize * column;
+        sums[column] = with_cells(sums[column], cells, first, times, inks);
+    }
+}
+
+// These sums, with the cells from `first` on in the place of white pixels.
+#[inline(always)]
+fn with_cells<I: Inks>(sums: Sums, cells: &[u32], first: usize, times: u32, inks: &I) -> Sums
+    requires inks { All (λ cell. cell ≤ length (I.inks inks.now)) cells.now }
+    requires most { times ≤ 8 }
+    requires place { first < 2 ^ 40 }
+    requires enough { AtLeast (255 * times) sums }
+    ensures { HasCells (I.inks inks.now) cells.now first times sums result }
+{
+    let mut mixed = sums;
+    for k in 0..times {
+        mixed = mixed.with_cell(cell_at(cells, first + k as usize), inks);
+    }
+    mixed
+}
+
+// The cell in a column, or 0 past the edge.
+#[inline(always)]
+fn cell_at(cells: &[u32], column: usize) -> u32
+    ensures { result ≡ get_or cells.now column 0 }
+{
+    if column < cells.len() {
+        cells[column]
+    } else {
+        0
+    }
+}
+
+// Takes the means of each pixel, and leaves the sums of white ones.
+pub(crate) fn take_means(times: u32, sums: &mut [Sums], pixels: &mut [[u8; 3]])
+    requires least { 1 ≤ times }
+    requires most { times ≤ 8 }
+    requires same { length sums.old ≡ length pixels.old }
+    requires sums { (k : ℕ) (d : Sums) → k < length sums.old → AtMost (255 * (times * times)) (get_or sums.old k d) }
+    ensures size { length pixels.new ≡ length pixels.old }
+    ensures means { (k : ℕ) (d : Sums) → k < length sums.old → get_or pixels.new k [] ≡ means times (get_or sums.old k d) }
+    ensures width { length sums.new ≡ length sums.old }
+    ensures white { (k : ℕ) (d : Sums) → k < length sums.old → AreWhite times (get_or sums.new k d) }
+{
+    let white = Sums::white(times);
+    for column in 0..sums.len() {
+        pixels[column] = sums[column].means(times);
+        sums[column] = white;
+    }
+}
