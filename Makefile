@@ -20,7 +20,7 @@ MAN = $(DESTDIR)$(PREFIX)/share/man/man1
 COMPLETIONS = $(DESTDIR)$(PREFIX)/share/bash-completion/completions
 SECONDS = 600
 CARDS = rose tide figures characters
-CARD = --width 4000 --height 3000 --dots 600
+CARD = --width 4000 --height 3000 --dots 150 --smooth 4
 # Debian's Python, which has Debian's pytest.
 PYTEST = PYTHONDONTWRITEBYTECODE=1 /usr/bin/python3 -m pytest -q -p no:cacheprovider --no-skips
 # The tests that need no built command.
@@ -40,16 +40,10 @@ demo: build
 	@echo 'plotraster marks --width 64 --height 64 --dots 127 examples/line.plt'
 	@build/plotraster marks --width 64 --height 64 --dots 127 examples/line.plt
 	@for name in $(CARDS); do \
-	    echo "plotraster ppm $(CARD) examples/$$name.plt > build/$$name.ppm"; \
-	    build/plotraster ppm $(CARD) examples/$$name.plt > build/$$name.ppm || exit 1; \
+	    echo "plotraster png $(CARD) examples/$$name.plt > build/$$name.png"; \
+	    build/plotraster png $(CARD) examples/$$name.plt > build/$$name.png || exit 1; \
 	done
-	@if command -v pamscale > /dev/null && command -v pnmtopng > /dev/null; then \
-	    for name in $(CARDS); do \
-	        echo "pamscale -reduce 4 build/$$name.ppm | pnmtopng > build/$$name.png"; \
-	        pamscale -quiet -reduce 4 build/$$name.ppm | pnmtopng -quiet > build/$$name.png; \
-	    done; \
-	fi
-	@echo 'The pictures are:' $(CARDS:%=build/%.*)
+	@echo 'The pictures are:' $(CARDS:%=build/%.png)
 
 setup:
 	@tools/setup

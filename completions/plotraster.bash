@@ -11,9 +11,11 @@ _plotraster() {
     fi
     if [ "$command" != report ]; then
         options="$options --dots --pens --progress"
-        if [ "$command" != png ]; then
-            options="$options --band --from"
-        fi
+        case "$command" in
+            png) options="$options --smooth" ;;
+            ppm) options="$options --smooth --band --from" ;;
+            *) options="$options --band --from" ;;
+        esac
         case "$before" in
             --dots)
                 local dots="75 100 150 200 300 600 1200"
@@ -27,7 +29,7 @@ _plotraster() {
                 COMPREPLY=($(compgen -W "all" -- "$word"))
                 return
                 ;;
-            --band | --from) return ;;
+            --smooth | --band | --from) return ;;
         esac
     fi
     case "$before" in

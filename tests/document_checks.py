@@ -106,24 +106,12 @@ def pictures_of_a_folder(made):
             yield f"{name}: another picture"
 
 
-# The Netpbm that made the pictures in docs/. Another version may choose colours in another way.
-PICTURES_BY = b"Netpbm 11.1.0\n"
-
-
-def another_picture(made, name):
-    """A picture must be the one in docs/, or, by another version of Netpbm, be near it."""
-    given, kept = made.of_png(name), netpbm(["pngtopam", os.path.join(TOP, "docs", name)], None)
-    by = netpbm(["pngtopam", "--version"], None, errors=True)
-    apart = sum(abs(one - other) for one, other in zip(given, kept)) / len(kept)
-    if given != kept and (PICTURES_BY in by or len(given) != len(kept) or apart > 2):
-        yield f"docs/{name} is another picture: {apart:.2f} apart"
-
-
 def stored(made):
-    """The picture is the one in docs/, the text shows it, and the plot is what its script writes."""
+    """The picture has the pixels of the one in docs/, the text shows it, and the plot is what its script writes."""
     name = re.findall(r"> (\S+)", made.block)[-1]
     plot, = set(re.findall(r"examples/(\w+)\.plt", made.block))
-    yield from another_picture(made, name)
+    if made.pixmap(name) != made.pixmap(os.path.join(TOP, "docs", name)):
+        yield f"docs/{name} is another picture"
     with open(os.path.join(TOP, "docs", "GALLERY.md"), encoding="utf-8") as text:
         if f"]({name})" not in text.read():
             yield f"{name} is not shown"
@@ -157,9 +145,8 @@ def box_of_pen_2(made):
         yield f"printed {made.output!r}"
 
 
-SCALED = (*PNG, "pamscale")
 GALLERY = {
-    heading: [Check(stored, (*SCALED, "pnmquant"))]
+    heading: [Check(stored, PNG)]
     for heading in ("Lines in six colours", "A part drawing", "A map", "A chart by gnuplot", "Text in four directions",
                     "Isotropic scaling", "Windows", "Wide pens", "Encoded polylines", "Colours set by the plot",
                     "Line types and widths", "Lettering", "Fills")
@@ -168,18 +155,17 @@ BESIDE = (
     "A chart in both profiles", "A part with hidden edges", "A chart of a harbour", "A sheet of labels", "A ribbon of curves",
     "A map of districts", "A section of a bearing", "A pie and bars",
 )
-GALLERY.update({heading: [Check(stored, (*SCALED, "pnmquant", "pnmcat"))] for heading in BESIDE})
+GALLERY.update({heading: [Check(stored, (*PNG, "pnmcat"))] for heading in BESIDE})
 GALLERY["A detail at 1200 dots per inch"] = [Check(stored, (*PNG, "pamcut"))]
 DOCUMENT_CHECKS = {
     "docs/GALLERY.md": GALLERY,
     "README.md": {
-        "Use": [Check(pictures, (*SCALED, "pamfile"))],
+        "Use": [Check(pictures, (*PNG, "pamfile"))],
         "More": [Check(more_pictures, (*PNG, "pamfile"))],
     },
     "man/plotraster.1": {
         "EXAMPLES": [Check(pictures, ("pamfile",)), Check(pictures, ("pamfile",)), Check(pictures_of_a_folder, (), PLOTS),
-                     Check(pictures, (*PNG, "pamfile")), Check(pictures, (*SCALED, "pamfile")), Check(pictures, ("pamfile",)),
-                     Check(pictures),
+                     Check(pictures, (*PNG, "pamfile")), Check(pictures, ("pamfile",)), Check(pictures),
                      Check(notes, (), {"plan.plt": b"WU1;;SC0,0,0,9;" + plan(*A4)}), Check(centred, ()), Check(eight_marks)],
     },
 }

@@ -114,6 +114,8 @@ def smoothed_png(made):
     values = set(data)
     if not {0, 255} <= values or len(values) < 10:
         yield f"not smoothed: {len(values)} values"
+    if made.pixmap("plan.png") != made.run("ppm", "--dots", "150", "--smooth", "4", "plan.plt"):
+        yield "another picture"
 
 
 def black_png(made):
@@ -202,9 +204,7 @@ def pcl(made):
 
 
 def fitted_page(made):
-    fine = made.run("ppm", "--fit", "--dots", "600", "examples/centred.plt")
-    reduced = netpbm(["pamscale", "-reduce", "4"], fine)
-    if made.of_png("centred.png") != netpbm(["pnmquant", "64"], reduced):
+    if made.pixmap("centred.png") != made.run("ppm", "--fit", "--dots", "150", "--smooth", "4", "examples/centred.plt"):
         yield "another picture"
 
 
@@ -407,12 +407,12 @@ PNG = ("pnmtopng", "pngtopam")
 CHECKS = {
     "docs/RECIPES.md": {
         "PNG, in colour": [Check(coloured_png, PNG)],
-        "PNG, smoothed": [Check(smoothed_png, (*PNG, "pamscale"))],
+        "PNG, smoothed": [Check(smoothed_png, PNG)],
         "PNG, black and white": [Check(black_png, PNG)],
         "PDF and TIFF, true to size": [Check(pdf, ("pnmtops", "ps2pdf")), Check(tiff, ("pamtotiff", "tifftopnm"))],
         "A PostScript printer, true to size": [Check(postscript, ("pnmtops",))],
         "A PCL printer": [Check(pcl, ("pamflip", "pbmtolj"))],
-        "A page that fits the drawing": [Check(fitted_page, (*PNG, "pamscale", "pnmquant"))],
+        "A page that fits the drawing": [Check(fitted_page, PNG)],
         "Other colours and widths": [Check(recoloured)],
         "An archive of plots": [Check(archive_in_one_run, (), ARCHIVE), Check(archive, PNG, ARCHIVE),
                                 Check(blank_plots, (), ARCHIVE), Check(archive_by_parallel, ("parallel",), ARCHIVE)],

@@ -254,7 +254,7 @@ def sentences_of_help(program, commands):
         found = re.fullmatch(r"  ([a-z]+)  +(.+)", line)
         if found and found[1] in commands:
             yield "COMMANDS", found[1], found[2]
-    for command in ("pbm", "report"):
+    for command in ("ppm", "report"):
         for line in help_of(program, [command]):
             found = re.fullmatch(r" +(?:-\w, )?(--[a-z]+)(?: <[A-Z]+>)? +(.*?)(?: \[default: .*\])?", line)
             if found and found[1] != HELP:
@@ -267,7 +267,7 @@ def test_page_begins_with_the_sentences_of_help(program):
     page = {(name, name_of(head)): text for name in ("COMMANDS", "OPTIONS")
             for _, head, text in entries(section(name))}
     sentences = list(sentences_of_help(program, commands))
-    assert len(sentences) == len(commands) + 16 + 11
+    assert len(sentences) == len(commands) + 17 + 11
     assert_nothing(f"{name}: the page has {page[part, name]!r}, the help {says!r}"
                    for part, name, says in sentences if not page[part, name].startswith(says + ". "))
 

@@ -159,6 +159,21 @@ def test_colours_of_the_palette(program):
     assert same_as_ppm(program, SMALL, hidden).palette == [WHITE, b"\xff\0\0", b"\0\0\0"]
 
 
+@pytest.mark.parametrize("plot, words, palette", [
+    (b"SP1;PU0,0;PD4000,3000;SP2;PC2,255,255,255;PU0,3000;PD4000,0;", [], [WHITE, b"\0\0\0"]),
+    (b"SP2;PC2,255,255,255;PU0,0;PD4000,3000;SP1;PU0,3000;PD4000,0;", [], [WHITE, b"\0\0\0"]),
+    (b"SP2;PC2,255,255,255;PU0,0;PD4000,3000;", [], [WHITE]),
+    (b"SP1;PU0,0;PD4000,3000;SP2;PC2,255,255,255;PU0,3000;PD4000,0;", ["--pens=1"], [WHITE, b"\0\0\0"]),
+    (b"SP3;PU0,0;PD4000,3000;SP2;PC2,255,255,255;PU0,3000;PD4000,0;", ["--pens=2"], [WHITE]),
+], ids=["over", "under", "alone", "not selected", "alone selected"])
+def test_white_strokes(program, plot, words, palette):
+    """They hide what is below them, if their pen is selected."""
+    for dots in (30, 100, 300):
+        for width in (b"", b"PW3;"):
+            picture = same_as_ppm(program, [*SMALL, f"--dots={dots}", *words], width + plot)
+            assert picture.palette == palette
+
+
 # ---- refusals, and writes that fail
 
 

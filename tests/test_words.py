@@ -29,6 +29,7 @@ OFF_RANGE = (1, b"plotraster: place off range at byte 0\n")
 USAGE = (2, b"error: ")
 NO_TEXT = (2, b"plotraster: words not understood\n")
 BAD_LIST = (2, b"plotraster: bad pen list\n")
+TOO_FINE = (2, b"plotraster: --dots times --smooth is over 1200\n")
 BAD_PAGE = (2, b"plotraster: bad page: use a0 to a5, b4, letter, legal, tabloid, ansi-a to ansi-e, arch-d or arch-e, ")
 PAGE_AND_SIDE = (2, b"plotraster: --page may not be given with --width or --height\n")
 BAD_PROFILE = (2, b"plotraster: bad profile\n")
@@ -180,8 +181,21 @@ def options_of_pictures():
         yield ["report", "line.plt", word], USAGE
 
 
-def options_of_rows():
-    """A PNG has no options of rows."""
+def smoothing():
+    """Smoothing of PNG and PPM, and options that a PNG has not."""
+    for command in ["png", "ppm"]:
+        for words in [["--smooth=1"], ["--smooth", "+8"], ["--smooth=8", "--dots=150"], ["--dots=600", "--smooth", "2"]]:
+            yield [command, *SMALL, *words, "line.plt"], DONE
+        for words in [["--smooth=8", "--dots=151"], ["--dots=1200", "--smooth", "2"], ["--smooth=3", "--dots=401"]]:
+            yield [command, *words, "line.plt"], TOO_FINE
+            yield [command, *words, "--page=none", "missing.plt"], TOO_FINE
+            yield [command, *words, "--pens=0"], BAD_LIST
+        for text in ["0", "9", "-1", "1.5", "", "two", "2x", str(2**32 + 1)]:
+            yield [command, f"--smooth={text}"], USAGE
+        yield [command, "--smooth"], USAGE
+        yield [command, "--smooth=2", "--smooth=2"], USAGE
+    for command in ["marks", "pbm", "pcl", "report"]:
+        yield [command, "--smooth=1"], USAGE
     for word in ["--from=0", "--band=64"]:
         yield ["png", word], USAGE
         yield ["png", "line.plt", *word.split("=")], USAGE
@@ -386,7 +400,7 @@ def bytes_that_are_no_text():
 
 GENERATORS = [
     plain, commands, numbers_in_range, numbers_out_of_range, no_numbers, values_missing, options_twice, unknown_options,
-    options_of_pictures, options_of_rows, lists_of_pens, fitted_pages, pages, profiles, sheets, resolutions_of_pcl, files,
+    options_of_pictures, smoothing, lists_of_pens, fitted_pages, pages, profiles, sheets, resolutions_of_pcl, files,
     after_two_hyphens, calls_for_help, orders_of_refusal, bytes_that_are_no_text,
 ]
 

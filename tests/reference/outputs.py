@@ -18,6 +18,9 @@ PAGE_OPTIONS = {
 }
 PICTURE_OPTIONS = {"dots": (10, 1200, 100)}
 ROW_OPTIONS = {"band": (1, 4096, 64), "from": (0, 99999, 0)}
+SMOOTH_OPTIONS = {"smooth": (1, 8, 1)}
+MOST_DOTS = 1200
+WHITE = b"\xff\xff\xff"
 # In the profile core a sheet may not be given.
 SHEET_OPTIONS = {"sheet": (0, 4_194_304, 1)}
 
@@ -44,6 +47,8 @@ def ranges_of(command):
         ranges.update(PICTURE_OPTIONS)
     if command in FORMS:
         ranges.update(ROW_OPTIONS)
+    if command in ("png", "ppm"):
+        ranges.update(SMOOTH_OPTIONS)
     return ranges
 
 
@@ -61,6 +66,8 @@ def answer(form, options, plot):
     pens, profile = pens_of(options.get("pens", "all")), options.get("profile", "core")
     if pens is None:
         return fault(2, "bad pen list")
+    if numbers.get("dots", 0) * numbers.get("smooth", 1) > MOST_DOTS:
+        return fault(2, "--dots times --smooth is over 1200")
     if profile not in ("core", "full"):
         return fault(2, "bad profile")
     if profile == "core" and "sheet" in options:
@@ -109,15 +116,38 @@ def pictured(form, numbers, sheet, pens, page, plot):
     first = numbers.get("from", 0)
     if first > raster.count(page.height, dots):
         return fault(2, "first row is past the last row")
+    if form == "png" or numbers.get("smooth", 1) > 1:
+        rows = smoothed_rows(strokes, page, dots, numbers["smooth"], pens, first)
+        return Answer(0, pixmap(form, page, dots, rows, first == 0), "")
     rows = raster.rows(strokes, page, dots, pens, first)
-    if form == "png":
-        return Answer(0, in_png(page, dots, rows), "")
     return Answer(0, picture(form, page, dots, rows, first == 0), "")
 
 
-def in_png(page, dots, rows):
-    """What a reader finds in a PNG, by its rows: how many pixels a metre has, and a pixmap."""
-    return b"%d pixels a metre\n" % ((20000 * dots + 254) // 508) + picture("ppm", page, dots, rows, True)
+def smoothed_rows(strokes, page, dots, times, pens, first):
+    """The colours of each row from the first on: each is the mean of times by times pixels of the finer picture, beyond
+    which all is white."""
+    columns, fine_columns = raster.count(page.width, dots), raster.count(page.width, dots * times)
+    fine = [colours(*row) for row in raster.rows(strokes, page, dots * times, pens, first * times)]
+    wide = 3 * times * columns
+    fine = [row[:wide] + WHITE * (times * columns - fine_columns) for row in fine]
+    count = raster.count(page.height, dots) - first
+    fine += [b"\xff" * wide] * (times * count - len(fine))
+    for row in range(count):
+        sums = [sum(of_a_channel) for of_a_channel in zip(*fine[times * row:times * (row + 1)])]
+        yield bytes(mean(sums[at + channel:at + 3 * times:3], times) for at in range(0, wide, 3 * times) for channel in range(3))
+
+
+def mean(sums, times):
+    """The mean of a pixel's parts, to the nearest number, by their sums in each column."""
+    return (2 * sum(sums) + times * times) // (2 * times * times)
+
+
+def pixmap(form, page, dots, rows, has_header):
+    """A pixmap, by the colours of its rows; before that of a PNG is how many pixels a metre has."""
+    size = raster.count(page.width, dots), raster.count(page.height, dots)
+    header = b"P6\n%d %d\n255\n" % size if has_header else b""
+    before = b"%d pixels a metre\n" % ((20000 * dots + 254) // 508) if form == "png" else b""
+    return before + header + b"".join(rows)
 
 
 def pens_of(text):

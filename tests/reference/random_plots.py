@@ -112,7 +112,7 @@ class Writer(Numbers):
         if form == "pcl" and self.chance(4):
             options["dots"] = self.pick(*DOTS)
         if self.chance(0.5):
-            options[self.pick("width", "left", "dots", "from", "band")] = self.pick("0", "-1", "+70", "65537", "x", "")
+            options[self.pick("width", "left", "dots", "from", "band", "smooth")] = self.pick("0", "-1", "+70", "65537", "x", "")
         return form, {name: str(value) for name, value in options.items() if str(value) != "0" or self.chance(20)}
 
     def length(self):
@@ -126,10 +126,12 @@ class Writer(Numbers):
 
     def picture_settings(self, form):
         options = {"dots": self.dots}
+        columns, rows = count(self.width, self.dots), count(self.height, self.dots)
+        if form in ("png", "ppm") and self.chance(50):
+            options["smooth"] = self.smoothing(columns * rows)
+        most = max(1, MOST_PIXELS // max(1, columns))
         if form == "png":
             return self.pens_settings(options)
-        columns, rows = count(self.width, self.dots), count(self.height, self.dots)
-        most = max(1, MOST_PIXELS // max(1, columns))
         if rows > most:
             options["from"] = self.random.randint(rows - most, rows)
         elif self.chance(15):
@@ -137,6 +139,13 @@ class Writer(Numbers):
         if self.chance(25):
             options["band"] = self.pick(1, 2, 3, 5, 64, 4096)
         return self.pens_settings(options)
+
+    def smoothing(self, pixels):
+        """How much finer a picture is painted: mostly as the resolution allows, and not too fine for the reference."""
+        if self.chance(2):
+            return self.pick(0, 1, 8, 9)
+        allowed = [times for times in range(1, 9) if times * self.dots <= 1200 and times * times * pixels <= 4 * MOST_PIXELS]
+        return self.pick(*allowed or [1])
 
     def pens_settings(self, options):
         if self.chance(15):

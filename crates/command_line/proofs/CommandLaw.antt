@@ -9,14 +9,17 @@ use Rattle.clap.specs.declared.error.Error.{Error}
 use Rattle.clap.specs.declared.parser.matches.ArgMatches.{ArgMatches}
 use Rattle.command_line.specs.declared.subcommands.Output.{Output}
 use Rattle.command_line.specs.declared.subcommands.Output.TheVariants.{Picture, Png, Report}
+use Rattle.picture_out.specs.declared.form.Form.TheVariants.{Marks, Pbm, Ppm, Pcl}
 use Rattle.command_line.specs.Options.{picture_app, plot_app, png_app, report_app, subcommand_app, subcommands}
+use Rattle.command_line.proofs.Plain.{plain_app}
 use Rattle.clap_parses.specs.Parses.{HasGoodMatches, IsSingleShape}
 use Rattle.clap_parses.proofs.ParseLaw.{parse_good}
 
--- width, height, page, left, below, margin, profile, sheet, output, dots, pens, band and from take one value each; fit,
--- verbose and progress are flags; FILE takes one value at each use; the last one is help
-picture_single : (name : Text) → IsSingleShape (built_leaf (picture_app name).top)
-picture_single name = record {
+-- In each of these width, height, page, left, below, margin, profile, sheet and output take one value each; fit and verbose are
+-- flags; FILE takes one value at each use; the last one is help. In pictures dots and pens take one value each, and
+-- progress is a flag; band and from take one value each, and smooth too.
+plain_single : (name : Text) → IsSingleShape (built_leaf (plain_app name).top)
+plain_single name = record {
   single = (
     record { found = refl; kind = inl (record { sets = refl; takes = refl }); defaults = search rules },
     (
@@ -72,7 +75,66 @@ picture_single name = record {
   no_again = refl;
 }
 
--- the same, but without band and from
+smoothed_single : (name : Text) → IsSingleShape (built_leaf (picture_app Ppm name).top)
+smoothed_single name = record {
+  single = (
+    record { found = refl; kind = inl (record { sets = refl; takes = refl }); defaults = search rules },
+    (
+      record { found = refl; kind = inl (record { sets = refl; takes = refl }); defaults = search rules },
+      (
+        record { found = refl; kind = inl (record { sets = refl; takes = refl }); defaults = search rules },
+        (
+          record { found = refl; kind = inl (record { sets = refl; takes = refl }); defaults = search rules },
+          (
+            record { found = refl; kind = inl (record { sets = refl; takes = refl }); defaults = search rules },
+            (
+              record { found = refl; kind = inr (inl (record { sets = refl; takes = refl; stands = search rules })); defaults = search rules },
+              (
+                record { found = refl; kind = inl (record { sets = refl; takes = refl }); defaults = search rules },
+                (
+                  record { found = refl; kind = inl (record { sets = refl; takes = refl }); defaults = search rules },
+                  (
+                    record { found = refl; kind = inl (record { sets = refl; takes = refl }); defaults = search rules },
+                    (
+                      record { found = refl; kind = inl (record { sets = refl; takes = refl }); defaults = search rules },
+                      (
+                        record { found = refl; kind = inr (inl (record { sets = refl; takes = refl; stands = search rules })); defaults = search rules },
+                        (
+                          record { found = refl; kind = inl (record { sets = refl; takes = refl }); defaults = search rules },
+                          (
+                            record { found = refl; kind = inl (record { sets = refl; takes = refl }); defaults = search rules },
+                            (
+                              record { found = refl; kind = inr (inl (record { sets = refl; takes = refl; stands = search rules })); defaults = search rules },
+                              (
+                                record { found = refl; kind = inl (record { sets = refl; takes = refl }); defaults = search rules },
+                                (
+                                  record { found = refl; kind = inl (record { sets = refl; takes = refl }); defaults = search rules },
+                                  (
+                                    record { found = refl; kind = inl (record { sets = refl; takes = refl }); defaults = search rules },
+                                    (
+                                      record { found = refl; kind = inr (inr (inl (record { appends = refl; takes = refl }))); defaults = search rules },
+                                      (record { found = refl; kind = inr (inr (inr refl)); defaults = search rules }, tt),
+                                    ),
+                                  ),
+                                ),
+                              ),
+                            ),
+                          ),
+                        ),
+                      ),
+                    ),
+                  ),
+                ),
+              ),
+            ),
+          ),
+        ),
+      ),
+    ),
+  );
+  no_again = refl;
+}
+
 png_single : (name : Text) → IsSingleShape (built_leaf (png_app name).top)
 png_single name = record {
   single = (
@@ -104,8 +166,11 @@ png_single name = record {
                             (
                               record { found = refl; kind = inr (inl (record { sets = refl; takes = refl; stands = search rules })); defaults = search rules },
                               (
-                                record { found = refl; kind = inr (inr (inl (record { appends = refl; takes = refl }))); defaults = search rules },
-                                (record { found = refl; kind = inr (inr (inr refl)); defaults = search rules }, tt),
+                                record { found = refl; kind = inl (record { sets = refl; takes = refl }); defaults = search rules },
+                                (
+                                  record { found = refl; kind = inr (inr (inl (record { appends = refl; takes = refl }))); defaults = search rules },
+                                  (record { found = refl; kind = inr (inr (inr refl)); defaults = search rules }, tt),
+                                ),
                               ),
                             ),
                           ),
@@ -124,8 +189,6 @@ png_single name = record {
   no_again = refl;
 }
 
--- width, height, page, left, below, margin, profile, sheet and output take one value each; fit and verbose are flags; FILE
--- takes one value at each use; the last one is help
 report_single : (name : Text) → IsSingleShape (built_leaf (report_app name).top)
 report_single name = record {
   single = (
@@ -169,7 +232,10 @@ report_single name = record {
 }
 
 single : (it : Text × Output) → IsSingleShape (built_leaf (subcommand_app it).top)
-single (name, Picture form) = picture_single name
+single (name, Picture Marks) = plain_single name
+single (name, Picture Pbm) = plain_single name
+single (name, Picture Ppm) = smoothed_single name
+single (name, Picture Pcl) = plain_single name
 single (name, Png) = png_single name
 single (name, Report) = report_single name
 

@@ -152,6 +152,30 @@ sheet_in_core : value_fault_on (codes "report" ∷ codes "--sheet=1" ∷ []) ≡
 unfolding clap_on_literals
 sheet_in_core = refl
 
+too_fine : value_fault_on (codes "png" ∷ codes "--dots=601" ∷ codes "--smooth=2" ∷ []) ≡ Some fault.Smooth
+unfolding clap_on_literals
+too_fine = refl
+
+fine_enough : value_fault_on (codes "ppm" ∷ codes "--dots=150" ∷ codes "--smooth=8" ∷ []) ≡ None
+unfolding clap_on_literals
+fine_enough = refl
+
+list_before_smoothing : value_fault_on (codes "png" ∷ codes "--dots=1200" ∷ codes "--smooth=2" ∷ codes "--pens=0" ∷ []) ≡ Some fault.Pens
+unfolding clap_on_literals
+list_before_smoothing = refl
+
+smoothing_before_paper : value_fault_on (codes "ppm" ∷ codes "--dots=1200" ∷ codes "--smooth=2" ∷ codes "--page=a6" ∷ []) ≡ Some fault.Smooth
+unfolding clap_on_literals
+smoothing_before_paper = refl
+
+smooth_given : number_on (codes "png" ∷ codes "--smooth" ∷ codes "4" ∷ []) (codes "smooth") ≡ Some 4
+unfolding clap_on_literals
+smooth_given = refl
+
+smooth_left_out : number_on (codes "ppm" ∷ []) (codes "smooth") ≡ None
+unfolding clap_on_literals
+smooth_left_out = refl
+
 list_before_sheet : value_fault_on (codes "pcl" ∷ codes "--pens=0" ∷ codes "--sheet=1" ∷ []) ≡ Some fault.Pens
 unfolding clap_on_literals
 list_before_sheet = refl
@@ -300,6 +324,10 @@ fit_twice = refl
 report_says_more : flag_on (codes "report" ∷ codes "--verbose" ∷ []) (codes "verbose") ≡ Some true
 unfolding clap_on_literals
 report_says_more = refl
+
+bitmap_is_not_smoothed : faults_on (codes "pbm" ∷ codes "--smooth=2" ∷ []) ≡ kind.UnknownArgument ∷ []
+unfolding clap_on_literals
+bitmap_is_not_smoothed = refl
 
 png_has_no_first_row : faults_on (codes "png" ∷ codes "--from=0" ∷ []) ≡ kind.UnknownArgument ∷ []
 unfolding clap_on_literals

@@ -4,3 +4,4 @@ pub mod CommandLaw
 pub mod ReadingLaw
 pub mod Given
 mod Examples
+pub mod Plain

@@ -19,9 +19,12 @@ use Rattle.clap_parses.specs.Parses.{HasGoodMatches, IsIn, RowOf, RowsOf, first,
 use Rattle.command_line.specs.declared.subcommands.Output.{Output}
 use Rattle.command_line.specs.declared.subcommands.Output.TheVariants.{Picture, Png, Report}
 use Rattle.command_line.specs.Lines.{number_in, output_named}
-use Rattle.command_line.specs.Options.{picture_app, plot_app, png_app, report_app, subcommand_app, subcommands}
+use Rattle.picture_out.specs.declared.form.Form.{Form}
+use Rattle.picture_out.specs.declared.form.Form.TheVariants.{Marks, Pbm, Ppm, Pcl}
+use Rattle.command_line.specs.Options.{is_smoothed, picture_app, plot_app, png_app, report_app, subcommand_app, subcommands}
+use Rattle.command_line.proofs.Plain.{plain_app}
 use Rattle.command_line.specs.Readings.{HasChoiceValues, HasFormValues, HasNumber, HasPageNumbers, HasPictureValues, HasReadingValues, HasValues}
-use Rattle.command_line.specs.Readings.{MayHaveNumber}
+use Rattle.command_line.specs.Readings.{MayHaveNumber, MayHaveSmoothing}
 
 -- a row of an argument: its first value passes, and is read as the argument's parser says
 record IsRowOf (a : Rule) (r : Row) : Type 0 where
@@ -119,13 +122,14 @@ numbers_of_page c w h l b rows width width_parser height height_parser left left
   below = number_there c b (codes "below") rows 0 65536 below below_parser all has_below;
 }
 
-picture_values : (c : List Rule) (d p : Rule) (rows : List Row) → HasPageNumbers rows → arg_by_id c (codes "dots") ≡ Some d
-    → d.parser ≡ Some (vp.Signed (pos 10) (pos 1200)) → arg_by_id c (codes "pens") ≡ Some p → AllByRecursion (RowOf c) rows
-    → has_row (codes "dots") rows ≡ true → has_row (codes "pens") rows ≡ true → HasPictureValues rows
-picture_values c d p rows page dots parser pens all has_dots has_pens = record {
+picture_values : (c : List Rule) (d p : Rule) (is_smoothed : Bool) (rows : List Row) → HasPageNumbers rows → arg_by_id c (codes "dots") ≡ Some d
+    → d.parser ≡ Some (vp.Signed (pos 10) (pos 1200)) → arg_by_id c (codes "pens") ≡ Some p → MayHaveSmoothing is_smoothed rows → AllByRecursion (RowOf c) rows
+    → has_row (codes "dots") rows ≡ true → has_row (codes "pens") rows ≡ true → HasPictureValues is_smoothed rows
+picture_values c d p is_smoothed rows page dots parser pens smoothing all has_dots has_pens = record {
   page = page;
   dots = number_there c d (codes "dots") rows 10 1200 dots parser all has_dots;
   pens = text_there c p (codes "pens") rows pens all has_pens;
+  smoothing = smoothing;
 }
 
 report_reading : (name : Text) (rows : List Row) → RowsOf (built_leaf (report_app name).top).rules rows → HasReadingValues rows
@@ -138,22 +142,40 @@ report_page : (name : Text) (rows : List Row) → RowsOf (built_leaf (report_app
 report_page name rows good =
     numbers_of_page _ _ _ _ _ rows refl refl refl refl refl refl refl refl good.each (good.defaults.1.1.1.0 (omega arith)) (good.defaults.1.1.1.1.0 (omega arith))
 
-picture_reading : (name : Text) (rows : List Row) → RowsOf (built_leaf (picture_app name).top).rules rows → HasReadingValues rows
-picture_reading name rows good = reading_values _ _ _ rows refl refl refl good.each (good.defaults.1.1.1.1.1.1.1.0 (omega arith))
+plain_reading : (name : Text) (rows : List Row) → RowsOf (built_leaf (plain_app name).top).rules rows → HasReadingValues rows
+plain_reading name rows good = reading_values _ _ _ rows refl refl refl good.each (good.defaults.1.1.1.1.1.1.1.0 (omega arith))
 
-picture_choice : (name : Text) (rows : List Row) → RowsOf (built_leaf (picture_app name).top).rules rows → HasChoiceValues rows
-picture_choice name rows good = number_if_there _ _ (codes "margin") rows 0 100 refl refl good.each
+plain_choice : (name : Text) (rows : List Row) → RowsOf (built_leaf (plain_app name).top).rules rows → HasChoiceValues rows
+plain_choice name rows good = number_if_there _ _ (codes "margin") rows 0 100 refl refl good.each
 
-picture_page : (name : Text) (rows : List Row) → RowsOf (built_leaf (picture_app name).top).rules rows → HasPageNumbers rows
-picture_page name rows good =
+plain_page : (name : Text) (rows : List Row) → RowsOf (built_leaf (plain_app name).top).rules rows → HasPageNumbers rows
+plain_page name rows good =
     numbers_of_page _ _ _ _ _ rows refl refl refl refl refl refl refl refl good.each (good.defaults.1.1.1.0 (omega arith)) (good.defaults.1.1.1.1.0 (omega arith))
 
-form_values : (name : Text) (rows : List Row) → RowsOf (built_leaf (picture_app name).top).rules rows → HasFormValues rows
-form_values name rows good = record {
-  picture = picture_values _ _ _ rows (picture_page name rows good) refl refl refl good.each (good.defaults.1.1.1.1.1.1.1.1.1.1.1.0 (omega arith))
-      (good.defaults.1.1.1.1.1.1.1.1.1.1.1.1.0 (omega arith));
+plain_values : (name : Text) (form : Form) (rows : List Row) → is_smoothed (Picture form) ≡ false → RowsOf (built_leaf (plain_app name).top).rules rows → HasFormValues form rows
+plain_values name form rows plain good = record {
+  picture = picture_values _ _ _ (is_smoothed (Picture form)) rows (plain_page name rows good) refl refl refl (λ smoothed. let bad : false ≡ true = sym plain ∙ smoothed in absurd (cc)) good.each
+      (good.defaults.1.1.1.1.1.1.1.1.1.1.1.0 (omega arith)) (good.defaults.1.1.1.1.1.1.1.1.1.1.1.1.0 (omega arith));
   band = number_there _ _ (codes "band") rows 1 4096 refl refl good.each (good.defaults.1.1.1.1.1.1.1.1.1.1.1.1.1.1.0 (omega arith));
   first_row = number_there _ _ (codes "from") rows 0 99999 refl refl good.each (good.defaults.1.1.1.1.1.1.1.1.1.1.1.1.1.1.1.0 (omega arith));
+}
+
+smoothed_reading : (name : Text) (rows : List Row) → RowsOf (built_leaf (picture_app Ppm name).top).rules rows → HasReadingValues rows
+smoothed_reading name rows good = reading_values _ _ _ rows refl refl refl good.each (good.defaults.1.1.1.1.1.1.1.0 (omega arith))
+
+smoothed_choice : (name : Text) (rows : List Row) → RowsOf (built_leaf (picture_app Ppm name).top).rules rows → HasChoiceValues rows
+smoothed_choice name rows good = number_if_there _ _ (codes "margin") rows 0 100 refl refl good.each
+
+smoothed_page : (name : Text) (rows : List Row) → RowsOf (built_leaf (picture_app Ppm name).top).rules rows → HasPageNumbers rows
+smoothed_page name rows good =
+    numbers_of_page _ _ _ _ _ rows refl refl refl refl refl refl refl refl good.each (good.defaults.1.1.1.0 (omega arith)) (good.defaults.1.1.1.1.0 (omega arith))
+
+smoothed_values : (name : Text) (rows : List Row) → RowsOf (built_leaf (picture_app Ppm name).top).rules rows → HasFormValues Ppm rows
+smoothed_values name rows good = record {
+  picture = picture_values _ _ _ true rows (smoothed_page name rows good) refl refl refl (λ _. number_if_there _ _ (codes "smooth") rows 1 8 refl refl good.each) good.each
+      (good.defaults.1.1.1.1.1.1.1.1.1.1.1.0 (omega arith)) (good.defaults.1.1.1.1.1.1.1.1.1.1.1.1.0 (omega arith));
+  band = number_there _ _ (codes "band") rows 1 4096 refl refl good.each (good.defaults.1.1.1.1.1.1.1.1.1.1.1.1.1.1.1.0 (omega arith));
+  first_row = number_there _ _ (codes "from") rows 0 99999 refl refl good.each (good.defaults.1.1.1.1.1.1.1.1.1.1.1.1.1.1.1.1.0 (omega arith));
 }
 
 png_reading : (name : Text) (rows : List Row) → RowsOf (built_leaf (png_app name).top).rules rows → HasReadingValues rows
@@ -166,10 +188,10 @@ png_page : (name : Text) (rows : List Row) → RowsOf (built_leaf (png_app name)
 png_page name rows good =
     numbers_of_page _ _ _ _ _ rows refl refl refl refl refl refl refl refl good.each (good.defaults.1.1.1.0 (omega arith)) (good.defaults.1.1.1.1.0 (omega arith))
 
-png_values : (name : Text) (rows : List Row) → RowsOf (built_leaf (png_app name).top).rules rows → HasPictureValues rows
+png_values : (name : Text) (rows : List Row) → RowsOf (built_leaf (png_app name).top).rules rows → HasPictureValues true rows
 png_values name rows good =
-    picture_values _ _ _ rows (png_page name rows good) refl refl refl good.each (good.defaults.1.1.1.1.1.1.1.1.1.1.1.0 (omega arith))
-    (good.defaults.1.1.1.1.1.1.1.1.1.1.1.1.0 (omega arith))
+    picture_values _ _ _ true rows (png_page name rows good) refl refl refl (λ _. number_if_there _ _ (codes "smooth") rows 1 8 refl refl good.each) good.each
+    (good.defaults.1.1.1.1.1.1.1.1.1.1.1.0 (omega arith)) (good.defaults.1.1.1.1.1.1.1.1.1.1.1.1.0 (omega arith))
 
 -- the rows of a subcommand give its options values
 abbrev Reads : Shape → Type 0
@@ -182,12 +204,23 @@ IsNamed it = output_named it.0 ≡ Some it.1
 all_named : AllByRecursion IsNamed subcommands
 all_named = search rules
 
-row_reads : (it : Text × Output) → IsNamed it → Reads (built_leaf (subcommand_app it).top)
-row_reads (name, Picture form) named = λ rows good. record {
-  task = rw named (form_values name rows good);
-  reading = picture_reading name rows good;
-  choice = picture_choice name rows good;
+plain_reads : (name : Text) (form : Form) → is_smoothed (Picture form) ≡ false → IsNamed (name, Picture form) → (rows : List Row)
+    → RowsOf (built_leaf (plain_app name).top).rules rows → HasValues name rows
+plain_reads name form plain named rows good = record {
+  task = rw named (plain_values name form rows plain good);
+  reading = plain_reading name rows good;
+  choice = plain_choice name rows good;
 }
+
+row_reads : (it : Text × Output) → IsNamed it → Reads (built_leaf (subcommand_app it).top)
+row_reads (name, Picture Marks) named = plain_reads name Marks refl named
+row_reads (name, Picture Pbm) named = plain_reads name Pbm refl named
+row_reads (name, Picture Ppm) named = λ rows good. record {
+  task = rw named (smoothed_values name rows good);
+  reading = smoothed_reading name rows good;
+  choice = smoothed_choice name rows good;
+}
+row_reads (name, Picture Pcl) named = plain_reads name Pcl refl named
 row_reads (name, Png) named = λ rows good. record {
   task = rw named (png_values name rows good);
   reading = png_reading name rows good;

@@ -1,5 +1,5 @@
 -- What the matches of a command line ask for.
-use Rattle.std.specs.Prelude.{◌≡◌, ◌<◌, ◌&&◌, ◌||◌, ℕ, Bool, true, false, not, List, [], Option, Some, None, codes}
+use Rattle.std.specs.Prelude.{◌≡◌, ◌<◌, ◌≤◌, ◌*◌, ◌&&◌, ◌||◌, ℕ, Bool, true, false, not, List, [], Option, Some, None, codes}
 use Rattle.std.specs.Prelude.{option_map, option_and_then, unwrap_or, is_some, find, if◌then◌else◌, map, length, nat_lt}
 use Rattle.std.specs.Option.{option_map_or, option_or}
 use Rattle.std.specs.Str.{bytes_eq}
@@ -10,17 +10,19 @@ use Rattle.plot_page.specs.declared.page.Page.{Page}
 use Rattle.plot_page.specs.declared.pens.PenSet.{PenSet}
 use Rattle.plot_page.specs.Pens.{has_pen}
 use Rattle.clap_parses.specs.Parses.{HasGoodMatches}
-use Rattle.command_line.specs.Options.{subcommands, plot_app}
+use Rattle.command_line.specs.Options.{is_smoothed, subcommands, plot_app}
 use Rattle.command_line.specs.Papers.{names_plot, size_named}
 use Rattle.pen_list.specs.Lists.{is_listed, is_pen_list}
+use Rattle.picture_out.specs.declared.form.Form.{Form}
 use Rattle.picture_job.specs.declared.job.Job.{Job}
 use Rattle.picture_job.specs.declared.png_job.PngJob.{PngJob}
 use Rattle.picture_job.specs.declared.reading.Reading.{Reading}
 use Rattle.picture_job.specs.declared.reading.Reading.TheVariants.{Core, Full}
+use Rattle.picture_job.specs.declared.smoothing.Smoothing.{Smoothing}
 use Rattle.picture_job.specs.declared.page_choice.PageChoice.{PageChoice}
 use Rattle.picture_job.specs.declared.page_choice.PageChoice.TheVariants.{Given, Asked, Fitted}
 use Rattle.command_line.specs.declared.fault.LineFault.{LineFault}
-use Rattle.command_line.specs.declared.fault.LineFault.TheVariants.{Pens, Paper, Size, Profile, Sheet, Fit, Margin}
+use Rattle.command_line.specs.declared.fault.LineFault.TheVariants.{Pens, Smooth, Paper, Size, Profile, Sheet, Fit, Margin}
 use Rattle.command_line.specs.declared.fault.LineFault.TheVariants.{Several}
 use Rattle.command_line.specs.declared.line.Line.{Line}
 use Rattle.command_line.specs.declared.line.Task.{Task}
@@ -86,6 +88,10 @@ is_picture (output.Picture form) = true
 is_picture output.Png = true
 is_picture output.Report = false
 
+-- how much finer a picture is painted, or 1 if none is given, or if the picture may not be smoothed
+abbrev pub smooth_in : Bool → List Row → ℕ
+smooth_in is_smoothed rows = if is_smoothed then unwrap_or (number_in rows (codes "smooth")) 1 else 1
+
 -- the width and the height that are given, or 11880 and 8400, those of A4 in landscape
 abbrev pub given_size : List Row → ℕ × ℕ
 given_size rows = (unwrap_or (number_in rows (codes "width")) 11880, unwrap_or (number_in rows (codes "height")) 8400)
@@ -113,24 +119,34 @@ pub record ArePensOf (rows : List Row) (pens : PenSet) : Type 0 where
   pub is_list : is_pen_list list ≡ true
   pub listed : (pen : ℕ) → pen < 256 → has_pen pens pen ≡ is_listed list pen
 
--- the page, the resolution and the pens of the job are those of the options
-pub record IsPngJobOf (rows : List Row) (job : PngJob) : Type 0 where
+-- the page, each number and the pens of the job are those of the options; it is painted at 1200 dots per inch at most
+pub record IsPngJobOf (is_smoothed : Bool) (rows : List Row) (job : PngJob) : Type 0 where
   pub page : IsPageOf rows job.page
   pub dots : number_in rows (codes "dots") ≡ Some job.dots.resolution
   pub pens : ArePensOf rows job.pens
+  pub times : smooth_in is_smoothed rows ≡ job.smoothing.times
+  pub painted : job.dots.resolution * job.smoothing.times ≤ 1200
 
--- the page, each number and the pens of the job are those of the options
-pub record IsJobOf (rows : List Row) (job : Job) : Type 0 where
+-- the same of a job and its smoothing, and of its rows
+pub record IsJobOf (rows : List Row) (job : Job) (smoothing : Smoothing) : Type 0 where
   pub page : IsPageOf rows job.page
   pub dots : number_in rows (codes "dots") ≡ Some job.dots.resolution
   pub pens : ArePensOf rows job.pens
+  pub times : smooth_in (is_smoothed (output.Picture job.form)) rows ≡ smoothing.times
+  pub painted : job.dots.resolution * smoothing.times ≤ 1200
   pub band : number_in rows (codes "band") ≡ Some job.band
   pub first_row : number_in rows (codes "from") ≡ Some job.first_row
 
+-- the task is a picture in this form, by these options
+abbrev pub IsPictureOf : Form → List Row → Task → Type 0
+IsPictureOf form rows (Picture job smoothing) = (job.form ≡ form) × IsJobOf rows job smoothing
+IsPictureOf form rows _ = ⊥
+
 -- the task is what the subcommand of this name does, by its options
 abbrev pub IsTaskOf : Text → List Row → Task → Type 0
-IsTaskOf name rows (Picture job) = (output_named name ≡ Some (output.Picture job.form)) × IsJobOf rows job
-IsTaskOf name rows (Png job) = (output_named name ≡ Some output.Png) × IsPngJobOf rows job
+IsTaskOf name rows (Picture job smoothing) =
+    (output_named name ≡ Some (output.Picture job.form)) × IsJobOf rows job smoothing
+IsTaskOf name rows (Png job) = (output_named name ≡ Some output.Png) × IsPngJobOf true rows job
 IsTaskOf name rows (Report page) = (output_named name ≡ Some output.Report) × IsPageOf rows page
 
 -- the plot is read in the profile core, or in full with the given sheet, or with sheet 1 if none is given
@@ -176,6 +192,11 @@ has_bad_list (name, rows) = option_map_or is_picture (output_named name) false &
 abbrev pub asks_bad_list : ArgMatches → Bool
 asks_bad_list m = option_map_or has_bad_list (subcommand_rows_of m) false
 
+-- the picture would be painted at more than 1200 dots per inch
+abbrev pub is_too_fine : Bool → List Row → Bool
+is_too_fine is_smoothed rows =
+    option_map_or (λ dots. nat_lt 1200 (dots * smooth_in is_smoothed rows)) (number_in rows (codes "dots")) false
+
 -- there is no such name
 abbrev pub has_bad_paper : List Row → Bool
 has_bad_paper rows = option_map_or (λ name. not (is_some (size_named name))) (paper_text rows) false
@@ -214,9 +235,19 @@ choice_fault rows =
 abbrev pub output_fault : List Row → Option LineFault
 output_fault rows = if has_no_place rows then Some Several else None
 
--- what is wrong with the values for the task: first comes the list of pens, then the page
+-- what is wrong with the values of a picture's options: first comes the list of pens, then the smoothing, then the page
+abbrev pub picture_fault : Bool → List Row → Option LineFault
+picture_fault is_smoothed rows =
+    if lists_no_pens rows then Some Pens else if is_too_fine is_smoothed rows then Some Smooth else page_fault rows
+
+-- what is wrong with the values for what is written
+abbrev pub fault_of_output : List Row → Output → Option LineFault
+fault_of_output rows output.Report = page_fault rows
+fault_of_output rows o = picture_fault (is_smoothed o) rows
+
+-- the same for the subcommand of this name
 abbrev pub task_fault : Text × List Row → Option LineFault
-task_fault (name, rows) = if has_bad_list (name, rows) then Some Pens else page_fault rows
+task_fault (name, rows) = option_and_then (fault_of_output rows) (output_named name)
 
 -- what is wrong with the values of a subcommand's options: first comes the task, then the reading, then the choice of the
 -- page, then the output

@@ -1,11 +1,12 @@
 -- The subcommands and options of `plotraster`, as `clap` sees them.
-use Rattle.std.specs.Prelude.{◌≡◌, ℕ, List, [], ◌∷◌, Some, codes, pos, true, false, fold}
+use Rattle.std.specs.Prelude.{◌≡◌, ℕ, Bool, List, [], ◌∷◌, Some, codes, pos, true, false, fold, if◌then◌else◌}
 use Rattle.clap.specs.Words.{App, Rule, Text, app_of, new_app, new_rule, with_rule, with_subcommand}
 use Rattle.clap.specs.declared.builder.command.Command.{Command}
 use Rattle.clap.specs.declared.builder.command.Command.TheViews.{out-Command}
 use Rattle.clap.specs.declared.builder.action.ArgAction.TheVariants.{Set, SetTrue, Append}
 use Rattle.clap.specs.declared.builder.value_parser.ValueParser.{ValueParser}
 use Rattle.clap.specs.declared.builder.value_parser.ValueParser.TheVariants as vp
+use Rattle.picture_out.specs.declared.form.Form.{Form}
 use Rattle.picture_out.specs.declared.form.Form.TheVariants.{Marks, Pbm, Ppm, Pcl}
 use Rattle.command_line.specs.declared.subcommands.Output.{Output}
 use Rattle.command_line.specs.declared.subcommands.Output.TheVariants.{Picture, Png, Report}
@@ -73,19 +74,33 @@ with_picture a = with_rule (with_rule (with_rule a
     (option_rule (codes "pens") vp.String (codes "all")))
     (flag_rule (codes "progress"))
 
+-- how often finer a picture is painted, which has no default
+abbrev pub with_smoothing : App → App
+with_smoothing a = with_rule a (bare_rule (codes "smooth") (whole_number 1 8))
+
 -- which rows are written: so many in a band, from the first row on
 abbrev pub with_rows : App → App
 with_rows a = with_rule (with_rule a
     (number_rule (codes "band") 1 4096 (codes "64")))
     (number_rule (codes "from") 0 99999 (codes "0"))
 
+-- what may be smoothed
+abbrev pub is_smoothed : Output → Bool
+is_smoothed (Picture Ppm) = true
+is_smoothed Png = true
+is_smoothed _ = false
+
+abbrev pub with_smoothing_of : Output → App → App
+with_smoothing_of output a = if is_smoothed output then with_smoothing a else a
+
 -- a subcommand that writes a picture in a form
-abbrev pub picture_app : Text → App
-picture_app name = with_rule (with_rows (with_picture (with_plot (new_app name)))) file_rule
+abbrev pub picture_app : Form → Text → App
+picture_app form name =
+    with_rule (with_rows (with_smoothing_of (Picture form) (with_picture (with_plot (new_app name))))) file_rule
 
 -- a subcommand that writes a PNG picture
 abbrev pub png_app : Text → App
-png_app name = with_rule (with_picture (with_plot (new_app name))) file_rule
+png_app name = with_rule (with_smoothing (with_picture (with_plot (new_app name)))) file_rule
 
 -- a subcommand that describes a plot
 abbrev pub report_app : Text → App
@@ -109,7 +124,7 @@ subcommands =
     ∷ []
 
 abbrev pub subcommand_app : Text × Output → App
-subcommand_app (name, Picture form) = picture_app name
+subcommand_app (name, Picture form) = picture_app form name
 subcommand_app (name, Png) = png_app name
 subcommand_app (name, Report) = report_app name
 

@@ -1,15 +1,16 @@
 -- What a faultless parse of this command leaves for `settle` to read.
 use Rattle.std.specs.Prelude.{◌≡◌, ℕ, Bool, true, false, List, Option, Some, None, Result, Ok, Err, IsSomeAnd, is_some, codes, pos}
-use Rattle.std.specs.Prelude.{if◌then◌else◌}
 use Rattle.clap.specs.Lexer.{without_minus}
 use Rattle.clap.specs.Values.{IsSignedIn}
 use Rattle.clap.specs.Words.{Row, Text, one_of}
+use Rattle.picture_out.specs.declared.form.Form.{Form}
 use Rattle.command_line.specs.declared.subcommands.Output.{Output}
 use Rattle.command_line.specs.declared.subcommands.Output.TheVariants.{Picture, Png, Report}
 use Rattle.command_line.specs.declared.fault.LineFault.{LineFault}
-use Rattle.command_line.specs.declared.fault.LineFault.TheVariants.{Pens, Paper, Size}
+use Rattle.command_line.specs.declared.fault.LineFault.TheVariants.{Paper, Size}
 use Rattle.command_line.specs.Papers.{size_named}
-use Rattle.command_line.specs.Lines.{lists_no_pens, number_in, output_named, page_fault, pens_text, profile_text}
+use Rattle.command_line.specs.Options.{is_smoothed}
+use Rattle.command_line.specs.Lines.{number_in, output_named, pens_text, profile_text}
 
 -- the option has a text that is a whole number from low to high
 pub record HasNumber (rows : List Row) (name : Text) (low high : ℕ) : Type 0 where
@@ -27,15 +28,20 @@ pub record HasPageNumbers (rows : List Row) : Type 0 where
   pub left : HasNumber rows (codes "left") 0 65536
   pub below : HasNumber rows (codes "below") 0 65536
 
+-- the smoothing, if it is given and the picture may be smoothed, is a number
+abbrev pub MayHaveSmoothing : Bool → List Row → Type 0
+MayHaveSmoothing is_smoothed rows = is_smoothed ≡ true → MayHaveNumber rows (codes "smooth") 1 8
+
 -- each option that all pictures have has a value
-pub record HasPictureValues (rows : List Row) : Type 0 where
+pub record HasPictureValues (is_smoothed : Bool) (rows : List Row) : Type 0 where
   pub page : HasPageNumbers rows
   pub dots : HasNumber rows (codes "dots") 10 1200
   pub pens : is_some (pens_text rows) ≡ true
+  pub smoothing : MayHaveSmoothing is_smoothed rows
 
 -- each option of a picture in a form has a value
-pub record HasFormValues (rows : List Row) : Type 0 where
-  pub picture : HasPictureValues rows
+pub record HasFormValues (form : Form) (rows : List Row) : Type 0 where
+  pub picture : HasPictureValues (is_smoothed (Picture form)) rows
   pub band : HasNumber rows (codes "band") 1 4096
   pub first_row : HasNumber rows (codes "from") 0 99999
 
@@ -49,14 +55,10 @@ size_or_fault (Some size) false = Ok size
 abbrev pub paper_or_fault : Text → Bool → Result (ℕ × ℕ) LineFault
 paper_or_fault name has_side = size_or_fault (size_named name) has_side
 
--- what is wrong with the values of a picture's options
-abbrev pub picture_fault : List Row → Option LineFault
-picture_fault rows = if lists_no_pens rows then Some Pens else page_fault rows
-
 -- each option for what is written has a value
 abbrev pub HasValuesOf : Output → List Row → Type 0
-HasValuesOf (Picture form) rows = HasFormValues rows
-HasValuesOf Png rows = HasPictureValues rows
+HasValuesOf (Picture form) rows = HasFormValues form rows
+HasValuesOf Png rows = HasPictureValues true rows
 HasValuesOf Report rows = HasPageNumbers rows
 
 -- the subcommand is one of this command's, and each of these options has a value

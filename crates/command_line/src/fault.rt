@@ -23,6 +23,9 @@ pub enum LineFault {
     /// The text after `--pens` is no list of pens.
     #[error("bad pen list")]
     Pens,
+    /// The resolution times the smoothing is over 1200 dots per inch.
+    #[error("--dots times --smooth is over 1200")]
+    Smooth,
     /// The word after `--page` names no paper, and is not `plot`.
     #[error("bad page: use a0 to a5, b4, letter, legal, tabloid, ansi-a to ansi-e, arch-d or arch-e, or one of these with -portrait")]
     Paper,

@@ -88,6 +88,13 @@ pub(crate) const PCL_DOTS: HelpLine<'static> = HelpLine {
     help: "Resolution in dots per inch: 75, 100, 150, 200, 300 or 600",
 };
 
+// `clap` is given no default, so that commands without the option have the same.
+pub(crate) const SMOOTH: HelpLine<'static> = HelpLine {
+    value: "TIMES",
+    help: "Smoothing, 1 to 8: the plot is painted this many times finer, and each pixel is the mean of as many by as many \
+        pixels; --dots times --smooth is at most 1200 [default: 1]",
+};
+
 pub(crate) const PENS: HelpLine<'static> = HelpLine {
     value: "LIST",
     help: "Pens to draw, each 1 to 255: 'all', or pens and ranges separated by commas, as 1,3,5-7",
@@ -108,6 +115,6 @@ pub(crate) const FILE: &str =
 
 pub(crate) const TOP: HelpPage<'static> = HelpPage {
     about: "Turn an HP-GL or HP-GL/2 plot into a raster picture with exact pixels, or describe it",
-    example: "Example:\n  plotraster png --dots 150 plan.plt > plan.png\n\n\
+    example: "Example:\n  plotraster png --dots 150 --smooth 4 plan.plt > plan.png\n\n\
         'plotraster png --help' lists the options of png, and so for each command.",
 };

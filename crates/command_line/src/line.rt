@@ -1,31 +1,34 @@
 //! What a command line asks for.
-ghost use Rattle.std.specs.Prelude.{◌≡◌, ◌↔◌, ◌<◌, ◌≤◌, ◌^◌, ℕ, Some, Err, IfOk, IfErr, IsOkAnd, true, false, is_some};
+ghost use Rattle.std.specs.Prelude.{◌≡◌, ◌↔◌, ◌<◌, ◌≤◌, ◌^◌, ℕ, Some, Err, IfOk, IfErr, IsOk, IsOkAnd, true, false, is_some};
 ghost use Rattle.std.specs.Prelude.{codes, ◌≢◌, ◌||◌, IfSome, [], map, option_map};
 ghost use Rattle.std.specs.Result.{result_err};
 ghost use Rattle.clap.specs.Words.{found_of, rows_of};
 ghost use Rattle.command_line.specs.Lines.{number_in, lists_no_pens, has_bad_list, asks_bad_list};
-ghost use Rattle.command_line.specs.Lines.{ArePensOf, IsPageOf, IsJobOf, IsPngJobOf, IsTaskOf, IsLineOf, AreOfThisCommand};
+ghost use Rattle.command_line.specs.Lines.{ArePensOf, IsPageOf, IsPictureOf, IsPngJobOf, IsTaskOf, IsLineOf, AreOfThisCommand};
+ghost use Rattle.command_line.specs.Lines.{picture_fault, smooth_in};
 ghost use Rattle.command_line.specs.Lines.{IsReadingOf, line_fault, page_fault, pens_text, reading_fault, task_fault};
 ghost use Rattle.command_line.specs.Lines.{IsChoiceOf, asks_plot, choice_fault, has_flag, has_paper_and_side, page_size};
 ghost use Rattle.command_line.specs.Lines.{files_in, has_no_place, output_fault, output_text};
 ghost use Rattle.command_line.specs.Readings.{HasChoiceValues, HasFormValues, HasNumber, HasPageNumbers, HasPictureValues};
-ghost use Rattle.command_line.specs.Readings.{HasReadingValues, HasTaskValues, MayHaveNumber, paper_or_fault, picture_fault};
+ghost use Rattle.command_line.specs.Readings.{HasReadingValues, HasTaskValues, MayHaveSmoothing};
+ghost use Rattle.command_line.specs.Readings.{MayHaveNumber, paper_or_fault};
+ghost use Rattle.command_line.specs.Options.{is_smoothed};
 ghost use Rattle.plot_page.specs.Pages.{has_page_size};
 
 use crate::fault::LineFault;
 use crate::papers::{names_plot, size_named};
-use crate::subcommands::{Output, output_of};
+use crate::subcommands::{Output, is_smoothed, output_of};
 use clap::ArgMatches;
 use pen_list::read_pens;
-use picture_job::{Job, PageChoice, PngJob, Reading};
+use picture_job::{Job, PageChoice, PngJob, Reading, Smoothing};
 use picture_out::Form;
 use plot_page::{Dots, Page, PenSet};
 
 /// What is to be done.
 #[derive(Clone, Copy)]
 pub enum Task {
-    /// A picture of a plot.
-    Picture(Job),
+    /// A picture of a plot, which may be smoothed if its form has colours.
+    Picture { job: Job, smoothing: Smoothing },
     /// A PNG picture of a plot.
     Png(PngJob),
     /// A description of a plot, on a page.
@@ -55,7 +58,7 @@ pub struct Line<'m, 'a> {
 /// The values of the matches of `command`'s command.
 ///
 /// Errors, of which the first is given: `Pens` if a picture is asked for and `--pens` is not a valid
-/// list, `Paper` if `--page` names no paper and not the plot, `Size` if `--page` is given with `--width` or
+/// list, `Smooth` if `--dots` times `--smooth` is over 1200, `Paper` if `--page` names no paper and not the plot, `Size` if `--page` is given with `--width` or
 /// `--height`, `Profile` if `--profile` is neither `core` nor `full`, `Sheet` if `--sheet` is
 /// given with the profile core, `Fit` if `--fit` is given with `--page plot`, `Margin` if `--margin` is
 /// given without `--fit`, and `Several` if several files are given without `--output`; no other one
@@ -84,43 +87,64 @@ fn task_of(name: &str, options: &ArgMatches<'_>) -> Result<Task, LineFault>
         result_err result ≡ task_fault (name.now, rows_of (found_of options.now)) }
 {
     match output_of(name).ok_or(LineFault::Words)? {
-        Output::Picture(form) => Ok(Task::Picture(job_of(options, form)?)),
-        Output::Png => Ok(Task::Png(png_job_of(options)?)),
+        Output::Picture(form) => picture_of(options, form),
+        Output::Png => Ok(Task::Png(png_job_of(options, true)?)),
         Output::Report => Ok(Task::Report(page_of(options)?)),
     }
 }
 
-fn job_of(options: &ArgMatches<'_>, form: Form) -> Result<Job, LineFault>
-    ensures job { IfOk result (IsJobOf (rows_of (found_of options.now))) }
-    ensures form { IfOk result (λ job. job.form ≡ form) }
+fn picture_of(options: &ArgMatches<'_>, form: Form) -> Result<Task, LineFault>
+    ensures picture { IfOk result (IsPictureOf form (rows_of (found_of options.now))) }
     ensures pens { (result ≡ Err LineFault.Pens) ↔ (lists_no_pens (rows_of (found_of options.now)) ≡ true) }
-    ensures refused { HasFormValues (rows_of (found_of options.now)) →
-        result_err result ≡ picture_fault (rows_of (found_of options.now)) }
+    ensures refused { HasFormValues form (rows_of (found_of options.now)) →
+        result_err result ≡ picture_fault (is_smoothed (Output.Picture form)) (rows_of (found_of options.now)) }
 {
-    let common = png_job_of(options)?;
-    Ok(Job {
-        page: common.page,
-        dots: common.dots,
-        pens: common.pens,
-        band: number_of(options, "band")?,
-        first_row: number_of(options, "from")?,
-        form,
+    let common = png_job_of(options, is_smoothed(form))?;
+    Ok(Task::Picture {
+        job: Job {
+            page: common.page,
+            dots: common.dots,
+            pens: common.pens,
+            band: number_of(options, "band")?,
+            first_row: number_of(options, "from")?,
+            form,
+        },
+        smoothing: common.smoothing,
     })
 }
 
-// What a PNG picture is asked for by, and each other picture too.
-fn png_job_of(options: &ArgMatches<'_>) -> Result<PngJob, LineFault>
-    ensures job { IfOk result (IsPngJobOf (rows_of (found_of options.now))) }
+// What a PNG picture is asked for by, and each other picture too; unless it may be smoothed, it is not.
+fn png_job_of(options: &ArgMatches<'_>, is_smoothed: bool) -> Result<PngJob, LineFault>
+    ensures job { IfOk result (IsPngJobOf is_smoothed (rows_of (found_of options.now))) }
     ensures pens { (result ≡ Err LineFault.Pens) ↔ (lists_no_pens (rows_of (found_of options.now)) ≡ true) }
-    ensures refused { HasPictureValues (rows_of (found_of options.now)) →
-        result_err result ≡ picture_fault (rows_of (found_of options.now)) }
+    ensures refused { HasPictureValues is_smoothed (rows_of (found_of options.now)) →
+        result_err result ≡ picture_fault is_smoothed (rows_of (found_of options.now)) }
 {
     let pens = pens_of(options)?;
+    let dots = Dots::new(number_of(options, "dots")?).ok_or(LineFault::Words)?;
+    let smoothing = smoothing_of(options, is_smoothed)?;
+    if dots.per_inch() * smoothing.times() > 1200 {
+        return Err(LineFault::Smooth);
+    }
     Ok(PngJob {
         page: page_of(options)?,
-        dots: Dots::new(number_of(options, "dots")?).ok_or(LineFault::Words)?,
+        dots,
         pens,
+        smoothing,
     })
+}
+
+// How much finer a picture is painted: as the option says, if it may be smoothed.
+fn smoothing_of(options: &ArgMatches<'_>, is_smoothed: bool) -> Result<Smoothing, LineFault>
+    ensures smoothing { IfOk result (λ smoothing. smooth_in is_smoothed (rows_of (found_of options.now)) ≡ smoothing.times) }
+    ensures understood { MayHaveSmoothing is_smoothed (rows_of (found_of options.now)) → IsOk result }
+    ensures fault { IfErr result (λ fault. fault ≡ LineFault.Words) }
+{
+    if !is_smoothed {
+        return Ok(Smoothing::NONE);
+    }
+    let times = number_if_given(options, "smooth")?.unwrap_or(1);
+    Smoothing::new(times).ok_or(LineFault::Words)
 }
 
 fn pens_of(options: &ArgMatches<'_>) -> Result<PenSet, LineFault>

@@ -8,7 +8,7 @@ ghost use Rattle.clap.specs.declared.builder.command.Command.TheViews.{out-Comma
 ghost use Rattle.clap.specs.declared.builder.value_parser.ValueParser.TheVariants as ValueParser;
 ghost use Rattle.command_line.specs.Options.{bare_rule, option_rule, whole_number, number_rule, flag_rule, file_rule};
 ghost use Rattle.command_line.specs.Options.{output_rule, with_fit, with_page, with_reading, with_plot, with_picture};
-ghost use Rattle.command_line.specs.Options.{png_app, with_rows};
+ghost use Rattle.command_line.specs.Options.{png_app, with_rows, with_smoothing};
 ghost use Rattle.command_line.specs.Options.{picture_app, report_app, subcommand_app, add_subcommand, plot_app};
 ghost use Rattle.command_line.specs.Options.{top_app, IsOf};
 ghost use Rattle.clap_parses.specs.Parses.{HasGoodMatches};
@@ -16,11 +16,12 @@ ghost use Rattle.clap_parses.specs.Parses.{HasGoodMatches};
 use crate::fault::BuildFault;
 use crate::help::{
     BAND, BELOW, DOTS, FILE, FIT, FROM, HEIGHT, HelpLine, HelpPage, LEFT, MARGIN, OUTPUT, PAGE,
-    PENS, PROFILE, PROGRESS, SHEET, TOP, VERBOSE, VERSION, WIDTH,
+    PENS, PROFILE, PROGRESS, SHEET, SMOOTH, TOP, VERBOSE, VERSION, WIDTH,
 };
-use crate::subcommands::{Output, SUBCOMMANDS, dots_line};
+use crate::subcommands::{Output, SUBCOMMANDS, dots_line, is_smoothed};
 use clap::builder::ValueParser;
 use clap::{Arg, ArgAction, ArgMatches, Command};
+use picture_out::Form;
 use std::alloc::{AllocError, Global};
 use std::convert::AsStr;
 
@@ -214,6 +215,13 @@ fn add_picture<'a>(
     add(command, progress)
 }
 
+fn add_smoothing<'a>(alloc: Global, command: Command<'a>) -> Result<Command<'a>, AllocError>
+    requires { (fields_of command).has_globals ≡ false }
+    ensures { IfOk result (IsOf (with_smoothing (app_of command.entry))) }
+{
+    add(command, bare_number_of(alloc, "smooth", 1, 8, SMOOTH))
+}
+
 fn add_rows<'a>(alloc: Global, command: Command<'a>) -> Result<Command<'a>, AllocError>
     requires { (fields_of command).has_globals ≡ false }
     ensures { IfOk result (IsOf (with_rows (app_of command.entry))) }
@@ -227,12 +235,17 @@ fn picture_command<'a>(
     alloc: Global,
     name: &'a str,
     page: HelpPage<'a>,
-    dots_line: HelpLine<'a>,
+    form: Form,
 ) -> Result<Command<'a>, AllocError>
-    ensures { IfOk result (IsOf (picture_app name.entry.now)) }
+    ensures { IfOk result (IsOf (picture_app form name.entry.now)) }
 {
     let command = add_plot(alloc, bare(alloc, name, page))?;
-    let command = add_picture(alloc, command, dots_line)?;
+    let command = add_picture(alloc, command, dots_line(form))?;
+    let command = if is_smoothed(form) {
+        add_smoothing(alloc, command)?
+    } else {
+        command
+    };
     let command = add_rows(alloc, command)?;
     add(command, file_of(alloc))
 }
@@ -246,6 +259,7 @@ fn png_command<'a>(
 {
     let command = add_plot(alloc, bare(alloc, name, page))?;
     let command = add_picture(alloc, command, DOTS)?;
+    let command = add_smoothing(alloc, command)?;
     add(command, file_of(alloc))
 }
 
@@ -269,7 +283,7 @@ fn command_of<'a>(
     ensures { IfOk result (IsOf (subcommand_app (name.entry.now, output))) }
 {
     match output {
-        Output::Picture(form) => picture_command(alloc, name, page, dots_line(form)),
+        Output::Picture(form) => picture_command(alloc, name, page, form),
         Output::Png => png_command(alloc, name, page),
         Output::Report => report_command(alloc, name, page),
     }

@@ -1,6 +1,7 @@
 //! The subcommands: their names, what they write, and what help says of them.
 ghost use Rattle.std.specs.Prelude.{◌≡◌};
 ghost use Rattle.command_line.specs.Lines.{output_named};
+ghost use Rattle.command_line.specs.Options.{is_smoothed};
 
 use crate::help::{DOTS, HelpLine, PCL_DOTS};
 use picture_out::Form;
@@ -23,7 +24,7 @@ pub(crate) const SUBCOMMANDS: [(&str, Output, &str, &str); 6] = [
         "png",
         Output::Png,
         "Write a colour picture as PNG, which browsers and viewers show",
-        "Example:\n  plotraster png --dots 150 plan.plt > plan.png",
+        "Example, smoothed:\n  plotraster png --dots 150 --smooth 4 plan.plt > plan.png",
     ),
     (
         "marks",
@@ -69,6 +70,16 @@ pub(crate) fn output_of(name: &str) -> Option<Output>
         }
     }
     None
+}
+
+/// Whether a form may be smoothed.
+pub(crate) fn is_smoothed(form: Form) -> bool
+    ensures { result ≡ is_smoothed (Output.Picture form) }
+{
+    match form {
+        Form::Ppm => true,
+        Form::Marks | Form::Pbm | Form::Pcl => false,
+    }
 }
 
 /// What help says of the resolutions of a form.

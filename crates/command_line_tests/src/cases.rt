@@ -2,7 +2,7 @@
 use clap::ArgMatches;
 use command_line::{Line, Task, command, parse, parse_status, settle};
 use pen_list::read_pens;
-use picture_job::{Job, PngJob};
+use picture_job::{Job, PngJob, Smoothing};
 use picture_out::Form;
 use plot_page::PenSet;
 use std::alloc::{AllocError, Global};
@@ -112,7 +112,7 @@ fn line_told(alloc: Global, asked: Asked, line: &Line<'_, '_>) -> Result<String,
             format!(in alloc; "verbose {verbose}, progress {progress}")
         }
         (Asked::Files, _) => files_told(alloc, line.output, line.files),
-        (_, Task::Picture(job)) => job_told(alloc, job, file),
+        (_, Task::Picture { job, smoothing }) => job_told(alloc, job, *smoothing, file),
         (_, Task::Png(job)) => png_told(alloc, job, file),
         (_, Task::Report(page)) => {
             let (width, height, left, below) = (page.width, page.height, page.left, page.below);
@@ -130,17 +130,22 @@ fn files_told(alloc: Global, output: Option<&str>, files: &[&str]) -> Result<Str
     Ok(text)
 }
 
-// The page, the resolution, the pens and the file.
+// The page, the resolution, the smoothing, the pens and the file.
 fn png_told(alloc: Global, job: &PngJob, file: Option<&str>) -> Result<String, AllocError> {
     let page = job.page;
     let (width, height, left, below) = (page.width, page.height, page.left, page.below);
-    let dots = job.dots.per_inch();
+    let (dots, times) = (job.dots.per_inch(), job.smoothing.times());
     let pens = pens_told(alloc, &job.pens)?;
-    format!(in alloc; "png {width} {height} {left} {below} {dots} {pens} of {file:?}")
+    format!(in alloc; "png {width} {height} {left} {below} {dots} {times} {pens} of {file:?}")
 }
 
-// The form, the numbers in the order of the manual page, the pens and the file.
-fn job_told(alloc: Global, job: &Job, file: Option<&str>) -> Result<String, AllocError> {
+// The form, with its smoothing if there is one, the numbers in the order of the manual page, the pens and the file.
+fn job_told(
+    alloc: Global,
+    job: &Job,
+    smoothing: Smoothing,
+    file: Option<&str>,
+) -> Result<String, AllocError> {
     let page = job.page;
     let (width, height, left, below) = (page.width, page.height, page.left, page.below);
     let (form, dots, band, first) = (
@@ -150,6 +155,10 @@ fn job_told(alloc: Global, job: &Job, file: Option<&str>) -> Result<String, Allo
         job.first_row,
     );
     let pens = pens_told(alloc, &job.pens)?;
+    let times = smoothing.times();
+    if times > 1 {
+        return format!(in alloc; "{form} smoothed {times} {dots} {pens}");
+    }
     format!(in alloc;
         "{form} {width} {height} {left} {below} {dots} {band} {first} {pens} of {file:?}"
     )

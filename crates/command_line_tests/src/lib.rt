@@ -16,6 +16,6 @@ mod papers;
 #[cfg(test)]
 mod pens;
 #[cfg(test)]
-mod png;
-#[cfg(test)]
 mod readings;
+#[cfg(test)]
+mod smoothing;

@@ -277,6 +277,8 @@ fn prints_faults(rt: HostRuntime) -> Result<(), Fail> {
     );
     let text = format!(in rt.alloc(); "{}", LineFault::Fit)?;
     assert_eq!(rt; text.as_str(), "--fit may not be given with --page plot");
+    let text = format!(in rt.alloc(); "{}", LineFault::Smooth)?;
+    assert_eq!(rt; text.as_str(), "--dots times --smooth is over 1200");
     let text = format!(in rt.alloc(); "{}", LineFault::Paper)?;
     assert_eq!(rt;
         text.as_str(),

@@ -46,19 +46,19 @@ given_page choice.Asked rules pens given plot p page placed is = absurd (cc)
 given_page (choice.Fitted margin) rules pens given plot p page placed is = absurd (cc)
 
 -- a job that was not painted on the page that the plot is drawn on
-pub not_painted_on : (rules : Rules) (c : PageChoice) (job : Job) (page : Page) (p : Placement) (reaches : Reach) (input : List ℕ) (before after : SourceState)
+pub not_painted_on : (rules : Rules) (c : PageChoice) (n : ℕ) (job : Job) (page : Page) (p : Placement) (reaches : Reach) (input : List ℕ) (before after : SourceState)
     (sink sink' : SinkState) (fault : Fault) → IsPlaced c rules job.pens job.page input p page → WasRead input before after → rules.refusal page input ≡ None
-    → HasPainted (on_page page job) reaches (rules.strokes page input) sink sink' (Err fault) → ConvertsOn rules c job page reaches input before after sink sink' (Err fault)
-not_painted_on rules c job page p reaches input before after sink sink' TooLong placed read accepted h = absurd h
-not_painted_on rules c job page p reaches input before after sink sink' Memory placed read accepted h = read.sound
-not_painted_on rules c job page p reaches input before after sink sink' Unfinished placed read accepted h = absurd h
-not_painted_on rules c job page p reaches input before after sink sink' (Plot refusal) placed read accepted h = absurd h
-not_painted_on rules c job page p reaches input before after sink sink' (Paint refusal) placed read accepted h =
-    ((p, placed), not_painted rules (on_page page job) reaches input before after sink sink' (Paint refusal) read accepted h)
-not_painted_on rules c job page p reaches input before after sink sink' (Write row whole bytes) placed read accepted h =
-    ((p, placed), not_painted rules (on_page page job) reaches input before after sink sink' (Write row whole bytes) read accepted h)
-not_painted_on rules c job page p reaches input before after sink sink' Read placed read accepted h = absurd h
-not_painted_on rules c job page p reaches input before after sink sink' Resolution placed read accepted h = absurd h
+    → HasPainted n (on_page page job) reaches (rules.strokes page input) sink sink' (Err fault) → ConvertsOn rules c n job page reaches input before after sink sink' (Err fault)
+not_painted_on rules c n job page p reaches input before after sink sink' TooLong placed read accepted h = absurd h
+not_painted_on rules c n job page p reaches input before after sink sink' Memory placed read accepted h = read.sound
+not_painted_on rules c n job page p reaches input before after sink sink' Unfinished placed read accepted h = absurd h
+not_painted_on rules c n job page p reaches input before after sink sink' (Plot refusal) placed read accepted h = absurd h
+not_painted_on rules c n job page p reaches input before after sink sink' (Paint refusal) placed read accepted h =
+    ((p, placed), not_painted rules n (on_page page job) reaches input before after sink sink' (Paint refusal) read accepted h)
+not_painted_on rules c n job page p reaches input before after sink sink' (Write row whole bytes) placed read accepted h =
+    ((p, placed), not_painted rules n (on_page page job) reaches input before after sink sink' (Write row whole bytes) read accepted h)
+not_painted_on rules c n job page p reaches input before after sink sink' Read placed read accepted h = absurd h
+not_painted_on rules c n job page p reaches input before after sink sink' Resolution placed read accepted h = absurd h
 
 -- a plot that was not drawn
 no_such_plot : (refusal : Option PlotFault) (fault : Fault) → option_map Plot refusal ≡ Some fault → ((f : PlotFault) → Plot f ≡ fault → ⊥) → ⊥
@@ -66,22 +66,22 @@ no_such_plot None fault is other = absurd (cc)
 no_such_plot (Some f) fault is other = other f (let same : Plot f ≡ fault = cc in same)
 
 -- what is said of it on the page that it is refused for
-abbrev pub ConvertsOnSome : Rules → PageChoice → Job → Reach → List ℕ → SourceState → SourceState → SinkState → SinkState → Fault → Type 0
-ConvertsOnSome rules c job reaches input before after sink sink' fault =
-    (page : Page) × (c ≡ choice.Given → page ≡ job.page) × ConvertsOn rules c job page reaches input before after sink sink' (Err fault)
+abbrev pub ConvertsOnSome : Rules → PageChoice → ℕ → Job → Reach → List ℕ → SourceState → SourceState → SinkState → SinkState → Fault → Type 0
+ConvertsOnSome rules c n job reaches input before after sink sink' fault =
+    (page : Page) × (c ≡ choice.Given → page ≡ job.page) × ConvertsOn rules c n job page reaches input before after sink sink' (Err fault)
 
-pub not_drawn_on : (rules : Rules) (c : PageChoice) (job : Job) (reaches : Reach) (input : List ℕ) (before after : SourceState) (sink sink' : SinkState) (fault : Fault)
-    → Draws rules c job.pens job.page input before after (Err fault) → ConvertsOnSome rules c job reaches input before after sink sink' fault
-not_drawn_on rules c job reaches input before after sink sink' TooLong h = (job.page, λ is. refl, h)
-not_drawn_on rules c job reaches input before after sink sink' Memory h = (job.page, λ is. refl, h)
-not_drawn_on rules c job reaches input before after sink sink' Read h = (job.page, λ is. refl, h)
-not_drawn_on rules c job reaches input before after sink sink' (Plot refusal) h =
+pub not_drawn_on : (rules : Rules) (c : PageChoice) (n : ℕ) (job : Job) (reaches : Reach) (input : List ℕ) (before after : SourceState) (sink sink' : SinkState) (fault : Fault)
+    → Draws rules c job.pens job.page input before after (Err fault) → ConvertsOnSome rules c n job reaches input before after sink sink' fault
+not_drawn_on rules c n job reaches input before after sink sink' TooLong h = (job.page, λ is. refl, h)
+not_drawn_on rules c n job reaches input before after sink sink' Memory h = (job.page, λ is. refl, h)
+not_drawn_on rules c n job reaches input before after sink sink' Read h = (job.page, λ is. refl, h)
+not_drawn_on rules c n job reaches input before after sink sink' (Plot refusal) h =
     (h.0, first_given c rules job.page input h.0 h.1, (h.1, record { read = h.2.read; refused = plot_fault (on_page h.0 job) (rules.refusal h.0 input) (Plot refusal) h.2.refused }))
-not_drawn_on rules c job reaches input before after sink sink' (Paint fault) h = absurd (no_such_plot (rules.refusal h.0 input) (Paint fault) h.2.refused (λ f is. absurd (cc)))
-not_drawn_on rules c job reaches input before after sink sink' (Write row whole bytes) h =
+not_drawn_on rules c n job reaches input before after sink sink' (Paint fault) h = absurd (no_such_plot (rules.refusal h.0 input) (Paint fault) h.2.refused (λ f is. absurd (cc)))
+not_drawn_on rules c n job reaches input before after sink sink' (Write row whole bytes) h =
     absurd (no_such_plot (rules.refusal h.0 input) (Write row whole bytes) h.2.refused (λ f is. absurd (cc)))
-not_drawn_on rules c job reaches input before after sink sink' Resolution h = absurd (no_such_plot (rules.refusal h.0 input) Resolution h.2.refused (λ f is. absurd (cc)))
-not_drawn_on rules c job reaches input before after sink sink' Unfinished h = absurd (no_such_plot (rules.refusal h.0 input) Unfinished h.2.refused (λ f is. absurd (cc)))
+not_drawn_on rules c n job reaches input before after sink sink' Resolution h = absurd (no_such_plot (rules.refusal h.0 input) Resolution h.2.refused (λ f is. absurd (cc)))
+not_drawn_on rules c n job reaches input before after sink sink' Unfinished h = absurd (no_such_plot (rules.refusal h.0 input) Unfinished h.2.refused (λ f is. absurd (cc)))
 
 -- a plot that was read, and is refused for its first page
 pub not_drawn : (rules : Rules) (c : PageChoice) (pens : PenSet) (given : Page) (input : List ℕ) (before after : SourceState) (fault : PlotFault) → WasRead input before after
@@ -117,12 +117,12 @@ not_read_on reading c pens given input before after sink sink' Unfinished h = ab
 
 -- the answer of a run on the given page
 converts_on_it : (rules : Rules) (job : Job) (page : Page) (reaches : Reach) (input : List ℕ) (before after : SourceState) (sink sink' : SinkState)
-    (answer : Result Outcome Fault) → page ≡ job.page → ConvertsOn rules choice.Given job page reaches input before after sink sink' answer
-    → Converts rules job reaches input before after sink sink' (done_of answer)
+    (answer : Result Outcome Fault) → page ≡ job.page → ConvertsOn rules choice.Given 1 job page reaches input before after sink sink' answer
+    → Converts rules 1 job reaches input before after sink sink' (done_of answer)
 converts_on_it rules job page reaches input before after sink sink' (Ok o) is h =
-    subst (λ (x : Page). IsWritten rules (on_page x job) reaches input before after sink sink' o.done) is h.1
+    subst (λ (x : Page). IsWritten rules 1 (on_page x job) reaches input before after sink sink' o.done) is h.1
 converts_on_it rules job page reaches input before after sink sink' (Err (Write row whole bytes)) is h =
-    subst (λ (x : Page). IsCutShort rules (on_page x job) reaches input before after sink sink' row whole bytes) is h.1
+    subst (λ (x : Page). IsCutShort rules 1 (on_page x job) reaches input before after sink sink' row whole bytes) is h.1
 converts_on_it rules job page reaches input before after sink sink' (Err (Paint fault)) is h =
     subst (λ (x : Page). IsRefused rules (on_page x job) input before after (Paint fault)) is h.1
 converts_on_it rules job page reaches input before after sink sink' (Err TooLong) is h = h
@@ -134,13 +134,13 @@ converts_on_it rules job page reaches input before after sink sink' (Err Resolut
 converts_on_it rules job page reaches input before after sink sink' (Err Unfinished) is h = h
 
 pub converted_on_it : (rules : Rules) (job : Job) (reaches : Reach) (before after : SourceState) (sink sink' : SinkState) (tests tests' : ℕ)
-    (answer : Result Outcome Fault) → HasConvertedOn rules choice.Given job reaches before after sink sink' tests tests' answer
+    (answer : Result Outcome Fault) → HasConvertedOn rules choice.Given 1 job reaches before after sink sink' tests tests' answer
     → HasConvertedBy rules job reaches before after sink sink' tests tests' (done_of answer)
 converted_on_it rules job reaches before after sink sink' tests tests' answer h = record {
   input = h.input;
   taken = h.taken;
   converts = converts_on_it rules job h.page reaches h.input before after sink sink' answer (h.given refl) h.converts;
-  tested = subst (λ (x : Page). tests' ≤ tests + strokes_boxes (on_page x job) (rules.strokes x h.input)) (h.given refl) h.tested;
+  tested = subst (λ (x : Page). tests' ≤ tests + strokes_boxes 1 (on_page x job) (rules.strokes x h.input)) (h.given refl) h.tested;
 }
 
 reports_on_it : (reading : Reading) (pens : PenSet) (given page : Page) (input : List ℕ) (before after : SourceState) (sink sink' : SinkState)

@@ -19,14 +19,14 @@ pub job_faults : (job : Job) (refusal : Option PlotFault) (fault : Option Fault)
 job_faults job refusal fault accepted is = rw accepted is
 
 -- a job that was not painted, of a plot that was read and accepted
-pub not_painted : (rules : Rules) (job : Job) (reaches : Reach) (input : List ℕ) (before after : SourceState) (sink sink' : SinkState) (fault : Fault) → WasRead input before after → rules.refusal job.page input ≡ None
-    → HasPainted job reaches (rules.strokes job.page input) sink sink' (Err fault) → Converts rules job reaches input before after sink sink' (Err fault)
-not_painted rules job reaches input before after sink sink' TooLong read accepted h = absurd h
-not_painted rules job reaches input before after sink sink' Memory read accepted h = read.sound
-not_painted rules job reaches input before after sink sink' Unfinished read accepted h = absurd h
-not_painted rules job reaches input before after sink sink' (Plot refusal) read accepted h = absurd h
-not_painted rules job reaches input before after sink sink' (Paint refusal) read accepted h = record { read = read; refused = job_faults job (rules.refusal job.page input) (Some (Paint refusal)) accepted h }
-not_painted rules job reaches input before after sink sink' (Write row whole bytes) read accepted h = record {
+pub not_painted : (rules : Rules) (n : ℕ) (job : Job) (reaches : Reach) (input : List ℕ) (before after : SourceState) (sink sink' : SinkState) (fault : Fault) → WasRead input before after → rules.refusal job.page input ≡ None
+    → HasPainted n job reaches (rules.strokes job.page input) sink sink' (Err fault) → Converts rules n job reaches input before after sink sink' (Err fault)
+not_painted rules n job reaches input before after sink sink' TooLong read accepted h = absurd h
+not_painted rules n job reaches input before after sink sink' Memory read accepted h = read.sound
+not_painted rules n job reaches input before after sink sink' Unfinished read accepted h = absurd h
+not_painted rules n job reaches input before after sink sink' (Plot refusal) read accepted h = absurd h
+not_painted rules n job reaches input before after sink sink' (Paint refusal) read accepted h = record { read = read; refused = job_faults job (rules.refusal job.page input) (Some (Paint refusal)) accepted h }
+not_painted rules n job reaches input before after sink sink' (Write row whole bytes) read accepted h = record {
   read = read;
   accepted = job_faults job (rules.refusal job.page input) None accepted h.0;
   written = h.1.written;
@@ -34,8 +34,8 @@ not_painted rules job reaches input before after sink sink' (Write row whole byt
   failed = h.1.failed;
   stopped = h.1.stopped;
 }
-not_painted rules job reaches input before after sink sink' Read read accepted h = absurd h
-not_painted rules job reaches input before after sink sink' Resolution read accepted h = absurd h
+not_painted rules n job reaches input before after sink sink' Read read accepted h = absurd h
+not_painted rules n job reaches input before after sink sink' Resolution read accepted h = absurd h
 
 -- the refusal of a plot comes before the fault of a job
 pub plot_fault : (job : Job) (refusal : Option PlotFault) (fault : Fault) → option_map Plot refusal ≡ Some fault → refused_fault job refusal ≡ Some fault

@@ -14,7 +14,7 @@ use Rattle.picture_out.specs.Forms.{row_bytes}
 use Rattle.conversion.specs.declared.writing.Broken.{Broken}
 use Rattle.conversion.specs.Pictures.{head_if, picture_of, rows_bytes}
 use Rattle.conversion.specs.Stops.{bytes_before, IsStoppedAt}
-use Rattle.conversion.specs.Progress.{rows_text, AreWritten, PictureStops, WritesCells, WritesRows}
+use Rattle.conversion.specs.Progress.{IsWhole, rows_text, AreWritten, PictureStops, WritesCells, WritesRows}
 use Rattle.conversion.proofs.Pictures.{rows_first, rows_join, stopped_at}
 use Rattle.conversion.proofs.RowTexts.{text_is}
 
@@ -206,3 +206,12 @@ stops_same head head' row row' foot rows rows' first first' s u stop eh er en ef
     (subst (λ (k : ℕ). PictureStops head' row' foot k first s u stop) en
     (subst (λ (f : ℕ → List ℕ). PictureStops head' f foot rows first s u stop) er
     (subst (λ (z : List ℕ). PictureStops z row foot rows first s u stop) eh h)))
+
+-- a picture of equal parts was written
+pub whole_same : (head head' : List ℕ) (row row' : ℕ → List ℕ) (foot : List ℕ) (rows rows' first first' : ℕ) (s u : SinkState) (bytes : ℕ) → head ≡ head' → row ≡ row' → rows ≡ rows' → first ≡ first'
+    → IsWhole (picture_of head row foot rows first) s u bytes → IsWhole (picture_of head' row' foot rows' first') s u bytes
+whole_same head head' row row' foot rows rows' first first' s u bytes eh er en ef h =
+    subst (λ (k : ℕ). IsWhole (picture_of head' row' foot rows' k) s u bytes) ef
+    (subst (λ (k : ℕ). IsWhole (picture_of head' row' foot k first) s u bytes) en
+    (subst (λ (f : ℕ → List ℕ). IsWhole (picture_of head' f foot rows first) s u bytes) er
+    (subst (λ (z : List ℕ). IsWhole (picture_of z row foot rows first) s u bytes) eh h)))

@@ -23,27 +23,27 @@ use Rattle.conversion.specs.declared.placement.Placement.{Placement}
 use Rattle.conversion.specs.declared.outcome.Outcome.{Outcome}
 
 -- the whole picture was written
-pub record IsWritten (rules : Rules) (job : Job) (reaches : Reach) (input : List ℕ) (before after : SourceState)
+pub record IsWritten (rules : Rules) (n : ℕ) (job : Job) (reaches : Reach) (input : List ℕ) (before after : SourceState)
     (sink sink' : SinkState) (done : Done) : Type 0 where
   pub read : WasRead input before after
   pub accepted : refused_fault job (rules.refusal job.page input) ≡ None
-  pub written : Appends sink.held sink'.held (strokes_picture job reaches (rules.strokes job.page input))
+  pub written : Appends sink.held sink'.held (strokes_picture n job reaches (rules.strokes job.page input))
   pub sound : sink'.faults ≡ sink.faults
   pub rows : done.rows ≡ rows_of job.page job.dots - job.first_row
-  pub bytes : done.bytes ≡ length (strokes_picture job reaches (rules.strokes job.page input))
+  pub bytes : done.bytes ≡ length (strokes_picture n job reaches (rules.strokes job.page input))
   pub strokes_count : done.strokes ≡ length (rules.strokes job.page input)
   pub notes : done.notes ≡ rules.notes input
 
 -- the sink failed after the first bytes of the picture, in a row that begins after the bytes `whole`
-pub record IsCutShort (rules : Rules) (job : Job) (reaches : Reach) (input : List ℕ) (before after : SourceState)
+pub record IsCutShort (rules : Rules) (n : ℕ) (job : Job) (reaches : Reach) (input : List ℕ) (before after : SourceState)
     (sink sink' : SinkState) (row whole bytes : ℕ) : Type 0 where
   pub read : WasRead input before after
   pub accepted : refused_fault job (rules.refusal job.page input) ≡ None
-  pub written : Appends sink.held sink'.held (take bytes (strokes_picture job reaches (rules.strokes job.page input)))
-  pub within : bytes < length (strokes_picture job reaches (rules.strokes job.page input))
+  pub written : Appends sink.held sink'.held (take bytes (strokes_picture n job reaches (rules.strokes job.page input)))
+  pub within : bytes < length (strokes_picture n job reaches (rules.strokes job.page input))
   pub failed : sink'.faults ≡ sink.faults + 1
   pub stopped : IsStoppedAt (head_of job.form job.page job.dots)
-      (strokes_row job reaches (rules.strokes job.page input)) (rows_of job.page job.dots) job.first_row bytes row whole
+      (strokes_row n job reaches (rules.strokes job.page input)) (rows_of job.page job.dots) job.first_row bytes row whole
 
 -- the plot was read whole, and this is why it has no picture of the job
 pub record IsRefused (rules : Rules) (job : Job) (input : List ℕ) (before after : SourceState)
@@ -53,25 +53,25 @@ pub record IsRefused (rules : Rules) (job : Job) (input : List ℕ) (before afte
 
 -- what each answer says. The conditions of two answers exclude one another, so each comes exactly if its own hold; want
 -- of memory says only that the source did not fail
-abbrev pub Converts : Rules → Job → Reach → List ℕ → SourceState → SourceState → SinkState → SinkState →
+abbrev pub Converts : Rules → ℕ → Job → Reach → List ℕ → SourceState → SourceState → SinkState → SinkState →
     Result Done Fault → Type 0
-Converts rules job reaches input before after sink sink' (Ok done) =
-    IsWritten rules job reaches input before after sink sink' done
-Converts rules job reaches input before after sink sink' (Err Resolution) = after ≡ before
-Converts rules job reaches input before after sink sink' (Err Read) = after.faults ≡ before.faults + 1
-Converts rules job reaches input before after sink sink' (Err TooLong) = WasTooLong input before after
-Converts rules job reaches input before after sink sink' (Err Memory) = after.faults ≡ before.faults
-Converts rules job reaches input before after sink sink' (Err (Write row whole bytes)) =
-    IsCutShort rules job reaches input before after sink sink' row whole bytes
-Converts rules job reaches input before after sink sink' (Err fault) = IsRefused rules job input before after fault
+Converts rules n job reaches input before after sink sink' (Ok done) =
+    IsWritten rules n job reaches input before after sink sink' done
+Converts rules n job reaches input before after sink sink' (Err Resolution) = after ≡ before
+Converts rules n job reaches input before after sink sink' (Err Read) = after.faults ≡ before.faults + 1
+Converts rules n job reaches input before after sink sink' (Err TooLong) = WasTooLong input before after
+Converts rules n job reaches input before after sink sink' (Err Memory) = after.faults ≡ before.faults
+Converts rules n job reaches input before after sink sink' (Err (Write row whole bytes)) =
+    IsCutShort rules n job reaches input before after sink sink' row whole bytes
+Converts rules n job reaches input before after sink sink' (Err fault) = IsRefused rules job input before after fault
 
 -- a conversion by these rules: what it took from the source, its answer, and how many tests the gauge made
 pub record HasConvertedBy (rules : Rules) (job : Job) (reaches : Reach) (before after : SourceState)
     (sink sink' : SinkState) (tests tests' : ℕ) (answer : Result Done Fault) : Type 0 where
   pub input : List ℕ
   pub taken : Consumes before.left after.left input
-  pub converts : Converts rules job reaches input before after sink sink' answer
-  pub tested : tests' ≤ tests + strokes_boxes job (rules.strokes job.page input)
+  pub converts : Converts rules 1 job reaches input before after sink sink' answer
+  pub tested : tests' ≤ tests + strokes_boxes 1 job (rules.strokes job.page input)
 
 -- a conversion in the profile core
 abbrev pub HasConverted : Job → Reach → SourceState → SourceState → SinkState → SinkState → ℕ → ℕ → Result Done Fault →
@@ -83,33 +83,33 @@ abbrev pub on_page : Page → Job → Job
 on_page page job = record job { page = page }
 
 -- what each answer says where the page was chosen: that of the job on the page that the plot is drawn on
-abbrev pub ConvertsOn : Rules → PageChoice → Job → Page → Reach → List ℕ → SourceState → SourceState → SinkState →
+abbrev pub ConvertsOn : Rules → PageChoice → ℕ → Job → Page → Reach → List ℕ → SourceState → SourceState → SinkState →
     SinkState → Result Outcome Fault → Type 0
-ConvertsOn rules choice job page reaches input before after sink sink' (Ok outcome) =
+ConvertsOn rules choice n job page reaches input before after sink sink' (Ok outcome) =
     IsPlaced choice rules job.pens job.page input outcome.placement page
-    × IsWritten rules (on_page page job) reaches input before after sink sink' outcome.done
+    × IsWritten rules n (on_page page job) reaches input before after sink sink' outcome.done
     × (outcome.census ≡ census_of job.pens page (rules.strokes page input))
-ConvertsOn rules choice job page reaches input before after sink sink' (Err (Write row whole bytes)) =
+ConvertsOn rules choice n job page reaches input before after sink sink' (Err (Write row whole bytes)) =
     ((placement : Placement) × IsPlaced choice rules job.pens job.page input placement page)
-    × IsCutShort rules (on_page page job) reaches input before after sink sink' row whole bytes
-ConvertsOn rules choice job page reaches input before after sink sink' (Err (Paint fault)) =
+    × IsCutShort rules n (on_page page job) reaches input before after sink sink' row whole bytes
+ConvertsOn rules choice n job page reaches input before after sink sink' (Err (Paint fault)) =
     ((placement : Placement) × IsPlaced choice rules job.pens job.page input placement page)
     × IsRefused rules (on_page page job) input before after (Paint fault)
-ConvertsOn rules choice job page reaches input before after sink sink' (Err (Plot fault)) =
+ConvertsOn rules choice n job page reaches input before after sink sink' (Err (Plot fault)) =
     IsFirstPage choice rules job.page input page × IsRefused rules (on_page page job) input before after (Plot fault)
-ConvertsOn rules choice job page reaches input before after sink sink' (Err fault) =
-    Converts rules job reaches input before after sink sink' (Err fault)
+ConvertsOn rules choice n job page reaches input before after sink sink' (Err fault) =
+    Converts rules n job reaches input before after sink sink' (Err fault)
 
 -- a conversion by these rules where the page was chosen, as HasConvertedBy
-pub record HasConvertedOn (rules : Rules) (choice : PageChoice) (job : Job) (reaches : Reach)
+pub record HasConvertedOn (rules : Rules) (choice : PageChoice) (n : ℕ) (job : Job) (reaches : Reach)
     (before after : SourceState) (sink sink' : SinkState) (tests tests' : ℕ)
     (answer : Result Outcome Fault) : Type 0 where
   pub input : List ℕ
   pub taken : Consumes before.left after.left input
   pub page : Page
   pub given : choice ≡ Given → page ≡ job.page
-  pub converts : ConvertsOn rules choice job page reaches input before after sink sink' answer
-  pub tested : tests' ≤ tests + strokes_boxes (on_page page job) (rules.strokes page input)
+  pub converts : ConvertsOn rules choice n job page reaches input before after sink sink' answer
+  pub tested : tests' ≤ tests + strokes_boxes n (on_page page job) (rules.strokes page input)
 
 -- the sink failed
 abbrev pub is_write : Fault → Bool

@@ -1,18 +1,25 @@
 -- How far the writing of rows and of a picture came, as contracts of private functions say it.
-use Rattle.std.specs.Prelude.{◌≡◌, ℕ, ◌+◌, ◌-◌, ◌<◌, ◌≤◌, List, [], ◌∷◌, ◌++◌, length, take, get_or, nat_eq}
+use Rattle.std.specs.Prelude.{◌≡◌, ℕ, ◌+◌, ◌-◌, ◌*◌, ◌<◌, ◌≤◌, map, List, [], ◌∷◌, ◌++◌, length, take, get_or, nat_eq}
 use Rattle.std.specs.Prelude.{if◌then◌else◌, Result, Ok, Err, Some, None, ⊤}
+use Rattle.std.specs.List.{range_with_len}
 use Rattle.std.specs.Io.KnownBytes.{Appends}
+use Rattle.plot_page.specs.declared.dots.TheConstants.{MOST_PIXELS_A_SIDE}
+use Rattle.smoothing.specs.Smoothings.{smoothed}
 use Rattle.picture_out.specs.declared.form.Form.{Form}
 use Rattle.picture_out.specs.declared.inks.Ink.{Ink}
 use Rattle.picture_out.specs.Forms.{foot_bytes, row_bytes}
 use Rattle.png.specs.declared.header.Depth.{Depth}
+use Rattle.png.specs.declared.header.Layout.{Layout}
+use Rattle.png.specs.Headers.{HasColours}
+use Rattle.plot_page.specs.declared.dots.Dots.{Dots}
 use Rattle.devices.specs.Sinks.{SinkState}
 use Rattle.plot_page.specs.Segments.{Segment}
 use Rattle.plot_page.specs.Resolutions.{rows_of}
 use Rattle.stroke_raster.specs.Painting.{Painting}
 use Rattle.picture_job.specs.declared.job.Job.{Job}
-use Rattle.conversion.specs.Pictures.{Reach, head_of, job_fault, picture_of, row_of, rows_bytes}
+use Rattle.conversion.specs.Pictures.{Reach, colours_at, head_of, job_fault, picture_of, row_of, rows_bytes, strokes_row}
 use Rattle.conversion.specs.Boxes.{boxes_from}
+use Rattle.conversion.specs.PixelRows.{layout_bytes}
 use Rattle.conversion.specs.declared.fault.Fault.{Fault}
 use Rattle.conversion.specs.declared.fault.Fault.TheVariants.{Memory, Paint, Write}
 use Rattle.conversion.specs.Stops.{IsStoppedAt}
@@ -102,21 +109,21 @@ abbrev pub tests_left : Painting → ℕ
 tests_left p = boxes_from p.pens p.strokes p.page p.dots p.next
 
 -- the job can be done on its page, and a picture of its strokes was written, or the sink failed once
-abbrev pub WritesJob : Job → Reach → List Segment → SinkState → SinkState → Result ℕ Broken → Type 0
-WritesJob job reaches strokes sink sink' answer =
+abbrev pub WritesJob : ℕ → Job → Reach → List Segment → SinkState → SinkState → Result ℕ Broken → Type 0
+WritesJob n job reaches strokes sink sink' answer =
     (job_fault job ≡ None)
     × WritesPicture (head_of job.form job.page job.dots)
-    (row_of job.form reaches job.pens strokes job.page job.dots) (foot_bytes job.form) (rows_of job.page job.dots)
+    (strokes_row n job reaches strokes) (foot_bytes job.form) (rows_of job.page job.dots)
     job.first_row sink sink' answer
 
 -- a job's strokes were painted and written, the sink failed once, or the job cannot be done on its page
-abbrev pub HasPainted : Job → Reach → List Segment → SinkState → SinkState → Result ℕ Fault → Type 0
-HasPainted job reaches strokes sink sink' (Ok n) = WritesJob job reaches strokes sink sink' (Ok n)
-HasPainted job reaches strokes sink sink' (Err (Write row whole bytes)) =
-    WritesJob job reaches strokes sink sink' (Err (record { row = row; whole = whole; bytes = bytes }))
-HasPainted job reaches strokes sink sink' (Err (Paint fault)) = job_fault job ≡ Some (Paint fault)
-HasPainted job reaches strokes sink sink' (Err Memory) = ⊤
-HasPainted job reaches strokes sink sink' (Err _) = ⊥
+abbrev pub HasPainted : ℕ → Job → Reach → List Segment → SinkState → SinkState → Result ℕ Fault → Type 0
+HasPainted n job reaches strokes sink sink' (Ok bytes) = WritesJob n job reaches strokes sink sink' (Ok bytes)
+HasPainted n job reaches strokes sink sink' (Err (Write row whole bytes)) =
+    WritesJob n job reaches strokes sink sink' (Err (record { row = row; whole = whole; bytes = bytes }))
+HasPainted n job reaches strokes sink sink' (Err (Paint fault)) = job_fault job ≡ Some (Paint fault)
+HasPainted n job reaches strokes sink sink' (Err Memory) = ⊤
+HasPainted n job reaches strokes sink sink' (Err _) = ⊥
 
 -- what is painted as cells, and the form in which its rows are written
 pub record CellPainting : Type 0 where
@@ -128,3 +135,42 @@ pub record NumberPainting : Type 0 where
   pub painting : Painting
   pub depth : Depth
   pub numbers : List ℕ
+
+-- the finer picture that is painted, how many times finer it is, how the pixels are laid out, and how many columns and rows
+-- of them there are; the number of the next row, and how many rows a band has at most
+pub record SmoothPainting : Type 0 where
+  pub painting : Painting
+  pub times : ℕ
+  pub layout : Layout
+  pub columns : ℕ
+  pub rows : ℕ
+  pub next : ℕ
+  pub height : ℕ
+
+-- the pixels of each row of what is smoothed, and its bytes
+abbrev pub row_pixels : SmoothPainting → Reach → ℕ → List (List ℕ)
+row_pixels b reaches row =
+    let p = b.painting in
+    map (smoothed b.times (colours_at reaches p.pens p.strokes p.page p.dots) row) (range_with_len 0 b.columns)
+
+abbrev pub smoothed_text : SmoothPainting → Reach → ℕ → List ℕ
+smoothed_text b reaches row = layout_bytes b.layout (row_pixels b reaches row)
+
+-- each row is made of finer rows, of which the next are painted next
+pub record IsSmoothing (p : Painting) (times rows at height : ℕ) : Type 0 where
+  pub least : 1 ≤ times
+  pub most : times ≤ 8
+  pub some : 1 ≤ height
+  pub few : height ≤ 4096
+  pub tall : rows ≤ MOST_PIXELS_A_SIDE
+  pub within : at ≤ rows
+  pub band : p.band_rows ≡ times * height
+  pub finer : (row : ℕ) → row < rows → times * row < rows_of p.page p.dots
+  pub next : at < rows → p.next ≡ times * at
+
+-- a picture can be smoothed so many times, in this layout
+pub record CanSmooth (times : ℕ) (layout : Layout) (dots : Dots) : Type 0 where
+  pub least : 1 ≤ times
+  pub most : times ≤ 8
+  pub fine : times * dots.resolution ≤ 1200
+  pub colours : HasColours layout

@@ -66,9 +66,9 @@ abbrev pub rules_of : Reading → Rules
 rules_of Core = core_rules
 rules_of (Full sheet) = full_rules sheet
 
--- the picture of a job and a plot by these rules
-abbrev pub picture_by : Rules → Job → Reach → List ℕ → List ℕ
-picture_by rules job reaches plot = strokes_picture job reaches (rules.strokes job.page plot)
+-- the picture of a job and a plot by these rules, smoothed n times
+abbrev pub picture_by : Rules → ℕ → Job → Reach → List ℕ → List ℕ
+picture_by rules n job reaches plot = strokes_picture n job reaches (rules.strokes job.page plot)
 
 -- a plot has a picture of a job by these rules: it is not too long, and nothing refuses it
 pub record HasPictureBy (rules : Rules) (job : Job) (plot : List ℕ) : Type 0 where

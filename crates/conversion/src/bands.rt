@@ -23,8 +23,8 @@ pub trait Bands<'a>: Sized {
     /// What the rows depend on beside the strokes, the page and the resolution.
     type Ask: Copy;
 
-    // Bands can be begun for this, with these strokes.
-    ghost can_begin: { Self.Ask → List Segment → Type 0 };
+    // Bands can be begun for this, with these strokes, at this resolution.
+    ghost can_begin: { Self.Ask → List Segment → Dots → Type 0 };
 
     // The bytes of each row of the picture that is asked for, by what a gauge reaches.
     ghost asked_text: { Self.Ask → PenSet → List Segment → Page → Dots → Reach → ℕ → List ℕ };
@@ -58,7 +58,7 @@ pub trait Bands<'a>: Sized {
         band_rows: u32,
         first_row: u32,
     ) -> Result<Self, PaintFault>
-        requires ask { can_begin ask strokes.now }
+        requires ask { can_begin ask strokes.now dots }
         requires few { length strokes.now ≤ MOST_STROKES }
         ensures band { (result ≡ Err Band) ↔ (is_band_height band_rows ≡ false) }
         ensures first { (result ≡ Err Row) ↔ ((is_band_height band_rows ≡ true) × (rows_of page dots < first_row)) }

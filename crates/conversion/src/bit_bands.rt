@@ -21,7 +21,7 @@ pub const ROOM: u32 = 262_144;
 impl<'a> Bands<'a> for Inker<'a> {
     type Ask = ();
 
-    ghost can_begin = { λ _ _. ⊤ };
+    ghost can_begin = { λ _ _ _. ⊤ };
 
     ghost asked_text = { λ _ pens strokes page dots reaches row. row_of Pbm reaches pens strokes page dots row };
 

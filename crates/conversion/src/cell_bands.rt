@@ -50,7 +50,7 @@ impl<'a> Model for CellBands<'a> {
 impl<'a> Bands<'a> for CellBands<'a> {
     type Ask = Form;
 
-    ghost can_begin = { λ _ _. ⊤ };
+    ghost can_begin = { λ _ _ _. ⊤ };
 
     ghost asked_text = { λ form pens strokes page dots reaches row. row_of form reaches pens strokes page dots row };
 

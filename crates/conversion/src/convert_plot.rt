@@ -2,7 +2,7 @@
 ghost use Rattle.std.specs.Prelude.{◌≡◌, ℕ, ◌+◌, ◌-◌, ◌^◌, ◌<◌, ◌↔◌, Err, IfErr, false};
 ghost use Rattle.std.specs.Io.KnownBytes.{IsAtEnd};
 ghost use Rattle.conversion.specs.Conversions.{HasConverted, HasConvertedBy, HasConvertedOn, is_write};
-ghost use Rattle.conversion.specs.Pictures.{has_resolution};
+ghost use Rattle.conversion.specs.Pictures.{has_resolution, is_fine, is_possible, is_smoothed};
 ghost use Rattle.conversion.specs.Rules.{rules_of};
 
 use crate::done::Done;
@@ -13,8 +13,9 @@ use crate::painting::paint;
 use crate::watcher::{Unwatched, Watcher};
 use devices::{Sink, Source};
 use page_fit::census_of;
-use picture_job::{Job, PageChoice, Reading};
-use picture_out::takes_resolution;
+use picture_job::{Job, PageChoice, Reading, Smoothing};
+use picture_out::{Form, takes_resolution};
+use plot_page::Dots;
 use std::alloc::Global;
 use stroke_raster::Gauge;
 
@@ -101,18 +102,19 @@ pub fn convert_on<G: Gauge, S: Source, K: Sink>(
     requires ending { (S.state source.old).ends < 2 ^ 64 - 1 }
     requires sinking { (K.state sink.old).faults < 2 ^ 64 - 1 }
     ensures resolution { (result ≡ Err Fault.Resolution) ↔ (has_resolution job.now ≡ false) }
-    ensures converts { HasConvertedOn (rules_of reading) choice job.now (G.reaches gauge.old)
+    ensures converts { HasConvertedOn (rules_of reading) choice 1 job.now (G.reaches gauge.old)
         (S.state source.old) (S.state source.new) (K.state sink.old) (K.state sink.new)
         (G.count gauge.old) (G.count gauge.new) result }
     ensures end { (S.state source.new).ends ≡ (S.state source.old).ends + 1 → IsAtEnd (S.state source.new).left }
     ensures same { G.reaches gauge.new ≡ G.reaches gauge.old }
     ensures untouched { IfErr result (λ fault. is_write fault ≡ false → sink.new ≡ sink.old) }
 {
-    convert_watched(
+    convert_smoothed(
         alloc,
         reading,
         choice,
         job,
+        Smoothing::NONE,
         gauge,
         source,
         sink,
@@ -120,15 +122,19 @@ pub fn convert_on<G: Gauge, S: Source, K: Sink>(
     )
 }
 
-/// Writes the picture of the plot that the source gives, as `convert_on` does, and tells the watcher after each band of
-/// rows how many are written. A picture without rows has no bands, and the watcher is told nothing.
+/// Writes the picture of the plot that the source gives, as `convert_on` does, smoothed: each pixel of a PPM is the mean of
+/// as many by as many pixels of a picture that is so many times finer. Marks, PBM and PCL have no shades, and are written as
+/// without smoothing. Tells the watcher after each band of rows how many are written. A picture without rows has no bands,
+/// and the watcher is told nothing.
 ///
-/// Errors: those of `convert`, in the same order.
-pub fn convert_watched<G: Gauge, S: Source, K: Sink, W: Watcher>(
+/// Errors: those of `convert`, in the same order. `Resolution` comes also if the finer picture would have more than 1200 dots
+/// per inch.
+pub fn convert_smoothed<G: Gauge, S: Source, K: Sink, W: Watcher>(
     alloc: Global,
     reading: Reading,
     choice: PageChoice,
     job: &Job,
+    smoothing: Smoothing,
     gauge: &mut G,
     source: &mut S,
     sink: &mut K,
@@ -137,15 +143,15 @@ pub fn convert_watched<G: Gauge, S: Source, K: Sink, W: Watcher>(
     requires failing { (S.state source.old).faults < 2 ^ 64 - 1 }
     requires ending { (S.state source.old).ends < 2 ^ 64 - 1 }
     requires sinking { (K.state sink.old).faults < 2 ^ 64 - 1 }
-    ensures resolution { (result ≡ Err Fault.Resolution) ↔ (has_resolution job.now ≡ false) }
-    ensures converts { HasConvertedOn (rules_of reading) choice job.now (G.reaches gauge.old)
+    ensures resolution { (result ≡ Err Fault.Resolution) ↔ (is_possible smoothing.times job.now ≡ false) }
+    ensures converts { HasConvertedOn (rules_of reading) choice smoothing.times job.now (G.reaches gauge.old)
         (S.state source.old) (S.state source.new) (K.state sink.old) (K.state sink.new)
         (G.count gauge.old) (G.count gauge.new) result }
     ensures end { (S.state source.new).ends ≡ (S.state source.old).ends + 1 → IsAtEnd (S.state source.new).left }
     ensures same { G.reaches gauge.new ≡ G.reaches gauge.old }
     ensures untouched { IfErr result (λ fault. is_write fault ≡ false → sink.new ≡ sink.old) }
 {
-    if !takes_resolution(job.form, job.dots.per_inch()) {
+    if !is_possible(job, smoothing) {
         return Err(Fault::Resolution);
     }
     let drawn = draw_source(alloc, reading, choice, job.pens, &job.page, source)?;
@@ -154,7 +160,7 @@ pub fn convert_watched<G: Gauge, S: Source, K: Sink, W: Watcher>(
         ..*job
     };
     let strokes = drawn.lines.strokes.as_slice();
-    let bytes = match paint(alloc, &job, strokes, gauge, sink, watcher) {
+    let bytes = match paint(alloc, &job, smoothing, strokes, gauge, sink, watcher) {
         Ok(bytes) => bytes,
         Err(fault) => return Err(fault),
     };
@@ -170,4 +176,26 @@ pub fn convert_watched<G: Gauge, S: Source, K: Sink, W: Watcher>(
         placement: drawn.placement,
         census: census_of(strokes, job.pens, &job.page),
     })
+}
+
+// Whether the job's form has its resolution, and its picture can be smoothed.
+fn is_possible(job: &Job, smoothing: Smoothing) -> bool
+    ensures { result ≡ is_possible smoothing.times job.now }
+{
+    let is_fine = !is_smoothed(job.form, smoothing) || is_fine(job.dots, smoothing);
+    is_fine && takes_resolution(job.form, job.dots.per_inch())
+}
+
+/// Whether a picture in a form is smoothed: only a PPM has shades.
+pub(crate) fn is_smoothed(form: Form, smoothing: Smoothing) -> bool
+    ensures { result ≡ is_smoothed smoothing.times form }
+{
+    smoothing.times() > 1 && matches!(form, Form::Ppm)
+}
+
+/// Whether the finer picture that a picture is smoothed of is not too fine.
+pub(crate) fn is_fine(dots: Dots, smoothing: Smoothing) -> bool
+    ensures { result ≡ is_fine smoothing.times dots }
+{
+    smoothing.times() * dots.per_inch() <= 1200
 }

@@ -55,7 +55,7 @@ impl<'a> Model for NumberBands<'a> {
 impl<'a> Bands<'a> for NumberBands<'a> {
     type Ask = Numbered<'a>;
 
-    ghost can_begin = { λ ask strokes. (length ask.numbers.now ≡ length strokes)
+    ghost can_begin = { λ ask strokes _. (length ask.numbers.now ≡ length strokes)
         × (All (λ number. number < 2 ^ bits_of_depth ask.depth) ask.numbers.now) };
 
     ghost asked_text = { λ ask pens strokes page dots reaches row.

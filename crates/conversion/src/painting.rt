@@ -1,21 +1,24 @@
 //! Painting a job's strokes, and writing its picture.
-ghost use Rattle.std.specs.Prelude.{◌≡◌, ◌+◌, ◌-◌, ◌^◌, ◌<◌, ◌≤◌, length, IfErr, false};
+ghost use Rattle.std.specs.Prelude.{◌≡◌, ℕ, ◌+◌, ◌-◌, ◌^◌, ◌<◌, ◌≤◌, length, IfErr, false, true};
 ghost use Rattle.plot_page.specs.declared.stroke.TheConstants.{MOST_STROKES};
 ghost use Rattle.conversion.specs.Boxes.{strokes_boxes};
-ghost use Rattle.conversion.specs.Pictures.{strokes_row};
+ghost use Rattle.conversion.specs.Pictures.{is_possible, strokes_row};
 ghost use Rattle.conversion.specs.Conversions.{is_write};
 ghost use Rattle.conversion.specs.Progress.{HasPainted};
 
 use crate::bands::Bands;
 use crate::cell_bands::CellBands;
+use crate::convert_plot::is_smoothed;
 use crate::fault::Fault;
 use crate::pcl_bands::PclBands;
+use crate::smooth_bands::{SmoothBands, Smoothed};
 use crate::watcher::Watcher;
 use crate::writing::write_picture;
 use devices::Sink;
-use picture_job::Job;
+use picture_job::{Job, Smoothing};
 use picture_out::Form;
 use plot_page::Stroke;
+use png::Layout;
 use std::alloc::Global;
 use stroke_raster::{Gauge, Inker};
 
@@ -28,18 +31,27 @@ use stroke_raster::{Gauge, Inker};
 pub fn paint<G: Gauge, K: Sink, W: Watcher>(
     alloc: Global,
     job: &Job,
+    smoothing: Smoothing,
     strokes: &[Stroke],
     gauge: &mut G,
     sink: &mut K,
     watcher: &mut W,
 ) -> Result<u64, Fault>
+    requires possible { is_possible smoothing.times job.now ≡ true }
     requires few { length strokes.now ≤ MOST_STROKES }
     requires sinking { (K.state sink.old).faults < 2 ^ 64 - 1 }
-    ensures paints { HasPainted job.now (G.reaches gauge.old) strokes.now (K.state sink.old) (K.state sink.new) result }
-    ensures tests { G.count gauge.new ≤ G.count gauge.old + strokes_boxes job.now strokes.now }
+    ensures paints { HasPainted smoothing.times job.now (G.reaches gauge.old) strokes.now (K.state sink.old) (K.state sink.new) result }
+    ensures tests { G.count gauge.new ≤ G.count gauge.old + strokes_boxes smoothing.times job.now strokes.now }
     ensures same { G.reaches gauge.new ≡ G.reaches gauge.old }
     ensures untouched { IfErr result (λ fault. is_write fault ≡ false → sink.new ≡ sink.old) }
 {
+    if is_smoothed(job.form, smoothing) {
+        let ask = Smoothed {
+            times: smoothing.times(),
+            layout: Layout::Rgb,
+        };
+        return paint_by::<SmoothBands<'_>, G, K, W>(alloc, job, ask, strokes, gauge, sink, watcher);
+    }
     match job.form {
         Form::Pbm => paint_by::<Inker<'_>, G, K, W>(alloc, job, (), strokes, gauge, sink, watcher),
         Form::Pcl => {
@@ -63,14 +75,12 @@ fn paint_by<'a, B: Bands<'a> + Drop, G: Gauge, K: Sink, W: Watcher>(
 ) -> Result<u64, Fault>
     requires few { length strokes.now ≤ MOST_STROKES }
     requires sinking { (K.state sink.old).faults < 2 ^ 64 - 1 }
-    requires ask { B.can_begin ask strokes.now }
-    requires text { B.asked_text ask job.now.pens strokes.now job.now.page job.now.dots (G.reaches gauge.old)
-        ≡ strokes_row job.now (G.reaches gauge.old) strokes.now }
-    requires tests { B.asked_tests ask job.now.pens strokes.now job.now.page job.now.dots job.now.first_row
-        ≡ strokes_boxes job.now strokes.now }
-    ensures paints { HasPainted job.now (G.reaches gauge.old) strokes.entry.now
-        (K.state sink.old) (K.state sink.new) result }
-    ensures tests { G.count gauge.new ≤ G.count gauge.old + strokes_boxes job.now strokes.entry.now }
+    requires ask { B.can_begin ask strokes.now job.now.dots }
+    ensures paints { (n : ℕ) → B.asked_text ask job.now.pens strokes.entry.now job.now.page job.now.dots (G.reaches gauge.old)
+        ≡ strokes_row n job.now (G.reaches gauge.old) strokes.entry.now →
+        HasPainted n job.now (G.reaches gauge.old) strokes.entry.now (K.state sink.old) (K.state sink.new) result }
+    ensures tests { G.count gauge.new ≤ G.count gauge.old
+        + B.asked_tests ask job.now.pens strokes.entry.now job.now.page job.now.dots job.now.first_row }
     ensures same { G.reaches gauge.new ≡ G.reaches gauge.old }
     ensures untouched { IfErr result (λ fault. is_write fault ≡ false → sink.new ≡ sink.old) }
 {

@@ -3,6 +3,7 @@ ghost use Rattle.std.specs.Prelude.{◌≡◌, ℕ, List, ◌<◌, ◌≤◌, �
 ghost use Rattle.std.specs.List.{list_any};
 ghost use Rattle.std.specs.Str.{bytes_eq};
 ghost use Rattle.conversion.specs.Palettes.{AreNumbers, IsNumbered, colours_used, with_colour};
+ghost use Rattle.conversion.specs.PixelRows.{place_of};
 
 use plot_page::{Colour, PenSet, Stroke};
 use std::alloc::{AllocError, Global};
@@ -56,7 +57,19 @@ fn number_of(
     if !pens.has(stroke.pen) {
         return Ok(Some(0));
     }
-    let colour = bytes_of(stroke.colour);
+    add_colour(bytes_of(stroke.colour), colours)
+}
+
+/// The number of a colour among these, to which it is added if it is new and there is room; `None` if there is none.
+///
+/// Errors: if the heap gives no memory.
+pub fn add_colour(colour: [u8; 3], colours: &mut Vec<[u8; 3]>) -> Result<Option<u8>, AllocError>
+    requires few { length colours.old.items ≤ MOST_COLOURS }
+    ensures few { length colours.new.items ≤ MOST_COLOURS }
+    ensures added { IfOk result (λ found. IfSome found (λ _. colours.new.items ≡ with_colour colours.old.items colour)) }
+    ensures within { IfOk result (λ found. IfSome found (λ number. number < length colours.new.items)) }
+    ensures named { IfOk result (λ found. IfSome found (λ number. get_or colours.new.items number [] ≡ colour)) }
+{
     let number = position_of(colours.as_slice(), colour);
     if number < colours.len() {
         return Ok(Some(number as u8));
@@ -74,8 +87,9 @@ fn bytes_of(colour: Colour) -> [u8; 3]
     [colour.red, colour.green, colour.blue]
 }
 
-// Where the colour is among these, or how many they are.
-fn position_of(colours: &[[u8; 3]], colour: [u8; 3]) -> usize
+/// Where the colour is among these, or how many they are.
+pub fn position_of(colours: &[[u8; 3]], colour: [u8; 3]) -> usize
+    ensures place { result ≡ place_of colours.now colour }
     ensures most { result ≤ length colours.now }
     ensures found { result < length colours.now → get_or colours.now result [] ≡ colour }
     ensures has { result < length colours.now → list_any (bytes_eq colour) colours.now ≡ true }

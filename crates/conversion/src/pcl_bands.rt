@@ -47,7 +47,7 @@ impl<'a> Model for PclBands<'a> {
 impl<'a> Bands<'a> for PclBands<'a> {
     type Ask = ();
 
-    ghost can_begin = { λ _ _. ⊤ };
+    ghost can_begin = { λ _ _ _. ⊤ };
 
     ghost asked_text = { λ _ pens strokes page dots reaches row. row_of Pcl reaches pens strokes page dots row };
 

@@ -1,10 +1,11 @@
 //! The conversion to PNG: read, cut, draw, paint, encode.
-ghost use Rattle.std.specs.Prelude.{◌≡◌, ◌+◌, ◌-◌, ◌^◌, ◌<◌, IfErr, false};
+ghost use Rattle.std.specs.Prelude.{◌≡◌, ◌+◌, ◌-◌, ◌^◌, ◌<◌, ◌↔◌, Err, IfErr, false};
 ghost use Rattle.std.specs.Io.KnownBytes.{IsAtEnd};
 ghost use Rattle.conversion.specs.Conversions.{is_write};
-ghost use Rattle.conversion.specs.Documents.{HasConvertedToPng};
+ghost use Rattle.conversion.specs.Documents.{HasConvertedToPng, is_png_possible};
 ghost use Rattle.conversion.specs.Rules.{rules_of};
 
+use crate::convert_plot::{is_fine, is_smoothed};
 use crate::done::Done;
 use crate::draw_source::draw_source;
 use crate::fault::Fault;
@@ -14,6 +15,7 @@ use crate::watcher::Watcher;
 use devices::{Sink, Source};
 use page_fit::census_of;
 use picture_job::{PageChoice, PngJob, Reading};
+use picture_out::Form;
 use std::alloc::Global;
 use stroke_raster::Gauge;
 
@@ -21,9 +23,11 @@ use stroke_raster::Gauge;
 /// gives the sink back. If the sink held nothing, it then holds a PNG; reading it gives the size of the picture, its
 /// resolution in pixels a metre, and the colour of each pixel, which is that of the PPM of this job. Its palette is white
 /// and then each further colour of the selected strokes, in the order in which it first comes; a picture of more than 256
-/// colours has no palette. The watcher is told after each band of rows how many are written.
+/// colours has no palette. A smoothed picture is grey if its strokes are; else its palette is white and each further colour of
+/// its pixels, if they are at most 256. The watcher is told after each band of rows how many are written.
 ///
-/// Errors, in this order: those of reading and drawing the plot (`Read`, `TooLong`, `Plot`); `Unfinished` if the sink
+/// Errors, in this order: `Resolution` if the finer picture of a smoothed one would have more than 1200 dots per inch, and
+/// then the source is not read; those of reading and drawing the plot (`Read`, `TooLong`, `Plot`); `Unfinished` if the sink
 /// fails, and what it has taken is of no use. `Memory` comes when memory is refused. After every error but `Unfinished`
 /// the sink is as it was.
 pub fn convert_png<G: Gauge, S: Source, K: Sink, W: Watcher>(
@@ -39,6 +43,7 @@ pub fn convert_png<G: Gauge, S: Source, K: Sink, W: Watcher>(
     requires failing { (S.state source.old).faults < 2 ^ 64 - 1 }
     requires ending { (S.state source.old).ends < 2 ^ 64 - 1 }
     requires sinking { (K.state sink).faults < 2 ^ 64 - 1 }
+    ensures resolution { (result.1 ≡ Err Fault.Resolution) ↔ (is_png_possible job.now ≡ false) }
     ensures converts { HasConvertedToPng (rules_of reading) choice job.now (G.reaches gauge.old)
         (S.state source.old) (S.state source.new) (K.state sink) (K.state result.0)
         (G.count gauge.old) (G.count gauge.new) result.1 }
@@ -46,6 +51,9 @@ pub fn convert_png<G: Gauge, S: Source, K: Sink, W: Watcher>(
     ensures same { G.reaches gauge.new ≡ G.reaches gauge.old }
     ensures untouched { IfErr result.1 (λ fault. is_write fault ≡ false → result.0 ≡ sink) }
 {
+    if is_smoothed(Form::Ppm, job.smoothing) && !is_fine(job.dots, job.smoothing) {
+        return (sink, Err(Fault::Resolution));
+    }
     let drawn = match draw_source(alloc, reading, choice, job.pens, &job.page, source) {
         Ok(drawn) => drawn,
         Err(fault) => return (sink, Err(fault)),

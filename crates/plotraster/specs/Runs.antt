@@ -6,8 +6,8 @@ use Rattle.picture_job.specs.declared.reading.Reading.{Reading}
 use Rattle.picture_job.specs.declared.page_choice.PageChoice.{PageChoice}
 use Rattle.conversion.specs.Rules.{rules_of}
 use Rattle.conversion.specs.Conversions.{HasConvertedOn}
-use Rattle.conversion.specs.Documents.{HasConvertedToPng}
-use Rattle.conversion.specs.Pictures.{exact, has_resolution}
+use Rattle.conversion.specs.Documents.{HasConvertedToPng, is_png_possible}
+use Rattle.conversion.specs.Pictures.{exact, is_possible}
 use Rattle.conversion.specs.Faults.{status_of}
 use Rattle.conversion.specs.Reports.{HasReportedOn}
 use Rattle.devices.specs.Sinks.{SinkState}
@@ -19,17 +19,17 @@ use Rattle.conversion.specs.declared.fault.Fault.{Fault}
 -- that is read so, on the page that was chosen
 abbrev pub HasRun : Reading → PageChoice → Task → SourceState → SourceState → SinkState → SinkState → Result Outcome Fault →
     Type 0
-HasRun reading choice (Picture job) before after sink sink' answer =
-    (tests : ℕ) × HasConvertedOn (rules_of reading) choice job exact before after sink sink' 0 tests answer
+HasRun reading choice (Picture job smoothing) before after sink sink' answer =
+    (tests : ℕ) × HasConvertedOn (rules_of reading) choice smoothing.times job exact before after sink sink' 0 tests answer
 HasRun reading choice (Png job) before after sink sink' answer =
     (tests : ℕ) × HasConvertedToPng (rules_of reading) choice job exact before after sink sink' 0 tests answer
 HasRun reading choice (Report page) before after sink sink' answer =
     HasReportedOn reading choice page before after sink sink' answer
 
--- the form of a picture has its resolution; a PNG and a report have any
+-- the form of a picture has its resolution, and a picture that is smoothed is not too fine; a report has any
 abbrev pub task_has_resolution : Task → Bool
-task_has_resolution (Picture job) = has_resolution job
-task_has_resolution (Png job) = true
+task_has_resolution (Picture job smoothing) = is_possible smoothing.times job
+task_has_resolution (Png job) = is_png_possible job
 task_has_resolution (Report page) = true
 
 -- 0 if all was written, else the status of the fault

@@ -104,7 +104,7 @@ fn deliver_one<'a>(
 fn path_in(alloc: Global, folder: &str, name: &str, task: &Task) -> Result<String, AllocError> {
     let slash = if folder.ends_with("/") { "" } else { "/" };
     let extension = match task {
-        Task::Picture(job) => extension_of(job.form),
+        Task::Picture { job, .. } => extension_of(job.form),
         Task::Png(_) => "png",
         Task::Report(_) => "report",
     };

@@ -42,6 +42,8 @@ mod reports;
 #[cfg(test)]
 mod runs;
 #[cfg(test)]
+mod smoothed;
+#[cfg(test)]
 mod streams;
 #[cfg(test)]
 mod watched;

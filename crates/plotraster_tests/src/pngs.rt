@@ -2,7 +2,7 @@
 use crate::streams::{Reader, Writer};
 use plotraster::{
     Dots, Exact, Fault, Outcome, OverRead, OverWrite, Page, PageChoice, PenSet, PngJob, Reading,
-    Unwatched, convert_png, number, status,
+    Smoothing, Unwatched, convert_png, number, status,
 };
 use std::alloc::Global;
 use std::test::Fail;
@@ -58,6 +58,7 @@ fn job_of(per_inch: u32, pens: PenSet) -> Result<PngJob, Fail> {
         page: Page::new(64, 64, 0, 0)?,
         dots: Dots::new(per_inch).ok_or("a resolution")?,
         pens,
+        smoothing: Smoothing::NONE,
     })
 }
 
@@ -95,6 +96,32 @@ fn pictures_with_palettes(rt: HostRuntime) -> Result<(), Fail> {
     assert_eq!(rt; run.writer.bytes.as_slice(), SECOND.as_slice());
     assert!(rt; run.answer.is_ok());
     Ok(())
+}
+
+#[test]
+fn white_strokes_cover_black_ones(rt: HostRuntime) -> Result<(), Fail> {
+    // A covered line and another are the other alone; a line in white is none, and so is one that is not selected.
+    let covered = b"SP1;PU0,20;PD64,20;PU0,44;PD64,44;SP2;PC2,255,255,255;PU0,20;PD64,20;";
+    let other = b"SP1;PU0,44;PD64,44;";
+    let white = b"SP2;PC2,255,255,255;PU0,20;PD64,20;";
+    let over = b"SP1;PU0,44;PD64,44;SP2;PC2,255,255,255;PU0,44;PD64,44;";
+    let all = PenSet::all();
+    let black = PenSet::none().with(1);
+    assert!(rt; are_alike(rt.alloc(), all, covered, other)?);
+    assert!(rt; are_alike(rt.alloc(), all, white, b"")?);
+    assert!(rt; are_alike(rt.alloc(), black, over, other)?);
+    assert!(rt; !are_alike(rt.alloc(), all, over, other)?);
+    Ok(())
+}
+
+// Whether two plots have the same PNG.
+fn are_alike(alloc: Global, pens: PenSet, one: &[u8], other: &[u8]) -> Result<bool, Fail> {
+    let job = job_of(127, pens)?;
+    let first = run(alloc, &job, one, Writer::new(alloc));
+    let second = run(alloc, &job, other, Writer::new(alloc));
+    first.answer?;
+    second.answer?;
+    Ok(first.writer.bytes.as_slice() == second.writer.bytes.as_slice())
 }
 
 #[test]

@@ -3,7 +3,8 @@ use crate::pages::{CROSSING, eight_by_eight, job_at};
 use crate::runs::drawn;
 use crate::streams::Writer;
 use plotraster::{
-    Exact, Form, Job, OverRead, OverWrite, PageChoice, Reading, Watcher, convert_watched,
+    Exact, Form, Job, OverRead, OverWrite, PageChoice, Reading, Smoothing, Watcher,
+    convert_smoothed,
 };
 use std::alloc::Global;
 use std::process::Abort;
@@ -35,11 +36,12 @@ fn is_told(
     let mut diary = Diary {
         told: String::new(alloc),
     };
-    let answer = convert_watched(
+    let answer = convert_smoothed(
         alloc,
         Reading::Core,
         PageChoice::Given,
         job,
+        Smoothing::NONE,
         &mut Exact::new(),
         &mut OverRead::new(CROSSING),
         &mut sink,

@@ -9,8 +9,8 @@ returns-in_err-number_of-clause-refused c = λ has. absurd (c.in_err-number_of.e
 resolution : (dots : ℕ) → 10 ≤ dots → dots ≤ 1200 → is_resolution dots ≡ true
 resolution dots least most = grind (arith, nat_tests)
 
-pub returns-in_err-ok_or-clause-refused : goal.returns-in_err-ok_or-clause-refused
-returns-in_err-ok_or-clause-refused c = λ has.
+pub returns-in_err-dots-clause-refused : goal.returns-in_err-dots-clause-refused
+returns-in_err-dots-clause-refused c = λ has.
     let dots = c.in_ok-number_of.ensures.understood 10 1200 (omega arith) has.dots in
-    let bad : false ≡ true = c.in_err-ok_or.ensures.variant ∙ c.new.ensures.given ∙ resolution _ dots.0 dots.1 in
+    let bad : false ≡ true = c.in_err-dots.ensures.variant ∙ c.new.ensures.given ∙ resolution _ dots.0 dots.1 in
     absurd (cc)

@@ -1,4 +1,4 @@
-use Rattle.std.proofs.Common.{◌≡◌, ◌≤◌, ◌+◌, List, length, ap, subst, ◌∙◌, Ok, arith}
+use Rattle.std.proofs.Common.{◌≡◌, ◌≤◌, ◌+◌, List, length, ap, subst, ◌∙◌, Ok, [], refl, arith, rules}
 use Rattle.plot_page.specs.Segments.{Segment}
 use Rattle.page_fit.specs.Census.{census_of}
 use Rattle.conversion.specs.Rules.{Rules, rules_of}
@@ -77,3 +77,13 @@ returns-clause-converts g c =
       );
       tested = subst (λ (ss : List Segment). g.G.Gauge.count c.paint_png-sink.new.gauge ≤ g.G.Gauge.count c.args.gauge.now + png_boxes job ss) drawn c.paint_png-sink.ensures.tests;
     }
+
+pub returns-then-not-is_fine-clause-converts : goal.returns-then-not-is_fine-clause-converts
+returns-then-not-is_fine-clause-converts g c = record {
+  input = [];
+  taken = search rules;
+  page = c.args.job.now.page;
+  given = λ is. refl;
+  converts = refl;
+  tested = omega arith;
+}

@@ -1,7 +1,7 @@
 use Rattle.std.proofs.Common.{◌≡◌, ◌≤◌, ◌+◌, ◌-◌, List, [], length, ℕ, ap, subst, sym, refl, ◌∙◌, Result, Ok, Err, None, arith, rules}
 use Rattle.plot_page.specs.Segments.{Segment}
 use Rattle.page_fit.specs.Census.{census_of}
-use Rattle.conversion.specs.Boxes.{boxes_from}
+use Rattle.conversion.specs.Boxes.{strokes_boxes}
 use Rattle.conversion.specs.Conversions.{HasConvertedOn, on_page}
 use Rattle.conversion.specs.Rules.{Rules, rules_of}
 use Rattle.conversion.specs.Progress.{HasPainted}
@@ -10,19 +10,20 @@ use Rattle.conversion.specs.declared.outcome.Outcome.{Outcome}
 use Rattle.devices.specs.Sinks.{SinkState}
 use Rattle.conversion.proofs.Choices.{given_page, not_drawn_on, not_painted_on}
 use Rattle.conversion.proofs.Refusals.{job_faults, passed_on}
-use Rattle.conversion.proofs.convert_plot.convert_watched.Goals as goal
+use Rattle.conversion.proofs.convert_plot.convert_smoothed.Goals as goal
 
 pub returns-clause-converts : goal.returns-clause-converts
 returns-clause-converts g c =
     let page = c.in_ok-drawn.drawn.page in
     let job = on_page page c.args.job.now in
+    let n = c.args.smoothing.times in
     let rules : Rules = rules_of c.args.reading in
     let drawing = c.in_ok-drawn.ensures.draws in
     let input : List ℕ = drawing.input in
     let was : SinkState = g.K.Sink.state c.args.sink.now in
     let is : SinkState = g.K.Sink.state c.paint.new.sink in
     let drawn : c.as_slice-strokes.result.now ≡ rules.strokes page input = c.as_slice-strokes.ensures.value ∙ drawing.draws.lines.strokes_are in
-    let painted = subst (λ (ss : List Segment). HasPainted job (g.G.Gauge.reaches c.args.gauge.now) ss was is (Ok c.in-Ok.bytes)) drawn c.in-Ok.ensures.paints in
+    let painted = subst (λ (ss : List Segment). HasPainted n job (g.G.Gauge.reaches c.args.gauge.now) ss was is (Ok c.in-Ok.bytes)) drawn c.in-Ok.ensures.paints in
     record {
       input = input;
       taken = drawing.taken;
@@ -42,13 +43,14 @@ returns-clause-converts g c =
         },
         c.census_of.ensures ∙ ap (λ (ss : List Segment). census_of job.pens page ss) drawn,
       );
-      tested = subst (λ (ss : List Segment). g.G.Gauge.count c.paint.new.gauge ≤ g.G.Gauge.count c.args.gauge.now + boxes_from job.pens ss job.page job.dots job.first_row) drawn c.in-Ok.ensures.tests;
+      tested = subst (λ (ss : List Segment). g.G.Gauge.count c.paint.new.gauge ≤ g.G.Gauge.count c.args.gauge.now + strokes_boxes n job ss) drawn c.in-Ok.ensures.tests;
     }
 
 pub returns-in-Err-clause-converts : goal.returns-in-Err-clause-converts
 returns-in-Err-clause-converts g c =
     let page = c.in_ok-drawn.drawn.page in
     let job = on_page page c.args.job.now in
+    let n = c.args.smoothing.times in
     let rules : Rules = rules_of c.args.reading in
     let drawing = c.in_ok-drawn.ensures.draws in
     let input : List ℕ = drawing.input in
@@ -60,14 +62,14 @@ returns-in-Err-clause-converts g c =
       taken = drawing.taken;
       page = page;
       given = given_page c.args.choice rules job.pens c.args.job.now.page input _ page drawing.draws.placed;
-      converts = not_painted_on rules c.args.choice c.args.job.now page _ (g.G.Gauge.reaches c.args.gauge.now) input _ _ was is c.in-Err.fault
+      converts = not_painted_on rules c.args.choice n c.args.job.now page _ (g.G.Gauge.reaches c.args.gauge.now) input _ _ was is c.in-Err.fault
           drawing.draws.placed drawing.draws.read drawing.draws.lines.accepted
-          (subst (λ (ss : List Segment). HasPainted job (g.G.Gauge.reaches c.args.gauge.now) ss was is (Err c.in-Err.fault)) drawn c.in-Err.ensures.paints);
-      tested = subst (λ (ss : List Segment). g.G.Gauge.count c.paint.new.gauge ≤ g.G.Gauge.count c.args.gauge.now + boxes_from job.pens ss job.page job.dots job.first_row) drawn c.in-Err.ensures.tests;
+          (subst (λ (ss : List Segment). HasPainted n job (g.G.Gauge.reaches c.args.gauge.now) ss was is (Err c.in-Err.fault)) drawn c.in-Err.ensures.paints);
+      tested = subst (λ (ss : List Segment). g.G.Gauge.count c.paint.new.gauge ≤ g.G.Gauge.count c.args.gauge.now + strokes_boxes n job ss) drawn c.in-Err.ensures.tests;
     }
 
-pub returns-then-not-takes_resolution-clause-converts : goal.returns-then-not-takes_resolution-clause-converts
-returns-then-not-takes_resolution-clause-converts g c = record {
+pub returns-then-not-is_possible-clause-converts : goal.returns-then-not-is_possible-clause-converts
+returns-then-not-is_possible-clause-converts g c = record {
   input = [];
   taken = search rules;
   page = c.args.job.now.page;
@@ -84,8 +86,8 @@ returns-in_err-drawn-clause-converts g c =
     let is = g.S.Source.state c.draw_source.new.source in
     let sink : SinkState = g.K.Sink.state c.args.sink.now in
     let count = g.G.Gauge.count c.args.gauge.now in
-    let refused = not_drawn_on (rules_of c.args.reading) c.args.choice job (g.G.Gauge.reaches c.args.gauge.now) drawing.input was is sink sink _ drawing.draws in
-    subst (λ (answer : Result Outcome Fault). HasConvertedOn (rules_of c.args.reading) c.args.choice job (g.G.Gauge.reaches c.args.gauge.now) was is sink sink count count answer)
+    let refused = not_drawn_on (rules_of c.args.reading) c.args.choice c.args.smoothing.times job (g.G.Gauge.reaches c.args.gauge.now) drawing.input was is sink sink _ drawing.draws in
+    subst (λ (answer : Result Outcome Fault). HasConvertedOn (rules_of c.args.reading) c.args.choice c.args.smoothing.times job (g.G.Gauge.reaches c.args.gauge.now) was is sink sink count count answer)
     (sym (passed_on _ _ c.from_residual.ensures.1))
     (record {
       input = drawing.input;
