@@ -164,6 +164,32 @@ def test_resolutions(program, dots, times, plot):
     pictures(program, SMALL, dots, times, plot)
 
 
+def weight(row):
+    """The runs of equal bytes in a row, after a 0; those of other bytes than 0 count twice."""
+    return sum(0 if byte == last else 2 if byte else 1 for last, byte in zip(b"\0" + row, row))
+
+
+def better_filter(row, above):
+    """None, which is 0, for a row of less weight than its differences to the row above, and for a blank row; else Up, 2."""
+    differences = bytes((byte - other) & 255 for byte, other in zip(row, above))
+    return 2 if any(row) and weight(row) >= weight(differences) else 0
+
+
+@pytest.mark.parametrize("words, plot, kind, size", [
+    ([*SMALL, "--dots=150", "--smooth=4"], BLACK, GREY, 1),
+    (["--width=4000", "--height=3000", "--dots=150", "--smooth=4"], read_bytes(os.path.join(EXAMPLES, "figures.plt")), TRUECOLOUR, 3),
+], ids=["grey", "truecolour"])
+def test_filters(program, words, plot, kind, size):
+    """Where a pixel takes whole bytes, each row has the filter that leaves fewer runs."""
+    picture = read_png(drawn(program, ["png", *words], plot))
+    assert picture.type == kind
+    found = picture.pixels[::3] if kind == GREY else picture.pixels
+    wide = picture.columns * size
+    lines = [bytes(wide), *(found[at:at + wide] for at in range(0, len(found), wide))]
+    wanted = bytes(better_filter(row, above) for above, row in zip(lines, lines[1:]))
+    assert picture.filters == wanted and {0, 2} == set(wanted)
+
+
 def test_halves_are_rounded_up(program):
     """A pixel of which two of four parts are black is 128, and not 127; one part of eight is 223.125, 223."""
     half = b"SP1;PW9;IW0,0,4,8;PU0,0;PD64,0;"
