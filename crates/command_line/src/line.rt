@@ -58,11 +58,11 @@ pub struct Line<'m, 'a> {
 /// The values of the matches of `command`'s command.
 ///
 /// Errors, of which the first is given: `Pens` if a picture is asked for and `--pens` is not a valid
-/// list, `Smooth` if `--dots` times `--smooth` is over 1200, `Paper` if `--page` names no paper and not the plot, `Size` if `--page` is given with `--width` or
-/// `--height`, `Profile` if `--profile` is neither `core` nor `full`, `Sheet` if `--sheet` is
-/// given with the profile core, `Fit` if `--fit` is given with `--page plot`, `Margin` if `--margin` is
-/// given without `--fit`, and `Several` if several files are given without `--output`; no other one
-/// after a `parse` that succeeded. `Words` if the matches are of another command.
+/// list, `Smooth` if `--dots` times `--smooth` is over 1200, `Paper` if `--page` names no paper and not the plot, `Size`
+/// if `--page` is given with `--width` or `--height`, `Profile` if `--profile` is neither `core` nor `full`, `Sheet` if
+/// `--sheet` is given with the profile core, `Fit` if `--fit` is given with `--page plot`, `Margin` if `--margin` is given
+/// without `--fit`, and `Several` if several files are given without `--output`; no other one after a `parse` that
+/// succeeded. `Words` if the matches are of another command.
 pub fn settle<'m, 'a>(matches: &'m ArgMatches<'a>) -> Result<Line<'m, 'a>, LineFault>
     ensures line { IfOk result (IsLineOf matches.now) }
     ensures pens { (result ≡ Err LineFault.Pens) ↔ (asks_bad_list matches.now ≡ true) }

@@ -18,6 +18,12 @@ use plot_page::{Dots, Page, PenSet, Stroke};
 use std::alloc::Global;
 use stroke_raster::{Gauge, PaintFault};
 
+/// The most bytes of a band of cells that has more than one row: they fit the processor's second cache.
+pub const CELL_ROOM: u32 = 524_288;
+
+/// The most bytes of a band of bits that has more than one row.
+pub const BIT_ROOM: u32 = 262_144;
+
 /// Paints the strokes of a picture and writes its rows, band by band.
 pub trait Bands<'a>: Sized {
     /// What the rows depend on beside the strokes, the page and the resolution.

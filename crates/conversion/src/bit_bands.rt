@@ -6,7 +6,7 @@ ghost use Rattle.conversion.specs.Pictures.{row_of};
 ghost use Rattle.conversion.specs.Boxes.{boxes_from};
 ghost use Rattle.conversion.specs.Progress.{painting_row, tests_left};
 
-use crate::bands::{Bands, height_within};
+use crate::bands::{BIT_ROOM, Bands, height_within};
 use crate::even_rows::write_rows;
 use crate::writing::Broken;
 use bit_rows::packed_length;
@@ -14,9 +14,6 @@ use devices::Sink;
 use plot_page::{Dots, Page, PenSet, Stroke};
 use std::alloc::Global;
 use stroke_raster::{Gauge, Inker, PaintFault};
-
-/// The most bytes of a band of more than one row, which fit the processor's second cache.
-pub const ROOM: u32 = 262_144;
 
 impl<'a> Bands<'a> for Inker<'a> {
     type Ask = ();
@@ -48,7 +45,7 @@ impl<'a> Bands<'a> for Inker<'a> {
         first_row: u32,
     ) -> Result<Inker<'a>, PaintFault> {
         let size = packed_length(dots.columns(&page) as usize) as u32;
-        let height = height_within(band_rows, size, ROOM);
+        let height = height_within(band_rows, size, BIT_ROOM);
         Inker::new(alloc, strokes, page, dots, pens, height, first_row)
     }
 

@@ -8,7 +8,7 @@ ghost use Rattle.conversion.specs.Pictures.{row_of};
 ghost use Rattle.conversion.specs.Boxes.{boxes_from};
 ghost use Rattle.conversion.specs.Progress.{painting_row, tests_left, WritesCells};
 
-use crate::bands::{Bands, height_within};
+use crate::bands::{Bands, CELL_ROOM, height_within};
 use crate::reading::buffer_of;
 use crate::stroke_inks::StrokeInks;
 use crate::writing::{Broken, whole_before};
@@ -18,9 +18,6 @@ use plot_page::{Dots, Page, PenSet, Stroke};
 use std::alloc::Global;
 use std::marker::Model;
 use stroke_raster::{Band, Gauge, PaintFault, Painter};
-
-// The most bytes of a band of more than one row, which fit the processor's second cache.
-const ROOM: u32 = 524_288;
 
 /// A painter, and what its rows are written with: their form, the inks of the strokes, and a buffer for a row.
 #[derive(Drop)]
@@ -77,7 +74,7 @@ impl<'a> Bands<'a> for CellBands<'a> {
         first_row: u32,
     ) -> Result<CellBands<'a>, PaintFault> {
         let columns = dots.columns(&page);
-        let height = height_within(band_rows, 4 * columns, ROOM);
+        let height = height_within(band_rows, 4 * columns, CELL_ROOM);
         let painter = Painter::new(alloc, strokes, page, dots, pens, height, first_row)?;
         let Ok(buffer) = buffer_of(alloc, row_space(form, columns)) else {
             return Err(PaintFault::Memory);

@@ -48,14 +48,11 @@ pub fn convert<G: Gauge, S: Source, K: Sink>(
     ensures same { G.reaches gauge.new ≡ G.reaches gauge.old }
     ensures untouched { IfErr result (λ fault. is_write fault ≡ false → sink.new ≡ sink.old) }
 {
-    convert_as(alloc, Reading::Core, job, gauge, source, sink)
+    convert_given(alloc, Reading::Core, job, gauge, source, sink)
 }
 
-/// Writes the picture of the plot that the source gives, as `convert` does, read so: in the profile
-/// core, or in the profile full and of one sheet.
-///
-/// Errors: those of `convert`, in the same order.
-pub fn convert_as<G: Gauge, S: Source, K: Sink>(
+/// Writes the picture of the plot that the source gives, as `convert` does, in either profile.
+pub(crate) fn convert_given<G: Gauge, S: Source, K: Sink>(
     alloc: Global,
     reading: Reading,
     job: &Job,
@@ -74,62 +71,27 @@ pub fn convert_as<G: Gauge, S: Source, K: Sink>(
     ensures same { G.reaches gauge.new ≡ G.reaches gauge.old }
     ensures untouched { IfErr result (λ fault. is_write fault ≡ false → sink.new ≡ sink.old) }
 {
-    match convert_on(alloc, reading, PageChoice::Given, job, gauge, source, sink) {
+    let (choice, smoothing) = (PageChoice::Given, Smoothing::NONE);
+    let watcher = &mut Unwatched;
+    match convert_on(alloc, reading, choice, job, smoothing, gauge, source, sink, watcher) {
         Ok(outcome) => Ok(outcome.done),
         Err(fault) => Err(fault),
     }
 }
 
-/// Writes the picture of the plot that the source gives, as `convert_as` does, on the page that is chosen:
-/// that of the job, the page of the size that the plot asks for, or the page around what the job's pens draw
-/// on that of the job.
+/// Writes the picture of the plot that the source gives, as `convert` does, in either profile, on the page that is chosen,
+/// and smoothed. The page is that of the job, the page of the size that the plot asks for, or the page around what the job's
+/// pens draw on that of the job. A plot is drawn again on the page around its drawing; if that is another drawing, the page
+/// of the job is kept.
 ///
-/// A plot is drawn again on the page around its drawing. If that is another drawing, the page of the job
-/// is kept.
+/// Each pixel of a smoothed PPM is the mean of n by n pixels of a picture that is n times finer. Marks, PBM and PCL have no
+/// shades, and are written as without smoothing. The watcher is told after each band of rows how many are written; a picture
+/// without rows has no bands.
 ///
-/// Errors: those of `convert`, in the same order. The plot is refused for the page that it asks for, if that is
-/// chosen and it asks for one, else for that of the job.
-pub fn convert_on<G: Gauge, S: Source, K: Sink>(
-    alloc: Global,
-    reading: Reading,
-    choice: PageChoice,
-    job: &Job,
-    gauge: &mut G,
-    source: &mut S,
-    sink: &mut K,
-) -> Result<Outcome, Fault>
-    requires failing { (S.state source.old).faults < 2 ^ 64 - 1 }
-    requires ending { (S.state source.old).ends < 2 ^ 64 - 1 }
-    requires sinking { (K.state sink.old).faults < 2 ^ 64 - 1 }
-    ensures resolution { (result ≡ Err Fault.Resolution) ↔ (has_resolution job.now ≡ false) }
-    ensures converts { HasConvertedOn (rules_of reading) choice 1 job.now (G.reaches gauge.old)
-        (S.state source.old) (S.state source.new) (K.state sink.old) (K.state sink.new)
-        (G.count gauge.old) (G.count gauge.new) result }
-    ensures end { (S.state source.new).ends ≡ (S.state source.old).ends + 1 → IsAtEnd (S.state source.new).left }
-    ensures same { G.reaches gauge.new ≡ G.reaches gauge.old }
-    ensures untouched { IfErr result (λ fault. is_write fault ≡ false → sink.new ≡ sink.old) }
-{
-    convert_smoothed(
-        alloc,
-        reading,
-        choice,
-        job,
-        Smoothing::NONE,
-        gauge,
-        source,
-        sink,
-        &mut Unwatched,
-    )
-}
-
-/// Writes the picture of the plot that the source gives, as `convert_on` does, smoothed: each pixel of a PPM is the mean of
-/// as many by as many pixels of a picture that is so many times finer. Marks, PBM and PCL have no shades, and are written as
-/// without smoothing. Tells the watcher after each band of rows how many are written. A picture without rows has no bands,
-/// and the watcher is told nothing.
-///
-/// Errors: those of `convert`, in the same order. `Resolution` comes also if the finer picture would have more than 1200 dots
-/// per inch.
-pub fn convert_smoothed<G: Gauge, S: Source, K: Sink, W: Watcher>(
+/// Errors: those of `convert`, in the same order. `Resolution` comes also if the finer picture would have more than 1,200
+/// dots per inch. The plot is refused for the page that it asks for, if that is chosen and it asks for one, else for that of
+/// the job.
+pub fn convert_on<G: Gauge, S: Source, K: Sink, W: Watcher>(
     alloc: Global,
     reading: Reading,
     choice: PageChoice,

@@ -9,7 +9,7 @@ ghost use Rattle.png.specs.Packing.{packed_samples};
 ghost use Rattle.conversion.specs.Palettes.{number_of, numbers_bytes, numbers_row};
 ghost use Rattle.conversion.specs.Progress.{tests_left, WritesRows};
 
-use crate::bands::{Bands, height_within};
+use crate::bands::{Bands, CELL_ROOM, height_within};
 use crate::number_row::NumberRow;
 use crate::writing::{Broken, whole_before};
 use devices::{Sink, put_all};
@@ -18,9 +18,6 @@ use png::Depth;
 use std::alloc::Global;
 use std::marker::Model;
 use stroke_raster::{Band, Gauge, PaintFault, Painter};
-
-// The most bytes of a band of more than one row, which fit the processor's second cache.
-const ROOM: u32 = 524_288;
 
 /// A painter, the number of each stroke's colour, and a row.
 #[derive(Drop)]
@@ -85,7 +82,7 @@ impl<'a> Bands<'a> for NumberBands<'a> {
         first_row: u32,
     ) -> Result<NumberBands<'a>, PaintFault> {
         let columns = dots.columns(&page);
-        let height = height_within(band_rows, 4 * columns, ROOM);
+        let height = height_within(band_rows, 4 * columns, CELL_ROOM);
         let painter = Painter::new(alloc, strokes, page, dots, pens, height, first_row)?;
         let Ok(row) = NumberRow::new(alloc, ask.depth, columns as usize) else {
             return Err(PaintFault::Memory);

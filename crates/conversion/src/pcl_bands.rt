@@ -10,8 +10,7 @@ ghost use Rattle.conversion.specs.Pictures.{row_of};
 ghost use Rattle.conversion.specs.Boxes.{boxes_from};
 ghost use Rattle.conversion.specs.Progress.{painting_row, tests_left, WritesCells};
 
-use crate::bands::{Bands, height_within};
-use crate::bit_bands::ROOM;
+use crate::bands::{BIT_ROOM, Bands, height_within};
 use crate::even_rows::write_rows;
 use crate::writing::Broken;
 use bit_rows::packed_length;
@@ -74,7 +73,7 @@ impl<'a> Bands<'a> for PclBands<'a> {
         first_row: u32,
     ) -> Result<PclBands<'a>, PaintFault> {
         let size = packed_length(dots.columns(&page) as usize) as u32;
-        let height = height_within(band_rows, size, ROOM);
+        let height = height_within(band_rows, size, BIT_ROOM);
         let inker = Inker::new(alloc, strokes, page, dots, pens, height, first_row)?;
         let room = height as usize * (size as usize + LONGEST_COMMAND);
         let Ok(text) = vec![in alloc; 0u8; room] else {

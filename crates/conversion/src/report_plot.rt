@@ -5,7 +5,7 @@ ghost use Rattle.plot_page.specs.declared.stroke.TheConstants.{MOST_STROKES};
 ghost use Rattle.hpgl_text.specs.declared.program.TheConstants.{LONGEST_PLOT};
 ghost use Rattle.devices.specs.Sinks.{Writes};
 ghost use Rattle.conversion.specs.Conversions.{is_write};
-ghost use Rattle.conversion.specs.Reports.{HasReported, HasReportedAs, HasReportedOn, report_on};
+ghost use Rattle.conversion.specs.Reports.{HasReported, HasReportedOn, report_on};
 
 use crate::done::Done;
 use crate::fault::Fault;
@@ -42,37 +42,15 @@ pub fn report<S: Source, K: Sink>(
     ensures end { (S.state source.new).ends ≡ (S.state source.old).ends + 1 → IsAtEnd (S.state source.new).left }
     ensures untouched { IfErr result (λ fault. is_write fault ≡ false → sink.new ≡ sink.old) }
 {
-    report_as(alloc, Reading::Core, page, source, sink)
-}
-
-/// Writes the report on the plot that the source gives, as `report` does, read so: in the profile
-/// core, or in the profile full, with a line for the number of sheets, and the strokes of one sheet.
-///
-/// Errors: those of `report`, in the same order.
-pub fn report_as<S: Source, K: Sink>(
-    alloc: Global,
-    reading: Reading,
-    page: &Page,
-    source: &mut S,
-    sink: &mut K,
-) -> Result<Done, Fault>
-    requires failing { (S.state source.old).faults < 2 ^ 64 - 1 }
-    requires ending { (S.state source.old).ends < 2 ^ 64 - 1 }
-    requires sinking { (K.state sink.old).faults < 2 ^ 64 - 1 }
-    ensures reports { HasReportedAs reading page.now
-        (S.state source.old) (S.state source.new) (K.state sink.old) (K.state sink.new) result }
-    ensures end { (S.state source.new).ends ≡ (S.state source.old).ends + 1 → IsAtEnd (S.state source.new).left }
-    ensures untouched { IfErr result (λ fault. is_write fault ≡ false → sink.new ≡ sink.old) }
-{
-    match report_on(alloc, reading, PageChoice::Given, page, source, sink) {
+    match report_on(alloc, Reading::Core, PageChoice::Given, page, source, sink) {
         Ok(outcome) => Ok(outcome.done),
         Err(fault) => Err(fault),
     }
 }
 
-/// Writes the report on the plot that the source gives, as `report_as` does, on the page that is chosen:
-/// the page that is given, the page of the size that the plot asks for, or the page around what all pens draw
-/// on the page that is given.
+/// Writes the report on the plot that the source gives, as `report` does, in either profile, on the page that is chosen: the
+/// page that is given, the page of the size that the plot asks for, or the page around what all pens draw on the page that is
+/// given. In the profile full it has a line for the number of sheets, and the strokes of the sheet that is read.
 ///
 /// Errors: those of `report`, in the same order. The plot is refused for the page that it asks for, if that is
 /// chosen and it asks for one, else for the page that is given.

@@ -16,7 +16,7 @@ ghost use Rattle.conversion.specs.Pictures.{finer, smoothed_pixels};
 ghost use Rattle.conversion.specs.PixelRows.{layout_bytes};
 ghost use Rattle.conversion.specs.Progress.{CanSmooth, row_pixels, smoothed_text, tests_left, WritesRows};
 
-use crate::bands::{Bands, height_within};
+use crate::bands::{Bands, CELL_ROOM, height_within};
 use crate::smoother::Smoother;
 use crate::stroke_inks::StrokeInks;
 use crate::writing::{Broken, put_row};
@@ -26,9 +26,6 @@ use png::Layout;
 use std::alloc::Global;
 use std::marker::Model;
 use stroke_raster::{Band, Gauge, PaintFault, Painter};
-
-// The most bytes of a band of more than one row, which fit the processor's second cache.
-const ROOM: u32 = 524_288;
 
 /// A painter of a finer picture, what makes smoothed rows of its bands, and how many rows there are, are made, and a band
 /// has at most.
@@ -172,7 +169,7 @@ impl<'a> SmoothBands<'a> {
         let fine = Dots {
             resolution: times * dots.per_inch(),
         };
-        let height = height_within(band_rows, 4 * times * fine.columns(&page), ROOM)
+        let height = height_within(band_rows, 4 * times * fine.columns(&page), CELL_ROOM)
             .min(4096 / times)
             .max(1);
         let first = (times * first_row).min(fine.rows(&page));

@@ -5,7 +5,7 @@ ghost use Rattle.conversion.specs.Conversions.{is_write};
 ghost use Rattle.plotraster.specs.Runs.{HasRun, task_has_resolution, exit_status_of};
 
 use command_line::Task;
-use conversion::{Fault, Outcome, Watcher, convert_png, convert_smoothed, report_on, status};
+use conversion::{Fault, Outcome, Watcher, convert_on, convert_png, report_on, status};
 use devices::{Sink, Source};
 use picture_job::{PageChoice, Reading};
 use std::alloc::Global;
@@ -36,7 +36,7 @@ pub fn run_task<S: Source, K: Sink, W: Watcher>(
     let mut sink = sink;
     match task {
         Task::Picture { job, smoothing } => {
-            let outcome = convert_smoothed(
+            let outcome = convert_on(
                 alloc, reading, choice, job, *smoothing, &mut gauge, source, &mut sink, watcher,
             );
             (sink, outcome)

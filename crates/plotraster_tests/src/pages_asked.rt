@@ -3,7 +3,7 @@ use crate::cases::text_of;
 use crate::pages::placed_on;
 use plotraster::{
     Dots, Exact, Fault, Form, Job, OverRead, OverWrite, Page, PageChoice, PenSet, PlotFault,
-    Reading, convert_on, report_on,
+    Reading, Smoothing, Unwatched, convert_on, report_on,
 };
 use std::alloc::Global;
 use std::test::Fail;
@@ -94,9 +94,11 @@ fn drawn(alloc: Global, choice: PageChoice, plot: &[u8]) -> Result<String, Fail>
         Reading::Core,
         choice,
         &job,
+        Smoothing::NONE,
         &mut Exact::new(),
         &mut OverRead::new(plot),
         &mut sink,
+        &mut Unwatched,
     )?;
     let written = sink.into_inner();
     let marks = text_of(written.as_slice())?;

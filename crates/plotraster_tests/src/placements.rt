@@ -1,7 +1,10 @@
 //! Plots that are drawn on the page around their drawing.
 use crate::cases::text_of;
 use crate::pages::{eight_by_eight, placed_on};
-use plotraster::{Exact, Form, Job, OverRead, OverWrite, PageChoice, PenSet, Reading, convert_on};
+use plotraster::{
+    Exact, Form, Job, OverRead, OverWrite, PageChoice, PenSet, Reading, Smoothing, Unwatched,
+    convert_on,
+};
 use std::alloc::Global;
 use std::test::Fail;
 
@@ -99,9 +102,11 @@ fn drawn(alloc: Global, pens: PenSet, plot: &[u8]) -> Result<String, Fail> {
         Reading::Core,
         choice,
         &job,
+        Smoothing::NONE,
         &mut Exact::new(),
         &mut OverRead::new(plot),
         &mut sink,
+        &mut Unwatched,
     )?;
     let written = sink.into_inner();
     let marks = text_of(written.as_slice())?;

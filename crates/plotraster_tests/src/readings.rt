@@ -2,7 +2,7 @@
 use crate::cases::text_of;
 use crate::pages::eight_by_eight;
 use crate::runs::drawn_as;
-use plotraster::{Form, OverRead, OverWrite, Page, Reading, report_as};
+use plotraster::{Form, OverRead, OverWrite, Page, PageChoice, Reading, report_on};
 use std::alloc::Global;
 use std::process::Abort;
 use std::test::Fail;
@@ -56,10 +56,11 @@ fn a_sheet_or_all(rt: HostRuntime) -> Result<(), Fail> {
     Ok(())
 }
 
-// What `report_as` answers and writes.
-fn reported_as(alloc: Global, reading: Reading, page: &Page, plot: &[u8]) -> Result<String, Fail> {
+// What `report_on` answers and writes on the page that is given.
+fn reported(alloc: Global, reading: Reading, page: &Page, plot: &[u8]) -> Result<String, Fail> {
     let mut sink = OverWrite::new(Vec::new(alloc));
-    let done = report_as(alloc, reading, page, &mut OverRead::new(plot), &mut sink)?;
+    let mut source = OverRead::new(plot);
+    let done = report_on(alloc, reading, PageChoice::Given, page, &mut source, &mut sink)?.done;
     let written = sink.into_inner();
     let report = text_of(written.as_slice())?;
     Ok(format!(in alloc; "{done:?}\n{report}")?)
@@ -68,7 +69,7 @@ fn reported_as(alloc: Global, reading: Reading, page: &Page, plot: &[u8]) -> Res
 #[test]
 fn a_report_on_a_sheet(rt: HostRuntime) -> Result<(), Fail> {
     let second = Reading::Full { sheet: 2 };
-    let report = reported_as(rt.alloc(), second, &eight_by_eight(Form::Pbm)?.page, SHEETS)?;
+    let report = reported(rt.alloc(), second, &eight_by_eight(Form::Pbm)?.page, SHEETS)?;
     assert_eq!(rt;
         report.as_str(),
         "Done { rows: 0, bytes: 80, strokes: 1, notes: 0 }\n\

@@ -3,8 +3,7 @@ use crate::pages::{CROSSING, eight_by_eight, job_at};
 use crate::runs::drawn;
 use crate::streams::Writer;
 use plotraster::{
-    Exact, Form, Job, OverRead, OverWrite, PageChoice, Reading, Smoothing, Watcher,
-    convert_smoothed,
+    Exact, Form, Job, OverRead, OverWrite, PageChoice, Reading, Smoothing, Watcher, convert_on,
 };
 use std::alloc::Global;
 use std::process::Abort;
@@ -36,7 +35,7 @@ fn is_told(
     let mut diary = Diary {
         told: String::new(alloc),
     };
-    let answer = convert_smoothed(
+    let answer = convert_on(
         alloc,
         Reading::Core,
         PageChoice::Given,

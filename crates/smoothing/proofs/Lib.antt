@@ -1,2 +1,3 @@
+mod Examples
 pub mod Totals
 pub mod Rows

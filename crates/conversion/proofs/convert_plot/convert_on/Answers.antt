@@ -10,7 +10,7 @@ use Rattle.conversion.specs.declared.outcome.Outcome.{Outcome}
 use Rattle.devices.specs.Sinks.{SinkState}
 use Rattle.conversion.proofs.Choices.{given_page, not_drawn_on, not_painted_on}
 use Rattle.conversion.proofs.Refusals.{job_faults, passed_on}
-use Rattle.conversion.proofs.convert_plot.convert_smoothed.Goals as goal
+use Rattle.conversion.proofs.convert_plot.convert_on.Goals as goal
 
 pub returns-clause-converts : goal.returns-clause-converts
 returns-clause-converts g c =

@@ -1,6 +1,6 @@
 use Rattle.conversion.specs.Rules.{rules_of}
 use Rattle.conversion.proofs.Choices.{converted_on_it}
-use Rattle.conversion.proofs.convert_plot.convert_as.Goals as goal
+use Rattle.conversion.proofs.convert_plot.convert_given.Goals as goal
 
 pub returns-in-Ok-clause-converts : goal.returns-in-Ok-clause-converts
 returns-in-Ok-clause-converts g c =
