@@ -3,7 +3,7 @@
 # make demo       builds it and runs it on the plots of examples/
 # make test       every test of the built command
 # make mutants    a test on each mutant, with nothing proved
-# make prove      every proof and the tests of the crates (rt ci), and the mutants of mutants/gate.txt
+# make prove      every proof and the tests of the crates (rt ci), and the mutants that are marked for the gate
 # make check      all of these, some side by side: what fails early comes first
 # make audit      hands every mutant to the prover, for a release or after a change of a contract
 # make fuzz       compares the built command with tests/reference on new random plots, for SECONDS=600

@@ -11,7 +11,7 @@ import pytest
 from shared import TOP, need
 
 sys.path.insert(0, os.path.join(TOP, "tools"))
-from edits import CRATES, all_edits, changes, dependencies, function_of  # noqa: E402
+from edits import CRATES, all_mutants  # noqa: E402
 
 SECONDS = 60
 
@@ -78,16 +78,26 @@ def sources(crate):
                 yield os.path.relpath(path, os.path.join(CRATES, crate)), text.read()
 
 
+def faults_of(name, mutant):
+    """What a mutant says of its crate, and of the crate with its test, that is not so."""
+    texts = dict(sources(name.split("/")[0]))
+    for file, old, _ in mutant.edit + mutant.control:
+        if texts[file].count(old) != 1:
+            yield f"{name}: {file}: {old}"
+    if mutant.function and not any(re.search(rf"\bfn {mutant.function.split('::')[-1]}\b", it) for it in texts.values()):
+        yield f"{name}: fn {mutant.function}"
+    tester, _, test = mutant.test.partition("::")
+    if test and not any(re.search(rf"\bfn {test.split('::')[-1]}\(", it) for _, it in sources(tester)):
+        yield f"{name}: {mutant.test}"
+
+
 def test_mutants():
-    """Each mutant changes texts that stand in its files once, and the function that it names is one of its crate."""
-    edits, wrong = all_edits(dependencies()), []
-    assert len(edits) > 400
-    for name, path in edits.items():
-        texts = dict(sources(name.split("/")[0]))
-        wrong += [f"{name}: {old}" for file, old, _ in changes(path) if texts[file].count(old) != 1]
-        function = function_of(path)
-        if function and not any(re.search(rf"\bfn {function.split('::')[-1]}\b", it) for it in texts.values()):
-            wrong.append(f"{name}: fn {function}")
+    """Each mutant changes texts that stand in its files once, and names a function and a test that are there. PROOF.md
+    says how many there are."""
+    mutants = all_mutants()
+    with open(os.path.join(TOP, "docs", "PROOF.md"), encoding="utf-8") as proof:
+        assert f"There are {len(mutants)} mutants" in proof.read()
+    wrong = [fault for name, mutant in mutants.items() for fault in faults_of(name, mutant)]
     assert not wrong, wrong
 
 
