@@ -10,9 +10,9 @@ ghost use Rattle.conversion.specs.Palettes.{number_of, numbers_bytes, numbers_ro
 ghost use Rattle.conversion.specs.Progress.{tests_left, WritesRows};
 
 use crate::bands::{Bands, CELL_ROOM, height_within};
-use crate::number_row::NumberRow;
-use crate::writing::{Broken, whole_before};
-use devices::{Sink, put_all};
+use crate::sample_row::SampleRow;
+use crate::writing::{Broken, put_row};
+use devices::Sink;
 use plot_page::{Dots, Page, PenSet, Stroke};
 use png::Depth;
 use std::alloc::Global;
@@ -24,7 +24,7 @@ use stroke_raster::{Band, Gauge, PaintFault, Painter};
 pub struct NumberBands<'a> {
     painter: Painter<'a>,
     numbers: &'a [u8],
-    row: NumberRow,
+    row: SampleRow,
 }
 
 /// What rows of numbers are asked by: how many bits a number takes, and the number of each stroke's colour.
@@ -84,7 +84,7 @@ impl<'a> Bands<'a> for NumberBands<'a> {
         let columns = dots.columns(&page);
         let height = height_within(band_rows, 4 * columns, CELL_ROOM);
         let painter = Painter::new(alloc, strokes, page, dots, pens, height, first_row)?;
-        let Ok(row) = NumberRow::new(alloc, ask.depth, columns as usize) else {
+        let Ok(row) = SampleRow::new(alloc, ask.depth, columns as usize) else {
             return Err(PaintFault::Memory);
         };
         Ok(NumberBands {
@@ -124,7 +124,7 @@ fn write_numbers<K: Sink>(
     band: &Band<'_>,
     done: u64,
     numbers: &[u8],
-    bytes: &mut NumberRow,
+    bytes: &mut SampleRow,
     sink: &mut K,
 ) -> Result<u64, Broken>
     requires sinking { (K.state sink.old).faults < 2 ^ 64 - 1 }
@@ -149,16 +149,7 @@ fn write_numbers<K: Sink>(
         let row = band.first() + i;
         let span = band.span(i);
         bytes.pack(band.row(i), span.low as usize, span.end as usize, numbers);
-        match put_all(sink, bytes.bytes.as_slice()) {
-            Ok(()) => written += bytes.bytes.len() as u64,
-            Err(fault) => {
-                return Err(Broken {
-                    row,
-                    whole: whole_before(row, first, written),
-                    bytes: written + fault.bytes(),
-                });
-            }
-        }
+        written = put_row(first, row, written, bytes.bytes.as_slice(), sink)?;
     }
     Ok(written)
 }

@@ -9,7 +9,7 @@ ghost use Rattle.png.specs.Headers.{HasColours};
 ghost use Rattle.conversion.specs.Inks.{inks_held};
 ghost use Rattle.conversion.specs.PixelRows.{layout_bytes, sample_count, sample_depth};
 
-use crate::number_row::NumberRow;
+use crate::sample_row::SampleRow;
 use crate::stroke_inks::StrokeInks;
 use png::{Depth, Layout};
 use smoothing::SmoothRow;
@@ -22,7 +22,7 @@ pub struct Smoother<'a> {
     pub(crate) inks: StrokeInks<'a>,
     pub(crate) pixels: SmoothRow,
     pub(crate) layout: Layout<'a>,
-    pub(crate) row: NumberRow,
+    pub(crate) row: SampleRow,
     ghost depth: { row.depth ≡ sample_depth layout },
     ghost samples: { row.columns ≡ sample_count layout (width_of pixels) },
 }
@@ -47,7 +47,7 @@ impl<'a> Smoother<'a> {
         ensures width { IfOk result (λ s. width_of s.pixels ≡ columns) }
     {
         let pixels = SmoothRow::new(alloc, times, columns)?;
-        let row = NumberRow::new(alloc, depth_of(layout), count_of(layout, columns))?;
+        let row = SampleRow::new(alloc, depth_of(layout), count_of(layout, columns))?;
         Ok(Smoother {
             inks,
             pixels,
