@@ -71,9 +71,17 @@ pub(crate) fn convert_given<G: Gauge, S: Source, K: Sink>(
     ensures same { G.reaches gauge.new ≡ G.reaches gauge.old }
     ensures untouched { IfErr result (λ fault. is_write fault ≡ false → sink.new ≡ sink.old) }
 {
-    let (choice, smoothing) = (PageChoice::Given, Smoothing::NONE);
-    let watcher = &mut Unwatched;
-    match convert_on(alloc, reading, choice, job, smoothing, gauge, source, sink, watcher) {
+    match convert_on(
+        alloc,
+        reading,
+        PageChoice::Given,
+        job,
+        Smoothing::NONE,
+        gauge,
+        source,
+        sink,
+        &mut Unwatched,
+    ) {
         Ok(outcome) => Ok(outcome.done),
         Err(fault) => Err(fault),
     }
