@@ -1,4 +1,4 @@
-use Rattle.std.proofs.Common.{◌≡◌, ◌<◌, ◌≤◌, ◌+◌, ℕ, List, [], length, map, get_or, sym, ap, subst, ◌∙◌, arith, Ok, Err, Result}
+use Rattle.std.proofs.Common.{◌≡◌, ◌<◌, ◌+◌, ℕ, [], length, map, get_or, sym, ap, subst, ◌∙◌, arith, Ok, Err, Result}
 use Rattle.stroke_raster.specs.Bands.{first_of, rows_of_band}
 use Rattle.png.specs.Packing.{packed_samples}
 use Rattle.conversion.specs.declared.writing.Broken.{Broken}
