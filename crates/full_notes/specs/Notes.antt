@@ -69,7 +69,6 @@ bad_without None = Some Bad
 -- not; numbers after those of whole curves draw nothing, and are wrong
 abbrev pub request_noted : FurtherRequest → List ℤ → Option NoteKind
 request_noted request.Wrong ns = Some Bad
-request_noted request.Skip ns = Some Skipped
 request_noted (request.Fill Pattern) ns = Some Skipped
 request_noted (request.Curves relative) ns = if are_curves ns then None else Some Bad
 request_noted _ ns = None

@@ -56,9 +56,7 @@ fn noted_request(request: &FurtherRequest, numbers: &Numbers<'_>) -> Option<Note
 {
     match request {
         FurtherRequest::Wrong => Some(NoteKind::Bad),
-        FurtherRequest::Skip | FurtherRequest::Fill(FillSetting::Pattern) => {
-            Some(NoteKind::Skipped)
-        }
+        FurtherRequest::Fill(FillSetting::Pattern) => Some(NoteKind::Skipped),
         FurtherRequest::Curves(_) if !are_curves(numbers) => Some(NoteKind::Bad),
         _ => None,
     }

@@ -262,7 +262,6 @@ of_request c request.Print ns = refl
 of_request c request.EndSheet ns = refl
 of_request c request.Begin ns = refl
 of_request c request.Wrong ns = refl
-of_request c request.Skip ns = refl
 
 of_body : (c : Context) (b : BodyShape) → contexts_by c (full_steps b) ≡ after_body c b
 of_body c (Params i ns) = of_params c i ns

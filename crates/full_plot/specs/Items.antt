@@ -46,7 +46,6 @@ request_steps request.Print ns = Print ∷ []
 request_steps request.EndSheet ns = EndSheet ∷ []
 request_steps request.Begin ns = Core (Set Start) ∷ (Restart ∷ [])
 request_steps request.Wrong ns = []
-request_steps request.Skip ns = []
 
 abbrev pub further_steps : Further → List ℤ → List FullStep
 further_steps f ns = request_steps (further_request f ns) ns

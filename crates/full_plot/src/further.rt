@@ -104,7 +104,7 @@ impl FullPlotter {
                 Ok(())
             }
             FurtherRequest::EndSheet => self.end_sheet(),
-            FurtherRequest::Wrong | FurtherRequest::Skip => Ok(()),
+            FurtherRequest::Wrong => Ok(()),
         }
     }
 

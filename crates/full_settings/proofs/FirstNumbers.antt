@@ -1,5 +1,6 @@
 -- Further instructions other than UL look at their first seven numbers only.
-use Rattle.std.proofs.Common.{◌≡◌, ◌∙◌, ◌≤◌, nat_le, inl, inr, length, length-take, take_all, take-take, ap, refl, sym, arith, ℕ, min, false, true≢false, ℤ, List, [], ◌∷◌, take}
+use Rattle.std.proofs.Common.{◌≡◌, ◌∙◌, ◌≤◌, nat_le, inl, inr, length, length-take, take_all, take-take, ap, refl, sym, arith, ℕ, min, ℤ, List, [], ◌∷◌, take}
+use Rattle.std.specs.Prelude.{if◌then◌else◌}
 use Rattle.std.proofs.lemmas.Bool.{cases_Bool}
 use Rattle.std.proofs.lemmas.Bool.Decides.{nat_tests}
 use Rattle.hpgl_text.specs.declared.further.Further.{Further}
@@ -47,33 +48,32 @@ first_six f h (a ∷ (b ∷ (c ∷ (d ∷ [])))) = refl
 first_six f h (a ∷ (b ∷ (c ∷ (d ∷ (e ∷ []))))) = refl
 first_six f h (a ∷ (b ∷ (c ∷ (d ∷ (e ∷ (g ∷ ns)))))) = h a b c d e g ns
 
-pub same_request : (f : Further) (ns : List ℤ) → has_gaps f ≡ false → further_request f (take 7 ns) ≡ further_request f ns
-same_request of.UserLineType ns h = absurd (true≢false h)
-same_request of.LineType ns h = first_three (further_request of.LineType) (λ _ _ _ _. refl) ns
-same_request of.WidthUnit ns h = first_one (further_request of.WidthUnit) (λ _ _. refl) ns
-same_request of.PenThickness ns h = first_one (further_request of.PenThickness) (λ _ _. refl) ns
-same_request of.TickLength ns h = first_two (further_request of.TickLength) (λ _ _ _. refl) ns
-same_request of.RelativePoints ns h = first_four (further_request of.RelativePoints) (λ _ _ _ _ _. refl) ns
-same_request of.ColourRange ns h = first_six (further_request of.ColourRange) (λ _ _ _ _ _ _ _. refl) ns
-same_request of.CharacterPlot ns h = first_two (further_request of.CharacterPlot) (λ _ _ _. refl) ns
-same_request of.RelativeSize ns h = first_two (further_request of.RelativeSize) (λ _ _ _. refl) ns
-same_request of.Slant ns h = first_one (further_request of.Slant) (λ _ _. refl) ns
-same_request of.RelativeDirection ns h = first_two (further_request of.RelativeDirection) (λ _ _ _. refl) ns
-same_request of.TextPath ns h = first_two (further_request of.TextPath) (λ _ _ _. refl) ns
-same_request of.LabelOrigin ns h = first_one (further_request of.LabelOrigin) (λ _ _. refl) ns
-same_request of.ExtraSpace ns h = first_two (further_request of.ExtraSpace) (λ _ _ _. refl) ns
-same_request of.ArcAbsoluteThreePoint ns h = first_five (further_request of.ArcAbsoluteThreePoint) (λ _ _ _ _ _ _. refl) ns
-same_request of.ArcRelativeThreePoint ns h = first_five (further_request of.ArcRelativeThreePoint) (λ _ _ _ _ _ _. refl) ns
-same_request of.PolygonMode ns h = first_one (further_request of.PolygonMode) (λ _ _. refl) ns
-same_request of.FillPolygon ns h = first_one (further_request of.FillPolygon) (λ _ _. refl) ns
-same_request of.FillType ns h = first_three (further_request of.FillType) (λ _ _ _ _. refl) ns
-same_request of.AnchorCorner ns h = first_two (further_request of.AnchorCorner) (λ _ _ _. refl) ns
-same_request of.FillAbsolute ns h = first_two (further_request of.FillAbsolute) (λ _ _ _. refl) ns
-same_request of.FillRelative ns h = first_two (further_request of.FillRelative) (λ _ _ _. refl) ns
-same_request of.EdgeWedge ns h = first_four (further_request of.EdgeWedge) (λ _ _ _ _ _. refl) ns
-same_request of.FillWedge ns h = first_four (further_request of.FillWedge) (λ _ _ _ _ _. refl) ns
-same_request of.ChordTolerance ns h = first_one (further_request of.ChordTolerance) (λ _ _. refl) ns
-same_request f ns h = refl
+pub same_request : (f : Further) (ns : List ℤ) → further_request f (if has_gaps f then ns else take 7 ns) ≡ further_request f ns
+same_request of.LineType ns = first_three (further_request of.LineType) (λ _ _ _ _. refl) ns
+same_request of.WidthUnit ns = first_one (further_request of.WidthUnit) (λ _ _. refl) ns
+same_request of.PenThickness ns = first_one (further_request of.PenThickness) (λ _ _. refl) ns
+same_request of.TickLength ns = first_two (further_request of.TickLength) (λ _ _ _. refl) ns
+same_request of.RelativePoints ns = first_four (further_request of.RelativePoints) (λ _ _ _ _ _. refl) ns
+same_request of.ColourRange ns = first_six (further_request of.ColourRange) (λ _ _ _ _ _ _ _. refl) ns
+same_request of.CharacterPlot ns = first_two (further_request of.CharacterPlot) (λ _ _ _. refl) ns
+same_request of.RelativeSize ns = first_two (further_request of.RelativeSize) (λ _ _ _. refl) ns
+same_request of.Slant ns = first_one (further_request of.Slant) (λ _ _. refl) ns
+same_request of.RelativeDirection ns = first_two (further_request of.RelativeDirection) (λ _ _ _. refl) ns
+same_request of.TextPath ns = first_two (further_request of.TextPath) (λ _ _ _. refl) ns
+same_request of.LabelOrigin ns = first_one (further_request of.LabelOrigin) (λ _ _. refl) ns
+same_request of.ExtraSpace ns = first_two (further_request of.ExtraSpace) (λ _ _ _. refl) ns
+same_request of.ArcAbsoluteThreePoint ns = first_five (further_request of.ArcAbsoluteThreePoint) (λ _ _ _ _ _ _. refl) ns
+same_request of.ArcRelativeThreePoint ns = first_five (further_request of.ArcRelativeThreePoint) (λ _ _ _ _ _ _. refl) ns
+same_request of.PolygonMode ns = first_one (further_request of.PolygonMode) (λ _ _. refl) ns
+same_request of.FillPolygon ns = first_one (further_request of.FillPolygon) (λ _ _. refl) ns
+same_request of.FillType ns = first_three (further_request of.FillType) (λ _ _ _ _. refl) ns
+same_request of.AnchorCorner ns = first_two (further_request of.AnchorCorner) (λ _ _ _. refl) ns
+same_request of.FillAbsolute ns = first_two (further_request of.FillAbsolute) (λ _ _ _. refl) ns
+same_request of.FillRelative ns = first_two (further_request of.FillRelative) (λ _ _ _. refl) ns
+same_request of.EdgeWedge ns = first_four (further_request of.EdgeWedge) (λ _ _ _ _ _. refl) ns
+same_request of.FillWedge ns = first_four (further_request of.FillWedge) (λ _ _ _ _ _. refl) ns
+same_request of.ChordTolerance ns = first_one (further_request of.ChordTolerance) (λ _ _. refl) ns
+same_request f ns = refl
 
 -- the first of the leading numbers are the first of all
 pub first_of_leading : (count most : ℕ) (list ns : List ℤ) → most ≤ 7 → take count list ≡ take 7 ns → take (min count most) list ≡ take most ns

@@ -23,7 +23,7 @@ use Rattle.full_settings.specs.declared.requests.FurtherRequest.TheVariants.{Col
 use Rattle.full_settings.specs.declared.requests.FurtherRequest.TheVariants.{EndSheet, Polygon, EdgePolygon}
 use Rattle.full_settings.specs.declared.requests.FurtherRequest.TheVariants.{FillPolygon, Fill, Anchor, Rectangle}
 use Rattle.full_settings.specs.declared.requests.FurtherRequest.TheVariants.{EdgeWedge, FillWedge, Chords, Begin}
-use Rattle.full_settings.specs.declared.requests.FurtherRequest.TheVariants.{Wrong, Skip}
+use Rattle.full_settings.specs.declared.requests.FurtherRequest.TheVariants.{Wrong}
 
 -- what numbers ask for, or that they are wrong
 abbrev pub request_by : {A : Type 0} → (A → FurtherRequest) → Option A → FurtherRequest
@@ -34,49 +34,40 @@ request_by request None = Wrong
 abbrev pub right_or_wrong : Option FurtherRequest → FurtherRequest
 right_or_wrong request = request_by (λ (r : FurtherRequest). r) request
 
--- instructions that set how letters are written; those that are not drawn are skipped
-abbrev pub letter_request : further.Further → List ℤ → FurtherRequest
-letter_request of.RelativeSize ns = request_by Letter (relative_size ns)
-letter_request of.Slant ns = request_by Letter (slant ns)
-letter_request of.RelativeDirection ns = request_by Letter (relative_direction ns)
-letter_request of.TextPath ns = request_by Letter (text_path ns)
-letter_request of.LabelOrigin ns = request_by Letter (origin ns)
-letter_request of.ExtraSpace ns = request_by Letter (space ns)
-letter_request _ ns = Skip
-
--- instructions of polygons, and those of labels
-abbrev pub polygon_request : further.Further → List ℤ → FurtherRequest
-polygon_request of.PolygonMode ns = request_by Polygon (polygon_step ns)
-polygon_request of.EdgePolygon ns = EdgePolygon
-polygon_request of.FillPolygon ns = request_by FillPolygon (by_winding ns)
-polygon_request of.FillType ns = request_by Fill (fill_type ns)
-polygon_request of.AnchorCorner ns = request_by Anchor (anchor ns)
-polygon_request of.FillAbsolute ns = request_by (Rectangle false) (corner ns)
-polygon_request of.FillRelative ns = request_by (Rectangle true) (corner ns)
-polygon_request of.EdgeWedge ns = request_by EdgeWedge (wedge ns)
-polygon_request of.FillWedge ns = request_by FillWedge (wedge ns)
-polygon_request of.ChordTolerance ns = request_by Chords (usual_chords ns)
-polygon_request f ns = letter_request f ns
-
 abbrev pub further_request : further.Further → List ℤ → FurtherRequest
 further_request of.LineType ns = request_by Line (line_type ns)
 further_request of.UserLineType ns = request_by Line (user_line_type ns)
 further_request of.WidthUnit ns = request_by Width (width_unit ns)
 further_request of.PenThickness ns = request_by Width (thickness ns)
-further_request of.TickLength ns = request_by Ticks (tick_length ns)
-further_request of.RelativePoints ns = request_by Points (relative_points ns)
-further_request of.ColourRange ns = request_by Colours (ranges_of ns)
+further_request of.RelativeSize ns = request_by Letter (relative_size ns)
+further_request of.Slant ns = request_by Letter (slant ns)
+further_request of.RelativeDirection ns = request_by Letter (relative_direction ns)
+further_request of.TextPath ns = request_by Letter (text_path ns)
+further_request of.LabelOrigin ns = request_by Letter (origin ns)
+further_request of.ExtraSpace ns = request_by Letter (space ns)
 further_request of.CharacterPlot ns = request_by Move (character_move ns)
+further_request of.TickLength ns = request_by Ticks (tick_length ns)
 further_request of.XTick ns = Tick true
 further_request of.YTick ns = Tick false
-further_request of.PrintBuffer ns = Print
-further_request of.EndSheet ns = EndSheet
-further_request of.BeginPlot ns = Begin
+further_request of.PolygonMode ns = request_by Polygon (polygon_step ns)
+further_request of.EdgePolygon ns = EdgePolygon
+further_request of.FillPolygon ns = request_by FillPolygon (by_winding ns)
+further_request of.FillType ns = request_by Fill (fill_type ns)
+further_request of.AnchorCorner ns = request_by Anchor (anchor ns)
+further_request of.FillAbsolute ns = request_by (Rectangle false) (corner ns)
+further_request of.FillRelative ns = request_by (Rectangle true) (corner ns)
+further_request of.EdgeWedge ns = request_by EdgeWedge (wedge ns)
+further_request of.FillWedge ns = request_by FillWedge (wedge ns)
 further_request of.ArcAbsoluteThreePoint ns = request_by (Arc false) (arc_points ns)
 further_request of.ArcRelativeThreePoint ns = request_by (Arc true) (arc_points ns)
 further_request of.BezierAbsolute ns = Curves false
 further_request of.BezierRelative ns = Curves true
-further_request f ns = polygon_request f ns
+further_request of.ChordTolerance ns = request_by Chords (usual_chords ns)
+further_request of.RelativePoints ns = request_by Points (relative_points ns)
+further_request of.ColourRange ns = request_by Colours (ranges_of ns)
+further_request of.EndSheet ns = EndSheet
+further_request of.BeginPlot ns = Begin
+further_request of.PrintBuffer ns = Print
 
 -- UL has up to 21 numbers, and no other instruction more than seven
 abbrev pub has_gaps : further.Further → Bool

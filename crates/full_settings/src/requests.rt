@@ -1,5 +1,5 @@
 //! What a further instruction asks for by its numbers: the one table that says it.
-ghost use Rattle.std.specs.Prelude.{◌≡◌, ◌≤◌, take, false, IfSome};
+ghost use Rattle.std.specs.Prelude.{◌≡◌, ◌≤◌, take, false, IfSome, if◌then◌else◌};
 ghost use Rattle.full_settings.specs.FurtherRequests as requests;
 ghost use Rattle.full_settings.specs.FurtherRequests.{IsFurtherRequest, has_gaps, right_or_wrong};
 ghost use Rattle.full_settings.specs.PolygonParameters.{without_chord};
@@ -8,13 +8,18 @@ use crate::character_moves::{CharacterMove, character_move};
 use crate::colour_parameters::colour_ranges;
 use crate::colour_range::ColourRanges;
 use crate::curve_parameters::arc_points;
+use crate::fill_parameters::fill_type_setting;
 use crate::fill_setting::FillSetting;
+use crate::letter_parameters::{
+    origin_setting, path_setting, relative_direction_setting, relative_size_setting, slant_setting,
+    space_setting,
+};
 use crate::letter_setting::LetterSetting;
 use crate::line_parameters::{line_type_setting, user_line_setting};
 use crate::line_setting::LineSetting;
 use crate::page_points::{RelativePoints, relative_points};
 use crate::points::ArcPoints;
-use crate::polygon_requests::request_of_polygons;
+use crate::polygon_parameters::{anchor, choice, fill_corner, polygon_step, wedge};
 use crate::polygon_setting::{Anchor, PolygonStep, Wedge};
 use crate::tick_length::TickLength;
 use crate::tick_parameters::tick_setting;
@@ -72,8 +77,6 @@ pub enum FurtherRequest {
     Begin,
     /// Nothing, since the numbers are wrong.
     Wrong,
-    /// Nothing, since the instruction is not drawn.
-    Skip,
 }
 
 /// What a further instruction asks for by its numbers. Numbers after the last that it has are ignored.
@@ -81,16 +84,8 @@ pub fn further_request(further: Further, numbers: &Numbers<'_>) -> FurtherReques
     ensures value { result ≡ requests.further_request further numbers.now }
     ensures sound { IsFurtherRequest result }
 {
-    match further {
-        Further::UserLineType => match user_line_setting(numbers) {
-            Some(setting) => FurtherRequest::Line(setting),
-            None => FurtherRequest::Wrong,
-        },
-        _ => {
-            let (list, count) = numbers.leading();
-            request_by_first(further, &list[..count])
-        }
-    }
+    let (list, count) = numbers.leading();
+    request_by_first(further, numbers, &list[..count])
 }
 
 /// The same after CT 1, by which chords of arcs and wedges are not read.
@@ -115,44 +110,65 @@ fn request_by_few(further: Further, numbers: &Numbers<'_>, most: usize) -> Furth
     ensures sound { IsFurtherRequest result }
 {
     let (list, count) = numbers.leading();
-    request_by_first(further, &list[..count.min(most)])
+    request_by_first(further, numbers, &list[..count.min(most)])
 }
 
-// What an instruction other than UL asks for by its first numbers.
-fn request_by_first(further: Further, numbers: &[Number]) -> FurtherRequest
-    requires { has_gaps further ≡ false }
-    ensures value { result ≡ requests.further_request further numbers.now }
+// What an instruction asks for by its first numbers, or, if it is UL, by all.
+fn request_by_first(further: Further, numbers: &Numbers<'_>, first: &[Number]) -> FurtherRequest
+    ensures value { result ≡ requests.further_request further (if has_gaps further then numbers.now else first.now) }
     ensures sound { IsFurtherRequest result }
 {
-    match right_request(further, numbers) {
+    match right_request(further, numbers, first) {
         Some(request) => request,
         None => FurtherRequest::Wrong,
     }
 }
 
 // The same, or `None` if the numbers are wrong.
-fn right_request(further: Further, numbers: &[Number]) -> Option<FurtherRequest>
-    requires { has_gaps further ≡ false }
-    ensures value { right_or_wrong result ≡ requests.further_request further numbers.now }
+fn right_request(
+    further: Further,
+    numbers: &Numbers<'_>,
+    first: &[Number],
+) -> Option<FurtherRequest>
+    ensures value { right_or_wrong result
+        ≡ requests.further_request further (if has_gaps further then numbers.now else first.now) }
     ensures sound { IfSome result IsFurtherRequest }
 {
     match further {
-        Further::LineType => Some(FurtherRequest::Line(line_type_setting(numbers)?)),
-        Further::WidthUnit => Some(FurtherRequest::Width(width_unit_setting(numbers)?)),
-        Further::PenThickness => Some(FurtherRequest::Width(thickness_setting(numbers)?)),
-        Further::TickLength => Some(FurtherRequest::Ticks(tick_setting(numbers)?)),
-        Further::RelativePoints => Some(FurtherRequest::Points(relative_points(numbers)?)),
-        Further::ColourRange => Some(FurtherRequest::Colours(colour_ranges(numbers)?)),
-        Further::CharacterPlot => Some(FurtherRequest::Move(character_move(numbers)?)),
+        Further::LineType => Some(FurtherRequest::Line(line_type_setting(first)?)),
+        Further::UserLineType => Some(FurtherRequest::Line(user_line_setting(numbers)?)),
+        Further::WidthUnit => Some(FurtherRequest::Width(width_unit_setting(first)?)),
+        Further::PenThickness => Some(FurtherRequest::Width(thickness_setting(first)?)),
+        Further::RelativeSize => Some(FurtherRequest::Letter(relative_size_setting(first)?)),
+        Further::Slant => Some(FurtherRequest::Letter(slant_setting(first)?)),
+        Further::RelativeDirection => Some(FurtherRequest::Letter(relative_direction_setting(
+            first,
+        )?)),
+        Further::TextPath => Some(FurtherRequest::Letter(path_setting(first)?)),
+        Further::LabelOrigin => Some(FurtherRequest::Letter(origin_setting(first)?)),
+        Further::ExtraSpace => Some(FurtherRequest::Letter(space_setting(first)?)),
+        Further::CharacterPlot => Some(FurtherRequest::Move(character_move(first)?)),
+        Further::TickLength => Some(FurtherRequest::Ticks(tick_setting(first)?)),
         Further::XTick => Some(FurtherRequest::Tick(true)),
         Further::YTick => Some(FurtherRequest::Tick(false)),
-        Further::PrintBuffer => Some(FurtherRequest::Print),
-        Further::EndSheet => Some(FurtherRequest::EndSheet),
-        Further::BeginPlot => Some(FurtherRequest::Begin),
-        Further::ArcAbsoluteThreePoint => Some(FurtherRequest::Arc(false, arc_points(numbers)?)),
-        Further::ArcRelativeThreePoint => Some(FurtherRequest::Arc(true, arc_points(numbers)?)),
+        Further::PolygonMode => Some(FurtherRequest::Polygon(polygon_step(first)?)),
+        Further::EdgePolygon => Some(FurtherRequest::EdgePolygon),
+        Further::FillPolygon => Some(FurtherRequest::FillPolygon(choice(first)?)),
+        Further::FillType => Some(FurtherRequest::Fill(fill_type_setting(first)?)),
+        Further::AnchorCorner => Some(FurtherRequest::Anchor(anchor(first)?)),
+        Further::FillAbsolute => Some(FurtherRequest::Rectangle(false, fill_corner(first)?)),
+        Further::FillRelative => Some(FurtherRequest::Rectangle(true, fill_corner(first)?)),
+        Further::EdgeWedge => Some(FurtherRequest::EdgeWedge(wedge(first)?)),
+        Further::FillWedge => Some(FurtherRequest::FillWedge(wedge(first)?)),
+        Further::ArcAbsoluteThreePoint => Some(FurtherRequest::Arc(false, arc_points(first)?)),
+        Further::ArcRelativeThreePoint => Some(FurtherRequest::Arc(true, arc_points(first)?)),
         Further::BezierAbsolute => Some(FurtherRequest::Curves(false)),
         Further::BezierRelative => Some(FurtherRequest::Curves(true)),
-        _ => request_of_polygons(further, numbers),
+        Further::ChordTolerance => Some(FurtherRequest::Chords(choice(first)?)),
+        Further::RelativePoints => Some(FurtherRequest::Points(relative_points(first)?)),
+        Further::ColourRange => Some(FurtherRequest::Colours(colour_ranges(first)?)),
+        Further::EndSheet => Some(FurtherRequest::EndSheet),
+        Further::BeginPlot => Some(FurtherRequest::Begin),
+        Further::PrintBuffer => Some(FurtherRequest::Print),
     }
 }

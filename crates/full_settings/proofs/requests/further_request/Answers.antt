@@ -1,8 +1,13 @@
-use Rattle.std.proofs.Common.{◌∙◌, ap, rules}
-use Rattle.full_settings.specs.FurtherRequests.{further_request}
+use Rattle.std.proofs.Common.{◌∙◌, ap, ℤ, List}
+use Rattle.std.specs.Prelude.{if◌then◌else◌}
+use Rattle.full_settings.specs.FurtherRequests.{further_request, has_gaps}
 use Rattle.full_settings.proofs.FirstNumbers.{same_request}
 use Rattle.full_settings.proofs.requests.further_request.Goals as goal
 
-pub returns-in_default-clause-value : goal.returns-in_default-clause-value
-returns-in_default-clause-value c =
-    c.request_by_first.ensures.value ∙ ap (further_request c.args.further) c.leading-list.ensures.values ∙ same_request c.args.further c.args.numbers.now (search rules)
+pub returns-clause-value : goal.returns-clause-value
+returns-clause-value c =
+    let f = c.args.further in
+    let ns = c.args.numbers.now in
+    c.request_by_first.ensures.value
+    ∙ ap (λ (first : List ℤ). further_request f (if has_gaps f then ns else first)) c.leading-list.ensures.values
+    ∙ same_request f ns
