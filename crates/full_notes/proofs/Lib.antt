@@ -1,3 +1,4 @@
 mod NoteExamples
 pub mod ReadNumbers
+pub mod Noted
 pub mod FewNotes

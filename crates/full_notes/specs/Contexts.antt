@@ -1,6 +1,6 @@
 -- What has been set before an item that decides how it is read: in polygon mode some instructions may not be there, and
 -- after CT 1 no chord is read (HP-GL/2 guide: PM and CT).
-use Rattle.std.specs.Prelude.{ℤ, Bool, true, false, if◌then◌else◌, List, take, Option, Some, None}
+use Rattle.std.specs.Prelude.{ℤ, Bool, true, false, ◌&&◌, if◌then◌else◌, List, take}
 use Rattle.hpgl_text.specs.Shapes.{BodyShape, Params, Further, Label, Bad}
 use Rattle.hpgl_text.specs.declared.further.Further as further
 use Rattle.hpgl_text.specs.declared.further.Further.TheVariants as of
@@ -8,11 +8,12 @@ use Rattle.hpgl_text.specs.declared.instruction.Instruction.{Instruction}
 use Rattle.hpgl_text.specs.declared.instruction.Instruction.TheVariants.{EdgeAbsolute, EdgeRelative, Circle}
 use Rattle.hpgl_text.specs.declared.instruction.Instruction.TheVariants.{ArcAbsolute, ArcRelative}
 use Rattle.full_settings.specs.declared.colour_range.ColourRanges.{ColourRanges}
-use Rattle.full_settings.specs.declared.polygon_setting.PolygonStep.{PolygonStep}
-use Rattle.full_settings.specs.declared.polygon_setting.PolygonStep.TheVariants.{Begin}
+use Rattle.full_settings.specs.declared.polygon_setting.PolygonStep.TheVariants.{Close, End}
+use Rattle.full_settings.specs.declared.requests.FurtherRequest.{FurtherRequest}
+use Rattle.full_settings.specs.declared.requests.FurtherRequest.TheVariants.{Polygon, Wrong}
 use Rattle.full_settings.specs.ColourRanges.{usual_ranges}
+use Rattle.full_settings.specs.FurtherRequests.{further_request}
 use Rattle.full_settings.specs.PolygonParameters as polygons
-use Rattle.full_settings.specs.PolygonParameters.{polygon_step}
 
 -- whether widths are in percent, the ranges of colours, whether polygon mode is on, and whether chords have the usual
 -- angle
@@ -51,22 +52,14 @@ is_bad_in_polygons (Further f ns) = is_bad_further f
 is_bad_in_polygons (Label bytes) = true
 is_bad_in_polygons _ = false
 
--- PM 1 and PM 2 are for polygon mode only
-abbrev pub closes : Option PolygonStep → Bool
-closes None = false
-closes (Some Begin) = false
-closes (Some step) = true
-
-abbrev pub is_bad_further_outside : further.Further → List ℤ → Bool
-is_bad_further_outside of.PolygonMode ns = closes (polygon_step ns)
-is_bad_further_outside f ns = false
-
-abbrev pub is_bad_outside : BodyShape → Bool
-is_bad_outside (Further f ns) = is_bad_further_outside f ns
-is_bad_outside _ = false
-
 abbrev pub is_misplaced : Bool → BodyShape → Bool
-is_misplaced in_polygon body = if in_polygon then is_bad_in_polygons body else is_bad_outside body
+is_misplaced in_polygon body = in_polygon && is_bad_in_polygons body
+
+-- PM 1 and PM 2 are for polygon mode only
+abbrev pub asked_in : Bool → FurtherRequest → FurtherRequest
+asked_in false (Polygon Close) = Wrong
+asked_in false (Polygon End) = Wrong
+asked_in _ request = request
 
 -- the numbers that are read after CT 1
 abbrev pub without_chord : Instruction → List ℤ → List ℤ
@@ -78,12 +71,15 @@ without_chord i ns = ns
 abbrev pub numbers_read : Bool → further.Further → List ℤ → List ℤ
 numbers_read usual_chords f ns = if usual_chords then polygons.without_chord f ns else ns
 
+-- what a further instruction asks for
+abbrev pub request_in : Context → further.Further → List ℤ → FurtherRequest
+request_in c f ns = asked_in c.in_polygon (further_request f (numbers_read c.usual_chords f ns))
+
 abbrev pub params_read : Bool → Instruction → List ℤ → List ℤ
 params_read usual_chords i ns = if usual_chords then without_chord i ns else ns
 
 abbrev pub body_read : Bool → BodyShape → BodyShape
 body_read usual_chords (Params i ns) = Params i (params_read usual_chords i ns)
-body_read usual_chords (Further f ns) = Further f (numbers_read usual_chords f ns)
 body_read usual_chords body = body
 
 -- how an item is read

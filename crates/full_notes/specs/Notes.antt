@@ -19,10 +19,9 @@ use Rattle.full_settings.specs.declared.width_setting.WidthSetting.{WidthSetting
 use Rattle.full_settings.specs.declared.width_setting.WidthSetting.TheVariants.{Millimetres, PercentOfAll}
 use Rattle.full_settings.specs.ColourRanges.{pen_colour_in}
 use Rattle.full_settings.specs.CurveParameters.{are_curves}
-use Rattle.full_settings.specs.FurtherRequests.{further_request}
 use Rattle.full_settings.specs.LetterParameters.{direction}
 use Rattle.full_settings.specs.WidthParameters.{percent_width}
-use Rattle.full_notes.specs.Contexts.{Context, first_context, read_in}
+use Rattle.full_notes.specs.Contexts.{Context, first_context, read_in, request_in}
 
 -- whether widths are in percent after a WU that asks for this, if they were or were not before
 abbrev pub unit_after : Bool → WidthSetting → Bool
@@ -53,7 +52,7 @@ params_after c _ = c
 
 -- the context after an item, which is read by the one before it
 abbrev pub after_body : Context → BodyShape → Context
-after_body c (shape.Further f ns) = request_after c (further_request f ns)
+after_body c (shape.Further f ns) = request_after c (request_in c f ns)
 after_body c (Params instruction ns) = params_after c instruction
 after_body c _ = c
 
@@ -64,6 +63,10 @@ context_after c body = after_body c (read_in c body)
 abbrev pub bad_without : {S : Type 0} → Option S → Option NoteKind
 bad_without (Some setting) = None
 bad_without None = Some Bad
+
+-- wrong numbers are noted
+abbrev pub bad_if : Bool → Option NoteKind
+bad_if is_wrong = if is_wrong then Some Bad else None
 
 -- what is noted on a further instruction: that its numbers are wrong, or that it is not drawn, as patterns of FT are
 -- not; numbers after those of whole curves draw nothing, and are wrong
@@ -88,7 +91,7 @@ params_noted c instruction ns = parameters_noted instruction ns
 
 -- what is noted on an item at its first byte
 abbrev pub noted_on : Context → BodyShape → Option NoteKind
-noted_on c (shape.Further f ns) = request_noted (further_request f ns) ns
+noted_on c (shape.Further f ns) = request_noted (request_in c f ns) ns
 noted_on c (Params instruction ns) = params_noted c instruction ns
 noted_on c body = core.body_noted body
 

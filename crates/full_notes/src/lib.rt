@@ -8,5 +8,5 @@ mod reading;
 
 pub use context::Context;
 pub use notes::FullNotes;
-pub use noting::{context_after, is_move, noted_kind};
+pub use noting::{bad_without, noted_asked, noted_request, take_note};
 pub use reading::{arc_read, circle_read, is_misplaced, request_read};

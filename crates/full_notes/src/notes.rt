@@ -6,7 +6,7 @@ ghost use Rattle.hpgl_text.specs.declared.profile.Profile.TheVariants.{Full};
 ghost use Rattle.full_notes.specs.Notes.{notes};
 
 use crate::context::Context;
-use crate::noting::{context_after, noted_kind};
+use crate::noting::take_note;
 use hpgl_plot::{ItemNotes, Note, NoteSource};
 use hpgl_text::{Items, Profile};
 use std::marker::Model;
@@ -58,8 +58,8 @@ impl<'a> Iterator for FullNotes<'a> {
                 return Some(note);
             }
             let item = self.items.next()?;
-            self.item = ItemNotes::new(&item, noted_kind(&item, &self.context));
-            self.context = context_after(&item, &self.context);
+            let noted = take_note(&item, &mut self.context);
+            self.item = ItemNotes::new(&item, noted);
         }
     }
 }

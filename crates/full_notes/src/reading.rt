@@ -1,31 +1,24 @@
-//! How items are read: in polygon mode some instructions may not be there, and after CT 1 no chord is read.
+//! How items are read: some may not be there in polygon mode or out of it, and after CT 1 no chord is read.
 ghost use Rattle.std.specs.Prelude.{◌≡◌, IfSome, min, if◌then◌else◌};
 ghost use Rattle.plot_settings.specs.Bounds.{IsArc, IsCircle};
 ghost use Rattle.plot_settings.specs.Parameters.{arced, circled};
 ghost use Rattle.hpgl_text.specs.declared.instruction.Instruction.TheVariants as of;
-ghost use Rattle.full_settings.specs.FurtherRequests as requests;
 ghost use Rattle.full_settings.specs.FurtherRequests.{IsFurtherRequest};
 ghost use Rattle.hpgl_text.specs.Seen.{body_shape};
-ghost use Rattle.full_settings.specs.PolygonParameters as polygons;
 ghost use Rattle.full_notes.specs.Contexts as contexts;
-ghost use Rattle.full_notes.specs.Contexts.{closes, numbers_read, params_read};
+ghost use Rattle.full_notes.specs.Contexts.{params_read};
 
-use full_settings::{
-    FurtherRequest, PolygonStep, further_request, polygon_step, request_without_chord,
-};
+use crate::context::Context;
+use full_settings::{FurtherRequest, PolygonStep, further_request, request_without_chord};
 use hpgl_text::{Body, Further, Instruction, Numbers};
 use plot_settings::{Arc, Circle, arc_from, circle_from};
 
-/// Whether an item may not be there: in polygon mode, or, as PM 1 and PM 2, out of it.
+/// Whether an item may not be there in polygon mode.
 #[inline(always)]
 pub fn is_misplaced(body: &Body<'_>, in_polygon: bool) -> bool
     ensures { result ≡ contexts.is_misplaced in_polygon (body_shape body.now) }
 {
-    if in_polygon {
-        is_bad_in_polygons(body)
-    } else {
-        is_bad_outside(body)
-    }
+    in_polygon && is_bad_in_polygons(body)
 }
 
 fn is_bad_in_polygons(body: &Body<'_>) -> bool
@@ -61,36 +54,30 @@ fn is_bad_further(further: Further) -> bool
     }
 }
 
-#[inline(always)]
-fn is_bad_outside(body: &Body<'_>) -> bool
-    ensures { result ≡ contexts.is_bad_outside (body_shape body.now) }
-{
-    match body {
-        Body::Further(Further::PolygonMode, numbers) => closes_polygon(numbers),
-        _ => false,
-    }
-}
-
-// PM 1 and PM 2.
-fn closes_polygon(numbers: &Numbers<'_>) -> bool
-    ensures { result ≡ closes (polygons.polygon_step numbers.now) }
-{
-    let (list, count) = numbers.leading();
-    match polygon_step(&list[..count]) {
-        Some(PolygonStep::Close | PolygonStep::End) => true,
-        Some(PolygonStep::Begin) | None => false,
-    }
-}
-
-/// What a further instruction asks for; after CT 1 no chord is read.
-pub fn request_read(further: Further, numbers: &Numbers<'_>, usual_chords: bool) -> FurtherRequest
-    ensures value { result ≡ requests.further_request further (numbers_read usual_chords further numbers.now) }
+/// What a further instruction asks for. PM 1 and PM 2 are wrong out of polygon mode, and after CT 1 no chord is
+/// read.
+pub fn request_read(further: Further, numbers: &Numbers<'_>, context: &Context) -> FurtherRequest
+    ensures value { result ≡ contexts.request_in context.now further numbers.now }
     ensures sound { IsFurtherRequest result }
 {
-    if usual_chords {
+    let request = if context.usual_chords {
         request_without_chord(further, numbers)
     } else {
         further_request(further, numbers)
+    };
+    asked_in(context.in_polygon, request)
+}
+
+fn asked_in(in_polygon: bool, request: FurtherRequest) -> FurtherRequest
+    requires { IsFurtherRequest request }
+    ensures value { result ≡ contexts.asked_in in_polygon request }
+    ensures sound { IsFurtherRequest result }
+{
+    match request {
+        FurtherRequest::Polygon(PolygonStep::Close | PolygonStep::End) if !in_polygon => {
+            FurtherRequest::Wrong
+        }
+        request => request,
     }
 }
 

@@ -1,29 +1,23 @@
 -- What is noted on items of core in the profile full.
-use Rattle.std.proofs.Common.{◌≡◌, ◌∙◌, ap, sym, refl, Bool, true, false, true≢false, ℤ, List, [], ◌∷◌, ◌++◌, Option, Some, None, All}
-use Rattle.std.specs.Prelude.{if◌then◌else◌}
+use Rattle.std.proofs.Common.{◌≡◌, ◌∙◌, ap, sym, refl, true, false, true≢false, ℤ, List, [], ◌∷◌, ◌++◌, Option, Some, None, All}
 use Rattle.std.proofs.lemmas.Bool.{not-true}
 use Rattle.std.proofs.lemmas.List.Elements.{All-head, All-tail}
 use Rattle.hpgl_text.specs.Shapes.{ItemShape, BodyShape, Params, Further}
 use Rattle.hpgl_text.specs.declared.instruction.Instruction.{Instruction}
 use Rattle.hpgl_text.specs.declared.instruction.Instruction.TheVariants.{PenColour, Initialize, DefaultValues, Direction}
 use Rattle.plot_settings.specs.Meanings.{sets}
-use Rattle.plot_settings.specs.Parameters.{pen_colour, nearest_axis, when}
+use Rattle.plot_settings.specs.Parameters.{pen_colour}
 use Rattle.plot_settings.specs.Slants.{is_slanted}
 use Rattle.plot_settings.specs.declared.setting.Setting.{Setting}
-use Rattle.plot_settings.specs.declared.setting.Setting.TheVariants as setting
 use Rattle.hpgl_plot.specs.declared.note.Note.{Note}
 use Rattle.hpgl_plot.specs.declared.note.NoteKind.{NoteKind}
-use Rattle.hpgl_plot.specs.declared.note.NoteKind.TheVariants as kind
 use Rattle.hpgl_plot.specs.Notes.{notes_with, parameters_noted}
 use Rattle.hpgl_plot.specs.Notes as core
-use Rattle.full_settings.specs.LetterParameters.{direction, is_vector, pair}
-use Rattle.full_settings.specs.declared.letter_setting.LetterSetting.TheVariants as letter
+use Rattle.full_settings.specs.LetterParameters.{direction, is_vector}
 use Rattle.full_plot.specs.Laws.{is_core_body, IsCoreItem}
+use Rattle.full_notes.proofs.Noted.{vector_noted}
 use Rattle.full_notes.specs.Contexts.{Context, first_context}
-use Rattle.full_notes.specs.Notes.{bad_without, body_noted, context_after, params_after, params_noted, notes_from, notes}
-
-abbrev bad_if : Bool → Option NoteKind
-bad_if is_wrong = if is_wrong then Some kind.Bad else None
+use Rattle.full_notes.specs.Notes.{bad_if, bad_without, body_noted, context_after, params_after, params_noted, notes_from, notes}
 
 -- a PC in the usual ranges
 by_colour : (s : Option Setting) → bad_without s ≡ bad_if (sets s).is_wrong
@@ -31,15 +25,10 @@ by_colour (Some s) = refl
 by_colour None = refl
 
 -- a DI along an axis
-by_vector : (good : Bool) (x y : ℤ)
-    → bad_without (when good (letter.Direction (pair x y))) ≡ bad_if (sets (when good (setting.Direction (nearest_axis x y)))).is_wrong
-by_vector true x y = refl
-by_vector false x y = refl
-
 by_direction : (ns : List ℤ) → is_slanted ns ≡ false → bad_without (direction ns) ≡ parameters_noted Direction ns
 by_direction [] h = refl
 by_direction (x ∷ []) h = refl
-by_direction (x ∷ (y ∷ ns)) h = rw h (by_vector (is_vector x y) x y)
+by_direction (x ∷ (y ∷ ns)) h = rw h (vector_noted (is_vector x y) x y)
 
 params_as_in_core : (i : Instruction) (ns : List ℤ) → is_core_body (Params i ns) ≡ true → params_noted first_context i ns ≡ parameters_noted i ns
 params_as_in_core PenColour ns h = by_colour (pen_colour ns)
@@ -51,13 +40,13 @@ body_as_in_core (Params i ns) h = params_as_in_core i ns h
 body_as_in_core (Further f ns) h = absurd (true≢false (sym h))
 body_as_in_core b h = refl
 
--- no item of core changes what notes are told
+-- no item of core changes how items are read
 params_in_first : (i : Instruction) → params_after first_context i ≡ first_context
 params_in_first Initialize = refl
 params_in_first DefaultValues = refl
 params_in_first i = refl
 
-stays_first : (b : BodyShape) → is_core_body b ≡ true → context_after first_context b ≡ first_context
+pub stays_first : (b : BodyShape) → is_core_body b ≡ true → context_after first_context b ≡ first_context
 stays_first (Params i ns) h = params_in_first i
 stays_first (Further f ns) h = absurd (true≢false (sym h))
 stays_first b h = refl

@@ -1,5 +1,5 @@
 -- Plots of core in the profile full.
-use Rattle.std.proofs.Common.{◌≡◌, ◌∙◌, ap, sym, subst, refl, inl, inr, Bool, true, false, true≢false, ◌+◌, ℕ, arith, Result, Ok, Err, List, [], ◌∷◌, ◌++◌, length, nat_lt, Option, Some, None, ℤ, pos, All}
+use Rattle.std.proofs.Common.{◌≡◌, ◌∙◌, append-nil, ap, sym, subst, refl, inl, inr, Bool, true, false, true≢false, ◌+◌, ℕ, arith, Result, Ok, Err, List, [], ◌∷◌, ◌++◌, length, nat_lt, Option, Some, None, ℤ, pos, All}
 use Rattle.std.specs.Prelude.{if◌then◌else◌, ⊤}
 use Rattle.std.proofs.lemmas.Bool.{cases_Bool, le-ltb, not-true}
 use Rattle.std.proofs.lemmas.Option.{none-some}
@@ -10,13 +10,13 @@ use Rattle.directions.proofs.Axes.{axes_are_exact_lem}
 use Rattle.plot_frame.specs.declared.pair.Pair.{Pair}
 use Rattle.plot_page.specs.declared.page.Page.{Page}
 use Rattle.plot_settings.specs.Meanings.{Step, Set, Write, meaning, entry_steps, body_steps, sets, steps_of}
-use Rattle.plot_settings.specs.Parameters.{nearest_axis, pen_colour, pen_width, when}
+use Rattle.plot_settings.specs.Parameters.{nearest_axis, when}
 use Rattle.plot_settings.specs.Slants.{is_slanted}
 use Rattle.plot_settings.specs.declared.setting.Rotation.{Rotation}
 use Rattle.plot_settings.specs.declared.setting.Rotation.TheVariants as rotation
 use Rattle.plot_settings.specs.declared.setting.Setting.{Setting}
 use Rattle.plot_settings.specs.declared.setting.Setting.TheVariants as setting
-use Rattle.hpgl_text.specs.Shapes.{ItemShape, BodyShape, Params, Further, Label, Coded, Kept, Symbol, Known, Bad}
+use Rattle.hpgl_text.specs.Shapes.{ItemShape, BodyShape, Params, Further, Label, Coded, Kept, Symbol, Known}
 use Rattle.hpgl_text.specs.declared.instruction.Instruction.{Instruction}
 use Rattle.hpgl_text.specs.declared.instruction.Instruction.TheVariants.{Initialize, DefaultValues, InputPoints, PenWidth, PenColour, CharacterSize, Direction}
 use Rattle.hpgl_plot.specs.declared.fault.PlotFault.{PlotFault}
@@ -24,20 +24,20 @@ use Rattle.hpgl_plot.specs.declared.fault.PlotFault.TheVariants as fault
 use Rattle.hpgl_plot.specs.Machine as core
 use Rattle.hpgl_plot.specs.Strokes.{strokes, refusal}
 use Rattle.hpgl_plot.proofs.Bridge.{told, Told}
-use Rattle.full_settings.specs.ColourRanges.{pen_colour_in}
 use Rattle.full_settings.specs.LetterParameters.{is_vector, pair}
 use Rattle.full_settings.specs.Letters.{LetterStyle, usual_letters}
-use Rattle.full_settings.specs.declared.colour_range.ColourRanges.{ColourRanges}
 use Rattle.full_settings.specs.declared.heading.Heading.TheVariants.{Absolute}
 use Rattle.full_settings.specs.declared.letter_setting.LetterSetting.TheVariants as letter
-use Rattle.full_plot.specs.Items.{as_core, letters_steps, more_steps, params_steps, full_steps}
-use Rattle.full_plot.specs.Worlds.{World, context_of, followed, with_core}
-use Rattle.full_plot.specs.Machine.{FullStep, Core, Letter, Restart, Restyle, Rewiden, pen_width_step, rewidened, run, set_if, widths_in, with_widths}
+use Rattle.full_plot.specs.Items.{as_core, letters_steps, more_steps, params_steps, full_steps, taken}
+use Rattle.full_plot.specs.Worlds.{World, followed, with_core}
+use Rattle.full_plot.specs.Machine.{FullStep, Core, Letter, Restart, Restyle, Rewiden, rewidened, run, widths_in, with_widths}
 use Rattle.full_plot.specs.Drawings.{at_start, ended, is_too_much, runs, refusal_in, strokes_in, ends_in}
 use Rattle.full_plot.specs.Laws.{core_part, is_core_body, IsCoreItem, SameRefusal, SameStrokes, OneSheet}
-use Rattle.full_notes.specs.Contexts.{body_read, is_misplaced, read_in}
+use Rattle.full_notes.specs.Contexts.{Context, first_context, read_in}
+use Rattle.full_notes.specs.Notes.{context_after}
 use Rattle.full_plot.specs.Texts.{turn_by}
 use Rattle.full_plot.proofs.CoreLabels.{axis_leads}
+use Rattle.full_plot.proofs.CoreNotes.{stays_first}
 use Rattle.full_plot.proofs.CoreSteps.{AllStill, IsAsInCore, IsLed, IsLikeCore, Leads, LikeIn, core_of, one_step, still_steps}
 use Rattle.full_plot.proofs.FullRuns.{run-append}
 use Rattle.full_plot.proofs.Stills.{entries_still, params_still, turns_labels}
@@ -75,11 +75,11 @@ nothing : (d : Rotation) (v : World) → IsLikeCore d v → v.core.state.directi
 nothing d v h k = record { same = refl; like = like_now d v h k }
 
 -- IP: widths are in millimetres
-unchanged : (v : World) → v.percents ≡ None → rewidened v ≡ v
-unchanged v h = ap (λ (p : Option (List (Option ℕ))). with_widths v (widths_in p v.core.state)) h
+unchanged : (v : World) → v.context ≡ first_context → rewidened v ≡ v
+unchanged v h = ap (λ (c : Context). with_widths v (widths_in c.in_percent v.percents v.core.state)) h
 
 after_points : (d : Rotation) (v : World) → IsLikeCore d v → v.core.state.direction ≡ d → IsCores (run v (Rewiden ∷ [])) (Some v.core)
-after_points d v h k = rw (unchanged v h.millimetres) (nothing d v h k)
+after_points d v h k = rw (unchanged v h.first) (nothing d v h k)
 
 -- SI: there is no size by SR
 sized : (d : Rotation) (l : LetterStyle) → IsLed d l → IsLed d (record l { relative_size = None })
@@ -93,14 +93,11 @@ after_size d v false h k = record {
   like = like_now d (record v { writing = record v.writing { letters = record v.writing.letters { relative_size = None } } })
       (record {
         solid = h.solid;
-        millimetres = h.millimetres;
-        usual_colours = h.usual_colours;
+        first = h.first;
         no_symbol = h.no_symbol;
         led = sized d v.writing.letters h.led;
         no_extra = h.no_extra;
         no_ends = h.no_ends;
-        outside = h.outside;
-        chords = h.chords;
         few = h.few;
         few_places = h.few_places;
       })
@@ -129,14 +126,11 @@ after_restart d v h k = record {
   like = like_now rotation.None _
       (record {
         solid = refl;
-        millimetres = refl;
-        usual_colours = refl;
+        first = h.first;
         no_symbol = refl;
         led = usual_led;
         no_extra = h.no_extra;
         no_ends = h.no_ends;
-        outside = refl;
-        chords = refl;
         few = h.few;
         few_places = omega arith;
       })
@@ -149,14 +143,11 @@ after_restyle d v h k = record {
   like = like_now rotation.None _
       (record {
         solid = refl;
-        millimetres = h.millimetres;
-        usual_colours = h.usual_colours;
+        first = h.first;
         no_symbol = refl;
         led = usual_led;
         no_extra = h.no_extra;
         no_ends = h.no_ends;
-        outside = refl;
-        chords = refl;
         few = h.few;
         few_places = omega arith;
       })
@@ -174,8 +165,7 @@ after_direction d r p v u h k = record {
   like = like_now r _
       (record {
         solid = h.solid;
-        millimetres = h.millimetres;
-        usual_colours = h.usual_colours;
+        first = h.first;
         no_symbol = h.no_symbol;
         led = record {
           heading = p;
@@ -184,8 +174,6 @@ after_direction d r p v u h k = record {
         };
         no_extra = h.no_extra;
         no_ends = h.no_ends;
-        outside = h.outside;
-        chords = h.chords;
         few = h.few;
         few_places = h.few_places;
       })
@@ -220,47 +208,37 @@ vector_run w x y true u h = direction_run w (nearest_axis x y) (pair x y) (u ref
 vector_run w x y false u h = record { same = refl; like = h }
 
 di_run : (w : World) (ns : List ℤ) → is_slanted ns ≡ false → Like w
-    → IsCores (run w (params_steps Direction ns)) (core.run w.core (meaning Direction ns).steps)
+    → IsCores (run w (params_steps first_context Direction ns)) (core.run w.core (meaning Direction ns).steps)
 di_run w [] e h = direction_run w rotation.None (pair (pos 1000000) (pos 0)) to_right h
 di_run w (x ∷ []) e h = record { same = refl; like = h }
 di_run w (x ∷ (y ∷ ns)) e h = vector_run w x y (is_vector x y) (λ (v : is_vector x y ≡ true). axis_leads x y v e) h
 
--- PW and PC are as their steps in core
+-- each instruction is its steps in core, and what it does besides
 to_end : (o : Option World) → followed o (λ (v : World). Some v) ≡ o
 to_end None = refl
 to_end (Some v) = refl
 
-width_steps : (w : World) (s : Option Setting) → with_core w (core.run w.core (sets s).steps) ≡ run w (as_core (sets s).steps)
-width_steps w None = refl
-width_steps w (Some s) =
-    ap (λ (o : Option core.World). with_core w o) (core_to_end (core.step w.core (Set s))) ∙ sym (to_end (with_core w (core.step w.core (Set s))))
+steps_are : (i : Instruction) (ns : List ℤ) → params_steps first_context i ns ≡ as_core (meaning i ns).steps ++ more_steps i ns
+steps_are PenWidth ns = sym (append-nil (as_core (meaning PenWidth ns).steps))
+steps_are PenColour ns = sym (append-nil (as_core (meaning PenColour ns).steps))
+steps_are i ns = refl
 
-colour_steps : (w : World) (s : Option Setting) → set_if s w ≡ run w (as_core (sets s).steps)
-colour_steps w None = refl
-colour_steps w (Some s) = sym (to_end (with_core w (core.step w.core (Set s))))
-
--- each instruction is its steps in core, and what it does besides
-in_two : (w : World) (i : Instruction) (ns : List ℤ) → Like w
-    → run w (params_steps i ns) ≡ followed (run w (as_core (meaning i ns).steps)) (λ (v : World). run v (more_steps i ns))
-in_two w PenWidth ns h =
-    ap (λ (p : Option (List (Option ℕ))). followed (pen_width_step p w ns) (λ (v : World). Some v)) h.millimetres
-    ∙ ap (λ (o : Option World). followed o (λ (v : World). Some v)) (width_steps w (pen_width ns))
-in_two w PenColour ns h =
-    ap (λ (r : ColourRanges). followed (set_if (pen_colour_in r ns) w) (λ (v : World). Some v)) h.usual_colours
-    ∙ ap (λ (o : Option World). followed o (λ (v : World). Some v)) (colour_steps w (pen_colour ns))
-in_two w i ns h = run-append w (as_core (meaning i ns).steps) (more_steps i ns)
+in_two : (w : World) (i : Instruction) (ns : List ℤ)
+    → run w (params_steps first_context i ns) ≡ followed (run w (as_core (meaning i ns).steps)) (λ (v : World). run v (more_steps i ns))
+in_two w i ns =
+    ap (λ (ss : List FullStep). run w ss) (steps_are i ns) ∙ run-append w (as_core (meaning i ns).steps) (more_steps i ns)
 
 still_run : (w : World) (i : Instruction) (ns : List ℤ) → turns_labels i ≡ false → Like w
-    → IsCores (run w (params_steps i ns)) (core.run w.core (meaning i ns).steps)
+    → IsCores (run w (params_steps first_context i ns)) (core.run w.core (meaning i ns).steps)
 still_run w i ns t h =
     let d : Rotation = w.core.state.direction in
     let o : Option World = run w (as_core (meaning i ns).steps) in
-    subst (λ (x : Option World). IsCores x (core.run w.core (meaning i ns).steps)) (sym (in_two w i ns h))
+    subst (λ (x : Option World). IsCores x (core.run w.core (meaning i ns).steps)) (sym (in_two w i ns))
     (with_more d d o (core.run w.core (meaning i ns).steps) (more_steps i ns) (still_steps d (meaning i ns).steps w (params_still i ns t) h refl)
     (λ (v : World) (l : IsLikeCore d v) (k : v.core.state.direction ≡ d). after_still d i ns v t l k))
 
 params_run : (w : World) (i : Instruction) (ns : List ℤ) → is_core_body (Params i ns) ≡ true → Like w
-    → IsCores (run w (params_steps i ns)) (core.run w.core (meaning i ns).steps)
+    → IsCores (run w (params_steps first_context i ns)) (core.run w.core (meaning i ns).steps)
 params_run w Initialize ns e h =
     let d : Rotation = w.core.state.direction in
     set_then w rotation.None setting.Start (Restart ∷ []) h (λ page s k. refl)
@@ -281,7 +259,7 @@ steps_run w ts all h =
     (with_more d d o (core.run w.core ts) [] (still_steps d ts w all h refl)
     (λ (v : World) (l : IsLikeCore d v) (k : v.core.state.direction ≡ d). nothing d v l k))
 
-item_run : (w : World) (b : BodyShape) → is_core_body b ≡ true → Like w → IsCores (run w (full_steps b)) (core.run w.core (body_steps b))
+item_run : (w : World) (b : BodyShape) → is_core_body b ≡ true → Like w → IsCores (run w (full_steps first_context b)) (core.run w.core (body_steps b))
 item_run w (Params i ns) e h = params_run w i ns e h
 item_run w (Further f ns) e h = absurd (true≢false (sym e))
 item_run w (Label bytes) e h =
@@ -292,14 +270,17 @@ item_run w (Symbol byte) e h = absurd (true≢false (sym e))
 item_run w Known e h = absurd (true≢false (sym e))
 item_run w b e h = record { same = refl; like = h }
 
--- items of core are read as they are
-core_read : (b : BodyShape) → is_core_body b ≡ true → (if is_misplaced false b then Bad else body_read false b) ≡ b
+-- items of core are read as they are, and change nothing in how items are read
+core_read : (b : BodyShape) → is_core_body b ≡ true → read_in first_context b ≡ b
 core_read (Params i ns) e = refl
 core_read (Further f ns) e = absurd (true≢false (sym e))
 core_read b e = refl
 
-read_as_is : (w : World) (b : BodyShape) → is_core_body b ≡ true → Like w → read_in (context_of w) b ≡ b
-read_as_is w b e h = rw (h.outside, h.chords) (core_read b e)
+taken_as_is : (w : World) (b : BodyShape) → is_core_body b ≡ true → Like w → taken w b ≡ run w (full_steps first_context b)
+taken_as_is w b e h =
+    ap (λ (c : Context). run (record w { context = context_after c b }) (full_steps c (read_in c b))) h.first
+    ∙ ap (λ (r : BodyShape). run (record w { context = context_after first_context b }) (full_steps first_context r)) (core_read b e)
+    ∙ ap (λ (c : Context). run (record w { context = c }) (full_steps first_context b)) (stays_first b e ∙ sym h.first)
 
 -- the items, one after another
 record EndsLike (r : Result World PlotFault) (x : Result core.World PlotFault) : Type 0 where
@@ -330,25 +311,21 @@ items_run : (w : World) (items : List ItemShape) → All IsCoreItem items → Li
 items_run w [] all h = record { same = refl; one_sheet = h.no_ends }
 items_run w (i ∷ more) all h =
     let is_core : is_core_body i.body ≡ true = All-head IsCoreItem i more all in
-    let one : IsCores (run w (full_steps i.body)) (core.run w.core (steps_of i)) = item_run w i.body is_core h in
-    rw (read_as_is w i.body is_core h)
-    (subst
-    (λ (p : Option core.World). EndsLike (ended (run w (full_steps i.body)) i.at (λ (v : World). runs v more)) (core.ended p i.at (λ (c : core.World). core.runs c more)))
+    let one : IsCores (taken w i.body) (core.run w.core (steps_of i)) =
+    subst (λ (o : Option World). IsCores o (core.run w.core (steps_of i))) (sym (taken_as_is w i.body is_core h)) (item_run w i.body is_core h) in
+    subst
+    (λ (p : Option core.World). EndsLike (ended (taken w i.body) i.at (λ (v : World). runs v more)) (core.ended p i.at (λ (c : core.World). core.runs c more)))
     one.same
-    (next_item i.at more (run w (full_steps i.body)) one.like
-    (λ (v : World) (l : Like v). items_run v more (All-tail IsCoreItem i more all) l)))
+    (next_item i.at more (taken w i.body) one.like (λ (v : World) (l : Like v). items_run v more (All-tail IsCoreItem i more all) l))
 
 like_at_start : (page : Page) → Like (at_start page)
 like_at_start page = record {
   solid = refl;
-  millimetres = refl;
-  usual_colours = refl;
+  first = refl;
   no_symbol = refl;
   led = usual_led;
   no_extra = refl;
   no_ends = refl;
-  outside = refl;
-  chords = refl;
   few = omega arith;
   few_places = omega arith;
 }

@@ -15,13 +15,12 @@ use Rattle.hpgl_plot.specs.declared.state.State.{State}
 use Rattle.hpgl_plot.specs.Paths.{path}
 use Rattle.hpgl_plot.specs.Strokes.{are_in_range, path_strokes}
 use Rattle.hpgl_plot.specs.Machine as core
-use Rattle.full_settings.specs.ColourRanges.{usual_ranges}
 use Rattle.full_settings.specs.LineStyles.{Style, is_solid}
 use Rattle.full_settings.specs.Letters.{LetterStyle, usual_letters}
 use Rattle.full_settings.specs.declared.heading.Heading.TheVariants.{Absolute}
 use Rattle.full_plot.specs.Items.{as_core}
 use Rattle.polygons.specs.Buffers.{Contents}
-use Rattle.full_plot.specs.declared.area.Area.{Area}
+use Rattle.full_notes.specs.Contexts.{Context, first_context}
 use Rattle.full_plot.specs.Lines.{line_step, lines_of}
 use Rattle.full_plot.specs.Machine.{core_step, marked, marked_in, moved, run, touched, touched_in}
 use Rattle.full_plot.specs.Polygons.{lined_by, lined_step, only_figure, with_buffer}
@@ -40,16 +39,16 @@ pub record IsLed (d : Rotation) (l : LetterStyle) : Type 0 where
 -- besides core all is as at the start, but labels may lead along an axis
 pub record IsLikeCore (d : Rotation) (w : World) : Type 0 where
   pub solid : is_solid w.style.kind ≡ true
-  pub millimetres : w.percents ≡ None
-  pub usual_colours : w.ranges ≡ usual_ranges
+  pub first : w.context ≡ first_context
   pub no_symbol : w.writing.symbol ≡ None
   pub led : IsLed d w.writing.letters
   pub no_extra : w.extra ≡ 0
   pub no_ends : w.ends ≡ []
-  pub outside : w.area.in_polygon ≡ false
-  pub chords : w.area.usual_chords ≡ false
   pub few : length w.core.kept ≤ 4194304
   pub few_places : w.buffer.places ≤ 4194304
+
+outside : (w : World) → w.context ≡ first_context → w.context.in_polygon ≡ false
+outside w h = ap (λ (c : Context). c.in_polygon) h
 
 -- what core has of a world
 abbrev pub core_of : Option World → Option core.World
@@ -69,25 +68,25 @@ solid_is : (w : World) (t : Step) → is_solid w.style.kind ≡ true → line_st
 solid_is w t h = solid_line w t (shape_solid w.style.kind w.style.own _ h)
 
 -- out of polygon mode
-lined_is : (w : World) (t : Step) → is_solid w.style.kind ≡ true → w.area.in_polygon ≡ false → lined_step w t ≡ with_core w (core.step w.core t)
+lined_is : (w : World) (t : Step) → is_solid w.style.kind ≡ true → w.context.in_polygon ≡ false → lined_step w t ≡ with_core w (core.step w.core t)
 lined_is w t h off = ap (λ (b : Bool). lined_by b w t) off ∙ solid_is w t h
 
 -- a move, after which no symbol is drawn
-core_move : (w : World) (o : Option core.World) → w.area.in_polygon ≡ false → w.writing.symbol ≡ None
+core_move : (w : World) (o : Option core.World) → w.context.in_polygon ≡ false → w.writing.symbol ≡ None
     → core_of (followed (with_core w o) (λ (v : World). marked (at_margin v))) ≡ o
 core_move w None off h = refl
 core_move w (Some c) off h =
     let v : World = at_margin (record w { core = c }) in
     ap (λ (b : Bool). core_of (marked_in b v)) off ∙ ap (λ (s : Option ℕ). core_of (marked_by s v)) h
 
-core_go : (w : World) (t : Step) → is_solid w.style.kind ≡ true → w.area.in_polygon ≡ false → w.writing.symbol ≡ None
+core_go : (w : World) (t : Step) → is_solid w.style.kind ≡ true → w.context.in_polygon ≡ false → w.writing.symbol ≡ None
     → core_of (moved w t) ≡ core.step w.core t
 core_go w t h off k =
     ap (λ (o : Option World). core_of (followed o (λ (v : World). marked (at_margin v)))) (lined_is w t h off)
     ∙ core_move w (core.step w.core t) off k
 
 -- a dot
-core_touch : (w : World) → w.area.in_polygon ≡ false → core_of (touched w) ≡ core.step w.core Touch
+core_touch : (w : World) → w.context.in_polygon ≡ false → core_of (touched w) ≡ core.step w.core Touch
 core_touch w off = ap (λ (b : Bool). core_of (touched_in b w)) off ∙ core_with w (core.step w.core Touch)
 
 -- the edge of a rectangle
@@ -114,16 +113,16 @@ IsShort (Write bytes) = nat_lt 4294967296 (length bytes) ≡ false
 IsShort _ = ⊤
 
 pub step_as_in_core : (w : World) (t : Step) → IsLikeCore w.core.state.direction w → IsShort t → core_of (core_step w t) ≡ core.step w.core t
-step_as_in_core w Touch h short = core_touch w h.outside
-step_as_in_core w (Move x y) h short = core_go w (Move x y) h.solid h.outside h.no_symbol
-step_as_in_core w (Go relative x y) h short = core_go w (Go relative x y) h.solid h.outside h.no_symbol
+step_as_in_core w Touch h short = core_touch w (outside w h.first)
+step_as_in_core w (Move x y) h short = core_go w (Move x y) h.solid (outside w h.first) h.no_symbol
+step_as_in_core w (Go relative x y) h short = core_go w (Go relative x y) h.solid (outside w h.first) h.no_symbol
 step_as_in_core w (DrawArc relative a) h short =
-    ap (λ (o : Option World). core_of (followed o (λ (v : World). Some (at_margin v)))) (lined_is w (DrawArc relative a) h.solid h.outside)
+    ap (λ (o : Option World). core_of (followed o (λ (v : World). Some (at_margin v)))) (lined_is w (DrawArc relative a) h.solid (outside w h.first))
     ∙ core_arc w (core.step w.core (DrawArc relative a))
 step_as_in_core w (Edge relative x y) h short =
     core_buffer (only_figure (lines_of w.core.page w.core.state (Edge relative x y))) (line_step w (Edge relative x y))
     ∙ ap core_of (solid_is w (Edge relative x y) h.solid) ∙ core_with w (core.step w.core (Edge relative x y))
-step_as_in_core w (DrawCircle c) h short = ap core_of (lined_is w (DrawCircle c) h.solid h.outside) ∙ core_with w (core.step w.core (DrawCircle c))
+step_as_in_core w (DrawCircle c) h short = ap core_of (lined_is w (DrawCircle c) h.solid (outside w h.first)) ∙ core_with w (core.step w.core (DrawCircle c))
 step_as_in_core w (Write bytes) h short = core_written w bytes h.led short
 step_as_in_core w t h short = core_with w (core.step w.core t)
 
@@ -131,16 +130,13 @@ step_as_in_core w t h short = core_with w (core.step w.core t)
 pub like_next : (d : Rotation) (w v : World) → IsLikeCore d w → IsNext w v → IsLikeCore d v
 like_next d w v h n = record {
   solid = ap (λ (s : Style). is_solid s.kind) n.style_is ∙ h.solid;
-  millimetres = n.percents_are ∙ h.millimetres;
-  usual_colours = n.ranges_are ∙ h.usual_colours;
+  first = n.context_is ∙ h.first;
   no_symbol = ap (λ (s : Writing). s.symbol) n.writing_is ∙ h.no_symbol;
   led = subst (λ (s : Writing). IsLed d s.letters) (sym n.writing_is) h.led;
   no_extra = n.extra_is ∙ h.no_extra;
   no_ends = n.ends_are ∙ h.no_ends;
-  outside = ap (λ (a : Area). a.in_polygon) n.area_is ∙ h.outside;
-  chords = ap (λ (a : Area). a.usual_chords) n.area_is ∙ h.chords;
   few = n.few h.few;
-  few_places = n.few_places h.outside h.few_places;
+  few_places = n.few_places (outside w h.first) h.few_places;
 }
 
 -- core's direction is d before a step, and r after it

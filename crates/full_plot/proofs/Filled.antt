@@ -1,4 +1,4 @@
--- What fills leave alone: what notes are told, and that no more strokes are kept than a plot may have.
+-- What fills leave alone: how items are read, and that no more strokes are kept than a plot may have.
 use Rattle.std.proofs.Common.{◌≡◌, ◌∙◌, ◌≤◌, ◌+◌, ℕ, refl, inl, inr, Bool, true, false, List, [], ◌∷◌, length, nat_lt, nat_eq, ℤ, pos, map}
 use Rattle.std.proofs.lemmas.Bool.{cases_Bool}
 use Rattle.plot_page.specs.Segments.{Segment}
@@ -17,96 +17,93 @@ use Rattle.full_plot.specs.Work.{worked}
 use Rattle.full_plot.specs.Worlds.{World}
 use Rattle.full_plot.proofs.Nexts.{few_kept}
 
-pub record IsFilled (w v : World) : Type 0 where
-  pub percents_are : v.percents ≡ w.percents
-  pub ranges_are : v.ranges ≡ w.ranges
-  pub area_is : v.area ≡ w.area
+-- a later world
+pub record IsLater (w v : World) : Type 0 where
+  pub context_is : v.context ≡ w.context
   pub few : length w.core.kept ≤ 4194304 → length v.core.kept ≤ 4194304
 
-filled_same : (w : World) → IsFilled w w
-filled_same w = record { percents_are = refl; ranges_are = refl; area_is = refl; few = λ h. h }
+pub later_same : (w : World) → IsLater w w
+later_same w = record { context_is = refl; few = λ h. h }
 
-filled_then : (w v u : World) → IsFilled w v → IsFilled v u → IsFilled w u
-filled_then w v u h k = record {
-  percents_are = k.percents_are ∙ h.percents_are;
-  ranges_are = k.ranges_are ∙ h.ranges_are;
-  area_is = k.area_is ∙ h.area_is;
+pub later_then : (w v u : World) → IsLater w v → IsLater v u → IsLater w u
+later_then w v u h k = record {
+  context_is = k.context_is ∙ h.context_is;
   few = λ few. k.few (h.few few);
 }
 
 -- work, and a stroke
-pub filled_work : (n : ℕ) (w : World) → IsFilled w (worked n w)
+pub filled_work : (n : ℕ) (w : World) → IsLater w (worked n w)
 filled_work n w = elim (cases_Bool (nat_lt 4194304 (length w.core.kept + w.extra + n))) [
-  | inl i ↦ rw i (record { percents_are = refl; ranges_are = refl; area_is = refl; few = λ h. h })
-  | inr i ↦ rw i (record { percents_are = refl; ranges_are = refl; area_is = refl; few = λ h. h })
+  | inl i ↦ rw i (record { context_is = refl; few = λ h. h })
+  | inr i ↦ rw i (record { context_is = refl; few = λ h. h })
 ]
 
-filled_stroke : (w : World) (l : Segment) → IsFilled w (with_stroke w l)
-filled_stroke w l = record { percents_are = refl; ranges_are = refl; area_is = refl; few = λ h. few_kept w.core.kept w.core.full (l ∷ []) h }
+filled_stroke : (w : World) (l : Segment) → IsLater w (with_stroke w l)
+filled_stroke w l = record { context_is = refl; few = λ h. few_kept w.core.kept w.core.full (l ∷ []) h }
 
-filled_lines : (w : World) (ls : List Segment) → IsFilled w (drawn w ls)
-filled_lines w ls = record { percents_are = refl; ranges_are = refl; area_is = refl; few = λ h. few_kept w.core.kept w.core.full _ h }
+filled_lines : (w : World) (ls : List Segment) → IsLater w (drawn w ls)
+filled_lines w ls = record { context_is = refl; few = λ h. few_kept w.core.kept w.core.full _ h }
 
-filled_counted : (w v : World) → IsFilled w v → IsFilled w (counted w v)
+filled_counted : (w v : World) → IsLater w v → IsLater w (counted w v)
 filled_counted w v h = elim (cases_Bool (nat_eq (length v.core.kept) (length w.core.kept))) [
-  | inl i ↦ rw i (filled_then w v (worked 1 v) h (filled_work 1 v))
+  | inl i ↦ rw i (later_then w v (worked 1 v) h (filled_work 1 v))
   | inr i ↦ rw i h
 ]
 
-ink_filled : (ink : Ink) (w : World) (p : Span) → IsFilled w (with_span ink w p)
+ink_filled : (ink : Ink) (w : World) (p : Span) → IsLater w (with_span ink w p)
 ink_filled (Width width) w p = filled_stroke w _
 ink_filled Line w p = filled_counted w (drawn w (span_stroke w.core.state p ∷ [])) (filled_lines w (span_stroke w.core.state p ∷ []))
 
 -- spans one after another
-unless_filled : (full : Bool) (w v : World) → IsFilled w v → IsFilled w (unless full w v)
-unless_filled true w v h = filled_same w
+unless_filled : (full : Bool) (w v : World) → IsLater w v → IsLater w (unless full w v)
+unless_filled true w v h = later_same w
 unless_filled false w v h = h
 
-spans_filled : (ink : Ink) (ps : List Span) (w : World) → IsFilled w (over_spans ink w ps)
-spans_filled ink [] w = filled_same w
+spans_filled : (ink : Ink) (ps : List Span) (w : World) → IsLater w (over_spans ink w ps)
+spans_filled ink [] w = later_same w
 spans_filled ink (p ∷ ps) w =
     let v : World = with_span ink w p in
-    unless_filled w.core.full w (over_spans ink v ps) (filled_then w v (over_spans ink v ps) (ink_filled ink w p) (spans_filled ink ps v))
+    unless_filled w.core.full w (over_spans ink v ps) (later_then w v (over_spans ink v ps) (ink_filled ink w p) (spans_filled ink ps v))
 
-lines_filled : (ink : Ink) (w : World) (rule : Rule) (lines : Lines) → IsFilled w (over_lines ink w rule lines)
+lines_filled : (ink : Ink) (w : World) (rule : Rule) (lines : Lines) → IsLater w (over_lines ink w rule lines)
 lines_filled ink w rule lines = spans_filled ink (spans lines rule w.buffer.edges) w
 
-edges_filled : (w : World) → IsFilled w (edges_inked w)
+edges_filled : (w : World) → IsLater w (edges_inked w)
 edges_filled w = spans_filled (Width 0) (map edge_span w.buffer.edges) w
 
-solid_is_filled : (rule : Rule) (w : World) → IsFilled w (solid_filled rule w)
+solid_is_filled : (rule : Rule) (w : World) → IsLater w (solid_filled rule w)
 solid_is_filled rule w =
     let v : World = over_lines (Width 0) w rule solid_lines in
-    filled_then w v (edges_inked v) (lines_filled (Width 0) w rule solid_lines) (edges_filled v)
+    later_then w v (edges_inked v) (lines_filled (Width 0) w rule solid_lines) (edges_filled v)
 
-shaded_is_filled : (rule : Rule) (w : World) → IsFilled w (shaded rule w)
+shaded_is_filled : (rule : Rule) (w : World) → IsLater w (shaded rule w)
 shaded_is_filled rule w = elim (cases_Bool (nat_eq w.area.fill.level 0)) [
-  | inl i ↦ rw i (filled_same w)
+  | inl i ↦ rw i (later_same w)
   | inr i ↦ elim (cases_Bool (nat_eq w.area.fill.level 100000000)) [
     | inl j ↦ rw (i, j) (solid_is_filled rule w)
     | inr j ↦ rw (i, j) (lines_filled (Width 224) w rule (shading_lines w.area.fill.level))
   ]
 ]
 
-hatched_is_filled : (rule : Rule) (more : ℤ) (w : World) → IsFilled w (hatched rule more w)
+hatched_is_filled : (rule : Rule) (more : ℤ) (w : World) → IsLater w (hatched rule more w)
 hatched_is_filled rule more w = lines_filled Line w rule (hatching_lines w more)
 
-by_kind : (kind : FillKind) (rule : Rule) (w : World) → IsFilled w (filled_by kind rule w)
+by_kind : (kind : FillKind) (rule : Rule) (w : World) → IsLater w (filled_by kind rule w)
 by_kind Solid rule w = solid_is_filled rule w
 by_kind Hatched rule w = hatched_is_filled rule (pos 0) w
 by_kind CrossHatched rule w =
-    filled_then w (hatched rule (pos 0) w) (hatched rule (pos 90000) (hatched rule (pos 0) w)) (hatched_is_filled rule (pos 0) w)
+    later_then w (hatched rule (pos 0) w) (hatched rule (pos 90000) (hatched rule (pos 0) w)) (hatched_is_filled rule (pos 0) w)
     (hatched_is_filled rule (pos 90000) (hatched rule (pos 0) w))
 by_kind Shaded rule w = shaded_is_filled rule w
 
-pub is_filled : (by_winding : Bool) (w : World) → IsFilled w (filled by_winding w)
+pub is_filled : (by_winding : Bool) (w : World) → IsLater w (filled by_winding w)
 is_filled by_winding w =
     let v : World = worked w.buffer.places w in
     elim (cases_Bool (nat_eq v.core.state.pen 0)) [
       | inl i ↦ rw i (filled_work w.buffer.places w)
-      | inr i ↦ rw i (filled_then w v (filled_by v.area.fill.kind (rule_by by_winding) v) (filled_work w.buffer.places w)
+      | inr i ↦ rw i (later_then w v (filled_by v.area.fill.kind (rule_by by_winding) v) (filled_work w.buffer.places w)
           (by_kind v.area.fill.kind (rule_by by_winding) v))
     ]
 
-pub edges_are_filled : (w : World) → IsFilled w (worked w.buffer.places (edges_drawn w))
-edges_are_filled w = filled_then w (edges_drawn w) (worked w.buffer.places (edges_drawn w)) (filled_lines w _) (filled_work w.buffer.places (edges_drawn w))
+pub edges_are_filled : (w : World) → IsLater w (worked w.buffer.places (edges_drawn w))
+edges_are_filled w = later_then w (edges_drawn w) (worked w.buffer.places (edges_drawn w)) (filled_lines w _) (filled_work w.buffer.places (edges_drawn w))

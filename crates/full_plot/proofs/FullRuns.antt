@@ -1,5 +1,6 @@
 -- Steps of core, one after another, in the profile full.
-use Rattle.std.proofs.Common.{◌≡◌, ◌∙◌, ◌<◌, ◌≤◌, ap, sym, refl, arith, inl, inr, Bool, true, ℕ, false, take, true≢false, slice_index_or, Result, Ok, Err, List, [], ◌∷◌, ◌++◌, length, Option, Some, None, ℤ}
+use Rattle.std.proofs.Common.{◌≡◌, ◌∙◌, ◌<◌, ◌≤◌, ap, sym, refl, arith, inl, inr, Bool, true, ℕ, false, true≢false, slice_index_or, Result, Ok, Err, List, [], ◌∷◌, ◌++◌, length, Option, Some, None, ℤ}
+use Rattle.std.specs.Prelude.{if◌then◌else◌}
 use Rattle.std.proofs.lemmas.List.{map-append}
 use Rattle.std.proofs.lemmas.Bool.{cases_Bool}
 use Rattle.std.specs.List.{list_all}
@@ -11,21 +12,16 @@ use Rattle.hpgl_plot.specs.Strokes.{are_in_range}
 use Rattle.hpgl_plot.specs.Machine as core
 use Rattle.hpgl_text.specs.Cut.{last_or}
 use Rattle.hpgl_text.specs.declared.instruction.Instruction.{Instruction}
-use Rattle.hpgl_text.specs.declared.instruction.Instruction.TheVariants.{PenWidth, PenColour, Circle, ArcAbsolute, ArcRelative}
+use Rattle.hpgl_text.specs.declared.instruction.Instruction.TheVariants.{PenWidth, PenColour}
 use Rattle.std.specs.Result.{IsErrAnd}
 use Rattle.hpgl_plot.specs.declared.plotter.Stop.{Stop}
 use Rattle.hpgl_plot.specs.declared.plotter.Stop.TheVariants.{Memory, OffRange}
-use Rattle.hpgl_text.specs.declared.further.Further.{Further}
-use Rattle.hpgl_text.specs.declared.further.Further.TheVariants as further
-use Rattle.full_settings.specs.CurveParameters.{arc_points}
-use Rattle.full_settings.specs.FurtherRequests.{further_request, request_by}
-use Rattle.full_settings.specs.PolygonParameters.{wedge}
-use Rattle.full_settings.specs.declared.points.ArcPoints.{ArcPoints}
-use Rattle.full_settings.specs.declared.polygon_setting.Wedge.{Wedge}
-use Rattle.full_settings.specs.declared.requests.FurtherRequest.TheVariants as request
-use Rattle.full_notes.specs.Contexts.{numbers_read, params_read}
-use Rattle.full_plot.specs.Items.{as_core, further_steps, more_steps, params_steps, request_steps}
-use Rattle.full_plot.specs.Holding.{is_own}
+use Rattle.full_settings.specs.declared.requests.FurtherRequest.{FurtherRequest}
+use Rattle.full_notes.specs.Contexts.{Context}
+use Rattle.full_notes.specs.Notes.{request_after}
+use Rattle.full_plot.specs.Items.{as_core, more_steps, params_steps, request_steps}
+use Rattle.full_plot.specs.Holding.{after_request}
+use Rattle.full_notes.proofs.Noted.{is_own}
 use Rattle.full_settings.specs.LineStyles.{is_solid, shape_by}
 use Rattle.full_settings.specs.declared.line_setting.LineKind.TheVariants as kind
 use Rattle.full_settings.specs.declared.line_setting.LineKind.{LineKind}
@@ -102,64 +98,38 @@ solid_runs w t v r h k =
     rw (solid_line w t (shape_solid w.style.kind w.style.own _ h)) (with_runs w (core.step w.core t) v r k)
 
 -- an instruction without steps of its own
-pub other_steps : (i : Instruction) (ns : List ℤ) → is_own i ≡ false → params_steps i ns ≡ as_core (meaning i ns).steps ++ more_steps i ns
-other_steps PenWidth ns h = absurd (true≢false h)
-other_steps PenColour ns h = absurd (true≢false h)
-other_steps i ns h = refl
+pub other_steps : (c : Context) (i : Instruction) (ns : List ℤ) → is_own i ≡ false → params_steps c i ns ≡ as_core (meaning i ns).steps ++ more_steps i ns
+other_steps c PenWidth ns h = absurd (true≢false h)
+other_steps c PenColour ns h = absurd (true≢false h)
+other_steps c i ns h = refl
 
-pub other_run : (w v z : World) (i : Instruction) (ns : List ℤ) → is_own i ≡ false
-    → run w (as_core (meaning i ns).steps) ≡ Some v → run v (more_steps i ns) ≡ Some z → run w (params_steps i ns) ≡ Some z
-other_run w v z i ns f h k =
-    rw (other_steps i ns f)
-    (run-append w (as_core (meaning i ns).steps) (more_steps i ns) ∙ ap (λ (o : Option World). followed o (λ (u : World). run u (more_steps i ns))) h ∙ k)
+-- some steps, and more
+pub more_run : (w v z : World) (ss ts : List FullStep) → run w ss ≡ Some v → run v ts ≡ Some z → run w (ss ++ ts) ≡ Some z
+more_run w v z ss ts h k = run-append w ss ts ∙ ap (λ (o : Option World). followed o (λ (u : World). run u ts)) h ∙ k
 
-pub other_stopped : {U : Type 0} (w v : World) (i : Instruction) (ns : List ℤ) (e : Stop) (r : Result U Stop) → is_own i ≡ false
-    → Runs {U = U} (run w (as_core (meaning i ns).steps)) v (Err e) → IsErrAnd r (λ f. f ≡ e) → Runs (run w (params_steps i ns)) v r
-other_stopped w v i ns e (Ok x) f h k = absurd k
-other_stopped w v i ns Memory (Err g) f h k = rw k tt
-other_stopped w v i ns OffRange (Err g) f h k =
-    rw (k, other_steps i ns f)
-    (run-append w (as_core (meaning i ns).steps) (more_steps i ns) ∙ ap (λ (o : Option World). followed o (λ (u : World). run u (more_steps i ns))) h)
+pub no_more : (w : World) (ss ts : List FullStep) → run w ss ≡ None → run w (ss ++ ts) ≡ None
+no_more w ss ts h = run-append w ss ts ∙ ap (λ (o : Option World). followed o (λ (u : World). run u ts)) h
 
 -- what stops a part stops all of it
-pub stopped : {U : Type 0} (o p : Option World) (u v : World) (e : Stop) (r : Result U Stop) → (o ≡ None → p ≡ None)
-    → Runs {U = U} o u (Err e) → IsErrAnd r (λ f. f ≡ e) → Runs p v r
-stopped o p u v e (Ok x) n h i = absurd i
-stopped o p u v Memory (Err f) n h i = rw i tt
-stopped o p u v OffRange (Err f) n h i = rw i (n h)
+pub stopped : {U : Type 0} (V : Type 0) (o p : Option World) (u v : World) (e : Stop) (r : Result U Stop) → (o ≡ None → p ≡ None)
+    → Runs {U = V} o u (Err e) → IsErrAnd r (λ f. f ≡ e) → Runs p v r
+stopped V o p u v e (Ok x) n h i = absurd i
+stopped V o p u v Memory (Err f) n h i = rw i tt
+stopped V o p u v OffRange (Err f) n h i = rw i (n h)
 
 -- the last number of a list
 pub last_is : (d e x : ℕ) (xs : List ℕ) → slice_index_or (x ∷ xs) (length xs) e ≡ last_or d (x ∷ xs)
 last_is d e x [] = refl
 last_is d e x (y ∷ ys) = last_is x e y ys
 
--- numbers that are no chord are read
-pub all_read : (usual : Bool) (i : Instruction) (ns : List ℤ) → is_own i ≡ false → params_read usual i ns ≡ ns
-all_read false i ns h = refl
-all_read true Circle ns h = absurd (true≢false h)
-all_read true ArcAbsolute ns h = absurd (true≢false h)
-all_read true ArcRelative ns h = absurd (true≢false h)
-all_read true i ns h = refl
+-- whether a chord is read or not
+pub any_read : (usual : Bool) (ns : List ℤ) → (if usual then ns else ns) ≡ ns
+any_read true ns = refl
+any_read false ns = refl
 
--- what is asked for does not depend on whether a chord is read
-arc_steps : (relative : Bool) (o : Option ArcPoints) (ms ns : List ℤ)
-    → request_steps (request_by (request.Arc relative) o) ms ≡ request_steps (request_by (request.Arc relative) o) ns
-arc_steps relative None ms ns = refl
-arc_steps relative (Some a) ms ns = refl
-
-edge_steps : (o : Option Wedge) (ms ns : List ℤ) → request_steps (request_by request.EdgeWedge o) ms ≡ request_steps (request_by request.EdgeWedge o) ns
-edge_steps None ms ns = refl
-edge_steps (Some w) ms ns = refl
-
-wedge_steps : (o : Option Wedge) (ms ns : List ℤ) → request_steps (request_by request.FillWedge o) ms ≡ request_steps (request_by request.FillWedge o) ns
-wedge_steps None ms ns = refl
-wedge_steps (Some w) ms ns = refl
-
-pub steps_read : (usual : Bool) (f : Further) (ns : List ℤ)
-    → request_steps (further_request f (numbers_read usual f ns)) ns ≡ further_steps f (numbers_read usual f ns)
-steps_read false f ns = refl
-steps_read true further.ArcAbsoluteThreePoint ns = arc_steps false (arc_points (take 4 ns)) ns (take 4 ns)
-steps_read true further.ArcRelativeThreePoint ns = arc_steps true (arc_points (take 4 ns)) ns (take 4 ns)
-steps_read true further.EdgeWedge ns = edge_steps (wedge (take 3 ns)) ns (take 3 ns)
-steps_read true further.FillWedge ns = wedge_steps (wedge (take 3 ns)) ns (take 3 ns)
-steps_read true f ns = refl
+-- a further instruction is in the context after it
+pub told_run : (w : World) (q r : FurtherRequest) (ns : List ℤ) (c : Context) → r ≡ q → c ≡ request_after w.context r
+    → run (record w { context = c }) (request_steps r ns) ≡ run (after_request q w) (request_steps q ns)
+told_run w q r ns c h e =
+    ap (λ (d : Context). run (record w { context = d }) (request_steps r ns)) e
+    ∙ ap (λ (p : FurtherRequest). run (after_request p w) (request_steps p ns)) h

@@ -13,8 +13,8 @@ pub mod Traces
 pub mod Filled
 pub mod Aside
 pub mod Wedged
-pub mod FewStrokes
-pub mod Told
+pub mod Later
+pub mod Noted
 pub mod CoreNotes
 pub mod CoreLabels
 pub mod AsInCore

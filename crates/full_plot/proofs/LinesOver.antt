@@ -104,7 +104,7 @@ lined_keeps_in true w v places k = traced_keeps w v places k
 lined_keeps_in false w v places k = drawn_keeps w v places k
 
 pub lined_keeps : (w v : World) (places : List Spot) → lined w places ≡ Some v → Keeps w v
-lined_keeps w v places k = lined_keeps_in w.area.in_polygon w v places k
+lined_keeps w v places k = lined_keeps_in w.context.in_polygon w v places k
 
 -- a place out of range
 pub out_of_range : (w : World) (q : Spot) → core.travelled w.core true (q ∷ []) ≡ None → if_in_range (q ∷ []) (Some w) ≡ None

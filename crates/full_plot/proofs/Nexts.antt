@@ -6,8 +6,7 @@ use Rattle.std.proofs.lemmas.Bool.{cases_Bool}
 use Rattle.std.proofs.lemmas.Bool.Decides.{nat_tests}
 use Rattle.exact.specs.declared.spot.Spot.{Spot}
 use Rattle.plot_page.specs.Segments.{Segment}
-use Rattle.plot_settings.specs.Meanings.{Step, Set, Touch, Move, Go, Edge, DrawCircle, DrawArc, Write}
-use Rattle.plot_settings.specs.declared.setting.Setting.{Setting}
+use Rattle.plot_settings.specs.Meanings.{Step, Touch, Move, Go, Edge, DrawCircle, DrawArc, Write}
 use Rattle.hpgl_plot.specs.declared.state.Position.{Position}
 use Rattle.hpgl_plot.specs.declared.state.State.{State}
 use Rattle.hpgl_plot.specs.Paths.{path, pen_placed}
@@ -25,11 +24,11 @@ use Rattle.full_settings.specs.declared.points.ArcPoints.{ArcPoints}
 use Rattle.full_settings.specs.declared.points.CurvePoints.{CurvePoints}
 use Rattle.curves.specs.Arcs.{arc_places}
 use Rattle.curves.specs.Beziers.{bezier_places}
-use Rattle.full_plot.specs.declared.area.Area.{Area}
+use Rattle.full_notes.specs.Contexts.{Context}
 use Rattle.full_plot.specs.Curves.{arc_step, arrived, curve_step, drawn_over, gone_over, if_in_range, lined, lined_in, pen_at_point, traced_over}
 use Rattle.polygons.specs.Buffers.{Contents}
 use Rattle.full_plot.specs.Lines.{line_step, lines_of}
-use Rattle.full_plot.specs.Machine.{core_step, marked, marked_in, moved, set_if, touched_in}
+use Rattle.full_plot.specs.Machine.{core_step, marked, marked_in, moved, touched_in}
 use Rattle.full_plot.specs.Polygons.{lined_by, lined_step, only_figure, trace_step, with_buffer}
 use Rattle.full_plot.specs.Texts.{at_margin, inked_at_pen, label_by, line_at, margin_by, marked_by, moved_by, moved_on, put, style_of, tick_distance, tick_end, ticked, with_margin, written}
 use Rattle.full_plot.specs.Worlds.{World, followed, with_core}
@@ -83,10 +82,6 @@ few_step c t = elim (cases_Bool (list_all are_in_range (path c.page c.state t).l
   | inr i ↦ rw i tt
 ]
 
-few_run : (ts : List Step) (c : core.World) → FewIn c (core.run c ts)
-few_run [] c = λ h. h
-few_run (t ∷ ts) c = few_then c (core.step c t) (λ (d : core.World). core.run d ts) (few_step c t) (λ (d : core.World). few_run ts d)
-
 few_inked : (c : core.World) (strokes : List (Spot × Spot)) → FewIn c (inked_at_pen c strokes)
 few_inked c strokes = few_all (map (line_at c.state.place) strokes) c true
 
@@ -105,14 +100,12 @@ few_label style c bytes = elim (cases_Bool (nat_lt 4294967296 (length bytes))) [
 -- from one world to a later one
 pub record IsNext (w v : World) : Type 0 where
   pub style_is : v.style ≡ w.style
-  pub percents_are : v.percents ≡ w.percents
   pub writing_is : v.writing ≡ w.writing
-  pub ranges_are : v.ranges ≡ w.ranges
   pub extra_is : v.extra ≡ w.extra
   pub ends_are : v.ends ≡ w.ends
-  pub area_is : v.area ≡ w.area
+  pub context_is : v.context ≡ w.context
   pub few : length w.core.kept ≤ 4194304 → length v.core.kept ≤ 4194304
-  pub few_places : w.area.in_polygon ≡ false → w.buffer.places ≤ 4194304 → v.buffer.places ≤ 4194304
+  pub few_places : w.context.in_polygon ≡ false → w.buffer.places ≤ 4194304 → v.buffer.places ≤ 4194304
 
 abbrev pub NextIn : World → Option World → Type 0
 NextIn w None = ⊤
@@ -121,12 +114,10 @@ NextIn w (Some v) = IsNext w v
 pub next_same : (w : World) → IsNext w w
 next_same w = record {
   style_is = refl;
-  percents_are = refl;
   writing_is = refl;
-  ranges_are = refl;
   extra_is = refl;
   ends_are = refl;
-  area_is = refl;
+  context_is = refl;
   few = λ h. h;
   few_places = λ a h. h;
 }
@@ -134,14 +125,12 @@ next_same w = record {
 pub next_of_next : (w v u : World) → IsNext w v → IsNext v u → IsNext w u
 next_of_next w v u h k = record {
   style_is = k.style_is ∙ h.style_is;
-  percents_are = k.percents_are ∙ h.percents_are;
   writing_is = k.writing_is ∙ h.writing_is;
-  ranges_are = k.ranges_are ∙ h.ranges_are;
   extra_is = k.extra_is ∙ h.extra_is;
   ends_are = k.ends_are ∙ h.ends_are;
-  area_is = k.area_is ∙ h.area_is;
+  context_is = k.context_is ∙ h.context_is;
   few = λ few. k.few (h.few few);
-  few_places = λ a few. k.few_places (ap (λ (x : Area). x.in_polygon) h.area_is ∙ a) (h.few_places a few);
+  few_places = λ a few. k.few_places (ap (λ (c : Context). c.in_polygon) h.context_is ∙ a) (h.few_places a few);
 }
 
 next_past : (w v : World) (o : Option World) → IsNext w v → NextIn v o → NextIn w o
@@ -156,27 +145,23 @@ next_by : (w : World) (c : core.World) (r : Option Run) (q : Spot) → (length w
     → IsNext w (record w { core = c; run = r; margin = q })
 next_by w c r q h = record {
   style_is = refl;
-  percents_are = refl;
   writing_is = refl;
-  ranges_are = refl;
   extra_is = refl;
   ends_are = refl;
-  area_is = refl;
+  context_is = refl;
   few = h;
   few_places = λ a k. k;
 }
 
 -- with another buffer
 next_with_buffer : (w : World) (c : core.World) (b : Contents) → (length w.core.kept ≤ 4194304 → length c.kept ≤ 4194304)
-    → (w.area.in_polygon ≡ false → w.buffer.places ≤ 4194304 → b.places ≤ 4194304) → IsNext w (record w { core = c; buffer = b })
+    → (w.context.in_polygon ≡ false → w.buffer.places ≤ 4194304 → b.places ≤ 4194304) → IsNext w (record w { core = c; buffer = b })
 next_with_buffer w c b h k = record {
   style_is = refl;
-  percents_are = refl;
   writing_is = refl;
-  ranges_are = refl;
   extra_is = refl;
   ends_are = refl;
-  area_is = refl;
+  context_is = refl;
   few = h;
   few_places = k;
 }
@@ -187,13 +172,6 @@ next_with_core w (Some c) h = next_by w c w.run w.margin h
 
 pub next_core : (w : World) (t : Step) → NextIn w (with_core w (core.step w.core t))
 next_core w t = next_with_core w (core.step w.core t) (few_step w.core t)
-
-pub next_run : (w : World) (ts : List Step) → NextIn w (with_core w (core.run w.core ts))
-next_run w ts = next_with_core w (core.run w.core ts) (few_run ts w.core)
-
-pub next_set : (w : World) (s : Option Setting) → NextIn w (set_if s w)
-next_set w None = next_same w
-next_set w (Some s) = next_core w (Set s)
 
 next_line : (w : World) (t : Step) → NextIn w (line_step w t)
 unfolding line_step
@@ -209,19 +187,19 @@ next_margin : (w : World) (q : Spot) (o : Option World) → NextIn w o → NextI
 next_margin w q None h = tt
 next_margin w q (Some v) h = next_of_next w v (record v { margin = q }) h (next_by v v.core v.run q (λ few. few))
 
-next_traced : (w : World) (t : Step) → w.area.in_polygon ≡ true → NextIn w (trace_step w t)
+next_traced : (w : World) (t : Step) → w.context.in_polygon ≡ true → NextIn w (trace_step w t)
 unfolding trace_step
 next_traced w t on = elim (cases_Bool (list_all are_in_range (path w.core.page w.core.state t).lines)) [
   | inl i ↦ rw i (next_with_buffer w _ _ (λ h. h) (λ off few. absurd (true≢false (sym on ∙ off))))
   | inr i ↦ rw i tt
 ]
 
-next_lined_by : (on : Bool) (w : World) (t : Step) → w.area.in_polygon ≡ on → NextIn w (lined_by on w t)
+next_lined_by : (on : Bool) (w : World) (t : Step) → w.context.in_polygon ≡ on → NextIn w (lined_by on w t)
 next_lined_by true w t e = next_traced w t e
 next_lined_by false w t e = next_line w t
 
 next_lined_step : (w : World) (t : Step) → NextIn w (lined_step w t)
-next_lined_step w t = next_lined_by w.area.in_polygon w t refl
+next_lined_step w t = next_lined_by w.context.in_polygon w t refl
 
 -- the edge of a rectangle has five places
 edge_places : (w : World) (relative : Bool) (x y : ℤ) → (only_figure (lines_of w.core.page w.core.state (Edge relative x y))).places ≤ 4194304
@@ -276,12 +254,12 @@ next_touched false w = next_core w Touch
 next_go : (w : World) (t : Step) → NextIn w (moved w t)
 next_go w t =
     next_then w (lined_step w t) (λ (v : World). marked (at_margin v)) (next_lined_step w t)
-    (λ (v : World). next_past v (at_margin v) (marked (at_margin v)) (next_at_margin v) (next_symbol v.area.in_polygon (at_margin v)))
+    (λ (v : World). next_past v (at_margin v) (marked (at_margin v)) (next_at_margin v) (next_symbol v.context.in_polygon (at_margin v)))
 
 pub next_core_step : (w : World) (t : Step) → NextIn w (core_step w t)
 next_core_step w (Move x y) = next_go w (Move x y)
 next_core_step w (Go relative x y) = next_go w (Go relative x y)
-next_core_step w Touch = next_touched w.area.in_polygon w
+next_core_step w Touch = next_touched w.context.in_polygon w
 next_core_step w (DrawArc relative a) =
     next_then w (lined_step w (DrawArc relative a)) (λ (v : World). Some (at_margin v)) (next_lined_step w (DrawArc relative a)) next_at_margin
 next_core_step w (Edge relative x y) =
@@ -298,18 +276,18 @@ next_drawn_over w places = elim (cases_Bool (are_in_range (w.core.state.place �
   | inr i ↦ rw i tt
 ]
 
-next_traced_over : (w : World) (places : List Spot) → w.area.in_polygon ≡ true → NextIn w (traced_over w places)
+next_traced_over : (w : World) (places : List Spot) → w.context.in_polygon ≡ true → NextIn w (traced_over w places)
 next_traced_over w places on = elim (cases_Bool (are_in_range (w.core.state.place ∷ places))) [
   | inl i ↦ rw i (next_with_buffer w w.core _ (λ h. h) (λ off few. absurd (true≢false (sym on ∙ off))))
   | inr i ↦ rw i tt
 ]
 
-next_lined_in : (on : Bool) (w : World) (places : List Spot) → w.area.in_polygon ≡ on → NextIn w (lined_in on w places)
+next_lined_in : (on : Bool) (w : World) (places : List Spot) → w.context.in_polygon ≡ on → NextIn w (lined_in on w places)
 next_lined_in true w places e = next_traced_over w places e
 next_lined_in false w places e = next_drawn_over w places
 
 next_lined : (w : World) (places : List Spot) → NextIn w (lined w places)
-next_lined w places = next_lined_in w.area.in_polygon w places refl
+next_lined w places = next_lined_in w.context.in_polygon w places refl
 
 next_over : (w : World) (places : List Spot) (end : Position) → NextIn w (gone_over w places end)
 next_over w places end =

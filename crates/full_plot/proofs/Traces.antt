@@ -85,4 +85,4 @@ moved_as_gone false w x y = refl
 
 pub move_is_go : (w : World) (x y : ℤ) → core_step w (Go w.core.state.is_relative x y) ≡ core_step w (Move x y)
 move_is_go w x y =
-    ap (λ (o : Option World). followed o (λ (v : World). marked (at_margin v))) (sym (moved_as_gone w.area.in_polygon w x y))
+    ap (λ (o : Option World). followed o (λ (v : World). marked (at_margin v))) (sym (moved_as_gone w.context.in_polygon w x y))

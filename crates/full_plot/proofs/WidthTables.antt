@@ -1,9 +1,5 @@
--- Numbers of PW and DI, and a PW in percent.
-use Rattle.std.proofs.Common.{◌≡◌, ◌∙◌, sym, ℕ, ℤ, List, [], take, ◌∷◌, refl, ap, Option, Some}
-use Rattle.hpgl_text.specs.declared.instruction.Instruction.TheVariants.{PenWidth}
-use Rattle.full_plot.specs.Items.{params_steps}
-use Rattle.full_plot.specs.Worlds.{World, followed}
-use Rattle.full_plot.specs.Machine.{run, widened_if, pen_width_step}
+-- Numbers of PW and DI.
+use Rattle.std.proofs.Common.{◌≡◌, ℤ, List, [], take, ◌∷◌, refl}
 use Rattle.full_settings.specs.LetterParameters.{direction}
 use Rattle.full_settings.specs.WidthParameters.{percent_width}
 
@@ -18,9 +14,3 @@ pub first_direction : (ns : List ℤ) → direction (take 7 ns) ≡ direction ns
 first_direction [] = refl
 first_direction (x ∷ []) = refl
 first_direction (x ∷ (y ∷ ns)) = refl
-
--- a PW in percent
-pub width_in_percent : (w z : World) (ns : List ℤ) (ps : List (Option ℕ)) → w.percents ≡ Some ps
-    → z ≡ widened_if (percent_width ns) w → run w (params_steps PenWidth ns) ≡ Some z
-width_in_percent w z ns ps f h =
-    (ap (λ (q : Option (List (Option ℕ))). followed (pen_width_step q w ns) (λ (v : World). Some v)) f ∙ ap (λ (v : World). Some v) (sym h))

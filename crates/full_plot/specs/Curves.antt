@@ -47,7 +47,7 @@ lined_in true w places = traced_over w places
 lined_in false w places = drawn_over w places
 
 abbrev pub lined : World → List Spot → Option World
-lined w places = lined_in w.area.in_polygon w places
+lined w places = lined_in w.context.in_polygon w places
 
 -- the pen, and the left margin, at a position
 abbrev pub arrived : Position → World → World

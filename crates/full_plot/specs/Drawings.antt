@@ -10,24 +10,24 @@ use Rattle.hpgl_text.specs.declared.profile.Profile.TheVariants.{Full}
 use Rattle.hpgl_plot.specs.declared.fault.PlotFault.{PlotFault}
 use Rattle.hpgl_plot.specs.declared.fault.PlotFault.TheVariants as fault
 use Rattle.hpgl_plot.specs.Machine as core
-use Rattle.full_plot.specs.Items.{full_steps}
-use Rattle.full_settings.specs.ColourRanges.{usual_ranges}
+use Rattle.full_plot.specs.Items.{taken}
 use Rattle.full_settings.specs.LineStyles.{usual_style}
-use Rattle.full_notes.specs.Contexts.{read_in}
-use Rattle.full_plot.specs.Worlds.{World, context_of, usual_area, usual_writing}
+use Rattle.full_settings.specs.Widths.{all_percents}
+use Rattle.full_notes.specs.Contexts.{first_context}
+use Rattle.full_plot.specs.Worlds.{World, usual_area, usual_writing}
 use Rattle.polygons.specs.Buffers.{empty}
-use Rattle.full_plot.specs.Machine.{run, ends_with}
+use Rattle.full_plot.specs.Machine.{ends_with}
 
 -- before the first item
 abbrev pub at_start : Page → World
 at_start page = record {
   core = core.at_start page;
+  context = first_context;
   style = usual_style;
   run = None;
-  percents = None;
+  percents = all_percents None;
   writing = usual_writing;
   margin = (core.at_start page).state.place;
-  ranges = usual_ranges;
   area = usual_area;
   buffer = empty;
   extra = 0;
@@ -47,7 +47,7 @@ ended (Some w) at go = if is_too_much w then Err (fault.TooManyStrokes at) else 
 
 abbrev pub runs : World → List ItemShape → Result World PlotFault
 runs w [] = Ok w
-runs w (i ∷ more) = ended (run w (full_steps (read_in (context_of w) i.body))) i.at (λ (v : World). runs v more)
+runs w (i ∷ more) = ended (taken w i.body) i.at (λ (v : World). runs v more)
 
 abbrev pub outcome : Page → List ℕ → Result World PlotFault
 outcome page plot = runs (at_start page) (cut_by Full plot)

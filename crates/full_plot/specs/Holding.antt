@@ -1,13 +1,13 @@
--- What is held back while core draws lines, and brought back when they are drawn in the line type; and which
--- instructions of core have steps of their own.
+-- What is held back while core draws lines, and brought back when they are drawn in the line type; and the context
+-- after an instruction.
 use Rattle.std.specs.Prelude.{ℕ, Bool, true, false, List, []}
 use Rattle.plot_page.specs.Segments.{Segment}
 use Rattle.hpgl_text.specs.declared.instruction.Instruction.{Instruction}
-use Rattle.hpgl_text.specs.declared.instruction.Instruction.TheVariants.{PenWidth, PenColour, Circle, ArcAbsolute}
-use Rattle.hpgl_text.specs.declared.instruction.Instruction.TheVariants.{ArcRelative}
 use Rattle.hpgl_plot.specs.Strokes.{by_a_pen}
 use Rattle.hpgl_plot.specs.Machine as core
 use Rattle.full_plot.specs.declared.lines.Held.{Held}
+use Rattle.full_settings.specs.declared.requests.FurtherRequest.{FurtherRequest}
+use Rattle.full_notes.specs.Notes.{params_after, request_after}
 use Rattle.full_plot.specs.Worlds.{World}
 
 -- core without strokes, by a pen that draws
@@ -39,11 +39,9 @@ put_down is_down w = record w { core = record w.core { state = record w.core.sta
 abbrev pub lowered_world : World → World
 lowered_world w = put_down true w
 
--- whether an instruction has steps of its own
-abbrev pub is_own : Instruction → Bool
-is_own PenWidth = true
-is_own PenColour = true
-is_own Circle = true
-is_own ArcAbsolute = true
-is_own ArcRelative = true
-is_own _ = false
+-- the context after what a further instruction asks for, or after an instruction of core
+abbrev pub after_request : FurtherRequest → World → World
+after_request r w = record w { context = request_after w.context r }
+
+abbrev pub after_params : Instruction → World → World
+after_params i w = record w { context = params_after w.context i }

@@ -1,34 +1,37 @@
 -- The steps of the items of a plot in the profile full.
-use Rattle.std.specs.Prelude.{ℤ, List, [], ◌∷◌, ◌++◌, map, Option, Some, None, if◌then◌else◌}
+use Rattle.std.specs.Prelude.{ℤ, Bool, true, false, List, [], ◌∷◌, ◌++◌, map, Option, Some, None, if◌then◌else◌}
 use Rattle.hpgl_text.specs.Shapes.{BodyShape, Params, Kept, Symbol}
 use Rattle.hpgl_text.specs.Shapes as shape
-use Rattle.hpgl_text.specs.declared.further.Further.{Further}
 use Rattle.hpgl_text.specs.declared.instruction.Instruction.{Instruction}
 use Rattle.hpgl_text.specs.declared.instruction.Instruction.TheVariants.{Initialize, DefaultValues, InputPoints}
 use Rattle.hpgl_text.specs.declared.instruction.Instruction.TheVariants.{PenWidth, PenColour, CharacterSize}
 use Rattle.hpgl_text.specs.declared.instruction.Instruction.TheVariants.{Direction}
 use Rattle.plot_settings.specs.declared.setting.Setting.TheVariants.{Start}
-use Rattle.plot_settings.specs.Meanings.{Step, Set, meaning, body_steps}
+use Rattle.plot_settings.specs.Meanings.{Step, Set, meaning, sets, body_steps}
 use Rattle.full_settings.specs.declared.requests.FurtherRequest.{FurtherRequest}
 use Rattle.full_settings.specs.declared.requests.FurtherRequest.TheVariants as request
 use Rattle.full_settings.specs.declared.letter_setting.LetterSetting.{LetterSetting}
 use Rattle.full_settings.specs.declared.letter_setting.LetterSetting.TheVariants.{AbsoluteSize}
+use Rattle.full_settings.specs.declared.width_setting.WidthSetting.{WidthSetting}
+use Rattle.full_settings.specs.ColourRanges.{pen_colour_in}
 use Rattle.full_settings.specs.CurveParameters.{curve_points}
-use Rattle.full_settings.specs.FurtherRequests.{further_request}
 use Rattle.full_settings.specs.LetterParameters.{direction}
-use Rattle.full_plot.specs.Machine.{FullStep, Core, Style, Restyle, Restart, WidthBy, ColourBy, Widen, Rewiden}
-use Rattle.full_plot.specs.Machine.{PointsBy, RangesBy, Letter, Mark, Keep, Print, Place, TickBy, Tick}
-use Rattle.full_plot.specs.Machine.{ArcThrough, Curve, PolygonBy, EdgeBuffer, FillBuffer, FillBy, AnchorBy, ChordsBy}
-use Rattle.full_plot.specs.Machine.{Rectangle, WedgeEdge, WedgeFill, EndSheet}
+use Rattle.full_settings.specs.WidthParameters.{percent_width}
+use Rattle.full_notes.specs.Contexts.{Context, read_in, request_in}
+use Rattle.full_notes.specs.Notes.{context_after}
+use Rattle.full_plot.specs.Worlds.{World}
+use Rattle.full_plot.specs.Machine.{FullStep, Core, Style, Restyle, Restart, Widen, Rewiden, PointsBy, Letter, Mark}
+use Rattle.full_plot.specs.Machine.{Keep, Print, Place, TickBy, Tick, ArcThrough, Curve, PolygonBy, EdgeBuffer}
+use Rattle.full_plot.specs.Machine.{FillBuffer, FillBy, AnchorBy, Rectangle, WedgeEdge, WedgeFill, EndSheet, run}
 
--- the steps of what a further instruction asks for by its numbers
+-- the steps of what a further instruction asks for by its numbers; CR and CT only change how other items are read
 abbrev pub request_steps : FurtherRequest → List ℤ → List FullStep
 request_steps (request.Line s) ns = Style s ∷ []
 request_steps (request.Width s) ns = Widen s ∷ []
 request_steps (request.Letter s) ns = Letter s ∷ []
 request_steps (request.Ticks t) ns = TickBy t ∷ []
 request_steps (request.Points p) ns = PointsBy p ∷ []
-request_steps (request.Colours r) ns = RangesBy r ∷ []
+request_steps (request.Colours r) ns = []
 request_steps (request.Move m) ns = Place m ∷ []
 request_steps (request.Tick is_upright) ns = Tick is_upright ∷ []
 request_steps (request.Arc relative points) ns = ArcThrough relative points ∷ []
@@ -41,14 +44,11 @@ request_steps (request.Anchor a) ns = AnchorBy a ∷ []
 request_steps (request.Rectangle relative c) ns = Rectangle relative c ∷ []
 request_steps (request.EdgeWedge w) ns = WedgeEdge w ∷ []
 request_steps (request.FillWedge w) ns = WedgeFill w ∷ []
-request_steps (request.Chords usual) ns = ChordsBy usual ∷ []
+request_steps (request.Chords usual) ns = []
 request_steps request.Print ns = Print ∷ []
 request_steps request.EndSheet ns = EndSheet ∷ []
 request_steps request.Begin ns = Core (Set Start) ∷ (Restart ∷ [])
 request_steps request.Wrong ns = []
-
-abbrev pub further_steps : Further → List ℤ → List FullStep
-further_steps f ns = request_steps (further_request f ns) ns
 
 -- wrong numbers set nothing
 abbrev pub letters_steps : Option LetterSetting → List FullStep
@@ -70,14 +70,27 @@ abbrev pub as_core : List Step → List FullStep
 as_core steps = map Core steps
 
 -- PW is in millimetres or in percent, as the most recent WU says, and PC in the ranges of the most recent CR
-abbrev pub params_steps : Instruction → List ℤ → List FullStep
-params_steps PenWidth ns = WidthBy ns ∷ []
-params_steps PenColour ns = ColourBy ns ∷ []
-params_steps instruction ns = as_core (meaning instruction ns).steps ++ more_steps instruction ns
+abbrev pub widths_steps : Option WidthSetting → List FullStep
+widths_steps (Some s) = Widen s ∷ []
+widths_steps None = []
 
-abbrev pub full_steps : BodyShape → List FullStep
-full_steps (shape.Further f ns) = further_steps f ns
-full_steps (Params instruction ns) = params_steps instruction ns
-full_steps (Kept bytes) = Keep bytes ∷ []
-full_steps (Symbol byte) = Mark byte ∷ []
-full_steps body = as_core (body_steps body)
+abbrev pub width_steps : Bool → List ℤ → List FullStep
+width_steps true ns = widths_steps (percent_width ns)
+width_steps false ns = as_core (meaning PenWidth ns).steps
+
+abbrev pub params_steps : Context → Instruction → List ℤ → List FullStep
+params_steps c PenWidth ns = width_steps c.in_percent ns
+params_steps c PenColour ns = as_core (sets (pen_colour_in c.ranges ns)).steps
+params_steps c instruction ns = as_core (meaning instruction ns).steps ++ more_steps instruction ns
+
+abbrev pub full_steps : Context → BodyShape → List FullStep
+full_steps c (shape.Further f ns) = request_steps (request_in c f ns) ns
+full_steps c (Params instruction ns) = params_steps c instruction ns
+full_steps c (Kept bytes) = Keep bytes ∷ []
+full_steps c (Symbol byte) = Mark byte ∷ []
+full_steps c body = as_core (body_steps body)
+
+-- an item is read by the context before it, and makes its steps in the one after it
+abbrev pub taken : World → BodyShape → Option World
+taken w body =
+    run (record w { context = context_after w.context body }) (full_steps w.context (read_in w.context body))

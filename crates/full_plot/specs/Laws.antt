@@ -9,7 +9,7 @@ use Rattle.hpgl_plot.specs.Machine as core
 use Rattle.hpgl_plot.specs.Strokes.{strokes, refusal}
 use Rattle.hpgl_plot.specs.Notes as noting
 use Rattle.full_plot.specs.Drawings.{at_start, runs, refusal_in, strokes_in, ends_in}
-use Rattle.full_plot.specs.Worlds.{World, context_of}
+use Rattle.full_plot.specs.Worlds.{World}
 use Rattle.full_notes.specs.Notes.{context_after, notes}
 
 -- what only the profile full reads is not of core, nor is a DI along no axis; nor is a label of more than 2^32 bytes,
@@ -54,7 +54,7 @@ CoreDrawsAsInCore = (page : Page) (items : List ItemShape) → All IsCoreItem it
 abbrev pub CoreNotedAsInCore : Type 0
 CoreNotedAsInCore = (items : List ItemShape) → All IsCoreItem items → notes items ≡ noting.notes items
 
--- what notes are told is as a plot sets it
+-- the steps of an item leave the context that notes have after it
 abbrev pub NotesAreTold : Type 0
 NotesAreTold = (w v : World) (i : ItemShape) → runs w (i ∷ []) ≡ Ok v
-    → context_of v ≡ context_after (context_of w) i.body
+    → v.context ≡ context_after w.context i.body

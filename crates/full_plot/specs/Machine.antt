@@ -1,13 +1,12 @@
 -- A plot in the profile full, one step at a time: the steps of core, with lines in the line type and labels in the
 -- style that is set, and further steps.
-use Rattle.std.specs.Prelude.{◌≡◌, ℕ, ℤ, Bool, true, false, List, [], ◌∷◌, ◌++◌, length, nat_lt}
+use Rattle.std.specs.Prelude.{◌≡◌, ℕ, Bool, true, false, List, [], ◌∷◌, ◌++◌, length, nat_lt}
 use Rattle.std.specs.Prelude.{if◌then◌else◌, Option, Some, None, Result, Ok, Err, ⊤}
 use Rattle.plot_page.specs.declared.page.Page.{Page}
 use Rattle.exact.specs.declared.spot.Spot.{Spot}
 use Rattle.polygons.specs.Buffers.{empty}
 use Rattle.hpgl_text.specs.Cut.{last_or}
-use Rattle.hpgl_text.specs.declared.instruction.Instruction.TheVariants.{PenWidth}
-use Rattle.plot_settings.specs.Meanings.{Step, Set, Touch, Move, Go, Edge, DrawCircle, DrawArc, Write, meaning}
+use Rattle.plot_settings.specs.Meanings.{Step, Set, Touch, Move, Go, Edge, DrawCircle, DrawArc, Write}
 use Rattle.plot_settings.specs.declared.figure.Corner.{Corner}
 use Rattle.plot_settings.specs.declared.setting.Rotation.{Rotation}
 use Rattle.plot_settings.specs.declared.setting.Rotation.TheVariants.{Quarter, ThreeQuarters}
@@ -17,7 +16,6 @@ use Rattle.hpgl_plot.specs.declared.plotter.Stop.TheVariants.{Memory, OffRange}
 use Rattle.hpgl_plot.specs.declared.state.State.{State}
 use Rattle.hpgl_plot.specs.Machine as core
 use Rattle.full_settings.specs.declared.character_moves.CharacterMove.{CharacterMove}
-use Rattle.full_settings.specs.declared.colour_range.ColourRanges.{ColourRanges}
 use Rattle.full_settings.specs.declared.letter_setting.LetterSetting.{LetterSetting}
 use Rattle.full_settings.specs.declared.line_setting.LineSetting.{LineSetting}
 use Rattle.full_settings.specs.declared.page_points.RelativePoints.{RelativePoints}
@@ -30,11 +28,9 @@ use Rattle.full_settings.specs.declared.polygon_setting.PolygonStep.{PolygonStep
 use Rattle.full_settings.specs.declared.polygon_setting.Wedge.{Wedge}
 use Rattle.full_settings.specs.declared.tick_length.TickLength.{TickLength}
 use Rattle.full_settings.specs.declared.width_setting.WidthSetting.{WidthSetting}
-use Rattle.full_settings.specs.ColourRanges.{usual_ranges, pen_colour_in}
 use Rattle.full_settings.specs.FillParameters.{fill_with}
 use Rattle.full_settings.specs.LineStyles.{style_with, usual_style, diagonal}
 use Rattle.full_settings.specs.RelativePoints.{setting_of}
-use Rattle.full_settings.specs.WidthParameters.{percent_width}
 use Rattle.full_settings.specs.Widths.{widths_by, percents_with, grains_with}
 use Rattle.full_plot.specs.declared.plotter.FullPlotter.{FullPlotter}
 use Rattle.full_plot.specs.Curves.{arc_step, curve_step, if_in_range, pen_at_point}
@@ -51,7 +47,7 @@ marked_in true w = Some w
 marked_in false w = marked_by w.writing.symbol w
 
 abbrev pub marked : World → Option World
-marked w = marked_in w.area.in_polygon w
+marked w = marked_in w.context.in_polygon w
 
 -- a move: then the left margin is where the pen is, and the symbol is drawn there
 abbrev pub moved : World → Step → Option World
@@ -63,7 +59,7 @@ touched_in true w = Some w
 touched_in false w = with_core w (core.step w.core Touch)
 
 abbrev pub touched : World → Option World
-touched w = touched_in w.area.in_polygon w
+touched w = touched_in w.context.in_polygon w
 
 -- a step of core: moves, rectangles, circles and arcs are drawn in the line type, or are points of a polygon in polygon
 -- mode; after an arc, too, the left margin is where the pen is; labels are in the style that is set; otherwise a step
@@ -79,37 +75,25 @@ core_step w (Write bytes) = written w bytes
 core_step w t = with_core w (core.step w.core t)
 
 -- widths in grains, as core has them: those in percent are taken of P1 and P2 as they are now
-abbrev pub widths_in : Option (List (Option ℕ)) → State → List ℕ
-widths_in None s = s.widths
-widths_in (Some percents) s = widths_by (diagonal s.frame.points) percents s.widths
+abbrev pub widths_in : Bool → List (Option ℕ) → State → List ℕ
+widths_in false percents s = s.widths
+widths_in true percents s = widths_by (diagonal s.frame.points) percents s.widths
 
 abbrev pub with_widths : World → List ℕ → World
 with_widths w widths = record w { core = record w.core { state = record w.core.state { widths = widths } } }
 
 abbrev pub rewidened : World → World
-rewidened w = with_widths w (widths_in w.percents w.core.state)
+rewidened w = with_widths w (widths_in w.context.in_percent w.percents w.core.state)
 
 -- after a WU, a PT or a PW in percent
-abbrev pub widened : WidthSetting → World → World
-widened s w =
+abbrev pub widths_set : WidthSetting → World → World
+widths_set s w =
     let selected = w.core.state.pen in
     let set_in_grains = with_widths w (grains_with s selected w.core.state.widths) in
-    rewidened (record set_in_grains { percents = percents_with s selected w.percents })
+    record set_in_grains { percents = percents_with s selected w.percents }
 
--- wrong numbers set nothing
-abbrev pub widened_if : Option WidthSetting → World → World
-widened_if None w = w
-widened_if (Some s) w = widened s w
-
--- after a PW with these numbers: in millimetres it is core's
-abbrev pub pen_width_step : Option (List (Option ℕ)) → World → List ℤ → Option World
-pen_width_step None w ns = with_core w (core.run w.core (meaning PenWidth ns).steps)
-pen_width_step (Some percents) w ns = Some (widened_if (percent_width ns) w)
-
--- a setting of core, or none
-abbrev pub set_if : Option Setting → World → Option World
-set_if None w = Some w
-set_if (Some s) w = with_core w (core.step w.core (Set s))
+abbrev pub widened : WidthSetting → World → World
+widened s w = rewidened (widths_set s w)
 
 -- the width and the height of the page as RO turns it
 abbrev pub page_width : Page → Rotation → ℕ
@@ -134,15 +118,15 @@ abbrev pub then_rewidened : Option World → Option World
 then_rewidened None = None
 then_rewidened (Some w) = Some (rewidened w)
 
--- DF, besides what it does in core: the line style and what is set for labels and polygons are those of the start, and
--- the buffer is empty
+-- DF, besides what it does in core: the line style, what is set for labels and how polygons are filled are those of the
+-- start, and the buffer is empty
 abbrev pub restyled : World → World
 restyled w =
     record w { style = usual_style; run = None; writing = usual_writing; area = usual_area; buffer = empty }
 
--- IN and BP, besides: so are the widths and the ranges of colours, and the left margin is where the pen is
+-- IN and BP, besides: the left margin is where the pen is
 abbrev pub restarted : World → World
-restarted w = at_margin (record (restyled w) { percents = None; ranges = usual_ranges })
+restarted w = at_margin (restyled w)
 
 -- a PB, whose bytes are work
 abbrev pub printed : World → Option World
@@ -162,21 +146,18 @@ abbrev pub then_filled : Option World → Option World
 then_filled None = None
 then_filled (Some w) = Some (filled false w)
 
--- a step of core; what LT or UL sets; what DF and what IN do besides; a PW and a PC with these numbers; what WU or PT
--- sets; widths by other P1 and P2; P1 and P2 by IR; the ranges of CR; what SR, SL, DI, DR, ES, LO or DV sets; the
--- symbol of SM; the text of BL, and PB; a CP; what TL sets, and XT or YT; an AT or an RT, and a curve of BZ or BR; a
--- PM; EP, and FP by winding or not; what FT, AC and CT set; an RA or an RR; an EW, and a WG; the end of a sheet
+-- a step of core; what LT or UL sets; what DF and what IN do besides; what WU, PT or a PW in percent sets; widths by
+-- other P1 and P2; P1 and P2 by IR; what SR, SL, DI, DR, ES, LO or DV sets; the symbol of SM; the text of BL, and PB; a
+-- CP; what TL sets, and XT or YT; an AT or an RT, and a curve of BZ or BR; a PM; EP, and FP by winding or not; what FT
+-- and AC set; an RA or an RR; an EW, and a WG; the end of a sheet
 pub data FullStep : Type 0 where
   Core : Step → FullStep
   Style : LineSetting → FullStep
   Restyle : FullStep
   Restart : FullStep
-  WidthBy : List ℤ → FullStep
-  ColourBy : List ℤ → FullStep
   Widen : WidthSetting → FullStep
   Rewiden : FullStep
   PointsBy : RelativePoints → FullStep
-  RangesBy : ColourRanges → FullStep
   Letter : LetterSetting → FullStep
   Mark : Option ℕ → FullStep
   Keep : List ℕ → FullStep
@@ -191,7 +172,6 @@ pub data FullStep : Type 0 where
   FillBuffer : Bool → FullStep
   FillBy : FillSetting → FullStep
   AnchorBy : Anchor → FullStep
-  ChordsBy : Bool → FullStep
   Rectangle : Bool → Corner → FullStep
   WedgeEdge : Wedge → FullStep
   WedgeFill : Wedge → FullStep
@@ -204,18 +184,15 @@ last_end ends = last_or 0 ends
 abbrev pub ends_with : List ℕ → ℕ → List ℕ
 ends_with ends count = if nat_lt (last_end ends) count then ends ++ count ∷ [] else ends
 
--- an LT or a UL ends the run
+-- no step sets what decides how items are read; an LT or a UL ends the run
 abbrev pub step : World → FullStep → Option World
 step w (Core t) = core_step w t
 step w (Style s) = Some (record w { style = style_with s w.style; run = None })
 step w Restyle = Some (restyled w)
 step w Restart = Some (restarted w)
-step w (WidthBy ns) = pen_width_step w.percents w ns
-step w (ColourBy ns) = set_if (pen_colour_in w.ranges ns) w
 step w (Widen s) = Some (widened s w)
 step w Rewiden = Some (rewidened w)
 step w (PointsBy p) = then_rewidened (with_core w (core.step w.core (Set (points_set w p))))
-step w (RangesBy r) = Some (record w { ranges = r })
 step w (Letter s) = Some (lettered s w)
 step w (Mark byte) = Some (record w { writing = record w.writing { symbol = byte } })
 step w (Keep bytes) = Some (record w { writing = record w.writing { text = bytes } })
@@ -230,7 +207,6 @@ step w EdgeBuffer = Some (worked w.buffer.places (edges_drawn w))
 step w (FillBuffer by_winding) = Some (filled by_winding w)
 step w (FillBy s) = Some (record w { area = record w.area { fill = fill_with s w.area.fill } })
 step w (AnchorBy a) = anchored w a
-step w (ChordsBy usual) = Some (record w { area = record w.area { usual_chords = usual } })
 step w (Rectangle relative c) = then_filled (kept_step w (Edge relative c.x c.y))
 step w (WedgeEdge wedge) = wedge_edged w wedge
 step w (WedgeFill wedge) = then_filled (wedge_kept w wedge)
@@ -249,12 +225,12 @@ Runs ran new (Err OffRange) = ran ≡ None
 abbrev pub seen : FullPlotter → World
 seen p = record {
   core = core.seen p.plotter;
+  context = p.context;
   style = p.style;
   run = p.run;
   percents = p.percents;
   writing = p.writing;
   margin = p.margin;
-  ranges = p.ranges;
   area = p.area;
   buffer = p.buffer;
   extra = p.extra;

@@ -68,7 +68,7 @@ lined_by true w t = trace_step w t
 lined_by false w t = line_step w t
 
 abbrev pub lined_step : World → Step → Option World
-lined_step w t = lined_by w.area.in_polygon w t
+lined_step w t = lined_by w.context.in_polygon w t
 
 -- the edge of a rectangle, which is the only polygon in the buffer then
 abbrev pub edge_step : World → Step → Option World
@@ -83,15 +83,11 @@ kept_step w t =
     then Some (record w { buffer = only_figure (lines_of page s t) })
     else None
 
--- polygon mode is on, or not
-abbrev pub in_mode : Bool → World → World
-in_mode on w = record w { area = record w.area { in_polygon = on } }
-
--- PM
+-- PM: polygon mode begins with an empty buffer and the pen's place, or a polygon is closed
 abbrev pub polygon_set : PolygonStep → World → World
-polygon_set Begin w = in_mode true (record w { buffer = begun_at empty w.core.state.place })
+polygon_set Begin w = record w { buffer = begun_at empty w.core.state.place }
 polygon_set Close w = record w { buffer = closed w.buffer w.core.state.is_down }
-polygon_set End w = in_mode false (record w { buffer = closed w.buffer w.core.state.is_down })
+polygon_set End w = record w { buffer = closed w.buffer w.core.state.is_down }
 
 -- the edges of the buffer as lines, whatever pen is selected
 abbrev pub edge_line : State → Edge → Segment

@@ -1,11 +1,9 @@
 -- What is set, where the pen is, and what is drawn in the profile full: what core has, and more.
-use Rattle.std.specs.Prelude.{ℕ, pos, false, List, [], Option, Some, None}
-use Rattle.std.specs.Option.{is_some}
+use Rattle.std.specs.Prelude.{ℕ, pos, List, [], Option, Some, None}
 use Rattle.exact.specs.declared.spot.Spot.{Spot}
 use Rattle.line_types.specs.declared.run.Run.{Run}
 use Rattle.hpgl_plot.specs.Machine as core
 use Rattle.polygons.specs.Buffers.{Contents}
-use Rattle.full_settings.specs.declared.colour_range.ColourRanges.{ColourRanges}
 use Rattle.full_settings.specs.declared.tick_length.TickLength.{TickLength}
 use Rattle.full_settings.specs.FillParameters.{usual_fill}
 use Rattle.full_settings.specs.Letters.{LetterStyle, usual_letters}
@@ -30,36 +28,26 @@ usual_writing = record { letters = usual_letters; symbol = None; text = []; tick
 abbrev pub page_origin : Spot
 page_origin = record { x = pos 0; y = pos 0 }
 
--- what is set for polygons at the start, and after IN and DF: polygon mode is off, and a line of hatching goes through
--- the page's lower left corner
+-- how polygons are filled at the start, and after IN and DF: a line of hatching goes through the page's lower left corner
 abbrev pub usual_area : Area
-usual_area = record { in_polygon = false; fill = usual_fill; anchor = page_origin; usual_chords = false }
+usual_area = record { fill = usual_fill; anchor = page_origin }
 
--- what core has: the page, the state and the strokes; the line style, and the run of its pattern; the widths of pens in
--- percent, or None while widths are in millimetres; what is set for labels, and their left margin, a place; the ranges
--- of colours; what is set for polygons, and the polygon buffer; how much work besides strokes counts; for each sheet
--- that has ended, how many strokes were made until then
+-- what core has: the page, the state and the strokes; what decides how the next item is read; the line style, and the run
+-- of its pattern; the widths of pens in percent, which have an effect while widths are in percent; what is set for
+-- labels, and their left margin, a place; how polygons are filled, and the polygon buffer; how much work besides strokes
+-- counts; for each sheet that has ended, how many strokes were made until then
 pub record World : Type 0 where
   pub core : core.World
+  pub context : Context
   pub style : styles.Style
   pub run : Option Run
-  pub percents : Option (List (Option ℕ))
+  pub percents : List (Option ℕ)
   pub writing : Writing
   pub margin : Spot
-  pub ranges : ColourRanges
   pub area : Area
   pub buffer : Contents
   pub extra : ℕ
   pub ends : List ℕ
-
--- what decides how the next item is read, and what is noted on it
-abbrev pub context_of : World → Context
-context_of w = record {
-  in_percent = is_some w.percents;
-  ranges = w.ranges;
-  in_polygon = w.area.in_polygon;
-  usual_chords = w.area.usual_chords;
-}
 
 -- what core leaves, or None if it stops
 abbrev pub with_core : World → Option core.World → Option World

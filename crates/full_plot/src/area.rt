@@ -1,4 +1,4 @@
-//! What is set for polygons.
+//! How polygons are filled.
 ghost use Rattle.std.specs.Prelude.{◌≡◌};
 ghost use Rattle.full_plot.specs.Areas.{IsArea};
 ghost use Rattle.full_plot.specs.Worlds.{usual_area};
@@ -6,17 +6,13 @@ ghost use Rattle.full_plot.specs.Worlds.{usual_area};
 use exact::Spot;
 use full_settings::FillStyle;
 
-/// What is set for polygons.
+/// How polygons are filled.
 #[derive(Clone, Copy, Debug)]
 pub struct Area {
-    /// Whether the places that the pen comes to are points of a polygon (PM).
-    pub in_polygon: bool,
-    /// How polygons are filled (FT).
+    /// The kind of fill (FT).
     pub fill: FillStyle,
     /// A line of hatching goes through this place on the page, in grains (AC).
     pub anchor: Spot,
-    /// Whether chords have the usual angle, whatever angle is named (CT).
-    pub usual_chords: bool,
 }
 
 impl Area {
@@ -26,10 +22,8 @@ impl Area {
         ensures sound { IsArea result }
     {
         Area {
-            in_polygon: false,
             fill: FillStyle::usual(),
             anchor: Spot { x: 0, y: 0 },
-            usual_chords: false,
         }
     }
 }

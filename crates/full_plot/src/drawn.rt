@@ -51,8 +51,7 @@ pub fn draw_full(alloc: Global, text: &[u8], page: &Page) -> Result<FullDrawn, P
     let mut plotter = FullPlotter::new(alloc, page);
     let mut noted: usize = 0;
     'items: while let Some(item) = items.next() {
-        let own = plotter.noted(&item);
-        plotter.carry_out(&item)?;
+        let own = plotter.carry_out(&item)?;
         noted += count_notes(&item, own);
     }
     Ok(FullDrawn {

@@ -1,37 +1,45 @@
 //! What the further instructions do.
-ghost use Rattle.std.specs.Prelude.{◌≡◌, ◌≤◌, Some};
-ghost use Rattle.full_settings.specs.ColourRanges.{IsColourRanges};
+ghost use Rattle.std.specs.Prelude.{◌≡◌, ◌≤◌, IfOk, Some};
 ghost use Rattle.full_settings.specs.FillParameters.{IsFillSetting};
 ghost use Rattle.full_settings.specs.FurtherRequests.{IsFurtherRequest};
 ghost use Rattle.full_settings.specs.LineStyles.{IsLineSetting};
 ghost use Rattle.full_settings.specs.RelativePoints.{IsRelativePoints};
 ghost use Rattle.full_settings.specs.TickParameters.{IsTickLength};
-ghost use Rattle.full_notes.specs.Contexts.{numbers_read};
-ghost use Rattle.full_plot.specs.Items.{further_steps, request_steps};
+ghost use Rattle.full_notes.specs.Contexts.{request_in};
+ghost use Rattle.full_notes.specs.Notes.{request_noted};
+ghost use Rattle.full_plot.specs.Items.{request_steps};
 ghost use Rattle.full_plot.specs.Machine as machine;
-ghost use Rattle.full_plot.specs.Machine.{seen, step, run, Runs, Style, RangesBy, TickBy, PointsBy, ColourBy};
-ghost use Rattle.full_plot.specs.Machine.{FillBy, AnchorBy, ChordsBy};
+ghost use Rattle.full_plot.specs.Holding.{after_request};
+ghost use Rattle.full_plot.specs.Machine.{seen, step, run, Runs, Style, TickBy, PointsBy, FillBy, AnchorBy};
 
 use crate::plotter::FullPlotter;
 use exact::Spot;
-use full_notes::request_read;
+use full_notes::{noted_request, request_read};
 use full_settings::{
-    Anchor, ColourRanges, FillSetting, FurtherRequest, LineSetting, RelativePoints, TickLength,
-    colour_in, points_of,
+    Anchor, FillSetting, FurtherRequest, LineSetting, RelativePoints, TickLength, points_of,
 };
-use hpgl_plot::Stop;
+use hpgl_plot::{NoteKind, Stop};
 use hpgl_text::{Further, Numbers};
 use plot_page::Page;
 use plot_settings::{Rotation, Setting};
 
 impl FullPlotter {
-    /// Carries out a further instruction. One that is not drawn does nothing.
-    pub fn obey_further(&mut self, further: Further, numbers: &Numbers<'_>) -> Result<(), Stop>
-        ensures { Runs (run (seen self.old) (further_steps further
-            (numbers_read (seen self.old).area.usual_chords further numbers.now))) (seen self.new) result }
+    /// Carries out a further instruction, and answers what is noted on it.
+    pub fn obey_further(
+        &mut self,
+        further: Further,
+        numbers: &Numbers<'_>,
+    ) -> Result<Option<NoteKind>, Stop>
+        ensures runs { let request = request_in (seen self.old).context further numbers.now in
+            Runs (run (after_request request (seen self.old)) (request_steps request numbers.now)) (seen self.new) result }
+        ensures noted { let request = request_in (seen self.old).context further numbers.now in
+            IfOk result (λ noted. noted ≡ request_noted request numbers.now) }
     {
-        let request = request_read(further, numbers, self.area.usual_chords);
-        self.do_further(request, numbers)
+        let request = request_read(further, numbers, &self.context);
+        let noted = noted_request(&request, numbers);
+        self.context.pass_request(&request);
+        self.do_further(request, numbers)?;
+        Ok(noted)
     }
 
     // Does what a further instruction asks for by its numbers.
@@ -58,10 +66,6 @@ impl FullPlotter {
             }
             FurtherRequest::Points(points) => {
                 self.set_points(points);
-                Ok(())
-            }
-            FurtherRequest::Colours(ranges) => {
-                self.set_ranges(ranges);
                 Ok(())
             }
             FurtherRequest::Begin => {
@@ -95,15 +99,12 @@ impl FullPlotter {
                 self.set_fill(setting);
                 Ok(())
             }
-            FurtherRequest::Chords(usual) => {
-                self.set_chords(usual);
-                Ok(())
-            }
             FurtherRequest::Print => {
                 self.print()?;
                 Ok(())
             }
             FurtherRequest::EndSheet => self.end_sheet(),
+            FurtherRequest::Colours(_) | FurtherRequest::Chords(_) => Ok(()),
             FurtherRequest::Wrong => Ok(()),
         }
     }
@@ -133,13 +134,6 @@ impl FullPlotter {
         self.area.fill = self.area.fill.with(setting);
     }
 
-    // Sets whether chords have the usual angle, by CT.
-    fn set_chords(&mut self, usual: bool)
-        ensures { step (seen self.old) (ChordsBy usual) ≡ Some (seen self.new) }
-    {
-        self.area.usual_chords = usual;
-    }
-
     // Sets the place that a line of hatching goes through, by AC.
     fn set_anchor(&mut self, anchor: Anchor) -> Result<(), Stop>
         ensures { Runs (step (seen self.old) (AnchorBy anchor)) (seen self.new) result }
@@ -152,23 +146,6 @@ impl FullPlotter {
             }
         }
         Ok(())
-    }
-
-    // Sets the ranges of colours by CR.
-    fn set_ranges(&mut self, ranges: ColourRanges)
-        requires { IsColourRanges ranges }
-        ensures { step (seen self.old) (RangesBy ranges) ≡ Some (seen self.new) }
-    {
-        self.ranges = ranges;
-    }
-
-    /// PC: sets the colour of a pen, in the ranges of CR, or restores colours. Wrong numbers set nothing.
-    pub fn set_colour(&mut self, numbers: &Numbers<'_>)
-        ensures { step (seen self.old) (ColourBy numbers.now) ≡ Some (seen self.new) }
-    {
-        if let Some(setting) = colour_in(&self.ranges, numbers) {
-            self.plotter.set(setting);
-        }
     }
 
     // Sets P1 and P2 by IR, and widths in percent of them.

@@ -81,7 +81,7 @@ impl FullPlotter {
     pub fn mark(&mut self) -> Result<(), Stop>
         ensures { Runs (marked (seen self.old)) (seen self.new) result }
     {
-        if self.area.in_polygon {
+        if self.context.in_polygon {
             return Ok(());
         }
         match self.writing.symbol() {

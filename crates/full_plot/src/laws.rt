@@ -17,8 +17,7 @@ pub fn core_noted_as_in_core()
     ensures { CoreNotedAsInCore }
 {}
 
-/// After each item that is carried out, notes are told whether widths are in percent, and which ranges colours have, as
-/// they are.
+/// After each item that is carried out, the plotter has the context that notes have: the steps of an item do not change it.
 pub fn notes_are_told()
     ensures { NotesAreTold }
 {}

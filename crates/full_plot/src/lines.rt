@@ -50,7 +50,7 @@ impl FullPlotter {
     fn go_lined(&mut self, is_relative: bool, x: Number, y: Number) -> Result<(), Stop>
         ensures { Runs (lined_step (seen self.old) (Go is_relative x y)) (seen self.new) result }
     {
-        if self.area.in_polygon {
+        if self.context.in_polygon {
             self.trace_move(is_relative, x, y)
         } else {
             self.go_along(is_relative, x, y)
@@ -75,7 +75,7 @@ impl FullPlotter {
         requires { IsCircle circle }
         ensures { Runs (lined_step (seen self.old) (DrawCircle circle)) (seen self.new) result }
     {
-        if self.area.in_polygon {
+        if self.context.in_polygon {
             return self.trace_circle(circle);
         }
         self.circle_along(circle)
@@ -109,7 +109,7 @@ impl FullPlotter {
         requires { IsArc arc }
         ensures { Runs (lined_step (seen self.old) (DrawArc is_relative arc)) (seen self.new) result }
     {
-        if self.area.in_polygon {
+        if self.context.in_polygon {
             self.trace_arc(is_relative, arc)
         } else {
             self.arc_along(is_relative, arc)
@@ -135,7 +135,7 @@ impl FullPlotter {
         requires { length places.now ≤ 256 }
         ensures { Runs (lined (seen self.old) places.now) (seen self.new) result }
     {
-        if self.area.in_polygon {
+        if self.context.in_polygon {
             self.trace_over(places)
         } else {
             self.draw_over(places)

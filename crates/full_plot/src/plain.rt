@@ -35,7 +35,7 @@ impl FullPlotter {
     pub fn touch(&mut self) -> Result<(), Stop>
         ensures { Runs (core_step (seen self.old) Touch) (seen self.new) result }
     {
-        if self.area.in_polygon {
+        if self.context.in_polygon {
             return Ok(());
         }
         self.plotter.touch()

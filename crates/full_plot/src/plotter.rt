@@ -1,13 +1,13 @@
 //! The plotter of the profile full.
 ghost use Rattle.std.specs.Prelude.{◌^◌};
 ghost use Rattle.directions.specs.Bounds.{IsWithin};
-ghost use Rattle.full_settings.specs.ColourRanges.{IsColourRanges};
 ghost use Rattle.full_plot.specs.Areas.{IsArea};
 
 use crate::area::Area;
 use crate::writing::Writing;
 use exact::Spot;
-use full_settings::{ColourRanges, LineStyle};
+use full_notes::Context;
+use full_settings::LineStyle;
 use hpgl_plot::Plotter;
 use line_types::Run;
 use polygons::Buffer;
@@ -17,17 +17,17 @@ use std::alloc::Global;
 #[derive(Drop)]
 pub struct FullPlotter {
     pub plotter: Plotter,
+    /// What decides how the next item is read, and what is noted on it.
+    pub context: Context,
     pub style: LineStyle,
     /// How far the pattern of a dashed line has gone, and where.
     pub run: Option<Run>,
-    /// The widths of pens in millionths of a percent of the distance from P1 to P2, while widths are in
-    /// percent; `None` for a pen whose width is in millimetres. Core's widths are always what these are
-    /// in grains.
-    pub percents: Option<[Option<u32>; 256]>,
+    /// The widths of pens in millionths of a percent of the distance from P1 to P2; `None` for a pen whose
+    /// width is in millimetres. While widths are in percent, core's widths are what these are in grains.
+    pub percents: [Option<u32>; 256],
     pub writing: Writing,
     /// The left margin of labels, a place on the page in grains.
     pub margin: Spot,
-    pub ranges: ColourRanges,
     pub area: Area,
     /// The polygons.
     pub buffer: Buffer,
@@ -38,6 +38,5 @@ pub struct FullPlotter {
     pub ends: Vec<usize>,
     pub alloc: Global,
     pub ghost margin_in: { IsWithin (2 ^ 96) margin },
-    pub ghost ranges_in: { IsColourRanges ranges },
     pub ghost area_in: { IsArea area },
 }

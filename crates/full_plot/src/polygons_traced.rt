@@ -30,16 +30,11 @@ impl FullPlotter {
         if step == PolygonStep::Begin {
             self.buffer.clear();
             self.buffer.open(Place::new(self.plotter.state.place));
-            self.area.in_polygon = true;
             return Ok(());
         }
         self.buffer
             .close(self.plotter.state.is_down)
-            .map_err(|_| Stop::Memory)?;
-        if step == PolygonStep::End {
-            self.area.in_polygon = false;
-        }
-        Ok(())
+            .map_err(|_| Stop::Memory)
     }
 
     /// A move in polygon mode.

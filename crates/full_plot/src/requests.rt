@@ -1,21 +1,32 @@
 //! What an instruction of core asks for, with its lines in the line type.
-ghost use Rattle.std.specs.Prelude.{◌≡◌};
+ghost use Rattle.std.specs.Prelude.{◌≡◌, IfOk};
 ghost use Rattle.plot_settings.specs.Meanings.{meaning, moves, lowered_then};
 ghost use Rattle.plot_settings.specs.Requests.{request_meaning, move_steps, IsRequest};
+ghost use Rattle.full_notes.specs.Notes.{bad_if};
 ghost use Rattle.full_plot.specs.Items.{as_core};
 ghost use Rattle.full_plot.specs.Machine.{seen, run, Runs};
 
 use crate::plotter::FullPlotter;
-use hpgl_plot::Stop;
+use full_notes::noted_asked;
+use hpgl_plot::{NoteKind, Stop};
 use hpgl_text::{Instruction, Numbers};
 use plot_settings::{Moves, Request, request_of};
 
 impl FullPlotter {
-    /// Carries out an instruction of core with its numbers, with its lines in the line type.
-    pub fn obey(&mut self, instruction: Instruction, numbers: &Numbers<'_>) -> Result<(), Stop>
-        ensures { Runs (run (seen self.old) (as_core (meaning instruction numbers.now).steps)) (seen self.new) result }
+    /// Carries out an instruction of core with its numbers, with its lines in the line type, and answers
+    /// what is noted on it.
+    pub fn obey(
+        &mut self,
+        instruction: Instruction,
+        numbers: &Numbers<'_>,
+    ) -> Result<Option<NoteKind>, Stop>
+        ensures runs { Runs (run (seen self.old) (as_core (meaning instruction numbers.now).steps)) (seen self.new) result }
+        ensures noted { IfOk result (λ noted. noted ≡ bad_if (meaning instruction numbers.now).is_wrong) }
     {
-        self.do_request(request_of(instruction, numbers), numbers)
+        let request = request_of(instruction, numbers);
+        let noted = noted_asked(&request, numbers);
+        self.do_request(request, numbers)?;
+        Ok(noted)
     }
 
     // Does what an instruction with these numbers asks for.

@@ -1,68 +1,76 @@
 //! What the items of a plot do.
-ghost use Rattle.std.specs.Prelude.{◌≡◌, false, Some, [], ◌∷◌};
-ghost use Rattle.hpgl_text.specs.Shapes.{Params};
+ghost use Rattle.std.specs.Prelude.{◌≡◌, ◌++◌, IfOk, Some, [], ◌∷◌};
 ghost use Rattle.hpgl_text.specs.declared.instruction.Instruction.TheVariants as of;
-ghost use Rattle.plot_settings.specs.Meanings.{asks, DrawArc, entry_steps, part_steps};
-ghost use Rattle.plot_settings.specs.Parameters.{arced};
-ghost use Rattle.full_notes.specs.Contexts.{params_read, read_in};
-ghost use Rattle.full_plot.specs.Worlds.{context_of};
-ghost use Rattle.full_plot.specs.Items.{full_steps, more_steps, params_steps, as_core};
-ghost use Rattle.full_plot.specs.Holding.{is_own};
+ghost use Rattle.plot_settings.specs.Meanings.{asks, meaning, sets, DrawArc, DrawCircle, entry_steps, part_steps};
+ghost use Rattle.plot_settings.specs.Parameters.{arced, circled};
+ghost use Rattle.full_settings.specs.ColourRanges.{pen_colour_in};
+ghost use Rattle.full_notes.specs.Contexts.{params_read};
+ghost use Rattle.full_notes.specs.Notes.{bad_if, bad_without, body_noted, params_noted};
+ghost use Rattle.full_plot.specs.Items.{as_core, more_steps, params_steps, taken};
+ghost use Rattle.full_plot.specs.Holding.{after_params};
 ghost use Rattle.full_plot.specs.Machine.{seen, step, run, last_end, Runs, Restyle, Restart, EndSheet};
 
 use crate::area::Area;
 use crate::plotter::FullPlotter;
 use crate::writing::Writing;
-use full_notes::{arc_read, circle_read, is_misplaced};
-use full_settings::{ColourRanges, LetterSetting, LineStyle, direction_setting};
-use hpgl_plot::Stop;
+use full_notes::{arc_read, bad_without, circle_read, is_misplaced};
+use full_settings::{LetterSetting, LineStyle, colour_in, direction_setting};
+use hpgl_plot::{NoteKind, Stop};
 use hpgl_text::{Body, Entries, Entry, Instruction, Item, Numbers, Part};
-use plot_settings::{Setting, has_wrong_numbers};
+use plot_settings::Setting;
 
 impl FullPlotter {
-    /// Carries out an item, as it is read in polygon mode and after CT. One that asks for nothing does nothing.
-    pub fn take(&mut self, item: &Item<'_>) -> Result<(), Stop>
-        ensures { Runs (run (seen self.old) (full_steps
-            (read_in (context_of (seen self.old)) item.now.body))) (seen self.new) result }
+    /// Carries out an item, as it is read in polygon mode and after CT, and answers what is noted on it at
+    /// its first byte. One that asks for nothing does nothing.
+    pub fn take(&mut self, item: &Item<'_>) -> Result<Option<NoteKind>, Stop>
+        ensures runs { Runs (taken (seen self.old) item.now.body) (seen self.new) result }
+        ensures noted { IfOk result (λ noted. noted ≡ body_noted (seen self.old).context item.now.body) }
     {
-        if is_misplaced(&item.body, self.area.in_polygon) {
-            return Ok(());
+        if is_misplaced(&item.body, self.context.in_polygon) {
+            return Ok(Some(NoteKind::Bad));
         }
         match &item.body {
             Body::Further(further, numbers) => self.obey_further(*further, numbers),
-            Body::Params(instruction, numbers) => self.take_params(item, *instruction, numbers),
-            Body::Coded(polyline) => self.follow_entries(polyline.entries()),
+            Body::Params(instruction, numbers) => self.take_params(*instruction, numbers),
+            Body::Coded(polyline) => {
+                self.follow_entries(polyline.entries())?;
+                Ok(None)
+            }
             Body::Label(text) => {
                 self.write(text)?;
-                Ok(())
+                Ok(None)
             }
-            Body::Kept(text) => self.writing.keep(text).map_err(|_| Stop::Memory),
+            Body::Kept(text) => {
+                self.writing.keep(text).map_err(|_| Stop::Memory)?;
+                Ok(None)
+            }
             Body::Symbol(symbol) => {
                 self.writing.set_symbol(*symbol);
-                Ok(())
+                Ok(None)
             }
-            Body::Terminator(_) | Body::Known => Ok(()),
-            Body::Skipped | Body::Bad | Body::Stray(_) => Ok(()),
+            Body::Terminator(_) | Body::Known => Ok(None),
+            Body::Skipped => Ok(Some(NoteKind::Skipped)),
+            Body::Bad => Ok(Some(NoteKind::Bad)),
+            Body::Stray(byte) => Ok(Some(NoteKind::Stray(*byte))),
         }
     }
 
     // Carries out an instruction of core.
     fn take_params(
         &mut self,
-        item: &Item<'_>,
         instruction: Instruction,
         numbers: &Numbers<'_>,
-    ) -> Result<(), Stop>
-        requires { item.now.body ≡ Params instruction numbers.now }
-        ensures { Runs (run (seen self.old) (params_steps instruction
-            (params_read (seen self.old).area.usual_chords instruction numbers.now))) (seen self.new) result }
+    ) -> Result<Option<NoteKind>, Stop>
+        ensures runs { let context = (seen self.old).context in
+            Runs (run (after_params instruction (seen self.old)) (params_steps context instruction
+            (params_read context.usual_chords instruction numbers.now))) (seen self.new) result }
+        ensures noted { let context = (seen self.old).context in
+            IfOk result (λ noted. noted ≡ params_noted context instruction
+            (params_read context.usual_chords instruction numbers.now)) }
     {
         match instruction {
-            Instruction::PenWidth => self.take_width(item, numbers),
-            Instruction::PenColour => {
-                self.set_colour(numbers);
-                Ok(())
-            }
+            Instruction::PenWidth => self.take_width(numbers),
+            Instruction::PenColour => Ok(self.take_colour(numbers)),
             Instruction::Circle => self.take_circle(numbers),
             Instruction::ArcAbsolute => self.take_arc(false, numbers),
             Instruction::ArcRelative => self.take_arc(true, numbers),
@@ -70,41 +78,75 @@ impl FullPlotter {
         }
     }
 
-    // CI, whose chord may not be read.
-    fn take_circle(&mut self, numbers: &Numbers<'_>) -> Result<(), Stop>
-        ensures { Runs (run (seen self.old) (params_steps of.Circle
-            (params_read (seen self.old).area.usual_chords of.Circle numbers.now))) (seen self.new) result }
+    // PC: sets the colour of a pen, in the ranges of CR, or restores colours. Wrong numbers set nothing.
+    fn take_colour(&mut self, numbers: &Numbers<'_>) -> Option<NoteKind>
+        ensures runs { run (seen self.old)
+            (as_core (sets (pen_colour_in (seen self.old).context.ranges numbers.now)).steps) ≡ Some (seen self.new) }
+        ensures noted { result ≡ bad_without (pen_colour_in (seen self.old).context.ranges numbers.now) }
     {
-        match circle_read(numbers, self.area.usual_chords) {
-            Some(circle) => self.circle(circle),
-            None => Ok(()),
+        let named = colour_in(&self.context.ranges, numbers);
+        if let Some(setting) = named {
+            self.set(setting);
+        }
+        bad_without(named)
+    }
+
+    // CI, whose chord may not be read.
+    fn take_circle(&mut self, numbers: &Numbers<'_>) -> Result<Option<NoteKind>, Stop>
+        ensures runs { Runs (run (seen self.old) (params_steps (seen self.old).context of.Circle
+            (params_read (seen self.old).context.usual_chords of.Circle numbers.now))) (seen self.new) result }
+        ensures noted { IfOk result (λ noted. noted ≡ bad_if (asks DrawCircle
+            (circled (params_read (seen self.old).context.usual_chords of.Circle numbers.now))).is_wrong) }
+    {
+        match circle_read(numbers, self.context.usual_chords) {
+            Some(circle) => {
+                self.circle(circle)?;
+                Ok(None)
+            }
+            None => Ok(Some(NoteKind::Bad)),
         }
     }
 
     // AA and AR, whose chord may not be read.
-    fn take_arc(&mut self, is_relative: bool, numbers: &Numbers<'_>) -> Result<(), Stop>
-        ensures { Runs (run (seen self.old) (as_core (asks (DrawArc is_relative)
-            (arced (params_read (seen self.old).area.usual_chords of.ArcAbsolute numbers.now))).steps))
+    fn take_arc(
+        &mut self,
+        is_relative: bool,
+        numbers: &Numbers<'_>,
+    ) -> Result<Option<NoteKind>, Stop>
+        ensures runs { Runs (run (seen self.old) (as_core (asks (DrawArc is_relative)
+            (arced (params_read (seen self.old).context.usual_chords of.ArcAbsolute numbers.now))).steps))
             (seen self.new) result }
+        ensures noted { IfOk result (λ noted. noted ≡ bad_if (asks (DrawArc is_relative)
+            (arced (params_read (seen self.old).context.usual_chords of.ArcAbsolute numbers.now))).is_wrong) }
     {
-        match arc_read(numbers, self.area.usual_chords) {
-            Some(arc) => self.arc(is_relative, arc),
-            None => Ok(()),
+        match arc_read(numbers, self.context.usual_chords) {
+            Some(arc) => {
+                self.arc(is_relative, arc)?;
+                Ok(None)
+            }
+            None => Ok(Some(NoteKind::Bad)),
         }
     }
 
     // Carries out an instruction other than PW, PC, CI, AA and AR, and what it does besides.
-    fn take_other(&mut self, instruction: Instruction, numbers: &Numbers<'_>) -> Result<(), Stop>
-        requires { is_own instruction ≡ false }
-        ensures { Runs (run (seen self.old) (params_steps instruction numbers.now)) (seen self.new) result }
+    fn take_other(
+        &mut self,
+        instruction: Instruction,
+        numbers: &Numbers<'_>,
+    ) -> Result<Option<NoteKind>, Stop>
+        ensures runs { Runs (run (after_params instruction (seen self.old)) (as_core (meaning instruction numbers.now).steps
+            ++ more_steps instruction numbers.now)) (seen self.new) result }
+        ensures noted { IfOk result (λ noted. noted ≡ bad_if (meaning instruction numbers.now).is_wrong) }
     {
-        self.obey(instruction, numbers)?;
-        self.do_more(instruction, numbers);
-        Ok(())
+        self.context.pass_instruction(instruction);
+        let noted = self.obey(instruction, numbers)?;
+        self.do_more(instruction, numbers, noted.is_some());
+        Ok(noted)
     }
 
-    // What an instruction of core does besides.
-    fn do_more(&mut self, instruction: Instruction, numbers: &Numbers<'_>)
+    // What an instruction of core does besides, by whether its numbers are wrong.
+    fn do_more(&mut self, instruction: Instruction, numbers: &Numbers<'_>, is_wrong: bool)
+        requires { is_wrong ≡ (meaning instruction numbers.now).is_wrong }
         ensures { run (seen self.old) (more_steps instruction numbers.now) ≡ Some (seen self.new) }
     {
         match instruction {
@@ -112,7 +154,7 @@ impl FullPlotter {
             Instruction::DefaultValues => self.restyle(),
             Instruction::InputPoints => self.rewiden(),
             Instruction::CharacterSize => {
-                if !has_wrong_numbers(instruction, numbers) {
+                if !is_wrong {
                     self.letter(LetterSetting::AbsoluteSize);
                 }
             }
@@ -135,13 +177,11 @@ impl FullPlotter {
         self.buffer.clear();
     }
 
-    /// The same, with widths in millimetres and the usual colours, and the left margin at the pen.
+    /// The same, with the left margin at the pen.
     pub(crate) fn restart(&mut self)
         ensures { step (seen self.old) Restart ≡ Some (seen self.new) }
     {
         self.restyle();
-        self.percents = None;
-        self.ranges = ColourRanges::usual();
         self.margin = self.plotter.state.place;
     }
 

@@ -23,22 +23,17 @@ widths_by diagonal [] widths = widths
 widths_by diagonal (p ∷ percents) [] = []
 widths_by diagonal (p ∷ percents) (w ∷ widths) = width_by diagonal p w ∷ widths_by diagonal percents widths
 
--- one percentage for all pens; not opened in proofs, where 256 places would be written out
-unfoldable pub all_percents : ℕ → List (Option ℕ)
-all_percents percent = replicate 256 (Some percent)
+-- one percentage, or none, for all pens; not opened in proofs, where 256 places would be written out
+unfoldable pub all_percents : Option ℕ → List (Option ℕ)
+all_percents percent = replicate 256 percent
 
--- another percentage for a pen, or none, if widths are in percent
-abbrev pub percents_set : Option (List (Option ℕ)) → ℕ → Option ℕ → Option (List (Option ℕ))
-percents_set None pen percent = None
-percents_set (Some percents) pen percent = Some (set percents pen percent)
-
--- the percentages after a setting by the selected pen: None while widths are in millimetres; then one for each pen,
--- or None if its width is in millimetres by PT
-abbrev pub percents_with : WidthSetting → ℕ → Option (List (Option ℕ)) → Option (List (Option ℕ))
-percents_with Millimetres selected percents = None
-percents_with (PercentOfAll p) selected percents = Some (all_percents p)
-percents_with (Percent pen p) selected percents = percents_set percents pen (Some p)
-percents_with (Thickness grains) selected percents = percents_set percents selected None
+-- the percentages after a setting by the selected pen: one for each pen, or None if its width is in millimetres by PT;
+-- they have no effect while widths are in millimetres
+abbrev pub percents_with : WidthSetting → ℕ → List (Option ℕ) → List (Option ℕ)
+percents_with Millimetres selected percents = percents
+percents_with (PercentOfAll p) selected percents = all_percents (Some p)
+percents_with (Percent pen p) selected percents = set percents pen (Some p)
+percents_with (Thickness grains) selected percents = set percents selected None
 
 -- the widths in grains after a setting by the selected pen
 abbrev pub grains_with : WidthSetting → ℕ → List ℕ → List ℕ

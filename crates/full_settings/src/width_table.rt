@@ -6,11 +6,11 @@ ghost use Rattle.full_settings.specs.Widths.{all_percents, widths_by, width_by, 
 use exact::rounded;
 use plot_page::GREATEST_WIDTH;
 
-/// One percentage for all pens, in millionths.
-pub fn percent_of_all(percent: u32) -> [Option<u32>; 256]
+/// One percentage for all pens, in millionths, or none.
+pub fn percent_of_all(percent: Option<u32>) -> [Option<u32>; 256]
     ensures { result ≡ all_percents percent }
 {
-    [Some(percent); 256]
+    [percent; 256]
 }
 
 /// The widths of all pens in grains, with those that are in percent of this diagonal, which is in ticks of

@@ -7,20 +7,18 @@ use Rattle.hpgl_plot.specs.Notes.{notes_with}
 use Rattle.full_plot.specs.Drawings.{runs}
 use Rattle.full_plot.specs.Machine.{seen}
 use Rattle.full_notes.specs.Contexts.{Context}
-use Rattle.full_plot.specs.Worlds.{context_of}
 use Rattle.full_notes.specs.Notes.{body_noted, context_after, notes_from}
 use Rattle.full_notes.proofs.FewNotes.{few_notes}
-use Rattle.full_plot.proofs.FewStrokes.{few_strokes}
-use Rattle.full_plot.proofs.Told.{told_as_set, carried_out}
+use Rattle.full_plot.proofs.Later.{carried_out, few_strokes, told_as_set}
 use Rattle.full_plot.proofs.drawn.draw_full.Goals as goal
 
 -- the notes so far and those on this item are some of those on the plot, which has fewer than 2^63 bytes
 pub count_notes-noted-requires : goal.count_notes-noted-requires
 count_notes-noted-requires c =
     let item = c.in-Some.item in
-    let before : Context = context_of (seen c.items.plotter) in
+    let before : Context = (seen c.items.plotter).context in
     let own = body_noted before item.body in
-    let noted : c.noted-own.result ≡ own = c.noted-own.ensures in
+    let noted : c.in_ok-own.own ≡ own = c.in_ok-own.ensures.noted in
     omega (
       arith,
       c.items.invariant.noted,
@@ -33,9 +31,9 @@ count_notes-noted-requires c =
 pub overflow_add-noted : goal.overflow_add-noted
 overflow_add-noted c =
     let item = c.in-Some.item in
-    let before : Context = context_of (seen c.items.plotter) in
+    let before : Context = (seen c.items.plotter).context in
     let own = body_noted before item.body in
-    let noted : c.noted-own.result ≡ own = c.noted-own.ensures in
+    let noted : c.in_ok-own.own ≡ own = c.in_ok-own.ensures.noted in
     omega (
       arith,
       c.items.invariant.noted,
@@ -46,18 +44,18 @@ overflow_add-noted c =
       few_notes c.args.text.now,
     )
 
--- the plotter that carried out this item has the context that the items after it are told
+-- the plotter that carried out this item has the context that notes have after it
 pub items-preserved : goal.items-preserved
 items-preserved c =
     let item = c.in-Some.item in
     let rest = c.next.new.self in
     let old = seen c.items.plotter in
     let new = seen c.carry_out.new.self in
-    let before : Context = context_of (seen c.items.plotter) in
+    let before : Context = (seen c.items.plotter).context in
     let own = body_noted before item.body in
-    let noted : c.noted-own.result ≡ own = c.noted-own.ensures in
+    let noted : c.in_ok-own.own ≡ own = c.in_ok-own.ensures.noted in
     let goes_on : (more : List ItemShape) → runs old (item ∷ more) ≡ runs new more =
-    carried_out old new item c.carry_out.result c.in_ok-carry_out.field-0 c.carry_out.ensures c.in_ok-carry_out.was in
+    carried_out old new item c.carry_out.result c.in_ok-own.own c.carry_out.ensures.carried c.in_ok-own.was in
     record {
       same = sym (goes_on rest) ∙ sym (ap (λ (is : List ItemShape). runs old is) c.in-Some.ensures.steps) ∙ c.items.invariant.same;
       noted = omega (

@@ -3,7 +3,6 @@ use Rattle.hpgl_text.specs.Cut.{cut_by}
 use Rattle.hpgl_text.specs.declared.profile.Profile.TheVariants.{Full}
 use Rattle.full_plot.specs.Drawings.{outcome, runs}
 use Rattle.full_plot.specs.Machine.{seen}
-use Rattle.full_plot.specs.Worlds.{context_of}
 use Rattle.full_notes.specs.Notes.{notes_from, notes}
 use Rattle.full_plot.proofs.drawn.draw_full.Given as goal
 
@@ -11,7 +10,7 @@ use Rattle.full_plot.proofs.drawn.draw_full.Given as goal
 abbrev pub invariant-items : goal.invariant-items
 invariant-items l = record {
   same : runs (seen l.plotter) l.items ≡ outcome l.page l.fn.text;
-  noted : l.noted + length (notes_from (context_of (seen l.plotter)) l.items) ≡ length (notes (cut_by Full l.fn.text));
+  noted : l.noted + length (notes_from (seen l.plotter).context l.items) ≡ length (notes (cut_by Full l.fn.text));
 }
 
 abbrev pub decreases-items : goal.decreases-items

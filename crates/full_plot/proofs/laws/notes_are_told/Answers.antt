@@ -1,4 +1,4 @@
-use Rattle.full_plot.proofs.Told.{told_as_set}
+use Rattle.full_plot.proofs.Later.{told_as_set}
 use Rattle.full_plot.proofs.laws.notes_are_told.Goals as goal
 
 pub returns : goal.returns

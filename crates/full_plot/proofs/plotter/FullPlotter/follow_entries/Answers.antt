@@ -4,6 +4,7 @@ use Rattle.plot_settings.specs.Meanings.{entry_steps, part_steps}
 use Rattle.full_plot.specs.Items.{as_core}
 use Rattle.full_plot.specs.Machine.{seen, run}
 use Rattle.full_plot.proofs.FullRuns.{one_entry, one_entry_out, stopped}
+use Rattle.std.specs.Bool.{⊤}
 use Rattle.full_plot.proofs.plotter.FullPlotter.follow_entries.Goals as goal
 
 pub entries-preserved : goal.entries-preserved
@@ -22,5 +23,5 @@ returns-in_err-follow_entry c =
     let rest = c.next.new.self in
     let all : run w (as_core (entry_steps (e ∷ rest))) ≡ run a (as_core (entry_steps c.args.entries)) =
     sym (ap (λ (es : List EntryShape). run w (as_core (entry_steps es))) c.in-Some.ensures.steps) ∙ c.entries.invariant in
-    stopped (run w (as_core (part_steps e.what))) (run a (as_core (entry_steps c.args.entries))) v v c.in_err-follow_entry.field-0.0 c.from_residual.result
+    stopped ⊤ (run w (as_core (part_steps e.what))) (run a (as_core (entry_steps c.args.entries))) v v c.in_err-follow_entry.field-0.0 c.from_residual.result
     (λ (h : run w (as_core (part_steps e.what)) ≡ None). sym all ∙ one_entry_out w e rest h) c.in_err-follow_entry.ensures c.from_residual.ensures.1

@@ -1,0 +1,192 @@
+-- What all steps leave alone: how items are read, and that no more strokes are kept than a plot may have.
+use Rattle.std.proofs.Common.{◌≡◌, ◌≤◌, ℕ, inl, inr, refl, subst, arith, Bool, true, false, List, [], ◌∷◌, length, Result, Ok, Err, Option, Some, None}
+use Rattle.std.specs.Prelude.{if◌then◌else◌, ⊤}
+use Rattle.std.specs.List.{list_all}
+use Rattle.std.proofs.lemmas.Bool.{cases_Bool}
+use Rattle.plot_page.specs.declared.page.Page.{Page}
+use Rattle.plot_settings.specs.Meanings.{Edge, Set, Step}
+use Rattle.plot_settings.specs.declared.setting.Setting.{Setting}
+use Rattle.hpgl_text.specs.Shapes.{ItemShape, BodyShape}
+use Rattle.hpgl_plot.specs.Paths.{path}
+use Rattle.hpgl_plot.specs.Strokes.{are_in_range}
+use Rattle.hpgl_plot.specs.declared.fault.PlotFault.{PlotFault}
+use Rattle.hpgl_plot.specs.declared.fault.PlotFault.TheVariants as fault
+use Rattle.hpgl_plot.specs.Machine as core
+use Rattle.full_settings.specs.declared.letter_setting.LetterSetting.{LetterSetting}
+use Rattle.full_settings.specs.declared.polygon_setting.Anchor.{Anchor}
+use Rattle.full_settings.specs.declared.polygon_setting.Anchor.TheVariants.{PageOrigin, At}
+use Rattle.full_settings.specs.declared.polygon_setting.PolygonStep.TheVariants.{Begin, Close, End}
+use Rattle.full_settings.specs.declared.polygon_setting.Wedge.{Wedge}
+use Rattle.full_notes.specs.Contexts.{Context, read_in}
+use Rattle.full_notes.specs.Notes.{context_after}
+use Rattle.full_plot.specs.Curves.{pen_at_point}
+use Rattle.full_plot.specs.Drawings.{at_start, ended, is_too_much, runs, CarriesOut}
+use Rattle.full_plot.specs.Items.{full_steps, taken}
+use Rattle.full_plot.specs.Machine.{FullStep, Core, Style, Restyle, Restart, Widen, Rewiden, PointsBy, Letter, Mark, Keep, Print, Place, TickBy, Tick, ArcThrough, Curve, PolygonBy, EdgeBuffer, FillBuffer, FillBy, AnchorBy, Rectangle, WedgeEdge, WedgeFill, EndSheet}
+use Rattle.full_plot.specs.Machine.{anchored, step, run, then_filled, then_rewidened, points_set}
+use Rattle.full_plot.specs.Polygons.{kept_step}
+use Rattle.full_plot.specs.Texts.{lettered, sets_margin}
+use Rattle.full_plot.specs.Wedges.{wedge_edged, wedge_kept, wedge_places}
+use Rattle.full_plot.specs.Work.{then_worked}
+use Rattle.full_plot.specs.Worlds.{World, followed, with_core}
+use Rattle.full_plot.proofs.Filled.{IsLater, edges_are_filled, filled_work, is_filled, later_same, later_then}
+use Rattle.full_plot.proofs.Nexts.{few_kept, NextIn, next_arc, next_core, next_core_step, next_curve, next_moved_on, next_ticked, next_written}
+
+abbrev LaterIn : World → Option World → Type 0
+LaterIn w None = ⊤
+LaterIn w (Some v) = IsLater w v
+
+by_next : (w : World) (o : Option World) → NextIn w o → LaterIn w o
+by_next w None n = tt
+by_next w (Some v) n = record { context_is = n.context_is; few = n.few }
+
+later_past : (w v : World) (o : Option World) → IsLater w v → LaterIn v o → LaterIn w o
+later_past w v None h k = tt
+later_past w v (Some u) h k = later_then w v u h k
+
+later_next : (w : World) (o : Option World) (f : World → Option World) → LaterIn w o → ((v : World) → LaterIn v (f v)) → LaterIn w (followed o f)
+later_next w None f h go = tt
+later_next w (Some v) f h go = later_past w v (f v) h (go v)
+
+-- with other widths, after work, and filled
+by_points : (w : World) (o : Option World) → LaterIn w o → LaterIn w (then_rewidened o)
+by_points w None h = tt
+by_points w (Some v) h = record { context_is = h.context_is; few = h.few }
+
+by_work : (n : ℕ) (w : World) (o : Option World) → LaterIn w o → LaterIn w (then_worked n o)
+by_work n w None h = tt
+by_work n w (Some v) h = later_then w v _ h (filled_work n v)
+
+by_fill : (w : World) (o : Option World) → LaterIn w o → LaterIn w (then_filled o)
+by_fill w None h = tt
+by_fill w (Some v) h = later_then w v _ h (is_filled false v)
+
+by_letters : (w : World) (s : LetterSetting) → IsLater w (lettered s w)
+by_letters w s = elim (cases_Bool (sets_margin s)) [
+  | inl i ↦ rw i (record { context_is = refl; few = λ h. h })
+  | inr i ↦ rw i (record { context_is = refl; few = λ h. h })
+]
+
+by_anchor : (w : World) (a : Anchor) → LaterIn w (anchored w a)
+by_anchor w PageOrigin = record { context_is = refl; few = λ h. h }
+by_anchor w (At p) = elim (cases_Bool (are_in_range ((pen_at_point w false p).place ∷ []))) [
+  | inl i ↦ rw i (record { context_is = refl; few = λ h. h })
+  | inr i ↦ rw i tt
+]
+
+by_rectangle : (w : World) (t : Step) → LaterIn w (kept_step w t)
+by_rectangle w t = elim (cases_Bool (list_all are_in_range (path w.core.page w.core.state t).lines)) [
+  | inl i ↦ rw i (record { context_is = refl; few = λ h. h })
+  | inr i ↦ rw i tt
+]
+
+by_wedge : (w : World) (wedge : Wedge) → LaterIn w (wedge_kept w wedge)
+by_wedge w wedge = elim (cases_Bool (are_in_range (wedge_places w.core.page w.core.state wedge))) [
+  | inl i ↦ rw i (record { context_is = refl; few = λ h. h })
+  | inr i ↦ rw i tt
+]
+
+by_edge : (w : World) (wedge : Wedge) → LaterIn w (wedge_edged w wedge)
+by_edge w wedge = elim (cases_Bool (are_in_range (wedge_places w.core.page w.core.state wedge))) [
+  | inl i ↦ rw i (record { context_is = refl; few = λ h. few_kept w.core.kept w.core.full _ h })
+  | inr i ↦ rw i tt
+]
+
+later_step : (w : World) (s : FullStep) → LaterIn w (step w s)
+later_step w (Core t) = by_next w (step w (Core t)) (next_core_step w t)
+later_step w (PointsBy p) =
+    let set : Setting = points_set w p in
+    by_points w (with_core w (core.step w.core (Set set))) (by_next w _ (next_core w (Set set)))
+later_step w (Letter s) = by_letters w s
+later_step w Print = by_work (length w.writing.text) w _ (by_next w _ (next_written w w.writing.text))
+later_step w (Place m) = by_next w (step w (Place m)) (next_moved_on w m)
+later_step w (Tick is_upright) = by_next w (step w (Tick is_upright)) (next_ticked w is_upright)
+later_step w (ArcThrough relative points) = by_next w (step w (ArcThrough relative points)) (next_arc w relative points)
+later_step w (Curve relative points) = by_next w (step w (Curve relative points)) (next_curve w relative points)
+later_step w (PolygonBy Begin) = record { context_is = refl; few = λ h. h }
+later_step w (PolygonBy Close) = record { context_is = refl; few = λ h. h }
+later_step w (PolygonBy End) = record { context_is = refl; few = λ h. h }
+later_step w EdgeBuffer = edges_are_filled w
+later_step w (FillBuffer by_winding) = is_filled by_winding w
+later_step w (AnchorBy a) = by_anchor w a
+later_step w (Rectangle relative c) = by_fill w (kept_step w (Edge relative c.x c.y)) (by_rectangle w (Edge relative c.x c.y))
+later_step w (WedgeEdge wedge) = by_edge w wedge
+later_step w (WedgeFill wedge) = by_fill w (wedge_kept w wedge) (by_wedge w wedge)
+later_step w (Style s) = record { context_is = refl; few = λ h. h }
+later_step w Restyle = record { context_is = refl; few = λ h. h }
+later_step w Restart = record { context_is = refl; few = λ h. h }
+later_step w (Widen s) = record { context_is = refl; few = λ h. h }
+later_step w Rewiden = record { context_is = refl; few = λ h. h }
+later_step w (Mark byte) = record { context_is = refl; few = λ h. h }
+later_step w (Keep bytes) = record { context_is = refl; few = λ h. h }
+later_step w (TickBy t) = record { context_is = refl; few = λ h. h }
+later_step w (FillBy s) = record { context_is = refl; few = λ h. h }
+later_step w EndSheet = record { context_is = refl; few = λ h. h }
+
+later_run : (ss : List FullStep) (w : World) → LaterIn w (run w ss)
+later_run [] w = later_same w
+later_run (s ∷ ss) w = later_next w (step w s) (λ (v : World). run v ss) (later_step w s) (λ (v : World). later_run ss v)
+
+-- an item leaves the context after it, and items leave no more strokes than a plot may have
+record IsAfter (w : World) (b : BodyShape) (v : World) : Type 0 where
+  context_is : v.context ≡ context_after w.context b
+  few : length w.core.kept ≤ 4194304 → length v.core.kept ≤ 4194304
+
+abbrev AfterIn : World → BodyShape → Option World → Type 0
+AfterIn w b None = ⊤
+AfterIn w b (Some v) = IsAfter w b v
+
+-- what an item leaves, once it is in the context after it
+in_context : (w : World) (b : BodyShape) (o : Option World) → LaterIn (record w { context = context_after w.context b }) o → AfterIn w b o
+in_context w b None h = tt
+in_context w b (Some v) h = record { context_is = h.context_is; few = h.few }
+
+after_item : (w : World) (b : BodyShape) → AfterIn w b (taken w b)
+after_item w b =
+    in_context w b (taken w b) (later_run (full_steps w.context (read_in w.context b)) (record w { context = context_after w.context b }))
+
+-- an item that is not refused
+abbrev LeavesAfter : Context → Result World PlotFault → Type 0
+LeavesAfter c (Ok v) = v.context ≡ c
+LeavesAfter c (Err e) = ⊤
+
+leaves_if : (c : Context) (full : Bool) (e : PlotFault) (v : World) → v.context ≡ c → LeavesAfter c (if full then Err e else Ok v)
+leaves_if c true e v h = tt
+leaves_if c false e v h = h
+
+by_end : (w : World) (b : BodyShape) (o : Option World) (at : ℕ) → AfterIn w b o → LeavesAfter (context_after w.context b) (ended o at (λ (v : World). Ok v))
+by_end w b None at h = tt
+by_end w b (Some v) at h = leaves_if (context_after w.context b) (is_too_much v) (fault.TooManyStrokes at) v h.context_is
+
+pub told_as_set : (w v : World) (i : ItemShape) → runs w (i ∷ []) ≡ Ok v → v.context ≡ context_after w.context i.body
+told_as_set w v i h = subst (LeavesAfter (context_after w.context i.body)) h (by_end w i.body (taken w i.body) i.at (after_item w i.body))
+
+pub carried_out : {U : Type 0} (w v : World) (i : ItemShape) (r : Result U PlotFault) (u : U) → CarriesOut w i v r → r ≡ Ok u
+    → (more : List ItemShape) → runs w (i ∷ more) ≡ runs v more
+carried_out w v i (Ok x) u h e = h
+carried_out w v i (Err x) u h e = absurd (cc e)
+
+-- all items
+abbrev Few : World → Type 0
+Few w = length w.core.kept ≤ 4194304
+
+abbrev FewAfter : Result World PlotFault → Type 0
+FewAfter (Ok w) = Few w
+FewAfter (Err e) = ⊤
+
+few_judged : (full : Bool) (e : PlotFault) (r : Result World PlotFault) → FewAfter r → FewAfter (if full then Err e else r)
+few_judged true e r h = tt
+few_judged false e r h = h
+
+few_ended : (w : World) (b : BodyShape) (o : Option World) (at : ℕ) (more : List ItemShape) → AfterIn w b o → Few w
+    → ((v : World) → Few v → FewAfter (runs v more)) → FewAfter (ended o at (λ (v : World). runs v more))
+few_ended w b None at more h few go = tt
+few_ended w b (Some v) at more h few go = few_judged (is_too_much v) (fault.TooManyStrokes at) (runs v more) (go v (h.few few))
+
+few_by_items : (items : List ItemShape) (w : World) → Few w → FewAfter (runs w items)
+few_by_items [] w h = h
+few_by_items (i ∷ more) w h =
+    few_ended w i.body (taken w i.body) i.at more (after_item w i.body) h (λ (v : World) (k : Few v). few_by_items more v k)
+
+pub few_strokes : (page : Page) (items : List ItemShape) (v : World) → runs (at_start page) items ≡ Ok v → length v.core.kept ≤ 4194304
+few_strokes page items v e = subst FewAfter e (few_by_items items (at_start page) (omega arith))
