@@ -78,8 +78,10 @@ nothing d v h k = record { same = refl; like = like_now d v h k }
 unchanged : (v : World) → v.context ≡ first_context → rewidened v ≡ v
 unchanged v h = ap (λ (c : Context). with_widths v (widths_in c.in_percent v.percents v.core.state)) h
 
-after_points : (d : Rotation) (v : World) → IsLikeCore d v → v.core.state.direction ≡ d → IsCores (run v (Rewiden ∷ [])) (Some v.core)
-after_points d v h k = rw (unchanged v h.first) (nothing d v h k)
+after_points : (d : Rotation) (v : World) (is_wrong : Bool) → IsLikeCore d v → v.core.state.direction ≡ d
+    → IsCores (run v (if is_wrong then [] else Rewiden ∷ [])) (Some v.core)
+after_points d v true h k = nothing d v h k
+after_points d v false h k = rw (unchanged v h.first) (nothing d v h k)
 
 -- SI: there is no size by SR
 sized : (d : Rotation) (l : LetterStyle) → IsLed d l → IsLed d (record l { relative_size = None })
@@ -108,7 +110,7 @@ after_still : (d : Rotation) (i : Instruction) (ns : List ℤ) (v : World) → t
     → IsCores (run v (more_steps i ns)) (Some v.core)
 after_still d Initialize ns v t h k = absurd (true≢false t)
 after_still d DefaultValues ns v t h k = absurd (true≢false t)
-after_still d InputPoints ns v t h k = after_points d v h k
+after_still d InputPoints ns v t h k = after_points d v (meaning InputPoints ns).is_wrong h k
 after_still d CharacterSize ns v t h k = after_size d v (meaning CharacterSize ns).is_wrong h k
 after_still d Direction ns v t h k = absurd (true≢false t)
 after_still d i ns v t h k = nothing d v h k

@@ -55,12 +55,12 @@ abbrev pub letters_steps : Option LetterSetting → List FullStep
 letters_steps (Some s) = Letter s ∷ []
 letters_steps None = []
 
--- what an instruction of core does besides: IN and DF restore what else is set; after IP widths in percent are taken of
--- the new P1 and P2; a good SI sets the size that SR had set; DI keeps its numbers
+-- what an instruction of core does besides: IN and DF restore what else is set; after a good IP widths in percent are
+-- taken of the new P1 and P2; a good SI sets the size that SR had set; DI keeps its numbers
 abbrev pub more_steps : Instruction → List ℤ → List FullStep
 more_steps Initialize ns = Restart ∷ []
 more_steps DefaultValues ns = Restyle ∷ []
-more_steps InputPoints ns = Rewiden ∷ []
+more_steps InputPoints ns = if (meaning InputPoints ns).is_wrong then [] else Rewiden ∷ []
 more_steps CharacterSize ns = if (meaning CharacterSize ns).is_wrong then [] else Letter AbsoluteSize ∷ []
 more_steps Direction ns = letters_steps (direction ns)
 more_steps _ ns = []

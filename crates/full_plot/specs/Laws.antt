@@ -1,16 +1,20 @@
 -- Items of core have the same effect in both profiles.
-use Rattle.std.specs.Prelude.{◌≡◌, ◌^◌, nat_lt, Bool, true, false, not, List, [], ◌∷◌, length, None, Result, Ok, Err}
+use Rattle.std.specs.Prelude.{◌≡◌, ◌^◌, nat_lt, Bool, true, false, not, List, [], ◌∷◌, length, Some, None, Result, Ok, Err}
 use Rattle.std.specs.List.{All}
 use Rattle.plot_page.specs.declared.page.Page.{Page}
 use Rattle.hpgl_text.specs.Shapes.{ItemShape, BodyShape, Params, Further, Label, Kept, Symbol, Known}
+use Rattle.hpgl_text.specs.declared.further.Further.TheVariants.{BezierAbsolute, BezierRelative}
+use Rattle.hpgl_text.specs.declared.instruction.Instruction.TheVariants.{PenUp, PenDown, PlotAbsolute, PlotRelative}
 use Rattle.plot_settings.specs.Slants.{is_off_axis}
+use Rattle.hpgl_plot.specs.declared.note.NoteKind.TheVariants.{Bad}
 use Rattle.hpgl_plot.specs.declared.fault.PlotFault.{PlotFault}
 use Rattle.hpgl_plot.specs.Machine as core
 use Rattle.hpgl_plot.specs.Strokes.{strokes, refusal}
 use Rattle.hpgl_plot.specs.Notes as noting
 use Rattle.full_plot.specs.Drawings.{at_start, runs, refusal_in, strokes_in, ends_in}
 use Rattle.full_plot.specs.Worlds.{World}
-use Rattle.full_notes.specs.Notes.{context_after, notes}
+use Rattle.full_notes.specs.Notes.{body_noted, context_after, notes}
+use Rattle.full_plot.specs.Items.{taken}
 
 -- what only the profile full reads is not of core, nor is a DI along no axis; nor is a label of more than 2^32 bytes,
 -- which only the profile full refuses: no plot has one, since it has at most 67,108,864 bytes
@@ -53,6 +57,22 @@ CoreDrawsAsInCore = (page : Page) (items : List ItemShape) → All IsCoreItem it
 -- what is noted on them
 abbrev pub CoreNotedAsInCore : Type 0
 CoreNotedAsInCore = (items : List ItemShape) → All IsCoreItem items → notes items ≡ noting.notes items
+
+-- what is drawn before a wrong number: moves to the pairs of coordinates before an unpaired one, and curves before the
+-- numbers that make none
+abbrev pub draws_in_part : BodyShape → Bool
+draws_in_part (Params PenUp ns) = true
+draws_in_part (Params PenDown ns) = true
+draws_in_part (Params PlotAbsolute ns) = true
+draws_in_part (Params PlotRelative ns) = true
+draws_in_part (Further BezierAbsolute ns) = true
+draws_in_part (Further BezierRelative ns) = true
+draws_in_part _ = false
+
+-- any other item that is noted as bad does nothing
+abbrev pub BadItemsDoNothing : Type 0
+BadItemsDoNothing = (w : World) (i : ItemShape) → body_noted w.context i.body ≡ Some Bad → draws_in_part i.body ≡ false
+    → taken w i.body ≡ Some w
 
 -- the steps of an item leave the context that notes have after it
 abbrev pub NotesAreTold : Type 0

@@ -1,5 +1,5 @@
 //! Laws of the profile full, over the definitions only.
-ghost use Rattle.full_plot.specs.Laws.{CoreRunsAsInCore, CoreDrawsAsInCore, CoreNotedAsInCore, NotesAreTold};
+ghost use Rattle.full_plot.specs.Laws.{BadItemsDoNothing, CoreRunsAsInCore, CoreDrawsAsInCore, CoreNotedAsInCore, NotesAreTold};
 
 /// Items of core leave in the profile full what they leave in core, on one sheet, with the line style
 /// of the start, or are refused as in core.
@@ -15,6 +15,11 @@ pub fn core_draws_as_in_core()
 /// What is noted on items of core in the profile full is what is noted in core.
 pub fn core_noted_as_in_core()
     ensures { CoreNotedAsInCore }
+{}
+
+/// An item that is noted as bad leaves the plotter as it was, but for moves and curves before the wrong number.
+pub fn bad_items_do_nothing()
+    ensures { BadItemsDoNothing }
 {}
 
 /// After each item that is carried out, the plotter has the context that notes have: the steps of an item do not change it.

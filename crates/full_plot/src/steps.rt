@@ -152,7 +152,11 @@ impl FullPlotter {
         match instruction {
             Instruction::Initialize => self.restart(),
             Instruction::DefaultValues => self.restyle(),
-            Instruction::InputPoints => self.rewiden(),
+            Instruction::InputPoints => {
+                if !is_wrong {
+                    self.rewiden();
+                }
+            }
             Instruction::CharacterSize => {
                 if !is_wrong {
                     self.letter(LetterSetting::AbsoluteSize);
