@@ -22,7 +22,7 @@ use Rattle.full_notes.specs.Notes.{context_after}
 use Rattle.full_plot.specs.Curves.{pen_at_point}
 use Rattle.full_plot.specs.Drawings.{at_start, ended, is_too_much, runs, CarriesOut}
 use Rattle.full_plot.specs.Items.{full_steps, taken}
-use Rattle.full_plot.specs.Machine.{FullStep, Core, Style, Restyle, Restart, Widen, Rewiden, PointsBy, Letter, Mark, Keep, Print, Place, TickBy, Tick, ArcThrough, Curve, PolygonBy, EdgeBuffer, FillBuffer, FillBy, AnchorBy, Rectangle, WedgeEdge, WedgeFill, EndSheet}
+use Rattle.full_plot.specs.Machine.{FullStep, Core, PointsBy, Letter, Print, Place, Tick, ArcThrough, Curve, PolygonBy, EdgeBuffer, FillBuffer, AnchorBy, Rectangle, WedgeEdge, WedgeFill}
 use Rattle.full_plot.specs.Machine.{anchored, step, run, then_filled, then_rewidened, points_set}
 use Rattle.full_plot.specs.Polygons.{kept_step}
 use Rattle.full_plot.specs.Texts.{lettered, sets_margin}
@@ -112,16 +112,7 @@ later_step w (AnchorBy a) = by_anchor w a
 later_step w (Rectangle relative c) = by_fill w (kept_step w (Edge relative c.x c.y)) (by_rectangle w (Edge relative c.x c.y))
 later_step w (WedgeEdge wedge) = by_edge w wedge
 later_step w (WedgeFill wedge) = by_fill w (wedge_kept w wedge) (by_wedge w wedge)
-later_step w (Style s) = record { context_is = refl; few = λ h. h }
-later_step w Restyle = record { context_is = refl; few = λ h. h }
-later_step w Restart = record { context_is = refl; few = λ h. h }
-later_step w (Widen s) = record { context_is = refl; few = λ h. h }
-later_step w Rewiden = record { context_is = refl; few = λ h. h }
-later_step w (Mark byte) = record { context_is = refl; few = λ h. h }
-later_step w (Keep bytes) = record { context_is = refl; few = λ h. h }
-later_step w (TickBy t) = record { context_is = refl; few = λ h. h }
-later_step w (FillBy s) = record { context_is = refl; few = λ h. h }
-later_step w EndSheet = record { context_is = refl; few = λ h. h }
+later_step w s = record { context_is = refl; few = λ h. h }
 
 later_run : (ss : List FullStep) (w : World) → LaterIn w (run w ss)
 later_run [] w = later_same w

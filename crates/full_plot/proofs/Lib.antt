@@ -14,7 +14,6 @@ pub mod Filled
 pub mod Aside
 pub mod Wedged
 pub mod Later
-pub mod Noted
 pub mod CoreNotes
 pub mod CoreLabels
 pub mod AsInCore

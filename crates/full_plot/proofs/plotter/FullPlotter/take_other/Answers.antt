@@ -1,13 +1,17 @@
-use Rattle.std.proofs.Common.{◌≡◌, ◌∙◌, ◌++◌, ap, subst, Option, Some}
+use Rattle.std.proofs.Common.{◌≡◌, ◌∙◌, ◌++◌, ap, refl, subst, Bool, true, false, Option, Some}
 use Rattle.std.specs.Option.{is_some}
 use Rattle.plot_settings.specs.Meanings.{meaning}
 use Rattle.hpgl_plot.specs.declared.note.NoteKind.{NoteKind}
 use Rattle.full_notes.specs.Contexts.{Context}
+use Rattle.full_notes.specs.Notes.{bad_if}
 use Rattle.full_plot.specs.Items.{as_core, more_steps}
 use Rattle.full_plot.specs.Machine.{Runs, seen, run}
 use Rattle.full_plot.proofs.FullRuns.{more_run, no_more, stopped}
-use Rattle.full_plot.proofs.Noted.{some_if}
 use Rattle.full_plot.proofs.plotter.FullPlotter.take_other.Goals as goal
+
+some_if : (is_wrong : Bool) → is_some (bad_if is_wrong) ≡ is_wrong
+some_if true = refl
+some_if false = refl
 
 pub returns-in_err-noted-clause-runs : goal.returns-in_err-noted-clause-runs
 returns-in_err-noted-clause-runs c =
