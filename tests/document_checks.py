@@ -7,7 +7,7 @@ import subprocess
 import sys
 
 from recipe_checks import A4, PNG, SECONDS, Check, netpbm, plan
-from shared import TOP, ink, pixels, read_bitmap
+from shared import TOP, ink, pixels, read, read_bitmap
 
 # Commands that stand in documents and are not run by tests/test_documents.py, each with the reason.
 NOT_RUN = {
@@ -106,20 +106,29 @@ def pictures_of_a_folder(made):
             yield f"{name}: another picture"
 
 
-def stored(made):
-    """The picture has the pixels of the one in docs/, the text shows it, and the plot is what its script writes."""
-    name = re.findall(r"> (\S+)", made.block)[-1]
-    plot, = set(re.findall(r"examples/(\w+)\.plt", made.block))
-    if made.pixmap(name) != made.pixmap(os.path.join(TOP, "docs", name)):
-        yield f"docs/{name} is another picture"
-    with open(os.path.join(TOP, "docs", "GALLERY.md"), encoding="utf-8") as text:
-        if f"]({name})" not in text.read():
-            yield f"{name} is not shown"
+def wrong_picture(made, name, plot):
+    """What is wrong if the picture has not the pixels of the one in docs/, or the plot is not what its script writes."""
+    if made.pixmap(f"{name}.png") != made.pixmap(os.path.join(TOP, "docs", f"{name}.png")):
+        yield f"docs/{name}.png is another picture"
+    if f"]({name}.png)" not in read("docs", "GALLERY.md"):
+        yield f"{name}.png is not shown"
     script = os.path.join(TOP, "examples", f"{plot}.py")
     if os.path.exists(script):
         written = subprocess.run([sys.executable, script], stdout=subprocess.PIPE, check=True, timeout=SECONDS).stdout
         if written != made.read(f"examples/{plot}.plt"):
             yield f"examples/{plot}.py writes another plot"
+
+
+def stored(made):
+    """The picture of a block is the one in docs/."""
+    plot, = set(re.findall(r"examples/(\w+)\.plt", made.block))
+    yield from wrong_picture(made, re.findall(r"> (\w+)\.png", made.block)[-1], plot)
+
+
+def stored_each(made):
+    """The pictures of a block with a loop over plots are those in docs/."""
+    for name in re.search(r"^for name in (.+); do$", made.block, re.M)[1].split():
+        yield from wrong_picture(made, name, name)
 
 
 def centred(made):
@@ -146,17 +155,13 @@ def box_of_pen_2(made):
 
 
 GALLERY = {
-    heading: [Check(stored, PNG)]
-    for heading in ("Lines in six colours", "A part drawing", "A map", "A chart by gnuplot", "Text in four directions",
-                    "Isotropic scaling", "Windows", "Wide pens", "Encoded polylines", "Colours set by the plot",
-                    "Line types and widths", "Lettering", "Fills")
+    "The profile core": [Check(stored_each, PNG)],
+    "The profile full": [Check(stored_each, PNG)],
+    "Core and full side by side": [Check(stored_each, (*PNG, "pnmcat"))],
+    "A chart by gnuplot": [Check(stored, PNG)],
+    "A detail at 1200 dots per inch": [Check(stored, (*PNG, "pamcut"))],
+    "A chart in both profiles": [Check(stored, (*PNG, "pnmcat"))],
 }
-BESIDE = (
-    "A chart in both profiles", "A part with hidden edges", "A chart of a harbour", "A sheet of labels", "A ribbon of curves",
-    "A map of districts", "A section of a bearing", "A pie and bars",
-)
-GALLERY.update({heading: [Check(stored, (*PNG, "pnmcat"))] for heading in BESIDE})
-GALLERY["A detail at 1200 dots per inch"] = [Check(stored, (*PNG, "pamcut"))]
 DOCUMENT_CHECKS = {
     "docs/GALLERY.md": GALLERY,
     "README.md": {

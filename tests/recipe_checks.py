@@ -279,7 +279,7 @@ def parts(made):
     page = ["--width", str(A0[0]), "--height", str(A0[1]), "--dots", "600"]
     if made.read("plan.pbm") != made.run("pbm", *page, "plan.plt"):
         yield "the joined picture is not the whole one"
-    if made.output or any(name.startswith(("part.", "strip.")) for name in os.listdir(made.folder)):
+    if made.output or any(name.startswith("strip.") for name in os.listdir(made.folder)):
         yield f"left {os.listdir(made.folder)}, and said {made.output!r}"
 
 
@@ -386,6 +386,12 @@ def causes(made):
             yield f"{row[1]}: the remedy gives {gives[:60]!r}"
 
 
+def units_of(size):
+    """The width and the height in plotter units of a size such as `297 mm by 210 mm`."""
+    sides = re.fullmatch(r"([0-9.]+) (mm|in) by ([0-9.]+) \2", size)
+    return [round(float(side) * {"mm": 40, "in": 1016}[sides[2]]) for side in (sides[1], sides[3])]
+
+
 def sizes(made):
     bitmap = read_bitmap(made.read("plan.pbm"))
     if (bitmap.columns, bitmap.rows) != (pixels(A0[1], 200), pixels(A0[0], 200)):
@@ -393,11 +399,10 @@ def sizes(made):
     rows = [row for row in made.section["rows"] if row[0] != "Paper"]
     if len(rows) != 17:
         yield f"{len(rows)} papers"
-    for name, size, landscape in rows:
-        (long, unit), (short, _) = re.findall(r"([0-9.]+) (mm|in)", size)
-        long, short = (round(float(side) * {"mm": 40, "in": 1016}[unit]) for side in (long, short))
-        if landscape != f"`--width {long} --height {short}`":
-            yield f"{name}: {landscape}"
+    for name, size in rows:
+        width, height = units_of(size)
+        if made.run("report", *name.strip("`").split(), plot=b"") != f"page {width} {height} 0 0\nstrokes 0\n".encode():
+            yield f"{name}: another page than {width} by {height}"
 
 
 # `made` gives what is wrong with what a block made, `needs` are commands, `plots` are files that the block needs
@@ -406,8 +411,7 @@ Check = collections.namedtuple("Check", "made needs plots prepare", defaults=(()
 PNG = ("pnmtopng", "pngtopam")
 CHECKS = {
     "docs/RECIPES.md": {
-        "PNG, in colour": [Check(coloured_png, PNG)],
-        "PNG, smoothed": [Check(smoothed_png, PNG)],
+        "PNG, in colour": [Check(coloured_png, PNG), Check(smoothed_png, PNG)],
         "PNG, black and white": [Check(black_png, PNG)],
         "PDF and TIFF, true to size": [Check(pdf, ("pnmtops", "ps2pdf")), Check(tiff, ("pamtotiff", "tifftopnm"))],
         "A PostScript printer, true to size": [Check(postscript, ("pnmtops",))],
@@ -415,10 +419,9 @@ CHECKS = {
         "A page that fits the drawing": [Check(fitted_page, PNG)],
         "Other colours and widths": [Check(recoloured)],
         "An archive of plots": [Check(archive_in_one_run, (), ARCHIVE), Check(archive, PNG, ARCHIVE),
-                                Check(blank_plots, (), ARCHIVE), Check(archive_by_parallel, ("parallel",), ARCHIVE)],
-        "Several machines": [Check(archive_by_machines, ("parallel",), ARCHIVE),
-                             Check(parts, ("parallel",), {"plan.plt": plan(*A0)})],
-        "A large page in parts": [Check(parts, (), {"plan.plt": plan(*A0)})],
+                                Check(blank_plots, (), ARCHIVE)],
+        "Several machines": [Check(archive_by_machines, ("parallel",), ARCHIVE)],
+        "A large page in parts": [Check(parts, ("parallel",), {"plan.plt": plan(*A0)})],
         "A picture for each pen": [Check(pens)],
         "Resume after a failed write": [Check(continued, (), {}, failed_write)],
         "An empty picture": [Check(causes)],

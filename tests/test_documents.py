@@ -208,5 +208,13 @@ def test_formats_of_each_command():
     assert sections == ["png", *FORMS, "report"]
 
 
+def test_pictures_of_the_gallery():
+    """Each picture that docs/GALLERY.md shows is made by one of its blocks, and the other way round."""
+    text = read("docs", "GALLERY.md")
+    made = [name for names in re.findall(r"^for name in (.+); do$", text, re.M) for name in names.split()]
+    made += [name for name in re.findall(r"> (\w+)\.png$", text, re.M)]
+    assert sorted(made) == sorted(re.findall(r"\]\((\w+)\.png\)", text))
+
+
 def test_number_of_blocks():
     assert len(list(blocks_of_documents())) > 90

@@ -11,6 +11,7 @@ import os
 import re
 import subprocess
 
+from recipe_checks import units_of
 from reference.outputs import FORMS
 from shared import TOP, assert_nothing, read, run
 
@@ -284,8 +285,8 @@ def test_quoted_values_of_help(program):
 
 def papers_in_recipes():
     """The width and the height of each paper in docs/RECIPES.md, by its name."""
-    rows = re.findall(r"^\| `--page (.+)` \| .+ \| `--width (\d+) --height (\d+)` \|$", read("docs", "RECIPES.md"), re.M)
-    landscape = {name: (int(width), int(height)) for name, width, height in rows}
+    rows = re.findall(r"^\| `--page (\S+)` \| (.+) \|$", read("docs", "RECIPES.md"), re.M)
+    landscape = {name: tuple(units_of(size)) for name, size in rows}
     return {**landscape, **{f"{name}{PORTRAIT}": (height, width) for name, (width, height) in landscape.items()}}
 
 

@@ -1,9 +1,12 @@
-"""Compares the code and the definitions that documents quote with the sources.
+"""Compares what documents quote and list with the sources.
 
 Each `rust` block of a page in PAGES must stand in one source file of its crates, line for line, and each `antt`
 block in one of their specs/. Each line of a `text` block must stand in crates.txt. Each public function of the
 crate library_examples must be shown in docs/LIBRARY.md. The tables of definitions in docs/PROOF.md must be what
-tools/path prints, and the figures of speed in docs/SPEED.md and README.md those of bench/results.
+tools/path prints, and the figures of speed in docs/SPEED.md and README.md those of bench/results. The calls in
+docs/PROOF.md must be public in their crates, the limits and the patterns of lines in docs/INSTRUCTIONS.md those
+of the sources, and its instructions in the manual page. A table of a document must be one, and a link must lead to
+a heading.
 """
 
 import glob
@@ -13,6 +16,7 @@ import subprocess
 
 import pytest
 
+from reference.line_types import ADAPTIVE, FIXED
 from shared import TOP, assert_nothing, read
 
 # The pages, each with the crates that it quotes.
@@ -57,3 +61,121 @@ def test_functions_of_the_examples_are_shown():
 def test_tables_that_scripts_write(script):
     done = subprocess.run([os.path.join(TOP, script), "--check"], capture_output=True, text=True, timeout=SECONDS)
     assert (done.returncode, done.stderr) == (0, "")
+
+
+def documents():
+    pages = [f"docs/{name}" for name in sorted(os.listdir(os.path.join(TOP, "docs"))) if name.endswith(".md")]
+    return ["README.md", "CONTRIBUTING.md", "CHANGELOG.md", *pages]
+
+
+@pytest.mark.parametrize("path", documents())
+def test_tables_of_documents(path):
+    """A line of dashes is the second of a table, after one row with as many cells."""
+    lines = re.sub(r"^```.*?^```$", "", read(path), flags=re.M | re.S).splitlines()
+    for at, line in enumerate(lines):
+        if re.fullmatch(r"\|[-:|]+\|", line):
+            assert lines[at - 1].startswith("|") and lines[at - 2] == "", f"{path}: no table begins with {lines[at - 1]}"
+            assert cells_of(lines[at - 1]) == cells_of(line), f"{path}: {lines[at - 1]}"
+            for row in lines[at + 1:]:
+                if not row.startswith("|"):
+                    break
+                assert cells_of(row) == cells_of(line), f"{path}: {row}"
+
+
+def cells_of(row):
+    return len(re.findall(r"(?<!\\)\|", row))
+
+
+def anchor_of(heading):
+    return re.sub(r"[^\w -]", "", heading.lower()).replace(" ", "-")
+
+
+@pytest.mark.parametrize("path", documents())
+def test_anchors_of_links(path):
+    """A link to a part of a document leads to a heading."""
+    for target, anchor in re.findall(r"\]\(([^)#:]*)#([^)]+)\)", read(path)):
+        page = os.path.normpath(os.path.join(os.path.dirname(path), target)) if target else path
+        headings = re.findall(r"^#+ (.+)$", read(page), re.M)
+        assert anchor in map(anchor_of, headings), f"{path}: {target}#{anchor}"
+
+
+def section(path, heading):
+    """The text of a document below a heading, up to the next one."""
+    return re.search(rf"^#+ {re.escape(heading)}\n(.*?)(?=^#|\Z)", read(path), re.M | re.S)[1]
+
+
+def wrong_calls():
+    """The calls in the table of docs/PROOF.md that are not public in the crates of their row."""
+    crates = []
+    for row in re.findall(r"^\|(.+)\|$", section("docs/PROOF.md", "Crate by crate"), re.M)[2:]:
+        first, calls, _ = row.split("|", 2)
+        crates = re.findall(r"`(\w+)`", first) or crates
+        sources = [text for crate in crates for text in sources_of(crate)]
+        for call in re.findall(r"`(\w+)`", calls):
+            found = re.compile(rf"^ *(?:pub )?(?:fn|struct|mod) {call}\b", re.M)
+            if not any(found.search(text) for text in sources):
+                yield f"{call} is not in {crates}"
+
+
+def sources_of(crate):
+    return [read(path) for path in glob.glob(os.path.join(TOP, "crates", crate, "src", "**", "*.rt"), recursive=True)]
+
+
+def test_calls_that_are_proved():
+    assert_nothing(wrong_calls())
+
+
+def constant(source, name):
+    return int(re.search(rf"pub const {name}: usize = ([\d_]+);", read("crates", source))[1].replace("_", ""))
+
+
+def test_limits():
+    """The limits that docs/INSTRUCTIONS.md and the manual page give are the constants of the code."""
+    longest = constant("hpgl_text/src/program.rt", "LONGEST_PLOT")
+    most = constant("plot_page/src/stroke.rt", "MOST_STROKES")
+    said, page = section("docs/INSTRUCTIONS.md", "What is refused"), read("man", "plotraster.1")
+    assert re.search(r"more than ([\d,]+) bytes", said)[1] == f"{longest:,}"
+    assert re.search(r"more than ([\d,]+) lines", said)[1] == f"{most:,}"
+    assert re.search(r"brings the plot to more than (\d+) lines", page)[1] == str(most)
+    assert re.search(r"Reading stops after (\d+) bytes", page)[1] == str(longest + 1)
+
+
+def test_bytes_of_a_stroke():
+    """docs/ARCHITECTURE.md has the bytes of a stroke as docs/SPEED.md counts them, and those of an edge as the code says."""
+    said = re.sub(r"\s+", " ", section("docs/ARCHITECTURE.md", "The way of a byte"))
+    words = r"(\d+) bytes for each stroke and (\d+) for each edge .*?; then (\d+) bytes for the link"
+    stroke, edge, link = re.search(words, said).groups()
+    assert f"{int(stroke) + int(link)} bytes a stroke" in section("docs/SPEED.md", "Beside hp2xx")
+    assert f"{edge} bytes for each" in read("crates", "polygons", "src", "buffer.rt")
+
+
+def test_patterns_of_lines():
+    """docs/INSTRUCTIONS.md has the patterns of the types 1 to 8, and says how those of -1 to -8 follow from them."""
+    cells = re.findall(r"[^|\n]+", section("docs/INSTRUCTIONS.md", "Line types"))
+    said = {int(kind): tuple(int(it) for it in gaps.split()) for kind, gaps in zip(cells, cells[1:])
+            if re.fullmatch(r" \d ", kind) and re.fullmatch(r" [\d ]+ ", gaps)}
+    assert said == FIXED
+    for kind, (first, *rest) in said.items():
+        assert ADAPTIVE[kind] == ((first, *rest) if kind == 1 else (first // 2, *rest, first // 2))
+
+
+def names_in_table(heading):
+    """The instructions in the first column of a table of docs/INSTRUCTIONS.md."""
+    rows = re.findall(r"^\| (`.+?) \|", section("docs/INSTRUCTIONS.md", heading), re.M)
+    return [name for row in rows for name in re.findall(r"`([A-Z]{2})`", row)]
+
+
+@pytest.mark.parametrize("heading", ["What is drawn", "The profile full"])
+def test_instructions_of_the_manual_page(heading):
+    """Each instruction in the tables of docs/INSTRUCTIONS.md stands in the manual page, where it says what is read."""
+    names = names_in_table(heading)
+    page = re.search(r'^\.SH "WHAT IS READ"\n(.*?)^\.SH ', read("man", "plotraster.1"), re.M | re.S)[1]
+    assert len(names) > 20
+    assert_nothing(f"not in the manual page: {name}" for name in names if not re.search(rf"\b{name}\b", page))
+
+
+def test_instructions_that_core_skips():
+    """What only the profile full draws is in the table of what core skips, and what core draws is not."""
+    skipped, drawn = (set(names_in_table(it)) for it in ("Instructions that core reports as skipped", "What is drawn"))
+    assert set(names_in_table("The profile full")) - drawn <= skipped
+    assert not skipped & drawn
