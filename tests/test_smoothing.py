@@ -175,13 +175,13 @@ def better_filter(row, above):
     return 2 if any(row) and weight(row) >= weight(differences) else 0
 
 
-@pytest.mark.parametrize("words, plot, kind, size", [
-    ([*SMALL, "--dots=150", "--smooth=4"], BLACK, GREY, 1),
-    (["--width=4000", "--height=3000", "--dots=150", "--smooth=4"], read_bytes(os.path.join(EXAMPLES, "figures.plt")), TRUECOLOUR, 3),
+@pytest.mark.parametrize("page, plot, kind, size", [
+    (SMALL, BLACK, GREY, 1),
+    (["--width=4000", "--height=3000"], read_bytes(os.path.join(EXAMPLES, "figures.plt")), TRUECOLOUR, 3),
 ], ids=["grey", "truecolour"])
-def test_filters(program, words, plot, kind, size):
+def test_filters(program, page, plot, kind, size):
     """Where a pixel takes whole bytes, each row has the filter that leaves fewer runs."""
-    picture = read_png(drawn(program, ["png", *words], plot))
+    picture = read_png(drawn(program, ["png", *page, "--dots=150", "--smooth=4"], plot))
     assert picture.type == kind
     found = picture.pixels[::3] if kind == GREY else picture.pixels
     wide = picture.columns * size
