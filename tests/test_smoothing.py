@@ -177,7 +177,7 @@ def better_filter(row, above):
 
 @pytest.mark.parametrize("page, plot, kind, size", [
     (SMALL, BLACK, GREY, 1),
-    (["--width=4000", "--height=3000"], read_bytes(os.path.join(EXAMPLES, "figures.plt")), TRUECOLOUR, 3),
+    (["--width=4000", "--height=3000"], read_bytes(os.path.join(EXAMPLES, "metro.plt")), TRUECOLOUR, 3),
 ], ids=["grey", "truecolour"])
 def test_filters(program, page, plot, kind, size):
     """Where a pixel takes whole bytes, each row has the filter that leaves fewer runs."""
