@@ -84,7 +84,9 @@ def faults_of(name, mutant):
     for file, old, _ in mutant.edit + mutant.control:
         if texts[file].count(old) != 1:
             yield f"{name}: {file}: {old}"
-    if mutant.function and not any(re.search(rf"\bfn {mutant.function.split('::')[-1]}\b", it) for it in texts.values()):
+    module, _, function = mutant.function.rpartition("::")
+    files = ["src/lib.rt"] if function and not module else texts
+    if not any(re.search(rf"\bfn {function}\b", texts[it]) for it in files):
         yield f"{name}: fn {mutant.function}"
     tester, _, test = mutant.test.partition("::")
     if test and not any(re.search(rf"\bfn {test.split('::')[-1]}\(", it) for _, it in sources(tester)):
