@@ -58,18 +58,28 @@ IP0,0,300,400;UL2,50,20,30;UL2;LT2,10;PU0,0;PD50,0;
 LT9;LT2,0;LT2,1,2;UL0,1;UL1,0,0;UL1,1,-1;PU0,0;PD50,0;
 0,0 800,0;
 
+UL2,1,1,2,2;UL2,-1;LT2,6,1;PU0,0;PD240,0;
+0,0 640,0;1280,0 2560,0;
+
 LT0;DF;PD50,0;LT0;BP;PD60,0;
-0,0 800,0;0,0 960,0;";
+0,0 800,0;0,0 960,0;
+
+// LT99 brings back no type from before DF
+LT2,10;LT;DF;LT99;PD900,0;
+0,0 14400,0;";
 
 #[test]
 fn types_and_patterns(rt: HostRuntime) -> Result<(), Fail> {
-    has_answers(&rt, rt.alloc(), Asked::Strokes, TYPES_AND_PATTERNS, 6)
+    has_answers(&rt, rt.alloc(), Asked::Strokes, TYPES_AND_PATTERNS, 8)
 }
 
 const RUNS_AND_FIGURES: &str = "\
-// LT ends the run, and lines of pen 0 do not
+// LT ends the run, and a wrong LT and lines of pen 0 do not
 IP0,0,300,400;LT2,10;PU0,0;PD20,0;LT2;PD60,0;
 0,0 320,0;320,0 720,0;
+
+LT2,10,1;PU0,100;PD150,100;LT9;PD300,100;
+0,1600 2400,1600;2400,1600 3200,1600;
 
 IP0,0,300,400;LT2,10;SP0;PU0,0;PD20,0;SP1;PD60,0;
 320,0 400,0;800,0 960,0;
@@ -86,5 +96,5 @@ IP0,0,300,400;LT2,10;PU50,0;PD;AA0,0,60,30;
 
 #[test]
 fn runs_and_figures(rt: HostRuntime) -> Result<(), Fail> {
-    has_answers(&rt, rt.alloc(), Asked::Strokes, RUNS_AND_FIGURES, 5)
+    has_answers(&rt, rt.alloc(), Asked::Strokes, RUNS_AND_FIGURES, 6)
 }

@@ -49,6 +49,10 @@ SM.;PU50,50;CI0,180;
 BLx.\x03BL.\x03PB;
 608,0 608,0;
 
+// after a text without bytes, too, the coordinates are those of the place
+SC0,3,0,3;PU1,1;SI.1,.1;BL\x03PB;PR1,1;PD;
+10666,10666 10666,10666;
+
 // a symbol is not dashed
 LT2,1,1;SML;PU50,100;
 192,2464 192,736;192,736 1408,736;
@@ -58,7 +62,7 @@ IP0,0,300,400;TL10,5;RO90;PU500,500;XT;YT;
 
 #[test]
 fn symbols_and_turned_ticks(rt: HostRuntime) -> Result<(), Fail> {
-    has_answers(&rt, rt.alloc(), Asked::Strokes, SYMBOLS_AND_TURNED_TICKS, 4)
+    has_answers(&rt, rt.alloc(), Asked::Strokes, SYMBOLS_AND_TURNED_TICKS, 5)
 }
 
 // A BL with a text of 100,000 bytes that print nothing, and 42 times PB.
@@ -73,13 +77,21 @@ fn texts_too_long(alloc: Global) -> Result<Vec<u8>, Fail> {
     Ok(text)
 }
 
-const LABELS_OFF_RANGE: &str = "\
+const TEXTS_OFF_RANGE: &str = "\
 DI1,1;PU65000,65000;LBLLLLLLLLLL\x03
-place off range at byte 20";
+place off range at byte 20
+
+// a symbol of pen 0, too
+SP0;SI10,10;SM*;PU65536,0;
+place off range at byte 16
+
+// the next line
+PU0,-65400;CP;
+place off range at byte 11";
 
 #[test]
-fn labels_off_range(rt: HostRuntime) -> Result<(), Fail> {
-    has_answers(&rt, rt.alloc(), Asked::Strokes, LABELS_OFF_RANGE, 1)
+fn texts_off_range(rt: HostRuntime) -> Result<(), Fail> {
+    has_answers(&rt, rt.alloc(), Asked::Strokes, TEXTS_OFF_RANGE, 3)
 }
 
 #[test]

@@ -154,10 +154,13 @@ PU0,0;PD10,0;PG;PG;
 PG;PU0,0;PD10,0;PG;PG;PD20,0;
 2
 
+SP0;PD10,0;PG;SP1;PD20,0;
+1
+
 PD10,0;PG;PD20,0;PG;PD30,0;PG;BP;
 3";
 
 #[test]
 fn sheets_with_strokes(rt: HostRuntime) -> Result<(), Fail> {
-    has_answers(&rt, rt.alloc(), Asked::Sheets, SHEETS_WITH_STROKES, 6)
+    has_answers(&rt, rt.alloc(), Asked::Sheets, SHEETS_WITH_STROKES, 7)
 }

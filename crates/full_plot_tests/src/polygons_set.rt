@@ -202,7 +202,7 @@ fn polygons_within_range(rt: HostRuntime) -> Result<(), Fail> {
     Ok(())
 }
 
-// The places in the buffer count as work for each EP and each FP, whatever pen is selected.
+// The places in the buffer count as work for each EP and each FP, whatever pen is selected, and those of an EW do not.
 #[test]
 fn endless_work(rt: HostRuntime) -> Result<(), Fail> {
     let mut text = String::new(rt.alloc());
@@ -211,11 +211,26 @@ fn endless_work(rt: HostRuntime) -> Result<(), Fail> {
         text.push_str("1,2,2,1,")?;
     }
     text.push_str("0,0;PM2;")?;
-    for _ in 0..1_048 {
-        text.push_str("EP;FP;")?;
+    for _ in 0..1_047 {
+        text.push_str("FP;EP;")?;
+    }
+    text.push_str("FP;EW10,0,360,.5;EP;")?;
+    let page = Page::new(1000, 1000, 0, 0)?;
+    let fault = draw_full(rt.alloc(), text.as_bytes(), &page).err();
+    assert_eq!(rt; fault, Some(PlotFault::TooManyStrokes { at: 14_317 }));
+    Ok(())
+}
+
+// The buffer holds at most as many places as a plot may have strokes; a circle of 720 chords has 721.
+#[test]
+fn places_of_a_polygon(rt: HostRuntime) -> Result<(), Fail> {
+    let mut text = String::new(rt.alloc());
+    text.push_str("PM;")?;
+    for _ in 0..5_818 {
+        text.push_str("CI1,.5;")?;
     }
     let page = Page::new(1000, 1000, 0, 0)?;
     let fault = draw_full(rt.alloc(), text.as_bytes(), &page).err();
-    assert_eq!(rt; fault, Some(PlotFault::TooManyStrokes { at: 14_303 }));
+    assert_eq!(rt; fault, Some(PlotFault::TooManyStrokes { at: 40_722 }));
     Ok(())
 }
