@@ -1,5 +1,5 @@
 -- Items that are noted as bad do nothing.
-use Rattle.std.proofs.Common.{◌≡◌, ◌∙◌, ap, sym, subst, refl, ℤ, ℕ, Bool, true, false, true≢false, List, [], ◌∷◌, ◌++◌, Option, Some, None}
+use Rattle.std.proofs.Common.{◌≡◌, ◌∙◌, ap, sym, refl, ℤ, Bool, true, false, true≢false, List, [], ◌∷◌, ◌++◌, Option, Some, None}
 use Rattle.std.specs.Prelude.{if◌then◌else◌}
 use Rattle.hpgl_text.specs.Shapes.{ItemShape, BodyShape, Params, Further}
 use Rattle.hpgl_text.specs.Shapes as shape
@@ -9,7 +9,6 @@ use Rattle.hpgl_text.specs.declared.instruction.Instruction.{Instruction}
 use Rattle.hpgl_text.specs.declared.instruction.Instruction.TheVariants as is
 use Rattle.plot_settings.specs.Meanings.{Step, Set, DrawCircle, DrawArc, asks, edges, meaning, sets}
 use Rattle.plot_settings.specs.Slants.{is_off_axis}
-use Rattle.hpgl_plot.specs.declared.note.NoteKind.{NoteKind}
 use Rattle.hpgl_plot.specs.declared.note.NoteKind.TheVariants.{Axis, Bad}
 use Rattle.hpgl_plot.specs.Notes.{parameters_noted}
 use Rattle.full_settings.specs.declared.fill_setting.FillSetting.TheVariants as fill
@@ -23,9 +22,9 @@ use Rattle.full_settings.specs.WidthParameters.{percent_width}
 use Rattle.full_notes.proofs.Noted.{read_noted}
 use Rattle.full_notes.specs.Contexts.{Context, first_context, asked_in, body_read, is_misplaced, numbers_read, params_read, read_in, request_in}
 use Rattle.full_notes.specs.Notes.{after_body, bad_if, bad_without, body_noted, context_after, noted_on, params_after, params_noted, request_after, request_noted, width_noted}
-use Rattle.full_plot.specs.Items.{as_core, full_steps, letters_steps, more_steps, params_steps, request_steps, taken, width_steps, widths_steps}
+use Rattle.full_plot.specs.Items.{as_core, full_steps, letters_steps, params_steps, request_steps, taken, width_steps, widths_steps}
 use Rattle.full_plot.specs.Laws.{draws_in_part}
-use Rattle.full_plot.specs.Machine.{FullStep, Core, Letter, run}
+use Rattle.full_plot.specs.Machine.{FullStep, run}
 use Rattle.full_plot.specs.Worlds.{World}
 
 -- no steps, and the context stays

@@ -21,3 +21,4 @@ pub mod CoreSteps
 pub mod Stills
 pub mod CorePlots
 mod BadItems
+mod Restarts

@@ -1,10 +1,10 @@
 -- Items of core have the same effect in both profiles.
-use Rattle.std.specs.Prelude.{◌≡◌, ◌^◌, nat_lt, Bool, true, false, not, List, [], ◌∷◌, length, Some, None, Result, Ok, Err}
+use Rattle.std.specs.Prelude.{◌≡◌, ℤ, ◌^◌, nat_lt, Bool, true, false, not, List, [], ◌∷◌, length, Some, None, Result, Ok, Err}
 use Rattle.std.specs.List.{All}
 use Rattle.plot_page.specs.declared.page.Page.{Page}
 use Rattle.hpgl_text.specs.Shapes.{ItemShape, BodyShape, Params, Further, Label, Kept, Symbol, Known}
-use Rattle.hpgl_text.specs.declared.further.Further.TheVariants.{BezierAbsolute, BezierRelative}
-use Rattle.hpgl_text.specs.declared.instruction.Instruction.TheVariants.{PenUp, PenDown, PlotAbsolute, PlotRelative}
+use Rattle.hpgl_text.specs.declared.further.Further.TheVariants.{BeginPlot, BezierAbsolute, BezierRelative}
+use Rattle.hpgl_text.specs.declared.instruction.Instruction.TheVariants.{Initialize, PenUp, PenDown, PlotAbsolute, PlotRelative}
 use Rattle.plot_settings.specs.Slants.{is_off_axis}
 use Rattle.hpgl_plot.specs.declared.note.NoteKind.TheVariants.{Bad}
 use Rattle.hpgl_plot.specs.declared.fault.PlotFault.{PlotFault}
@@ -73,6 +73,21 @@ draws_in_part _ = false
 abbrev pub BadItemsDoNothing : Type 0
 BadItemsDoNothing = (w : World) (i : ItemShape) → body_noted w.context i.body ≡ Some Bad → draws_in_part i.body ≡ false
     → taken w i.body ≡ Some w
+
+-- as at the start, but for the page, the strokes, the ends of sheets and the work that counts; and for the widths in
+-- percent, which have no effect before widths are in percent again
+abbrev pub started_again : World → World
+started_again w = record (at_start w.core.page) {
+  core = record w.core { state = (core.at_start w.core.page).state };
+  percents = w.percents;
+  extra = w.extra;
+  ends = w.ends;
+}
+
+-- IN and BP
+abbrev pub InitializeRestarts : Type 0
+InitializeRestarts = (w : World) (ns : List ℤ)
+    → (taken w (Params Initialize ns) ≡ Some (started_again w)) × (taken w (Further BeginPlot ns) ≡ Some (started_again w))
 
 -- the steps of an item leave the context that notes have after it
 abbrev pub NotesAreTold : Type 0

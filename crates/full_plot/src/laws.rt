@@ -1,5 +1,6 @@
 //! Laws of the profile full, over the definitions only.
-ghost use Rattle.full_plot.specs.Laws.{BadItemsDoNothing, CoreRunsAsInCore, CoreDrawsAsInCore, CoreNotedAsInCore, NotesAreTold};
+ghost use Rattle.full_plot.specs.Laws.{BadItemsDoNothing, CoreRunsAsInCore, CoreDrawsAsInCore, CoreNotedAsInCore};
+ghost use Rattle.full_plot.specs.Laws.{InitializeRestarts, NotesAreTold};
 
 /// Items of core leave in the profile full what they leave in core, on one sheet, with the line style
 /// of the start, or are refused as in core.
@@ -20,6 +21,11 @@ pub fn core_noted_as_in_core()
 /// An item that is noted as bad leaves the plotter as it was, but for moves and curves before the wrong number.
 pub fn bad_items_do_nothing()
     ensures { BadItemsDoNothing }
+{}
+
+/// IN and BP leave the plotter as at the start, with the strokes and the sheets so far.
+pub fn initialize_restarts()
+    ensures { InitializeRestarts }
 {}
 
 /// After each item that is carried out, the plotter has the context that notes have: the steps of an item do not change it.
