@@ -73,6 +73,13 @@ def test_refused_plot_leaves_the_old_file(program, tmp_path, words, plot, ends):
     assert (sorted(os.listdir(tmp_path)), read_bytes(tmp_path / "out")) == (["folder", "out"], OLD)
 
 
+def test_plot_too_long_leaves_the_old_file(program, tmp_path):
+    write(str(tmp_path / "out"), OLD)
+    ends = (1, b"plotraster: plot is longer than 67108864 bytes\n")
+    assert write_to(program, tmp_path, ["pbm", "-o", "out"], b" " * 67108865) == ends
+    assert (os.listdir(tmp_path), read_bytes(tmp_path / "out")) == (["out"], OLD)
+
+
 def test_files_that_cannot_be_written(program, tmp_path):
     os.mkdir(tmp_path / "folder")
     for name, refused, reason in [

@@ -11,7 +11,7 @@ import tty
 
 import pytest
 from reference.outputs import FORMS
-from shared import EXAMPLES, read_bytes, run
+from shared import EXAMPLES, read_bytes, run, write
 
 SECONDS = 60
 PLOT = b"SP1;PU0,0;PD10000,8000;XX;"
@@ -118,6 +118,14 @@ def test_shorter_lines_hide_longer_ones(program):
         for new in text.rstrip(b"\n").split(b"\r")[1:]:
             seen = new + seen[len(new):]
             assert seen.rstrip(b" ") == new.rstrip(b" ")
+
+
+def test_several_plots_are_named(program, tmp_path):
+    for name in ("a.plt", "b.plt"):
+        write(str(tmp_path / name), PLOT)
+    status, _, text = on_terminal(program, ["pbm", "--band=400", "--progress", "-o", ".", "a.plt", "b.plt"], cwd=tmp_path)
+    wanted = [shown(ROWS, 400).replace(b"plotraster:", b"plotraster: %s:" % name) for name in (b"a.plt", b"b.plt")]
+    assert (status, text) == (0, b"".join(wanted))
 
 
 def test_nothing_without_the_option(program):

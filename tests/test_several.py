@@ -144,6 +144,22 @@ def test_plots_of_one_name(program, folder):
     assert read_bytes(folder / "out" / "a.pbm") == drawn(program, "pbm", LINE)
 
 
+def test_refused_plots_take_their_names(program, folder):
+    """A later plot of the name of a refused one, or of one whose output is a plot, is not drawn."""
+    write(str(folder / "deep" / "far.plt"), LINE)
+    write(str(folder / "out" / "a.pbm"), LINE)
+    plots = ["far.plt", "deep/far.plt", "a.plt", "deep/a.plt", "out/a.pbm"]
+    assert ends_of(program, folder, ["pbm", "-o", "out", *plots]) == (3, [
+        "plotraster: far.plt: place off range at byte 0",
+        "plotraster: deep/far.plt: cannot write out/far.pbm: it is written for another plot",
+        "plotraster: a.plt: cannot write out/a.pbm: it is one of the plots",
+        "plotraster: deep/a.plt: cannot write out/a.pbm: it is written for another plot",
+        "plotraster: out/a.pbm: cannot write out/a.pbm: it is written for another plot",
+    ])
+    assert files_in(folder / "out") == ["a.pbm"]
+    assert read_bytes(folder / "out" / "a.pbm") == LINE
+
+
 def test_plot_that_is_missing_takes_no_name(program, folder):
     lines = ["plotraster: cannot open none/a.plt"]
     assert ends_of(program, folder, ["pbm", "-o", "out", "none/a.plt", "a.plt"]) == (3, lines)
