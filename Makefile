@@ -6,7 +6,8 @@
 # make prove      every proof and the tests of the crates (rt ci), and the mutants that are marked for the gate
 # make check      all of these, some side by side: what fails early comes first
 # make audit      hands every mutant to the prover, for a release or after a change of a contract
-# make fuzz       compares the built command with tests/reference on new random plots, for SECONDS=600
+# make fuzz       compares the built command with tests/reference on new random plots, for SECONDS=600, and runs it on
+#                 MUTILATED=20000 plots that were mutilated, in either profile
 # make install    copies the command, its manual page and its completion under PREFIX (/usr/local), below DESTDIR if it is set
 # make uninstall  removes them
 # make dist       makes build/plotraster-VERSION-x86_64-linux.tar.gz and build/plotraster_VERSION_amd64.deb, which lintian checks
@@ -19,6 +20,7 @@ BIN = $(DESTDIR)$(PREFIX)/bin
 MAN = $(DESTDIR)$(PREFIX)/share/man/man1
 COMPLETIONS = $(DESTDIR)$(PREFIX)/share/bash-completion/completions
 SECONDS = 600
+MUTILATED = 20000
 CARDS = rose tide figures characters
 CARD = --width 4000 --height 3000 --dots 150 --smooth 4
 # Debian's Python, which has Debian's pytest.
@@ -83,6 +85,9 @@ audit: setup build
 
 fuzz: built
 	tests/fuzz $(PROGRAM) --seconds $(SECONDS) --processes 4
+	@for profile in core full; do \
+	    tests/campaign $(PROGRAM) --profile $$profile --plots $(MUTILATED) --seed $$$$ --jobs 4 || exit 1; \
+	done
 
 built:
 	@test -x $(PROGRAM) || { echo 'nothing is built yet: type make, which proves and builds the command' >&2; exit 1; }

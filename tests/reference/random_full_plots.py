@@ -23,6 +23,7 @@ THEMES = [
         "WU WU PW PW PT SP PD PR IP mirrored PE hatching RR",
         "CR CR PC PC SP PD DF IN BP",
         "restored restored restored PD LB RR",
+        "kept kept kept kept PD LB",
         "LB LB LB SR SI DI DR SL ES LO LO DV CP CP RO mirrored IP DF PU",
         "lines lines LB BL PB LO DV ES CP CP SR DT SC PD",
         "SM SM PU PD PA PR PE LB LO DV SI",
@@ -98,6 +99,7 @@ class FullWriter(Writer):
             "lines": self.lines,
             "run": self.interrupted_run,
             "restored": self.restored,
+            "kept": self.kept,
             "flat": self.flat_arc,
             "sheet": lambda: self.pick(b"PG", b"AF", b"AH", b"NR", b"FR", b"pg") + self.pick(*WITHOUT_NUMBERS),
             "known": lambda: self.pick(*KNOWN),
@@ -195,6 +197,24 @@ class FullWriter(Writer):
             (b"IR10,10,60,60;", b"FT3;RR30,30;"), (b"IP40,30,0,0;", b"SR;LBa\x03"),
         )
         return setting + self.pick(b"IN;", b"DF;", b"BP", b"BP1;", b"IN,;", b"DF!;", b"IN!;", b"") + shown
+
+    def kept(self):
+        """Settings that wrong numbers do not change, with what shows them; and the ends of ranges."""
+        self.scale, self.is_relative = None, False
+        self.terminator = b"\x03"
+        return b"PU9,9;" + self.pick(
+            b"LT2,10,1;PD150,9;LT9;PD300,9;", b"LT2,10,1;PD150,9;LT2,-1;PD300,9;", b"LT2,10,1;PD90,9;LT2,5,3;PD150,9;",
+            b"UL2,1,1,2,2;UL2,-1;LT2,6,1;PD240,9;", b"UL2,1,3;UL0;LT2;PD90,9;", b"UL2,1,3;UL9;LT2;PD90,9;",
+            b"LT2,1;LT9;LT;LT99;PD90,9;",
+            b"WU1;WU5;PW1;PD99,9;", b"WU1;PW1;PW101;PD99,9;", b"WU1;PW1;IP5;PD99,9;", b"PT1;PT-1;PD99,9;", b"PW1;PW21;PD99,9;",
+            b"LO5;LO99;LBab\x03", b"LO14;LO10;LBab\x03", b"DV1;DV9;LBab\x03", b"DI1,2;DI0,0;LBab\x03", b"DR1,2;DR5;LBab\x03",
+            b"SI.3,.5;SI0;LBab\x03", b"SR9,9;SI0,1;LBa\x03", b"SR9,9;SR0,1;LBa\x03", b"SR1000,5;LBa\x03", b"SR1001,5;LBa\x03",
+            b"SL1;SL1001;LBa\x03", b"ES1,1;ES101;LBab\x03", b"LBa\x03LO99;CP;LBb\x03", b"LBa\x03DV9;CP;LBb\x03",
+            b"LBa\x03DI0,0;CP;LBb\x03", b"CR0,9,0,9,0,9;CR1,1,0,9,0,9;PC1,5,0,9;PD99,9;", b"CR9,0,9,0,9,0;PC1,4.5,8.5,.5;PD99,9;",
+            b"SP0;PD99,9;PG;SP1;PD99,9;", b"SP0;PG;SM*;PU99,9;PG;SP1;PD;", b"FT3,9,20;FT9;RR30,30;", b"FT10,30;FT10,101;RR30,30;",
+            b"AC3,2;AC1;FT3,9;RR30,30;", b"TL9,5;TL101;XT;YT;", b"IR10,10,60,60;IR5;RR9,9;", b"CT1;CT2;CI10,90;",
+            b"PM;PD9,30,30,9;PM3;PD0,0;PM2;EP;", b"PM;PD9,30,30,9;EA0,0;XT;PM2;EP;", b"PM1;EP;PM2;EP;", b"AC;RA5;RR,9;EW9;WG;FP2;",
+        )
 
     def flat_arc(self):
         """An arc through three places that are nearly on a line, so that its circle may be too large; or on a corner."""
