@@ -54,8 +54,11 @@ fn tell(rt: &HostRuntime, error: &clap::Error) -> u8 {
     if error.kind() == clap::error::ErrorKind::OutOfMemory {
         return refuse(rt, About::Run, &Fault::Memory);
     }
-    let _ = error.print(rt);
-    parse_status(error)
+    let printed = error.print(rt);
+    match parse_status(error) {
+        0 if printed.is_err() => refuse(rt, About::Run, &Fault::Unfinished),
+        status => status,
+    }
 }
 
 fn work(rt: &HostRuntime, matches: &ArgMatches<'_>) -> u8 {
