@@ -1,4 +1,5 @@
 -- Lemmas and worked examples.
 pub mod Beside
+pub mod Moved
 pub mod Pages
 mod FitExamples

@@ -18,7 +18,7 @@ is_beside page e =
 abbrev pub counted : PenSet → Page → Census → Segment → Census
 counted pens page census s =
     if not (has_pen pens s.pen) then census else
-    if is_beside page (reach 0 s) then record { strokes = census.strokes + 1; off_page = census.off_page + 1 } else
+    if is_beside page (reach s) then record { strokes = census.strokes + 1; off_page = census.off_page + 1 } else
     record { strokes = census.strokes + 1; off_page = census.off_page }
 
 -- how many strokes the selected pens draw, and how many of these lie off the page; no window cuts them

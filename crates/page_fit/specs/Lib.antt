@@ -1,4 +1,5 @@
--- What a reader must believe: how far strokes reach, and the page around them.
+-- What a reader must believe: how far strokes are seen, the page around them, and how they are moved to it.
 pub mod Extents
 pub mod Around
+pub mod Moves
 pub mod Census

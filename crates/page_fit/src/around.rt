@@ -1,43 +1,58 @@
 //! The page around a drawing.
-ghost use Rattle.std.specs.Prelude.{◌≡◌, ◌+◌, ◌*◌, ◌≤◌, ◌^◌, ◌+ℤ◌, ◌-ℤ◌, pos, nat_abs, option_map};
-ghost use Rattle.plot_page.specs.Pages.{has_page_corner, has_page_size, is_page_side};
-ghost use Rattle.page_fit.specs.Around.{checked, corner_for, side_for, sides_around, sides_of, units_for};
+ghost use Rattle.std.specs.Prelude.{◌≡◌, ◌+◌, ◌*◌, ◌≤◌, ◌^◌, ◌+ℤ◌, ◌-ℤ◌, ◌*ℤ◌, pos, nat_abs, option_map};
+ghost use Rattle.plot_page.specs.Pages.{has_page_size, is_page_side};
+ghost use Rattle.page_fit.specs.Around.{checked, corner_around, length_for, side_at, sides_around, sides_of, units_for};
 ghost use Rattle.page_fit.specs.Extents.{IsNear};
+ghost use Rattle.page_fit.specs.Moves.{IsCornerNear};
 
 use crate::extent::Extent;
-use plot_page::{FARTHEST_CORNER, LONGEST_SIDE, Page, SHORTEST_SIDE};
+use plot_page::{LONGEST_SIDE, Page, SHORTEST_SIDE};
 
 // How many grains a plotter unit has.
 const GRAINS: i64 = 16;
 
-/// The least page that holds a drawing of this extent, which was drawn on `page`. Its lower left corner
-/// is neither right of (0, 0) nor above it, and it has the sides that a page has at least. `None` if no
-/// page is so large.
-pub fn page_around(page: &Page, extent: Extent) -> Option<Page>
+// How many grains a millimetre has.
+const MILLIMETRE: i64 = 640;
+
+/// The lower left corner of the page around a drawing, in plotter units from that of the page that it was drawn on.
+#[derive(Clone, Copy, Debug, PartialEq, Eq)]
+pub struct Corner {
+    pub x: i64,
+    pub y: i64,
+}
+
+/// The lower left corner of the page around a drawing of this extent, with a margin in millimetres.
+pub fn corner_around(margin: u32, extent: Extent) -> Corner
     requires { IsNear extent }
-    ensures { option_map sides_of result ≡ sides_around page.now extent }
+    ensures value { result ≡ corner_around margin extent }
+    ensures near { IsCornerNear result }
+{
+    Corner {
+        x: side_at(margin, extent.least_x),
+        y: side_at(margin, extent.least_y),
+    }
+}
+
+/// The least page that holds a drawing of this extent, with a margin in millimetres around it; its corner is (0, 0).
+/// `None` if no page is so large.
+pub fn page_around(margin: u32, extent: Extent) -> Option<Page>
+    requires { IsNear extent }
+    ensures { option_map sides_of result ≡ sides_around margin extent }
 {
     page_of(
-        side_for(page.left, extent.least_x, extent.greatest_x),
-        side_for(page.below, extent.least_y, extent.greatest_y),
-        corner_for(page.left, extent.least_x),
-        corner_for(page.below, extent.least_y),
+        length_for(margin, extent.least_x, extent.greatest_x),
+        length_for(margin, extent.least_y, extent.greatest_y),
     )
 }
 
-// The page of these numbers, if there is one.
-fn page_of(width: u64, height: u64, left: u64, below: u64) -> Option<Page>
-    ensures { option_map sides_of result ≡ checked (record {
-      width = width;
-      height = height;
-      left = left;
-      below = below;
-    }) }
+// The page of this width and this height, if there is one.
+fn page_of(width: u64, height: u64) -> Option<Page>
+    ensures { option_map sides_of result ≡ checked (record { width = width; height = height; left = 0; below = 0 }) }
 {
-    if !has_page_size(width, height) || !has_page_corner(left, below) {
+    if !has_page_size(width, height) {
         return None;
     }
-    Page::new(width as u32, height as u32, left as u32, below as u32).ok()
+    Page::new(width as u32, height as u32, 0, 0).ok()
 }
 
 // Whether a page may have this size.
@@ -53,40 +68,32 @@ fn is_page_side(units: u64) -> bool
     u64::from(SHORTEST_SIDE) <= units && units <= u64::from(LONGEST_SIDE)
 }
 
-// Whether a page may have this corner.
-fn has_page_corner(left: u64, below: u64) -> bool
-    ensures { result ≡ has_page_corner left below }
+// Where a side of the page lies, in plotter units.
+fn side_at(margin: u32, least: i64) -> i64
+    requires { nat_abs least ≤ 2 ^ 21 }
+    ensures value { result ≡ side_at margin least }
+    ensures near { nat_abs result ≤ 2 ^ 40 }
 {
-    left <= u64::from(FARTHEST_CORNER) && below <= u64::from(FARTHEST_CORNER)
+    (least - MILLIMETRE * i64::from(margin)).div_euclid(GRAINS)
 }
 
-// How far the new page's side is from (0, 0), in plotter units.
-fn corner_for(corner: u32, least: i64) -> u64
-    requires { nat_abs least ≤ 2 ^ 44 }
-    ensures value { result ≡ corner_for corner least }
-    ensures most { result ≤ 2 ^ 45 }
+// How long a side of the page is, in plotter units.
+fn length_for(margin: u32, least: i64, greatest: i64) -> u64
+    requires least { nat_abs least ≤ 2 ^ 21 }
+    requires greatest { nat_abs greatest ≤ 2 ^ 21 }
+    ensures { result ≡ length_for margin least greatest }
 {
-    units_for(GRAINS * i64::from(corner) - least)
+    u64::from(SHORTEST_SIDE).max(units_for(reach_from(side_at(margin, least), margin, greatest)))
 }
 
-// How long the new page's side is, in plotter units.
-fn side_for(corner: u32, least: i64, greatest: i64) -> u64
-    requires least { nat_abs least ≤ 2 ^ 44 }
-    requires greatest { nat_abs greatest ≤ 2 ^ 44 }
-    ensures { result ≡ side_for corner least greatest }
-{
-    let reach = reach_from(corner, corner_for(corner, least), greatest);
-    u64::from(SHORTEST_SIDE).max(units_for(reach))
-}
-
-// How far up a drawing reaches from the new page's side, in grains.
-fn reach_from(corner: u32, new_corner: u64, greatest: i64) -> i64
-    requires new_corner { new_corner ≤ 2 ^ 45 }
-    requires greatest { nat_abs greatest ≤ 2 ^ 44 }
-    ensures value { result ≡ greatest -ℤ pos (16 * corner) +ℤ pos (16 * new_corner) }
+// How far a drawing and its margin reach from the page's side, in grains.
+fn reach_from(side: i64, margin: u32, greatest: i64) -> i64
+    requires side { nat_abs side ≤ 2 ^ 40 }
+    requires greatest { nat_abs greatest ≤ 2 ^ 21 }
+    ensures value { result ≡ greatest +ℤ pos (640 * margin) -ℤ pos 16 *ℤ side }
     ensures near { nat_abs result ≤ 2 ^ 50 }
 {
-    greatest - GRAINS * i64::from(corner) + GRAINS * new_corner as i64
+    greatest + MILLIMETRE * i64::from(margin) - GRAINS * side
 }
 
 // The least number of whole plotter units that hold some grains; none if these are below 0.

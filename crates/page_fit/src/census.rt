@@ -43,7 +43,7 @@ impl Census {
         if !pens.has(stroke.pen) {
             return self;
         }
-        let lies_beside = !begins_on(page, stroke) && is_beside(page, Extent::of(stroke, 0));
+        let lies_beside = !begins_on(page, stroke) && is_beside(page, Extent::of(stroke));
         Census {
             strokes: self.strokes + 1,
             off_page: self.off_page + usize::from(lies_beside),
@@ -54,7 +54,7 @@ impl Census {
 // Whether a stroke's first end lies on the page, as most do. Then the stroke does not lie beside it.
 #[inline]
 fn begins_on(page: &Page, stroke: &Stroke) -> bool
-    ensures { IsTrue result → is_beside page.now (reach 0 stroke.now) ≡ false }
+    ensures { IsTrue result → is_beside page.now (reach stroke.now) ≡ false }
 {
     is_within(page.width, stroke.ax) && is_within(page.height, stroke.ay)
 }

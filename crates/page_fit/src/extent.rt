@@ -1,12 +1,9 @@
-//! How far strokes reach.
-ghost use Rattle.std.specs.Prelude.{◌≡◌, ◌≤◌, ◌^◌, ◌+ℤ◌, ◌-ℤ◌, pos, nat_abs, IfSome};
+//! How far strokes are seen.
+ghost use Rattle.std.specs.Prelude.{◌≡◌, ◌≤◌, ◌^◌, ◌*◌, ◌+ℤ◌, ◌-ℤ◌, ◌&&◌, pos, nat_abs, int_le, IfSome};
 ghost use Rattle.std.specs.Int.{int_max, int_min};
-ghost use Rattle.page_fit.specs.Extents.{IsNear, around, extent_of, joined, joined_with, reach, with_stroke};
+ghost use Rattle.page_fit.specs.Extents.{IsNear, cut_to, extent_of, half_width, holds_page, is_empty, joined, joined_with, reach, seen, with_stroke};
 
-use plot_page::{PenSet, Stroke};
-
-// How many grains a millimetre has.
-const GRAINS: u64 = 640;
+use plot_page::{Page, PenSet, Stroke, Window};
 
 /// How far strokes reach, in grains from the lower left corner of the page that they are drawn on.
 #[derive(Clone, Copy, Debug, PartialEq, Eq)]
@@ -18,18 +15,43 @@ pub struct Extent {
 }
 
 impl Extent {
-    // A stroke with half its width and a margin in millimetres around it.
-    pub(crate) fn of(stroke: &Stroke, margin: u32) -> Extent
-        ensures value { result ≡ reach margin stroke.now }
+    // A stroke with half its width around it.
+    pub(crate) fn of(stroke: &Stroke) -> Extent
+        ensures value { result ≡ reach stroke.now }
         ensures near { IsNear result }
     {
-        let around = around(stroke, margin);
+        let around = half_width(stroke);
         Extent {
             least_x: least(stroke.ax, stroke.bx, around),
             least_y: least(stroke.ay, stroke.by, around),
             greatest_x: greatest(stroke.ax, stroke.bx, around),
             greatest_y: greatest(stroke.ay, stroke.by, around),
         }
+    }
+
+    // What of it lies in a window.
+    fn cut_to(self, window: Window) -> Extent
+        requires near { IsNear self }
+        requires x0 { nat_abs window.x0 ≤ 2 ^ 20 }
+        requires y0 { nat_abs window.y0 ≤ 2 ^ 20 }
+        requires x1 { nat_abs window.x1 ≤ 2 ^ 20 }
+        requires y1 { nat_abs window.y1 ≤ 2 ^ 20 }
+        ensures value { result ≡ cut_to window self }
+        ensures near { IsNear result }
+    {
+        Extent {
+            least_x: not_below(self.least_x, window.x0),
+            least_y: not_below(self.least_y, window.y0),
+            greatest_x: not_above(self.greatest_x, window.x1),
+            greatest_y: not_above(self.greatest_y, window.y1),
+        }
+    }
+
+    // Whether it holds no place.
+    fn is_empty(self) -> bool
+        ensures { result ≡ is_empty self }
+    {
+        self.greatest_x < self.least_x || self.greatest_y < self.least_y
     }
 
     // What holds both.
@@ -48,72 +70,125 @@ impl Extent {
     }
 }
 
-// Half the width of a stroke and a margin, in grains.
-fn around(stroke: &Stroke, margin: u32) -> u64
-    ensures value { result ≡ around margin stroke.now }
-    ensures most { result ≤ 2 ^ 43 }
+// Half the width of a stroke, in grains.
+fn half_width(stroke: &Stroke) -> u32
+    ensures value { result ≡ half_width stroke.now }
+    ensures most { result ≤ 6400 }
 {
-    u64::from(stroke.width.div_ceil(2)) + GRAINS * u64::from(margin)
+    stroke.width.div_ceil(2)
 }
 
 // How far down two ends reach.
-fn least(a: i32, b: i32, around: u64) -> i64
-    requires { around ≤ 2 ^ 43 }
+fn least(a: i32, b: i32, around: u32) -> i64
+    requires around { around ≤ 6400 }
+    requires a { nat_abs a ≤ 2 ^ 20 }
+    requires b { nat_abs b ≤ 2 ^ 20 }
     ensures value { result ≡ int_min a b -ℤ pos around }
-    ensures near { nat_abs result ≤ 2 ^ 44 }
+    ensures near { nat_abs result ≤ 2 ^ 21 }
 {
-    i64::from(a.min(b)) - around as i64
+    i64::from(a.min(b)) - i64::from(around)
 }
 
 // How far up two ends reach.
-fn greatest(a: i32, b: i32, around: u64) -> i64
-    requires { around ≤ 2 ^ 43 }
+fn greatest(a: i32, b: i32, around: u32) -> i64
+    requires around { around ≤ 6400 }
+    requires a { nat_abs a ≤ 2 ^ 20 }
+    requires b { nat_abs b ≤ 2 ^ 20 }
     ensures value { result ≡ int_max a b +ℤ pos around }
-    ensures near { nat_abs result ≤ 2 ^ 44 }
+    ensures near { nat_abs result ≤ 2 ^ 21 }
 {
-    i64::from(a.max(b)) + around as i64
+    i64::from(a.max(b)) + i64::from(around)
 }
 
 fn lesser(a: i64, b: i64) -> i64
     ensures value { result ≡ int_min a b }
-    ensures near { nat_abs a ≤ 2 ^ 44 → nat_abs b ≤ 2 ^ 44 → nat_abs result ≤ 2 ^ 44 }
+    ensures near { nat_abs a ≤ 2 ^ 21 → nat_abs b ≤ 2 ^ 21 → nat_abs result ≤ 2 ^ 21 }
 {
     a.min(b)
 }
 
 fn greater(a: i64, b: i64) -> i64
     ensures value { result ≡ int_max a b }
-    ensures near { nat_abs a ≤ 2 ^ 44 → nat_abs b ≤ 2 ^ 44 → nat_abs result ≤ 2 ^ 44 }
+    ensures near { nat_abs a ≤ 2 ^ 21 → nat_abs b ≤ 2 ^ 21 → nat_abs result ≤ 2 ^ 21 }
 {
     a.max(b)
 }
 
-/// How far the strokes of the selected pens reach, with half their width and a margin in millimetres
-/// around them. `None` if there are none. No window cuts them.
-pub fn extent_of(strokes: &[Stroke], pens: PenSet, margin: u32) -> Option<Extent>
-    ensures value { result ≡ extent_of pens margin strokes.now }
+// A place, or an edge of a window that lies farther up.
+fn not_below(place: i64, edge: i32) -> i64
+    requires edge { nat_abs edge ≤ 2 ^ 20 }
+    ensures value { result ≡ int_max place edge }
+    ensures near { nat_abs place ≤ 2 ^ 21 → nat_abs result ≤ 2 ^ 21 }
+{
+    place.max(i64::from(edge))
+}
+
+// A place, or an edge of a window that lies farther down.
+fn not_above(place: i64, edge: i32) -> i64
+    requires edge { nat_abs edge ≤ 2 ^ 20 }
+    ensures value { result ≡ int_min place edge }
+    ensures near { nat_abs place ≤ 2 ^ 21 → nat_abs result ≤ 2 ^ 21 }
+{
+    place.min(i64::from(edge))
+}
+
+/// Whether a window is the whole page, or more.
+pub(crate) fn holds_page(page: &Page, window: Window) -> bool
+    ensures { result ≡ holds_page page.now window }
+{
+    spans(window.x0, window.x1, page.width) && spans(window.y0, window.y1, page.height)
+}
+
+// Whether two edges of a window hold a whole side of the page.
+fn spans(low: i32, high: i32, side: u32) -> bool
+    ensures { result ≡ (int_le low (pos 0) && int_le (pos (16 * side)) high) }
+{
+    low <= 0 && 16 * i64::from(side) <= i64::from(high)
+}
+
+/// How far the strokes of the selected pens are seen that are drawn on this page, with half their width. Their windows
+/// cut them, but the edges of the page do not. `None` if nothing is seen.
+pub fn extent_of(strokes: &[Stroke], pens: PenSet, page: &Page) -> Option<Extent>
+    ensures value { result ≡ extent_of pens page.now strokes.now }
     ensures near { IfSome result IsNear }
 {
     let mut found = None;
     for stroke in strokes {
-        found = with_stroke(found, stroke, &pens, margin);
+        found = with_stroke(found, stroke, &pens, page);
     }
     found
 }
 
-// With a stroke, if its pen is selected.
+// With a stroke, if its pen is selected and something of it is seen.
 #[inline]
-fn with_stroke(found: Option<Extent>, stroke: &Stroke, pens: &PenSet, margin: u32) -> Option<Extent>
+fn with_stroke(found: Option<Extent>, stroke: &Stroke, pens: &PenSet, page: &Page) -> Option<Extent>
     requires { IfSome found IsNear }
-    ensures value { result ≡ with_stroke pens.now margin found stroke.now }
+    ensures value { result ≡ with_stroke pens.now page.now found stroke.now }
     ensures near { IfSome result IsNear }
 {
     if !pens.has(stroke.pen) {
         return found;
     }
-    let reach = Extent::of(stroke, margin);
+    let seen = seen(page, stroke);
+    if seen.is_empty() {
+        return found;
+    }
     match found {
-        Some(extent) => Some(extent.joined(reach)),
-        None => Some(reach),
+        Some(extent) => Some(extent.joined(seen)),
+        None => Some(seen),
+    }
+}
+
+// How far a stroke is seen.
+#[inline]
+fn seen(page: &Page, stroke: &Stroke) -> Extent
+    ensures value { result ≡ seen page.now stroke.now }
+    ensures near { IsNear result }
+{
+    let reach = Extent::of(stroke);
+    if holds_page(page, stroke.window) {
+        reach
+    } else {
+        reach.cut_to(stroke.window)
     }
 }

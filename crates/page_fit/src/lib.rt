@@ -1,10 +1,12 @@
-//! The page around a drawing.
+//! The page around a drawing, and the drawing moved to it.
 #![tactic(auto)]
 
 mod around;
 mod census;
 mod extent;
+mod moves;
 
-pub use around::page_around;
+pub use around::{Corner, corner_around, page_around};
 pub use census::{Census, census_of};
 pub use extent::{Extent, extent_of};
+pub use moves::{are_movable, move_strokes};

@@ -3,4 +3,4 @@ use Rattle.page_fit.specs.Extents.{IsNear, with_stroke}
 use Rattle.page_fit.proofs.extent.extent_of.Given as goal
 
 abbrev pub invariant-loop-stroke : goal.invariant-loop-stroke
-invariant-loop-stroke l = (l.found ≡ fold (with_stroke l.fn.pens l.fn.margin) None (take l.stroke-index l.strokes)) × IfSome l.found IsNear
+invariant-loop-stroke l = (l.found ≡ fold (with_stroke l.fn.pens l.page) None (take l.stroke-index l.strokes)) × IfSome l.found IsNear
