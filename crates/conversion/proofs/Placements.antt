@@ -1,18 +1,20 @@
--- Where a plot is drawn is determined.
-use Rattle.std.proofs.Common.{◌≡◌, ◌≤◌, ◌∙◌, ℕ, List, Option, Some, None, refl, sym, ap, subst}
+-- Where a picture lies is determined.
+use Rattle.std.proofs.Common.{◌≡◌, ◌≤◌, ◌∙◌, ℕ, Bool, true, false, List, Option, Some, None, refl, sym, ap, subst}
 use Rattle.std.proofs.Props.{props}
-use Rattle.std.specs.Prelude.{option_and_then}
 use mathlib.Core.HLevel.{is_prop→PathP}
+use Rattle.plot_page.specs.Segments.{Segment}
 use Rattle.plot_page.specs.declared.page.Page.{Page}
 use Rattle.plot_page.specs.declared.pens.PenSet.{PenSet}
-use Rattle.page_fit.specs.Around.{Sides, sides_around, sides_of}
+use Rattle.page_fit.specs.Around.{Sides, sides_of}
 use Rattle.page_fit.specs.Extents.{extent_of}
+use Rattle.page_fit.specs.declared.around.Corner.{Corner}
+use Rattle.page_fit.specs.declared.extent.Extent.{Extent}
 use Rattle.picture_job.specs.declared.page_choice.PageChoice.{PageChoice}
-use Rattle.picture_job.specs.declared.page_choice.PageChoice.TheVariants as choice
-use Rattle.conversion.specs.Placements.{Fits, IsAsked, IsFirstPage, IsFitted, IsPlaced, sides_about}
+use Rattle.conversion.specs.Placements.{HasNoPage, IsAround, IsAsked, IsDrawnOn, IsFirstPage, IsFitted, IsGivenPlace, IsPlaced, IsPlacedBy}
+use Rattle.conversion.specs.Placements.{Place, no_corner, place_on}
 use Rattle.conversion.specs.Rules.{Rules}
 use Rattle.conversion.specs.declared.placement.Placement.{Placement}
-use Rattle.conversion.specs.declared.placement.Placement.TheVariants.{Given, Asked, Unasked, Fitted, Blank, TooLarge, Follows}
+use Rattle.conversion.specs.declared.placement.Placement.TheVariants.{Given, Asked, Unasked, Fitted, Blank, TooLarge}
 
 -- pages of the same numbers are the same
 same_page : (p q : Page) → p.width ≡ q.width → p.height ≡ q.height → p.left ≡ q.left → p.below ≡ q.below → p ≡ q
@@ -38,68 +40,7 @@ by_sides p q s is_p is_q =
 clash : {X : Type 0} (o : Option X) (x : X) → o ≡ None → o ≡ Some x → ⊥
 clash o x none some = absurd (cc)
 
-module _ (rules : Rules) (pens : PenSet) (margin : ℕ) (given : Page) (plot : List ℕ) where
-  abbrev Is : Placement → Page → Type 0
-  Is placement page = IsFitted rules pens margin given plot placement page
-
-  abbrev about : Option Sides
-  about = sides_about pens margin given (rules.strokes given plot)
-
-  -- nothing is drawn, so no page is around it
-  blank : extent_of pens margin (rules.strokes given plot) ≡ None → about ≡ None
-  blank none = ap (option_and_then (sides_around given)) none
-
-  Alike : Placement → Page → Placement → Page → Type 0
-  Alike p page q page' = (p ≡ q) × (page ≡ page')
-
-  fitted_once : (page page' : Page) → Is Fitted page → Is Fitted page' → Alike Fitted page Fitted page'
-  unfolding Alike
-  fitted_once page page' a b = (refl, by_sides page page' about a.0 b.0)
-
-  no_misfit : (page page' : Page) → Is Fitted page → Is Follows page' → ⊥
-  no_misfit page page' a b =
-      let same : page ≡ b.1.tried = by_sides page b.1.tried about a.0 b.1.around in
-      b.1.misfit (subst (λ (p : Page). Fits rules pens margin p plot) same a.1)
-
-  kept : (p : Placement) (page page' : Page) → page ≡ given → page' ≡ given → Alike p page p page'
-  unfolding Alike
-  kept p page page' a b = (refl, a ∙ sym b)
-
-  pub fitted_alike : (p q : Placement) (page page' : Page) → Is p page → Is q page' → (p ≡ q) × (page ≡ page')
-  unfolding Alike
-  fitted_alike Fitted Fitted page page' a b = fitted_once page page' a b
-  fitted_alike Fitted Blank page page' a b = absurd (clash about (sides_of page) (blank b.1) a.0)
-  fitted_alike Fitted TooLarge page page' a b = absurd (clash about (sides_of page) b.2 a.0)
-  fitted_alike Fitted Follows page page' a b = absurd (no_misfit page page' a b)
-  fitted_alike Fitted Given page page' a b = absurd b
-  fitted_alike Fitted Asked page page' a b = absurd b
-  fitted_alike Fitted Unasked page page' a b = absurd b
-  fitted_alike Blank Fitted page page' a b = absurd (clash about (sides_of page') (blank a.1) b.0)
-  fitted_alike Blank Blank page page' a b = kept Blank page page' a.0 b.0
-  fitted_alike Blank TooLarge page page' a b = let none = a.1 in let some = b.1 in absurd (cc)
-  fitted_alike Blank Follows page page' a b = absurd (clash about (sides_of b.1.tried) (blank a.1) b.1.around)
-  fitted_alike Blank Given page page' a b = absurd b
-  fitted_alike Blank Asked page page' a b = absurd b
-  fitted_alike Blank Unasked page page' a b = absurd b
-  fitted_alike TooLarge Fitted page page' a b = absurd (clash about (sides_of page') a.2 b.0)
-  fitted_alike TooLarge Blank page page' a b = let none = b.1 in let some = a.1 in absurd (cc)
-  fitted_alike TooLarge TooLarge page page' a b = kept TooLarge page page' a.0 b.0
-  fitted_alike TooLarge Follows page page' a b = absurd (clash about (sides_of b.1.tried) a.2 b.1.around)
-  fitted_alike TooLarge Given page page' a b = absurd b
-  fitted_alike TooLarge Asked page page' a b = absurd b
-  fitted_alike TooLarge Unasked page page' a b = absurd b
-  fitted_alike Follows Fitted page page' a b = absurd (no_misfit page' page b a)
-  fitted_alike Follows Blank page page' a b = absurd (clash about (sides_of a.1.tried) (blank b.1) a.1.around)
-  fitted_alike Follows TooLarge page page' a b = absurd (clash about (sides_of a.1.tried) b.2 a.1.around)
-  fitted_alike Follows Follows page page' a b = kept Follows page page' a.0 b.0
-  fitted_alike Follows Given page page' a b = absurd b
-  fitted_alike Follows Asked page page' a b = absurd b
-  fitted_alike Follows Unasked page page' a b = absurd b
-  fitted_alike Given q page page' a b = absurd a
-  fitted_alike Asked q page page' a b = absurd a
-  fitted_alike Unasked q page page' a b = absurd a
-
--- so is where a plot is drawn that asks for a page
+-- the page that a plot is drawn on is determined, and why it is
 asked_alike : (rules : Rules) (given : Page) (plot : List ℕ) (p q : Placement) (page page' : Page) → IsAsked rules given plot p page → IsAsked rules given plot q page'
     → (p ≡ q) × (page ≡ page')
 asked_alike rules given plot Asked Asked page page' a b = (refl, by_sides page page' (rules.asked given plot) a b)
@@ -110,27 +51,91 @@ asked_alike rules given plot Asked Given page page' a b = absurd b
 asked_alike rules given plot Asked Fitted page page' a b = absurd b
 asked_alike rules given plot Asked Blank page page' a b = absurd b
 asked_alike rules given plot Asked TooLarge page page' a b = absurd b
-asked_alike rules given plot Asked Follows page page' a b = absurd b
 asked_alike rules given plot Unasked Given page page' a b = absurd b
 asked_alike rules given plot Unasked Fitted page page' a b = absurd b
 asked_alike rules given plot Unasked Blank page page' a b = absurd b
 asked_alike rules given plot Unasked TooLarge page page' a b = absurd b
-asked_alike rules given plot Unasked Follows page page' a b = absurd b
 asked_alike rules given plot Given q page page' a b = absurd a
 asked_alike rules given plot Fitted q page page' a b = absurd a
 asked_alike rules given plot Blank q page page' a b = absurd a
 asked_alike rules given plot TooLarge q page page' a b = absurd a
-asked_alike rules given plot Follows q page page' a b = absurd a
 
--- a plot is drawn on one page, for one reason
-pub placed_alike : (choice : PageChoice) (rules : Rules) (pens : PenSet) (given : Page) (plot : List ℕ) (p q : Placement) (page page' : Page)
-    → IsPlaced choice rules pens given plot p page → IsPlaced choice rules pens given plot q page' → (p ≡ q) × (page ≡ page')
-placed_alike choice.Given rules pens given plot p q page page' a b = (a.0 ∙ sym b.0, a.1 ∙ sym b.1)
-placed_alike choice.Asked rules pens given plot p q page page' a b = asked_alike rules given plot p q page page' a b
-placed_alike (choice.Fitted margin) rules pens given plot p q page page' a b = fitted_alike rules pens margin given plot p q page page' a b
+drawn_alike : (asked : Bool) (rules : Rules) (given : Page) (plot : List ℕ) (p q : Placement) (page page' : Page) → IsDrawnOn asked rules given plot p page → IsDrawnOn asked rules given plot q page'
+    → (p ≡ q) × (page ≡ page')
+drawn_alike true rules given plot p q page page' a b = asked_alike rules given plot p q page page' a b
+drawn_alike false rules given plot p q page page' a b = (a.0 ∙ sym b.0, a.1 ∙ sym b.1)
 
--- if the page is not asked for, it is the given one at first
-pub first_given : (c : PageChoice) (rules : Rules) (given : Page) (plot : List ℕ) (page : Page) → IsFirstPage c rules given plot page → c ≡ choice.Given → page ≡ given
-first_given choice.Given rules given plot page first is = first.1.1
-first_given choice.Asked rules given plot page first is = absurd (cc)
-first_given (choice.Fitted margin) rules given plot page first is = first.1.1
+module _ (pens : PenSet) (margin : ℕ) (on : Page) (strokes : List Segment) where
+  abbrev Is : Placement → Corner → Page → Type 0
+  Is placement corner page = IsFitted pens margin on strokes placement corner page
+
+  abbrev seen : Option Extent
+  seen = extent_of pens on strokes
+
+  Alike : Placement → Corner → Page → Placement → Corner → Page → Type 0
+  Alike p k page q k' page' = (p ≡ q) × ((k ≡ k') × (page ≡ page'))
+
+  one_extent : (e f : Extent) → seen ≡ Some e → seen ≡ Some f → e ≡ f
+  one_extent e f a b = let same : Some e ≡ Some f = sym a ∙ b in cc
+
+  around_once : (e f : Extent) (k k' : Corner) (page page' : Page) → seen ≡ Some e → seen ≡ Some f → IsAround pens margin strokes e k page → IsAround pens margin strokes f k' page'
+      → (k ≡ k') × (page ≡ page')
+  around_once e f k k' page page' a b x y =
+      let y' = subst (λ (z : Extent). IsAround pens margin strokes z k' page') (one_extent f e b a) y in
+      (x.corner_is ∙ sym y'.corner_is, by_sides page page' _ x.sides y'.sides)
+
+  no_around : (e f : Extent) (k : Corner) (page : Page) → seen ≡ Some e → seen ≡ Some f → IsAround pens margin strokes e k page → HasNoPage pens margin strokes f → ⊥
+  no_around e f k page a b x none = none k page (subst (λ (z : Extent). IsAround pens margin strokes z k page) (one_extent e f a b) x)
+
+  stays : (p : Placement) (k k' : Corner) (page page' : Page) → k ≡ no_corner → k' ≡ no_corner → page ≡ on → page' ≡ on → Alike p k page p k' page'
+  unfolding Alike
+  stays p k k' page page' a b c d = (refl, (a ∙ sym b, c ∙ sym d))
+
+  pub fitted_alike : (p q : Placement) (k k' : Corner) (page page' : Page) → Is p k page → Is q k' page' → (p ≡ q) × ((k ≡ k') × (page ≡ page'))
+  unfolding Alike
+  fitted_alike Fitted Fitted k k' page page' a b = (refl, around_once a.0 b.0 k k' page page' a.1 b.1 a.2 b.2)
+  fitted_alike Fitted Blank k k' page page' a b = absurd (clash seen a.0 b.2 a.1)
+  fitted_alike Fitted TooLarge k k' page page' a b = absurd (no_around a.0 b.2.0 k page a.1 b.2.1 a.2 b.2.2)
+  fitted_alike Fitted Given k k' page page' a b = absurd b
+  fitted_alike Fitted Asked k k' page page' a b = absurd b
+  fitted_alike Fitted Unasked k k' page page' a b = absurd b
+  fitted_alike Blank Fitted k k' page page' a b = absurd (clash seen b.0 a.2 b.1)
+  fitted_alike Blank Blank k k' page page' a b = stays Blank k k' page page' a.0 b.0 a.1 b.1
+  fitted_alike Blank TooLarge k k' page page' a b = absurd (clash seen b.2.0 a.2 b.2.1)
+  fitted_alike Blank Given k k' page page' a b = absurd b
+  fitted_alike Blank Asked k k' page page' a b = absurd b
+  fitted_alike Blank Unasked k k' page page' a b = absurd b
+  fitted_alike TooLarge Fitted k k' page page' a b = absurd (no_around b.0 a.2.0 k' page' b.1 a.2.1 b.2 a.2.2)
+  fitted_alike TooLarge Blank k k' page page' a b = absurd (clash seen a.2.0 b.2 a.2.1)
+  fitted_alike TooLarge TooLarge k k' page page' a b = stays TooLarge k k' page page' a.0 b.0 a.1 b.1
+  fitted_alike TooLarge Given k k' page page' a b = absurd b
+  fitted_alike TooLarge Asked k k' page page' a b = absurd b
+  fitted_alike TooLarge Unasked k k' page page' a b = absurd b
+  fitted_alike Given q k k' page page' a b = absurd a
+  fitted_alike Asked q k k' page page' a b = absurd a
+  fitted_alike Unasked q k k' page page' a b = absurd a
+
+one_place : (p q : Place) → p.placement ≡ q.placement → p.drawn_on ≡ q.drawn_on → p.corner ≡ q.corner → p.page ≡ q.page → p ≡ q
+one_place p q w d k e = λ i. record { placement = w i; drawn_on = d i; corner = k i; page = e i }
+
+placed_by : (m : Option ℕ) (c : PageChoice) (rules : Rules) (pens : PenSet) (given : Page) (plot : List ℕ) (p q : Place)
+    → IsPlacedBy m c rules pens given plot p → IsPlacedBy m c rules pens given plot q → p ≡ q
+placed_by None c rules pens given plot p q a b =
+    let on = drawn_alike c.asked rules given plot p.placement q.placement p.drawn_on q.drawn_on a.0 b.0 in
+    one_place p q on.0 on.1 (a.1 ∙ sym b.1) (a.2 ∙ on.1 ∙ sym b.2)
+placed_by (Some margin) c rules pens given plot p q a b =
+    let on : p.drawn_on ≡ q.drawn_on = (drawn_alike c.asked rules given plot a.0.0 b.0.0 p.drawn_on q.drawn_on a.0.1 b.0.1).1 in
+    let b' = subst (λ (x : Page). IsFitted pens margin x (rules.strokes x plot) q.placement q.corner q.page) (sym on) b.1 in
+    let same = fitted_alike pens margin p.drawn_on (rules.strokes p.drawn_on plot) p.placement q.placement p.corner q.corner p.page q.page a.1 b' in
+    one_place p q same.0 on same.1.0 same.1.1
+
+-- the picture of a plot lies in one place
+pub placed_alike : (c : PageChoice) (rules : Rules) (pens : PenSet) (given : Page) (plot : List ℕ) (p q : Place)
+    → IsPlaced c rules pens given plot p → IsPlaced c rules pens given plot q → p ≡ q
+placed_alike c rules pens given plot p q a b = placed_by c.margin c rules pens given plot p q a b
+
+-- if no page is asked for, a plot is drawn on the given one
+pub first_place : (c : PageChoice) (rules : Rules) (given : Page) (plot : List ℕ) (page : Page) → IsFirstPage c rules given plot page → IsGivenPlace c given (place_on Given page)
+first_place c rules given plot page first not_asked none =
+    let on = subst (λ (b : Bool). IsDrawnOn b rules given plot first.0 page) not_asked first.1 in
+    ap (place_on Given) on.1

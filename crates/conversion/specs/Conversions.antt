@@ -16,10 +16,8 @@ use Rattle.conversion.specs.declared.fault.Fault.TheVariants.{TooLong, Memory, P
 use Rattle.conversion.specs.Boxes.{strokes_boxes}
 use Rattle.plot_page.specs.declared.page.Page.{Page}
 use Rattle.picture_job.specs.declared.page_choice.PageChoice.{PageChoice}
-use Rattle.picture_job.specs.declared.page_choice.PageChoice.TheVariants.{Given}
-use Rattle.conversion.specs.Placements.{IsFirstPage, IsPlaced}
+use Rattle.conversion.specs.Placements.{IsFirstPage, IsGivenPlace, IsPlaced, Place, placed_rules}
 use Rattle.page_fit.specs.Census.{census_of}
-use Rattle.conversion.specs.declared.placement.Placement.{Placement}
 use Rattle.conversion.specs.declared.outcome.Outcome.{Outcome}
 
 -- the whole picture was written
@@ -82,22 +80,25 @@ HasConverted = HasConvertedBy core_rules
 abbrev pub on_page : Page → Job → Job
 on_page page job = record job { page = page }
 
--- what each answer says where the page was chosen: that of the job on the page that the plot is drawn on
-abbrev pub ConvertsOn : Rules → PageChoice → ℕ → Job → Page → Reach → List ℕ → SourceState → SourceState → SinkState →
+-- what each answer says where the page was chosen: that of the job where its picture lies
+abbrev pub ConvertsOn : Rules → PageChoice → ℕ → Job → Place → Reach → List ℕ → SourceState → SourceState → SinkState →
     SinkState → Result Outcome Fault → Type 0
-ConvertsOn rules choice n job page reaches input before after sink sink' (Ok outcome) =
-    IsPlaced choice rules job.pens job.page input outcome.placement page
-    × IsWritten rules n (on_page page job) reaches input before after sink sink' outcome.done
-    × (outcome.census ≡ census_of job.pens page (rules.strokes page input))
-ConvertsOn rules choice n job page reaches input before after sink sink' (Err (Write row whole bytes)) =
-    ((placement : Placement) × IsPlaced choice rules job.pens job.page input placement page)
-    × IsCutShort rules n (on_page page job) reaches input before after sink sink' row whole bytes
-ConvertsOn rules choice n job page reaches input before after sink sink' (Err (Paint fault)) =
-    ((placement : Placement) × IsPlaced choice rules job.pens job.page input placement page)
-    × IsRefused rules (on_page page job) input before after (Paint fault)
-ConvertsOn rules choice n job page reaches input before after sink sink' (Err (Plot fault)) =
-    IsFirstPage choice rules job.page input page × IsRefused rules (on_page page job) input before after (Plot fault)
-ConvertsOn rules choice n job page reaches input before after sink sink' (Err fault) =
+ConvertsOn rules choice n job place reaches input before after sink sink' (Ok outcome) =
+    IsPlaced choice rules job.pens job.page input place × (outcome.placement ≡ place.placement)
+    × IsWritten (placed_rules rules job.pens place) n (on_page place.page job) reaches input before after sink sink'
+    outcome.done
+    × (outcome.census ≡ census_of job.pens place.page ((placed_rules rules job.pens place).strokes place.page input))
+ConvertsOn rules choice n job place reaches input before after sink sink' (Err (Write row whole bytes)) =
+    IsPlaced choice rules job.pens job.page input place
+    × IsCutShort (placed_rules rules job.pens place) n (on_page place.page job) reaches input before after sink sink'
+    row whole bytes
+ConvertsOn rules choice n job place reaches input before after sink sink' (Err (Paint fault)) =
+    IsPlaced choice rules job.pens job.page input place
+    × IsRefused (placed_rules rules job.pens place) (on_page place.page job) input before after (Paint fault)
+ConvertsOn rules choice n job place reaches input before after sink sink' (Err (Plot fault)) =
+    IsFirstPage choice rules job.page input place.drawn_on
+    × IsRefused rules (on_page place.drawn_on job) input before after (Plot fault)
+ConvertsOn rules choice n job place reaches input before after sink sink' (Err fault) =
     Converts rules n job reaches input before after sink sink' (Err fault)
 
 -- a conversion by these rules where the page was chosen, as HasConvertedBy
@@ -106,10 +107,11 @@ pub record HasConvertedOn (rules : Rules) (choice : PageChoice) (n : ℕ) (job :
     (answer : Result Outcome Fault) : Type 0 where
   pub input : List ℕ
   pub taken : Consumes before.left after.left input
-  pub page : Page
-  pub given : choice ≡ Given → page ≡ job.page
-  pub converts : ConvertsOn rules choice n job page reaches input before after sink sink' answer
-  pub tested : tests' ≤ tests + strokes_boxes n (on_page page job) (rules.strokes page input)
+  pub place : Place
+  pub given : IsGivenPlace choice job.page place
+  pub converts : ConvertsOn rules choice n job place reaches input before after sink sink' answer
+  pub tested : tests' ≤ tests
+      + strokes_boxes n (on_page place.page job) ((placed_rules rules job.pens place).strokes place.page input)
 
 -- the sink failed
 abbrev pub is_write : Fault → Bool

@@ -8,7 +8,7 @@ use Rattle.plot_page.specs.declared.stroke.TheConstants.{MOST_STROKES}
 use Rattle.conversion.specs.Rules.{Rules}
 use Rattle.plot_page.specs.declared.pens.PenSet.{PenSet}
 use Rattle.picture_job.specs.declared.page_choice.PageChoice.{PageChoice}
-use Rattle.conversion.specs.Placements.{IsFirstPage, IsPlaced}
+use Rattle.conversion.specs.Placements.{IsFirstPage, IsPlaced, Place, page_reported, placed_rules, strokes_at}
 use Rattle.conversion.specs.declared.lines.Lines.{Lines}
 use Rattle.conversion.specs.declared.place.Placed.{Placed}
 use Rattle.conversion.specs.Readings.{WasRead, WasTooLong}
@@ -34,12 +34,29 @@ pub record AreLinesOf (rules : Rules) (page : Page) (plot : List ℕ) (lines : L
   pub sheets_are : lines.sheets ≡ rules.sheets page plot
   pub few : length lines.strokes.items ≤ MOST_STROKES
 
--- the plot was read whole, and this is what it draws on the page that was chosen
+-- where its picture lies
+abbrev pub place_of : Placed → Place
+place_of drawn = record {
+  placement = drawn.placement;
+  drawn_on = drawn.drawn_on;
+  corner = drawn.corner;
+  page = drawn.page;
+}
+
+-- lines whose strokes are those of a picture that lies there
+pub record AreMoved (pens : PenSet) (lines : Lines) (place : Place) (moved : Lines) : Type 0 where
+  pub strokes_are : moved.strokes.items
+      ≡ strokes_at place.placement pens place.drawn_on place.corner place.page lines.strokes.items
+  pub notes_are : moved.notes ≡ lines.notes
+  pub sheets_are : moved.sheets ≡ lines.sheets
+
+-- the plot was read whole, and this is what it draws, where its picture lies
 pub record IsDrawn (rules : Rules) (choice : PageChoice) (pens : PenSet) (given : Page) (input : List ℕ)
     (before after : SourceState) (drawn : Placed) : Type 0 where
   pub read : WasRead input before after
-  pub placed : IsPlaced choice rules pens given input drawn.placement drawn.page
-  pub lines : AreLinesOf rules drawn.page input drawn.lines
+  pub placed : IsPlaced choice rules pens given input (place_of drawn)
+  pub lines : AreLinesOf (placed_rules rules pens (place_of drawn)) drawn.page input drawn.lines
+  pub named : drawn.named ≡ page_reported (place_of drawn)
 
 -- the plot was read whole and is refused for the page
 pub record IsNotDrawn (rules : Rules) (page : Page) (input : List ℕ) (before after : SourceState)

@@ -1,15 +1,19 @@
--- Which page a plot is drawn on.
-use Rattle.std.specs.Prelude.{◌≡◌, ℕ, true, List, Option, Some, None, is_some, option_and_then}
+-- Which page a plot is drawn on, and which page its picture shows.
+use Rattle.std.specs.Prelude.{◌≡◌, ℕ, Bool, true, false, List, Option, Some, None, pos, ◌-ℤ◌}
 use Rattle.plot_page.specs.Segments.{Segment}
 use Rattle.plot_page.specs.declared.page.Page.{Page}
 use Rattle.plot_page.specs.declared.pens.PenSet.{PenSet}
-use Rattle.page_fit.specs.Around.{Sides, sides_around, sides_of}
+use Rattle.page_fit.specs.Around.{corner_around, sides_around, sides_of}
 use Rattle.page_fit.specs.Extents.{extent_of}
+use Rattle.page_fit.specs.Moves.{are_movable, moved_strokes}
+use Rattle.page_fit.specs.declared.around.Corner.{Corner}
+use Rattle.page_fit.specs.declared.extent.Extent.{Extent}
+use Rattle.plot_report.specs.Report.{report_page}
+use Rattle.plot_report.specs.declared.report_page.ReportPage.{ReportPage}
 use Rattle.picture_job.specs.declared.page_choice.PageChoice.{PageChoice}
-use Rattle.picture_job.specs.declared.page_choice.PageChoice.TheVariants as choice
 use Rattle.conversion.specs.Rules.{Rules}
 use Rattle.conversion.specs.declared.placement.Placement.{Placement}
-use Rattle.conversion.specs.declared.placement.Placement.TheVariants.{Given, Asked, Unasked, Fitted, Blank, TooLarge, Follows}
+use Rattle.conversion.specs.declared.placement.Placement.TheVariants.{Given, Asked, Unasked, Fitted, Blank, TooLarge}
 
 -- a plot is drawn on the page that it asks for, or on the given one if it asks for none
 abbrev pub IsAsked : Rules → Page → List ℕ → Placement → Page → Type 0
@@ -17,43 +21,97 @@ IsAsked rules given plot Asked page = rules.asked given plot ≡ Some (sides_of 
 IsAsked rules given plot Unasked page = (page ≡ given) × (rules.asked given plot ≡ None)
 IsAsked rules given plot _ page = ⊥
 
--- the page that a plot is drawn on first, whatever it draws, and why
-abbrev pub IsBegunOn : PageChoice → Rules → Page → List ℕ → Placement → Page → Type 0
-IsBegunOn choice.Asked rules given plot placement page = IsAsked rules given plot placement page
-IsBegunOn _ rules given plot placement page = (placement ≡ Given) × (page ≡ given)
+-- the page that a plot is drawn on, and why, by whether it may ask for one
+abbrev pub IsDrawnOn : Bool → Rules → Page → List ℕ → Placement → Page → Type 0
+IsDrawnOn true rules given plot placement page = IsAsked rules given plot placement page
+IsDrawnOn false rules given plot placement page = (placement ≡ Given) × (page ≡ given)
 
--- a plot that is to be drawn is drawn on this page first
+-- the page that a plot is drawn on
 abbrev pub IsFirstPage : PageChoice → Rules → Page → List ℕ → Page → Type 0
-IsFirstPage choice rules given plot page = (placement : Placement) × IsBegunOn choice rules given plot placement page
+IsFirstPage choice rules given plot page = (placement : Placement) × IsDrawnOn choice.asked rules given plot placement page
 
--- the numbers of the page around what the selected pens draw on a page; None if they draw nothing, or too much for a page
-abbrev pub sides_about : PenSet → ℕ → Page → List Segment → Option Sides
-sides_about pens margin page strokes = option_and_then (sides_around page) (extent_of pens margin strokes)
+-- where a picture lies: why it lies there, the page that its plot is drawn on, the corner of the page that the picture shows,
+-- in plotter units from that of the page that the plot is drawn on, and this page
+pub record Place : Type 0 where
+  pub placement : Placement
+  pub drawn_on : Page
+  pub corner : Corner
+  pub page : Page
 
--- the plot is accepted for the page, which is the page around what it draws there
-pub record Fits (rules : Rules) (pens : PenSet) (margin : ℕ) (page : Page) (plot : List ℕ) : Type 0 where
-  pub accepted : rules.refusal page plot ≡ None
-  pub around : sides_about pens margin page (rules.strokes page plot) ≡ Some (sides_of page)
+abbrev pub no_corner : Corner
+no_corner = record { x = pos 0; y = pos 0 }
 
--- the plot does not fit the page around what it draws on the given page
-pub record DependsOnPage (rules : Rules) (pens : PenSet) (margin : ℕ) (given : Page) (plot : List ℕ) : Type 0 where
-  pub tried : Page
-  pub around : sides_about pens margin given (rules.strokes given plot) ≡ Some (sides_of tried)
-  pub misfit : Fits rules pens margin tried plot → ⊥
+-- a picture that shows the page that its plot is drawn on
+abbrev pub place_on : Placement → Page → Place
+place_on placement page = record { placement = placement; drawn_on = page; corner = no_corner; page = page }
 
--- a plot that is to be fitted is drawn on the page around its drawing, or, for one of three reasons, on the given page
-abbrev pub IsFitted : Rules → PenSet → ℕ → Page → List ℕ → Placement → Page → Type 0
-IsFitted rules pens margin given plot Fitted page =
-    (sides_about pens margin given (rules.strokes given plot) ≡ Some (sides_of page)) × Fits rules pens margin page plot
-IsFitted rules pens margin given plot Blank page =
-    (page ≡ given) × (extent_of pens margin (rules.strokes given plot) ≡ None)
-IsFitted rules pens margin given plot TooLarge page =
-    (page ≡ given) × (is_some (extent_of pens margin (rules.strokes given plot)) ≡ true)
-    × (sides_about pens margin given (rules.strokes given plot) ≡ None)
-IsFitted rules pens margin given plot Follows page = (page ≡ given) × DependsOnPage rules pens margin given plot
-IsFitted rules pens margin given plot _ page = ⊥
+-- strokes that are seen so far have a page around them, with this margin: its corner, and the page. All of its strokes can be
+-- moved to it
+pub record IsAround (pens : PenSet) (margin : ℕ) (strokes : List Segment) (e : Extent) (corner : Corner)
+    (page : Page) : Type 0 where
+  pub corner_is : corner ≡ corner_around margin e
+  pub sides : sides_around margin e ≡ Some (sides_of page)
+  pub movable : are_movable pens corner strokes ≡ true
 
--- a plot that is accepted for its first page is drawn on this page, and why
-abbrev pub IsPlaced : PageChoice → Rules → PenSet → Page → List ℕ → Placement → Page → Type 0
-IsPlaced (choice.Fitted margin) rules pens given plot placement page = IsFitted rules pens margin given plot placement page
-IsPlaced chosen rules pens given plot placement page = IsBegunOn chosen rules given plot placement page
+-- they have none
+abbrev pub HasNoPage : PenSet → ℕ → List Segment → Extent → Type 0
+HasNoPage pens margin strokes e = (corner : Corner) (page : Page) → IsAround pens margin strokes e corner page → ⊥
+
+-- a picture of strokes that are drawn on a page shows the page around what the selected pens draw, or, for one of two
+-- reasons, the page that they are drawn on
+abbrev pub IsFitted : PenSet → ℕ → Page → List Segment → Placement → Corner → Page → Type 0
+IsFitted pens margin drawn_on strokes Fitted corner page =
+    (e : Extent) × (extent_of pens drawn_on strokes ≡ Some e) × IsAround pens margin strokes e corner page
+IsFitted pens margin drawn_on strokes Blank corner page =
+    (corner ≡ no_corner) × (page ≡ drawn_on) × (extent_of pens drawn_on strokes ≡ None)
+IsFitted pens margin drawn_on strokes TooLarge corner page =
+    (corner ≡ no_corner) × (page ≡ drawn_on)
+    × ((e : Extent) × (extent_of pens drawn_on strokes ≡ Some e) × HasNoPage pens margin strokes e)
+IsFitted pens margin drawn_on strokes _ corner page = ⊥
+
+-- a picture lies there, by the margin if its page is to be fitted; else it shows the page that its plot is drawn on
+abbrev pub IsPlacedBy : Option ℕ → PageChoice → Rules → PenSet → Page → List ℕ → Place → Type 0
+IsPlacedBy (Some margin) choice rules pens given plot place =
+    IsFirstPage choice rules given plot place.drawn_on
+    × IsFitted pens margin place.drawn_on (rules.strokes place.drawn_on plot) place.placement place.corner place.page
+IsPlacedBy None choice rules pens given plot place =
+    IsDrawnOn choice.asked rules given plot place.placement place.drawn_on
+    × (place.corner ≡ no_corner) × (place.page ≡ place.drawn_on)
+
+-- the picture of a plot that is accepted for the page that it is drawn on lies there
+abbrev pub IsPlaced : PageChoice → Rules → PenSet → Page → List ℕ → Place → Type 0
+IsPlaced choice rules pens given plot place = IsPlacedBy choice.margin choice rules pens given plot place
+
+-- if nothing else is chosen, it is the given page
+abbrev pub IsGivenPlace : PageChoice → Page → Place → Type 0
+IsGivenPlace choice given place = choice.asked ≡ false → choice.margin ≡ None → place ≡ place_on Given given
+
+-- the strokes of a picture: moved, if it shows the page around them
+abbrev pub strokes_at : Placement → PenSet → Page → Corner → Page → List Segment → List Segment
+strokes_at Fitted pens drawn_on corner page strokes = moved_strokes pens drawn_on corner page strokes
+strokes_at _ pens drawn_on corner page strokes = strokes
+
+-- the rules of a picture that lies there: the plot is drawn on its page, and its strokes are moved
+abbrev pub placed_rules : Rules → PenSet → Place → Rules
+placed_rules rules pens place = record {
+  strokes = λ page plot.
+      strokes_at place.placement pens place.drawn_on place.corner page (rules.strokes place.drawn_on plot);
+  refusal = λ page plot. rules.refusal place.drawn_on plot;
+  notes = rules.notes;
+  sheets = λ page plot. rules.sheets place.drawn_on plot;
+  asked = rules.asked;
+}
+
+-- the page that a report on a picture names: the corner of the page around strokes lies left of (0, 0) and below it as far as
+-- that of the page that they are drawn on does, less what it lies right of that one and above it
+abbrev pub reported_at : Placement → Page → Corner → Page → ReportPage
+reported_at Fitted drawn_on corner page = record {
+  width = page.width;
+  height = page.height;
+  left = pos drawn_on.left -ℤ corner.x;
+  below = pos drawn_on.below -ℤ corner.y;
+}
+reported_at _ drawn_on corner page = report_page page
+
+abbrev pub page_reported : Place → ReportPage
+page_reported place = reported_at place.placement place.drawn_on place.corner place.page

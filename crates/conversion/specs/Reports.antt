@@ -5,16 +5,16 @@ use Rattle.plot_page.specs.declared.page.Page.{Page}
 use Rattle.devices.specs.Sinks.{SinkState}
 use Rattle.conversion.specs.Drawings.{IsNotDrawn}
 use Rattle.plot_page.specs.Segments.{Segment}
-use Rattle.plot_report.specs.Report.{report_of, full_report_of}
+use Rattle.plot_report.specs.Report.{report_of, full_report_of, report_page}
+use Rattle.plot_report.specs.declared.report_page.ReportPage.{ReportPage}
 use Rattle.picture_job.specs.declared.reading.Reading.{Reading}
 use Rattle.picture_job.specs.declared.reading.Reading.TheVariants.{Core, Full}
-use Rattle.conversion.specs.Rules.{core_notes, full_notes, rules_of}
+use Rattle.conversion.specs.Rules.{Rules, core_notes, full_notes, rules_of}
 use Rattle.plot_page.specs.Pens.{has_pen}
 use Rattle.plot_page.specs.declared.pens.PenSet.{PenSet}
 use Rattle.picture_job.specs.declared.page_choice.PageChoice.{PageChoice}
-use Rattle.conversion.specs.Placements.{IsFirstPage, IsPlaced}
+use Rattle.conversion.specs.Placements.{IsFirstPage, IsGivenPlace, IsPlaced, Place, page_reported, placed_rules}
 use Rattle.page_fit.specs.Census.{census_of}
-use Rattle.conversion.specs.declared.placement.Placement.{Placement}
 use Rattle.conversion.specs.declared.outcome.Outcome.{Outcome}
 use Rattle.conversion.specs.Readings.{WasRead, WasTooLong}
 use Rattle.devices.specs.Sources.{SourceState}
@@ -22,36 +22,35 @@ use Rattle.conversion.specs.declared.done.Done.{Done}
 use Rattle.conversion.specs.declared.fault.Fault.{Fault}
 use Rattle.conversion.specs.declared.fault.Fault.TheVariants.{TooLong, Memory, Plot, Write, Read}
 
--- the report on a plot that is read so, by its strokes and sheets
-abbrev pub report_on : Reading → Page → List Segment → ℕ → List ℕ → List ℕ
+-- the report on a plot that is read so, by the page that it names, its strokes and its sheets
+abbrev pub report_on : Reading → ReportPage → List Segment → ℕ → List ℕ → List ℕ
 report_on Core page strokes sheets plot = report_of page strokes (core_notes plot)
 report_on (Full sheet) page strokes sheets plot = full_report_of page sheets strokes (full_notes plot)
 
--- that on a plot that is drawn on a page
-abbrev pub report_as : Reading → Page → List ℕ → List ℕ
-report_as reading page plot =
-    let rules = rules_of reading in
-    report_on reading page (rules.strokes page plot) (rules.sheets page plot) plot
+-- that on a plot that is drawn by these rules
+abbrev pub report_by : Reading → Rules → ReportPage → Page → List ℕ → List ℕ
+report_by reading rules named page plot =
+    report_on reading named (rules.strokes page plot) (rules.sheets page plot) plot
 
 -- the whole report was written
-pub record IsReported (reading : Reading) (page : Page) (input : List ℕ) (before after : SourceState)
-    (sink sink' : SinkState) (done : Done) : Type 0 where
+pub record IsReported (reading : Reading) (rules : Rules) (named : ReportPage) (page : Page) (input : List ℕ)
+    (before after : SourceState) (sink sink' : SinkState) (done : Done) : Type 0 where
   pub read : WasRead input before after
-  pub accepted : (rules_of reading).refusal page input ≡ None
-  pub written : Appends sink.held sink'.held (report_as reading page input)
+  pub accepted : rules.refusal page input ≡ None
+  pub written : Appends sink.held sink'.held (report_by reading rules named page input)
   pub sound : sink'.faults ≡ sink.faults
   pub rows : done.rows ≡ 0
-  pub bytes : done.bytes ≡ length (report_as reading page input)
-  pub strokes_count : done.strokes ≡ length ((rules_of reading).strokes page input)
-  pub notes : done.notes ≡ (rules_of reading).notes input
+  pub bytes : done.bytes ≡ length (report_by reading rules named page input)
+  pub strokes_count : done.strokes ≡ length (rules.strokes page input)
+  pub notes : done.notes ≡ rules.notes input
 
 -- the sink failed after the first bytes of the report, which has no rows to go on from
-pub record IsReportCutShort (reading : Reading) (page : Page) (input : List ℕ) (before after : SourceState)
-    (sink sink' : SinkState) (row whole bytes : ℕ) : Type 0 where
+pub record IsReportCutShort (reading : Reading) (rules : Rules) (named : ReportPage) (page : Page) (input : List ℕ)
+    (before after : SourceState) (sink sink' : SinkState) (row whole bytes : ℕ) : Type 0 where
   pub read : WasRead input before after
-  pub accepted : (rules_of reading).refusal page input ≡ None
-  pub written : Appends sink.held sink'.held (take bytes (report_as reading page input))
-  pub within : bytes < length (report_as reading page input)
+  pub accepted : rules.refusal page input ≡ None
+  pub written : Appends sink.held sink'.held (take bytes (report_by reading rules named page input))
+  pub within : bytes < length (report_by reading rules named page input)
   pub failed : sink'.faults ≡ sink.faults + 1
   pub no_row : row ≡ 0
   pub no_whole_row : whole ≡ 0
@@ -60,12 +59,13 @@ pub record IsReportCutShort (reading : Reading) (page : Page) (input : List ℕ)
 -- of memory says only that the source did not fail
 abbrev pub Reports : Reading → Page → List ℕ → SourceState → SourceState → SinkState → SinkState → Result Done Fault →
     Type 0
-Reports reading page input before after sink sink' (Ok done) = IsReported reading page input before after sink sink' done
+Reports reading page input before after sink sink' (Ok done) =
+    IsReported reading (rules_of reading) (report_page page) page input before after sink sink' done
 Reports reading page input before after sink sink' (Err Read) = after.faults ≡ before.faults + 1
 Reports reading page input before after sink sink' (Err TooLong) = WasTooLong input before after
 Reports reading page input before after sink sink' (Err Memory) = after.faults ≡ before.faults
 Reports reading page input before after sink sink' (Err (Write row whole bytes)) =
-    IsReportCutShort reading page input before after sink sink' row whole bytes
+    IsReportCutShort reading (rules_of reading) (report_page page) page input before after sink sink' row whole bytes
 Reports reading page input before after sink sink' (Err fault) = IsNotDrawn (rules_of reading) page input before after fault
 
 -- a report on a plot that is read so: what it took from the source, and its answer
@@ -83,28 +83,31 @@ HasReported = HasReportedAs Core
 abbrev pub AreAllPens : PenSet → Type 0
 AreAllPens pens = (pen : ℕ) → pen < 256 → has_pen pens pen ≡ nat_le 1 pen
 
--- what each answer says where the page was chosen, by what all pens draw: that of the page that the plot is drawn on
-abbrev pub ReportsOn : Reading → PageChoice → PenSet → Page → Page → List ℕ → SourceState → SourceState → SinkState →
+-- what each answer says where the page was chosen, by what all pens draw: that of the place where their picture lies
+abbrev pub ReportsOn : Reading → PageChoice → PenSet → Page → Place → List ℕ → SourceState → SourceState → SinkState →
     SinkState → Result Outcome Fault → Type 0
-ReportsOn reading choice pens given page input before after sink sink' (Ok outcome) =
-    IsPlaced choice (rules_of reading) pens given input outcome.placement page
-    × IsReported reading page input before after sink sink' outcome.done
-    × (outcome.census ≡ census_of pens page ((rules_of reading).strokes page input))
-ReportsOn reading choice pens given page input before after sink sink' (Err (Write row whole bytes)) =
-    ((placement : Placement) × IsPlaced choice (rules_of reading) pens given input placement page)
-    × IsReportCutShort reading page input before after sink sink' row whole bytes
-ReportsOn reading choice pens given page input before after sink sink' (Err (Plot fault)) =
-    IsFirstPage choice (rules_of reading) given input page
-    × IsNotDrawn (rules_of reading) page input before after (Plot fault)
-ReportsOn reading choice pens given page input before after sink sink' (Err fault) =
+ReportsOn reading choice pens given place input before after sink sink' (Ok outcome) =
+    let rules = placed_rules (rules_of reading) pens place in
+    IsPlaced choice (rules_of reading) pens given input place × (outcome.placement ≡ place.placement)
+    × IsReported reading rules (page_reported place) place.page input before after sink sink' outcome.done
+    × (outcome.census ≡ census_of pens place.page (rules.strokes place.page input))
+ReportsOn reading choice pens given place input before after sink sink' (Err (Write row whole bytes)) =
+    IsPlaced choice (rules_of reading) pens given input place
+    × IsReportCutShort reading (placed_rules (rules_of reading) pens place) (page_reported place) place.page input
+    before after sink sink' row whole bytes
+ReportsOn reading choice pens given place input before after sink sink' (Err (Plot fault)) =
+    IsFirstPage choice (rules_of reading) given input place.drawn_on
+    × IsNotDrawn (rules_of reading) place.drawn_on input before after (Plot fault)
+ReportsOn reading choice pens given place input before after sink sink' (Err fault) =
     Reports reading given input before after sink sink' (Err fault)
 
 -- a report where the page was chosen, as HasReportedAs
-pub record HasReportedOn (reading : Reading) (choice : PageChoice) (given : Page) (before after : SourceState)
+pub record HasReportedOn (reading : Reading) (choice : PageChoice) (page : Page) (before after : SourceState)
     (sink sink' : SinkState) (answer : Result Outcome Fault) : Type 0 where
   pub input : List ℕ
   pub taken : Consumes before.left after.left input
   pub pens : PenSet
   pub all : AreAllPens pens
-  pub page : Page
-  pub reports : ReportsOn reading choice pens given page input before after sink sink' answer
+  pub place : Place
+  pub given : IsGivenPlace choice page place
+  pub reports : ReportsOn reading choice pens page place input before after sink sink' answer

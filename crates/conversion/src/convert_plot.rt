@@ -74,7 +74,7 @@ pub(crate) fn convert_given<G: Gauge, S: Source, K: Sink>(
     match convert_on(
         alloc,
         reading,
-        PageChoice::Given,
+        PageChoice::GIVEN,
         job,
         Smoothing::NONE,
         gauge,
@@ -88,9 +88,8 @@ pub(crate) fn convert_given<G: Gauge, S: Source, K: Sink>(
 }
 
 /// Writes the picture of the plot that the source gives, as `convert` does, in either profile, on the page that is chosen,
-/// and smoothed. The page is that of the job, the page of the size that the plot asks for, or the page around what the job's
-/// pens draw on that of the job. A plot is drawn again on the page around its drawing; if that is another drawing, the page
-/// of the job is kept.
+/// and smoothed. The plot is drawn on the page of the job, or on that of the size that it asks for; the picture shows this
+/// page, or the page around what the job's pens draw. The plot is drawn once; its strokes are moved to the page around them.
 ///
 /// Each pixel of a smoothed PPM is the mean of n by n pixels of a picture that is n times finer. Marks, PBM and PCL have no
 /// shades, and are written as without smoothing. The watcher is told after each band of rows how many are written; a picture

@@ -1,34 +1,50 @@
-//! Drawing a plot on the page that was chosen.
-ghost use Rattle.std.specs.Prelude.{◌≡◌, ◌↔◌, ℕ, List, IsTrue, Some, IfOk, IfErr, IfSome, IfNone};
-ghost use Rattle.page_fit.specs.Around.{sides_of};
+//! Drawing a plot on its page, and moving its strokes to the page that the picture shows.
+ghost use Rattle.std.specs.Prelude.{◌≡◌, ℕ, List, true, false, IfOk, IfErr, IfSome, IfNone};
 ghost use Rattle.plot_size.specs.Sizes.{sides_asked};
-ghost use Rattle.conversion.specs.Drawings.{AreLinesOf, IsReason, IsReasonOnFirst};
-ghost use Rattle.conversion.specs.Placements.{Fits, IsAsked, IsBegunOn, IsFitted, IsPlaced, sides_about};
+ghost use Rattle.page_fit.specs.Around.{corner_around};
+ghost use Rattle.page_fit.specs.Extents.{IsNear};
+ghost use Rattle.page_fit.specs.Moves.{IsCornerNear, are_movable};
+ghost use Rattle.plot_report.specs.Report.{report_page};
+ghost use Rattle.conversion.specs.Drawings.{AreLinesOf, AreMoved, IsReasonOnFirst, place_of};
+ghost use Rattle.conversion.specs.Placements.{IsAsked, IsDrawnOn, IsFitted, IsPlaced};
+ghost use Rattle.conversion.specs.Placements.{page_reported, place_on, placed_rules, reported_at};
 ghost use Rattle.conversion.specs.Rules.{rules_of};
 
 use crate::lines::{Lines, draw_as};
 use crate::placement::Placement;
 use hpgl_plot::PlotFault;
 use hpgl_text::Profile;
-use page_fit::{extent_of, page_around};
+use page_fit::{Corner, Extent, are_movable, corner_around, extent_of, move_strokes, page_around};
 use picture_job::{PageChoice, Reading};
 use plot_page::{Page, PenSet, Stroke};
+use plot_report::ReportPage;
 use plot_size::page_asked;
 use std::alloc::Global;
 
-/// What a plot draws, on which page, and why on this one.
+// The corner of a page, from itself.
+const NO_CORNER: Corner = Corner { x: 0, y: 0 };
+
+/// What a plot draws, and where its picture lies.
 #[derive(Drop)]
 pub struct Placed {
+    /// Why the picture lies there.
     pub placement: Placement,
+    /// The page that the plot is drawn on.
+    pub drawn_on: Page,
+    /// The corner of the page that the picture shows, in plotter units from that of the page that the plot is drawn on.
+    pub corner: Corner,
+    /// The page that the picture shows.
     pub page: Page,
+    /// The same as a report names it.
+    pub named: ReportPage,
+    /// What the plot draws, on this page.
     pub lines: Lines,
 }
 
-/// What the text of a plot draws on the page that was chosen, by what the plot asks for or by what the
-/// selected pens draw.
+/// What the text of a plot draws, on the page that was chosen: the one that is given, the one that the plot asks for, or
+/// the one around what the selected pens draw on either of them.
 ///
-/// Errors: the refusal of the plot for the page that it asks for, if that was chosen and it asks for one, else
-/// for the page that is given; `Memory` if memory runs out.
+/// Errors: the refusal of the plot for the page that it is drawn on; `Memory` if memory runs out.
 pub fn draw_placed(
     alloc: Global,
     reading: Reading,
@@ -37,32 +53,28 @@ pub fn draw_placed(
     page: &Page,
     text: &[u8],
 ) -> Result<Placed, PlotFault>
-    ensures placed { IfOk result (λ drawn. IsPlaced choice (rules_of reading) pens page.now text.now
-        drawn.placement drawn.page) }
-    ensures lines { IfOk result (λ drawn. AreLinesOf (rules_of reading) drawn.page text.now drawn.lines) }
+    ensures placed { IfOk result (λ drawn. IsPlaced choice (rules_of reading) pens page.now text.now (place_of drawn)) }
+    ensures lines { IfOk result (λ drawn. AreLinesOf (placed_rules (rules_of reading) pens (place_of drawn))
+        drawn.page text.now drawn.lines) }
+    ensures named { IfOk result (λ drawn. drawn.named ≡ page_reported (place_of drawn)) }
     ensures refused { IfErr result (IsReasonOnFirst choice (rules_of reading) page.now text.now) }
 {
-    let (placement, first) = first_page(reading, choice, page, text);
+    let (placement, first) = first_page(reading, choice.asked, page, text);
     let lines = draw_as(alloc, reading, text, &first)?;
-    match choice {
-        PageChoice::Fitted { margin } => {
-            draw_fitted(alloc, reading, pens, margin, &first, text, lines)
-        }
-        PageChoice::Given | PageChoice::Asked => Ok(Placed {
-            placement,
-            page: first,
-            lines,
-        }),
-    }
+    Ok(match choice.margin {
+        Some(margin) => fitted(margin, pens, first, lines),
+        None => unmoved(placement, first, lines),
+    })
 }
 
-// The page that the plot is drawn on first, and why.
-fn first_page(reading: Reading, choice: PageChoice, page: &Page, text: &[u8]) -> (Placement, Page)
-    ensures { IsBegunOn choice (rules_of reading) page.now text.now result.0 result.1 }
+// The page that the plot is drawn on, and why.
+fn first_page(reading: Reading, is_asked: bool, page: &Page, text: &[u8]) -> (Placement, Page)
+    ensures { IsDrawnOn is_asked (rules_of reading) page.now text.now result.0 result.1 }
 {
-    match choice {
-        PageChoice::Asked => asked_or_given(reading, page, text),
-        PageChoice::Given | PageChoice::Fitted { .. } => (Placement::Given, *page),
+    if is_asked {
+        asked_or_given(reading, page, text)
+    } else {
+        (Placement::Given, *page)
     }
 }
 
@@ -86,96 +98,91 @@ fn profile_of(reading: Reading) -> Profile
     }
 }
 
-// The same on the page around these lines, which the plot draws on the page that is given. They are given back before
-// the plot is drawn again.
-fn draw_fitted(
-    alloc: Global,
-    reading: Reading,
-    pens: PenSet,
-    margin: u32,
-    page: &Page,
-    text: &[u8],
-    lines: Lines,
-) -> Result<Placed, PlotFault>
-    requires { AreLinesOf (rules_of reading) page.now text.now lines }
-    ensures placed { IfOk result (λ drawn. IsFitted (rules_of reading) pens margin page.now text.now
-        drawn.placement drawn.page) }
-    ensures lines { IfOk result (λ drawn. AreLinesOf (rules_of reading) drawn.page text.now drawn.lines) }
-    ensures refused { IfErr result (λ fault. IsReason fault ((rules_of reading).refusal page.now text.now)) }
+// A picture that shows the page that its plot is drawn on.
+fn unmoved(placement: Placement, page: Page, lines: Lines) -> Placed
+    ensures place { place_of result ≡ place_on placement page }
+    ensures named { result.named ≡ report_page page }
+    ensures lines { result.lines ≡ lines }
 {
-    let Some(extent) = extent_of(lines.strokes.as_slice(), pens, margin) else {
-        return Ok(Placed {
-            placement: Placement::Blank,
-            page: *page,
-            lines,
-        });
-    };
-    let Some(around) = page_around(page, extent) else {
-        return Ok(Placed {
-            placement: Placement::TooLarge,
-            page: *page,
-            lines,
-        });
-    };
-    drop(lines);
-    match draw_fitting(alloc, reading, pens, margin, &around, text)? {
-        Some(lines) => Ok(Placed {
-            placement: Placement::Fitted,
-            page: around,
-            lines,
-        }),
-        None => {
-            let lines = draw_as(alloc, reading, text, page)?;
-            Ok(Placed {
-                placement: Placement::Follows,
-                page: *page,
-                lines,
-            })
-        }
+    Placed {
+        placement,
+        drawn_on: page,
+        corner: NO_CORNER,
+        page,
+        named: ReportPage::of(&page),
+        lines,
     }
 }
 
-// What the plot draws on a page, if this is the page around the drawing. Fails only if memory runs out.
-fn draw_fitting(
-    alloc: Global,
-    reading: Reading,
-    pens: PenSet,
-    margin: u32,
-    page: &Page,
-    text: &[u8],
-) -> Result<Option<Lines>, PlotFault>
-    ensures fits { IfOk result (λ found. IfSome found (λ _. Fits (rules_of reading) pens margin page.now text.now)) }
-    ensures lines { IfOk result (λ found. IfSome found (AreLinesOf (rules_of reading) page.now text.now)) }
-    ensures misfit { IfOk result (λ found. IfNone found (Fits (rules_of reading) pens margin page.now text.now → ⊥)) }
-    ensures memory { IfErr result (λ fault. fault ≡ PlotFault.Memory) }
+// A picture that shows the page around these lines, which a plot draws on a page, if there is one.
+fn fitted(margin: u32, pens: PenSet, page: Page, lines: Lines) -> Placed
+    ensures drawn_on { result.drawn_on ≡ page }
+    ensures fitted { IsFitted pens margin page lines.strokes.items result.placement result.corner result.page }
+    ensures named { result.named ≡ page_reported (place_of result) }
+    ensures lines { AreMoved pens lines (place_of result) result.lines }
 {
-    match draw_as(alloc, reading, text, page) {
-        Ok(lines) if is_fitting(lines.strokes.as_slice(), pens, margin, page) => Ok(Some(lines)),
-        Ok(_) => Ok(None),
-        Err(PlotFault::Memory) => Err(PlotFault::Memory),
-        Err(_) => Ok(None),
-    }
-}
-
-// Whether the page is the one around what the selected pens draw on it.
-fn is_fitting(strokes: &[Stroke], pens: PenSet, margin: u32, page: &Page) -> bool
-    ensures { IsTrue result ↔ (sides_about pens margin page.now strokes.now ≡ Some (sides_of page.now)) }
-{
-    let Some(extent) = extent_of(strokes, pens, margin) else {
-        return false;
+    let Some(extent) = extent_of(lines.strokes.as_slice(), pens, &page) else {
+        return unmoved(Placement::Blank, page, lines);
     };
-    match page_around(page, extent) {
-        Some(around) => are_alike(&around, page),
-        None => false,
+    let Some(corner) = corner_of(margin, pens, extent, lines.strokes.as_slice()) else {
+        return unmoved(Placement::TooLarge, page, lines);
+    };
+    let Some(around) = page_around(margin, extent) else {
+        return unmoved(Placement::TooLarge, page, lines);
+    };
+    moved(pens, page, corner, around, lines)
+}
+
+// The corner of the page around strokes that are seen so far, if all strokes can be moved to it.
+fn corner_of(margin: u32, pens: PenSet, extent: Extent, strokes: &[Stroke]) -> Option<Corner>
+    requires { IsNear extent }
+    ensures corner { IfSome result (λ corner. corner ≡ corner_around margin extent) }
+    ensures near { IfSome result IsCornerNear }
+    ensures movable { IfSome result (λ corner. are_movable pens corner strokes.now ≡ true) }
+    ensures none { IfNone result (are_movable pens (corner_around margin extent) strokes.now ≡ false) }
+{
+    let corner = corner_around(margin, extent);
+    if are_movable(strokes, &pens, corner) {
+        Some(corner)
+    } else {
+        None
     }
 }
 
-// Whether two pages have the same numbers.
-fn are_alike(one: &Page, other: &Page) -> bool
-    ensures { IsTrue result ↔ (sides_of one.now ≡ sides_of other.now) }
+// A picture of lines that are moved to the page around them.
+fn moved(pens: PenSet, page: Page, corner: Corner, around: Page, lines: Lines) -> Placed
+    requires near { IsCornerNear corner }
+    requires movable { are_movable pens corner lines.strokes.items ≡ true }
+    ensures place { place_of result ≡ record {
+      placement = Placement.Fitted;
+      drawn_on = page;
+      corner = corner;
+      page = around;
+    } }
+    ensures named { result.named ≡ page_reported (place_of result) }
+    ensures lines { AreMoved pens lines (place_of result) result.lines }
 {
-    one.width == other.width
-        && one.height == other.height
-        && one.left == other.left
-        && one.below == other.below
+    let mut lines = lines;
+    move_strokes(lines.strokes.as_mut_slice(), &pens, &page, corner, &around);
+    Placed {
+        placement: Placement::Fitted,
+        drawn_on: page,
+        corner,
+        page: around,
+        named: named(&page, corner, &around),
+        lines,
+    }
+}
+
+// The page around lines, with its corner, as a report names it.
+fn named(page: &Page, corner: Corner, around: &Page) -> ReportPage
+    requires { IsCornerNear corner }
+    ensures { result ≡ reported_at Placement.Fitted page.now corner around.now }
+{
+    ReportPage {
+        width: around.width,
+        height: around.height,
+        left: i64::from(page.left) - corner.x,
+        below: i64::from(page.below) - corner.y,
+    }
 }

@@ -1,21 +1,18 @@
-//! Where a plot is drawn.
+//! Which page a picture shows, and why.
 
-/// Where a plot is drawn: on the page that was given, on the page that the plot asks for, or on the page around the
-/// drawing.
+/// Which page a picture shows, and why: the page that its plot is drawn on, or the page around the drawing.
 #[derive(Clone, Copy, Debug, PartialEq, Eq)]
 pub enum Placement {
-    /// On the page that was given, as was asked.
+    /// The page that was given, as was asked.
     Given,
-    /// On the page that the plot asks for.
+    /// The page that the plot asks for.
     Asked,
-    /// On the page that was given: the plot asks for none.
+    /// The page that was given: the plot asks for none.
     Unasked,
-    /// On the page around the drawing.
+    /// The page around the drawing.
     Fitted,
-    /// On the page that was given: the selected pens draw nothing there.
+    /// The page that the plot is drawn on: the selected pens draw nothing that is seen.
     Blank,
-    /// On the page that was given: no page is large enough for the drawing.
+    /// The page that the plot is drawn on: no page is large enough for the drawing.
     TooLarge,
-    /// On the page that was given: the drawing depends on the page, and is another one on the page around it.
-    Follows,
 }

@@ -18,7 +18,7 @@ use hpgl_plot::Notes;
 use page_fit::census_of;
 use picture_job::{PageChoice, Reading};
 use plot_page::{Page, PenSet, Stroke};
-use plot_report::{write_full_report, write_report};
+use plot_report::{ReportPage, write_full_report, write_report};
 use std::alloc::Global;
 
 /// Writes the report on the plot that the source gives, drawn on a page in the profile core: the page, how many strokes
@@ -42,15 +42,14 @@ pub fn report<S: Source, K: Sink>(
     ensures end { (S.state source.new).ends ≡ (S.state source.old).ends + 1 → IsAtEnd (S.state source.new).left }
     ensures untouched { IfErr result (λ fault. is_write fault ≡ false → sink.new ≡ sink.old) }
 {
-    match report_on(alloc, Reading::Core, PageChoice::Given, page, source, sink) {
+    match report_on(alloc, Reading::Core, PageChoice::GIVEN, page, source, sink) {
         Ok(outcome) => Ok(outcome.done),
         Err(fault) => Err(fault),
     }
 }
 
 /// Writes the report on the plot that the source gives, as `report` does, in either profile, on the page that is chosen: the
-/// page that is given, the page of the size that the plot asks for, or the page around what all pens draw on the page that is
-/// given. In the profile full it has a line for the number of sheets, and the strokes of the sheet that is read.
+/// page that is given, the page of the size that the plot asks for, or the page around what all pens draw on either. In the profile full it has a line for the number of sheets, and the strokes of the sheet that is read.
 ///
 /// Errors: those of `report`, in the same order. The plot is refused for the page that it asks for, if that is
 /// chosen and it asks for one, else for the page that is given.
@@ -76,7 +75,7 @@ pub fn report_on<S: Source, K: Sink>(
     let strokes = drawn.lines.strokes.as_slice();
     match write_as(
         reading,
-        &drawn.page,
+        drawn.named,
         strokes,
         drawn.lines.sheets,
         plot.as_slice(),
@@ -106,7 +105,7 @@ pub fn report_on<S: Source, K: Sink>(
 // Writes the report on a plot that is read so, by its strokes and sheets.
 fn write_as<K: Sink>(
     reading: Reading,
-    page: &Page,
+    page: ReportPage,
     strokes: &[Stroke],
     sheets: usize,
     plot: &[u8],
@@ -116,8 +115,8 @@ fn write_as<K: Sink>(
     requires strokes { length strokes.now ≤ MOST_STROKES }
     requires plot { length plot.now ≤ LONGEST_PLOT }
     ensures writes { Writes (K.state sink.old) (K.state sink.new)
-        (report_on reading page.now strokes.now sheets plot.now) result }
-    ensures count { IfOk result (λ n. n ≡ length (report_on reading page.now strokes.now sheets plot.now)) }
+        (report_on reading page strokes.now sheets plot.now) result }
+    ensures count { IfOk result (λ n. n ≡ length (report_on reading page strokes.now sheets plot.now)) }
 {
     match reading {
         Reading::Core => write_report(page, strokes, Notes::new(plot), sink),

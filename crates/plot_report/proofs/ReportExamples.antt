@@ -6,7 +6,7 @@ use Rattle.plot_page.specs.Segments.{Segment}
 use Rattle.hpgl_plot.specs.declared.note.Note.{Note}
 use Rattle.hpgl_plot.specs.declared.note.NoteKind.{NoteKind}
 use Rattle.hpgl_plot.specs.declared.note.NoteKind.TheVariants.{Skipped, Bad, Stray, Axis, Open}
-use Rattle.plot_report.specs.Report.{line, page_line, strokes_line, strokes_of, greatest, least_place, greatest_place, end_xs, end_ys, pen_line, pen_lines, note_line, report_of, full_report_of}
+use Rattle.plot_report.specs.Report.{line, page_line, report_page, strokes_line, strokes_of, greatest, least_place, greatest_place, end_xs, end_ys, pen_line, pen_lines, note_line, report_of, full_report_of}
 
 abbrev square : Page
 square = record { width = 64; height = 64; left = 0; below = 0; width_in = (lit≤ tt, lit≤ tt); height_in = (lit≤ tt, lit≤ tt); left_in = lit≤ tt; below_in = lit≤ tt }
@@ -38,13 +38,18 @@ note at code kind = record { at = at; code = code; kind = kind }
 line_of_words : line (codes "a" ∷ codes "bc" ∷ codes "d" ∷ []) ≡ codes "a bc d\n"
 line_of_words = refl
 
-page_at_the_corner : page_line square ≡ codes "page 64 64 0 0\n"
+page_at_the_corner : page_line (report_page square) ≡ codes "page 64 64 0 0\n"
 unfolding digits
 page_at_the_corner = refl
 
-page_of_a3 : page_line moved ≡ codes "page 11880 8400 10 65536\n"
+page_of_a3 : page_line (report_page moved) ≡ codes "page 11880 8400 10 65536\n"
 unfolding digits
 page_of_a3 = refl
+
+-- a page whose corner is right of (0, 0) and above it
+page_far_away : page_line (record { width = 100; height = 200; left = negsuc 1999; below = negsuc 0 }) ≡ codes "page 100 200 -2000 -1\n"
+unfolding digits
+page_far_away = refl
 
 no_strokes : strokes_line [] ≡ codes "strokes 0\n"
 unfolding digits
@@ -117,30 +122,30 @@ unfolding digits
 stray = refl
 
 -- SP1;PU0,28;PD64,28;
-one_horizontal_line : report_of square (across ∷ []) [] ≡ codes "page 64 64 0 0\nstrokes 1\npen 1 strokes 1 widest 224 box 0 448 1024 448\n"
+one_horizontal_line : report_of (report_page square) (across ∷ []) [] ≡ codes "page 64 64 0 0\nstrokes 1\npen 1 strokes 1 widest 224 box 0 448 1024 448\n"
 unfolding digits pen_lines
 one_horizontal_line = refl
 
 -- the pens rise, in whatever order they drew
-two_pens : report_of square (falling ∷ across ∷ rising ∷ []) [] ≡ codes "page 64 64 0 0\nstrokes 3\npen 1 strokes 2 widest 300 box 0 0 2048 448\npen 2 strokes 1 widest 16 box -16 -32 320 2000\n"
+two_pens : report_of (report_page square) (falling ∷ across ∷ rising ∷ []) [] ≡ codes "page 64 64 0 0\nstrokes 3\npen 1 strokes 2 widest 300 box 0 0 2048 448\npen 2 strokes 1 widest 16 box -16 -32 320 2000\n"
 unfolding digits pen_lines
 two_pens = refl
 
 -- ZZ1,2;CO"a;b";PA1
-skipped_and_bad : report_of square [] (note 0 (codes "ZZ") Skipped ∷ note 6 (codes "CO") Skipped ∷ note 14 (codes "PA") Bad ∷ []) ≡ codes "page 64 64 0 0\nstrokes 0\nnote 0 skipped ZZ\nnote 6 skipped CO\nnote 14 bad PA\n"
+skipped_and_bad : report_of (report_page square) [] (note 0 (codes "ZZ") Skipped ∷ note 6 (codes "CO") Skipped ∷ note 14 (codes "PA") Bad ∷ []) ≡ codes "page 64 64 0 0\nstrokes 0\nnote 0 skipped ZZ\nnote 6 skipped CO\nnote 14 bad PA\n"
 unfolding digits pen_lines
 skipped_and_bad = refl
 
 -- the other notes
-open_and_axis : report_of moved [] (note 3 (codes "DI") Axis ∷ note 9 (codes "LB") Open ∷ []) ≡ codes "page 11880 8400 10 65536\nstrokes 0\nnote 3 axis DI\nnote 9 open LB\n"
+open_and_axis : report_of (report_page moved) [] (note 3 (codes "DI") Axis ∷ note 9 (codes "LB") Open ∷ []) ≡ codes "page 11880 8400 10 65536\nstrokes 0\nnote 3 axis DI\nnote 9 open LB\n"
 unfolding digits pen_lines
 open_and_axis = refl
 
 -- in the profile full the sheets follow the page
-three_sheets : full_report_of square 3 (across ∷ []) (note 0 (codes "PM") Skipped ∷ []) ≡ codes "page 64 64 0 0\nsheets 3\nstrokes 1\npen 1 strokes 1 widest 224 box 0 448 1024 448\nnote 0 skipped PM\n"
+three_sheets : full_report_of (report_page square) 3 (across ∷ []) (note 0 (codes "PM") Skipped ∷ []) ≡ codes "page 64 64 0 0\nsheets 3\nstrokes 1\npen 1 strokes 1 widest 224 box 0 448 1024 448\nnote 0 skipped PM\n"
 unfolding digits pen_lines
 three_sheets = refl
 
-no_sheet : full_report_of square 0 [] [] ≡ codes "page 64 64 0 0\nsheets 0\nstrokes 0\n"
+no_sheet : full_report_of (report_page square) 0 [] [] ≡ codes "page 64 64 0 0\nsheets 0\nstrokes 0\n"
 unfolding digits pen_lines
 no_sheet = refl

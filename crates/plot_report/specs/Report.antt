@@ -6,6 +6,7 @@ use Rattle.std.specs.Fmt.{signed_decimal}
 use Rattle.std.specs.Int.{int_max, int_min}
 use Rattle.plot_page.specs.declared.page.Page.{Page}
 use Rattle.plot_page.specs.Segments.{Segment}
+use Rattle.plot_report.specs.declared.report_page.ReportPage.{ReportPage}
 use Rattle.plot_report.specs.declared.summary.PenSummary.{PenSummary}
 use Rattle.hpgl_plot.specs.declared.note.Note.{Note}
 use Rattle.hpgl_plot.specs.declared.note.NoteKind.{NoteKind}
@@ -19,10 +20,16 @@ space = 32
 abbrev pub line : List (List ℕ) → List ℕ
 line words = join_with_byte space words ++ codes "\n"
 
+-- a page as it is given
+abbrev pub report_page : Page → ReportPage
+report_page page =
+    record { width = page.width; height = page.height; left = pos page.left; below = pos page.below }
+
 -- the page: its width, its height, and how far its lower left corner is left of (0, 0) and below it, in plotter units
-abbrev pub page_line : Page → List ℕ
+abbrev pub page_line : ReportPage → List ℕ
 page_line page =
-    line (codes "page" ∷ decimal page.width ∷ decimal page.height ∷ decimal page.left ∷ decimal page.below ∷ [])
+    line (codes "page" ∷ decimal page.width ∷ decimal page.height ∷ signed_decimal page.left
+    ∷ signed_decimal page.below ∷ [])
 
 -- how many strokes there are
 abbrev pub strokes_line : List Segment → List ℕ
@@ -101,7 +108,7 @@ abbrev pub note_line : Note → List ℕ
 note_line note = line (codes "note" ∷ decimal note.at ∷ kind_words note.kind note.code)
 
 -- the whole report
-abbrev pub report_of : Page → List Segment → List Note → List ℕ
+abbrev pub report_of : ReportPage → List Segment → List Note → List ℕ
 report_of page strokes notes = page_line page ++ strokes_line strokes ++ pen_lines strokes ++ flat_map note_line notes
 
 -- in the profile full: how many sheets there are
@@ -109,6 +116,6 @@ abbrev pub sheets_line : ℕ → List ℕ
 sheets_line sheets = line (codes "sheets" ∷ decimal sheets ∷ [])
 
 -- the whole report in the profile full
-abbrev pub full_report_of : Page → ℕ → List Segment → List Note → List ℕ
+abbrev pub full_report_of : ReportPage → ℕ → List Segment → List Note → List ℕ
 full_report_of page sheets strokes notes =
     page_line page ++ sheets_line sheets ++ strokes_line strokes ++ pen_lines strokes ++ flat_map note_line notes

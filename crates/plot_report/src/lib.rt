@@ -4,6 +4,8 @@
 mod lines;
 mod pieces;
 mod report;
+mod report_page;
 mod summary;
 
 pub use report::{MOST_NOTES, write_full_report, write_report};
+pub use report_page::ReportPage;

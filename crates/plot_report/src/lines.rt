@@ -5,13 +5,13 @@ ghost use Rattle.plot_report.specs.Report.{space, line, page_line, sheets_line, 
 ghost use Rattle.plot_report.specs.Report.{kind_words, note_line};
 
 use crate::pieces::{append_number, append_word};
+use crate::report_page::ReportPage;
 use crate::summary::PenSummary;
 use devices::append;
 use hpgl_plot::{Note, NoteKind};
-use plot_page::Page;
 
-/// The longest line of a page: four numbers of ten digits.
-pub(crate) const LONGEST_PAGE_LINE: usize = 49;
+/// The longest line of a page: two numbers of ten digits, two of twenty characters.
+pub(crate) const LONGEST_PAGE_LINE: usize = 69;
 
 /// The longest line of the sheets: a number of twenty digits.
 pub(crate) const LONGEST_SHEETS_LINE: usize = 28;
@@ -32,9 +32,9 @@ const LONGEST_BOX: usize = 52;
 const LONGEST_KIND: usize = 11;
 
 // `page W H left below`
-pub(crate) fn append_page_line(piece: &mut [u8], used: usize, page: &Page) -> usize
+pub(crate) fn append_page_line(piece: &mut [u8], used: usize, page: ReportPage) -> usize
     requires { used + LONGEST_PAGE_LINE ≤ length piece.old }
-    ensures line { take result piece.new ≡ take used piece.old ++ page_line page.now }
+    ensures line { take result piece.new ≡ take used piece.old ++ page_line page }
     ensures most { result ≤ used + LONGEST_PAGE_LINE }
     ensures size { length piece.new ≡ length piece.old }
 {

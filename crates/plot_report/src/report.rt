@@ -12,10 +12,11 @@ use crate::lines::{
     append_strokes_line,
 };
 use crate::pieces::put_piece;
+use crate::report_page::ReportPage;
 use crate::summary::{PENS, PenSummary, summarise};
 use devices::{Sink, WriteFault};
 use hpgl_plot::NoteSource;
-use plot_page::{Page, Stroke};
+use plot_page::Stroke;
 
 /// The most notes of a report: as many as the longest plot has bytes.
 pub const MOST_NOTES: usize = 67_108_864;
@@ -36,7 +37,7 @@ const PIECE: usize = 32_768;
 ///
 /// Errors: a `WriteFault` if and only if the sink fails; it has then taken the first `bytes` bytes.
 pub fn write_report<N: NoteSource + Drop, K: Sink>(
-    page: &Page,
+    page: ReportPage,
     strokes: &[Stroke],
     notes: N,
     sink: &mut K,
@@ -45,8 +46,8 @@ pub fn write_report<N: NoteSource + Drop, K: Sink>(
     requires strokes { length strokes.now ≤ MOST_STROKES }
     requires notes { length (N.notes notes) ≤ MOST_NOTES }
     ensures writes { Writes (K.state sink.old) (K.state sink.new)
-        (report_of page.now strokes.now (N.notes notes)) result }
-    ensures count { IfOk result (λ n. n ≡ length (report_of page.now strokes.now (N.notes notes))) }
+        (report_of page strokes.now (N.notes notes)) result }
+    ensures count { IfOk result (λ n. n ≡ length (report_of page strokes.now (N.notes notes))) }
 {
     let mut piece = [0; PIECE];
     let used = append_page_line(&mut piece, 0, page);
@@ -57,7 +58,7 @@ pub fn write_report<N: NoteSource + Drop, K: Sink>(
 ///
 /// Errors: those of `write_report`.
 pub fn write_full_report<N: NoteSource + Drop, K: Sink>(
-    page: &Page,
+    page: ReportPage,
     sheets: usize,
     strokes: &[Stroke],
     notes: N,
@@ -67,8 +68,8 @@ pub fn write_full_report<N: NoteSource + Drop, K: Sink>(
     requires strokes { length strokes.now ≤ MOST_STROKES }
     requires notes { length (N.notes notes) ≤ MOST_NOTES }
     ensures writes { Writes (K.state sink.old) (K.state sink.new)
-        (full_report_of page.now sheets strokes.now (N.notes notes)) result }
-    ensures count { IfOk result (λ n. n ≡ length (full_report_of page.now sheets strokes.now (N.notes notes))) }
+        (full_report_of page sheets strokes.now (N.notes notes)) result }
+    ensures count { IfOk result (λ n. n ≡ length (full_report_of page sheets strokes.now (N.notes notes))) }
 {
     let mut piece = [0; PIECE];
     let used = append_page_line(&mut piece, 0, page);

@@ -3,21 +3,25 @@ use Rattle.plot_page.specs.Segments.{Segment}
 use Rattle.page_fit.specs.Census.{census_of}
 use Rattle.conversion.specs.Boxes.{strokes_boxes}
 use Rattle.conversion.specs.Conversions.{HasConvertedOn, on_page}
+use Rattle.conversion.specs.Drawings.{place_of}
+use Rattle.conversion.specs.Placements.{Place, place_on, placed_rules}
 use Rattle.conversion.specs.Rules.{Rules, rules_of}
+use Rattle.conversion.specs.declared.placement.Placement.TheVariants.{Given}
 use Rattle.conversion.specs.Progress.{HasPainted}
 use Rattle.conversion.specs.declared.fault.Fault.{Fault}
 use Rattle.conversion.specs.declared.outcome.Outcome.{Outcome}
 use Rattle.devices.specs.Sinks.{SinkState}
-use Rattle.conversion.proofs.Choices.{given_page, not_drawn_on, not_painted_on}
+use Rattle.conversion.proofs.Choices.{given_place, not_drawn_on, not_painted_on}
 use Rattle.conversion.proofs.Refusals.{job_faults, passed_on}
 use Rattle.conversion.proofs.convert_plot.convert_on.Goals as goal
 
 pub returns-clause-converts : goal.returns-clause-converts
 returns-clause-converts g c =
-    let page = c.in_ok-drawn.drawn.page in
+    let place : Place = place_of c.in_ok-drawn.drawn in
+    let page = place.page in
     let job = on_page page c.args.job.now in
     let n = c.args.smoothing.times in
-    let rules : Rules = rules_of c.args.reading in
+    let rules : Rules = placed_rules (rules_of c.args.reading) job.pens place in
     let drawing = c.in_ok-drawn.ensures.draws in
     let input : List ℕ = drawing.input in
     let was : SinkState = g.K.Sink.state c.args.sink.now in
@@ -27,10 +31,11 @@ returns-clause-converts g c =
     record {
       input = input;
       taken = drawing.taken;
-      page = page;
-      given = given_page c.args.choice rules job.pens c.args.job.now.page input _ page drawing.draws.placed;
+      place = place;
+      given = given_place c.args.choice (rules_of c.args.reading) job.pens c.args.job.now.page input place drawing.draws.placed;
       converts = (
         drawing.draws.placed,
+        refl,
         record {
           read = drawing.draws.read;
           accepted = job_faults job (rules.refusal page input) None drawing.draws.lines.accepted painted.0;
@@ -48,10 +53,11 @@ returns-clause-converts g c =
 
 pub returns-in-Err-clause-converts : goal.returns-in-Err-clause-converts
 returns-in-Err-clause-converts g c =
-    let page = c.in_ok-drawn.drawn.page in
+    let place : Place = place_of c.in_ok-drawn.drawn in
+    let page = place.page in
     let job = on_page page c.args.job.now in
     let n = c.args.smoothing.times in
-    let rules : Rules = rules_of c.args.reading in
+    let rules : Rules = placed_rules (rules_of c.args.reading) job.pens place in
     let drawing = c.in_ok-drawn.ensures.draws in
     let input : List ℕ = drawing.input in
     let was : SinkState = g.K.Sink.state c.args.sink.now in
@@ -60,9 +66,9 @@ returns-in-Err-clause-converts g c =
     record {
       input = input;
       taken = drawing.taken;
-      page = page;
-      given = given_page c.args.choice rules job.pens c.args.job.now.page input _ page drawing.draws.placed;
-      converts = not_painted_on rules c.args.choice n c.args.job.now page _ (g.G.Gauge.reaches c.args.gauge.now) input _ _ was is c.in-Err.fault
+      place = place;
+      given = given_place c.args.choice (rules_of c.args.reading) job.pens c.args.job.now.page input place drawing.draws.placed;
+      converts = not_painted_on (rules_of c.args.reading) c.args.choice n c.args.job.now place (g.G.Gauge.reaches c.args.gauge.now) input _ _ was is c.in-Err.fault
           drawing.draws.placed drawing.draws.read drawing.draws.lines.accepted
           (subst (λ (ss : List Segment). HasPainted n job (g.G.Gauge.reaches c.args.gauge.now) ss was is (Err c.in-Err.fault)) drawn c.in-Err.ensures.paints);
       tested = subst (λ (ss : List Segment). g.G.Gauge.count c.paint.new.gauge ≤ g.G.Gauge.count c.args.gauge.now + strokes_boxes n job ss) drawn c.in-Err.ensures.tests;
@@ -72,8 +78,8 @@ pub returns-then-not-is_possible-clause-converts : goal.returns-then-not-is_poss
 returns-then-not-is_possible-clause-converts g c = record {
   input = [];
   taken = search rules;
-  page = c.args.job.now.page;
-  given = λ is. refl;
+  place = place_on Given c.args.job.now.page;
+  given = λ _ _. refl;
   converts = refl;
   tested = omega arith;
 }
@@ -92,7 +98,7 @@ returns-in_err-drawn-clause-converts g c =
     (record {
       input = drawing.input;
       taken = drawing.taken;
-      page = refused.0;
+      place = refused.0;
       given = refused.1;
       converts = refused.2;
       tested = omega arith;

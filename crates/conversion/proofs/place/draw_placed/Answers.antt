@@ -3,7 +3,7 @@ use Rattle.hpgl_plot.specs.declared.fault.PlotFault.{PlotFault}
 use Rattle.picture_job.specs.declared.page_choice.PageChoice.{PageChoice}
 use Rattle.plot_page.specs.declared.page.Page.{Page}
 use Rattle.conversion.specs.Drawings.{IsReason, IsReasonOnFirst}
-use Rattle.conversion.specs.Placements.{IsBegunOn}
+use Rattle.conversion.specs.Placements.{IsDrawnOn}
 use Rattle.conversion.specs.Rules.{Rules, rules_of}
 use Rattle.conversion.specs.declared.place.Placed.{Placed}
 use Rattle.conversion.specs.declared.placement.Placement.{Placement}
@@ -12,7 +12,7 @@ use Rattle.conversion.proofs.place.draw_placed.Goals as goal
 
 -- a refusal for the page that the plot is drawn on first
 on_first : (r : Result Placed PlotFault) (choice : PageChoice) (rules : Rules) (given : Page) (plot : List ℕ) (placement : Placement) (page : Page)
-    → IsBegunOn choice rules given plot placement page → IfErr r (λ fault. IsReason fault (rules.refusal page plot)) → IfErr r (IsReasonOnFirst choice rules given plot)
+    → IsDrawnOn choice.asked rules given plot placement page → IfErr r (λ fault. IsReason fault (rules.refusal page plot)) → IfErr r (IsReasonOnFirst choice rules given plot)
 on_first (Ok drawn) choice rules given plot placement page begun reason = tt
 on_first (Err fault) choice rules given plot placement page begun reason = (page, (placement, begun), reason)
 
@@ -22,8 +22,3 @@ returns-in_err-lines-clause-refused c =
     let first = c.first_page-placement.result in
     subst (λ (r : Result Placed PlotFault). IfErr r (IsReasonOnFirst c.args.choice rules c.args.page.now c.args.text.now)) (sym (passed_on _ _ c.from_residual.ensures.1))
     (first.1, (first.0, c.first_page-placement.ensures), c.in_err-lines.ensures.refused)
-
-pub returns-in-Fitted-clause-refused : goal.returns-in-Fitted-clause-refused
-returns-in-Fitted-clause-refused c =
-    let first = c.first_page-placement.result in
-    on_first c.draw_fitted.result c.args.choice (rules_of c.args.reading) c.args.page.now c.args.text.now first.0 first.1 c.first_page-placement.ensures c.draw_fitted.ensures.refused

@@ -1,10 +1,13 @@
 use Rattle.std.proofs.Common.{◌≡◌, ◌≤◌, ◌+◌, List, length, ap, subst, ◌∙◌, Ok, [], refl, arith, rules}
 use Rattle.plot_page.specs.Segments.{Segment}
 use Rattle.page_fit.specs.Census.{census_of}
+use Rattle.conversion.specs.Drawings.{place_of}
+use Rattle.conversion.specs.Placements.{Place, place_on, placed_rules}
 use Rattle.conversion.specs.Rules.{Rules, rules_of}
+use Rattle.conversion.specs.declared.placement.Placement.TheVariants.{Given}
 use Rattle.conversion.specs.Documents.{HasPaintedPng, picture_shown, png_boxes, png_on_page}
 use Rattle.devices.specs.Sinks.{SinkState}
-use Rattle.conversion.proofs.Choices.{given_page, png_not_drawn, png_not_painted}
+use Rattle.conversion.proofs.Choices.{given_place, png_not_drawn, png_not_painted}
 use Rattle.conversion.proofs.png_conversion.convert_png.Goals as goal
 
 pub returns-in-Err-clause-converts : goal.returns-in-Err-clause-converts
@@ -16,7 +19,7 @@ returns-in-Err-clause-converts g c =
     record {
       input = drawing.input;
       taken = drawing.taken;
-      page = refused.0;
+      place = refused.0;
       given = refused.1;
       converts = refused.2;
       tested = omega arith;
@@ -24,10 +27,11 @@ returns-in-Err-clause-converts g c =
 
 pub returns-in-Err-painted-clause-converts : goal.returns-in-Err-painted-clause-converts
 returns-in-Err-painted-clause-converts g c =
-    let page = c.in-Ok.drawn.page in
+    let place : Place = place_of c.in-Ok.drawn in
+    let page = place.page in
     let given = c.args.job.now in
     let job = png_on_page page given in
-    let rules : Rules = rules_of c.args.reading in
+    let rules : Rules = placed_rules (rules_of c.args.reading) given.pens place in
     let reaches = g.G.Gauge.reaches c.args.gauge.now in
     let drawing = c.in-Ok.ensures.draws in
     let was : SinkState = g.K.Sink.state c.args.sink in
@@ -37,19 +41,20 @@ returns-in-Err-painted-clause-converts g c =
     record {
       input = drawing.input;
       taken = drawing.taken;
-      page = page;
-      given = given_page c.args.choice rules given.pens given.page drawing.input _ page drawing.draws.placed;
-      converts = png_not_painted rules c.args.choice given page _ reaches drawing.input _ _ was is c.in-Err-painted.fault (picture_shown job reaches c.as_slice-strokes.result.now)
+      place = place;
+      given = given_place c.args.choice (rules_of c.args.reading) given.pens given.page drawing.input place drawing.draws.placed;
+      converts = png_not_painted (rules_of c.args.reading) c.args.choice given place reaches drawing.input _ _ was is c.in-Err-painted.fault (picture_shown job reaches c.as_slice-strokes.result.now)
           drawing.draws.placed drawing.draws.read drawing.draws.lines.accepted painted;
       tested = subst (λ (ss : List Segment). g.G.Gauge.count c.paint_png-sink.new.gauge ≤ g.G.Gauge.count c.args.gauge.now + png_boxes job ss) drawn c.paint_png-sink.ensures.tests;
     }
 
 pub returns-clause-converts : goal.returns-clause-converts
 returns-clause-converts g c =
-    let page = c.in-Ok.drawn.page in
+    let place : Place = place_of c.in-Ok.drawn in
+    let page = place.page in
     let given = c.args.job.now in
     let job = png_on_page page given in
-    let rules : Rules = rules_of c.args.reading in
+    let rules : Rules = placed_rules (rules_of c.args.reading) given.pens place in
     let reaches = g.G.Gauge.reaches c.args.gauge.now in
     let drawing = c.in-Ok.ensures.draws in
     let was : SinkState = g.K.Sink.state c.args.sink in
@@ -60,10 +65,11 @@ returns-clause-converts g c =
     record {
       input = drawing.input;
       taken = drawing.taken;
-      page = page;
-      given = given_page c.args.choice rules given.pens given.page drawing.input _ page drawing.draws.placed;
+      place = place;
+      given = given_place c.args.choice (rules_of c.args.reading) given.pens given.page drawing.input place drawing.draws.placed;
       converts = (
         drawing.draws.placed,
+        refl,
         record {
           read = drawing.draws.read;
           accepted = drawing.draws.lines.accepted;
@@ -82,8 +88,8 @@ pub returns-then-not-is_fine-clause-converts : goal.returns-then-not-is_fine-cla
 returns-then-not-is_fine-clause-converts g c = record {
   input = [];
   taken = search rules;
-  page = c.args.job.now.page;
-  given = λ is. refl;
+  place = place_on Given c.args.job.now.page;
+  given = λ _ _. refl;
   converts = refl;
   tested = omega arith;
 }

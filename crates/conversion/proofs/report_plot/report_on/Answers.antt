@@ -3,13 +3,14 @@ use Rattle.std.specs.Io.KnownBytes.{Appends}
 use Rattle.devices.specs.Sinks.{SinkState}
 use Rattle.page_fit.specs.Census.{census_of}
 use Rattle.plot_page.specs.Segments.{Segment}
-use Rattle.conversion.specs.Drawings.{AreLinesOf, IsReasonOnFirst}
-use Rattle.conversion.specs.Placements.{IsPlaced}
+use Rattle.conversion.specs.Drawings.{AreLinesOf, IsReasonOnFirst, place_of}
+use Rattle.conversion.specs.Placements.{IsPlaced, Place, place_on, placed_rules}
+use Rattle.conversion.specs.declared.placement.Placement.TheVariants.{Given}
 use Rattle.conversion.specs.Reports.{HasReportedOn, report_on}
 use Rattle.conversion.specs.Rules.{Rules, rules_of}
 use Rattle.conversion.specs.declared.fault.Fault.{Fault}
 use Rattle.conversion.specs.declared.outcome.Outcome.{Outcome}
-use Rattle.conversion.proofs.Choices.{not_read_on, not_reported, same_report}
+use Rattle.conversion.proofs.Choices.{given_place, not_read_on, not_reported, same_report}
 use Rattle.conversion.proofs.Refusals.{passed_on}
 use Rattle.conversion.proofs.report_plot.report_on.Goals as goal
 
@@ -25,7 +26,8 @@ returns-in_err-plot-clause-reports g c =
       taken = reads.taken;
       pens = c.all-pens.result;
       all = c.all-pens.ensures;
-      page = c.args.page.now;
+      place = place_on Given c.args.page.now;
+      given = λ _ _. refl;
       reports = not_read_on c.args.reading c.args.choice c.all-pens.result c.args.page.now reads.input was is sink sink _ reads.reads;
     })
 
@@ -46,31 +48,36 @@ returns-in_err-drawn-clause-reports g c =
       taken = reads.taken;
       pens = c.all-pens.result;
       all = c.all-pens.ensures;
-      page = refused.0;
-      reports = refused.1;
+      place = refused.0;
+      given = refused.1;
+      reports = refused.2;
     })
 
 pub returns-in-Ok-clause-reports : goal.returns-in-Ok-clause-reports
 returns-in-Ok-clause-reports g c =
     let reads = c.in_ok-plot.ensures.reads in
     let input : List ℕ = reads.input in
-    let rules : Rules = rules_of c.args.reading in
-    let page = c.in_ok-drawn.drawn.page in
     let pens = c.all-pens.result in
+    let place : Place = place_of c.in_ok-drawn.drawn in
+    let page = place.page in
+    let rules : Rules = placed_rules (rules_of c.args.reading) pens place in
     let was : SinkState = g.K.Sink.state c.args.sink.now in
     let is : SinkState = g.K.Sink.state c.write_as.new.sink in
     let same : c.as_slice.result.now ≡ input = c.as_slice.ensures.value ∙ reads.reads.0 in
     let lines = subst (λ (plot : List ℕ). AreLinesOf rules page plot c.in_ok-drawn.drawn.lines) same c.in_ok-drawn.ensures.lines in
     let drawn : c.as_slice-strokes.result.now ≡ rules.strokes page input = c.as_slice-strokes.ensures.value ∙ lines.strokes_are in
-    let text = same_report c.args.reading page _ _ _ _ _ _ drawn lines.sheets_are (c.as_slice-2.ensures.value ∙ reads.reads.0) in
+    let placed = subst (λ (plot : List ℕ). IsPlaced c.args.choice (rules_of c.args.reading) pens c.args.page.now plot place) same c.in_ok-drawn.ensures.placed in
+    let text = same_report c.args.reading _ _ _ _ _ _ _ _ c.in_ok-drawn.ensures.named drawn lines.sheets_are (c.as_slice-2.ensures.value ∙ reads.reads.0) in
     record {
       input = input;
       taken = reads.taken;
       pens = pens;
       all = c.all-pens.ensures;
-      page = page;
+      place = place;
+      given = given_place c.args.choice (rules_of c.args.reading) pens c.args.page.now input place placed;
       reports = (
-        subst (λ (plot : List ℕ). IsPlaced c.args.choice rules pens c.args.page.now plot c.in_ok-drawn.drawn.placement page) same c.in_ok-drawn.ensures.placed,
+        placed,
+        refl,
         record {
           read = reads.reads.1;
           accepted = lines.accepted;
@@ -89,28 +96,28 @@ pub returns-clause-reports : goal.returns-clause-reports
 returns-clause-reports g c =
     let reads = c.in_ok-plot.ensures.reads in
     let input : List ℕ = reads.input in
-    let rules : Rules = rules_of c.args.reading in
-    let page = c.in_ok-drawn.drawn.page in
     let pens = c.all-pens.result in
+    let place : Place = place_of c.in_ok-drawn.drawn in
+    let page = place.page in
+    let rules : Rules = placed_rules (rules_of c.args.reading) pens place in
     let was : SinkState = g.K.Sink.state c.args.sink.now in
     let is : SinkState = g.K.Sink.state c.write_as.new.sink in
     let same : c.as_slice.result.now ≡ input = c.as_slice.ensures.value ∙ reads.reads.0 in
     let lines = subst (λ (plot : List ℕ). AreLinesOf rules page plot c.in_ok-drawn.drawn.lines) same c.in_ok-drawn.ensures.lines in
     let drawn : c.as_slice-strokes.result.now ≡ rules.strokes page input = c.as_slice-strokes.ensures.value ∙ lines.strokes_are in
-    let text = same_report c.args.reading page _ _ _ _ _ _ drawn lines.sheets_are (c.as_slice-2.ensures.value ∙ reads.reads.0) in
-    let whole : List ℕ = report_on c.args.reading page c.as_slice-strokes.result.now c.in_ok-drawn.drawn.lines.sheets c.as_slice-2.result.now in
+    let placed = subst (λ (plot : List ℕ). IsPlaced c.args.choice (rules_of c.args.reading) pens c.args.page.now plot place) same c.in_ok-drawn.ensures.placed in
+    let text = same_report c.args.reading _ _ _ _ _ _ _ _ c.in_ok-drawn.ensures.named drawn lines.sheets_are (c.as_slice-2.ensures.value ∙ reads.reads.0) in
+    let whole : List ℕ = report_on c.args.reading c.in_ok-drawn.drawn.named c.as_slice-strokes.result.now c.in_ok-drawn.drawn.lines.sheets c.as_slice-2.result.now in
     let taken = sym c.bytes.ensures in
     record {
       input = input;
       taken = reads.taken;
       pens = pens;
       all = c.all-pens.ensures;
-      page = page;
+      place = place;
+      given = given_place c.args.choice (rules_of c.args.reading) pens c.args.page.now input place placed;
       reports = (
-        (
-          c.in_ok-drawn.drawn.placement,
-          subst (λ (plot : List ℕ). IsPlaced c.args.choice rules pens c.args.page.now plot c.in_ok-drawn.drawn.placement page) same c.in_ok-drawn.ensures.placed,
-        ),
+        placed,
         record {
           read = reads.reads.1;
           accepted = lines.accepted;

@@ -1,5 +1,0 @@
-use Rattle.conversion.proofs.Placements.{placed_alike}
-use Rattle.conversion.proofs.laws.plots_have_one_page.Goals as goal
-
-pub returns : goal.returns
-returns c choice rules pens given plot p q page page' a b = placed_alike choice rules pens given plot p q page page' a b
