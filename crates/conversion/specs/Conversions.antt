@@ -88,6 +88,7 @@ ConvertsOn rules choice n job place reaches input before after sink sink' (Ok ou
     × IsWritten (placed_rules rules job.pens place) n (on_page place.page job) reaches input before after sink sink'
     outcome.done
     × (outcome.census ≡ census_of job.pens place.page ((placed_rules rules job.pens place).strokes place.page input))
+    × (outcome.sheets ≡ rules.sheets place.drawn_on input)
 ConvertsOn rules choice n job place reaches input before after sink sink' (Err (Write row whole bytes)) =
     IsPlaced choice rules job.pens job.page input place
     × IsCutShort (placed_rules rules job.pens place) n (on_page place.page job) reaches input before after sink sink'

@@ -91,6 +91,7 @@ ReportsOn reading choice pens given place input before after sink sink' (Ok outc
     IsPlaced choice (rules_of reading) pens given input place × (outcome.placement ≡ place.placement)
     × IsReported reading rules (page_reported place) place.page input before after sink sink' outcome.done
     × (outcome.census ≡ census_of pens place.page (rules.strokes place.page input))
+    × (outcome.sheets ≡ rules.sheets place.page input)
 ReportsOn reading choice pens given place input before after sink sink' (Err (Write row whole bytes)) =
     IsPlaced choice (rules_of reading) pens given input place
     × IsReportCutShort reading (placed_rules (rules_of reading) pens place) (page_reported place) place.page input

@@ -143,6 +143,7 @@ pub fn convert_on<G: Gauge, S: Source, K: Sink, W: Watcher>(
     Ok(Outcome {
         done,
         placement: drawn.placement,
+        sheets: drawn.lines.sheets,
         census: census_of(strokes, job.pens, &job.page),
     })
 }

@@ -8,8 +8,10 @@ use page_fit::Census;
 pub struct Outcome {
     /// What was written.
     pub done: Done,
-    /// On which page the plot was drawn, and why.
+    /// Which page the picture shows, and why.
     pub placement: Placement,
+    /// How many sheets of the plot have strokes in the profile full; in core this is not counted, and 0.
+    pub sheets: usize,
     /// How many strokes the selected pens draw, or in a report all pens, and how many of these lie off the
     /// page.
     pub census: Census,

@@ -76,6 +76,7 @@ pub fn convert_png<G: Gauge, S: Source, K: Sink, W: Watcher>(
     let outcome = Outcome {
         done,
         placement: drawn.placement,
+        sheets: drawn.lines.sheets,
         census: census_of(strokes, job.pens, &job.page),
     };
     (sink, Ok(outcome))

@@ -91,6 +91,7 @@ pub fn report_on<S: Source, K: Sink>(
             Ok(Outcome {
                 done,
                 placement: drawn.placement,
+                sheets: drawn.lines.sheets,
                 census: census_of(strokes, pens, &drawn.page),
             })
         }

@@ -47,6 +47,7 @@ returns-clause-converts g c =
           notes = drawing.draws.lines.notes_are;
         },
         c.census_of.ensures ∙ ap (λ (ss : List Segment). census_of job.pens page ss) drawn,
+        drawing.draws.lines.sheets_are,
       );
       tested = subst (λ (ss : List Segment). g.G.Gauge.count c.paint.new.gauge ≤ g.G.Gauge.count c.args.gauge.now + strokes_boxes n job ss) drawn c.in-Ok.ensures.tests;
     }

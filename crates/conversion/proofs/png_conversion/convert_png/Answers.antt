@@ -80,6 +80,7 @@ returns-clause-converts g c =
           notes = drawing.draws.lines.notes_are;
         },
         c.census_of.ensures ∙ ap (λ (ss : List Segment). census_of given.pens page ss) drawn,
+        drawing.draws.lines.sheets_are,
       );
       tested = subst (λ (ss : List Segment). g.G.Gauge.count c.paint_png-sink.new.gauge ≤ g.G.Gauge.count c.args.gauge.now + png_boxes job ss) drawn c.paint_png-sink.ensures.tests;
     }

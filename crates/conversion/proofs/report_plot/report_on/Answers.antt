@@ -89,6 +89,7 @@ returns-in-Ok-clause-reports g c =
           notes = lines.notes_are;
         },
         c.census_of.ensures ∙ ap (λ (ss : List Segment). census_of pens page ss) drawn,
+        lines.sheets_are,
       );
     }
 
