@@ -1,6 +1,7 @@
 //! Plots that are drawn on the page that they ask for.
 use crate::cases::text_of;
 use crate::pages::placed_on;
+use crate::placements::fitted;
 use plotraster::{
     Dots, Exact, Fault, Form, Job, OverRead, OverWrite, Page, PageChoice, PenSet, PlotFault,
     Reading, Smoothing, Unwatched, convert_on, report_on,
@@ -40,13 +41,18 @@ SP0;LBPS400,300;\x03SP1;PU0,0;PD100,200;
 Unasked 1 0 page 800 600 10 20
 ";
 
+const ASKED: PageChoice = PageChoice {
+    asked: true,
+    margin: None,
+};
+
 fn given() -> Result<Page, Fail> {
     Ok(Page::new(800, 600, 10, 20)?)
 }
 
 // What `report_on` says of a plot, on the page that it asks for.
 fn placed(alloc: Global, reading: Reading, plot: &str) -> Result<String, Fail> {
-    placed_on(alloc, &given()?, reading, PageChoice::Asked, plot)
+    placed_on(alloc, &given()?, reading, ASKED, plot)
 }
 
 #[test]
@@ -109,10 +115,33 @@ fn drawn(alloc: Global, choice: PageChoice, plot: &[u8]) -> Result<String, Fail>
 #[test]
 fn pictures_of_the_page_asked_for(rt: HostRuntime) -> Result<(), Fail> {
     let plot = b"PS72,80;SP1;PW0.1;PU68,76;PD;";
-    let given = drawn(rt.alloc(), PageChoice::Given, plot)?;
+    let given = drawn(rt.alloc(), PageChoice::GIVEN, plot)?;
     assert_eq!(rt; given.as_str(), "8 rows, Given\n");
-    let asked = drawn(rt.alloc(), PageChoice::Asked, plot)?;
+    let asked = drawn(rt.alloc(), ASKED, plot)?;
     assert_eq!(rt; asked.as_str(), "10 rows, Asked\n0 8 1 000000\n");
+    Ok(())
+}
+
+// A plot that fills the page that it asks for, and is turned on it.
+#[test]
+fn pages_around_drawings_on_pages_asked_for(rt: HostRuntime) -> Result<(), Fail> {
+    let plot = "PS800,600;IP;SC0,1,0,1;RO90;SP1;PW0;PU0,0;PD1,1;";
+    let choice = PageChoice {
+        asked: true,
+        margin: Some(0),
+    };
+    let answer = placed_on(rt.alloc(), &given()?, Reading::Core, choice, plot)?;
+    assert_eq!(rt; answer.as_str(), "Fitted 1 0 page 800 600 10 20");
+    let answer = placed_on(rt.alloc(), &given()?, Reading::Core, fitted(0), plot)?;
+    assert_eq!(rt; answer.as_str(), "Fitted 1 0 page 800 600 10 20");
+    let answer = placed_on(
+        rt.alloc(),
+        &given()?,
+        Reading::Core,
+        choice,
+        "SP1;PW0;PU0,0;PD8,90;",
+    )?;
+    assert_eq!(rt; answer.as_str(), "Fitted 1 0 page 64 90 0 0");
     Ok(())
 }
 
@@ -139,7 +168,7 @@ fn refusal(
 fn refused_for_the_page_asked_for(rt: HostRuntime) -> Result<(), Fail> {
     let fault = Some(Fault::Plot(PlotFault::OffRange { at: 13 }));
     let other = Some(Fault::Plot(PlotFault::OffRange { at: 14 }));
-    let (asked, given) = (PageChoice::Asked, PageChoice::Given);
+    let (asked, given) = (ASKED, PageChoice::GIVEN);
     assert_eq!(rt; refusal(rt.alloc(), 800, asked, REFUSED)?, fault);
     assert_eq!(rt; refusal(rt.alloc(), 800, given, REFUSED)?, None);
     assert_eq!(rt; refusal(rt.alloc(), 64, asked, ACCEPTED)?, None);

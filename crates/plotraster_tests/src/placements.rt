@@ -18,7 +18,7 @@ SP1;PW1;PU-100,0;PD100,-200;
 Fitted 1 0 page 320 320 160 260
 
 SP1;PW0;PU1000,1000;PD1010.5,1000;
-Fitted 1 0 page 1051 1040 0 0
+Fitted 1 0 page 91 80 -960 -960
 
 SP1;PW0;PD;
 Fitted 1 0 page 80 80 40 40
@@ -39,17 +39,34 @@ SP1;PU-60000,0;PD60000,0;
 TooLarge 1 0 page 64 64 0 0
 
 SP1;PU65000,0;PD65500,0;
-TooLarge 1 1 page 64 64 0 0
+Fitted 1 0 page 594 94 -64953 47
 
 SP1;SC0,9,0,9;PD5,5;
-Follows 1 0 page 64 64 0 0
+Fitted 1 0 page 130 130 47 47
 
 SP1;RO90;PD5,5;
-Follows 1 0 page 64 64 0 0
+Fitted 1 0 page 99 99 -12 47
 
 SP1;RO90;PU0,65000;PD0,65100;
-Follows 1 1 page 64 64 0 0
+Fitted 1 0 page 194 94 65083 47
+
+SP1;PW0;IW0,0,30,30;PU10,10;PD500,10;
+Fitted 1 0 page 100 80 30 30
+
+SP1;PW0;IW0,0,30,30;PU40,10;PD500,10;
+Blank 1 0 page 64 64 0 0
+
+SP1;PW0;IW0,0,30,30;PU10,10;PD65530,10;
+TooLarge 1 0 page 64 64 0 0
 ";
+
+// The page around the drawing, with a margin in millimetres.
+pub(crate) fn fitted(margin: u32) -> PageChoice {
+    PageChoice {
+        asked: false,
+        margin: Some(margin),
+    }
+}
 
 // What `report_on` says of a plot on a page of 64 units a side.
 fn placed(alloc: Global, choice: PageChoice, plot: &str) -> Result<String, Fail> {
@@ -62,11 +79,11 @@ fn pages_around_drawings(rt: HostRuntime) -> Result<(), Fail> {
     let mut found: usize = 0;
     for case in CASES.trim_end().split("\n\n") {
         let (plot, wanted) = case.split_once("\n").ok_or("a case with no answer")?;
-        let answer = placed(rt.alloc(), PageChoice::Fitted { margin: 1 }, plot)?;
+        let answer = placed(rt.alloc(), fitted(1), plot)?;
         assert_eq!(rt; answer.as_str(), wanted, "{plot}");
         found = found.saturating_add(1);
     }
-    assert_eq!(rt; found, 13);
+    assert_eq!(rt; found, 16);
     Ok(())
 }
 
@@ -81,10 +98,10 @@ const MARGINS: [(u32, &str); 4] = [
 fn margins_around_drawings(rt: HostRuntime) -> Result<(), Fail> {
     let plot = "SP1;PW1;PU0,0;PD100,200;";
     for (margin, wanted) in MARGINS {
-        let answer = placed(rt.alloc(), PageChoice::Fitted { margin }, plot)?;
+        let answer = placed(rt.alloc(), fitted(margin), plot)?;
         assert_eq!(rt; answer.as_str(), wanted);
     }
-    let answer = placed(rt.alloc(), PageChoice::Given, plot)?;
+    let answer = placed(rt.alloc(), PageChoice::GIVEN, plot)?;
     assert_eq!(rt; answer.as_str(), "Given 1 0 page 64 64 0 0");
     Ok(())
 }
@@ -96,7 +113,7 @@ fn drawn(alloc: Global, pens: PenSet, plot: &[u8]) -> Result<String, Fail> {
         ..eight_by_eight(Form::Marks)?
     };
     let mut sink = OverWrite::new(Vec::new(alloc));
-    let choice = PageChoice::Fitted { margin: 0 };
+    let choice = fitted(0);
     let outcome = convert_on(
         alloc,
         Reading::Core,
@@ -123,7 +140,7 @@ fn the_selected_pens_choose_the_page(rt: HostRuntime) -> Result<(), Fail> {
     let first = drawn(rt.alloc(), PenSet::none().with(1), DOTS)?;
     assert_eq!(rt; first.as_str(), "8 rows, Fitted, 1 and 0\n7 0 1 000000\n");
     let second = drawn(rt.alloc(), PenSet::none().with(2), DOTS)?;
-    assert_eq!(rt; second.as_str(), "8 rows, Fitted, 1 and 0\n7 15 2 ff0000\n");
+    assert_eq!(rt; second.as_str(), "8 rows, Fitted, 1 and 0\n7 0 2 ff0000\n");
     let neither = drawn(rt.alloc(), PenSet::none().with(3), DOTS)?;
     assert_eq!(rt; neither.as_str(), "8 rows, Blank, 0 and 0\n");
     Ok(())

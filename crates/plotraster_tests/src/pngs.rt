@@ -66,7 +66,7 @@ fn run(alloc: Global, job: &PngJob, plot: &[u8], writer: Writer) -> Answered {
     let (sink, answer) = convert_png(
         alloc,
         Reading::Core,
-        PageChoice::Given,
+        PageChoice::GIVEN,
         job,
         &mut Exact::new(),
         &mut OverRead::new(Reader::new(plot)),

@@ -60,7 +60,7 @@ fn a_sheet_or_all(rt: HostRuntime) -> Result<(), Fail> {
 fn reported(alloc: Global, reading: Reading, page: &Page, plot: &[u8]) -> Result<String, Fail> {
     let mut sink = OverWrite::new(Vec::new(alloc));
     let mut source = OverRead::new(plot);
-    let choice = PageChoice::Given;
+    let choice = PageChoice::GIVEN;
     let done = report_on(alloc, reading, choice, page, &mut source, &mut sink)?.done;
     let written = sink.into_inner();
     let report = text_of(written.as_slice())?;

@@ -33,7 +33,7 @@ fn run<'a>(alloc: Global, task: &Task, plot: &'a [u8], writer: Writer) -> Answer
     let (sink, answer) = run_task(
         alloc,
         Reading::Core,
-        PageChoice::Given,
+        PageChoice::GIVEN,
         task,
         &mut source,
         OverWrite::new(writer),

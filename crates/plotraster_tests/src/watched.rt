@@ -38,7 +38,7 @@ fn is_told(
     let answer = convert_on(
         alloc,
         Reading::Core,
-        PageChoice::Given,
+        PageChoice::GIVEN,
         job,
         Smoothing::NONE,
         &mut Exact::new(),
