@@ -6,10 +6,15 @@ use Rattle.clap.specs.Words.{Kinds, Text, fault_of, first_of, subcommand_of, tak
 use Rattle.clap.proofs.OnLiterals.{clap_on_literals}
 use Rattle.clap.specs.declared.error.kind.ErrorKind.TheVariants as kind
 use Rattle.picture_out.specs.declared.form.Form.TheVariants as form
+use Rattle.command_line.specs.declared.subcommands.Kind.TheVariants as kind_of
+use Rattle.command_line.specs.declared.subcommands.Output.{Output}
 use Rattle.command_line.specs.declared.subcommands.Output.TheVariants as output
+use Rattle.picture_job.specs.declared.page_choice.PageChoice.{PageChoice}
 use Rattle.command_line.specs.declared.fault.LineFault.{LineFault}
 use Rattle.command_line.specs.declared.fault.LineFault.TheVariants as fault
-use Rattle.command_line.specs.Lines.{fault_of_values, files_in, has_bad_list, has_flag, number_in, output_named, page_size, pens_text, profile_text, sheet_in}
+use Rattle.command_line.specs.Lines.{choice_in, fault_of_values, files_in, has_flag, kind_named, names_bad_list, number_in, page_size, pens_text, profile_text, sheet_in, usual_smooth, written}
+use Rattle.command_line.specs.Forms.{extension_of, form_named}
+use Rattle.std.specs.Path.{path_extension, path_file_name, rsplit_once, split_last_component, trim_trailing}
 use Rattle.command_line.specs.Papers.{paper_of}
 use Rattle.command_line.specs.Options.{plot_app}
 use Rattle.command_line.specs.Statuses.{parse_status_of}
@@ -26,20 +31,60 @@ no_memory = refl
 unknown_option : parse_status_of kind.UnknownArgument ≡ 2
 unknown_option = refl
 
-ppm_is_a_pixmap : output_named (codes "ppm") ≡ Some (output.Picture form.Ppm)
+draw_asks_for_a_form : kind_named (codes "draw") ≡ Some kind_of.Draw
+draw_asks_for_a_form = refl
+
+ppm_is_a_pixmap : kind_named (codes "ppm") ≡ Some (kind_of.Write (output.Picture form.Ppm))
 ppm_is_a_pixmap = refl
 
-pcl_is_for_a_printer : output_named (codes "pcl") ≡ Some (output.Picture form.Pcl)
+pcl_is_for_a_printer : kind_named (codes "pcl") ≡ Some (kind_of.Write (output.Picture form.Pcl))
 pcl_is_for_a_printer = refl
 
-report_describes : output_named (codes "report") ≡ Some output.Report
+report_describes : kind_named (codes "report") ≡ Some (kind_of.Write output.Report)
 report_describes = refl
 
-png_is_for_browsers : output_named (codes "png") ≡ Some output.Png
+png_is_for_browsers : kind_named (codes "png") ≡ Some (kind_of.Write output.Png)
 png_is_for_browsers = refl
 
-no_such_name : output_named (codes "gif") ≡ None
+no_such_name : kind_named (codes "gif") ≡ None
 no_such_name = refl
+
+a_form_in_capitals : form_named (codes "PBM") ≡ Some (output.Picture form.Pbm)
+a_form_in_capitals = refl
+
+report_is_no_form : form_named (codes "report") ≡ None
+report_is_no_form = refl
+
+last_extension : extension_of (codes "a.pbm/plan.v2.ppm") ≡ Some (codes "ppm")
+unfolding path_extension path_file_name rsplit_once split_last_component trim_trailing
+last_extension = refl
+
+no_extension : extension_of (codes "out.d/plan") ≡ None
+unfolding path_extension path_file_name rsplit_once split_last_component trim_trailing
+no_extension = refl
+
+only_a_dot_before : extension_of (codes ".pbm") ≡ None
+unfolding path_extension path_file_name rsplit_once split_last_component trim_trailing
+only_a_dot_before = refl
+
+this_folder : extension_of (codes ".") ≡ None
+unfolding path_extension path_file_name rsplit_once split_last_component trim_trailing
+this_folder = refl
+
+a_folder : extension_of (codes "out.d/") ≡ None
+a_folder = refl
+
+smoothed_four_times : usual_smooth kind_of.Draw 300 ≡ 4
+smoothed_four_times = refl
+
+as_fine_as_may_be : usual_smooth kind_of.Draw 400 ≡ 3
+as_fine_as_may_be = refl
+
+not_smoothed : usual_smooth kind_of.Draw 601 ≡ 1
+not_smoothed = refl
+
+only_draw_smooths : usual_smooth (kind_of.Write output.Png) 10 ≡ 1
+only_draw_smooths = refl
 
 b4_is_a_paper : paper_of (codes "b4") ≡ Some (14120, 10000)
 b4_is_a_paper = refl
@@ -152,6 +197,70 @@ sheet_in_core : value_fault_on (codes "report" ∷ codes "--sheet=1" ∷ []) ≡
 unfolding clap_on_literals
 sheet_in_core = refl
 
+-- what is written on a command line
+abbrev written_on : List Text → Option Output
+written_on words = option_and_then (λ p. option_and_then (λ kind. written kind p.1) (kind_named p.0)) (subcommand_of plot_app (after_name words))
+
+drawn_as_png : written_on (codes "draw" ∷ codes "plan.plt" ∷ []) ≡ Some output.Png
+unfolding clap_on_literals
+drawn_as_png = refl
+
+form_given : written_on (codes "draw" ∷ codes "--form=pcl" ∷ codes "-o" ∷ codes "plan.pbm" ∷ []) ≡ Some (output.Picture form.Pcl)
+unfolding clap_on_literals
+form_given = refl
+
+form_by_extension : written_on (codes "draw" ∷ codes "-o" ∷ codes "plan.pbm" ∷ []) ≡ Some (output.Picture form.Pbm)
+unfolding clap_on_literals path_extension path_file_name rsplit_once split_last_component trim_trailing
+form_by_extension = refl
+
+no_form : value_fault_on (codes "draw" ∷ codes "-o" ∷ codes "plan.svg" ∷ codes "--pens=0" ∷ []) ≡ Some fault.Form
+unfolding clap_on_literals path_extension path_file_name rsplit_once split_last_component trim_trailing
+no_form = refl
+
+-- the choice of the page on a command line
+abbrev choice_on : List Text → Option PageChoice
+choice_on words = option_and_then (λ p. option_map (λ kind. choice_in kind p.1) (kind_named p.0)) (subcommand_of plot_app (after_name words))
+
+drawn_whole : choice_on (codes "draw" ∷ []) ≡ Some (record { asked = true; margin = Some 5 })
+unfolding clap_on_literals
+drawn_whole = refl
+
+drawn_on_the_page : choice_on (codes "draw" ∷ codes "--height=8400" ∷ []) ≡ Some (record { asked = false; margin = None })
+unfolding clap_on_literals
+drawn_on_the_page = refl
+
+drawn_on_the_page_of_the_plot : choice_on (codes "draw" ∷ codes "--page=plot" ∷ codes "--fit" ∷ codes "--margin=0" ∷ []) ≡ Some (record { asked = true; margin = Some 0 })
+unfolding clap_on_literals
+drawn_on_the_page_of_the_plot = refl
+
+fitted_by_png : choice_on (codes "png" ∷ codes "--page=plot" ∷ codes "--fit" ∷ []) ≡ Some (record { asked = true; margin = Some 1 })
+unfolding clap_on_literals
+fitted_by_png = refl
+
+not_fitted_by_png : choice_on (codes "png" ∷ []) ≡ Some (record { asked = false; margin = None })
+unfolding clap_on_literals
+not_fitted_by_png = refl
+
+margin_of_a_fitted_page : value_fault_on (codes "draw" ∷ codes "--margin=9" ∷ []) ≡ None
+unfolding clap_on_literals
+margin_of_a_fitted_page = refl
+
+margin_of_a_given_page : value_fault_on (codes "draw" ∷ codes "--margin=9" ∷ codes "--page=a4" ∷ []) ≡ Some fault.Margin
+unfolding clap_on_literals
+margin_of_a_given_page = refl
+
+no_shades : value_fault_on (codes "draw" ∷ codes "--form=pbm" ∷ codes "--smooth=2" ∷ []) ≡ Some fault.Shades
+unfolding clap_on_literals
+no_shades = refl
+
+draw_reads_full : option_map (λ p. profile_text p.1) (subcommand_of plot_app (after_name (codes "draw" ∷ []))) ≡ Some (Some (codes "full"))
+unfolding clap_on_literals
+draw_reads_full = refl
+
+draw_has_150_dots : number_on (codes "draw" ∷ []) (codes "dots") ≡ Some 150
+unfolding clap_on_literals
+draw_has_150_dots = refl
+
 too_fine : value_fault_on (codes "png" ∷ codes "--dots=601" ∷ codes "--smooth=2" ∷ []) ≡ Some fault.Smooth
 unfolding clap_on_literals
 too_fine = refl
@@ -243,7 +352,7 @@ output_in_short = refl
 
 -- a command line asks for a picture by a text that is no list of pens
 abbrev bad_list_on : List Text → Bool
-bad_list_on words = option_map_or has_bad_list (subcommand_of plot_app (after_name words)) false
+bad_list_on words = option_map_or names_bad_list (subcommand_of plot_app (after_name words)) false
 
 falling_range : bad_list_on (codes "pbm" ∷ codes "--pens=7-5" ∷ []) ≡ true
 unfolding clap_on_literals
@@ -336,6 +445,14 @@ png_has_no_first_row = refl
 png_has_no_bands : faults_on (codes "png" ∷ codes "--band=64" ∷ []) ≡ kind.UnknownArgument ∷ []
 unfolding clap_on_literals
 png_has_no_bands = refl
+
+draw_has_no_bands : faults_on (codes "draw" ∷ codes "--band=64" ∷ []) ≡ kind.UnknownArgument ∷ []
+unfolding clap_on_literals
+draw_has_no_bands = refl
+
+quiet_given : flag_on (codes "draw" ∷ codes "--quiet" ∷ []) (codes "quiet") ≡ Some true
+unfolding clap_on_literals
+quiet_given = refl
 
 report_shows_no_progress : faults_on (codes "report" ∷ codes "--progress" ∷ []) ≡ kind.UnknownArgument ∷ []
 unfolding clap_on_literals

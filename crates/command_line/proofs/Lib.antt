@@ -1,4 +1,3 @@
-pub mod Table
 pub mod PaperSizes
 pub mod CommandLaw
 pub mod ReadingLaw

@@ -1,5 +1,5 @@
 -- A faultless parse leaves a value for each option of this command.
-use Rattle.std.proofs.Common.{◌≡◌, ◌∙◌, ◌≤◌, ℕ, Bool, List, [], ◌∷◌, Option, Some, true, false, length, refl, ap, sym, subst, map, arith, codes, rules}
+use Rattle.std.proofs.Common.{◌≡◌, ◌∙◌, ◌≤◌, ℕ, Bool, List, [], ◌∷◌, Option, Some, None, true, false, length, refl, ap, sym, subst, map, arith, codes, rules}
 use Rattle.std.specs.Prelude.{find, is_some, pos, ◌&&◌, ◌||◌}
 use Rattle.std.specs.List.{AllByRecursion}
 use Rattle.std.specs.Str.{bytes_eq}
@@ -16,15 +16,15 @@ use Rattle.clap.specs.declared.builder.value_parser.Reading.TheVariants as readi
 use Rattle.clap.specs.declared.builder.value_parser.ValueParser.TheVariants as vp
 use Rattle.clap.proofs.ValueTestLemmas.{accepts-Accepts}
 use Rattle.clap_parses.specs.Parses.{HasGoodMatches, IsIn, RowOf, RowsOf, first, past}
-use Rattle.command_line.specs.declared.subcommands.Output.{Output}
+use Rattle.command_line.specs.declared.subcommands.Kind.{Kind}
+use Rattle.command_line.specs.declared.subcommands.Kind.TheVariants.{Draw, Write}
 use Rattle.command_line.specs.declared.subcommands.Output.TheVariants.{Picture, Png, Report}
-use Rattle.command_line.specs.Lines.{number_in, output_named}
-use Rattle.picture_out.specs.declared.form.Form.{Form}
+use Rattle.command_line.specs.Lines.{kind_named, number_in}
 use Rattle.picture_out.specs.declared.form.Form.TheVariants.{Marks, Pbm, Ppm, Pcl}
-use Rattle.command_line.specs.Options.{is_smoothed, picture_app, plot_app, png_app, report_app, subcommand_app, subcommands}
+use Rattle.command_line.specs.Options.{draw_app, picture_app, plot_app, png_app, report_app, subcommand_app, subcommands}
 use Rattle.command_line.proofs.Plain.{plain_app}
-use Rattle.command_line.specs.Readings.{HasChoiceValues, HasFormValues, HasNumber, HasPageNumbers, HasPictureValues, HasReadingValues, HasValues}
-use Rattle.command_line.specs.Readings.{MayHaveNumber, MayHaveSmoothing}
+use Rattle.command_line.specs.Readings.{HasChoiceValues, HasFormValues, HasNumber, HasPageNumbers, HasPictureValues, HasReadingValues, HasTaskValues, HasValues}
+use Rattle.command_line.specs.Readings.{MayHaveNumber}
 
 -- a row of an argument: its first value passes, and is read as the argument's parser says
 record IsRowOf (a : Rule) (r : Row) : Type 0 where
@@ -122,10 +122,26 @@ numbers_of_page c w h l b rows width width_parser height height_parser left left
   below = number_there c b (codes "below") rows 0 65536 below below_parser all has_below;
 }
 
-picture_values : (c : List Rule) (d p : Rule) (is_smoothed : Bool) (rows : List Row) → HasPageNumbers rows → arg_by_id c (codes "dots") ≡ Some d
-    → d.parser ≡ Some (vp.Signed (pos 10) (pos 1200)) → arg_by_id c (codes "pens") ≡ Some p → MayHaveSmoothing is_smoothed rows → AllByRecursion (RowOf c) rows
-    → has_row (codes "dots") rows ≡ true → has_row (codes "pens") rows ≡ true → HasPictureValues is_smoothed rows
-picture_values c d p is_smoothed rows page dots parser pens smoothing all has_dots has_pens = record {
+-- a row is none of an option that a subcommand does not have
+no_row : (c : List Rule) (name : Text) (rows : List Row) → arg_by_id c name ≡ None → AllByRecursion (RowOf c) rows → has_row name rows ≡ true → ⊥
+no_row c name [] unknown all has = absurd (cc)
+no_row c name (r ∷ rest) unknown all has = branch (bytes_eq r.id name) refl has (no_row c name rest unknown all.1)
+  where
+    branch : (b : Bool) → bytes_eq r.id name ≡ b → (b || has_row name rest) ≡ true → (has_row name rest ≡ true → ⊥) → ⊥
+    branch true same has later =
+        let named : r.id ≡ name = (bytes_eq-Decides r.id name).0 same in
+        let both : Some all.0.rule ≡ None = sym all.0.found ∙ ap (arg_by_id c) named ∙ unknown in
+        absurd (cc)
+    branch false other has later = later has
+
+-- so it has no number
+no_number : (c : List Rule) (name : Text) (rows : List Row) (low high : ℕ) → arg_by_id c name ≡ None → AllByRecursion (RowOf c) rows → MayHaveNumber rows name low high
+no_number c name rows low high unknown all = λ given. absurd (no_row c name rows unknown all (row_there name rows given))
+
+picture_values : (c : List Rule) (d p : Rule) (rows : List Row) → HasPageNumbers rows → arg_by_id c (codes "dots") ≡ Some d
+    → d.parser ≡ Some (vp.Signed (pos 10) (pos 1200)) → arg_by_id c (codes "pens") ≡ Some p → MayHaveNumber rows (codes "smooth") 1 8 → AllByRecursion (RowOf c) rows
+    → has_row (codes "dots") rows ≡ true → has_row (codes "pens") rows ≡ true → HasPictureValues rows
+picture_values c d p rows page dots parser pens smoothing all has_dots has_pens = record {
   page = page;
   dots = number_there c d (codes "dots") rows 10 1200 dots parser all has_dots;
   pens = text_there c p (codes "pens") rows pens all has_pens;
@@ -142,6 +158,28 @@ report_page : (name : Text) (rows : List Row) → RowsOf (built_leaf (report_app
 report_page name rows good =
     numbers_of_page _ _ _ _ _ rows refl refl refl refl refl refl refl refl good.each (good.defaults.1.1.1.0 (omega arith)) (good.defaults.1.1.1.1.0 (omega arith))
 
+draw_reading : (name : Text) (rows : List Row) → RowsOf (built_leaf (draw_app name).top).rules rows → HasReadingValues rows
+draw_reading name rows good = reading_values _ _ _ rows refl refl refl good.each (good.defaults.1.1.1.1.1.1.1.0 (omega arith))
+
+draw_choice : (name : Text) (rows : List Row) → RowsOf (built_leaf (draw_app name).top).rules rows → HasChoiceValues rows
+draw_choice name rows good = number_if_there _ _ (codes "margin") rows 0 100 refl refl good.each
+
+draw_page : (name : Text) (rows : List Row) → RowsOf (built_leaf (draw_app name).top).rules rows → HasPageNumbers rows
+draw_page name rows good =
+    numbers_of_page _ _ _ _ _ rows refl refl refl refl refl refl refl refl good.each (good.defaults.1.1.1.0 (omega arith)) (good.defaults.1.1.1.1.0 (omega arith))
+
+draw_picture : (name : Text) (rows : List Row) → RowsOf (built_leaf (draw_app name).top).rules rows → HasPictureValues rows
+draw_picture name rows good =
+    picture_values _ _ _ rows (draw_page name rows good) refl refl refl (number_if_there _ _ (codes "smooth") rows 1 8 refl refl good.each) good.each
+    (good.defaults.1.1.1.1.1.1.1.1.1.1.1.0 (omega arith)) (good.defaults.1.1.1.1.1.1.1.1.1.1.1.1.0 (omega arith))
+
+draw_values : (name : Text) (rows : List Row) → RowsOf (built_leaf (draw_app name).top).rules rows → HasFormValues rows
+draw_values name rows good = record {
+  picture = draw_picture name rows good;
+  band = no_number _ (codes "band") rows 1 4096 refl good.each;
+  first_row = no_number _ (codes "from") rows 0 99999 refl good.each;
+}
+
 plain_reading : (name : Text) (rows : List Row) → RowsOf (built_leaf (plain_app name).top).rules rows → HasReadingValues rows
 plain_reading name rows good = reading_values _ _ _ rows refl refl refl good.each (good.defaults.1.1.1.1.1.1.1.0 (omega arith))
 
@@ -152,12 +190,16 @@ plain_page : (name : Text) (rows : List Row) → RowsOf (built_leaf (plain_app n
 plain_page name rows good =
     numbers_of_page _ _ _ _ _ rows refl refl refl refl refl refl refl refl good.each (good.defaults.1.1.1.0 (omega arith)) (good.defaults.1.1.1.1.0 (omega arith))
 
-plain_values : (name : Text) (form : Form) (rows : List Row) → is_smoothed (Picture form) ≡ false → RowsOf (built_leaf (plain_app name).top).rules rows → HasFormValues form rows
-plain_values name form rows plain good = record {
-  picture = picture_values _ _ _ (is_smoothed (Picture form)) rows (plain_page name rows good) refl refl refl (λ smoothed. let bad : false ≡ true = sym plain ∙ smoothed in absurd (cc)) good.each
-      (good.defaults.1.1.1.1.1.1.1.1.1.1.1.0 (omega arith)) (good.defaults.1.1.1.1.1.1.1.1.1.1.1.1.0 (omega arith));
-  band = number_there _ _ (codes "band") rows 1 4096 refl refl good.each (good.defaults.1.1.1.1.1.1.1.1.1.1.1.1.1.1.0 (omega arith));
-  first_row = number_there _ _ (codes "from") rows 0 99999 refl refl good.each (good.defaults.1.1.1.1.1.1.1.1.1.1.1.1.1.1.1.0 (omega arith));
+plain_picture : (name : Text) (rows : List Row) → RowsOf (built_leaf (plain_app name).top).rules rows → HasPictureValues rows
+plain_picture name rows good =
+    picture_values _ _ _ rows (plain_page name rows good) refl refl refl (no_number _ (codes "smooth") rows 1 8 refl good.each) good.each
+    (good.defaults.1.1.1.1.1.1.1.1.1.1.1.0 (omega arith)) (good.defaults.1.1.1.1.1.1.1.1.1.1.1.1.0 (omega arith))
+
+plain_values : (name : Text) (rows : List Row) → RowsOf (built_leaf (plain_app name).top).rules rows → HasFormValues rows
+plain_values name rows good = record {
+  picture = plain_picture name rows good;
+  band = number_if_there _ _ (codes "band") rows 1 4096 refl refl good.each;
+  first_row = number_if_there _ _ (codes "from") rows 0 99999 refl refl good.each;
 }
 
 smoothed_reading : (name : Text) (rows : List Row) → RowsOf (built_leaf (picture_app Ppm name).top).rules rows → HasReadingValues rows
@@ -170,12 +212,16 @@ smoothed_page : (name : Text) (rows : List Row) → RowsOf (built_leaf (picture_
 smoothed_page name rows good =
     numbers_of_page _ _ _ _ _ rows refl refl refl refl refl refl refl refl good.each (good.defaults.1.1.1.0 (omega arith)) (good.defaults.1.1.1.1.0 (omega arith))
 
-smoothed_values : (name : Text) (rows : List Row) → RowsOf (built_leaf (picture_app Ppm name).top).rules rows → HasFormValues Ppm rows
+smoothed_picture : (name : Text) (rows : List Row) → RowsOf (built_leaf (picture_app Ppm name).top).rules rows → HasPictureValues rows
+smoothed_picture name rows good =
+    picture_values _ _ _ rows (smoothed_page name rows good) refl refl refl (number_if_there _ _ (codes "smooth") rows 1 8 refl refl good.each) good.each
+    (good.defaults.1.1.1.1.1.1.1.1.1.1.1.0 (omega arith)) (good.defaults.1.1.1.1.1.1.1.1.1.1.1.1.0 (omega arith))
+
+smoothed_values : (name : Text) (rows : List Row) → RowsOf (built_leaf (picture_app Ppm name).top).rules rows → HasFormValues rows
 smoothed_values name rows good = record {
-  picture = picture_values _ _ _ true rows (smoothed_page name rows good) refl refl refl (λ _. number_if_there _ _ (codes "smooth") rows 1 8 refl refl good.each) good.each
-      (good.defaults.1.1.1.1.1.1.1.1.1.1.1.0 (omega arith)) (good.defaults.1.1.1.1.1.1.1.1.1.1.1.1.0 (omega arith));
-  band = number_there _ _ (codes "band") rows 1 4096 refl refl good.each (good.defaults.1.1.1.1.1.1.1.1.1.1.1.1.1.1.1.0 (omega arith));
-  first_row = number_there _ _ (codes "from") rows 0 99999 refl refl good.each (good.defaults.1.1.1.1.1.1.1.1.1.1.1.1.1.1.1.1.0 (omega arith));
+  picture = smoothed_picture name rows good;
+  band = number_if_there _ _ (codes "band") rows 1 4096 refl refl good.each;
+  first_row = number_if_there _ _ (codes "from") rows 0 99999 refl refl good.each;
 }
 
 png_reading : (name : Text) (rows : List Row) → RowsOf (built_leaf (png_app name).top).rules rows → HasReadingValues rows
@@ -188,56 +234,89 @@ png_page : (name : Text) (rows : List Row) → RowsOf (built_leaf (png_app name)
 png_page name rows good =
     numbers_of_page _ _ _ _ _ rows refl refl refl refl refl refl refl refl good.each (good.defaults.1.1.1.0 (omega arith)) (good.defaults.1.1.1.1.0 (omega arith))
 
-png_values : (name : Text) (rows : List Row) → RowsOf (built_leaf (png_app name).top).rules rows → HasPictureValues true rows
-png_values name rows good =
-    picture_values _ _ _ true rows (png_page name rows good) refl refl refl (λ _. number_if_there _ _ (codes "smooth") rows 1 8 refl refl good.each) good.each
+png_picture : (name : Text) (rows : List Row) → RowsOf (built_leaf (png_app name).top).rules rows → HasPictureValues rows
+png_picture name rows good =
+    picture_values _ _ _ rows (png_page name rows good) refl refl refl (number_if_there _ _ (codes "smooth") rows 1 8 refl refl good.each) good.each
     (good.defaults.1.1.1.1.1.1.1.1.1.1.1.0 (omega arith)) (good.defaults.1.1.1.1.1.1.1.1.1.1.1.1.0 (omega arith))
 
 -- the rows of a subcommand give its options values
 abbrev Reads : Shape → Type 0
-Reads command = (rows : List Row) → RowsOf command.rules rows → HasValues command.name rows
+Reads command = (kind : Kind) → kind_named command.name ≡ Some kind → (rows : List Row) → RowsOf command.rules rows → HasValues kind rows
 
 -- the name of a row of the table is that of this row
-abbrev IsNamed : Text × Output → Type 0
-IsNamed it = output_named it.0 ≡ Some it.1
+abbrev IsNamed : Text × Kind → Type 0
+IsNamed it = kind_named it.0 ≡ Some it.1
 
 all_named : AllByRecursion IsNamed subcommands
 all_named = search rules
 
-plain_reads : (name : Text) (form : Form) → is_smoothed (Picture form) ≡ false → IsNamed (name, Picture form) → (rows : List Row)
-    → RowsOf (built_leaf (plain_app name).top).rules rows → HasValues name rows
-plain_reads name form plain named rows good = record {
-  task = rw named (plain_values name form rows plain good);
+same_kind : (k l : Kind) → Some k ≡ Some l → k ≡ l
+same_kind k l same = cc
+
+-- what a subcommand's rows give is the same whatever says which one it is
+by_name : (name : Text) (k : Kind) (rules : List Rule) → IsNamed (name, k) → ((rows : List Row) → RowsOf rules rows → HasValues k rows)
+    → (kind : Kind) → kind_named name ≡ Some kind → (rows : List Row) → RowsOf rules rows → HasValues kind rows
+by_name name k rules named values kind is rows good = subst (λ (l : Kind). HasValues l rows) (same_kind _ _ (sym named ∙ is)) (values rows good)
+
+plain_reads : (name : Text) (kind : Kind) → ((rows : List Row) → HasFormValues rows → HasTaskValues kind rows) → (rows : List Row)
+    → RowsOf (built_leaf (plain_app name).top).rules rows → HasValues kind rows
+plain_reads name kind task rows good = record {
+  task = task rows (plain_values name rows good);
   reading = plain_reading name rows good;
   choice = plain_choice name rows good;
 }
 
-row_reads : (it : Text × Output) → IsNamed it → Reads (built_leaf (subcommand_app it).top)
-row_reads (name, Picture Marks) named = plain_reads name Marks refl named
-row_reads (name, Picture Pbm) named = plain_reads name Pbm refl named
-row_reads (name, Picture Ppm) named = λ rows good. record {
-  task = rw named (smoothed_values name rows good);
+row_reads : (it : Text × Kind) → IsNamed it → Reads (built_leaf (subcommand_app it).top)
+row_reads (name, Draw) named = by_name name Draw _ named (λ rows good. record {
+  task = draw_values name rows good;
+  reading = draw_reading name rows good;
+  choice = draw_choice name rows good;
+})
+row_reads (name, Write (Picture Marks)) named = by_name name (Write (Picture Marks)) _ named (plain_reads name (Write (Picture Marks)) (λ rows has. has))
+row_reads (name, Write (Picture Pbm)) named = by_name name (Write (Picture Pbm)) _ named (plain_reads name (Write (Picture Pbm)) (λ rows has. has))
+row_reads (name, Write (Picture Ppm)) named = by_name name (Write (Picture Ppm)) _ named (λ rows good. record {
+  task = smoothed_values name rows good;
   reading = smoothed_reading name rows good;
   choice = smoothed_choice name rows good;
-}
-row_reads (name, Picture Pcl) named = plain_reads name Pcl refl named
-row_reads (name, Png) named = λ rows good. record {
-  task = rw named (png_values name rows good);
+})
+row_reads (name, Write (Picture Pcl)) named = by_name name (Write (Picture Pcl)) _ named (plain_reads name (Write (Picture Pcl)) (λ rows has. has))
+row_reads (name, Write Png) named = by_name name (Write Png) _ named (λ rows good. record {
+  task = png_picture name rows good;
   reading = png_reading name rows good;
   choice = png_choice name rows good;
-}
-row_reads (name, Report) named = λ rows good. record {
-  task = rw named (report_page name rows good);
+})
+row_reads (name, Write Report) named = by_name name (Write Report) _ named (λ rows good. record {
+  task = report_page name rows good;
   reading = report_reading name rows good;
   choice = report_choice name rows good;
-}
+})
 
-reads : (its : List (Text × Output)) → AllByRecursion IsNamed its → AllByRecursion Reads (map (λ (it : Text × Output). built_leaf (subcommand_app it).top) its)
+reads : (its : List (Text × Kind)) → AllByRecursion IsNamed its → AllByRecursion Reads (map (λ (it : Text × Kind). built_leaf (subcommand_app it).top) its)
 reads [] named = tt
 reads (it ∷ its) named = (row_reads it named.0, reads its named.1)
 
 each_reads : AllByRecursion Reads (built plot_app).subs
 each_reads = reads subcommands all_named
+
+-- each subcommand has a name of the table
+abbrev HasName : Shape → Type 0
+HasName command = is_some (kind_named command.name) ≡ true
+
+row_name : (it : Text × Kind) → IsNamed it → HasName (built_leaf (subcommand_app it).top)
+row_name (name, Draw) named = ap is_some named
+row_name (name, Write (Picture Marks)) named = ap is_some named
+row_name (name, Write (Picture Pbm)) named = ap is_some named
+row_name (name, Write (Picture Ppm)) named = ap is_some named
+row_name (name, Write (Picture Pcl)) named = ap is_some named
+row_name (name, Write Png) named = ap is_some named
+row_name (name, Write Report) named = ap is_some named
+
+names : (its : List (Text × Kind)) → AllByRecursion IsNamed its → AllByRecursion HasName (map (λ (it : Text × Kind). built_leaf (subcommand_app it).top) its)
+names [] named = tt
+names (it ∷ its) named = (row_name it named.0, names its named.1)
+
+each_name : AllByRecursion HasName (built plot_app).subs
+each_name = names subcommands all_named
 
 in_all : {X : Type 0} (P : X → Type 0) (x : X) (xs : List X) → IsIn x xs → AllByRecursion P xs → P x
 in_all P x _ (first xs) all = all.0
@@ -246,9 +325,17 @@ in_all P x _ (past y xs at) all = in_all P x xs at all.1
 same_pair : (p q : Text × List Row) → Some p ≡ Some q → p ≡ q
 same_pair p q same = cc
 
-pub values_there : (words : List Text) (m : ArgMatches) (name : Text) (rows : List Row) → HasGoodMatches plot_app words m
-    → subcommand_rows_of m ≡ Some (name, rows) → HasValues name rows
-values_there words m name rows good are =
+pub values_there : (words : List Text) (m : ArgMatches) (name : Text) (rows : List Row) (kind : Kind) → HasGoodMatches plot_app words m
+    → subcommand_rows_of m ≡ Some (name, rows) → kind_named name ≡ Some kind → HasValues kind rows
+values_there words m name rows kind good are named =
     let to = good.to in
-    let here = in_all Reads to.command (built plot_app).subs to.known each_reads to.rows to.good in
-    subst (λ (p : Text × List Row). HasValues p.0 p.1) (same_pair _ _ (sym good.rows_are ∙ are)) here
+    let pair = same_pair _ _ (sym good.rows_are ∙ are) in
+    let here = in_all Reads to.command (built plot_app).subs to.known each_reads in
+    subst (λ (p : Text × List Row). kind_named p.0 ≡ Some kind → HasValues kind p.1) pair (λ is. here kind is to.rows to.good) named
+
+pub name_there : (words : List Text) (m : ArgMatches) (name : Text) (rows : List Row) → HasGoodMatches plot_app words m
+    → subcommand_rows_of m ≡ Some (name, rows) → is_some (kind_named name) ≡ true
+name_there words m name rows good are =
+    let to = good.to in
+    let pair = same_pair _ _ (sym good.rows_are ∙ are) in
+    subst (λ (p : Text × List Row). is_some (kind_named p.0) ≡ true) pair (in_all HasName to.command (built plot_app).subs to.known each_name)

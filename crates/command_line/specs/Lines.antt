@@ -1,6 +1,6 @@
 -- What the matches of a command line ask for.
-use Rattle.std.specs.Prelude.{◌≡◌, ◌<◌, ◌≤◌, ◌*◌, ◌&&◌, ◌||◌, ℕ, Bool, true, false, not, List, [], Option, Some, None, codes}
-use Rattle.std.specs.Prelude.{option_map, option_and_then, unwrap_or, is_some, find, if◌then◌else◌, map, length, nat_lt}
+use Rattle.std.specs.Prelude.{◌≡◌, ◌<◌, ◌≤◌, ◌*◌, ◌/◌, ◌&&◌, ◌||◌, ℕ, Bool, true, false, not, List, [], Option, Some, None, codes}
+use Rattle.std.specs.Prelude.{option_map, option_and_then, unwrap_or, is_some, find, if◌then◌else◌, map, length, min, nat_lt}
 use Rattle.std.specs.Option.{option_map_or, option_or}
 use Rattle.std.specs.Str.{bytes_eq}
 use Rattle.std.specs.Str.Parse.{digits_value, without_leading_plus}
@@ -10,6 +10,8 @@ use Rattle.plot_page.specs.declared.page.Page.{Page}
 use Rattle.plot_page.specs.declared.pens.PenSet.{PenSet}
 use Rattle.plot_page.specs.Pens.{has_pen}
 use Rattle.clap_parses.specs.Parses.{HasGoodMatches}
+use Rattle.command_line.specs.Defaults.{defaults_of}
+use Rattle.command_line.specs.Forms.{extension_of, form_named}
 use Rattle.command_line.specs.Options.{is_smoothed, subcommands, plot_app}
 use Rattle.command_line.specs.Papers.{names_plot, size_named}
 use Rattle.pen_list.specs.Lists.{is_listed, is_pen_list}
@@ -20,13 +22,14 @@ use Rattle.picture_job.specs.declared.reading.Reading.{Reading}
 use Rattle.picture_job.specs.declared.reading.Reading.TheVariants.{Core, Full}
 use Rattle.picture_job.specs.declared.smoothing.Smoothing.{Smoothing}
 use Rattle.picture_job.specs.declared.page_choice.PageChoice.{PageChoice}
-use Rattle.picture_job.specs.declared.page_choice.PageChoice.TheVariants.{Given, Asked, Fitted}
 use Rattle.command_line.specs.declared.fault.LineFault.{LineFault}
-use Rattle.command_line.specs.declared.fault.LineFault.TheVariants.{Pens, Smooth, Paper, Size, Profile, Sheet, Fit, Margin}
-use Rattle.command_line.specs.declared.fault.LineFault.TheVariants.{Several}
+use Rattle.command_line.specs.declared.fault.LineFault.TheVariants.{Pens, Shades, Smooth, Paper, Size, Profile, Sheet}
+use Rattle.command_line.specs.declared.fault.LineFault.TheVariants.{Form as NoForm, Margin, Several}
 use Rattle.command_line.specs.declared.line.Line.{Line}
 use Rattle.command_line.specs.declared.line.Task.{Task}
 use Rattle.command_line.specs.declared.line.Task.TheVariants.{Picture, Png, Report}
+use Rattle.command_line.specs.declared.subcommands.Kind.{Kind}
+use Rattle.command_line.specs.declared.subcommands.Kind.TheVariants.{Draw, Write}
 use Rattle.command_line.specs.declared.subcommands.Output.{Output}
 use Rattle.command_line.specs.declared.subcommands.Output.TheVariants as output
 
@@ -54,13 +57,29 @@ sheet_in rows = number_in rows (codes "sheet")
 abbrev pub has_flag : List Row → Text → Bool
 has_flag rows name = option_map_or (λ text. bytes_eq text (codes "true")) (first_of name rows) false
 
+-- the option of this name is given, or has a default
+abbrev pub is_given : List Row → Text → Bool
+is_given rows name = is_some (first_of name rows)
+
+-- the page is given: a paper or the plot is named, or a width or a height is given
+abbrev pub gives_page : List Row → Bool
+gives_page rows = is_given rows (codes "page") || (is_given rows (codes "width") || is_given rows (codes "height"))
+
+-- no page is given, and the subcommand then fits the page that the plot asks for
+abbrev pub has_free_page : Kind → List Row → Bool
+has_free_page kind rows = (defaults_of kind).fits && not (gives_page rows)
+
 -- the page is to be fitted to the drawing
-abbrev pub has_fit : List Row → Bool
-has_fit rows = has_flag rows (codes "fit")
+abbrev pub has_fit : Kind → List Row → Bool
+has_fit kind rows = has_flag rows (codes "fit") || has_free_page kind rows
+
+-- the plot is named as the page
+abbrev pub names_page : List Row → Bool
+names_page rows = option_map_or names_plot (paper_text rows) false
 
 -- the page is to have the size that the plot asks for
-abbrev pub asks_plot : List Row → Bool
-asks_plot rows = option_map_or names_plot (paper_text rows) false
+abbrev pub asks_plot : Kind → List Row → Bool
+asks_plot kind rows = names_page rows || has_free_page kind rows
 
 -- the margin in millimetres, or None if none is given
 abbrev pub margin_in : List Row → Option ℕ
@@ -78,9 +97,26 @@ output_text rows = first_of (codes "output") rows
 abbrev pub has_no_place : List Row → Bool
 has_no_place rows = nat_lt 1 (length (files_in rows)) && not (is_some (output_text rows))
 
--- what the subcommand of this name writes
-abbrev pub output_named : Text → Option Output
-output_named name = option_map (λ it. it.1) (find (λ it. bytes_eq it.0 name) subcommands)
+-- what a list has for a name
+abbrev pub kind_in : List (Text × Kind) → Text → Option Kind
+kind_in its name = option_map (λ it. it.1) (find (λ it. bytes_eq it.0 name) its)
+
+-- what the subcommand of this name does
+abbrev pub kind_named : Text → Option Kind
+kind_named name = kind_in subcommands name
+
+-- the name of the form that is asked for: the one that is given, or else the extension of the file to write
+abbrev pub form_text : List Row → Option Text
+form_text rows = option_or (first_of (codes "form") rows) (option_and_then extension_of (output_text rows))
+
+-- the picture in the form that is asked for, or in PNG if none is
+abbrev pub asked_picture : List Row → Option Output
+asked_picture rows = option_map_or form_named (form_text rows) (Some output.Png)
+
+-- what a subcommand writes
+abbrev pub written : Kind → List Row → Option Output
+written Draw rows = asked_picture rows
+written (Write output) rows = Some output
 
 -- a picture
 abbrev pub is_picture : Output → Bool
@@ -88,9 +124,17 @@ is_picture (output.Picture form) = true
 is_picture output.Png = true
 is_picture output.Report = false
 
--- how much finer a picture is painted, or 1 if none is given, or if the picture may not be smoothed
-abbrev pub smooth_in : Bool → List Row → ℕ
-smooth_in is_smoothed rows = if is_smoothed then unwrap_or (number_in rows (codes "smooth")) 1 else 1
+-- how much finer a picture is painted if no option says it: as much as the subcommand does, if 1200 dots per inch allow it
+abbrev pub usual_smooth : Kind → ℕ → ℕ
+usual_smooth kind dots = min (defaults_of kind).smoothing (1200 / dots)
+
+-- how much finer a picture is painted: as the option says, or as usual, or 1 if the picture may not be smoothed
+abbrev pub smooth_or : Bool → List Row → ℕ → ℕ
+smooth_or is_smoothed rows usual = if is_smoothed then unwrap_or (number_in rows (codes "smooth")) usual else 1
+
+-- the same of a picture of so many dots per inch
+abbrev pub smooth_in : Kind → Bool → List Row → ℕ → ℕ
+smooth_in kind is_smoothed rows dots = smooth_or is_smoothed rows (usual_smooth kind dots)
 
 -- the width and the height that are given, or 11880 and 8400, those of A4 in landscape
 abbrev pub given_size : List Row → ℕ × ℕ
@@ -120,61 +164,79 @@ pub record ArePensOf (rows : List Row) (pens : PenSet) : Type 0 where
   pub listed : (pen : ℕ) → pen < 256 → has_pen pens pen ≡ is_listed list pen
 
 -- the page, each number and the pens of the job are those of the options; it is painted at 1200 dots per inch at most
-pub record IsPngJobOf (is_smoothed : Bool) (rows : List Row) (job : PngJob) : Type 0 where
+pub record IsPngJobOf (kind : Kind) (is_smoothed : Bool) (rows : List Row) (job : PngJob) : Type 0 where
   pub page : IsPageOf rows job.page
   pub dots : number_in rows (codes "dots") ≡ Some job.dots.resolution
   pub pens : ArePensOf rows job.pens
-  pub times : smooth_in is_smoothed rows ≡ job.smoothing.times
+  pub times : smooth_in kind is_smoothed rows job.dots.resolution ≡ job.smoothing.times
   pub painted : job.dots.resolution * job.smoothing.times ≤ 1200
 
 -- the same of a job and its smoothing, and of its rows
-pub record IsJobOf (rows : List Row) (job : Job) (smoothing : Smoothing) : Type 0 where
+pub record IsJobOf (kind : Kind) (rows : List Row) (job : Job) (smoothing : Smoothing) : Type 0 where
   pub page : IsPageOf rows job.page
   pub dots : number_in rows (codes "dots") ≡ Some job.dots.resolution
   pub pens : ArePensOf rows job.pens
-  pub times : smooth_in (is_smoothed (output.Picture job.form)) rows ≡ smoothing.times
+  pub times : smooth_in kind (is_smoothed (output.Picture job.form)) rows job.dots.resolution ≡ smoothing.times
   pub painted : job.dots.resolution * smoothing.times ≤ 1200
-  pub band : number_in rows (codes "band") ≡ Some job.band
-  pub first_row : number_in rows (codes "from") ≡ Some job.first_row
+  pub band : unwrap_or (number_in rows (codes "band")) 64 ≡ job.band
+  pub first_row : unwrap_or (number_in rows (codes "from")) 0 ≡ job.first_row
 
 -- the task is a picture in this form, by these options
-abbrev pub IsPictureOf : Form → List Row → Task → Type 0
-IsPictureOf form rows (Picture job smoothing) = (job.form ≡ form) × IsJobOf rows job smoothing
-IsPictureOf form rows _ = ⊥
+abbrev pub IsPictureOf : Kind → Form → List Row → Task → Type 0
+IsPictureOf kind form rows (Picture job smoothing) = (job.form ≡ form) × IsJobOf kind rows job smoothing
+IsPictureOf kind form rows _ = ⊥
 
--- the task is what the subcommand of this name does, by its options
-abbrev pub IsTaskOf : Text → List Row → Task → Type 0
-IsTaskOf name rows (Picture job smoothing) =
-    (output_named name ≡ Some (output.Picture job.form)) × IsJobOf rows job smoothing
-IsTaskOf name rows (Png job) = (output_named name ≡ Some output.Png) × IsPngJobOf true rows job
-IsTaskOf name rows (Report page) = (output_named name ≡ Some output.Report) × IsPageOf rows page
+-- the task is what a subcommand does, by its options
+abbrev pub IsTaskOf : Kind → List Row → Task → Type 0
+IsTaskOf kind rows (Picture job smoothing) =
+    (written kind rows ≡ Some (output.Picture job.form)) × IsJobOf kind rows job smoothing
+IsTaskOf kind rows (Png job) = (written kind rows ≡ Some output.Png) × IsPngJobOf kind true rows job
+IsTaskOf kind rows (Report page) = (written kind rows ≡ Some output.Report) × IsPageOf rows page
 
 -- the plot is read in the profile core, or in full with the given sheet, or with sheet 1 if none is given
 abbrev pub IsReadingOf : List Row → Reading → Type 0
 IsReadingOf rows Core = (profile_text rows ≡ Some (codes "core")) × (sheet_in rows ≡ None)
 IsReadingOf rows (Full sheet) = (profile_text rows ≡ Some (codes "full")) × (unwrap_or (sheet_in rows) 1 ≡ sheet)
 
--- the page is the given one, or that which the plot asks for, or it is fitted to the drawing, with the given margin, or
--- with 1 mm if none is given
-abbrev pub IsChoiceOf : List Row → PageChoice → Type 0
-IsChoiceOf rows Given = (has_fit rows ≡ false) × (asks_plot rows ≡ false) × (margin_in rows ≡ None)
-IsChoiceOf rows Asked = (has_fit rows ≡ false) × (asks_plot rows ≡ true) × (margin_in rows ≡ None)
-IsChoiceOf rows (Fitted margin) =
-    (has_fit rows ≡ true) × (asks_plot rows ≡ false) × (unwrap_or (margin_in rows) 1 ≡ margin)
+-- the page that the plot asks for, or the given one; and around the drawing the given margin, or that of the subcommand, if
+-- the page is fitted
+abbrev pub choice_in : Kind → List Row → PageChoice
+choice_in kind rows = record {
+  asked = asks_plot kind rows;
+  margin = if has_fit kind rows then Some (unwrap_or (margin_in rows) (defaults_of kind).margin) else None;
+}
+
+-- a margin is given, and the page is not fitted
+abbrev pub has_stray_margin : Kind → List Row → Bool
+has_stray_margin kind rows = not (has_fit kind rows) && is_some (margin_in rows)
+
+-- the choice of the page is that of the options
+pub record IsChoiceOf (kind : Kind) (rows : List Row) (chosen : PageChoice) : Type 0 where
+  pub choice : chosen ≡ choice_in kind rows
+  pub fitted : has_stray_margin kind rows ≡ false
+
+-- the line is what a subcommand does, by its options and its files
+pub record IsLineBy (kind : Kind) (rows : List Row) (line : Line) : Type 0 where
+  pub task : IsTaskOf kind rows line.task
+  pub reading : IsReadingOf rows line.reading
+  pub choice : IsChoiceOf kind rows line.choice
+  pub files : map (λ s. s.now) line.files.now ≡ files_in rows
+  pub output : option_map (λ s. s.now) line.output ≡ output_text rows
+  pub placed : has_no_place rows ≡ false
+  pub verbose : line.verbose ≡ has_flag rows (codes "verbose")
+  pub quiet : line.quiet ≡ has_flag rows (codes "quiet")
+  pub interactive : line.interactive ≡ (defaults_of kind).interactive
+  pub remarks : line.remarks ≡ (line.interactive && not line.quiet)
+  pub progress : line.progress ≡ ((has_flag rows (codes "progress") || line.interactive) && not line.quiet)
 
 -- the line is what the matches m ask for: by the subcommand, its options and its files
 pub record IsLineOf (m : ArgMatches) (line : Line) : Type 0 where
   pub name : Text
   pub rows : List Row
+  pub kind : Kind
   pub matches : subcommand_rows_of m ≡ Some (name, rows)
-  pub task : IsTaskOf name rows line.task
-  pub reading : IsReadingOf rows line.reading
-  pub choice : IsChoiceOf rows line.choice
-  pub files : map (λ s. s.now) line.files.now ≡ files_in rows
-  pub output : option_map (λ s. s.now) line.output ≡ output_text rows
-  pub placed : has_no_place rows ≡ false
-  pub verbose : line.verbose ≡ has_flag rows (codes "verbose")
-  pub progress : line.progress ≡ has_flag rows (codes "progress")
+  pub named : kind_named name ≡ Some kind
+  pub by : IsLineBy kind rows line
 
 -- the matches are those of a command line in which `plotraster` finds no fault
 abbrev pub AreOfThisCommand : ArgMatches → Type 0
@@ -184,18 +246,30 @@ AreOfThisCommand m = (words : List Text) × HasGoodMatches plot_app words m
 abbrev pub lists_no_pens : List Row → Bool
 lists_no_pens rows = option_map_or (λ text. not (is_pen_list text)) (pens_text rows) false
 
--- a picture is asked for, by a text that is no list of pens
-abbrev pub has_bad_list : Text × List Row → Bool
-has_bad_list (name, rows) = option_map_or is_picture (output_named name) false && lists_no_pens rows
+-- a picture in a form is asked for, by a text that is no list of pens
+abbrev pub has_bad_list : Kind → List Row → Bool
+has_bad_list kind rows = option_map_or is_picture (written kind rows) false && lists_no_pens rows
+
+-- the same of the subcommand of this name
+abbrev pub names_bad_list : Text × List Row → Bool
+names_bad_list (name, rows) = option_map_or (λ kind. has_bad_list kind rows) (kind_named name) false
 
 -- the matches ask for a picture by such a text
 abbrev pub asks_bad_list : ArgMatches → Bool
-asks_bad_list m = option_map_or has_bad_list (subcommand_rows_of m) false
+asks_bad_list m = option_map_or names_bad_list (subcommand_rows_of m) false
+
+-- a smoothing is given for a picture that may not be smoothed
+abbrev pub has_stray_smooth : Bool → List Row → Bool
+has_stray_smooth is_smoothed rows = not is_smoothed && is_some (number_in rows (codes "smooth"))
+
+-- the same, as what is wrong
+abbrev pub stray_smooth_fault : Bool → List Row → Option LineFault
+stray_smooth_fault is_smoothed rows = if has_stray_smooth is_smoothed rows then Some Shades else None
 
 -- the picture would be painted at more than 1200 dots per inch
-abbrev pub is_too_fine : Bool → List Row → Bool
-is_too_fine is_smoothed rows =
-    option_map_or (λ dots. nat_lt 1200 (dots * smooth_in is_smoothed rows)) (number_in rows (codes "dots")) false
+abbrev pub is_too_fine : Kind → Bool → List Row → Bool
+is_too_fine kind is_smoothed rows = option_map_or
+    (λ dots. nat_lt 1200 (dots * smooth_in kind is_smoothed rows dots)) (number_in rows (codes "dots")) false
 
 -- there is no such name
 abbrev pub has_bad_paper : List Row → Bool
@@ -223,37 +297,40 @@ abbrev pub reading_fault : List Row → Option LineFault
 reading_fault rows =
     if has_bad_profile rows then Some Profile else if has_stray_sheet rows then Some Sheet else None
 
--- what is wrong with the choice of the page: it is to be fitted, and the plot is asked for it, or a margin is given, and it
--- is not to be fitted
-abbrev pub choice_fault : List Row → Option LineFault
-choice_fault rows =
-    if has_fit rows && asks_plot rows then Some Fit else
-    if not (has_fit rows) && is_some (margin_in rows) then Some Margin else
-    None
+-- what is wrong with the choice of the page
+abbrev pub choice_fault : Kind → List Row → Option LineFault
+choice_fault kind rows = if has_stray_margin kind rows then Some Margin else None
 
 -- what is wrong with where the output goes: nothing says it, and there are several plots
 abbrev pub output_fault : List Row → Option LineFault
 output_fault rows = if has_no_place rows then Some Several else None
 
 -- what is wrong with the values of a picture's options: first comes the list of pens, then the smoothing, then the page
-abbrev pub picture_fault : Bool → List Row → Option LineFault
-picture_fault is_smoothed rows =
-    if lists_no_pens rows then Some Pens else if is_too_fine is_smoothed rows then Some Smooth else page_fault rows
+abbrev pub picture_fault : Kind → Bool → List Row → Option LineFault
+picture_fault kind is_smoothed rows =
+    if lists_no_pens rows then Some Pens else
+    if has_stray_smooth is_smoothed rows then Some Shades else
+    if is_too_fine kind is_smoothed rows then Some Smooth else
+    page_fault rows
 
 -- what is wrong with the values for what is written
-abbrev pub fault_of_output : List Row → Output → Option LineFault
-fault_of_output rows output.Report = page_fault rows
-fault_of_output rows o = picture_fault (is_smoothed o) rows
+abbrev pub fault_of_output : Kind → List Row → Output → Option LineFault
+fault_of_output kind rows output.Report = page_fault rows
+fault_of_output kind rows o = picture_fault kind (is_smoothed o) rows
 
--- the same for the subcommand of this name
-abbrev pub task_fault : Text × List Row → Option LineFault
-task_fault (name, rows) = option_and_then (fault_of_output rows) (output_named name)
+-- what is wrong with the task: first comes the form
+abbrev pub task_fault : Kind → List Row → Option LineFault
+task_fault kind rows = option_map_or (fault_of_output kind rows) (written kind rows) (Some NoForm)
 
 -- what is wrong with the values of a subcommand's options: first comes the task, then the reading, then the choice of the
 -- page, then the output
+abbrev pub values_fault : Kind → List Row → Option LineFault
+values_fault kind rows =
+    option_or (task_fault kind rows) (option_or (reading_fault rows) (option_or (choice_fault kind rows) (output_fault rows)))
+
+-- the same for the subcommand of this name
 abbrev pub fault_of_values : Text × List Row → Option LineFault
-fault_of_values (name, rows) =
-    option_or (task_fault (name, rows)) (option_or (reading_fault rows) (option_or (choice_fault rows) (output_fault rows)))
+fault_of_values (name, rows) = option_and_then (λ kind. values_fault kind rows) (kind_named name)
 
 -- the same for the matches
 abbrev pub line_fault : ArgMatches → Option LineFault

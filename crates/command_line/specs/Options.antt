@@ -8,8 +8,11 @@ use Rattle.clap.specs.declared.builder.value_parser.ValueParser.{ValueParser}
 use Rattle.clap.specs.declared.builder.value_parser.ValueParser.TheVariants as vp
 use Rattle.picture_out.specs.declared.form.Form.{Form}
 use Rattle.picture_out.specs.declared.form.Form.TheVariants.{Marks, Pbm, Ppm, Pcl}
+use Rattle.command_line.specs.declared.subcommands.Kind.{Kind}
+use Rattle.command_line.specs.declared.subcommands.Kind.TheVariants.{Draw, Write}
 use Rattle.command_line.specs.declared.subcommands.Output.{Output}
 use Rattle.command_line.specs.declared.subcommands.Output.TheVariants.{Picture, Png, Report}
+use Rattle.command_line.specs.Defaults.{Defaults, of_draw, of_others}
 
 -- `--NAME VALUE`, at most once, with a parser
 abbrev pub bare_rule : Text → ValueParser → Rule
@@ -54,9 +57,9 @@ abbrev pub with_fit : App → App
 with_fit a = with_rule (with_rule a (flag_rule (codes "fit"))) (bare_rule (codes "margin") (whole_number 0 100))
 
 -- how the plot is read: the profile, and the sheet, which has no default
-abbrev pub with_reading : App → App
-with_reading a = with_rule (with_rule a
-    (option_rule (codes "profile") vp.String (codes "core")))
+abbrev pub with_reading : Defaults → App → App
+with_reading d a = with_rule (with_rule a
+    (option_rule (codes "profile") vp.String d.profile))
     (bare_rule (codes "sheet") (whole_number 0 4194304))
 
 -- `--output PATH` or `-o PATH`, without a default: the file that is written, or the folder of the files
@@ -64,19 +67,23 @@ abbrev pub output_rule : Rule
 output_rule = record (bare_rule (codes "output") vp.String) { short = Some 111 }
 
 -- what each subcommand takes: the page, how the plot is read, where the output goes, and whether to say what was drawn
-abbrev pub with_plot : App → App
-with_plot a = with_rule (with_rule (with_reading (with_fit (with_page a))) output_rule) (flag_rule (codes "verbose"))
+abbrev pub with_plot : Defaults → App → App
+with_plot d a = with_rule (with_rule (with_reading d (with_fit (with_page a))) output_rule) (flag_rule (codes "verbose"))
 
 -- how a picture is made: dots per inch, pens, and whether to show how far the picture is
-abbrev pub with_picture : App → App
-with_picture a = with_rule (with_rule (with_rule a
-    (number_rule (codes "dots") 10 1200 (codes "100")))
+abbrev pub with_picture : Defaults → App → App
+with_picture d a = with_rule (with_rule (with_rule a
+    (number_rule (codes "dots") 10 1200 d.dots))
     (option_rule (codes "pens") vp.String (codes "all")))
     (flag_rule (codes "progress"))
 
 -- how often finer a picture is painted, which has no default
 abbrev pub with_smoothing : App → App
 with_smoothing a = with_rule a (bare_rule (codes "smooth") (whole_number 1 8))
+
+-- the form of the picture, which has no default, and whether to say nothing of progress and of an empty picture
+abbrev pub with_form : App → App
+with_form a = with_rule (with_rule a (bare_rule (codes "form") vp.String)) (flag_rule (codes "quiet"))
 
 -- which rows are written: so many in a band, from the first row on
 abbrev pub with_rows : App → App
@@ -93,18 +100,22 @@ is_smoothed _ = false
 abbrev pub with_smoothing_of : Output → App → App
 with_smoothing_of output a = if is_smoothed output then with_smoothing a else a
 
+-- the subcommand that writes a picture in the form that its options ask for
+abbrev pub draw_app : Text → App
+draw_app name = with_rule (with_form (with_smoothing (with_picture of_draw (with_plot of_draw (new_app name))))) file_rule
+
 -- a subcommand that writes a picture in a form
 abbrev pub picture_app : Form → Text → App
-picture_app form name =
-    with_rule (with_rows (with_smoothing_of (Picture form) (with_picture (with_plot (new_app name))))) file_rule
+picture_app form name = with_rule
+    (with_rows (with_smoothing_of (Picture form) (with_picture of_others (with_plot of_others (new_app name))))) file_rule
 
 -- a subcommand that writes a PNG picture
 abbrev pub png_app : Text → App
-png_app name = with_rule (with_smoothing (with_picture (with_plot (new_app name)))) file_rule
+png_app name = with_rule (with_smoothing (with_picture of_others (with_plot of_others (new_app name)))) file_rule
 
 -- a subcommand that describes a plot
 abbrev pub report_app : Text → App
-report_app name = with_rule (with_plot (new_app name)) file_rule
+report_app name = with_rule (with_plot of_others (new_app name)) file_rule
 
 -- `plotraster` itself: it has a version, a subcommand has to be named, and `help` is none
 abbrev pub top_app : App
@@ -112,23 +123,25 @@ top_app =
     let a = new_app (codes "plotraster") in
     record a { top = record a.top { has_version = true; subcommand_required = true; disable_help_subcommand = true } }
 
--- the subcommands: their names, and what they write
-abbrev pub subcommands : List (Text × Output)
+-- the subcommands: their names, and what they do
+abbrev pub subcommands : List (Text × Kind)
 subcommands =
-    (codes "png", Png)
-    ∷ (codes "marks", Picture Marks)
-    ∷ (codes "pbm", Picture Pbm)
-    ∷ (codes "ppm", Picture Ppm)
-    ∷ (codes "pcl", Picture Pcl)
-    ∷ (codes "report", Report)
+    (codes "draw", Draw)
+    ∷ (codes "png", Write Png)
+    ∷ (codes "marks", Write (Picture Marks))
+    ∷ (codes "pbm", Write (Picture Pbm))
+    ∷ (codes "ppm", Write (Picture Ppm))
+    ∷ (codes "pcl", Write (Picture Pcl))
+    ∷ (codes "report", Write Report)
     ∷ []
 
-abbrev pub subcommand_app : Text × Output → App
-subcommand_app (name, Picture form) = picture_app form name
-subcommand_app (name, Png) = png_app name
-subcommand_app (name, Report) = report_app name
+abbrev pub subcommand_app : Text × Kind → App
+subcommand_app (name, Draw) = draw_app name
+subcommand_app (name, Write (Picture form)) = picture_app form name
+subcommand_app (name, Write Png) = png_app name
+subcommand_app (name, Write Report) = report_app name
 
-abbrev pub add_subcommand : App → Text × Output → App
+abbrev pub add_subcommand : App → Text × Kind → App
 add_subcommand app it = with_subcommand app (subcommand_app it).top
 
 -- `plotraster`

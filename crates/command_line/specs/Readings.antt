@@ -1,16 +1,16 @@
 -- What a faultless parse of this command leaves for `settle` to read.
-use Rattle.std.specs.Prelude.{◌≡◌, ℕ, Bool, true, false, List, Option, Some, None, Result, Ok, Err, IsSomeAnd, is_some, codes, pos}
+use Rattle.std.specs.Prelude.{◌≡◌, ℕ, Bool, true, false, List, Option, Some, None, Result, Ok, Err, is_some, codes, pos}
 use Rattle.clap.specs.Lexer.{without_minus}
 use Rattle.clap.specs.Values.{IsSignedIn}
 use Rattle.clap.specs.Words.{Row, Text, one_of}
-use Rattle.picture_out.specs.declared.form.Form.{Form}
+use Rattle.command_line.specs.declared.subcommands.Kind.{Kind}
+use Rattle.command_line.specs.declared.subcommands.Kind.TheVariants.{Draw, Write}
 use Rattle.command_line.specs.declared.subcommands.Output.{Output}
 use Rattle.command_line.specs.declared.subcommands.Output.TheVariants.{Picture, Png, Report}
 use Rattle.command_line.specs.declared.fault.LineFault.{LineFault}
 use Rattle.command_line.specs.declared.fault.LineFault.TheVariants.{Paper, Size}
 use Rattle.command_line.specs.Papers.{size_named}
-use Rattle.command_line.specs.Options.{is_smoothed}
-use Rattle.command_line.specs.Lines.{number_in, output_named, pens_text, profile_text}
+use Rattle.command_line.specs.Lines.{number_in, pens_text, profile_text}
 
 -- the option has a text that is a whole number from low to high
 pub record HasNumber (rows : List Row) (name : Text) (low high : ℕ) : Type 0 where
@@ -28,22 +28,18 @@ pub record HasPageNumbers (rows : List Row) : Type 0 where
   pub left : HasNumber rows (codes "left") 0 65536
   pub below : HasNumber rows (codes "below") 0 65536
 
--- the smoothing, if it is given and the picture may be smoothed, is a number
-abbrev pub MayHaveSmoothing : Bool → List Row → Type 0
-MayHaveSmoothing is_smoothed rows = is_smoothed ≡ true → MayHaveNumber rows (codes "smooth") 1 8
-
--- each option that all pictures have has a value
-pub record HasPictureValues (is_smoothed : Bool) (rows : List Row) : Type 0 where
+-- each option that all pictures have has a value, and the smoothing, if it is given, is a number
+pub record HasPictureValues (rows : List Row) : Type 0 where
   pub page : HasPageNumbers rows
   pub dots : HasNumber rows (codes "dots") 10 1200
   pub pens : is_some (pens_text rows) ≡ true
-  pub smoothing : MayHaveSmoothing is_smoothed rows
+  pub smoothing : MayHaveNumber rows (codes "smooth") 1 8
 
--- each option of a picture in a form has a value
-pub record HasFormValues (form : Form) (rows : List Row) : Type 0 where
-  pub picture : HasPictureValues (is_smoothed (Picture form)) rows
-  pub band : HasNumber rows (codes "band") 1 4096
-  pub first_row : HasNumber rows (codes "from") 0 99999
+-- the same of a picture in a form, of whose rows the numbers, if they are given, are numbers
+pub record HasFormValues (rows : List Row) : Type 0 where
+  pub picture : HasPictureValues rows
+  pub band : MayHaveNumber rows (codes "band") 1 4096
+  pub first_row : MayHaveNumber rows (codes "from") 0 99999
 
 -- the size that a name gives, unless it names nothing, or a side is given too
 abbrev pub size_or_fault : Option (ℕ × ℕ) → Bool → Result (ℕ × ℕ) LineFault
@@ -57,13 +53,14 @@ paper_or_fault name has_side = size_or_fault (size_named name) has_side
 
 -- each option for what is written has a value
 abbrev pub HasValuesOf : Output → List Row → Type 0
-HasValuesOf (Picture form) rows = HasFormValues form rows
-HasValuesOf Png rows = HasPictureValues true rows
+HasValuesOf (Picture form) rows = HasFormValues rows
+HasValuesOf Png rows = HasPictureValues rows
 HasValuesOf Report rows = HasPageNumbers rows
 
--- the subcommand is one of this command's, and each of these options has a value
-abbrev pub HasTaskValues : Text → List Row → Type 0
-HasTaskValues name rows = IsSomeAnd (output_named name) (λ output. HasValuesOf output rows)
+-- the same for what a subcommand may write
+abbrev pub HasTaskValues : Kind → List Row → Type 0
+HasTaskValues Draw rows = HasFormValues rows
+HasTaskValues (Write output) rows = HasValuesOf output rows
 
 -- the profile has a name, and the sheet, if one is given, is a number
 pub record HasReadingValues (rows : List Row) : Type 0 where
@@ -75,7 +72,7 @@ abbrev pub HasChoiceValues : List Row → Type 0
 HasChoiceValues rows = MayHaveNumber rows (codes "margin") 0 100
 
 -- each option that a subcommand needs has a value
-pub record HasValues (name : Text) (rows : List Row) : Type 0 where
-  pub task : HasTaskValues name rows
+pub record HasValues (kind : Kind) (rows : List Row) : Type 0 where
+  pub task : HasTaskValues kind rows
   pub reading : HasReadingValues rows
   pub choice : HasChoiceValues rows

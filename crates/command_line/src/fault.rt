@@ -20,9 +20,15 @@ pub enum LineFault {
     /// They are the matches of another command, or words that are no text.
     #[error("words not understood")]
     Words,
+    /// The form that draw is asked for, by `--form` or by the extension of the output file, is none.
+    #[error("no such form of picture: use png, ppm, pbm, pcl or marks, after --form or as the extension of the output file")]
+    Form,
     /// The text after `--pens` is no list of pens.
     #[error("bad pen list")]
     Pens,
+    /// `--smooth` is given for a form without shades.
+    #[error("--smooth needs the form png or ppm")]
+    Shades,
     /// The resolution times the smoothing is over 1200 dots per inch.
     #[error("--dots times --smooth is over 1200")]
     Smooth,
@@ -38,10 +44,7 @@ pub enum LineFault {
     /// `--sheet` is given with the profile core, which has no sheets.
     #[error("--sheet needs --profile full")]
     Sheet,
-    /// `--fit` is given with `--page plot`.
-    #[error("--fit may not be given with --page plot")]
-    Fit,
-    /// `--margin` is given without `--fit`.
+    /// `--margin` is given, and the page is not fitted.
     #[error("--margin needs --fit")]
     Margin,
     /// Several plots are given without `--output`.

@@ -35,6 +35,13 @@ pub(crate) const PAGE: HelpLine<'static> = HelpLine {
         for by PS [default: a4]",
 };
 
+pub(crate) const DRAW_PAGE: HelpLine<'static> = HelpLine {
+    value: "NAME",
+    help: "Paper of the page, instead of --width and --height: a0 to a5, b4, letter, legal, tabloid, ansi-a to ansi-e, \
+        arch-d or arch-e; landscape, or portrait with -portrait after the name, or plot for the size that the plot asks \
+        for by PS; if no page is given, that page is fitted, as by --fit [default: plot]",
+};
+
 pub(crate) const LEFT: HelpLine<'static> = HelpLine {
     value: "UNITS",
     help: "How far the page reaches left of the plot's (0,0), in plotter units, 0 to 65536",
@@ -53,6 +60,11 @@ pub(crate) const FIT: &str =
 pub(crate) const MARGIN: HelpLine<'static> = HelpLine {
     value: "MM",
     help: "Margin of --fit around the drawing, in millimetres, 0 to 100 [default: 1]",
+};
+
+pub(crate) const DRAW_MARGIN: HelpLine<'static> = HelpLine {
+    value: "MM",
+    help: "Margin around the drawing, if the page is fitted, in millimetres, 0 to 100 [default: 5]",
 };
 
 pub(crate) const PROFILE: HelpLine<'static> = HelpLine {
@@ -78,6 +90,19 @@ pub(crate) const VERBOSE: &str =
 pub(crate) const PROGRESS: &str =
     "Show on standard error, if it is a terminal, how many rows of a long picture are written, and how many are left";
 
+pub(crate) const DRAW_PROGRESS: &str =
+    "Show on standard error, if it is a terminal, how many rows of a long picture are written, and how many are left: \
+    draw does so without this option";
+
+pub(crate) const QUIET: &str = "Show no progress, and do not say that nothing is drawn";
+
+// `clap` is given no default: without this option the name of the output file decides.
+pub(crate) const FORM: HelpLine<'static> = HelpLine {
+    value: "NAME",
+    help: "Form of the picture: 'png', 'ppm', 'pbm', 'pcl' or 'marks'; without it the extension of the output file says \
+        the form [default: png]",
+};
+
 pub(crate) const DOTS: HelpLine<'static> = HelpLine {
     value: "DPI",
     help: "Resolution in dots per inch, 10 to 1200",
@@ -93,6 +118,13 @@ pub(crate) const SMOOTH: HelpLine<'static> = HelpLine {
     value: "TIMES",
     help: "Smoothing, 1 to 8: the plot is painted this many times finer, and each pixel is the mean of as many by as many \
         pixels; --dots times --smooth is at most 1200 [default: 1]",
+};
+
+pub(crate) const DRAW_SMOOTH: HelpLine<'static> = HelpLine {
+    value: "TIMES",
+    help: "Smoothing, 1 to 8: the plot is painted this many times finer, and each pixel is the mean of as many by as many \
+        pixels; --dots times --smooth is at most 1200, and the default is less where --dots is over 300; only PNG and PPM \
+        may be smoothed, and for another form the option is refused [default: 4]",
 };
 
 pub(crate) const PENS: HelpLine<'static> = HelpLine {
@@ -115,6 +147,6 @@ pub(crate) const FILE: &str =
 
 pub(crate) const TOP: HelpPage<'static> = HelpPage {
     about: "Turn an HP-GL or HP-GL/2 plot into a raster picture with exact pixels, or describe it",
-    example: "Example:\n  plotraster png --dots 150 --smooth 4 plan.plt > plan.png\n\n\
-        'plotraster png --help' lists the options of png, and so for each command.",
+    example: "Example:\n  plotraster draw plan.plt -o plan.png\n\n\
+        'plotraster draw --help' lists the options of draw, and so for each command.",
 };

@@ -1,7 +1,9 @@
 //! What a command line asks for: its subcommands and options, and the values that they give.
 #![tactic(auto)]
 
+mod defaults;
 mod fault;
+mod forms;
 mod help;
 mod line;
 mod options;

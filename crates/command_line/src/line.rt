@@ -1,23 +1,24 @@
 //! What a command line asks for.
-ghost use Rattle.std.specs.Prelude.{◌≡◌, ◌↔◌, ◌<◌, ◌≤◌, ◌^◌, ℕ, Some, Err, IfOk, IfErr, IsOk, IsOkAnd, true, false, is_some};
+ghost use Rattle.std.specs.Prelude.{◌≡◌, ◌↔◌, ◌<◌, ◌≤◌, ◌*◌, ◌^◌, ℕ, Some, Err, IfOk, IfErr, IsOk, IsOkAnd, true, false, is_some};
 ghost use Rattle.std.specs.Prelude.{codes, ◌≢◌, ◌||◌, IfSome, [], map, option_map};
 ghost use Rattle.std.specs.Result.{result_err};
 ghost use Rattle.clap.specs.Words.{found_of, rows_of};
-ghost use Rattle.command_line.specs.Lines.{number_in, lists_no_pens, has_bad_list, asks_bad_list};
-ghost use Rattle.command_line.specs.Lines.{ArePensOf, IsPageOf, IsPictureOf, IsPngJobOf, IsTaskOf, IsLineOf, AreOfThisCommand};
-ghost use Rattle.command_line.specs.Lines.{picture_fault, smooth_in};
-ghost use Rattle.command_line.specs.Lines.{IsReadingOf, line_fault, page_fault, pens_text, reading_fault, task_fault};
-ghost use Rattle.command_line.specs.Lines.{IsChoiceOf, asks_plot, choice_fault, has_flag, has_paper_and_side, page_size};
-ghost use Rattle.command_line.specs.Lines.{files_in, has_no_place, output_fault, output_text};
-ghost use Rattle.command_line.specs.Readings.{HasChoiceValues, HasFormValues, HasNumber, HasPageNumbers, HasPictureValues};
-ghost use Rattle.command_line.specs.Readings.{HasReadingValues, HasTaskValues, MayHaveSmoothing};
-ghost use Rattle.command_line.specs.Readings.{MayHaveNumber, paper_or_fault};
-ghost use Rattle.command_line.specs.Options.{is_smoothed};
 ghost use Rattle.plot_page.specs.Pages.{has_page_size};
+ghost use Rattle.command_line.specs.Lines.{number_in, lists_no_pens, has_bad_list, asks_bad_list, written, form_text, asked_picture};
+ghost use Rattle.command_line.specs.Lines.{ArePensOf, IsPageOf, IsPictureOf, IsPngJobOf, IsTaskOf, IsLineBy, IsLineOf, AreOfThisCommand};
+ghost use Rattle.command_line.specs.Lines.{has_stray_smooth, picture_fault, smooth_or, stray_smooth_fault, usual_smooth};
+ghost use Rattle.command_line.specs.Lines.{IsReadingOf, line_fault, page_fault, pens_text, reading_fault, task_fault, values_fault};
+ghost use Rattle.command_line.specs.Lines.{IsChoiceOf, choice_fault, gives_page, has_flag, has_paper_and_side, is_given, names_page, page_size};
+ghost use Rattle.command_line.specs.Lines.{files_in, has_no_place, output_fault, output_text};
+ghost use Rattle.command_line.specs.Options.{is_smoothed};
+ghost use Rattle.command_line.specs.Readings.{HasChoiceValues, HasFormValues, HasNumber, HasPageNumbers, HasPictureValues};
+ghost use Rattle.command_line.specs.Readings.{HasReadingValues, HasTaskValues, HasValues, MayHaveNumber, paper_or_fault};
 
+use crate::defaults::defaults_of;
 use crate::fault::LineFault;
+use crate::forms::{extension_of, form_named};
 use crate::papers::{names_plot, size_named};
-use crate::subcommands::{Output, is_smoothed, output_of};
+use crate::subcommands::{Kind, Output, is_smoothed, kind_of};
 use clap::ArgMatches;
 use pen_list::read_pens;
 use picture_job::{Job, PageChoice, PngJob, Reading, Smoothing};
@@ -51,78 +52,138 @@ pub struct Line<'m, 'a> {
     pub output: Option<&'a str>,
     /// Whether to say on standard error what was drawn.
     pub verbose: bool,
-    /// Whether to show on standard error how far the picture is.
+    /// Whether to show on standard error how far the picture is: if it was asked for, or if the line is interactive,
+    /// unless it is quiet.
     pub progress: bool,
+    /// Whether `--quiet` was given.
+    pub quiet: bool,
+    /// Whether the subcommand is draw, which is made for a person who waits for the picture: the picture is not to be
+    /// written to a terminal.
+    pub interactive: bool,
+    /// Whether to say on standard error that nothing is drawn: if the line is interactive, unless it is quiet.
+    pub remarks: bool,
 }
 
 /// The values of the matches of `command`'s command.
 ///
-/// Errors, of which the first is given: `Pens` if a picture is asked for and `--pens` is not a valid
-/// list, `Smooth` if `--dots` times `--smooth` is over 1200, `Paper` if `--page` names no paper and not the plot, `Size`
-/// if `--page` is given with `--width` or `--height`, `Profile` if `--profile` is neither `core` nor `full`, `Sheet` if
-/// `--sheet` is given with the profile core, `Fit` if `--fit` is given with `--page plot`, `Margin` if `--margin` is given
-/// without `--fit`, and `Several` if several files are given without `--output`; no other one after a `parse` that
-/// succeeded. `Words` if the matches are of another command.
+/// Errors, of which the first is given: `Form` if draw is asked for a form that is none, `Pens` if a picture is asked for
+/// and `--pens` is not a valid list, `Shades` if `--smooth` is given for a form that may not be smoothed, `Smooth` if
+/// `--dots` times `--smooth` is over 1200, `Paper` if `--page` names no paper and not the plot, `Size` if `--page` is given
+/// with `--width` or `--height`, `Profile` if `--profile` is neither `core` nor `full`, `Sheet` if `--sheet` is given with
+/// the profile core, `Margin` if `--margin` is given and the page is not fitted, and `Several` if several files are given
+/// without `--output`; no other one after a `parse` that succeeded. `Words` if the matches are of another command.
 pub fn settle<'m, 'a>(matches: &'m ArgMatches<'a>) -> Result<Line<'m, 'a>, LineFault>
     ensures line { IfOk result (IsLineOf matches.now) }
     ensures pens { (result ≡ Err LineFault.Pens) ↔ (asks_bad_list matches.now ≡ true) }
     ensures refused { AreOfThisCommand matches.now → result_err result ≡ line_fault matches.now }
 {
     let (name, options) = matches.subcommand().ok_or(LineFault::Words)?;
+    let kind = kind_of(name).ok_or(LineFault::Words)?;
+    line_of(kind, options)
+}
+
+// What a subcommand does, by its options and its files.
+fn line_of<'m, 'a>(kind: Kind, options: &'m ArgMatches<'a>) -> Result<Line<'m, 'a>, LineFault>
+    ensures line { IfOk result (IsLineBy kind (rows_of (found_of options.now))) }
+    ensures pens { (result ≡ Err LineFault.Pens) ↔ (has_bad_list kind (rows_of (found_of options.now)) ≡ true) }
+    ensures refused { HasValues kind (rows_of (found_of options.now)) →
+        result_err result ≡ values_fault kind (rows_of (found_of options.now)) }
+{
+    let task = task_of(kind, options)?;
+    let reading = reading_of(options)?;
+    let choice = choice_of(kind, options)?;
+    let output = place_of(options)?;
+    let interactive = defaults_of(kind).interactive;
+    let quiet = has_flag(options, "quiet");
     Ok(Line {
-        task: task_of(name, options)?,
-        reading: reading_of(options)?,
-        choice: choice_of(options)?,
+        task,
+        reading,
+        choice,
         files: files_of(options),
-        output: place_of(options)?,
+        output,
         verbose: has_flag(options, "verbose"),
-        progress: has_flag(options, "progress"),
+        progress: (has_flag(options, "progress") || interactive) && !quiet,
+        quiet,
+        interactive,
+        remarks: interactive && !quiet,
     })
 }
 
-fn task_of(name: &str, options: &ArgMatches<'_>) -> Result<Task, LineFault>
-    ensures task { IfOk result (IsTaskOf name.now (rows_of (found_of options.now))) }
-    ensures pens { (result ≡ Err LineFault.Pens) ↔ (has_bad_list (name.now, rows_of (found_of options.now)) ≡ true) }
-    ensures refused { HasTaskValues name.now (rows_of (found_of options.now)) →
-        result_err result ≡ task_fault (name.now, rows_of (found_of options.now)) }
+fn task_of(kind: Kind, options: &ArgMatches<'_>) -> Result<Task, LineFault>
+    ensures task { IfOk result (IsTaskOf kind (rows_of (found_of options.now))) }
+    ensures pens { (result ≡ Err LineFault.Pens) ↔ (has_bad_list kind (rows_of (found_of options.now)) ≡ true) }
+    ensures refused { HasTaskValues kind (rows_of (found_of options.now)) →
+        result_err result ≡ task_fault kind (rows_of (found_of options.now)) }
 {
-    match output_of(name).ok_or(LineFault::Words)? {
-        Output::Picture(form) => picture_of(options, form),
-        Output::Png => Ok(Task::Png(png_job_of(options, true)?)),
+    match written(kind, options).ok_or(LineFault::Form)? {
+        Output::Picture(form) => picture_of(kind, options, form),
+        Output::Png => Ok(Task::Png(png_job_of(kind, options, true)?)),
         Output::Report => Ok(Task::Report(page_of(options)?)),
     }
 }
 
-fn picture_of(options: &ArgMatches<'_>, form: Form) -> Result<Task, LineFault>
-    ensures picture { IfOk result (IsPictureOf form (rows_of (found_of options.now))) }
-    ensures pens { (result ≡ Err LineFault.Pens) ↔ (lists_no_pens (rows_of (found_of options.now)) ≡ true) }
-    ensures refused { HasFormValues form (rows_of (found_of options.now)) →
-        result_err result ≡ picture_fault (is_smoothed (Output.Picture form)) (rows_of (found_of options.now)) }
+// What is written, or `None` if it is asked for by a name that is no form's.
+fn written(kind: Kind, options: &ArgMatches<'_>) -> Option<Output>
+    ensures { result ≡ written kind (rows_of (found_of options.now)) }
 {
-    let common = png_job_of(options, is_smoothed(form))?;
+    match kind {
+        Kind::Draw => asked_picture(options),
+        Kind::Write(output) => Some(output),
+    }
+}
+
+fn asked_picture(options: &ArgMatches<'_>) -> Option<Output>
+    ensures { result ≡ asked_picture (rows_of (found_of options.now)) }
+{
+    match asked_form(options) {
+        Some(name) => form_named(name),
+        None => Some(Output::Png),
+    }
+}
+
+// The name of the form that is asked for: the one that is given, or else the extension of the file to write.
+fn asked_form<'a>(options: &ArgMatches<'a>) -> Option<&'a str>
+    ensures { option_map (λ name. name.now) result ≡ form_text (rows_of (found_of options.now)) }
+{
+    match options.get_str("form") {
+        Some(name) => Some(name),
+        None => extension_of(options.get_str("output")?),
+    }
+}
+
+fn picture_of(kind: Kind, options: &ArgMatches<'_>, form: Form) -> Result<Task, LineFault>
+    ensures picture { IfOk result (IsPictureOf kind form (rows_of (found_of options.now))) }
+    ensures pens { (result ≡ Err LineFault.Pens) ↔ (lists_no_pens (rows_of (found_of options.now)) ≡ true) }
+    ensures refused { HasFormValues (rows_of (found_of options.now)) →
+        result_err result ≡ picture_fault kind (is_smoothed (Output.Picture form)) (rows_of (found_of options.now)) }
+{
+    let common = png_job_of(kind, options, is_smoothed(form))?;
+    let band = number_if_given(options, "band")?;
+    let first_row = number_if_given(options, "from")?;
     Ok(Task::Picture {
         job: Job {
             page: common.page,
             dots: common.dots,
             pens: common.pens,
-            band: number_of(options, "band")?,
-            first_row: number_of(options, "from")?,
+            band: band.unwrap_or(64),
+            first_row: first_row.unwrap_or(0),
             form,
         },
         smoothing: common.smoothing,
     })
 }
 
-// What a PNG picture is asked for by, and each other picture too; unless it may be smoothed, it is not.
-fn png_job_of(options: &ArgMatches<'_>, is_smoothed: bool) -> Result<PngJob, LineFault>
-    ensures job { IfOk result (IsPngJobOf is_smoothed (rows_of (found_of options.now))) }
+// What a PNG picture is asked for by, and each other picture too.
+fn png_job_of(kind: Kind, options: &ArgMatches<'_>, is_smoothed: bool) -> Result<PngJob, LineFault>
+    ensures job { IfOk result (IsPngJobOf kind is_smoothed (rows_of (found_of options.now))) }
     ensures pens { (result ≡ Err LineFault.Pens) ↔ (lists_no_pens (rows_of (found_of options.now)) ≡ true) }
-    ensures refused { HasPictureValues is_smoothed (rows_of (found_of options.now)) →
-        result_err result ≡ picture_fault is_smoothed (rows_of (found_of options.now)) }
+    ensures refused { HasPictureValues (rows_of (found_of options.now)) →
+        result_err result ≡ picture_fault kind is_smoothed (rows_of (found_of options.now)) }
 {
     let pens = pens_of(options)?;
     let dots = Dots::new(number_of(options, "dots")?).ok_or(LineFault::Words)?;
-    let smoothing = smoothing_of(options, is_smoothed)?;
+    let usual = usual_smooth(kind, dots);
+    let smoothing = smoothing_of(options, is_smoothed, usual)?;
     if dots.per_inch() * smoothing.times() > 1200 {
         return Err(LineFault::Smooth);
     }
@@ -134,17 +195,37 @@ fn png_job_of(options: &ArgMatches<'_>, is_smoothed: bool) -> Result<PngJob, Lin
     })
 }
 
-// How much finer a picture is painted: as the option says, if it may be smoothed.
-fn smoothing_of(options: &ArgMatches<'_>, is_smoothed: bool) -> Result<Smoothing, LineFault>
-    ensures smoothing { IfOk result (λ smoothing. smooth_in is_smoothed (rows_of (found_of options.now)) ≡ smoothing.times) }
-    ensures understood { MayHaveSmoothing is_smoothed (rows_of (found_of options.now)) → IsOk result }
-    ensures fault { IfErr result (λ fault. fault ≡ LineFault.Words) }
+// How much finer a picture is painted if no option says it: as much as the subcommand does, if 1200 dots per inch allow it.
+fn usual_smooth(kind: Kind, dots: Dots) -> u32
+    ensures value { result ≡ usual_smooth kind dots.resolution }
+    ensures within { (1 ≤ result) × (result ≤ 8) }
 {
-    if !is_smoothed {
-        return Ok(Smoothing::NONE);
+    let most = 1200 / dots.per_inch();
+    defaults_of(kind).smoothing.min(most)
+}
+
+// How much finer a picture is painted: as the option says, or else as usual; as much as it is written, if it may not be
+// smoothed.
+fn smoothing_of(
+    options: &ArgMatches<'_>,
+    is_smoothed: bool,
+    usual: u32,
+) -> Result<Smoothing, LineFault>
+    requires { (1 ≤ usual) × (usual ≤ 8) }
+    ensures smoothing { IfOk result (λ smoothing. smooth_or is_smoothed (rows_of (found_of options.now)) usual ≡ smoothing.times) }
+    ensures plain { IfOk result (λ _. has_stray_smooth is_smoothed (rows_of (found_of options.now)) ≡ false) }
+    ensures pens { result ≢ Err LineFault.Pens }
+    ensures refused { MayHaveNumber (rows_of (found_of options.now)) (codes "smooth") 1 8 →
+        result_err result ≡ stray_smooth_fault is_smoothed (rows_of (found_of options.now)) }
+{
+    let given = number_if_given(options, "smooth")?;
+    if is_smoothed {
+        return Smoothing::new(given.unwrap_or(usual)).ok_or(LineFault::Words);
     }
-    let times = number_if_given(options, "smooth")?.unwrap_or(1);
-    Smoothing::new(times).ok_or(LineFault::Words)
+    match given {
+        None => Ok(Smoothing::NONE),
+        Some(_) => Err(LineFault::Shades),
+    }
 }
 
 fn pens_of(options: &ArgMatches<'_>) -> Result<PenSet, LineFault>
@@ -222,37 +303,47 @@ fn reading_of(options: &ArgMatches<'_>) -> Result<Reading, LineFault>
     }
 }
 
-fn choice_of(options: &ArgMatches<'_>) -> Result<PageChoice, LineFault>
-    ensures choice { IfOk result (IsChoiceOf (rows_of (found_of options.now))) }
+fn choice_of(kind: Kind, options: &ArgMatches<'_>) -> Result<PageChoice, LineFault>
+    ensures choice { IfOk result (IsChoiceOf kind (rows_of (found_of options.now))) }
     ensures pens { result ≢ Err LineFault.Pens }
     ensures refused { HasChoiceValues (rows_of (found_of options.now)) →
-        result_err result ≡ choice_fault (rows_of (found_of options.now)) }
+        result_err result ≡ choice_fault kind (rows_of (found_of options.now)) }
 {
+    let defaults = defaults_of(kind);
     let margin = number_if_given(options, "margin")?;
-    let asks_plot = asks_plot(options);
-    if has_flag(options, "fit") {
-        if asks_plot {
-            return Err(LineFault::Fit);
-        }
-        return Ok(PageChoice::Fitted {
-            margin: margin.unwrap_or(1),
-        });
+    let is_free = defaults.fits && !gives_page(options);
+    let asked = names_page(options) || is_free;
+    if has_flag(options, "fit") || is_free {
+        let margin = Some(margin.unwrap_or(defaults.margin));
+        return Ok(PageChoice { asked, margin });
     }
     match margin {
-        None if asks_plot => Ok(PageChoice::Asked),
-        None => Ok(PageChoice::Given),
+        None => Ok(PageChoice { asked, margin }),
         Some(_) => Err(LineFault::Margin),
     }
 }
 
-// Whether the page is to have the size that the plot asks for.
-fn asks_plot(options: &ArgMatches<'_>) -> bool
-    ensures { result ≡ asks_plot (rows_of (found_of options.now)) }
+// Whether the plot is named as the page.
+fn names_page(options: &ArgMatches<'_>) -> bool
+    ensures { result ≡ names_page (rows_of (found_of options.now)) }
 {
     match options.get_str("page") {
         Some(name) => names_plot(name),
         None => false,
     }
+}
+
+// Whether a paper or the plot is named as the page, or a width or a height is given.
+fn gives_page(options: &ArgMatches<'_>) -> bool
+    ensures { result ≡ gives_page (rows_of (found_of options.now)) }
+{
+    is_given(options, "page") || is_given(options, "width") || is_given(options, "height")
+}
+
+fn is_given(options: &ArgMatches<'_>, name: &str) -> bool
+    ensures { result ≡ is_given (rows_of (found_of options.now)) name.now }
+{
+    options.get_str(name).is_some()
 }
 
 fn files_of<'m, 'a>(options: &'m ArgMatches<'a>) -> &'m [&'a str]

@@ -8,17 +8,22 @@ ghost use Rattle.clap.specs.declared.builder.command.Command.TheViews.{out-Comma
 ghost use Rattle.clap.specs.declared.builder.value_parser.ValueParser.TheVariants as ValueParser;
 ghost use Rattle.command_line.specs.Options.{bare_rule, option_rule, whole_number, number_rule, flag_rule, file_rule};
 ghost use Rattle.command_line.specs.Options.{output_rule, with_fit, with_page, with_reading, with_plot, with_picture};
-ghost use Rattle.command_line.specs.Options.{png_app, with_rows, with_smoothing};
+ghost use Rattle.command_line.specs.Defaults.{defaults_of};
+ghost use Rattle.command_line.specs.Options.{draw_app, png_app, with_form, with_rows, with_smoothing};
 ghost use Rattle.command_line.specs.Options.{picture_app, report_app, subcommand_app, add_subcommand, plot_app};
 ghost use Rattle.command_line.specs.Options.{top_app, IsOf};
 ghost use Rattle.clap_parses.specs.Parses.{HasGoodMatches};
 
+use crate::defaults::defaults_of;
 use crate::fault::BuildFault;
 use crate::help::{
-    BAND, BELOW, DOTS, FILE, FIT, FROM, HEIGHT, HelpLine, HelpPage, LEFT, MARGIN, OUTPUT, PAGE,
-    PENS, PROFILE, PROGRESS, SHEET, SMOOTH, TOP, VERBOSE, VERSION, WIDTH,
+    BAND, BELOW, FILE, FIT, FORM, FROM, HEIGHT, HelpLine, HelpPage, LEFT, OUTPUT, PENS, PROFILE,
+    QUIET, SHEET, TOP, VERBOSE, VERSION, WIDTH,
 };
-use crate::subcommands::{Output, SUBCOMMANDS, dots_line, is_smoothed};
+use crate::subcommands::{
+    Kind, Output, SUBCOMMANDS, dots_line, is_smoothed, margin_line, page_line, progress_help,
+    smooth_line,
+};
 use clap::builder::ValueParser;
 use clap::{Arg, ArgAction, ArgMatches, Command};
 use picture_out::Form;
@@ -97,19 +102,19 @@ fn pens_of<'a>(alloc: Global) -> Arg<'a>
 }
 
 // `--profile core|full`
-fn profile_of<'a>(alloc: Global) -> Arg<'a>
-    ensures rule { rule_of result ≡ option_rule (codes "profile") ValueParser.String (codes "core") }
+fn profile_of<'a>(alloc: Global, given: &'a str) -> Arg<'a>
+    ensures rule { rule_of result ≡ option_rule (codes "profile") ValueParser.String given.entry.now }
     ensures local { result.global ≡ false }
 {
-    option_of(alloc, "profile", ValueParser::string(), "core", PROFILE)
+    option_of(alloc, "profile", ValueParser::string(), given, PROFILE)
 }
 
 // `--page NAME`, without a default, so that it is known whether it is given.
-fn page_of<'a>(alloc: Global) -> Arg<'a>
+fn page_of<'a>(alloc: Global, line: HelpLine<'a>) -> Arg<'a>
     ensures rule { rule_of result ≡ bare_rule (codes "page") ValueParser.String }
     ensures local { result.global ≡ false }
 {
-    bare_option(alloc, "page", ValueParser::string(), PAGE)
+    bare_option(alloc, "page", ValueParser::string(), line)
 }
 
 // `--output PATH` or `-o PATH`
@@ -118,6 +123,14 @@ fn output_of<'a>(alloc: Global) -> Arg<'a>
     ensures local { result.global ≡ false }
 {
     bare_option(alloc, "output", ValueParser::string(), OUTPUT).short('o')
+}
+
+// `--form NAME`
+fn form_of<'a>(alloc: Global) -> Arg<'a>
+    ensures rule { rule_of result ≡ bare_rule (codes "form") ValueParser.String }
+    ensures local { result.global ≡ false }
+{
+    bare_option(alloc, "form", ValueParser::string(), FORM)
 }
 
 // `--name`, at most once.
@@ -155,13 +168,13 @@ fn add<'a>(command: Command<'a>, arg: Arg<'a>) -> Result<Command<'a>, AllocError
     command.arg(arg)
 }
 
-fn add_page<'a>(alloc: Global, command: Command<'a>) -> Result<Command<'a>, AllocError>
+fn add_page<'a>(alloc: Global, command: Command<'a>, kind: Kind) -> Result<Command<'a>, AllocError>
     requires { (fields_of command).has_globals ≡ false }
     ensures { IfOk result (IsOf (with_page (app_of command.entry))) }
 {
     let width = bare_number_of(alloc, "width", 64, 65536, WIDTH);
     let height = bare_number_of(alloc, "height", 64, 65536, HEIGHT);
-    let page = page_of(alloc);
+    let page = page_of(alloc, page_line(kind));
     let left = number_of(alloc, "left", 0, 65536, "0", LEFT);
     let below = number_of(alloc, "below", 0, 65536, "0", BELOW);
     let command = add(command, width)?;
@@ -171,30 +184,35 @@ fn add_page<'a>(alloc: Global, command: Command<'a>) -> Result<Command<'a>, Allo
     add(command, below)
 }
 
-fn add_fit<'a>(alloc: Global, command: Command<'a>) -> Result<Command<'a>, AllocError>
+fn add_fit<'a>(alloc: Global, command: Command<'a>, kind: Kind) -> Result<Command<'a>, AllocError>
     requires { (fields_of command).has_globals ≡ false }
     ensures { IfOk result (IsOf (with_fit (app_of command.entry))) }
 {
     let fit = flag_of(alloc, "fit", FIT);
-    let margin = bare_number_of(alloc, "margin", 0, 100, MARGIN);
+    let margin = bare_number_of(alloc, "margin", 0, 100, margin_line(kind));
     add(add(command, fit)?, margin)
 }
 
-fn add_reading<'a>(alloc: Global, command: Command<'a>) -> Result<Command<'a>, AllocError>
+fn add_reading<'a>(
+    alloc: Global,
+    command: Command<'a>,
+    kind: Kind,
+) -> Result<Command<'a>, AllocError>
     requires { (fields_of command).has_globals ≡ false }
-    ensures { IfOk result (IsOf (with_reading (app_of command.entry))) }
+    ensures { IfOk result (IsOf (with_reading (defaults_of kind) (app_of command.entry))) }
 {
-    let profile = profile_of(alloc);
+    let given: &'a str = defaults_of(kind).profile;
+    let profile = profile_of(alloc, given);
     let sheet = bare_number_of(alloc, "sheet", 0, 4194304, SHEET);
     add(add(command, profile)?, sheet)
 }
 
-fn add_plot<'a>(alloc: Global, command: Command<'a>) -> Result<Command<'a>, AllocError>
+fn add_plot<'a>(alloc: Global, command: Command<'a>, kind: Kind) -> Result<Command<'a>, AllocError>
     requires { (fields_of command).has_globals ≡ false }
-    ensures { IfOk result (IsOf (with_plot (app_of command.entry))) }
+    ensures { IfOk result (IsOf (with_plot (defaults_of kind) (app_of command.entry))) }
 {
-    let command = add_fit(alloc, add_page(alloc, command)?)?;
-    let command = add_reading(alloc, command)?;
+    let command = add_fit(alloc, add_page(alloc, command, kind)?, kind)?;
+    let command = add_reading(alloc, command, kind)?;
     let command = add(command, output_of(alloc))?;
     add(command, flag_of(alloc, "verbose", VERBOSE))
 }
@@ -202,24 +220,41 @@ fn add_plot<'a>(alloc: Global, command: Command<'a>) -> Result<Command<'a>, Allo
 fn add_picture<'a>(
     alloc: Global,
     command: Command<'a>,
-    dots_line: HelpLine<'a>,
+    kind: Kind,
 ) -> Result<Command<'a>, AllocError>
     requires { (fields_of command).has_globals ≡ false }
-    ensures { IfOk result (IsOf (with_picture (app_of command.entry))) }
+    ensures { IfOk result (IsOf (with_picture (defaults_of kind) (app_of command.entry))) }
 {
-    let dots = number_of(alloc, "dots", 10, 1200, "100", dots_line);
+    let given: &'a str = defaults_of(kind).dots;
+    let dots = number_of(alloc, "dots", 10, 1200, given, dots_line(kind));
     let pens = pens_of(alloc);
-    let progress = flag_of(alloc, "progress", PROGRESS);
+    let help: &'a str = progress_help(kind);
+    let progress = flag_of(alloc, "progress", help);
     let command = add(command, dots)?;
     let command = add(command, pens)?;
     add(command, progress)
 }
 
-fn add_smoothing<'a>(alloc: Global, command: Command<'a>) -> Result<Command<'a>, AllocError>
+fn add_smoothing<'a>(
+    alloc: Global,
+    command: Command<'a>,
+    kind: Kind,
+) -> Result<Command<'a>, AllocError>
     requires { (fields_of command).has_globals ≡ false }
     ensures { IfOk result (IsOf (with_smoothing (app_of command.entry))) }
 {
-    add(command, bare_number_of(alloc, "smooth", 1, 8, SMOOTH))
+    add(
+        command,
+        bare_number_of(alloc, "smooth", 1, 8, smooth_line(kind)),
+    )
+}
+
+fn add_form<'a>(alloc: Global, command: Command<'a>) -> Result<Command<'a>, AllocError>
+    requires { (fields_of command).has_globals ≡ false }
+    ensures { IfOk result (IsOf (with_form (app_of command.entry))) }
+{
+    let quiet = flag_of(alloc, "quiet", QUIET);
+    add(add(command, form_of(alloc))?, quiet)
 }
 
 fn add_rows<'a>(alloc: Global, command: Command<'a>) -> Result<Command<'a>, AllocError>
@@ -231,6 +266,20 @@ fn add_rows<'a>(alloc: Global, command: Command<'a>) -> Result<Command<'a>, Allo
     add(add(command, band)?, from)
 }
 
+fn draw_command<'a>(
+    alloc: Global,
+    name: &'a str,
+    page: HelpPage<'a>,
+) -> Result<Command<'a>, AllocError>
+    ensures { IfOk result (IsOf (draw_app name.entry.now)) }
+{
+    let command = add_plot(alloc, bare(alloc, name, page), Kind::Draw)?;
+    let command = add_picture(alloc, command, Kind::Draw)?;
+    let command = add_smoothing(alloc, command, Kind::Draw)?;
+    let command = add_form(alloc, command)?;
+    add(command, file_of(alloc))
+}
+
 fn picture_command<'a>(
     alloc: Global,
     name: &'a str,
@@ -239,10 +288,11 @@ fn picture_command<'a>(
 ) -> Result<Command<'a>, AllocError>
     ensures { IfOk result (IsOf (picture_app form name.entry.now)) }
 {
-    let command = add_plot(alloc, bare(alloc, name, page))?;
-    let command = add_picture(alloc, command, dots_line(form))?;
+    let kind = Kind::Write(Output::Picture(form));
+    let command = add_plot(alloc, bare(alloc, name, page), kind)?;
+    let command = add_picture(alloc, command, kind)?;
     let command = if is_smoothed(form) {
-        add_smoothing(alloc, command)?
+        add_smoothing(alloc, command, kind)?
     } else {
         command
     };
@@ -257,9 +307,10 @@ fn png_command<'a>(
 ) -> Result<Command<'a>, AllocError>
     ensures { IfOk result (IsOf (png_app name.entry.now)) }
 {
-    let command = add_plot(alloc, bare(alloc, name, page))?;
-    let command = add_picture(alloc, command, DOTS)?;
-    let command = add_smoothing(alloc, command)?;
+    let kind = Kind::Write(Output::Png);
+    let command = add_plot(alloc, bare(alloc, name, page), kind)?;
+    let command = add_picture(alloc, command, kind)?;
+    let command = add_smoothing(alloc, command, kind)?;
     add(command, file_of(alloc))
 }
 
@@ -270,22 +321,24 @@ fn report_command<'a>(
 ) -> Result<Command<'a>, AllocError>
     ensures { IfOk result (IsOf (report_app name.entry.now)) }
 {
-    let command = add_plot(alloc, bare(alloc, name, page))?;
+    let kind = Kind::Write(Output::Report);
+    let command = add_plot(alloc, bare(alloc, name, page), kind)?;
     add(command, file_of(alloc))
 }
 
 fn command_of<'a>(
     alloc: Global,
     name: &'a str,
-    output: Output,
+    kind: Kind,
     page: HelpPage<'a>,
 ) -> Result<Command<'a>, AllocError>
-    ensures { IfOk result (IsOf (subcommand_app (name.entry.now, output))) }
+    ensures { IfOk result (IsOf (subcommand_app (name.entry.now, kind))) }
 {
-    match output {
-        Output::Picture(form) => picture_command(alloc, name, page, form),
-        Output::Png => png_command(alloc, name, page),
-        Output::Report => report_command(alloc, name, page),
+    match kind {
+        Kind::Draw => draw_command(alloc, name, page),
+        Kind::Write(Output::Picture(form)) => picture_command(alloc, name, page, form),
+        Kind::Write(Output::Png) => png_command(alloc, name, page),
+        Kind::Write(Output::Report) => report_command(alloc, name, page),
     }
 }
 
@@ -306,19 +359,19 @@ fn add_command<'a>(command: Command<'a>, below: Command<'a>) -> Result<Command<'
     command.subcommand(below)
 }
 
-// Adds the subcommands of a table: the name, what it writes, and what help says, as in `SUBCOMMANDS`.
+// Adds the subcommands of a table: the name, what it does, and what help says, as in `SUBCOMMANDS`.
 fn add_commands<'a>(
     alloc: Global,
     mut command: Command<'a>,
-    rows: &[(&'a str, Output, &'a str, &'a str)],
+    rows: &[(&'a str, Kind, &'a str, &'a str)],
 ) -> Result<Command<'a>, AllocError>
     requires { (fields_of command).has_globals ≡ false }
     ensures { IfOk result (IsOf
         (fold (λ app row. add_subcommand app (row.0.now, row.1)) (app_of command.entry) rows.now)) }
 {
-    for &(name, output, about, example) in rows {
+    for &(name, kind, about, example) in rows {
         let page = HelpPage { about, example };
-        command = add_command(command, command_of(alloc, name, output, page)?)?;
+        command = add_command(command, command_of(alloc, name, kind, page)?)?;
     }
     Ok(command)
 }

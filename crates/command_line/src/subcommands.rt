@@ -1,12 +1,24 @@
 //! The subcommands: their names, what they write, and what help says of them.
-ghost use Rattle.std.specs.Prelude.{◌≡◌};
-ghost use Rattle.command_line.specs.Lines.{output_named};
+ghost use Rattle.std.specs.Prelude.{◌≡◌, map};
+ghost use Rattle.command_line.specs.Lines.{kind_in, kind_named};
 ghost use Rattle.command_line.specs.Options.{is_smoothed};
 
-use crate::help::{DOTS, HelpLine, PCL_DOTS};
+use crate::help::{
+    DOTS, DRAW_MARGIN, DRAW_PAGE, DRAW_PROGRESS, DRAW_SMOOTH, HelpLine, MARGIN, PAGE, PCL_DOTS,
+    PROGRESS, SMOOTH,
+};
 use picture_out::Form;
 
-/// What a subcommand writes.
+/// What a subcommand does.
+#[derive(Clone, Copy)]
+pub(crate) enum Kind {
+    /// It writes a picture in the form that its options ask for.
+    Draw,
+    /// It writes what its name says.
+    Write(Output),
+}
+
+/// What is written.
 #[derive(Clone, Copy)]
 pub(crate) enum Output {
     /// A picture in a form.
@@ -17,56 +29,75 @@ pub(crate) enum Output {
     Report,
 }
 
-/// All subcommands, in the order of the help: the name, what it writes, what help says of it, and
+/// All subcommands, in the order of the help: the name, what it does, what help says of it, and
 /// an example of its use.
-pub(crate) const SUBCOMMANDS: [(&str, Output, &str, &str); 6] = [
+pub(crate) const SUBCOMMANDS: [(&str, Kind, &str, &str); 7] = [
+    (
+        "draw",
+        Kind::Draw,
+        "Draw the whole plot, smoothed, as PNG or as the extension of the output file says",
+        "Unless options say otherwise, draw\n\
+            - reads the plot in the profile full, and draws its first sheet;\n\
+            - draws on the page that the plot asks for by PS, or on A4;\n\
+            - shows what is drawn, wherever on that page it is, with a margin of 5 mm;\n\
+            - writes 150 dots per inch, smoothed 4 times, as PNG, or as the output file's extension says;\n\
+            - shows progress on a terminal, and says if nothing is drawn.\n\n\
+            Example:\n  plotraster draw plan.plt -o plan.png",
+    ),
     (
         "png",
-        Output::Png,
+        Kind::Write(Output::Png),
         "Write a colour picture as PNG, which browsers and viewers show",
         "Example, smoothed:\n  plotraster png --dots 150 --smooth 4 plan.plt > plan.png",
     ),
     (
         "marks",
-        Output::Picture(Form::Marks),
+        Kind::Write(Output::Picture(Form::Marks)),
         "Write a line for each pixel that is drawn: its row, its column, its pen and its colour",
         "Example, a page of 64 by 64 units, 8 by 8 pixels:\n  printf 'SP1;PU0,28;PD64,28;' | \
             plotraster marks --width 64 --height 64 --dots 127",
     ),
     (
         "pbm",
-        Output::Picture(Form::Pbm),
+        Kind::Write(Output::Picture(Form::Pbm)),
         "Write a black and white picture, Netpbm's portable bitmap (P4)",
         "Example:\n  plotraster pbm --dots 300 plan.plt > plan.pbm",
     ),
     (
         "ppm",
-        Output::Picture(Form::Ppm),
+        Kind::Write(Output::Picture(Form::Ppm)),
         "Write a colour picture, Netpbm's portable pixmap (P6)",
         "Example:\n  plotraster ppm --dots 150 plan.plt > plan.ppm",
     ),
     (
         "pcl",
-        Output::Picture(Form::Pcl),
+        Kind::Write(Output::Picture(Form::Pcl)),
         "Write a black and white picture for a printer, PCL 5 raster graphics",
         "Example, to a printer that knows PCL:\n  plotraster pcl --dots 300 plan.plt | lp -o raw",
     ),
     (
         "report",
-        Output::Report,
+        Kind::Write(Output::Report),
         "Describe a plot: its page, its strokes pen by pen with their boxes, and what was skipped or bad",
         "Example, how far pen 2 draws, in sixteenths of a plotter unit:\n  plotraster report plan.plt | \
             grep '^pen 2 '",
     ),
 ];
 
-/// What the subcommand of this name writes.
-pub(crate) fn output_of(name: &str) -> Option<Output>
-    ensures { result ≡ output_named name.now }
+/// What the subcommand of this name does.
+pub(crate) fn kind_of(name: &str) -> Option<Kind>
+    ensures { result ≡ kind_named name.now }
 {
-    for (subcommand, output, _, _) in SUBCOMMANDS {
+    kind_in(&SUBCOMMANDS, name)
+}
+
+// What the first row of this name has.
+fn kind_in(rows: &[(&str, Kind, &str, &str)], name: &str) -> Option<Kind>
+    ensures { result ≡ kind_in (map (λ row. (row.0.now, row.1)) rows.now) name.now }
+{
+    for &(subcommand, kind, _, _) in rows {
         if subcommand == name {
-            return Some(output);
+            return Some(kind);
         }
     }
     None
@@ -82,10 +113,42 @@ pub(crate) fn is_smoothed(form: Form) -> bool
     }
 }
 
-/// What help says of the resolutions of a form.
-pub(crate) fn dots_line(form: Form) -> HelpLine<'static> {
-    match form {
-        Form::Marks | Form::Pbm | Form::Ppm => DOTS,
-        Form::Pcl => PCL_DOTS,
+/// What help says of the resolution of a subcommand.
+pub(crate) fn dots_line(kind: Kind) -> HelpLine<'static> {
+    match kind {
+        Kind::Write(Output::Picture(Form::Pcl)) => PCL_DOTS,
+        Kind::Draw | Kind::Write(_) => DOTS,
+    }
+}
+
+/// What help says of the name of its page.
+pub(crate) fn page_line(kind: Kind) -> HelpLine<'static> {
+    match kind {
+        Kind::Draw => DRAW_PAGE,
+        Kind::Write(_) => PAGE,
+    }
+}
+
+/// What help says of its margin.
+pub(crate) fn margin_line(kind: Kind) -> HelpLine<'static> {
+    match kind {
+        Kind::Draw => DRAW_MARGIN,
+        Kind::Write(_) => MARGIN,
+    }
+}
+
+/// What help says of its smoothing.
+pub(crate) fn smooth_line(kind: Kind) -> HelpLine<'static> {
+    match kind {
+        Kind::Draw => DRAW_SMOOTH,
+        Kind::Write(_) => SMOOTH,
+    }
+}
+
+/// What help says of its progress.
+pub(crate) fn progress_help(kind: Kind) -> &'static str {
+    match kind {
+        Kind::Draw => DRAW_PROGRESS,
+        Kind::Write(_) => PROGRESS,
     }
 }

@@ -4,7 +4,7 @@ use command_line::{Line, Task, command, parse, parse_status, settle};
 use pen_list::read_pens;
 use picture_job::{Job, PngJob, Smoothing};
 use picture_out::Form;
-use plot_page::PenSet;
+use plot_page::{Page, PenSet};
 use std::alloc::{AllocError, Global};
 use std::process::Abort;
 use std::test::Fail;
@@ -18,6 +18,8 @@ pub enum Asked {
     Reading,
     // Only which page a command line chooses, and whether more is to be said, or why it is refused.
     Page,
+    // The same, with the page that is given.
+    Size,
     // Only which messages a command line asks for, or why it is refused.
     Messages,
     // Only what a command line has written and the files that it has read, or why it is refused.
@@ -66,9 +68,8 @@ pub fn has_answers_for_each(
 
 fn answer_of(alloc: Global, asked: Asked, line: &str) -> Result<String, Fail> {
     match asked {
-        Asked::Line | Asked::Reading | Asked::Page | Asked::Messages | Asked::Files => {
-            told(alloc, asked, line)
-        }
+        Asked::Line | Asked::Reading | Asked::Page | Asked::Size | Asked::Messages | Asked::Files =>
+            { told(alloc, asked, line) }
         Asked::Pens => Ok(list_told(alloc, line)?),
     }
 }
@@ -103,14 +104,13 @@ fn line_told(alloc: Global, asked: Asked, line: &Line<'_, '_>) -> Result<String,
     let (reading, file) = (line.reading, line.files.first().copied());
     match (asked, &line.task) {
         (Asked::Reading, _) => format!(in alloc; "{reading:?}"),
-        (Asked::Page, _) => {
-            let (choice, verbose) = (line.choice, line.verbose);
-            format!(in alloc; "{choice:?} {verbose}")
+        (Asked::Page, _) => choice_told(alloc, line),
+        (Asked::Size, _) => {
+            let (page, choice) = (page_of(&line.task), choice_told(alloc, line)?);
+            let (width, height, left, below) = (page.width, page.height, page.left, page.below);
+            format!(in alloc; "{width} {height} {left} {below} {choice}")
         }
-        (Asked::Messages, _) => {
-            let (verbose, progress) = (line.verbose, line.progress);
-            format!(in alloc; "verbose {verbose}, progress {progress}")
-        }
+        (Asked::Messages, _) => messages_told(alloc, line),
         (Asked::Files, _) => files_told(alloc, line.output, line.files),
         (_, Task::Picture { job, smoothing }) => job_told(alloc, job, *smoothing, file),
         (_, Task::Png(job)) => png_told(alloc, job, file),
@@ -119,6 +119,45 @@ fn line_told(alloc: Global, asked: Asked, line: &Line<'_, '_>) -> Result<String,
             format!(in alloc; "report {width} {height} {left} {below} of {file:?}")
         }
     }
+}
+
+// The page that is drawn on, the margin if it is fitted, and whether more is to be said.
+fn choice_told(alloc: Global, line: &Line<'_, '_>) -> Result<String, AllocError> {
+    let mut text = String::new(alloc);
+    text.push_str(if line.choice.asked { "asked" } else { "given" })?;
+    if let Some(margin) = line.choice.margin {
+        write!(text, " fitted {margin}")?;
+    }
+    if line.verbose {
+        text.push_str(" verbose")?;
+    }
+    Ok(text)
+}
+
+fn page_of(task: &Task) -> Page {
+    match task {
+        Task::Picture { job, .. } => job.page,
+        Task::Png(job) => job.page,
+        Task::Report(page) => *page,
+    }
+}
+
+// What is said, and to whom.
+fn messages_told(alloc: Global, line: &Line<'_, '_>) -> Result<String, AllocError> {
+    let mut text = String::new(alloc);
+    text.push_str("says")?;
+    for (is, name) in [
+        (line.verbose, "verbose"),
+        (line.progress, "progress"),
+        (line.remarks, "remarks"),
+        (line.quiet, "quiet"),
+        (line.interactive, "interactive"),
+    ] {
+        if is {
+            write!(text, " {name}")?;
+        }
+    }
+    Ok(text)
 }
 
 // Where the output goes, and the files.

@@ -4,20 +4,20 @@ use std::test::Fail;
 const COMMANDS: [&str; 6] = ["png", "marks", "pbm", "ppm", "pcl", "report"];
 
 const FITTED_PAGES: &str = "\
-Given false
+given
 plotraster|@
 plotraster|@|--page=a0|a.plt
 
-Fitted { margin: 1 } false
+given fitted 1
 plotraster|@|--fit
 plotraster|@|a.plt|--fit|--page|a0
 plotraster|@|--fit|--width=64|--margin=+1
 
-Fitted { margin: 0 } false
+given fitted 0
 plotraster|@|--margin=0|--fit
 plotraster|@|--fit|--margin=-0
 
-Fitted { margin: 100 } false
+given fitted 100
 plotraster|@|--fit|--margin|100
 
 Margin
@@ -42,11 +42,11 @@ fn fitted_pages(rt: HostRuntime) -> Result<(), Fail> {
 }
 
 const SAYING_MORE: &str = "\
-Given true
+given verbose
 plotraster|@|--verbose
 plotraster|@|a.plt|--verbose
 
-Fitted { margin: 2 } true
+given fitted 2 verbose
 plotraster|@|--fit|--verbose|--margin=2
 
 ArgumentConflict 2
@@ -87,7 +87,7 @@ fn order_of_faults(rt: HostRuntime) -> Result<(), Fail> {
 }
 
 const PAGES_ASKED_FOR: &str = "\
-Asked false
+asked
 plotraster|@|--page=plot
 plotraster|@|a.plt|--page|plot|--left=5|--below=6
 
@@ -100,9 +100,12 @@ plotraster|@|--page=plot-portrait
 plotraster|@|--page=Plot
 plotraster|@|--page|plots|--fit
 
-Fit
+asked fitted 1
 plotraster|@|--fit|--page=plot
 plotraster|@|--page|plot|--margin=1|a.plt|--fit
+
+asked fitted 7
+plotraster|@|--page=plot|--fit|--margin=7|--below=5
 
 Profile
 plotraster|@|--page=plot|--fit|--profile=none
@@ -113,7 +116,7 @@ plotraster|@|--page=plot|--margin=1
 
 #[test]
 fn pages_asked_for(rt: HostRuntime) -> Result<(), Fail> {
-    has_answers_for_each(&rt, rt.alloc(), Asked::Page, &COMMANDS, PAGES_ASKED_FOR, 11)
+    has_answers_for_each(&rt, rt.alloc(), Asked::Page, &COMMANDS, PAGES_ASKED_FOR, 12)
 }
 
 const DEFAULT_PAGE: &str = "\

@@ -6,6 +6,8 @@ mod cases;
 #[cfg(test)]
 mod choices;
 #[cfg(test)]
+mod drawings;
+#[cfg(test)]
 mod messages;
 #[cfg(test)]
 mod options;

@@ -4,18 +4,18 @@ use std::test::Fail;
 const PICTURES: [&str; 5] = ["png", "marks", "pbm", "ppm", "pcl"];
 
 const ASKED_FOR: &str = "\
-verbose false, progress false
+says
 plotraster|@
 plotraster|@|--fit|a.plt
 
-verbose true, progress false
+says verbose
 plotraster|@|--verbose|a.plt
 
-verbose false, progress true
+says progress
 plotraster|@|--progress
 plotraster|@|a.plt|--progress|--fit
 
-verbose true, progress true
+says verbose progress
 plotraster|@|--progress|--verbose
 plotraster|@|--verbose|a.plt|--progress
 
@@ -25,18 +25,21 @@ plotraster|@|--progress|--verbose|--progress
 
 TooManyValues 2
 plotraster|@|--progress=1
+
+UnknownArgument 2
+plotraster|@|--quiet
 ";
 
 #[test]
 fn messages_that_are_asked_for(rt: HostRuntime) -> Result<(), Fail> {
-    has_answers_for_each(&rt, rt.alloc(), Asked::Messages, &PICTURES, ASKED_FOR, 10)
+    has_answers_for_each(&rt, rt.alloc(), Asked::Messages, &PICTURES, ASKED_FOR, 11)
 }
 
 const OF_A_REPORT: &str = "\
-verbose false, progress false
+says
 plotraster|report
 
-verbose true, progress false
+says verbose
 plotraster|report|--verbose
 plotraster|report|a.plt|--verbose|--fit
 
@@ -45,9 +48,10 @@ plotraster|report|--verbose|--verbose
 
 UnknownArgument 2
 plotraster|report|--progress
+plotraster|report|--quiet
 ";
 
 #[test]
 fn messages_of_a_report(rt: HostRuntime) -> Result<(), Fail> {
-    has_answers(&rt, rt.alloc(), Asked::Messages, "", OF_A_REPORT, 5)
+    has_answers(&rt, rt.alloc(), Asked::Messages, "", OF_A_REPORT, 6)
 }

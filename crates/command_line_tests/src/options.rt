@@ -154,6 +154,9 @@ plotraster|--dots|100|pbm
 plotraster|pbm|--dot|100
 plotraster|report|--dots|100
 plotraster|report|--pens|1
+plotraster|png|--form|png
+plotraster|draw|--band|64
+plotraster|draw|--from|0
 
 ArgumentConflict 2
 plotraster|pbm|--dots|100|--dots|100
@@ -166,7 +169,7 @@ plotraster|ppm|--pens
 
 #[test]
 fn refuses_words(rt: HostRuntime) -> Result<(), Fail> {
-    has_answers(&rt, rt.alloc(), Asked::Line, "", REFUSED, 13)
+    has_answers(&rt, rt.alloc(), Asked::Line, "", REFUSED, 16)
 }
 
 // The options with a number.
@@ -214,6 +217,8 @@ plotraster|marks|--help
 plotraster|pbm|-h
 plotraster|ppm|plan.plt|--help
 plotraster|pcl|--help
+plotraster|draw|--help
+plotraster|draw|-h|-o|plan.svg
 plotraster|png|--help
 plotraster|report|--help
 plotraster|report|--left|1|-h
@@ -221,7 +226,7 @@ plotraster|report|--left|1|-h
 
 #[test]
 fn asks_for_help(rt: HostRuntime) -> Result<(), Fail> {
-    has_answers(&rt, rt.alloc(), Asked::Line, "", HELP, 9)
+    has_answers(&rt, rt.alloc(), Asked::Line, "", HELP, 11)
 }
 
 const VERSION: &str = "\
@@ -255,7 +260,7 @@ fn refuses_other_matches(rt: HostRuntime) -> Result<(), Fail> {
     let bare = clap::Command::new(rt.alloc(), "bare");
     let matches = bare.try_get_matches_from(&["bare"])?;
     assert_eq!(rt; settle(&matches).err(), Some(LineFault::Words));
-    for name in ["pbm", "report", "clip"] {
+    for name in ["draw", "pbm", "report", "clip"] {
         let fault = fault_of_another(rt.alloc(), name)?;
         assert_eq!(rt; fault, Some(LineFault::Words), "{name}");
     }
@@ -275,8 +280,13 @@ fn prints_faults(rt: HostRuntime) -> Result<(), Fail> {
         "words not understood, bad pen list, --page may not be given with --width or --height, bad profile, \
          --sheet needs --profile full, --margin needs --fit, several plots need --output FOLDER, out of memory"
     );
-    let text = format!(in rt.alloc(); "{}", LineFault::Fit)?;
-    assert_eq!(rt; text.as_str(), "--fit may not be given with --page plot");
+    let text = format!(in rt.alloc(); "{}", LineFault::Shades)?;
+    assert_eq!(rt; text.as_str(), "--smooth needs the form png or ppm");
+    let text = format!(in rt.alloc(); "{}", LineFault::Form)?;
+    assert_eq!(rt;
+        text.as_str(),
+        "no such form of picture: use png, ppm, pbm, pcl or marks, after --form or as the extension of the output file"
+    );
     let text = format!(in rt.alloc(); "{}", LineFault::Smooth)?;
     assert_eq!(rt; text.as_str(), "--dots times --smooth is over 1200");
     let text = format!(in rt.alloc(); "{}", LineFault::Paper)?;

@@ -2,7 +2,7 @@ use crate::cases::{Asked, has_answers_for_each};
 use std::test::Fail;
 
 // All subcommands: each has the option.
-const COMMANDS: [&str; 6] = ["png", "marks", "pbm", "ppm", "pcl", "report"];
+const COMMANDS: [&str; 7] = ["draw", "png", "marks", "pbm", "ppm", "pcl", "report"];
 
 const OUTPUTS: &str = "\
 None of
@@ -75,7 +75,7 @@ Profile
 plotraster|@|a.plt|b.plt|--profile=none
 
 Margin
-plotraster|@|a.plt|b.plt|--margin=1
+plotraster|@|a.plt|b.plt|--margin=1|--page=a4
 
 UnknownArgument 2
 plotraster|@|a.plt|b.plt|--out

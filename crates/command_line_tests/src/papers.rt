@@ -2,7 +2,7 @@ use crate::cases::{Asked, has_answers, has_answers_for_each};
 use std::test::Fail;
 
 // All subcommands: each has the option.
-const COMMANDS: [&str; 6] = ["png", "marks", "pbm", "ppm", "pcl", "report"];
+const COMMANDS: [&str; 7] = ["draw", "png", "marks", "pbm", "ppm", "pcl", "report"];
 
 const PAPERS_IN_LANDSCAPE: &str = "\
 report 47560 33640 0 0 of None
