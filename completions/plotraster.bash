@@ -6,12 +6,13 @@ _plotraster() {
     options="$options --profile --sheet --output --verbose"
     COMPREPLY=()
     if [ "$COMP_CWORD" -eq 1 ]; then
-        COMPREPLY=($(compgen -W "png marks pbm ppm pcl report --help --version" -- "$word"))
+        COMPREPLY=($(compgen -W "draw png marks pbm ppm pcl report --help --version" -- "$word"))
         return
     fi
     if [ "$command" != report ]; then
         options="$options --dots --pens --progress"
         case "$command" in
+            draw) options="$options --smooth --form --quiet" ;;
             png) options="$options --smooth" ;;
             ppm) options="$options --smooth --band --from" ;;
             *) options="$options --band --from" ;;
@@ -27,6 +28,10 @@ _plotraster() {
                 ;;
             --pens)
                 COMPREPLY=($(compgen -W "all" -- "$word"))
+                return
+                ;;
+            --form)
+                COMPREPLY=($(compgen -W "png ppm pbm pcl marks" -- "$word"))
                 return
                 ;;
             --smooth | --band | --from) return ;;

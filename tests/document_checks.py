@@ -169,8 +169,9 @@ DOCUMENT_CHECKS = {
         "More": [Check(more_pictures, (*PNG, "pamfile"))],
     },
     "man/plotraster.1": {
-        "EXAMPLES": [Check(pictures, ("pamfile",)), Check(pictures, ("pamfile",)), Check(pictures_of_a_folder, (), PLOTS),
-                     Check(pictures, (*PNG, "pamfile")), Check(pictures, ("pamfile",)), Check(pictures),
+        "EXAMPLES": [Check(pictures, (*PNG, "pamfile")), Check(pictures, ("pamfile",)), Check(pictures, ("pamfile",)),
+                     Check(pictures_of_a_folder, (), PLOTS), Check(pictures, (*PNG, "pamfile")),
+                     Check(pictures, ("pamfile",)), Check(pictures),
                      Check(notes, (), {"plan.plt": b"WU1;;SC0,0,0,9;" + plan(*A4)}), Check(centred, ()), Check(eight_marks)],
     },
 }

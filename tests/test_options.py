@@ -19,7 +19,8 @@ PAGE = os.path.join(TOP, "man", "plotraster.1")
 COMPLETION = os.path.join(TOP, "completions", "plotraster.bash")
 SECONDS = 10
 # Options that take no value.
-FLAGS = ("--fit", "--verbose", "--progress")
+FLAGS = ("--fit", "--verbose", "--progress", "--quiet")
+ONLY_OF_DRAW = ("--form", "--quiet")
 HELP = "--help"
 VERSION = "--version"
 EVERY_COMMAND = "All commands"
@@ -173,7 +174,7 @@ def options_in_page(command, commands):
             continue
         own = re.search(rf"For {command} it is ([^.]*)\.", text)
         values = range_in(own[1] if own else re.sub(r"For \w+ it is [^.]*\.", "", text))
-        default = re.search(r"The default is ([^ ,.]+)", text)
+        default = re.search(rf"For {command} the default is ([^ ,.;]+)", text) or re.search(r"The default is ([^ ,.]+)", text)
         found[name] = (words[-1], values, default[1] if default else None)
     return found
 
@@ -234,7 +235,7 @@ def wrong_values(command, options, words):
 
 def test_commands(program):
     commands = commands_in_help(program)
-    assert commands == ["png", *FORMS, "report"]
+    assert commands == ["draw", "png", *FORMS, "report"]
     assert_nothing(wrong_commands(program, commands))
 
 
@@ -250,15 +251,16 @@ def test_options(program):
 
 
 def sentences_of_help(program, commands):
-    """What help says of each command and of each option, but for the resolutions of pcl, by their names."""
+    """What help says of each command and of each option, by their names, but for the resolutions of pcl and those options
+    of draw that other commands have, too."""
     for line in help_of(program, []):
         found = re.fullmatch(r"  ([a-z]+)  +(.+)", line)
         if found and found[1] in commands:
             yield "COMMANDS", found[1], found[2]
-    for command in ("ppm", "report"):
+    for command in ("ppm", "report", "draw"):
         for line in help_of(program, [command]):
             found = re.fullmatch(r" +(?:-\w, )?(--[a-z]+)(?: <[A-Z]+>)? +(.*?)(?: \[default: .*\])?", line)
-            if found and found[1] != HELP:
+            if found and found[1] != HELP and (command != "draw" or found[1] in ONLY_OF_DRAW):
                 yield "OPTIONS", found[1], found[2]
 
 
@@ -268,7 +270,7 @@ def test_page_begins_with_the_sentences_of_help(program):
     page = {(name, name_of(head)): text for name in ("COMMANDS", "OPTIONS")
             for _, head, text in entries(section(name))}
     sentences = list(sentences_of_help(program, commands))
-    assert len(sentences) == len(commands) + 17 + 11
+    assert len(sentences) == len(commands) + 17 + 11 + len(ONLY_OF_DRAW)
     assert_nothing(f"{name}: the page has {page[part, name]!r}, the help {says!r}"
                    for part, name, says in sentences if not page[part, name].startswith(says + ". "))
 
@@ -277,7 +279,8 @@ def test_quoted_values_of_help(program):
     """A value in quotes is taken, as 'all' for the list of pens, and so is each default."""
     for command in commands_in_help(program):
         words = words_in_help(program, command)
-        assert list(words) == (["--profile"] if command == "report" else ["--profile", "--pens"])
+        pens, form = (["--pens"] if command != "report" else []), (["--form"] if command == "draw" else [])
+        assert list(words) == ["--profile", *pens, *form]
         for name, values in words.items():
             assert options_in_help(program, command)[name][2] in values
             assert all(takes(program, command, f"{name}={word}") for word in values)

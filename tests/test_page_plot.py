@@ -105,14 +105,12 @@ def test_verbose(program):
 
 
 def test_conflicts(program):
-    """With --page plot no side is given, and the page is not fitted."""
+    """With --page plot no side is given, and no margin without --fit."""
     for words, message in [
         (["--width=400"], "--page may not be given with --width or --height"),
         (["--fit", "--height=400"], "--page may not be given with --width or --height"),
-        (["--fit"], "--fit may not be given with --page plot"),
-        (["--margin=3", "--fit"], "--fit may not be given with --page plot"),
         (["--margin=3"], "--margin needs --fit"),
     ]:
-        for command in ("png", *FORMS, "report"):
+        for command in ("draw", "png", *FORMS, "report"):
             done = run(program, [command, *ASKED, *words], SECONDS, input=b"PS400,300;")
             assert (done.returncode, done.stdout, done.stderr) == (2, b"", f"plotraster: {message}\n".encode()), words

@@ -33,6 +33,8 @@ TOO_FINE = (2, b"plotraster: --dots times --smooth is over 1200\n")
 BAD_PAGE = (2, b"plotraster: bad page: use a0 to a5, b4, letter, legal, tabloid, ansi-a to ansi-e, arch-d or arch-e, ")
 PAGE_AND_SIDE = (2, b"plotraster: --page may not be given with --width or --height\n")
 BAD_PROFILE = (2, b"plotraster: bad profile\n")
+NO_FORM = (2, b"plotraster: no such form of picture: ")
+NO_SHADES = (2, b"plotraster: --smooth needs the form png or ppm\n")
 NO_FIT = (2, b"plotraster: --margin needs --fit\n")
 NO_FOLDER = (2, b"plotraster: several plots need --output FOLDER\n")
 NO_SHEETS = (2, b"plotraster: --sheet needs --profile full\n")
@@ -232,6 +234,30 @@ def fitted_pages():
             yield [command, "--fit", f"--margin={margin}", "line.plt"], USAGE
 
 
+def drawings():
+    """What draw takes, and what it refuses."""
+    yield ["draw", "line.plt"], DONE
+    for form in ["png", *FORMS]:
+        yield ["draw", "line.plt", f"--form={form}"], DONE
+        yield ["draw", "line.plt", "--form", form.upper(), "--quiet"], DONE
+        yield ["draw", "line.plt", "-o", f"picture.{form}"], DONE
+    for words in [["--form=gif"], ["--form="], ["-o", "picture.svg"], ["-o", "a.d"], ["-o", "picture.", "--pens=0"]]:
+        yield ["draw", "line.plt", *words], NO_FORM
+    for form in ["pbm", "pcl", "marks"]:
+        yield ["draw", "line.plt", f"--form={form}", "--smooth=1"], NO_SHADES
+        yield ["draw", "line.plt", "-o", f"picture.{form}", "--smooth", "4", "--page=none"], NO_SHADES
+    yield ["draw", "line.plt", "--page=plot", "--margin=5"], NO_FIT
+    for words in [["--page=a4"], ["--width=64"], ["--height=64"]]:
+        yield ["draw", "line.plt", *words], DONE
+        yield ["draw", "line.plt", *words, "--margin=5"], NO_FIT
+        yield ["draw", "line.plt", *words, "--margin=5", "--fit"], DONE
+    for words in [["--band=64"], ["--from=0"], ["--form=png"] * 2, ["--quiet"] * 2, ["--quiet=1"], ["--form"]]:
+        yield ["draw", "line.plt", *words], USAGE
+    for command in COMMANDS:
+        for word in ["--form=png", "--quiet"]:
+            yield [command, "line.plt", word], USAGE
+
+
 def pages():
     """The papers, words that are none, and papers beside a width or a height."""
     for paper in PAPERS:
@@ -400,7 +426,7 @@ def bytes_that_are_no_text():
 
 GENERATORS = [
     plain, commands, numbers_in_range, numbers_out_of_range, no_numbers, values_missing, options_twice, unknown_options,
-    options_of_pictures, smoothing, lists_of_pens, fitted_pages, pages, profiles, sheets, resolutions_of_pcl, files,
+    options_of_pictures, smoothing, lists_of_pens, fitted_pages, drawings, pages, profiles, sheets, resolutions_of_pcl, files,
     after_two_hyphens, calls_for_help, orders_of_refusal, bytes_that_are_no_text,
 ]
 
