@@ -223,6 +223,7 @@ pub record IsLineBy (kind : Kind) (rows : List Row) (line : Line) : Type 0 where
   pub files : map (λ s. s.now) line.files.now ≡ files_in rows
   pub output : option_map (λ s. s.now) line.output ≡ output_text rows
   pub placed : has_no_place rows ≡ false
+  pub sheet_named : line.sheet_named ≡ is_given rows (codes "sheet")
   pub verbose : line.verbose ≡ has_flag rows (codes "verbose")
   pub quiet : line.quiet ≡ has_flag rows (codes "quiet")
   pub interactive : line.interactive ≡ (defaults_of kind).interactive

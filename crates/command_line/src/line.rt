@@ -50,6 +50,8 @@ pub struct Line<'m, 'a> {
     /// The name of the file to write, or of the folder of the files to write; `None`, for standard
     /// output, only if there is at most one plot.
     pub output: Option<&'a str>,
+    /// Whether the sheet was named, or else the first one is drawn.
+    pub sheet_named: bool,
     /// Whether to say on standard error what was drawn.
     pub verbose: bool,
     /// Whether to show on standard error how far the picture is: if it was asked for, or if the line is interactive,
@@ -101,6 +103,7 @@ fn line_of<'m, 'a>(kind: Kind, options: &'m ArgMatches<'a>) -> Result<Line<'m, '
         choice,
         files: files_of(options),
         output,
+        sheet_named: is_given(options, "sheet"),
         verbose: has_flag(options, "verbose"),
         progress: (has_flag(options, "progress") || interactive) && !quiet,
         quiet,
