@@ -4,7 +4,7 @@ ghost use Rattle.std.specs.Prelude.{◌≡◌, ◌-◌, ◌^◌, ◌<◌, Some};
 use devices::{OverWrite, Sink, SinkFault};
 use hpgl_plot::Notes;
 use plot_page::{Colour, Page, Stroke, Window};
-use plot_report::{write_full_report, write_report};
+use plot_report::{ReportPage, write_full_report, write_report};
 use std::alloc::Global;
 use std::process::Abort;
 use std::test::Fail;
@@ -114,8 +114,14 @@ fn write<K: Sink>(
         return Err("too much for a report".into());
     }
     match sheets {
-        Some(sheets) => Ok(write_full_report(page, sheets, strokes, Notes::new(plot), sink)?),
-        None => Ok(write_report(page, strokes, Notes::new(plot), sink)?),
+        Some(sheets) => Ok(write_full_report(
+            ReportPage::of(page),
+            sheets,
+            strokes,
+            Notes::new(plot),
+            sink,
+        )?),
+        None => Ok(write_report(ReportPage::of(page), strokes, Notes::new(plot), sink)?),
     }
 }
 
@@ -349,7 +355,7 @@ fn bytes_written(strokes: &[Stroke], plot: &[u8], sink: &mut Narrow) -> Result<u
     if strokes.len() > 255 || plot.len() > 10_000 {
         return Err("too much for a report".into());
     }
-    match write_report(&page()?, strokes, Notes::new(plot), sink) {
+    match write_report(ReportPage::of(&page()?), strokes, Notes::new(plot), sink) {
         Ok(_) => Err("a whole report".into()),
         Err(fault) => Ok(fault.bytes()),
     }

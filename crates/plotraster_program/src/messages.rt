@@ -35,6 +35,12 @@ pub(crate) fn refuse_words(rt: &HostRuntime, fault: LineFault) -> u8 {
     USAGE
 }
 
+// Says that a picture is not written to a terminal, which would show its bytes.
+pub(crate) fn refuse_terminal(rt: &HostRuntime) -> u8 {
+    let _ = eprintln!(rt; "plotraster: a picture is not written to a terminal: use -o");
+    USAGE
+}
+
 // Why a file cannot be opened or written, and what is said if it is missing.
 #[derive(Clone, Copy)]
 struct Reason<'a> {
@@ -52,11 +58,11 @@ impl Display for Reason<'_> {
     }
 }
 
-// Says that a plot cannot be opened, and why: of a document always, else in a second line if more is to be said.
+// Says that a plot cannot be opened, and why: by draw and of a document always, else in a second line if more is to be said.
 pub(crate) fn refuse_open(rt: &HostRuntime, line: &Line<'_, '_>, path: &str, error: &Error) -> u8 {
     let missing = "no such file or folder";
     let reason = Reason { error, missing };
-    if matches!(&line.task, Task::Png(_)) {
+    if line.interactive || matches!(&line.task, Task::Png(_)) {
         let _ = eprintln!(rt; "plotraster: cannot open {path}: {reason}");
         return DEVICE;
     }
@@ -84,14 +90,37 @@ pub(crate) fn cannot_write<R: Display>(
     DEVICE
 }
 
-// Says why the page is not the one that was asked for, if that is so; and what was drawn, if more is to be said.
-pub(crate) fn tell_outcome(rt: &HostRuntime, about: About<'_>, outcome: &Outcome, verbose: bool) {
-    if let Some(reason) = reason_of(outcome.placement) {
+// Says why the page is not the one that was asked for, if that is so; whether the plot has more sheets than the one that was
+// drawn; and what was drawn, if more is to be said.
+pub(crate) fn tell_outcome(
+    rt: &HostRuntime,
+    line: &Line<'_, '_>,
+    about: About<'_>,
+    outcome: &Outcome,
+) {
+    if line.remarks && is_blank(outcome) {
+        let _ = eprintln!(rt; "plotraster: {about}nothing is drawn on the page");
+    } else if let Some(reason) = reason_of(outcome.placement) {
         let _ = eprintln!(rt; "plotraster: {about}the page is {reason}");
     }
-    if verbose {
+    if has_more_sheets(line, outcome) {
+        let sheets = outcome.sheets;
+        let _ = eprintln!(rt; "plotraster: {about}the plot has {sheets} sheets; this is the first");
+    }
+    if line.verbose {
         tell_drawn(rt, about, outcome);
     }
+}
+
+// Nothing that the selected pens draw is on the page.
+fn is_blank(outcome: &Outcome) -> bool {
+    outcome.placement == Placement::Blank || outcome.census.off_page == outcome.census.strokes
+}
+
+// A picture is that of the first sheet of several, and nobody chose it. A report says itself how many sheets there are.
+fn has_more_sheets(line: &Line<'_, '_>, outcome: &Outcome) -> bool {
+    let is_report = matches!(&line.task, Task::Report(_));
+    outcome.sheets > 1 && !line.sheet_named && !line.quiet && !is_report
 }
 
 // What page it is instead, and why.
@@ -101,7 +130,6 @@ fn reason_of(placement: Placement) -> Option<&'static str> {
         Placement::Unasked => Some("the default one: the plot asks for no size"),
         Placement::Blank => Some("not fitted: nothing is drawn"),
         Placement::TooLarge => Some("not fitted: the drawing is larger than a page can be"),
-        Placement::Follows => Some("not fitted: the drawing depends on the page"),
     }
 }
 
@@ -110,7 +138,7 @@ fn tell_drawn(rt: &HostRuntime, about: About<'_>, outcome: &Outcome) {
     let lines = outcome.census.strokes;
     let off_page = outcome.census.off_page;
     let notes = outcome.done.notes;
-    let nothing = if off_page == lines {
+    let nothing = if is_blank(outcome) {
         "nothing is drawn: "
     } else {
         ""

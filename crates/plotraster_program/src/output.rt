@@ -1,14 +1,15 @@
 //! Where the output of a plot goes: standard output, a device, or a new file that gets its name when it is whole.
-use crate::messages::{About, cannot_write, refuse, refuse_write, tell_outcome};
+use crate::messages::{About, cannot_write, refuse, refuse_terminal, refuse_write, tell_outcome};
 use crate::progress::Progress;
 use plotraster::{Fault, Line, Outcome, OverRead, OverWrite, exit_status, run_task};
 use std::fs::{File, OpenOptions, metadata, remove_file, rename};
-use std::io::{Read, Write};
+use std::io::{IsTerminal, Read, Write};
 use std::os::unix::fs::MetadataExt;
 
 // Does what the line asks of the plot that the reader gives, and writes it where the line says.
 pub(crate) fn deliver<R: Read + Drop>(rt: &HostRuntime, line: &Line<'_, '_>, plot: R) -> u8 {
     match line.output {
+        None if line.interactive && rt.stdout().is_terminal() => refuse_terminal(rt),
         None => exit_status(&perform(rt, line, About::Run, plot, rt.stdout())),
         Some(path) => deliver_to(rt, line, About::Run, plot, path),
     }
@@ -50,7 +51,7 @@ fn perform<R: Read + Drop, W: Write + Drop>(
     );
     progress.end();
     match &outcome {
-        Ok(outcome) => tell_outcome(rt, about, outcome, line.verbose),
+        Ok(outcome) => tell_outcome(rt, line, about, outcome),
         Err(fault) => {
             refuse(rt, about, fault);
         }

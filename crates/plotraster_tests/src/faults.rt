@@ -54,6 +54,7 @@ fn numbers_and_texts(rt: HostRuntime) -> Result<(), Fail> {
     let outcome = Outcome {
         done,
         placement: Placement::Given,
+        sheets: 0,
         census: Census {
             strokes: 2,
             off_page: 0,

@@ -45,7 +45,7 @@ SP1;SC0,9,0,9;PD5,5;
 Fitted 1 0 page 130 130 47 47
 
 SP1;RO90;PD5,5;
-Fitted 1 0 page 99 99 -12 47
+Fitted 1 0 page 153 99 47 47
 
 SP1;RO90;PU0,65000;PD0,65100;
 Fitted 1 0 page 194 94 65083 47
