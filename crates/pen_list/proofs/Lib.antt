@@ -2,4 +2,8 @@ pub mod Cuts
 pub mod Bounds
 pub mod Ranges
 pub mod Numbers
+pub mod ColourDigits
+pub mod ColourNames
+pub mod Given
+mod AssignmentExamples
 mod ListExamples
