@@ -184,6 +184,6 @@ const WRONG_COLOURS: [&str; 25] = [
 
 #[test]
 fn bad_colours(rt: HostRuntime) -> Result<(), Fail> {
-    has_answers(&rt, rt.alloc(), Asked::Colours, BAD_COLOURS, 18)?;
+    has_answers(&rt, rt.alloc(), Asked::Colours, BAD_COLOURS, 19)?;
     has_none(&rt, rt.alloc(), Asked::Colours, &WRONG_COLOURS)
 }
