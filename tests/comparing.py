@@ -14,8 +14,8 @@ TIMEOUT = 20
 
 
 def words_of(case):
-    """The words of the command line. A value may begin with a minus sign, so it follows an equals sign."""
-    return [case.form] + [f"--{name}={value}" for name, value in case.options.items()]
+    """The words of the command line. A value may begin with a minus sign, so it follows an equals sign. None is no value."""
+    return [case.form] + [f"--{name}" + ("" if value is None else f"={value}") for name, value in case.options.items()]
 
 
 def answer_of(program, case):

@@ -7,6 +7,7 @@ import re
 from typing import NamedTuple
 
 from . import full_plotter, plotter, raster
+from .fitting import fitted
 from .geometry import Page
 from .plotter import Refused
 
@@ -21,8 +22,9 @@ ROW_OPTIONS = {"band": (1, 4096, 64), "from": (0, 99999, 0)}
 SMOOTH_OPTIONS = {"smooth": (1, 8, 1)}
 MOST_DOTS = 1200
 WHITE = b"\xff\xff\xff"
-# In the profile core a sheet may not be given.
+# In the profile core a sheet may not be given, and without `fit` no margin.
 SHEET_OPTIONS = {"sheet": (0, 4_194_304, 1)}
+FIT_OPTIONS = {"margin": (0, 100, 1)}
 
 
 class Answer(NamedTuple):
@@ -42,7 +44,7 @@ def fault(status, text):
 
 def ranges_of(command):
     """The options with a number that a command has."""
-    ranges = {**PAGE_OPTIONS, **SHEET_OPTIONS}
+    ranges = {**PAGE_OPTIONS, **SHEET_OPTIONS, **FIT_OPTIONS}
     if command != "report":
         ranges.update(PICTURE_OPTIONS)
     if command in FORMS:
@@ -53,14 +55,14 @@ def ranges_of(command):
 
 
 def answer(form, options, plot):
-    """What the program answers; options are texts by their names."""
+    """What the program answers; options are texts by their names, and that of `fit`, which takes no value, is None."""
     ranges, numbers = ranges_of(form), {}
     for name, (least, most, default) in ranges.items():
         text = options.get(name, str(default))
         if not re.fullmatch(r"\+?[0-9]+", text) or not least <= int(text) <= most:
             return USAGE
         numbers[name] = int(text)
-    texts = ("profile",) if form == "report" else ("profile", "pens")
+    texts = ("profile", "fit") if form == "report" else ("profile", "fit", "pens")
     if any(name not in (*ranges, *texts) for name in options):
         return USAGE
     pens, profile = pens_of(options.get("pens", "all")), options.get("profile", "core")
@@ -72,10 +74,13 @@ def answer(form, options, plot):
         return fault(2, "bad profile")
     if profile == "core" and "sheet" in options:
         return fault(2, "--sheet needs --profile full")
+    if "margin" in options and "fit" not in options:
+        return fault(2, "--margin needs --fit")
     page, sheet = Page(*(numbers[name] for name in PAGE_OPTIONS)), numbers["sheet"] if profile == "full" else None
+    margin = numbers["margin"] if "fit" in options else None
     if form == "report":
-        return described(sheet, page, plot)
-    return pictured(form, numbers, sheet, pens, page, plot)
+        return described(sheet, page, margin, plot)
+    return pictured(form, numbers, sheet, pens, page, margin, plot)
 
 
 class Drawing(NamedTuple):
@@ -95,32 +100,42 @@ def draw(plot, page, sheet):
     return Drawing([stroke for stroke in strokes if sheet in (0, stroke.sheet)], notes, sheets)
 
 
-def described(sheet, page, plot):
+def placed(strokes, page, margin):
+    """The page that is shown, the strokes on it, and what is said if it is not fitted; None is no margin to fit it with."""
+    if margin is None:
+        return page, strokes, ""
+    page, strokes, why = fitted(strokes, page, margin)
+    return page, strokes, f"plotraster: the page is not fitted: {why}\n" if why else ""
+
+
+def described(sheet, page, margin, plot):
     """A report on a plot."""
     try:
         drawing = draw(plot, page, sheet)
     except Refused as refusal:
         return fault(1, refusal)
-    return Answer(0, report(drawing, page), "")
+    page, strokes, said = placed(drawing.strokes, page, margin)
+    return Answer(0, report(drawing._replace(strokes=strokes), page), said)
 
 
-def pictured(form, numbers, sheet, pens, page, plot):
+def pictured(form, numbers, sheet, pens, page, margin, plot):
     """A picture of a plot, in a form."""
     dots = numbers["dots"]
     if form == "pcl" and dots not in DOTS_OF_PCL:
         return fault(2, "resolution is not one of PCL's")
     try:
-        strokes = draw(plot, page, sheet).strokes
+        strokes = [stroke for stroke in draw(plot, page, sheet).strokes if stroke.pen in pens]
     except Refused as refusal:
         return fault(1, refusal)
+    page, strokes, said = placed(strokes, page, margin)
     first = numbers.get("from", 0)
     if first > raster.count(page.height, dots):
         return fault(2, "first row is past the last row")
     if form == "png" or numbers.get("smooth", 1) > 1:
         rows = smoothed_rows(strokes, page, dots, numbers["smooth"], pens, first)
-        return Answer(0, pixmap(form, page, dots, rows, first == 0), "")
+        return Answer(0, pixmap(form, page, dots, rows, first == 0), said)
     rows = raster.rows(strokes, page, dots, pens, first)
-    return Answer(0, picture(form, page, dots, rows, first == 0), "")
+    return Answer(0, picture(form, page, dots, rows, first == 0), said)
 
 
 def smoothed_rows(strokes, page, dots, times, pens, first):
