@@ -1,16 +1,18 @@
 """Random plots of either profile on the page around their drawing, by `--fit`.
 
-The case of a seed is that of the same seed without `--fit`, with a margin of its own. If the picture has too many pixels
-for the reference, it gets another resolution, or is a report.
+The case of a seed is that of the same seed without `--fit`, with a margin and perhaps with more before the plot. If the
+picture has too many pixels for the reference, it gets another resolution, or is a report.
 """
 
 import random
 
-from .fitting import fitted
+from .cutting import MILLION
+from .fitting import LONGEST, fitted
 from .geometry import Page
 from .outputs import DOTS_OF_PCL, FIT_OPTIONS, MOST_DOTS, PAGE_OPTIONS, SHEET_OPTIONS, draw, pens_of
 from .plotter import Refused
 from .random_full_plots import random_full_case
+from .random_numbers import spelled
 from .random_plots import DOTS, MOST_PIXELS, random_case
 from .raster import count
 
@@ -24,15 +26,29 @@ def random_fitted_case(seed):
     """The case of a seed; every other one is in the profile full."""
     case = random_full_case(seed) if seed % 2 else random_case(seed)
     chance = random.Random(seed)
-    options = {**case.options, "fit": None}
-    if chance.random() < 0.7:
-        options["margin"] = str(chance.choice(MARGINS))
-    elif chance.random() < 0.02:
-        options["margin"] = chance.choice(WRONG_MARGINS)
-    elif chance.random() < 0.02:
-        options = {**case.options, "margin": "1"}
-    case = case._replace(options=options)
+    case = case._replace(options=fitted_options(case.options, chance), plot=beginning(case, chance) + case.plot)
     return case if case.form == "report" else light_case(case, chance)
+
+
+def fitted_options(options, chance):
+    """The options with `fit`, and mostly with a margin."""
+    kind = chance.randrange(100)
+    if kind == 0:
+        return {**options, "margin": "1"}
+    if kind == 1:
+        return {**options, "fit": None, "margin": chance.choice(WRONG_MARGINS)}
+    return {**options, "fit": None} if kind < 30 else {**options, "fit": None, "margin": str(chance.choice(MARGINS))}
+
+
+def beginning(case, chance):
+    """What comes before a plot: perhaps a width, which need be no whole units and may be odd in grains, and perhaps a line
+    that a window hides and that may be too far from the page around the others."""
+    width = b"PW%s;" % spelled(chance.randint(0, MILLION)).encode() if chance.random() < 0.5 else b""
+    if chance.random() < 0.9:
+        return width
+    x, y = (chance.choice((-1, 1)) * (LONGEST - chance.choice((0, 1, 100, 2000))) - number(case, name, *PAGE_OPTIONS[name])
+            for name in ("left", "below"))
+    return width + b"IW0,0,1,1;PU%d,%d;PD;IW;PU0,0;" % (x, y)
 
 
 def light_case(case, chance):
