@@ -1,6 +1,6 @@
 """Compares the built program with tests/reference on plots that are the same each time: the examples, all
-characters, all whole angles, and 3,000 random plots in the profile core and 3,000 in full. `make fuzz` compares new
-ones."""
+characters, all whole angles, 3,000 random plots in the profile core and 3,000 in full, and 1,200 of both on the page
+around their drawing. `make fuzz` compares new ones."""
 
 import glob
 import os
@@ -8,12 +8,13 @@ import os
 import pytest
 
 from comparing import difference, differs
+from reference.random_fitted_plots import random_fitted_case
 from reference.random_full_plots import random_full_case
 from reference.random_plots import Case, random_case
 from shared import EXAMPLES, assert_nothing, read_bytes
 from test_full_reference import options_of, plot_of, rows
 
-COUNT = 3000
+COUNT, FITTED = 3000, 1200
 PARTS = 12
 
 
@@ -46,9 +47,9 @@ def full_examples():
         yield name, Case("report", options_of(keys), plot_of(keys["plot"][0]))
 
 
-def random_plots(case_of, part):
+def random_plots(case_of, part, count=COUNT):
     """A part of the random plots, by their seeds."""
-    for seed in range(part, COUNT, PARTS):
+    for seed in range(part, count, PARTS):
         yield f"seed {seed}", case_of(seed)
 
 
@@ -83,3 +84,8 @@ def test_random_plots(part, program):
 @pytest.mark.parametrize("part", range(PARTS))
 def test_random_full_plots(part, program):
     assert_same(program, random_plots(random_full_case, part))
+
+
+@pytest.mark.parametrize("part", range(PARTS))
+def test_random_fitted_plots(part, program):
+    assert_same(program, random_plots(random_fitted_case, part, FITTED))
