@@ -1,4 +1,5 @@
--- Colours as text: hexadecimal digits, or one of the sixteen names of HTML 4, in small letters or capitals.
+-- Colours as text: hexadecimal digits, or one of the sixteen names of HTML 4.01, section 6.5, in small letters or
+-- capitals.
 use Rattle.std.specs.Prelude.{ℕ, ◌+◌, ◌*◌, ◌==◌, if◌then◌else◌, List, [], ◌∷◌, length, Option, None, codes, find}
 use Rattle.std.specs.Prelude.{option_map}
 use Rattle.std.specs.Char.{digit_value, is_digit}
@@ -22,7 +23,7 @@ by_six_digits (a ∷ b ∷ c ∷ d ∷ e ∷ f ∷ []) =
     when (list_all (λ digit. is_digit digit 16) (a ∷ b ∷ c ∷ d ∷ e ∷ f ∷ [])) (rgb (pair a b) (pair c d) (pair e f))
 by_six_digits _ = None
 
--- of three digits each counts twice
+-- if there are three digits, each counts twice
 abbrev pub doubled : List ℕ → List ℕ
 doubled digits = if length digits == 3 then flat_map (λ digit. digit ∷ digit ∷ []) digits else digits
 
