@@ -9,6 +9,7 @@ use Rattle.hpgl_plot.specs.declared.note.Note.{Note}
 use Rattle.hpgl_plot.specs.declared.note.NoteKind.{NoteKind}
 use Rattle.hpgl_plot.specs.declared.note.NoteKind.TheVariants.{Bad}
 use Rattle.hpgl_plot.specs.Paths.{circle_curve, chord_count, curve_point}
+use Rattle.carousel.specs.Carousels.{empty}
 use Rattle.hpgl_plot.specs.Frames.{place_along, back_along}
 use Rattle.plot_settings.specs.Colours.{default_colours}
 use Rattle.plot_settings.specs.Settings.{all_pens}
@@ -44,41 +45,41 @@ first_point = refl
 diamond : strokes square (cut (codes "PU32,32;CI16,90;")) ≡ line (pos 768) (pos 512) (pos 512) (pos 768)
     ∷ line (pos 512) (pos 768) (pos 256) (pos 512) ∷ line (pos 256) (pos 512) (pos 512) (pos 256) ∷ line (pos 512) (pos 256) (pos 768)
     (pos 512) ∷ []
-unfolding place_along back_along all_pens default_colours curve_point
+unfolding place_along back_along all_pens default_colours empty curve_point
 diamond = refl
 
 -- 72 chords of 5 degrees, and 720 of half a degree
 usual_circle : length (strokes square (cut (codes "PU32,32;CI16;"))) ≡ 72
-unfolding place_along back_along all_pens default_colours curve_point
+unfolding place_along back_along all_pens default_colours empty curve_point
 usual_circle = refl
 
 -- clockwise about a centre that is relative to the pen, which is down
 clockwise : strokes square (cut (codes "PU48,32;PD;AR-16,0,-90,45;")) ≡ line (pos 768) (pos 512) (pos 768) (pos 512)
     ∷ line (pos 768) (pos 512) (pos 693) (pos 331) ∷ line (pos 693) (pos 331) (pos 512) (pos 256) ∷ []
-unfolding place_along back_along all_pens default_colours curve_point
+unfolding place_along back_along all_pens default_colours empty curve_point
 clockwise = refl
 
 -- an arc with the pen up moves it
 only_a_move : strokes square (cut (codes "PU48,32;AA32,32,90;PD;")) ≡ line (pos 512) (pos 768) (pos 512) (pos 768) ∷ []
-unfolding place_along back_along all_pens default_colours curve_point
+unfolding place_along back_along all_pens default_colours empty curve_point
 only_a_move = refl
 
 -- a circle leaves the pen where it is, and up
 circle_leaves_the_pen : strokes square (cut (codes "SP0;PU32,32;CI16,180;SP1;PU32,33;PD;")) ≡ line (pos 512) (pos 528) (pos 512) (pos 528)
     ∷ []
-unfolding place_along back_along all_pens default_colours curve_point
+unfolding place_along back_along all_pens default_colours empty curve_point
 circle_leaves_the_pen = refl
 
 -- without a radius two chords of length zero
 no_radius : strokes square (cut (codes "PU1,2;CI0,180;")) ≡ line (pos 16) (pos 32) (pos 16) (pos 32)
     ∷ line (pos 16) (pos 32) (pos 16) (pos 32) ∷ []
-unfolding place_along back_along all_pens default_colours curve_point
+unfolding place_along back_along all_pens default_colours empty curve_point
 no_radius = refl
 
 -- on a rotated page, in user units
 rotated_circle : strokes square (cut (codes "RO90;SC0,8,0,8;PU4,4;CI2,180;")) ≡ line (pos 512) (pos 768) (pos 512) (pos 256)
     ∷ line (pos 512) (pos 256) (pos 512) (pos 768) ∷ []
-unfolding place_along back_along all_pens default_colours curve_point
+unfolding place_along back_along all_pens default_colours empty curve_point
 rotated_circle = refl
 
 -- chords and sweeps out of their range, and numbers that are missing
@@ -88,14 +89,14 @@ wrong_arcs = refl
 
 -- the first point of a circle is out of range
 circle_off_range : refusal square (cut (codes "CI70000;")) ≡ Some (OffRange 0)
-unfolding place_along back_along all_pens default_colours curve_point
+unfolding place_along back_along all_pens default_colours empty curve_point
 circle_off_range = refl
 
 -- an arc that is not drawn, within the range, and with only a point in between out of it
 arc_off_range : refusal square (cut (codes "SP0;PU1,60000;AA1,1,-180,90;")) ≡ None
-unfolding place_along back_along all_pens default_colours curve_point
+unfolding place_along back_along all_pens default_colours empty curve_point
 arc_off_range = refl
 
 between_off_range : refusal square (cut (codes "SP0;PU40000,30000;AA0,40000,180,90;")) ≡ Some (OffRange 18)
-unfolding place_along back_along all_pens default_colours curve_point
+unfolding place_along back_along all_pens default_colours empty curve_point
 between_off_range = refl

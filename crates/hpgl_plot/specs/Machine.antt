@@ -3,6 +3,7 @@
 use Rattle.std.specs.Prelude.{◌≡◌, ℕ, Bool, true, false, List, [], ◌∷◌, ◌++◌, length, set, nat_lt, if◌then◌else◌}
 use Rattle.std.specs.Prelude.{Option, Some, None, Result, Ok, Err, ⊤}
 use Rattle.std.specs.List.{list_all}
+use Rattle.carousel.specs.declared.carousel.Carousel.{Carousel}
 use Rattle.plot_frame.specs.declared.pair.Pair.{Pair}
 use Rattle.plot_frame.specs.declared.scaling.Ends.{Ends}
 use Rattle.plot_frame.specs.declared.scaling.Scaling.TheVariants.{Off}
@@ -29,7 +30,7 @@ use Rattle.plot_settings.specs.Colours.{default_colours}
 use Rattle.plot_settings.specs.Parameters.{usual_size, moved_points}
 use Rattle.plot_page.specs.Segments.{Segment}
 use Rattle.plot_settings.specs.Settings.{all_pens}
-use Rattle.plot_settings.specs.Meanings.{Step, Set, Lower, Relate, steps_of}
+use Rattle.plot_settings.specs.Meanings.{Step, Set, Lower, Relate, Load, steps_of}
 use Rattle.hpgl_plot.specs.Frames.{back, corner_window}
 use Rattle.hpgl_plot.specs.Paths.{path}
 use Rattle.hpgl_plot.specs.States.{state_of}
@@ -44,7 +45,7 @@ abbrev pub pointed : Page → State → Pair Ends → State
 pointed page s p = framed page s (record s.frame { points = p })
 
 abbrev pub set_to : Page → State → Setting → State
-set_to page s Start = state_of page []
+set_to page s Start = state_of page (Load s.carousel ∷ [])
 set_to page s Defaults =
     record (framed page s (record s.frame { scaling = Off })) {
       is_relative = false;
@@ -75,6 +76,7 @@ abbrev pub after : Page → State → Step → State
 after page s (Set setting) = set_to page s setting
 after page s (Lower b) = record s { is_down = b }
 after page s (Relate b) = record s { is_relative = b }
+after page s (Load c) = record s { carousel = c }
 after page s t = moved s (path page s t).ends
 
 -- the page, the state, the strokes that are kept, and whether there were more than may be kept
@@ -155,6 +157,10 @@ seen p = record { page = p.page; state = p.state; kept = p.strokes.items; full =
 -- before the first item
 abbrev pub at_start : Page → World
 at_start page = record { page = page; state = state_of page []; kept = []; full = false }
+
+-- with the pens of a carousel
+abbrev pub at_start_with : Carousel → Page → World
+at_start_with carousel page = record (at_start page) { state = state_of page (Load carousel ∷ []) }
 
 -- how an item is refused
 abbrev pub Refused : World → ItemShape → PlotFault → Type 0

@@ -13,7 +13,7 @@ use Rattle.plot_settings.specs.declared.setting.Setting.TheVariants.{BothPoints,
 use Rattle.plot_settings.specs.declared.setting.Setting.TheVariants.{CornerWindow, Pen, Width, WidthOfAll, PenColour}
 use Rattle.plot_settings.specs.declared.setting.Setting.TheVariants.{DefaultColours, Size, Direction}
 use Rattle.plot_settings.specs.Meanings.{Step, Set}
-use Rattle.plot_settings.specs.Settings.{pen, is_down, is_relative, widths, colours, size, direction}
+use Rattle.plot_settings.specs.Settings.{pen, is_down, is_relative, widths, colours, carousel, size, direction}
 use Rattle.hpgl_plot.specs.Frames.{frame, window}
 use Rattle.hpgl_plot.specs.Paths.{pen_at, pen_placed, path}
 
@@ -50,6 +50,7 @@ state_with page before p = record {
   window = window page before;
   widths = widths before;
   colours = colours before;
+  carousel = carousel before;
   size = size before;
   direction = direction before;
   pen = pen before;

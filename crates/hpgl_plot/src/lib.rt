@@ -19,7 +19,8 @@ mod turn;
 mod window;
 mod wrong;
 
-pub use drawn::{Drawn, draw_plot};
+pub use carousel::Carousel;
+pub use drawn::{Drawn, draw_plot, draw_plot_with};
 pub use exact::Spot;
 pub use fault::PlotFault;
 pub use item_notes::ItemNotes;

@@ -13,6 +13,7 @@ mod settings;
 use crate::fault::PlotFault;
 use crate::place::{start_axes, start_of};
 use crate::state::State;
+use carousel::Carousel;
 use hpgl_text::{Body, Entries, Instruction, Item, Numbers, Part};
 use plot_frame::{Axis, Pair};
 use plot_page::{Page, Stroke};
@@ -45,7 +46,7 @@ impl Plotter {
     ghost use Rattle.hpgl_text.specs.SeenEntries.{part_shape};
     ghost use Rattle.hpgl_plot.specs.Bounds.{IsPlain};
     ghost use Rattle.plot_settings.specs.Requests.{request_meaning, move_steps, IsRequest};
-    ghost use Rattle.hpgl_plot.specs.Machine.{seen, at_start, step, run, Runs, CarriesOut};
+    ghost use Rattle.hpgl_plot.specs.Machine.{seen, at_start, at_start_with, step, run, Runs, CarriesOut};
     ghost use Rattle.plot_settings.specs.Meanings.{Lower, Relate, moves, lowered_then, part_steps, entry_steps};
     ghost use Rattle.plot_settings.specs.Meanings.{meaning, steps_of};
 
@@ -53,10 +54,17 @@ impl Plotter {
     pub fn new(alloc: Global, page: &Page) -> Plotter
         ensures { seen result ≡ at_start page.now }
     {
+        Plotter::with_pens(alloc, page, &Carousel::empty())
+    }
+
+    /// The same with the pens of a carousel.
+    pub fn with_pens(alloc: Global, page: &Page, carousel: &Carousel) -> Plotter
+        ensures { seen result ≡ at_start_with carousel.now page.now }
+    {
         let axes = start_axes(page);
         Plotter {
             page: *page,
-            state: start_of(page, &axes),
+            state: start_of(page, &axes, carousel),
             axes,
             strokes: Vec::new(alloc),
             is_full: false,

@@ -1,5 +1,6 @@
 // Cases of plots as one text. A helper writes the cases again with the answers instead of those that are wanted, and
 // fails unless both texts are equal.
+use crate::pens::penned_drawing;
 use crate::texts::has_text;
 use crate::told::{coloured_drawing, drawing_of, notes_one_by_one, refusal_of, square, wide};
 use std::alloc::Global;
@@ -15,6 +16,8 @@ pub enum Asked {
     WideDrawing,
     // Strokes with colours, and how many notes there are.
     Colours,
+    // Strokes with the pens of a carousel.
+    Pens,
     // The fault.
     Refusal,
     // Notes, also one item at a time.
@@ -72,6 +75,7 @@ fn answer_of(alloc: Global, asked: Asked, plot: &[u8]) -> Result<String, Fail> {
         Asked::Drawing => drawing_of(alloc, &square()?, plot),
         Asked::WideDrawing => drawing_of(alloc, &wide()?, plot),
         Asked::Colours => coloured_drawing(alloc, plot),
+        Asked::Pens => penned_drawing(alloc, plot),
         Asked::Refusal => refusal_of(alloc, plot),
         Asked::Notes => notes_one_by_one(alloc, plot),
     }

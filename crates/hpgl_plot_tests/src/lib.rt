@@ -12,6 +12,8 @@ mod labels;
 #[cfg(test)]
 mod limits;
 #[cfg(test)]
+mod pens;
+#[cfg(test)]
 mod settings;
 #[cfg(test)]
 mod texts;

@@ -7,7 +7,7 @@ use Rattle.std.proofs.lemmas.List.{get_or-replicate}
 use Rattle.std.proofs.lemmas.List.Elements.{All-head, All-tail, All-replicate}
 use Rattle.std.proofs.lemmas.Bool.Decides.{nat_tests}
 use Rattle.plot_settings.specs.declared.setting.Setting.TheVariants.{Start, Defaults, PageCorners, FirstPoint, BothPoints, Scale, Rotate, PageWindow, CornerWindow, Pen, Width, WidthOfAll, PenColour, DefaultColours, Size, Direction}
-use Rattle.plot_settings.specs.Meanings.{Step, Set, Touch, Lower, Relate, Move, Go, Edge, DrawCircle, DrawArc, Write}
+use Rattle.plot_settings.specs.Meanings.{Step, Set, Touch, Lower, Relate, Move, Go, Edge, DrawCircle, DrawArc, Write, Load}
 use Rattle.plot_settings.specs.Settings.{widths, all_pens, newer, colours}
 use Rattle.plot_settings.specs.Bounds.{AreWidths}
 use Rattle.plot_settings.specs.Laws.{WidthsAreLookedBackFor, width, ColoursAreLookedBackFor, colour}
@@ -45,6 +45,7 @@ widths_length (Edge r x y ∷ before) = widths_length before
 widths_length (DrawCircle c ∷ before) = widths_length before
 widths_length (DrawArc r a ∷ before) = widths_length before
 widths_length (Write bytes ∷ before) = widths_length before
+widths_length (Load c ∷ before) = widths_length before
 
 all_tell : (w p : ℕ) → p < 256 → get_or (all_pens w) p 0 ≡ w
 unfolding all_pens
@@ -84,6 +85,7 @@ widths_tell (Edge r x y ∷ before) p h = widths_tell before p h
 widths_tell (DrawCircle c ∷ before) p h = widths_tell before p h
 widths_tell (DrawArc r a ∷ before) p h = widths_tell before p h
 widths_tell (Write bytes ∷ before) p h = widths_tell before p h
+widths_tell (Load c ∷ before) p h = widths_tell before p h
 
 -- widths within the range
 pub all_within : (w : ℕ) → w ≤ 12800 → AreWidths (all_pens w)
@@ -126,6 +128,7 @@ colours_length (Edge r x y ∷ before) = colours_length before
 colours_length (DrawCircle c ∷ before) = colours_length before
 colours_length (DrawArc r a ∷ before) = colours_length before
 colours_length (Write bytes ∷ before) = colours_length before
+colours_length (Load c ∷ before) = colours_length before
 
 -- the list of the default colours has each pen's
 default_tells : (p : ℕ) → p < 256 → get_or default_colours p black ≡ default_colour p
@@ -174,3 +177,4 @@ colours_tell (Edge r x y ∷ before) p h = colours_tell before p h
 colours_tell (DrawCircle c ∷ before) p h = colours_tell before p h
 colours_tell (DrawArc r a ∷ before) p h = colours_tell before p h
 colours_tell (Write bytes ∷ before) p h = colours_tell before p h
+colours_tell (Load c ∷ before) p h = colours_tell before p h

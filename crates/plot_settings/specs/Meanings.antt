@@ -2,6 +2,7 @@
 -- numbers are wrong.
 use Rattle.std.specs.List.{flat_map}
 use Rattle.std.specs.Prelude.{ℕ, ℤ, Bool, true, not, List, [], ◌∷◌, ◌%◌, ◌==◌, false, Option, Some, None, length}
+use Rattle.carousel.specs.declared.carousel.Carousel.{Carousel}
 use Rattle.hpgl_text.specs.EntryShapes.{PartShape, EntryShape}
 use Rattle.hpgl_text.specs.EntryShapes as part
 use Rattle.plot_settings.specs.declared.figure.Arc.{Arc}
@@ -22,7 +23,7 @@ use Rattle.plot_settings.specs.declared.figure.Circle as circle
 -- something is set; the pen touches the paper where it is, goes down or up, or moves to coordinates in millionths,
 -- which are relative or absolute as PA or PR said last, or as is said with them; the edge of a rectangle is drawn, by
 -- the coordinates of the corner that lies opposite; a circle is drawn, or an arc, whose centre is relative or absolute;
--- the bytes of a label are written
+-- the bytes of a label are written; a carousel is loaded with the pens that the user says, before the first item
 pub data Step : Type 0 where
   Set : Setting → Step
   Touch : Step
@@ -34,6 +35,7 @@ pub data Step : Type 0 where
   DrawCircle : circle.Circle → Step
   DrawArc : Bool → Arc → Step
   Write : List ℕ → Step
+  Load : Carousel → Step
 
 -- a move to each pair; an unpaired last coordinate makes none
 abbrev pub moves : List ℤ → List Step

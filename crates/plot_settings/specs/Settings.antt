@@ -2,6 +2,8 @@
 -- first. What IN (Initialize) and DF (Default Values) set is the guide's; that pen 1 is selected at the start is our
 -- choice.
 use Rattle.std.specs.Prelude.{ℕ, Bool, false, List, [], ◌∷◌, Option, Some, None, replicate, set}
+use Rattle.carousel.specs.Carousels.{empty}
+use Rattle.carousel.specs.declared.carousel.Carousel.{Carousel}
 use Rattle.stick_font.specs.declared.size.CharacterSize.{CharacterSize}
 use Rattle.plot_frame.specs.declared.scaling.Scaling.{Scaling}
 use Rattle.plot_frame.specs.declared.scaling.Scaling.TheVariants.{Off}
@@ -14,7 +16,7 @@ use Rattle.plot_settings.specs.declared.setting.Setting.TheVariants.{WidthOfAll,
 use Rattle.plot_settings.specs.declared.setting.Setting.TheVariants.{Direction}
 use Rattle.plot_settings.specs.Colours.{default_colours}
 use Rattle.plot_settings.specs.Parameters.{usual_size}
-use Rattle.plot_settings.specs.Meanings.{Step, Set, Lower, Relate}
+use Rattle.plot_settings.specs.Meanings.{Step, Set, Lower, Relate, Load}
 
 -- the newer value, if there is one
 abbrev pub newer : {A : Type 0} → Option A → A → A
@@ -102,6 +104,14 @@ sets_relative _ = None
 
 abbrev pub is_relative : List Step → Bool
 is_relative before = newest sets_relative false before
+
+-- the carousel: empty until one is loaded, and no instruction changes it
+abbrev pub sets_carousel : Step → Option Carousel
+sets_carousel (Load c) = Some c
+sets_carousel _ = None
+
+abbrev pub carousel : List Step → Carousel
+carousel before = newest sets_carousel empty before
 
 -- one width for all pens; not opened in proofs, where 256 places would be written out
 unfoldable pub all_pens : ℕ → List ℕ

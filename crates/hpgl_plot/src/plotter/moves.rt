@@ -7,7 +7,7 @@ ghost use Rattle.hpgl_plot.specs.Machine.{seen, step, Runs, kept_with, full_with
 ghost use Rattle.hpgl_plot.specs.Paths as paths;
 ghost use Rattle.hpgl_plot.specs.Paths.{pen_placed};
 ghost use Rattle.plot_page.specs.declared.stroke.TheConstants.{GREATEST_WIDTH};
-ghost use Rattle.hpgl_plot.specs.Strokes.{by_a_pen, drawn, stroke};
+ghost use Rattle.hpgl_plot.specs.Strokes.{by_a_pen, drawn, pen_colour, pen_width, stroke};
 ghost use Rattle.plot_settings.specs.Meanings.{Touch, Move, Go};
 
 use crate::place::{coordinates_at, is_place_in_range, place_on, target_of};
@@ -15,7 +15,7 @@ use crate::plotter::{Plotter, Stop};
 use crate::state::Position;
 use exact::Spot;
 use hpgl_text::Number;
-use plot_page::{MOST_STROKES, Stroke};
+use plot_page::{Colour, MOST_STROKES, Stroke};
 
 impl Plotter {
     /// A move to coordinates, which are relative or absolute by the most recent PA or PR. If the frame
@@ -231,14 +231,37 @@ impl Plotter {
         self.line(a, b)
     }
 
+    /// The width in grains that a pen has if it is selected: the carousel's, or else the most recent one.
+    #[inline]
+    pub fn width_of(&self, pen: u8) -> u32
+        ensures value { result ≡ pen_width (record self.now.state { pen = pen }) }
+        ensures range { result ≤ GREATEST_WIDTH }
+    {
+        match self.state.carousel.width_of(pen) {
+            Some(width) => width,
+            None => self.state.widths[usize::from(pen)],
+        }
+    }
+
+    // The colour that a pen has if it is selected.
+    #[inline]
+    fn colour_of(&self, pen: u8) -> Colour
+        ensures { result ≡ pen_colour (record self.now.state { pen = pen }) }
+    {
+        match self.state.carousel.colour_of(pen) {
+            Some(colour) => colour,
+            None => self.state.colours[usize::from(pen)],
+        }
+    }
+
     /// The stroke that the pen draws between two places, or pen 1 if none is selected.
     pub fn line(&self, a: Spot, b: Spot) -> Stroke
         requires a_in { IsInRange a }
         requires b_in { IsInRange b }
         ensures { result ≡ stroke (by_a_pen self.now.state) a b }
     {
-        let pen = usize::from(self.state.pen.max(1));
-        self.line_of_width(self.state.widths[pen], a, b)
+        let width = self.width_of(self.state.pen.max(1));
+        self.line_of_width(width, a, b)
     }
 
     /// The same of a width in grains, up to 12,800.
@@ -252,7 +275,7 @@ impl Plotter {
         let pen = state.pen.max(1);
         Stroke {
             pen,
-            colour: state.colours[usize::from(pen)],
+            colour: self.colour_of(pen),
             width,
             window: state.window,
             ax: a.x as i32,

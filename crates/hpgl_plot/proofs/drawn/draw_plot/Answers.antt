@@ -1,49 +1,33 @@
-use Rattle.std.proofs.Common.{Option, ap, arith, length, length-append}
+use Rattle.std.proofs.Common.{◌≡◌, ◌∙◌, ap, subst, List, None, Option, OnOk, IfOk, IfErr}
+use Rattle.carousel.specs.declared.carousel.Carousel.{Carousel}
 use Rattle.hpgl_text.specs.Cut.{cut}
-use Rattle.hpgl_plot.specs.Machine.{seen}
-use Rattle.hpgl_plot.specs.declared.note.NoteKind.{NoteKind}
-use Rattle.hpgl_plot.specs.Notes.{notes, notes_of, notes_with}
-use Rattle.hpgl_plot.proofs.Ends.{refused_at, all_drawn}
-use Rattle.hpgl_plot.proofs.NoteCounts.{notes_few}
+use Rattle.plot_page.specs.Segments.{Segment}
+use Rattle.hpgl_plot.specs.declared.fault.PlotFault.{PlotFault}
+use Rattle.hpgl_plot.specs.Drawings.{IsRefusal}
+use Rattle.hpgl_plot.specs.Strokes.{strokes, strokes_with, refusal, refusal_with}
+use Rattle.hpgl_plot.proofs.ByCarousel.{strokes_with_none, refusal_with_none}
 use Rattle.hpgl_plot.proofs.drawn.draw_plot.Goals as goal
 
--- the notes so far and those on this item are some of those on the plot, which has fewer than 2^63 bytes
-pub count_notes-noted-requires : goal.count_notes-noted-requires
-count_notes-noted-requires c =
-    omega (
-      arith,
-      c.items.invariant.noted,
-      ap (λ is. length (notes is)) c.in-Some.ensures.steps,
-      length-append (notes_of c.in-Some.item) (notes c.next.new.self),
-      ap (λ (own : Option NoteKind). length (notes_with own c.in-Some.item)) c.noted_kind.ensures,
-      notes_few c.args.text.now,
-    )
-
-pub overflow_add-noted : goal.overflow_add-noted
-overflow_add-noted c =
-    omega (
-      arith,
-      c.items.invariant.noted,
-      ap (λ is. length (notes is)) c.in-Some.ensures.steps,
-      length-append (notes_of c.in-Some.item) (notes c.next.new.self),
-      c.count_notes-noted.ensures,
-      ap (λ (own : Option NoteKind). length (notes_with own c.in-Some.item)) c.noted_kind.ensures,
-      notes_few c.args.text.now,
-    )
-
-pub returns-in-Err-clause-refused : goal.returns-in-Err-clause-refused
-returns-in-Err-clause-refused c =
-    refused_at c.args.page.now (cut c.args.text.now) c.items.items (seen c.items.plotter) c.in-Some.item c.next.new.self c.items.noted c.in-Err.fault
-    c.items.invariant c.in-Some.ensures.steps c.in-Err.ensures
-
 pub returns-clause-accepted : goal.returns-clause-accepted
-returns-clause-accepted c = (all_drawn c.args.page.now (cut c.args.text.now) c.items.items (seen c.items.plotter) c.items.noted c.items.invariant c.in_default.ensures.steps.0).0
+returns-clause-accepted c =
+    let page = c.args.page.now in
+    let items = cut c.args.text.now in
+    let same : refusal_with c.empty.result page items ≡ refusal page items =
+    ap (λ (k : Carousel). refusal_with k page items) c.empty.ensures ∙ refusal_with_none page items in
+    subst (λ (o : Option PlotFault). OnOk c.draw_plot_with.result (o ≡ None)) same c.draw_plot_with.ensures.accepted
 
 pub returns-clause-strokes : goal.returns-clause-strokes
-returns-clause-strokes c = (all_drawn c.args.page.now (cut c.args.text.now) c.items.items (seen c.items.plotter) c.items.noted c.items.invariant c.in_default.ensures.steps.0).1
+returns-clause-strokes c =
+    let page = c.args.page.now in
+    let items = cut c.args.text.now in
+    let same : strokes_with c.empty.result page items ≡ strokes page items =
+    ap (λ (k : Carousel). strokes_with k page items) c.empty.ensures ∙ strokes_with_none page items in
+    subst (λ (ss : List Segment). IfOk c.draw_plot_with.result (λ drawn. drawn.strokes.items ≡ ss)) same c.draw_plot_with.ensures.strokes
 
-pub returns-clause-limit : goal.returns-clause-limit
-returns-clause-limit c = (all_drawn c.args.page.now (cut c.args.text.now) c.items.items (seen c.items.plotter) c.items.noted c.items.invariant c.in_default.ensures.steps.0).2
-
-pub returns-clause-notes : goal.returns-clause-notes
-returns-clause-notes c = (all_drawn c.args.page.now (cut c.args.text.now) c.items.items (seen c.items.plotter) c.items.noted c.items.invariant c.in_default.ensures.steps.0).3
+pub returns-clause-refused : goal.returns-clause-refused
+returns-clause-refused c =
+    let page = c.args.page.now in
+    let items = cut c.args.text.now in
+    let same : refusal_with c.empty.result page items ≡ refusal page items =
+    ap (λ (k : Carousel). refusal_with k page items) c.empty.ensures ∙ refusal_with_none page items in
+    subst (λ (o : Option PlotFault). IfErr c.draw_plot_with.result (λ fault. IsRefusal fault o)) same c.draw_plot_with.ensures.refused

@@ -40,7 +40,7 @@ returns c =
     let g4 : FitsSigned w32 b.y = omega (arith, ints) in
     let p : max c.args.self.now.state.pen 1 ≡ max 1 c.args.self.now.state.pen = omega arith in
     let e : c.max-pen.result ≡ max 1 c.args.self.now.state.pen = c.max-pen.ensures ∙ p in
-    simp to_z-of_z (rw (c.from.ensures, e) refl)
+    simp to_z-of_z (rw (c.colour_of.ensures, e) refl)
 
 pub overflow_cast-result-2 : goal.overflow_cast-result-2
 overflow_cast-result-2 c =
