@@ -4,12 +4,14 @@ use Rattle.std.specs.Prelude.{if◌then◌else◌, ⊤}
 use Rattle.std.proofs.lemmas.Bool.{cases_Bool, le-ltb, not-true}
 use Rattle.std.proofs.lemmas.Option.{none-some}
 use Rattle.std.proofs.lemmas.List.Elements.{All-head, All-tail}
+use Rattle.carousel.specs.Carousels.{empty}
+use Rattle.carousel.specs.declared.carousel.Carousel.{Carousel}
 use Rattle.directions.specs.Directions.{turned, unit}
 use Rattle.directions.specs.Laws.{right}
 use Rattle.directions.proofs.Axes.{axes_are_exact_lem}
 use Rattle.plot_frame.specs.declared.pair.Pair.{Pair}
 use Rattle.plot_page.specs.declared.page.Page.{Page}
-use Rattle.plot_settings.specs.Meanings.{Step, Set, Write, meaning, entry_steps, body_steps, sets, steps_of}
+use Rattle.plot_settings.specs.Meanings.{Step, Set, Write, Load, meaning, entry_steps, body_steps, sets, steps_of}
 use Rattle.plot_settings.specs.Parameters.{nearest_axis, when}
 use Rattle.plot_settings.specs.Slants.{is_slanted}
 use Rattle.plot_settings.specs.declared.setting.Rotation.{Rotation}
@@ -22,8 +24,8 @@ use Rattle.hpgl_text.specs.declared.instruction.Instruction.TheVariants.{Initial
 use Rattle.hpgl_plot.specs.declared.fault.PlotFault.{PlotFault}
 use Rattle.hpgl_plot.specs.declared.fault.PlotFault.TheVariants as fault
 use Rattle.hpgl_plot.specs.Machine as core
-use Rattle.hpgl_plot.specs.Strokes.{strokes, refusal}
-use Rattle.hpgl_plot.proofs.Bridge.{told, Told}
+use Rattle.hpgl_plot.specs.Strokes.{strokes, strokes_after, strokes_with, refusal, refusal_after, refusal_with}
+use Rattle.hpgl_plot.proofs.Bridge.{told, world, Told}
 use Rattle.full_settings.specs.LetterParameters.{is_vector, pair}
 use Rattle.full_settings.specs.Letters.{LetterStyle, usual_letters}
 use Rattle.full_settings.specs.declared.heading.Heading.TheVariants.{Absolute}
@@ -31,8 +33,8 @@ use Rattle.full_settings.specs.declared.letter_setting.LetterSetting.TheVariants
 use Rattle.full_plot.specs.Items.{as_core, letters_steps, more_steps, params_steps, full_steps, taken}
 use Rattle.full_plot.specs.Worlds.{World, followed, with_core}
 use Rattle.full_plot.specs.Machine.{FullStep, Core, Letter, Restart, Restyle, Rewiden, rewidened, run, widths_in, with_widths}
-use Rattle.full_plot.specs.Drawings.{at_start, ended, is_too_much, runs, refusal_in, strokes_in, ends_in}
-use Rattle.full_plot.specs.Laws.{core_part, is_core_body, IsCoreItem, SameRefusal, SameStrokes, OneSheet}
+use Rattle.full_plot.specs.Drawings.{at_start, at_start_with, ended, is_too_much, runs, refusal_in, strokes_in, ends_in}
+use Rattle.full_plot.specs.Laws.{core_part, is_core_body, IsCoreItem, Draws}
 use Rattle.full_notes.specs.Contexts.{Context, first_context, read_in}
 use Rattle.full_notes.specs.Notes.{context_after}
 use Rattle.full_plot.specs.Texts.{turn_by}
@@ -320,8 +322,8 @@ items_run w (i ∷ more) all h =
     one.same
     (next_item i.at more (taken w i.body) one.like (λ (v : World) (l : Like v). items_run v more (All-tail IsCoreItem i more all) l))
 
-like_at_start : (page : Page) → Like (at_start page)
-like_at_start page = record {
+like_at_start : (carousel : Carousel) (page : Page) → Like (at_start_with carousel page)
+like_at_start carousel page = record {
   solid = refl;
   first = refl;
   no_symbol = refl;
@@ -334,24 +336,35 @@ like_at_start page = record {
 
 pub runs_as_in_core : (page : Page) (items : List ItemShape) → All IsCoreItem items
     → core_part (runs (at_start page) items) ≡ core.runs (core.at_start page) items
-runs_as_in_core page items all = (items_run (at_start page) items all (like_at_start page)).same
+runs_as_in_core page items all = (items_run (at_start page) items all (like_at_start empty page)).same
 
 -- what core leaves is what its definitions say
-refusal_told : (page : Page) (items : List ItemShape) (r : Result World PlotFault) → Told page [] [] items (core_part r)
-    → refusal_in r ≡ refusal page items
-refusal_told page items (Ok w) t = sym t.0
-refusal_told page items (Err e) t = sym t
+refusal_told : (page : Page) (before : List Step) (items : List ItemShape) (r : Result World PlotFault) → Told page before [] items (core_part r)
+    → refusal_in r ≡ refusal_after page before 0 items
+refusal_told page before items (Ok w) t = sym t.0
+refusal_told page before items (Err e) t = sym t
 
-strokes_told : (page : Page) (items : List ItemShape) (r : Result World PlotFault) → Told page [] [] items (core_part r)
-    → refusal page items ≡ None → strokes_in r ≡ strokes page items
-strokes_told page items (Ok w) t n = t.1
-strokes_told page items (Err e) t n = absurd (none-some e (sym n ∙ t))
+strokes_told : (page : Page) (before : List Step) (items : List ItemShape) (r : Result World PlotFault) → Told page before [] items (core_part r)
+    → refusal_after page before 0 items ≡ None → strokes_in r ≡ strokes_after page before items
+strokes_told page before items (Ok w) t n = t.1
+strokes_told page before items (Err e) t n = absurd (none-some e (sym n ∙ t))
+
+-- from a world with the core after some steps, and no strokes
+draws_from : (page : Page) (before : List Step) (w : World) (items : List ItemShape) → w.core ≡ world page before [] false → Like w → All IsCoreItem items
+    → Draws (runs w items) (refusal_after page before 0 items) (strokes_after page before items)
+draws_from page before w items is l all =
+    let r : Result World PlotFault = runs w items in
+    let h : EndsLike r (core.runs w.core items) = items_run w items all l in
+    let same : core_part r ≡ core.runs (world page before [] false) items = h.same ∙ ap (λ (c : core.World). core.runs c items) is in
+    let t : Told page before [] items (core_part r) =
+    subst (λ (x : Result core.World PlotFault). Told page before [] items x) (sym same) (told page before [] items (omega arith)) in
+    (refusal_told page before items r t, strokes_told page before items r t, h.one_sheet)
 
 pub draws_as_in_core : (page : Page) (items : List ItemShape) → All IsCoreItem items
-    → SameRefusal page items × SameStrokes page items × OneSheet page items
-draws_as_in_core page items all =
-    let r : Result World PlotFault = runs (at_start page) items in
-    let h : EndsLike r (core.runs (core.at_start page) items) = items_run (at_start page) items all (like_at_start page) in
-    let t : Told page [] [] items (core_part r) =
-    subst (λ (x : Result core.World PlotFault). Told page [] [] items x) (sym h.same) (told page [] [] items (omega arith)) in
-    (refusal_told page items r t, strokes_told page items r t, h.one_sheet)
+    → Draws (runs (at_start page) items) (refusal page items) (strokes page items)
+draws_as_in_core page items all = draws_from page [] (at_start page) items refl (like_at_start empty page) all
+
+pub draws_as_in_core_with : (carousel : Carousel) (page : Page) (items : List ItemShape) → All IsCoreItem items
+    → Draws (runs (at_start_with carousel page) items) (refusal_with carousel page items) (strokes_with carousel page items)
+draws_as_in_core_with carousel page items all =
+    draws_from page (Load carousel ∷ []) (at_start_with carousel page) items refl (like_at_start carousel page) all

@@ -3,6 +3,7 @@ use Rattle.std.proofs.Common.{◌≡◌, ◌≤◌, ℕ, inl, inr, refl, subst, 
 use Rattle.std.specs.Prelude.{if◌then◌else◌, ⊤}
 use Rattle.std.specs.List.{list_all}
 use Rattle.std.proofs.lemmas.Bool.{cases_Bool}
+use Rattle.carousel.specs.declared.carousel.Carousel.{Carousel}
 use Rattle.plot_page.specs.declared.page.Page.{Page}
 use Rattle.plot_settings.specs.Meanings.{Edge, Set, Step}
 use Rattle.plot_settings.specs.declared.setting.Setting.{Setting}
@@ -20,7 +21,7 @@ use Rattle.full_settings.specs.declared.polygon_setting.Wedge.{Wedge}
 use Rattle.full_notes.specs.Contexts.{Context, read_in}
 use Rattle.full_notes.specs.Notes.{context_after}
 use Rattle.full_plot.specs.Curves.{pen_at_point}
-use Rattle.full_plot.specs.Drawings.{at_start, ended, is_too_much, runs, CarriesOut}
+use Rattle.full_plot.specs.Drawings.{at_start_with, ended, is_too_much, runs, CarriesOut}
 use Rattle.full_plot.specs.Items.{full_steps, taken}
 use Rattle.full_plot.specs.Machine.{FullStep, Core, PointsBy, Letter, Print, Place, Tick, ArcThrough, Curve, PolygonBy, EdgeBuffer, FillBuffer, AnchorBy, Rectangle, WedgeEdge, WedgeFill}
 use Rattle.full_plot.specs.Machine.{anchored, step, run, then_filled, then_rewidened, points_set}
@@ -179,5 +180,5 @@ few_by_items [] w h = h
 few_by_items (i ∷ more) w h =
     few_ended w i.body (taken w i.body) i.at more (after_item w i.body) h (λ (v : World) (k : Few v). few_by_items more v k)
 
-pub few_strokes : (page : Page) (items : List ItemShape) (v : World) → runs (at_start page) items ≡ Ok v → length v.core.kept ≤ 4194304
-few_strokes page items v e = subst FewAfter e (few_by_items items (at_start page) (omega arith))
+pub few_strokes : (carousel : Carousel) (page : Page) (items : List ItemShape) (v : World) → runs (at_start_with carousel page) items ≡ Ok v → length v.core.kept ≤ 4194304
+few_strokes carousel page items v e = subst FewAfter e (few_by_items items (at_start_with carousel page) (omega arith))

@@ -1,6 +1,7 @@
 -- What a plot draws in the profile full.
 use Rattle.std.specs.Prelude.{◌≡◌, ℕ, ◌+◌, ◌-◌, List, [], ◌∷◌, length, take, drop, nat_eq, nat_lt, slice_index_or}
 use Rattle.std.specs.Prelude.{Bool, ◌||◌, if◌then◌else◌, Option, Some, None, Result, Ok, Err, ⊤}
+use Rattle.carousel.specs.declared.carousel.Carousel.{Carousel}
 use Rattle.plot_page.specs.declared.page.Page.{Page}
 use Rattle.plot_page.specs.Segments.{Segment}
 use Rattle.plot_page.specs.declared.stroke.TheConstants.{MOST_STROKES}
@@ -34,6 +35,10 @@ at_start page = record {
   ends = [];
 }
 
+-- with the pens of a carousel
+abbrev pub at_start_with : Carousel → Page → World
+at_start_with carousel page = record (at_start page) { core = core.at_start_with carousel page }
+
 -- there were more strokes than may be kept, or those that are kept are too many with the work that counts besides, or
 -- the buffer has as many places
 abbrev pub is_too_much : World → Bool
@@ -51,6 +56,9 @@ runs w (i ∷ more) = ended (taken w i.body) i.at (λ (v : World). runs v more)
 
 abbrev pub outcome : Page → List ℕ → Result World PlotFault
 outcome page plot = runs (at_start page) (cut_by Full plot)
+
+abbrev pub outcome_with : Carousel → Page → List ℕ → Result World PlotFault
+outcome_with carousel page plot = runs (at_start_with carousel page) (cut_by Full plot)
 
 -- how an item is refused
 abbrev pub Refused : World → ItemShape → PlotFault → Type 0

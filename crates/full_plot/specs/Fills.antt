@@ -1,7 +1,7 @@
 -- Fills (HP-GL/2 guide: FP, RA, RR and WG, by FT and AC): lines at equal distances, where they are inside of the
 -- polygons in the buffer.
 use Rattle.std.specs.Prelude.{ℕ, ◌*◌, ◌^◌, ℤ, pos, ◌+ℤ◌, nat_abs, nat_eq, Bool, true, false, List, [], ◌∷◌}
-use Rattle.std.specs.Prelude.{length, map, if◌then◌else◌, slice_index}
+use Rattle.std.specs.Prelude.{length, map, if◌then◌else◌}
 use Rattle.std.specs.Int.{int_max, int_min}
 use Rattle.exact.specs.Fraction.{quotient, round}
 use Rattle.exact.specs.declared.spot.Spot.{Spot}
@@ -19,7 +19,7 @@ use Rattle.polygons.specs.declared.lines.Rule.TheVariants.{OddCounts, Winding}
 use Rattle.polygons.specs.declared.span.Span.{Span}
 use Rattle.hpgl_plot.specs.declared.state.State.{State}
 use Rattle.hpgl_plot.specs.Bounds.{line_in}
-use Rattle.hpgl_plot.specs.Strokes.{by_a_pen, stroke}
+use Rattle.hpgl_plot.specs.Strokes.{by_a_pen, pen_width, stroke}
 use Rattle.hpgl_plot.specs.Machine as core
 use Rattle.full_settings.specs.declared.fill_setting.FillKind.{FillKind}
 use Rattle.full_settings.specs.declared.fill_setting.FillKind.TheVariants.{Solid, Hatched, CrossHatched, Shaded}
@@ -66,7 +66,7 @@ spacing_in w =
 -- the distance of lines of hatching: the spacing, but lines are no denser than half the pen's width
 abbrev pub hatching_distance : World → ℕ
 hatching_distance w =
-    let s = w.core.state in cut_distance (int_max (spacing_in w) (pos (128 * slice_index s.widths s.pen)))
+    let s = w.core.state in cut_distance (int_max (spacing_in w) (pos (128 * pen_width s)))
 
 -- RO turns hatching
 abbrev pub turn_of : Rotation → ℤ

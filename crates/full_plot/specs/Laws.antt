@@ -1,6 +1,8 @@
 -- Items of core have the same effect in both profiles.
-use Rattle.std.specs.Prelude.{◌≡◌, ℤ, ◌^◌, nat_lt, Bool, true, false, not, List, [], ◌∷◌, length, Some, None, Result, Ok, Err}
+use Rattle.std.specs.Prelude.{◌≡◌, ℤ, ◌^◌, nat_lt, Bool, true, false, not, List, [], ◌∷◌, length, Option, Some, None, Result, Ok, Err}
 use Rattle.std.specs.List.{All}
+use Rattle.carousel.specs.declared.carousel.Carousel.{Carousel}
+use Rattle.plot_page.specs.Segments.{Segment}
 use Rattle.plot_page.specs.declared.page.Page.{Page}
 use Rattle.hpgl_text.specs.Shapes.{ItemShape, BodyShape, Params, Further, Label, Kept, Symbol, Known}
 use Rattle.hpgl_text.specs.declared.further.Further.TheVariants.{BeginPlot, BezierAbsolute, BezierRelative}
@@ -9,9 +11,9 @@ use Rattle.plot_settings.specs.Slants.{is_off_axis}
 use Rattle.hpgl_plot.specs.declared.note.NoteKind.TheVariants.{Bad}
 use Rattle.hpgl_plot.specs.declared.fault.PlotFault.{PlotFault}
 use Rattle.hpgl_plot.specs.Machine as core
-use Rattle.hpgl_plot.specs.Strokes.{strokes, refusal}
+use Rattle.hpgl_plot.specs.Strokes.{strokes, strokes_with, refusal, refusal_with}
 use Rattle.hpgl_plot.specs.Notes as noting
-use Rattle.full_plot.specs.Drawings.{at_start, runs, refusal_in, strokes_in, ends_in}
+use Rattle.full_plot.specs.Drawings.{at_start, at_start_with, runs, refusal_in, strokes_in, ends_in}
 use Rattle.full_plot.specs.Worlds.{World}
 use Rattle.full_notes.specs.Notes.{body_noted, context_after, notes}
 use Rattle.full_plot.specs.Items.{taken}
@@ -40,19 +42,18 @@ abbrev pub CoreRunsAsInCore : Type 0
 CoreRunsAsInCore = (page : Page) (items : List ItemShape) → All IsCoreItem items
     → core_part (runs (at_start page) items) ≡ core.runs (core.at_start page) items
 
--- the whole of a plot
-abbrev pub SameRefusal : Page → List ItemShape → Type 0
-SameRefusal page items = refusal_in (runs (at_start page) items) ≡ refusal page items
-
-abbrev pub SameStrokes : Page → List ItemShape → Type 0
-SameStrokes page items = refusal page items ≡ None → strokes_in (runs (at_start page) items) ≡ strokes page items
-
-abbrev pub OneSheet : Page → List ItemShape → Type 0
-OneSheet page items = ends_in (runs (at_start page) items) ≡ []
+-- the whole of a plot: it has this refusal, or else these strokes, on one sheet
+abbrev pub Draws : Result World PlotFault → Option PlotFault → List Segment → Type 0
+Draws r refused drawn = (refusal_in r ≡ refused) × (refused ≡ None → strokes_in r ≡ drawn) × (ends_in r ≡ [])
 
 abbrev pub CoreDrawsAsInCore : Type 0
 CoreDrawsAsInCore = (page : Page) (items : List ItemShape) → All IsCoreItem items
-    → SameRefusal page items × SameStrokes page items × OneSheet page items
+    → Draws (runs (at_start page) items) (refusal page items) (strokes page items)
+
+-- the same with the same pens in both
+abbrev pub CoreDrawsAsInCoreWith : Type 0
+CoreDrawsAsInCoreWith = (carousel : Carousel) (page : Page) (items : List ItemShape) → All IsCoreItem items
+    → Draws (runs (at_start_with carousel page) items) (refusal_with carousel page items) (strokes_with carousel page items)
 
 -- what is noted on them
 abbrev pub CoreNotedAsInCore : Type 0
@@ -74,11 +75,11 @@ abbrev pub BadItemsDoNothing : Type 0
 BadItemsDoNothing = (w : World) (i : ItemShape) → body_noted w.context i.body ≡ Some Bad → draws_in_part i.body ≡ false
     → taken w i.body ≡ Some w
 
--- as at the start, but for the page, the strokes, the ends of sheets and the work that counts; and for the widths in
+-- as at the start, but for the page, the carousel, the strokes, the ends of sheets and the work that counts; and for the widths in
 -- percent, which have no effect before widths are in percent again
 abbrev pub started_again : World → World
 started_again w = record (at_start w.core.page) {
-  core = record w.core { state = (core.at_start w.core.page).state };
+  core = record w.core { state = (core.at_start_with w.core.state.carousel w.core.page).state };
   percents = w.percents;
   extra = w.extra;
   ends = w.ends;

@@ -1,12 +1,13 @@
 //! Carrying out a plot, one item at a time.
 ghost use Rattle.std.specs.Prelude.{◌≡◌, IfOk};
 ghost use Rattle.full_notes.specs.Notes.{body_noted};
-ghost use Rattle.full_plot.specs.Drawings.{at_start, is_too_much, CarriesOut};
+ghost use Rattle.full_plot.specs.Drawings.{at_start, at_start_with, is_too_much, CarriesOut};
 ghost use Rattle.full_plot.specs.Machine.{seen};
 
 use crate::area::Area;
 use crate::plotter::FullPlotter;
 use crate::writing::Writing;
+use carousel::Carousel;
 use full_notes::Context;
 use full_settings::{LineStyle, percent_of_all};
 use hpgl_plot::{NoteKind, PlotFault, Plotter, Stop};
@@ -20,7 +21,14 @@ impl FullPlotter {
     pub fn new(alloc: Global, page: &Page) -> FullPlotter
         ensures { seen result ≡ at_start page.now }
     {
-        let plotter = Plotter::new(alloc, page);
+        FullPlotter::with_pens(alloc, page, &Carousel::empty())
+    }
+
+    /// The same with the pens of a carousel.
+    pub fn with_pens(alloc: Global, page: &Page, carousel: &Carousel) -> FullPlotter
+        ensures { seen result ≡ at_start_with carousel.now page.now }
+    {
+        let plotter = Plotter::with_pens(alloc, page, carousel);
         let margin = plotter.state.place;
         FullPlotter {
             plotter,

@@ -1,6 +1,7 @@
 //! The lines that fill polygons: their angle, how far they are apart, and a place that one of them goes through.
-ghost use Rattle.std.specs.Prelude.{◌≡◌, ◌≤◌, ◌<◌, ◌*◌, ◌^◌, nat_abs, pos, slice_index};
+ghost use Rattle.std.specs.Prelude.{◌≡◌, ◌≤◌, ◌<◌, ◌*◌, ◌^◌, nat_abs, pos};
 ghost use Rattle.plot_frame.specs.Bounds.{IsLine};
+ghost use Rattle.hpgl_plot.specs.Strokes.{pen_width};
 ghost use Rattle.full_plot.specs.Fills as fills;
 ghost use Rattle.full_plot.specs.Machine.{seen};
 
@@ -46,10 +47,10 @@ impl FullPlotter {
 
     // Half of the pen's width, in ticks.
     fn half_width(&self) -> i128
-        ensures { result ≡ pos (128 * slice_index self.now.plotter.state.widths self.now.plotter.state.pen) }
+        ensures { result ≡ pos (128 * pen_width self.now.plotter.state) }
     {
-        let state = &self.plotter.state;
-        128 * i128::from(state.widths[usize::from(state.pen)])
+        let width = self.plotter.width_of(self.plotter.state.pen);
+        128 * i128::from(width)
     }
 
     // The spacing of FT along x, or one percent of the distance from P1 to P2, in ticks.

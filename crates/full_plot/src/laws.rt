@@ -1,6 +1,6 @@
 //! Laws of the profile full, over the definitions only.
 ghost use Rattle.full_plot.specs.Laws.{BadItemsDoNothing, CoreRunsAsInCore, CoreDrawsAsInCore, CoreNotedAsInCore};
-ghost use Rattle.full_plot.specs.Laws.{InitializeRestarts, NotesAreTold};
+ghost use Rattle.full_plot.specs.Laws.{CoreDrawsAsInCoreWith, InitializeRestarts, NotesAreTold};
 
 /// Items of core leave in the profile full what they leave in core, on one sheet, with the line style
 /// of the start, or are refused as in core.
@@ -11,6 +11,11 @@ pub fn core_runs_as_in_core()
 /// A plot of items of core has its strokes and its refusal of core in the profile full, on one sheet.
 pub fn core_draws_as_in_core()
     ensures { CoreDrawsAsInCore }
+{}
+
+/// So it has with the same pens of a carousel in both.
+pub fn core_draws_as_in_core_with()
+    ensures { CoreDrawsAsInCoreWith }
 {}
 
 /// What is noted on items of core in the profile full is what is noted in core.

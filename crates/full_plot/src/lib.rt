@@ -29,7 +29,8 @@ mod work;
 mod writing;
 
 pub use area::Area;
-pub use drawn::{FullDrawn, draw_full};
+pub use carousel::Carousel;
+pub use drawn::{FullDrawn, draw_full, draw_full_with};
 pub use plotter::FullPlotter;
 pub use sheets::keep_sheet;
 pub use writing::Writing;

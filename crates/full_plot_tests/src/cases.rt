@@ -1,7 +1,8 @@
 // Cases of plots as one text. A helper writes the cases again with the answers to the plots instead of those that are
 // wanted, and fails unless both texts are equal.
 use crate::notes_and_sheets::notes_on;
-use full_plot::{FullDrawn, draw_full};
+use crate::pens_set::carousel;
+use full_plot::{FullDrawn, draw_full, draw_full_with};
 use hpgl_plot::{Page, PlotFault, Stroke};
 use std::alloc::{AllocError, Global};
 use std::process::Abort;
@@ -18,6 +19,8 @@ pub enum Asked {
     Colours,
     // The pens of the strokes, their widths and their last ends in x.
     Widths,
+    // The pens of the strokes, with the pens of a carousel: their widths, their colours and their last ends.
+    Pens,
     // The greatest number of a sheet with a stroke.
     Sheets,
     // What is noted.
@@ -85,7 +88,10 @@ fn drawn(alloc: Global, asked: Asked, plot: &[u8]) -> Result<Result<FullDrawn, P
         Asked::Colours => Page::new(1000, 500, 100, 50)?,
         _ => Page::new(1000, 1000, 0, 0)?,
     };
-    Ok(draw_full(alloc, plot, &page))
+    match asked {
+        Asked::Pens => Ok(draw_full_with(alloc, plot, &page, &carousel())),
+        _ => Ok(draw_full(alloc, plot, &page)),
+    }
 }
 
 fn drawn_told(alloc: Global, asked: Asked, drawn: &FullDrawn) -> Result<String, AllocError> {
@@ -113,6 +119,7 @@ fn stroke_told(alloc: Global, asked: Asked, s: &Stroke) -> Result<String, AllocE
     match asked {
         Asked::Fills => format!(in alloc; "{ax},{ay} {bx},{by} {width};"),
         Asked::Colours => format!(in alloc; "{red} {green} {blue} {bx},{by};"),
+        Asked::Pens => { format!(in alloc; "{pen} {width} {red} {green} {blue} {bx},{by};") }
         Asked::Widths => format!(in alloc; "{pen} {width} {bx};"),
         _ => format!(in alloc; "{ax},{ay} {bx},{by};"),
     }

@@ -18,6 +18,8 @@ mod marks_set;
 #[cfg(test)]
 mod notes_and_sheets;
 #[cfg(test)]
+mod pens_set;
+#[cfg(test)]
 mod polygons_set;
 #[cfg(test)]
 mod widths_set;

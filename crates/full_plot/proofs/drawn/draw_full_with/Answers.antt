@@ -10,7 +10,7 @@ use Rattle.full_notes.specs.Contexts.{Context}
 use Rattle.full_notes.specs.Notes.{body_noted, context_after, notes_from}
 use Rattle.full_notes.proofs.FewNotes.{few_notes}
 use Rattle.full_plot.proofs.Later.{carried_out, few_strokes, told_as_set}
-use Rattle.full_plot.proofs.drawn.draw_full.Goals as goal
+use Rattle.full_plot.proofs.drawn.draw_full_with.Goals as goal
 
 -- the notes so far and those on this item are some of those on the plot, which has fewer than 2^63 bytes
 pub count_notes-noted-requires : goal.count_notes-noted-requires
@@ -72,5 +72,5 @@ items-preserved c =
 -- all items have left the strokes that there are
 pub returns-clause-limit : goal.returns-clause-limit
 returns-clause-limit c =
-    few_strokes c.args.page.now (cut_by Full c.args.text.now) (seen c.items.plotter)
+    few_strokes c.args.carousel.now c.args.page.now (cut_by Full c.args.text.now) (seen c.items.plotter)
     (sym c.items.invariant.same ∙ ap (λ (rest : List ItemShape). runs (seen c.items.plotter) rest) c.in_default.ensures.steps.0)

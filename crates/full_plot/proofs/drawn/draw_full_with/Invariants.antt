@@ -1,15 +1,15 @@
 use Rattle.std.proofs.Common.{◌≡◌, ◌+◌, length}
 use Rattle.hpgl_text.specs.Cut.{cut_by}
 use Rattle.hpgl_text.specs.declared.profile.Profile.TheVariants.{Full}
-use Rattle.full_plot.specs.Drawings.{outcome, runs}
+use Rattle.full_plot.specs.Drawings.{outcome_with, runs}
 use Rattle.full_plot.specs.Machine.{seen}
 use Rattle.full_notes.specs.Notes.{notes_from, notes}
-use Rattle.full_plot.proofs.drawn.draw_full.Given as goal
+use Rattle.full_plot.proofs.drawn.draw_full_with.Given as goal
 
 -- the items that are left come to the outcome of the plot, and have the notes that are not counted yet
 abbrev pub invariant-items : goal.invariant-items
 invariant-items l = record {
-  same : runs (seen l.plotter) l.items ≡ outcome l.page l.fn.text;
+  same : runs (seen l.plotter) l.items ≡ outcome_with l.carousel l.page l.fn.text;
   noted : l.noted + length (notes_from (seen l.plotter).context l.items) ≡ length (notes (cut_by Full l.fn.text));
 }
 
