@@ -39,7 +39,7 @@ pub(crate) const DRAW_PAGE: HelpLine<'static> = HelpLine {
     value: "NAME",
     help: "Paper of the page, instead of --width and --height: a0 to a5, b4, letter, legal, tabloid, ansi-a to ansi-e, \
         arch-d or arch-e; landscape, or portrait with -portrait after the name, or plot for the size that the plot asks \
-        for by PS; if no page is given, that page is fitted, as by --fit [default: plot]",
+        for by PS (the page if none is given, and then fitted, as by --fit) [default: plot]",
 };
 
 pub(crate) const LEFT: HelpLine<'static> = HelpLine {
