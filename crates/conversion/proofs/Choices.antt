@@ -21,7 +21,12 @@ use Rattle.conversion.specs.Placements.{IsDrawnOn, IsGivenPlace, IsPlaced, IsPla
 use Rattle.conversion.specs.Progress.{HasPainted}
 use Rattle.conversion.specs.Readings.{Reads, WasRead}
 use Rattle.conversion.specs.Reports.{HasReportedAs, HasReportedOn, IsReportCutShort, IsReported, Reports, ReportsOn, report_on}
-use Rattle.conversion.specs.Rules.{Rules, rules_of}
+use Rattle.conversion.specs.Rules.{Rules, core_rules, rules_of, rules_with}
+use Rattle.carousel.specs.Carousels.{empty}
+use Rattle.carousel.specs.declared.carousel.Carousel.{Carousel}
+use Rattle.hpgl_plot.proofs.ByCarousel.{strokes_with_none, refusal_with_none}
+use Rattle.hpgl_text.specs.Cut.{cut}
+use Rattle.picture_job.specs.declared.reading.Reading.TheVariants.{Core, Full}
 use Rattle.conversion.specs.declared.done.Done.{Done}
 use Rattle.conversion.specs.declared.outcome.Outcome.{Outcome}
 use Rattle.conversion.specs.declared.placement.Placement.TheVariants.{Given}
@@ -98,12 +103,12 @@ not_drawn rules c pens given input before after (plot.OffRange at) read h = (h.0
 not_drawn rules c pens given input before after (plot.TooManyStrokes at) read h = (h.0, h.1, record { read = read; refused = ap (option_map Plot) h.2 })
 
 -- the same for a report
-pub not_reported : (reading : Reading) (c : PageChoice) (pens : PenSet) (given : Page) (input : List ℕ) (before after : SourceState) (sink sink' : SinkState) (fault : PlotFault)
-    → WasRead input before after → IsReasonOnFirst c (rules_of reading) given input fault
-    → (place : Place) × IsGivenPlace c given place × ReportsOn reading c pens given place input before after sink sink' (Err (of_plot fault))
-not_reported reading c pens given input before after sink sink' plot.Memory read h = (place_on Given given, (λ _ _. refl), read.sound)
-not_reported reading c pens given input before after sink sink' (plot.OffRange at) read h = (place_on Given h.0, first_place c (rules_of reading) given input h.0 h.1, (h.1, record { read = read; refused = ap (option_map Plot) h.2 }))
-not_reported reading c pens given input before after sink sink' (plot.TooManyStrokes at) read h = (place_on Given h.0, first_place c (rules_of reading) given input h.0 h.1, (h.1, record { read = read; refused = ap (option_map Plot) h.2 }))
+pub not_reported : (rules : Rules) (reading : Reading) (c : PageChoice) (pens : PenSet) (given : Page) (input : List ℕ) (before after : SourceState) (sink sink' : SinkState) (fault : PlotFault)
+    → WasRead input before after → IsReasonOnFirst c rules given input fault
+    → (place : Place) × IsGivenPlace c given place × ReportsOn rules reading c pens given place input before after sink sink' (Err (of_plot fault))
+not_reported rules reading c pens given input before after sink sink' plot.Memory read h = (place_on Given given, (λ _ _. refl), read.sound)
+not_reported rules reading c pens given input before after sink sink' (plot.OffRange at) read h = (place_on Given h.0, first_place c rules given input h.0 h.1, (h.1, record { read = read; refused = ap (option_map Plot) h.2 }))
+not_reported rules reading c pens given input before after sink sink' (plot.TooManyStrokes at) read h = (place_on Given h.0, first_place c rules given input h.0 h.1, (h.1, record { read = read; refused = ap (option_map Plot) h.2 }))
 
 -- reports of the same strokes, sheets and plot are the same
 pub same_report : (reading : Reading) (page page' : ReportPage) (ss ss' : List Segment) (n n' : ℕ) (plot plot' : List ℕ) → page ≡ page' → ss ≡ ss' → n ≡ n' → plot ≡ plot'
@@ -111,16 +116,16 @@ pub same_report : (reading : Reading) (page page' : ReportPage) (ss ss' : List S
 same_report reading page page' ss ss' n n' plot plot' named strokes sheets text = rw (named, strokes, sheets, text) refl
 
 -- a report on a plot that was not read
-pub not_read_on : (reading : Reading) (c : PageChoice) (pens : PenSet) (given : Page) (input : List ℕ) (before after : SourceState) (sink sink' : SinkState) (fault : Fault)
-    → Reads input before after (Err fault) → ReportsOn reading c pens given (place_on Given given) input before after sink sink' (Err fault)
-not_read_on reading c pens given input before after sink sink' TooLong h = h
-not_read_on reading c pens given input before after sink sink' Memory h = h
-not_read_on reading c pens given input before after sink sink' Read h = h
-not_read_on reading c pens given input before after sink sink' (Plot refusal) h = absurd h
-not_read_on reading c pens given input before after sink sink' (Paint fault) h = absurd h
-not_read_on reading c pens given input before after sink sink' (Write row whole bytes) h = absurd h
-not_read_on reading c pens given input before after sink sink' Resolution h = absurd h
-not_read_on reading c pens given input before after sink sink' Unfinished h = absurd h
+pub not_read_on : (rules : Rules) (reading : Reading) (c : PageChoice) (pens : PenSet) (given : Page) (input : List ℕ) (before after : SourceState) (sink sink' : SinkState) (fault : Fault)
+    → Reads input before after (Err fault) → ReportsOn rules reading c pens given (place_on Given given) input before after sink sink' (Err fault)
+not_read_on rules reading c pens given input before after sink sink' TooLong h = h
+not_read_on rules reading c pens given input before after sink sink' Memory h = h
+not_read_on rules reading c pens given input before after sink sink' Read h = h
+not_read_on rules reading c pens given input before after sink sink' (Plot refusal) h = absurd h
+not_read_on rules reading c pens given input before after sink sink' (Paint fault) h = absurd h
+not_read_on rules reading c pens given input before after sink sink' (Write row whole bytes) h = absurd h
+not_read_on rules reading c pens given input before after sink sink' Resolution h = absurd h
+not_read_on rules reading c pens given input before after sink sink' Unfinished h = absurd h
 
 -- what is written of a picture on the given page
 module _ (rules : Rules) (job : Job) (reaches : Reach) (input : List ℕ) (before after : SourceState) (sink sink' : SinkState) where
@@ -162,10 +167,10 @@ module _ (rules : Rules) (job : Job) (reaches : Reach) (input : List ℕ) (befor
   converts_there (Err Resolution) h = h
   converts_there (Err Unfinished) h = h
 
-pub converted_on_it : (rules : Rules) (job : Job) (reaches : Reach) (before after : SourceState) (sink sink' : SinkState) (tests tests' : ℕ)
+converted_by_it : (rules : Rules) (job : Job) (reaches : Reach) (before after : SourceState) (sink sink' : SinkState) (tests tests' : ℕ)
     (answer : Result Outcome Fault) → HasConvertedOn rules given_choice 1 job reaches before after sink sink' tests tests' answer
     → HasConvertedBy rules job reaches before after sink sink' tests tests' (done_of answer)
-converted_on_it rules job reaches before after sink sink' tests tests' answer h =
+converted_by_it rules job reaches before after sink sink' tests tests' answer h =
     let is : h.place ≡ place_on Given job.page = h.given refl refl in
     record {
       input = h.input;
@@ -175,8 +180,21 @@ converted_on_it rules job reaches before after sink sink' tests tests' answer h 
       tested = subst (λ (x : Place). tests' ≤ tests + strokes_boxes 1 (on_page x.page job) ((placed_rules rules job.pens x).strokes x.page h.input)) is h.tested;
     }
 
+-- an empty carousel changes nothing
+with_none : (reading : Reading) (carousel : Carousel) → carousel ≡ empty → rules_with reading carousel ≡ rules_of reading
+with_none Core carousel none = ap (rules_with Core) none ∙ (λ i. record core_rules { strokes = λ page plot. strokes_with_none page (cut plot) i; refusal = λ page plot. refusal_with_none page (cut plot) i })
+with_none (Full sheet) carousel none = ap (rules_with (Full sheet)) none
+
+-- a run with an empty carousel on the given page
+pub converted_on_it : (reading : Reading) (carousel : Carousel) (job : Job) (reaches : Reach) (before after : SourceState) (sink sink' : SinkState) (tests tests' : ℕ)
+    (answer : Result Outcome Fault) → carousel ≡ empty → HasConvertedOn (rules_with reading carousel) given_choice 1 job reaches before after sink sink' tests tests' answer
+    → HasConvertedBy (rules_of reading) job reaches before after sink sink' tests tests' (done_of answer)
+converted_on_it reading carousel job reaches before after sink sink' tests tests' answer none h =
+    converted_by_it (rules_of reading) job reaches before after sink sink' tests tests' answer
+    (subst (λ (rules : Rules). HasConvertedOn rules given_choice 1 job reaches before after sink sink' tests tests' answer) (with_none reading carousel none) h)
+
 module _ (reading : Reading) (pens : PenSet) (given : Page) (input : List ℕ) (before after : SourceState) (sink sink' : SinkState) where
-  reports_there : (answer : Result Outcome Fault) → ReportsOn reading given_choice pens given (place_on Given given) input before after sink sink' answer
+  reports_there : (answer : Result Outcome Fault) → ReportsOn (rules_of reading) reading given_choice pens given (place_on Given given) input before after sink sink' answer
       → Reports reading given input before after sink sink' (done_of answer)
   reports_there (Ok o) h = record {
     read = h.2.read;
@@ -207,18 +225,25 @@ module _ (reading : Reading) (pens : PenSet) (given : Page) (input : List ℕ) (
 
   -- a place on the given page, whatever the answer
   pub reports_on_it : (place : Place) (answer : Result Outcome Fault) → IsGivenPlace given_choice given place
-      → ReportsOn reading given_choice pens given place input before after sink sink' answer → Reports reading given input before after sink sink' (done_of answer)
+      → ReportsOn (rules_of reading) reading given_choice pens given place input before after sink sink' answer → Reports reading given input before after sink sink' (done_of answer)
   reports_on_it place answer is h =
-      reports_there answer (subst (λ (x : Place). ReportsOn reading given_choice pens given x input before after sink sink' answer) (is refl refl) h)
+      reports_there answer (subst (λ (x : Place). ReportsOn (rules_of reading) reading given_choice pens given x input before after sink sink' answer) (is refl refl) h)
 
-pub reported_on_it : (reading : Reading) (given : Page) (before after : SourceState) (sink sink' : SinkState) (answer : Result Outcome Fault)
-    → HasReportedOn reading given_choice given before after sink sink' answer
+reported_by_it : (reading : Reading) (given : Page) (before after : SourceState) (sink sink' : SinkState) (answer : Result Outcome Fault)
+    → HasReportedOn (rules_of reading) reading given_choice given before after sink sink' answer
     → HasReportedAs reading given before after sink sink' (done_of answer)
-reported_on_it reading given before after sink sink' answer h = record {
+reported_by_it reading given before after sink sink' answer h = record {
   input = h.input;
   taken = h.taken;
   reports = reports_on_it reading h.pens given h.input before after sink sink' h.place answer h.given h.reports;
 }
+
+pub reported_on_it : (reading : Reading) (carousel : Carousel) (given : Page) (before after : SourceState) (sink sink' : SinkState) (answer : Result Outcome Fault)
+    → carousel ≡ empty → HasReportedOn (rules_with reading carousel) reading given_choice given before after sink sink' answer
+    → HasReportedAs reading given before after sink sink' (done_of answer)
+reported_on_it reading carousel given before after sink sink' answer none h =
+    reported_by_it reading given before after sink sink' answer
+    (subst (λ (rules : Rules). HasReportedOn rules reading given_choice given before after sink sink' answer) (with_none reading carousel none) h)
 
 -- a plot that was not drawn has no PNG
 pub png_not_drawn : (rules : Rules) (c : PageChoice) (job : PngJob) (reaches : Reach) (input : List ℕ) (before after : SourceState) (sink sink' : SinkState) (fault : Fault)

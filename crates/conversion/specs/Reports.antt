@@ -84,26 +84,26 @@ abbrev pub AreAllPens : PenSet → Type 0
 AreAllPens pens = (pen : ℕ) → pen < 256 → has_pen pens pen ≡ nat_le 1 pen
 
 -- what each answer says where the page was chosen, by what all pens draw: that of the place where their picture lies
-abbrev pub ReportsOn : Reading → PageChoice → PenSet → Page → Place → List ℕ → SourceState → SourceState → SinkState →
+abbrev pub ReportsOn : Rules → Reading → PageChoice → PenSet → Page → Place → List ℕ → SourceState → SourceState → SinkState →
     SinkState → Result Outcome Fault → Type 0
-ReportsOn reading choice pens given place input before after sink sink' (Ok outcome) =
-    let rules = placed_rules (rules_of reading) pens place in
-    IsPlaced choice (rules_of reading) pens given input place × (outcome.placement ≡ place.placement)
-    × IsReported reading rules (page_reported place) place.page input before after sink sink' outcome.done
-    × (outcome.census ≡ census_of pens place.page (rules.strokes place.page input))
-    × (outcome.sheets ≡ rules.sheets place.page input)
-ReportsOn reading choice pens given place input before after sink sink' (Err (Write row whole bytes)) =
-    IsPlaced choice (rules_of reading) pens given input place
-    × IsReportCutShort reading (placed_rules (rules_of reading) pens place) (page_reported place) place.page input
+ReportsOn rules reading choice pens given place input before after sink sink' (Ok outcome) =
+    let there = placed_rules rules pens place in
+    IsPlaced choice rules pens given input place × (outcome.placement ≡ place.placement)
+    × IsReported reading there (page_reported place) place.page input before after sink sink' outcome.done
+    × (outcome.census ≡ census_of pens place.page (there.strokes place.page input))
+    × (outcome.sheets ≡ there.sheets place.page input)
+ReportsOn rules reading choice pens given place input before after sink sink' (Err (Write row whole bytes)) =
+    IsPlaced choice rules pens given input place
+    × IsReportCutShort reading (placed_rules rules pens place) (page_reported place) place.page input
     before after sink sink' row whole bytes
-ReportsOn reading choice pens given place input before after sink sink' (Err (Plot fault)) =
-    IsFirstPage choice (rules_of reading) given input place.drawn_on
-    × IsNotDrawn (rules_of reading) place.drawn_on input before after (Plot fault)
-ReportsOn reading choice pens given place input before after sink sink' (Err fault) =
+ReportsOn rules reading choice pens given place input before after sink sink' (Err (Plot fault)) =
+    IsFirstPage choice rules given input place.drawn_on
+    × IsNotDrawn rules place.drawn_on input before after (Plot fault)
+ReportsOn rules reading choice pens given place input before after sink sink' (Err fault) =
     Reports reading given input before after sink sink' (Err fault)
 
 -- a report where the page was chosen, as HasReportedAs
-pub record HasReportedOn (reading : Reading) (choice : PageChoice) (page : Page) (before after : SourceState)
+pub record HasReportedOn (rules : Rules) (reading : Reading) (choice : PageChoice) (page : Page) (before after : SourceState)
     (sink sink' : SinkState) (answer : Result Outcome Fault) : Type 0 where
   pub input : List ℕ
   pub taken : Consumes before.left after.left input
@@ -111,4 +111,4 @@ pub record HasReportedOn (reading : Reading) (choice : PageChoice) (page : Page)
   pub all : AreAllPens pens
   pub place : Place
   pub given : IsGivenPlace choice page place
-  pub reports : ReportsOn reading choice pens page place input before after sink sink' answer
+  pub reports : ReportsOn rules reading choice pens page place input before after sink sink' answer

@@ -6,7 +6,9 @@ use Rattle.hpgl_text.specs.declared.profile.Profile.TheVariants as profile
 use Rattle.hpgl_plot.specs.declared.fault.PlotFault.{PlotFault}
 use Rattle.hpgl_plot.specs.Notes as core
 use Rattle.hpgl_plot.specs.declared.note.Note.{Note}
-use Rattle.full_plot.specs.Drawings.{outcome, refusal_in, strokes_in, ends_in, sheet_strokes, sheet_count}
+use Rattle.carousel.specs.declared.carousel.Carousel.{Carousel}
+use Rattle.hpgl_plot.specs.Strokes.{strokes_with, refusal_with}
+use Rattle.full_plot.specs.Drawings.{outcome, outcome_with, refusal_in, strokes_in, ends_in, sheet_strokes, sheet_count}
 use Rattle.full_notes.specs.Notes as full
 use Rattle.page_fit.specs.Around.{Sides}
 use Rattle.plot_size.specs.Sizes.{sides_asked}
@@ -65,6 +67,22 @@ full_rules sheet = record {
 abbrev pub rules_of : Reading → Rules
 rules_of Core = core_rules
 rules_of (Full sheet) = full_rules sheet
+
+-- the same with the pens of a carousel
+abbrev pub rules_with : Reading → Carousel → Rules
+rules_with Core carousel = record core_rules {
+  strokes = λ page plot. strokes_with carousel page (cut plot);
+  refusal = λ page plot. refusal_with carousel page (cut plot);
+}
+rules_with (Full sheet) carousel = record (full_rules sheet) {
+  strokes = λ page plot.
+      let drawn = outcome_with carousel page plot in
+      sheet_strokes (strokes_in drawn) (ends_in drawn) sheet;
+  refusal = λ page plot. refusal_in (outcome_with carousel page plot);
+  sheets = λ page plot.
+      let drawn = outcome_with carousel page plot in
+      sheet_count (ends_in drawn) (length (strokes_in drawn));
+}
 
 -- the picture of a job and a plot by these rules, smoothed n times
 abbrev pub picture_by : Rules → ℕ → Job → Reach → List ℕ → List ℕ

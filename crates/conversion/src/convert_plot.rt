@@ -3,7 +3,7 @@ ghost use Rattle.std.specs.Prelude.{◌≡◌, ℕ, ◌+◌, ◌-◌, ◌^◌, �
 ghost use Rattle.std.specs.Io.KnownBytes.{IsAtEnd};
 ghost use Rattle.conversion.specs.Conversions.{HasConverted, HasConvertedBy, HasConvertedOn, is_write};
 ghost use Rattle.conversion.specs.Pictures.{has_resolution, is_fine, is_possible, is_smoothed};
-ghost use Rattle.conversion.specs.Rules.{rules_of};
+ghost use Rattle.conversion.specs.Rules.{rules_of, rules_with};
 
 use crate::done::Done;
 use crate::draw_source::draw_source;
@@ -11,6 +11,7 @@ use crate::fault::Fault;
 use crate::outcome::Outcome;
 use crate::painting::paint;
 use crate::watcher::{Unwatched, Watcher};
+use carousel::Carousel;
 use devices::{Sink, Source};
 use page_fit::census_of;
 use picture_job::{Job, PageChoice, Reading, Smoothing};
@@ -74,6 +75,7 @@ pub(crate) fn convert_given<G: Gauge, S: Source, K: Sink>(
     match convert_on(
         alloc,
         reading,
+        &Carousel::empty(),
         PageChoice::GIVEN,
         job,
         Smoothing::NONE,
@@ -101,6 +103,7 @@ pub(crate) fn convert_given<G: Gauge, S: Source, K: Sink>(
 pub fn convert_on<G: Gauge, S: Source, K: Sink, W: Watcher>(
     alloc: Global,
     reading: Reading,
+    carousel: &Carousel,
     choice: PageChoice,
     job: &Job,
     smoothing: Smoothing,
@@ -113,7 +116,7 @@ pub fn convert_on<G: Gauge, S: Source, K: Sink, W: Watcher>(
     requires ending { (S.state source.old).ends < 2 ^ 64 - 1 }
     requires sinking { (K.state sink.old).faults < 2 ^ 64 - 1 }
     ensures resolution { (result ≡ Err Fault.Resolution) ↔ (is_possible smoothing.times job.now ≡ false) }
-    ensures converts { HasConvertedOn (rules_of reading) choice smoothing.times job.now (G.reaches gauge.old)
+    ensures converts { HasConvertedOn (rules_with reading carousel.now) choice smoothing.times job.now (G.reaches gauge.old)
         (S.state source.old) (S.state source.new) (K.state sink.old) (K.state sink.new)
         (G.count gauge.old) (G.count gauge.new) result }
     ensures end { (S.state source.new).ends ≡ (S.state source.old).ends + 1 → IsAtEnd (S.state source.new).left }
@@ -123,7 +126,9 @@ pub fn convert_on<G: Gauge, S: Source, K: Sink, W: Watcher>(
     if !is_possible(job, smoothing) {
         return Err(Fault::Resolution);
     }
-    let drawn = draw_source(alloc, reading, choice, job.pens, &job.page, source)?;
+    let drawn = draw_source(
+        alloc, reading, carousel, choice, job.pens, &job.page, source,
+    )?;
     let job = Job {
         page: drawn.page,
         ..*job

@@ -2,11 +2,12 @@
 ghost use Rattle.std.specs.Prelude.{◌≡◌, ◌+◌, ◌-◌, ◌^◌, ◌<◌};
 ghost use Rattle.std.specs.Io.KnownBytes.{IsAtEnd};
 ghost use Rattle.conversion.specs.Drawings.{HasDrawn};
-ghost use Rattle.conversion.specs.Rules.{rules_of};
+ghost use Rattle.conversion.specs.Rules.{rules_with};
 
 use crate::fault::Fault;
 use crate::place::{Placed, draw_placed};
 use crate::reading::read_plot;
+use carousel::Carousel;
 use devices::Source;
 use picture_job::{PageChoice, Reading};
 use plot_page::{Page, PenSet};
@@ -21,6 +22,7 @@ use std::alloc::Global;
 pub fn draw_source<S: Source>(
     alloc: Global,
     reading: Reading,
+    carousel: &Carousel,
     choice: PageChoice,
     pens: PenSet,
     page: &Page,
@@ -28,10 +30,18 @@ pub fn draw_source<S: Source>(
 ) -> Result<Placed, Fault>
     requires failing { (S.state source.old).faults < 2 ^ 64 - 1 }
     requires ending { (S.state source.old).ends < 2 ^ 64 - 1 }
-    ensures draws { HasDrawn (rules_of reading) choice pens page.now (S.state source.old) (S.state source.new) result }
+    ensures draws { HasDrawn (rules_with reading carousel.now) choice pens page.now (S.state source.old) (S.state source.new) result }
     ensures end { (S.state source.new).ends ≡ (S.state source.old).ends + 1 → IsAtEnd (S.state source.new).left }
 {
     let plot = read_plot(alloc, source)?;
-    let drawn = draw_placed(alloc, reading, choice, pens, page, plot.as_slice())?;
+    let drawn = draw_placed(
+        alloc,
+        reading,
+        carousel,
+        choice,
+        pens,
+        page,
+        plot.as_slice(),
+    )?;
     Ok(drawn)
 }

@@ -2,10 +2,12 @@
 ghost use Rattle.std.specs.Prelude.{◌≡◌, ◌≤◌, None, OnOk, IfOk, IfErr, length};
 ghost use Rattle.plot_page.specs.declared.stroke.TheConstants.{MOST_STROKES};
 ghost use Rattle.conversion.specs.Drawings.{IsReason};
-ghost use Rattle.conversion.specs.Rules.{core_rules, full_rules, rules_of};
+ghost use Rattle.conversion.specs.Rules.{rules_with};
+ghost use Rattle.picture_job.specs.declared.reading.Reading.TheVariants.{Core, Full};
 
-use full_plot::{draw_full, keep_sheet};
-use hpgl_plot::{PlotFault, draw_plot};
+use carousel::Carousel;
+use full_plot::{draw_full_with, keep_sheet};
+use hpgl_plot::{PlotFault, draw_plot_with};
 use picture_job::Reading;
 use plot_page::{Page, Stroke};
 use std::alloc::Global;
@@ -25,32 +27,38 @@ pub struct Lines {
 pub fn draw_as(
     alloc: Global,
     reading: Reading,
+    carousel: &Carousel,
     text: &[u8],
     page: &Page,
 ) -> Result<Lines, PlotFault>
-    ensures accepted { OnOk result ((rules_of reading).refusal page.now text.now ≡ None) }
-    ensures strokes { IfOk result (λ drawn. drawn.strokes.items ≡ (rules_of reading).strokes page.now text.now) }
-    ensures notes { IfOk result (λ drawn. drawn.notes ≡ (rules_of reading).notes text.now) }
-    ensures sheets { IfOk result (λ drawn. drawn.sheets ≡ (rules_of reading).sheets page.now text.now) }
+    ensures accepted { OnOk result ((rules_with reading carousel.now).refusal page.now text.now ≡ None) }
+    ensures strokes { IfOk result (λ drawn. drawn.strokes.items ≡ (rules_with reading carousel.now).strokes page.now text.now) }
+    ensures notes { IfOk result (λ drawn. drawn.notes ≡ (rules_with reading carousel.now).notes text.now) }
+    ensures sheets { IfOk result (λ drawn. drawn.sheets ≡ (rules_with reading carousel.now).sheets page.now text.now) }
     ensures limit { IfOk result (λ drawn. length drawn.strokes.items ≤ MOST_STROKES) }
-    ensures refused { IfErr result (λ fault. IsReason fault ((rules_of reading).refusal page.now text.now)) }
+    ensures refused { IfErr result (λ fault. IsReason fault ((rules_with reading carousel.now).refusal page.now text.now)) }
 {
     match reading {
-        Reading::Core => draw_core(alloc, text, page),
-        Reading::Full { sheet } => draw_sheet(alloc, sheet, text, page),
+        Reading::Core => draw_core(alloc, carousel, text, page),
+        Reading::Full { sheet } => draw_sheet(alloc, sheet, carousel, text, page),
     }
 }
 
 // The same in the profile core.
-fn draw_core(alloc: Global, text: &[u8], page: &Page) -> Result<Lines, PlotFault>
-    ensures accepted { OnOk result (core_rules.refusal page.now text.now ≡ None) }
-    ensures strokes { IfOk result (λ drawn. drawn.strokes.items ≡ core_rules.strokes page.now text.now) }
-    ensures notes { IfOk result (λ drawn. drawn.notes ≡ core_rules.notes text.now) }
+fn draw_core(
+    alloc: Global,
+    carousel: &Carousel,
+    text: &[u8],
+    page: &Page,
+) -> Result<Lines, PlotFault>
+    ensures accepted { OnOk result ((rules_with Core carousel.now).refusal page.now text.now ≡ None) }
+    ensures strokes { IfOk result (λ drawn. drawn.strokes.items ≡ (rules_with Core carousel.now).strokes page.now text.now) }
+    ensures notes { IfOk result (λ drawn. drawn.notes ≡ (rules_with Core carousel.now).notes text.now) }
     ensures sheets { IfOk result (λ drawn. drawn.sheets ≡ 0) }
     ensures limit { IfOk result (λ drawn. length drawn.strokes.items ≤ MOST_STROKES) }
-    ensures refused { IfErr result (λ fault. IsReason fault (core_rules.refusal page.now text.now)) }
+    ensures refused { IfErr result (λ fault. IsReason fault ((rules_with Core carousel.now).refusal page.now text.now)) }
 {
-    let drawn = draw_plot(alloc, text, page)?;
+    let drawn = draw_plot_with(alloc, text, page, carousel)?;
     Ok(Lines {
         strokes: drawn.strokes,
         notes: drawn.notes,
@@ -59,15 +67,21 @@ fn draw_core(alloc: Global, text: &[u8], page: &Page) -> Result<Lines, PlotFault
 }
 
 // The same in the profile full, for a sheet.
-fn draw_sheet(alloc: Global, sheet: u32, text: &[u8], page: &Page) -> Result<Lines, PlotFault>
-    ensures accepted { OnOk result ((full_rules sheet).refusal page.now text.now ≡ None) }
-    ensures strokes { IfOk result (λ drawn. drawn.strokes.items ≡ (full_rules sheet).strokes page.now text.now) }
-    ensures notes { IfOk result (λ drawn. drawn.notes ≡ (full_rules sheet).notes text.now) }
-    ensures sheets { IfOk result (λ drawn. drawn.sheets ≡ (full_rules sheet).sheets page.now text.now) }
+fn draw_sheet(
+    alloc: Global,
+    sheet: u32,
+    carousel: &Carousel,
+    text: &[u8],
+    page: &Page,
+) -> Result<Lines, PlotFault>
+    ensures accepted { OnOk result ((rules_with (Full sheet) carousel.now).refusal page.now text.now ≡ None) }
+    ensures strokes { IfOk result (λ drawn. drawn.strokes.items ≡ (rules_with (Full sheet) carousel.now).strokes page.now text.now) }
+    ensures notes { IfOk result (λ drawn. drawn.notes ≡ (rules_with (Full sheet) carousel.now).notes text.now) }
+    ensures sheets { IfOk result (λ drawn. drawn.sheets ≡ (rules_with (Full sheet) carousel.now).sheets page.now text.now) }
     ensures limit { IfOk result (λ drawn. length drawn.strokes.items ≤ MOST_STROKES) }
-    ensures refused { IfErr result (λ fault. IsReason fault ((full_rules sheet).refusal page.now text.now)) }
+    ensures refused { IfErr result (λ fault. IsReason fault ((rules_with (Full sheet) carousel.now).refusal page.now text.now)) }
 {
-    let mut drawn = draw_full(alloc, text, page)?;
+    let mut drawn = draw_full_with(alloc, text, page, carousel)?;
     let sheets = drawn.sheets();
     keep_sheet(&mut drawn.strokes, drawn.ends.as_slice(), sheet);
     Ok(Lines {

@@ -1,5 +1,6 @@
 //! Drawing a plot on its page, and moving its strokes to the page that the picture shows.
 ghost use Rattle.std.specs.Prelude.{◌≡◌, ℕ, List, true, false, IfOk, IfErr, IfSome, IfNone};
+ghost use Rattle.carousel.specs.declared.carousel.Carousel.{Carousel};
 ghost use Rattle.plot_size.specs.Sizes.{sides_asked};
 ghost use Rattle.page_fit.specs.Around.{corner_around};
 ghost use Rattle.page_fit.specs.Extents.{IsNear};
@@ -8,10 +9,11 @@ ghost use Rattle.plot_report.specs.Report.{report_page};
 ghost use Rattle.conversion.specs.Drawings.{AreLinesOf, AreMoved, IsReasonOnFirst, place_of};
 ghost use Rattle.conversion.specs.Placements.{IsAsked, IsDrawnOn, IsFitted, IsPlaced};
 ghost use Rattle.conversion.specs.Placements.{page_reported, place_on, placed_rules, reported_at};
-ghost use Rattle.conversion.specs.Rules.{rules_of};
+ghost use Rattle.conversion.specs.Rules.{rules_with};
 
 use crate::lines::{Lines, draw_as};
 use crate::placement::Placement;
+use carousel::Carousel;
 use hpgl_plot::PlotFault;
 use hpgl_text::Profile;
 use page_fit::{Corner, Extent, are_movable, corner_around, extent_of, move_strokes, page_around};
@@ -48,19 +50,20 @@ pub struct Placed {
 pub fn draw_placed(
     alloc: Global,
     reading: Reading,
+    carousel: &Carousel,
     choice: PageChoice,
     pens: PenSet,
     page: &Page,
     text: &[u8],
 ) -> Result<Placed, PlotFault>
-    ensures placed { IfOk result (λ drawn. IsPlaced choice (rules_of reading) pens page.now text.now (place_of drawn)) }
-    ensures lines { IfOk result (λ drawn. AreLinesOf (placed_rules (rules_of reading) pens (place_of drawn))
+    ensures placed { IfOk result (λ drawn. IsPlaced choice (rules_with reading carousel.now) pens page.now text.now (place_of drawn)) }
+    ensures lines { IfOk result (λ drawn. AreLinesOf (placed_rules (rules_with reading carousel.now) pens (place_of drawn))
         drawn.page text.now drawn.lines) }
     ensures named { IfOk result (λ drawn. drawn.named ≡ page_reported (place_of drawn)) }
-    ensures refused { IfErr result (IsReasonOnFirst choice (rules_of reading) page.now text.now) }
+    ensures refused { IfErr result (IsReasonOnFirst choice (rules_with reading carousel.now) page.now text.now) }
 {
     let (placement, first) = first_page(reading, choice.asked, page, text);
-    let lines = draw_as(alloc, reading, text, &first)?;
+    let lines = draw_as(alloc, reading, carousel, text, &first)?;
     Ok(match choice.margin {
         Some(margin) => fitted(margin, pens, first, lines),
         None => unmoved(placement, first, lines),
@@ -69,7 +72,7 @@ pub fn draw_placed(
 
 // The page that the plot is drawn on, and why.
 fn first_page(reading: Reading, is_asked: bool, page: &Page, text: &[u8]) -> (Placement, Page)
-    ensures { IsDrawnOn is_asked (rules_of reading) page.now text.now result.0 result.1 }
+    ensures { (carousel : Carousel) → IsDrawnOn is_asked (rules_with reading carousel) page.now text.now result.0 result.1 }
 {
     if is_asked {
         asked_or_given(reading, page, text)
@@ -80,7 +83,7 @@ fn first_page(reading: Reading, is_asked: bool, page: &Page, text: &[u8]) -> (Pl
 
 // The page that the plot asks for, or the one that is given if it asks for none.
 fn asked_or_given(reading: Reading, page: &Page, text: &[u8]) -> (Placement, Page)
-    ensures { IsAsked (rules_of reading) page.now text.now result.0 result.1 }
+    ensures { (carousel : Carousel) → IsAsked (rules_with reading carousel) page.now text.now result.0 result.1 }
 {
     match page_asked(profile_of(reading), page, text) {
         Some(asked) => (Placement::Asked, asked),
@@ -90,7 +93,7 @@ fn asked_or_given(reading: Reading, page: &Page, text: &[u8]) -> (Placement, Pag
 
 // The profile by which a plot is read.
 fn profile_of(reading: Reading) -> Profile
-    ensures { (page : Page) (plot : List ℕ) → (rules_of reading).asked page plot ≡ sides_asked result page plot }
+    ensures { (page : Page) (plot : List ℕ) → (carousel : Carousel) → (rules_with reading carousel).asked page plot ≡ sides_asked result page plot }
 {
     match reading {
         Reading::Core => Profile::Core,

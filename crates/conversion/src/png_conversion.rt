@@ -3,7 +3,7 @@ ghost use Rattle.std.specs.Prelude.{◌≡◌, ◌+◌, ◌-◌, ◌^◌, ◌<�
 ghost use Rattle.std.specs.Io.KnownBytes.{IsAtEnd};
 ghost use Rattle.conversion.specs.Conversions.{is_write};
 ghost use Rattle.conversion.specs.Documents.{HasConvertedToPng, is_png_possible};
-ghost use Rattle.conversion.specs.Rules.{rules_of};
+ghost use Rattle.conversion.specs.Rules.{rules_with};
 
 use crate::convert_plot::{is_fine, is_smoothed};
 use crate::done::Done;
@@ -12,6 +12,7 @@ use crate::fault::Fault;
 use crate::outcome::Outcome;
 use crate::png_picture::paint_png;
 use crate::watcher::Watcher;
+use carousel::Carousel;
 use devices::{Sink, Source};
 use page_fit::census_of;
 use picture_job::{PageChoice, PngJob, Reading};
@@ -33,6 +34,7 @@ use stroke_raster::Gauge;
 pub fn convert_png<G: Gauge, S: Source, K: Sink, W: Watcher>(
     alloc: Global,
     reading: Reading,
+    carousel: &Carousel,
     choice: PageChoice,
     job: &PngJob,
     gauge: &mut G,
@@ -44,7 +46,7 @@ pub fn convert_png<G: Gauge, S: Source, K: Sink, W: Watcher>(
     requires ending { (S.state source.old).ends < 2 ^ 64 - 1 }
     requires sinking { (K.state sink).faults < 2 ^ 64 - 1 }
     ensures resolution { (result.1 ≡ Err Fault.Resolution) ↔ (is_png_possible job.now ≡ false) }
-    ensures converts { HasConvertedToPng (rules_of reading) choice job.now (G.reaches gauge.old)
+    ensures converts { HasConvertedToPng (rules_with reading carousel.now) choice job.now (G.reaches gauge.old)
         (S.state source.old) (S.state source.new) (K.state sink) (K.state result.0)
         (G.count gauge.old) (G.count gauge.new) result.1 }
     ensures end { (S.state source.new).ends ≡ (S.state source.old).ends + 1 → IsAtEnd (S.state source.new).left }
@@ -54,7 +56,9 @@ pub fn convert_png<G: Gauge, S: Source, K: Sink, W: Watcher>(
     if is_smoothed(Form::Ppm, job.smoothing) && !is_fine(job.dots, job.smoothing) {
         return (sink, Err(Fault::Resolution));
     }
-    let drawn = match draw_source(alloc, reading, choice, job.pens, &job.page, source) {
+    let drawn = match draw_source(
+        alloc, reading, carousel, choice, job.pens, &job.page, source,
+    ) {
         Ok(drawn) => drawn,
         Err(fault) => return (sink, Err(fault)),
     };

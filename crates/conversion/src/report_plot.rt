@@ -6,12 +6,14 @@ ghost use Rattle.hpgl_text.specs.declared.program.TheConstants.{LONGEST_PLOT};
 ghost use Rattle.devices.specs.Sinks.{Writes};
 ghost use Rattle.conversion.specs.Conversions.{is_write};
 ghost use Rattle.conversion.specs.Reports.{HasReported, HasReportedOn, report_on};
+ghost use Rattle.conversion.specs.Rules.{rules_with};
 
 use crate::done::Done;
 use crate::fault::Fault;
 use crate::outcome::Outcome;
 use crate::place::draw_placed;
 use crate::reading::read_plot;
+use carousel::Carousel;
 use devices::{Sink, Source, WriteFault};
 use full_notes::FullNotes;
 use hpgl_plot::Notes;
@@ -42,7 +44,15 @@ pub fn report<S: Source, K: Sink>(
     ensures end { (S.state source.new).ends ≡ (S.state source.old).ends + 1 → IsAtEnd (S.state source.new).left }
     ensures untouched { IfErr result (λ fault. is_write fault ≡ false → sink.new ≡ sink.old) }
 {
-    match report_on(alloc, Reading::Core, PageChoice::GIVEN, page, source, sink) {
+    match report_on(
+        alloc,
+        Reading::Core,
+        &Carousel::empty(),
+        PageChoice::GIVEN,
+        page,
+        source,
+        sink,
+    ) {
         Ok(outcome) => Ok(outcome.done),
         Err(fault) => Err(fault),
     }
@@ -56,6 +66,7 @@ pub fn report<S: Source, K: Sink>(
 pub fn report_on<S: Source, K: Sink>(
     alloc: Global,
     reading: Reading,
+    carousel: &Carousel,
     choice: PageChoice,
     page: &Page,
     source: &mut S,
@@ -64,14 +75,22 @@ pub fn report_on<S: Source, K: Sink>(
     requires failing { (S.state source.old).faults < 2 ^ 64 - 1 }
     requires ending { (S.state source.old).ends < 2 ^ 64 - 1 }
     requires sinking { (K.state sink.old).faults < 2 ^ 64 - 1 }
-    ensures reports { HasReportedOn reading choice page.now
+    ensures reports { HasReportedOn (rules_with reading carousel.now) reading choice page.now
         (S.state source.old) (S.state source.new) (K.state sink.old) (K.state sink.new) result }
     ensures end { (S.state source.new).ends ≡ (S.state source.old).ends + 1 → IsAtEnd (S.state source.new).left }
     ensures untouched { IfErr result (λ fault. is_write fault ≡ false → sink.new ≡ sink.old) }
 {
     let pens = PenSet::all();
     let plot = read_plot(alloc, source)?;
-    let drawn = draw_placed(alloc, reading, choice, pens, page, plot.as_slice())?;
+    let drawn = draw_placed(
+        alloc,
+        reading,
+        carousel,
+        choice,
+        pens,
+        page,
+        plot.as_slice(),
+    )?;
     let strokes = drawn.lines.strokes.as_slice();
     match write_as(
         reading,

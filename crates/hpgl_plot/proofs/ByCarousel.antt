@@ -247,7 +247,7 @@ refused_loaded page c a b count (i ∷ more) h =
     ap length (steps_loaded page c a b ts u h) ∙ length-map (strokes_from page b ts) (by_carousel c) in
     ap₂ (λ (x : Bool) (n : ℕ). refused_by i.at x (count + n) (refusal_after page (history a ts) (count + n) more)) (range_loaded page c a b ts u h) as_many
     ∙ ap (λ (r : Option PlotFault). refused_by i.at (stay_in_range page b ts) (count + length (strokes_from page b ts)) r)
-        (refused_loaded page c (history a ts) (history b ts) _ more (history_loaded page c a b ts u h))
+    (refused_loaded page c (history a ts) (history b ts) _ more (history_loaded page c a b ts u h))
 
 -- a carousel that is loaded before the first item
 first_loaded : (page : Page) (c : Carousel) → IsLoaded page c (Load c ∷ []) []

@@ -5,7 +5,7 @@ use Rattle.conversion.specs.Boxes.{strokes_boxes}
 use Rattle.conversion.specs.Conversions.{HasConvertedOn, on_page}
 use Rattle.conversion.specs.Drawings.{place_of}
 use Rattle.conversion.specs.Placements.{Place, place_on, placed_rules}
-use Rattle.conversion.specs.Rules.{Rules, rules_of}
+use Rattle.conversion.specs.Rules.{Rules, rules_with}
 use Rattle.conversion.specs.declared.placement.Placement.TheVariants.{Given}
 use Rattle.conversion.specs.Progress.{HasPainted}
 use Rattle.conversion.specs.declared.fault.Fault.{Fault}
@@ -21,7 +21,7 @@ returns-clause-converts g c =
     let page = place.page in
     let job = on_page page c.args.job.now in
     let n = c.args.smoothing.times in
-    let rules : Rules = placed_rules (rules_of c.args.reading) job.pens place in
+    let rules : Rules = placed_rules (rules_with c.args.reading c.args.carousel.now) job.pens place in
     let drawing = c.in_ok-drawn.ensures.draws in
     let input : List ℕ = drawing.input in
     let was : SinkState = g.K.Sink.state c.args.sink.now in
@@ -32,7 +32,7 @@ returns-clause-converts g c =
       input = input;
       taken = drawing.taken;
       place = place;
-      given = given_place c.args.choice (rules_of c.args.reading) job.pens c.args.job.now.page input place drawing.draws.placed;
+      given = given_place c.args.choice (rules_with c.args.reading c.args.carousel.now) job.pens c.args.job.now.page input place drawing.draws.placed;
       converts = (
         drawing.draws.placed,
         refl,
@@ -58,7 +58,7 @@ returns-in-Err-clause-converts g c =
     let page = place.page in
     let job = on_page page c.args.job.now in
     let n = c.args.smoothing.times in
-    let rules : Rules = placed_rules (rules_of c.args.reading) job.pens place in
+    let rules : Rules = placed_rules (rules_with c.args.reading c.args.carousel.now) job.pens place in
     let drawing = c.in_ok-drawn.ensures.draws in
     let input : List ℕ = drawing.input in
     let was : SinkState = g.K.Sink.state c.args.sink.now in
@@ -68,8 +68,8 @@ returns-in-Err-clause-converts g c =
       input = input;
       taken = drawing.taken;
       place = place;
-      given = given_place c.args.choice (rules_of c.args.reading) job.pens c.args.job.now.page input place drawing.draws.placed;
-      converts = not_painted_on (rules_of c.args.reading) c.args.choice n c.args.job.now place (g.G.Gauge.reaches c.args.gauge.now) input _ _ was is c.in-Err.fault
+      given = given_place c.args.choice (rules_with c.args.reading c.args.carousel.now) job.pens c.args.job.now.page input place drawing.draws.placed;
+      converts = not_painted_on (rules_with c.args.reading c.args.carousel.now) c.args.choice n c.args.job.now place (g.G.Gauge.reaches c.args.gauge.now) input _ _ was is c.in-Err.fault
           drawing.draws.placed drawing.draws.read drawing.draws.lines.accepted
           (subst (λ (ss : List Segment). HasPainted n job (g.G.Gauge.reaches c.args.gauge.now) ss was is (Err c.in-Err.fault)) drawn c.in-Err.ensures.paints);
       tested = subst (λ (ss : List Segment). g.G.Gauge.count c.paint.new.gauge ≤ g.G.Gauge.count c.args.gauge.now + strokes_boxes n job ss) drawn c.in-Err.ensures.tests;
@@ -93,8 +93,8 @@ returns-in_err-drawn-clause-converts g c =
     let is = g.S.Source.state c.draw_source.new.source in
     let sink : SinkState = g.K.Sink.state c.args.sink.now in
     let count = g.G.Gauge.count c.args.gauge.now in
-    let refused = not_drawn_on (rules_of c.args.reading) c.args.choice c.args.smoothing.times job (g.G.Gauge.reaches c.args.gauge.now) drawing.input was is sink sink _ drawing.draws in
-    subst (λ (answer : Result Outcome Fault). HasConvertedOn (rules_of c.args.reading) c.args.choice c.args.smoothing.times job (g.G.Gauge.reaches c.args.gauge.now) was is sink sink count count answer)
+    let refused = not_drawn_on (rules_with c.args.reading c.args.carousel.now) c.args.choice c.args.smoothing.times job (g.G.Gauge.reaches c.args.gauge.now) drawing.input was is sink sink _ drawing.draws in
+    subst (λ (answer : Result Outcome Fault). HasConvertedOn (rules_with c.args.reading c.args.carousel.now) c.args.choice c.args.smoothing.times job (g.G.Gauge.reaches c.args.gauge.now) was is sink sink count count answer)
     (sym (passed_on _ _ c.from_residual.ensures.1))
     (record {
       input = drawing.input;

@@ -1,6 +1,6 @@
 use Rattle.std.proofs.Common.{◌≡◌, ◌∙◌, List, ℕ, Result, sym, subst}
 use Rattle.conversion.specs.Drawings.{HasDrawn, IsReasonOnFirst}
-use Rattle.conversion.specs.Rules.{rules_of}
+use Rattle.conversion.specs.Rules.{rules_with}
 use Rattle.conversion.specs.declared.fault.Fault.{Fault}
 use Rattle.conversion.specs.declared.place.Placed.{Placed}
 use Rattle.conversion.proofs.Choices.{not_drawn}
@@ -12,7 +12,7 @@ returns-in_err-drawn-clause-draws g c =
     let reads = c.in_ok-plot.ensures.reads in
     let was = g.S.Source.state c.args.source.now in
     let is = g.S.Source.state c.read_plot.new.source in
-    let rules = rules_of c.args.reading in
+    let rules = rules_with c.args.reading c.args.carousel.now in
     let same : c.as_slice.result.now ≡ reads.input = c.as_slice.ensures.value ∙ reads.reads.0 in
     let reason = subst (λ (plot : List ℕ). IsReasonOnFirst c.args.choice rules c.args.page.now plot c.in_err-drawn.field-0.0) same c.in_err-drawn.ensures.refused in
     subst (λ (answer : Result Placed Fault). HasDrawn rules c.args.choice c.args.pens c.args.page.now was is answer) (sym (passed_on _ _ c.from_residual-in_err-drawn.ensures.1))

@@ -3,7 +3,7 @@ use Rattle.plot_page.specs.Segments.{Segment}
 use Rattle.page_fit.specs.Census.{census_of}
 use Rattle.conversion.specs.Drawings.{place_of}
 use Rattle.conversion.specs.Placements.{Place, place_on, placed_rules}
-use Rattle.conversion.specs.Rules.{Rules, rules_of}
+use Rattle.conversion.specs.Rules.{Rules, rules_with}
 use Rattle.conversion.specs.declared.placement.Placement.TheVariants.{Given}
 use Rattle.conversion.specs.Documents.{HasPaintedPng, picture_shown, png_boxes, png_on_page}
 use Rattle.devices.specs.Sinks.{SinkState}
@@ -15,7 +15,7 @@ returns-in-Err-clause-converts g c =
     let job = c.args.job.now in
     let drawing = c.in-Err.ensures.draws in
     let sink : SinkState = g.K.Sink.state c.args.sink in
-    let refused = png_not_drawn (rules_of c.args.reading) c.args.choice job (g.G.Gauge.reaches c.args.gauge.now) drawing.input _ _ sink sink c.in-Err.fault drawing.draws in
+    let refused = png_not_drawn (rules_with c.args.reading c.args.carousel.now) c.args.choice job (g.G.Gauge.reaches c.args.gauge.now) drawing.input _ _ sink sink c.in-Err.fault drawing.draws in
     record {
       input = drawing.input;
       taken = drawing.taken;
@@ -31,7 +31,7 @@ returns-in-Err-painted-clause-converts g c =
     let page = place.page in
     let given = c.args.job.now in
     let job = png_on_page page given in
-    let rules : Rules = placed_rules (rules_of c.args.reading) given.pens place in
+    let rules : Rules = placed_rules (rules_with c.args.reading c.args.carousel.now) given.pens place in
     let reaches = g.G.Gauge.reaches c.args.gauge.now in
     let drawing = c.in-Ok.ensures.draws in
     let was : SinkState = g.K.Sink.state c.args.sink in
@@ -42,8 +42,8 @@ returns-in-Err-painted-clause-converts g c =
       input = drawing.input;
       taken = drawing.taken;
       place = place;
-      given = given_place c.args.choice (rules_of c.args.reading) given.pens given.page drawing.input place drawing.draws.placed;
-      converts = png_not_painted (rules_of c.args.reading) c.args.choice given place reaches drawing.input _ _ was is c.in-Err-painted.fault (picture_shown job reaches c.as_slice-strokes.result.now)
+      given = given_place c.args.choice (rules_with c.args.reading c.args.carousel.now) given.pens given.page drawing.input place drawing.draws.placed;
+      converts = png_not_painted (rules_with c.args.reading c.args.carousel.now) c.args.choice given place reaches drawing.input _ _ was is c.in-Err-painted.fault (picture_shown job reaches c.as_slice-strokes.result.now)
           drawing.draws.placed drawing.draws.read drawing.draws.lines.accepted painted;
       tested = subst (λ (ss : List Segment). g.G.Gauge.count c.paint_png-sink.new.gauge ≤ g.G.Gauge.count c.args.gauge.now + png_boxes job ss) drawn c.paint_png-sink.ensures.tests;
     }
@@ -54,7 +54,7 @@ returns-clause-converts g c =
     let page = place.page in
     let given = c.args.job.now in
     let job = png_on_page page given in
-    let rules : Rules = placed_rules (rules_of c.args.reading) given.pens place in
+    let rules : Rules = placed_rules (rules_with c.args.reading c.args.carousel.now) given.pens place in
     let reaches = g.G.Gauge.reaches c.args.gauge.now in
     let drawing = c.in-Ok.ensures.draws in
     let was : SinkState = g.K.Sink.state c.args.sink in
@@ -66,7 +66,7 @@ returns-clause-converts g c =
       input = drawing.input;
       taken = drawing.taken;
       place = place;
-      given = given_place c.args.choice (rules_of c.args.reading) given.pens given.page drawing.input place drawing.draws.placed;
+      given = given_place c.args.choice (rules_with c.args.reading c.args.carousel.now) given.pens given.page drawing.input place drawing.draws.placed;
       converts = (
         drawing.draws.placed,
         refl,
