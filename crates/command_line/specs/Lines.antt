@@ -263,10 +263,6 @@ asks_bad_list m = option_map_or names_bad_list (subcommand_rows_of m) false
 abbrev pub has_stray_smooth : Bool → List Row → Bool
 has_stray_smooth is_smoothed rows = not is_smoothed && is_some (number_in rows (codes "smooth"))
 
--- the same, as what is wrong
-abbrev pub stray_smooth_fault : Bool → List Row → Option LineFault
-stray_smooth_fault is_smoothed rows = if has_stray_smooth is_smoothed rows then Some Shades else None
-
 -- the picture would be painted at more than 1200 dots per inch
 abbrev pub is_too_fine : Kind → Bool → List Row → Bool
 is_too_fine kind is_smoothed rows = option_map_or

@@ -1,5 +1,5 @@
 -- What a faultless parse of this command leaves for `settle` to read.
-use Rattle.std.specs.Prelude.{◌≡◌, ℕ, Bool, true, false, List, Option, Some, None, Result, Ok, Err, is_some, codes, pos}
+use Rattle.std.specs.Prelude.{◌≡◌, ℕ, Bool, true, false, List, Option, Some, None, Result, Ok, Err, is_some, codes, pos, if◌then◌else◌}
 use Rattle.clap.specs.Lexer.{without_minus}
 use Rattle.clap.specs.Values.{IsSignedIn}
 use Rattle.clap.specs.Words.{Row, Text, one_of}
@@ -8,9 +8,9 @@ use Rattle.command_line.specs.declared.subcommands.Kind.TheVariants.{Draw, Write
 use Rattle.command_line.specs.declared.subcommands.Output.{Output}
 use Rattle.command_line.specs.declared.subcommands.Output.TheVariants.{Picture, Png, Report}
 use Rattle.command_line.specs.declared.fault.LineFault.{LineFault}
-use Rattle.command_line.specs.declared.fault.LineFault.TheVariants.{Paper, Size}
+use Rattle.command_line.specs.declared.fault.LineFault.TheVariants.{Paper, Shades, Size}
 use Rattle.command_line.specs.Papers.{size_named}
-use Rattle.command_line.specs.Lines.{number_in, pens_text, profile_text}
+use Rattle.command_line.specs.Lines.{has_stray_smooth, number_in, pens_text, profile_text}
 
 -- the option has a text that is a whole number from low to high
 pub record HasNumber (rows : List Row) (name : Text) (low high : ℕ) : Type 0 where
@@ -50,6 +50,10 @@ size_or_fault (Some size) false = Ok size
 -- the same of this name
 abbrev pub paper_or_fault : Text → Bool → Result (ℕ × ℕ) LineFault
 paper_or_fault name has_side = size_or_fault (size_named name) has_side
+
+-- what is wrong with a smoothing: it is given, and the picture may not be smoothed
+abbrev pub stray_smooth_fault : Bool → List Row → Option LineFault
+stray_smooth_fault is_smoothed rows = if has_stray_smooth is_smoothed rows then Some Shades else None
 
 -- each option for what is written has a value
 abbrev pub HasValuesOf : Output → List Row → Type 0

@@ -6,13 +6,13 @@ ghost use Rattle.clap.specs.Words.{found_of, rows_of};
 ghost use Rattle.plot_page.specs.Pages.{has_page_size};
 ghost use Rattle.command_line.specs.Lines.{number_in, lists_no_pens, has_bad_list, asks_bad_list, written, form_text, asked_picture};
 ghost use Rattle.command_line.specs.Lines.{ArePensOf, IsPageOf, IsPictureOf, IsPngJobOf, IsTaskOf, IsLineBy, IsLineOf, AreOfThisCommand};
-ghost use Rattle.command_line.specs.Lines.{has_stray_smooth, picture_fault, smooth_or, stray_smooth_fault, usual_smooth};
+ghost use Rattle.command_line.specs.Lines.{has_stray_smooth, picture_fault, smooth_or, usual_smooth};
 ghost use Rattle.command_line.specs.Lines.{IsReadingOf, line_fault, page_fault, pens_text, reading_fault, task_fault, values_fault};
 ghost use Rattle.command_line.specs.Lines.{IsChoiceOf, choice_fault, gives_page, has_flag, has_paper_and_side, is_given, names_page, page_size};
 ghost use Rattle.command_line.specs.Lines.{files_in, has_no_place, output_fault, output_text};
 ghost use Rattle.command_line.specs.Options.{is_smoothed};
 ghost use Rattle.command_line.specs.Readings.{HasChoiceValues, HasFormValues, HasNumber, HasPageNumbers, HasPictureValues};
-ghost use Rattle.command_line.specs.Readings.{HasReadingValues, HasTaskValues, HasValues, MayHaveNumber, paper_or_fault};
+ghost use Rattle.command_line.specs.Readings.{HasReadingValues, HasTaskValues, HasValues, MayHaveNumber, paper_or_fault, stray_smooth_fault};
 
 use crate::defaults::defaults_of;
 use crate::fault::LineFault;
