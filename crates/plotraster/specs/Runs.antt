@@ -4,7 +4,8 @@ use Rattle.command_line.specs.declared.line.Task.{Task}
 use Rattle.command_line.specs.declared.line.Task.TheVariants.{Picture, Png, Report}
 use Rattle.picture_job.specs.declared.reading.Reading.{Reading}
 use Rattle.picture_job.specs.declared.page_choice.PageChoice.{PageChoice}
-use Rattle.conversion.specs.Rules.{rules_of}
+use Rattle.carousel.specs.declared.carousel.Carousel.{Carousel}
+use Rattle.conversion.specs.Rules.{rules_with}
 use Rattle.conversion.specs.Conversions.{HasConvertedOn}
 use Rattle.conversion.specs.Documents.{HasConvertedToPng, is_png_possible}
 use Rattle.conversion.specs.Pictures.{exact, is_possible}
@@ -16,15 +17,15 @@ use Rattle.conversion.specs.declared.outcome.Outcome.{Outcome}
 use Rattle.conversion.specs.declared.fault.Fault.{Fault}
 
 -- a picture is converted by the exact gauge, after no tests, to a form or to a PNG; a report is written; each of a plot
--- that is read so, on the page that was chosen
-abbrev pub HasRun : Reading → PageChoice → Task → SourceState → SourceState → SinkState → SinkState → Result Outcome Fault →
+-- that is read so and drawn with the pens of the carousel, on the page that was chosen
+abbrev pub HasRun : Reading → Carousel → PageChoice → Task → SourceState → SourceState → SinkState → SinkState → Result Outcome Fault →
     Type 0
-HasRun reading choice (Picture job smoothing) before after sink sink' answer =
-    (tests : ℕ) × HasConvertedOn (rules_of reading) choice smoothing.times job exact before after sink sink' 0 tests answer
-HasRun reading choice (Png job) before after sink sink' answer =
-    (tests : ℕ) × HasConvertedToPng (rules_of reading) choice job exact before after sink sink' 0 tests answer
-HasRun reading choice (Report page) before after sink sink' answer =
-    HasReportedOn reading choice page before after sink sink' answer
+HasRun reading carousel choice (Picture job smoothing) before after sink sink' answer =
+    (tests : ℕ) × HasConvertedOn (rules_with reading carousel) choice smoothing.times job exact before after sink sink' 0 tests answer
+HasRun reading carousel choice (Png job) before after sink sink' answer =
+    (tests : ℕ) × HasConvertedToPng (rules_with reading carousel) choice job exact before after sink sink' 0 tests answer
+HasRun reading carousel choice (Report page) before after sink sink' answer =
+    HasReportedOn (rules_with reading carousel) reading choice page before after sink sink' answer
 
 -- the form of a picture has its resolution, and a picture that is smoothed is not too fine; a report has any
 abbrev pub task_has_resolution : Task → Bool

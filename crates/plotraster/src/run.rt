@@ -4,6 +4,7 @@ ghost use Rattle.std.specs.Io.KnownBytes.{IsAtEnd};
 ghost use Rattle.conversion.specs.Conversions.{is_write};
 ghost use Rattle.plotraster.specs.Runs.{HasRun, task_has_resolution, exit_status_of};
 
+use carousel::Carousel;
 use command_line::Task;
 use conversion::{Fault, Outcome, Watcher, convert_on, convert_png, report_on, status};
 use devices::{Sink, Source};
@@ -11,12 +12,13 @@ use picture_job::{PageChoice, Reading};
 use std::alloc::Global;
 use stroke_raster::Exact;
 
-/// Does what the task says with the plot that the source gives, which is read so, on the page that is
-/// chosen: writes its picture, by the gauge `Exact`, or the report on it. Gives the sink back. The watcher is told how far
+/// Does what the task says with the plot that the source gives, which is read so and drawn with the pens of the carousel, on
+/// the page that is chosen: writes its picture, by the gauge `Exact`, or the report on it. Gives the sink back. The watcher is told how far
 /// a picture is, and nothing of a report. The errors are those of `convert_on`, of `convert_png` and of `report_on`.
 pub fn run_task<S: Source, K: Sink, W: Watcher>(
     alloc: Global,
     reading: Reading,
+    carousel: &Carousel,
     choice: PageChoice,
     task: &Task,
     source: &mut S,
@@ -27,7 +29,7 @@ pub fn run_task<S: Source, K: Sink, W: Watcher>(
     requires ending { (S.state source.old).ends < 2 ^ 64 - 1 }
     requires sinking { (K.state sink).faults < 2 ^ 64 - 1 }
     ensures resolution { (result.1 ≡ Err Fault.Resolution) ↔ (task_has_resolution task.now ≡ false) }
-    ensures runs { HasRun reading choice task.now
+    ensures runs { HasRun reading carousel.now choice task.now
         (S.state source.old) (S.state source.new) (K.state sink) (K.state result.0) result.1 }
     ensures end { (S.state source.new).ends ≡ (S.state source.old).ends + 1 → IsAtEnd (S.state source.new).left }
     ensures untouched { IfErr result.1 (λ fault. is_write fault ≡ false → result.0 ≡ sink) }
@@ -37,17 +39,18 @@ pub fn run_task<S: Source, K: Sink, W: Watcher>(
     match task {
         Task::Picture { job, smoothing } => {
             let outcome = convert_on(
-                alloc, reading, choice, job, *smoothing, &mut gauge, source, &mut sink, watcher,
+                alloc, reading, carousel, choice, job, *smoothing, &mut gauge, source, &mut sink,
+                watcher,
             );
             (sink, outcome)
         }
         Task::Png(job) => {
             convert_png(
-                alloc, reading, choice, job, &mut gauge, source, sink, watcher,
+                alloc, reading, carousel, choice, job, &mut gauge, source, sink, watcher,
             )
         }
         Task::Report(page) => {
-            let outcome = report_on(alloc, reading, choice, page, source, &mut sink);
+            let outcome = report_on(alloc, reading, carousel, choice, page, source, &mut sink);
             (sink, outcome)
         }
     }

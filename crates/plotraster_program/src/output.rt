@@ -1,7 +1,7 @@
 //! Where the output of a plot goes: standard output, a device, or a new file that gets its name when it is whole.
 use crate::messages::{About, cannot_write, refuse, refuse_terminal, refuse_write, tell_outcome};
 use crate::progress::Progress;
-use plotraster::{Fault, Line, Outcome, OverRead, OverWrite, exit_status, run_task};
+use plotraster::{Carousel, Fault, Line, Outcome, OverRead, OverWrite, exit_status, run_task};
 use std::fs::{File, OpenOptions, metadata, remove_file, rename};
 use std::io::{IsTerminal, Read, Write};
 use std::os::unix::fs::MetadataExt;
@@ -43,6 +43,7 @@ fn perform<R: Read + Drop, W: Write + Drop>(
     let (_, outcome) = run_task(
         rt.alloc(),
         line.reading,
+        &Carousel::empty(),
         line.choice,
         &line.task,
         &mut source,

@@ -4,6 +4,7 @@
 #[cfg(test)]
 mod broken_off;
 #[cfg(test)]
+mod carousels;
 mod cases;
 #[cfg(test)]
 mod colours;

@@ -1,7 +1,7 @@
 //! The page that most tests draw on, the plots that they draw, and where plots are placed.
 use crate::cases::text_of;
 use plotraster::{
-    Dots, Form, Job, OverRead, OverWrite, Page, PageChoice, PenSet, Reading, report_on,
+    Carousel, Dots, Form, Job, OverRead, OverWrite, Page, PageChoice, PenSet, Reading, report_on,
 };
 use std::alloc::Global;
 use std::test::Fail;
@@ -40,7 +40,15 @@ pub fn placed_on(
 ) -> Result<String, Fail> {
     let mut sink = OverWrite::new(Vec::new(alloc));
     let mut source = OverRead::new(plot.as_bytes());
-    let outcome = report_on(alloc, reading, choice, page, &mut source, &mut sink)?;
+    let outcome = report_on(
+        alloc,
+        reading,
+        &Carousel::empty(),
+        choice,
+        page,
+        &mut source,
+        &mut sink,
+    )?;
     let written = sink.into_inner();
     let line = text_of(written.as_slice())?
         .lines()

@@ -3,8 +3,8 @@ use crate::cases::text_of;
 use crate::pages::placed_on;
 use crate::placements::fitted;
 use plotraster::{
-    Dots, Exact, Fault, Form, Job, OverRead, OverWrite, Page, PageChoice, PenSet, PlotFault,
-    Reading, Smoothing, Unwatched, convert_on, report_on,
+    Carousel, Dots, Exact, Fault, Form, Job, OverRead, OverWrite, Page, PageChoice, PenSet,
+    PlotFault, Reading, Smoothing, Unwatched, convert_on, report_on,
 };
 use std::alloc::Global;
 use std::test::Fail;
@@ -98,6 +98,7 @@ fn drawn(alloc: Global, choice: PageChoice, plot: &[u8]) -> Result<String, Fail>
     let outcome = convert_on(
         alloc,
         Reading::Core,
+        &Carousel::empty(),
         choice,
         &job,
         Smoothing::NONE,
@@ -161,7 +162,16 @@ fn refusal(
     let page = Page::new(width, 64, 0, 0)?;
     let mut sink = OverWrite::new(Vec::new(alloc));
     let mut source = OverRead::new(plot);
-    Ok(report_on(alloc, Reading::Core, choice, &page, &mut source, &mut sink).err())
+    Ok(report_on(
+        alloc,
+        Reading::Core,
+        &Carousel::empty(),
+        choice,
+        &page,
+        &mut source,
+        &mut sink,
+    )
+    .err())
 }
 
 #[test]

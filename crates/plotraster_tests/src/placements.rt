@@ -2,8 +2,8 @@
 use crate::cases::text_of;
 use crate::pages::{eight_by_eight, placed_on};
 use plotraster::{
-    Exact, Form, Job, OverRead, OverWrite, PageChoice, PenSet, Reading, Smoothing, Unwatched,
-    convert_on,
+    Carousel, Exact, Form, Job, OverRead, OverWrite, PageChoice, PenSet, Reading, Smoothing,
+    Unwatched, convert_on,
 };
 use std::alloc::Global;
 use std::test::Fail;
@@ -117,6 +117,7 @@ fn drawn(alloc: Global, pens: PenSet, plot: &[u8]) -> Result<String, Fail> {
     let outcome = convert_on(
         alloc,
         Reading::Core,
+        &Carousel::empty(),
         choice,
         &job,
         Smoothing::NONE,

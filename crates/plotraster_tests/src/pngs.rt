@@ -1,8 +1,8 @@
 //! Pictures as PNG. The bytes are those that libpng and PIL read as the picture's PPM.
 use crate::streams::{Reader, Writer};
 use plotraster::{
-    Dots, Exact, Fault, Outcome, OverRead, OverWrite, Page, PageChoice, PenSet, PngJob, Reading,
-    Smoothing, Unwatched, convert_png, number, status,
+    Carousel, Dots, Exact, Fault, Outcome, OverRead, OverWrite, Page, PageChoice, PenSet, PngJob,
+    Reading, Smoothing, Unwatched, convert_png, number, status,
 };
 use std::alloc::Global;
 use std::test::Fail;
@@ -66,6 +66,7 @@ fn run(alloc: Global, job: &PngJob, plot: &[u8], writer: Writer) -> Answered {
     let (sink, answer) = convert_png(
         alloc,
         Reading::Core,
+        &Carousel::empty(),
         PageChoice::GIVEN,
         job,
         &mut Exact::new(),

@@ -2,7 +2,7 @@
 use crate::cases::text_of;
 use crate::pages::eight_by_eight;
 use crate::runs::drawn_as;
-use plotraster::{Form, OverRead, OverWrite, Page, PageChoice, Reading, report_on};
+use plotraster::{Carousel, Form, OverRead, OverWrite, Page, PageChoice, Reading, report_on};
 use std::alloc::Global;
 use std::process::Abort;
 use std::test::Fail;
@@ -61,7 +61,16 @@ fn reported(alloc: Global, reading: Reading, page: &Page, plot: &[u8]) -> Result
     let mut sink = OverWrite::new(Vec::new(alloc));
     let mut source = OverRead::new(plot);
     let choice = PageChoice::GIVEN;
-    let done = report_on(alloc, reading, choice, page, &mut source, &mut sink)?.done;
+    let done = report_on(
+        alloc,
+        reading,
+        &Carousel::empty(),
+        choice,
+        page,
+        &mut source,
+        &mut sink,
+    )?
+    .done;
     let written = sink.into_inner();
     let report = text_of(written.as_slice())?;
     Ok(format!(in alloc; "{done:?}\n{report}")?)

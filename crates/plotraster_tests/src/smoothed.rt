@@ -2,8 +2,8 @@
 use crate::pages::{LINE, job_at};
 use crate::streams::{Reader, Writer};
 use plotraster::{
-    Dots, Fault, Form, Job, Outcome, OverRead, OverWrite, Page, PageChoice, PenSet, PngJob,
-    Reading, Smoothing, Task, Unwatched, run_task,
+    Carousel, Dots, Fault, Form, Job, Outcome, OverRead, OverWrite, Page, PageChoice, PenSet,
+    PngJob, Reading, Smoothing, Task, Unwatched, run_task,
 };
 use std::alloc::Global;
 use std::test::Fail;
@@ -33,6 +33,7 @@ fn run<'a>(alloc: Global, task: &Task, plot: &'a [u8], writer: Writer) -> Answer
     let (sink, answer) = run_task(
         alloc,
         Reading::Core,
+        &Carousel::empty(),
         PageChoice::GIVEN,
         task,
         &mut source,

@@ -3,7 +3,8 @@ use crate::pages::{CROSSING, eight_by_eight, job_at};
 use crate::runs::drawn;
 use crate::streams::Writer;
 use plotraster::{
-    Exact, Form, Job, OverRead, OverWrite, PageChoice, Reading, Smoothing, Watcher, convert_on,
+    Carousel, Exact, Form, Job, OverRead, OverWrite, PageChoice, Reading, Smoothing, Watcher,
+    convert_on,
 };
 use std::alloc::Global;
 use std::process::Abort;
@@ -38,6 +39,7 @@ fn is_told(
     let answer = convert_on(
         alloc,
         Reading::Core,
+        &Carousel::empty(),
         PageChoice::GIVEN,
         job,
         Smoothing::NONE,
