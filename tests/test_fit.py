@@ -18,20 +18,23 @@ FITTED = {
     "thin": b"PW1;PD100,100;",
     "scaled": b"IP-1000,-1000,1000,1000;SC0,1,0,1;SP2;PA.5,.5;CI.5;",
     "off the page": b"PU20000,20000;PD30000,30000;",
-    "in a window": b"IW0,0,10,10;PU100,100;PD2000,2000;",
+    "in a window": b"IW0,0,100,90;PU50,50;PD2000,2000;",
+    "scale": b"SC0,9,0,9;PD5,5;",
+    "corners": b"IP;SC0,9,0,9;PD5,5;",
+    "turned": b"RO90;PD5,5;",
+    "far away": b"RO90;PU8400,70000;PD8400,70100;",
+    "at the end of the range": b"PU65000,0;PD65536,0;",
 }
 EXAMPLES_FITTED = ("centred", "figures", "rose", "line")
+# Plots that depend on the page that they are drawn on.
+OF_THE_PAGE = ("scale", "corners", "turned", "far away")
 # Plots whose page is kept, and why.
-DEPENDS = "the drawing depends on the page"
 KEPT = {
-    "scale": (b"SC0,9,0,9;PD5,5;", DEPENDS),
-    "corners": (b"IP;SC0,9,0,9;PD5,5;", DEPENDS),
-    "turned": (b"RO90;PD5,5;", DEPENDS),
-    "refused on the page around it": (b"RO90;PU8400,70000;PD8400,70100;", DEPENDS),
     "nothing": (b"PU5,5;", "nothing is drawn"),
     "of no plot": (b"%!\n", "nothing is drawn"),
+    "beside its window": (b"IW0,0,10,10;PU100,100;PD2000,2000;", "nothing is drawn"),
     "too wide": (b"PU-60000,0;PD60000,0;", "the drawing is larger than a page can be"),
-    "too far": (b"PU65000,0;PD65536,0;", "the drawing is larger than a page can be"),
+    "too far": (b"IW0,0,30,30;PU10,10;PD65530,10;", "the drawing is larger than a page can be"),
 }
 
 
@@ -66,31 +69,40 @@ def margins(bitmap):
     return bitmap.columns - every.bit_length(), bitmap.rows - 1 - inked[-1], trailing, inked[0]
 
 
+def numbers(page):
+    return [int(it.split("=")[1]) for it in page]
+
+
+def may_be_given(page):
+    """Options may name the page: (0, 0) is neither left of it nor below it."""
+    return min(numbers(page)) >= 0
+
+
 def larger(page, more):
     """The options of a page that is larger on each side."""
-    width, height, left, below = (int(it.split("=")[1]) for it in page)
+    width, height, left, below = numbers(page)
     return [f"--width={width + 2 * more}", f"--height={height + 2 * more}", f"--left={left + more}", f"--below={below + more}"]
 
 
 def wrong_margins(program, name, plot, margin):
     """What is wrong with the page around a drawing, by pictures with a pixel a unit."""
     more = 500
-    page = page_of(program, ["--fit", f"--margin={margin}"], plot)
-    inside = read_bitmap(drawn(program, ["pbm", *page, *UNITS], plot))
-    around = read_bitmap(drawn(program, ["pbm", *larger(page, more), *UNITS], plot))
-    if min(margins(around)) < more or ink(inside) != ink(around):
-        yield f"{name}: {ink(inside)} pixels of {ink(around)} are on the page"
-    free = ["--left=0" in page, "--below=0" in page, False, False]
-    for side, may, found in zip(("left", "below", "right", "above"), free, margins(inside)):
-        if found < 40 * margin or (found > 40 * margin + 2 and not may):
+    words = ["--fit", f"--margin={margin}"]
+    page = page_of(program, words, plot)
+    inside = read_bitmap(drawn(program, ["pbm", *words, *UNITS], plot))
+    if may_be_given(page) and name not in OF_THE_PAGE:
+        around = read_bitmap(drawn(program, ["pbm", *larger(page, more), *UNITS], plot))
+        if min(margins(around)) < more or ink(inside) != ink(around):
+            yield f"{name}: {ink(inside)} pixels of {ink(around)} are on the page"
+    for side, length, found in zip(("left", "below", "right", "above"), 2 * numbers(page)[:2], margins(inside)):
+        if found < 40 * margin or (found > 40 * margin + 2 and length > 64):
             yield f"{name}: {found} units are free {side}"
 
 
 def test_margins(program):
-    """All that is drawn lies on the page, with the margin around it. What a window hides counts too."""
+    """All that is drawn lies on the page, with the margin around it."""
     for name, plot in plots().items():
-        if name not in ("in a window", "scaled"):
-            assert_nothing(wrong_margins(program, name, plot, 1))
+        assert_nothing(wrong_margins(program, name, plot, 1))
     for margin in (0, 3):
         assert_nothing(wrong_margins(program, "right", FITTED["right"], margin))
 
@@ -104,11 +116,16 @@ def test_page_of_half_units(program):
 
 @pytest.mark.parametrize("command", ["png", *FORMS])
 def test_picture_is_that_of_the_page(program, command):
-    """The picture of a fitted page is the picture of the page that the report has."""
+    """The picture of a fitted page is the picture of the page that the report has, if options may name it and the drawing
+    does not depend on it."""
     dots = ["--dots", "75"]
     for name, plot in plots().items():
+        if name in OF_THE_PAGE:
+            continue
         for words in ([], ["--page=a0", "--left=300"], ["--profile=full"], ["--margin=7"]):
             page = page_of(program, ["--fit", *words], plot)
+            if not may_be_given(page):
+                continue
             others = [it for it in words if it.startswith("--profile")]
             fitted = drawn(program, [command, "--fit", *words, *dots], plot)
             assert fitted == drawn(program, [command, *page, *others, *dots], plot), (name, words)
@@ -132,22 +149,29 @@ def test_pens_choose_the_page(program):
     """The page is around what the selected pens draw."""
     plot = b"SP1;PU0,0;PD1000,1000;PU;SP2;PU5000,5000;PD6000,5500;"
     first, second = plot.split(b"PU;")
-    pages = [page_of(program, ["--fit"], it) for it in (plot, first, second)]
-    assert len(set(map(tuple, pages))) == 3
-    for pens, page in (("all", pages[0]), ("1", pages[1]), ("2", pages[2]), ("1-2", pages[0])):
-        words = ["pbm", f"--pens={pens}"]
-        assert drawn(program, [*words, "--fit"], plot) == drawn(program, [*words, *page], plot), pens
+    assert len({tuple(page_of(program, ["--fit"], it)) for it in (plot, first, second)}) == 3
+    for pens, same in (("all", plot), ("1", first), ("2", second), ("1-2", plot)):
+        words = ["ppm", f"--pens={pens}"]
+        assert drawn(program, [*words, "--fit"], plot) == drawn(program, ["ppm", "--fit"], same), pens
     words = ["pbm", "--pens=3", "--fit"]
     assert drawn(program, words, plot, kept("nothing is drawn")) == drawn(program, words[:2], plot)
 
 
 def test_sheets_choose_the_page(program):
-    plot = b"SP1;PU0,0;PD1000,1000;PG;SP1;PU0,0;PD3000,500;"
-    for sheet in (1, 2, 0):
-        words = ["--profile=full", f"--sheet={sheet}"]
-        page = page_of(program, ["--fit", *words], plot)
-        assert drawn(program, ["ppm", "--fit", *words], plot) == drawn(program, ["ppm", *page, *words], plot)
-    assert page_of(program, ["--fit", "--profile=full", "--sheet=9"], plot, kept("nothing is drawn"))[0] == "--width=11880"
+    first, second = b"SP1;PU0,0;PD1000,1000;", b"SP1;PU0,0;PD3000,500;"
+    for sheet, same in ((1, first), (2, second), (0, first + b"PU;" + second)):
+        words = ["ppm", "--fit", "--profile=full"]
+        assert drawn(program, [*words, f"--sheet={sheet}"], first + b"PG;" + second) == drawn(program, words, same)
+    words = ["--fit", "--profile=full", "--sheet=9"]
+    assert page_of(program, words, first + b"PG;" + second, kept("nothing is drawn"))[0] == "--width=11880"
+
+
+def test_page_that_the_plot_asks_for(program):
+    """The plot is drawn on the page that it asks for, and the picture shows what is drawn there."""
+    plot = b"PS800,600;IP;SC0,1,0,1;PW0;PU0,0;PD1,1;"
+    words = ["--page=plot", "--fit", "--margin=0"]
+    assert page_of(program, words, plot) == ["--width=800", "--height=600", "--left=0", "--below=0"]
+    assert page_of(program, words, plot[9:]) == ["--width=11880", "--height=8400", "--left=0", "--below=0"]
 
 
 def test_refused_plots(program):

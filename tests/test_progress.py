@@ -148,8 +148,8 @@ def test_messages_follow_on_a_line_of_their_own(program):
     words = ["pbm", "--band=200", "--verbose", "--progress"]
     said = b"plotraster: 1 line, 0 off the page; 1 note, see plotraster report\n"
     assert on_terminal(program, words)[2] == shown(ROWS, 200) + said
-    kept = b"plotraster: the page is not fitted: the drawing depends on the page\n"
-    assert on_terminal(program, ["pbm", "--band=200", "--fit", "--progress"], b"RO90;PD5,5;")[2] == shown(ROWS, 200) + kept
+    kept = b"plotraster: the page is not fitted: nothing is drawn\n"
+    assert on_terminal(program, ["pbm", "--band=200", "--fit", "--progress"], b"PU5,5;")[2] == shown(ROWS, 200) + kept
 
 
 def test_refused_plots(program):

@@ -123,10 +123,10 @@ fn pictures_of_the_page_asked_for(rt: HostRuntime) -> Result<(), Fail> {
     Ok(())
 }
 
-// A plot that fills the page that it asks for, and is turned on it.
+// A plot that fills the page that it asks for, and one that asks for none.
 #[test]
 fn pages_around_drawings_on_pages_asked_for(rt: HostRuntime) -> Result<(), Fail> {
-    let plot = "PS800,600;IP;SC0,1,0,1;RO90;SP1;PW0;PU0,0;PD1,1;";
+    let plot = "PS800,600;IP;SC0,1,0,1;SP1;PW0;PU0,0;PD1,1;";
     let choice = PageChoice {
         asked: true,
         margin: Some(0),

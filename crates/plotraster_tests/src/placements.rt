@@ -106,6 +106,26 @@ fn margins_around_drawings(rt: HostRuntime) -> Result<(), Fail> {
     Ok(())
 }
 
+// Plots on a page of 64 units a side, and how many of their lines lie off it. Lines are 14 units wide.
+const OFF_THE_PAGE: [(&str, &str); 7] = [
+    ("SP1;PU-7,0;PD-7,60;", "Given 1 0 page 64 64 0 0"),
+    ("SP1;PU-8,0;PD-8,60;", "Given 1 1 page 64 64 0 0"),
+    ("SP1;PU0,-8;PD60,-8;", "Given 1 1 page 64 64 0 0"),
+    ("SP1;PU71,0;PD71,60;", "Given 1 0 page 64 64 0 0"),
+    ("SP1;PU72,0;PD72,60;", "Given 1 1 page 64 64 0 0"),
+    ("SP1;PU0,72;PD60,72;", "Given 1 1 page 64 64 0 0"),
+    ("SP1;PU-20,30;PD90,30;", "Given 1 0 page 64 64 0 0"),
+];
+
+#[test]
+fn lines_off_the_page(rt: HostRuntime) -> Result<(), Fail> {
+    for (plot, wanted) in OFF_THE_PAGE {
+        let answer = placed(rt.alloc(), PageChoice::GIVEN, plot)?;
+        assert_eq!(rt; answer.as_str(), wanted, "{plot}");
+    }
+    Ok(())
+}
+
 // The lines of a picture in marks that these pens draw, on the page around them, and what is said of it.
 fn drawn(alloc: Global, pens: PenSet, plot: &[u8]) -> Result<String, Fail> {
     let job = Job {
@@ -144,5 +164,16 @@ fn the_selected_pens_choose_the_page(rt: HostRuntime) -> Result<(), Fail> {
     assert_eq!(rt; second.as_str(), "8 rows, Fitted, 1 and 0\n7 0 2 ff0000\n");
     let neither = drawn(rt.alloc(), PenSet::none().with(3), DOTS)?;
     assert_eq!(rt; neither.as_str(), "8 rows, Blank, 0 and 0\n");
+    Ok(())
+}
+
+// A line in a window that shows its right half, and one that its window hides. The page around them begins at (32, 24).
+const WINDOWS: &[u8] = b"SP1;PW0.2;IW32,0,64,64;PU16,28;PD48,28;IW0,0,15,10;PU16,60;PD60,60;";
+
+#[test]
+fn windows_move_along(rt: HostRuntime) -> Result<(), Fail> {
+    let marks = drawn(rt.alloc(), PenSet::all(), WINDOWS)?;
+    let wanted = "8 rows, Fitted, 2 and 0\n7 0 1 000000\n7 1 1 000000\n7 2 1 000000\n";
+    assert_eq!(rt; marks.as_str(), wanted);
     Ok(())
 }

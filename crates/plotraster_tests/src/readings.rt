@@ -87,3 +87,27 @@ page 64 64 0 0\nsheets 2\nstrokes 1\npen 1 strokes 1 widest 224 box 448 0 448 10
     );
     Ok(())
 }
+
+// How many sheets `report_on` counts.
+fn sheets(alloc: Global, reading: Reading) -> Result<usize, Fail> {
+    let mut sink = OverWrite::new(Vec::new(alloc));
+    let outcome = report_on(
+        alloc,
+        reading,
+        &Carousel::empty(),
+        PageChoice::GIVEN,
+        &eight_by_eight(Form::Pbm)?.page,
+        &mut OverRead::new(SHEETS),
+        &mut sink,
+    )?;
+    Ok(outcome.sheets)
+}
+
+#[test]
+fn sheets_are_counted(rt: HostRuntime) -> Result<(), Fail> {
+    assert_eq!(rt; sheets(rt.alloc(), Reading::Core)?, 0);
+    for sheet in 0..4 {
+        assert_eq!(rt; sheets(rt.alloc(), Reading::Full { sheet })?, 2);
+    }
+    Ok(())
+}
