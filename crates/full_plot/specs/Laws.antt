@@ -75,8 +75,8 @@ abbrev pub BadItemsDoNothing : Type 0
 BadItemsDoNothing = (w : World) (i : ItemShape) → body_noted w.context i.body ≡ Some Bad → draws_in_part i.body ≡ false
     → taken w i.body ≡ Some w
 
--- as at the start, but for the page, the carousel, the strokes, the ends of sheets and the work that counts; and for the widths in
--- percent, which have no effect before widths are in percent again
+-- as at the start, but for the page, the carousel, the strokes, the ends of sheets and the work that counts; and for the
+-- widths in percent, which have no effect before widths are in percent again
 abbrev pub started_again : World → World
 started_again w = record (at_start w.core.page) {
   core = record w.core { state = (core.at_start_with w.core.state.carousel w.core.page).state };
