@@ -26,8 +26,8 @@ FITTED = {
     "at the end of the range": b"PU65000,0;PD65536,0;",
 }
 EXAMPLES_FITTED = ("centred", "figures", "rose", "line")
-# Plots that depend on the page that they are drawn on.
-OF_THE_PAGE = ("scale", "corners", "turned", "far away")
+# Plots that depend on the page that they are drawn on, or are refused on another one.
+OF_THE_PAGE = ("scale", "corners", "turned", "far away", "at the end of the range")
 # Plots whose page is kept, and why.
 KEPT = {
     "nothing": (b"PU5,5;", "nothing is drawn"),
