@@ -88,3 +88,8 @@ def assert_nothing(wrong):
     """Fails with all lines of what is wrong."""
     lines = list(wrong)
     assert not lines, "\n".join(lines)
+
+
+def with_sheet(options):
+    """Options of a command that names a sheet if there may be several: else the program says that it draws the first."""
+    return {"sheet": 1, **options} if options.get("profile") == "full" else options

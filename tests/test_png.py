@@ -13,7 +13,7 @@ import pytest
 from PIL import Image
 
 from reference.png import PALETTE, TRUECOLOUR, chunks, read_png
-from shared import EXAMPLES, need, pixels, read_bytes, run, write
+from shared import EXAMPLES, need, pixels, read_bytes, run, with_sheet, write
 from test_full_reference import options_of, plot_of, rows
 from test_pictures import cases, words_of
 
@@ -89,7 +89,7 @@ def test_full_examples(program):
     for _, keys in rows():
         options = options_of(keys)
         if "refused" not in keys and int(options["width"]) * int(options["height"]) <= 2000 * 2000:
-            words = [f"--{name}={value}" for name, value in options.items()]
+            words = [f"--{name}={value}" for name, value in with_sheet(options).items()]
             same_as_ppm(program, [*words, "--dots=60"], plot_of(keys["plot"][0]))
 
 

@@ -9,7 +9,7 @@ import subprocess
 import pytest
 
 from reference.png import GREY, PALETTE, TRUECOLOUR, chunks, read_png
-from shared import EXAMPLES, need, pixels, read_bytes, run, write
+from shared import EXAMPLES, need, pixels, read_bytes, run, with_sheet, write
 from test_full_reference import options_of, plot_of, rows
 from test_pictures import cases, words_of
 from test_png import NAMES, NOT_WRITTEN, OLD, WHITE, depth_of, drawn, ends_of, has_same_pixels, limit
@@ -123,7 +123,7 @@ def test_full_examples(program):
     for _, keys in rows():
         options = options_of(keys)
         if "refused" not in keys and int(options["width"]) * int(options["height"]) <= 1000 * 1000:
-            words = [f"--{name}={value}" for name, value in options.items()]
+            words = [f"--{name}={value}" for name, value in with_sheet(options).items()]
             pictures(program, words, 40, 3, plot_of(keys["plot"][0]))
 
 

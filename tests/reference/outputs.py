@@ -80,7 +80,15 @@ def answer(form, options, plot):
     margin = numbers["margin"] if "fit" in options else None
     if form == "report":
         return described(sheet, page, margin, plot)
-    return pictured(form, numbers, sheet, pens, page, margin, plot)
+    found = pictured(form, numbers, sheet, pens, page, margin, plot)
+    if found.status == 0 and profile == "full" and "sheet" not in options:
+        return found._replace(error=found.error + more_sheets(draw(plot, page, sheet).sheets))
+    return found
+
+
+def more_sheets(sheets):
+    """What is said of a picture of the first sheet of a plot."""
+    return f"plotraster: the plot has {sheets} sheets; this is the first\n" if sheets > 1 else ""
 
 
 class Drawing(NamedTuple):
