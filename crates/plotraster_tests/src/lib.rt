@@ -5,6 +5,7 @@
 mod broken_off;
 #[cfg(test)]
 mod carousels;
+#[cfg(test)]
 mod cases;
 #[cfg(test)]
 mod colours;
