@@ -1,2 +1,3 @@
--- How much finer a picture may be painted.
+-- How much finer a picture may be painted, and how many pixels it has.
 pub mod Smoothings
+pub mod Sizes

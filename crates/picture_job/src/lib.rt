@@ -4,12 +4,14 @@
 
 mod job;
 mod page_choice;
+mod picture;
 mod png_job;
 mod reading;
 mod smoothing;
 
 pub use job::Job;
-pub use page_choice::PageChoice;
+pub use page_choice::{MOST_PIXELS_CHOSEN, PageChoice};
+pub use picture::Picture;
 pub use png_job::PngJob;
 pub use reading::Reading;
 pub use smoothing::Smoothing;

@@ -1,6 +1,8 @@
 //! How much finer a picture is painted than it is written.
 ghost use Rattle.std.specs.Prelude.{◌≡◌, ◌≤◌, is_some, IfSome};
 
+use plot_page::Dots;
+
 /// How much finer a picture is painted than it is written, 1 to 8 times: each pixel is the mean of so many by so many
 /// pixels of the finer picture.
 #[derive(Clone, Copy, Debug)]
@@ -12,6 +14,7 @@ pub struct Smoothing {
 
 impl Smoothing {
     ghost use Rattle.picture_job.specs.Smoothings.{is_smoothing};
+    ghost use Rattle.picture_job.specs.Sizes.{smoothing_at};
 
     /// No smoothing: the picture is written as it is painted.
     pub const NONE: Smoothing = Smoothing { times: 1 };
@@ -25,6 +28,15 @@ impl Smoothing {
             return None;
         }
         Some(Smoothing { times })
+    }
+
+    /// The same for a picture of this resolution, but no more than 1200 dots per inch allow.
+    pub(crate) fn at(self, dots: Dots) -> Smoothing
+        ensures { result ≡ smoothing_at dots self }
+    {
+        Smoothing {
+            times: self.times.min(1200 / dots.per_inch()).max(1),
+        }
     }
 
     /// How many times finer the picture is painted.
