@@ -48,9 +48,9 @@ pub fine_smoothed : (n : ℕ) (job : Job) → is_smoothed n job.form ≡ true �
 fine_smoothed n job some possible = fine_by (is_smoothed n job.form) (is_fine n job.dots) (has_resolution job) some possible
 
 -- resolutions of one number are one
-dots_same : (a b : ℕ) → a ≡ b → (l : 10 ≤ a) (m : a ≤ 1200) (l' : 10 ≤ b) (m' : b ≤ 1200) → ◌≡◌ {A = Dots} (record { resolution = a; at_least = l; at_most = m }) (record { resolution = b; at_least = l'; at_most = m' })
+dots_same : (a b : ℕ) → a ≡ b → (l : 1 ≤ a) (m : a ≤ 1200) (l' : 1 ≤ b) (m' : b ≤ 1200) → ◌≡◌ {A = Dots} (record { resolution = a; at_least = l; at_most = m }) (record { resolution = b; at_least = l'; at_most = m' })
 dots_same a b e l m l' m' =
-    subst (λ (k : ℕ). (x : 10 ≤ k) (y : k ≤ 1200) → ◌≡◌ {A = Dots} (record { resolution = a; at_least = l; at_most = m }) (record { resolution = k; at_least = x; at_most = y })) e
+    subst (λ (k : ℕ). (x : 1 ≤ k) (y : k ≤ 1200) → ◌≡◌ {A = Dots} (record { resolution = a; at_least = l; at_most = m }) (record { resolution = k; at_least = x; at_most = y })) e
     (λ x y. λ i. record { resolution = a; at_least = le_prop l x i; at_most = le_prop m y i }) l' m'
 
 finer_resolution : (n : ℕ) (dots : Dots) → 1 ≤ n → n * dots.resolution ≤ 1200 → (finer n dots).resolution ≡ n * dots.resolution
@@ -66,14 +66,23 @@ pub finer_is : (n : ℕ) (dots d : Dots) → d.resolution ≡ n * dots.resolutio
 finer_is n dots d is some most =
     dots_same d.resolution _ (is ∙ sym (finer_resolution n dots some most)) d.at_least d.at_most _ _
 
--- each row has a finer one
-pub finer_row : (n units r row : ℕ) → 1 ≤ n → row < cell_count units r → n * row < cell_count units (n * r)
-finer_row n units r row some lt =
+-- a row after the first one lies on the page, and so does its finer one
+later_row : (n units r row : ℕ) → 1 ≤ n → 1 ≤ row → row < cell_count units r → n * row < cell_count units (n * r)
+later_row n units r row some later lt =
     let whole : row * 1016 + 508 ≤ units * r = omega (arith, lt) in
     let more : n * (row * 1016 + 508) ≤ n * (units * r) = mul-le-mul_left n whole in
     let turned : units * (n * r) ≡ n * (units * r) = grind arith in
     let parts : n * (row * 1016 + 508) ≡ (n * row) * 1016 + n * 508 = grind arith in
     omega (arith, more, turned, parts, some)
+
+finer_row_by : (row n units r : ℕ) → 1 ≤ n → row < cell_count units r → n * row < cell_count units (n * r)
+finer_row_by zero n units r some lt = omega arith
+finer_row_by (suc row) n units r some lt = later_row n units r (suc row) some (omega arith) lt
+
+-- each row has a finer one
+pub finer_row : (n units r row : ℕ) → 1 ≤ n → row < cell_count units r → n * row < cell_count units (n * r)
+finer_row n units r row some lt =
+    finer_row_by row n units r some lt
 
 -- smoothed pixels have three channels
 pub smoothed_threes : (n : ℕ) (reaches : Reach) (pens : PenSet) (ss : List Segment) (page : Page) (dots : Dots) (row k : ℕ) → k < length (smoothed_pixels n reaches pens ss page dots row)

@@ -1,11 +1,11 @@
 -- The picture of a plot, and what a conversion answers, from what it read.
-use Rattle.std.specs.Prelude.{◌≡◌, ℕ, ◌+◌, ◌-◌, ◌<◌, ◌≤◌, Bool, true, false, List, Some, None, length, take, Result, Ok}
+use Rattle.std.specs.Prelude.{◌≡◌, ℕ, ◌+◌, ◌-◌, ◌<◌, ◌≤◌, Bool, true, false, List, Option, Some, None, length, take, Result, Ok}
 use Rattle.std.specs.Prelude.{Err}
 use Rattle.std.specs.Io.KnownBytes.{Consumes, Appends}
 use Rattle.plot_page.specs.Resolutions.{rows_of}
 use Rattle.picture_job.specs.declared.job.Job.{Job}
 use Rattle.conversion.specs.Stops.{IsStoppedAt}
-use Rattle.conversion.specs.Pictures.{Reach, head_of, refused_fault, strokes_row, strokes_picture}
+use Rattle.conversion.specs.Pictures.{Reach, has_any_resolution, head_of, is_possible, refused_fault, strokes_row, strokes_picture}
 use Rattle.conversion.specs.Rules.{Rules, core_rules}
 use Rattle.conversion.specs.Readings.{WasRead, WasTooLong}
 use Rattle.devices.specs.Sinks.{SinkState}
@@ -16,6 +16,8 @@ use Rattle.conversion.specs.declared.fault.Fault.TheVariants.{TooLong, Memory, P
 use Rattle.conversion.specs.Boxes.{strokes_boxes}
 use Rattle.plot_page.specs.declared.page.Page.{Page}
 use Rattle.picture_job.specs.declared.page_choice.PageChoice.{PageChoice}
+use Rattle.picture_job.specs.declared.smoothing.Smoothing.{Smoothing}
+use Rattle.picture_job.specs.Sizes.{dots_in, smoothing_in}
 use Rattle.conversion.specs.Placements.{IsFirstPage, IsGivenPlace, IsPlaced, Place, placed_rules}
 use Rattle.page_fit.specs.Census.{census_of}
 use Rattle.conversion.specs.declared.outcome.Outcome.{Outcome}
@@ -76,43 +78,53 @@ abbrev pub HasConverted : Job → Reach → SourceState → SourceState → Sink
     Type 0
 HasConverted = HasConvertedBy core_rules
 
--- the job, on another page
-abbrev pub on_page : Page → Job → Job
-on_page page job = record job { page = page }
+-- the job on another page, whose picture has the resolution of the job, or as many pixels as are chosen
+abbrev pub on_page : PageChoice → Page → Job → Job
+on_page choice page job = record job { page = page; dots = dots_in choice.pixels page job.dots }
+
+-- how many times finer this picture is painted
+abbrev pub times_on : PageChoice → Page → Job → Smoothing → ℕ
+times_on choice page job smoothing = (smoothing_in choice.pixels (dots_in choice.pixels page job.dots) smoothing).times
+
+-- a form has any resolution, or pixels are chosen for no other form, and a picture that is smoothed is not too fine; if not,
+-- nothing is read
+abbrev pub is_possible_in : Option ℕ → ℕ → Job → Bool
+is_possible_in None n job = is_possible n job
+is_possible_in (Some pixels) n job = has_any_resolution job.form
 
 -- what each answer says where the page was chosen: that of the job where its picture lies
-abbrev pub ConvertsOn : Rules → PageChoice → ℕ → Job → Place → Reach → List ℕ → SourceState → SourceState → SinkState →
+abbrev pub ConvertsOn : Rules → PageChoice → Smoothing → Job → Place → Reach → List ℕ → SourceState → SourceState → SinkState →
     SinkState → Result Outcome Fault → Type 0
-ConvertsOn rules choice n job place reaches input before after sink sink' (Ok outcome) =
+ConvertsOn rules choice smoothing job place reaches input before after sink sink' (Ok outcome) =
     IsPlaced choice rules job.pens job.page input place × (outcome.placement ≡ place.placement)
-    × IsWritten (placed_rules rules job.pens place) n (on_page place.page job) reaches input before after sink sink'
+    × IsWritten (placed_rules rules job.pens place) (times_on choice place.page job smoothing) (on_page choice place.page job) reaches input before after sink sink'
     outcome.done
     × (outcome.census ≡ census_of job.pens place.page ((placed_rules rules job.pens place).strokes place.page input))
     × (outcome.sheets ≡ rules.sheets place.drawn_on input)
-ConvertsOn rules choice n job place reaches input before after sink sink' (Err (Write row whole bytes)) =
+ConvertsOn rules choice smoothing job place reaches input before after sink sink' (Err (Write row whole bytes)) =
     IsPlaced choice rules job.pens job.page input place
-    × IsCutShort (placed_rules rules job.pens place) n (on_page place.page job) reaches input before after sink sink'
+    × IsCutShort (placed_rules rules job.pens place) (times_on choice place.page job smoothing) (on_page choice place.page job) reaches input before after sink sink'
     row whole bytes
-ConvertsOn rules choice n job place reaches input before after sink sink' (Err (Paint fault)) =
+ConvertsOn rules choice smoothing job place reaches input before after sink sink' (Err (Paint fault)) =
     IsPlaced choice rules job.pens job.page input place
-    × IsRefused (placed_rules rules job.pens place) (on_page place.page job) input before after (Paint fault)
-ConvertsOn rules choice n job place reaches input before after sink sink' (Err (Plot fault)) =
+    × IsRefused (placed_rules rules job.pens place) (on_page choice place.page job) input before after (Paint fault)
+ConvertsOn rules choice smoothing job place reaches input before after sink sink' (Err (Plot fault)) =
     IsFirstPage choice rules job.page input place.drawn_on
-    × IsRefused rules (on_page place.drawn_on job) input before after (Plot fault)
-ConvertsOn rules choice n job place reaches input before after sink sink' (Err fault) =
-    Converts rules n job reaches input before after sink sink' (Err fault)
+    × IsRefused rules (on_page choice place.drawn_on job) input before after (Plot fault)
+ConvertsOn rules choice smoothing job place reaches input before after sink sink' (Err fault) =
+    Converts rules smoothing.times job reaches input before after sink sink' (Err fault)
 
 -- a conversion by these rules where the page was chosen, as HasConvertedBy
-pub record HasConvertedOn (rules : Rules) (choice : PageChoice) (n : ℕ) (job : Job) (reaches : Reach)
+pub record HasConvertedOn (rules : Rules) (choice : PageChoice) (smoothing : Smoothing) (job : Job) (reaches : Reach)
     (before after : SourceState) (sink sink' : SinkState) (tests tests' : ℕ)
     (answer : Result Outcome Fault) : Type 0 where
   pub input : List ℕ
   pub taken : Consumes before.left after.left input
   pub place : Place
   pub given : IsGivenPlace choice job.page place
-  pub converts : ConvertsOn rules choice n job place reaches input before after sink sink' answer
+  pub converts : ConvertsOn rules choice smoothing job place reaches input before after sink sink' answer
   pub tested : tests' ≤ tests
-      + strokes_boxes n (on_page place.page job) ((placed_rules rules job.pens place).strokes place.page input)
+      + strokes_boxes (times_on choice place.page job smoothing) (on_page choice place.page job) ((placed_rules rules job.pens place).strokes place.page input)
 
 -- the sink failed
 abbrev pub is_write : Fault → Bool

@@ -1,16 +1,15 @@
 -- What reading a plot and drawing it on the page that was chosen answers.
-use Rattle.std.specs.Prelude.{◌≡◌, ℕ, ◌+◌, ◌≤◌, List, length, Result, Ok, Err, Option, None, Some, option_map, ⊤}
+use Rattle.std.specs.Prelude.{◌≡◌, ℕ, ◌+◌, List, Result, Ok, Err, Option, None, Some, option_map, ⊤}
 use Rattle.std.specs.Io.KnownBytes.{Consumes}
 use Rattle.hpgl_plot.specs.declared.fault.PlotFault.{PlotFault}
 use Rattle.hpgl_plot.specs.declared.fault.PlotFault.TheVariants as plot
 use Rattle.plot_page.specs.declared.page.Page.{Page}
-use Rattle.plot_page.specs.declared.stroke.TheConstants.{MOST_STROKES}
 use Rattle.conversion.specs.Rules.{Rules}
 use Rattle.plot_page.specs.declared.pens.PenSet.{PenSet}
 use Rattle.picture_job.specs.declared.page_choice.PageChoice.{PageChoice}
 use Rattle.conversion.specs.Placements.{IsFirstPage, IsPlaced, Place, page_reported, placed_rules, strokes_at}
 use Rattle.conversion.specs.declared.lines.Lines.{Lines}
-use Rattle.conversion.specs.declared.place.Placed.{Placed}
+use Rattle.conversion.specs.declared.place.Drawing.{Drawing}
 use Rattle.conversion.specs.Readings.{WasRead, WasTooLong}
 use Rattle.devices.specs.Sources.{SourceState}
 use Rattle.conversion.specs.declared.fault.Fault.{Fault}
@@ -32,10 +31,10 @@ pub record AreLinesOf (rules : Rules) (page : Page) (plot : List ℕ) (lines : L
   pub strokes_are : lines.strokes.items ≡ rules.strokes page plot
   pub notes_are : lines.notes ≡ rules.notes plot
   pub sheets_are : lines.sheets ≡ rules.sheets page plot
-  pub few : length lines.strokes.items ≤ MOST_STROKES
+  pub ends_are : lines.ends.items ≡ rules.ends page plot
 
 -- where its picture lies
-abbrev pub place_of : Placed → Place
+abbrev pub place_of : Drawing → Place
 place_of drawn = record {
   placement = drawn.placement;
   drawn_on = drawn.drawn_on;
@@ -49,10 +48,11 @@ pub record AreMoved (pens : PenSet) (lines : Lines) (place : Place) (moved : Lin
       ≡ strokes_at place.placement pens place.drawn_on place.corner place.page lines.strokes.items
   pub notes_are : moved.notes ≡ lines.notes
   pub sheets_are : moved.sheets ≡ lines.sheets
+  pub ends_are : moved.ends.items ≡ lines.ends.items
 
 -- the plot was read whole, and this is what it draws, where its picture lies
 pub record IsDrawn (rules : Rules) (choice : PageChoice) (pens : PenSet) (given : Page) (input : List ℕ)
-    (before after : SourceState) (drawn : Placed) : Type 0 where
+    (before after : SourceState) (drawn : Drawing) : Type 0 where
   pub read : WasRead input before after
   pub placed : IsPlaced choice rules pens given input (place_of drawn)
   pub lines : AreLinesOf (placed_rules rules pens (place_of drawn)) drawn.page input drawn.lines
@@ -65,7 +65,7 @@ pub record IsNotDrawn (rules : Rules) (page : Page) (input : List ℕ) (before a
   pub refused : option_map Plot (rules.refusal page input) ≡ Some fault
 
 -- what each answer says of what was read; want of memory says only that the source did not fail
-abbrev pub Draws : Rules → PageChoice → PenSet → Page → List ℕ → SourceState → SourceState → Result Placed Fault → Type 0
+abbrev pub Draws : Rules → PageChoice → PenSet → Page → List ℕ → SourceState → SourceState → Result Drawing Fault → Type 0
 Draws rules choice pens given input before after (Ok drawn) = IsDrawn rules choice pens given input before after drawn
 Draws rules choice pens given input before after (Err TooLong) = WasTooLong input before after
 Draws rules choice pens given input before after (Err Read) = after.faults ≡ before.faults + 1
@@ -75,7 +75,7 @@ Draws rules choice pens given input before after (Err fault) =
 
 -- a drawing: what it took from the source, and its answer
 pub record HasDrawn (rules : Rules) (choice : PageChoice) (pens : PenSet) (given : Page) (before after : SourceState)
-    (answer : Result Placed Fault) : Type 0 where
+    (answer : Result Drawing Fault) : Type 0 where
   pub input : List ℕ
   pub taken : Consumes before.left after.left input
   pub draws : Draws rules choice pens given input before after answer

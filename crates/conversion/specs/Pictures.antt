@@ -63,12 +63,12 @@ abbrev pub row_of : Form → Reach → PenSet → List Segment → Page → Dots
 row_of form reaches pens strokes page dots row =
     row_bytes form row (inks_of strokes) (row_shown (λ s. reaches s page dots) pens strokes (columns_of page dots) row)
 
--- a resolution n times as fine, from 10 to 1200
+-- a resolution n times as fine, from 1 to 1200
 abbrev pub finer : ℕ → Dots → Dots
 finer n dots = record {
-  resolution = max 10 (min (n * dots.resolution) 1200);
-  at_least = le-max_left 10 (min (n * dots.resolution) 1200);
-  at_most = max-le (le-max_left 10 1200) (min-le_right (n * dots.resolution) 1200);
+  resolution = max 1 (min (n * dots.resolution) 1200);
+  at_least = le-max_left 1 (min (n * dots.resolution) 1200);
+  at_most = max-le (le-max_left 1 1200) (min-le_right (n * dots.resolution) 1200);
 }
 
 -- the colour of each pixel of the picture of strokes; past its edges is paper
@@ -125,6 +125,11 @@ picture job reaches plot =
 -- the job's form has its resolution; if not, nothing is read
 abbrev pub has_resolution : Job → Bool
 has_resolution job = takes_resolution job.form job.dots.resolution
+
+-- a picture in this form may have any resolution
+abbrev pub has_any_resolution : Form → Bool
+has_any_resolution Pcl = false
+has_any_resolution _ = true
 
 -- the finer picture that a picture is smoothed of is not too fine
 abbrev pub is_fine : ℕ → Dots → Bool

@@ -99,6 +99,7 @@ placed_rules rules pens place = record {
   refusal = λ page plot. rules.refusal place.drawn_on plot;
   notes = rules.notes;
   sheets = λ page plot. rules.sheets place.drawn_on plot;
+  ends = λ page plot. rules.ends place.drawn_on plot;
   asked = rules.asked;
 }
 

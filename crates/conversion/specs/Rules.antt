@@ -1,5 +1,5 @@
 -- The rules by which plots are drawn, and the picture of a plot by them.
-use Rattle.std.specs.Prelude.{◌≡◌, ℕ, ◌<◌, ◌≤◌, List, length, false, Option, Some, None, ⊤}
+use Rattle.std.specs.Prelude.{◌≡◌, ℕ, ◌<◌, ◌≤◌, List, [], length, nat_eq, if◌then◌else◌, false, Option, Some, None, ⊤}
 use Rattle.hpgl_text.specs.Cut.{cut, cut_by}
 use Rattle.hpgl_text.specs.declared.program.TheConstants.{LONGEST_PLOT}
 use Rattle.hpgl_text.specs.declared.profile.Profile.TheVariants as profile
@@ -22,13 +22,14 @@ use Rattle.conversion.specs.declared.fault.Fault.{Fault}
 use Rattle.conversion.specs.declared.fault.Fault.TheVariants.{TooLong, Memory, Write, Read, Resolution}
 
 -- the strokes of a plot that is accepted for a page, the first refusal, or None if it is accepted, how many notes there
--- are on it, how many sheets have strokes, 0 where that is not counted, and the page that it asks for where one is given,
--- or None if it asks for none
+-- are on it, how many sheets have strokes, 0 where that is not counted, how many strokes there were when each sheet of
+-- these strokes ended, and the page that it asks for where one is given, or None if it asks for none
 pub record Rules : Type 0 where
   pub strokes : Page → List ℕ → List Segment
   pub refusal : Page → List ℕ → Option PlotFault
   pub notes : List ℕ → ℕ
   pub sheets : Page → List ℕ → ℕ
+  pub ends : Page → List ℕ → List ℕ
   pub asked : Page → List ℕ → Option Sides
 
 -- what is noted on a plot in the profile core
@@ -42,12 +43,17 @@ core_rules = record {
   refusal = plot_refusal;
   notes = λ plot. length (core_notes plot);
   sheets = λ page plot. 0;
+  ends = λ page plot. [];
   asked = sides_asked profile.Core;
 }
 
 -- what is noted on a plot in the profile full
 abbrev pub full_notes : List ℕ → List Note
 full_notes plot = full.notes (cut_by profile.Full plot)
+
+-- where sheets end in what is drawn of one sheet, or of all sheets by 0
+abbrev pub ends_of : ℕ → List ℕ → List ℕ
+ends_of sheet ends = if nat_eq sheet 0 then ends else []
 
 -- the rules of the profile full, for a sheet, or for all sheets by 0
 abbrev pub full_rules : ℕ → Rules
@@ -60,6 +66,7 @@ full_rules sheet = record {
   sheets = λ page plot.
       let drawn = outcome page plot in
       sheet_count (ends_in drawn) (length (strokes_in drawn));
+  ends = λ page plot. ends_of sheet (ends_in (outcome page plot));
   asked = sides_asked profile.Full;
 }
 
@@ -82,6 +89,7 @@ rules_with (Full sheet) carousel = record (full_rules sheet) {
   sheets = λ page plot.
       let drawn = outcome_with carousel page plot in
       sheet_count (ends_in drawn) (length (strokes_in drawn));
+  ends = λ page plot. ends_of sheet (ends_in (outcome_with carousel page plot));
 }
 
 -- the picture of a job and a plot by these rules, smoothed n times

@@ -1,22 +1,19 @@
 //! The conversion: read, cut, draw, paint, write.
 ghost use Rattle.std.specs.Prelude.{◌≡◌, ℕ, ◌+◌, ◌-◌, ◌^◌, ◌<◌, ◌↔◌, Err, IfErr, false};
 ghost use Rattle.std.specs.Io.KnownBytes.{IsAtEnd};
-ghost use Rattle.conversion.specs.Conversions.{HasConverted, HasConvertedBy, HasConvertedOn, is_write};
-ghost use Rattle.conversion.specs.Pictures.{has_resolution, is_fine, is_possible, is_smoothed};
+ghost use Rattle.conversion.specs.Conversions.{HasConverted, HasConvertedBy, HasConvertedOn, is_possible_in, is_write};
+ghost use Rattle.conversion.specs.Pictures.{has_resolution};
 ghost use Rattle.conversion.specs.Rules.{rules_of, rules_with};
 
 use crate::done::Done;
 use crate::draw_source::draw_source;
 use crate::fault::Fault;
 use crate::outcome::Outcome;
-use crate::painting::paint;
+use crate::sheet::{is_picture_possible_in, write_strokes};
 use crate::watcher::{Unwatched, Watcher};
 use carousel::Carousel;
 use devices::{Sink, Source};
-use page_fit::census_of;
 use picture_job::{Job, PageChoice, Reading, Smoothing};
-use picture_out::{Form, takes_resolution};
-use plot_page::Dots;
 use std::alloc::Global;
 use stroke_raster::Gauge;
 
@@ -97,8 +94,10 @@ pub(crate) fn convert_given<G: Gauge, S: Source, K: Sink>(
 /// shades, and are written as without smoothing. The watcher is told after each band of rows how many are written; a picture
 /// without rows has no bands.
 ///
+/// If pixels are chosen, the page that the picture shows has so many along its longer side, instead of the job's resolution.
+///
 /// Errors: those of `convert`, in the same order. `Resolution` comes also if the finer picture would have more than 1,200
-/// dots per inch. The plot is refused for the page that it asks for, if that is chosen and it asks for one, else for that of
+/// dots per inch, and if pixels are chosen in PCL, which has resolutions of its own. The plot is refused for the page that it asks for, if that is chosen and it asks for one, else for that of
 /// the job.
 pub fn convert_on<G: Gauge, S: Source, K: Sink, W: Watcher>(
     alloc: Global,
@@ -115,62 +114,22 @@ pub fn convert_on<G: Gauge, S: Source, K: Sink, W: Watcher>(
     requires failing { (S.state source.old).faults < 2 ^ 64 - 1 }
     requires ending { (S.state source.old).ends < 2 ^ 64 - 1 }
     requires sinking { (K.state sink.old).faults < 2 ^ 64 - 1 }
-    ensures resolution { (result ≡ Err Fault.Resolution) ↔ (is_possible smoothing.times job.now ≡ false) }
-    ensures converts { HasConvertedOn (rules_with reading carousel.now) choice smoothing.times job.now (G.reaches gauge.old)
+    ensures resolution { (result ≡ Err Fault.Resolution) ↔ (is_possible_in choice.pixels smoothing.times job.now ≡ false) }
+    ensures converts { HasConvertedOn (rules_with reading carousel.now) choice smoothing job.now (G.reaches gauge.old)
         (S.state source.old) (S.state source.new) (K.state sink.old) (K.state sink.new)
         (G.count gauge.old) (G.count gauge.new) result }
     ensures end { (S.state source.new).ends ≡ (S.state source.old).ends + 1 → IsAtEnd (S.state source.new).left }
     ensures same { G.reaches gauge.new ≡ G.reaches gauge.old }
     ensures untouched { IfErr result (λ fault. is_write fault ≡ false → sink.new ≡ sink.old) }
 {
-    if !is_possible(job, smoothing) {
+    if !is_picture_possible_in(choice.pixels, job, smoothing) {
         return Err(Fault::Resolution);
     }
-    let drawn = draw_source(
+    let drawing = draw_source(
         alloc, reading, carousel, choice, job.pens, &job.page, source,
     )?;
-    let job = Job {
-        page: drawn.page,
-        ..*job
-    };
-    let strokes = drawn.lines.strokes.as_slice();
-    let bytes = match paint(alloc, &job, smoothing, strokes, gauge, sink, watcher) {
-        Ok(bytes) => bytes,
-        Err(fault) => return Err(fault),
-    };
-    let rows = job.dots.rows(&job.page) - job.first_row;
-    let done = Done {
-        rows,
-        bytes,
-        strokes: strokes.len(),
-        notes: drawn.lines.notes,
-    };
-    Ok(Outcome {
-        done,
-        placement: drawn.placement,
-        sheets: drawn.lines.sheets,
-        census: census_of(strokes, job.pens, &job.page),
-    })
-}
-
-// Whether the job's form has its resolution, and its picture can be smoothed.
-fn is_possible(job: &Job, smoothing: Smoothing) -> bool
-    ensures { result ≡ is_possible smoothing.times job.now }
-{
-    let is_fine = !is_smoothed(job.form, smoothing) || is_fine(job.dots, smoothing);
-    is_fine && takes_resolution(job.form, job.dots.per_inch())
-}
-
-/// Whether a picture in a form is smoothed: only a PPM has shades.
-pub(crate) fn is_smoothed(form: Form, smoothing: Smoothing) -> bool
-    ensures { result ≡ is_smoothed smoothing.times form }
-{
-    smoothing.times() > 1 && matches!(form, Form::Ppm)
-}
-
-/// Whether the finer picture that a picture is smoothed of is not too fine.
-pub(crate) fn is_fine(dots: Dots, smoothing: Smoothing) -> bool
-    ensures { result ≡ is_fine smoothing.times dots }
-{
-    smoothing.times() * dots.per_inch() <= 1200
+    let strokes = drawing.lines.strokes.as_slice();
+    write_strokes(
+        alloc, &drawing, strokes, choice, job, smoothing, gauge, sink, watcher,
+    )
 }

@@ -5,7 +5,7 @@ ghost use Rattle.conversion.specs.Drawings.{HasDrawn};
 ghost use Rattle.conversion.specs.Rules.{rules_with};
 
 use crate::fault::Fault;
-use crate::place::{Placed, draw_placed};
+use crate::place::{Drawing, draw_placed};
 use crate::reading::read_plot;
 use carousel::Carousel;
 use devices::Source;
@@ -14,7 +14,7 @@ use plot_page::{Page, PenSet};
 use std::alloc::Global;
 
 /// What the plot that the source gives draws on the page that was chosen, by what the plot asks for or by what
-/// the selected pens draw. Of the plot nothing else is kept.
+/// the selected pens draw. Of the plot nothing else is kept. `write_picture_sheet` and `write_png_sheet` write pictures of it.
 ///
 /// Errors, in this order: `Read` if the source fails; `TooLong` if it gives more than 67,108,864
 /// bytes; `Plot` if the plot is refused for the page that it is drawn on first. `Memory` comes when
@@ -27,7 +27,7 @@ pub fn draw_source<S: Source>(
     pens: PenSet,
     page: &Page,
     source: &mut S,
-) -> Result<Placed, Fault>
+) -> Result<Drawing, Fault>
     requires failing { (S.state source.old).faults < 2 ^ 64 - 1 }
     requires ending { (S.state source.old).ends < 2 ^ 64 - 1 }
     ensures draws { HasDrawn (rules_with reading carousel.now) choice pens page.now (S.state source.old) (S.state source.new) result }

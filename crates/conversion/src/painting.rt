@@ -8,9 +8,9 @@ ghost use Rattle.conversion.specs.Progress.{HasPainted};
 
 use crate::bands::Bands;
 use crate::cell_bands::CellBands;
-use crate::convert_plot::is_smoothed;
 use crate::fault::Fault;
 use crate::pcl_bands::PclBands;
+use crate::sheet::is_smoothed;
 use crate::smooth_bands::{SmoothBands, Smoothed};
 use crate::watcher::Watcher;
 use crate::writing::write_picture;

@@ -11,7 +11,8 @@ ghost use Rattle.conversion.specs.Placements.{IsAsked, IsDrawnOn, IsFitted, IsPl
 ghost use Rattle.conversion.specs.Placements.{page_reported, place_on, placed_rules, reported_at};
 ghost use Rattle.conversion.specs.Rules.{rules_with};
 
-use crate::lines::{Lines, draw_as};
+use crate::as_read::draw_as;
+use crate::lines::Lines;
 use crate::placement::Placement;
 use carousel::Carousel;
 use hpgl_plot::PlotFault;
@@ -26,9 +27,9 @@ use std::alloc::Global;
 // The corner of a page, from itself.
 const NO_CORNER: Corner = Corner { x: 0, y: 0 };
 
-/// What a plot draws, and where its picture lies.
+/// What a plot draws, or one of its sheets, and where its picture lies.
 #[derive(Drop)]
-pub struct Placed {
+pub struct Drawing {
     /// Why the picture lies there.
     pub placement: Placement,
     /// The page that the plot is drawn on.
@@ -43,6 +44,15 @@ pub struct Placed {
     pub lines: Lines,
 }
 
+impl Drawing {
+    /// How many sheets of the plot have strokes in the profile full; in core this is not counted, and 0.
+    pub fn sheets(&self) -> usize
+        ensures { result ≡ self.now.lines.sheets }
+    {
+        self.lines.sheets
+    }
+}
+
 /// What the text of a plot draws, on the page that was chosen: the one that is given, the one that the plot asks for, or
 /// the one around what the selected pens draw on either of them.
 ///
@@ -55,7 +65,7 @@ pub fn draw_placed(
     pens: PenSet,
     page: &Page,
     text: &[u8],
-) -> Result<Placed, PlotFault>
+) -> Result<Drawing, PlotFault>
     ensures placed { IfOk result (λ drawn. IsPlaced choice (rules_with reading carousel.now) pens page.now text.now (place_of drawn)) }
     ensures lines { IfOk result (λ drawn. AreLinesOf (placed_rules (rules_with reading carousel.now) pens (place_of drawn))
         drawn.page text.now drawn.lines) }
@@ -102,12 +112,12 @@ fn profile_of(reading: Reading) -> Profile
 }
 
 // A picture that shows the page that its plot is drawn on.
-fn unmoved(placement: Placement, page: Page, lines: Lines) -> Placed
+fn unmoved(placement: Placement, page: Page, lines: Lines) -> Drawing
     ensures place { place_of result ≡ place_on placement page }
     ensures named { result.named ≡ report_page page }
     ensures lines { result.lines ≡ lines }
 {
-    Placed {
+    Drawing {
         placement,
         drawn_on: page,
         corner: NO_CORNER,
@@ -118,7 +128,7 @@ fn unmoved(placement: Placement, page: Page, lines: Lines) -> Placed
 }
 
 // A picture that shows the page around these lines, which a plot draws on a page, if there is one.
-fn fitted(margin: u32, pens: PenSet, page: Page, lines: Lines) -> Placed
+fn fitted(margin: u32, pens: PenSet, page: Page, lines: Lines) -> Drawing
     ensures drawn_on { result.drawn_on ≡ page }
     ensures fitted { IsFitted pens margin page lines.strokes.items result.placement result.corner result.page }
     ensures named { result.named ≡ page_reported (place_of result) }
@@ -153,7 +163,7 @@ fn corner_of(margin: u32, pens: PenSet, extent: Extent, strokes: &[Stroke]) -> O
 }
 
 // A picture of lines that are moved to the page around them.
-fn moved(pens: PenSet, page: Page, corner: Corner, around: Page, lines: Lines) -> Placed
+fn moved(pens: PenSet, page: Page, corner: Corner, around: Page, lines: Lines) -> Drawing
     requires near { IsCornerNear corner }
     requires movable { are_movable pens corner lines.strokes.items ≡ true }
     ensures place { place_of result ≡ record {
@@ -167,7 +177,7 @@ fn moved(pens: PenSet, page: Page, corner: Corner, around: Page, lines: Lines) -
 {
     let mut lines = lines;
     move_strokes(lines.strokes.as_mut_slice(), &pens, &page, corner, &around);
-    Placed {
+    Drawing {
         placement: Placement::Fitted,
         drawn_on: page,
         corner,

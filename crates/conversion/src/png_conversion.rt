@@ -2,21 +2,17 @@
 ghost use Rattle.std.specs.Prelude.{◌≡◌, ◌+◌, ◌-◌, ◌^◌, ◌<◌, ◌↔◌, Err, IfErr, false};
 ghost use Rattle.std.specs.Io.KnownBytes.{IsAtEnd};
 ghost use Rattle.conversion.specs.Conversions.{is_write};
-ghost use Rattle.conversion.specs.Documents.{HasConvertedToPng, is_png_possible};
+ghost use Rattle.conversion.specs.Documents.{HasConvertedToPng, is_png_possible_in};
 ghost use Rattle.conversion.specs.Rules.{rules_with};
 
-use crate::convert_plot::{is_fine, is_smoothed};
-use crate::done::Done;
 use crate::draw_source::draw_source;
 use crate::fault::Fault;
 use crate::outcome::Outcome;
-use crate::png_picture::paint_png;
+use crate::png_sheet::{is_png_possible_in, write_png_strokes};
 use crate::watcher::Watcher;
 use carousel::Carousel;
 use devices::{Sink, Source};
-use page_fit::census_of;
 use picture_job::{PageChoice, PngJob, Reading};
-use picture_out::Form;
 use std::alloc::Global;
 use stroke_raster::Gauge;
 
@@ -27,8 +23,8 @@ use stroke_raster::Gauge;
 /// colours has no palette. A smoothed picture is grey if its strokes are; else its palette is white and each further colour of
 /// its pixels, if they are at most 256. The watcher is told after each band of rows how many are written.
 ///
-/// Errors, in this order: `Resolution` if the finer picture of a smoothed one would have more than 1200 dots per inch, and
-/// then the source is not read; those of reading and drawing the plot (`Read`, `TooLong`, `Plot`); `Unfinished` if the sink
+/// Errors, in this order: `Resolution` if the finer picture of a smoothed one would have more than 1200 dots per inch and no
+/// pixels are chosen, and then the source is not read; those of reading and drawing the plot (`Read`, `TooLong`, `Plot`); `Unfinished` if the sink
 /// fails, and what it has taken is of no use. `Memory` comes when memory is refused. After every error but `Unfinished`
 /// the sink is as it was.
 pub fn convert_png<G: Gauge, S: Source, K: Sink, W: Watcher>(
@@ -45,7 +41,7 @@ pub fn convert_png<G: Gauge, S: Source, K: Sink, W: Watcher>(
     requires failing { (S.state source.old).faults < 2 ^ 64 - 1 }
     requires ending { (S.state source.old).ends < 2 ^ 64 - 1 }
     requires sinking { (K.state sink).faults < 2 ^ 64 - 1 }
-    ensures resolution { (result.1 ≡ Err Fault.Resolution) ↔ (is_png_possible job.now ≡ false) }
+    ensures resolution { (result.1 ≡ Err Fault.Resolution) ↔ (is_png_possible_in choice.pixels job.now ≡ false) }
     ensures converts { HasConvertedToPng (rules_with reading carousel.now) choice job.now (G.reaches gauge.old)
         (S.state source.old) (S.state source.new) (K.state sink) (K.state result.0)
         (G.count gauge.old) (G.count gauge.new) result.1 }
@@ -53,35 +49,15 @@ pub fn convert_png<G: Gauge, S: Source, K: Sink, W: Watcher>(
     ensures same { G.reaches gauge.new ≡ G.reaches gauge.old }
     ensures untouched { IfErr result.1 (λ fault. is_write fault ≡ false → result.0 ≡ sink) }
 {
-    if is_smoothed(Form::Ppm, job.smoothing) && !is_fine(job.dots, job.smoothing) {
+    if !is_png_possible_in(choice.pixels, job) {
         return (sink, Err(Fault::Resolution));
     }
-    let drawn = match draw_source(
+    let drawing = match draw_source(
         alloc, reading, carousel, choice, job.pens, &job.page, source,
     ) {
-        Ok(drawn) => drawn,
+        Ok(drawing) => drawing,
         Err(fault) => return (sink, Err(fault)),
     };
-    let job = PngJob {
-        page: drawn.page,
-        ..*job
-    };
-    let strokes = drawn.lines.strokes.as_slice();
-    let (sink, painted) = paint_png(alloc, &job, strokes, gauge, sink, watcher);
-    if let Err(fault) = painted {
-        return (sink, Err(fault));
-    }
-    let done = Done {
-        rows: job.dots.rows(&job.page),
-        bytes: 0,
-        strokes: strokes.len(),
-        notes: drawn.lines.notes,
-    };
-    let outcome = Outcome {
-        done,
-        placement: drawn.placement,
-        sheets: drawn.lines.sheets,
-        census: census_of(strokes, job.pens, &job.page),
-    };
-    (sink, Ok(outcome))
+    let strokes = drawing.lines.strokes.as_slice();
+    write_png_strokes(alloc, &drawing, strokes, choice, job, gauge, sink, watcher)
 }

@@ -32,5 +32,5 @@ pub use area::Area;
 pub use carousel::Carousel;
 pub use drawn::{FullDrawn, draw_full, draw_full_with};
 pub use plotter::FullPlotter;
-pub use sheets::keep_sheet;
+pub use sheets::{keep_sheet, sheet_of};
 pub use writing::Writing;

@@ -1,5 +1,5 @@
 //! The sheets of a plot, which count from 1.
-ghost use Rattle.std.specs.Prelude.{◌≡◌, drop, slice_index_or};
+ghost use Rattle.std.specs.Prelude.{◌≡◌, drop, take, slice_index_or};
 ghost use Rattle.full_plot.specs.Drawings.{sheet_strokes};
 
 use plot_page::Stroke;
@@ -18,6 +18,36 @@ pub fn keep_sheet(strokes: &mut Vec<Stroke>, ends: &[usize], sheet: u32)
     if before > 0 {
         drop_front(strokes, end_of(ends, before - 1, count));
     }
+}
+
+/// The strokes of a sheet, in their order, as `keep_sheet` keeps them.
+pub fn sheet_of<'a>(strokes: &'a [Stroke], ends: &[usize], sheet: u32) -> &'a [Stroke]
+    ensures { result.now ≡ sheet_strokes strokes.now ends.now sheet }
+{
+    if sheet == 0 {
+        return strokes;
+    }
+    let count = strokes.len();
+    let before = sheet as usize - 1;
+    let kept = front(strokes, end_of(ends, before, count));
+    if before == 0 {
+        return kept;
+    }
+    after(kept, end_of(ends, before - 1, count))
+}
+
+// The first `count` strokes, or all if there are fewer.
+fn front(strokes: &[Stroke], count: usize) -> &[Stroke]
+    ensures { result.now ≡ take count strokes.now }
+{
+    &strokes[..count.min(strokes.len())]
+}
+
+// The strokes after the first `count`; none if there are no more.
+fn after(strokes: &[Stroke], count: usize) -> &[Stroke]
+    ensures { result.now ≡ drop count strokes.now }
+{
+    &strokes[count.min(strokes.len())..]
 }
 
 // How many strokes there were when the sheet with so many sheets before it ended: all, if it ended with the plot.

@@ -1,14 +1,17 @@
 -- What a task does, and the status that a run of it ends with.
 use Rattle.std.specs.Prelude.{ℕ, Bool, true, Result, Ok, Err}
 use Rattle.command_line.specs.declared.line.Task.{Task}
-use Rattle.command_line.specs.declared.line.Task.TheVariants.{Picture, Png, Report}
+use Rattle.command_line.specs.declared.line.Task.TheVariants.{Report}
+use Rattle.command_line.specs.declared.line.Task.TheVariants.{Picture as Draw}
+use Rattle.picture_job.specs.declared.picture.Picture.{Picture}
+use Rattle.picture_job.specs.declared.picture.Picture.TheVariants.{Rows, Png}
 use Rattle.picture_job.specs.declared.reading.Reading.{Reading}
 use Rattle.picture_job.specs.declared.page_choice.PageChoice.{PageChoice}
 use Rattle.carousel.specs.declared.carousel.Carousel.{Carousel}
 use Rattle.conversion.specs.Rules.{rules_with}
-use Rattle.conversion.specs.Conversions.{HasConvertedOn}
-use Rattle.conversion.specs.Documents.{HasConvertedToPng, is_png_possible}
-use Rattle.conversion.specs.Pictures.{exact, is_possible}
+use Rattle.conversion.specs.Conversions.{HasConvertedOn, is_possible_in}
+use Rattle.conversion.specs.Documents.{HasConvertedToPng, is_png_possible_in}
+use Rattle.conversion.specs.Pictures.{exact}
 use Rattle.conversion.specs.Faults.{status_of}
 use Rattle.conversion.specs.Reports.{HasReportedOn}
 use Rattle.devices.specs.Sinks.{SinkState}
@@ -18,20 +21,25 @@ use Rattle.conversion.specs.declared.fault.Fault.{Fault}
 
 -- a picture is converted by the exact gauge, after no tests, to a form or to a PNG; a report is written; each of a plot
 -- that is read so and drawn with the pens of the carousel, on the page that was chosen
-abbrev pub HasRun : Reading → Carousel → PageChoice → Task → SourceState → SourceState → SinkState → SinkState → Result Outcome Fault →
-    Type 0
-HasRun reading carousel choice (Picture job smoothing) before after sink sink' answer =
-    (tests : ℕ) × HasConvertedOn (rules_with reading carousel) choice smoothing.times job exact before after sink sink' 0 tests answer
-HasRun reading carousel choice (Png job) before after sink sink' answer =
+abbrev pub HasRun : Reading → Carousel → PageChoice → Task → SourceState → SourceState → SinkState → SinkState →
+    Result Outcome Fault → Type 0
+HasRun reading carousel choice (Draw (Rows job smoothing)) before after sink sink' answer =
+    (tests : ℕ)
+    × HasConvertedOn (rules_with reading carousel) choice smoothing job exact before after sink sink' 0 tests answer
+HasRun reading carousel choice (Draw (Png job)) before after sink sink' answer =
     (tests : ℕ) × HasConvertedToPng (rules_with reading carousel) choice job exact before after sink sink' 0 tests answer
 HasRun reading carousel choice (Report page) before after sink sink' answer =
     HasReportedOn (rules_with reading carousel) reading choice page before after sink sink' answer
 
--- the form of a picture has its resolution, and a picture that is smoothed is not too fine; a report has any
-abbrev pub task_has_resolution : Task → Bool
-task_has_resolution (Picture job smoothing) = is_possible smoothing.times job
-task_has_resolution (Png job) = is_png_possible job
-task_has_resolution (Report page) = true
+-- the form of a picture has its resolution, or has any if pixels are chosen, and a picture that is smoothed is not too fine
+abbrev pub is_picture_possible : PageChoice → Picture → Bool
+is_picture_possible choice (Rows job smoothing) = is_possible_in choice.pixels smoothing.times job
+is_picture_possible choice (Png job) = is_png_possible_in choice.pixels job
+
+-- the same of a task; a report is always possible
+abbrev pub is_task_possible : PageChoice → Task → Bool
+is_task_possible choice (Draw picture) = is_picture_possible choice picture
+is_task_possible choice (Report page) = true
 
 -- 0 if all was written, else the status of the fault
 abbrev pub exit_status_of : Result Outcome Fault → ℕ

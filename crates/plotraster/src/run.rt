@@ -2,19 +2,19 @@
 ghost use Rattle.std.specs.Prelude.{◌≡◌, ◌+◌, ◌-◌, ◌^◌, ◌<◌, ◌↔◌, Err, IfErr, false};
 ghost use Rattle.std.specs.Io.KnownBytes.{IsAtEnd};
 ghost use Rattle.conversion.specs.Conversions.{is_write};
-ghost use Rattle.plotraster.specs.Runs.{HasRun, task_has_resolution, exit_status_of};
+ghost use Rattle.plotraster.specs.Runs.{HasRun, exit_status_of, is_task_possible};
 
 use carousel::Carousel;
 use command_line::Task;
 use conversion::{Fault, Outcome, Watcher, convert_on, convert_png, report_on, status};
 use devices::{Sink, Source};
-use picture_job::{PageChoice, Reading};
+use picture_job::{PageChoice, Picture, Reading};
 use std::alloc::Global;
 use stroke_raster::Exact;
 
 /// Does what the task says with the plot that the source gives, which is read so and drawn with the pens of the carousel, on
-/// the page that is chosen: writes its picture, by the gauge `Exact`, or the report on it. Gives the sink back. The watcher is told how far
-/// a picture is, and nothing of a report. The errors are those of `convert_on`, of `convert_png` and of `report_on`.
+/// the page that is chosen: writes its picture, by the gauge `Exact`, or the report on it. Gives the sink back. The watcher
+/// is told how far a picture is, and nothing of a report. The errors are those of `convert_on`, of `convert_png` and of `report_on`.
 pub fn run_task<S: Source, K: Sink, W: Watcher>(
     alloc: Global,
     reading: Reading,
@@ -28,7 +28,7 @@ pub fn run_task<S: Source, K: Sink, W: Watcher>(
     requires failing { (S.state source.old).faults < 2 ^ 64 - 1 }
     requires ending { (S.state source.old).ends < 2 ^ 64 - 1 }
     requires sinking { (K.state sink).faults < 2 ^ 64 - 1 }
-    ensures resolution { (result.1 ≡ Err Fault.Resolution) ↔ (task_has_resolution task.now ≡ false) }
+    ensures resolution { (result.1 ≡ Err Fault.Resolution) ↔ (is_task_possible choice task.now ≡ false) }
     ensures runs { HasRun reading carousel.now choice task.now
         (S.state source.old) (S.state source.new) (K.state sink) (K.state result.0) result.1 }
     ensures end { (S.state source.new).ends ≡ (S.state source.old).ends + 1 → IsAtEnd (S.state source.new).left }
@@ -37,14 +37,14 @@ pub fn run_task<S: Source, K: Sink, W: Watcher>(
     let mut gauge = Exact::new();
     let mut sink = sink;
     match task {
-        Task::Picture { job, smoothing } => {
+        Task::Picture(Picture::Rows { job, smoothing }) => {
             let outcome = convert_on(
                 alloc, reading, carousel, choice, job, *smoothing, &mut gauge, source, &mut sink,
                 watcher,
             );
             (sink, outcome)
         }
-        Task::Png(job) => {
+        Task::Picture(Picture::Png(job)) => {
             convert_png(
                 alloc, reading, carousel, choice, job, &mut gauge, source, sink, watcher,
             )

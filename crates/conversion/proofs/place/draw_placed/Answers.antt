@@ -5,13 +5,13 @@ use Rattle.plot_page.specs.declared.page.Page.{Page}
 use Rattle.conversion.specs.Drawings.{IsReason, IsReasonOnFirst}
 use Rattle.conversion.specs.Placements.{IsDrawnOn}
 use Rattle.conversion.specs.Rules.{Rules, rules_with}
-use Rattle.conversion.specs.declared.place.Placed.{Placed}
+use Rattle.conversion.specs.declared.place.Drawing.{Drawing}
 use Rattle.conversion.specs.declared.placement.Placement.{Placement}
 use Rattle.conversion.proofs.Refusals.{passed_on}
 use Rattle.conversion.proofs.place.draw_placed.Goals as goal
 
 -- a refusal for the page that the plot is drawn on first
-on_first : (r : Result Placed PlotFault) (choice : PageChoice) (rules : Rules) (given : Page) (plot : List ℕ) (placement : Placement) (page : Page)
+on_first : (r : Result Drawing PlotFault) (choice : PageChoice) (rules : Rules) (given : Page) (plot : List ℕ) (placement : Placement) (page : Page)
     → IsDrawnOn choice.asked rules given plot placement page → IfErr r (λ fault. IsReason fault (rules.refusal page plot)) → IfErr r (IsReasonOnFirst choice rules given plot)
 on_first (Ok drawn) choice rules given plot placement page begun reason = tt
 on_first (Err fault) choice rules given plot placement page begun reason = (page, (placement, begun), reason)
@@ -20,5 +20,5 @@ pub returns-in_err-lines-clause-refused : goal.returns-in_err-lines-clause-refus
 returns-in_err-lines-clause-refused c =
     let rules : Rules = rules_with c.args.reading c.args.carousel.now in
     let first = c.first_page-placement.result in
-    subst (λ (r : Result Placed PlotFault). IfErr r (IsReasonOnFirst c.args.choice rules c.args.page.now c.args.text.now)) (sym (passed_on _ _ c.from_residual.ensures.1))
+    subst (λ (r : Result Drawing PlotFault). IfErr r (IsReasonOnFirst c.args.choice rules c.args.page.now c.args.text.now)) (sym (passed_on _ _ c.from_residual.ensures.1))
     (first.1, (first.0, c.first_page-placement.ensures c.args.carousel.now), c.in_err-lines.ensures.refused)

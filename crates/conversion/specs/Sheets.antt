@@ -1,0 +1,58 @@
+-- The picture of strokes of a drawing: of all of them, or of those of one sheet.
+use Rattle.std.specs.Prelude.{◌≡◌, ℕ, ◌-◌, false, List, length, Result, Ok, Err}
+use Rattle.full_plot.specs.Drawings.{sheet_strokes}
+use Rattle.plot_page.specs.Segments.{Segment}
+use Rattle.plot_page.specs.Resolutions.{rows_of}
+use Rattle.plot_page.specs.declared.pens.PenSet.{PenSet}
+use Rattle.page_fit.specs.Census.{census_of}
+use Rattle.picture_job.specs.declared.job.Job.{Job}
+use Rattle.picture_job.specs.declared.png_job.PngJob.{PngJob}
+use Rattle.picture_job.specs.declared.page_choice.PageChoice.{PageChoice}
+use Rattle.picture_job.specs.declared.smoothing.Smoothing.{Smoothing}
+use Rattle.devices.specs.Sinks.{SinkState}
+use Rattle.conversion.specs.Conversions.{is_possible_in, on_page, times_on}
+use Rattle.conversion.specs.Documents.{HasPaintedPng, is_png_possible_in, picture_shown, png_on_page}
+use Rattle.conversion.specs.Pictures.{Reach}
+use Rattle.conversion.specs.Progress.{HasPainted}
+use Rattle.conversion.specs.declared.fault.Fault.{Fault}
+use Rattle.conversion.specs.declared.fault.Fault.TheVariants.{Resolution}
+use Rattle.conversion.specs.declared.outcome.Outcome.{Outcome}
+use Rattle.conversion.specs.declared.place.Drawing.{Drawing}
+
+-- the strokes of a sheet of a drawing, which counts from 1; all that is drawn for 0
+abbrev pub strokes_on : Drawing → ℕ → List Segment
+strokes_on drawing sheet = sheet_strokes drawing.lines.strokes.items drawing.lines.ends.items sheet
+
+-- an outcome tells of these strokes of a drawing, of which the selected pens' are seen
+pub record TellsOf (drawing : Drawing) (pens : PenSet) (strokes : List Segment) (outcome : Outcome) : Type 0 where
+  pub strokes_count : outcome.done.strokes ≡ length strokes
+  pub notes : outcome.done.notes ≡ drawing.lines.notes
+  pub placement : outcome.placement ≡ drawing.placement
+  pub sheets : outcome.sheets ≡ drawing.lines.sheets
+  pub census : outcome.census ≡ census_of pens drawing.page strokes
+
+-- what each answer says of a picture of these strokes on the page where the drawing lies: it was written whole, or the sink
+-- failed, or the job cannot be done there
+abbrev pub WritesStrokes : PageChoice → Smoothing → Job → Drawing → List Segment → Reach → SinkState → SinkState →
+    Result Outcome Fault → Type 0
+WritesStrokes choice smoothing job drawing strokes reaches sink sink' (Ok outcome) =
+    HasPainted (times_on choice drawing.page job smoothing) (on_page choice drawing.page job) reaches strokes sink sink'
+    (Ok outcome.done.bytes)
+    × (outcome.done.rows ≡ rows_of drawing.page (on_page choice drawing.page job).dots - job.first_row)
+    × TellsOf drawing job.pens strokes outcome
+WritesStrokes choice smoothing job drawing strokes reaches sink sink' (Err Resolution) =
+    is_possible_in choice.pixels smoothing.times job ≡ false
+WritesStrokes choice smoothing job drawing strokes reaches sink sink' (Err fault) =
+    HasPainted (times_on choice drawing.page job smoothing) (on_page choice drawing.page job) reaches strokes sink sink'
+    (Err fault)
+
+-- the same of a PNG
+abbrev pub WritesPng : PageChoice → PngJob → Drawing → List Segment → Reach → SinkState → SinkState → Result Outcome Fault →
+    Type 0
+WritesPng choice job drawing strokes reaches sink sink' (Ok outcome) =
+    HasPaintedPng (picture_shown (png_on_page choice drawing.page job) reaches strokes) sink sink' (Ok outcome)
+    × (outcome.done.rows ≡ rows_of drawing.page (png_on_page choice drawing.page job).dots)
+    × TellsOf drawing job.pens strokes outcome
+WritesPng choice job drawing strokes reaches sink sink' (Err Resolution) = is_png_possible_in choice.pixels job ≡ false
+WritesPng choice job drawing strokes reaches sink sink' (Err fault) =
+    HasPaintedPng {U = Outcome} (picture_shown (png_on_page choice drawing.page job) reaches strokes) sink sink' (Err fault)

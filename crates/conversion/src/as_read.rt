@@ -1,0 +1,92 @@
+//! Drawing a plot as it is read: in the profile core, or in the profile full and of one sheet.
+ghost use Rattle.std.specs.Prelude.{◌≡◌, [], None, OnOk, IfOk, IfErr};
+ghost use Rattle.conversion.specs.Drawings.{IsReason};
+ghost use Rattle.conversion.specs.Rules.{ends_of, rules_with};
+ghost use Rattle.picture_job.specs.declared.reading.Reading.TheVariants.{Core, Full};
+
+use crate::lines::Lines;
+use carousel::Carousel;
+use full_plot::{draw_full_with, keep_sheet};
+use hpgl_plot::{PlotFault, draw_plot_with};
+use picture_job::Reading;
+use plot_page::Page;
+use std::alloc::Global;
+
+/// What the text of a plot draws on a page.
+///
+/// Errors: the refusal of the plot for the page; `Memory` if memory runs out.
+pub fn draw_as(
+    alloc: Global,
+    reading: Reading,
+    carousel: &Carousel,
+    text: &[u8],
+    page: &Page,
+) -> Result<Lines, PlotFault>
+    ensures accepted { OnOk result ((rules_with reading carousel.now).refusal page.now text.now ≡ None) }
+    ensures strokes { IfOk result (λ drawn. drawn.strokes.items ≡ (rules_with reading carousel.now).strokes page.now text.now) }
+    ensures notes { IfOk result (λ drawn. drawn.notes ≡ (rules_with reading carousel.now).notes text.now) }
+    ensures sheets { IfOk result (λ drawn. drawn.sheets ≡ (rules_with reading carousel.now).sheets page.now text.now) }
+    ensures ends { IfOk result (λ drawn. drawn.ends.items ≡ (rules_with reading carousel.now).ends page.now text.now) }
+    ensures refused { IfErr result (λ fault. IsReason fault ((rules_with reading carousel.now).refusal page.now text.now)) }
+{
+    match reading {
+        Reading::Core => draw_core(alloc, carousel, text, page),
+        Reading::Full { sheet } => draw_sheet(alloc, sheet, carousel, text, page),
+    }
+}
+
+// The same in the profile core.
+fn draw_core(
+    alloc: Global,
+    carousel: &Carousel,
+    text: &[u8],
+    page: &Page,
+) -> Result<Lines, PlotFault>
+    ensures accepted { OnOk result ((rules_with Core carousel.now).refusal page.now text.now ≡ None) }
+    ensures strokes { IfOk result (λ drawn. drawn.strokes.items ≡ (rules_with Core carousel.now).strokes page.now text.now) }
+    ensures notes { IfOk result (λ drawn. drawn.notes ≡ (rules_with Core carousel.now).notes text.now) }
+    ensures sheets { IfOk result (λ drawn. drawn.sheets ≡ 0) }
+    ensures ends { IfOk result (λ drawn. drawn.ends.items ≡ []) }
+    ensures refused { IfErr result (λ fault. IsReason fault ((rules_with Core carousel.now).refusal page.now text.now)) }
+{
+    let drawn = draw_plot_with(alloc, text, page, carousel)?;
+    Ok(Lines {
+        strokes: drawn.strokes,
+        notes: drawn.notes,
+        sheets: 0,
+        ends: Vec::new(alloc),
+    })
+}
+
+// The same in the profile full, for a sheet.
+fn draw_sheet(
+    alloc: Global,
+    sheet: u32,
+    carousel: &Carousel,
+    text: &[u8],
+    page: &Page,
+) -> Result<Lines, PlotFault>
+    ensures accepted { OnOk result ((rules_with (Full sheet) carousel.now).refusal page.now text.now ≡ None) }
+    ensures strokes { IfOk result (λ drawn. drawn.strokes.items ≡ (rules_with (Full sheet) carousel.now).strokes page.now text.now) }
+    ensures notes { IfOk result (λ drawn. drawn.notes ≡ (rules_with (Full sheet) carousel.now).notes text.now) }
+    ensures sheets { IfOk result (λ drawn. drawn.sheets ≡ (rules_with (Full sheet) carousel.now).sheets page.now text.now) }
+    ensures ends { IfOk result (λ drawn. drawn.ends.items ≡ (rules_with (Full sheet) carousel.now).ends page.now text.now) }
+    ensures refused { IfErr result (λ fault. IsReason fault ((rules_with (Full sheet) carousel.now).refusal page.now text.now)) }
+{
+    let mut drawn = draw_full_with(alloc, text, page, carousel)?;
+    let sheets = drawn.sheets();
+    keep_sheet(&mut drawn.strokes, drawn.ends.as_slice(), sheet);
+    Ok(Lines {
+        strokes: drawn.strokes,
+        notes: drawn.notes,
+        sheets,
+        ends: kept_ends(alloc, drawn.ends, sheet),
+    })
+}
+
+// Where sheets end in what is drawn of a sheet: nowhere, unless all are drawn.
+fn kept_ends(alloc: Global, ends: Vec<usize>, sheet: u32) -> Vec<usize>
+    ensures { result.items ≡ ends_of sheet ends.items }
+{
+    if sheet == 0 { ends } else { Vec::new(alloc) }
+}
