@@ -8,12 +8,12 @@ use Rattle.plot_page.specs.declared.page.Page.{Page}
 use Rattle.plot_page.specs.declared.pens.PenSet.{PenSet}
 use Rattle.picture_job.specs.declared.job.Job.{Job}
 use Rattle.picture_job.specs.declared.page_choice.PageChoice.{PageChoice}
+use Rattle.picture_job.specs.declared.smoothing.Smoothing.{Smoothing}
 use Rattle.picture_job.specs.declared.reading.Reading.{Reading}
 use Rattle.conversion.specs.Boxes.{strokes_boxes}
-use Rattle.conversion.specs.Conversions.{Converts, ConvertsOn, HasConvertedBy, HasConvertedOn, IsCutShort, IsRefused, IsWritten, on_page}
+use Rattle.conversion.specs.Conversions.{Converts, ConvertsOn, HasConvertedBy, HasConvertedOn, IsCutShort, IsRefused, IsWritten, on_page, times_on}
 use Rattle.picture_job.specs.declared.png_job.PngJob.{PngJob}
-use Rattle.png.specs.Samples.{Picture}
-use Rattle.conversion.specs.Documents.{ConvertsToPng, HasPaintedPng}
+use Rattle.conversion.specs.Documents.{ConvertsToPng}
 use Rattle.conversion.specs.Drawings.{Draws, IsNotDrawn, IsReasonOnFirst}
 use Rattle.conversion.specs.Faults.{of_plot}
 use Rattle.conversion.specs.Pictures.{Reach}
@@ -45,7 +45,7 @@ done_of (Err fault) = Err fault
 
 -- the page that is given
 abbrev pub given_choice : PageChoice
-given_choice = record { asked = false; margin = None }
+given_choice = record { asked = false; margin = None; pixels = None }
 
 place_is : (p : Place) (given : Page) → (p.corner ≡ no_corner) × (p.page ≡ p.drawn_on) → (p.placement ≡ Given) × (p.drawn_on ≡ given) → p ≡ place_on Given given
 place_is p given still on = λ i. record { placement = on.0 i; drawn_on = on.1 i; corner = still.0 i; page = (still.1 ∙ on.1) i }
@@ -58,19 +58,20 @@ given_place c rules pens given plot p placed not_asked none =
     place_is p given (by.1, by.2) on
 
 -- a job that was not painted where its picture lies
-pub not_painted_on : (rules : Rules) (c : PageChoice) (n : ℕ) (job : Job) (place : Place) (reaches : Reach) (input : List ℕ) (before after : SourceState)
+pub not_painted_on : (rules : Rules) (c : PageChoice) (sm : Smoothing) (job : Job) (place : Place) (reaches : Reach) (input : List ℕ) (before after : SourceState)
     (sink sink' : SinkState) (fault : Fault) → IsPlaced c rules job.pens job.page input place → WasRead input before after → (placed_rules rules job.pens place).refusal place.page input ≡ None
-    → HasPainted n (on_page place.page job) reaches ((placed_rules rules job.pens place).strokes place.page input) sink sink' (Err fault) → ConvertsOn rules c n job place reaches input before after sink sink' (Err fault)
-not_painted_on rules c n job place reaches input before after sink sink' TooLong placed read accepted h = absurd h
-not_painted_on rules c n job place reaches input before after sink sink' Memory placed read accepted h = read.sound
-not_painted_on rules c n job place reaches input before after sink sink' Unfinished placed read accepted h = absurd h
-not_painted_on rules c n job place reaches input before after sink sink' (Plot refusal) placed read accepted h = absurd h
-not_painted_on rules c n job place reaches input before after sink sink' (Paint refusal) placed read accepted h =
-    (placed, not_painted (placed_rules rules job.pens place) n (on_page place.page job) reaches input before after sink sink' (Paint refusal) read accepted h)
-not_painted_on rules c n job place reaches input before after sink sink' (Write row whole bytes) placed read accepted h =
-    (placed, not_painted (placed_rules rules job.pens place) n (on_page place.page job) reaches input before after sink sink' (Write row whole bytes) read accepted h)
-not_painted_on rules c n job place reaches input before after sink sink' Read placed read accepted h = absurd h
-not_painted_on rules c n job place reaches input before after sink sink' Resolution placed read accepted h = absurd h
+    → HasPainted (times_on c place.page job sm) (on_page c place.page job) reaches ((placed_rules rules job.pens place).strokes place.page input) sink sink' (Err fault)
+    → ConvertsOn rules c sm job place reaches input before after sink sink' (Err fault)
+not_painted_on rules c sm job place reaches input before after sink sink' TooLong placed read accepted h = absurd h
+not_painted_on rules c sm job place reaches input before after sink sink' Memory placed read accepted h = read.sound
+not_painted_on rules c sm job place reaches input before after sink sink' Unfinished placed read accepted h = absurd h
+not_painted_on rules c sm job place reaches input before after sink sink' (Plot refusal) placed read accepted h = absurd h
+not_painted_on rules c sm job place reaches input before after sink sink' (Paint refusal) placed read accepted h =
+    (placed, not_painted (placed_rules rules job.pens place) (times_on c place.page job sm) (on_page c place.page job) reaches input before after sink sink' (Paint refusal) read accepted h)
+not_painted_on rules c sm job place reaches input before after sink sink' (Write row whole bytes) placed read accepted h =
+    (placed, not_painted (placed_rules rules job.pens place) (times_on c place.page job sm) (on_page c place.page job) reaches input before after sink sink' (Write row whole bytes) read accepted h)
+not_painted_on rules c sm job place reaches input before after sink sink' Read placed read accepted h = absurd h
+not_painted_on rules c sm job place reaches input before after sink sink' Resolution placed read accepted h = absurd h
 
 -- a plot that was not drawn
 no_such_plot : (refusal : Option PlotFault) (fault : Fault) → option_map Plot refusal ≡ Some fault → ((f : PlotFault) → Plot f ≡ fault → ⊥) → ⊥
@@ -78,22 +79,22 @@ no_such_plot None fault is other = absurd (cc)
 no_such_plot (Some f) fault is other = other f (let same : Plot f ≡ fault = cc in same)
 
 -- what is said of it on the page that it is refused for
-abbrev pub ConvertsOnSome : Rules → PageChoice → ℕ → Job → Reach → List ℕ → SourceState → SourceState → SinkState → SinkState → Fault → Type 0
-ConvertsOnSome rules c n job reaches input before after sink sink' fault =
-    (place : Place) × IsGivenPlace c job.page place × ConvertsOn rules c n job place reaches input before after sink sink' (Err fault)
+abbrev pub ConvertsOnSome : Rules → PageChoice → Smoothing → Job → Reach → List ℕ → SourceState → SourceState → SinkState → SinkState → Fault → Type 0
+ConvertsOnSome rules c sm job reaches input before after sink sink' fault =
+    (place : Place) × IsGivenPlace c job.page place × ConvertsOn rules c sm job place reaches input before after sink sink' (Err fault)
 
-pub not_drawn_on : (rules : Rules) (c : PageChoice) (n : ℕ) (job : Job) (reaches : Reach) (input : List ℕ) (before after : SourceState) (sink sink' : SinkState) (fault : Fault)
-    → Draws rules c job.pens job.page input before after (Err fault) → ConvertsOnSome rules c n job reaches input before after sink sink' fault
-not_drawn_on rules c n job reaches input before after sink sink' TooLong h = (place_on Given job.page, (λ _ _. refl), h)
-not_drawn_on rules c n job reaches input before after sink sink' Memory h = (place_on Given job.page, (λ _ _. refl), h)
-not_drawn_on rules c n job reaches input before after sink sink' Read h = (place_on Given job.page, (λ _ _. refl), h)
-not_drawn_on rules c n job reaches input before after sink sink' (Plot refusal) h =
-    (place_on Given h.0, first_place c rules job.page input h.0 h.1, (h.1, record { read = h.2.read; refused = plot_fault (on_page h.0 job) (rules.refusal h.0 input) (Plot refusal) h.2.refused }))
-not_drawn_on rules c n job reaches input before after sink sink' (Paint fault) h = absurd (no_such_plot (rules.refusal h.0 input) (Paint fault) h.2.refused (λ f is. absurd (cc)))
-not_drawn_on rules c n job reaches input before after sink sink' (Write row whole bytes) h =
+pub not_drawn_on : (rules : Rules) (c : PageChoice) (sm : Smoothing) (job : Job) (reaches : Reach) (input : List ℕ) (before after : SourceState) (sink sink' : SinkState) (fault : Fault)
+    → Draws rules c job.pens job.page input before after (Err fault) → ConvertsOnSome rules c sm job reaches input before after sink sink' fault
+not_drawn_on rules c sm job reaches input before after sink sink' TooLong h = (place_on Given job.page, (λ _ _. refl), h)
+not_drawn_on rules c sm job reaches input before after sink sink' Memory h = (place_on Given job.page, (λ _ _. refl), h)
+not_drawn_on rules c sm job reaches input before after sink sink' Read h = (place_on Given job.page, (λ _ _. refl), h)
+not_drawn_on rules c sm job reaches input before after sink sink' (Plot refusal) h =
+    (place_on Given h.0, first_place c rules job.page input h.0 h.1, (h.1, record { read = h.2.read; refused = plot_fault (on_page c h.0 job) (rules.refusal h.0 input) (Plot refusal) h.2.refused }))
+not_drawn_on rules c sm job reaches input before after sink sink' (Paint fault) h = absurd (no_such_plot (rules.refusal h.0 input) (Paint fault) h.2.refused (λ f is. absurd (cc)))
+not_drawn_on rules c sm job reaches input before after sink sink' (Write row whole bytes) h =
     absurd (no_such_plot (rules.refusal h.0 input) (Write row whole bytes) h.2.refused (λ f is. absurd (cc)))
-not_drawn_on rules c n job reaches input before after sink sink' Resolution h = absurd (no_such_plot (rules.refusal h.0 input) Resolution h.2.refused (λ f is. absurd (cc)))
-not_drawn_on rules c n job reaches input before after sink sink' Unfinished h = absurd (no_such_plot (rules.refusal h.0 input) Unfinished h.2.refused (λ f is. absurd (cc)))
+not_drawn_on rules c sm job reaches input before after sink sink' Resolution h = absurd (no_such_plot (rules.refusal h.0 input) Resolution h.2.refused (λ f is. absurd (cc)))
+not_drawn_on rules c sm job reaches input before after sink sink' Unfinished h = absurd (no_such_plot (rules.refusal h.0 input) Unfinished h.2.refused (λ f is. absurd (cc)))
 
 -- a plot that was read, and is refused for its first page
 pub not_drawn : (rules : Rules) (c : PageChoice) (pens : PenSet) (given : Page) (input : List ℕ) (before after : SourceState) (fault : PlotFault) → WasRead input before after
@@ -128,11 +129,14 @@ not_read_on rules reading c pens given input before after sink sink' Resolution 
 not_read_on rules reading c pens given input before after sink sink' Unfinished h = absurd h
 
 -- what is written of a picture on the given page
-module _ (rules : Rules) (job : Job) (reaches : Reach) (input : List ℕ) (before after : SourceState) (sink sink' : SinkState) where
+module _ (rules : Rules) (sm : Smoothing) (job : Job) (reaches : Reach) (input : List ℕ) (before after : SourceState) (sink sink' : SinkState) where
   abbrev there : Rules
   there = placed_rules rules job.pens (place_on Given job.page)
 
-  written_there : (done : Done) → IsWritten there 1 job reaches input before after sink sink' done → IsWritten rules 1 job reaches input before after sink sink' done
+  abbrev n : ℕ
+  n = sm.times
+
+  written_there : (done : Done) → IsWritten there n job reaches input before after sink sink' done → IsWritten rules n job reaches input before after sink sink' done
   written_there done h = record {
     read = h.read;
     accepted = h.accepted;
@@ -144,7 +148,7 @@ module _ (rules : Rules) (job : Job) (reaches : Reach) (input : List ℕ) (befor
     notes = h.notes;
   }
 
-  cut_there : (row whole bytes : ℕ) → IsCutShort there 1 job reaches input before after sink sink' row whole bytes → IsCutShort rules 1 job reaches input before after sink sink' row whole bytes
+  cut_there : (row whole bytes : ℕ) → IsCutShort there n job reaches input before after sink sink' row whole bytes → IsCutShort rules n job reaches input before after sink sink' row whole bytes
   cut_there row whole bytes h = record {
     read = h.read;
     accepted = h.accepted;
@@ -155,8 +159,8 @@ module _ (rules : Rules) (job : Job) (reaches : Reach) (input : List ℕ) (befor
   }
 
   -- the answer of a run on the given page
-  pub converts_there : (answer : Result Outcome Fault) → ConvertsOn rules given_choice 1 job (place_on Given job.page) reaches input before after sink sink' answer
-      → Converts rules 1 job reaches input before after sink sink' (done_of answer)
+  pub converts_there : (answer : Result Outcome Fault) → ConvertsOn rules given_choice sm job (place_on Given job.page) reaches input before after sink sink' answer
+      → Converts rules n job reaches input before after sink sink' (done_of answer)
   converts_there (Ok o) h = written_there o.done h.2
   converts_there (Err (Write row whole bytes)) h = cut_there row whole bytes h.1
   converts_there (Err (Paint fault)) h = record { read = h.1.read; refused = h.1.refused }
@@ -167,17 +171,20 @@ module _ (rules : Rules) (job : Job) (reaches : Reach) (input : List ℕ) (befor
   converts_there (Err Resolution) h = h
   converts_there (Err Unfinished) h = h
 
-converted_by_it : (rules : Rules) (job : Job) (reaches : Reach) (before after : SourceState) (sink sink' : SinkState) (tests tests' : ℕ)
-    (answer : Result Outcome Fault) → HasConvertedOn rules given_choice 1 job reaches before after sink sink' tests tests' answer
+converted_by_it : (rules : Rules) (sm : Smoothing) (job : Job) (reaches : Reach) (before after : SourceState) (sink sink' : SinkState) (tests tests' : ℕ)
+    (answer : Result Outcome Fault) → sm.times ≡ 1 → HasConvertedOn rules given_choice sm job reaches before after sink sink' tests tests' answer
     → HasConvertedBy rules job reaches before after sink sink' tests tests' (done_of answer)
-converted_by_it rules job reaches before after sink sink' tests tests' answer h =
+converted_by_it rules sm job reaches before after sink sink' tests tests' answer once h =
     let is : h.place ≡ place_on Given job.page = h.given refl refl in
+    let converts = converts_there rules sm job reaches h.input before after sink sink' answer
+        (subst (λ (x : Place). ConvertsOn rules given_choice sm job x reaches h.input before after sink sink' answer) is h.converts) in
+    let tested : tests' ≤ tests + strokes_boxes sm.times job (rules.strokes job.page h.input) =
+        subst (λ (x : Place). tests' ≤ tests + strokes_boxes (times_on given_choice x.page job sm) (on_page given_choice x.page job) ((placed_rules rules job.pens x).strokes x.page h.input)) is h.tested in
     record {
       input = h.input;
       taken = h.taken;
-      converts = converts_there rules job reaches h.input before after sink sink' answer
-          (subst (λ (x : Place). ConvertsOn rules given_choice 1 job x reaches h.input before after sink sink' answer) is h.converts);
-      tested = subst (λ (x : Place). tests' ≤ tests + strokes_boxes 1 (on_page x.page job) ((placed_rules rules job.pens x).strokes x.page h.input)) is h.tested;
+      converts = subst (λ (n : ℕ). Converts rules n job reaches h.input before after sink sink' (done_of answer)) once converts;
+      tested = subst (λ (n : ℕ). tests' ≤ tests + strokes_boxes n job (rules.strokes job.page h.input)) once tested;
     }
 
 -- an empty carousel changes nothing
@@ -186,12 +193,12 @@ with_none Core carousel none = ap (rules_with Core) none ∙ (λ i. record core_
 with_none (Full sheet) carousel none = ap (rules_with (Full sheet)) none
 
 -- a run with an empty carousel on the given page
-pub converted_on_it : (reading : Reading) (carousel : Carousel) (job : Job) (reaches : Reach) (before after : SourceState) (sink sink' : SinkState) (tests tests' : ℕ)
-    (answer : Result Outcome Fault) → carousel ≡ empty → HasConvertedOn (rules_with reading carousel) given_choice 1 job reaches before after sink sink' tests tests' answer
+pub converted_on_it : (reading : Reading) (carousel : Carousel) (sm : Smoothing) (job : Job) (reaches : Reach) (before after : SourceState) (sink sink' : SinkState) (tests tests' : ℕ)
+    (answer : Result Outcome Fault) → carousel ≡ empty → sm.times ≡ 1 → HasConvertedOn (rules_with reading carousel) given_choice sm job reaches before after sink sink' tests tests' answer
     → HasConvertedBy (rules_of reading) job reaches before after sink sink' tests tests' (done_of answer)
-converted_on_it reading carousel job reaches before after sink sink' tests tests' answer none h =
-    converted_by_it (rules_of reading) job reaches before after sink sink' tests tests' answer
-    (subst (λ (rules : Rules). HasConvertedOn rules given_choice 1 job reaches before after sink sink' tests tests' answer) (with_none reading carousel none) h)
+converted_on_it reading carousel sm job reaches before after sink sink' tests tests' answer none once h =
+    converted_by_it (rules_of reading) sm job reaches before after sink sink' tests tests' answer once
+    (subst (λ (rules : Rules). HasConvertedOn rules given_choice sm job reaches before after sink sink' tests tests' answer) (with_none reading carousel none) h)
 
 module _ (reading : Reading) (pens : PenSet) (given : Page) (input : List ℕ) (before after : SourceState) (sink sink' : SinkState) where
   reports_there : (answer : Result Outcome Fault) → ReportsOn (rules_of reading) reading given_choice pens given (place_on Given given) input before after sink sink' answer
@@ -257,16 +264,3 @@ png_not_drawn rules c job reaches input before after sink sink' (Paint fault) h 
 png_not_drawn rules c job reaches input before after sink sink' (Write row whole bytes) h = absurd (no_such_plot (rules.refusal h.0 input) (Write row whole bytes) h.2.refused (λ f is. absurd (cc)))
 png_not_drawn rules c job reaches input before after sink sink' Resolution h = absurd (no_such_plot (rules.refusal h.0 input) Resolution h.2.refused (λ f is. absurd (cc)))
 png_not_drawn rules c job reaches input before after sink sink' Unfinished h = absurd (no_such_plot (rules.refusal h.0 input) Unfinished h.2.refused (λ f is. absurd (cc)))
-
--- the PNG of a plot that was read and accepted was not painted
-pub png_not_painted : (rules : Rules) (c : PageChoice) (job : PngJob) (place : Place) (reaches : Reach) (input : List ℕ) (before after : SourceState) (sink sink' : SinkState)
-    (fault : Fault) (picture : Picture) → IsPlaced c rules job.pens job.page input place → WasRead input before after → rules.refusal place.drawn_on input ≡ None
-    → HasPaintedPng {U = Unit {0}} picture sink sink' (Err fault) → ConvertsToPng rules c job place reaches input before after sink sink' (Err fault)
-png_not_painted rules c job place reaches input before after sink sink' TooLong picture placed read accepted h = absurd h
-png_not_painted rules c job place reaches input before after sink sink' Memory picture placed read accepted h = read.sound
-png_not_painted rules c job place reaches input before after sink sink' Unfinished picture placed read accepted h = (placed, record { read = read; accepted = accepted; failed = h })
-png_not_painted rules c job place reaches input before after sink sink' (Plot refusal) picture placed read accepted h = absurd h
-png_not_painted rules c job place reaches input before after sink sink' (Paint refusal) picture placed read accepted h = absurd h
-png_not_painted rules c job place reaches input before after sink sink' (Write row whole bytes) picture placed read accepted h = absurd h
-png_not_painted rules c job place reaches input before after sink sink' Read picture placed read accepted h = absurd h
-png_not_painted rules c job place reaches input before after sink sink' Resolution picture placed read accepted h = absurd h

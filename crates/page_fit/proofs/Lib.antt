@@ -3,3 +3,4 @@ pub mod Beside
 pub mod Moved
 pub mod Pages
 mod FitExamples
+mod Seen

@@ -1,11 +1,10 @@
 -- What a moved stroke and its window are made of.
-use Rattle.std.proofs.Common.{◌≡◌, ◌≤◌, ◌*◌, ◌&&◌, ◌||◌, ◌∙◌, sym, ap, not, refl, true, false, Bool, ℕ, ℤ, pos, ◌≤ℤ◌, nat_le, nat_abs, int_lt, List, length, take, get_or, ◌<◌, ◌+◌, arith}
+use Rattle.std.proofs.Common.{◌≡◌, ◌≤◌, ◌*◌, ◌&&◌, refl, true, false, ℤ, pos, ◌≤ℤ◌, nat_abs, int_lt, arith}
 use Rattle.std.proofs.lemmas.Int.{ints}
 use Rattle.std.proofs.lemmas.Bool.Decides.{nat_tests}
 use Rattle.std.specs.Int.{int_min, int_max}
 use Rattle.plot_page.specs.Segments.{Segment, is_end}
 use Rattle.plot_page.specs.Strokes.{IsStroke}
-use Rattle.plot_page.specs.declared.colour.Colour.{Colour}
 use Rattle.plot_page.specs.declared.page.Page.{Page}
 use Rattle.plot_page.specs.declared.stroke.TheConstants.{FARTHEST_PLACE}
 use Rattle.plot_page.specs.declared.window.Window.{Window}

@@ -3,3 +3,4 @@ pub mod Extents
 pub mod Around
 pub mod Moves
 pub mod Census
+pub mod Laws

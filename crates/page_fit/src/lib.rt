@@ -4,6 +4,7 @@
 mod around;
 mod census;
 mod extent;
+pub mod laws;
 mod moves;
 
 pub use around::{Corner, corner_around, page_around};

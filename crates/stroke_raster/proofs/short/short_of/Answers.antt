@@ -1,8 +1,9 @@
-use Rattle.std.proofs.Common.{rules, ◌≡◌, ◌-◌, ◌*◌, ◌≤◌, ◌∙◌, refl, ap, ap₂, nat_abs, pos, ◌*ℤ◌, FitsSigned, ℕ, ℤ, arith}
+use Rattle.std.proofs.Common.{rules, ◌≡◌, ◌-◌, ◌*◌, ◌≤◌, ◌^◌, ◌∙◌, refl, ap, ap₂, nat_abs, pos, ◌*ℤ◌, FitsSigned, ℕ, ℤ, arith}
 use mir.Syntax.{w64}
 use Rattle.std.proofs.lemmas.Int.{ints, to_z-of_z}
 use Rattle.exact.proofs.Fit.{product_within}
 use Rattle.stroke_raster.specs.declared.vector.Vector.{Vector}
+use Rattle.stroke_raster.specs.Bounds.{Within}
 use Rattle.stroke_raster.specs.Covers.{first_end, last_end}
 use Rattle.stroke_raster.specs.Gap.{dot, scaled, way}
 use Rattle.stroke_raster.specs.ShortNumbers.{sides}
@@ -36,6 +37,20 @@ past c =
     let n : c.unsigned_abs.result ≡ nat_abs (dot v v) = (simp to_z-of_z at c.unsigned_abs.ensures.value) ∙ ap nat_abs c.squared_length-squared.ensures.value in
     let e : c.saturating_sub.result ≡ 2 * c.args.dots.resolution * nat_abs (dot v v) - 1 = rw (c.from-3.ensures, n) at c.saturating_sub.ensures in
     omega (arith, e)
+
+-- the way to its last end
+scaled_within : (r : ℕ) (v : Vector) → r ≤ 1200 → nat_abs v.x ≤ 2097152 → nat_abs v.y ≤ 2097152 → Within (2 ^ 32) (scaled (pos r) v)
+scaled_within r v most x y =
+    let p = product_within (pos r) v.x 1200 2097152 most x in
+    let q = product_within (pos r) v.y 1200 2097152 most y in
+    record { x = omega (arith, p); y = omega (arith, q) }
+
+pub doubled-requires : goal.doubled-requires
+doubled-requires c =
+    let v = c.way_between-course.result in
+    let is : v ≡ way (first_end c.args.stroke.now) (last_end c.args.stroke.now) = c.way_between-course.ensures ∙ ap₂ way c.first_end_of.ensures.value c.last_end_of.ensures.value in
+    let s : sides v ≤ 2048 = rw is c.requires.course in
+    rw c.times.ensures (scaled_within c.args.dots.resolution v c.args.dots.at_most (omega (arith, s)) (omega (arith, s)))
 
 pub overflow_cast-result : goal.overflow_cast-result
 overflow_cast-result c =

@@ -1,0 +1,49 @@
+-- The sheets of a drawing are what is drawn of each by itself.
+use Rattle.std.proofs.Common.{◌≡◌, ◌≤◌, ◌-◌, ◌∙◌, ℕ, Bool, true, false, nat_eq, List, Option, None, Some, [], ◌∷◌, length, take, drop, map, slice_index_or, refl, ap, subst, sym, arith}
+use Rattle.std.specs.Prelude.{if◌then◌else◌}
+use Rattle.std.proofs.lemmas.List.{drop-map, length-map, take-map}
+use Rattle.plot_page.specs.Segments.{Segment}
+use Rattle.plot_page.specs.declared.page.Page.{Page}
+use Rattle.plot_page.specs.declared.pens.PenSet.{PenSet}
+use Rattle.carousel.specs.declared.carousel.Carousel.{Carousel}
+use Rattle.full_plot.specs.Drawings.{ends_in, outcome_with, sheet_strokes, strokes_in}
+use Rattle.page_fit.specs.declared.around.Corner.{Corner}
+use Rattle.page_fit.specs.Moves.{moved_if_selected}
+use Rattle.picture_job.specs.declared.page_choice.PageChoice.{PageChoice}
+use Rattle.picture_job.specs.declared.reading.Reading.TheVariants.{Full}
+use Rattle.conversion.specs.Placements.{IsPlaced, IsPlacedBy, Place, placed_rules, strokes_at}
+use Rattle.conversion.specs.Rules.{Rules, rules_with}
+use Rattle.conversion.specs.declared.placement.Placement.{Placement}
+use Rattle.conversion.specs.declared.placement.Placement.TheVariants.{Given, Asked, Unasked, Fitted, Blank, TooLarge}
+
+parts : (f : Segment → Segment) (xs : List Segment) (s e : ℕ) (b : Bool) → (if b then map f xs else drop s (take e (map f xs))) ≡ map f (if b then xs else drop s (take e xs))
+parts f xs s e true = refl
+parts f xs s e false = ap (drop s) (take-map f e xs) ∙ drop-map f s (take e xs)
+
+-- the strokes of a sheet, each changed, are those of the sheet of the changed strokes
+sheet_of_map : (f : Segment → Segment) (xs : List Segment) (ends : List ℕ) (sheet : ℕ) → sheet_strokes (map f xs) ends sheet ≡ map f (sheet_strokes xs ends sheet)
+sheet_of_map f xs ends sheet =
+    let n = length xs in
+    rw (length-map xs f) (parts f xs (slice_index_or (0 ∷ ends) (sheet - 1) n) (slice_index_or ends (sheet - 1) n) (nat_eq sheet 0))
+
+placed_sheets : (p : Placement) (pens : PenSet) (on : Page) (k : Corner) (page : Page) (xs : List Segment) (ends : List ℕ) (sheet : ℕ)
+    → sheet_strokes (strokes_at p pens on k page xs) ends sheet ≡ strokes_at p pens on k page (sheet_strokes xs ends sheet)
+placed_sheets Fitted pens on k page xs ends sheet = sheet_of_map (moved_if_selected pens on k page) xs ends sheet
+placed_sheets Given pens on k page xs ends sheet = refl
+placed_sheets Asked pens on k page xs ends sheet = refl
+placed_sheets Unasked pens on k page xs ends sheet = refl
+placed_sheets Blank pens on k page xs ends sheet = refl
+placed_sheets TooLarge pens on k page xs ends sheet = refl
+
+pub drawn_alike : (carousel : Carousel) (pens : PenSet) (place : Place) (plot : List ℕ) (sheet : ℕ)
+    → sheet_strokes ((placed_rules (rules_with (Full 0) carousel) pens place).strokes place.page plot) ((placed_rules (rules_with (Full 0) carousel) pens place).ends place.page plot) sheet
+    ≡ (placed_rules (rules_with (Full sheet) carousel) pens place).strokes place.page plot
+drawn_alike carousel pens place plot sheet =
+    let drawn = outcome_with carousel place.drawn_on plot in
+    placed_sheets place.placement pens place.drawn_on place.corner place.page (strokes_in drawn) (ends_in drawn) sheet
+
+pub placed_alike : (c : PageChoice) (carousel : Carousel) (pens : PenSet) (given : Page) (plot : List ℕ) (place : Place) (sheet : ℕ) → c.margin ≡ None
+    → IsPlaced c (rules_with (Full 0) carousel) pens given plot place → IsPlaced c (rules_with (Full sheet) carousel) pens given plot place
+placed_alike c carousel pens given plot place sheet none placed =
+    let by : IsPlacedBy None c (rules_with (Full 0) carousel) pens given plot place = subst (λ (m : Option ℕ). IsPlacedBy m c (rules_with (Full 0) carousel) pens given plot place) none placed in
+    subst (λ (m : Option ℕ). IsPlacedBy m c (rules_with (Full sheet) carousel) pens given plot place) (sym none) by
