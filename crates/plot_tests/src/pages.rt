@@ -46,6 +46,31 @@ fn resolutions(rt: HostRuntime) {
 }
 
 // A plot may have 4,194,304 strokes, so their size counts.
+// The width and the height of pages, how many pixels their longer side may have, and the resolution and the size of their
+// pictures.
+const PREVIEWS: [(u32, u32, u32, u32, u32, u32); 7] = [
+    (65_536, 64, 16, 1, 65, 1),
+    (65_536, 64, 65, 1, 65, 1),
+    (64, 65_536, 129, 2, 1, 129),
+    (11_880, 8_400, 256, 21, 246, 174),
+    (8_400, 11_880, 257, 22, 182, 257),
+    (11_880, 8_400, 20_000, 1_200, 14_031, 9_921),
+    (64, 64, 75, 1_198, 75, 75),
+];
+
+#[test]
+fn resolutions_of_previews(rt: HostRuntime) -> Result<(), PageFault> {
+    for (width, height, pixels, resolution, columns, rows) in PREVIEWS {
+        let page = Page::new(width, height, 0, 0)?;
+        let dots = Dots::within(&page, pixels);
+        assert_eq!(rt;
+            (dots.per_inch(), dots.columns(&page), dots.rows(&page)),
+            (resolution, columns, rows)
+        );
+    }
+    Ok(())
+}
+
 #[test]
 fn strokes_of_40_bytes(rt: HostRuntime) {
     let stroke = Stroke::new(255, RED, 12_800, WINDOW, 0, 0, 1_048_576, -1_048_576);

@@ -44,6 +44,8 @@ mod reports;
 #[cfg(test)]
 mod runs;
 #[cfg(test)]
+mod sheets;
+#[cfg(test)]
 mod smoothed;
 #[cfg(test)]
 mod streams;

@@ -44,6 +44,7 @@ Unasked 1 0 page 800 600 10 20
 const ASKED: PageChoice = PageChoice {
     asked: true,
     margin: None,
+    pixels: None,
 };
 
 fn given() -> Result<Page, Fail> {
@@ -130,6 +131,7 @@ fn pages_around_drawings_on_pages_asked_for(rt: HostRuntime) -> Result<(), Fail>
     let choice = PageChoice {
         asked: true,
         margin: Some(0),
+        pixels: None,
     };
     let answer = placed_on(rt.alloc(), &given()?, Reading::Core, choice, plot)?;
     assert_eq!(rt; answer.as_str(), "Fitted 1 0 page 800 600 10 20");

@@ -65,6 +65,7 @@ pub(crate) fn fitted(margin: u32) -> PageChoice {
     PageChoice {
         asked: false,
         margin: Some(margin),
+        pixels: None,
     }
 }
 

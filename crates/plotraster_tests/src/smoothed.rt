@@ -3,7 +3,7 @@ use crate::pages::{LINE, job_at};
 use crate::streams::{Reader, Writer};
 use plotraster::{
     Carousel, Dots, Fault, Form, Job, Outcome, OverRead, OverWrite, Page, PageChoice, PenSet,
-    PngJob, Reading, Smoothing, Task, Unwatched, run_task,
+    Picture, PngJob, Reading, Smoothing, Task, Unwatched, run_task,
 };
 use std::alloc::Global;
 use std::test::Fail;
@@ -61,10 +61,10 @@ fn pixmap_from(first_row: u32) -> Result<Task, Fail> {
         first_row,
         form: Form::Ppm,
     };
-    Ok(Task::Picture {
+    Ok(Task::Picture(Picture::Rows {
         job,
         smoothing: smoothing(2)?,
-    })
+    }))
 }
 
 #[test]
@@ -109,10 +109,10 @@ fn a_smoothed_pixmap_broken_off(rt: HostRuntime) -> Result<(), Fail> {
 #[test]
 fn forms_without_shades_are_not_smoothed(rt: HostRuntime) -> Result<(), Fail> {
     let alloc = rt.alloc();
-    let task = Task::Picture {
+    let task = Task::Picture(Picture::Rows {
         job: job_at(Form::Pbm, 127)?,
         smoothing: smoothing(8)?,
-    };
+    });
     let run = run(alloc, &task, LINE, Writer::new(alloc));
     assert!(rt; run.answer.is_ok());
     let bitmap = b"P4\n8 8\n\x00\x00\x00\x00\xff\x00\x00\x00";
@@ -132,8 +132,8 @@ fn smoothed_too_finely(rt: HostRuntime) -> Result<(), Fail> {
         pens: job.pens,
         smoothing,
     };
-    for task in [Task::Picture { job, smoothing }, Task::Png(png)] {
-        let run = run(alloc, &task, LINE, Writer::new(alloc));
+    for picture in [Picture::Rows { job, smoothing }, Picture::Png(png)] {
+        let run = run(alloc, &Task::Picture(picture), LINE, Writer::new(alloc));
         assert!(rt; matches!(run.answer, Err(Fault::Resolution)));
         assert_eq!(rt; (run.reader.calls, run.writer.bytes.len()), (0, 0));
     }
@@ -143,12 +143,12 @@ fn smoothed_too_finely(rt: HostRuntime) -> Result<(), Fail> {
 // The depth and the colour type of a smoothed PNG of a plot.
 fn layout_of(alloc: Global, plot: &[u8]) -> Result<(u8, u8), Fail> {
     let job = job_at(Form::Ppm, 127)?;
-    let task = Task::Png(PngJob {
+    let task = Task::Picture(Picture::Png(PngJob {
         page: job.page,
         dots: job.dots,
         pens: job.pens,
         smoothing: smoothing(2)?,
-    });
+    }));
     let run = run(alloc, &task, plot, Writer::new(alloc));
     run.answer?;
     let bytes = run.writer.bytes.as_slice();
