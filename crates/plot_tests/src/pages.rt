@@ -1,5 +1,6 @@
 // Pages and strokes by public calls.
 use plot_page::{Colour, Dots, Page, PageFault, Stroke, Window};
+use std::test::Fail;
 
 const RED: Colour = Colour {
     red: 255,
@@ -59,7 +60,7 @@ const PREVIEWS: [(u32, u32, u32, u32, u32, u32); 7] = [
 ];
 
 #[test]
-fn resolutions_of_previews(rt: HostRuntime) -> Result<(), PageFault> {
+fn resolutions_of_previews(rt: HostRuntime) -> Result<(), Fail> {
     for (width, height, pixels, resolution, columns, rows) in PREVIEWS {
         let page = Page::new(width, height, 0, 0)?;
         let dots = Dots::within(&page, pixels);
