@@ -177,9 +177,9 @@ converted_by_it : (rules : Rules) (sm : Smoothing) (job : Job) (reaches : Reach)
 converted_by_it rules sm job reaches before after sink sink' tests tests' answer once h =
     let is : h.place ≡ place_on Given job.page = h.given refl refl in
     let converts = converts_there rules sm job reaches h.input before after sink sink' answer
-        (subst (λ (x : Place). ConvertsOn rules given_choice sm job x reaches h.input before after sink sink' answer) is h.converts) in
+    (subst (λ (x : Place). ConvertsOn rules given_choice sm job x reaches h.input before after sink sink' answer) is h.converts) in
     let tested : tests' ≤ tests + strokes_boxes sm.times job (rules.strokes job.page h.input) =
-        subst (λ (x : Place). tests' ≤ tests + strokes_boxes (times_on given_choice x.page job sm) (on_page given_choice x.page job) ((placed_rules rules job.pens x).strokes x.page h.input)) is h.tested in
+    subst (λ (x : Place). tests' ≤ tests + strokes_boxes (times_on given_choice x.page job sm) (on_page given_choice x.page job) ((placed_rules rules job.pens x).strokes x.page h.input)) is h.tested in
     record {
       input = h.input;
       taken = h.taken;

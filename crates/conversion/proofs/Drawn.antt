@@ -40,8 +40,7 @@ module _ (rules : Rules) (c : PageChoice) (reaches : Reach) (input : List ℕ) (
       let place : Place = place_of drawing in
       let there : Rules = placed_rules rules job.pens place in
       let shown : Job = on_page c drawing.page job in
-      let painted = subst (λ (ss : List Segment). HasPainted (times_on c drawing.page job sm) shown reaches ss sink sink' (Ok o.done.bytes)) are h.0 in
-      (
+      let painted = subst (λ (ss : List Segment). HasPainted (times_on c drawing.page job sm) shown reaches ss sink sink' (Ok o.done.bytes)) are h.0 in (
         drawn.placed,
         h.2.placement,
         record {
@@ -76,8 +75,7 @@ module _ (rules : Rules) (c : PageChoice) (reaches : Reach) (input : List ℕ) (
       → WritesPng c job drawing strokes reaches sink sink' answer → ConvertsToPng rules c job (place_of drawing) reaches input before after sink sink' answer
   converts_png_drawn job strokes (Ok o) possible drawn are h =
       let shown : PngJob = png_on_page c drawing.page job in
-      let painted = subst (λ (ss : List Segment). HasPaintedPng {U = Outcome} (picture_shown shown reaches ss) sink sink' (Ok o)) are h.0 in
-      (
+      let painted = subst (λ (ss : List Segment). HasPaintedPng {U = Outcome} (picture_shown shown reaches ss) sink sink' (Ok o)) are h.0 in (
         drawn.placed,
         h.2.placement,
         record {

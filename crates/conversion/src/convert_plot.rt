@@ -6,7 +6,7 @@ ghost use Rattle.conversion.specs.Pictures.{has_resolution};
 ghost use Rattle.conversion.specs.Rules.{rules_of, rules_with};
 
 use crate::done::Done;
-use crate::draw_source::draw_source;
+use crate::drawing::draw_source;
 use crate::fault::Fault;
 use crate::outcome::Outcome;
 use crate::sheet::{is_picture_possible_in, write_strokes};

@@ -5,7 +5,7 @@ ghost use Rattle.conversion.specs.Conversions.{is_write};
 ghost use Rattle.conversion.specs.Documents.{HasConvertedToPng, is_png_possible_in};
 ghost use Rattle.conversion.specs.Rules.{rules_with};
 
-use crate::draw_source::draw_source;
+use crate::drawing::draw_source;
 use crate::fault::Fault;
 use crate::outcome::Outcome;
 use crate::png_sheet::{is_png_possible_in, write_png_strokes};

@@ -5,7 +5,7 @@ use Rattle.conversion.specs.declared.fault.Fault.{Fault}
 use Rattle.conversion.specs.declared.place.Placed.{Placed}
 use Rattle.conversion.proofs.Choices.{not_drawn}
 use Rattle.conversion.proofs.Refusals.{passed_on}
-use Rattle.conversion.proofs.draw_source.draw_source.Goals as goal
+use Rattle.conversion.proofs.drawing.draw_source.Goals as goal
 
 pub returns-in_err-drawn-clause-draws : goal.returns-in_err-drawn-clause-draws
 returns-in_err-drawn-clause-draws g c =
