@@ -10,7 +10,7 @@ use Rattle.plot_page.specs.Segments.{Segment}
 use Rattle.plot_page.specs.declared.page.Page.{Page}
 use Rattle.plot_page.specs.declared.dots.Dots.{Dots}
 use Rattle.plot_page.specs.declared.dots.TheConstants.{MOST_PIXELS_A_SIDE}
-use Rattle.plot_page.specs.Resolutions.{columns_of}
+use Rattle.plot_page.specs.Resolutions.{cell_count, columns_of}
 use Rattle.picture_out.specs.declared.form.Form.TheVariants.{Pbm}
 use Rattle.picture_out.specs.declared.inks.Ink.{Ink}
 use Rattle.bit_rows.specs.Bits.{bytes_for, packed}

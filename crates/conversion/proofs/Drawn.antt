@@ -14,8 +14,9 @@ use Rattle.picture_job.specs.declared.png_job.PngJob.{PngJob}
 use Rattle.picture_job.specs.declared.page_choice.PageChoice.{PageChoice}
 use Rattle.picture_job.specs.declared.smoothing.Smoothing.{Smoothing}
 use Rattle.picture_job.specs.Sizes.{dots_in, smoothing_at, smoothing_in}
+use Rattle.conversion.specs.Boxes.{strokes_boxes}
 use Rattle.conversion.specs.Conversions.{ConvertsOn, IsWritten, is_possible_in, on_page, times_on}
-use Rattle.conversion.specs.Documents.{ConvertsToPng, HasPaintedPng, is_png_possible, is_png_possible_in, picture_shown, png_on_page}
+use Rattle.conversion.specs.Documents.{ConvertsToPng, HasPaintedPng, is_png_possible, is_png_possible_in, picture_shown, png_boxes, png_on_page}
 use Rattle.conversion.specs.Drawings.{IsDrawn, place_of}
 use Rattle.conversion.specs.Pictures.{Reach, has_any_resolution, is_fine, is_possible, is_smoothed}
 use Rattle.conversion.specs.Placements.{Place, placed_rules}
@@ -146,3 +147,19 @@ png_possible_by (Some pixels) job page h =
 -- the same of a PNG
 pub png_possible_on : (c : PageChoice) (job : PngJob) (page : Page) → is_png_possible_in c.pixels job ≡ true → is_png_possible (png_on_page c page job) ≡ true
 png_possible_on c job page h = png_possible_by c.pixels job page h
+
+-- as many tests as in the picture of the page that is shown
+pub same_boxes : (c : PageChoice) (page : Page) (job : Job) (sm : Smoothing) (dots : Dots) (times : Smoothing) (ss : List Segment) → dots ≡ dots_in c.pixels page job.dots → times ≡ smoothing_in c.pixels dots sm
+    → strokes_boxes times.times (record job { page = page; dots = dots }) ss ≡ strokes_boxes (times_on c page job sm) (on_page c page job) ss
+same_boxes c page job sm dots times ss is so =
+    let both : times ≡ smoothing_in c.pixels (dots_in c.pixels page job.dots) sm = so ∙ ap (λ (d : Dots). smoothing_in c.pixels d sm) is in
+    ap (λ (t : Smoothing). strokes_boxes t.times (record job { page = page; dots = dots }) ss) both
+    ∙ ap (λ (d : Dots). strokes_boxes (times_on c page job sm) (record job { page = page; dots = d }) ss) is
+
+pub same_png_boxes : (c : PageChoice) (page : Page) (job : PngJob) (dots : Dots) (times : Smoothing) (ss : List Segment) → dots ≡ dots_in c.pixels page job.dots → times ≡ smoothing_in c.pixels dots job.smoothing
+    → png_boxes (record job { page = page; dots = dots; smoothing = times }) ss ≡ png_boxes (png_on_page c page job) ss
+same_png_boxes c page job dots times ss is so =
+    let shown : Dots = dots_in c.pixels page job.dots in
+    let both : times ≡ smoothing_in c.pixels shown job.smoothing = so ∙ ap (λ (d : Dots). smoothing_in c.pixels d job.smoothing) is in
+    ap (λ (t : Smoothing). png_boxes (record job { page = page; dots = dots; smoothing = t }) ss) both
+    ∙ ap (λ (d : Dots). png_boxes (record job { page = page; dots = d; smoothing = smoothing_in c.pixels shown job.smoothing }) ss) is

@@ -11,7 +11,7 @@ use Rattle.page_fit.specs.declared.around.Corner.{Corner}
 use Rattle.page_fit.specs.Moves.{moved_if_selected}
 use Rattle.picture_job.specs.declared.page_choice.PageChoice.{PageChoice}
 use Rattle.picture_job.specs.declared.reading.Reading.TheVariants.{Full}
-use Rattle.conversion.specs.Placements.{IsPlaced, IsPlacedBy, Place, placed_rules, strokes_at}
+use Rattle.conversion.specs.Placements.{IsDrawnOn, IsPlaced, IsPlacedBy, Place, placed_rules, strokes_at}
 use Rattle.conversion.specs.Rules.{Rules, rules_with}
 use Rattle.conversion.specs.declared.placement.Placement.{Placement}
 use Rattle.conversion.specs.declared.placement.Placement.TheVariants.{Given, Asked, Unasked, Fitted, Blank, TooLarge}
@@ -42,8 +42,20 @@ drawn_alike carousel pens place plot sheet =
     let drawn = outcome_with carousel place.drawn_on plot in
     placed_sheets place.placement pens place.drawn_on place.corner place.page (strokes_in drawn) (ends_in drawn) sheet
 
+-- the page that a plot is drawn on is the same for each sheet
+on_alike : (b : Bool) (carousel : Carousel) (given : Page) (plot : List ℕ) (sheet : ℕ) (p : Placement) (page : Page)
+    → IsDrawnOn b (rules_with (Full 0) carousel) given plot p page → IsDrawnOn b (rules_with (Full sheet) carousel) given plot p page
+on_alike false carousel given plot sheet p page h = h
+on_alike true carousel given plot sheet Asked page h = h
+on_alike true carousel given plot sheet Unasked page h = h
+on_alike true carousel given plot sheet Given page h = absurd h
+on_alike true carousel given plot sheet Fitted page h = absurd h
+on_alike true carousel given plot sheet Blank page h = absurd h
+on_alike true carousel given plot sheet TooLarge page h = absurd h
+
 pub placed_alike : (c : PageChoice) (carousel : Carousel) (pens : PenSet) (given : Page) (plot : List ℕ) (place : Place) (sheet : ℕ) → c.margin ≡ None
     → IsPlaced c (rules_with (Full 0) carousel) pens given plot place → IsPlaced c (rules_with (Full sheet) carousel) pens given plot place
 placed_alike c carousel pens given plot place sheet none placed =
     let by : IsPlacedBy None c (rules_with (Full 0) carousel) pens given plot place = subst (λ (m : Option ℕ). IsPlacedBy m c (rules_with (Full 0) carousel) pens given plot place) none placed in
-    subst (λ (m : Option ℕ). IsPlacedBy m c (rules_with (Full sheet) carousel) pens given plot place) (sym none) by
+    subst (λ (m : Option ℕ). IsPlacedBy m c (rules_with (Full sheet) carousel) pens given plot place) (sym none)
+    (on_alike c.asked carousel given plot sheet place.placement place.drawn_on by.0, by.1, by.2)

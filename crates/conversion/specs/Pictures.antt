@@ -15,7 +15,7 @@ use Rattle.stroke_raster.specs.Shown.{row_shown}
 use Rattle.smoothing.specs.Smoothings.{Colours, smoothed}
 use Rattle.picture_out.specs.declared.form.Form.{Form}
 use Rattle.picture_out.specs.declared.inks.Ink.{Ink}
-use Rattle.picture_out.specs.declared.form.Form.TheVariants.{Ppm}
+use Rattle.picture_out.specs.declared.form.Form.TheVariants.{Pcl, Ppm}
 use Rattle.picture_out.specs.Inks.{cell_colour}
 use Rattle.picture_out.specs.Forms.{head_bytes, row_bytes, foot_bytes, takes_resolution}
 use Rattle.stroke_raster.specs.Covers.{covers}
