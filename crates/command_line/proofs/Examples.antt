@@ -221,23 +221,23 @@ no_form = refl
 abbrev choice_on : List Text → Option PageChoice
 choice_on words = option_and_then (λ p. option_map (λ kind. choice_in kind p.1) (kind_named p.0)) (subcommand_of plot_app (after_name words))
 
-drawn_whole : choice_on (codes "draw" ∷ []) ≡ Some (record { asked = true; margin = Some 5 })
+drawn_whole : choice_on (codes "draw" ∷ []) ≡ Some (record { asked = true; margin = Some 5; pixels = None })
 unfolding clap_on_literals
 drawn_whole = refl
 
-drawn_on_the_page : choice_on (codes "draw" ∷ codes "--height=8400" ∷ []) ≡ Some (record { asked = false; margin = None })
+drawn_on_the_page : choice_on (codes "draw" ∷ codes "--height=8400" ∷ []) ≡ Some (record { asked = false; margin = None; pixels = None })
 unfolding clap_on_literals
 drawn_on_the_page = refl
 
-drawn_on_the_page_of_the_plot : choice_on (codes "draw" ∷ codes "--page=plot" ∷ codes "--fit" ∷ codes "--margin=0" ∷ []) ≡ Some (record { asked = true; margin = Some 0 })
+drawn_on_the_page_of_the_plot : choice_on (codes "draw" ∷ codes "--page=plot" ∷ codes "--fit" ∷ codes "--margin=0" ∷ []) ≡ Some (record { asked = true; margin = Some 0; pixels = None })
 unfolding clap_on_literals
 drawn_on_the_page_of_the_plot = refl
 
-fitted_by_png : choice_on (codes "png" ∷ codes "--page=plot" ∷ codes "--fit" ∷ []) ≡ Some (record { asked = true; margin = Some 1 })
+fitted_by_png : choice_on (codes "png" ∷ codes "--page=plot" ∷ codes "--fit" ∷ []) ≡ Some (record { asked = true; margin = Some 1; pixels = None })
 unfolding clap_on_literals
 fitted_by_png = refl
 
-not_fitted_by_png : choice_on (codes "png" ∷ []) ≡ Some (record { asked = false; margin = None })
+not_fitted_by_png : choice_on (codes "png" ∷ []) ≡ Some (record { asked = false; margin = None; pixels = None })
 unfolding clap_on_literals
 not_fitted_by_png = refl
 

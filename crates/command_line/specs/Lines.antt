@@ -17,6 +17,7 @@ use Rattle.command_line.specs.Papers.{names_plot, size_named}
 use Rattle.pen_list.specs.Lists.{is_listed, is_pen_list}
 use Rattle.picture_out.specs.declared.form.Form.{Form}
 use Rattle.picture_job.specs.declared.job.Job.{Job}
+use Rattle.picture_job.specs.declared.picture.Picture.TheVariants.{Png, Rows}
 use Rattle.picture_job.specs.declared.png_job.PngJob.{PngJob}
 use Rattle.picture_job.specs.declared.reading.Reading.{Reading}
 use Rattle.picture_job.specs.declared.reading.Reading.TheVariants.{Core, Full}
@@ -27,7 +28,7 @@ use Rattle.command_line.specs.declared.fault.LineFault.TheVariants.{Pens, Shades
 use Rattle.command_line.specs.declared.fault.LineFault.TheVariants.{Form as NoForm, Margin, Several}
 use Rattle.command_line.specs.declared.line.Line.{Line}
 use Rattle.command_line.specs.declared.line.Task.{Task}
-use Rattle.command_line.specs.declared.line.Task.TheVariants.{Picture, Png, Report}
+use Rattle.command_line.specs.declared.line.Task.TheVariants.{Picture, Report}
 use Rattle.command_line.specs.declared.subcommands.Kind.{Kind}
 use Rattle.command_line.specs.declared.subcommands.Kind.TheVariants.{Draw, Write}
 use Rattle.command_line.specs.declared.subcommands.Output.{Output}
@@ -183,14 +184,14 @@ pub record IsJobOf (kind : Kind) (rows : List Row) (job : Job) (smoothing : Smoo
 
 -- the task is a picture in this form, by these options
 abbrev pub IsPictureOf : Kind → Form → List Row → Task → Type 0
-IsPictureOf kind form rows (Picture job smoothing) = (job.form ≡ form) × IsJobOf kind rows job smoothing
+IsPictureOf kind form rows (Picture (Rows job smoothing)) = (job.form ≡ form) × IsJobOf kind rows job smoothing
 IsPictureOf kind form rows _ = ⊥
 
 -- the task is what a subcommand does, by its options
 abbrev pub IsTaskOf : Kind → List Row → Task → Type 0
-IsTaskOf kind rows (Picture job smoothing) =
+IsTaskOf kind rows (Picture (Rows job smoothing)) =
     (written kind rows ≡ Some (output.Picture job.form)) × IsJobOf kind rows job smoothing
-IsTaskOf kind rows (Png job) = (written kind rows ≡ Some output.Png) × IsPngJobOf kind true rows job
+IsTaskOf kind rows (Picture (Png job)) = (written kind rows ≡ Some output.Png) × IsPngJobOf kind true rows job
 IsTaskOf kind rows (Report page) = (written kind rows ≡ Some output.Report) × IsPageOf rows page
 
 -- the plot is read in the profile core, or in full with the given sheet, or with sheet 1 if none is given
@@ -204,6 +205,7 @@ abbrev pub choice_in : Kind → List Row → PageChoice
 choice_in kind rows = record {
   asked = asks_plot kind rows;
   margin = if has_fit kind rows then Some (unwrap_or (margin_in rows) (defaults_of kind).margin) else None;
+  pixels = None;
 }
 
 -- a margin is given, and the page is not fitted

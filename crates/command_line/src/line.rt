@@ -21,17 +21,15 @@ use crate::papers::{names_plot, size_named};
 use crate::subcommands::{Kind, Output, is_smoothed, kind_of};
 use clap::ArgMatches;
 use pen_list::read_pens;
-use picture_job::{Job, PageChoice, PngJob, Reading, Smoothing};
+use picture_job::{Job, PageChoice, Picture, PngJob, Reading, Smoothing};
 use picture_out::Form;
 use plot_page::{Dots, Page, PenSet};
 
 /// What is to be done.
 #[derive(Clone, Copy)]
 pub enum Task {
-    /// A picture of a plot, which may be smoothed if its form has colours.
-    Picture { job: Job, smoothing: Smoothing },
-    /// A PNG picture of a plot.
-    Png(PngJob),
+    /// A picture of a plot.
+    Picture(Picture),
     /// A description of a plot, on a page.
     Report(Page),
 }
@@ -120,7 +118,7 @@ fn task_of(kind: Kind, options: &ArgMatches<'_>) -> Result<Task, LineFault>
 {
     match written(kind, options).ok_or(LineFault::Form)? {
         Output::Picture(form) => picture_of(kind, options, form),
-        Output::Png => Ok(Task::Png(png_job_of(kind, options, true)?)),
+        Output::Png => Ok(Task::Picture(Picture::Png(png_job_of(kind, options, true)?))),
         Output::Report => Ok(Task::Report(page_of(options)?)),
     }
 }
@@ -163,17 +161,18 @@ fn picture_of(kind: Kind, options: &ArgMatches<'_>, form: Form) -> Result<Task, 
     let common = png_job_of(kind, options, is_smoothed(form))?;
     let band = number_if_given(options, "band")?;
     let first_row = number_if_given(options, "from")?;
-    Ok(Task::Picture {
-        job: Job {
-            page: common.page,
-            dots: common.dots,
-            pens: common.pens,
-            band: band.unwrap_or(64),
-            first_row: first_row.unwrap_or(0),
-            form,
-        },
+    let job = Job {
+        page: common.page,
+        dots: common.dots,
+        pens: common.pens,
+        band: band.unwrap_or(64),
+        first_row: first_row.unwrap_or(0),
+        form,
+    };
+    Ok(Task::Picture(Picture::Rows {
+        job,
         smoothing: common.smoothing,
-    })
+    }))
 }
 
 // What a PNG picture is asked for by, and each other picture too.
@@ -318,10 +317,18 @@ fn choice_of(kind: Kind, options: &ArgMatches<'_>) -> Result<PageChoice, LineFau
     let asked = names_page(options) || is_free;
     if has_flag(options, "fit") || is_free {
         let margin = Some(margin.unwrap_or(defaults.margin));
-        return Ok(PageChoice { asked, margin });
+        return Ok(PageChoice {
+            asked,
+            margin,
+            pixels: None,
+        });
     }
     match margin {
-        None => Ok(PageChoice { asked, margin }),
+        None => Ok(PageChoice {
+            asked,
+            margin,
+            pixels: None,
+        }),
         Some(_) => Err(LineFault::Margin),
     }
 }

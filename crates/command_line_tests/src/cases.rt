@@ -2,7 +2,7 @@
 use clap::ArgMatches;
 use command_line::{Line, Task, command, parse, parse_status, settle};
 use pen_list::read_pens;
-use picture_job::{Job, PngJob, Smoothing};
+use picture_job::{Job, Picture, PngJob, Smoothing};
 use picture_out::Form;
 use plot_page::{Page, PenSet};
 use std::alloc::{AllocError, Global};
@@ -112,8 +112,10 @@ fn line_told(alloc: Global, asked: Asked, line: &Line<'_, '_>) -> Result<String,
         }
         (Asked::Messages, _) => messages_told(alloc, line),
         (Asked::Files, _) => files_told(alloc, line.output, line.files),
-        (_, Task::Picture { job, smoothing }) => job_told(alloc, job, *smoothing, file),
-        (_, Task::Png(job)) => png_told(alloc, job, file),
+        (_, Task::Picture(Picture::Rows { job, smoothing })) => {
+            job_told(alloc, job, *smoothing, file)
+        }
+        (_, Task::Picture(Picture::Png(job))) => png_told(alloc, job, file),
         (_, Task::Report(page)) => {
             let (width, height, left, below) = (page.width, page.height, page.left, page.below);
             format!(in alloc; "report {width} {height} {left} {below} of {file:?}")
@@ -136,8 +138,8 @@ fn choice_told(alloc: Global, line: &Line<'_, '_>) -> Result<String, AllocError>
 
 fn page_of(task: &Task) -> Page {
     match task {
-        Task::Picture { job, .. } => job.page,
-        Task::Png(job) => job.page,
+        Task::Picture(Picture::Rows { job, .. }) => job.page,
+        Task::Picture(Picture::Png(job)) => job.page,
         Task::Report(page) => *page,
     }
 }
