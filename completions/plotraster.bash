@@ -3,7 +3,7 @@ _plotraster() {
     local word="${COMP_WORDS[COMP_CWORD]}" before="${COMP_WORDS[COMP_CWORD - 1]}"
     local command="${COMP_WORDS[1]}" options="--width --height --page --left --below --fit --margin"
     local papers="a0 a1 a2 a3 a4 a5 b4 letter legal tabloid ansi-a ansi-b ansi-c ansi-d ansi-e arch-d arch-e"
-    options="$options --profile --sheet --output --verbose"
+    options="$options --profile --sheet --output --verbose --colours --widths"
     COMPREPLY=()
     if [ "$COMP_CWORD" -eq 1 ]; then
         COMPREPLY=($(compgen -W "draw png marks pbm ppm pcl report --help --version" -- "$word"))
@@ -12,7 +12,7 @@ _plotraster() {
     if [ "$command" != report ]; then
         options="$options --dots --pens --progress"
         case "$command" in
-            draw) options="$options --smooth --form --quiet" ;;
+            draw) options="$options --size --smooth --form --quiet" ;;
             png) options="$options --smooth" ;;
             ppm) options="$options --smooth --band --from" ;;
             *) options="$options --band --from" ;;
@@ -34,7 +34,7 @@ _plotraster() {
                 COMPREPLY=($(compgen -W "png ppm pbm pcl marks" -- "$word"))
                 return
                 ;;
-            --smooth | --band | --from) return ;;
+            --size | --smooth | --band | --from) return ;;
         esac
     fi
     case "$before" in
@@ -50,7 +50,7 @@ _plotraster() {
             COMPREPLY=($(compgen -f -- "$word"))
             return
             ;;
-        --width | --height | --left | --below | --margin | --sheet) return ;;
+        --width | --height | --left | --below | --margin | --sheet | --colours | --colors | --widths) return ;;
     esac
     case "$word" in
         -*) COMPREPLY=($(compgen -W "$options --help" -- "$word")) ;;

@@ -20,7 +20,9 @@ COMPLETION = os.path.join(TOP, "completions", "plotraster.bash")
 SECONDS = 10
 # Options that take no value.
 FLAGS = ("--fit", "--verbose", "--progress", "--quiet")
-ONLY_OF_DRAW = ("--form", "--quiet")
+ONLY_OF_DRAW = ("--size", "--form", "--quiet")
+# Options with a value that have no default.
+WITHOUT_DEFAULT = ("--output", "--colours", "--widths", "--size")
 HELP = "--help"
 VERSION = "--version"
 EVERY_COMMAND = "All commands"
@@ -68,7 +70,7 @@ def options_in_help(program, command):
             continue
         says = re.fullmatch(r" +(?:-\w, )?--[a-z]+ <([A-Z]+)> +(.*?)(?: \[default: ([^]]*)\])?", line)
         assert says is not None, f"{command} {HELP}: no value: {line}"
-        assert (says[3] is None) == (name[1] == OUTPUT), f"{command} {HELP}: no default: {line}"
+        assert (says[3] is None) == (name[1] in WITHOUT_DEFAULT), f"{command} {HELP}: no default: {line}"
         found[name[1]] = (says[1], range_in(says[2]), says[3])
     return found
 
@@ -270,7 +272,7 @@ def test_page_begins_with_the_sentences_of_help(program):
     page = {(name, name_of(head)): text for name in ("COMMANDS", "OPTIONS")
             for _, head, text in entries(section(name))}
     sentences = list(sentences_of_help(program, commands))
-    assert len(sentences) == len(commands) + 17 + 11 + len(ONLY_OF_DRAW)
+    assert len(sentences) == len(commands) + 19 + 13 + len(ONLY_OF_DRAW)
     assert_nothing(f"{name}: the page has {page[part, name]!r}, the help {says!r}"
                    for part, name, says in sentences if not page[part, name].startswith(says + ". "))
 

@@ -16,9 +16,9 @@ use Rattle.command_line.proofs.Plain.{plain_app}
 use Rattle.clap_parses.specs.Parses.{HasGoodMatches, IsSingleShape}
 use Rattle.clap_parses.proofs.ParseLaw.{parse_good}
 
--- In each of these width, height, page, left, below, margin, profile, sheet and output take one value each; fit and verbose are
--- flags; FILE takes one value at each use; the last one is help. In pictures dots and pens take one value each, and
--- progress is a flag; smooth, form, band and from take one value each, and quiet is a flag.
+-- In each of these width, height, page, left, below, margin, profile, sheet, output, colours and widths take one value each;
+-- fit and verbose are flags; FILE takes one value at each use; the last one is help. In pictures dots and pens take one value
+-- each, and progress is a flag; size, smooth, form, band and from take one value each, and quiet is a flag.
 draw_single : (name : Text) → IsSingleShape (built_leaf (draw_app name).top)
 draw_single name = record {
   single = (
@@ -48,16 +48,25 @@ draw_single name = record {
                           (
                             record { found = refl; kind = inl (record { sets = refl; takes = refl }); defaults = search rules },
                             (
-                              record { found = refl; kind = inr (inl (record { sets = refl; takes = refl; stands = search rules })); defaults = search rules },
+                              record { found = refl; kind = inl (record { sets = refl; takes = refl }); defaults = search rules },
                               (
                                 record { found = refl; kind = inl (record { sets = refl; takes = refl }); defaults = search rules },
                                 (
-                                  record { found = refl; kind = inl (record { sets = refl; takes = refl }); defaults = search rules },
+                                  record { found = refl; kind = inr (inl (record { sets = refl; takes = refl; stands = search rules })); defaults = search rules },
                                   (
-                                    record { found = refl; kind = inr (inl (record { sets = refl; takes = refl; stands = search rules })); defaults = search rules },
+                                    record { found = refl; kind = inl (record { sets = refl; takes = refl }); defaults = search rules },
                                     (
-                                      record { found = refl; kind = inr (inr (inl (record { appends = refl; takes = refl }))); defaults = search rules },
-                                      (record { found = refl; kind = inr (inr (inr refl)); defaults = search rules }, tt),
+                                      record { found = refl; kind = inl (record { sets = refl; takes = refl }); defaults = search rules },
+                                      (
+                                        record { found = refl; kind = inl (record { sets = refl; takes = refl }); defaults = search rules },
+                                        (
+                                          record { found = refl; kind = inr (inl (record { sets = refl; takes = refl; stands = search rules })); defaults = search rules },
+                                          (
+                                            record { found = refl; kind = inr (inr (inl (record { appends = refl; takes = refl }))); defaults = search rules },
+                                            (record { found = refl; kind = inr (inr (inr refl)); defaults = search rules }, tt),
+                                          ),
+                                        ),
+                                      ),
                                     ),
                                   ),
                                 ),
@@ -108,14 +117,20 @@ plain_single name = record {
                           (
                             record { found = refl; kind = inl (record { sets = refl; takes = refl }); defaults = search rules },
                             (
-                              record { found = refl; kind = inr (inl (record { sets = refl; takes = refl; stands = search rules })); defaults = search rules },
+                              record { found = refl; kind = inl (record { sets = refl; takes = refl }); defaults = search rules },
                               (
                                 record { found = refl; kind = inl (record { sets = refl; takes = refl }); defaults = search rules },
                                 (
-                                  record { found = refl; kind = inl (record { sets = refl; takes = refl }); defaults = search rules },
+                                  record { found = refl; kind = inr (inl (record { sets = refl; takes = refl; stands = search rules })); defaults = search rules },
                                   (
-                                    record { found = refl; kind = inr (inr (inl (record { appends = refl; takes = refl }))); defaults = search rules },
-                                    (record { found = refl; kind = inr (inr (inr refl)); defaults = search rules }, tt),
+                                    record { found = refl; kind = inl (record { sets = refl; takes = refl }); defaults = search rules },
+                                    (
+                                      record { found = refl; kind = inl (record { sets = refl; takes = refl }); defaults = search rules },
+                                      (
+                                        record { found = refl; kind = inr (inr (inl (record { appends = refl; takes = refl }))); defaults = search rules },
+                                        (record { found = refl; kind = inr (inr (inr refl)); defaults = search rules }, tt),
+                                      ),
+                                    ),
                                   ),
                                 ),
                               ),
@@ -165,16 +180,22 @@ smoothed_single name = record {
                           (
                             record { found = refl; kind = inl (record { sets = refl; takes = refl }); defaults = search rules },
                             (
-                              record { found = refl; kind = inr (inl (record { sets = refl; takes = refl; stands = search rules })); defaults = search rules },
+                              record { found = refl; kind = inl (record { sets = refl; takes = refl }); defaults = search rules },
                               (
                                 record { found = refl; kind = inl (record { sets = refl; takes = refl }); defaults = search rules },
                                 (
-                                  record { found = refl; kind = inl (record { sets = refl; takes = refl }); defaults = search rules },
+                                  record { found = refl; kind = inr (inl (record { sets = refl; takes = refl; stands = search rules })); defaults = search rules },
                                   (
                                     record { found = refl; kind = inl (record { sets = refl; takes = refl }); defaults = search rules },
                                     (
-                                      record { found = refl; kind = inr (inr (inl (record { appends = refl; takes = refl }))); defaults = search rules },
-                                      (record { found = refl; kind = inr (inr (inr refl)); defaults = search rules }, tt),
+                                      record { found = refl; kind = inl (record { sets = refl; takes = refl }); defaults = search rules },
+                                      (
+                                        record { found = refl; kind = inl (record { sets = refl; takes = refl }); defaults = search rules },
+                                        (
+                                          record { found = refl; kind = inr (inr (inl (record { appends = refl; takes = refl }))); defaults = search rules },
+                                          (record { found = refl; kind = inr (inr (inr refl)); defaults = search rules }, tt),
+                                        ),
+                                      ),
                                     ),
                                   ),
                                 ),
@@ -225,12 +246,18 @@ png_single name = record {
                           (
                             record { found = refl; kind = inl (record { sets = refl; takes = refl }); defaults = search rules },
                             (
-                              record { found = refl; kind = inr (inl (record { sets = refl; takes = refl; stands = search rules })); defaults = search rules },
+                              record { found = refl; kind = inl (record { sets = refl; takes = refl }); defaults = search rules },
                               (
                                 record { found = refl; kind = inl (record { sets = refl; takes = refl }); defaults = search rules },
                                 (
-                                  record { found = refl; kind = inr (inr (inl (record { appends = refl; takes = refl }))); defaults = search rules },
-                                  (record { found = refl; kind = inr (inr (inr refl)); defaults = search rules }, tt),
+                                  record { found = refl; kind = inr (inl (record { sets = refl; takes = refl; stands = search rules })); defaults = search rules },
+                                  (
+                                    record { found = refl; kind = inl (record { sets = refl; takes = refl }); defaults = search rules },
+                                    (
+                                      record { found = refl; kind = inr (inr (inl (record { appends = refl; takes = refl }))); defaults = search rules },
+                                      (record { found = refl; kind = inr (inr (inr refl)); defaults = search rules }, tt),
+                                    ),
+                                  ),
                                 ),
                               ),
                             ),
@@ -275,8 +302,14 @@ report_single name = record {
                       (
                         record { found = refl; kind = inr (inl (record { sets = refl; takes = refl; stands = search rules })); defaults = search rules },
                         (
-                          record { found = refl; kind = inr (inr (inl (record { appends = refl; takes = refl }))); defaults = search rules },
-                          (record { found = refl; kind = inr (inr (inr refl)); defaults = search rules }, tt),
+                          record { found = refl; kind = inl (record { sets = refl; takes = refl }); defaults = search rules },
+                          (
+                            record { found = refl; kind = inl (record { sets = refl; takes = refl }); defaults = search rules },
+                            (
+                              record { found = refl; kind = inr (inr (inl (record { appends = refl; takes = refl }))); defaults = search rules },
+                              (record { found = refl; kind = inr (inr (inr refl)); defaults = search rules }, tt),
+                            ),
+                          ),
                         ),
                       ),
                     ),

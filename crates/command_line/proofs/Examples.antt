@@ -2,17 +2,17 @@
 use Rattle.std.proofs.Common.{◌≡◌, ◌∷◌, [], Bool, List, Option, Some, None, ℕ, true, codes, refl}
 use Rattle.std.specs.Prelude.{option_and_then, option_map, false}
 use Rattle.std.specs.Option.{option_map_or}
-use Rattle.clap.specs.Words.{Kinds, Text, fault_of, first_of, subcommand_of, takes}
+use Rattle.clap.specs.Words.{Text, first_of, subcommand_of, takes}
 use Rattle.clap.proofs.OnLiterals.{clap_on_literals}
 use Rattle.clap.specs.declared.error.kind.ErrorKind.TheVariants as kind
 use Rattle.picture_out.specs.declared.form.Form.TheVariants as form
 use Rattle.command_line.specs.declared.subcommands.Kind.TheVariants as kind_of
 use Rattle.command_line.specs.declared.subcommands.Output.{Output}
 use Rattle.command_line.specs.declared.subcommands.Output.TheVariants as output
-use Rattle.picture_job.specs.declared.page_choice.PageChoice.{PageChoice}
-use Rattle.command_line.specs.declared.fault.LineFault.{LineFault}
+use Rattle.command_line.specs.Faults.{Plain}
 use Rattle.command_line.specs.declared.fault.LineFault.TheVariants as fault
-use Rattle.command_line.specs.Lines.{choice_in, fault_of_values, files_in, has_flag, kind_named, names_bad_list, number_in, page_size, pens_text, profile_text, sheet_in, usual_smooth, written}
+use Rattle.command_line.specs.Lines.{dots_in, files_in, has_flag, kind_named, names_bad_list, number_in, page_size, pens_text, profile_text, usual_smooth, written}
+use Rattle.command_line.proofs.OnWords.{after_name, choice_on, faults_on, value_fault_on}
 use Rattle.command_line.specs.Forms.{extension_of, form_named}
 use Rattle.std.specs.Path.{path_extension, path_file_name, rsplit_once, split_last_component, trim_trailing}
 use Rattle.command_line.specs.Papers.{paper_of}
@@ -74,17 +74,21 @@ this_folder = refl
 a_folder : extension_of (codes "out.d/") ≡ None
 a_folder = refl
 
-smoothed_four_times : usual_smooth kind_of.Draw 300 ≡ 4
+smoothed_four_times : usual_smooth kind_of.Draw false 300 ≡ 4
 smoothed_four_times = refl
 
-as_fine_as_may_be : usual_smooth kind_of.Draw 400 ≡ 3
+as_fine_as_may_be : usual_smooth kind_of.Draw false 400 ≡ 3
 as_fine_as_may_be = refl
 
-not_smoothed : usual_smooth kind_of.Draw 601 ≡ 1
+not_smoothed : usual_smooth kind_of.Draw false 601 ≡ 1
 not_smoothed = refl
 
-only_draw_smooths : usual_smooth (kind_of.Write output.Png) 10 ≡ 1
+only_draw_smooths : usual_smooth (kind_of.Write output.Png) false 10 ≡ 1
 only_draw_smooths = refl
+
+-- the dots per inch are not known yet
+smoothed_most_in_so_many_pixels : usual_smooth kind_of.Draw true 1200 ≡ 8
+smoothed_most_in_so_many_pixels = refl
 
 b4_is_a_paper : paper_of (codes "b4") ≡ Some (14120, 10000)
 b4_is_a_paper = refl
@@ -100,10 +104,6 @@ no_landscape = refl
 
 no_paper : paper_of (codes "-portrait") ≡ None
 no_paper = refl
-
--- the words of a command line, the program's name before them
-abbrev after_name : List Text → List Text
-after_name words = codes "plotraster" ∷ words
 
 -- the number that an option has on a command line
 abbrev number_on : List Text → Text → Option ℕ
@@ -157,14 +157,6 @@ pens_given : pens_on (codes "pbm" ∷ codes "--pens" ∷ codes "1,3" ∷ []) ≡
 unfolding clap_on_literals
 pens_given = refl
 
--- what is wrong with the values on a command line
-abbrev value_fault_on : List Text → Option LineFault
-value_fault_on words = option_and_then fault_of_values (subcommand_of plot_app (after_name words))
-
--- the number of the sheet on a command line
-abbrev sheet_on : List Text → Option ℕ
-sheet_on words = option_and_then (λ p. sheet_in p.1) (subcommand_of plot_app (after_name words))
-
 profile_left_out : option_map (λ p. profile_text p.1) (subcommand_of plot_app (after_name (codes "pbm" ∷ []))) ≡ Some (Some (codes "core"))
 unfolding clap_on_literals
 profile_left_out = refl
@@ -173,27 +165,15 @@ profile_given : option_map (λ p. profile_text p.1) (subcommand_of plot_app (aft
 unfolding clap_on_literals
 profile_given = refl
 
-sheet_left_out : sheet_on (codes "ppm" ∷ codes "--profile" ∷ codes "full" ∷ []) ≡ None
-unfolding clap_on_literals
-sheet_left_out = refl
-
-sheet_given : sheet_on (codes "ppm" ∷ codes "--sheet" ∷ codes "2" ∷ codes "--profile" ∷ codes "full" ∷ []) ≡ Some 2
-unfolding clap_on_literals
-sheet_given = refl
-
-all_sheets : sheet_on (codes "report" ∷ codes "--sheet=0" ∷ codes "--profile=full" ∷ []) ≡ Some 0
-unfolding clap_on_literals
-all_sheets = refl
-
 nothing_wrong : value_fault_on (codes "pbm" ∷ codes "--profile=full" ∷ codes "--sheet=2" ∷ []) ≡ None
 unfolding clap_on_literals
 nothing_wrong = refl
 
-no_such_profile : value_fault_on (codes "marks" ∷ codes "--profile=fuller" ∷ codes "--sheet=2" ∷ []) ≡ Some fault.Profile
+no_such_profile : value_fault_on (codes "marks" ∷ codes "--profile=fuller" ∷ codes "--sheet=2" ∷ []) ≡ Some (Plain fault.Profile)
 unfolding clap_on_literals
 no_such_profile = refl
 
-sheet_in_core : value_fault_on (codes "report" ∷ codes "--sheet=1" ∷ []) ≡ Some fault.Sheet
+sheet_in_core : value_fault_on (codes "report" ∷ codes "--sheet=1" ∷ []) ≡ Some (Plain fault.Sheet)
 unfolding clap_on_literals
 sheet_in_core = refl
 
@@ -213,13 +193,9 @@ form_by_extension : written_on (codes "draw" ∷ codes "-o" ∷ codes "plan.pbm"
 unfolding clap_on_literals path_extension path_file_name rsplit_once split_last_component trim_trailing
 form_by_extension = refl
 
-no_form : value_fault_on (codes "draw" ∷ codes "-o" ∷ codes "plan.svg" ∷ codes "--pens=0" ∷ []) ≡ Some fault.Form
+no_form : value_fault_on (codes "draw" ∷ codes "-o" ∷ codes "plan.svg" ∷ codes "--pens=0" ∷ []) ≡ Some (Plain fault.Form)
 unfolding clap_on_literals path_extension path_file_name rsplit_once split_last_component trim_trailing
 no_form = refl
-
--- the choice of the page on a command line
-abbrev choice_on : List Text → Option PageChoice
-choice_on words = option_and_then (λ p. option_map (λ kind. choice_in kind p.1) (kind_named p.0)) (subcommand_of plot_app (after_name words))
 
 drawn_whole : choice_on (codes "draw" ∷ []) ≡ Some (record { asked = true; margin = Some 5; pixels = None })
 unfolding clap_on_literals
@@ -245,11 +221,11 @@ margin_of_a_fitted_page : value_fault_on (codes "draw" ∷ codes "--margin=9" �
 unfolding clap_on_literals
 margin_of_a_fitted_page = refl
 
-margin_of_a_given_page : value_fault_on (codes "draw" ∷ codes "--margin=9" ∷ codes "--page=a4" ∷ []) ≡ Some fault.Margin
+margin_of_a_given_page : value_fault_on (codes "draw" ∷ codes "--margin=9" ∷ codes "--page=a4" ∷ []) ≡ Some (Plain fault.Margin)
 unfolding clap_on_literals
 margin_of_a_given_page = refl
 
-no_shades : value_fault_on (codes "draw" ∷ codes "--form=pbm" ∷ codes "--smooth=2" ∷ []) ≡ Some fault.Shades
+no_shades : value_fault_on (codes "draw" ∷ codes "--form=pbm" ∷ codes "--smooth=2" ∷ []) ≡ Some (Plain fault.Shades)
 unfolding clap_on_literals
 no_shades = refl
 
@@ -257,11 +233,19 @@ draw_reads_full : option_map (λ p. profile_text p.1) (subcommand_of plot_app (a
 unfolding clap_on_literals
 draw_reads_full = refl
 
-draw_has_150_dots : number_on (codes "draw" ∷ []) (codes "dots") ≡ Some 150
+-- the dots per inch on a command line
+abbrev dots_on : List Text → Option ℕ
+dots_on words = option_and_then (λ p. option_map (λ kind. dots_in kind p.1) (kind_named p.0)) (subcommand_of plot_app (after_name words))
+
+draw_has_150_dots : dots_on (codes "draw" ∷ []) ≡ Some 150
 unfolding clap_on_literals
 draw_has_150_dots = refl
 
-too_fine : value_fault_on (codes "png" ∷ codes "--dots=601" ∷ codes "--smooth=2" ∷ []) ≡ Some fault.Smooth
+pcl_has_100_dots : dots_on (codes "pcl" ∷ []) ≡ Some 100
+unfolding clap_on_literals
+pcl_has_100_dots = refl
+
+too_fine : value_fault_on (codes "png" ∷ codes "--dots=601" ∷ codes "--smooth=2" ∷ []) ≡ Some (Plain fault.Smooth)
 unfolding clap_on_literals
 too_fine = refl
 
@@ -269,11 +253,11 @@ fine_enough : value_fault_on (codes "ppm" ∷ codes "--dots=150" ∷ codes "--sm
 unfolding clap_on_literals
 fine_enough = refl
 
-list_before_smoothing : value_fault_on (codes "png" ∷ codes "--dots=1200" ∷ codes "--smooth=2" ∷ codes "--pens=0" ∷ []) ≡ Some fault.Pens
+list_before_smoothing : value_fault_on (codes "png" ∷ codes "--dots=1200" ∷ codes "--smooth=2" ∷ codes "--pens=0" ∷ []) ≡ Some (Plain fault.Pens)
 unfolding clap_on_literals
 list_before_smoothing = refl
 
-smoothing_before_paper : value_fault_on (codes "ppm" ∷ codes "--dots=1200" ∷ codes "--smooth=2" ∷ codes "--page=a6" ∷ []) ≡ Some fault.Smooth
+smoothing_before_paper : value_fault_on (codes "ppm" ∷ codes "--dots=1200" ∷ codes "--smooth=2" ∷ codes "--page=a6" ∷ []) ≡ Some (Plain fault.Smooth)
 unfolding clap_on_literals
 smoothing_before_paper = refl
 
@@ -285,23 +269,23 @@ smooth_left_out : number_on (codes "ppm" ∷ []) (codes "smooth") ≡ None
 unfolding clap_on_literals
 smooth_left_out = refl
 
-list_before_sheet : value_fault_on (codes "pcl" ∷ codes "--pens=0" ∷ codes "--sheet=1" ∷ []) ≡ Some fault.Pens
+list_before_sheet : value_fault_on (codes "pcl" ∷ codes "--pens=0" ∷ codes "--sheet=1" ∷ []) ≡ Some (Plain fault.Pens)
 unfolding clap_on_literals
 list_before_sheet = refl
 
-no_such_paper : value_fault_on (codes "pbm" ∷ codes "--page=a6" ∷ codes "--width=64" ∷ []) ≡ Some fault.Paper
+no_such_paper : value_fault_on (codes "pbm" ∷ codes "--page=a6" ∷ codes "--width=64" ∷ []) ≡ Some (Plain fault.Paper)
 unfolding clap_on_literals
 no_such_paper = refl
 
-paper_and_width : value_fault_on (codes "report" ∷ codes "--width=11880" ∷ codes "--page=a4" ∷ []) ≡ Some fault.Size
+paper_and_width : value_fault_on (codes "report" ∷ codes "--width=11880" ∷ codes "--page=a4" ∷ []) ≡ Some (Plain fault.Size)
 unfolding clap_on_literals
 paper_and_width = refl
 
-list_before_paper : value_fault_on (codes "ppm" ∷ codes "--page=a6" ∷ codes "--pens=0" ∷ []) ≡ Some fault.Pens
+list_before_paper : value_fault_on (codes "ppm" ∷ codes "--page=a6" ∷ codes "--pens=0" ∷ []) ≡ Some (Plain fault.Pens)
 unfolding clap_on_literals
 list_before_paper = refl
 
-paper_before_profile : value_fault_on (codes "marks" ∷ codes "--profile=none" ∷ codes "--page=a4" ∷ codes "--height=64" ∷ []) ≡ Some fault.Size
+paper_before_profile : value_fault_on (codes "marks" ∷ codes "--profile=none" ∷ codes "--page=a4" ∷ codes "--height=64" ∷ []) ≡ Some (Plain fault.Size)
 unfolding clap_on_literals
 paper_before_profile = refl
 
@@ -322,11 +306,11 @@ files_after_hyphens : files_on (codes "report" ∷ codes "a.plt" ∷ codes "--" 
 unfolding clap_on_literals
 files_after_hyphens = refl
 
-no_place : value_fault_on (codes "ppm" ∷ codes "a.plt" ∷ codes "b.plt" ∷ []) ≡ Some fault.Several
+no_place : value_fault_on (codes "ppm" ∷ codes "a.plt" ∷ codes "b.plt" ∷ []) ≡ Some (Plain fault.Several)
 unfolding clap_on_literals
 no_place = refl
 
-margin_before_place : value_fault_on (codes "report" ∷ codes "a.plt" ∷ codes "--margin=1" ∷ codes "b.plt" ∷ []) ≡ Some fault.Margin
+margin_before_place : value_fault_on (codes "report" ∷ codes "a.plt" ∷ codes "--margin=1" ∷ codes "b.plt" ∷ []) ≡ Some (Plain fault.Margin)
 unfolding clap_on_literals
 margin_before_place = refl
 
@@ -370,10 +354,6 @@ file_takes_no_option : takes plot_app (after_name (codes "marks" ∷ codes "plan
 unfolding clap_on_literals
 file_takes_no_option = refl
 
--- the kinds of fault on a command line
-abbrev faults_on : List Text → Kinds
-faults_on words = fault_of plot_app (after_name words)
-
 no_subcommand : faults_on [] ≡ kind.MissingSubcommand ∷ []
 unfolding clap_on_literals
 no_subcommand = refl
@@ -393,10 +373,6 @@ page_twice = refl
 profile_twice : faults_on (codes "report" ∷ codes "--profile=full" ∷ codes "--profile=full" ∷ []) ≡ kind.ArgumentConflict ∷ []
 unfolding clap_on_literals
 profile_twice = refl
-
-sheet_too_great : faults_on (codes "marks" ∷ codes "--sheet=4194305" ∷ []) ≡ kind.ValueValidation ∷ []
-unfolding clap_on_literals
-sheet_too_great = refl
 
 report_has_no_dots : faults_on (codes "report" ∷ codes "--dots" ∷ codes "100" ∷ []) ≡ kind.UnknownArgument ∷ []
 unfolding clap_on_literals

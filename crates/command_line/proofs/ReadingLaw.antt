@@ -19,11 +19,11 @@ use Rattle.clap_parses.specs.Parses.{HasGoodMatches, IsIn, RowOf, RowsOf, first,
 use Rattle.command_line.specs.declared.subcommands.Kind.{Kind}
 use Rattle.command_line.specs.declared.subcommands.Kind.TheVariants.{Draw, Write}
 use Rattle.command_line.specs.declared.subcommands.Output.TheVariants.{Picture, Png, Report}
-use Rattle.command_line.specs.Lines.{kind_named, number_in}
+use Rattle.command_line.specs.Lines.{kind_named, number_in, pens_text}
 use Rattle.picture_out.specs.declared.form.Form.TheVariants.{Marks, Pbm, Ppm, Pcl}
 use Rattle.command_line.specs.Options.{draw_app, picture_app, plot_app, png_app, report_app, subcommand_app, subcommands}
 use Rattle.command_line.proofs.Plain.{plain_app}
-use Rattle.command_line.specs.Readings.{HasChoiceValues, HasFormValues, HasNumber, HasPageNumbers, HasPictureValues, HasReadingValues, HasTaskValues, HasValues}
+use Rattle.command_line.specs.Readings.{HasFormValues, HasMargin, HasNumber, HasPageNumbers, HasPictureValues, HasProfile, HasTaskValues, HasValues}
 use Rattle.command_line.specs.Readings.{MayHaveNumber}
 
 -- a row of an argument: its first value passes, and is read as the argument's parser says
@@ -104,13 +104,6 @@ number_if_there : (c : List Rule) (a : Rule) (name : Text) (rows : List Row) (lo
     → AllByRecursion (RowOf c) rows → MayHaveNumber rows name low high
 number_if_there c a name rows low high found parser all = λ given. number_there c a name rows low high found parser all (row_there name rows given)
 
-reading_values : (c : List Rule) (a b : Rule) (rows : List Row) → arg_by_id c (codes "profile") ≡ Some a → arg_by_id c (codes "sheet") ≡ Some b
-    → b.parser ≡ Some (vp.Signed (pos 0) (pos 4194304)) → AllByRecursion (RowOf c) rows → has_row (codes "profile") rows ≡ true → HasReadingValues rows
-reading_values c a b rows profile sheet parser all has = record {
-  profile = text_there c a (codes "profile") rows profile all has;
-  sheet = number_if_there c b (codes "sheet") rows 0 4194304 sheet parser all;
-}
-
 numbers_of_page : (c : List Rule) (w h l b : Rule) (rows : List Row) → arg_by_id c (codes "width") ≡ Some w → w.parser ≡ Some (vp.Signed (pos 64) (pos 65536))
     → arg_by_id c (codes "height") ≡ Some h → h.parser ≡ Some (vp.Signed (pos 64) (pos 65536)) → arg_by_id c (codes "left") ≡ Some l → l.parser ≡ Some (vp.Signed (pos 0) (pos 65536))
     → arg_by_id c (codes "below") ≡ Some b → b.parser ≡ Some (vp.Signed (pos 0) (pos 65536)) → AllByRecursion (RowOf c) rows → has_row (codes "left") rows ≡ true
@@ -138,40 +131,45 @@ no_row c name (r ∷ rest) unknown all has = branch (bytes_eq r.id name) refl ha
 no_number : (c : List Rule) (name : Text) (rows : List Row) (low high : ℕ) → arg_by_id c name ≡ None → AllByRecursion (RowOf c) rows → MayHaveNumber rows name low high
 no_number c name rows low high unknown all = λ given. absurd (no_row c name rows unknown all (row_there name rows given))
 
-picture_values : (c : List Rule) (d p : Rule) (rows : List Row) → HasPageNumbers rows → arg_by_id c (codes "dots") ≡ Some d
-    → d.parser ≡ Some (vp.Signed (pos 10) (pos 1200)) → arg_by_id c (codes "pens") ≡ Some p → MayHaveNumber rows (codes "smooth") 1 8 → AllByRecursion (RowOf c) rows
-    → has_row (codes "dots") rows ≡ true → has_row (codes "pens") rows ≡ true → HasPictureValues rows
-picture_values c d p rows page dots parser pens smoothing all has_dots has_pens = record {
+picture_values : (c : List Rule) (d : Rule) (rows : List Row) → HasPageNumbers rows → arg_by_id c (codes "dots") ≡ Some d
+    → d.parser ≡ Some (vp.Signed (pos 10) (pos 1200)) → MayHaveNumber rows (codes "smooth") 1 8 → AllByRecursion (RowOf c) rows → HasPictureValues rows
+picture_values c d rows page dots parser smoothing all = record {
   page = page;
-  dots = number_there c d (codes "dots") rows 10 1200 dots parser all has_dots;
-  pens = text_there c p (codes "pens") rows pens all has_pens;
+  dots = number_if_there c d (codes "dots") rows 10 1200 dots parser all;
   smoothing = smoothing;
 }
 
-report_reading : (name : Text) (rows : List Row) → RowsOf (built_leaf (report_app name).top).rules rows → HasReadingValues rows
-report_reading name rows good = reading_values _ _ _ rows refl refl refl good.each (good.defaults.1.1.1.1.1.1.1.0 (omega arith))
+report_profile : (name : Text) (rows : List Row) → RowsOf (built_leaf (report_app name).top).rules rows → HasProfile rows
+report_profile name rows good = text_there _ _ (codes "profile") rows refl good.each (good.defaults.1.1.1.1.1.1.1.0 (omega arith))
 
-report_choice : (name : Text) (rows : List Row) → RowsOf (built_leaf (report_app name).top).rules rows → HasChoiceValues rows
-report_choice name rows good = number_if_there _ _ (codes "margin") rows 0 100 refl refl good.each
+report_margin : (name : Text) (rows : List Row) → RowsOf (built_leaf (report_app name).top).rules rows → HasMargin rows
+report_margin name rows good = number_if_there _ _ (codes "margin") rows 0 100 refl refl good.each
+
+report_pixels : (name : Text) (rows : List Row) → RowsOf (built_leaf (report_app name).top).rules rows → MayHaveNumber rows (codes "size") 16 20000
+report_pixels name rows good = no_number _ (codes "size") rows 16 20000 refl good.each
 
 report_page : (name : Text) (rows : List Row) → RowsOf (built_leaf (report_app name).top).rules rows → HasPageNumbers rows
 report_page name rows good =
     numbers_of_page _ _ _ _ _ rows refl refl refl refl refl refl refl refl good.each (good.defaults.1.1.1.0 (omega arith)) (good.defaults.1.1.1.1.0 (omega arith))
 
-draw_reading : (name : Text) (rows : List Row) → RowsOf (built_leaf (draw_app name).top).rules rows → HasReadingValues rows
-draw_reading name rows good = reading_values _ _ _ rows refl refl refl good.each (good.defaults.1.1.1.1.1.1.1.0 (omega arith))
+draw_profile : (name : Text) (rows : List Row) → RowsOf (built_leaf (draw_app name).top).rules rows → HasProfile rows
+draw_profile name rows good = text_there _ _ (codes "profile") rows refl good.each (good.defaults.1.1.1.1.1.1.1.0 (omega arith))
 
-draw_choice : (name : Text) (rows : List Row) → RowsOf (built_leaf (draw_app name).top).rules rows → HasChoiceValues rows
-draw_choice name rows good = number_if_there _ _ (codes "margin") rows 0 100 refl refl good.each
+draw_margin : (name : Text) (rows : List Row) → RowsOf (built_leaf (draw_app name).top).rules rows → HasMargin rows
+draw_margin name rows good = number_if_there _ _ (codes "margin") rows 0 100 refl refl good.each
+
+draw_pixels : (name : Text) (rows : List Row) → RowsOf (built_leaf (draw_app name).top).rules rows → MayHaveNumber rows (codes "size") 16 20000
+draw_pixels name rows good = number_if_there _ _ (codes "size") rows 16 20000 refl refl good.each
 
 draw_page : (name : Text) (rows : List Row) → RowsOf (built_leaf (draw_app name).top).rules rows → HasPageNumbers rows
 draw_page name rows good =
     numbers_of_page _ _ _ _ _ rows refl refl refl refl refl refl refl refl good.each (good.defaults.1.1.1.0 (omega arith)) (good.defaults.1.1.1.1.0 (omega arith))
 
+draw_pens : (name : Text) (rows : List Row) → RowsOf (built_leaf (draw_app name).top).rules rows → is_some (pens_text rows) ≡ true
+draw_pens name rows good = text_there _ _ (codes "pens") rows refl good.each (good.defaults.1.1.1.1.1.1.1.1.1.1.1.1.1.1.0 (omega arith))
+
 draw_picture : (name : Text) (rows : List Row) → RowsOf (built_leaf (draw_app name).top).rules rows → HasPictureValues rows
-draw_picture name rows good =
-    picture_values _ _ _ rows (draw_page name rows good) refl refl refl (number_if_there _ _ (codes "smooth") rows 1 8 refl refl good.each) good.each
-    (good.defaults.1.1.1.1.1.1.1.1.1.1.1.0 (omega arith)) (good.defaults.1.1.1.1.1.1.1.1.1.1.1.1.0 (omega arith))
+draw_picture name rows good = picture_values _ _ rows (draw_page name rows good) refl refl (number_if_there _ _ (codes "smooth") rows 1 8 refl refl good.each) good.each
 
 draw_values : (name : Text) (rows : List Row) → RowsOf (built_leaf (draw_app name).top).rules rows → HasFormValues rows
 draw_values name rows good = record {
@@ -180,20 +178,24 @@ draw_values name rows good = record {
   first_row = no_number _ (codes "from") rows 0 99999 refl good.each;
 }
 
-plain_reading : (name : Text) (rows : List Row) → RowsOf (built_leaf (plain_app name).top).rules rows → HasReadingValues rows
-plain_reading name rows good = reading_values _ _ _ rows refl refl refl good.each (good.defaults.1.1.1.1.1.1.1.0 (omega arith))
+plain_profile : (name : Text) (rows : List Row) → RowsOf (built_leaf (plain_app name).top).rules rows → HasProfile rows
+plain_profile name rows good = text_there _ _ (codes "profile") rows refl good.each (good.defaults.1.1.1.1.1.1.1.0 (omega arith))
 
-plain_choice : (name : Text) (rows : List Row) → RowsOf (built_leaf (plain_app name).top).rules rows → HasChoiceValues rows
-plain_choice name rows good = number_if_there _ _ (codes "margin") rows 0 100 refl refl good.each
+plain_margin : (name : Text) (rows : List Row) → RowsOf (built_leaf (plain_app name).top).rules rows → HasMargin rows
+plain_margin name rows good = number_if_there _ _ (codes "margin") rows 0 100 refl refl good.each
+
+plain_pixels : (name : Text) (rows : List Row) → RowsOf (built_leaf (plain_app name).top).rules rows → MayHaveNumber rows (codes "size") 16 20000
+plain_pixels name rows good = no_number _ (codes "size") rows 16 20000 refl good.each
 
 plain_page : (name : Text) (rows : List Row) → RowsOf (built_leaf (plain_app name).top).rules rows → HasPageNumbers rows
 plain_page name rows good =
     numbers_of_page _ _ _ _ _ rows refl refl refl refl refl refl refl refl good.each (good.defaults.1.1.1.0 (omega arith)) (good.defaults.1.1.1.1.0 (omega arith))
 
+plain_pens : (name : Text) (rows : List Row) → RowsOf (built_leaf (plain_app name).top).rules rows → is_some (pens_text rows) ≡ true
+plain_pens name rows good = text_there _ _ (codes "pens") rows refl good.each (good.defaults.1.1.1.1.1.1.1.1.1.1.1.1.1.1.0 (omega arith))
+
 plain_picture : (name : Text) (rows : List Row) → RowsOf (built_leaf (plain_app name).top).rules rows → HasPictureValues rows
-plain_picture name rows good =
-    picture_values _ _ _ rows (plain_page name rows good) refl refl refl (no_number _ (codes "smooth") rows 1 8 refl good.each) good.each
-    (good.defaults.1.1.1.1.1.1.1.1.1.1.1.0 (omega arith)) (good.defaults.1.1.1.1.1.1.1.1.1.1.1.1.0 (omega arith))
+plain_picture name rows good = picture_values _ _ rows (plain_page name rows good) refl refl (no_number _ (codes "smooth") rows 1 8 refl good.each) good.each
 
 plain_values : (name : Text) (rows : List Row) → RowsOf (built_leaf (plain_app name).top).rules rows → HasFormValues rows
 plain_values name rows good = record {
@@ -202,20 +204,24 @@ plain_values name rows good = record {
   first_row = number_if_there _ _ (codes "from") rows 0 99999 refl refl good.each;
 }
 
-smoothed_reading : (name : Text) (rows : List Row) → RowsOf (built_leaf (picture_app Ppm name).top).rules rows → HasReadingValues rows
-smoothed_reading name rows good = reading_values _ _ _ rows refl refl refl good.each (good.defaults.1.1.1.1.1.1.1.0 (omega arith))
+smoothed_profile : (name : Text) (rows : List Row) → RowsOf (built_leaf (picture_app Ppm name).top).rules rows → HasProfile rows
+smoothed_profile name rows good = text_there _ _ (codes "profile") rows refl good.each (good.defaults.1.1.1.1.1.1.1.0 (omega arith))
 
-smoothed_choice : (name : Text) (rows : List Row) → RowsOf (built_leaf (picture_app Ppm name).top).rules rows → HasChoiceValues rows
-smoothed_choice name rows good = number_if_there _ _ (codes "margin") rows 0 100 refl refl good.each
+smoothed_margin : (name : Text) (rows : List Row) → RowsOf (built_leaf (picture_app Ppm name).top).rules rows → HasMargin rows
+smoothed_margin name rows good = number_if_there _ _ (codes "margin") rows 0 100 refl refl good.each
+
+smoothed_pixels : (name : Text) (rows : List Row) → RowsOf (built_leaf (picture_app Ppm name).top).rules rows → MayHaveNumber rows (codes "size") 16 20000
+smoothed_pixels name rows good = no_number _ (codes "size") rows 16 20000 refl good.each
 
 smoothed_page : (name : Text) (rows : List Row) → RowsOf (built_leaf (picture_app Ppm name).top).rules rows → HasPageNumbers rows
 smoothed_page name rows good =
     numbers_of_page _ _ _ _ _ rows refl refl refl refl refl refl refl refl good.each (good.defaults.1.1.1.0 (omega arith)) (good.defaults.1.1.1.1.0 (omega arith))
 
+smoothed_pens : (name : Text) (rows : List Row) → RowsOf (built_leaf (picture_app Ppm name).top).rules rows → is_some (pens_text rows) ≡ true
+smoothed_pens name rows good = text_there _ _ (codes "pens") rows refl good.each (good.defaults.1.1.1.1.1.1.1.1.1.1.1.1.1.1.0 (omega arith))
+
 smoothed_picture : (name : Text) (rows : List Row) → RowsOf (built_leaf (picture_app Ppm name).top).rules rows → HasPictureValues rows
-smoothed_picture name rows good =
-    picture_values _ _ _ rows (smoothed_page name rows good) refl refl refl (number_if_there _ _ (codes "smooth") rows 1 8 refl refl good.each) good.each
-    (good.defaults.1.1.1.1.1.1.1.1.1.1.1.0 (omega arith)) (good.defaults.1.1.1.1.1.1.1.1.1.1.1.1.0 (omega arith))
+smoothed_picture name rows good = picture_values _ _ rows (smoothed_page name rows good) refl refl (number_if_there _ _ (codes "smooth") rows 1 8 refl refl good.each) good.each
 
 smoothed_values : (name : Text) (rows : List Row) → RowsOf (built_leaf (picture_app Ppm name).top).rules rows → HasFormValues rows
 smoothed_values name rows good = record {
@@ -224,20 +230,24 @@ smoothed_values name rows good = record {
   first_row = number_if_there _ _ (codes "from") rows 0 99999 refl refl good.each;
 }
 
-png_reading : (name : Text) (rows : List Row) → RowsOf (built_leaf (png_app name).top).rules rows → HasReadingValues rows
-png_reading name rows good = reading_values _ _ _ rows refl refl refl good.each (good.defaults.1.1.1.1.1.1.1.0 (omega arith))
+png_profile : (name : Text) (rows : List Row) → RowsOf (built_leaf (png_app name).top).rules rows → HasProfile rows
+png_profile name rows good = text_there _ _ (codes "profile") rows refl good.each (good.defaults.1.1.1.1.1.1.1.0 (omega arith))
 
-png_choice : (name : Text) (rows : List Row) → RowsOf (built_leaf (png_app name).top).rules rows → HasChoiceValues rows
-png_choice name rows good = number_if_there _ _ (codes "margin") rows 0 100 refl refl good.each
+png_margin : (name : Text) (rows : List Row) → RowsOf (built_leaf (png_app name).top).rules rows → HasMargin rows
+png_margin name rows good = number_if_there _ _ (codes "margin") rows 0 100 refl refl good.each
+
+png_pixels : (name : Text) (rows : List Row) → RowsOf (built_leaf (png_app name).top).rules rows → MayHaveNumber rows (codes "size") 16 20000
+png_pixels name rows good = no_number _ (codes "size") rows 16 20000 refl good.each
 
 png_page : (name : Text) (rows : List Row) → RowsOf (built_leaf (png_app name).top).rules rows → HasPageNumbers rows
 png_page name rows good =
     numbers_of_page _ _ _ _ _ rows refl refl refl refl refl refl refl refl good.each (good.defaults.1.1.1.0 (omega arith)) (good.defaults.1.1.1.1.0 (omega arith))
 
+png_pens : (name : Text) (rows : List Row) → RowsOf (built_leaf (png_app name).top).rules rows → is_some (pens_text rows) ≡ true
+png_pens name rows good = text_there _ _ (codes "pens") rows refl good.each (good.defaults.1.1.1.1.1.1.1.1.1.1.1.1.1.1.0 (omega arith))
+
 png_picture : (name : Text) (rows : List Row) → RowsOf (built_leaf (png_app name).top).rules rows → HasPictureValues rows
-png_picture name rows good =
-    picture_values _ _ _ rows (png_page name rows good) refl refl refl (number_if_there _ _ (codes "smooth") rows 1 8 refl refl good.each) good.each
-    (good.defaults.1.1.1.1.1.1.1.1.1.1.1.0 (omega arith)) (good.defaults.1.1.1.1.1.1.1.1.1.1.1.1.0 (omega arith))
+png_picture name rows good = picture_values _ _ rows (png_page name rows good) refl refl (number_if_there _ _ (codes "smooth") rows 1 8 refl refl good.each) good.each
 
 -- the rows of a subcommand give its options values
 abbrev Reads : Shape → Type 0
@@ -261,34 +271,44 @@ by_name name k rules named values kind is rows good = subst (λ (l : Kind). HasV
 plain_reads : (name : Text) (kind : Kind) → ((rows : List Row) → HasFormValues rows → HasTaskValues kind rows) → (rows : List Row)
     → RowsOf (built_leaf (plain_app name).top).rules rows → HasValues kind rows
 plain_reads name kind task rows good = record {
+  pens = λ _. plain_pens name rows good;
   task = task rows (plain_values name rows good);
-  reading = plain_reading name rows good;
-  choice = plain_choice name rows good;
+  profile = plain_profile name rows good;
+  pixels = plain_pixels name rows good;
+  margin = plain_margin name rows good;
 }
 
 row_reads : (it : Text × Kind) → IsNamed it → Reads (built_leaf (subcommand_app it).top)
 row_reads (name, Draw) named = by_name name Draw _ named (λ rows good. record {
+  pens = λ _. draw_pens name rows good;
   task = draw_values name rows good;
-  reading = draw_reading name rows good;
-  choice = draw_choice name rows good;
+  profile = draw_profile name rows good;
+  pixels = draw_pixels name rows good;
+  margin = draw_margin name rows good;
 })
 row_reads (name, Write (Picture Marks)) named = by_name name (Write (Picture Marks)) _ named (plain_reads name (Write (Picture Marks)) (λ rows has. has))
 row_reads (name, Write (Picture Pbm)) named = by_name name (Write (Picture Pbm)) _ named (plain_reads name (Write (Picture Pbm)) (λ rows has. has))
 row_reads (name, Write (Picture Ppm)) named = by_name name (Write (Picture Ppm)) _ named (λ rows good. record {
+  pens = λ _. smoothed_pens name rows good;
   task = smoothed_values name rows good;
-  reading = smoothed_reading name rows good;
-  choice = smoothed_choice name rows good;
+  profile = smoothed_profile name rows good;
+  pixels = smoothed_pixels name rows good;
+  margin = smoothed_margin name rows good;
 })
 row_reads (name, Write (Picture Pcl)) named = by_name name (Write (Picture Pcl)) _ named (plain_reads name (Write (Picture Pcl)) (λ rows has. has))
 row_reads (name, Write Png) named = by_name name (Write Png) _ named (λ rows good. record {
+  pens = λ _. png_pens name rows good;
   task = png_picture name rows good;
-  reading = png_reading name rows good;
-  choice = png_choice name rows good;
+  profile = png_profile name rows good;
+  pixels = png_pixels name rows good;
+  margin = png_margin name rows good;
 })
 row_reads (name, Write Report) named = by_name name (Write Report) _ named (λ rows good. record {
+  pens = λ is. absurd (cc);
   task = report_page name rows good;
-  reading = report_reading name rows good;
-  choice = report_choice name rows good;
+  profile = report_profile name rows good;
+  pixels = report_pixels name rows good;
+  margin = report_margin name rows good;
 })
 
 reads : (its : List (Text × Kind)) → AllByRecursion IsNamed its → AllByRecursion Reads (map (λ (it : Text × Kind). built_leaf (subcommand_app it).top) its)

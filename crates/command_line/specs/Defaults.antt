@@ -7,8 +7,8 @@ use Rattle.command_line.specs.declared.subcommands.Kind.TheVariants.{Draw, Write
 pub record Defaults : Type 0 where
   -- the name of the profile
   pub profile : Text
-  -- dots per inch, in decimal
-  pub dots : Text
+  -- dots per inch
+  pub dots : ℕ
   -- how much finer a picture that may be smoothed is painted, at most
   pub smoothing : ℕ
   -- what is left free around the drawing on a fitted page, in millimetres
@@ -22,7 +22,7 @@ pub record Defaults : Type 0 where
 abbrev pub of_draw : Defaults
 of_draw = record {
   profile = codes "full";
-  dots = codes "150";
+  dots = 150;
   smoothing = 4;
   margin = 5;
   fits = true;
@@ -33,7 +33,7 @@ of_draw = record {
 abbrev pub of_others : Defaults
 of_others = record {
   profile = codes "core";
-  dots = codes "100";
+  dots = 100;
   smoothing = 1;
   margin = 1;
   fits = false;

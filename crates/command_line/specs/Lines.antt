@@ -1,5 +1,5 @@
 -- What the matches of a command line ask for.
-use Rattle.std.specs.Prelude.{◌≡◌, ◌<◌, ◌≤◌, ◌*◌, ◌/◌, ◌&&◌, ◌||◌, ℕ, Bool, true, false, not, List, [], Option, Some, None, codes}
+use Rattle.std.specs.Prelude.{◌≡◌, ◌<◌, ◌≤◌, ◌*◌, ◌/◌, ◌&&◌, ◌||◌, ℕ, Bool, true, false, not, List, [], ◌∷◌, Option, Some, None, codes}
 use Rattle.std.specs.Prelude.{option_map, option_and_then, unwrap_or, is_some, find, if◌then◌else◌, map, length, min, nat_lt}
 use Rattle.std.specs.Option.{option_map_or, option_or}
 use Rattle.std.specs.Str.{bytes_eq}
@@ -10,12 +10,20 @@ use Rattle.plot_page.specs.declared.page.Page.{Page}
 use Rattle.plot_page.specs.declared.pens.PenSet.{PenSet}
 use Rattle.plot_page.specs.Pens.{has_pen}
 use Rattle.clap_parses.specs.Parses.{HasGoodMatches}
+use Rattle.carousel.specs.Carousels.{colour_of, width_of}
+use Rattle.carousel.specs.declared.carousel.Carousel.{Carousel}
 use Rattle.command_line.specs.Defaults.{defaults_of}
+use Rattle.command_line.specs.Faults.{Refusal, BadColours, BadWidths, first_of_these, refusal_of}
 use Rattle.command_line.specs.Forms.{extension_of, form_named}
 use Rattle.command_line.specs.Options.{is_smoothed, subcommands, plot_app}
 use Rattle.command_line.specs.Papers.{names_plot, size_named}
+use Rattle.command_line.specs.Sheets.{is_each, sheet_named}
+use Rattle.pen_list.specs.Assignments.{first_bad, given}
+use Rattle.pen_list.specs.Colours.{colour_written}
 use Rattle.pen_list.specs.Lists.{is_listed, is_pen_list}
+use Rattle.pen_list.specs.Widths.{width_written}
 use Rattle.picture_out.specs.declared.form.Form.{Form}
+use Rattle.picture_out.specs.declared.form.Form.TheVariants.{Pcl}
 use Rattle.picture_job.specs.declared.job.Job.{Job}
 use Rattle.picture_job.specs.declared.picture.Picture.TheVariants.{Png, Rows}
 use Rattle.picture_job.specs.declared.png_job.PngJob.{PngJob}
@@ -25,7 +33,7 @@ use Rattle.picture_job.specs.declared.smoothing.Smoothing.{Smoothing}
 use Rattle.picture_job.specs.declared.page_choice.PageChoice.{PageChoice}
 use Rattle.command_line.specs.declared.fault.LineFault.{LineFault}
 use Rattle.command_line.specs.declared.fault.LineFault.TheVariants.{Pens, Shades, Smooth, Paper, Size, Profile, Sheet}
-use Rattle.command_line.specs.declared.fault.LineFault.TheVariants.{Form as NoForm, Margin, Several}
+use Rattle.command_line.specs.declared.fault.LineFault.TheVariants.{BadSheet, Form as NoForm, Margin, NoFolder, NoPicture, Pixels, PrinterPixels, Several}
 use Rattle.command_line.specs.declared.line.Line.{Line}
 use Rattle.command_line.specs.declared.line.Task.{Task}
 use Rattle.command_line.specs.declared.line.Task.TheVariants.{Picture, Report}
@@ -50,9 +58,24 @@ paper_text rows = first_of (codes "page") rows
 abbrev pub profile_text : List Row → Option Text
 profile_text rows = first_of (codes "profile") rows
 
--- the number of the sheet, or None if none is given
+-- the text that says which sheet, or None if none is given
+abbrev pub sheet_text : List Row → Option Text
+sheet_text rows = first_of (codes "sheet") rows
+
+-- the sheet that is asked for, 0 for all sheets, or the first one if none is given; None if the text asks for nothing
 abbrev pub sheet_in : List Row → Option ℕ
-sheet_in rows = number_in rows (codes "sheet")
+sheet_in rows = option_map_or sheet_named (sheet_text rows) (Some 1)
+
+-- each sheet is asked for by itself
+abbrev pub asks_each : List Row → Bool
+asks_each rows = option_map_or is_each (sheet_text rows) false
+
+-- the texts of the options for the colours and the widths of pens
+abbrev pub colours_text : List Row → Option Text
+colours_text rows = first_of (codes "colours") rows
+
+abbrev pub widths_text : List Row → Option Text
+widths_text rows = first_of (codes "widths") rows
 
 -- the flag of this name is given
 abbrev pub has_flag : List Row → Text → Bool
@@ -125,9 +148,18 @@ is_picture (output.Picture form) = true
 is_picture output.Png = true
 is_picture output.Report = false
 
--- how much finer a picture is painted if no option says it: as much as the subcommand does, if 1200 dots per inch allow it
-abbrev pub usual_smooth : Kind → ℕ → ℕ
-usual_smooth kind dots = min (defaults_of kind).smoothing (1200 / dots)
+-- the dots per inch: as the option says, or else as the subcommand does
+abbrev pub dots_in : Kind → List Row → ℕ
+dots_in kind rows = unwrap_or (number_in rows (codes "dots")) (defaults_of kind).dots
+
+-- the picture's pixels are chosen, and not its dots per inch
+abbrev pub is_sized : List Row → Bool
+is_sized rows = is_given rows (codes "size")
+
+-- how much finer a picture is painted if no option says it: 8 times if its pixels are chosen, and else as much as the
+-- subcommand does, if 1200 dots per inch allow it
+abbrev pub usual_smooth : Kind → Bool → ℕ → ℕ
+usual_smooth kind is_sized dots = if is_sized then 8 else min (defaults_of kind).smoothing (1200 / dots)
 
 -- how much finer a picture is painted: as the option says, or as usual, or 1 if the picture may not be smoothed
 abbrev pub smooth_or : Bool → List Row → ℕ → ℕ
@@ -135,7 +167,7 @@ smooth_or is_smoothed rows usual = if is_smoothed then unwrap_or (number_in rows
 
 -- the same of a picture of so many dots per inch
 abbrev pub smooth_in : Kind → Bool → List Row → ℕ → ℕ
-smooth_in kind is_smoothed rows dots = smooth_or is_smoothed rows (usual_smooth kind dots)
+smooth_in kind is_smoothed rows dots = smooth_or is_smoothed rows (usual_smooth kind (is_sized rows) dots)
 
 -- the width and the height that are given, or 11880 and 8400, those of A4 in landscape
 abbrev pub given_size : List Row → ℕ × ℕ
@@ -164,21 +196,22 @@ pub record ArePensOf (rows : List Row) (pens : PenSet) : Type 0 where
   pub is_list : is_pen_list list ≡ true
   pub listed : (pen : ℕ) → pen < 256 → has_pen pens pen ≡ is_listed list pen
 
--- the page, each number and the pens of the job are those of the options; it is painted at 1200 dots per inch at most
+-- the page, each number and the pens of the job are those of the options; it is painted at 1200 dots per inch at most,
+-- unless its pixels are chosen, which change its dots per inch
 pub record IsPngJobOf (kind : Kind) (is_smoothed : Bool) (rows : List Row) (job : PngJob) : Type 0 where
   pub page : IsPageOf rows job.page
-  pub dots : number_in rows (codes "dots") ≡ Some job.dots.resolution
+  pub dots : dots_in kind rows ≡ job.dots.resolution
   pub pens : ArePensOf rows job.pens
   pub times : smooth_in kind is_smoothed rows job.dots.resolution ≡ job.smoothing.times
-  pub painted : job.dots.resolution * job.smoothing.times ≤ 1200
+  pub painted : is_sized rows ≡ false → job.dots.resolution * job.smoothing.times ≤ 1200
 
 -- the same of a job and its smoothing, and of its rows
 pub record IsJobOf (kind : Kind) (rows : List Row) (job : Job) (smoothing : Smoothing) : Type 0 where
   pub page : IsPageOf rows job.page
-  pub dots : number_in rows (codes "dots") ≡ Some job.dots.resolution
+  pub dots : dots_in kind rows ≡ job.dots.resolution
   pub pens : ArePensOf rows job.pens
   pub times : smooth_in kind (is_smoothed (output.Picture job.form)) rows job.dots.resolution ≡ smoothing.times
-  pub painted : job.dots.resolution * smoothing.times ≤ 1200
+  pub painted : is_sized rows ≡ false → job.dots.resolution * smoothing.times ≤ 1200
   pub band : unwrap_or (number_in rows (codes "band")) 64 ≡ job.band
   pub first_row : unwrap_or (number_in rows (codes "from")) 0 ≡ job.first_row
 
@@ -194,18 +227,25 @@ IsTaskOf kind rows (Picture (Rows job smoothing)) =
 IsTaskOf kind rows (Picture (Png job)) = (written kind rows ≡ Some output.Png) × IsPngJobOf kind true rows job
 IsTaskOf kind rows (Report page) = (written kind rows ≡ Some output.Report) × IsPageOf rows page
 
--- the plot is read in the profile core, or in full with the given sheet, or with sheet 1 if none is given
+-- the plot is read in the profile core, or in full with the sheet that is asked for
 abbrev pub IsReadingOf : List Row → Reading → Type 0
-IsReadingOf rows Core = (profile_text rows ≡ Some (codes "core")) × (sheet_in rows ≡ None)
-IsReadingOf rows (Full sheet) = (profile_text rows ≡ Some (codes "full")) × (unwrap_or (sheet_in rows) 1 ≡ sheet)
+IsReadingOf rows Core = (profile_text rows ≡ Some (codes "core")) × (sheet_text rows ≡ None)
+IsReadingOf rows (Full sheet) = (profile_text rows ≡ Some (codes "full")) × (sheet_in rows ≡ Some sheet)
 
--- the page that the plot asks for, or the given one; and around the drawing the given margin, or that of the subcommand, if
--- the page is fitted
+-- each pen has the colour and the width that the lists give it, and none if they give it none
+pub record IsCarouselOf (rows : List Row) (carousel : Carousel) : Type 0 where
+  pub colours : (pen : ℕ) → pen < 256
+      → colour_of carousel pen ≡ option_and_then (λ list. given colour_written list pen) (colours_text rows)
+  pub widths : (pen : ℕ) → pen < 256
+      → width_of carousel pen ≡ option_and_then (λ list. given width_written list pen) (widths_text rows)
+
+-- the page that the plot asks for, or the given one; around the drawing the given margin, or that of the subcommand, if the
+-- page is fitted; and so many pixels as are given
 abbrev pub choice_in : Kind → List Row → PageChoice
 choice_in kind rows = record {
   asked = asks_plot kind rows;
   margin = if has_fit kind rows then Some (unwrap_or (margin_in rows) (defaults_of kind).margin) else None;
-  pixels = None;
+  pixels = number_in rows (codes "size");
 }
 
 -- a margin is given, and the page is not fitted
@@ -217,15 +257,46 @@ pub record IsChoiceOf (kind : Kind) (rows : List Row) (chosen : PageChoice) : Ty
   pub choice : chosen ≡ choice_in kind rows
   pub fitted : has_stray_margin kind rows ≡ false
 
+-- a report is written
+abbrev pub is_report : Kind → Bool
+is_report (Write output.Report) = true
+is_report _ = false
+
+-- what is wrong with asking for each sheet by itself: there is no picture, or nothing says where the output goes
+abbrev pub each_fault : Kind → List Row → Option LineFault
+each_fault kind rows =
+    if not (asks_each rows) then None else
+    if is_report kind then Some NoPicture else
+    if not (is_given rows (codes "output")) then Some NoFolder else None
+
+-- PCL is written
+abbrev pub is_pcl : Output → Bool
+is_pcl (output.Picture Pcl) = true
+is_pcl _ = false
+
+abbrev pub is_for_printers : Kind → List Row → Bool
+is_for_printers kind rows = option_map_or is_pcl (written kind rows) false
+
+-- what is wrong with choosing the picture's pixels: its dots per inch are given, or are the printer's
+abbrev pub pixels_fault : Kind → List Row → Option LineFault
+pixels_fault kind rows =
+    if not (is_sized rows) then None else
+    if is_given rows (codes "dots") then Some Pixels else
+    if is_for_printers kind rows then Some PrinterPixels else None
+
 -- the line is what a subcommand does, by its options and its files
 pub record IsLineBy (kind : Kind) (rows : List Row) (line : Line) : Type 0 where
   pub task : IsTaskOf kind rows line.task
   pub reading : IsReadingOf rows line.reading
   pub choice : IsChoiceOf kind rows line.choice
+  pub sized : pixels_fault kind rows ≡ None
+  pub carousel : IsCarouselOf rows line.carousel
   pub files : map (λ s. s.now) line.files.now ≡ files_in rows
   pub output : option_map (λ s. s.now) line.output ≡ output_text rows
   pub placed : has_no_place rows ≡ false
   pub sheet_named : line.sheet_named ≡ is_given rows (codes "sheet")
+  pub each_sheet : line.each_sheet ≡ asks_each rows
+  pub each_placed : each_fault kind rows ≡ None
   pub verbose : line.verbose ≡ has_flag rows (codes "verbose")
   pub quiet : line.quiet ≡ has_flag rows (codes "quiet")
   pub interactive : line.interactive ≡ (defaults_of kind).interactive
@@ -265,10 +336,11 @@ asks_bad_list m = option_map_or names_bad_list (subcommand_rows_of m) false
 abbrev pub has_stray_smooth : Bool → List Row → Bool
 has_stray_smooth is_smoothed rows = not is_smoothed && is_some (number_in rows (codes "smooth"))
 
--- the picture would be painted at more than 1200 dots per inch
+-- the picture would be painted at more than 1200 dots per inch, which are not chosen by its pixels
 abbrev pub is_too_fine : Kind → Bool → List Row → Bool
-is_too_fine kind is_smoothed rows = option_map_or
-    (λ dots. nat_lt 1200 (dots * smooth_in kind is_smoothed rows dots)) (number_in rows (codes "dots")) false
+is_too_fine kind is_smoothed rows =
+    let dots = dots_in kind rows in
+    not (is_sized rows) && nat_lt 1200 (dots * smooth_in kind is_smoothed rows dots)
 
 -- there is no such name
 abbrev pub has_bad_paper : List Row → Bool
@@ -289,12 +361,14 @@ has_bad_profile rows = not (has_profile rows (codes "core") || has_profile rows 
 
 -- a sheet is given in the profile core
 abbrev pub has_stray_sheet : List Row → Bool
-has_stray_sheet rows = has_profile rows (codes "core") && is_some (sheet_in rows)
+has_stray_sheet rows = has_profile rows (codes "core") && is_given rows (codes "sheet")
 
 -- what is wrong with how the plot is to be read
 abbrev pub reading_fault : List Row → Option LineFault
 reading_fault rows =
-    if has_bad_profile rows then Some Profile else if has_stray_sheet rows then Some Sheet else None
+    if not (is_some (sheet_in rows)) then Some BadSheet else
+    if has_bad_profile rows then Some Profile else
+    if has_stray_sheet rows then Some Sheet else None
 
 -- what is wrong with the choice of the page
 abbrev pub choice_fault : Kind → List Row → Option LineFault
@@ -304,10 +378,9 @@ choice_fault kind rows = if has_stray_margin kind rows then Some Margin else Non
 abbrev pub output_fault : List Row → Option LineFault
 output_fault rows = if has_no_place rows then Some Several else None
 
--- what is wrong with the values of a picture's options: first comes the list of pens, then the smoothing, then the page
+-- what is wrong with the values of a picture's options: first comes the smoothing, then the page
 abbrev pub picture_fault : Kind → Bool → List Row → Option LineFault
 picture_fault kind is_smoothed rows =
-    if lists_no_pens rows then Some Pens else
     if has_stray_smooth is_smoothed rows then Some Shades else
     if is_too_fine kind is_smoothed rows then Some Smooth else
     page_fault rows
@@ -317,20 +390,43 @@ abbrev pub fault_of_output : Kind → List Row → Output → Option LineFault
 fault_of_output kind rows output.Report = page_fault rows
 fault_of_output kind rows o = picture_fault kind (is_smoothed o) rows
 
--- what is wrong with the task: first comes the form
+-- what is wrong with the task
 abbrev pub task_fault : Kind → List Row → Option LineFault
-task_fault kind rows = option_map_or (fault_of_output kind rows) (written kind rows) (Some NoForm)
+task_fault kind rows = option_and_then (fault_of_output kind rows) (written kind rows)
 
--- what is wrong with the values of a subcommand's options: first comes the task, then the reading, then the choice of the
--- page, then the output
-abbrev pub values_fault : Kind → List Row → Option LineFault
-values_fault kind rows =
-    option_or (task_fault kind rows) (option_or (reading_fault rows) (option_or (choice_fault kind rows) (output_fault rows)))
+-- what is wrong with what is to be drawn: first comes the form, then the list of pens
+abbrev pub selection_fault : Kind → List Row → Option LineFault
+selection_fault kind rows =
+    if not (is_some (written kind rows)) then Some NoForm else
+    if has_bad_list kind rows then Some Pens else None
+
+-- the first bad items of the lists of colours and of widths
+abbrev pub bad_colours : List Row → Option Refusal
+bad_colours rows = option_map BadColours (option_and_then (first_bad colour_written) (colours_text rows))
+
+abbrev pub bad_widths : List Row → Option Refusal
+bad_widths rows = option_map BadWidths (option_and_then (first_bad width_written) (widths_text rows))
+
+abbrev pub carousel_fault : List Row → Option Refusal
+carousel_fault rows = option_or (bad_colours rows) (bad_widths rows)
+
+-- what is wrong with the values of a subcommand's options: the first of these faults
+abbrev pub values_fault : Kind → List Row → Option Refusal
+values_fault kind rows = first_of_these (
+    option_map refusal_of (selection_fault kind rows)
+    ∷ carousel_fault rows
+    ∷ option_map refusal_of (task_fault kind rows)
+    ∷ option_map refusal_of (reading_fault rows)
+    ∷ option_map refusal_of (each_fault kind rows)
+    ∷ option_map refusal_of (pixels_fault kind rows)
+    ∷ option_map refusal_of (choice_fault kind rows)
+    ∷ option_map refusal_of (output_fault rows)
+    ∷ [])
 
 -- the same for the subcommand of this name
-abbrev pub fault_of_values : Text × List Row → Option LineFault
+abbrev pub fault_of_values : Text × List Row → Option Refusal
 fault_of_values (name, rows) = option_and_then (λ kind. values_fault kind rows) (kind_named name)
 
 -- the same for the matches
-abbrev pub line_fault : ArgMatches → Option LineFault
+abbrev pub line_fault : ArgMatches → Option Refusal
 line_fault m = option_and_then fault_of_values (subcommand_rows_of m)

@@ -60,22 +60,36 @@ with_fit a = with_rule (with_rule a (flag_rule (codes "fit"))) (bare_rule (codes
 abbrev pub with_reading : Defaults → App → App
 with_reading d a = with_rule (with_rule a
     (option_rule (codes "profile") vp.String d.profile))
-    (bare_rule (codes "sheet") (whole_number 0 4194304))
+    (bare_rule (codes "sheet") vp.String)
 
 -- `--output PATH` or `-o PATH`, without a default: the file that is written, or the folder of the files
 abbrev pub output_rule : Rule
 output_rule = record (bare_rule (codes "output") vp.String) { short = Some 111 }
 
--- what each subcommand takes: the page, how the plot is read, where the output goes, and whether to say what was drawn
-abbrev pub with_plot : Defaults → App → App
-with_plot d a = with_rule (with_rule (with_reading d (with_fit (with_page a))) output_rule) (flag_rule (codes "verbose"))
+-- `--colours LIST` or `--colors LIST`, without a default
+abbrev pub colours_rule : Rule
+colours_rule = record (bare_rule (codes "colours") vp.String) { aliases = codes "colors" ∷ [] }
 
--- how a picture is made: dots per inch, pens, and whether to show how far the picture is
-abbrev pub with_picture : Defaults → App → App
-with_picture d a = with_rule (with_rule (with_rule a
-    (number_rule (codes "dots") 10 1200 d.dots))
+-- the colours and the widths of pens, which have no defaults
+abbrev pub with_carousel : App → App
+with_carousel a = with_rule (with_rule a colours_rule) (bare_rule (codes "widths") vp.String)
+
+-- what each subcommand takes: the page, how the plot is read, where the output goes, whether to say what was drawn, and the
+-- colours and the widths of pens
+abbrev pub with_plot : Defaults → App → App
+with_plot d a =
+    with_carousel (with_rule (with_rule (with_reading d (with_fit (with_page a))) output_rule) (flag_rule (codes "verbose")))
+
+-- how a picture is made: dots per inch, which have no default, pens, and whether to show how far the picture is
+abbrev pub with_picture : App → App
+with_picture a = with_rule (with_rule (with_rule a
+    (bare_rule (codes "dots") (whole_number 10 1200)))
     (option_rule (codes "pens") vp.String (codes "all")))
     (flag_rule (codes "progress"))
+
+-- the most pixels of a picture's longer side, which have no default
+abbrev pub with_size : App → App
+with_size a = with_rule a (bare_rule (codes "size") (whole_number 16 20000))
 
 -- how often finer a picture is painted, which has no default
 abbrev pub with_smoothing : App → App
@@ -102,16 +116,16 @@ with_smoothing_of output a = if is_smoothed output then with_smoothing a else a
 
 -- the subcommand that writes a picture in the form that its options ask for
 abbrev pub draw_app : Text → App
-draw_app name = with_rule (with_form (with_smoothing (with_picture of_draw (with_plot of_draw (new_app name))))) file_rule
+draw_app name = with_rule (with_form (with_smoothing (with_size (with_picture (with_plot of_draw (new_app name)))))) file_rule
 
 -- a subcommand that writes a picture in a form
 abbrev pub picture_app : Form → Text → App
 picture_app form name = with_rule
-    (with_rows (with_smoothing_of (Picture form) (with_picture of_others (with_plot of_others (new_app name))))) file_rule
+    (with_rows (with_smoothing_of (Picture form) (with_picture (with_plot of_others (new_app name))))) file_rule
 
 -- a subcommand that writes a PNG picture
 abbrev pub png_app : Text → App
-png_app name = with_rule (with_smoothing (with_picture of_others (with_plot of_others (new_app name)))) file_rule
+png_app name = with_rule (with_smoothing (with_picture (with_plot of_others (new_app name)))) file_rule
 
 -- a subcommand that describes a plot
 abbrev pub report_app : Text → App

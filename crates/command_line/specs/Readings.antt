@@ -10,7 +10,8 @@ use Rattle.command_line.specs.declared.subcommands.Output.TheVariants.{Picture, 
 use Rattle.command_line.specs.declared.fault.LineFault.{LineFault}
 use Rattle.command_line.specs.declared.fault.LineFault.TheVariants.{Paper, Shades, Size}
 use Rattle.command_line.specs.Papers.{size_named}
-use Rattle.command_line.specs.Lines.{has_stray_smooth, number_in, pens_text, profile_text}
+use Rattle.command_line.specs.Lines.{has_stray_smooth, is_picture, number_in, pens_text, profile_text, written}
+use Rattle.std.specs.Option.{option_map_or}
 
 -- the option has a text that is a whole number from low to high
 pub record HasNumber (rows : List Row) (name : Text) (low high : ℕ) : Type 0 where
@@ -28,11 +29,10 @@ pub record HasPageNumbers (rows : List Row) : Type 0 where
   pub left : HasNumber rows (codes "left") 0 65536
   pub below : HasNumber rows (codes "below") 0 65536
 
--- each option that all pictures have has a value, and the smoothing, if it is given, is a number
+-- each option that all pictures have has a value, and the resolution and the smoothing, if they are given, are numbers
 pub record HasPictureValues (rows : List Row) : Type 0 where
   pub page : HasPageNumbers rows
-  pub dots : HasNumber rows (codes "dots") 10 1200
-  pub pens : is_some (pens_text rows) ≡ true
+  pub dots : MayHaveNumber rows (codes "dots") 10 1200
   pub smoothing : MayHaveNumber rows (codes "smooth") 1 8
 
 -- the same of a picture in a form, of whose rows the numbers, if they are given, are numbers
@@ -66,17 +66,22 @@ abbrev pub HasTaskValues : Kind → List Row → Type 0
 HasTaskValues Draw rows = HasFormValues rows
 HasTaskValues (Write output) rows = HasValuesOf output rows
 
--- the profile has a name, and the sheet, if one is given, is a number
-pub record HasReadingValues (rows : List Row) : Type 0 where
-  pub profile : is_some (profile_text rows) ≡ true
-  pub sheet : MayHaveNumber rows (codes "sheet") 0 4194304
+-- the option for the list of pens has a text, if a picture is written
+abbrev pub HasPens : Kind → List Row → Type 0
+HasPens kind rows = option_map_or is_picture (written kind rows) false ≡ true → is_some (pens_text rows) ≡ true
+
+-- the profile has a name
+abbrev pub HasProfile : List Row → Type 0
+HasProfile rows = is_some (profile_text rows) ≡ true
 
 -- the margin, if one is given, is a number
-abbrev pub HasChoiceValues : List Row → Type 0
-HasChoiceValues rows = MayHaveNumber rows (codes "margin") 0 100
+abbrev pub HasMargin : List Row → Type 0
+HasMargin rows = MayHaveNumber rows (codes "margin") 0 100
 
 -- each option that a subcommand needs has a value
 pub record HasValues (kind : Kind) (rows : List Row) : Type 0 where
+  pub pens : HasPens kind rows
   pub task : HasTaskValues kind rows
-  pub reading : HasReadingValues rows
-  pub choice : HasChoiceValues rows
+  pub profile : HasProfile rows
+  pub pixels : MayHaveNumber rows (codes "size") 16 20000
+  pub margin : HasMargin rows

@@ -9,8 +9,8 @@ use crate::subcommands::Kind;
 pub(crate) struct Defaults<'a> {
     /// The name of the profile.
     pub(crate) profile: &'a str,
-    /// Dots per inch, in decimal.
-    pub(crate) dots: &'a str,
+    /// Dots per inch.
+    pub(crate) dots: u32,
     /// How much finer a picture that may be smoothed is painted, at most.
     pub(crate) smoothing: u32,
     /// What is left free around the drawing on a fitted page, in millimetres.
@@ -23,7 +23,7 @@ pub(crate) struct Defaults<'a> {
 
 const OF_DRAW: Defaults<'static> = Defaults {
     profile: "full",
-    dots: "150",
+    dots: 150,
     smoothing: 4,
     margin: 5,
     fits: true,
@@ -32,7 +32,7 @@ const OF_DRAW: Defaults<'static> = Defaults {
 
 const OF_OTHERS: Defaults<'static> = Defaults {
     profile: "core",
-    dots: "100",
+    dots: 100,
     smoothing: 1,
     margin: 1,
     fits: false,
@@ -42,7 +42,7 @@ const OF_OTHERS: Defaults<'static> = Defaults {
 /// The defaults of a subcommand.
 pub(crate) fn defaults_of(kind: Kind) -> Defaults<'static>
     ensures profile { result.profile.now ≡ (defaults_of kind).profile }
-    ensures dots { result.dots.now ≡ (defaults_of kind).dots }
+    ensures dots { result.dots ≡ (defaults_of kind).dots }
     ensures smoothing { result.smoothing ≡ (defaults_of kind).smoothing }
     ensures margin { result.margin ≡ (defaults_of kind).margin }
     ensures fits { result.fits ≡ (defaults_of kind).fits }

@@ -16,7 +16,7 @@ pub enum BuildFault {
 
 /// Why matches ask for nothing that this program does.
 #[derive(Clone, Copy, Debug, PartialEq, Eq, Drop, Error)]
-pub enum LineFault {
+pub enum LineFault<'a> {
     /// They are the matches of another command, or words that are no text.
     #[error("words not understood")]
     Words,
@@ -26,6 +26,12 @@ pub enum LineFault {
     /// The text after `--pens` is no list of pens.
     #[error("bad pen list")]
     Pens,
+    /// The first item of the text after `--colours` that is bad.
+    #[error("bad colours: {0}")]
+    Colours(&'a str),
+    /// The first item of the text after `--widths` that is bad.
+    #[error("bad widths: {0}")]
+    Widths(&'a str),
     /// `--smooth` is given for a form without shades.
     #[error("--smooth needs the form png or ppm")]
     Shades,
@@ -41,9 +47,24 @@ pub enum LineFault {
     /// The word after `--profile` names no profile.
     #[error("bad profile")]
     Profile,
+    /// The text after `--sheet` is no number of a sheet, and is not `each`.
+    #[error("bad sheet: use a number from 0 to 4194304, or each")]
+    BadSheet,
     /// `--sheet` is given with the profile core, which has no sheets.
     #[error("--sheet needs --profile full")]
     Sheet,
+    /// A report on each sheet is asked for.
+    #[error("--sheet each needs a picture")]
+    NoPicture,
+    /// Each sheet is asked for by itself, without `--output`.
+    #[error("--sheet each needs --output FOLDER")]
+    NoFolder,
+    /// `--size` is given with `--dots`.
+    #[error("--size may not be given with --dots")]
+    Pixels,
+    /// `--size` is given for a picture in PCL, whose printers know only some resolutions.
+    #[error("--size may not be given with the form pcl")]
+    PrinterPixels,
     /// `--margin` is given, and the page is not fitted.
     #[error("--margin needs --fit")]
     Margin,

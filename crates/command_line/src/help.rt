@@ -75,7 +75,8 @@ pub(crate) const PROFILE: HelpLine<'static> = HelpLine {
 // `clap` knows of no default: a sheet that is given in the profile core is a mistake, whichever it is.
 pub(crate) const SHEET: HelpLine<'static> = HelpLine {
     value: "SHEET",
-    help: "Sheet to draw in the profile full, 0 to 4194304: counted from 1, or 0 for all sheets [default: 1]",
+    help: "Sheet to draw in the profile full, 0 to 4194304: counted from 1, or 0 for all sheets in one picture, or each for \
+        a picture of each sheet, in the folder of --output [default: 1]",
 };
 
 pub(crate) const OUTPUT: HelpLine<'static> = HelpLine {
@@ -103,14 +104,26 @@ pub(crate) const FORM: HelpLine<'static> = HelpLine {
         the form [default: png]",
 };
 
+// `clap` is given no default, so that it is known whether the option is given.
 pub(crate) const DOTS: HelpLine<'static> = HelpLine {
     value: "DPI",
-    help: "Resolution in dots per inch, 10 to 1200",
+    help: "Resolution in dots per inch, 10 to 1200 [default: 100]",
 };
 
 pub(crate) const PCL_DOTS: HelpLine<'static> = HelpLine {
     value: "DPI",
-    help: "Resolution in dots per inch: 75, 100, 150, 200, 300 or 600",
+    help: "Resolution in dots per inch: 75, 100, 150, 200, 300 or 600 [default: 100]",
+};
+
+pub(crate) const DRAW_DOTS: HelpLine<'static> = HelpLine {
+    value: "DPI",
+    help: "Resolution in dots per inch, 10 to 1200 [default: 150]",
+};
+
+pub(crate) const SIZE: HelpLine<'static> = HelpLine {
+    value: "PIXELS",
+    help: "Most pixels of the picture's longer side, 16 to 20000, instead of --dots; it is smoothed 8 times, or as much as \
+        1200 dots per inch allow, unless --smooth says less",
 };
 
 // `clap` is given no default, so that commands without the option have the same.
@@ -130,6 +143,18 @@ pub(crate) const DRAW_SMOOTH: HelpLine<'static> = HelpLine {
 pub(crate) const PENS: HelpLine<'static> = HelpLine {
     value: "LIST",
     help: "Pens to draw, each 1 to 255: 'all', or pens and ranges separated by commas, as 1,3,5-7",
+};
+
+pub(crate) const COLOURS: HelpLine<'static> = HelpLine {
+    value: "LIST",
+    help: "Colours of pens, whatever the plot sets, as all=black,2=#f80: pens or ranges, each with rrggbb, #rrggbb, #rgb or a \
+        name of HTML 4; the last one for a pen decides",
+};
+
+pub(crate) const WIDTHS: HelpLine<'static> = HelpLine {
+    value: "LIST",
+    help: "Widths of pens in millimetres, 0 to 20, whatever the plot sets, as all=0.35,2=0.7: pens or ranges, each with a \
+        width; the last one for a pen decides",
 };
 
 pub(crate) const BAND: HelpLine<'static> = HelpLine {

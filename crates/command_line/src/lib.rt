@@ -1,6 +1,7 @@
 //! What a command line asks for: its subcommands and options, and the values that they give.
 #![tactic(auto)]
 
+mod carousels;
 mod defaults;
 mod fault;
 mod forms;
@@ -8,7 +9,9 @@ mod help;
 mod line;
 mod options;
 mod papers;
+mod sheets;
 mod subcommands;
+mod values;
 
 pub use fault::{BuildFault, LineFault, parse_status};
 pub use line::{Line, Task, settle};

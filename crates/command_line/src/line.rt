@@ -1,24 +1,30 @@
 //! What a command line asks for.
 ghost use Rattle.std.specs.Prelude.{◌≡◌, ◌↔◌, ◌<◌, ◌≤◌, ◌*◌, ◌^◌, ℕ, Some, Err, IfOk, IfErr, IsOk, IsOkAnd, true, false, is_some};
-ghost use Rattle.std.specs.Prelude.{codes, ◌≢◌, ◌||◌, IfSome, [], map, option_map};
+ghost use Rattle.std.specs.Prelude.{codes, None, ◌≢◌, ◌||◌, ◌&&◌, IfSome, [], map, nat_lt, not, option_map};
 ghost use Rattle.std.specs.Result.{result_err};
 ghost use Rattle.clap.specs.Words.{found_of, rows_of};
 ghost use Rattle.plot_page.specs.Pages.{has_page_size};
+ghost use Rattle.command_line.specs.Faults.{refusal_of};
 ghost use Rattle.command_line.specs.Lines.{number_in, lists_no_pens, has_bad_list, asks_bad_list, written, form_text, asked_picture};
 ghost use Rattle.command_line.specs.Lines.{ArePensOf, IsPageOf, IsPictureOf, IsPngJobOf, IsTaskOf, IsLineBy, IsLineOf, AreOfThisCommand};
-ghost use Rattle.command_line.specs.Lines.{has_stray_smooth, picture_fault, smooth_or, usual_smooth};
+ghost use Rattle.command_line.specs.Lines.{has_stray_smooth, picture_fault, smooth_or, usual_smooth, dots_in, is_picture, selection_fault};
 ghost use Rattle.command_line.specs.Lines.{IsReadingOf, line_fault, page_fault, pens_text, reading_fault, task_fault, values_fault};
 ghost use Rattle.command_line.specs.Lines.{IsChoiceOf, choice_fault, gives_page, has_flag, has_paper_and_side, is_given, names_page, page_size};
+ghost use Rattle.command_line.specs.Lines.{asks_each, each_fault, is_for_printers, is_report, pixels_fault, sheet_in};
 ghost use Rattle.command_line.specs.Lines.{files_in, has_no_place, output_fault, output_text};
 ghost use Rattle.command_line.specs.Options.{is_smoothed};
-ghost use Rattle.command_line.specs.Readings.{HasChoiceValues, HasFormValues, HasNumber, HasPageNumbers, HasPictureValues};
-ghost use Rattle.command_line.specs.Readings.{HasReadingValues, HasTaskValues, HasValues, MayHaveNumber, paper_or_fault, stray_smooth_fault};
+ghost use Rattle.command_line.specs.Readings.{HasFormValues, HasMargin, HasNumber, HasPageNumbers, HasPens, HasPictureValues};
+ghost use Rattle.command_line.specs.Readings.{HasProfile, HasTaskValues, HasValues, MayHaveNumber, paper_or_fault, stray_smooth_fault};
 
+use crate::carousels::carousel_of;
 use crate::defaults::defaults_of;
 use crate::fault::LineFault;
 use crate::forms::{extension_of, form_named};
 use crate::papers::{names_plot, size_named};
+use crate::sheets::{each_of, reading_of};
 use crate::subcommands::{Kind, Output, is_smoothed, kind_of};
+use crate::values::{has_flag, is_given, number_if_given, number_of};
+use carousel::Carousel;
 use clap::ArgMatches;
 use pen_list::read_pens;
 use picture_job::{Job, PageChoice, Picture, PngJob, Reading, Smoothing};
@@ -41,8 +47,10 @@ pub struct Line<'m, 'a> {
     pub task: Task,
     /// How the plot is read.
     pub reading: Reading,
-    /// Which page it is drawn on.
+    /// Which page it is drawn on, and in how many pixels.
     pub choice: PageChoice,
+    /// The colours and the widths of pens that hold whatever the plot sets.
+    pub carousel: Carousel,
     /// The names of the plots' files, in order; none if the plot comes on standard input.
     pub files: &'m [&'a str],
     /// The name of the file to write, or of the folder of the files to write; `None`, for standard
@@ -50,6 +58,8 @@ pub struct Line<'m, 'a> {
     pub output: Option<&'a str>,
     /// Whether the sheet was named, or else the first one is drawn.
     pub sheet_named: bool,
+    /// Whether each sheet is to be written by itself; then there is a picture and an output, and all sheets are read.
+    pub each_sheet: bool,
     /// Whether to say on standard error what was drawn.
     pub verbose: bool,
     /// Whether to show on standard error how far the picture is: if it was asked for, or if the line is interactive,
@@ -67,15 +77,18 @@ pub struct Line<'m, 'a> {
 /// The values of the matches of `command`'s command.
 ///
 /// Errors, of which the first is given: `Form` if draw is asked for a form that is none, `Pens` if a picture is asked for
-/// and `--pens` is not a valid list, `Shades` if `--smooth` is given for a form that may not be smoothed, `Smooth` if
-/// `--dots` times `--smooth` is over 1200, `Paper` if `--page` names no paper and not the plot, `Size` if `--page` is given
-/// with `--width` or `--height`, `Profile` if `--profile` is neither `core` nor `full`, `Sheet` if `--sheet` is given with
-/// the profile core, `Margin` if `--margin` is given and the page is not fitted, and `Several` if several files are given
-/// without `--output`; no other one after a `parse` that succeeded. `Words` if the matches are of another command.
-pub fn settle<'m, 'a>(matches: &'m ArgMatches<'a>) -> Result<Line<'m, 'a>, LineFault>
+/// and `--pens` is not a valid list, `Colours` or `Widths` with the first bad item of such a list, `Shades` if `--smooth` is
+/// given for a form that may not be smoothed, `Smooth` if `--dots` times `--smooth` is over 1200, `Paper` if `--page` names
+/// no paper and not the plot, `Size` if `--page` is given with `--width` or `--height`, `BadSheet` if `--sheet` is no number
+/// of 0 to 4194304 and not `each`, `Profile` if `--profile` is neither `core` nor `full`, `Sheet` if `--sheet` is given with
+/// the profile core, `NoPicture` or `NoFolder` if it is `each` for a report or without `--output`, `Pixels` if `--size` is
+/// given with `--dots`, `PrinterPixels` if it is given for PCL, `Margin` if `--margin` is given and the page is not fitted,
+/// and `Several` if several files are given without `--output`; no other one after a `parse` that succeeded. `Words` if the
+/// matches are of another command.
+pub fn settle<'m, 'a>(matches: &'m ArgMatches<'a>) -> Result<Line<'m, 'a>, LineFault<'a>>
     ensures line { IfOk result (IsLineOf matches.now) }
     ensures pens { (result ≡ Err LineFault.Pens) ↔ (asks_bad_list matches.now ≡ true) }
-    ensures refused { AreOfThisCommand matches.now → result_err result ≡ line_fault matches.now }
+    ensures refused { AreOfThisCommand matches.now → option_map refusal_of (result_err result) ≡ line_fault matches.now }
 {
     let (name, options) = matches.subcommand().ok_or(LineFault::Words)?;
     let kind = kind_of(name).ok_or(LineFault::Words)?;
@@ -83,25 +96,31 @@ pub fn settle<'m, 'a>(matches: &'m ArgMatches<'a>) -> Result<Line<'m, 'a>, LineF
 }
 
 // What a subcommand does, by its options and its files.
-fn line_of<'m, 'a>(kind: Kind, options: &'m ArgMatches<'a>) -> Result<Line<'m, 'a>, LineFault>
+fn line_of<'m, 'a>(kind: Kind, options: &'m ArgMatches<'a>) -> Result<Line<'m, 'a>, LineFault<'a>>
     ensures line { IfOk result (IsLineBy kind (rows_of (found_of options.now))) }
     ensures pens { (result ≡ Err LineFault.Pens) ↔ (has_bad_list kind (rows_of (found_of options.now)) ≡ true) }
     ensures refused { HasValues kind (rows_of (found_of options.now)) →
-        result_err result ≡ values_fault kind (rows_of (found_of options.now)) }
+        option_map refusal_of (result_err result) ≡ values_fault kind (rows_of (found_of options.now)) }
 {
-    let task = task_of(kind, options)?;
+    let (output, pens) = selection_of(kind, options)?;
+    let carousel = carousel_of(options)?;
+    let task = task_of(kind, options, output, pens)?;
     let reading = reading_of(options)?;
-    let choice = choice_of(kind, options)?;
-    let output = place_of(options)?;
+    let each_sheet = each_of(kind, options)?;
+    let pixels = pixels_of(kind, options)?;
+    let choice = choice_of(kind, options, pixels)?;
+    let place = place_of(options)?;
     let interactive = defaults_of(kind).interactive;
     let quiet = has_flag(options, "quiet");
     Ok(Line {
         task,
         reading,
         choice,
+        carousel,
         files: files_of(options),
-        output,
+        output: place,
         sheet_named: is_given(options, "sheet"),
+        each_sheet,
         verbose: has_flag(options, "verbose"),
         progress: (has_flag(options, "progress") || interactive) && !quiet,
         quiet,
@@ -110,15 +129,37 @@ fn line_of<'m, 'a>(kind: Kind, options: &'m ArgMatches<'a>) -> Result<Line<'m, '
     })
 }
 
-fn task_of(kind: Kind, options: &ArgMatches<'_>) -> Result<Task, LineFault>
-    ensures task { IfOk result (IsTaskOf kind (rows_of (found_of options.now))) }
+// What is written, and the pens whose strokes are drawn: all of them, in a report.
+fn selection_of<'a>(kind: Kind, options: &ArgMatches<'a>) -> Result<(Output, PenSet), LineFault<'a>>
+    ensures output { IfOk result (λ it. written kind (rows_of (found_of options.now)) ≡ Some it.0) }
+    ensures selected { IfOk result (λ it. is_picture it.0 ≡ true → ArePensOf (rows_of (found_of options.now)) it.1) }
     ensures pens { (result ≡ Err LineFault.Pens) ↔ (has_bad_list kind (rows_of (found_of options.now)) ≡ true) }
+    ensures refused { HasPens kind (rows_of (found_of options.now)) →
+        result_err result ≡ selection_fault kind (rows_of (found_of options.now)) }
+{
+    let output = written(kind, options).ok_or(LineFault::Form)?;
+    match output {
+        Output::Report => Ok((output, PenSet::all())),
+        Output::Picture(_) | Output::Png => Ok((output, pens_of(options)?)),
+    }
+}
+
+fn task_of<'a>(
+    kind: Kind,
+    options: &ArgMatches<'a>,
+    output: Output,
+    pens: PenSet,
+) -> Result<Task, LineFault<'a>>
+    requires output { written kind (rows_of (found_of options.now)) ≡ Some output }
+    requires selected { is_picture output ≡ true → ArePensOf (rows_of (found_of options.now)) pens }
+    ensures task { IfOk result (IsTaskOf kind (rows_of (found_of options.now))) }
+    ensures pens { result ≢ Err LineFault.Pens }
     ensures refused { HasTaskValues kind (rows_of (found_of options.now)) →
         result_err result ≡ task_fault kind (rows_of (found_of options.now)) }
 {
-    match written(kind, options).ok_or(LineFault::Form)? {
-        Output::Picture(form) => picture_of(kind, options, form),
-        Output::Png => Ok(Task::Picture(Picture::Png(png_job_of(kind, options, true)?))),
+    match output {
+        Output::Picture(form) => picture_of(kind, options, form, pens),
+        Output::Png => Ok(Task::Picture(Picture::Png(png_job_of(kind, options, true, pens)?))),
         Output::Report => Ok(Task::Report(page_of(options)?)),
     }
 }
@@ -152,13 +193,19 @@ fn asked_form<'a>(options: &ArgMatches<'a>) -> Option<&'a str>
     }
 }
 
-fn picture_of(kind: Kind, options: &ArgMatches<'_>, form: Form) -> Result<Task, LineFault>
+fn picture_of<'a>(
+    kind: Kind,
+    options: &ArgMatches<'a>,
+    form: Form,
+    pens: PenSet,
+) -> Result<Task, LineFault<'a>>
+    requires { ArePensOf (rows_of (found_of options.now)) pens }
     ensures picture { IfOk result (IsPictureOf kind form (rows_of (found_of options.now))) }
-    ensures pens { (result ≡ Err LineFault.Pens) ↔ (lists_no_pens (rows_of (found_of options.now)) ≡ true) }
+    ensures pens { result ≢ Err LineFault.Pens }
     ensures refused { HasFormValues (rows_of (found_of options.now)) →
         result_err result ≡ picture_fault kind (is_smoothed (Output.Picture form)) (rows_of (found_of options.now)) }
 {
-    let common = png_job_of(kind, options, is_smoothed(form))?;
+    let common = png_job_of(kind, options, is_smoothed(form), pens)?;
     let band = number_if_given(options, "band")?;
     let first_row = number_if_given(options, "from")?;
     let job = Job {
@@ -176,17 +223,23 @@ fn picture_of(kind: Kind, options: &ArgMatches<'_>, form: Form) -> Result<Task, 
 }
 
 // What a PNG picture is asked for by, and each other picture too.
-fn png_job_of(kind: Kind, options: &ArgMatches<'_>, is_smoothed: bool) -> Result<PngJob, LineFault>
+fn png_job_of<'a>(
+    kind: Kind,
+    options: &ArgMatches<'a>,
+    is_smoothed: bool,
+    pens: PenSet,
+) -> Result<PngJob, LineFault<'a>>
+    requires { ArePensOf (rows_of (found_of options.now)) pens }
     ensures job { IfOk result (IsPngJobOf kind is_smoothed (rows_of (found_of options.now))) }
-    ensures pens { (result ≡ Err LineFault.Pens) ↔ (lists_no_pens (rows_of (found_of options.now)) ≡ true) }
+    ensures pens { result ≢ Err LineFault.Pens }
     ensures refused { HasPictureValues (rows_of (found_of options.now)) →
         result_err result ≡ picture_fault kind is_smoothed (rows_of (found_of options.now)) }
 {
-    let pens = pens_of(options)?;
-    let dots = Dots::new(number_of(options, "dots")?).ok_or(LineFault::Words)?;
-    let usual = usual_smooth(kind, dots);
+    let dots = dots_of(kind, options)?;
+    let is_sized = is_given(options, "size");
+    let usual = usual_smooth(kind, is_sized, dots);
     let smoothing = smoothing_of(options, is_smoothed, usual)?;
-    if dots.per_inch() * smoothing.times() > 1200 {
+    if is_too_fine(is_sized, dots, smoothing) {
         return Err(LineFault::Smooth);
     }
     Ok(PngJob {
@@ -197,22 +250,43 @@ fn png_job_of(kind: Kind, options: &ArgMatches<'_>, is_smoothed: bool) -> Result
     })
 }
 
-// How much finer a picture is painted if no option says it: as much as the subcommand does, if 1200 dots per inch allow it.
-fn usual_smooth(kind: Kind, dots: Dots) -> u32
-    ensures value { result ≡ usual_smooth kind dots.resolution }
+// The dots per inch: as the option says, or else as the subcommand does.
+fn dots_of<'a>(kind: Kind, options: &ArgMatches<'a>) -> Result<Dots, LineFault<'a>>
+    ensures dots { IfOk result (λ dots. dots_in kind (rows_of (found_of options.now)) ≡ dots.resolution) }
+    ensures understood { MayHaveNumber (rows_of (found_of options.now)) (codes "dots") 10 1200 → IsOk result }
+    ensures fault { IfErr result (λ fault. fault ≡ LineFault.Words) }
+{
+    let given = number_if_given(options, "dots")?;
+    Dots::new(given.unwrap_or(defaults_of(kind).dots)).ok_or(LineFault::Words)
+}
+
+// Whether a picture would be painted at more than 1200 dots per inch, which are not chosen by its pixels.
+fn is_too_fine(is_sized: bool, dots: Dots, smoothing: Smoothing) -> bool
+    ensures { result ≡ (not is_sized && nat_lt 1200 (dots.resolution * smoothing.times)) }
+{
+    !is_sized && dots.per_inch() * smoothing.times() > 1200
+}
+
+// How much finer a picture is painted if no option says it: 8 times if its pixels are chosen, and else as much as the
+// subcommand does, if 1200 dots per inch allow it.
+fn usual_smooth(kind: Kind, is_sized: bool, dots: Dots) -> u32
+    ensures value { result ≡ usual_smooth kind is_sized dots.resolution }
     ensures within { (1 ≤ result) × (result ≤ 8) }
 {
+    if is_sized {
+        return 8;
+    }
     let most = 1200 / dots.per_inch();
     defaults_of(kind).smoothing.min(most)
 }
 
 // How much finer a picture is painted: as the option says, or else as usual; as much as it is written, if it may not be
 // smoothed.
-fn smoothing_of(
-    options: &ArgMatches<'_>,
+fn smoothing_of<'a>(
+    options: &ArgMatches<'a>,
     is_smoothed: bool,
     usual: u32,
-) -> Result<Smoothing, LineFault>
+) -> Result<Smoothing, LineFault<'a>>
     requires { (1 ≤ usual) × (usual ≤ 8) }
     ensures smoothing { IfOk result (λ smoothing. smooth_or is_smoothed (rows_of (found_of options.now)) usual ≡ smoothing.times) }
     ensures plain { IfOk result (λ _. has_stray_smooth is_smoothed (rows_of (found_of options.now)) ≡ false) }
@@ -230,7 +304,7 @@ fn smoothing_of(
     }
 }
 
-fn pens_of(options: &ArgMatches<'_>) -> Result<PenSet, LineFault>
+fn pens_of<'a>(options: &ArgMatches<'a>) -> Result<PenSet, LineFault<'a>>
     ensures pens { IfOk result (ArePensOf (rows_of (found_of options.now))) }
     ensures fault { (result ≡ Err LineFault.Pens) ↔ (lists_no_pens (rows_of (found_of options.now)) ≡ true) }
     ensures understood { is_some (pens_text (rows_of (found_of options.now))) ≡ true →
@@ -242,7 +316,7 @@ fn pens_of(options: &ArgMatches<'_>) -> Result<PenSet, LineFault>
     read_pens(text).ok_or(LineFault::Pens)
 }
 
-fn page_of(options: &ArgMatches<'_>) -> Result<Page, LineFault>
+fn page_of<'a>(options: &ArgMatches<'a>) -> Result<Page, LineFault<'a>>
     ensures page { IfOk result (IsPageOf (rows_of (found_of options.now))) }
     ensures pens { result ≢ Err LineFault.Pens }
     ensures refused { HasPageNumbers (rows_of (found_of options.now)) →
@@ -255,7 +329,7 @@ fn page_of(options: &ArgMatches<'_>) -> Result<Page, LineFault>
 }
 
 // The width and the height of the page. By default they are those of A4 in landscape.
-fn size_of(options: &ArgMatches<'_>) -> Result<(u32, u32), LineFault>
+fn size_of<'a>(options: &ArgMatches<'a>) -> Result<(u32, u32), LineFault<'a>>
     ensures size { IfOk result (λ size. page_size (rows_of (found_of options.now)) ≡ Some size) }
     ensures one_way { IfOk result (λ _. has_paper_and_side (rows_of (found_of options.now)) ≡ false) }
     ensures pens { result ≢ Err LineFault.Pens }
@@ -273,7 +347,11 @@ fn size_of(options: &ArgMatches<'_>) -> Result<(u32, u32), LineFault>
 }
 
 // The size that this name gives, beside which no width and no height may be given.
-fn paper_size(name: &str, width: Option<u32>, height: Option<u32>) -> Result<(u32, u32), LineFault>
+fn paper_size<'a>(
+    name: &'a str,
+    width: Option<u32>,
+    height: Option<u32>,
+) -> Result<(u32, u32), LineFault<'a>>
     ensures { result ≡ paper_or_fault name.now (is_some width || is_some height) }
 {
     let size = size_named(name).ok_or(LineFault::Paper)?;
@@ -283,32 +361,46 @@ fn paper_size(name: &str, width: Option<u32>, height: Option<u32>) -> Result<(u3
     Ok(size)
 }
 
-fn reading_of(options: &ArgMatches<'_>) -> Result<Reading, LineFault>
-    ensures reading { IfOk result (IsReadingOf (rows_of (found_of options.now))) }
+// How many pixels the picture is to have, if it is asked for so, and not by dots per inch, nor for a printer.
+fn pixels_of<'a>(kind: Kind, options: &ArgMatches<'a>) -> Result<Option<u32>, LineFault<'a>>
+    ensures pixels { IfOk result (λ pixels. number_in (rows_of (found_of options.now)) (codes "size") ≡ pixels) }
+    ensures sized { IfOk result (λ _. pixels_fault kind (rows_of (found_of options.now)) ≡ None) }
     ensures pens { result ≢ Err LineFault.Pens }
-    ensures refused { HasReadingValues (rows_of (found_of options.now)) →
-        result_err result ≡ reading_fault (rows_of (found_of options.now)) }
+    ensures refused { MayHaveNumber (rows_of (found_of options.now)) (codes "size") 16 20000 →
+        result_err result ≡ pixels_fault kind (rows_of (found_of options.now)) }
 {
-    let profile = options.get_str("profile").ok_or(LineFault::Words)?;
-    let sheet = number_if_given(options, "sheet")?;
-    if profile == "full" {
-        return Ok(Reading::Full {
-            sheet: sheet.unwrap_or(1),
-        });
+    let pixels = number_if_given(options, "size")?;
+    if !is_given(options, "size") {
+        return Ok(pixels);
     }
-    if profile != "core" {
-        return Err(LineFault::Profile);
+    if is_given(options, "dots") {
+        return Err(LineFault::Pixels);
     }
-    match sheet {
-        None => Ok(Reading::Core),
-        Some(_) => Err(LineFault::Sheet),
+    if is_for_printers(kind, options) {
+        return Err(LineFault::PrinterPixels);
+    }
+    Ok(pixels)
+}
+
+// Whether PCL is written.
+fn is_for_printers(kind: Kind, options: &ArgMatches<'_>) -> bool
+    ensures { result ≡ is_for_printers kind (rows_of (found_of options.now)) }
+{
+    match written(kind, options) {
+        Some(Output::Picture(Form::Pcl)) => true,
+        Some(_) | None => false,
     }
 }
 
-fn choice_of(kind: Kind, options: &ArgMatches<'_>) -> Result<PageChoice, LineFault>
+fn choice_of<'a>(
+    kind: Kind,
+    options: &ArgMatches<'a>,
+    pixels: Option<u32>,
+) -> Result<PageChoice, LineFault<'a>>
+    requires { number_in (rows_of (found_of options.now)) (codes "size") ≡ pixels }
     ensures choice { IfOk result (IsChoiceOf kind (rows_of (found_of options.now))) }
     ensures pens { result ≢ Err LineFault.Pens }
-    ensures refused { HasChoiceValues (rows_of (found_of options.now)) →
+    ensures refused { HasMargin (rows_of (found_of options.now)) →
         result_err result ≡ choice_fault kind (rows_of (found_of options.now)) }
 {
     let defaults = defaults_of(kind);
@@ -320,14 +412,14 @@ fn choice_of(kind: Kind, options: &ArgMatches<'_>) -> Result<PageChoice, LineFau
         return Ok(PageChoice {
             asked,
             margin,
-            pixels: None,
+            pixels,
         });
     }
     match margin {
         None => Ok(PageChoice {
             asked,
             margin,
-            pixels: None,
+            pixels,
         }),
         Some(_) => Err(LineFault::Margin),
     }
@@ -350,12 +442,6 @@ fn gives_page(options: &ArgMatches<'_>) -> bool
     is_given(options, "page") || is_given(options, "width") || is_given(options, "height")
 }
 
-fn is_given(options: &ArgMatches<'_>, name: &str) -> bool
-    ensures { result ≡ is_given (rows_of (found_of options.now)) name.now }
-{
-    options.get_str(name).is_some()
-}
-
 fn files_of<'m, 'a>(options: &'m ArgMatches<'a>) -> &'m [&'a str]
     ensures { map (λ file. file.now) result.now ≡ files_in (rows_of (found_of options.now)) }
 {
@@ -372,7 +458,7 @@ fn no_items<'a, T>() -> &'a [T]
 }
 
 // Where the output goes, which has to be said if there are several files.
-fn place_of<'a>(options: &ArgMatches<'a>) -> Result<Option<&'a str>, LineFault>
+fn place_of<'a>(options: &ArgMatches<'a>) -> Result<Option<&'a str>, LineFault<'a>>
     ensures place { IfOk result (λ place. option_map (λ path. path.now) place ≡ output_text (rows_of (found_of options.now))) }
     ensures placed { IfOk result (λ _. has_no_place (rows_of (found_of options.now)) ≡ false) }
     ensures pens { result ≢ Err LineFault.Pens }
@@ -383,36 +469,4 @@ fn place_of<'a>(options: &ArgMatches<'a>) -> Result<Option<&'a str>, LineFault>
         return Err(LineFault::Several);
     }
     Ok(place)
-}
-
-// Whether a flag is given.
-fn has_flag(options: &ArgMatches<'_>, name: &str) -> bool
-    ensures { result ≡ has_flag (rows_of (found_of options.now)) name.now }
-{
-    match options.get_str(name) {
-        Some(text) => text == "true",
-        None => false,
-    }
-}
-
-// The number of an option, or `None` if it is not given.
-fn number_if_given(options: &ArgMatches<'_>, name: &str) -> Result<Option<u32>, LineFault>
-    ensures number { IfOk result (λ number. number_in (rows_of (found_of options.now)) name.now ≡ number) }
-    ensures understood { (low high : ℕ) → high < 2 ^ 32 → MayHaveNumber (rows_of (found_of options.now)) name.now low high →
-        IsOkAnd result (λ number. IfSome number (λ n. (low ≤ n) × (n ≤ high))) }
-    ensures fault { IfErr result (λ fault. fault ≡ LineFault.Words) }
-{
-    if options.get_str(name).is_none() {
-        return Ok(None);
-    }
-    Ok(Some(number_of(options, name)?))
-}
-
-fn number_of(options: &ArgMatches<'_>, name: &str) -> Result<u32, LineFault>
-    ensures number { IfOk result (λ n. number_in (rows_of (found_of options.now)) name.now ≡ Some n) }
-    ensures understood { (low high : ℕ) → high < 2 ^ 32 → HasNumber (rows_of (found_of options.now)) name.now low high →
-        IsOkAnd result (λ n. (low ≤ n) × (n ≤ high)) }
-    ensures fault { IfErr result (λ fault. fault ≡ LineFault.Words) }
-{
-    options.get_one::<u32>(name).ok_or(LineFault::Words)
 }

@@ -7,6 +7,7 @@ ghost use Rattle.clap.specs.Words.{app_of, rule_of, is_simple_and_free, new_app,
 ghost use Rattle.clap.specs.declared.builder.command.Command.TheViews.{out-Command as fields_of};
 ghost use Rattle.clap.specs.declared.builder.value_parser.ValueParser.TheVariants as ValueParser;
 ghost use Rattle.command_line.specs.Options.{bare_rule, option_rule, whole_number, number_rule, flag_rule, file_rule};
+ghost use Rattle.command_line.specs.Options.{colours_rule, with_carousel, with_size};
 ghost use Rattle.command_line.specs.Options.{output_rule, with_fit, with_page, with_reading, with_plot, with_picture};
 ghost use Rattle.command_line.specs.Defaults.{defaults_of};
 ghost use Rattle.command_line.specs.Options.{draw_app, png_app, with_form, with_rows, with_smoothing};
@@ -17,8 +18,8 @@ ghost use Rattle.clap_parses.specs.Parses.{HasGoodMatches};
 use crate::defaults::defaults_of;
 use crate::fault::BuildFault;
 use crate::help::{
-    BAND, BELOW, FILE, FIT, FORM, FROM, HEIGHT, HelpLine, HelpPage, LEFT, OUTPUT, PENS, PROFILE,
-    QUIET, SHEET, TOP, VERBOSE, VERSION, WIDTH,
+    BAND, BELOW, COLOURS, FILE, FIT, FORM, FROM, HEIGHT, HelpLine, HelpPage, LEFT, OUTPUT, PENS,
+    PROFILE, QUIET, SHEET, SIZE, TOP, VERBOSE, VERSION, WIDTH, WIDTHS,
 };
 use crate::subcommands::{
     Kind, Output, SUBCOMMANDS, dots_line, is_smoothed, margin_line, page_line, progress_help,
@@ -99,6 +100,30 @@ fn pens_of<'a>(alloc: Global) -> Arg<'a>
     ensures local { result.global ≡ false }
 {
     option_of(alloc, "pens", ValueParser::string(), "all", PENS)
+}
+
+// `--colours LIST`, or `--colors LIST`
+fn colours_of<'a>(alloc: Global) -> Result<Arg<'a>, AllocError>
+    ensures rule { IfOk result (λ arg. rule_of arg ≡ colours_rule) }
+    ensures local { IfOk result (λ arg. arg.global ≡ false) }
+{
+    bare_option(alloc, "colours", ValueParser::string(), COLOURS).alias("colors")
+}
+
+// `--widths LIST`
+fn widths_of<'a>(alloc: Global) -> Arg<'a>
+    ensures rule { rule_of result ≡ bare_rule (codes "widths") ValueParser.String }
+    ensures local { result.global ≡ false }
+{
+    bare_option(alloc, "widths", ValueParser::string(), WIDTHS)
+}
+
+// `--sheet SHEET`, without a default, so that it is known whether it is given.
+fn sheet_of<'a>(alloc: Global) -> Arg<'a>
+    ensures rule { rule_of result ≡ bare_rule (codes "sheet") ValueParser.String }
+    ensures local { result.global ≡ false }
+{
+    bare_option(alloc, "sheet", ValueParser::string(), SHEET)
 }
 
 // `--profile core|full`
@@ -203,8 +228,15 @@ fn add_reading<'a>(
 {
     let given: &'a str = defaults_of(kind).profile;
     let profile = profile_of(alloc, given);
-    let sheet = bare_number_of(alloc, "sheet", 0, 4194304, SHEET);
-    add(add(command, profile)?, sheet)
+    add(add(command, profile)?, sheet_of(alloc))
+}
+
+fn add_carousel<'a>(alloc: Global, command: Command<'a>) -> Result<Command<'a>, AllocError>
+    requires { (fields_of command).has_globals ≡ false }
+    ensures { IfOk result (IsOf (with_carousel (app_of command.entry))) }
+{
+    let colours = colours_of(alloc)?;
+    add(add(command, colours)?, widths_of(alloc))
 }
 
 fn add_plot<'a>(alloc: Global, command: Command<'a>, kind: Kind) -> Result<Command<'a>, AllocError>
@@ -214,7 +246,8 @@ fn add_plot<'a>(alloc: Global, command: Command<'a>, kind: Kind) -> Result<Comma
     let command = add_fit(alloc, add_page(alloc, command, kind)?, kind)?;
     let command = add_reading(alloc, command, kind)?;
     let command = add(command, output_of(alloc))?;
-    add(command, flag_of(alloc, "verbose", VERBOSE))
+    let command = add(command, flag_of(alloc, "verbose", VERBOSE))?;
+    add_carousel(alloc, command)
 }
 
 fn add_picture<'a>(
@@ -223,16 +256,22 @@ fn add_picture<'a>(
     kind: Kind,
 ) -> Result<Command<'a>, AllocError>
     requires { (fields_of command).has_globals ≡ false }
-    ensures { IfOk result (IsOf (with_picture (defaults_of kind) (app_of command.entry))) }
+    ensures { IfOk result (IsOf (with_picture (app_of command.entry))) }
 {
-    let given: &'a str = defaults_of(kind).dots;
-    let dots = number_of(alloc, "dots", 10, 1200, given, dots_line(kind));
+    let dots = bare_number_of(alloc, "dots", 10, 1200, dots_line(kind));
     let pens = pens_of(alloc);
     let help: &'a str = progress_help(kind);
     let progress = flag_of(alloc, "progress", help);
     let command = add(command, dots)?;
     let command = add(command, pens)?;
     add(command, progress)
+}
+
+fn add_size<'a>(alloc: Global, command: Command<'a>) -> Result<Command<'a>, AllocError>
+    requires { (fields_of command).has_globals ≡ false }
+    ensures { IfOk result (IsOf (with_size (app_of command.entry))) }
+{
+    add(command, bare_number_of(alloc, "size", 16, 20000, SIZE))
 }
 
 fn add_smoothing<'a>(
@@ -275,6 +314,7 @@ fn draw_command<'a>(
 {
     let command = add_plot(alloc, bare(alloc, name, page), Kind::Draw)?;
     let command = add_picture(alloc, command, Kind::Draw)?;
+    let command = add_size(alloc, command)?;
     let command = add_smoothing(alloc, command, Kind::Draw)?;
     let command = add_form(alloc, command)?;
     add(command, file_of(alloc))

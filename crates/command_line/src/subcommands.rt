@@ -4,8 +4,8 @@ ghost use Rattle.command_line.specs.Lines.{kind_in, kind_named};
 ghost use Rattle.command_line.specs.Options.{is_smoothed};
 
 use crate::help::{
-    DOTS, DRAW_MARGIN, DRAW_PAGE, DRAW_PROGRESS, DRAW_SMOOTH, HelpLine, MARGIN, PAGE, PCL_DOTS,
-    PROGRESS, SMOOTH,
+    DOTS, DRAW_DOTS, DRAW_MARGIN, DRAW_PAGE, DRAW_PROGRESS, DRAW_SMOOTH, HelpLine, MARGIN, PAGE,
+    PCL_DOTS, PROGRESS, SMOOTH,
 };
 use picture_out::Form;
 
@@ -116,8 +116,9 @@ pub(crate) fn is_smoothed(form: Form) -> bool
 /// What help says of the resolution of a subcommand.
 pub(crate) fn dots_line(kind: Kind) -> HelpLine<'static> {
     match kind {
+        Kind::Draw => DRAW_DOTS,
         Kind::Write(Output::Picture(Form::Pcl)) => PCL_DOTS,
-        Kind::Draw | Kind::Write(_) => DOTS,
+        Kind::Write(_) => DOTS,
     }
 }
 

@@ -1,4 +1,5 @@
 // Cases as one text: an answer in a line, the lines that have it, and an empty line before the next answer.
+use carousel::Carousel;
 use clap::ArgMatches;
 use command_line::{Line, Task, command, parse, parse_status, settle};
 use pen_list::read_pens;
@@ -24,6 +25,8 @@ pub enum Asked {
     Messages,
     // Only what a command line has written and the files that it has read, or why it is refused.
     Files,
+    // Only the colours and the widths of pens on a command line, or why it is refused.
+    Carousel,
     // The pens of a list.
     Pens,
 }
@@ -68,9 +71,8 @@ pub fn has_answers_for_each(
 
 fn answer_of(alloc: Global, asked: Asked, line: &str) -> Result<String, Fail> {
     match asked {
-        Asked::Line | Asked::Reading | Asked::Page | Asked::Size | Asked::Messages | Asked::Files =>
-            { told(alloc, asked, line) }
         Asked::Pens => Ok(list_told(alloc, line)?),
+        _ => told(alloc, asked, line),
     }
 }
 
@@ -101,9 +103,10 @@ fn matches_told(
 }
 
 fn line_told(alloc: Global, asked: Asked, line: &Line<'_, '_>) -> Result<String, AllocError> {
-    let (reading, file) = (line.reading, line.files.first().copied());
+    let file = line.files.first().copied();
     match (asked, &line.task) {
-        (Asked::Reading, _) => format!(in alloc; "{reading:?}"),
+        (Asked::Reading, _) => reading_told(alloc, line),
+        (Asked::Carousel, _) => carousel_told(alloc, &line.carousel),
         (Asked::Page, _) => choice_told(alloc, line),
         (Asked::Size, _) => {
             let (page, choice) = (page_of(&line.task), choice_told(alloc, line)?);
@@ -123,12 +126,57 @@ fn line_told(alloc: Global, asked: Asked, line: &Line<'_, '_>) -> Result<String,
     }
 }
 
-// The page that is drawn on, the margin if it is fitted, and whether more is to be said.
+// The profile and the sheet, and whether each sheet is by itself.
+fn reading_told(alloc: Global, line: &Line<'_, '_>) -> Result<String, AllocError> {
+    let (reading, each) = (line.reading, line.each_sheet);
+    if each {
+        return format!(in alloc; "{reading:?} each");
+    }
+    format!(in alloc; "{reading:?}")
+}
+
+// Each pen whose colour or width is not that of the pen before it, with its own.
+fn carousel_told(alloc: Global, carousel: &Carousel) -> Result<String, AllocError> {
+    let mut text = String::new(alloc);
+    text.push_str("pens")?;
+    let mut was = format!(in alloc; " as set")?;
+    let mut more = "";
+    for pen in 0..=255u8 {
+        let is = pen_told(alloc, carousel, pen)?;
+        if is.as_str() != was.as_str() {
+            write!(text, "{more} {pen}{is}")?;
+            more = ",";
+        }
+        was = is;
+    }
+    Ok(text)
+}
+
+// The colour and the width of a pen.
+fn pen_told(alloc: Global, carousel: &Carousel, pen: u8) -> Result<String, AllocError> {
+    let mut text = String::new(alloc);
+    if let Some(colour) = carousel.colour_of(pen) {
+        let (red, green, blue) = (colour.red, colour.green, colour.blue);
+        write!(text, " rgb {red} {green} {blue}")?;
+    }
+    if let Some(width) = carousel.width_of(pen) {
+        write!(text, " wide {width}")?;
+    }
+    if text.is_empty() {
+        text.push_str(" as set")?;
+    }
+    Ok(text)
+}
+
+// The page that is drawn on, the margin if it is fitted, the pixels if they are chosen, and whether more is to be said.
 fn choice_told(alloc: Global, line: &Line<'_, '_>) -> Result<String, AllocError> {
     let mut text = String::new(alloc);
     text.push_str(if line.choice.asked { "asked" } else { "given" })?;
     if let Some(margin) = line.choice.margin {
         write!(text, " fitted {margin}")?;
+    }
+    if let Some(pixels) = line.choice.pixels {
+        write!(text, " in {pixels}")?;
     }
     if line.verbose {
         text.push_str(" verbose")?;

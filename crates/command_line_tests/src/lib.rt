@@ -2,6 +2,8 @@
 #![tactic(auto)]
 
 #[cfg(test)]
+mod carousels;
+#[cfg(test)]
 mod cases;
 #[cfg(test)]
 mod choices;
@@ -19,5 +21,7 @@ mod papers;
 mod pens;
 #[cfg(test)]
 mod readings;
+#[cfg(test)]
+mod sizes;
 #[cfg(test)]
 mod smoothing;

@@ -247,12 +247,13 @@ fn want_of_memory(rt: HostRuntime) {
 }
 
 // The fault of the matches of another command, whose subcommand has this name.
-fn fault_of_another(alloc: Global, name: &str) -> Result<Option<LineFault>, Fail> {
+fn fault_of_another(alloc: Global, name: &str) -> Result<String, Fail> {
     let below = clap::Command::new(alloc, name);
     let other = clap::Command::new(alloc, "other").subcommand(below)?;
     let words = ["other", name];
     let matches = other.try_get_matches_from(&words)?;
-    Ok(settle(&matches).err())
+    let fault = settle(&matches).err();
+    Ok(format!(in alloc; "{fault:?}")?)
 }
 
 #[test]
@@ -262,7 +263,7 @@ fn refuses_other_matches(rt: HostRuntime) -> Result<(), Fail> {
     assert_eq!(rt; settle(&matches).err(), Some(LineFault::Words));
     for name in ["draw", "pbm", "report", "clip"] {
         let fault = fault_of_another(rt.alloc(), name)?;
-        assert_eq!(rt; fault, Some(LineFault::Words), "{name}");
+        assert_eq!(rt; fault.as_str(), "Some(Words)", "{name}");
     }
     Ok(())
 }
@@ -289,6 +290,22 @@ fn prints_faults(rt: HostRuntime) -> Result<(), Fail> {
     );
     let text = format!(in rt.alloc(); "{}", LineFault::Smooth)?;
     assert_eq!(rt; text.as_str(), "--dots times --smooth is over 1200");
+    let texts = format!(in rt.alloc();
+        "{}, {}, {}, {}, {}, {}, {}",
+        LineFault::Colours("2=bleu"),
+        LineFault::Widths("3=fat"),
+        LineFault::BadSheet,
+        LineFault::NoPicture,
+        LineFault::NoFolder,
+        LineFault::Pixels,
+        LineFault::PrinterPixels
+    )?;
+    assert_eq!(rt;
+        texts.as_str(),
+        "bad colours: 2=bleu, bad widths: 3=fat, bad sheet: use a number from 0 to 4194304, or each, \
+         --sheet each needs a picture, --sheet each needs --output FOLDER, --size may not be given with --dots, \
+         --size may not be given with the form pcl"
+    );
     let text = format!(in rt.alloc(); "{}", LineFault::Paper)?;
     assert_eq!(rt;
         text.as_str(),

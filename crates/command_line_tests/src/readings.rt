@@ -33,6 +33,76 @@ fn profiles_and_sheets(rt: HostRuntime) -> Result<(), Fail> {
     has_answers_for_each(&rt, rt.alloc(), Asked::Reading, &COMMANDS, cases, 9)
 }
 
+const EACH_SHEET: &str = "\
+Full { sheet: 0 } each
+plotraster|@|--sheet=each|--profile=full|-o|out
+plotraster|@|--profile=full|a.plt|--output|out/|--sheet|each|b.plt
+
+NoFolder
+plotraster|@|--sheet=each|--profile=full
+plotraster|@|--sheet=each|--profile=full|a.plt|b.plt
+plotraster|@|--sheet=each|--profile=full|--margin=1
+
+Sheet
+plotraster|@|--sheet=each|-o|out
+plotraster|@|--sheet=each|--profile=core
+
+Profile
+plotraster|@|--sheet=each|--profile=none
+
+Margin
+plotraster|@|--sheet=each|--profile=full|-o|out|--margin=1
+";
+
+#[test]
+fn each_sheet(rt: HostRuntime) -> Result<(), Fail> {
+    let names = ["png", "marks", "pbm", "ppm", "pcl"];
+    has_answers_for_each(&rt, rt.alloc(), Asked::Reading, &names, EACH_SHEET, 9)
+}
+
+const NO_PICTURE: &str = "\
+NoPicture
+plotraster|report|--sheet=each|--profile=full
+plotraster|report|--sheet=each|--profile=full|-o|out|--margin=1
+
+Sheet
+plotraster|report|--sheet=each|-o|out
+
+Full { sheet: 0 } each
+plotraster|draw|--sheet=each|-o|out
+
+Full { sheet: 0 }
+plotraster|report|--sheet=0|--profile=full
+plotraster|draw|--sheet=0
+";
+
+#[test]
+fn each_sheet_of_a_picture(rt: HostRuntime) -> Result<(), Fail> {
+    has_answers(&rt, rt.alloc(), Asked::Reading, "", NO_PICTURE, 6)
+}
+
+const NO_SHEETS: &str = "\
+BadSheet
+plotraster|@|--sheet=4194305|--profile=full
+plotraster|@|--sheet=-1|--profile=full
+plotraster|@|--sheet=|--profile=full
+plotraster|@|--sheet=all|--profile=full
+plotraster|@|--sheet=4294967297|--profile=full
+plotraster|@|--sheet=18446744073709551617|--profile=full
+plotraster|@|--sheet=1.0|--profile=full
+plotraster|@|--sheet= 1|--profile=full
+plotraster|@|--sheet=Each|--profile=full|-o|out
+plotraster|@|--sheet=each |--profile=full|-o|out
+plotraster|@|--sheet=+each|--profile=full
+plotraster|@|--sheet=x
+plotraster|@|--sheet=x|--profile=none
+";
+
+#[test]
+fn no_sheets(rt: HostRuntime) -> Result<(), Fail> {
+    has_answers_for_each(&rt, rt.alloc(), Asked::Reading, &COMMANDS, NO_SHEETS, 13)
+}
+
 const SHEETS_WITHOUT_FULL: &str = "\
 Sheet
 plotraster|@|--sheet|2
@@ -90,13 +160,6 @@ fn the_list_of_pens_comes_first(rt: HostRuntime) -> Result<(), Fail> {
 }
 
 const REFUSED_BY_THE_PARSE: &str = "\
-ValueValidation 2
-plotraster|@|--sheet=4194305|--profile=full
-plotraster|@|--sheet=-1|--profile=full
-plotraster|@|--sheet=|--profile=full
-plotraster|@|--sheet=all|--profile=full
-plotraster|@|--sheet=4294967297|--profile=full
-
 ArgumentConflict 2
 plotraster|@|--sheet=1|--sheet=1
 plotraster|@|--sheet=1|--sheet=2
@@ -114,5 +177,5 @@ plotraster|@|--profile=full|--sheets=1
 #[test]
 fn refused_by_the_parse(rt: HostRuntime) -> Result<(), Fail> {
     let cases = REFUSED_BY_THE_PARSE;
-    has_answers_for_each(&rt, rt.alloc(), Asked::Reading, &COMMANDS, cases, 12)
+    has_answers_for_each(&rt, rt.alloc(), Asked::Reading, &COMMANDS, cases, 7)
 }

@@ -8,7 +8,7 @@ use Rattle.clap.specs.declared.parser.matches.ArgMatches.{ArgMatches}
 use Rattle.command_line.specs.declared.fault.LineFault.{LineFault}
 use Rattle.command_line.specs.declared.subcommands.Kind.{Kind}
 use Rattle.command_line.specs.Lines.{asks_bad_list, has_bad_list, kind_named, line_fault, values_fault}
-use Rattle.command_line.proofs.Given.{was_some}
+use Rattle.command_line.proofs.Given.{its_fault, not_known, was_some}
 use Rattle.command_line.proofs.ReadingLaw.{name_there, values_there}
 use Rattle.command_line.proofs.line.settle.Goals as goal
 
@@ -37,15 +37,6 @@ known_list m name rows kind is known = rw (is, known) refl
 known_fault : (m : ArgMatches) (name : Text) (rows : List Row) (kind : Kind) → subcommand_rows_of m ≡ Some (name, rows) → kind_named name ≡ Some kind
     → line_fault m ≡ values_fault kind rows
 known_fault m name rows kind is known = rw (is, known) refl
-
-not_known : {X : Type 0} (o : Option X) → false ≡ is_some o → o ≡ None
-not_known None is = refl
-not_known (Some x) is = absurd (cc)
-
--- the fault of an option that has nothing
-its_fault : {X E : Type 0} (o : Option X) (w e : E) → ok_or o w ≡ Err e → e ≡ w
-its_fault None w e is = cc
-its_fault (Some x) w e is = absurd (cc)
 
 words_are_no_pens : {X : Type 0} (r : Result X LineFault) (e : LineFault) (bad : Bool) → IsErrAnd r (λ f. f ≡ e) → e ≡ LineFault.Words → bad ≡ false
     → (r ≡ Err LineFault.Pens) ↔ (bad ≡ true)

@@ -6,7 +6,7 @@ use Rattle.clap.specs.Words.{Row, Text, found_of, rows_of}
 use Rattle.clap.proofs.WalkLemmas.{first_value-rows}
 use Rattle.command_line.proofs.Given.{is_there}
 use Rattle.command_line.specs.Lines.{number_in}
-use Rattle.command_line.proofs.line.number_if_given.Goals as goal
+use Rattle.command_line.proofs.values.number_if_given.Goals as goal
 
 by_text : {X Y Z : Type 0} (f : X → Y) (g : Y → Z) (o : Option X) → is_some (option_map g (option_map f o)) ≡ is_some o
 by_text f g None = refl

@@ -2,7 +2,7 @@ use Rattle.std.proofs.Common.{◌∙◌, ap, is_some, sym}
 use Rattle.clap.specs.Words.{found_of}
 use Rattle.clap.proofs.WalkLemmas.{first_value-rows}
 use Rattle.command_line.proofs.Given.{is_there}
-use Rattle.command_line.proofs.line.is_given.Goals as goal
+use Rattle.command_line.proofs.values.is_given.Goals as goal
 
 pub returns : goal.returns
 returns c =

@@ -7,7 +7,7 @@ use Rattle.command_line.specs.declared.fault.LineFault.TheVariants as LineFault
 use Rattle.clap.specs.Words.{ReadsOne, found_of, one_of, one_text, rows_of}
 use Rattle.clap.proofs.CallerReads.{signed_reads}
 use Rattle.clap.proofs.WalkLemmas.{one_text-rows}
-use Rattle.command_line.proofs.line.number_of.Goals as goal
+use Rattle.command_line.proofs.values.number_of.Goals as goal
 
 abbrev value_of : List ℕ → ℕ
 value_of t = digits_value 10 (without_leading_plus t)

@@ -1,0 +1,94 @@
+use Rattle.std.proofs.Common.{◌≡◌, ◌∙◌, ℕ, List, Option, Some, None, true, false, is_some, refl, sym, ap, codes}
+use Rattle.std.specs.Prelude.{Bool, not}
+use Rattle.std.specs.Str.{bytes_eq}
+use Rattle.std.proofs.lemmas.Slice.Eq.{bytes_eq-Decides}
+use Rattle.clap.specs.Words.{Row, Text, found_of, rows_of}
+use Rattle.clap.proofs.WalkLemmas.{first_value-rows}
+use Rattle.command_line.proofs.Given.{is_there, its_fault, not_known, passed, passed_fault, was_some}
+use Rattle.command_line.specs.declared.fault.LineFault.TheVariants.{BadSheet, Profile, Sheet}
+use Rattle.command_line.specs.Lines.{is_given, profile_text, reading_fault, sheet_in, sheet_text}
+use Rattle.command_line.proofs.sheets.reading_of.Goals as goal
+
+named : (rows : List Row) (text name : Text) → profile_text rows ≡ Some text → bytes_eq text name ≡ true → profile_text rows ≡ Some name
+named rows text name is same = let here : text ≡ name = (bytes_eq-Decides text name).0 same in is ∙ ap Some here
+
+bad_sheet : (rows : List Row) → sheet_in rows ≡ None → reading_fault rows ≡ Some BadSheet
+bad_sheet rows none = rw none refl
+
+-- where the sheet is good
+module _ (rows : List Row) (sheet : ℕ) (asked : sheet_in rows ≡ Some sheet) where
+  full_is_good : profile_text rows ≡ Some (codes "full") → reading_fault rows ≡ None
+  full_is_good is = rw (asked, is) refl
+
+  other_is_bad : (text : Text) → profile_text rows ≡ Some text → bytes_eq text (codes "full") ≡ false → bytes_eq text (codes "core") ≡ false
+      → reading_fault rows ≡ Some Profile
+  other_is_bad text is not_full not_core = rw (asked, is, not_full, not_core) refl
+
+  core_has_no_sheet : profile_text rows ≡ Some (codes "core") → is_given rows (codes "sheet") ≡ true → reading_fault rows ≡ Some Sheet
+  core_has_no_sheet is given = rw (asked, is, given) refl
+
+  core_is_good : profile_text rows ≡ Some (codes "core") → is_given rows (codes "sheet") ≡ false → reading_fault rows ≡ None
+  core_is_good is none = rw (asked, is, none) refl
+
+not_given : {X : Type 0} (o : Option X) → is_some o ≡ false → o ≡ None
+not_given None is = refl
+not_given (Some x) is = absurd (cc)
+
+not_flipped : (b r : Bool) → r ≡ not b → b ≡ not r
+not_flipped true r is = let flipped : r ≡ false = is in rw flipped refl
+not_flipped false r is = let flipped : r ≡ true = is in rw flipped refl
+
+pub returns-in_err-sheet-clause-refused : goal.returns-in_err-sheet-clause-refused
+returns-in_err-sheet-clause-refused c = λ has.
+    let F = found_of c.args.options.now in
+    passed_fault _ _ c.from_residual.ensures.1
+    ∙ ap Some (its_fault c.sheet_of.result BadSheet _ (sym c.ok_or.ensures.value ∙ c.in_err-sheet.was))
+    ∙ sym (bad_sheet (rows_of F) (sym c.sheet_of.ensures ∙ not_known _ c.in_err-sheet.ensures.variant))
+
+pub returns-in_err-profile-clause-refused : goal.returns-in_err-profile-clause-refused
+returns-in_err-profile-clause-refused c = λ has.
+    let F = found_of c.args.options.now in
+    let same = ap is_some (c.get_str.ensures ∙ first_value-rows F (codes "profile")) in
+    let none : false ≡ true = c.in_err-profile.ensures.variant ∙ sym (is_there _ c.get_str.result) ∙ same ∙ has in
+    absurd (cc)
+
+pub returns-then-eq-clause-reading : goal.returns-then-eq-clause-reading
+returns-then-eq-clause-reading c =
+    let F = found_of c.args.options.now in
+    let is = passed _ c.get_str.result _ _ _ (c.get_str.ensures ∙ first_value-rows F (codes "profile")) (sym c.ok_or-2.ensures.value ∙ c.in_ok-profile.was) in
+    let asked = sym c.sheet_of.ensures ∙ was_some c.sheet_of.result _ _ (sym c.ok_or.ensures.value ∙ c.in_ok-sheet.was) in
+    (named (rows_of F) _ (codes "full") is (sym c.if-eq.ensures), asked)
+
+pub returns-then-eq-clause-refused : goal.returns-then-eq-clause-refused
+returns-then-eq-clause-refused c = λ has.
+    let F = found_of c.args.options.now in
+    let is = passed _ c.get_str.result _ _ _ (c.get_str.ensures ∙ first_value-rows F (codes "profile")) (sym c.ok_or-2.ensures.value ∙ c.in_ok-profile.was) in
+    let asked = sym c.sheet_of.ensures ∙ was_some c.sheet_of.result _ _ (sym c.ok_or.ensures.value ∙ c.in_ok-sheet.was) in
+    sym (full_is_good (rows_of F) _ asked (named (rows_of F) _ (codes "full") is (sym c.if-eq.ensures)))
+
+pub returns-then-ne-clause-refused : goal.returns-then-ne-clause-refused
+returns-then-ne-clause-refused c = λ has.
+    let F = found_of c.args.options.now in
+    let is = passed _ c.get_str.result _ _ _ (c.get_str.ensures ∙ first_value-rows F (codes "profile")) (sym c.ok_or-2.ensures.value ∙ c.in_ok-profile.was) in
+    let asked = sym c.sheet_of.ensures ∙ was_some c.sheet_of.result _ _ (sym c.ok_or.ensures.value ∙ c.in_ok-sheet.was) in
+    sym (other_is_bad (rows_of F) _ asked _ is (sym c.if-eq.ensures) (not_flipped _ _ c.if-ne.ensures))
+
+pub returns-then-is_given-clause-refused : goal.returns-then-is_given-clause-refused
+returns-then-is_given-clause-refused c = λ has.
+    let F = found_of c.args.options.now in
+    let is = passed _ c.get_str.result _ _ _ (c.get_str.ensures ∙ first_value-rows F (codes "profile")) (sym c.ok_or-2.ensures.value ∙ c.in_ok-profile.was) in
+    let asked = sym c.sheet_of.ensures ∙ was_some c.sheet_of.result _ _ (sym c.ok_or.ensures.value ∙ c.in_ok-sheet.was) in
+    sym (core_has_no_sheet (rows_of F) _ asked (named (rows_of F) _ (codes "core") is (not_flipped _ _ c.if-ne.ensures)) (sym c.if-is_given.ensures))
+
+pub returns-clause-reading : goal.returns-clause-reading
+returns-clause-reading c =
+    let F = found_of c.args.options.now in
+    let is = passed _ c.get_str.result _ _ _ (c.get_str.ensures ∙ first_value-rows F (codes "profile")) (sym c.ok_or-2.ensures.value ∙ c.in_ok-profile.was) in
+    (named (rows_of F) _ (codes "core") is (not_flipped _ _ c.if-ne.ensures), not_given (sheet_text (rows_of F)) (sym c.if-is_given.ensures))
+
+pub returns-clause-refused : goal.returns-clause-refused
+returns-clause-refused c = λ has.
+    let F = found_of c.args.options.now in
+    let is = passed _ c.get_str.result _ _ _ (c.get_str.ensures ∙ first_value-rows F (codes "profile")) (sym c.ok_or-2.ensures.value ∙ c.in_ok-profile.was) in
+    let asked = sym c.sheet_of.ensures ∙ was_some c.sheet_of.result _ _ (sym c.ok_or.ensures.value ∙ c.in_ok-sheet.was) in
+    sym (core_is_good (rows_of F) _ asked (named (rows_of F) _ (codes "core") is (not_flipped _ _ c.if-ne.ensures)) (sym c.if-is_given.ensures))
