@@ -104,8 +104,11 @@ fn is_each(text: &str) -> bool
 fn sheet_number(text: &str) -> Option<u32>
     ensures { result ≡ sheet_number text.now }
 {
-    match text.parse::<i64>() {
-        Ok(sheet) if sheet >= 0 && sheet <= GREATEST_SHEET => Some(sheet as u32),
-        Ok(_) | Err(_) => None,
+    let Ok(sheet) = text.parse::<i64>() else {
+        return None;
+    };
+    if sheet < 0 || sheet > GREATEST_SHEET {
+        return None;
     }
+    Some(sheet as u32)
 }

@@ -1,0 +1,17 @@
+use Rattle.std.proofs.Common.{◌∙◌, ap, sym, false, codes, ℕ, Option, Some}
+use Rattle.std.specs.Option.{option_map_or}
+use Rattle.std.specs.Prelude.{option_map}
+use Rattle.clap.specs.Words.{Text, found_of}
+use Rattle.clap.proofs.WalkLemmas.{first_value-rows}
+use Rattle.command_line.specs.Sheets.{sheet_named}
+use Rattle.command_line.proofs.sheets.sheet_of.Goals as goal
+
+pub returns-in-Some : goal.returns-in-Some
+returns-in-Some c =
+    let text = sym (c.get_str.ensures ∙ first_value-rows (found_of c.args.options.now) (codes "sheet")) ∙ ap (option_map (λ s. s.now)) c.in-Some.is in
+    c.sheet_named.ensures ∙ sym (ap (λ (found : Option Text). option_map_or sheet_named found (Some 1)) text)
+
+pub returns-in-None : goal.returns-in-None
+returns-in-None c =
+    let text = sym (c.get_str.ensures ∙ first_value-rows (found_of c.args.options.now) (codes "sheet")) ∙ ap (option_map (λ s. s.now)) c.in-None.is in
+    sym (ap (λ (found : Option Text). option_map_or sheet_named found (Some 1)) text)
