@@ -36,7 +36,7 @@ both rows coloured (Err e) colours no_widths widths kept = tt
 
 pub returns-clause-carousel : goal.returns-clause-carousel
 returns-clause-carousel c =
-    both (rows_of (found_of c.args.options.now)) _ c.widened.result
-    (λ pen small. c.in_ok-coloured.ensures.colours pen small ∙ ap (λ (k : Carousel). option_or _ (colour_of k pen)) c.empty.ensures)
+    both (rows_of (found_of c.args.options.now)) c.in_ok-coloured.coloured c.widened.result
+    (λ pen small. c.in_ok-coloured.ensures.colours pen small ∙ ap (λ (k : Carousel). option_or (colour_said (rows_of (found_of c.args.options.now)) pen) (colour_of k pen)) c.empty.ensures)
     (λ pen small. c.in_ok-coloured.ensures.widths pen small ∙ ap (λ (k : Carousel). width_of k pen) c.empty.ensures)
     c.widened.ensures.widths c.widened.ensures.colours

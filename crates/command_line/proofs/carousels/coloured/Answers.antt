@@ -4,6 +4,7 @@ use Rattle.std.specs.Prelude.{option_map}
 use Rattle.clap.specs.Words.{Row, Text, found_of, rows_of}
 use Rattle.clap.proofs.WalkLemmas.{first_value-rows}
 use Rattle.plot_page.specs.declared.colour.Colour.{Colour}
+use Rattle.carousel.specs.Carousels.{colour_of}
 use Rattle.pen_list.specs.Assignments.{first_bad, given}
 use Rattle.pen_list.specs.Colours.{colour_written}
 use Rattle.command_line.specs.Faults.{BadColours, Refusal}
@@ -30,7 +31,7 @@ returns-in_default-clause-refused c = ap bad_in (c.in_default.ensures ∙ first_
 pub returns-in-Ok-clause-colours : goal.returns-in-Ok-clause-colours
 returns-in-Ok-clause-colours c = λ pen small.
     c.in-Ok.ensures.colours pen small
-    ∙ ap (λ (o : Option Text). option_or (from_list o pen) _) (c.in-Some.ensures ∙ first_value-rows (found_of c.args.options.now) (codes "colours"))
+    ∙ ap (λ (o : Option Text). option_or (from_list o pen) (colour_of c.args.carousel pen)) (c.in-Some.ensures ∙ first_value-rows (found_of c.args.options.now) (codes "colours"))
 
 pub returns-in-Ok-clause-refused : goal.returns-in-Ok-clause-refused
 returns-in-Ok-clause-refused c =

@@ -3,6 +3,7 @@ use Rattle.std.specs.Option.{option_and_then, option_or}
 use Rattle.std.specs.Prelude.{option_map}
 use Rattle.clap.specs.Words.{Row, Text, found_of, rows_of}
 use Rattle.clap.proofs.WalkLemmas.{first_value-rows}
+use Rattle.carousel.specs.Carousels.{width_of}
 use Rattle.pen_list.specs.Assignments.{first_bad, given}
 use Rattle.pen_list.specs.Widths.{width_written}
 use Rattle.command_line.specs.Faults.{BadWidths, Refusal}
@@ -29,7 +30,7 @@ returns-in_default-clause-refused c = ap bad_in (c.in_default.ensures ∙ first_
 pub returns-in-Ok-clause-widths : goal.returns-in-Ok-clause-widths
 returns-in-Ok-clause-widths c = λ pen small.
     c.in-Ok.ensures.widths pen small
-    ∙ ap (λ (o : Option Text). option_or (from_list o pen) _) (c.in-Some.ensures ∙ first_value-rows (found_of c.args.options.now) (codes "widths"))
+    ∙ ap (λ (o : Option Text). option_or (from_list o pen) (width_of c.args.carousel pen)) (c.in-Some.ensures ∙ first_value-rows (found_of c.args.options.now) (codes "widths"))
 
 pub returns-in-Ok-clause-refused : goal.returns-in-Ok-clause-refused
 returns-in-Ok-clause-refused c =
