@@ -15,8 +15,8 @@ pub fn file_name(
     alloc: Global,
     folder: &str,
     plot: &str,
-    sheet: usize,
-    sheets: usize,
+    sheet: u32,
+    sheets: u32,
     extension: &str,
 ) -> Result<Option<String>, AllocError>
     ensures { IfOk result (λ path. option_map string_bytes path
@@ -33,7 +33,7 @@ pub fn file_name(
 }
 
 // What follows the name: nothing if there is one sheet or none.
-fn sheet_suffix(alloc: Global, sheet: usize, sheets: usize) -> Result<String, AllocError>
+fn sheet_suffix(alloc: Global, sheet: u32, sheets: u32) -> Result<String, AllocError>
     ensures { IfOk result (λ suffix. string_bytes suffix ≡ sheet_suffix sheet sheets) }
 {
     if sheets < 2 {

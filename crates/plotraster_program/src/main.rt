@@ -5,9 +5,10 @@ mod messages;
 mod output;
 mod progress;
 mod several;
+mod sheets;
 
 use crate::messages::{About, refuse, refuse_open, refuse_words};
-use crate::output::deliver;
+use crate::output::{claims_of, deliver};
 use crate::several::{deliver_each, has_folder};
 use clap::ArgMatches;
 use plotraster::{Fault, LineFault, command, parse, parse_status, settle};
@@ -28,10 +29,10 @@ fn words_of(rt: &HostRuntime) -> Result<Vec<String>, u8> {
     match std::env::args(rt) {
         Ok(words) => words
             .collect(rt.alloc())
-            .map_err(|_| refuse(rt, About::Run, &Fault::Memory)),
+            .map_err(|_| refuse(rt, About::RUN, &Fault::Memory)),
         Err(error) if error.kind() == ErrorKind::OutOfMemory => Err(refuse(
             rt,
-            About::Run,
+            About::RUN,
             &Fault::Memory,
         )),
         Err(_) => Err(refuse_words(rt, LineFault::Words)),
@@ -41,7 +42,7 @@ fn words_of(rt: &HostRuntime) -> Result<Vec<String>, u8> {
 // The exit status of the whole run.
 fn run(rt: &HostRuntime, words: &[String]) -> u8 {
     let Ok(command) = command(rt.alloc()) else {
-        return refuse(rt, About::Run, &Fault::Memory);
+        return refuse(rt, About::RUN, &Fault::Memory);
     };
     match parse(command, words) {
         Ok(matches) => work(rt, &matches),
@@ -52,11 +53,11 @@ fn run(rt: &HostRuntime, words: &[String]) -> u8 {
 // Prints help, the version, or what is wrong with the words.
 fn tell(rt: &HostRuntime, error: &clap::Error) -> u8 {
     if error.kind() == clap::error::ErrorKind::OutOfMemory {
-        return refuse(rt, About::Run, &Fault::Memory);
+        return refuse(rt, About::RUN, &Fault::Memory);
     }
     let printed = error.print(rt);
     match parse_status(error) {
-        0 if printed.is_err() => refuse(rt, About::Run, &Fault::Unfinished),
+        0 if printed.is_err() => refuse(rt, About::RUN, &Fault::Unfinished),
         status => status,
     }
 }
@@ -66,12 +67,15 @@ fn work(rt: &HostRuntime, matches: &ArgMatches<'_>) -> u8 {
         Ok(line) => line,
         Err(fault) => return refuse_words(rt, fault),
     };
+    let Ok(mut claims) = claims_of(rt, line.files) else {
+        return refuse(rt, About::RUN, &Fault::Memory);
+    };
     match line.files {
-        [] => deliver(rt, &line, rt.stdin()),
-        [plot] if !has_folder(rt, &line) => match File::open(rt, plot) {
-            Ok(file) => deliver(rt, &line, file),
+        [] if !line.each_sheet => deliver(rt, &line, &claims, rt.stdin()),
+        [plot] if !line.each_sheet && !has_folder(rt, &line) => match File::open(rt, plot) {
+            Ok(file) => deliver(rt, &line, &claims, file),
             Err(error) => refuse_open(rt, &line, plot, &error),
         },
-        _ => deliver_each(rt, &line),
+        _ => deliver_each(rt, &line, &mut claims),
     }
 }

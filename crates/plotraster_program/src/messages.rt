@@ -1,5 +1,5 @@
 //! Messages on standard error, and the exit status of a run that ends with one.
-use plotraster::{Fault, Line, LineFault, Outcome, Placement, Task, status};
+use plotraster::{Fault, Line, LineFault, Outcome, Picture, Placement, Task, status};
 use std::fmt::{Display, Formatter, Result, Write};
 use std::io::{Error, ErrorKind};
 
@@ -9,18 +9,28 @@ const USAGE: u8 = 2;
 // The exit status if a file cannot be opened or written.
 const DEVICE: u8 = 3;
 
-// What a message is about: the run, or one plot of several, which it names.
+// What a message is about: one plot of several, which it names, and one sheet of several, or the run.
 #[derive(Clone, Copy)]
-pub(crate) enum About<'a> {
-    Run,
-    Plot(&'a str),
+pub(crate) struct About<'a> {
+    pub(crate) plot: Option<&'a str>,
+    pub(crate) sheet: Option<u32>,
+}
+
+impl About<'_> {
+    pub(crate) const RUN: About<'static> = About {
+        plot: None,
+        sheet: None,
+    };
 }
 
 impl Display for About<'_> {
     fn fmt<W: Write>(&self, f: &mut Formatter<W>) -> Result {
-        match self {
-            About::Run => Ok(()),
-            About::Plot(file) => write!(f, "{file}: "),
+        if let Some(plot) = self.plot {
+            write!(f, "{plot}: ")?;
+        }
+        match self.sheet {
+            Some(sheet) => write!(f, "sheet {sheet}: "),
+            None => Ok(()),
         }
     }
 }
@@ -62,7 +72,7 @@ impl Display for Reason<'_> {
 pub(crate) fn refuse_open(rt: &HostRuntime, line: &Line<'_, '_>, path: &str, error: &Error) -> u8 {
     let missing = "no such file or folder";
     let reason = Reason { error, missing };
-    if line.interactive || matches!(&line.task, Task::Png(_)) {
+    if line.interactive || matches!(&line.task, Task::Picture(Picture::Png(_))) {
         let _ = eprintln!(rt; "plotraster: cannot open {path}: {reason}");
         return DEVICE;
     }
@@ -90,25 +100,34 @@ pub(crate) fn cannot_write<R: Display>(
     DEVICE
 }
 
-// Says why the page is not the one that was asked for, if that is so; whether the plot has more sheets than the one that was
-// drawn; and what was drawn, if more is to be said.
+// Says what a user should know of a picture or a report that is written, and what was drawn, if more is to be said. If each
+// sheet has a picture of its own, there is nothing to say of their number.
 pub(crate) fn tell_outcome(
     rt: &HostRuntime,
     line: &Line<'_, '_>,
     about: About<'_>,
+    is_sheet: bool,
     outcome: &Outcome,
 ) {
-    if line.remarks && is_blank(outcome) {
-        let _ = eprintln!(rt; "plotraster: {about}nothing is drawn on the page");
-    } else if let Some(reason) = reason_of(outcome.placement) {
-        let _ = eprintln!(rt; "plotraster: {about}the page is {reason}");
-    }
-    if has_more_sheets(line, outcome) {
+    tell_page(rt, line, about, outcome);
+    if !is_sheet && has_more_sheets(line, outcome) {
         let sheets = outcome.sheets;
         let _ = eprintln!(rt; "plotraster: {about}the plot has {sheets} sheets; this is the first");
     }
     if line.verbose {
         tell_drawn(rt, about, outcome);
+    }
+}
+
+// Says that nothing is drawn, or why the page is not the one that was asked for. draw says nothing of an empty page if it is
+// to be quiet.
+fn tell_page(rt: &HostRuntime, line: &Line<'_, '_>, about: About<'_>, outcome: &Outcome) {
+    if line.interactive && is_blank(outcome) {
+        if line.remarks {
+            let _ = eprintln!(rt; "plotraster: {about}nothing is drawn on the page");
+        }
+    } else if let Some(reason) = reason_of(outcome.placement) {
+        let _ = eprintln!(rt; "plotraster: {about}the page is {reason}");
     }
 }
 

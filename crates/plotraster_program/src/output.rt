@@ -1,32 +1,54 @@
 //! Where the output of a plot goes: standard output, a device, or a new file that gets its name when it is whole.
 use crate::messages::{About, cannot_write, refuse, refuse_terminal, refuse_write, tell_outcome};
 use crate::progress::Progress;
-use plotraster::{Carousel, Fault, Line, Outcome, OverRead, OverWrite, exit_status, run_task};
+use plotraster::{
+    Claims, Drawing, Fault, FileId, Line, Outcome, OverRead, OverWrite, Part, Picture, exit_status,
+    part_after, run_task, write_sheet,
+};
+use std::alloc::AllocError;
 use std::fs::{File, OpenOptions, metadata, remove_file, rename};
 use std::io::{IsTerminal, Read, Write};
 use std::os::unix::fs::MetadataExt;
 
+// What is written: what the line asks of a plot that is to be read, or the picture of a sheet of one that is drawn.
+#[derive(Drop)]
+pub(crate) enum Content<'a, R> {
+    Plot(R),
+    Sheet {
+        drawing: &'a Drawing,
+        number: u32,
+        picture: &'a Picture,
+    },
+}
+
 // Does what the line asks of the plot that the reader gives, and writes it where the line says.
-pub(crate) fn deliver<R: Read + Drop>(rt: &HostRuntime, line: &Line<'_, '_>, plot: R) -> u8 {
+pub(crate) fn deliver<R: Read + Drop>(
+    rt: &HostRuntime,
+    line: &Line<'_, '_>,
+    plots: &Claims,
+    plot: R,
+) -> u8 {
+    let content = Content::Plot(plot);
     match line.output {
         None if line.interactive && rt.stdout().is_terminal() => refuse_terminal(rt),
-        None => exit_status(&perform(rt, line, About::Run, plot, rt.stdout())),
-        Some(path) => deliver_to(rt, line, About::Run, plot, path),
+        None => exit_status(&perform(rt, line, About::RUN, content, rt.stdout())),
+        Some(path) => deliver_to(rt, line, About::RUN, plots, content, path),
     }
 }
 
-// The same, into the file or the device of this name.
+// Writes the content into the file or the device of this name.
 pub(crate) fn deliver_to<R: Read + Drop>(
     rt: &HostRuntime,
     line: &Line<'_, '_>,
     about: About<'_>,
-    plot: R,
+    plots: &Claims,
+    content: Content<'_, R>,
     path: &str,
 ) -> u8 {
     if is_device(rt, path) {
-        write_device(rt, line, about, plot, path)
+        write_device(rt, line, about, content, path)
     } else {
-        write_file(rt, line, about, plot, path)
+        write_file(rt, line, about, plots, content, path)
     }
 }
 
@@ -35,29 +57,54 @@ fn perform<R: Read + Drop, W: Write + Drop>(
     rt: &HostRuntime,
     line: &Line<'_, '_>,
     about: About<'_>,
-    plot: R,
+    content: Content<'_, R>,
     to: W,
 ) -> Result<Outcome, Fault> {
-    let mut source = OverRead::new(plot);
+    let is_sheet = matches!(&content, Content::Sheet { .. });
     let mut progress = Progress::new(rt, about, line.progress);
-    let (_, outcome) = run_task(
-        rt.alloc(),
-        line.reading,
-        &Carousel::empty(),
-        line.choice,
-        &line.task,
-        &mut source,
-        OverWrite::new(to),
-        &mut progress,
-    );
+    let outcome = put(rt, line, content, to, &mut progress);
     progress.end();
     match &outcome {
-        Ok(outcome) => tell_outcome(rt, line, about, outcome),
+        Ok(outcome) => tell_outcome(rt, line, about, is_sheet, outcome),
         Err(fault) => {
             refuse(rt, about, fault);
         }
     }
     outcome
+}
+
+fn put<R: Read + Drop, W: Write + Drop>(
+    rt: &HostRuntime,
+    line: &Line<'_, '_>,
+    content: Content<'_, R>,
+    to: W,
+    progress: &mut Progress<'_>,
+) -> Result<Outcome, Fault> {
+    let (alloc, choice, sink) = (rt.alloc(), line.choice, OverWrite::new(to));
+    match content {
+        Content::Plot(plot) => {
+            let mut source = OverRead::new(plot);
+            let (_, outcome) = run_task(
+                alloc,
+                line.reading,
+                &line.carousel,
+                choice,
+                &line.task,
+                &mut source,
+                sink,
+                progress,
+            );
+            outcome
+        }
+        Content::Sheet {
+            drawing,
+            number,
+            picture,
+        } => {
+            let (_, outcome) = write_sheet(alloc, drawing, number, choice, picture, sink, progress);
+            outcome
+        }
+    }
 }
 
 // There is something of this name that is no regular file.
@@ -72,11 +119,11 @@ fn write_device<R: Read + Drop>(
     rt: &HostRuntime,
     line: &Line<'_, '_>,
     about: About<'_>,
-    plot: R,
+    content: Content<'_, R>,
     path: &str,
 ) -> u8 {
     match OpenOptions::new().write(true).open(rt, path) {
-        Ok(device) => exit_status(&perform(rt, line, about, plot, device)),
+        Ok(device) => exit_status(&perform(rt, line, about, content, device)),
         Err(error) => refuse_write(rt, about, path, &error),
     }
 }
@@ -86,31 +133,35 @@ fn write_file<R: Read + Drop>(
     rt: &HostRuntime,
     line: &Line<'_, '_>,
     about: About<'_>,
-    plot: R,
+    plots: &Claims,
+    content: Content<'_, R>,
     path: &str,
 ) -> u8 {
     let Ok(part) = format!(in rt.alloc(); "{path}.part") else {
         return refuse(rt, about, &Fault::Memory);
     };
     let part = part.as_str();
-    if is_plot(rt, line, part) {
+    if plots.is_plot(id_of(rt, part)) {
         return refuse_plot(rt, line, about, part);
     }
     match File::create(rt, part) {
         Ok(file) => {
-            let outcome = perform(rt, line, about, plot, file);
+            let outcome = perform(rt, line, about, content, file);
             settle_part(rt, about, part, path, &outcome)
         }
         Err(error) => refuse_write(rt, about, part, &error),
     }
 }
 
-// There is a file of this name, and it is one of the plots.
-fn is_plot(rt: &HostRuntime, line: &Line<'_, '_>, path: &str) -> bool {
-    let Some(found) = id_of(rt, path) else {
-        return false;
-    };
-    line.files.iter().any(|plot| id_of(rt, plot) == Some(found))
+// The plots of a run, and no file that is asked for yet.
+pub(crate) fn claims_of(rt: &HostRuntime, files: &[&str]) -> Result<Claims, AllocError> {
+    let mut claims = Claims::new(rt.alloc());
+    for file in files {
+        if let Some(plot) = id_of(rt, file) {
+            claims.add_plot(plot)?;
+        }
+    }
+    Ok(claims)
 }
 
 // Says that a file is not written, since it is a plot.
@@ -128,16 +179,18 @@ pub(crate) fn refuse_plot(
     cannot_write(rt, about, path, &reason)
 }
 
-// What is one for all names of a file: its device, and its number there.
-pub(crate) fn id_of(rt: &HostRuntime, path: &str) -> Option<(u64, u64)> {
+// The file that has this name, if there is one.
+pub(crate) fn id_of(rt: &HostRuntime, path: &str) -> Option<FileId> {
     match metadata(rt, path) {
-        Ok(found) => Some((found.dev(), found.ino())),
+        Ok(found) => Some(FileId {
+            device: found.dev(),
+            number: found.ino(),
+        }),
         Err(_) => None,
     }
 }
 
-// Gives the file its name if it is whole. After a failed write that says where to go on it stays under its own; what was
-// written of a document is of no use.
+// Gives the file its name, leaves it, or removes it, as the run ended.
 fn settle_part(
     rt: &HostRuntime,
     about: About<'_>,
@@ -145,14 +198,14 @@ fn settle_part(
     path: &str,
     outcome: &Result<Outcome, Fault>,
 ) -> u8 {
-    match outcome {
-        Ok(_) => {
+    match part_after(outcome) {
+        Part::Named => {
             if let Err(error) = rename(rt, part, path) {
                 return refuse_write(rt, about, path, &error);
             }
         }
-        Err(Fault::Write { .. }) => (),
-        Err(_) => {
+        Part::Kept => (),
+        Part::Removed => {
             let _ = remove_file(rt, part);
         }
     }

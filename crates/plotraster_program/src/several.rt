@@ -1,19 +1,25 @@
-//! Plots whose output goes into a folder: a file of its own for each plot.
+//! Plots whose output goes into a folder: a file of its own for each plot, or for each of its sheets.
 use crate::messages::{About, cannot_write, refuse, refuse_open, refuse_words, refuse_write};
-use crate::output::{deliver_to, id_of, refuse_plot};
-use plotraster::{Fault, Form, Line, LineFault, Task};
-use std::alloc::{AllocError, Global};
-use std::collections::BTreeSet;
+use crate::output::{Content, deliver_to, id_of, refuse_plot};
+use crate::sheets::{deliver_sheets, picture_of_sheets};
+use plotraster::{
+    Claim, Claims, Fault, Form, Line, LineFault, Picture, Task, file_name, greater_status,
+};
 use std::fs::{File, metadata};
-use std::path::Path;
 
-// What a run may not write.
-#[derive(Drop)]
-struct Taken<'a> {
-    // The plots, each by its device and its number there.
-    plots: BTreeSet<(u64, u64)>,
-    // The files that are written for other plots, each by its name without the extension.
-    names: BTreeSet<&'a str>,
+// A plot, the folder that its output goes into, and what messages say of it.
+#[derive(Clone, Copy)]
+pub(crate) struct Target<'r> {
+    pub(crate) folder: &'r str,
+    pub(crate) file: &'r str,
+    pub(crate) about: About<'r>,
+}
+
+// The path of a file that was asked for, and the answer.
+#[derive(Clone, Copy)]
+pub(crate) struct Claimed<'r> {
+    pub(crate) path: &'r str,
+    pub(crate) claim: Claim,
 }
 
 // The output goes into a folder, not into a file.
@@ -25,93 +31,120 @@ pub(crate) fn has_folder(rt: &HostRuntime, line: &Line<'_, '_>) -> bool {
 }
 
 // Draws each plot into the folder. The exit status is the greatest of those of the plots.
-pub(crate) fn deliver_each(rt: &HostRuntime, line: &Line<'_, '_>) -> u8 {
+pub(crate) fn deliver_each(rt: &HostRuntime, line: &Line<'_, '_>, claims: &mut Claims) -> u8 {
     let Some(folder) = line.output else {
         return refuse_words(rt, LineFault::Several);
     };
-    if let Some(status) = refuse_folder(rt, folder) {
+    if let Some(status) = refuse_folder(rt, line, folder) {
         return status;
     }
-    let Ok(mut taken) = plots_of(rt, line.files) else {
-        return refuse(rt, About::Run, &Fault::Memory);
-    };
-    let mut greatest = 0;
+    let is_named = line.files.len() > 1;
+    let mut status = 0;
     for &file in line.files {
-        let about = if line.files.len() > 1 {
-            About::Plot(file)
-        } else {
-            About::Run
+        let plot = if is_named { Some(file) } else { None };
+        let about = About { plot, sheet: None };
+        let target = Target {
+            folder,
+            file,
+            about,
         };
-        greatest = greatest.max(deliver_one(rt, line, about, &mut taken, file, folder));
+        status = greater_status(status, deliver_one(rt, line, claims, target));
     }
-    greatest
+    status
 }
 
 // Says why the output cannot go into this folder, if so.
-fn refuse_folder(rt: &HostRuntime, folder: &str) -> Option<u8> {
-    match metadata(rt, folder) {
-        Ok(found) if found.is_dir() => None,
-        Ok(_) => Some(cannot_write(rt, About::Run, folder, &"it is not a folder")),
-        Err(error) => Some(refuse_write(rt, About::Run, folder, &error)),
-    }
+fn refuse_folder(rt: &HostRuntime, line: &Line<'_, '_>, folder: &str) -> Option<u8> {
+    let reason = match metadata(rt, folder) {
+        Ok(found) if !found.is_dir() => "it is not a folder",
+        Ok(_) if line.files.is_empty() => "the plot on standard input has no name",
+        Ok(_) => return None,
+        Err(error) => return Some(refuse_write(rt, About::RUN, folder, &error)),
+    };
+    Some(cannot_write(rt, About::RUN, folder, &reason))
 }
 
-fn plots_of<'a>(rt: &HostRuntime, files: &[&str]) -> Result<Taken<'a>, AllocError> {
-    let mut plots = BTreeSet::new(rt.alloc());
-    for file in files {
-        if let Some(id) = id_of(rt, file) {
-            plots.insert(id).map_err(|_| AllocError)?;
+fn deliver_one(
+    rt: &HostRuntime,
+    line: &Line<'_, '_>,
+    claims: &mut Claims,
+    target: Target<'_>,
+) -> u8 {
+    let plot = match File::open(rt, target.file) {
+        Ok(plot) => plot,
+        Err(error) => return refuse_open(rt, line, target.file, &error),
+    };
+    let path = match path_of(rt, line, target, 1, 1) {
+        Ok(path) => path,
+        Err(fault) => return refuse(rt, target.about, &fault),
+    };
+    let path = path.as_str();
+    let Ok(claim) = claims.claim(path, id_of(rt, path)) else {
+        return refuse(rt, target.about, &Fault::Memory);
+    };
+    let claimed = Claimed { path, claim };
+    match picture_of_sheets(line) {
+        // A plot of several sheets does not write this file, but no other plot of its name is drawn.
+        Some(picture) if claim != Claim::Taken => {
+            deliver_sheets(rt, line, claims, target, picture, plot, claimed)
+        }
+        _ => {
+            let content = Content::Plot(plot);
+            deliver_claimed(rt, line, target.about, claims, content, claimed)
         }
     }
-    Ok(Taken {
-        plots,
-        names: BTreeSet::new(rt.alloc()),
-    })
 }
 
-fn deliver_one<'a>(
+// Writes the content into the file that was asked for, if it may be written.
+pub(crate) fn deliver_claimed(
     rt: &HostRuntime,
     line: &Line<'_, '_>,
     about: About<'_>,
-    taken: &mut Taken<'a>,
-    file: &'a str,
-    folder: &str,
+    plots: &Claims,
+    content: Content<'_, File>,
+    claimed: Claimed<'_>,
 ) -> u8 {
-    let plot = match File::open(rt, file) {
-        Ok(plot) => plot,
-        Err(error) => return refuse_open(rt, line, file, &error),
-    };
-    // Only a folder, such as `..`, has no name.
-    let Some(name) = Path::new(file).file_stem() else {
-        return refuse(rt, about, &Fault::Read);
-    };
-    let Ok(path) = path_in(rt.alloc(), folder, name, &line.task) else {
-        return refuse(rt, about, &Fault::Memory);
-    };
-    let path = path.as_str();
-    match taken.names.insert(name) {
-        Ok(true) => (),
-        Ok(false) => return cannot_write(rt, about, path, &"it is written for another plot"),
-        Err(_) => return refuse(rt, about, &Fault::Memory),
+    let path = claimed.path;
+    match claimed.claim {
+        Claim::Free => deliver_to(rt, line, about, plots, content, path),
+        Claim::Taken => cannot_write(rt, about, path, &"it is written for another plot"),
+        Claim::Plot => refuse_plot(rt, line, about, path),
     }
-    if id_of(rt, path).is_some_and(|id| taken.plots.contains(&id)) {
-        return refuse_plot(rt, line, about, path);
-    }
-    deliver_to(rt, line, about, plot, path)
 }
 
-// The file of this name in the folder. Its extension is the name of the command.
-fn path_in(alloc: Global, folder: &str, name: &str, task: &Task) -> Result<String, AllocError> {
-    let slash = if folder.ends_with("/") { "" } else { "/" };
-    let extension = match task {
-        Task::Picture { job, .. } => extension_of(job.form),
-        Task::Png(_) => "png",
+// The file of a sheet of so many. Its extension is the name of the command, or for draw of the form.
+pub(crate) fn path_of(
+    rt: &HostRuntime,
+    line: &Line<'_, '_>,
+    target: Target<'_>,
+    sheet: u32,
+    sheets: u32,
+) -> Result<String, Fault> {
+    let extension = extension_of(&line.task);
+    match file_name(
+        rt.alloc(),
+        target.folder,
+        target.file,
+        sheet,
+        sheets,
+        extension,
+    ) {
+        Ok(Some(path)) => Ok(path),
+        // Only a folder, such as `..`, has no name.
+        Ok(None) => Err(Fault::Read),
+        Err(_) => Err(Fault::Memory),
+    }
+}
+
+fn extension_of(task: &Task) -> &'static str {
+    match task {
+        Task::Picture(Picture::Rows { job, .. }) => extension_of_form(job.form),
+        Task::Picture(Picture::Png(_)) => "png",
         Task::Report(_) => "report",
-    };
-    format!(in alloc; "{folder}{slash}{name}.{extension}")
+    }
 }
 
-fn extension_of(form: Form) -> &'static str {
+fn extension_of_form(form: Form) -> &'static str {
     match form {
         Form::Marks => "marks",
         Form::Pbm => "pbm",

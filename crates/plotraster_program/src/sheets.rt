@@ -1,0 +1,95 @@
+//! The sheets of a plot, each in a file of its own.
+use crate::messages::{About, refuse};
+use crate::output::{Content, id_of};
+use crate::several::{Claimed, Target, deliver_claimed, path_of};
+use plotraster::{
+    Claims, Drawing, Fault, Line, OverRead, Picture, Reading, Task, draw_sheets, greater_status,
+};
+use std::fs::File;
+
+// The picture that each sheet has in a folder: if that is asked for, or by draw in the profile full if no sheet is named.
+pub(crate) fn picture_of_sheets<'r>(line: &'r Line<'_, '_>) -> Option<&'r Picture> {
+    let is_usual = line.interactive && !line.sheet_named && line.reading != Reading::Core;
+    match &line.task {
+        Task::Picture(picture) if line.each_sheet || is_usual => Some(picture),
+        _ => None,
+    }
+}
+
+// Reads and draws the plot once, and writes the picture of each sheet. The file that was asked for is that of the only sheet.
+// The exit status is the greatest of those of the sheets.
+pub(crate) fn deliver_sheets(
+    rt: &HostRuntime,
+    line: &Line<'_, '_>,
+    claims: &mut Claims,
+    target: Target<'_>,
+    picture: &Picture,
+    plot: File,
+    only: Claimed<'_>,
+) -> u8 {
+    let mut source = OverRead::new(plot);
+    let reading = Reading::Full { sheet: 0 };
+    let drawing = match draw_sheets(
+        rt.alloc(),
+        reading,
+        &line.carousel,
+        line.choice,
+        picture,
+        &mut source,
+    ) {
+        Ok(drawing) => drawing,
+        Err(fault) => return refuse(rt, target.about, &fault),
+    };
+    let sheets = u32::try_from(drawing.sheets()).unwrap_or(u32::MAX);
+    if sheets < 2 {
+        let content = sheet_of(&drawing, 1, picture);
+        return deliver_claimed(rt, line, target.about, claims, content, only);
+    }
+    let mut status = 0;
+    for number in 1..=sheets {
+        let about = About {
+            plot: target.about.plot,
+            sheet: Some(number),
+        };
+        let target = Target {
+            folder: target.folder,
+            file: target.file,
+            about,
+        };
+        let content = sheet_of(&drawing, number, picture);
+        status = greater_status(
+            status,
+            deliver_sheet(rt, line, claims, target, content, (number, sheets)),
+        );
+    }
+    status
+}
+
+// Writes one sheet of so many into its file.
+fn deliver_sheet(
+    rt: &HostRuntime,
+    line: &Line<'_, '_>,
+    claims: &mut Claims,
+    target: Target<'_>,
+    content: Content<'_, File>,
+    (number, sheets): (u32, u32),
+) -> u8 {
+    let path = match path_of(rt, line, target, number, sheets) {
+        Ok(path) => path,
+        Err(fault) => return refuse(rt, target.about, &fault),
+    };
+    let path = path.as_str();
+    let Ok(claim) = claims.claim(path, id_of(rt, path)) else {
+        return refuse(rt, target.about, &Fault::Memory);
+    };
+    let claimed = Claimed { path, claim };
+    deliver_claimed(rt, line, target.about, claims, content, claimed)
+}
+
+fn sheet_of<'a>(drawing: &'a Drawing, number: u32, picture: &'a Picture) -> Content<'a, File> {
+    Content::Sheet {
+        drawing,
+        number,
+        picture,
+    }
+}
