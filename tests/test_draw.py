@@ -5,6 +5,7 @@ import os
 import pytest
 from reference.outputs import FORMS
 from shared import EXAMPLES, read_bytes, run
+from terminals import with_terminal
 
 SECONDS = 60
 # What the defaults of draw are in words of the other commands.
@@ -67,3 +68,53 @@ def test_form_by_extension(program, tmp_path):
     (tmp_path / "pictures.d").mkdir()
     picture(program, ["draw", str(tmp_path / "one.plt"), "-o", str(tmp_path / "pictures.d") + "/"], b"")
     assert (tmp_path / "pictures.d" / "one.png").read_bytes() == picture(program, ["draw"], plot)
+
+
+LINE = b"PU0,0;PD300,200;"
+BLANK = b"IN;"
+OFF_PAGE = b"PU3000,3000;PD4000,4000;"
+TOO_LARGE = b"PU-60000,0;PD60000,0;"
+NOT_FITTED = "the page is not fitted: "
+# A command line, a plot, and what is said of the picture.
+REMARKS = [
+    (["draw"], LINE, []),
+    (["draw", "--verbose"], LINE, ["1 line, 0 off the page; 0 notes, see plotraster report"]),
+    (["draw", "--quiet", "--verbose"], LINE, ["1 line, 0 off the page; 0 notes, see plotraster report"]),
+    (["draw"], BLANK, ["nothing is drawn on the page"]),
+    (["draw", "--quiet"], BLANK, []),
+    (["draw", "--width=800"], BLANK, ["nothing is drawn on the page"]),
+    (["draw", "--width=800", "--quiet"], BLANK, []),
+    (["draw", "--pens=3"], LINE, ["nothing is drawn on the page"]),
+    (["draw", "--width=800", "--height=800"], OFF_PAGE, ["nothing is drawn on the page"]),
+    (["draw", "--width=800", "--height=800", "--quiet"], OFF_PAGE, []),
+    (["draw", "--dots=10"], TOO_LARGE, [f"{NOT_FITTED}the drawing is larger than a page can be"]),
+    (["draw", "--dots=10", "--quiet"], TOO_LARGE, [f"{NOT_FITTED}the drawing is larger than a page can be"]),
+    (["draw"], PLOTS["of two sheets"], ["the plot has 2 sheets; this is the first"]),
+    (["draw", "--quiet"], PLOTS["of two sheets"], []),
+    (["draw", "--sheet=1"], PLOTS["of two sheets"], []),
+    (["draw", "--profile=core"], PLOTS["of two sheets"], []),
+    (["png", "--profile=full"], PLOTS["of two sheets"], ["the plot has 2 sheets; this is the first"]),
+    (["png", "--fit"], BLANK, [f"{NOT_FITTED}nothing is drawn"]),
+    (["png"], BLANK, []),
+    (["pbm", "--page=plot"], LINE, ["the page is the default one: the plot asks for no size"]),
+    (["report", "--fit"], BLANK, [f"{NOT_FITTED}nothing is drawn"]),
+    (["report", "--profile=full"], PLOTS["of two sheets"], []),
+]
+
+
+@pytest.mark.parametrize("words, plot, said", REMARKS)
+def test_remarks(program, words, plot, said):
+    done = run(program, words, SECONDS, input=plot)
+    assert (done.returncode, done.stderr.decode().splitlines()) == (0, [f"plotraster: {line}" for line in said])
+
+
+def test_no_picture_to_a_terminal(program, tmp_path):
+    """Only draw refuses it, and only if its picture would go there."""
+    done, got = with_terminal("stdout", program, ["draw"], LINE)
+    said = b"plotraster: a picture is not written to a terminal: use -o\n"
+    assert (done.returncode, done.stderr, got) == (2, said, b"")
+    done, got = with_terminal("stdout", program, ["draw", "-o", str(tmp_path / "plan.png")], LINE)
+    assert (done.returncode, done.stderr, got) == (0, b"", b"")
+    assert (tmp_path / "plan.png").read_bytes() == picture(program, ["draw"], LINE)
+    done, got = with_terminal("stdout", program, ["pbm"], LINE)
+    assert (done.returncode, done.stderr, got) == (0, b"", picture(program, ["pbm"], LINE))

@@ -1,17 +1,15 @@
 """What `--progress` shows of a picture: one line on standard error, if that is a terminal, and nothing else."""
 
-import errno
 import os
 import re
 import resource
 import signal
 import subprocess
-import threading
-import tty
 
 import pytest
 from reference.outputs import FORMS
 from shared import EXAMPLES, read_bytes, run, write
+from terminals import with_terminal
 
 SECONDS = 60
 PLOT = b"SP1;PU0,0;PD10000,8000;XX;"
@@ -25,30 +23,10 @@ HIGH = ["--width=64", "--height=65536", "--dots=1200"]
 ROWS_OF_HIGH = 77405
 
 
-def read_all(terminal, got):
-    """Keeps what a terminal gets until nothing has it open."""
-    try:
-        while data := os.read(terminal, 65536):
-            got.append(data)
-    except OSError as error:
-        assert error.errno == errno.EIO
-
-
 def on_terminal(program, words, plot=PLOT, **how):
     """The exit status and the output of a run whose standard error is a terminal, and what the terminal gets."""
-    leader, follower = os.openpty()
-    tty.setraw(follower)
-    got = []
-    reader = threading.Thread(target=read_all, args=(leader, got))
-    reader.start()
-    try:
-        how = {"stdout": subprocess.PIPE, **how}
-        done = subprocess.run(["plotraster", *words], executable=program, input=plot, stderr=follower, timeout=SECONDS, **how)
-    finally:
-        os.close(follower)
-        reader.join(SECONDS)
-        os.close(leader)
-    return done.returncode, done.stdout, b"".join(got)
+    done, got = with_terminal("stderr", program, words, plot, **how)
+    return done.returncode, done.stdout, got
 
 
 def line(done, rows):

@@ -1,4 +1,4 @@
-//! Tests of command lines and of lists of pens, by public calls.
+//! Tests of command lines, of lists of pens, and of the names of files, by public calls.
 #![tactic(auto)]
 
 #[cfg(test)]
@@ -8,7 +8,11 @@ mod cases;
 #[cfg(test)]
 mod choices;
 #[cfg(test)]
+mod claims;
+#[cfg(test)]
 mod drawings;
+#[cfg(test)]
+mod file_names;
 #[cfg(test)]
 mod messages;
 #[cfg(test)]

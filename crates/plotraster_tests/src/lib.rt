@@ -12,6 +12,8 @@ mod colours;
 #[cfg(test)]
 mod cut_off;
 #[cfg(test)]
+mod endings;
+#[cfg(test)]
 mod faults;
 #[cfg(test)]
 mod fine;
