@@ -63,7 +63,8 @@ def test_each_sheet_has_a_file(program, folder, command):
         for sheet in range(1, sheets + 1):
             wanted[f"{name}-{sheet:0{digits}}.{command}"] = sheet_of(program, [command, *FULL], sheet, plot_of(sheets))
     assert files_in(folder) == wanted
-    assert len(set(wanted.values())) == 15
+    # Sheets of one number are the same in all plots, and each other one is another picture.
+    assert len(set(wanted.values())) == 13
 
 
 def test_draw_into_a_folder(program, folder):
@@ -233,7 +234,7 @@ def test_refused_allocations(program, folder, refuse):
         found = set(files_in(folder))
         assert found <= whole
         about = "" if not found else f"sheet {3 - int(min(found)[4])}: "
-        assert (status, lines) == ((0, []) if found == whole else (4, [f"plotraster: {about}out of memory"])) or not found and status == 4
+        assert (status, lines) == ((0, []) if found == whole else (4, [f"plotraster: {about}out of memory"]))
         seen.add(len(found))
         without_effect = without_effect + 1 if found == whole else 0
         for name in found:
