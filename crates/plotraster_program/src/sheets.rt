@@ -59,7 +59,7 @@ pub(crate) fn deliver_sheets(
         let content = sheet_of(&drawing, number, picture);
         status = greater_status(
             status,
-            deliver_sheet(rt, line, claims, target, content, (number, sheets)),
+            deliver_sheet(rt, line, claims, target, content, number, sheets),
         );
     }
     status
@@ -72,7 +72,8 @@ fn deliver_sheet(
     claims: &mut Claims,
     target: Target<'_>,
     content: Content<'_, File>,
-    (number, sheets): (u32, u32),
+    number: u32,
+    sheets: u32,
 ) -> u8 {
     let path = match path_of(rt, line, target, number, sheets) {
         Ok(path) => path,
