@@ -10,15 +10,19 @@ use std::fs::{File, OpenOptions, metadata, remove_file, rename};
 use std::io::{IsTerminal, Read, Write};
 use std::os::unix::fs::MetadataExt;
 
-// What is written: what the line asks of a plot that is to be read, or the picture of a sheet of one that is drawn.
+// A sheet of a plot that is drawn, and the picture that it is to have.
+#[derive(Clone, Copy)]
+pub(crate) struct SheetOf<'a> {
+    pub(crate) drawing: &'a Drawing,
+    pub(crate) number: u32,
+    pub(crate) picture: &'a Picture,
+}
+
+// What is written: what the line asks of a plot that is to be read, or the picture of a sheet.
 #[derive(Drop)]
-pub(crate) enum Content<'a, R> {
+pub(crate) enum Content<R, S> {
     Plot(R),
-    Sheet {
-        drawing: &'a Drawing,
-        number: u32,
-        picture: &'a Picture,
-    },
+    Sheet(S),
 }
 
 // Does what the line asks of the plot that the reader gives, and writes it where the line says.
@@ -28,7 +32,7 @@ pub(crate) fn deliver<R: Read + Drop>(
     plots: &Claims,
     plot: R,
 ) -> u8 {
-    let content = Content::Plot(plot);
+    let content: Content<R, SheetOf<'_>> = Content::Plot(plot);
     match line.output {
         None if line.interactive && rt.stdout().is_terminal() => refuse_terminal(rt),
         None => exit_status(&perform(rt, line, About::RUN, content, rt.stdout())),
@@ -42,7 +46,7 @@ pub(crate) fn deliver_to<R: Read + Drop>(
     line: &Line<'_, '_>,
     about: About<'_>,
     plots: &Claims,
-    content: Content<'_, R>,
+    content: Content<R, SheetOf<'_>>,
     path: &str,
 ) -> u8 {
     if is_device(rt, path) {
@@ -57,10 +61,10 @@ fn perform<R: Read + Drop, W: Write + Drop>(
     rt: &HostRuntime,
     line: &Line<'_, '_>,
     about: About<'_>,
-    content: Content<'_, R>,
+    content: Content<R, SheetOf<'_>>,
     to: W,
 ) -> Result<Outcome, Fault> {
-    let is_sheet = matches!(&content, Content::Sheet { .. });
+    let is_sheet = matches!(&content, Content::Sheet(_));
     let mut progress = Progress::new(rt, about, line.progress);
     let outcome = put(rt, line, content, to, &mut progress);
     progress.end();
@@ -76,7 +80,7 @@ fn perform<R: Read + Drop, W: Write + Drop>(
 fn put<R: Read + Drop, W: Write + Drop>(
     rt: &HostRuntime,
     line: &Line<'_, '_>,
-    content: Content<'_, R>,
+    content: Content<R, SheetOf<'_>>,
     to: W,
     progress: &mut Progress<'_>,
 ) -> Result<Outcome, Fault> {
@@ -96,12 +100,16 @@ fn put<R: Read + Drop, W: Write + Drop>(
             );
             outcome
         }
-        Content::Sheet {
-            drawing,
-            number,
-            picture,
-        } => {
-            let (_, outcome) = write_sheet(alloc, drawing, number, choice, picture, sink, progress);
+        Content::Sheet(sheet) => {
+            let (_, outcome) = write_sheet(
+                alloc,
+                sheet.drawing,
+                sheet.number,
+                choice,
+                sheet.picture,
+                sink,
+                progress,
+            );
             outcome
         }
     }
@@ -119,7 +127,7 @@ fn write_device<R: Read + Drop>(
     rt: &HostRuntime,
     line: &Line<'_, '_>,
     about: About<'_>,
-    content: Content<'_, R>,
+    content: Content<R, SheetOf<'_>>,
     path: &str,
 ) -> u8 {
     match OpenOptions::new().write(true).open(rt, path) {
@@ -134,7 +142,7 @@ fn write_file<R: Read + Drop>(
     line: &Line<'_, '_>,
     about: About<'_>,
     plots: &Claims,
-    content: Content<'_, R>,
+    content: Content<R, SheetOf<'_>>,
     path: &str,
 ) -> u8 {
     let Ok(part) = format!(in rt.alloc(); "{path}.part") else {

@@ -1,6 +1,6 @@
 //! Plots whose output goes into a folder: a file of its own for each plot, or for each of its sheets.
 use crate::messages::{About, cannot_write, refuse, refuse_open, refuse_words, refuse_write};
-use crate::output::{Content, deliver_to, id_of, refuse_plot};
+use crate::output::{Content, SheetOf, deliver_to, id_of, refuse_plot};
 use crate::sheets::{deliver_sheets, picture_of_sheets};
 use plotraster::{
     Claim, Claims, Fault, Form, Line, LineFault, Picture, Task, file_name, greater_status,
@@ -101,7 +101,7 @@ pub(crate) fn deliver_claimed(
     line: &Line<'_, '_>,
     about: About<'_>,
     plots: &Claims,
-    content: Content<'_, File>,
+    content: Content<File, SheetOf<'_>>,
     claimed: Claimed<'_>,
 ) -> u8 {
     let path = claimed.path;

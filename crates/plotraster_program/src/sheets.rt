@@ -1,6 +1,6 @@
 //! The sheets of a plot, each in a file of its own.
 use crate::messages::{About, refuse};
-use crate::output::{Content, id_of};
+use crate::output::{Content, SheetOf, id_of};
 use crate::several::{Claimed, Target, deliver_claimed, path_of};
 use plotraster::{
     Claims, Drawing, Fault, Line, OverRead, Picture, Reading, Task, draw_sheets, greater_status,
@@ -71,7 +71,7 @@ fn deliver_sheet(
     line: &Line<'_, '_>,
     claims: &mut Claims,
     target: Target<'_>,
-    content: Content<'_, File>,
+    content: Content<File, SheetOf<'_>>,
     number: u32,
     sheets: u32,
 ) -> u8 {
@@ -87,10 +87,14 @@ fn deliver_sheet(
     deliver_claimed(rt, line, target.about, claims, content, claimed)
 }
 
-fn sheet_of<'a>(drawing: &'a Drawing, number: u32, picture: &'a Picture) -> Content<'a, File> {
-    Content::Sheet {
+fn sheet_of<'a>(
+    drawing: &'a Drawing,
+    number: u32,
+    picture: &'a Picture,
+) -> Content<File, SheetOf<'a>> {
+    Content::Sheet(SheetOf {
         drawing,
         number,
         picture,
-    }
+    })
 }
