@@ -33,4 +33,3 @@ def with_terminal(stream, program, words, plot, **how):
         reader.join(SECONDS)
         os.close(leader)
     return done, b"".join(got)
-

@@ -19,7 +19,8 @@ OLD = b"an older picture\n"
 
 def plot_of(sheets):
     """A plot of so many sheets, each with a line of its own."""
-    return b"PG;".join(b"SP%d;PU5,%d;PD900,%d;" % (number % 8 + 1, 100 * number, 90 * number + 20) for number in range(1, sheets + 1))
+    numbers = range(1, sheets + 1)
+    return b"PG;".join(b"SP%d;PU5,%d;PD900,%d;" % (number % 8 + 1, 100 * number, 90 * number + 20) for number in numbers)
 
 
 @pytest.fixture
@@ -69,10 +70,10 @@ def test_each_sheet_has_a_file(program, folder, command):
 
 def test_draw_into_a_folder(program, folder):
     """Each sheet has a file unless one is named, or the profile has no sheets. Nobody need be told of several."""
-    plot = plot_of(2)
+    plot, bits = plot_of(2), ["draw", "--form=pbm"]
     cases = [
         (["draw"], {f"two-{sheet}.png": sheet_of(program, ["draw", *PAGE], sheet, plot) for sheet in (1, 2)}),
-        (["draw", "--form=pbm"], {f"two-{sheet}.pbm": sheet_of(program, ["draw", "--form=pbm", *PAGE], sheet, plot) for sheet in (1, 2)}),
+        (bits, {f"two-{sheet}.pbm": sheet_of(program, [*bits, *PAGE], sheet, plot) for sheet in (1, 2)}),
         (["draw", "--sheet=2"], {"two.png": sheet_of(program, ["draw", *PAGE], 2, plot)}),
         (["draw", "--sheet=0"], {"two.png": sheet_of(program, ["draw", *PAGE], 0, plot)}),
         (["draw", "--profile=core"], {"two.png": run(program, ["draw", "--profile=core", *PAGE], SECONDS, input=plot).stdout}),
