@@ -6,8 +6,8 @@
 # make prove      every proof and the tests of the crates (rt ci), and the mutants that are marked for the gate
 # make check      all of these, some side by side: what fails early comes first
 # make audit      hands every mutant to the prover, for a release or after a change of a contract
-# make fuzz       compares the built command with tests/reference on new random plots, for SECONDS=600, and runs it on
-#                 MUTILATED=20000 plots that were mutilated, in either profile
+# make fuzz       compares the built command with tests/reference on new random plots, with options of five kinds for
+#                 SECONDS=120 each, and runs it on MUTILATED=20000 plots that were mutilated, in either profile
 # make install    copies the command, its manual page and its completion under PREFIX (/usr/local), below DESTDIR if it is set
 # make uninstall  removes them
 # make dist       makes build/plotraster-VERSION-x86_64-linux.tar.gz and build/plotraster_VERSION_amd64.deb, which lintian checks
@@ -19,14 +19,15 @@ PROGRAM = crates/plotraster_program/out/plotraster_program
 BIN = $(DESTDIR)$(PREFIX)/bin
 MAN = $(DESTDIR)$(PREFIX)/share/man/man1
 COMPLETIONS = $(DESTDIR)$(PREFIX)/share/bash-completion/completions
-SECONDS = 600
+SECONDS = 120
+FUZZ = tests/fuzz $(PROGRAM) --seconds $(SECONDS) --processes 4
 MUTILATED = 20000
 CARDS = rose tide figures characters
 CARD = --width 4000 --height 3000 --dots 150 --smooth 4
 # Debian's Python, which has Debian's pytest.
 PYTEST = PYTHONDONTWRITEBYTECODE=1 /usr/bin/python3 -m pytest -q -p no:cacheprovider --no-skips
 # The tests that need no built command.
-SOURCE_TESTS = tests/test_style.py tests/test_quotations.py tests/test_reference_fitting.py $(wildcard tests/test_full_*.py)
+SOURCE_TESTS = tests/test_style.py tests/test_quotations.py tests/test_reference_fitting.py tests/test_reference_options.py $(wildcard tests/test_full_*.py)
 
 build:
 	@test -x $(PROGRAM) || tools/prove plotraster_program
@@ -84,7 +85,11 @@ audit: setup build
 	tools/audit
 
 fuzz: built
-	tests/fuzz $(PROGRAM) --seconds $(SECONDS) --processes 4
+	$(FUZZ)
+	$(FUZZ) --fit
+	$(FUZZ) --pens
+	$(FUZZ) --apart
+	$(FUZZ) --draw
 	@for profile in core full; do \
 	    tests/campaign $(PROGRAM) --profile $$profile --plots $(MUTILATED) --seed $$$$ --jobs 4 || exit 1; \
 	done

@@ -5,31 +5,51 @@ usage only the status and the beginning of the text are compared. The longest pl
 too long; tests/cases has them.
 """
 
+import os
 import subprocess
+import tempfile
 
-from reference.outputs import USAGE, Answer, answer
+from reference.outputs import PLOT, USAGE, Answer, answer, listed
 from reference.png import Wrong, read_png
 
 TIMEOUT = 20
 
 
 def words_of(case):
-    """The words of the command line. A value may begin with a minus sign, so it follows an equals sign. None is no value."""
-    return [case.form] + [f"--{name}" + ("" if value is None else f"={value}") for name, value in case.options.items()]
+    """The words of the command line. A value may begin with a minus sign, so it follows an equals sign. None is no value.
+    With an output, which is a folder, the plot is a file, else standard input."""
+    words = [case.form] + [f"--{name}" + ("" if value is None else f"={value}") for name, value in case.options.items()]
+    return [*words, f"{PLOT}.plt"] if "output" in case.options else words
 
 
 def answer_of(program, case):
-    """What the program answers."""
-    try:
-        ran = subprocess.run([program, *words_of(case)], input=case.plot, capture_output=True, timeout=TIMEOUT)
-    except subprocess.TimeoutExpired:
-        return Answer(-1, b"", f"no end after {TIMEOUT} seconds")
-    output = shown(ran.stdout) if case.form == "png" and ran.returncode == 0 else ran.stdout
+    """What the program answers; the files of a folder are listed as the reference lists them."""
+    with tempfile.TemporaryDirectory() as top:
+        folder = os.path.join(top, case.options.get("output", "."))
+        os.makedirs(folder, exist_ok=True)
+        if "output" in case.options:
+            with open(os.path.join(top, f"{PLOT}.plt"), "wb") as file:
+                file.write(case.plot)
+        try:
+            ran = subprocess.run([program, *words_of(case)], input=case.plot, capture_output=True, timeout=TIMEOUT, cwd=top)
+        except subprocess.TimeoutExpired:
+            return Answer(-1, b"", f"no end after {TIMEOUT} seconds")
+        output = ran.stdout if "output" in case.options else shown(ran.stdout, case)
+        if "output" in case.options:
+            output += listed({name: shown(read(folder, name), case) for name in os.listdir(folder)})
     return Answer(ran.returncode, output, ran.stderr.decode(errors="replace"))
 
 
-def shown(data):
-    """What a PNG shows, as the reference has it: how many pixels a metre has, and a pixmap; or why it is no PNG."""
+def read(folder, name):
+    with open(os.path.join(folder, name), "rb") as file:
+        return file.read()
+
+
+def shown(data, case):
+    """An output as the reference has it: of a PNG how many pixels a metre has, and a pixmap; or why it is no PNG."""
+    form = case.options.get("form", "png").lower() if case.form == "draw" else case.form
+    if form != "png" or not data:
+        return data
     try:
         picture = read_png(data)
     except Wrong as wrong:
@@ -56,7 +76,7 @@ def differs(program, case):
 def smaller(program, case):
     """A case that differs too, with as little as can be left out."""
     # A picture of the usual page takes the reference too long.
-    needed = () if case.form == "report" else ("width", "height", "dots")
+    needed = () if case.form == "report" else ("width", "height", "dots", "size", "smooth")
     for name in case.options:
         fewer = case._replace(options={other: case.options[other] for other in case.options if other != name})
         if name not in needed and differs(program, fewer):

@@ -1,6 +1,7 @@
 """Compares the built program with tests/reference on plots that are the same each time: the examples, all
-characters, all whole angles, 3,000 random plots in the profile core and 3,000 in full, and 1,200 of both on the page
-around their drawing. `make fuzz` compares new ones."""
+characters, all whole angles, and random plots: 3,000 in the profile core and 3,000 in full, and of both 1,200 on the page
+around their drawing, 1,200 with colours and widths of pens by option, 600 as previews, and 600 with their sheets apart. `make
+fuzz` compares new ones."""
 
 import glob
 import os
@@ -10,11 +11,14 @@ import pytest
 from comparing import difference, differs
 from reference.random_fitted_plots import random_fitted_case
 from reference.random_full_plots import random_full_case
+from reference.random_options import random_apart_case, random_drawn_case, random_pens_case
 from reference.random_plots import Case, random_case
 from shared import EXAMPLES, assert_nothing, read_bytes
 from test_full_reference import options_of, plot_of, rows
 
-COUNT, FITTED = 3000, 1200
+COUNT = 3000
+# The cases whose options change what is drawn, or how much of it, and how many there are.
+OTHERS = {random_fitted_case: 1200, random_pens_case: 1200, random_apart_case: 600, random_drawn_case: 600}
 PARTS = 12
 
 
@@ -87,5 +91,6 @@ def test_random_full_plots(part, program):
 
 
 @pytest.mark.parametrize("part", range(PARTS))
-def test_random_fitted_plots(part, program):
-    assert_same(program, random_plots(random_fitted_case, part, FITTED))
+@pytest.mark.parametrize("case_of", OTHERS, ids=[case_of.__name__ for case_of in OTHERS])
+def test_other_random_plots(case_of, part, program):
+    assert_same(program, random_plots(case_of, part, OTHERS[case_of]))

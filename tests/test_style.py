@@ -106,11 +106,12 @@ def test_mutants():
 def test_options_that_make_passes():
     """`make fuzz` calls its script with options that the script has."""
     made = subprocess.run(["make", "-n", "fuzz"], cwd=TOP, capture_output=True, text=True, check=True, timeout=SECONDS)
-    called = re.search(r"^tests/fuzz .*", made.stdout, re.M)[0]
+    called = "\n".join(re.findall(r"^tests/fuzz .*", made.stdout, re.M))
     helped = subprocess.run([os.path.join(TOP, "tests", "fuzz"), "--help"], capture_output=True, text=True, timeout=SECONDS)
     assert helped.returncode == 0, helped.stderr
     options = re.findall(r"--\w+", called)
-    assert options and all(it in helped.stdout for it in options), called
+    assert set(options) > {"--fit", "--pens", "--apart", "--draw"}, called
+    assert all(it in helped.stdout for it in options), called
 
 
 def test_targets_of_make():

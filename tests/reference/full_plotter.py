@@ -9,6 +9,7 @@ from itertools import chain
 from typing import NamedTuple
 
 from . import curves, fills, line_types
+from .carousel import EMPTY
 from .cutting import MILLION, rounded
 from .directions import length, moved
 from .full_cutting import items
@@ -26,11 +27,11 @@ TICKS_OF_A_UNIT = 16 * TICKS_OF_A_GRAIN
 MIDDLE_OF_A_UNIT = (0, 8)
 
 
-def draw(plot, page, most=MOST_STROKES):
+def draw(plot, page, carousel=EMPTY, most=MOST_STROKES):
     """The strokes of all sheets and the notes of a plot; it is refused if it has more strokes than most."""
     if len(plot) > LONGEST_PLOT:
         raise Refused(f"plot is longer than {LONGEST_PLOT} bytes")
-    plotter = FullPlotter(page, most)
+    plotter = FullPlotter(page, carousel, most)
     for item in items(plot):
         plotter.obey(item)
         if plotter.has_too_much():
@@ -55,12 +56,12 @@ class Dashes(NamedTuple):
 class FullPlotter(FullSettings):
     """A plotter of the profile full."""
 
-    def __init__(self, page, most=MOST_STROKES):
+    def __init__(self, page, carousel=EMPTY, most=MOST_STROKES):
         self.most = most  # the most strokes
         self.sheet, self.is_sheet_empty = 1, True
         self.parts = []  # what is drawn: each has strokes
         self.sum = 0  # of strokes, and of what counts as strokes: places that are filled or edged, and texts of PB
-        super().__init__(page)
+        super().__init__(page, carousel)
 
     def set_defaults(self):
         super().set_defaults()
@@ -88,7 +89,7 @@ class FullPlotter(FullSettings):
             self.add(1, [self.stroke(a, b, self.width() if width is None else width)])
 
     def stroke(self, a, b, width):
-        return Stroke(self.pen, self.colours[self.pen], width, self.window, a, b, self.sheet)
+        return Stroke(self.pen, self.colour(), width, self.window, a, b, self.sheet)
 
     def add(self, count, strokes):
         """Draws so many strokes; after too many the plot is refused, and none are needed."""

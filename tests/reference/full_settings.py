@@ -143,7 +143,7 @@ class FullSettings(Plotter):
         numbers = listed(numbers, 0, 1) or [300_000]
         self.widths[self.pen] = rounded(640 * within(numbers[0], 0, 20 * MILLION), MILLION)
 
-    def width(self):
+    def width_that_is_set(self):
         width = self.widths[self.pen]
         return min(WIDEST, self.percent(width.number, TICKS_OF_A_GRAIN)) if isinstance(width, Percent) else width
 

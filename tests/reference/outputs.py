@@ -3,28 +3,19 @@
 docs/FORMATS.md. Of a PNG it is what a reader is to find in it.
 """
 
-import re
 from typing import NamedTuple
 
-from . import full_plotter, plotter, raster
-from .fitting import fitted
+from . import cutting, full_cutting, full_plotter, plotter, raster
+from .carousel import EMPTY
+from .command_line import DOTS_OF_PCL, EACH, MOST_DOTS, PAGE_OPTIONS, Mistake, request_of
+from .fitting import BLANK, fitted
 from .geometry import Page
 from .plotter import Refused
 
 ESC = b"\x1b"
-DOTS_OF_PCL = (75, 100, 150, 200, 300, 600)
-# Each option's range and what it is by default.
-PAGE_OPTIONS = {
-    "width": (64, 65536, 11880), "height": (64, 65536, 8400), "left": (0, 65536, 0), "below": (0, 65536, 0),
-}
-PICTURE_OPTIONS = {"dots": (10, 1200, 100)}
-ROW_OPTIONS = {"band": (1, 4096, 64), "from": (0, 99999, 0)}
-SMOOTH_OPTIONS = {"smooth": (1, 8, 1)}
-MOST_DOTS = 1200
 WHITE = b"\xff\xff\xff"
-# In the profile core a sheet may not be given, and without `fit` no margin.
-SHEET_OPTIONS = {"sheet": (0, 4_194_304, 1)}
-FIT_OPTIONS = {"margin": (0, 100, 1)}
+# The name of the plot whose pictures are in a folder, without its extension.
+PLOT = "plot"
 
 
 class Answer(NamedTuple):
@@ -42,53 +33,21 @@ def fault(status, text):
     return Answer(status, b"", f"plotraster: {text}\n")
 
 
-def ranges_of(command):
-    """The options with a number that a command has."""
-    ranges = {**PAGE_OPTIONS, **SHEET_OPTIONS, **FIT_OPTIONS}
-    if command != "report":
-        ranges.update(PICTURE_OPTIONS)
-    if command in FORMS:
-        ranges.update(ROW_OPTIONS)
-    if command in ("png", "ppm"):
-        ranges.update(SMOOTH_OPTIONS)
-    return ranges
-
-
-def answer(form, options, plot):
-    """What the program answers; options are texts by their names, and that of `fit`, which takes no value, is None."""
-    ranges, numbers = ranges_of(form), {}
-    for name, (least, most, default) in ranges.items():
-        text = options.get(name, str(default))
-        if not re.fullmatch(r"\+?[0-9]+", text) or not least <= int(text) <= most:
-            return USAGE
-        numbers[name] = int(text)
-    texts = ("profile", "fit") if form == "report" else ("profile", "fit", "pens")
-    if any(name not in (*ranges, *texts) for name in options):
-        return USAGE
-    pens, profile = pens_of(options.get("pens", "all")), options.get("profile", "core")
-    if pens is None:
-        return fault(2, "bad pen list")
-    if numbers.get("dots", 0) * numbers.get("smooth", 1) > MOST_DOTS:
-        return fault(2, "--dots times --smooth is over 1200")
-    if profile not in ("core", "full"):
-        return fault(2, "bad profile")
-    if profile == "core" and "sheet" in options:
-        return fault(2, "--sheet needs --profile full")
-    if "margin" in options and "fit" not in options:
-        return fault(2, "--margin needs --fit")
-    page, sheet = Page(*(numbers[name] for name in PAGE_OPTIONS)), numbers["sheet"] if profile == "full" else None
-    margin = numbers["margin"] if "fit" in options else None
-    if form == "report":
-        return described(sheet, page, margin, plot)
-    found = pictured(form, numbers, sheet, pens, page, margin, plot)
-    if found.status == 0 and profile == "full" and "sheet" not in options:
-        return found._replace(error=found.error + more_sheets(draw(plot, page, sheet).sheets))
-    return found
-
-
-def more_sheets(sheets):
-    """What is said of a picture of the first sheet of a plot."""
-    return f"plotraster: the plot has {sheets} sheets; this is the first\n" if sheets > 1 else ""
+def answer(command, options, plot):
+    """What the program answers."""
+    try:
+        request = request_of(command, options)
+    except Mistake as mistake:
+        return fault(2, mistake) if mistake.args else USAGE
+    if request.form == "pcl" and request.dots not in DOTS_OF_PCL:
+        return fault(2, "resolution is not one of PCL's")
+    try:
+        shown = shown_by(request, plot)
+    except Refused as refusal:
+        return fault(1, refusal)
+    if request.form == "report":
+        return Answer(0, report(shown.drawing, shown.page), said_of(request, shown))
+    return pictured(request, shown)
 
 
 class Drawing(NamedTuple):
@@ -99,51 +58,111 @@ class Drawing(NamedTuple):
     sheets: int = None
 
 
-def draw(plot, page, sheet):
+def draw(plot, page, sheet, carousel=EMPTY):
     """What a plot draws in the profile core, if there is no sheet, or in full; those of all sheets are 0's."""
     if sheet is None:
-        return Drawing(*plotter.draw(plot, page))
-    strokes, notes = full_plotter.draw(plot, page)
+        return Drawing(*plotter.draw(plot, page, carousel))
+    strokes, notes = full_plotter.draw(plot, page, carousel)
     sheets = max((stroke.sheet for stroke in strokes), default=0)
-    return Drawing([stroke for stroke in strokes if sheet in (0, stroke.sheet)], notes, sheets)
+    return Drawing([stroke for stroke in strokes if sheet in (0, EACH, stroke.sheet)], notes, sheets)
 
 
-def placed(strokes, page, margin):
-    """The page that is shown, the strokes on it, and what is said if it is not fitted; None is no margin to fit it with."""
-    if margin is None:
-        return page, strokes, ""
-    page, strokes, why = fitted(strokes, page, margin)
-    return page, strokes, f"plotraster: the page is not fitted: {why}\n" if why else ""
+class Shown(NamedTuple):
+    """A page, what is drawn on it, how finely, and why it is another page than was asked for, or None."""
+
+    page: Page
+    drawing: Drawing
+    dots: int
+    smooth: int
+    why: str
 
 
-def described(sheet, page, margin, plot):
-    """A report on a plot."""
-    try:
-        drawing = draw(plot, page, sheet)
-    except Refused as refusal:
-        return fault(1, refusal)
-    page, strokes, said = placed(drawing.strokes, page, margin)
-    return Answer(0, report(drawing._replace(strokes=strokes), page), said)
+def shown_by(request, plot):
+    """What a request shows of a plot."""
+    page, why = request.page, None
+    if request.is_page_asked:
+        asked = asked_page(plot, request)
+        page, why = asked or page, None if asked else "the default one: the plot asks for no size"
+    drawing = draw(plot, page, request.sheet, request.carousel)
+    strokes = drawing.strokes
+    if request.form != "report":
+        strokes = [stroke for stroke in strokes if stroke.pen in request.pens]
+    if request.margin is not None:
+        page, strokes, reason = fitted(strokes, page, request.margin)
+        why = f"not fitted: {reason}" if reason else None
+    dots, smooth = request.dots, request.smooth
+    if request.pixels:
+        dots = dots_of_size(page, request.pixels)
+        smooth = min(smooth, MOST_DOTS // dots)
+    return Shown(page, drawing._replace(strokes=strokes), dots, smooth, why)
 
 
-def pictured(form, numbers, sheet, pens, page, margin, plot):
-    """A picture of a plot, in a form."""
-    dots = numbers["dots"]
-    if form == "pcl" and dots not in DOTS_OF_PCL:
-        return fault(2, "resolution is not one of PCL's")
-    try:
-        strokes = [stroke for stroke in draw(plot, page, sheet).strokes if stroke.pen in pens]
-    except Refused as refusal:
-        return fault(1, refusal)
-    page, strokes, said = placed(strokes, page, margin)
-    first = numbers.get("from", 0)
-    if first > raster.count(page.height, dots):
+def asked_page(plot, request):
+    """The page of the first valid PS, or None; without a width it is as high as the default page."""
+    items = cutting.items if request.sheet is None else full_cutting.items
+    for item in items(plot):
+        if item.code == "PS":
+            try:
+                numbers = cutting.numbers(plot, item.at + 2)[0]
+            except cutting.BadFrom:
+                continue
+            sides = [cutting.rounded(number, cutting.MILLION) for number in numbers[:2]]
+            least, most, height = PAGE_OPTIONS["height"]
+            if sides and all(least <= side <= most for side in sides):
+                return request.page._replace(width=sides[0], height=(sides[1:] or [height])[0])
+    return None
+
+
+def dots_of_size(page, pixels):
+    """The greatest resolution at which the longer side has at most so many pixels, or 1 if there is none."""
+    longer = max(page.width, page.height)
+    return max((dots for dots in range(1, MOST_DOTS + 1) if max(1, raster.count(longer, dots)) <= pixels), default=1)
+
+
+def said_of(request, shown):
+    """What is said of what is shown, beside it."""
+    said = f"plotraster: the page is {shown.why}\n" if shown.why else ""
+    if request.is_draw:
+        said = "plotraster: nothing is drawn on the page\n" if shown.why == f"not fitted: {BLANK}" else said
+    sheets = shown.drawing.sheets or 0
+    if sheets > 1 and not request.is_sheet_named and request.sheet != EACH and request.form != "report":
+        said += f"plotraster: the plot has {sheets} sheets; this is the first\n"
+    return said
+
+
+def pictured(request, shown):
+    """The picture of what is shown, or in a folder those of all sheets."""
+    if request.first > raster.count(shown.page.height, shown.dots):
         return fault(2, "first row is past the last row")
-    if form == "png" or numbers.get("smooth", 1) > 1:
-        rows = smoothed_rows(strokes, page, dots, numbers["smooth"], pens, first)
-        return Answer(0, pixmap(form, page, dots, rows, first == 0), said)
-    rows = raster.rows(strokes, page, dots, pens, first)
-    return Answer(0, picture(form, page, dots, rows, first == 0), said)
+    if not request.folder:
+        return Answer(0, picture_of(request, shown, shown.drawing.strokes), said_of(request, shown))
+    sheets = [shown.drawing.strokes]
+    if request.sheet == EACH and shown.drawing.sheets > 1:
+        sheets = [[it for it in sheets[0] if it.sheet == sheet] for sheet in range(1, shown.drawing.sheets + 1)]
+    names = file_names(len(sheets), request.form)
+    files = {name: picture_of(request, shown, strokes) for name, strokes in zip(names, sheets)}
+    return Answer(0, listed(files), said_of(request, shown))
+
+
+def file_names(count, form):
+    """The names of the files of so many sheets."""
+    digits = len(str(count))
+    return [f"{PLOT}-{sheet:0{digits}}.{form}" for sheet in range(1, count + 1)] if count > 1 else [f"{PLOT}.{form}"]
+
+
+def listed(files):
+    """Files as bytes: of each its name, its length, and what is in it."""
+    return b"".join(b"%s %d\n%s\n" % (name.encode(), len(files[name]), files[name]) for name in sorted(files))
+
+
+def picture_of(request, shown, strokes):
+    """The picture of strokes on the page that is shown."""
+    page, dots, smooth, first = shown.page, shown.dots, shown.smooth, request.first
+    if request.form == "png" or smooth > 1:
+        rows = smoothed_rows(strokes, page, dots, smooth, request.pens, first)
+        return pixmap(request.form, page, dots, rows, first == 0)
+    rows = raster.rows(strokes, page, dots, request.pens, first)
+    return picture(request.form, page, dots, rows, first == 0)
 
 
 def smoothed_rows(strokes, page, dots, times, pens, first):
@@ -171,22 +190,6 @@ def pixmap(form, page, dots, rows, has_header):
     header = b"P6\n%d %d\n255\n" % size if has_header else b""
     before = b"%d pixels a metre\n" % ((20000 * dots + 254) // 508) if form == "png" else b""
     return before + header + b"".join(rows)
-
-
-def pens_of(text):
-    """The pens of a list such as 1,3,5-7, or None if it is no list."""
-    if text == "all":
-        return set(range(1, 256))
-    pens = set()
-    for part in text.split(","):
-        ends = part.split("-")
-        if len(ends) > 2 or not all(re.fullmatch("[0-9]{1,3}", end) for end in ends):
-            return None
-        first, last = int(ends[0]), int(ends[-1])
-        if not 1 <= first <= last <= 255:
-            return None
-        pens.update(range(first, last + 1))
-    return pens
 
 
 def picture(form, page, dots, rows, has_header):

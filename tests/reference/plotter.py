@@ -8,6 +8,7 @@ from fractions import Fraction
 from typing import NamedTuple
 
 from . import lettering
+from .carousel import EMPTY
 from .cutting import MILLION, items, rounded
 from .geometry import (
     UNSCALED, anisotropic, chord_ends, isotropic, nearest, on_the_page, on_the_rotated_page, point_factor, turned,
@@ -54,11 +55,11 @@ class Bad(Exception):
     """The numbers of an instruction are bad."""
 
 
-def draw(plot, page):
+def draw(plot, page, carousel=EMPTY):
     """The strokes and the notes of a plot."""
     if len(plot) > LONGEST_PLOT:
         raise Refused(f"plot is longer than {LONGEST_PLOT} bytes")
-    plotter = Plotter(page)
+    plotter = Plotter(page, carousel)
     for item in items(plot):
         plotter.obey(item)
         if len(plotter.strokes) > MOST_STROKES:
@@ -88,8 +89,8 @@ def within(number, least, most):
 class Plotter:
     """A plotter: what is set, where its pen is, and what it has drawn and noted."""
 
-    def __init__(self, page):
-        self.page, self.strokes, self.notes = page, [], []
+    def __init__(self, page, carousel=EMPTY):
+        self.page, self.carousel, self.strokes, self.notes = page, carousel, [], []
         self.rotation = 0
         self.IN([])
 
@@ -282,10 +283,19 @@ class Plotter:
     def ink(self, a, b):
         """Draws a stroke, if the pen is not pen 0; one more than may be is enough."""
         if self.pen and len(self.strokes) <= MOST_STROKES:
-            self.strokes.append(Stroke(self.pen, self.colours[self.pen], self.width(), self.window, a, b))
+            self.strokes.append(Stroke(self.pen, self.colour(), self.width(), self.window, a, b))
+
+    def colour(self):
+        """The colour that the pen draws in."""
+        return self.carousel.colours.get(self.pen, self.colours[self.pen])
 
     def width(self):
-        """The width of the pen, in grains."""
+        """The width that the pen draws in, in grains."""
+        by_option = self.carousel.widths.get(self.pen)
+        return self.width_that_is_set() if by_option is None else by_option
+
+    def width_that_is_set(self):
+        """The width that the plot has set for the pen, in grains."""
         return self.widths[self.pen]
 
     def line(self, a, b):

@@ -6,10 +6,11 @@ picture has too many pixels for the reference, it gets another resolution, or is
 
 import random
 
+from .command_line import DOTS_OF_PCL, FIT_OPTIONS, MOST_DOTS, PAGE_OPTIONS, TEXTS, Mistake, request_of
 from .cutting import MILLION
-from .fitting import LONGEST, fitted
+from .fitting import LONGEST
 from .geometry import Page
-from .outputs import DOTS_OF_PCL, FIT_OPTIONS, MOST_DOTS, PAGE_OPTIONS, SHEET_OPTIONS, draw, pens_of
+from .outputs import shown_by
 from .plotter import Refused
 from .random_full_plots import random_full_case
 from .random_numbers import spelled
@@ -19,13 +20,21 @@ from .raster import count
 MARGINS = (0, 0, 0, 1, 2, 3, 10, 100)
 WRONG_MARGINS = ("101", "-1", "1.5", "")
 # The options that a report has, too.
-OF_REPORTS = (*PAGE_OPTIONS, *SHEET_OPTIONS, *FIT_OPTIONS, "profile", "fit")
+OF_REPORTS = (*PAGE_OPTIONS, *FIT_OPTIONS, *TEXTS)
 
 
 def random_fitted_case(seed):
     """The case of a seed; every other one is in the profile full."""
-    case = random_full_case(seed) if seed % 2 else random_case(seed)
-    chance = random.Random(seed)
+    return fitted_case(base_case(seed), random.Random(seed))
+
+
+def base_case(seed):
+    """The case of a seed without `--fit`."""
+    return random_full_case(seed) if seed % 2 else random_case(seed)
+
+
+def fitted_case(case, chance):
+    """A case with `--fit`."""
     case = case._replace(options=fitted_options(case.options, chance), plot=beginning(case, chance) + case.plot)
     return case if case.form == "report" else light_case(case, chance)
 
@@ -79,11 +88,9 @@ def number(case, name, least, most, default):
 
 def page_of(case):
     """The page that a case shows."""
-    page = Page(*(number(case, name, *limits) for name, limits in PAGE_OPTIONS.items()))
-    sheet = number(case, "sheet", *SHEET_OPTIONS["sheet"]) if case.options.get("profile") == "full" else None
-    pens = pens_of(case.options.get("pens", "all")) or ()
+    # A picture of marks has no resolution that is wrong.
+    options = {name: case.options[name] for name in case.options if name in (*OF_REPORTS, "pens", "output")}
     try:
-        strokes = [stroke for stroke in draw(case.plot, page, sheet).strokes if stroke.pen in pens]
-    except Refused:
-        return page
-    return fitted(strokes, page, number(case, "margin", *FIT_OPTIONS["margin"])).page
+        return shown_by(request_of("marks", options), case.plot).page
+    except (Mistake, Refused):
+        return Page(*(number(case, name, *limits) for name, limits in PAGE_OPTIONS.items()))

@@ -4,6 +4,7 @@ Instructions of the core come among the further ones. Most fills and dashed line
 stroke.
 """
 
+from .carousel import EMPTY
 from .cutting import MILLION
 from .full_cutting import items
 from .full_plotter import FullPlotter
@@ -60,25 +61,27 @@ def random_full_case(seed):
 
 def light_case(writer):
     case = writer.case()
-    return case._replace(plot=writer.light(case.plot, MOST_OF_A_REPORT if case.form == "report" else MOST_OF_A_PICTURE))
+    page = Page(writer.width, writer.height, writer.left, writer.below)
+    return case._replace(plot=light(case.plot, page, MOST_OF_A_REPORT if case.form == "report" else MOST_OF_A_PICTURE))
+
+
+def light(plot, page, most, carousel=EMPTY):
+    """A plot without the item that brings it to more than so many strokes, and what follows."""
+    plotter = FullPlotter(page, carousel, most)
+    try:
+        for item in items(plot):
+            plotter.obey(item)
+            if plotter.has_too_much():
+                return plot[: item.at]
+    except Refused:
+        pass
+    return plot
 
 
 class FullWriter(Writer):
     """Writes one case of the profile full; it may have very many strokes."""
 
     themes, drawing = THEMES, DRAWING
-
-    def light(self, plot, most):
-        """A plot without the item that brings it to more than so many strokes, and what follows."""
-        plotter = FullPlotter(Page(self.width, self.height, self.left, self.below), most)
-        try:
-            for item in items(plot):
-                plotter.obey(item)
-                if plotter.has_too_much():
-                    return plot[: item.at]
-        except Refused:
-            pass
-        return plot
 
     def settings(self):
         form, options = super().settings()

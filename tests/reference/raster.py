@@ -12,8 +12,8 @@ PIXEL = 16 * 1016
 
 
 def count(units, dots):
-    """The number of columns or rows of a page that has so many units."""
-    return (units * dots + 508) // 1016
+    """The number of columns or rows of a page that has so many units; there is at least one."""
+    return max(1, (units * dots + 508) // 1016)
 
 
 class Line(NamedTuple):
