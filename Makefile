@@ -23,7 +23,7 @@ SECONDS = 120
 FUZZ = tests/fuzz $(PROGRAM) --seconds $(SECONDS) --processes 4
 MUTILATED = 20000
 CARDS = rose tide figures characters
-CARD = --width 4000 --height 3000 --dots 150 --smooth 4
+CARD = --width 4000 --height 3000
 # Debian's Python, which has Debian's pytest.
 PYTEST = PYTHONDONTWRITEBYTECODE=1 /usr/bin/python3 -m pytest -q -p no:cacheprovider --no-skips
 # The tests that need no built command.
@@ -43,8 +43,8 @@ demo: build
 	@echo 'plotraster marks --width 64 --height 64 --dots 127 examples/line.plt'
 	@build/plotraster marks --width 64 --height 64 --dots 127 examples/line.plt
 	@for name in $(CARDS); do \
-	    echo "plotraster png $(CARD) examples/$$name.plt > build/$$name.png"; \
-	    build/plotraster png $(CARD) examples/$$name.plt > build/$$name.png || exit 1; \
+	    echo "plotraster draw $(CARD) examples/$$name.plt -o build/$$name.png"; \
+	    build/plotraster draw $(CARD) examples/$$name.plt -o build/$$name.png || exit 1; \
 	done
 	@echo 'The pictures are:' $(CARDS:%=build/%.png)
 

@@ -92,7 +92,7 @@ def more_pictures(made):
     """Beside these, pictures of two plots in a folder."""
     yield from pictures(made)
     for name in ("plan", "centred"):
-        if made.read(f"pictures/{name}.png") != made.run("png", f"{name}.plt"):
+        if made.read(f"pictures/{name}.png") != made.run("draw", f"{name}.plt"):
             yield f"{name}: another picture in the folder"
 
 
@@ -122,7 +122,7 @@ def wrong_picture(made, name, plot):
 def stored(made):
     """The picture of a block is the one in docs/."""
     plot, = set(re.findall(r"examples/(\w+)\.plt", made.block))
-    yield from wrong_picture(made, re.findall(r"> (\w+)\.png", made.block)[-1], plot)
+    yield from wrong_picture(made, re.findall(r"(?:>|-o) (\w+)\.png", made.block)[-1], plot)
 
 
 def stored_each(made):

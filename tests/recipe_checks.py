@@ -101,20 +101,35 @@ def netpbm(command, data, errors=False):
 
 # What the blocks must have made. Each check gives what is wrong, a line each.
 
-def coloured_png(made):
-    if made.pixmap("plan.png") != made.run("ppm", "--dots", "150", "plan.plt"):
+# The frame of the plan, with half of its width of 20 units and a margin of 200 units on each side.
+DRAWN = tuple(units - 2 * 400 + 2 * (10 + 200) for units in A4)
+
+
+def wrong_smoothed(made, name, *words):
+    """What is wrong with a smoothed picture of all that the plan draws, with a margin of 5 mm."""
+    values = set(made.of_png(name).split(b"\n", 3)[3])
+    if not {0, 255} <= values or len(values) < 10:
+        yield f"not smoothed: {len(values)} values"
+    whole = ["--width", str(DRAWN[0]), "--height", str(DRAWN[1])]
+    corner = b"IP0,0,4000,4000;SC190,4190,190,4190;"
+    if made.pixmap(name) != made.run("ppm", *whole, *words, plot=plan(*A4).replace(b"IN;", b"IN;" + corner)):
         yield "another picture"
 
 
-def smoothed_png(made):
-    magic, size, most, data = made.of_png("plan.png").split(b"\n", 3)
-    wanted = tuple(pixels(units, 150) for units in A4)
-    if magic != b"P6" or tuple(map(int, size.split())) != wanted or most != b"255":
-        yield f"{magic!r}, {size!r} instead of {wanted}, {most!r}"
-    values = set(data)
-    if not {0, 255} <= values or len(values) < 10:
-        yield f"not smoothed: {len(values)} values"
-    if made.pixmap("plan.png") != made.run("ppm", "--dots", "150", "--smooth", "4", "plan.plt"):
+def drawn_png(made):
+    yield from wrong_smoothed(made, "plan.png", "--dots", "150", "--smooth", "4")
+
+
+def preview(made):
+    """At 35 dots per inch the longer side has 396 pixels, and at 36 it would have 407."""
+    size = tuple(map(int, made.of_png("preview.png").split(b"\n", 3)[1].split()))
+    if size != (396, 276):
+        yield f"{size[0]} by {size[1]} pixels"
+    yield from wrong_smoothed(made, "preview.png", "--dots", "35", "--smooth", "8")
+
+
+def coloured_png(made):
+    if made.pixmap("plan.png") != made.run("ppm", "--dots", "150", "plan.plt"):
         yield "another picture"
 
 
@@ -149,13 +164,29 @@ def tiff(made):
 
 
 def recoloured(made):
-    """Two pictures: the first of a plot with IN, the second of one without."""
-    settings = b"PC2,0,90,180;PW0.7,2;"
-    for name, plot in (("plan.ppm", plan(*A4).replace(b"IN;", b"IN;" + settings)), ("centred.ppm", settings + CENTRED)):
-        if made.read(name) != made.run("ppm", plot=plot):
-            yield f"{name}: another picture"
-    if b"\x00\x5a\xb4" not in made.read("plan.ppm"):
+    """The picture is that of a plot that sets these pens itself."""
+    settings = b"PC3,0,0,0;PC5,0,0,0;PC2,0,90,180;PW0.5;PW0.7,2;"
+    plot = plan(*A4).replace(b"PW0.5,1;", b"").replace(b"PW1.2,5;", b"").replace(b"IN;", b"IN;" + settings)
+    if made.read("plan.png") != made.run("draw", plot=plot):
+        yield "another picture"
+    if b"\x00\x5a\xb4" not in made.pixmap("plan.png"):
         yield "nothing has the new colour"
+
+
+SHEETS = b"SP2;PU0,0;PD3000,0;PG;SP3;PD3000,2000;"
+
+
+def apart(made):
+    wanted = {"plan.png": made.run("draw", "plan.plt")}
+    for sheet in (1, 2):
+        alone = made.run("draw", "--form", "png", "--sheet", str(sheet), "--width", "3414", "--height", "2414",
+                         "--left", "207", "--below", "207", "sheets.plt")
+        wanted[f"sheets-{sheet}.png"] = alone
+    if made.files(".png") != {f"sheets/{name}" for name in wanted}:
+        yield f"made {sorted(made.files('.png'))}"
+    for name, picture in wanted.items():
+        if made.read(f"sheets/{name}") != picture:
+            yield f"{name}: another picture"
 
 
 def postscript(made):
@@ -204,7 +235,8 @@ def pcl(made):
 
 
 def fitted_page(made):
-    if made.pixmap("centred.png") != made.run("ppm", "--fit", "--dots", "150", "--smooth", "4", "examples/centred.plt"):
+    fitted = ("--profile", "full", "--fit", "--margin", "5", "--dots", "150", "--smooth", "4")
+    if made.pixmap("centred.png") != made.run("ppm", *fitted, "examples/centred.plt"):
         yield "another picture"
 
 
@@ -213,7 +245,7 @@ def archive(made):
     if made.files(".png") != {name[:-4] + ".png" for name in drawn} or made.files(".pbm"):
         yield f"made {sorted(made.files('.png') | made.files('.pbm'))}"
     for name in drawn:
-        if made.pixmap(name[:-4] + ".png") != made.run("ppm", "--fit", "--dots", "300", "--", name):
+        if made.read(name[:-4] + ".png") != made.run("draw", "--", name):
             yield f"{name}: another picture"
     wanted = sorted(f"{name}: {why}" for name, why in REFUSED.items())
     if sorted(made.lines("refused.txt")) != wanted:
@@ -223,10 +255,10 @@ def archive(made):
 def archive_in_one_run(made):
     names = {name[6:-4]: name for name in ARCHIVE if name.count("/") == 1}
     drawn = {name for name in names if names[name] not in REFUSED}
-    if made.files(".pbm") != {f"pictures/{name}.pbm" for name in drawn} or made.files(".part"):
-        yield f"made {made.files('.pbm')} and {made.files('.part')}"
+    if made.files(".png") != {f"pictures/{name}.png" for name in drawn} or made.files(".part"):
+        yield f"made {made.files('.png')} and {made.files('.part')}"
     for name in drawn:
-        if made.read(f"pictures/{name}.pbm") != made.run("pbm", "--dots", "300", names[name]):
+        if made.read(f"pictures/{name}.png") != made.run("draw", "--", names[name]):
             yield f"{name}: another picture"
     wanted = [f"plotraster: {name}: {REFUSED[name].removeprefix('plotraster: ')}" for name in names.values() if name in REFUSED]
     if made.lines("refused.txt") != wanted:
@@ -411,14 +443,15 @@ Check = collections.namedtuple("Check", "made needs plots prepare", defaults=(()
 PNG = ("pnmtopng", "pngtopam")
 CHECKS = {
     "docs/RECIPES.md": {
-        "PNG, in colour": [Check(coloured_png, PNG), Check(smoothed_png, PNG)],
+        "PNG, in colour": [Check(drawn_png, PNG), Check(preview, PNG), Check(coloured_png, PNG)],
         "PNG, black and white": [Check(black_png, PNG)],
         "PDF and TIFF, true to size": [Check(pdf, ("pnmtops", "ps2pdf")), Check(tiff, ("pamtotiff", "tifftopnm"))],
         "A PostScript printer, true to size": [Check(postscript, ("pnmtops",))],
         "A PCL printer": [Check(pcl, ("pamflip", "pbmtolj"))],
         "A page that fits the drawing": [Check(fitted_page, PNG)],
-        "Other colours and widths": [Check(recoloured)],
-        "An archive of plots": [Check(archive_in_one_run, (), ARCHIVE), Check(archive, PNG, ARCHIVE),
+        "Other colours and widths": [Check(recoloured, PNG)],
+        "The sheets of a plot": [Check(apart, (), {"sheets.plt": SHEETS})],
+        "An archive of plots": [Check(archive_in_one_run, (), ARCHIVE), Check(archive, (), ARCHIVE),
                                 Check(blank_plots, (), ARCHIVE)],
         "Several machines": [Check(archive_by_machines, ("parallel",), ARCHIVE)],
         "A large page in parts": [Check(parts, ("parallel",), {"plan.plt": plan(*A0)})],
