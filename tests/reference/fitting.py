@@ -42,10 +42,19 @@ def fitted(strokes, page, margin):
 
 def box_of(stroke, page):
     """What a stroke reaches with its width, in its window; None if nothing of that is in the window."""
+    return reach_of(stroke) if stroke.window == whole_page(page) else cut(reach_of(stroke), stroke.window)
+
+
+def reach_of(stroke):
+    """What a stroke reaches with its width."""
     half = (stroke.width + 1) // 2
     x, y = zip(stroke.a, stroke.b)
-    box = min(x) - half, min(y) - half, max(x) + half, max(y) + half
-    return box if stroke.window == whole_page(page) else cut(box, stroke.window)
+    return min(x) - half, min(y) - half, max(x) + half, max(y) + half
+
+
+def is_off(stroke, page):
+    """Whether all that a stroke reaches is off the page, whatever its window shows."""
+    return cut(reach_of(stroke), (0, 0, UNIT * page.width, UNIT * page.height)) is None
 
 
 def cut(box, window):

@@ -8,7 +8,7 @@ from typing import NamedTuple
 from . import cutting, full_cutting, full_plotter, plotter, raster
 from .carousel import EMPTY
 from .command_line import DOTS_OF_PCL, EACH, MOST_DOTS, PAGE_OPTIONS, Mistake, request_of
-from .fitting import BLANK, fitted
+from .fitting import BLANK, fitted, is_off
 from .geometry import Page
 from .plotter import Refused
 
@@ -46,7 +46,7 @@ def answer(command, options, plot):
     except Refused as refusal:
         return fault(1, refusal)
     if request.form == "report":
-        return Answer(0, report(shown.drawing, shown.page), said_of(request, shown))
+        return Answer(0, report(shown.drawing, shown.page), said_of(request, shown, shown.drawing.strokes))
     return pictured(request, shown)
 
 
@@ -119,11 +119,11 @@ def dots_of_size(page, pixels):
     return max((dots for dots in range(1, MOST_DOTS + 1) if max(1, raster.count(longer, dots)) <= pixels), default=1)
 
 
-def said_of(request, shown):
-    """What is said of what is shown, beside it."""
-    said = f"plotraster: the page is {shown.why}\n" if shown.why else ""
-    if request.is_draw:
-        said = "plotraster: nothing is drawn on the page\n" if shown.why == f"not fitted: {BLANK}" else said
+def said_of(request, shown, strokes, about=""):
+    """What is said of strokes that are shown, beside their picture, with what it is about."""
+    said = f"plotraster: {about}the page is {shown.why}\n" if shown.why else ""
+    if request.is_draw and (shown.why == f"not fitted: {BLANK}" or all(is_off(it, shown.page) for it in strokes)):
+        said = f"plotraster: {about}nothing is drawn on the page\n"
     sheets = shown.drawing.sheets or 0
     if sheets > 1 and not request.is_sheet_named and request.sheet != EACH and request.form != "report":
         said += f"plotraster: the plot has {sheets} sheets; this is the first\n"
@@ -134,14 +134,16 @@ def pictured(request, shown):
     """The picture of what is shown, or in a folder those of all sheets."""
     if request.first > raster.count(shown.page.height, shown.dots):
         return fault(2, "first row is past the last row")
+    strokes = shown.drawing.strokes
     if not request.folder:
-        return Answer(0, picture_of(request, shown, shown.drawing.strokes), said_of(request, shown))
-    sheets = [shown.drawing.strokes]
+        return Answer(0, picture_of(request, shown, strokes), said_of(request, shown, strokes))
+    sheets = [("", strokes)]
     if request.sheet == EACH and shown.drawing.sheets > 1:
-        sheets = [[it for it in sheets[0] if it.sheet == sheet] for sheet in range(1, shown.drawing.sheets + 1)]
+        numbers = range(1, shown.drawing.sheets + 1)
+        sheets = [(f"sheet {number}: ", [it for it in strokes if it.sheet == number]) for number in numbers]
     names = file_names(len(sheets), request.form)
-    files = {name: picture_of(request, shown, strokes) for name, strokes in zip(names, sheets)}
-    return Answer(0, listed(files), said_of(request, shown))
+    files = {name: picture_of(request, shown, drawn) for name, (_, drawn) in zip(names, sheets)}
+    return Answer(0, listed(files), "".join(said_of(request, shown, drawn, about) for about, drawn in sheets))
 
 
 def file_names(count, form):
