@@ -108,7 +108,7 @@ DRAWN = tuple(units - 2 * 400 + 2 * (10 + 200) for units in A4)
 def wrong_smoothed(made, name, *words):
     """What is wrong with a smoothed picture of all that the plan draws, with a margin of 5 mm."""
     values = set(made.of_png(name).split(b"\n", 3)[3])
-    if not {0, 255} <= values or len(values) < 10:
+    if 255 not in values or len(values) < 10:
         yield f"not smoothed: {len(values)} values"
     whole = ["--width", str(DRAWN[0]), "--height", str(DRAWN[1])]
     corner = b"IP0,0,4000,4000;SC190,4190,190,4190;"
