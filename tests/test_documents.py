@@ -212,7 +212,7 @@ def test_pictures_of_the_gallery():
     """Each picture that docs/GALLERY.md shows is made by one of its blocks, and the other way round."""
     text = read("docs", "GALLERY.md")
     made = [name for names in re.findall(r"^for name in (.+); do$", text, re.M) for name in names.split()]
-    made += [name for name in re.findall(r"> (\w+)\.png$", text, re.M)]
+    made += [name for name in re.findall(r"(?:>|-o) (\w+)\.png$", text, re.M)]
     assert sorted(made) == sorted(re.findall(r"\]\((\w+)\.png\)", text))
 
 
