@@ -123,6 +123,20 @@ def test_order_of_mistakes(options, text):
     assert answer("pbm", options, b"") == (2, b"", f"plotraster: {text}\n")
 
 
+@pytest.mark.parametrize("options, text", [
+    ({"form": "pbm", "smooth": "2", "sheet": "x"}, "--smooth needs the form png or ppm"),
+    ({"profile": "x", "sheet": "x"}, "bad sheet"), ({"profile": "x", "sheet": "each"}, "bad profile"),
+    ({"profile": "core", "sheet": "each", "size": "20", "dots": "20"}, "--sheet needs --profile full"),
+    ({"sheet": "each", "size": "20", "dots": "20"}, "--sheet each needs"),
+    ({"size": "20", "dots": "20", "form": "pcl"}, "--size may not be given with --dots"),
+    ({"size": "20", "form": "pcl", "width": "900", "margin": "1"}, "--size may not be given with the form pcl"),
+])
+def test_order_of_mistakes_of_draw(options, text):
+    """By docs/DECISIONS.md, "The order of refusals"."""
+    got = answer("draw", options, b"")
+    assert got.status == 2 and got.error.startswith(f"plotraster: {text}")
+
+
 # Sheets apart
 
 APART = {"profile": "full", "sheet": "each", "output": "pictures"}

@@ -84,7 +84,12 @@ def request_of(command, options):
     request = request._replace(folder=options.get("output"), first=numbers.get("from", 0), is_draw=command == "draw")
     if form != "report":
         request = with_resolution(request, options, numbers)
-    return with_sheet(with_page(request, options), options)._replace(margin=margin_of(command, options, numbers))
+    request = with_sheet(with_page(request, options), options)
+    if "size" in options and "dots" in options:
+        raise Mistake("--size may not be given with --dots")
+    if "size" in options and form == "pcl":
+        raise Mistake("--size may not be given with the form pcl")
+    return request._replace(margin=margin_of(command, options, numbers))
 
 
 def numbers_of(command, options):
@@ -122,11 +127,6 @@ def carousel_of(options):
 def with_resolution(request, options, numbers):
     """A request with its dots or the most pixels of a side, and how much finer it is painted."""
     smooth, dots = numbers.get("smooth", 1), numbers["dots"]
-    if "size" in options:
-        if "dots" in options:
-            raise Mistake("--size may not be given with --dots")
-        if request.form == "pcl":
-            raise Mistake("--size may not be given with the form pcl")
     if request.form not in WITH_SHADES:
         if "smooth" in options:
             raise Mistake("--smooth needs the form png or ppm")
@@ -154,12 +154,11 @@ def with_page(request, options):
 
 def with_sheet(request, options):
     """A request with its sheet."""
-    profile = options.get("profile", "full" if request.is_draw else "core")
-    if profile not in ("core", "full"):
-        raise Mistake("bad profile")
-    text = options.get("sheet", "1")
+    profile, text = options.get("profile", "full" if request.is_draw else "core"), options.get("sheet", "1")
     if text != EACH and (not re.fullmatch(r"\+?[0-9]+", text) or int(text) > MOST_SHEETS):
         raise Mistake(f"bad sheet: use a number from 0 to {MOST_SHEETS}, or {EACH}")
+    if profile not in ("core", "full"):
+        raise Mistake("bad profile")
     if profile == "core":
         if "sheet" in options:
             raise Mistake("--sheet needs --profile full")
