@@ -122,7 +122,8 @@ pub(crate) fn tell_outcome(
 // Says that nothing is drawn, or why the page is not the one that was asked for. draw says nothing of an empty page if it is
 // to be quiet.
 fn tell_page(rt: &HostRuntime, line: &Line<'_, '_>, about: About<'_>, outcome: &Outcome) {
-    if line.interactive && is_blank(outcome) {
+    let is_small = outcome.placement != Placement::TooLarge;
+    if line.interactive && is_small && is_blank(outcome) {
         if line.remarks {
             let _ = eprintln!(rt; "plotraster: {about}nothing is drawn on the page");
         }
