@@ -1,5 +1,6 @@
-use Rattle.std.proofs.Common.{◌≡◌, ◌≤◌, ◌↔◌, ℕ, Result, Ok, Err, true, false, refl, arith}
+use Rattle.std.proofs.Common.{◌≡◌, ◌∙◌, ◌≤◌, ◌↔◌, ℕ, Result, Ok, Err, None, true, false, refl, arith}
 use Rattle.std.specs.Prelude.{IsOk}
+use Rattle.std.specs.Result.{result_err}
 use Rattle.std.proofs.lemmas.Bool.Decides.{nat_tests}
 use Rattle.plot_page.specs.Pages.{has_page_size, has_page_corner}
 use Rattle.plot_page.specs.declared.page.Page.{Page}
@@ -25,3 +26,14 @@ page_made (Err PageFault.Size) width height left below size corner has_size has_
 page_made (Err PageFault.Corner) width height left below size corner has_size has_corner =
     let bad = (corner.0 refl).1 in
     absurd (cc)
+
+no_fault : {X E : Type 0} (r : Result X E) → IsOk r → result_err r ≡ None
+no_fault (Ok x) is = refl
+no_fault (Err e) is = absurd (cc)
+
+pub returns-clause-refused : goal.returns-clause-refused
+returns-clause-refused c = λ has.
+    let left = c.in_ok-left.ensures.understood 0 65536 (omega arith) has.left in
+    let below = c.in_ok-below.ensures.understood 0 65536 (omega arith) has.below in
+    let made = page_made c.new.result c.in_ok-width.width c.in_ok-width.height c.in_ok-left.left c.in_ok-below.below c.new.ensures.size c.new.ensures.corner (c.in_ok-width.ensures.within has) (page_corner _ _ left.1 below.1) in
+    no_fault c.map_err.result (c.map_err.ensures.variant ∙ made) ∙ c.in_ok-width.ensures.refused has
