@@ -1,5 +1,5 @@
 -- What the command asks for of pens, sheets and pixels, at some words.
-use Rattle.std.proofs.Common.{◌≡◌, ◌∷◌, [], List, Option, Some, None, ℕ, true, false, codes, refl}
+use Rattle.std.proofs.Common.{◌≡◌, ◌∷◌, [], List, Option, Some, None, ℕ, false, codes, refl}
 use Rattle.std.specs.Prelude.{option_and_then}
 use Rattle.clap.specs.Words.{Text, subcommand_of}
 use Rattle.clap.proofs.OnLiterals.{clap_on_literals}

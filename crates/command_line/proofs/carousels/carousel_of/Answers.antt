@@ -1,6 +1,6 @@
-use Rattle.std.proofs.Common.{◌≡◌, ◌∙◌, ◌<◌, ℕ, List, Option, Some, None, Result, Ok, Err, IfOk, ap, refl, sym}
+use Rattle.std.proofs.Common.{◌≡◌, ◌∙◌, ◌<◌, ℕ, List, Option, Some, None, Result, Ok, Err, IfOk, ap, refl}
 use Rattle.std.specs.Option.{option_and_then, option_or}
-use Rattle.clap.specs.Words.{Row, Text, found_of, rows_of}
+use Rattle.clap.specs.Words.{Row, found_of, rows_of}
 use Rattle.plot_page.specs.declared.colour.Colour.{Colour}
 use Rattle.carousel.specs.Carousels.{colour_of, empty, width_of}
 use Rattle.carousel.specs.declared.carousel.Carousel.{Carousel}

@@ -1,13 +1,12 @@
-use Rattle.std.proofs.Common.{◌≡◌, ◌∙◌, ◌<◌, ℕ, List, Option, Some, None, ap, codes, refl, sym}
+use Rattle.std.proofs.Common.{◌≡◌, ◌∙◌, ℕ, Option, None, ap, codes, sym}
 use Rattle.std.specs.Option.{option_and_then, option_or}
 use Rattle.std.specs.Prelude.{option_map}
-use Rattle.clap.specs.Words.{Row, Text, found_of, rows_of}
+use Rattle.clap.specs.Words.{Text, found_of}
 use Rattle.clap.proofs.WalkLemmas.{first_value-rows}
 use Rattle.carousel.specs.Carousels.{width_of}
 use Rattle.pen_list.specs.Assignments.{first_bad, given}
 use Rattle.pen_list.specs.Widths.{width_written}
 use Rattle.command_line.specs.Faults.{BadWidths, Refusal}
-use Rattle.command_line.specs.Lines.{bad_widths, widths_text}
 use Rattle.command_line.proofs.carousels.widened.Goals as goal
 
 -- the width that a list may give a pen

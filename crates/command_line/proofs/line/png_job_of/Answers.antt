@@ -1,4 +1,3 @@
-use Rattle.std.proofs.Common.{◌≡◌, true, false}
 use Rattle.command_line.proofs.line.png_job_of.Goals as goal
 
 pub returns-in_err-dots-clause-refused : goal.returns-in_err-dots-clause-refused

@@ -1,4 +1,4 @@
-use Rattle.std.proofs.Common.{◌≡◌, ◌∙◌, ◌∷◌, ◌++◌, [], false, List, Bool, Bor, ap, codes, map}
+use Rattle.std.proofs.Common.{◌≡◌, ◌∙◌, ◌++◌, List, Bool, Bor, ap, codes, map}
 use Rattle.std.proofs.lemmas.List.{map-append}
 use Rattle.std.proofs.lemmas.Result.{IfOk-weaker}
 use Rattle.clap.specs.Words.{AddsAliases, Rule, Text, rule_of}
