@@ -53,7 +53,8 @@ def messages_of_the_page():
 
 
 def test_messages():
-    wanted = {re.sub(r"\{(?:path|(\w+))\}", lambda it: (it[1] or "FILE").upper(), it) for it in messages_of_sources()}
+    names = {"path": "FILE", "0": "ITEM"}
+    wanted = {re.sub(r"\{(\w+)\}", lambda it: names.get(it[1], it[1].upper()), it) for it in messages_of_sources()}
     assert wanted - OF_THE_LIBRARY == set(messages_of_the_page())
 
 
