@@ -112,10 +112,8 @@ fn sheets_of_so_many_pixels(rt: HostRuntime) -> Result<(), Fail> {
         let png = picture_of(alloc, &drawing, 1, choice, &picture)?;
         let size = png.as_slice().get(16..24).ok_or("a size")?;
         let [a, b] = [columns.to_be_bytes(), rows.to_be_bytes()];
-        assert!(rt;
-            size == [a[0], a[1], a[2], a[3], b[0], b[1], b[2], b[3]],
-            "{pixels}"
-        );
+        let wanted = [a[0], a[1], a[2], a[3], b[0], b[1], b[2], b[3]];
+        assert!(rt; size == wanted.as_slice(), "{pixels}");
     }
     Ok(())
 }
