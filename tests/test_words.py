@@ -37,6 +37,11 @@ NO_FORM = (2, b"plotraster: no such form of picture: ")
 NO_SHADES = (2, b"plotraster: --smooth needs the form png or ppm\n")
 NO_FIT = (2, b"plotraster: --margin needs --fit\n")
 NO_FOLDER = (2, b"plotraster: several plots need --output FOLDER\n")
+BAD_SHEET = (2, b"plotraster: bad sheet: use a number from 0 to 4194304, or each\n")
+EACH_OF_A_REPORT = (2, b"plotraster: --sheet each needs a picture\n")
+EACH_WITHOUT_A_FOLDER = (2, b"plotraster: --sheet each needs --output FOLDER\n")
+SIZE_AND_DOTS = (2, b"plotraster: --size may not be given with --dots\n")
+SIZE_OF_PCL = (2, b"plotraster: --size may not be given with the form pcl\n")
 NO_SHEETS = (2, b"plotraster: --sheet needs --profile full\n")
 NOT_OF_PCL = (2, b"plotraster: resolution is not one of PCL's\n")
 PAST_THE_END = (2, b"plotraster: first row is past the last row\n")
@@ -299,8 +304,43 @@ def sheets():
             yield [command, f"--sheet={sheet}"], NO_SHEETS
             yield [command, "--profile", "core", "--sheet", sheet, "line.plt"], NO_SHEETS
         for sheet in ["-1", "4194305", str(2**32), str(2**64 + 1), "", "all", "1.5", "1-2"]:
-            yield [command, f"--sheet={sheet}", "--profile=full"], USAGE
-            yield [command, f"--sheet={sheet}"], USAGE
+            yield [command, f"--sheet={sheet}", "--profile=full"], BAD_SHEET
+            yield [command, f"--sheet={sheet}"], BAD_SHEET
+        each = [command, "--profile=full", "--sheet=each", "line.plt"]
+        yield each, EACH_OF_A_REPORT if command == "report" else EACH_WITHOUT_A_FOLDER
+        yield [command, "--sheet=each", "-o", "folder", "line.plt"], NO_SHEETS
+        yield [*each, "-o", "folder"], EACH_OF_A_REPORT if command == "report" else DONE
+
+
+def pens_by_option():
+    """Lists of colours and of widths, and what is no assignment in them."""
+    for command in ["draw", *COMMANDS]:
+        end = ["-o", "pens"]
+        for word in ["--colours", "--colors"]:
+            for colours in ["2=#f80", "all=black", "1-3=ff8000,2=#FF8000", "1=teal,255=grey"]:
+                yield [command, word, colours, "line.plt", *end], DONE
+            for colours in ["2=bleu", "=red", "2=", "256=red", "2=#ff", "2:red", ""]:
+                yield [command, f"{word}=1=red,{colours}", "line.plt"], (2, f"plotraster: bad colours: {colours}\n".encode())
+        for widths in ["2=0.7", "all=0", "1-3=20,2=.35"]:
+            yield [command, "--widths", widths, "line.plt", *end], DONE
+        for widths in ["2=fat", "2=20.1", "2=-1", "9-1=1", ""]:
+            yield [command, f"--widths=1=1,{widths}", "line.plt"], (2, f"plotraster: bad widths: {widths}\n".encode())
+
+
+def sizes():
+    """Previews of so many pixels."""
+    for pixels in ["16", "256", "+20000"]:
+        yield ["draw", "--size", pixels, "line.plt", "-o", "sized.png"], DONE
+    for pixels in ["15", "20001", "-1", "", "all"]:
+        yield ["draw", f"--size={pixels}", "line.plt"], USAGE
+    yield ["draw", "--size=100", "--dots=150", "line.plt"], SIZE_AND_DOTS
+    yield ["draw", "--size=100", "--dots=150", "--form=pcl", "line.plt"], SIZE_AND_DOTS
+    yield ["draw", "--size=100", "--form=pcl", "line.plt"], SIZE_OF_PCL
+    yield ["draw", "--size=100", "line.plt", "-o", "plan.pcl"], SIZE_OF_PCL
+    yield ["draw", "--size=100", "--smooth=8", "line.plt", "-o", "sized.ppm"], DONE
+    yield ["draw", "--size=100", "--smooth=2", "line.plt", "-o", "sized.pbm"], NO_SHADES
+    for command in COMMANDS:
+        yield [command, "--size=100", "line.plt"], USAGE
 
 
 def resolutions_of_pcl():
@@ -383,7 +423,13 @@ def orders_of_refusal():
     yield ["pcl", "--page=a4", "--width=64", "--sheet=1", "--dots=127"], PAGE_AND_SIDE
     yield ["pbm", "--page=none", "missing.plt"], BAD_PAGE
     yield ["report", "--page=a4", "--width=64", "missing.plt"], PAGE_AND_SIDE
-    yield ["pbm", "--profile=none", "--sheet=-1"], USAGE
+    yield ["pbm", "--profile=none", "--sheet=-1"], BAD_SHEET
+    yield ["pbm", "--colours=1=bleu", "--pens=0"], BAD_LIST
+    yield ["pbm", "--widths=1=fat", "--colours=1=bleu"], (2, b"plotraster: bad colours: 1=bleu\n")
+    yield ["png", "--widths=1=fat", "--dots=1200", "--smooth=2"], (2, b"plotraster: bad widths: 1=fat\n")
+    yield ["report", "--sheet=each", "--profile=none"], BAD_PROFILE
+    yield ["draw", "--sheet=each", "--size=100", "--dots=10", "line.plt"], EACH_WITHOUT_A_FOLDER
+    yield ["draw", "--size=100", "--dots=10", "line.plt", "far.plt"], SIZE_AND_DOTS
     yield ["pbm", "--profile=none", "--pens=0"], BAD_LIST
     yield ["pcl", "--sheet=1", "--pens=0"], BAD_LIST
     yield ["ppm", "--profile=none", "--sheet=1", "missing.plt"], BAD_PROFILE
@@ -426,8 +472,8 @@ def bytes_that_are_no_text():
 
 GENERATORS = [
     plain, commands, numbers_in_range, numbers_out_of_range, no_numbers, values_missing, options_twice, unknown_options,
-    options_of_pictures, smoothing, lists_of_pens, fitted_pages, drawings, pages, profiles, sheets, resolutions_of_pcl, files,
-    after_two_hyphens, calls_for_help, orders_of_refusal, bytes_that_are_no_text,
+    options_of_pictures, smoothing, lists_of_pens, fitted_pages, drawings, pages, profiles, sheets, pens_by_option, sizes,
+    resolutions_of_pcl, files, after_two_hyphens, calls_for_help, orders_of_refusal, bytes_that_are_no_text,
 ]
 
 

@@ -8,7 +8,7 @@ from typing import NamedTuple
 from . import cutting, full_cutting, full_plotter, plotter, raster
 from .carousel import EMPTY
 from .command_line import DOTS_OF_PCL, EACH, MOST_DOTS, PAGE_OPTIONS, Mistake, request_of
-from .fitting import BLANK, fitted, is_off
+from .fitting import BLANK, TOO_LARGE, fitted, is_off
 from .geometry import Page
 from .plotter import Refused
 
@@ -122,7 +122,8 @@ def dots_of_size(page, pixels):
 def said_of(request, shown, strokes, about=""):
     """What is said of strokes that are shown, beside their picture, with what it is about."""
     said = f"plotraster: {about}the page is {shown.why}\n" if shown.why else ""
-    if request.is_draw and (shown.why == f"not fitted: {BLANK}" or all(is_off(it, shown.page) for it in strokes)):
+    is_blank = shown.why == f"not fitted: {BLANK}" or all(is_off(it, shown.page) for it in strokes)
+    if request.is_draw and is_blank and shown.why != f"not fitted: {TOO_LARGE}":
         said = f"plotraster: {about}nothing is drawn on the page\n"
     sheets = shown.drawing.sheets or 0
     if sheets > 1 and not request.is_sheet_named and request.sheet != EACH and request.form != "report":
