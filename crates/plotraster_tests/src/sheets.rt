@@ -2,8 +2,8 @@
 use crate::pages::eight_by_eight;
 use crate::runs::drawn_as;
 use plotraster::{
-    Carousel, Drawing, Fault, Form, Job, OverRead, OverWrite, PageChoice, Picture, PngJob, Reading,
-    Smoothing, Unwatched, draw_sheets, write_sheet,
+    Carousel, Dots, Drawing, Fault, Form, Job, OverRead, OverWrite, PageChoice, Picture, PngJob,
+    Reading, Smoothing, Unwatched, draw_sheets, write_sheet,
 };
 use std::alloc::Global;
 use std::test::Fail;
@@ -69,6 +69,9 @@ fn sheets_of_one_drawing(rt: HostRuntime) -> Result<(), Fail> {
     Ok(())
 }
 
+// One line on the first sheet, and two on the second.
+const TWO_SHEETS: &[u8] = b"SP1;PU0,28;PD64,28;PG;PU28,0;PD28,64;PD60,36;";
+
 // The second sheet of a plot that has two, drawn by itself, has no ends: all of it is its first sheet.
 #[test]
 fn a_drawing_of_one_sheet(rt: HostRuntime) -> Result<(), Fail> {
@@ -76,7 +79,7 @@ fn a_drawing_of_one_sheet(rt: HostRuntime) -> Result<(), Fail> {
     let picture = rows_of(eight_by_eight(Form::Pbm)?);
     let choice = PageChoice::GIVEN;
     for reading in [Reading::Full { sheet: 2 }, Reading::Core] {
-        let drawing = drawing(alloc, reading, choice, &picture, SHEETS)?;
+        let drawing = drawing(alloc, reading, choice, &picture, TWO_SHEETS)?;
         let all = picture_of(alloc, &drawing, 0, choice, &picture)?;
         let first = picture_of(alloc, &drawing, 1, choice, &picture)?;
         assert!(rt; all.as_slice() == first.as_slice(), "{reading:?}");
@@ -128,5 +131,21 @@ fn no_pixels_are_chosen_in_pcl(rt: HostRuntime) -> Result<(), Fail> {
     let picture = rows_of(eight_by_eight(Form::Pcl)?);
     let answer = drawing(rt.alloc(), ALL, choice, &picture, SHEETS);
     assert!(rt; matches!(answer, Err(Fault::Resolution)));
+    Ok(())
+}
+
+// How much finer a picture of so many dots per inch is painted if its pixels are chosen, and if they are not.
+#[test]
+fn as_fine_as_may_be(rt: HostRuntime) -> Result<(), Fail> {
+    let pixels = PageChoice {
+        pixels: Some(100),
+        ..PageChoice::GIVEN
+    };
+    let given = Smoothing::new(8).ok_or("a smoothing")?;
+    for (resolution, times) in [(10, 8), (150, 8), (151, 7), (325, 3), (601, 1), (1200, 1)] {
+        let dots = Dots::new(resolution).ok_or("a resolution")?;
+        assert_eq!(rt; pixels.smoothing(dots, given).times(), times);
+        assert_eq!(rt; PageChoice::GIVEN.smoothing(dots, given).times(), 8);
+    }
     Ok(())
 }
