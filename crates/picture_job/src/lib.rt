@@ -3,6 +3,7 @@
 #![tactic(auto)]
 
 mod job;
+pub mod laws;
 mod page_choice;
 mod picture;
 mod png_job;
