@@ -86,8 +86,8 @@ on_page choice page job = record job { page = page; dots = dots_in choice.pixels
 abbrev pub times_on : PageChoice → Page → Job → Smoothing → ℕ
 times_on choice page job smoothing = (smoothing_in choice.pixels (dots_in choice.pixels page job.dots) smoothing).times
 
--- a form has any resolution, or pixels are chosen for no other form, and a picture that is smoothed is not too fine; if not,
--- nothing is read
+-- without pixels that are chosen, the form has the resolution, and the picture is not too fine to be smoothed; with them, the
+-- form takes every resolution. If not, nothing is read
 abbrev pub is_possible_in : Option ℕ → ℕ → Job → Bool
 is_possible_in None n job = is_possible n job
 is_possible_in (Some pixels) n job = has_any_resolution job.form

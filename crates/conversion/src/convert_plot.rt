@@ -97,8 +97,8 @@ pub(crate) fn convert_given<G: Gauge, S: Source, K: Sink>(
 /// If pixels are chosen, the page that the picture shows has so many along its longer side, instead of the job's resolution.
 ///
 /// Errors: those of `convert`, in the same order. `Resolution` comes also if the finer picture would have more than 1,200
-/// dots per inch, and if pixels are chosen in PCL, which has resolutions of its own. The plot is refused for the page that it asks for, if that is chosen and it asks for one, else for that of
-/// the job.
+/// dots per inch, and if pixels are chosen in PCL, which has resolutions of its own. The plot is refused for the page that it
+/// asks for, if that is chosen and it asks for one, else for that of the job.
 pub fn convert_on<G: Gauge, S: Source, K: Sink, W: Watcher>(
     alloc: Global,
     reading: Reading,

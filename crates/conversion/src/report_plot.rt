@@ -59,7 +59,8 @@ pub fn report<S: Source, K: Sink>(
 }
 
 /// Writes the report on the plot that the source gives, as `report` does, in either profile, on the page that is chosen: the
-/// page that is given, the page of the size that the plot asks for, or the page around what all pens draw on either. In the profile full it has a line for the number of sheets, and the strokes of the sheet that is read.
+/// page that is given, the page of the size that the plot asks for, or the page around what all pens draw on either. In the
+/// profile full it has a line for the number of sheets, and the strokes of the sheet that is read.
 ///
 /// Errors: those of `report`, in the same order. The plot is refused for the page that it asks for, if that is
 /// chosen and it asks for one, else for the page that is given.

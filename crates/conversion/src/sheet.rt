@@ -24,10 +24,10 @@ use stroke_raster::Gauge;
 /// Writes the picture of a sheet of a drawing, which counts from 1, or of all that is drawn for 0, on the page where the
 /// drawing lies. The job's page is not used. The gauge, the bands and the watcher are those of `convert_on`.
 ///
-/// Errors, in this order: `Resolution` if the form does not have the job's resolution, or has not every one and pixels are
-/// chosen, or if the finer picture of a smoothed one would have more than 1,200 dots per inch; `Paint` for a band height or
-/// a first row out of range; `Write` if the sink fails. `Memory` comes when memory is refused. After every error but `Write`
-/// the sink is as it was.
+/// Errors, in this order: `Resolution` if the form cannot have the job's resolution, if pixels are chosen and the form does
+/// not take every resolution, or if the finer picture of a smoothed one would have more than 1,200 dots per inch; `Paint` for
+/// a band height or a first row out of range; `Write` if the sink fails. `Memory` comes when memory is refused. After every
+/// error but `Write` the sink is as it was.
 pub fn write_picture_sheet<G: Gauge, K: Sink, W: Watcher>(
     alloc: Global,
     drawing: &Drawing,
