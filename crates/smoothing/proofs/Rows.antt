@@ -54,15 +54,21 @@ row_more inks rows n i k column mid new has cells =
     }
 
 -- cells that are 0 are white, and change nothing
-pub white_cells : (inks : List Ink) (cells : List ℕ) (first n : ℕ) (sums : Sums) → ((column : ℕ) → get_or cells column 0 ≡ 0) → HasCells inks cells first n sums sums
+pub white_cells : (inks : List Ink) (cells : List ℕ) (first n : ℕ) (sums : Sums) → ((k : ℕ) → k < n → get_or cells (first + k) 0 ≡ 0) → HasCells inks cells first n sums sums
 white_cells inks cells first n sums blank =
     let white : (c : ℕ) → c < 3 → (k : ℕ) → k < n → cell_channel inks cells c (first + k) ≡ get_or (cell_colour inks 0) c 0 =
-    λ c lt k lt'. ap (λ (cell : ℕ). get_or (cell_colour inks cell) c 0) (blank (first + k)) in
+    λ c lt k lt'. ap (λ (cell : ℕ). get_or (cell_colour inks cell) c 0) (blank k lt') in
     record {
       red = (omega (arith, total_white (cell_channel inks cells 0) first n (white 0 (omega arith))), omega arith);
       green = (omega (arith, total_white (cell_channel inks cells 1) first n (white 1 (omega arith))), omega arith);
       blue = (omega (arith, total_white (cell_channel inks cells 2) first n (white 2 (omega arith))), omega arith);
     }
+
+-- so are those of a pixel that lies between two columns, if the cells between these are 0
+pub white_between : (inks : List Ink) (cells : List ℕ) (n k from end : ℕ) (sums : Sums) → ((p : ℕ) → from ≤ p → p < end → get_or cells p 0 ≡ 0) → from ≤ n * k → n * (k + 1) ≤ end
+    → HasCells inks cells (n * k) n sums sums
+white_between inks cells n k from end sums blank low high =
+    white_cells inks cells (n * k) n sums (λ j lt. blank (n * k + j) (omega (arith, low)) (omega (arith, high, lt, times_more n k)))
 
 -- a white row is left
 filled_enough : (n k sum values : ℕ) → IsFilled n k sum values → k < n → 255 * n ≤ sum

@@ -1,6 +1,7 @@
 -- Sums of values, a value at a time.
-use Rattle.std.proofs.Common.{◌≡◌, ℕ, zero, suc, ◌+◌, ◌*◌, ◌<◌, ◌≤◌, List, get_or, ap, arith, refl}
+use Rattle.std.proofs.Common.{◌≡◌, ℕ, zero, suc, ◌+◌, ◌*◌, ◌<◌, ◌≤◌, ◌/◌, List, get_or, ap, arith, refl, ◌∙◌}
 use Rattle.std.proofs.Math.Nat.{div-lt_iff_lt-mul, one-le-mul}
+use Rattle.std.proofs.lemmas.Nat.{div-mul-add}
 use Rattle.picture_out.specs.declared.inks.Ink.{Ink}
 use Rattle.picture_out.specs.Inks.{cell_colour}
 use Rattle.smoothing.specs.Smoothings.{mean, total}
@@ -49,6 +50,13 @@ mean_small n sum least most =
     let some : 1 ≤ n * n = one-le-mul least least in
     let count : 0 < 2 * (n * n) = omega (arith, some) in
     (div-lt_iff_lt-mul count).1 (omega (arith, some, most))
+
+-- the mean of n by n times 255
+pub mean_white : (n : ℕ) → 1 ≤ n → mean n (255 * (n * n)) ≡ 255
+mean_white n least =
+    let some : 1 ≤ n * n = one-le-mul least least in
+    let parts : 2 * (255 * (n * n)) + n * n ≡ 255 * (2 * (n * n)) + n * n = omega arith in
+    ap (λ (sum : ℕ). sum / (2 * (n * n))) parts ∙ div-mul-add 255 (2 * (n * n)) (n * n) (omega (arith, some))
 
 -- nothing was replaced yet
 pub no_cells : (inks : List Ink) (cells : List ℕ) (first : ℕ) (sums : Sums) → HasCells inks cells first 0 sums sums

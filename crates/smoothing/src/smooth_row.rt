@@ -87,25 +87,23 @@ fn add_rows<I: Inks>(times: u32, band: &Band<'_>, i: u32, inks: &I, sums: &mut [
 // The same of one row.
 fn add_band_row<I: Inks>(band: &Band<'_>, row: u32, times: u32, inks: &I, sums: &mut [Sums])
     requires inks { All (λ row. All (λ cell. cell ≤ length (I.inks inks.now)) row) (rows_of_band band.now) }
+    requires least { 1 ≤ times }
     requires most { times ≤ 8 }
     requires few { length sums.old < 2 ^ 32 }
     requires enough { (k : ℕ) (d : Sums) → k < length sums.old → AtLeast (255 * times) (get_or sums.old k d) }
     ensures size { length sums.new ≡ length sums.old }
     ensures cells { HaveCells (I.inks inks.now) (row_of_band band.now row) times sums.old sums.new }
 {
-    if is_marked(band, row) {
-        add_row(band.row(row), times, inks, sums);
+    if row < band.rows() {
+        let span = band.span(row);
+        let cells = band.row(row);
+        add_row(
+            cells,
+            span.low as usize,
+            span.end as usize,
+            times,
+            inks,
+            sums,
+        );
     }
-}
-
-// Whether there is such a row in a band, and it may show a stroke.
-fn is_marked(band: &Band<'_>, row: u32) -> bool
-    ensures within { result ≡ true → row < length (rows_of_band band.now) }
-    ensures blank { result ≡ false → (k : ℕ) → get_or (row_of_band band.now row) k 0 ≡ 0 }
-{
-    if row >= band.rows() {
-        return false;
-    }
-    let span = band.span(row);
-    span.low < span.end
 }

@@ -62,7 +62,7 @@ impl Sums {
     }
 }
 
-// The mean of `times` by `times` bytes by their sum, rounded to the nearest.
+// The mean of `times` by `times` bytes by their sum, rounded to the nearest. Most pixels are white, and take no division.
 fn mean(sum: u16, times: u32) -> u8
     requires least { 1 ≤ times }
     requires most { times ≤ 8 }
@@ -70,22 +70,55 @@ fn mean(sum: u16, times: u32) -> u8
     ensures { result ≡ mean times sum }
 {
     let count = times * times;
+    if sum as u32 == 255 * count {
+        return 255;
+    }
     ((2 * sum as u32 + count) / (2 * count)) as u8
 }
 
-// Puts the cells of a row in the place of white pixels, as many to each pixel as `times` says.
-pub(crate) fn add_row<I: Inks>(cells: &[u32], times: u32, inks: &I, sums: &mut [Sums])
+// Puts the cells of a row in the place of white pixels, as many to each pixel as `times` says. Those before `low` and from
+// `end` on are 0.
+pub(crate) fn add_row<I: Inks>(
+    cells: &[u32],
+    low: usize,
+    end: usize,
+    times: u32,
+    inks: &I,
+    sums: &mut [Sums],
+)
     requires inks { All (λ cell. cell ≤ length (I.inks inks.now)) cells.now }
+    requires high { end ≤ length cells.now }
+    requires before { (k : ℕ) → k < low → get_or cells.now k 0 ≡ 0 }
+    requires after { (k : ℕ) → end ≤ k → get_or cells.now k 0 ≡ 0 }
+    requires least { 1 ≤ times }
     requires most { times ≤ 8 }
     requires few { length sums.old < 2 ^ 32 }
     requires enough { (k : ℕ) (d : Sums) → k < length sums.old → AtLeast (255 * times) (get_or sums.old k d) }
     ensures size { length sums.new ≡ length sums.old }
     ensures cells { HaveCells (I.inks inks.now) cells.now times sums.old sums.new }
 {
-    for column in 0..sums.len() {
-        let first = times as usize * column;
+    let side = times as usize;
+    let mut marked = next_marked(cells, low, end);
+    'marked: while marked < end && marked / side < sums.len() {
+        let column = marked / side;
+        let first = side * column;
         sums[column] = with_cells(sums[column], cells, first, times, inks);
+        marked = next_marked(cells, first + side, end);
     }
+}
+
+// The first column from `from` on, and before `end`, whose cell is not 0; if there is none, the greater of the two.
+#[inline(always)]
+fn next_marked(cells: &[u32], from: usize, end: usize) -> usize
+    requires high { end ≤ length cells.now }
+    ensures onward { from ≤ result }
+    ensures blank { (k : ℕ) → from ≤ k → k < result → get_or cells.now k 0 ≡ 0 }
+{
+    let mut at = from;
+    'cells: while at < end && cells[at] == 0 {
+        at += 1;
+    }
+    at
 }
 
 // These sums, with the cells from `first` on in the place of white pixels.
