@@ -3,6 +3,7 @@ ghost use Rattle.std.specs.Prelude.{◌≡◌, ℕ, List, ◌<◌, ◌≤◌, �
 ghost use Rattle.std.specs.List.{list_any};
 ghost use Rattle.std.specs.Str.{bytes_eq};
 ghost use Rattle.conversion.specs.Palettes.{AreNumbers, IsNumbered, colours_used, with_colour};
+ghost use Rattle.conversion.specs.Known.{HasNumber};
 ghost use Rattle.conversion.specs.PixelRows.{place_of};
 
 use plot_page::{Colour, PenSet, Stroke};
@@ -66,9 +67,11 @@ fn number_of(
 pub fn add_colour(colour: [u8; 3], colours: &mut Vec<[u8; 3]>) -> Result<Option<u8>, AllocError>
     requires few { length colours.old.items ≤ MOST_COLOURS }
     ensures few { length colours.new.items ≤ MOST_COLOURS }
+    ensures kept { length colours.old.items ≤ length colours.new.items }
     ensures added { IfOk result (λ found. IfSome found (λ _. colours.new.items ≡ with_colour colours.old.items colour)) }
     ensures within { IfOk result (λ found. IfSome found (λ number. number < length colours.new.items)) }
     ensures named { IfOk result (λ found. IfSome found (λ number. get_or colours.new.items number [] ≡ colour)) }
+    ensures placed { IfOk result (λ found. IfSome found (λ number. HasNumber colours.new.items colour number)) }
 {
     let number = position_of(colours.as_slice(), colour);
     if number < colours.len() {

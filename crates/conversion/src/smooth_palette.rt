@@ -6,9 +6,11 @@ ghost use Rattle.smoothing.specs.Cells.{colours_of_cells};
 ghost use Rattle.smoothing.specs.Rows.{times_of, width_of};
 ghost use Rattle.smoothing.specs.Smoothings.{smoothed};
 ghost use Rattle.conversion.specs.Inks.{inks_held};
+ghost use Rattle.conversion.specs.Known.{AreKnown};
 ghost use Rattle.conversion.specs.Palettes.{with_colour};
 ghost use Rattle.conversion.specs.Progress.{row_pixels, tests_left};
 
+use crate::known::Known;
 use crate::palette::{MOST_COLOURS, add_colour};
 use crate::smooth_bands::SmoothBands;
 use crate::smoother::Smoother;
@@ -24,6 +26,7 @@ pub fn add_colours<G: Gauge>(
     gauge: &mut G,
     colours: &mut Vec<[u8; 3]>,
 ) -> Result<bool, AllocError>
+    requires some { 0 < length colours.old.items }
     requires few { length colours.old.items ≤ MOST_COLOURS }
     ensures few { length colours.new.items ≤ MOST_COLOURS }
     ensures colours { IfOk result (λ all. all ≡ true → colours.new.items ≡ fold with_colour colours.old.items
@@ -46,7 +49,9 @@ fn add_next<G: Gauge>(
     colours: &mut Vec<[u8; 3]>,
 ) -> Result<bool, AllocError>
     requires left { bands.old.next < bands.old.rows }
+    requires some { 0 < length colours.old.items }
     requires few { length colours.old.items ≤ MOST_COLOURS }
+    ensures more { 0 < length colours.new.items }
     ensures few { length colours.new.items ≤ MOST_COLOURS }
     ensures some { bands.old.next < bands.new.next }
     ensures within { bands.new.next ≤ bands.old.rows }
@@ -75,7 +80,9 @@ fn add_rows(
 ) -> Result<bool, AllocError>
     requires inks { All (λ row. All (λ cell. cell ≤ length (inks_held smoother.old.inks)) row) (rows_of_band band.now) }
     requires place { count ≤ 4096 }
+    requires some { 0 < length colours.old.items }
     requires few { length colours.old.items ≤ MOST_COLOURS }
+    ensures some { 0 < length colours.new.items }
     ensures few { length colours.new.items ≤ MOST_COLOURS }
     ensures colours { IfOk result (λ all. all ≡ true → colours.new.items ≡ fold with_colour colours.old.items
         (flat_map (λ k. map (smoothed (times_of smoother.old.pixels) (colours_of_cells (inks_held smoother.old.inks) (rows_of_band band.now)) k)
@@ -96,14 +103,43 @@ fn add_rows(
 
 // The same of the pixels of a row.
 fn add_pixels(pixels: &[[u8; 3]], colours: &mut Vec<[u8; 3]>) -> Result<bool, AllocError>
+    requires some { 0 < length colours.old.items }
     requires few { length colours.old.items ≤ MOST_COLOURS }
+    ensures some { 0 < length colours.new.items }
     ensures few { length colours.new.items ≤ MOST_COLOURS }
     ensures colours { IfOk result (λ all. all ≡ true → colours.new.items ≡ fold with_colour colours.old.items pixels.now) }
 {
+    let mut known = Known::first(colours[0]);
     for pixel in pixels {
-        if add_colour(*pixel, colours)?.is_none() {
+        if !add_pixel(*pixel, colours, &mut known)? {
             return Ok(false);
         }
     }
     Ok(true)
+}
+
+// The same of a pixel, when some of the colours are known.
+#[inline(always)]
+fn add_pixel(
+    pixel: [u8; 3],
+    colours: &mut Vec<[u8; 3]>,
+    known: &mut Known,
+) -> Result<bool, AllocError>
+    requires few { length colours.old.items ≤ MOST_COLOURS }
+    requires known { AreKnown colours.old.items known.old }
+    ensures kept { length colours.old.items ≤ length colours.new.items }
+    ensures few { length colours.new.items ≤ MOST_COLOURS }
+    ensures colour { IfOk result (λ all. all ≡ true → colours.new.items ≡ with_colour colours.old.items pixel) }
+    ensures known { IfOk result (λ all. all ≡ true → AreKnown colours.new.items known.new) }
+{
+    if known.number_of(pixel).is_some() {
+        return Ok(true);
+    }
+    match add_colour(pixel, colours)? {
+        Some(number) => {
+            known.keep(pixel, number);
+            Ok(true)
+        }
+        None => Ok(false),
+    }
 }

@@ -19,6 +19,7 @@ each-preserved g c =
     let all : c.in_ok-add_next.field-0 ≡ true = cc in
     let added = subst (λ (f : ℕ → List (List ℕ)). c.add_next.new.colours.items ≡ fold with_colour c.each.colours.items (flat_map f (range_with_len at (end - at)))) same (made.colours all) in
     record {
+      some = made.more;
       few = made.few;
       rows = made.rows ∙ inv.rows;
       pixels = made.pixels ∙ inv.pixels;

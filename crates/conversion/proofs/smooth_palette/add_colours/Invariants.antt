@@ -1,4 +1,4 @@
-use Rattle.std.proofs.Common.{◌≡◌, ◌≤◌, ◌+◌, ◌-◌, length, fold}
+use Rattle.std.proofs.Common.{◌≡◌, ◌<◌, ◌≤◌, ◌+◌, ◌-◌, length, fold}
 use Rattle.std.specs.List.{flat_map, range_with_len}
 use Rattle.conversion.specs.Palettes.{with_colour}
 use Rattle.conversion.specs.Progress.{row_pixels, tests_left}
@@ -9,6 +9,7 @@ abbrev pub invariant-each : goal.invariant-each
 invariant-each g l =
     let first = l.fn.bands.next in
     record {
+      some : 0 < length l.colours.items;
       few : length l.colours.items ≤ 256;
       rows : l.bands.rows ≡ l.fn.bands.rows;
       pixels : row_pixels l.bands ≡ row_pixels l.fn.bands;

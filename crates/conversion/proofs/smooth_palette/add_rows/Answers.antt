@@ -24,6 +24,7 @@ loop-i-preserved c =
     ∙ ap (λ (width : ℕ). row (times_of old.pixels) old.inks width i) inv.width in
     let all : c.in_ok-add_pixels.field-0 ≡ true = cc in
     record {
+      some = c.in_ok-add_pixels.ensures.some;
       few = c.in_ok-add_pixels.ensures.few;
       colours = colours_more c.args.colours.now.items c.loop-i.colours.items c.add_pixels.new.colours.items (row (times_of old.pixels) old.inks (width_of old.pixels)) i c.pixels.result.now inv.colours (c.in_ok-add_pixels.ensures.colours all) are;
       inks = smooth.inks ∙ inv.inks;

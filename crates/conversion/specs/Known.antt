@@ -1,0 +1,15 @@
+-- Numbers of colours that are known, as contracts of private functions say it.
+use Rattle.std.specs.Prelude.{◌≡◌, ◌<◌, ℕ, List, [], get_or, true}
+use Rattle.std.specs.List.{list_any}
+use Rattle.std.specs.Str.{bytes_eq}
+use Rattle.conversion.specs.PixelRows.{place_of}
+use Rattle.conversion.specs.declared.known.Known.{Known}
+
+-- a palette has a colour, first at the place of this number
+pub record HasNumber (palette : List (List ℕ)) (colour : List ℕ) (number : ℕ) : Type 0 where
+  pub found : list_any (bytes_eq colour) palette ≡ true
+  pub place : place_of palette colour ≡ number
+
+-- so it has each colour that is known
+abbrev pub AreKnown : List (List ℕ) → Known → Type 0
+AreKnown palette known = (k : ℕ) → k < 256 → HasNumber palette (get_or known.colours k []) (get_or known.numbers k 0)
