@@ -1,0 +1,3 @@
+pub mod Polylines
+pub mod Sorted
+pub mod Tables

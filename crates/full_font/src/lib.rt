@@ -1,0 +1,11 @@
+//! The full stick font: the strokes that draw characters by their code points in Unicode. It has small letters,
+//! accents, Greek letters and technical signs.
+#![tactic(auto)]
+
+mod characters;
+mod font;
+mod grid;
+mod rows;
+
+pub use characters::glyph;
+pub use grid::GlyphStroke;
