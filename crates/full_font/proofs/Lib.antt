@@ -1,3 +1,4 @@
 pub mod Polylines
 pub mod Sorted
 pub mod Tables
+pub mod FontLaws

@@ -7,7 +7,7 @@ use Rattle.full_font.specs.Glyphs.{Row, font, from_space, from_grave_accent, fro
 use Rattle.full_font.specs.Rows.{code_points, is_rising, lines_at}
 
 -- two functions that agree on n numbers, from a and from 0 on, agree on each of them
-each_of : {X : Type 0} (f g : ℕ → X) (a n k : ℕ) → map f (range_with_len a n) ≡ map g (range_with_len 0 n) → a ≤ k → k < a + n → f k ≡ g (k - a)
+pub each_of : {X : Type 0} (f g : ℕ → X) (a n k : ℕ) → map f (range_with_len a n) ≡ map g (range_with_len 0 n) → a ≤ k → k < a + n → f k ≡ g (k - a)
 each_of f g a n k same low high =
     let within : k - a < n = omega arith in
     sym (get_or-map-range_with_len f a n (k - a) k (f 0) within (omega arith))

@@ -5,6 +5,7 @@
 mod characters;
 mod font;
 mod grid;
+pub mod laws;
 mod rows;
 
 pub use characters::glyph;
