@@ -1,5 +1,5 @@
 -- Facts of each character, found by computing all of them.
-use Rattle.std.proofs.Common.{◌≡◌, ◌<◌, ◌≤◌, ◌+◌, ◌-◌, ℕ, List, [], ◌∷◌, ◌++◌, Bool, true, false, map, length, nat_eq, nat_lt, nat_le, ◌&&◌, ◌||◌, if◌then◌else◌, refl, sym, ap, ◌∙◌, arith, inl, inr}
+use Rattle.std.proofs.Common.{◌≡◌, ◌<◌, ◌≤◌, ◌+◌, ◌-◌, ℕ, List, [], ◌∷◌, Bool, true, false, map, length, nat_eq, nat_le, ◌&&◌, if◌then◌else◌, refl, ap, ◌∙◌, arith, inl, inr}
 use Rattle.std.specs.List.{list_all, flat_map, range_with_len}
 use Rattle.std.proofs.lemmas.Bool.{cases_lt}
 use Rattle.std.proofs.lemmas.Bool.Decides.{nat_tests}
@@ -11,7 +11,7 @@ use Rattle.full_font.specs.Rows.{code_points, is_rising}
 use Rattle.full_font.specs.Laws.{is_on_grid, as_glyph_stroke, is_capital_or_sign}
 use Rattle.full_font.proofs.Tables.{each_of}
 
-abbrev drawn : List (List ℕ) → List GlyphStroke
+abbrev pub drawn : List (List ℕ) → List GlyphStroke
 drawn lines = flat_map polyline_strokes lines
 
 -- what holds of a box and of each row holds of each code point

@@ -1,13 +1,13 @@
 -- Rows that are sorted by their code points.
-use Rattle.std.proofs.Common.{◌≡◌, ℕ, zero, suc, ◌<◌, ◌≤◌, List, [], ◌∷◌, map, length, get_or, Bool, true, false, nat_eq, nat_lt, ◌&&◌, Result, Ok, Err, refl, sym, ap, ◌∙◌, arith, Bor, inl, inr, ◌≢◌, ◌⊎◌}
-use Rattle.std.specs.List.Sorted.{IsBinarySearchResult, IsNonDecreasingBy, IsSearchInRange}
+use Rattle.std.proofs.Common.{◌≡◌, ℕ, zero, suc, ◌<◌, ◌≤◌, List, [], ◌∷◌, map, length, get_or, true, false, nat_eq, Ok, Err, refl, sym, ap, ◌∙◌, arith, Bor, inl, inr, ◌≢◌}
+use Rattle.std.specs.List.Sorted.{IsBinarySearchResult, IsNonDecreasingBy}
 use Rattle.std.specs.Ordering.{nat_cmp, ordering_index}
 use Rattle.std.proofs.lemmas.Bool.Decides.{nat_tests}
 use Rattle.std.proofs.lemmas.Bool.{cases_lt}
 use Rattle.std.proofs.lemmas.Cmp.{ranked}
 use Rattle.std.proofs.lemmas.List.Sorted.{IsNonDecreasingBy-from_default}
 use Rattle.full_font.specs.Glyphs.{Row, box, lines_in}
-use Rattle.full_font.specs.Rows.{rows_of, row_of, lines_at, code_points, is_rising}
+use Rattle.full_font.specs.Rows.{rows_of, lines_at, code_points, is_rising}
 
 abbrev pub Rows : Type 0
 Rows = List (ℕ × Bor (List (Bor (List ℕ))))

@@ -1,10 +1,10 @@
 -- What holds of the whole font. The first three laws hold of all code points, also of those that are drawn as a box.
-use Rattle.std.specs.Prelude.{◌≡◌, ℕ, ℤ, pos, negsuc, ◌<◌, ◌≤◌, List, [], ◌∷◌, Bool, ◌&&◌, ◌||◌, IsTrue, length, map, nat_eq, nat_lt, nat_le, int_le}
+use Rattle.std.specs.Prelude.{◌≡◌, ◌↔◌, ℕ, ℤ, pos, negsuc, ◌<◌, ◌≤◌, List, [], ◌∷◌, Bool, ◌&&◌, ◌||◌, IsTrue, length, map, nat_eq, nat_le, int_le}
 use Rattle.std.specs.List.{list_all, list_any}
 use Rattle.stick_font.specs.Glyphs as capitals
 use Rattle.stick_font.specs.declared.grid.GridStroke.{GridStroke}
 use Rattle.full_font.specs.declared.grid.GlyphStroke.{GlyphStroke}
-use Rattle.full_font.specs.Glyphs.{Row, font, glyph_strokes}
+use Rattle.full_font.specs.Glyphs.{font, glyph_strokes}
 use Rattle.full_font.specs.Rows.{code_points, is_rising}
 
 -- x is 0 to 4, y is -2 to 8

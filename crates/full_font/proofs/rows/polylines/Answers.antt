@@ -1,6 +1,5 @@
 use Rattle.std.proofs.Common.{◌≡◌, false, ◌∙◌, sym, arith}
 use Rattle.std.proofs.lemmas.Bool.Decides.{nat_tests}
-use Rattle.full_font.specs.Glyphs.{further, lines_in}
 use Rattle.full_font.proofs.Tables.{in_from_space, in_from_grave_accent, in_from_no_break_space, in_from_eth, in_further, is_near, further_rises}
 use Rattle.full_font.proofs.rows.polylines.Goals as goal
 
