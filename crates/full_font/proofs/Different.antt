@@ -4,7 +4,7 @@ use Rattle.std.specs.List.{list_all, list_any}
 use Rattle.std.proofs.lemmas.Bool.{or_cases}
 use Rattle.std.proofs.lemmas.Bool.Decides.{nat_tests}
 use Rattle.full_font.specs.declared.grid.GlyphStroke.{GlyphStroke}
-use Rattle.full_font.specs.Glyphs.{Row, font, from_space, from_grave_accent, from_no_break_space, from_eth, further, lines_in, glyph_strokes}
+use Rattle.full_font.specs.Glyphs.{Row, font, lines_in, glyph_strokes}
 use Rattle.full_font.specs.Rows.{code_points}
 use Rattle.full_font.specs.Laws.{is_in, are_look_alikes, look_alikes}
 use Rattle.full_font.proofs.FontLaws.{drawn}
@@ -25,7 +25,7 @@ abbrev all_pairs : List (ℕ × ℕ) → Bool
 all_pairs ps = list_all (λ p. list_all (λ q. are_one_or_alike p.0 p.1 q.0 q.1) ps) ps
 
 all_compared : all_pairs (marks font) ≡ true
-unfolding font from_space from_grave_accent from_no_break_space from_eth further
+unfolding font
 all_compared = refl
 
 -- what holds of each row holds of each code point that has a row
@@ -86,7 +86,7 @@ alike_in (group ∷ groups) a b (first, others) here = elim (or_cases (is_in gro
 ]
 
 all_same : AllSame look_alikes
-unfolding font from_space from_grave_accent from_no_break_space from_eth further
+unfolding font
 all_same = ((glyph_strokes 0x2d, refl), ((glyph_strokes 0xb5, refl), ((glyph_strokes 0xb7, refl), ((glyph_strokes 0x20, refl), tt))))
 
 pub alike : (a b : ℕ) → are_look_alikes a b ≡ true → glyph_strokes a ≡ glyph_strokes b

@@ -6,7 +6,7 @@ use Rattle.std.proofs.lemmas.Bool.Decides.{nat_tests}
 use Rattle.stick_font.specs.Glyphs as capitals
 use Rattle.stick_font.specs.Glyphs.{first_rows, last_rows}
 use Rattle.full_font.specs.declared.grid.GlyphStroke.{GlyphStroke}
-use Rattle.full_font.specs.Glyphs.{Row, font, from_space, from_grave_accent, from_no_break_space, from_eth, further, box, lines_in, polyline_strokes, glyph_strokes}
+use Rattle.full_font.specs.Glyphs.{Row, font, box, lines_in, polyline_strokes, glyph_strokes}
 use Rattle.full_font.specs.Rows.{code_points, is_rising}
 use Rattle.full_font.specs.Laws.{is_on_grid, as_glyph_stroke, is_capital_or_sign}
 use Rattle.full_font.proofs.Tables.{each_of}
@@ -29,7 +29,7 @@ abbrev grid_test : List GlyphStroke → Bool
 grid_test strokes = list_all (λ s. is_on_grid s.ax s.ay && is_on_grid s.bx s.by) strokes
 
 all_on_grid : list_all (λ row. grid_test (drawn row.1)) font ≡ true
-unfolding font from_space from_grave_accent from_no_break_space from_eth further
+unfolding font
 all_on_grid = refl
 
 pub on_grid : (n : ℕ) → grid_test (glyph_strokes n) ≡ true
@@ -39,7 +39,7 @@ abbrev few_test : List GlyphStroke → Bool
 few_test strokes = nat_le (length strokes) 15
 
 all_few : list_all (λ row. few_test (drawn row.1)) font ≡ true
-unfolding font from_space from_grave_accent from_no_break_space from_eth further
+unfolding font
 all_few = refl
 
 pub few : (n : ℕ) → length (glyph_strokes n) ≤ 15
@@ -48,15 +48,15 @@ few n =
     grind (arith, nat_tests)
 
 pub rows_rise : is_rising (code_points font) ≡ true
-unfolding font from_space from_grave_accent from_no_break_space from_eth further
+unfolding font
 rows_rise = refl
 
 all_capitals : map glyph_strokes (range_with_len 32 65) ≡ map (λ i. map as_glyph_stroke (capitals.glyph_strokes (32 + i))) (range_with_len 0 65)
-unfolding font from_space from_grave_accent from_no_break_space from_eth further first_rows last_rows
+unfolding font first_rows last_rows
 all_capitals = refl
 
 all_last : map glyph_strokes (range_with_len 123 4) ≡ map (λ i. map as_glyph_stroke (capitals.glyph_strokes (123 + i))) (range_with_len 0 4)
-unfolding font from_space from_grave_accent from_no_break_space from_eth further first_rows last_rows
+unfolding font first_rows last_rows
 all_last = refl
 
 pub capitals_as_before : (byte : ℕ) → is_capital_or_sign byte ≡ true → glyph_strokes byte ≡ map as_glyph_stroke (capitals.glyph_strokes byte)

@@ -3,8 +3,8 @@ use Rattle.std.proofs.Common.{◌≡◌, ℕ, ◌<◌, ◌≤◌, ◌+◌, ◌-�
 use Rattle.std.specs.List.{list_all, range_with_len}
 use Rattle.std.proofs.lemmas.Bool.Decides.{nat_tests}
 use Rattle.std.proofs.lemmas.List.FromFn.{get_or-map-range_with_len}
-use Rattle.full_font.specs.Glyphs.{Row, font, from_space, from_grave_accent, from_no_break_space, from_eth, further, lines_in}
-use Rattle.full_font.specs.Rows.{code_points, is_rising, lines_at}
+use Rattle.full_font.specs.Glyphs.{Row, font, lines_in}
+use Rattle.full_font.specs.Rows.{from_space, from_grave_accent, from_no_break_space, from_eth, further, code_points, is_rising, lines_at}
 
 -- two functions that agree on n numbers, from a and from 0 on, agree on each of them
 pub each_of : {X : Type 0} (f g : ℕ → X) (a n k : ℕ) → map f (range_with_len a n) ≡ map g (range_with_len 0 n) → a ≤ k → k < a + n → f k ≡ g (k - a)
@@ -59,9 +59,14 @@ all_near : list_all is_near (code_points (from_space ++ from_grave_accent ++ fro
 unfolding from_space from_grave_accent from_no_break_space from_eth
 all_near = refl
 
+all_rows : font ≡ (from_space ++ from_grave_accent ++ from_no_break_space ++ from_eth) ++ further
+unfolding font from_space from_grave_accent from_no_break_space from_eth further
+all_rows = refl
+
 pub in_further : (n : ℕ) → is_near n ≡ false → lines_in font n ≡ lines_in further n
-unfolding font
-in_further n far = skipped is_near (from_space ++ from_grave_accent ++ from_no_break_space ++ from_eth) further n all_near far
+in_further n far =
+    ap (λ rows. lines_in rows n) all_rows
+    ∙ skipped is_near (from_space ++ from_grave_accent ++ from_no_break_space ++ from_eth) further n all_near far
 
 pub further_rises : is_rising (code_points further) ≡ true
 unfolding further

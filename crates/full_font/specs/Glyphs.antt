@@ -48,24 +48,11 @@ polyline_strokes line = strokes_through (grid_points line)
 abbrev pub Row : Type 0
 Row = ℕ × List (List ℕ)
 
--- the rows of each table of src/font.rt, and all of them
-unfoldable pub from_space : List Row
-from_space = map (λ row. (row.0, map (λ line. line.now) row.1.now)) FROM_SPACE
-
-unfoldable pub from_grave_accent : List Row
-from_grave_accent = map (λ row. (row.0, map (λ line. line.now) row.1.now)) FROM_GRAVE_ACCENT
-
-unfoldable pub from_no_break_space : List Row
-from_no_break_space = map (λ row. (row.0, map (λ line. line.now) row.1.now)) FROM_NO_BREAK_SPACE
-
-unfoldable pub from_eth : List Row
-from_eth = map (λ row. (row.0, map (λ line. line.now) row.1.now)) FROM_ETH
-
-unfoldable pub further : List Row
-further = map (λ row. (row.0, map (λ line. line.now) row.1.now)) FURTHER
-
+-- the rows of the tables of src/font.rt
 unfoldable pub font : List Row
-font = from_space ++ from_grave_accent ++ from_no_break_space ++ from_eth ++ further
+font =
+    map (λ row. (row.0, map (λ line. line.now) row.1.now))
+    (FROM_SPACE ++ FROM_GRAVE_ACCENT ++ FROM_NO_BREAK_SPACE ++ FROM_ETH ++ FURTHER)
 
 -- an empty box
 abbrev pub box : List (List ℕ)

@@ -6,7 +6,8 @@
 //! polyline. A polyline of one point is a dot. `tools/font_table --full` draws all characters as
 //! text.
 //!
-//! The shapes are our own.
+//! The shapes are our own. There are five tables, since what the proof of a look-up takes grows with the
+//! square of the number of rows.
 
 /// A code point in Unicode, and the polylines of its character.
 pub(crate) type FontRow = (u32, &'static [&'static str]);

@@ -1,7 +1,7 @@
 //! The row of a character.
 ghost use Rattle.std.specs.Prelude.{◌≡◌, ◌<◌, map, IsTrue};
 ghost use Rattle.full_font.specs.Glyphs.{font, lines_in};
-ghost use Rattle.full_font.specs.Glyphs.{from_space, from_grave_accent, from_no_break_space, from_eth, further};
+ghost use Rattle.full_font.specs.Rows.{from_space, from_grave_accent, from_no_break_space, from_eth, further};
 ghost use Rattle.full_font.specs.Rows.{rows_of, lines_at, code_points, is_rising};
 
 use crate::font::{

@@ -1,5 +1,5 @@
 use Rattle.std.proofs.Common.{refl}
-use Rattle.full_font.specs.Glyphs.{from_no_break_space}
+use Rattle.full_font.specs.Rows.{from_no_break_space}
 use Rattle.full_font.proofs.Sorted.{lines-get_or}
 use Rattle.full_font.proofs.rows.row_from_no_break_space.Goals as goal
 
