@@ -1,4 +1,4 @@
--- What holds of the whole font. The first three laws hold of all code points, also of those that are drawn as a box.
+-- What holds of the whole font. The first two laws hold of all code points, also of those that are drawn as a box.
 use Rattle.std.specs.Prelude.{◌≡◌, ◌↔◌, ℕ, ℤ, pos, negsuc, ◌<◌, ◌≤◌, List, [], ◌∷◌, Bool, ◌&&◌, ◌||◌, IsTrue, length, map, nat_eq, nat_le, int_le}
 use Rattle.std.specs.List.{list_all, list_any}
 use Rattle.stick_font.specs.Glyphs as capitals
