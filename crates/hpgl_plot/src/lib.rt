@@ -17,7 +17,6 @@ mod plotter;
 mod state;
 mod turn;
 mod window;
-mod wrong;
 
 pub use carousel::Carousel;
 pub use drawn::{Drawn, draw_plot, draw_plot_with};

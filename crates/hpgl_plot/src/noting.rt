@@ -1,18 +1,24 @@
 //! Noting what is skipped, wrong or open.
 ghost use Rattle.std.specs.Prelude.{◌≡◌, ◌<◌, ◌^◌, ◌++◌, ℕ, List, IfOk, length};
-ghost use Rattle.hpgl_plot.specs.Notes.{item_noted, note_at, notes_of, notes_with, open_noted};
+ghost use Rattle.plot_settings.specs.Meanings.{meaning};
+ghost use Rattle.plot_settings.specs.Requests.{request_meaning};
+ghost use Rattle.hpgl_plot.specs.Notes.{item_noted, note_at, notes_with, open_noted, parameters_noted};
 
 use crate::item_notes::ItemNotes;
 use crate::note::{Note, NoteKind};
-use crate::wrong::noted_parameters;
-use hpgl_text::{Body, Item};
+use hpgl_text::{Body, Instruction, Item, Numbers};
+use plot_settings::{Request, is_off_axis, request_of};
 use std::alloc::AllocError;
 
-/// Appends to the notes what is noted on an item.
-pub fn note_item(item: &Item<'_>, notes: &mut Vec<Note>) -> Result<(), AllocError>
-    ensures { IfOk result (λ _. notes.new.items ≡ notes.old.items ++ notes_of item.now) }
+/// Appends to the notes those on an item on whose first byte this is noted.
+pub fn note_item(
+    item: &Item<'_>,
+    own: Option<NoteKind>,
+    notes: &mut Vec<Note>,
+) -> Result<(), AllocError>
+    ensures { IfOk result (λ _. notes.new.items ≡ notes.old.items ++ notes_with own item.now) }
 {
-    let mut rest = ItemNotes::new(item, noted_kind(item));
+    let mut rest = ItemNotes::new(item, own);
     'notes: while let Some(note) = rest.next() {
         notes.push(note)?;
     }
@@ -65,11 +71,33 @@ pub fn noted_kind(item: &Item<'_>) -> Option<NoteKind>
     ensures { result ≡ item_noted item.now }
 {
     match &item.body {
-        Body::Params(instruction, numbers) => noted_parameters(*instruction, numbers),
+        Body::Params(instruction, numbers) => {
+            let request = request_of(*instruction, numbers);
+            noted_parameters(*instruction, numbers, &request)
+        }
         Body::Coded(_) | Body::Label(_) | Body::Terminator(_) => None,
         Body::Further(_, _) | Body::Kept(_) | Body::Symbol(_) | Body::Known => None,
         Body::Skipped => Some(NoteKind::Skipped),
         Body::Bad => Some(NoteKind::Bad),
         Body::Stray(byte) => Some(NoteKind::Stray(*byte)),
+    }
+}
+
+/// What is noted on an instruction that asks for this by its numbers.
+#[inline(always)]
+pub fn noted_parameters(
+    instruction: Instruction,
+    numbers: &Numbers<'_>,
+    request: &Request,
+) -> Option<NoteKind>
+    requires { request_meaning request.now numbers.now ≡ meaning instruction numbers.now }
+    ensures { result ≡ parameters_noted instruction numbers.now }
+{
+    if request.is_wrong(numbers) {
+        Some(NoteKind::Bad)
+    } else if is_off_axis(instruction, numbers) {
+        Some(NoteKind::Axis)
+    } else {
+        None
     }
 }

@@ -11,6 +11,8 @@ mod plain;
 mod settings;
 
 use crate::fault::PlotFault;
+use crate::note::NoteKind;
+use crate::noting::{noted_kind, noted_parameters};
 use crate::place::{start_axes, start_of};
 use crate::state::State;
 use carousel::Carousel;
@@ -42,11 +44,12 @@ pub struct Plotter {
 }
 
 impl Plotter {
-    ghost use Rattle.std.specs.Prelude.{◌≡◌, Some, true};
+    ghost use Rattle.std.specs.Prelude.{◌≡◌, IfOk, Some, true};
     ghost use Rattle.hpgl_text.specs.SeenEntries.{part_shape};
     ghost use Rattle.hpgl_plot.specs.Bounds.{IsPlain};
     ghost use Rattle.plot_settings.specs.Requests.{request_meaning, move_steps, IsRequest};
     ghost use Rattle.hpgl_plot.specs.Machine.{seen, at_start, at_start_with, step, run, Runs, CarriesOut};
+    ghost use Rattle.hpgl_plot.specs.Notes.{item_noted, parameters_noted};
     ghost use Rattle.plot_settings.specs.Meanings.{Lower, Relate, moves, lowered_then, part_steps, entry_steps};
     ghost use Rattle.plot_settings.specs.Meanings.{meaning, steps_of};
 
@@ -71,32 +74,37 @@ impl Plotter {
         }
     }
 
-    /// Carries out an item. Only the instructions of the profile core do something, and of these not DT.
-    pub fn take(&mut self, item: &Item<'_>) -> Result<(), Stop>
-        ensures { Runs (run (seen self.old) (steps_of item.now)) (seen self.new) result }
+    /// Carries out an item, and answers what is noted on it at its first byte. Only the instructions of the
+    /// profile core do something, and of these not DT.
+    pub fn take(&mut self, item: &Item<'_>) -> Result<Option<NoteKind>, Stop>
+        ensures runs { Runs (run (seen self.old) (steps_of item.now)) (seen self.new) result }
+        ensures noted { IfOk result (λ noted. noted ≡ item_noted item.now) }
     {
         match &item.body {
             Body::Params(instruction, numbers) => self.obey(*instruction, numbers),
-            Body::Coded(polyline) => self.follow_entries(polyline.entries()),
+            Body::Coded(polyline) => {
+                self.follow_entries(polyline.entries())?;
+                Ok(None)
+            }
             Body::Label(bytes) => {
                 self.write(bytes)?;
-                Ok(())
+                Ok(None)
             }
-            Body::Terminator(_) | Body::Further(_, _) | Body::Kept(_) | Body::Symbol(_) => Ok(()),
-            Body::Known | Body::Skipped | Body::Bad | Body::Stray(_) => Ok(()),
+            _ => Ok(noted_kind(item)),
         }
     }
 
     /// The same, with the refusal at the item: of a place out of range, or of a stroke too many.
-    pub fn carry_out(&mut self, item: &Item<'_>) -> Result<(), PlotFault>
-        ensures { CarriesOut (seen self.old) item.now (seen self.new) result }
+    pub fn carry_out(&mut self, item: &Item<'_>) -> Result<Option<NoteKind>, PlotFault>
+        ensures carried { CarriesOut (seen self.old) item.now (seen self.new) result }
+        ensures noted { IfOk result (λ noted. noted ≡ item_noted item.now) }
     {
         match self.take(item) {
-            Ok(()) => {
+            Ok(noted) => {
                 if self.is_full {
                     Err(PlotFault::TooManyStrokes { at: item.at })
                 } else {
-                    Ok(())
+                    Ok(noted)
                 }
             }
             Err(Stop::Memory) => Err(PlotFault::Memory),
@@ -104,11 +112,19 @@ impl Plotter {
         }
     }
 
-    // Carries out an instruction with its numbers.
-    fn obey(&mut self, instruction: Instruction, numbers: &Numbers<'_>) -> Result<(), Stop>
-        ensures { Runs (run (seen self.old) (meaning instruction numbers.now).steps) (seen self.new) result }
+    // Carries out an instruction with its numbers, and answers what is noted on it.
+    fn obey(
+        &mut self,
+        instruction: Instruction,
+        numbers: &Numbers<'_>,
+    ) -> Result<Option<NoteKind>, Stop>
+        ensures runs { Runs (run (seen self.old) (meaning instruction numbers.now).steps) (seen self.new) result }
+        ensures noted { IfOk result (λ noted. noted ≡ parameters_noted instruction numbers.now) }
     {
-        self.do_request(request_of(instruction, numbers), numbers)
+        let request = request_of(instruction, numbers);
+        let noted = noted_parameters(instruction, numbers, &request);
+        self.do_request(request, numbers)?;
+        Ok(noted)
     }
 
     // Does what an instruction with these numbers asks for.

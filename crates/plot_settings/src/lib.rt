@@ -12,7 +12,7 @@ mod parameters;
 mod points;
 mod request;
 mod setting;
-mod wrong;
+mod slants;
 
 pub use arc_parameters::{arc_from, circle_from, is_chord, thousandths};
 pub use figure::{Arc, Circle, Corner};
@@ -21,4 +21,4 @@ pub use parameters::whole_number;
 pub use points::points_moved_to;
 pub use request::{Moves, Request, request_of};
 pub use setting::{Corners, Rotation, Setting};
-pub use wrong::{has_wrong_numbers, is_off_axis};
+pub use slants::is_off_axis;

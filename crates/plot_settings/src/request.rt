@@ -46,6 +46,22 @@ pub enum Request {
     Wrong,
 }
 
+impl Request {
+    /// Whether the numbers of the instruction that asks for this are invalid: out of their range, too
+    /// few, or, if it makes a move to each pair of them, one without its pair. Numbers after the last
+    /// that an instruction has are ignored.
+    #[inline(always)]
+    pub fn is_wrong(&self, numbers: &Numbers<'_>) -> bool
+        ensures { result ≡ (request_meaning self.now numbers.now).is_wrong }
+    {
+        match self {
+            Request::Wrong => true,
+            Request::Move(_) => numbers.len() % 2 == 1,
+            Request::Set(_) | Request::Edge(..) | Request::Circle(_) | Request::Arc(..) => false,
+        }
+    }
+}
+
 /// What an instruction asks for by its numbers. Numbers after the last that it has are ignored. Of the
 /// instructions with moves the numbers themselves are the coordinates, and one without its pair is
 /// invalid, but changes nothing for the pairs before it.
