@@ -85,10 +85,10 @@ fn noted_width(numbers: &Numbers<'_>, in_percent: bool) -> Option<NoteKind>
 pub fn noted_asked(request: &Request, numbers: &Numbers<'_>) -> Option<NoteKind>
     ensures { result ≡ bad_if (request_meaning request.now numbers.now).is_wrong }
 {
-    match request {
-        Request::Wrong => Some(NoteKind::Bad),
-        Request::Move(_) if numbers.len() % 2 == 1 => Some(NoteKind::Bad),
-        _ => None,
+    if request.is_wrong(numbers) {
+        Some(NoteKind::Bad)
+    } else {
+        None
     }
 }
 

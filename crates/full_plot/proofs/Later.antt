@@ -153,7 +153,7 @@ by_end w b (Some v) at h = leaves_if (context_after w.context b) (is_too_much v)
 pub told_as_set : (w v : World) (i : ItemShape) → runs w (i ∷ []) ≡ Ok v → v.context ≡ context_after w.context i.body
 told_as_set w v i h = subst (LeavesAfter (context_after w.context i.body)) h (by_end w i.body (taken w i.body) i.at (after_item w i.body))
 
-pub carried_out : {U : Type 0} (w v : World) (i : ItemShape) (r : Result U PlotFault) (u : U) → CarriesOut w i v r → r ≡ Ok u
+pub carried_out : {U : Type 0} (w v : World) (i : ItemShape) (r : Result U PlotFault) (u : U) → CarriesOut runs w i v r → r ≡ Ok u
     → (more : List ItemShape) → runs w (i ∷ more) ≡ runs v more
 carried_out w v i (Ok x) u h e = h
 carried_out w v i (Err x) u h e = absurd (cc e)

@@ -11,6 +11,7 @@ use Rattle.hpgl_text.specs.declared.profile.Profile.TheVariants.{Full}
 use Rattle.hpgl_plot.specs.declared.fault.PlotFault.{PlotFault}
 use Rattle.hpgl_plot.specs.declared.fault.PlotFault.TheVariants as fault
 use Rattle.hpgl_plot.specs.Machine as core
+pub use Rattle.hpgl_plot.specs.Machine.{CarriesOut}
 use Rattle.full_plot.specs.Items.{taken}
 use Rattle.full_settings.specs.LineStyles.{usual_style}
 use Rattle.full_settings.specs.Widths.{all_percents}
@@ -59,17 +60,6 @@ outcome page plot = runs (at_start page) (cut_by Full plot)
 
 abbrev pub outcome_with : Carousel → Page → List ℕ → Result World PlotFault
 outcome_with carousel page plot = runs (at_start_with carousel page) (cut_by Full plot)
-
--- how an item is refused
-abbrev pub Refused : World → ItemShape → PlotFault → Type 0
-Refused w i fault.Memory = ⊤
-Refused w i (fault.OffRange at) = (more : List ItemShape) → runs w (i ∷ more) ≡ Err (fault.OffRange at)
-Refused w i (fault.TooManyStrokes at) = (more : List ItemShape) → runs w (i ∷ more) ≡ Err (fault.TooManyStrokes at)
-
--- what a call answers that carries out an item: the items after it go on from the new world, or all of them are refused
-abbrev pub CarriesOut : {U : Type 0} → World → ItemShape → World → Result U PlotFault → Type 0
-CarriesOut w i v (Ok _) = (more : List ItemShape) → runs w (i ∷ more) ≡ runs v more
-CarriesOut w i v (Err e) = Refused w i e
 
 -- the refusal of a plot, or None if it is accepted
 abbrev pub refusal_in : Result World PlotFault → Option PlotFault

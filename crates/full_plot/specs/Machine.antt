@@ -15,6 +15,7 @@ use Rattle.hpgl_plot.specs.declared.plotter.Stop.{Stop}
 use Rattle.hpgl_plot.specs.declared.plotter.Stop.TheVariants.{Memory, OffRange}
 use Rattle.hpgl_plot.specs.declared.state.State.{State}
 use Rattle.hpgl_plot.specs.Machine as core
+pub use Rattle.hpgl_plot.specs.Machine.{Runs}
 use Rattle.full_settings.specs.declared.character_moves.CharacterMove.{CharacterMove}
 use Rattle.full_settings.specs.declared.letter_setting.LetterSetting.{LetterSetting}
 use Rattle.full_settings.specs.declared.line_setting.LineSetting.{LineSetting}
@@ -215,12 +216,6 @@ step w EndSheet = Some (record w { ends = ends_with w.ends (length w.core.kept) 
 abbrev pub run : World → List FullStep → Option World
 run w [] = Some w
 run w (s ∷ ss) = followed (step w s) (λ (v : World). run v ss)
-
--- what a call answers that was to make this of the world
-abbrev pub Runs : {U : Type 0} → Option World → World → Result U Stop → Type 0
-Runs ran new (Ok _) = ran ≡ Some new
-Runs ran new (Err Memory) = ⊤
-Runs ran new (Err OffRange) = ran ≡ None
 
 abbrev pub seen : FullPlotter → World
 seen p = record {

@@ -1,7 +1,7 @@
 //! Carrying out a plot, one item at a time.
 ghost use Rattle.std.specs.Prelude.{◌≡◌, IfOk};
 ghost use Rattle.full_notes.specs.Notes.{body_noted};
-ghost use Rattle.full_plot.specs.Drawings.{at_start, at_start_with, is_too_much, CarriesOut};
+ghost use Rattle.full_plot.specs.Drawings.{at_start, at_start_with, is_too_much, runs, CarriesOut};
 ghost use Rattle.full_plot.specs.Machine.{seen};
 
 use crate::area::Area;
@@ -49,7 +49,7 @@ impl FullPlotter {
     /// Carries out an item, and answers what is noted on it at its first byte, or the refusal at it: of a
     /// place out of range, or of a stroke too many.
     pub fn carry_out(&mut self, item: &Item<'_>) -> Result<Option<NoteKind>, PlotFault>
-        ensures carried { CarriesOut (seen self.old) item.now (seen self.new) result }
+        ensures carried { CarriesOut runs (seen self.old) item.now (seen self.new) result }
         ensures noted { IfOk result (λ noted. noted ≡ body_noted (seen self.old).context item.now.body) }
     {
         match self.take(item) {

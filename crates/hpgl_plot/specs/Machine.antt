@@ -135,8 +135,8 @@ abbrev pub run : World → List Step → Option World
 run w [] = Some w
 run w (s ∷ ss) = followed (step w s) (λ (v : World). run v ss)
 
--- what a call answers that was to make this of the world
-abbrev pub Runs : {U : Type 0} → Option World → World → Result U Stop → Type 0
+-- what a call answers that was to make this of a world
+abbrev pub Runs : {W U : Type 0} → Option W → W → Result U Stop → Type 0
 Runs ran new (Ok _) = ran ≡ Some new
 Runs ran new (Err Memory) = ⊤
 Runs ran new (Err OffRange) = ran ≡ None
@@ -162,13 +162,14 @@ at_start page = record { page = page; state = state_of page []; kept = []; full 
 abbrev pub at_start_with : Carousel → Page → World
 at_start_with carousel page = record (at_start page) { state = state_of page (Load carousel ∷ []) }
 
--- how an item is refused
-abbrev pub Refused : World → ItemShape → PlotFault → Type 0
-Refused w i fault.Memory = ⊤
-Refused w i (fault.OffRange at) = (more : List ItemShape) → runs w (i ∷ more) ≡ Err (fault.OffRange at)
-Refused w i (fault.TooManyStrokes at) = (more : List ItemShape) → runs w (i ∷ more) ≡ Err (fault.TooManyStrokes at)
+-- how an item is refused, by what items make of a world
+abbrev pub Refused : {W : Type 0} → (W → List ItemShape → Result W PlotFault) → W → ItemShape → PlotFault → Type 0
+Refused made w i fault.Memory = ⊤
+Refused made w i (fault.OffRange at) = (more : List ItemShape) → made w (i ∷ more) ≡ Err (fault.OffRange at)
+Refused made w i (fault.TooManyStrokes at) = (more : List ItemShape) → made w (i ∷ more) ≡ Err (fault.TooManyStrokes at)
 
 -- what a call answers that carries out an item: the items after it go on from the new world, or all of them are refused
-abbrev pub CarriesOut : {U : Type 0} → World → ItemShape → World → Result U PlotFault → Type 0
-CarriesOut w i v (Ok _) = (more : List ItemShape) → runs w (i ∷ more) ≡ runs v more
-CarriesOut w i v (Err e) = Refused w i e
+abbrev pub CarriesOut : {W U : Type 0} → (W → List ItemShape → Result W PlotFault) → W → ItemShape → W
+    → Result U PlotFault → Type 0
+CarriesOut made w i v (Ok _) = (more : List ItemShape) → made w (i ∷ more) ≡ made v more
+CarriesOut made w i v (Err e) = Refused made w i e

@@ -48,7 +48,7 @@ impl Plotter {
     ghost use Rattle.hpgl_text.specs.SeenEntries.{part_shape};
     ghost use Rattle.hpgl_plot.specs.Bounds.{IsPlain};
     ghost use Rattle.plot_settings.specs.Requests.{request_meaning, move_steps, IsRequest};
-    ghost use Rattle.hpgl_plot.specs.Machine.{seen, at_start, at_start_with, step, run, Runs, CarriesOut};
+    ghost use Rattle.hpgl_plot.specs.Machine.{seen, at_start, at_start_with, step, run, runs, Runs, CarriesOut};
     ghost use Rattle.hpgl_plot.specs.Notes.{item_noted, parameters_noted};
     ghost use Rattle.plot_settings.specs.Meanings.{Lower, Relate, moves, lowered_then, part_steps, entry_steps};
     ghost use Rattle.plot_settings.specs.Meanings.{meaning, steps_of};
@@ -96,7 +96,7 @@ impl Plotter {
 
     /// The same, with the refusal at the item: of a place out of range, or of a stroke too many.
     pub fn carry_out(&mut self, item: &Item<'_>) -> Result<Option<NoteKind>, PlotFault>
-        ensures carried { CarriesOut (seen self.old) item.now (seen self.new) result }
+        ensures carried { CarriesOut runs (seen self.old) item.now (seen self.new) result }
         ensures noted { IfOk result (λ noted. noted ≡ item_noted item.now) }
     {
         match self.take(item) {

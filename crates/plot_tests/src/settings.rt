@@ -3,8 +3,8 @@ use crate::cases::{Asked, has_answers};
 use hpgl_text::{Body, Items};
 use plot_frame::{Ends, Pair};
 use plot_settings::{
-    FIRST_WIDTH, Request, default_colour, default_colours, has_wrong_numbers, is_off_axis,
-    points_moved_to, request_of, width_of_all,
+    FIRST_WIDTH, Request, default_colour, default_colours, is_off_axis, points_moved_to, request_of,
+    width_of_all,
 };
 use std::alloc::{AllocError, Global};
 use std::test::Fail;
@@ -21,8 +21,9 @@ pub fn settings_of(alloc: Global, text: &[u8]) -> Result<String, Fail> {
             continue;
         };
         let instruction = *instruction;
-        lines.push_str(told(alloc, request_of(instruction, numbers))?.as_str())?;
-        if has_wrong_numbers(instruction, numbers) {
+        let request = request_of(instruction, numbers);
+        lines.push_str(told(alloc, request)?.as_str())?;
+        if request.is_wrong(numbers) {
             lines.push_str("!\n")?;
         }
         if is_off_axis(instruction, numbers) {
