@@ -1,7 +1,7 @@
 -- A plot in the profile full, one step at a time: the steps of core, with lines in the line type and labels in the
 -- style that is set, and further steps.
-use Rattle.std.specs.Prelude.{◌≡◌, ℕ, Bool, true, false, List, [], ◌∷◌, ◌++◌, length, nat_lt}
-use Rattle.std.specs.Prelude.{if◌then◌else◌, Option, Some, None, Result, Ok, Err, ⊤}
+use Rattle.std.specs.Prelude.{ℕ, Bool, true, false, List, [], ◌∷◌, ◌++◌, length, nat_lt}
+use Rattle.std.specs.Prelude.{if◌then◌else◌, Option, Some, None}
 use Rattle.plot_page.specs.declared.page.Page.{Page}
 use Rattle.exact.specs.declared.spot.Spot.{Spot}
 use Rattle.polygons.specs.Buffers.{empty}
@@ -11,8 +11,6 @@ use Rattle.plot_settings.specs.declared.figure.Corner.{Corner}
 use Rattle.plot_settings.specs.declared.setting.Rotation.{Rotation}
 use Rattle.plot_settings.specs.declared.setting.Rotation.TheVariants.{Quarter, ThreeQuarters}
 use Rattle.plot_settings.specs.declared.setting.Setting.{Setting}
-use Rattle.hpgl_plot.specs.declared.plotter.Stop.{Stop}
-use Rattle.hpgl_plot.specs.declared.plotter.Stop.TheVariants.{Memory, OffRange}
 use Rattle.hpgl_plot.specs.declared.state.State.{State}
 use Rattle.hpgl_plot.specs.Machine as core
 pub use Rattle.hpgl_plot.specs.Machine.{Runs}

@@ -3,8 +3,8 @@ use crate::cases::{Asked, has_answers};
 use hpgl_text::{Body, Items};
 use plot_frame::{Ends, Pair};
 use plot_settings::{
-    FIRST_WIDTH, Request, default_colour, default_colours, is_off_axis, points_moved_to, request_of,
-    width_of_all,
+    FIRST_WIDTH, Request, default_colour, default_colours, is_off_axis, points_moved_to,
+    request_of, width_of_all,
 };
 use std::alloc::{AllocError, Global};
 use std::test::Fail;
