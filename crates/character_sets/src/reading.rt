@@ -1,0 +1,45 @@
+//! How texts are read.
+ghost use Rattle.std.specs.Prelude.{◌≡◌};
+ghost use Rattle.character_sets.specs.Readings.{only, signs};
+
+use crate::set::CharacterSet;
+use crate::sets::{Selection, Sets};
+use crate::signs::Signs;
+use crate::unread::{By, Unread};
+
+/// How the bytes of a plot's texts are read: as the user says.
+#[derive(Clone, Copy, Debug, PartialEq, Eq, Drop)]
+pub enum Reading {
+    /// By the sets that the plot chooses.
+    ByPlot,
+    /// By one set, whatever the plot chooses.
+    Always(CharacterSet),
+    /// As UTF-8, whatever the plot chooses.
+    Utf8,
+}
+
+impl Reading {
+    /// The signs of a text, if the plot has chosen `sets` before it. `Sets::after` says what is selected
+    /// after the text.
+    pub fn signs<'a>(self, sets: Sets, text: &'a [u8]) -> Signs<'a>
+        ensures { result ≡ signs self sets text.now }
+    {
+        let by = match self {
+            Reading::ByPlot => By::Sets(sets),
+            Reading::Always(set) => By::Sets(only(set)),
+            Reading::Utf8 => By::Utf8,
+        };
+        Signs::of(Unread { by, rest: text })
+    }
+}
+
+// One set only.
+fn only(set: CharacterSet) -> Sets
+    ensures { result ≡ only set }
+{
+    Sets {
+        standard: set,
+        alternate: set,
+        selected: Selection::Standard,
+    }
+}
