@@ -1,1 +1,4 @@
 pub mod Utf8Signs
+pub mod SignCounts
+pub mod AsciiSigns
+pub mod Examples

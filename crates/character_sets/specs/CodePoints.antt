@@ -1,5 +1,5 @@
 -- The characters of bytes.
-use Rattle.std.specs.Prelude.{ℕ, ◌+◌, ◌-◌, ◌==◌, nat_le, if◌then◌else◌, List, [], ◌∷◌, Option, Some, None, codes, slice_index_or}
+use Rattle.std.specs.Prelude.{ℕ, ◌+◌, ◌-◌, ◌==◌, nat_le, if◌then◌else◌, List, [], Option, Some, None, codes, slice_index_or}
 use Rattle.std.specs.Int.{is_in_range}
 use Rattle.std.specs.List.{position_or_len}
 use Rattle.character_sets.specs.declared.set.CharacterSet.{CharacterSet}
@@ -60,7 +60,7 @@ lower RomanExtensions byte = if byte == 32 then Some byte else upper Roman8 (byt
 lower set byte = Some (replaced set byte)
 
 -- the code point of the printed character that a byte is, if it is one
-abbrev pub code_point : CharacterSet → ℕ → Option ℕ
+unfoldable pub code_point : CharacterSet → ℕ → Option ℕ
 code_point set byte =
     if is_in_range 32 126 byte then lower set byte else
     if nat_le 128 byte then upper set byte else None

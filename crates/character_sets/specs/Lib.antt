@@ -5,5 +5,6 @@ pub mod CodePoints
 pub mod Signs
 pub mod Utf8
 pub mod Readings
--- What contracts need: the signs that are left of a text.
+-- What contracts need: the signs that are left of a text, and the laws of signs.
 pub mod Left
+pub mod Laws

@@ -1,5 +1,5 @@
 -- The signs of a text, and the sets after it.
-use Rattle.std.specs.Prelude.{ℕ, zero, suc, ◌==◌, nat_lt, nat_le, if◌then◌else◌, List, [], ◌∷◌, ◌++◌, Option, Some, None, option_map}
+use Rattle.std.specs.Prelude.{ℕ, ◌==◌, if◌then◌else◌, List, [], ◌∷◌, ◌++◌, Option, Some, None, option_map}
 use Rattle.std.specs.Option.{option_or, option_to_list}
 use Rattle.character_sets.specs.CodePoints.{code_point}
 use Rattle.character_sets.specs.declared.set.CharacterSet.{CharacterSet}

@@ -33,6 +33,6 @@ decoded (a ∷ b ∷ c ∷ d ∷ []) = 64 * (64 * (64 * (a - 0xF0) + (b - 0x80))
 decoded _ = 0
 
 -- the code point and the length of the sequence that a text begins with
-abbrev pub sequence : List ℕ → Option (ℕ × ℕ)
+unfoldable pub sequence : List ℕ → Option (ℕ × ℕ)
 sequence text =
     option_map (λ row. (decoded (take (length row) text), length row)) (find (λ row. begins_with text row) rows)

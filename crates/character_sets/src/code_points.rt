@@ -11,6 +11,7 @@ use crate::set::CharacterSet;
 use crate::tables::{OPEN, PC_8, ROMAN_8, WINDOWS_1252};
 
 impl CharacterSet {
+    #[tactic(auto, unfolding(crate::specs::CodePoints::code_point))]
     /// The code point of the printed character that a byte is, or `None` if the byte is not printed: the
     /// bytes below 32, 127, those from 128 to 159 in most sets, and those that the set leaves open.
     pub fn code_point(self, byte: u8) -> Option<u32>

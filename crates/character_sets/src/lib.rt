@@ -2,6 +2,7 @@
 #![tactic(auto)]
 
 mod code_points;
+pub mod laws;
 mod national;
 mod numbers;
 mod reading;

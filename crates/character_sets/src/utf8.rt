@@ -1,11 +1,14 @@
 //! Sequences of UTF-8.
-ghost use Rattle.std.specs.Prelude.{◌≡◌, ◌≤◌, ◌+◌, ◌-◌, ◌*◌, ◌∷◌};
+ghost use Rattle.std.specs.Prelude.{◌≡◌, ◌≤◌, ◌+◌, ◌-◌, ◌*◌, ◌∷◌, length};
 ghost use Rattle.std.specs.Int.{is_in_range};
+ghost use Rattle.character_sets.specs.Readings.{bytes_after};
 ghost use Rattle.character_sets.specs.Utf8.{sequence};
 
 // The code point and the length of the sequence of two to four bytes that a text begins with.
+#[tactic(auto, unfolding(crate::specs::Utf8::sequence))]
 pub(crate) fn sequence(first: u8, after: &[u8]) -> Option<(u32, usize)>
-    ensures { result ≡ sequence (first ∷ after.now) }
+    ensures value { result ≡ sequence (first ∷ after.now) }
+    ensures within { bytes_after result ≤ length after.now }
 {
     match first {
         0xC2..=0xDF => two(first, after),
@@ -15,10 +18,12 @@ pub(crate) fn sequence(first: u8, after: &[u8]) -> Option<(u32, usize)>
     }
 }
 
+#[tactic(auto, unfolding(crate::specs::Utf8::sequence))]
 fn two(first: u8, after: &[u8]) -> Option<(u32, usize)>
     requires least { 0xC2 ≤ first }
     requires most { first ≤ 0xDF }
-    ensures { result ≡ sequence (first ∷ after.now) }
+    ensures value { result ≡ sequence (first ∷ after.now) }
+    ensures within { bytes_after result ≤ length after.now }
 {
     let [second, ..] = after else {
         return None;
@@ -30,10 +35,12 @@ fn two(first: u8, after: &[u8]) -> Option<(u32, usize)>
 }
 
 // Without those that are too long, for code points below 0x800, and surrogates.
+#[tactic(auto, unfolding(crate::specs::Utf8::sequence))]
 fn three(first: u8, after: &[u8]) -> Option<(u32, usize)>
     requires least { 0xE0 ≤ first }
     requires most { first ≤ 0xEF }
-    ensures { result ≡ sequence (first ∷ after.now) }
+    ensures value { result ≡ sequence (first ∷ after.now) }
+    ensures within { bytes_after result ≤ length after.now }
 {
     let [second, third, ..] = after else {
         return None;
@@ -48,10 +55,12 @@ fn three(first: u8, after: &[u8]) -> Option<(u32, usize)>
 }
 
 // Without those that are too long, for code points below 0x10000, and code points over 0x10FFFF.
+#[tactic(auto, unfolding(crate::specs::Utf8::sequence))]
 fn four(first: u8, after: &[u8]) -> Option<(u32, usize)>
     requires least { 0xF0 ≤ first }
     requires most { first ≤ 0xF4 }
-    ensures { result ≡ sequence (first ∷ after.now) }
+    ensures value { result ≡ sequence (first ∷ after.now) }
+    ensures within { bytes_after result ≤ length after.now }
 {
     let [second, third, fourth, ..] = after else {
         return None;

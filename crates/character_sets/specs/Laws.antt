@@ -1,0 +1,35 @@
+-- What holds of the signs of texts.
+use Rattle.std.specs.Prelude.{◌≡◌, ◌≤◌, ℕ, Bool, true, false, IsTrue, List, length}
+use Rattle.std.specs.Str.{IsAscii}
+use Rattle.character_sets.specs.Readings.{signs}
+use Rattle.character_sets.specs.declared.reading.Reading.{Reading}
+use Rattle.character_sets.specs.declared.reading.Reading.TheVariants.{ByPlot, Always, Utf8}
+use Rattle.character_sets.specs.declared.set.CharacterSet.{CharacterSet}
+use Rattle.character_sets.specs.declared.set.CharacterSet.TheVariants.{Roman8, Latin1, Windows1252, Pc8, Ascii}
+use Rattle.character_sets.specs.declared.sets.Sets.{Sets}
+
+-- the sets that have all characters of ASCII, of seven and of eight bits
+abbrev pub has_ascii : CharacterSet → Bool
+has_ascii Roman8 = true
+has_ascii Latin1 = true
+has_ascii Windows1252 = true
+has_ascii Pc8 = true
+has_ascii Ascii = true
+has_ascii _ = false
+
+-- a text is read by one of these sets, or as UTF-8
+abbrev pub reads_ascii : Reading → Bool
+reads_ascii ByPlot = false
+reads_ascii (Always set) = has_ascii set
+reads_ascii Utf8 = true
+
+-- read in two of these ways, a text of ASCII has the same signs
+abbrev pub AsciiReadsAlike : Type 0
+AsciiReadsAlike =
+    (one another : Reading) (sets : Sets) (text : List ℕ)
+    → IsTrue (reads_ascii one) → IsTrue (reads_ascii another) → IsAscii text
+    → signs one sets text ≡ signs another sets text
+
+-- a text has at most as many signs as bytes
+abbrev pub SignsAreFew : Type 0
+SignsAreFew = (reading : Reading) (sets : Sets) (text : List ℕ) → length (signs reading sets text) ≤ length text
