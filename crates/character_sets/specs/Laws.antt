@@ -1,7 +1,9 @@
 -- What holds of the signs of texts.
-use Rattle.std.specs.Prelude.{◌≡◌, ◌≤◌, ℕ, Bool, true, false, IsTrue, List, length}
+use Rattle.std.specs.Prelude.{◌≡◌, ◌≤◌, ℕ, Bool, true, false, IsTrue, List, ◌++◌, length, take, Some}
+use Rattle.std.specs.Char.{encode_utf8, IsScalar}
 use Rattle.std.specs.Str.{IsAscii}
 use Rattle.character_sets.specs.Readings.{signs}
+use Rattle.character_sets.specs.Utf8.{sequence}
 use Rattle.character_sets.specs.declared.reading.Reading.{Reading}
 use Rattle.character_sets.specs.declared.reading.Reading.TheVariants.{ByPlot, Always, Utf8}
 use Rattle.character_sets.specs.declared.set.CharacterSet.{CharacterSet}
@@ -33,3 +35,16 @@ AsciiReadsAlike =
 -- a text has at most as many signs as bytes
 abbrev pub SignsAreFew : Type 0
 SignsAreFew = (reading : Reading) (sets : Sets) (text : List ℕ) → length (signs reading sets text) ≤ length text
+
+-- these bytes are UTF-8's encoding of a scalar value from U+0080 on
+pub record IsEncoding (text : List ℕ) (code : ℕ) : Type 0 where
+  pub is_scalar : IsScalar code
+  pub wide : 0x80 ≤ code
+  pub bytes : encode_utf8 code ≡ text
+
+-- the sequences of two to four bytes that texts begin with are these encodings
+pub record SequencesAreEncodings : Type 0 where
+  pub sound : (text : List ℕ) (code count : ℕ) → sequence text ≡ Some (code, count) → IsEncoding (take count text) code
+  pub complete :
+      (text : List ℕ) (code : ℕ) → IsScalar code → 0x80 ≤ code
+      → sequence (encode_utf8 code ++ text) ≡ Some (code, length (encode_utf8 code))
