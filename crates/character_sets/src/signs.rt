@@ -1,6 +1,6 @@
 //! The signs of a text, one at a time.
-ghost use Rattle.std.specs.Prelude.{◌≡◌, ◌∷◌, [], IfSome, None, ⊤};
-ghost use Rattle.std.specs.Iterator.{YieldsFirst, MakesProgress, item_count};
+ghost use Rattle.std.specs.Prelude.{◌≡◌, ◌∷◌, [], IfSome, None};
+ghost use Rattle.std.specs.Iterator.{YieldsFirst, item_count};
 
 use crate::sign::Sign;
 use crate::unread::Unread;
@@ -48,10 +48,7 @@ impl<'a> Iterator for Signs<'a> {
 
     ghost remaining = { item_count (λ s. s) };
 
-    fn next(&mut self) -> Option<Sign>
-        ensures steps { YieldsFirst (λ s. s) self.old result self.new }
-        ensures goes { MakesProgress (λ _. ⊤) (item_count (λ s. s)) self.old result self.new }
-    {
+    fn next(&mut self) -> Option<Sign> {
         self.unread.next()
     }
 }
