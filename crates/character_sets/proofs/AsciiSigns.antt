@@ -7,7 +7,7 @@ use Rattle.std.specs.Option.{option_to_list, option_or, option_map}
 use Rattle.std.specs.Str.{IsAscii}
 use Rattle.character_sets.specs.CodePoints.{code_point, upper}
 use Rattle.character_sets.specs.Laws.{has_ascii, reads_ascii}
-use Rattle.character_sets.specs.Readings.{bytes_after, sign_begun, signs, utf8_signs_after}
+use Rattle.character_sets.specs.Readings.{sign_begun, signs, utf8_signs}
 use Rattle.character_sets.specs.Signs.{control, selected, shifted, sign_of, signs_by_sets}
 use Rattle.character_sets.specs.Utf8.{sequence}
 use Rattle.character_sets.specs.declared.reading.Reading.{Reading}
@@ -82,11 +82,11 @@ no_sequence byte text low = grind (arith, nat_tests)
 begun_by_ascii : (byte : ℕ) → byte < 128 → sign_begun byte None ≡ sign_of Ascii byte
 begun_by_ascii byte low = let test : nat_lt byte 128 ≡ true = grind (arith, nat_tests) in rw test refl
 
-in_utf8 : (text : List ℕ) → IsAscii text → utf8_signs_after 0 text ≡ ascii_signs text
+in_utf8 : (text : List ℕ) → IsAscii text → utf8_signs text ≡ ascii_signs text
 in_utf8 [] ascii = refl
 in_utf8 (byte ∷ text) ascii =
-    ap (λ (begun : Option (ℕ × ℕ)). option_to_list (sign_begun byte begun) ++ utf8_signs_after (bytes_after begun) text) (no_sequence byte text (ascii 0))
-    ∙ ap (λ (sign : Option Sign). option_to_list sign ++ utf8_signs_after 0 text) (begun_by_ascii byte (ascii 0))
+    ap (λ (begun : Option ℕ). option_to_list (sign_begun byte begun) ++ utf8_signs text) (no_sequence byte text (ascii 0))
+    ∙ ap (λ (sign : Option Sign). option_to_list sign ++ utf8_signs text) (begun_by_ascii byte (ascii 0))
     ∙ ap (λ (others : List Sign). option_to_list (sign_of Ascii byte) ++ others) (in_utf8 text (λ i. ascii (suc i)))
 
 as_ascii : (reading : Reading) (sets : Sets) (text : List ℕ) → IsTrue (reads_ascii reading) → IsAscii text → signs reading sets text ≡ ascii_signs text

@@ -1,10 +1,17 @@
 -- The sequences that texts begin with are the encodings of code points from 0x80 on.
-use Rattle.std.proofs.Common.{◌≡◌, ◌<◌, ◌≤◌, ◌+◌, ◌/◌, ◌%◌, ℕ, Bool, true, false, List, [], ◌∷◌, ◌++◌, Option, Some, None, length, take, find, option_map, if◌then◌else◌, refl, subst, arith, inl, inr}
+use Rattle.std.proofs.Common.{◌≡◌, ◌<◌, ◌≤◌, ◌+◌, ◌/◌, ◌%◌, ℕ, Bool, true, false, List, [], ◌∷◌, ◌++◌, Option, Some, None, length, take, drop, find, option_map, if◌then◌else◌, refl, sym, ap, ◌∙◌, subst, arith, inl, inr}
 use Rattle.std.proofs.lemmas.Bool.{cases_lt}
 use Rattle.std.proofs.lemmas.Bool.Decides.{nat_tests}
 use Rattle.std.specs.Char.{encode_utf8, IsScalar}
-use Rattle.character_sets.specs.Laws.{IsEncoding}
+use Rattle.std.proofs.lemmas.List.{take-append-drop}
+use Rattle.character_sets.specs.Laws.{BeginsWithEncoding}
 use Rattle.character_sets.specs.Utf8.{begins_with, decoded, rows, sequence, tail}
+
+-- these bytes are the encoding of a scalar value from 0x80 on
+record IsEncoding (text : List ℕ) (code : ℕ) : Type 0 where
+  is_scalar : IsScalar code
+  wide : 0x80 ≤ code
+  bytes : encode_utf8 code ≡ text
 
 of_two : (a b : ℕ) → 0xC2 ≤ a → a ≤ 0xDF → 0x80 ≤ b → b ≤ 0xBF → IsEncoding (a ∷ b ∷ []) (decoded (a ∷ b ∷ []))
 unfolding encode_utf8
@@ -32,15 +39,15 @@ of_four a b d e p q r s t u v w least most = record {
   bytes = grind (arith, nat_tests);
 }
 
-encoded_two : (c : ℕ) (text : List ℕ) → 0x80 ≤ c → c < 0x800 → sequence ((192 + c / 64) ∷ (128 + c % 64) ∷ text) ≡ Some (c, 2)
+encoded_two : (c : ℕ) (text : List ℕ) → 0x80 ≤ c → c < 0x800 → sequence ((192 + c / 64) ∷ (128 + c % 64) ∷ text) ≡ Some c
 unfolding sequence
 encoded_two c text least most = grind (arith, nat_tests)
 
-encoded_three : (c : ℕ) (text : List ℕ) → 0x800 ≤ c → c < 0x10000 → IsScalar c → sequence ((224 + c / 4096) ∷ (128 + c / 64 % 64) ∷ (128 + c % 64) ∷ text) ≡ Some (c, 3)
+encoded_three : (c : ℕ) (text : List ℕ) → 0x800 ≤ c → c < 0x10000 → IsScalar c → sequence ((224 + c / 4096) ∷ (128 + c / 64 % 64) ∷ (128 + c % 64) ∷ text) ≡ Some c
 unfolding sequence
 encoded_three c text least most scalar = grind (arith, nat_tests)
 
-encoded_four : (c : ℕ) (text : List ℕ) → 0x10000 ≤ c → c < 0x110000 → sequence ((240 + c / 262144) ∷ (128 + c / 4096 % 64) ∷ (128 + c / 64 % 64) ∷ (128 + c % 64) ∷ text) ≡ Some (c, 4)
+encoded_four : (c : ℕ) (text : List ℕ) → 0x10000 ≤ c → c < 0x110000 → sequence ((240 + c / 262144) ∷ (128 + c / 4096 % 64) ∷ (128 + c / 64 % 64) ∷ (128 + c % 64) ∷ text) ≡ Some c
 unfolding sequence
 encoded_four c text least most = grind (arith, nat_tests)
 
@@ -117,19 +124,27 @@ found_row text row =
     (pick (IsRowOf text) _ _ _ row (row_of_four 0xF4 0xF4 0x80 0x8F text (omega arith) (omega arith) (omega arith) (omega arith) (λ a b d e p q r s t u v w. (omega arith, omega arith)))
     (λ none. cc))))))))
 
-abbrev measured : List ℕ → Row → ℕ × ℕ
-measured text row = (decoded (take (length row) text), length row)
+begins : (text : List ℕ) (count code : ℕ) → IsEncoding (take count text) code → BeginsWithEncoding text code
+begins text count code e = record {
+  is_scalar = e.is_scalar;
+  wide = e.wide;
+  rest = drop count text;
+  bytes = sym (take-append-drop count text) ∙ ap (λ (front : List ℕ). front ++ drop count text) (sym e.bytes);
+}
 
-found_of : (text : List ℕ) (found : Option Row) (code count : ℕ) → ((row : Row) → found ≡ Some row → IsRowOf text row)
-    → option_map (λ row. measured text row) found ≡ Some (code, count) → IsEncoding (take count text) code
-found_of text None code count h e = cc
-found_of text (Some row) code count h e =
-    let same : measured text row ≡ (code, count) = cc in
-    subst (λ (found : ℕ × ℕ). IsEncoding (take found.1 text) found.0) same (h row refl)
+abbrev code_of : List ℕ → Row → ℕ
+code_of text row = decoded (take (length row) text)
 
-pub sound : (text : List ℕ) (code count : ℕ) → sequence text ≡ Some (code, count) → IsEncoding (take count text) code
+found_of : (text : List ℕ) (found : Option Row) (code : ℕ) → ((row : Row) → found ≡ Some row → IsRowOf text row)
+    → option_map (λ row. code_of text row) found ≡ Some code → BeginsWithEncoding text code
+found_of text None code h e = cc
+found_of text (Some row) code h e =
+    let same : code_of text row ≡ code = cc in
+    subst (λ (c : ℕ). BeginsWithEncoding text c) same (begins text (length row) (code_of text row) (h row refl))
+
+pub sound : (text : List ℕ) (code : ℕ) → sequence text ≡ Some code → BeginsWithEncoding text code
 unfolding sequence
-sound text code count e = found_of text (find (λ row. begins_with text row) rows) code count (found_row text) e
+sound text code e = found_of text (find (λ row. begins_with text row) rows) code (found_row text) e
 
 encode_two : (code : ℕ) → 0x80 ≤ code → code < 0x800 → encode_utf8 code ≡ (192 + code / 64) ∷ (128 + code % 64) ∷ []
 unfolding encode_utf8
@@ -146,11 +161,14 @@ encode_four code least = grind (arith, nat_tests)
 below_end : (code : ℕ) → IsScalar code → code < 0x110000
 below_end code scalar = grind (arith, nat_tests)
 
-pub complete : (text : List ℕ) (code : ℕ) → IsScalar code → 0x80 ≤ code → sequence (encode_utf8 code ++ text) ≡ Some (code, length (encode_utf8 code))
-complete text code scalar wide = elim (cases_lt code 0x800) [
+encoded : (text : List ℕ) (code : ℕ) → IsScalar code → 0x80 ≤ code → sequence (encode_utf8 code ++ text) ≡ Some code
+encoded text code scalar wide = elim (cases_lt code 0x800) [
   | inl low ↦ rw (encode_two code wide low) (encoded_two code text wide low)
   | inr high ↦ elim (cases_lt code 0x10000) [
     | inl low ↦ rw (encode_three code high low) (encoded_three code text high low scalar)
     | inr higher ↦ rw (encode_four code higher) (encoded_four code text higher (below_end code scalar))
   ]
 ]
+
+pub complete : (text : List ℕ) (code : ℕ) → BeginsWithEncoding text code → sequence text ≡ Some code
+complete text code e = ap (λ (bytes : List ℕ). sequence bytes) e.bytes ∙ encoded e.rest code e.is_scalar e.wide

@@ -120,7 +120,7 @@ three_bytes : signs Utf8 (german Standard) (0xE4 ∷ 0xB8 ∷ 0x80 ∷ []) ≡ P
 unfolding sequence
 three_bytes = refl
 
-four_bytes : sequence (0xF4 ∷ 0x8F ∷ 0xBF ∷ 0xBF ∷ []) ≡ Some (0x10FFFF, 4)
+four_bytes : sequence (0xF4 ∷ 0x8F ∷ 0xBF ∷ 0xBF ∷ []) ≡ Some 0x10FFFF
 unfolding sequence
 four_bytes = refl
 

@@ -1,4 +1,3 @@
-pub mod Utf8Signs
 pub mod SignCounts
 pub mod AsciiSigns
 pub mod Examples

@@ -1,7 +1,7 @@
 -- A text has at most as many signs as bytes.
-use Rattle.std.proofs.Common.{◌≤◌, ℕ, zero, suc, List, [], ◌∷◌, ◌++◌, Option, Some, None, length, arith}
+use Rattle.std.proofs.Common.{◌≤◌, ℕ, suc, List, [], ◌∷◌, ◌++◌, Option, Some, None, length, arith}
 use Rattle.std.specs.Option.{option_to_list}
-use Rattle.character_sets.specs.Readings.{bytes_after, only, sign_begun, signs, utf8_signs_after}
+use Rattle.character_sets.specs.Readings.{only, sign_begun, signs, utf8_signs}
 use Rattle.character_sets.specs.Signs.{selected, shifted, sign_of, signs_by_sets}
 use Rattle.character_sets.specs.Utf8.{sequence}
 use Rattle.character_sets.specs.declared.reading.Reading.{Reading}
@@ -19,15 +19,13 @@ few_by_sets sets (byte ∷ text) =
     let first = at_most_one (sign_of (selected sets) byte) (signs_by_sets (shifted sets byte) text) in
     let rest = few_by_sets (shifted sets byte) text in omega arith
 
-few_in_utf8 : (n : ℕ) (text : List ℕ) → length (utf8_signs_after n text) ≤ length text
-few_in_utf8 n [] = omega arith
-few_in_utf8 zero (byte ∷ text) =
-    let begun = sequence (byte ∷ text) in
-    let first = at_most_one (sign_begun byte begun) (utf8_signs_after (bytes_after begun) text) in
-    let rest = few_in_utf8 (bytes_after begun) text in omega arith
-few_in_utf8 (suc n) (byte ∷ text) = let rest = few_in_utf8 n text in omega arith
+few_in_utf8 : (text : List ℕ) → length (utf8_signs text) ≤ length text
+few_in_utf8 [] = omega arith
+few_in_utf8 (byte ∷ text) =
+    let first = at_most_one (sign_begun byte (sequence (byte ∷ text))) (utf8_signs text) in
+    let rest = few_in_utf8 text in omega arith
 
 pub few : (reading : Reading) (sets : Sets) (text : List ℕ) → length (signs reading sets text) ≤ length text
 few ByPlot sets text = few_by_sets sets text
 few (Always set) sets text = few_by_sets (only set) text
-few Utf8 sets text = few_in_utf8 0 text
+few Utf8 sets text = few_in_utf8 text

@@ -1,5 +1,5 @@
 -- What holds of the signs of texts.
-use Rattle.std.specs.Prelude.{◌≡◌, ◌≤◌, ℕ, Bool, true, false, IsTrue, List, ◌++◌, length, take, Some}
+use Rattle.std.specs.Prelude.{◌≡◌, ◌≤◌, ℕ, Bool, true, false, IsTrue, List, ◌++◌, length, Some}
 use Rattle.std.specs.Char.{encode_utf8, IsScalar}
 use Rattle.std.specs.Str.{IsAscii}
 use Rattle.character_sets.specs.Readings.{signs}
@@ -36,15 +36,14 @@ AsciiReadsAlike =
 abbrev pub SignsAreFew : Type 0
 SignsAreFew = (reading : Reading) (sets : Sets) (text : List ℕ) → length (signs reading sets text) ≤ length text
 
--- these bytes are UTF-8's encoding of a scalar value from U+0080 on
-pub record IsEncoding (text : List ℕ) (code : ℕ) : Type 0 where
+-- a text begins with UTF-8's encoding of a scalar value from U+0080 on
+pub record BeginsWithEncoding (text : List ℕ) (code : ℕ) : Type 0 where
   pub is_scalar : IsScalar code
   pub wide : 0x80 ≤ code
-  pub bytes : encode_utf8 code ≡ text
+  pub rest : List ℕ
+  pub bytes : text ≡ encode_utf8 code ++ rest
 
--- the sequences of two to four bytes that texts begin with are these encodings
+-- a text begins with a sequence of two to four bytes if and only if it begins with such an encoding
 pub record SequencesAreEncodings : Type 0 where
-  pub sound : (text : List ℕ) (code count : ℕ) → sequence text ≡ Some (code, count) → IsEncoding (take count text) code
-  pub complete :
-      (text : List ℕ) (code : ℕ) → IsScalar code → 0x80 ≤ code
-      → sequence (encode_utf8 code ++ text) ≡ Some (code, length (encode_utf8 code))
+  pub sound : (text : List ℕ) (code : ℕ) → sequence text ≡ Some code → BeginsWithEncoding text code
+  pub complete : (text : List ℕ) (code : ℕ) → BeginsWithEncoding text code → sequence text ≡ Some code

@@ -1,5 +1,5 @@
 -- The signs of a text, as the user says how it is read.
-use Rattle.std.specs.Prelude.{ℕ, zero, suc, ◌-◌, nat_lt, nat_le, if◌then◌else◌, List, [], ◌∷◌, ◌++◌, Option, Some, None}
+use Rattle.std.specs.Prelude.{ℕ, nat_lt, nat_le, if◌then◌else◌, List, [], ◌∷◌, ◌++◌, Option, Some, None}
 use Rattle.std.specs.Option.{option_to_list}
 use Rattle.character_sets.specs.Signs.{sign_of, signs_by_sets}
 use Rattle.character_sets.specs.Utf8.{sequence}
@@ -12,24 +12,16 @@ use Rattle.character_sets.specs.declared.sets.Sets.{Sets}
 use Rattle.character_sets.specs.declared.sign.Sign.{Sign}
 use Rattle.character_sets.specs.declared.sign.Sign.TheVariants.{Printed}
 
--- the sign of a byte, or of the sequence of UTF-8 that it begins: U+0080 to U+009F are not printed, and a byte over 127
--- that begins none has no sign
-abbrev pub sign_begun : ℕ → Option (ℕ × ℕ) → Option Sign
+-- the sign of a byte, by the code point of the sequence of UTF-8 that it begins: U+0080 to U+009F are not printed, and a
+-- byte over 127 that begins none has no sign
+abbrev pub sign_begun : ℕ → Option ℕ → Option Sign
 sign_begun byte None = if nat_lt byte 128 then sign_of Ascii byte else None
-sign_begun byte (Some found) = if nat_le 0xA0 found.0 then Some (Printed found.0) else None
+sign_begun byte (Some code) = if nat_le 0xA0 code then Some (Printed code) else None
 
--- how many bytes of the sequence are after its first
-abbrev pub bytes_after : Option (ℕ × ℕ) → ℕ
-bytes_after None = 0
-bytes_after (Some found) = found.1 - 1
-
--- the signs of a text in UTF-8, the first n bytes of which are part of a sequence before
-abbrev pub utf8_signs_after : ℕ → List ℕ → List Sign
-utf8_signs_after n [] = []
-utf8_signs_after zero (byte ∷ text) =
-    option_to_list (sign_begun byte (sequence (byte ∷ text)))
-    ++ utf8_signs_after (bytes_after (sequence (byte ∷ text))) text
-utf8_signs_after (suc n) (byte ∷ text) = utf8_signs_after n text
+-- the signs of a text in UTF-8, each at the first byte of its sequence: no other byte of a sequence begins one
+abbrev pub utf8_signs : List ℕ → List Sign
+utf8_signs [] = []
+utf8_signs (byte ∷ text) = option_to_list (sign_begun byte (sequence (byte ∷ text))) ++ utf8_signs text
 
 -- one set only
 abbrev pub only : CharacterSet → Sets
@@ -39,4 +31,4 @@ only set = record { standard = set; alternate = set; selected = Standard }
 abbrev pub signs : Reading → Sets → List ℕ → List Sign
 signs ByPlot sets text = signs_by_sets sets text
 signs (Always set) sets text = signs_by_sets (only set) text
-signs Utf8 sets text = utf8_signs_after 0 text
+signs Utf8 sets text = utf8_signs text

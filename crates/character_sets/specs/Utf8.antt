@@ -32,7 +32,6 @@ decoded (a ∷ b ∷ c ∷ []) = 64 * (64 * (a - 0xE0) + (b - 0x80)) + (c - 0x80
 decoded (a ∷ b ∷ c ∷ d ∷ []) = 64 * (64 * (64 * (a - 0xF0) + (b - 0x80)) + (c - 0x80)) + (d - 0x80)
 decoded _ = 0
 
--- the code point and the length of the sequence that a text begins with
-unfoldable pub sequence : List ℕ → Option (ℕ × ℕ)
-sequence text =
-    option_map (λ row. (decoded (take (length row) text), length row)) (find (λ row. begins_with text row) rows)
+-- the code point of the sequence that a text begins with
+unfoldable pub sequence : List ℕ → Option ℕ
+sequence text = option_map (λ row. decoded (take (length row) text)) (find (λ row. begins_with text row) rows)

@@ -1,7 +1,7 @@
 //! The bytes of a text that are not read yet.
 ghost use Rattle.std.specs.Prelude.{◌≡◌, ◌<◌, ◌∷◌, ◌++◌, [], length, None};
 ghost use Rattle.std.specs.Option.{option_to_list};
-ghost use Rattle.character_sets.specs.Readings.{bytes_after, sign_begun};
+ghost use Rattle.character_sets.specs.Readings.{sign_begun};
 
 use crate::set::CharacterSet;
 use crate::sets::Sets;
@@ -38,43 +38,29 @@ impl<'a> Unread<'a> {
         None
     }
 
-    // Goes on past the first byte, and past the sequence that it begins in UTF-8: the sign of these, if any.
+    // Goes on past the first byte: its sign, or in UTF-8 that of the sequence that it begins, if any.
     fn pass(&mut self, byte: u8, after: &'a [u8]) -> Option<Sign>
         requires { self.old.rest.now ≡ byte ∷ after.now }
         ensures taken { signs_left self.old ≡ option_to_list result ++ signs_left self.new }
         ensures shorter { length self.new.rest.now < length self.old.rest.now }
     {
+        self.rest = after;
         match self.by {
             By::Sets(sets) => {
                 self.by = By::Sets(sets.shifted(byte));
-                self.rest = after;
                 Sign::of(sets.selected(), byte)
             }
-            By::Utf8 => {
-                let found = sequence(byte, after);
-                self.rest = &after[bytes_after(found)..];
-                sign_begun(byte, found)
-            }
+            By::Utf8 => sign_begun(byte, sequence(byte, after)),
         }
     }
 }
 
-// How many bytes of a sequence are after its first.
-fn bytes_after(found: Option<(u32, usize)>) -> usize
-    ensures { result ≡ bytes_after found }
+// The sign of a byte that begins a sequence with this code point, or none.
+fn sign_begun(byte: u8, sequence: Option<u32>) -> Option<Sign>
+    ensures { result ≡ sign_begun byte sequence }
 {
-    match found {
-        Some((_, length)) => length.saturating_sub(1),
-        None => 0,
-    }
-}
-
-// The sign of a byte that begins a sequence, or none.
-fn sign_begun(byte: u8, found: Option<(u32, usize)>) -> Option<Sign>
-    ensures { result ≡ sign_begun byte found }
-{
-    match found {
-        Some((code @ 0xA0.., _)) => Some(Sign::Printed(code)),
+    match sequence {
+        Some(code @ 0xA0..) => Some(Sign::Printed(code)),
         None if byte.is_ascii() => Sign::of(CharacterSet::Ascii, byte),
         _ => None,
     }

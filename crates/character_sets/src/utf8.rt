@@ -1,14 +1,12 @@
 //! Sequences of UTF-8.
-ghost use Rattle.std.specs.Prelude.{◌≡◌, ◌≤◌, ◌+◌, ◌-◌, ◌*◌, ◌∷◌, length};
+ghost use Rattle.std.specs.Prelude.{◌≡◌, ◌≤◌, ◌+◌, ◌-◌, ◌*◌, ◌∷◌};
 ghost use Rattle.std.specs.Int.{is_in_range};
-ghost use Rattle.character_sets.specs.Readings.{bytes_after};
 ghost use Rattle.character_sets.specs.Utf8.{sequence};
 
-// The code point and the length of the sequence of two to four bytes that a text begins with.
+// The code point of the sequence of two to four bytes that a text begins with.
 #[tactic(auto, unfolding(crate::specs::Utf8::sequence))]
-pub(crate) fn sequence(first: u8, after: &[u8]) -> Option<(u32, usize)>
-    ensures value { result ≡ sequence (first ∷ after.now) }
-    ensures within { bytes_after result ≤ length after.now }
+pub(crate) fn sequence(first: u8, after: &[u8]) -> Option<u32>
+    ensures { result ≡ sequence (first ∷ after.now) }
 {
     match first {
         0xC2..=0xDF => two(first, after),
@@ -19,11 +17,10 @@ pub(crate) fn sequence(first: u8, after: &[u8]) -> Option<(u32, usize)>
 }
 
 #[tactic(auto, unfolding(crate::specs::Utf8::sequence))]
-fn two(first: u8, after: &[u8]) -> Option<(u32, usize)>
+fn two(first: u8, after: &[u8]) -> Option<u32>
     requires least { 0xC2 ≤ first }
     requires most { first ≤ 0xDF }
-    ensures value { result ≡ sequence (first ∷ after.now) }
-    ensures within { bytes_after result ≤ length after.now }
+    ensures { result ≡ sequence (first ∷ after.now) }
 {
     let [second, ..] = after else {
         return None;
@@ -31,16 +28,15 @@ fn two(first: u8, after: &[u8]) -> Option<(u32, usize)>
     if !is_later(*second) {
         return None;
     }
-    Some((more(u32::from(first - 0xC0), *second), 2))
+    Some(more(u32::from(first - 0xC0), *second))
 }
 
 // Without those that are too long, for code points below 0x800, and surrogates.
 #[tactic(auto, unfolding(crate::specs::Utf8::sequence))]
-fn three(first: u8, after: &[u8]) -> Option<(u32, usize)>
+fn three(first: u8, after: &[u8]) -> Option<u32>
     requires least { 0xE0 ≤ first }
     requires most { first ≤ 0xEF }
-    ensures value { result ≡ sequence (first ∷ after.now) }
-    ensures within { bytes_after result ≤ length after.now }
+    ensures { result ≡ sequence (first ∷ after.now) }
 {
     let [second, third, ..] = after else {
         return None;
@@ -49,18 +45,17 @@ fn three(first: u8, after: &[u8]) -> Option<(u32, usize)>
         return None;
     }
     match more(more(u32::from(first - 0xE0), *second), *third) {
-        code @ (0x800..=0xD7FF | 0xE000..=0xFFFF) => Some((code, 3)),
+        code @ (0x800..=0xD7FF | 0xE000..=0xFFFF) => Some(code),
         _ => None,
     }
 }
 
 // Without those that are too long, for code points below 0x10000, and code points over 0x10FFFF.
 #[tactic(auto, unfolding(crate::specs::Utf8::sequence))]
-fn four(first: u8, after: &[u8]) -> Option<(u32, usize)>
+fn four(first: u8, after: &[u8]) -> Option<u32>
     requires least { 0xF0 ≤ first }
     requires most { first ≤ 0xF4 }
-    ensures value { result ≡ sequence (first ∷ after.now) }
-    ensures within { bytes_after result ≤ length after.now }
+    ensures { result ≡ sequence (first ∷ after.now) }
 {
     let [second, third, fourth, ..] = after else {
         return None;
@@ -72,7 +67,7 @@ fn four(first: u8, after: &[u8]) -> Option<(u32, usize)>
         more(more(u32::from(first - 0xF0), *second), *third),
         *fourth,
     ) {
-        code @ 0x10000..=0x10FFFF => Some((code, 4)),
+        code @ 0x10000..=0x10FFFF => Some(code),
         _ => None,
     }
 }
