@@ -7,11 +7,11 @@ use Rattle.std.specs.Option.{option_to_list, option_or, option_map}
 use Rattle.std.specs.Str.{IsAscii}
 use Rattle.character_sets.specs.CodePoints.{code_point, upper}
 use Rattle.character_sets.specs.Laws.{has_ascii, reads_ascii}
-use Rattle.character_sets.specs.Readings.{sign_begun, signs, utf8_signs}
+use Rattle.character_sets.specs.Texts.{sign_begun, signs, utf8_signs}
 use Rattle.character_sets.specs.Signs.{control, selected, shifted, sign_of, signs_by_sets}
 use Rattle.character_sets.specs.Utf8.{sequence}
-use Rattle.character_sets.specs.declared.reading.Reading.{Reading}
-use Rattle.character_sets.specs.declared.reading.Reading.TheVariants.{ByPlot, Always, Utf8}
+use Rattle.character_sets.specs.declared.encoding.Encoding.{Encoding}
+use Rattle.character_sets.specs.declared.encoding.Encoding.TheVariants.{ByPlot, Always, Utf8}
 use Rattle.character_sets.specs.declared.set.CharacterSet.{CharacterSet}
 use Rattle.character_sets.specs.declared.set.CharacterSet.TheVariants.{Roman8, Latin1, Windows1252, Pc8, Ascii}
 use Rattle.character_sets.specs.declared.sets.Selection.{Selection}
@@ -89,12 +89,12 @@ in_utf8 (byte ∷ text) ascii =
     ∙ ap (λ (sign : Option Sign). option_to_list sign ++ utf8_signs text) (begun_by_ascii byte (ascii 0))
     ∙ ap (λ (others : List Sign). option_to_list (sign_of Ascii byte) ++ others) (in_utf8 text (λ i. ascii (suc i)))
 
-as_ascii : (reading : Reading) (sets : Sets) (text : List ℕ) → IsTrue (reads_ascii reading) → IsAscii text → signs reading sets text ≡ ascii_signs text
+as_ascii : (encoding : Encoding) (sets : Sets) (text : List ℕ) → IsTrue (reads_ascii encoding) → IsAscii text → signs encoding sets text ≡ ascii_signs text
 as_ascii ByPlot sets text has ascii = cc
 as_ascii (Always set) sets text has ascii = by_one_set set Standard text has ascii
 as_ascii Utf8 sets text has ascii = in_utf8 text ascii
 
-pub alike : (one another : Reading) (sets : Sets) (text : List ℕ)
+pub alike : (one another : Encoding) (sets : Sets) (text : List ℕ)
     → IsTrue (reads_ascii one) → IsTrue (reads_ascii another) → IsAscii text
     → signs one sets text ≡ signs another sets text
 alike one another sets text p q ascii = as_ascii one sets text p ascii ∙ sym (as_ascii another sets text q ascii)

@@ -4,10 +4,10 @@ use Rattle.std.specs.List.{range_with_len}
 use Rattle.std.specs.Prelude.{codes}
 use Rattle.character_sets.specs.CodePoints.{code_point}
 use Rattle.character_sets.specs.Numbers.{set_of_hp_number, set_of_symbol_set}
-use Rattle.character_sets.specs.Readings.{signs}
+use Rattle.character_sets.specs.Texts.{signs}
 use Rattle.character_sets.specs.Signs.{sets_after}
 use Rattle.character_sets.specs.Utf8.{sequence}
-use Rattle.character_sets.specs.declared.reading.Reading.TheVariants.{ByPlot, Always, Utf8}
+use Rattle.character_sets.specs.declared.encoding.Encoding.TheVariants.{ByPlot, Always, Utf8}
 use Rattle.character_sets.specs.declared.set.CharacterSet.TheVariants.{Roman8, Latin1, Windows1252, Pc8, German, Norwegian, Hp9825, OldFrench, Swedish, RomanExtensions}
 use Rattle.character_sets.specs.declared.sets.Selection.{Selection}
 use Rattle.character_sets.specs.declared.sets.Selection.TheVariants.{Standard, Alternate}

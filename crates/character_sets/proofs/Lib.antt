@@ -1,4 +1,4 @@
 pub mod SignCounts
 pub mod AsciiSigns
 pub mod Examples
-pub mod Encodings
+pub mod Sequences

@@ -1,6 +1,6 @@
 -- The signs that are left of a text, as code takes them one at a time.
 use Rattle.std.specs.Prelude.{ℕ, List}
-use Rattle.character_sets.specs.Readings.{utf8_signs}
+use Rattle.character_sets.specs.Texts.{utf8_signs}
 use Rattle.character_sets.specs.Signs.{signs_by_sets}
 use Rattle.character_sets.specs.declared.sign.Sign.{Sign}
 use Rattle.character_sets.specs.declared.unread.By.{By}

@@ -4,7 +4,7 @@ pub mod Numbers
 pub mod CodePoints
 pub mod Signs
 pub mod Utf8
-pub mod Readings
+pub mod Texts
 -- What contracts need: the signs that are left of a text, and the laws of signs.
 pub mod Left
 pub mod Laws

@@ -1,5 +1,5 @@
 //! What holds of the signs of texts.
-ghost use Rattle.character_sets.specs.Laws.{AsciiReadsAlike, SequencesAreEncodings, SignsAreFew};
+ghost use Rattle.character_sets.specs.Laws.{AsciiReadsAlike, SequencesAreUtf8, SignsAreFew};
 
 /// A text of ASCII has the same signs in Roman-8, ISO 8859-1, Windows-1252, PC-8, ASCII and UTF-8.
 pub fn ascii_reads_alike()
@@ -11,8 +11,8 @@ pub fn signs_are_few()
     ensures { SignsAreFew }
 {}
 
-/// The sequences of UTF-8 that texts begin with are the encodings of the code points from U+0080 on,
-/// without surrogates.
-pub fn sequences_are_encodings()
-    ensures { SequencesAreEncodings }
+/// The sequences that are read in UTF-8 are those of the code points from U+0080 on that are no
+/// surrogates, as std encodes them.
+pub fn sequences_are_utf8()
+    ensures { SequencesAreUtf8 }
 {}

@@ -2,10 +2,10 @@
 #![tactic(auto)]
 
 mod code_points;
+mod encoding;
 pub mod laws;
 mod national;
 mod numbers;
-mod reading;
 mod set;
 mod sets;
 mod sign;
@@ -14,7 +14,7 @@ mod tables;
 mod unread;
 mod utf8;
 
-pub use reading::Reading;
+pub use encoding::Encoding;
 pub use set::CharacterSet;
 pub use sets::{Selection, Sets};
 pub use sign::Sign;

@@ -1,7 +1,7 @@
 //! The bytes of a text that are not read yet.
 ghost use Rattle.std.specs.Prelude.{◌≡◌, ◌<◌, ◌∷◌, ◌++◌, [], length, None};
 ghost use Rattle.std.specs.Option.{option_to_list};
-ghost use Rattle.character_sets.specs.Readings.{sign_begun};
+ghost use Rattle.character_sets.specs.Texts.{sign_begun};
 
 use crate::set::CharacterSet;
 use crate::sets::Sets;

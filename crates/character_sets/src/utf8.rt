@@ -31,7 +31,7 @@ fn two(first: u8, after: &[u8]) -> Option<u32>
     Some(more(u32::from(first - 0xC0), *second))
 }
 
-// Without those that are too long, for code points below 0x800, and surrogates.
+// A sequence for a code point below 0x800 is too long, and a surrogate has none.
 #[tactic(auto, unfolding(crate::specs::Utf8::sequence))]
 fn three(first: u8, after: &[u8]) -> Option<u32>
     requires least { 0xE0 ≤ first }
@@ -50,7 +50,7 @@ fn three(first: u8, after: &[u8]) -> Option<u32>
     }
 }
 
-// Without those that are too long, for code points below 0x10000, and code points over 0x10FFFF.
+// A sequence for a code point below 0x10000 is too long, and none goes past 0x10FFFF.
 #[tactic(auto, unfolding(crate::specs::Utf8::sequence))]
 fn four(first: u8, after: &[u8]) -> Option<u32>
     requires least { 0xF0 ≤ first }

@@ -1,6 +1,6 @@
 // The signs of texts by sets, and what is selected after them.
 use crate::told::has_signs;
-use character_sets::{CharacterSet, Reading, Selection, Sets};
+use character_sets::{CharacterSet, Encoding, Selection, Sets};
 use std::test::Fail;
 
 // A plot with German as its alternate set.
@@ -18,7 +18,7 @@ const ALTERNATE: Sets = Sets {
 
 #[test]
 fn by_plot(rt: HostRuntime) -> Result<(), Fail> {
-    let (by, alloc) = (Reading::ByPlot, rt.alloc());
+    let (by, alloc) = (Encoding::ByPlot, rt.alloc());
     has_signs(&rt, alloc, by, STANDARD, b"|\x0e|\x0f|", "007C 00F6 007C")?;
     has_signs(
         &rt,
@@ -36,7 +36,7 @@ fn by_plot(rt: HostRuntime) -> Result<(), Fail> {
 // The set of the user's, whatever the plot chooses.
 #[test]
 fn always(rt: HostRuntime) -> Result<(), Fail> {
-    let (latin, alloc) = (Reading::Always(CharacterSet::Latin1), rt.alloc());
+    let (latin, alloc) = (Encoding::Always(CharacterSet::Latin1), rt.alloc());
     has_signs(
         &rt,
         alloc,
@@ -45,7 +45,7 @@ fn always(rt: HostRuntime) -> Result<(), Fail> {
         b"|\xf6\x0e|\x0f|\x84",
         "007C 00F6 007C 007C",
     )?;
-    let (dos, alloc) = (Reading::Always(CharacterSet::Pc8), rt.alloc());
+    let (dos, alloc) = (Encoding::Always(CharacterSet::Pc8), rt.alloc());
     has_signs(
         &rt,
         alloc,
@@ -61,17 +61,17 @@ fn always(rt: HostRuntime) -> Result<(), Fail> {
 fn controls(rt: HostRuntime) -> Result<(), Fail> {
     let text =
         b"\x00\x01\x02\x03\x04\x05\x06\x07\x08\x09\x0a\x0b\x0c\x0d\x0e\x0f\x10\x11\x12\x13\x14\x15\x16\x17\x18\x19\x1a\x1b\x1c\x1d\x1e\x1f\x7f\x80\x9f\xff";
-    for reading in [
-        Reading::ByPlot,
-        Reading::Always(CharacterSet::Roman8),
-        Reading::Utf8,
+    for encoding in [
+        Encoding::ByPlot,
+        Encoding::Always(CharacterSet::Roman8),
+        Encoding::Utf8,
     ] {
-        has_signs(&rt, rt.alloc(), reading, STANDARD, text, "BS HT LF CR")?;
+        has_signs(&rt, rt.alloc(), encoding, STANDARD, text, "BS HT LF CR")?;
     }
     has_signs(
         &rt,
         rt.alloc(),
-        Reading::ByPlot,
+        Encoding::ByPlot,
         STANDARD,
         b"a\x08b\x09\x0d\x0ac",
         "0061 BS 0062 HT CR LF 0063",

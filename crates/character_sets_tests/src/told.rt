@@ -1,5 +1,5 @@
 // Signs as text.
-use character_sets::{Reading, Sets, Sign};
+use character_sets::{Encoding, Sets, Sign};
 use std::alloc::{AllocError, Global};
 use std::process::Abort;
 use std::test::Fail;
@@ -7,12 +7,12 @@ use std::test::Fail;
 // The signs of a text, separated by spaces: code points, and the names of ASCII's control characters.
 pub fn signs_told(
     alloc: Global,
-    reading: Reading,
+    encoding: Encoding,
     sets: Sets,
     text: &[u8],
 ) -> Result<String, AllocError> {
     let mut told = String::new(alloc);
-    for sign in reading.signs(sets, text) {
+    for sign in encoding.signs(sets, text) {
         if !told.is_empty() {
             told.push_str(" ")?;
         }
@@ -31,12 +31,12 @@ pub fn signs_told(
 pub fn has_signs(
     rt: &impl Abort,
     alloc: Global,
-    reading: Reading,
+    encoding: Encoding,
     sets: Sets,
     text: &[u8],
     wanted: &str,
 ) -> Result<(), Fail> {
-    let told = signs_told(alloc, reading, sets, text)?;
+    let told = signs_told(alloc, encoding, sets, text)?;
     assert_eq!(rt; told.as_str(), wanted);
     Ok(())
 }

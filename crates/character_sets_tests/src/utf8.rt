@@ -1,6 +1,6 @@
 // Texts in UTF-8, as std reads them.
 use crate::told::has_signs;
-use character_sets::{Reading, Sets, Sign};
+use character_sets::{Encoding, Sets, Sign};
 use std::test::Fail;
 
 // Bytes on both sides of each bound of a first byte.
@@ -44,7 +44,7 @@ fn printed(character: char) -> Option<Sign> {
 
 // Whether a text with no control characters has the signs that std's characters say.
 fn is_read_as_by_std(text: &[u8]) -> bool {
-    let mut signs = Reading::Utf8.signs(Sets::START, text);
+    let mut signs = Encoding::Utf8.signs(Sets::START, text);
     let mut rest = text;
     for _ in 0..text.len() {
         if rest.is_empty() {
@@ -73,7 +73,7 @@ fn as_std_reads(rt: HostRuntime) {
 #[test]
 fn sequences(rt: HostRuntime) -> Result<(), Fail> {
     let alloc = rt.alloc();
-    let utf8 = Reading::Utf8;
+    let utf8 = Encoding::Utf8;
     has_signs(
         &rt,
         alloc,

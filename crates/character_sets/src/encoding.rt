@@ -1,6 +1,6 @@
-//! How texts are read.
+//! How the bytes of texts are read.
 ghost use Rattle.std.specs.Prelude.{◌≡◌};
-ghost use Rattle.character_sets.specs.Readings.{only, signs};
+ghost use Rattle.character_sets.specs.Texts.{only, signs};
 
 use crate::set::CharacterSet;
 use crate::sets::{Selection, Sets};
@@ -9,7 +9,7 @@ use crate::unread::{By, Unread};
 
 /// How the bytes of a plot's texts are read: as the user says.
 #[derive(Clone, Copy, Debug, PartialEq, Eq, Drop)]
-pub enum Reading {
+pub enum Encoding {
     /// By the sets that the plot chooses.
     ByPlot,
     /// By one set, whatever the plot chooses.
@@ -18,16 +18,16 @@ pub enum Reading {
     Utf8,
 }
 
-impl Reading {
+impl Encoding {
     /// The signs of a text, if the plot has chosen `sets` before it. `Sets::after` says what is selected
     /// after the text.
     pub fn signs<'a>(self, sets: Sets, text: &'a [u8]) -> Signs<'a>
         ensures { result ≡ signs self sets text.now }
     {
         let by = match self {
-            Reading::ByPlot => By::Sets(sets),
-            Reading::Always(set) => By::Sets(only(set)),
-            Reading::Utf8 => By::Utf8,
+            Encoding::ByPlot => By::Sets(sets),
+            Encoding::Always(set) => By::Sets(only(set)),
+            Encoding::Utf8 => By::Utf8,
         };
         Signs::of(Unread { by, rest: text })
     }

@@ -4,7 +4,7 @@ use Rattle.std.proofs.lemmas.Bool.{cases_lt}
 use Rattle.std.proofs.lemmas.Bool.Decides.{nat_tests}
 use Rattle.std.specs.Char.{encode_utf8, IsScalar}
 use Rattle.std.proofs.lemmas.List.{take-append-drop}
-use Rattle.character_sets.specs.Laws.{BeginsWithEncoding}
+use Rattle.character_sets.specs.Laws.{BeginsWithCharacter}
 use Rattle.character_sets.specs.Utf8.{begins_with, decoded, rows, sequence, tail}
 
 -- these bytes are the encoding of a scalar value from 0x80 on
@@ -124,7 +124,7 @@ found_row text row =
     (pick (IsRowOf text) _ _ _ row (row_of_four 0xF4 0xF4 0x80 0x8F text (omega arith) (omega arith) (omega arith) (omega arith) (λ a b d e p q r s t u v w. (omega arith, omega arith)))
     (λ none. cc))))))))
 
-begins : (text : List ℕ) (count code : ℕ) → IsEncoding (take count text) code → BeginsWithEncoding text code
+begins : (text : List ℕ) (count code : ℕ) → IsEncoding (take count text) code → BeginsWithCharacter text code
 begins text count code e = record {
   is_scalar = e.is_scalar;
   wide = e.wide;
@@ -136,13 +136,13 @@ abbrev code_of : List ℕ → Row → ℕ
 code_of text row = decoded (take (length row) text)
 
 found_of : (text : List ℕ) (found : Option Row) (code : ℕ) → ((row : Row) → found ≡ Some row → IsRowOf text row)
-    → option_map (λ row. code_of text row) found ≡ Some code → BeginsWithEncoding text code
+    → option_map (λ row. code_of text row) found ≡ Some code → BeginsWithCharacter text code
 found_of text None code h e = cc
 found_of text (Some row) code h e =
     let same : code_of text row ≡ code = cc in
-    subst (λ (c : ℕ). BeginsWithEncoding text c) same (begins text (length row) (code_of text row) (h row refl))
+    subst (λ (c : ℕ). BeginsWithCharacter text c) same (begins text (length row) (code_of text row) (h row refl))
 
-pub sound : (text : List ℕ) (code : ℕ) → sequence text ≡ Some code → BeginsWithEncoding text code
+pub sound : (text : List ℕ) (code : ℕ) → sequence text ≡ Some code → BeginsWithCharacter text code
 unfolding sequence
 sound text code e = found_of text (find (λ row. begins_with text row) rows) code (found_row text) e
 
@@ -170,5 +170,5 @@ encoded text code scalar wide = elim (cases_lt code 0x800) [
   ]
 ]
 
-pub complete : (text : List ℕ) (code : ℕ) → BeginsWithEncoding text code → sequence text ≡ Some code
+pub complete : (text : List ℕ) (code : ℕ) → BeginsWithCharacter text code → sequence text ≡ Some code
 complete text code e = ap (λ (bytes : List ℕ). sequence bytes) e.bytes ∙ encoded e.rest code e.is_scalar e.wide

@@ -1,10 +1,10 @@
--- The signs of a text, as the user says how it is read.
+-- The signs of a text by the encoding that the user chooses.
 use Rattle.std.specs.Prelude.{ℕ, nat_lt, nat_le, if◌then◌else◌, List, [], ◌∷◌, ◌++◌, Option, Some, None}
 use Rattle.std.specs.Option.{option_to_list}
 use Rattle.character_sets.specs.Signs.{sign_of, signs_by_sets}
 use Rattle.character_sets.specs.Utf8.{sequence}
-use Rattle.character_sets.specs.declared.reading.Reading.{Reading}
-use Rattle.character_sets.specs.declared.reading.Reading.TheVariants.{ByPlot, Always, Utf8}
+use Rattle.character_sets.specs.declared.encoding.Encoding.{Encoding}
+use Rattle.character_sets.specs.declared.encoding.Encoding.TheVariants.{ByPlot, Always, Utf8}
 use Rattle.character_sets.specs.declared.set.CharacterSet.{CharacterSet}
 use Rattle.character_sets.specs.declared.set.CharacterSet.TheVariants.{Ascii}
 use Rattle.character_sets.specs.declared.sets.Selection.TheVariants.{Standard}
@@ -28,7 +28,7 @@ abbrev pub only : CharacterSet → Sets
 only set = record { standard = set; alternate = set; selected = Standard }
 
 -- the signs of a text, if the plot has chosen these sets before it
-abbrev pub signs : Reading → Sets → List ℕ → List Sign
+abbrev pub signs : Encoding → Sets → List ℕ → List Sign
 signs ByPlot sets text = signs_by_sets sets text
 signs (Always set) sets text = signs_by_sets (only set) text
 signs Utf8 sets text = utf8_signs text
