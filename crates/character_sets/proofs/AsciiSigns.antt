@@ -49,7 +49,7 @@ same_sign : (set : CharacterSet) (byte : ℕ) → IsTrue (has_ascii set) → byt
 same_sign set byte has low = ap (λ (code : Option ℕ). option_or (control byte) (option_map (λ (c : ℕ). Printed c) code)) (same_character set byte has low)
 
 abbrev both : CharacterSet → Selection → Sets
-both set selection = record { standard = set; alternate = set; selected = selection }
+both set selection = record { standard = set; alternate = set; selection = selection }
 
 -- if both sets are one, a shift changes nothing
 shift_of_one : (out inward : Bool) (set : CharacterSet) (selection : Selection) (P : Sets → Type 0)

@@ -84,7 +84,7 @@ space_of_roman_extensions = refl
 
 -- a plot with German as its alternate set
 abbrev german : Selection → Sets
-german selection = record { standard = Roman8; alternate = German; selected = selection }
+german selection = record { standard = Roman8; alternate = German; selection = selection }
 
 -- SO and SI
 shifts : signs ByPlot (german Standard) (codes "|" ++ 14 ∷ codes "|" ++ 15 ∷ codes "|") ≡ Printed 124 ∷ Printed 0xF6 ∷ Printed 124 ∷ []

@@ -9,20 +9,20 @@ use Rattle.character_sets.specs.declared.sets.Sets.{Sets}
 use Rattle.character_sets.specs.declared.sign.Sign.{Sign}
 use Rattle.character_sets.specs.declared.sign.Sign.TheVariants.{Printed, CarriageReturn, LineFeed, Back, Tab}
 
--- the set of a selection
-abbrev pub set_in : Sets → Selection → CharacterSet
-set_in sets Standard = sets.standard
-set_in sets Alternate = sets.alternate
+-- the set that a selection chooses
+abbrev pub chosen : Sets → Selection → CharacterSet
+chosen sets Standard = sets.standard
+chosen sets Alternate = sets.alternate
 
 -- the set that is selected
 abbrev pub selected : Sets → CharacterSet
-selected sets = set_in sets sets.selected
+selected sets = chosen sets sets.selection
 
 -- the sets after a byte: SO, 14, selects the alternate one, and SI, 15, the standard one
 abbrev pub shifted : Sets → ℕ → Sets
 shifted sets byte =
-    if byte == 14 then record sets { selected = Alternate } else
-    if byte == 15 then record sets { selected = Standard } else sets
+    if byte == 14 then record sets { selection = Alternate } else
+    if byte == 15 then record sets { selection = Standard } else sets
 
 -- the sets after a text
 abbrev pub sets_after : Sets → List ℕ → Sets

@@ -25,7 +25,7 @@ utf8_signs (byte ∷ text) = option_to_list (sign_begun byte (sequence (byte ∷
 
 -- one set only
 abbrev pub only : CharacterSet → Sets
-only set = record { standard = set; alternate = set; selected = Standard }
+only set = record { standard = set; alternate = set; selection = Standard }
 
 -- the signs of a text, if the plot has chosen these sets before it
 abbrev pub signs : Encoding → Sets → List ℕ → List Sign

@@ -40,6 +40,6 @@ fn only(set: CharacterSet) -> Sets
     Sets {
         standard: set,
         alternate: set,
-        selected: Selection::Standard,
+        selection: Selection::Standard,
     }
 }

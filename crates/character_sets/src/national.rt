@@ -1,4 +1,5 @@
-//! What sets of seven bits have in place of thirteen characters of ASCII, as data. An overline is U+00AF.
+//! What sets of seven bits have in place of thirteen characters of ASCII, as data. An overline is U+00AF and a
+//! ring U+00B0; for a sign that has no code point, such as a cross of lines, the character of ASCII is kept.
 
 /// The characters of the bytes `# $ ' @ [ \ ] ^ `` ` `` { | } ~`.
 pub(crate) type Replaced = [char; 13];

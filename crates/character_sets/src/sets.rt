@@ -17,7 +17,7 @@ pub enum Selection {
 pub struct Sets {
     pub standard: CharacterSet,
     pub alternate: CharacterSet,
-    pub selected: Selection,
+    pub selection: Selection,
 }
 
 const SHIFT_OUT: u8 = 14;
@@ -29,14 +29,14 @@ impl Sets {
     pub const START: Sets = Sets {
         standard: CharacterSet::Roman8,
         alternate: CharacterSet::Roman8,
-        selected: Selection::Standard,
+        selection: Selection::Standard,
     };
 
     /// The set that is selected.
     pub fn selected(self) -> CharacterSet
         ensures { result ≡ selected self }
     {
-        match self.selected {
+        match self.selection {
             Selection::Standard => self.standard,
             Selection::Alternate => self.alternate,
         }
@@ -59,11 +59,11 @@ impl Sets {
     {
         match byte {
             SHIFT_OUT => Sets {
-                selected: Selection::Alternate,
+                selection: Selection::Alternate,
                 ..self
             },
             SHIFT_IN => Sets {
-                selected: Selection::Standard,
+                selection: Selection::Standard,
                 ..self
             },
             _ => self,

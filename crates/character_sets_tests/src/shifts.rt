@@ -7,13 +7,13 @@ use std::test::Fail;
 const STANDARD: Sets = Sets {
     standard: CharacterSet::Roman8,
     alternate: CharacterSet::German,
-    selected: Selection::Standard,
+    selection: Selection::Standard,
 };
 
 const ALTERNATE: Sets = Sets {
     standard: CharacterSet::Roman8,
     alternate: CharacterSet::German,
-    selected: Selection::Alternate,
+    selection: Selection::Alternate,
 };
 
 #[test]
