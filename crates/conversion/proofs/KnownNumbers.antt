@@ -63,7 +63,10 @@ number_stays palette more colour number has = record {
 pub known_after : (palette : List (List ℕ)) (colour : List ℕ) (known : Known) → AreKnown palette known → AreKnown (with_colour palette colour) known
 known_after palette colour known are = elim (list_any (bytes_eq colour) palette) as (λ b. AreKnown (cond b palette (palette ++ colour ∷ [])) known) [
   | true ↦ are
-  | false ↦ λ k lt. number_stays palette (colour ∷ []) _ _ (are k lt)
+  | false ↦ record {
+    last = number_stays palette (colour ∷ []) _ _ are.last;
+    others = λ k lt. number_stays palette (colour ∷ []) _ _ (are.others k lt);
+  }
 ]
 
 -- a colour that was not there is the last

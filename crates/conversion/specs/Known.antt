@@ -11,5 +11,6 @@ pub record HasNumber (palette : List (List ℕ)) (colour : List ℕ) (number : �
   pub place : place_of palette colour ≡ number
 
 -- so it has each colour that is known
-abbrev pub AreKnown : List (List ℕ) → Known → Type 0
-AreKnown palette known = (k : ℕ) → k < 256 → HasNumber palette (get_or known.colours k []) (get_or known.numbers k 0)
+pub record AreKnown (palette : List (List ℕ)) (known : Known) : Type 0 where
+  pub last : HasNumber palette known.last known.number
+  pub others : (k : ℕ) → k < 256 → HasNumber palette (get_or known.colours k []) (get_or known.numbers k 0)

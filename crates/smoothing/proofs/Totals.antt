@@ -1,7 +1,8 @@
 -- Sums of values, a value at a time.
 use Rattle.std.proofs.Common.{◌≡◌, ℕ, zero, suc, ◌+◌, ◌*◌, ◌<◌, ◌≤◌, ◌/◌, List, get_or, ap, arith, refl, ◌∙◌}
 use Rattle.std.proofs.Math.Nat.{div-lt_iff_lt-mul, one-le-mul}
-use Rattle.std.proofs.lemmas.Nat.{div-mul-add}
+use Rattle.std.specs.Int.Bits.{bit_or}
+use Rattle.std.proofs.lemmas.Nat.{div-mul-add, le_or_l, le_or_r}
 use Rattle.picture_out.specs.declared.inks.Ink.{Ink}
 use Rattle.picture_out.specs.Inks.{cell_colour}
 use Rattle.smoothing.specs.Smoothings.{mean, total}
@@ -78,3 +79,36 @@ cell_more inks cells first n cell old mid new is before last = record {
   green = replaced_more (cell_channel inks cells 1) first n old.green mid.green new.green _ (ap (λ (c : ℕ). get_or (cell_colour inks c) 1 0) is) before.green last.green;
   blue = replaced_more (cell_channel inks cells 2) first n old.blue mid.blue new.blue _ (ap (λ (c : ℕ). get_or (cell_colour inks c) 2 0) is) before.blue last.blue;
 }
+
+-- numbers whose bits together are 0 are 0
+none_of_two : (a b : ℕ) → bit_or a b ≡ 0 → (a ≡ 0) × (b ≡ 0)
+none_of_two a b none = (omega (arith, none, le_or_l a b), omega (arith, none, le_or_r a b))
+
+none_of_four : (a b c d : ℕ) → bit_or (bit_or (bit_or a b) c) d ≡ 0 → (a ≡ 0) × ((b ≡ 0) × ((c ≡ 0) × (d ≡ 0)))
+none_of_four a b c d none =
+    let three = none_of_two (bit_or (bit_or a b) c) d none in
+    let two = none_of_two (bit_or a b) c three.0 in
+    let one = none_of_two a b two.0 in
+    (one.0, (one.1, (two.1, three.1)))
+
+at_eight : (P : ℕ → Type 0) → P 0 × (P 1 × (P 2 × P 3)) → P 4 × (P 5 × (P 6 × P 7)) → (k : ℕ) → k < 8 → P k
+at_eight P first last zero lt = first.0
+at_eight P first last (suc zero) lt = first.1.0
+at_eight P first last (suc (suc zero)) lt = first.1.1.0
+at_eight P first last (suc (suc (suc zero))) lt = first.1.1.1
+at_eight P first last (suc (suc (suc (suc zero)))) lt = last.0
+at_eight P first last (suc (suc (suc (suc (suc zero))))) lt = last.1.0
+at_eight P first last (suc (suc (suc (suc (suc (suc zero)))))) lt = last.1.1.0
+at_eight P first last (suc (suc (suc (suc (suc (suc (suc zero))))))) lt = last.1.1.1
+at_eight P first last (suc (suc (suc (suc (suc (suc (suc (suc k)))))))) lt = absurd (omega (arith, lt))
+
+-- so are eight cells whose bits together are 0
+pub none_of_eight : (cells : List ℕ) → bit_or
+    (bit_or (bit_or (bit_or (get_or cells 0 0) (get_or cells 1 0)) (get_or cells 2 0)) (get_or cells 3 0))
+    (bit_or (bit_or (bit_or (get_or cells 4 0) (get_or cells 5 0)) (get_or cells 6 0)) (get_or cells 7 0)) ≡ 0
+    → (k : ℕ) → k < 8 → get_or cells k 0 ≡ 0
+none_of_eight cells none k lt =
+    let halves = none_of_two _ _ none in
+    let first = none_of_four (get_or cells 0 0) (get_or cells 1 0) (get_or cells 2 0) (get_or cells 3 0) halves.0 in
+    let last = none_of_four (get_or cells 4 0) (get_or cells 5 0) (get_or cells 6 0) (get_or cells 7 0) halves.1 in
+    at_eight (λ (k : ℕ). get_or cells k 0 ≡ 0) first last k lt

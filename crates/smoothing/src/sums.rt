@@ -1,5 +1,5 @@
 //! Sums of red, green and blue over the finer pixels of a pixel.
-ghost use Rattle.std.specs.Prelude.{◌≡◌, ℕ, [], ◌+◌, ◌*◌, ◌^◌, ◌<◌, ◌≤◌, All, get_or, length};
+ghost use Rattle.std.specs.Prelude.{◌≡◌, ℕ, [], ◌+◌, ◌*◌, ◌^◌, ◌<◌, ◌≤◌, All, get_or, length, true};
 ghost use Rattle.smoothing.specs.Smoothings.{mean};
 ghost use Rattle.smoothing.specs.declared.sums.Sums.{Sums};
 ghost use Rattle.picture_out.specs.Inks.{cell_colour};
@@ -115,10 +115,24 @@ fn next_marked(cells: &[u32], from: usize, end: usize) -> usize
     ensures blank { (k : ℕ) → from ≤ k → k < result → get_or cells.now k 0 ≡ 0 }
 {
     let mut at = from;
+    'eights: while at < end && end - at >= 8 && are_blank(&cells[at..at + 8]) {
+        at += 8;
+    }
     'cells: while at < end && cells[at] == 0 {
         at += 1;
     }
     at
+}
+
+// Whether eight cells are 0, by one test of all.
+#[inline(always)]
+fn are_blank(cells: &[u32]) -> bool
+    requires { length cells.now ≡ 8 }
+    ensures { result ≡ true → (k : ℕ) → k < 8 → get_or cells.now k 0 ≡ 0 }
+{
+    let first = cells[0] | cells[1] | cells[2] | cells[3];
+    let last = cells[4] | cells[5] | cells[6] | cells[7];
+    first | last == 0
 }
 
 // These sums, with the cells from `first` on in the place of white pixels.

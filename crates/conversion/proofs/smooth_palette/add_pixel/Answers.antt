@@ -10,4 +10,6 @@ returns-in-Some-clause-known c = λ _.
     let new = c.add_colour.new.colours.items in
     let added : new ≡ with_colour old c.args.pixel = rw c.in-Some.is at c.in_ok-number.ensures.added in
     let has : HasNumber new c.args.pixel c.in-Some.number = rw c.in-Some.is at c.in_ok-number.ensures.placed in
-    c.keep.ensures new (subst (λ (palette : List (List ℕ)). AreKnown palette c.args.known.now) (sym added) (known_after old c.args.pixel c.args.known.now c.requires.known)) has
+    let known = known_after old c.args.pixel c.args.known.now c.requires.known in
+    let kept = subst (λ (palette : List (List ℕ)). AreKnown palette c.args.known.now) (sym added) known in
+    c.keep.ensures new (c.number_of.ensures.known new kept) has
