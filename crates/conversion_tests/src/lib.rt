@@ -1,0 +1,5 @@
+//! Tests of smoothed pictures, by public calls.
+#![tactic(auto)]
+
+#[cfg(test)]
+mod smoothed;
