@@ -1,12 +1,12 @@
 -- The signs of a text of ASCII.
-use Rattle.std.proofs.Common.{◌≡◌, ◌<◌, ◌∙◌, ℕ, suc, Bool, true, false, IsTrue, List, [], ◌∷◌, ◌++◌, Option, Some, None, nat_eq, nat_lt, nat_le, if◌then◌else◌, refl, sym, ap, arith}
+use Rattle.std.proofs.Common.{◌≡◌, ◌<◌, ◌∙◌, ℕ, zero, suc, Bool, true, false, IsTrue, List, [], ◌∷◌, ◌++◌, Option, Some, None, nat_eq, nat_lt, nat_le, if◌then◌else◌, refl, sym, ap, arith}
 use Rattle.std.proofs.lemmas.Bool.Decides.{nat_tests}
 use Rattle.std.specs.Int.{is_in_range}
-use Rattle.std.specs.List.{flat_map}
+use Rattle.std.specs.List.{flat_map, list_all}
 use Rattle.std.specs.Option.{option_to_list, option_or, option_map}
 use Rattle.std.specs.Str.{IsAscii}
 use Rattle.character_sets.specs.CodePoints.{code_point, upper}
-use Rattle.character_sets.specs.Laws.{has_ascii, reads_ascii}
+use Rattle.character_sets.specs.Ascii.{always_reads_ascii, has_ascii, is_unshifted, reads_ascii}
 use Rattle.character_sets.specs.Texts.{sign_begun, signs, utf8_signs}
 use Rattle.character_sets.specs.Signs.{control, selected, shifted, sign_of, signs_by_sets}
 use Rattle.character_sets.specs.Utf8.{sequence}
@@ -20,7 +20,7 @@ use Rattle.character_sets.specs.declared.sets.Sets.{Sets}
 use Rattle.character_sets.specs.declared.sign.Sign.{Sign}
 use Rattle.character_sets.specs.declared.sign.Sign.TheVariants.{Printed}
 
-abbrev ascii_signs : List ℕ → List Sign
+abbrev pub ascii_signs : List ℕ → List Sign
 ascii_signs text = flat_map (λ byte. option_to_list (sign_of Ascii byte)) text
 
 below : (byte : ℕ) → byte < 128 → nat_le 128 byte ≡ false
@@ -89,12 +89,43 @@ in_utf8 (byte ∷ text) ascii =
     ∙ ap (λ (sign : Option Sign). option_to_list sign ++ utf8_signs text) (begun_by_ascii byte (ascii 0))
     ∙ ap (λ (others : List Sign). option_to_list (sign_of Ascii byte) ++ others) (in_utf8 text (λ i. ascii (suc i)))
 
-as_ascii : (encoding : Encoding) (sets : Sets) (text : List ℕ) → IsTrue (reads_ascii encoding) → IsAscii text → signs encoding sets text ≡ ascii_signs text
+as_ascii : (encoding : Encoding) (sets : Sets) (text : List ℕ) → IsTrue (always_reads_ascii encoding) → IsAscii text → signs encoding sets text ≡ ascii_signs text
 as_ascii ByPlot sets text has ascii = cc
 as_ascii (Always set) sets text has ascii = by_one_set set Standard text has ascii
 as_ascii Utf8 sets text has ascii = in_utf8 text ascii
 
 pub alike : (one another : Encoding) (sets : Sets) (text : List ℕ)
-    → IsTrue (reads_ascii one) → IsTrue (reads_ascii another) → IsAscii text
+    → IsTrue (always_reads_ascii one) → IsTrue (always_reads_ascii another) → IsAscii text
     → signs one sets text ≡ signs another sets text
 alike one another sets text p q ascii = as_ascii one sets text p ascii ∙ sym (as_ascii another sets text q ascii)
+
+-- without a shift the set that is selected reads the whole text
+by_selected : (sets : Sets) (text : List ℕ) → IsTrue (has_ascii (selected sets)) → IsTrue (list_all is_unshifted text)
+    → signs_by_sets sets text ≡ ascii_signs text
+by_selected sets [] has plain = refl
+by_selected sets (byte ∷ text) has plain =
+    let low : byte < 128 = grind (arith, nat_tests) in
+    let stays_out : nat_eq byte 14 ≡ false = grind (arith, nat_tests) in
+    let stays_in : nat_eq byte 15 ≡ false = grind (arith, nat_tests) in
+    let others : IsTrue (list_all is_unshifted text) = grind (arith, nat_tests) in
+    let same : shifted sets byte ≡ sets = rw (stays_out, stays_in) refl in
+    rw same
+    (ap (λ (s : Option Sign). option_to_list s ++ signs_by_sets sets text) (same_sign (selected sets) byte has low)
+    ∙ ap (λ (rest : List Sign). option_to_list (sign_of Ascii byte) ++ rest) (by_selected sets text has others))
+
+all_ascii : (text : List ℕ) → IsTrue (list_all is_unshifted text) → IsAscii text
+all_ascii [] plain zero = omega arith
+all_ascii [] plain (suc i) = omega arith
+all_ascii (byte ∷ text) plain zero = grind (arith, nat_tests)
+all_ascii (byte ∷ text) plain (suc i) = let others : IsTrue (list_all is_unshifted text) = grind (arith, nat_tests) in all_ascii text others i
+
+pub unshifted_signs : (encoding : Encoding) (sets : Sets) (text : List ℕ) → IsTrue (reads_ascii encoding sets) → IsTrue (list_all is_unshifted text)
+    → signs encoding sets text ≡ ascii_signs text
+unshifted_signs ByPlot sets text has plain = by_selected sets text has plain
+unshifted_signs (Always set) sets text has plain = as_ascii (Always set) sets text has (all_ascii text plain)
+unshifted_signs Utf8 sets text has plain = as_ascii Utf8 sets text has (all_ascii text plain)
+
+pub unshifted : (encoding : Encoding) (sets : Sets) (text : List ℕ) → IsTrue (reads_ascii encoding sets) → IsTrue (list_all is_unshifted text)
+    → signs encoding sets text ≡ signs (Always Ascii) sets text
+unshifted encoding sets text has plain =
+    unshifted_signs encoding sets text has plain ∙ sym (as_ascii (Always Ascii) sets text refl (all_ascii text plain))

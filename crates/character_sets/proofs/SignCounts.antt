@@ -13,13 +13,13 @@ at_most_one : (sign : Option Sign) (others : List Sign) → length (option_to_li
 at_most_one None others = omega arith
 at_most_one (Some sign) others = omega arith
 
-few_by_sets : (sets : Sets) (text : List ℕ) → length (signs_by_sets sets text) ≤ length text
+pub few_by_sets : (sets : Sets) (text : List ℕ) → length (signs_by_sets sets text) ≤ length text
 few_by_sets sets [] = omega arith
 few_by_sets sets (byte ∷ text) =
     let first = at_most_one (sign_of (selected sets) byte) (signs_by_sets (shifted sets byte) text) in
     let rest = few_by_sets (shifted sets byte) text in omega arith
 
-few_in_utf8 : (text : List ℕ) → length (utf8_signs text) ≤ length text
+pub few_in_utf8 : (text : List ℕ) → length (utf8_signs text) ≤ length text
 few_in_utf8 [] = omega arith
 few_in_utf8 (byte ∷ text) =
     let first = at_most_one (sign_begun byte (sequence (byte ∷ text))) (utf8_signs text) in

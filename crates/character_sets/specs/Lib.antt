@@ -5,6 +5,7 @@ pub mod CodePoints
 pub mod Signs
 pub mod Utf8
 pub mod Texts
--- What contracts need: the signs that are left of a text, and the laws of signs.
+-- What contracts need: the signs that are left of a text, how ASCII is read, and the laws of signs.
 pub mod Left
+pub mod Ascii
 pub mod Laws

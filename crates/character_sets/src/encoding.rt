@@ -1,5 +1,6 @@
 //! How the bytes of texts are read.
-ghost use Rattle.std.specs.Prelude.{◌≡◌};
+ghost use Rattle.std.specs.Prelude.{◌≡◌, ◌≤◌, length};
+ghost use Rattle.character_sets.specs.Ascii.{reads_ascii};
 ghost use Rattle.character_sets.specs.Texts.{only, signs};
 
 use crate::set::CharacterSet;
@@ -21,8 +22,10 @@ pub enum Encoding {
 impl Encoding {
     /// The signs of a text, if the plot has chosen `sets` before it. `Sets::after` says what is selected
     /// after the text.
+    #[tactic(auto, using(crate::proofs::SignCounts::few_by_sets, crate::proofs::SignCounts::few_in_utf8))]
     pub fn signs<'a>(self, sets: Sets, text: &'a [u8]) -> Signs<'a>
-        ensures { result ≡ signs self sets text.now }
+        ensures value { result ≡ signs self sets text.now }
+        ensures few { length result ≤ length text.now }
     {
         let by = match self {
             Encoding::ByPlot => By::Sets(sets),
@@ -30,6 +33,17 @@ impl Encoding {
             Encoding::Utf8 => By::Utf8,
         };
         Signs::of(Unread { by, rest: text })
+    }
+
+    /// Whether the bytes of ASCII are its characters, if the plot has chosen `sets`.
+    pub fn reads_ascii(self, sets: Sets) -> bool
+        ensures { result ≡ reads_ascii self sets }
+    {
+        match self {
+            Encoding::ByPlot => sets.selected().has_ascii(),
+            Encoding::Always(set) => set.has_ascii(),
+            Encoding::Utf8 => true,
+        }
     }
 }
 

@@ -1,4 +1,6 @@
 //! The sets.
+ghost use Rattle.std.specs.Prelude.{◌≡◌};
+ghost use Rattle.character_sets.specs.Ascii.{has_ascii};
 
 /// A set of characters. Those of eight bits have characters from 160 on, and PC-8 and Windows-1252
 /// from 128 on. In a set of seven bits these bytes are Roman-8's.
@@ -50,4 +52,20 @@ pub enum CharacterSet {
     SpanishLatinAmerican,
     /// Set 7 of HP-GL: the upper half of Roman-8.
     RomanExtensions,
+}
+
+impl CharacterSet {
+    /// Whether it has all characters of ASCII.
+    pub fn has_ascii(self) -> bool
+        ensures { result ≡ has_ascii self }
+    {
+        match self {
+            CharacterSet::Roman8
+            | CharacterSet::Latin1
+            | CharacterSet::Windows1252
+            | CharacterSet::Pc8
+            | CharacterSet::Ascii => true,
+            _ => false,
+        }
+    }
 }

@@ -32,10 +32,20 @@ impl<'a> Signs<'a> {
         Signs { unread }
     }
 
+    /// The same signs once more.
+    pub fn again(&self) -> Signs<'a>
+        ensures { result ≡ self.now }
+    {
+        Signs {
+            unread: self.unread,
+        }
+    }
+
     /// The next sign.
     pub fn next_sign(&mut self) -> Option<Sign>
         ensures taken { IfSome result (λ sign. self.old ≡ sign ∷ self.new) }
         ensures none { result ≡ None → self.old ≡ [] }
+        ensures end { result ≡ None → self.new ≡ [] }
     {
         self.unread.next()
     }

@@ -16,7 +16,7 @@ pub enum By {
 }
 
 // The bytes of a text that are not read yet.
-#[derive(Drop)]
+#[derive(Clone, Copy, Drop)]
 pub struct Unread<'a> {
     pub by: By,
     pub rest: &'a [u8],

@@ -108,3 +108,21 @@ fn after_texts(rt: HostRuntime) {
         ]
     );
 }
+
+// Which ways of reading take ASCII as it is.
+#[test]
+fn sets_with_ascii(rt: HostRuntime) {
+    let found = [
+        Encoding::ByPlot.reads_ascii(STANDARD),
+        Encoding::ByPlot.reads_ascii(ALTERNATE),
+        Encoding::Always(CharacterSet::Latin1).reads_ascii(ALTERNATE),
+        Encoding::Always(CharacterSet::Windows1252).reads_ascii(ALTERNATE),
+        Encoding::Always(CharacterSet::Pc8).reads_ascii(ALTERNATE),
+        Encoding::Always(CharacterSet::Ascii).reads_ascii(ALTERNATE),
+        Encoding::Always(CharacterSet::German).reads_ascii(STANDARD),
+        Encoding::Always(CharacterSet::RomanExtensions).reads_ascii(STANDARD),
+        Encoding::Utf8.reads_ascii(ALTERNATE),
+    ];
+    let wanted = [true, false, true, true, true, true, false, false, true];
+    assert_eq!(rt; found, wanted);
+}
