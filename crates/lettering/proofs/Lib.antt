@@ -1,4 +1,5 @@
 mod Examples
-pub mod Lefts
+pub mod Lists
+pub mod Reaches
 pub mod Sizes
 pub mod Turned

@@ -44,15 +44,15 @@ stepped_in parts step steps p s t =
     }
 
 -- how far letters are beside their start: half of what they take up, up to two times
-pub record IsBeside (column letters : ℕ) (half : ℤ) : Type 0 where
+pub record IsBeside (column : ℕ) (half : ℤ) : Type 0 where
   pub half_fits : FitsSigned w128 half
   pub sum_fits : FitsSigned w128 (half +ℤ pos 6000000)
   pub most : nat_abs (pos column *ℤ (half +ℤ pos 6000000)) ≤ 2 ^ 63
   pub fits : FitsSigned w128 (pos column *ℤ (half +ℤ pos 6000000))
 
-pub beside_in : (column letters : ℕ) (half : ℤ) → column ≤ 2 → letters ≤ 2 ^ 32 → nat_abs half ≤ 9 * 101000000 * nat_abs (pos letters -ℤ pos 1) → IsBeside column letters half
+pub beside_in : (column : ℕ) (letters half : ℤ) → column ≤ 2 → nat_abs letters ≤ 2 ^ 31 → nat_abs half ≤ 9 * 101000000 * nat_abs (letters -ℤ pos 1) → IsBeside column half
 beside_in column letters half c l h =
-    let n : nat_abs (pos letters -ℤ pos 1) ≤ 2 ^ 32 = omega (arith, ints) in
+    let n : nat_abs (letters -ℤ pos 1) ≤ 2 ^ 32 = omega (arith, ints) in
     let k : nat_abs half ≤ 909000000 * 2 ^ 32 = omega (arith, n, h) in
     let s : nat_abs (half +ℤ pos 6000000) ≤ 909000000 * 2 ^ 32 + 6000000 = omega (arith, ints, k) in
     let p = product_within (pos column) (half +ℤ pos 6000000) 2 (909000000 * 2 ^ 32 + 6000000) (omega (arith, c)) s in
@@ -78,18 +78,24 @@ given r parts step steps p s t e h =
     record { value = simp to_z-of_z at e; most = omega (arith, k, m) }
 
 -- how far a slant moves
-pub record IsSlanted (up : ℕ) (slant : ℤ) : Type 0 where
-  pub up_fits : FitsSigned w128 (pos up)
-  pub slant_fits : FitsSigned w128 slant
-  pub fits : FitsSigned w128 (pos up *ℤ slant)
-  pub most : nat_abs (pos up *ℤ slant) ≤ 2 ^ 46
+pub record IsSlanted (steps slant : ℤ) : Type 0 where
+  pub steps_fit : FitsSigned w64 steps
+  pub up_fits : FitsSigned w64 (pos 3 *ℤ steps)
+  pub up_fits_too : FitsSigned w128 (pos 3 *ℤ steps)
+  pub slant_fits : FitsSigned w64 slant
+  pub slant_fits_too : FitsSigned w128 slant
+  pub fits : FitsSigned w128 (pos 3 *ℤ steps *ℤ slant)
+  pub most : nat_abs (pos 3 *ℤ steps *ℤ slant) ≤ 2 ^ 46
 
-pub slanted_in : (up : ℕ) (slant : ℤ) → up ≤ 65025 → nat_abs slant ≤ 1000000000 → IsSlanted up slant
-slanted_in up slant u s =
-    let p = product_within (pos up) slant 65025 1000000000 u s in
+pub slanted_in : (steps slant : ℤ) → nat_abs steps ≤ 255 → nat_abs slant ≤ 1000000000 → IsSlanted steps slant
+slanted_in steps slant u s =
+    let p = product_within (pos 3 *ℤ steps) slant 765 1000000000 (omega (arith, ints)) s in
     record {
+      steps_fit = omega (arith, ints);
       up_fits = omega (arith, ints);
+      up_fits_too = omega (arith, ints);
       slant_fits = omega (arith, ints);
+      slant_fits_too = omega (arith, ints);
       fits = omega (arith, ints, p);
       most = omega (arith, p);
     }

@@ -1,46 +1,44 @@
--- A label (HP-GL/2 guide: LB): the strokes of its letters, where the pen ends, and where its last line is, from the
--- label's start, in grains.
-use Rattle.std.specs.Prelude.{ℕ, suc, ◌+◌, ◌-◌, ◌*◌, ◌^◌, List, [], ◌∷◌, ◌++◌, reverse, nat_eq, if◌then◌else◌, ℤ, pos}
+-- A label (HP-GL/2 guide: LB), by its signs: the strokes of its letters, where the pen ends, and where its last line is,
+-- from the label's start, in grains.
+use Rattle.std.specs.Prelude.{◌-◌, ◌*◌, ◌^◌, List, [], ◌∷◌, ◌++◌, ℤ, pos, ◌*ℤ◌}
 use Rattle.exact.specs.declared.spot.Spot.{Spot}
-use Rattle.stick_font.specs.Labels.{carriage_return, is_printed, cell_after, column_after, line_after}
+use Rattle.character_sets.specs.declared.sign.Sign.{Sign}
+use Rattle.character_sets.specs.declared.sign.Sign.TheVariants.{Printed, CarriageReturn}
 use Rattle.lettering.specs.Cells.{cell_offset}
-use Rattle.lettering.specs.Letters.{origin_column, letter_strokes}
+use Rattle.lettering.specs.Columns.{first_cell, last_cell, moved_on, section_letters}
+use Rattle.lettering.specs.Letters.{letter_corner, letter_strokes, origin_column}
+use Rattle.lettering.specs.declared.cell.Cell.{Cell}
 use Rattle.lettering.specs.declared.style.Style.{Style}
 
--- how many bytes are printed before the next CR
-abbrev pub printed_ahead : List ℕ → ℕ
-printed_ahead [] = 0
-printed_ahead (byte ∷ bytes) =
-    if nat_eq byte carriage_return then 0 else
-    if is_printed byte then suc (printed_ahead bytes) else printed_ahead bytes
+-- how many letters the section after a sign has, if that before it has n
+abbrev pub letters_after : ℤ → Sign → List Sign → ℤ
+letters_after n CarriageReturn signs = section_letters signs
+letters_after n _ signs = n
 
--- how many letters a section has: those before a byte, the newest first, and those from it on
-abbrev pub letters_of_section : List ℕ → List ℕ → ℕ
-letters_of_section before bytes = column_after before + printed_ahead bytes
+-- the strokes of a sign in a cell and a section of n letters: only printed characters have any
+abbrev pub sign_strokes : Style → ℤ → Cell → Sign → List (Spot × Spot)
+sign_strokes style n cell (Printed code_point) = letter_strokes style (letter_corner style cell n) code_point
+sign_strokes style n cell _ = []
 
--- the strokes of bytes, each in the cell after the bytes before it
-abbrev pub strokes_from : Style → List ℕ → List ℕ → List (Spot × Spot)
-strokes_from style before [] = []
-strokes_from style before (byte ∷ bytes) =
-    letter_strokes style (cell_after before) (letters_of_section before (byte ∷ bytes)) byte
-    ++ strokes_from style (byte ∷ before) bytes
+-- the strokes of signs, from a cell on and a section of n letters
+abbrev pub strokes_from : Style → ℤ → Cell → List Sign → List (Spot × Spot)
+strokes_from style n cell [] = []
+strokes_from style n cell (sign ∷ signs) =
+    sign_strokes style n cell sign ++ strokes_from style (letters_after n sign signs) (moved_on cell sign) signs
 
 -- the strokes of a label, each as its two ends
-abbrev pub label_strokes : Style → List ℕ → List (Spot × Spot)
-label_strokes style bytes = strokes_from style [] bytes
-
--- a whole column or line in millionths
-abbrev pub whole : ℕ → ℤ
-whole n = pos (10 ^ 6 * n)
+abbrev pub label_strokes : Style → List Sign → List (Spot × Spot)
+label_strokes style signs = strokes_from style (section_letters signs) first_cell signs
 
 -- where the pen ends: in the next letter's cell if LO's column is 0, half as many columns on if it is 1, and in the
 -- first column if it is 2
-abbrev pub label_end : Style → List ℕ → Spot
-label_end style bytes =
+abbrev pub label_end : Style → List Sign → Spot
+label_end style signs =
+    let cell = last_cell signs in
     cell_offset style
-    (pos (500000 * ((2 - origin_column style) * column_after (reverse bytes))))
-    (whole (line_after (reverse bytes)))
+    (pos (500000 * (2 - origin_column style)) *ℤ cell.column)
+    (pos (10 ^ 6 * cell.line))
 
 -- how far the label moves the left margin
-abbrev pub margin_move : Style → List ℕ → Spot
-margin_move style bytes = cell_offset style (pos 0) (whole (line_after (reverse bytes)))
+abbrev pub margin_move : Style → List Sign → Spot
+margin_move style signs = cell_offset style (pos 0) (pos (10 ^ 6 * (last_cell signs).line))

@@ -1,5 +1,5 @@
 -- What holds of labels.
-use Rattle.std.specs.Prelude.{◌≡◌, ℕ, ◌≤◌, List, [], ◌∷◌, map}
+use Rattle.std.specs.Prelude.{◌≡◌, ℕ, IsTrue, List, map}
 use Rattle.exact.specs.declared.spot.Spot.{Spot}
 use Rattle.directions.specs.Directions.{turned}
 use Rattle.directions.specs.Laws.{right}
@@ -7,8 +7,11 @@ use Rattle.directions.specs.declared.turn.Turn.{Turn}
 use Rattle.stick_font.specs.Labels as upright
 use Rattle.stick_font.specs.declared.label.LabelStroke.{LabelStroke}
 use Rattle.stick_font.specs.declared.size.CharacterSize.{CharacterSize}
+use Rattle.character_sets.specs.Texts.{signs}
+use Rattle.character_sets.specs.declared.encoding.Encoding.{Encoding}
+use Rattle.character_sets.specs.declared.sets.Sets.{Sets}
+use Rattle.lettering.specs.CoreTexts.{is_core_text}
 use Rattle.lettering.specs.Labels.{label_strokes, label_end}
-use Rattle.lettering.specs.Letters.{sole_letter_strokes}
 use Rattle.lettering.specs.Styles.{usual}
 use Rattle.lettering.specs.declared.style.Style.{Style}
 
@@ -23,22 +26,14 @@ turned_offset size turn p = turned turn (upright.offset size p)
 abbrev pub turned_stroke : CharacterSize → Turn → LabelStroke → Spot × Spot
 turned_stroke size turn s = (turned_offset size turn s.from, turned_offset size turn s.to)
 
--- in the usual style a label that is turned by quarters has the strokes and the end of the stick font's labels
-abbrev pub HasTurnedStrokes : CharacterSize → Turn → List ℕ → Type 0
-HasTurnedStrokes size turn bytes =
-    label_strokes (usual_turned size turn) bytes ≡ map (turned_stroke size turn) (upright.label_strokes bytes)
+-- in the usual style, turned by quarters, a label has the strokes and the end of the stick font's label of its text
+pub record IsTurned (size : CharacterSize) (turn : Turn) (encoding : Encoding) (sets : Sets) (text : List ℕ) : Type 0 where
+  pub strokes :
+      label_strokes (usual_turned size turn) (signs encoding sets text) ≡ map (turned_stroke size turn) (upright.label_strokes text)
+  pub end : label_end (usual_turned size turn) (signs encoding sets text) ≡ turned_offset size turn (upright.label_end text)
 
-abbrev pub HasTurnedEnd : CharacterSize → Turn → List ℕ → Type 0
-HasTurnedEnd size turn bytes =
-    label_end (usual_turned size turn) bytes ≡ turned_offset size turn (upright.label_end bytes)
-
-pub record UsualLabelsAreTurned : Type 0 where
-  pub strokes : (size : CharacterSize) (turn : Turn) (bytes : List ℕ) → HasTurnedStrokes size turn bytes
-  pub ends : (size : CharacterSize) (turn : Turn) (bytes : List ℕ) → HasTurnedEnd size turn bytes
-
--- the strokes of a letter by itself are those of the label that has only this letter
-abbrev pub IsSoleLetter : Style → ℕ → Type 0
-IsSoleLetter style byte = label_strokes style (byte ∷ []) ≡ sole_letter_strokes style byte
-
-abbrev pub LettersAreLabels : Type 0
-LettersAreLabels = (style : Style) (byte : ℕ) → 32 ≤ byte → byte ≤ 126 → IsSoleLetter style byte
+abbrev pub UsualLabelsAreTurned : Type 0
+UsualLabelsAreTurned =
+    (size : CharacterSize) (turn : Turn) (encoding : Encoding) (sets : Sets) (text : List ℕ)
+    → IsTrue (is_core_text encoding sets text)
+    → IsTurned size turn encoding sets text

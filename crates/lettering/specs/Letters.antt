@@ -5,11 +5,11 @@ use Rattle.std.specs.Prelude.{ℕ, ◌-◌, ◌*◌, ◌/◌, ◌%◌, ◌^◌, 
 use Rattle.std.specs.Prelude.{ℤ, pos, ◌+ℤ◌, ◌-ℤ◌, ◌*ℤ◌}
 use Rattle.exact.specs.declared.spot.Spot.{Spot}
 use Rattle.directions.specs.Directions.{swung}
-use Rattle.stick_font.specs.Glyphs.{glyph_strokes, column_width}
 use Rattle.stick_font.specs.Labels.{share}
-use Rattle.stick_font.specs.declared.cell.Cell.{Cell}
-use Rattle.stick_font.specs.declared.grid.GridStroke.{GridStroke}
+use Rattle.full_font.specs.Glyphs.{glyph_strokes}
+use Rattle.full_font.specs.declared.grid.GlyphStroke.{GlyphStroke}
 use Rattle.lettering.specs.Styles.{steps_to, parts_of}
+use Rattle.lettering.specs.declared.cell.Cell.{Cell}
 use Rattle.lettering.specs.declared.style.LineFeed.TheVariants.{Normal}
 use Rattle.lettering.specs.declared.style.Path.{Path}
 use Rattle.lettering.specs.declared.style.Path.TheVariants.{Right}
@@ -39,47 +39,45 @@ gap style parts position = if has_gap style then pos (10 ^ 6 * parts) *ℤ (pos 
 
 -- how far n letters begin left of their start, in millionths of twelfths of a letter's width: in column 1 half of what
 -- they take up, in column 2 all of it
-abbrev pub letters_beside : ℕ → ℤ → ℕ → ℤ
-letters_beside column step n = pos column *ℤ (pos 9 *ℤ step *ℤ (pos n -ℤ pos 1) +ℤ pos (6 * 10 ^ 6))
+abbrev pub letters_beside : ℕ → ℤ → ℤ → ℤ
+letters_beside column step n = pos column *ℤ (pos 9 *ℤ step *ℤ (n -ℤ pos 1) +ℤ pos (6 * 10 ^ 6))
 
 -- how far a section of n letters begins left of its start and below it, in millionths of twelfths of a letter's width
 -- and of eighteenths of its height
-abbrev pub shift : Style → ℕ → Spot
+abbrev pub shift : Style → ℤ → Spot
 shift style n = record {
   x = letters_beside (origin_column style) style.step_x n +ℤ gap style 6 (origin_column style);
   y = pos (9 * 10 ^ 6 * origin_row style) +ℤ gap style 9 (origin_row style);
 }
 
 -- the lower left corner of a letter, in a cell and a section of n letters, in the same unit
-abbrev pub letter_corner : Style → Cell → ℕ → Spot
+abbrev pub letter_corner : Style → Cell → ℤ → Spot
 letter_corner style cell n =
-    let parts = parts_of style (steps_to style (pos cell.column) (pos cell.line)) in
+    let parts = parts_of style (steps_to style cell.column (pos cell.line)) in
     let shifted = shift style n in
     record { x = parts.x -ℤ shifted.x; y = parts.y -ℤ shifted.y }
 
--- the point (i, j) of a letter's grid, by its corner, and by how many twelfths of a width the grid's columns are apart.
--- The slant moves it to the right by a part of its height above the corner.
-abbrev pub letter_point : Style → Spot → ℕ → ℕ → ℕ → Spot
-letter_point style corner unit i j =
+-- steps of a letter's grid, of 3 twelfths of a width or 3 eighteenths of a height each, from its corner on
+abbrev pub on_grid : ℤ → ℤ → ℤ
+on_grid corner steps = corner +ℤ pos (10 ^ 6) *ℤ (pos 3 *ℤ steps)
+
+-- the point (i, j) of a letter's grid, by its corner. The slant moves it to the right by a part of its height above the
+-- corner.
+abbrev pub letter_point : Style → Spot → ℕ → ℤ → Spot
+letter_point style corner i j =
     swung style.direction (record {
-      x = share (corner.x +ℤ pos (10 ^ 6 * (unit * i))) style.width (12 * 10 ^ 6)
-          +ℤ share (pos (unit * j) *ℤ style.slant) style.height (18 * 10 ^ 6);
-      y = share (corner.y +ℤ pos (10 ^ 6 * (unit * j))) style.height (18 * 10 ^ 6);
+      x = share (on_grid corner.x (pos i)) style.width (12 * 10 ^ 6)
+          +ℤ share (pos 3 *ℤ j *ℤ style.slant) style.height (18 * 10 ^ 6);
+      y = share (on_grid corner.y j) style.height (18 * 10 ^ 6);
     })
 
-abbrev pub letter_stroke : Style → Spot → ℕ → GridStroke → Spot × Spot
-letter_stroke style corner unit s =
-    (letter_point style corner unit s.ax s.ay, letter_point style corner unit s.bx s.by)
+abbrev pub letter_stroke : Style → Spot → GlyphStroke → Spot × Spot
+letter_stroke style corner s = (letter_point style corner s.ax s.ay, letter_point style corner s.bx s.by)
 
--- the strokes of a byte in a cell and a section of n letters, each as its two ends
-abbrev pub letter_strokes : Style → Cell → ℕ → ℕ → List (Spot × Spot)
-letter_strokes style cell n byte =
-    map (letter_stroke style (letter_corner style cell n) (column_width byte)) (glyph_strokes byte)
+-- the strokes of a letter by its corner, each as its two ends
+abbrev pub letter_strokes : Style → Spot → ℕ → List (Spot × Spot)
+letter_strokes style corner code_point = map (letter_stroke style corner) (glyph_strokes code_point)
 
--- the strokes of a label of one letter; a symbol (HP-GL/2 guide: SM) is such a letter, centred
-abbrev pub sole_letter_strokes : Style → ℕ → List (Spot × Spot)
-sole_letter_strokes style byte = letter_strokes style (record { column = 0; line = 0 }) 1 byte
-
--- centred whatever DV and LO say, by the path to the right and LO 5
+-- centred whatever DV and LO say, by the path to the right and LO 5: so is a symbol (HP-GL/2 guide: SM), a label of one sign
 abbrev pub centred : Style → Style
 centred style = record style { path = Right; line_feed = Normal; origin = 5 }

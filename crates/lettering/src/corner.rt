@@ -5,24 +5,24 @@ ghost use Rattle.directions.specs.Bounds.{IsWithin};
 ghost use Rattle.lettering.specs.Letters.{origin_of, origin_column, origin_row, gap, letters_beside};
 ghost use Rattle.lettering.specs.Letters.{shift, letter_corner};
 
+use crate::cell::Cell;
 use crate::checked::Lettering;
 use crate::share::stepped;
 use crate::style::Path;
 use exact::Spot;
-use stick_font::Cell;
 
 const MILLION: i128 = 1_000_000;
 
 impl Lettering {
     // The lower left corner of a letter, in a cell and in a section of `letters` letters.
-    pub(crate) fn corner(&self, cell: Cell, letters: u64) -> Spot
-        requires column_in { cell.column ≤ 2 ^ 32 }
+    pub(crate) fn corner(&self, cell: Cell, letters: i64) -> Spot
+        requires column_in { nat_abs cell.column ≤ 2 ^ 32 }
         requires line_in { cell.line ≤ 2 ^ 32 }
-        requires letters_in { letters ≤ 2 ^ 32 }
+        requires letters_in { nat_abs letters ≤ 2 ^ 31 }
         ensures value { result ≡ letter_corner self.now.style cell letters }
         ensures within { IsWithin (2 ^ 65) result }
     {
-        let steps = self.steps(cell.column as i64, cell.line as i64);
+        let steps = self.steps(cell.column, cell.line as i64);
         let shift = self.shift(letters);
         Spot {
             x: stepped(18, self.style.step_x, steps.x) - shift.x,
@@ -31,8 +31,8 @@ impl Lettering {
     }
 
     // How far a section of `letters` letters begins left of its start and below it.
-    fn shift(&self, letters: u64) -> Spot
-        requires { letters ≤ 2 ^ 32 }
+    fn shift(&self, letters: i64) -> Spot
+        requires { nat_abs letters ≤ 2 ^ 31 }
         ensures value { result ≡ shift self.now.style letters }
         ensures within { IsWithin (2 ^ 64) result }
     {
@@ -88,10 +88,10 @@ impl Lettering {
 }
 
 // How far `letters` letters begin left of their start, by the column of the origin and their step.
-fn beside(column: u8, step: i64, letters: u64) -> i128
+fn beside(column: u8, step: i64, letters: i64) -> i128
     requires column_in { column ≤ 2 }
     requires step_in { nat_abs step ≤ 101000000 }
-    requires letters_in { letters ≤ 2 ^ 32 }
+    requires letters_in { nat_abs letters ≤ 2 ^ 31 }
     ensures value { result ≡ letters_beside column step letters }
     ensures most { nat_abs result ≤ 2 ^ 63 }
 {

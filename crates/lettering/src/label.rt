@@ -1,5 +1,5 @@
 //! Labels.
-ghost use Rattle.std.specs.Prelude.{◌≡◌, ◌≤◌, ◌^◌, length};
+ghost use Rattle.std.specs.Prelude.{◌≡◌, ◌≤◌, ◌*◌, ◌^◌, length, pos, nat_abs, ◌*ℤ◌};
 ghost use Rattle.directions.specs.Bounds.{IsWithin};
 ghost use Rattle.lettering.specs.Labels.{label_strokes, label_end, margin_move};
 
@@ -7,37 +7,55 @@ use crate::checked::Lettering;
 use crate::sections::last_cell;
 use crate::strokes::Strokes;
 use crate::written::Written;
+use character_sets::Signs;
 use exact::Spot;
 
 impl Lettering {
-    /// The strokes of a label of at most 2^32 bytes (HP-GL/2: LB): letter by letter, from its start on.
-    pub fn strokes<'a>(&'a self, text: &'a [u8]) -> Strokes<'a>
-        requires { length text.now ≤ 2 ^ 32 }
-        ensures { result ≡ label_strokes self.now.style text.now }
+    /// The strokes of a label of at most 2^26 signs (HP-GL/2: LB): letter by letter, from its start on.
+    pub fn strokes<'a>(&'a self, signs: Signs<'a>) -> Strokes<'a>
+        requires { length signs ≤ 2 ^ 26 }
+        ensures { result ≡ label_strokes self.now.style signs.entry }
     {
-        Strokes::of(Written::new(self, text))
+        Strokes::of(Written::new(self, signs))
     }
 
     /// How far from its start a label leaves the pen, in grains.
-    pub fn end(&self, text: &[u8]) -> Spot
-        requires { length text.now ≤ 2 ^ 32 }
-        ensures value { result ≡ label_end self.now.style text.now }
+    pub fn end(&self, signs: Signs<'_>) -> Spot
+        requires { length signs ≤ 2 ^ 26 }
+        ensures value { result ≡ label_end self.now.style signs.entry }
         ensures within { IsWithin (2 ^ 95) result }
     {
-        let cell = last_cell(text);
+        let cell = last_cell(signs);
         let halves = 2 - self.origin_column();
-        let columns = 500_000 * (u64::from(halves) * cell.column);
-        let lines = 1_000_000 * cell.line;
-        self.offset(columns as i64, lines as i64)
+        self.offset(half_columns(halves, cell.column), whole_lines(cell.line))
     }
 
     /// How far a label moves the left margin, at which `CP;` begins the next line, in grains.
-    pub fn margin_move(&self, text: &[u8]) -> Spot
-        requires { length text.now ≤ 2 ^ 32 }
-        ensures value { result ≡ margin_move self.now.style text.now }
+    pub fn margin_move(&self, signs: Signs<'_>) -> Spot
+        requires { length signs ≤ 2 ^ 26 }
+        ensures value { result ≡ margin_move self.now.style signs.entry }
         ensures within { IsWithin (2 ^ 95) result }
     {
-        let cell = last_cell(text);
-        self.offset(0, (1_000_000 * cell.line) as i64)
+        let cell = last_cell(signs);
+        self.offset(0, whole_lines(cell.line))
     }
+}
+
+// Halves of columns in millionths of columns.
+fn half_columns(halves: u8, columns: i64) -> i64
+    requires halves_in { halves ≤ 2 }
+    requires columns_in { nat_abs columns ≤ 2 ^ 29 }
+    ensures value { result ≡ pos (500000 * halves) *ℤ columns }
+    ensures most { nat_abs result ≤ 2 ^ 52 }
+{
+    500_000 * i64::from(halves) * columns
+}
+
+// Lines in millionths of lines.
+fn whole_lines(lines: u64) -> i64
+    requires { lines ≤ 2 ^ 26 }
+    ensures value { result ≡ pos (1000000 * lines) }
+    ensures most { nat_abs result ≤ 2 ^ 52 }
+{
+    (1_000_000 * lines) as i64
 }

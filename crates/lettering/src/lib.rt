@@ -2,8 +2,10 @@
 //! the pen ends.
 #![tactic(auto)]
 
+mod cell;
 mod cells;
 mod checked;
+mod core_text;
 mod corner;
 mod label;
 pub mod laws;
@@ -15,5 +17,6 @@ mod style;
 mod written;
 
 pub use checked::Lettering;
+pub use core_text::is_core_text;
 pub use strokes::Strokes;
 pub use style::{LineFeed, Path, Style};

@@ -1,46 +1,41 @@
-//! How many letters the sections of a label have, which CR separates, and the cell after a label.
-ghost use Rattle.std.specs.Prelude.{◌≡◌, ◌≤◌, ◌^◌, length, reverse};
-ghost use Rattle.stick_font.specs.Labels.{cell_after, is_printed};
-ghost use Rattle.lettering.specs.Labels.{printed_ahead};
+//! How many letters long the sections of a label are, which CR separates, and the cell after a label.
+ghost use Rattle.std.specs.Prelude.{◌≡◌, ◌≤◌, ◌^◌, length, nat_abs};
+ghost use Rattle.lettering.specs.Columns.{last_cell, section_letters};
 
-use stick_font::Cell;
+use crate::cell::{Cell, column_after};
+use character_sets::{Sign, Signs};
 
-const CARRIAGE_RETURN: u8 = b'\r';
-
-// How many bytes are printed before the first CR.
-pub fn printed_ahead(text: &[u8]) -> u64
-    ensures value { result ≡ printed_ahead text.now }
-    ensures most { result ≤ length text.now }
+// How many letters long the section is that begins with these signs: the greatest column that is reached
+// before the first CR, and at least 1.
+pub fn section_letters(signs: Signs<'_>) -> i64
+    requires { length signs ≤ 2 ^ 26 }
+    ensures value { result ≡ section_letters signs.entry }
+    ensures most { nat_abs result ≤ 2 ^ 29 }
 {
-    let mut count = 0;
-    for byte in text {
-        if *byte == CARRIAGE_RETURN {
-            return count;
+    let mut rest = signs;
+    let mut column = 0;
+    let mut most = 1;
+    'signs: while let Some(sign) = rest.next_sign() {
+        if let Sign::CarriageReturn = sign {
+            return most;
         }
-        if is_printed(*byte) {
-            count += 1;
-        }
+        column = column_after(column, sign);
+        most = most.max(column);
     }
-    count
+    most
 }
 
-// Whether it is a space or a character of the font.
-fn is_printed(byte: u8) -> bool
-    ensures { result ≡ is_printed byte }
+// The cell after a label.
+pub fn last_cell(signs: Signs<'_>) -> Cell
+    requires { length signs ≤ 2 ^ 26 }
+    ensures value { result ≡ last_cell signs.entry }
+    ensures column_in { nat_abs result.column ≤ 2 ^ 29 }
+    ensures line_in { result.line ≤ 2 ^ 26 }
 {
-    b' ' <= byte && byte <= b'~'
-}
-
-// The cell after a text.
-pub fn last_cell(text: &[u8]) -> Cell
-    requires { length text.now ≤ 2 ^ 32 }
-    ensures value { result ≡ cell_after (reverse text.now) }
-    ensures column_in { result.column ≤ 2 ^ 32 }
-    ensures line_in { result.line ≤ 2 ^ 32 }
-{
+    let mut rest = signs;
     let mut cell = Cell::FIRST;
-    for byte in text {
-        cell = cell.after(*byte);
+    'signs: while let Some(sign) = rest.next_sign() {
+        cell = cell.after(sign);
     }
     cell
 }

@@ -1,44 +1,52 @@
 //! The strokes of a label, letter by letter.
-ghost use Rattle.std.specs.Prelude.{◌≡◌, ◌<◌, ◌≤◌, ◌∷◌, ◌++◌, ◌^◌, [], drop, length, IfSome, None};
+ghost use Rattle.std.specs.Prelude.{◌≡◌, ◌<◌, ◌≤◌, ◌++◌, ◌^◌, [], length, nat_abs, true, false, IfSome, None};
 ghost use Rattle.std.specs.Option.{option_to_list};
 
+use crate::cell::Cell;
 use crate::checked::Lettering;
-use crate::sections::printed_ahead;
+use crate::sections::section_letters;
+use character_sets::{Sign, Signs};
 use exact::Spot;
-use stick_font::Cell;
 
-const CARRIAGE_RETURN: u8 = b'\r';
+// A letter of which strokes may be left: its lower left corner, and its next stroke.
+#[derive(Clone, Copy, Drop)]
+pub struct Letter {
+    pub code_point: u32,
+    pub corner: Spot,
+    pub stroke: usize,
+}
 
 // What is left of a label.
 #[derive(Drop)]
 pub struct Written<'a> {
     pub lettering: &'a Lettering,
-    // The bytes that are left.
-    pub rest: &'a [u8],
-    // The cell of the first of them, how many letters its section has, and its next stroke.
+    pub letter: Option<Letter>,
+    // The signs after the letter.
+    pub rest: Signs<'a>,
+    // The cell of the first of them, and how many letters its section has.
     pub cell: Cell,
-    pub letters: u64,
-    pub stroke: usize,
+    pub letters: i64,
 }
 
 impl<'a> Written<'a> {
     ghost use Rattle.lettering.specs.Bounds.{IsStrokeWithin};
-    ghost use Rattle.lettering.specs.Labels.{label_strokes};
-    ghost use Rattle.lettering.specs.Letters.{letter_strokes};
-    ghost use Rattle.lettering.specs.Left.{IsWritten, written_left};
+    ghost use Rattle.directions.specs.Bounds.{IsWithin};
+    ghost use Rattle.lettering.specs.Labels.{label_strokes, letters_after, sign_strokes};
+    ghost use Rattle.lettering.specs.Left.{IsWritten, letter_left, written_left};
 
     // A label from its start on.
-    pub fn new(lettering: &'a Lettering, text: &'a [u8]) -> Written<'a>
-        requires { length text.now ≤ 2 ^ 32 }
+    pub fn new(lettering: &'a Lettering, signs: Signs<'a>) -> Written<'a>
+        requires { length signs ≤ 2 ^ 26 }
         ensures sound { IsWritten result }
-        ensures all { written_left result ≡ label_strokes lettering.now.style text.now }
+        ensures all { written_left result ≡ label_strokes lettering.now.style signs.entry }
     {
+        let letters = section_letters(signs.again());
         Written {
             lettering,
-            rest: text,
+            letter: None,
+            rest: signs,
             cell: Cell::FIRST,
-            letters: printed_ahead(text),
-            stroke: 0,
+            letters,
         }
     }
 
@@ -50,36 +58,83 @@ impl<'a> Written<'a> {
         ensures none { result ≡ None → written_left self.new ≡ [] }
         ensures within { IfSome result IsStrokeWithin }
     {
-        'bytes: while let Some((byte, after)) = self.rest.split_first() {
-            if let Some(stroke) = self
-                .lettering
-                .stroke(self.cell, self.letters, *byte, self.stroke)
-            {
-                self.stroke += 1;
+        'letters: loop {
+            if let Some(stroke) = self.next_of_letter() {
                 return Some(stroke);
             }
-            self.pass(*byte, after);
+            if !self.pass() {
+                return None;
+            }
         }
-        None
     }
 
-    // Goes on to the next byte, when all strokes of the first one are taken.
-    fn pass(&mut self, byte: u8, after: &'a [u8])
+    // The next stroke of the letter.
+    fn next_of_letter(&mut self) -> Option<(Spot, Spot)>
+        requires { IsWritten self.old }
+        ensures sound { IsWritten self.new }
+        ensures taken { written_left self.old ≡ option_to_list result ++ written_left self.new }
+        ensures none { result ≡ None → letter_left self.new.lettering.now.style self.new.letter ≡ [] }
+        ensures within { IfSome result IsStrokeWithin }
+        ensures rest { self.new.rest ≡ self.old.rest }
+    {
+        let letter = self.letter?;
+        let stroke = self
+            .lettering
+            .stroke(letter.corner, letter.code_point, letter.stroke)?;
+        self.letter = Some(Letter {
+            stroke: letter.stroke + 1,
+            ..letter
+        });
+        Some(stroke)
+    }
+
+    // Goes on past the next sign, when all strokes of the letter are taken. Whether there is one.
+    fn pass(&mut self) -> bool
         requires sound { IsWritten self.old }
-        requires first { self.old.rest.now ≡ byte ∷ after.now }
-        requires taken { drop
-            self.old.stroke
-            (letter_strokes self.old.lettering.now.style self.old.cell self.old.letters byte)
-            ≡ [] }
+        requires taken { letter_left self.old.lettering.now.style self.old.letter ≡ [] }
         ensures sound { IsWritten self.new }
         ensures same { written_left self.old ≡ written_left self.new }
-        ensures shorter { length self.new.rest.now < length self.old.rest.now }
+        ensures shorter { result ≡ true → length self.new.rest < length self.old.rest }
+        ensures end { result ≡ false → written_left self.new ≡ [] }
     {
-        if byte == CARRIAGE_RETURN {
-            self.letters = printed_ahead(after);
+        let Some(sign) = self.rest.next_sign() else {
+            return false;
+        };
+        self.letter = self.letter_of(sign);
+        self.letters = self.letters_after(sign);
+        self.cell = self.cell.after(sign);
+        true
+    }
+
+    // The letter of a sign in this cell, if it is a printed character.
+    fn letter_of(&self, sign: Sign) -> Option<Letter>
+        requires column_in { nat_abs self.now.cell.column ≤ 2 ^ 29 }
+        requires line_in { self.now.cell.line ≤ 2 ^ 26 }
+        requires letters_in { nat_abs self.now.letters ≤ 2 ^ 29 }
+        ensures value { letter_left self.now.lettering.now.style result
+            ≡ sign_strokes self.now.lettering.now.style self.now.letters self.now.cell sign }
+        ensures corner_in { IfSome result (λ letter. IsWithin (2 ^ 65) letter.corner) }
+    {
+        match sign {
+            Sign::Printed(code_point) => Some(Letter {
+                code_point,
+                corner: self.lettering.corner(self.cell, self.letters),
+                stroke: 0,
+            }),
+            _ => None,
         }
-        self.cell = self.cell.after(byte);
-        self.rest = after;
-        self.stroke = 0;
+    }
+
+    // How many letters the section after a sign has.
+    fn letters_after(&self, sign: Sign) -> i64
+        requires rest_in { length self.now.rest ≤ 2 ^ 26 }
+        requires letters_in { nat_abs self.now.letters ≤ 2 ^ 29 }
+        ensures value { result ≡ letters_after self.now.letters sign self.now.rest }
+        ensures most { nat_abs result ≤ 2 ^ 29 }
+    {
+        match sign {
+            Sign::CarriageReturn => section_letters(self.rest.again()),
+            _ => self.letters,
+        }
     }
 }

@@ -1,10 +1,14 @@
-use Rattle.std.proofs.Common.{◌≡◌, ◌≤◌, reverse, take}
-use Rattle.stick_font.specs.Labels.{cell_after}
+use Rattle.std.proofs.Common.{◌≡◌, ◌+◌, ◌*◌, ◌≤◌, ◌^◌, length, nat_abs}
+use Rattle.lettering.specs.Columns.{cell_after, last_cell}
 use Rattle.lettering.proofs.sections.last_cell.Given as goal
 
-abbrev pub invariant-loop-byte : goal.invariant-loop-byte
-invariant-loop-byte l = record {
-  cell_is : l.cell ≡ cell_after (reverse (take l.byte-index l.text));
-  column_in : l.cell.column ≤ l.byte-index;
-  line_in : l.cell.line ≤ l.byte-index;
+-- the signs that are left decide
+abbrev pub invariant-signs : goal.invariant-signs
+invariant-signs l = record {
+  same : cell_after l.cell l.rest ≡ last_cell l.fn.signs;
+  column_in : nat_abs l.cell.column + 8 * length l.rest ≤ 2 ^ 29;
+  line_in : l.cell.line + length l.rest ≤ 2 ^ 26;
 }
+
+abbrev pub decreases-signs : goal.decreases-signs
+decreases-signs l = length l.rest

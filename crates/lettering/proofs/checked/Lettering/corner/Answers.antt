@@ -15,6 +15,7 @@ x_given c =
     let s = c.args.self.now.sound.step_x_in in
     let i = c.requires.column_in in
     let j = c.requires.line_in in
+    let f : FitsSigned w64 c.args.cell.column = omega (arith, ints, i) in
     let m : nat_abs c.steps-steps.result.x ≤ 2 ^ 32 = omega (arith, ints, c.steps-steps.ensures.x_in) in
     given c.stepped.result 18 c.args.self.now.style.step_x c.steps-steps.result.x (omega arith) s m c.stepped.ensures.value c.stepped.ensures.most
 
@@ -23,6 +24,7 @@ y_given c =
     let s = c.args.self.now.sound.step_y_in in
     let i = c.requires.column_in in
     let j = c.requires.line_in in
+    let f : FitsSigned w64 c.args.cell.column = omega (arith, ints, i) in
     let m : nat_abs c.steps-steps.result.y ≤ 2 ^ 32 = omega (arith, ints, c.steps-steps.ensures.y_in) in
     given c.stepped-2.result 36 c.args.self.now.style.step_y c.steps-steps.result.y (omega arith) s m c.stepped-2.ensures.value c.stepped-2.ensures.most
 
@@ -84,11 +86,14 @@ returns-clause-value c =
     let f4 = n.shift_y_fits in
     let f5 = n.dx_fits in
     let f6 = n.dy_fits in
-    let column_in : cell.column < 2 ^ 63 = omega (arith, c.requires.column_in) in
+    let column_in = c.requires.column_in in
+    let letters_in = c.requires.letters_in in
+    let column_fits : FitsSigned w64 cell.column = omega (arith, ints, column_in) in
+    let letters_fit : FitsSigned w64 c.args.letters = omega (arith, ints, letters_in) in
     let line_in : cell.line < 2 ^ 63 = omega (arith, c.requires.line_in) in
-    let steps : c.steps-steps.result ≡ steps_to style (pos cell.column) (pos cell.line) =
-    c.steps-steps.ensures.value ∙ ap₂ (λ (p q : ℤ). steps_to style p q) (to_z_pos w64 cell.column column_in) (to_z_pos w64 cell.line line_in) in
-    let shifted = c.shift-shift.ensures.value in
+    let steps : c.steps-steps.result ≡ steps_to style cell.column (pos cell.line) =
+    c.steps-steps.ensures.value ∙ ap₂ (λ (p q : ℤ). steps_to style p q) (to_z-of_z w64 cell.column column_fits) (to_z_pos w64 cell.line line_in) in
+    let shifted = simp to_z-of_z at c.shift-shift.ensures.value in
     simp to_z-of_z (ap₂ vector
     (ap₂ (λ (p q : ℤ). p -ℤ q) (k.value ∙ ap (λ (v : Spot). pos 18 *ℤ style.step_x *ℤ v.x) steps) (ap (λ (v : Spot). v.x) shifted))
     (ap₂ (λ (p q : ℤ). p -ℤ q) (l.value ∙ ap (λ (v : Spot). pos 36 *ℤ style.step_y *ℤ v.y) steps) (ap (λ (v : Spot). v.y) shifted)))

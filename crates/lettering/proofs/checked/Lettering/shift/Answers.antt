@@ -15,6 +15,7 @@ returns-clause-value c =
     let row = c.origin_row-row.ensures in
     let s = c.args.self.now.sound.step_x_in in
     let step_fits : FitsSigned w64 style.step_x = omega (arith, ints, s) in
+    let letters_fit : FitsSigned w64 c.args.letters = c.ranges.letters in
     let b = c.beside.ensures in
     let bv = simp to_z-of_z at b.value in
     let g = c.gap.ensures in
