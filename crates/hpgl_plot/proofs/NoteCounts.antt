@@ -1,20 +1,22 @@
 -- A plot has at most as many notes as bytes, in either profile and whatever is noted on its items at their first bytes.
-use Rattle.std.proofs.Common.{◌≡◌, ℕ, ℤ, zero, suc, ◌+◌, ◌-◌, ◌<◌, ◌≤◌, Bool, true, false, ◌&&◌, ◌||◌, ◌==◌, nat_lt, if◌then◌else◌, List, [], ◌∷◌, ◌++◌, length, take, drop, Option, Some, None, refl, arith, ap, length-append, length-drop}
+use Rattle.std.proofs.Common.{◌≡◌, ◌∙◌, ℕ, ℤ, zero, suc, ◌+◌, ◌-◌, ◌<◌, ◌≤◌, Bool, true, false, ◌&&◌, ◌||◌, ◌==◌, nat_lt, if◌then◌else◌, List, [], ◌∷◌, ◌++◌, length, take, drop, Option, Some, None, refl, arith, ap, length-append, length-drop}
 use Rattle.std.specs.List.{flat_map, slice_index}
 use Rattle.std.specs.Char.{is_ascii_alphabetic}
 use Rattle.std.proofs.lemmas.Bool.Decides.{nat_tests}
 use Rattle.std.proofs.lemmas.List.{length-take}
-use Rattle.hpgl_text.specs.Bytes.{byte, end_of_text, escape}
+use Rattle.hpgl_text.specs.Bytes.{byte, escape, begins_with}
 use Rattle.hpgl_text.specs.Cut.{cut_by, items_from, item_at, next_place, silent_at, terminator_after}
 use Rattle.hpgl_text.specs.Bytes.{place_of, has_byte}
 use Rattle.hpgl_text.specs.EntryShapes.{EntryShape}
-use Rattle.hpgl_text.specs.Items.{Content, content, content_of, named_terminator, one_byte_length, parameters, polyline, code_of, first_item, begins_with_mnemonic}
+use Rattle.hpgl_text.specs.Items.{Content, content, content_of, one_byte_length, parameters, polyline, code_of, first_item, begins_with_mnemonic}
 use Rattle.hpgl_text.specs.Mnemonics.{kind_of}
 use Rattle.hpgl_text.specs.Numbers.{numbers, past_numbers, ends_numbers}
 use Rattle.hpgl_text.specs.Shapes.{ItemShape, BodyShape, Params, Further, Terminator, Stray}
 use Rattle.hpgl_text.specs.Shapes as shape
+use Rattle.hpgl_text.specs.Terminators.{unprinted, first_terminator, named_terminator, printed_if, begins_with_printing, named_with_mode}
+use Rattle.hpgl_text.specs.declared.terminator.Terminator.{Terminator as LabelTerminator}
 use Rattle.hpgl_text.specs.declared.mnemonic.Kind.{Kind}
-use Rattle.hpgl_text.specs.declared.mnemonic.Kind.TheVariants.{Parameters, FurtherParameters, Unread, LabelText, LabelEnd, Polyline, Symbol, SkippedSymbol, Buffer, SkippedBuffer, Display, Comment, WithoutEffect, Unknown}
+use Rattle.hpgl_text.specs.declared.mnemonic.Kind.TheVariants.{Parameters, FurtherParameters, Unread, LabelText, LabelEnd, LabelEndWithMode, Polyline, Symbol, SkippedSymbol, Buffer, SkippedBuffer, Display, Comment, WithoutEffect, Unknown}
 use Rattle.hpgl_text.specs.declared.profile.Profile.{Profile}
 use Rattle.hpgl_text.specs.declared.profile.Profile.TheVariants.{Core}
 use Rattle.hpgl_text.proofs.EntryCounts.{entries_few}
@@ -54,8 +56,18 @@ none_in_either false x y h k = k
 
 none_in_terminator : (text : List ℕ) → entries_in (named_terminator text) ≡ []
 none_in_terminator [] = refl
-none_in_terminator (b ∷ text) = none_in_either (b == byte ";") (Terminator end_of_text) _ refl
-    (none_in_either (b == byte "\0" || b == byte "\n" || b == escape) shape.Bad (Terminator b) refl refl)
+none_in_terminator (b ∷ text) = none_in_either (b == byte ";") (Terminator first_terminator) _ refl
+    (none_in_either (b == byte "\0" || b == byte "\n" || b == escape) shape.Bad (Terminator (unprinted b)) refl refl)
+
+same_entries : (printed : Bool) (body : BodyShape) → entries_in (printed_if printed body) ≡ entries_in body
+same_entries printed (Terminator end) = refl
+same_entries printed _ = refl
+
+none_with_mode : (text : List ℕ) → entries_in (named_with_mode text) ≡ []
+none_with_mode text =
+    let none = none_in_terminator text in
+    none_in_either (begins_with ";" text) (named_terminator text) (printed_if (begins_with_printing (drop 1 text)) (named_terminator text)) none
+    (same_entries (begins_with_printing (drop 1 text)) (named_terminator text) ∙ none)
 
 -- what follows a mnemonic has no more entries than bytes
 record Fits (content : Content) (text : List ℕ) : Type 0 where
@@ -74,12 +86,13 @@ polyline_fits at text =
 parameters_fit : (made_of : List ℤ → BodyShape) (text : List ℕ) → entries_in (made_of (numbers text)) ≡ [] → Fits (parameters made_of text) text
 parameters_fit made_of text e = none_fits (parameters made_of text) text (none_in_either (ends_numbers (past_numbers text)) (made_of (numbers text)) shape.Bad e refl)
 
-content_fits : (kind : Kind) (terminator at : ℕ) (text : List ℕ) → Fits (content_of kind terminator at text) text
+content_fits : (kind : Kind) (terminator : LabelTerminator) (at : ℕ) (text : List ℕ) → Fits (content_of kind terminator at text) text
 content_fits (Parameters instruction) terminator at text = parameters_fit (Params instruction) text refl
 content_fits (FurtherParameters further) terminator at text = parameters_fit (Further further) text refl
 content_fits (Unread further) terminator at text = none_fits _ text refl
 content_fits LabelText terminator at text = none_fits _ text refl
 content_fits LabelEnd terminator at text = none_fits (content (named_terminator text) false (one_byte_length text)) text (none_in_terminator text)
+content_fits LabelEndWithMode terminator at text = none_fits (content (named_with_mode text) false (one_byte_length text)) text (none_with_mode text)
 content_fits Polyline terminator at text = polyline_fits at text
 content_fits Symbol terminator at text = none_fits _ text refl
 content_fits SkippedSymbol terminator at text = none_fits _ text refl
@@ -114,7 +127,7 @@ few_on_stray noted item none ended =
 one_is_few : (n bytes : ℕ) → n ≤ 1 → 0 < bytes → n ≤ bytes
 one_is_few n bytes h k = omega arith
 
-few_by : (noted : Noting) (mnemonic : Bool) (profile : Profile) (terminator at : ℕ) (text : List ℕ) → begins_with_mnemonic text ≡ mnemonic → 0 < length text
+few_by : (noted : Noting) (mnemonic : Bool) (profile : Profile) (terminator : LabelTerminator) (at : ℕ) (text : List ℕ) → begins_with_mnemonic text ≡ mnemonic → 0 < length text
     → IsFew noted (first_item profile terminator at text).item (first_item profile terminator at text).bytes text
 few_by noted true profile terminator at text e h =
     let fits = content_fits (kind_of profile (code_of text)) terminator (at + 2) (drop 2 text) in
@@ -130,7 +143,7 @@ few_by noted false profile terminator at text e h =
     let few : length (notes_by noted item) ≤ 1 = few_on_stray noted item refl refl in
     rw (e, first_item) (record { in_item = few; in_text = one_is_few _ _ few h })
 
-few_at : (noted : Noting) (profile : Profile) (terminator at : ℕ) (text : List ℕ) → 0 < length text
+few_at : (noted : Noting) (profile : Profile) (terminator : LabelTerminator) (at : ℕ) (text : List ℕ) → 0 < length text
     → IsFew noted (first_item profile terminator at text).item (first_item profile terminator at text).bytes text
 few_at noted profile terminator at text h = few_by noted (begins_with_mnemonic text) profile terminator at text refl h
 

@@ -1,10 +1,12 @@
 -- Laws: a plot has one cut in each profile, the same in both if they read it alike, and a polyline few entries. For
 -- spelling see `Spellings.antt`.
-use Rattle.std.specs.Prelude.{◌≡◌, ◌↔◌, ℕ, ◌+◌, ◌<◌, ◌≤◌, Bool, List, [], ◌∷◌, ◌++◌, length, All}
+use Rattle.std.specs.Prelude.{◌≡◌, ◌↔◌, ℕ, ◌+◌, ◌<◌, ◌≤◌, Bool, false, List, [], ◌∷◌, ◌++◌, length, All}
+use Rattle.hpgl_text.specs.declared.mnemonic.Kind.{Kind}
+use Rattle.hpgl_text.specs.declared.mnemonic.Kind.TheVariants.{LabelEnd, LabelEndWithMode}
 use Rattle.hpgl_text.specs.declared.profile.Profile.{Profile}
 use Rattle.hpgl_text.specs.declared.profile.Profile.TheVariants.{Core, Full}
 use Rattle.hpgl_text.specs.Mnemonics.{kind_of}
-use Rattle.hpgl_text.specs.Shapes.{ItemShape}
+use Rattle.hpgl_text.specs.Shapes.{ItemShape, BodyShape, Terminator}
 use Rattle.hpgl_text.specs.Cut.{item_at, next_place, silent_at, cut, cut_by}
 use Rattle.hpgl_text.specs.Polylines.{entries}
 
@@ -27,13 +29,24 @@ abbrev pub OneCut : Type 0
 OneCut = (profile : Profile) (plot : List ℕ) (items : List ItemShape)
     → IsCut profile plot items ↔ (items ≡ cut_by profile plot)
 
--- both profiles read what follows the item's mnemonic in the same way
-abbrev pub IsReadAlike : ItemShape → Type 0
-IsReadAlike item = kind_of Full item.code ≡ kind_of Core item.code
+-- what follows a mnemonic, but for the mode of a DT
+abbrev pub without_mode : Kind → Kind
+without_mode LabelEndWithMode = LabelEnd
+without_mode kind = kind
+
+-- the body is a terminator that is printed
+abbrev pub is_printing : BodyShape → Bool
+is_printing (Terminator end) = end.is_printed
+is_printing _ = false
+
+-- both profiles read what follows the item's mnemonic in the same way: a DT has not the mode that prints
+pub record IsReadAlike (item : ItemShape) : Type 0 where
+  pub kind : without_mode (kind_of Full item.code) ≡ kind_of Core item.code
+  pub mode : is_printing item.body ≡ false
 
 -- a plot of such items has the same cut in both profiles
 abbrev pub CoreIsInFull : Type 0
-CoreIsInFull = (plot : List ℕ) → All IsReadAlike (cut plot) → cut_by Full plot ≡ cut plot
+CoreIsInFull = (plot : List ℕ) → All IsReadAlike (cut_by Full plot) → cut_by Full plot ≡ cut plot
 
 -- a polyline has at most as many entries as bytes
 abbrev pub EntriesAreFew : Type 0

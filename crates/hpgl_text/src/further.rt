@@ -1,6 +1,6 @@
 //! The further instructions, which only the profile full reads.
 
-/// A further instruction. Numbers follow all but the last three, whose bytes are not read.
+/// A further instruction. Numbers follow all but the last five, whose bytes are not read.
 #[derive(Clone, Copy, Debug, PartialEq, Eq)]
 pub enum Further {
     /// LT, Line Type: the dashes of lines.
@@ -63,6 +63,18 @@ pub enum Further {
     RelativePoints,
     /// CR, Set Color Range for Relative Color Data: the numbers that stand for black and for white.
     ColourRange,
+    /// CS, Designate Standard Character Set, in old HP-GL.
+    StandardSet,
+    /// CA, Designate Alternate Character Set, in old HP-GL.
+    AlternateSet,
+    /// SD, Standard Font Definition: its set of characters, spacing, pitch and height.
+    StandardFont,
+    /// AD, Alternate Font Definition.
+    AlternateFont,
+    /// SS, Select Standard Font, with its set.
+    SelectStandard,
+    /// SA, Select Alternate Font, with its set.
+    SelectAlternate,
     /// PG, Advance Full Page; NR, Not Ready; and AF, AH and FR of old HP-GL, which move the paper: the
     /// end of a sheet.
     EndSheet,

@@ -1,16 +1,17 @@
 //! The items of a plot, one at a time.
-ghost use Rattle.std.specs.Prelude.{◌≡◌, ◌<◌, ℕ, length};
+ghost use Rattle.std.specs.Prelude.{◌≡◌, ◌<◌, length};
 ghost use Rattle.std.specs.Iterator.{YieldsFirst, item_count};
 ghost use Rattle.hpgl_text.specs.Cut.{cut, cut_by, silent_at};
 ghost use Rattle.hpgl_text.specs.Left.{left_from};
 ghost use Rattle.hpgl_text.specs.declared.profile.Profile.{Profile};
+ghost use Rattle.hpgl_text.specs.declared.terminator.Terminator.{Terminator};
 
 use crate::bytes::past;
-use crate::content::FIRST_TERMINATOR;
 use crate::item::Item;
 use crate::profile::Profile;
 use crate::program::{read_item, terminator_left_by};
 use crate::silent::silent_count;
+use crate::terminator::{FIRST_TERMINATOR, Terminator};
 use std::marker::Model;
 
 /// The items of a plot that are to come, each of which is cut when it is asked for.
@@ -19,7 +20,7 @@ pub struct Items<'a> {
     profile: Profile,
     plot: &'a [u8],
     at: usize,
-    terminator: u8,
+    terminator: Terminator,
 }
 
 impl<'a> Model for Items<'a> {
@@ -76,7 +77,7 @@ impl<'a> Iterator for Items<'a> {
 
 // The first place from here on at which nothing silent begins.
 fn past_silence(plot: &[u8], from: usize) -> usize
-    ensures left { (profile : Profile) (terminator : ℕ)
+    ensures left { (profile : Profile) (terminator : Terminator)
         → left_from profile plot.now terminator from ≡ left_from profile plot.now terminator result }
     ensures loud { result < length plot.now → silent_at plot.now result ≡ 0 }
 {

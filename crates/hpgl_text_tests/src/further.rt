@@ -5,7 +5,7 @@ use std::test::Fail;
 
 const NUMBERED: &str = "\
 LT1;UL1;WU1;PT1;SR1;SL1;DR1;DV1;LO1;CP1;ES1;TL1;XT1;YT1;PM1;EP1;FP1;FT1;AC1;RA1;RR1;EW1;WG1;AT1;RT1;\
-BZ1;BR1;CT1;IR1;CR1;
+BZ1;BR1;CT1;IR1;CR1;CS1;CA1;SD1;AD1;
 Further(LineType, [Number { millionths: 1000000 }])
 Further(UserLineType, [Number { millionths: 1000000 }])
 Further(WidthUnit, [Number { millionths: 1000000 }])
@@ -36,6 +36,10 @@ Further(BezierRelative, [Number { millionths: 1000000 }])
 Further(ChordTolerance, [Number { millionths: 1000000 }])
 Further(RelativePoints, [Number { millionths: 1000000 }])
 Further(ColourRange, [Number { millionths: 1000000 }])
+Further(StandardSet, [Number { millionths: 1000000 }])
+Further(AlternateSet, [Number { millionths: 1000000 }])
+Further(StandardFont, [Number { millionths: 1000000 }])
+Further(AlternateFont, [Number { millionths: 1000000 }])
 
 ";
 
@@ -69,7 +73,7 @@ Params(CharacterSize, [])
 Params(Direction, [])
 Coded([])
 Label([97])
-Terminator(3)
+Terminator(Terminator { byte: 3, is_printed: false })
 Bad
 
 ";
@@ -82,7 +86,7 @@ fn core_instructions(rt: HostRuntime) -> Result<(), Fail> {
 }
 
 const TEXTS_AND_SYMBOLS: &str = "\
-PG1:\";\"2;AF;AH;NR;FR;BP;PB
+PG1:\";\"2;AF;AH;NR;FR;BP;PB;SS:1;SA
 Further(EndSheet, [])
 Further(EndSheet, [])
 Further(EndSheet, [])
@@ -90,6 +94,8 @@ Further(EndSheet, [])
 Further(EndSheet, [])
 Further(BeginPlot, [])
 Further(PrintBuffer, [])
+Further(SelectStandard, [])
+Further(SelectAlternate, [])
 
 // A number of a further instruction that is wrong makes it bad.
 LT2:1;FT9999999;PU
@@ -99,7 +105,7 @@ Params(PenUp, [])
 
 // BL and WD go to the label terminator; BP makes it ETX.
 DT$;BLa;$WDb;$PUBP;BLc$\x03LBd\x03BLe;
-Terminator(36)
+Terminator(Terminator { byte: 36, is_printed: false })
 Kept([97, 59])
 Known
 Params(PenUp, [])
@@ -148,6 +154,76 @@ Params(PenUp, [])
 Known
 ";
 
+// Mode 0 prints the terminator: a comma right after the byte, any blanks, and a number that rounds to 0.
+const PRINTED_TERMINATORS: &str = "\
+DT$,0;LBa$BLb$WDc$LBd
+Terminator(Terminator { byte: 36, is_printed: true })
+Label([97, 36])
+Kept([98, 36])
+Known
+Label([100])
+
+// DT, IN, DF and BP have mode 1.
+DT$,0DT$LBa$DT$,0IN;LBb\x03DT$,0DF;LBb\x03DT$,0BP;LBb\x03
+Terminator(Terminator { byte: 36, is_printed: true })
+Terminator(Terminator { byte: 36, is_printed: false })
+Label([97])
+Terminator(Terminator { byte: 36, is_printed: true })
+Params(Initialize, [])
+Label([98])
+Terminator(Terminator { byte: 36, is_printed: true })
+Params(DefaultValues, [])
+Label([98])
+Terminator(Terminator { byte: 36, is_printed: true })
+Further(BeginPlot, [])
+Label([98])
+
+DT,,0;DT!, 0.4:\";\";DT!,-0.5x
+Terminator(Terminator { byte: 44, is_printed: true })
+Terminator(Terminator { byte: 33, is_printed: true })
+Terminator(Terminator { byte: 33, is_printed: true })
+Stray(120)
+
+DT!,1;DT!,2;DT!,.5;DT!,-.6;DT!,,0;DT! ,0;DT!0;DT!,;DT!,a
+Terminator(Terminator { byte: 33, is_printed: false })
+Terminator(Terminator { byte: 33, is_printed: false })
+Terminator(Terminator { byte: 33, is_printed: false })
+Terminator(Terminator { byte: 33, is_printed: false })
+Terminator(Terminator { byte: 33, is_printed: false })
+Terminator(Terminator { byte: 33, is_printed: false })
+Terminator(Terminator { byte: 33, is_printed: false })
+Terminator(Terminator { byte: 33, is_printed: false })
+Terminator(Terminator { byte: 33, is_printed: false })
+Stray(97)
+
+// A bad DT changes nothing.
+DT$,0;DT\x1b,0;LBa$DT;,0
+Terminator(Terminator { byte: 36, is_printed: true })
+Bad
+Label([97, 36])
+Terminator(Terminator { byte: 3, is_printed: false })
+Stray(44)
+Stray(48)
+
+";
+
+// The core passes over the mode.
+const MODES_IN_THE_CORE: &str = "\
+DT$,0;LBa$BLb$PU
+Terminator(Terminator { byte: 36, is_printed: false })
+Label([97])
+Skipped
+Params(PenUp, [])
+
+";
+
+#[test]
+fn printed_terminators(rt: HostRuntime) -> Result<(), Fail> {
+    let (core, full) = (Asked::Bodies(Profile::Core), Asked::Bodies(Profile::Full));
+    has_answers(&rt, rt.alloc(), full, PRINTED_TERMINATORS, 5)?;
+    has_answers(&rt, rt.alloc(), core, MODES_IN_THE_CORE, 1)
+}
+
 #[test]
 fn texts_and_symbols(rt: HostRuntime) -> Result<(), Fail> {
     let (core, full) = (Asked::Bodies(Profile::Core), Asked::Bodies(Profile::Full));
@@ -157,9 +233,9 @@ fn texts_and_symbols(rt: HostRuntime) -> Result<(), Fail> {
 }
 
 const WITHOUT_EFFECT: &str = "\
-PSNPLATRMCPPMTQLSTVSFSASAPECGCGMSDADSSSACSCAFNFISBDSIVCMCFCCLMTDRFMGIMKY\
+PSNPLATRMCPPMTQLSTVSFSASAPECGCGMFNFISBDSIVCMCFCCLMTDRFMGIMKY\
 DCDPOAOCODOEOFOGOHOIOKOLOOOPOSOTOW
-0 skipped, 53 without effect
+0 skipped, 47 without effect
 
 UCDLSVUFRPZZ
 6 skipped, 0 without effect

@@ -20,7 +20,7 @@ Item { at: 7, body: Params(ArcAbsolute, [Number { millionths: 4000000 }, Number 
     Number { millionths: 6000000 }]), code: [65, 65], unended: false }
 
 DT$;LBL$
-Item { at: 0, body: Terminator(36), code: [68, 84], unended: false }
+Item { at: 0, body: Terminator(Terminator { byte: 36, is_printed: false }), code: [68, 84], unended: false }
 Item { at: 4, body: Label([76]), code: [76, 66], unended: false }
 
 LBL
@@ -33,12 +33,12 @@ Item { at: 0, body: Params(PlotAbsolute, [Number { millionths: 1000000 }, Number
 
 // A terminator holds until another is defined, or until IN or DF.
 DT$;PU;LBA$
-Item { at: 0, body: Terminator(36), code: [68, 84], unended: false }
+Item { at: 0, body: Terminator(Terminator { byte: 36, is_printed: false }), code: [68, 84], unended: false }
 Item { at: 4, body: Params(PenUp, []), code: [80, 85], unended: false }
 Item { at: 7, body: Label([65]), code: [76, 66], unended: false }
 
 DT$;IN;LB$\x03
-Item { at: 0, body: Terminator(36), code: [68, 84], unended: false }
+Item { at: 0, body: Terminator(Terminator { byte: 36, is_printed: false }), code: [68, 84], unended: false }
 Item { at: 4, body: Params(Initialize, []), code: [73, 78], unended: false }
 Item { at: 7, body: Label([36]), code: [76, 66], unended: false }
 
