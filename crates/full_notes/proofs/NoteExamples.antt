@@ -53,6 +53,17 @@ not_drawn = refl
 patterns : noted (codes "FT21;FT3,-1;FT10,101;FT1;") ≡ note 0 (codes "FT") Skipped ∷ note 5 (codes "FT") Bad ∷ note 12 (codes "FT") Bad ∷ []
 patterns = refl
 
+-- sets that are not known, odd counts, and heights out of range
+wrong_fonts : noted (codes "SD1,9999;SD4;CS5;SD4,0;CA40;") ≡ note 0 (codes "SD") Skipped ∷ note 9 (codes "SD") Bad ∷ note 13 (codes "CS") Skipped ∷ note 17 (codes "SD") Bad ∷ note 23 (codes "CA") Skipped ∷ []
+wrong_fonts = refl
+
+-- one note an item, bad before skipped
+one_note : noted (codes "SD1,14,1,9999;AD1,9999,4,0;") ≡ note 0 (codes "SD") Skipped ∷ note 14 (codes "AD") Bad ∷ []
+one_note = refl
+
+fonts_in_polygons : noted (codes "PM0;CS33;CA;SD1,14;AD;SS;SA!;SD4,0;PM2;") ≡ note 29 (codes "SD") Bad ∷ []
+fonts_in_polygons = refl
+
 -- polygon mode, and chords that are not read
 in_polygons : noted (codes "PM2;PM0;EA1,1;PM1;FP;PM2;EP;PM1;") ≡ note 0 (codes "PM") Bad ∷ note 8 (codes "EA") Bad ∷ note 18 (codes "FP") Bad ∷ note 28 (codes "PM") Bad ∷ []
 in_polygons = refl

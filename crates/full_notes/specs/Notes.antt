@@ -17,6 +17,7 @@ use Rattle.full_settings.specs.declared.requests.FurtherRequest.{FurtherRequest}
 use Rattle.full_settings.specs.declared.requests.FurtherRequest.TheVariants as request
 use Rattle.full_settings.specs.declared.width_setting.WidthSetting.{WidthSetting}
 use Rattle.full_settings.specs.declared.width_setting.WidthSetting.TheVariants.{Millimetres, PercentOfAll}
+use Rattle.full_settings.specs.CharacterParameters.{names_unknown_set}
 use Rattle.full_settings.specs.ColourRanges.{pen_colour_in}
 use Rattle.full_settings.specs.CurveParameters.{are_curves}
 use Rattle.full_settings.specs.LetterParameters.{direction}
@@ -68,11 +69,12 @@ bad_without None = Some Bad
 abbrev pub bad_if : Bool → Option NoteKind
 bad_if is_wrong = if is_wrong then Some Bad else None
 
--- what is noted on a further instruction: that its numbers are wrong, or that it is not drawn, as patterns of FT are
--- not; numbers after those of whole curves draw nothing, and are wrong
+-- what is noted on a further instruction: that its numbers are wrong, or that it has no effect, as patterns of FT and
+-- sets that are not known have not; numbers after those of whole curves draw nothing, and are wrong
 abbrev pub request_noted : FurtherRequest → List ℤ → Option NoteKind
 request_noted request.Wrong ns = Some Bad
 request_noted (request.Fill Pattern) ns = Some Skipped
+request_noted (request.Characters s) ns = if names_unknown_set s then Some Skipped else None
 request_noted (request.Curves relative) ns = if are_curves ns then None else Some Bad
 request_noted _ ns = None
 

@@ -42,6 +42,9 @@ pub fn noted_request(request: &FurtherRequest, numbers: &Numbers<'_>) -> Option<
     match request {
         FurtherRequest::Wrong => Some(NoteKind::Bad),
         FurtherRequest::Fill(FillSetting::Pattern) => Some(NoteKind::Skipped),
+        FurtherRequest::Characters(setting) if setting.names_unknown_set() => {
+            Some(NoteKind::Skipped)
+        }
         FurtherRequest::Curves(_) if !are_curves(numbers) => Some(NoteKind::Bad),
         _ => None,
     }

@@ -1,11 +1,11 @@
--- Further instructions other than UL look at their first seven numbers only.
+-- Further instructions other than UL, SD and AD look at their first seven numbers only.
 use Rattle.std.proofs.Common.{◌≡◌, ◌∙◌, ◌≤◌, nat_le, inl, inr, length, length-take, take_all, take-take, ap, refl, sym, arith, ℕ, min, ℤ, List, [], ◌∷◌, take}
 use Rattle.std.specs.Prelude.{if◌then◌else◌}
 use Rattle.std.proofs.lemmas.Bool.{cases_Bool}
 use Rattle.std.proofs.lemmas.Bool.Decides.{nat_tests}
 use Rattle.hpgl_text.specs.declared.further.Further.{Further}
 use Rattle.hpgl_text.specs.declared.further.Further.TheVariants as of
-use Rattle.full_settings.specs.FurtherRequests.{further_request, has_gaps}
+use Rattle.full_settings.specs.FurtherRequests.{further_request, has_many}
 
 first_one : {T : Type 0} (f : List ℤ → T) → ((n : ℤ) (ns : List ℤ) → f (n ∷ take 6 ns) ≡ f (n ∷ ns)) → (ns : List ℤ) → f (take 7 ns) ≡ f ns
 first_one f h [] = refl
@@ -48,7 +48,7 @@ first_six f h (a ∷ (b ∷ (c ∷ (d ∷ [])))) = refl
 first_six f h (a ∷ (b ∷ (c ∷ (d ∷ (e ∷ []))))) = refl
 first_six f h (a ∷ (b ∷ (c ∷ (d ∷ (e ∷ (g ∷ ns)))))) = h a b c d e g ns
 
-pub same_request : (f : Further) (ns : List ℤ) → further_request f (if has_gaps f then ns else take 7 ns) ≡ further_request f ns
+pub same_request : (f : Further) (ns : List ℤ) → further_request f (if has_many f then ns else take 7 ns) ≡ further_request f ns
 same_request of.LineType ns = first_three (further_request of.LineType) (λ _ _ _ _. refl) ns
 same_request of.WidthUnit ns = first_one (further_request of.WidthUnit) (λ _ _. refl) ns
 same_request of.PenThickness ns = first_one (further_request of.PenThickness) (λ _ _. refl) ns
@@ -57,6 +57,8 @@ same_request of.RelativePoints ns = first_four (further_request of.RelativePoint
 same_request of.ColourRange ns = first_six (further_request of.ColourRange) (λ _ _ _ _ _ _ _. refl) ns
 same_request of.CharacterPlot ns = first_two (further_request of.CharacterPlot) (λ _ _ _. refl) ns
 same_request of.RelativeSize ns = first_two (further_request of.RelativeSize) (λ _ _ _. refl) ns
+same_request of.StandardSet ns = first_one (further_request of.StandardSet) (λ _ _. refl) ns
+same_request of.AlternateSet ns = first_one (further_request of.AlternateSet) (λ _ _. refl) ns
 same_request of.Slant ns = first_one (further_request of.Slant) (λ _ _. refl) ns
 same_request of.RelativeDirection ns = first_two (further_request of.RelativeDirection) (λ _ _ _. refl) ns
 same_request of.TextPath ns = first_two (further_request of.TextPath) (λ _ _ _. refl) ns

@@ -14,6 +14,7 @@ use Rattle.plot_settings.specs.Parameters.{usual_size}
 use Rattle.full_settings.specs.declared.letter_setting.LetterSetting.{LetterSetting}
 use Rattle.full_settings.specs.declared.letter_setting.LetterSetting.TheVariants as setting
 use Rattle.full_settings.specs.LetterParameters.{pair, relative_size, slant, direction, relative_direction, space, origin, text_path}
+use Rattle.full_settings.specs.Characters.{usual_font}
 use Rattle.full_settings.specs.Letters.{LetterStyle, usual_letters, letters_with, style_in}
 
 -- SR
@@ -110,11 +111,22 @@ abbrev points : Pair Ends
 points = record { x = record { first = pos 10; last = pos 310 }; y = record { first = pos 20; last = negsuc 379 } }
 
 abbrev style_after : List LetterSetting → Style
-style_after xs = style_in (after xs usual_letters) usual_size points turn.None
+style_after xs = style_in (after xs usual_letters) (record usual_font { height = 23000000 }) usual_size points turn.None
 
-usual_style : style_after [] ≡ usual
+usual_style : style_in usual_letters usual_font usual_size points turn.None ≡ usual
 unfolding root_by surplus
 usual_style = refl
+
+-- a font of 23 points
+size_of_font : (style_after []).height ≡ pos 3456
+size_of_font = refl
+
+-- SI wins until an SI without numbers
+size_of_si_first : (style_after (setting.AbsoluteSize ∷ [])).height ≡ pos 1728
+size_of_si_first = refl
+
+size_of_font_again : (style_after (setting.AbsoluteSize ∷ setting.FontSize ∷ [])).height ≡ pos 3456
+size_of_font_again = refl
 
 -- 10 percent of either distance, in grains
 relative_width : (style_after (setting.RelativeSize (pair (pos 10000000) (pos 10000000)) ∷ [])).width ≡ pos 480

@@ -1,5 +1,6 @@
 mod LineExamples
 mod LetterExamples
+mod CharacterExamples
 mod SettingExamples
 mod PolygonExamples
 pub mod Gaps

@@ -3,7 +3,10 @@ use Rattle.std.specs.Prelude.{ℤ, Bool, true, false, List, Option, Some, None, 
 use Rattle.hpgl_text.specs.declared.further.Further as further
 use Rattle.hpgl_text.specs.declared.further.Further.TheVariants as of
 use Rattle.plot_settings.specs.Bounds.{IsCorner}
+use Rattle.character_sets.specs.declared.sets.Selection.TheVariants.{Standard, Alternate}
 use Rattle.full_settings.specs.CharacterMoves.{character_move, IsCharacterMove}
+use Rattle.full_settings.specs.CharacterParameters.{set_choice, font_choice, IsCharacterSetting}
+use Rattle.full_settings.specs.declared.character_setting.CharacterSetting.TheVariants.{Select}
 use Rattle.full_settings.specs.ColourRanges.{ranges_of, IsColourRanges}
 use Rattle.full_settings.specs.CurveParameters.{arc_points}
 use Rattle.full_settings.specs.LetterParameters.{relative_size, slant, relative_direction, space, origin, text_path}
@@ -23,7 +26,7 @@ use Rattle.full_settings.specs.declared.requests.FurtherRequest.TheVariants.{Col
 use Rattle.full_settings.specs.declared.requests.FurtherRequest.TheVariants.{EndSheet, Polygon, EdgePolygon}
 use Rattle.full_settings.specs.declared.requests.FurtherRequest.TheVariants.{FillPolygon, Fill, Anchor, Rectangle}
 use Rattle.full_settings.specs.declared.requests.FurtherRequest.TheVariants.{EdgeWedge, FillWedge, Chords, Begin}
-use Rattle.full_settings.specs.declared.requests.FurtherRequest.TheVariants.{Wrong}
+use Rattle.full_settings.specs.declared.requests.FurtherRequest.TheVariants.{Characters, Wrong}
 
 -- what numbers ask for, or that they are wrong
 abbrev pub request_by : {A : Type 0} → (A → FurtherRequest) → Option A → FurtherRequest
@@ -65,20 +68,29 @@ further_request of.BezierRelative ns = Curves true
 further_request of.ChordTolerance ns = request_by Chords (usual_chords ns)
 further_request of.RelativePoints ns = request_by Points (relative_points ns)
 further_request of.ColourRange ns = request_by Colours (ranges_of ns)
+further_request of.StandardSet ns = Characters (set_choice Standard ns)
+further_request of.AlternateSet ns = Characters (set_choice Alternate ns)
+further_request of.StandardFont ns = request_by Characters (font_choice Standard ns)
+further_request of.AlternateFont ns = request_by Characters (font_choice Alternate ns)
+further_request of.SelectStandard ns = Characters (Select Standard)
+further_request of.SelectAlternate ns = Characters (Select Alternate)
 further_request of.EndSheet ns = EndSheet
 further_request of.BeginPlot ns = Begin
 further_request of.PrintBuffer ns = Print
 
--- UL has up to 21 numbers, and no other instruction more than seven
-abbrev pub has_gaps : further.Further → Bool
-has_gaps of.UserLineType = true
-has_gaps _ = false
+-- UL has up to 21 numbers, SD and AD any number of pairs, and no other instruction more than seven numbers
+abbrev pub has_many : further.Further → Bool
+has_many of.UserLineType = true
+has_many of.StandardFont = true
+has_many of.AlternateFont = true
+has_many _ = false
 
 -- what is asked for is in its range
 abbrev pub IsFurtherRequest : FurtherRequest → Type 0
 IsFurtherRequest (Line s) = IsLineSetting s
 IsFurtherRequest (Width s) = IsWidthSetting s
 IsFurtherRequest (Letter s) = IsLetterSetting s
+IsFurtherRequest (Characters s) = IsCharacterSetting s
 IsFurtherRequest (Ticks t) = IsTickLength t
 IsFurtherRequest (Points p) = IsRelativePoints p
 IsFurtherRequest (Colours r) = IsColourRanges r

@@ -1,5 +1,5 @@
--- What is set of the letters of labels besides the size by SI, and the style in which they are written.
-use Rattle.std.specs.Prelude.{ℕ, ◌*◌, ◌^◌, ◌≤◌, nat_abs, ℤ, pos, ◌*ℤ◌, Option, Some, None, IfSome}
+-- What is set of the letters of labels besides the numbers of SI, and the style in which they are written.
+use Rattle.std.specs.Prelude.{ℕ, ◌*◌, ◌^◌, ◌≤◌, nat_abs, ℤ, pos, ◌*ℤ◌, ⊤}
 use Rattle.exact.specs.Fraction.{round}
 use Rattle.exact.specs.declared.spot.Spot.{Spot}
 use Rattle.directions.specs.Directions.{unit, turned}
@@ -16,13 +16,18 @@ use Rattle.full_settings.specs.LetterParameters.{pair, IsPairWithin, IsHeading, 
 use Rattle.full_settings.specs.LineStyles.{distance}
 use Rattle.full_settings.specs.declared.heading.Heading.{Heading}
 use Rattle.full_settings.specs.declared.heading.Heading.TheVariants.{Absolute, Relative}
+use Rattle.full_settings.specs.Characters.{font_size}
+use Rattle.full_settings.specs.declared.font.Font.{Font}
 use Rattle.full_settings.specs.declared.letter_setting.LetterSetting.{LetterSetting}
+use Rattle.full_settings.specs.declared.letter_size.LetterSize.{LetterSize}
+use Rattle.full_settings.specs.declared.letter_size.LetterSize.TheVariants.{ByFont}
+use Rattle.full_settings.specs.declared.letter_size.LetterSize.TheVariants as of
 use Rattle.full_settings.specs.declared.letter_setting.LetterSetting.TheVariants as setting
 
--- what is set: the size by SR, or None if it is that of SI; where labels lead, by DI or DR; the tangent of the slant in
--- millionths; the steps to the next letter and line in millionths; LO's number; and DV's path and line feed
+-- what is set: where the size comes from, the font, SI or SR; where labels lead, by DI or DR; the tangent of the slant
+-- in millionths; the steps to the next letter and line in millionths; LO's number; and DV's path and line feed
 pub record LetterStyle : Type 0 where
-  pub relative_size : Option (Pair ℤ)
+  pub size : LetterSize
   pub heading : Heading
   pub slant : ℤ
   pub step : Pair ℤ
@@ -33,7 +38,7 @@ pub record LetterStyle : Type 0 where
 -- at the start, and after IN and DF
 abbrev pub usual_letters : LetterStyle
 usual_letters = record {
-  relative_size = None;
+  size = ByFont;
   heading = Absolute (pair (pos 1000000) (pos 0));
   slant = pos 0;
   step = pair (pos 1000000) (pos 1000000);
@@ -44,8 +49,9 @@ usual_letters = record {
 
 -- after an instruction that sets letters
 abbrev pub letters_with : LetterSetting → LetterStyle → LetterStyle
-letters_with setting.AbsoluteSize l = record l { relative_size = None }
-letters_with (setting.RelativeSize size) l = record l { relative_size = Some size }
+letters_with setting.FontSize l = record l { size = ByFont }
+letters_with setting.AbsoluteSize l = record l { size = of.Absolute }
+letters_with (setting.RelativeSize percents) l = record l { size = of.Relative percents }
 letters_with (setting.Direction heading) l = record l { heading = Absolute heading }
 letters_with (setting.RelativeDirection heading) l = record l { heading = Relative heading }
 letters_with (setting.Slant tangent) l = record l { slant = tangent }
@@ -57,10 +63,11 @@ letters_with (setting.Path path line) l = record l { path = path; line_feed = li
 abbrev pub grains_of_share : ℤ → ℤ → ℤ
 grains_of_share distance percent = round (record { over = pos 16 *ℤ distance *ℤ percent; under = 100 * 10 ^ 6 })
 
--- the size in grains: that of SI, or by SR parts of the distances from P1 to P2
-abbrev pub size_in : Option (Pair ℤ) → CharacterSize → Pair Ends → Pair ℤ
-size_in None size points = pair size.width size.height
-size_in (Some percents) size points =
+-- the size in grains: that of the font, that of SI, or by SR parts of the distances from P1 to P2
+abbrev pub size_in : LetterSize → Font → CharacterSize → Pair Ends → Pair ℤ
+size_in ByFont font size points = font_size font
+size_in of.Absolute font size points = pair size.width size.height
+size_in (of.Relative percents) font size points =
     pair (grains_of_share (distance points.x) percents.x) (grains_of_share (distance points.y) percents.y)
 
 -- where labels lead, before RO turns them
@@ -68,11 +75,11 @@ abbrev pub direction_in : Heading → Pair Ends → Spot
 direction_in (Absolute h) points = unit h.x h.y
 direction_in (Relative h) points = unit (distance points.x *ℤ h.x) (distance points.y *ℤ h.y)
 
--- the style in which letters are written, by SI's size and by P1 and P2, and turned by RO
-abbrev pub style_in : LetterStyle → CharacterSize → Pair Ends → Turn → Style
-style_in l size points turn = record {
-  width = (size_in l.relative_size size points).x;
-  height = (size_in l.relative_size size points).y;
+-- the style in which letters are written, by the font that is selected, SI's size, and P1 and P2, and turned by RO
+abbrev pub style_in : LetterStyle → Font → CharacterSize → Pair Ends → Turn → Style
+style_in l font size points turn = record {
+  width = (size_in l.size font size points).x;
+  height = (size_in l.size font size points).y;
   direction = turned turn (direction_in l.heading points);
   slant = l.slant;
   step_x = l.step.x;
@@ -87,8 +94,12 @@ abbrev pub IsLed : Heading → Type 0
 IsLed (Absolute h) = IsHeading h
 IsLed (Relative h) = IsHeading h
 
+abbrev pub IsLetterSize : LetterSize → Type 0
+IsLetterSize (of.Relative percents) = IsPairWithin (10 ^ 9) percents
+IsLetterSize _ = ⊤
+
 pub record IsLetters (l : LetterStyle) : Type 0 where
-  pub size_in : IfSome l.relative_size (IsPairWithin (10 ^ 9))
+  pub size_in : IsLetterSize l.size
   pub heading_in : IsLed l.heading
   pub slant_in : nat_abs l.slant ≤ 10 ^ 9
   pub step_in : IsPairWithin (101 * 10 ^ 6) l.step

@@ -5,7 +5,9 @@ use plot_frame::Pair;
 /// What the instructions that set letters ask for.
 #[derive(Clone, Copy, Debug)]
 pub enum LetterSetting {
-    /// SI (Absolute Character Size): the size is that of SI again.
+    /// SI (Absolute Character Size) without numbers: the size is that of the font.
+    FontSize,
+    /// SI with numbers: the size is that of SI.
     AbsoluteSize,
     /// SR (Relative Character Size): the width and the height, in millionths of a percent of the distances
     /// from P1 to P2 in x and in y; within 1000 percent of 0.

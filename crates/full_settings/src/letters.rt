@@ -4,10 +4,13 @@ ghost use Rattle.directions.specs.Directions.{turned};
 ghost use Rattle.plot_frame.specs.Bounds.{IsPoints};
 ghost use Rattle.full_settings.specs.LetterParameters.{IsLetterSetting, IsPairWithin};
 ghost use Rattle.full_settings.specs.Letters.{usual_letters, letters_with, IsLed, size_in, direction_in, style_in};
+ghost use Rattle.full_settings.specs.Characters.{IsFont};
 ghost use Rattle.full_settings.specs.Letters as letters;
 
+use crate::font::Font;
 use crate::heading::Heading;
 use crate::letter_setting::LetterSetting;
+use crate::letter_size::LetterSize;
 use crate::line_style::distance;
 use directions::{Direction, Turn};
 use exact::rounded;
@@ -16,11 +19,10 @@ use plot_frame::{Ends, Pair};
 use std::marker::Model;
 use stick_font::CharacterSize;
 
-/// What is set of the letters of labels besides the size by SI (Absolute Character Size).
+/// What is set of the letters of labels besides the numbers of SI (Absolute Character Size).
 #[derive(Clone, Copy, Debug)]
 pub struct Letters {
-    // The size by SR, or none if it is that of SI.
-    relative_size: Option<Pair<i64>>,
+    size: LetterSize,
     heading: Heading,
     slant: i64,
     step: Pair<i64>,
@@ -35,7 +37,7 @@ impl Model for Letters {
     ghost Value = { LetterStyle };
 
     ghost view = { λ l. record {
-      relative_size = l.relative_size;
+      size = l.size;
       heading = l.heading;
       slant = l.slant;
       step = l.step;
@@ -45,7 +47,7 @@ impl Model for Letters {
     } };
 
     ghost invariant = { λ l. IsLetters (record {
-      relative_size = l.relative_size;
+      size = l.size;
       heading = l.heading;
       slant = l.slant;
       step = l.step;
@@ -55,7 +57,7 @@ impl Model for Letters {
     }) };
 
     ghost inverse = { λ l. record {
-      relative_size = l.relative_size;
+      size = l.size;
       heading = l.heading;
       slant = l.slant;
       step = l.step;
@@ -66,13 +68,13 @@ impl Model for Letters {
 }
 
 impl Letters {
-    /// What is set at the start, and by IN and DF: the size of SI, to the right, upright, no extra space,
-    /// from the label's start on.
+    /// What is set at the start, and by IN and DF: the size of the font, to the right, upright, no extra
+    /// space, from the label's start on.
     pub fn usual() -> Letters
         ensures { result ≡ usual_letters }
     {
         Letters {
-            relative_size: None,
+            size: LetterSize::ByFont,
             heading: Heading::Absolute(Pair { x: 1_000_000, y: 0 }),
             slant: 0,
             step: Pair {
@@ -91,8 +93,9 @@ impl Letters {
         ensures { self.new ≡ letters_with setting self.old }
     {
         match setting {
-            LetterSetting::AbsoluteSize => self.relative_size = None,
-            LetterSetting::RelativeSize(size) => self.relative_size = Some(size),
+            LetterSetting::FontSize => self.size = LetterSize::ByFont,
+            LetterSetting::AbsoluteSize => self.size = LetterSize::Absolute,
+            LetterSetting::RelativeSize(percents) => self.size = LetterSize::Relative(percents),
             LetterSetting::Direction(heading) => self.heading = Heading::Absolute(heading),
             LetterSetting::RelativeDirection(heading) => self.heading = Heading::Relative(heading),
             LetterSetting::Slant(tangent) => self.slant = tangent,
@@ -105,13 +108,20 @@ impl Letters {
         }
     }
 
-    /// The style in which letters are written: with the size of SI if SR has set none, by P1 and P2 as they
-    /// are now, and turned by RO (Rotate Coordinate System).
-    pub fn lettering(&self, size: CharacterSize, points: &Pair<Ends>, turn: Turn) -> Lettering
-        requires { IsPoints points.now }
-        ensures { result.style ≡ style_in self.now size points.now turn }
+    /// The style in which letters are written: by the font that is selected, the size of SI, P1 and P2 as
+    /// they are now, and turned by RO (Rotate Coordinate System).
+    pub fn lettering(
+        &self,
+        font: Font,
+        size: CharacterSize,
+        points: &Pair<Ends>,
+        turn: Turn,
+    ) -> Lettering
+        requires font_in { IsFont font }
+        requires points_in { IsPoints points.now }
+        ensures { result.style ≡ style_in self.now font size points.now turn }
     {
-        let size = self.size(size, points);
+        let size = self.size(font, size, points);
         Lettering {
             style: Style {
                 width: size.x,
@@ -128,19 +138,21 @@ impl Letters {
     }
 
     // The width and the height in grains.
-    fn size(&self, size: CharacterSize, points: &Pair<Ends>) -> Pair<i64>
-        requires { IsPoints points.now }
-        ensures value { result ≡ size_in self.now.relative_size size points.now }
+    fn size(&self, font: Font, size: CharacterSize, points: &Pair<Ends>) -> Pair<i64>
+        requires font_in { IsFont font }
+        requires points_in { IsPoints points.now }
+        ensures value { result ≡ size_in self.now.size font size points.now }
         ensures within { IsPairWithin (2 ^ 40) result }
     {
-        match self.relative_size {
-            Some(percents) => Pair {
-                x: grains_of_share(distance(points.x), percents.x),
-                y: grains_of_share(distance(points.y), percents.y),
-            },
-            None => Pair {
+        match self.size {
+            LetterSize::ByFont => font.size(),
+            LetterSize::Absolute => Pair {
                 x: i64::from(size.width),
                 y: i64::from(size.height),
+            },
+            LetterSize::Relative(percents) => Pair {
+                x: grains_of_share(distance(points.x), percents.x),
+                y: grains_of_share(distance(points.y), percents.y),
             },
         }
     }

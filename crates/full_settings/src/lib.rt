@@ -1,17 +1,22 @@
 //! What the further instructions of the profile full ask for by their numbers, and what they set: line types,
-//! widths of pens, letters of labels, ticks, P1 and P2, ranges of colours, curves, polygons
-//! and fills.
+//! widths of pens, sets of characters and fonts, letters of labels, ticks, P1 and P2, ranges of colours,
+//! curves, polygons and fills.
 #![tactic(auto)]
 
 mod character_moves;
+mod character_parameters;
+mod character_setting;
+mod characters;
 mod colour_parameters;
 mod colour_range;
 mod curve_parameters;
 mod fill_parameters;
 mod fill_setting;
+mod font;
 mod heading;
 mod letter_parameters;
 mod letter_setting;
+mod letter_size;
 mod letters;
 mod line_parameters;
 mod line_setting;
@@ -29,17 +34,22 @@ mod width_setting;
 mod width_table;
 
 pub use character_moves::{CharacterMove, character_move};
+pub use character_parameters::{font_choice, set_choice};
+pub use character_setting::{CharacterSetting, FontSetting};
+pub use characters::Characters;
 pub use colour_parameters::{colour_in, colour_ranges};
 pub use colour_range::{ColourRange, ColourRanges};
 pub use curve_parameters::{arc_points, are_curves, next_curve};
 pub use fill_parameters::fill_type_setting;
 pub use fill_setting::{FillKind, FillSetting, FillStyle};
+pub use font::Font;
 pub use heading::Heading;
 pub use letter_parameters::{
     direction_setting, origin_setting, path_setting, relative_direction_setting,
     relative_size_setting, slant_setting, space_setting,
 };
 pub use letter_setting::LetterSetting;
+pub use letter_size::LetterSize;
 pub use letters::{Letters, grains_of_share};
 pub use line_parameters::{line_type_setting, user_line_setting};
 pub use line_setting::{LineKind, LineSetting, PatternLength};

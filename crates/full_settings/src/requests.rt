@@ -1,10 +1,12 @@
 //! What a further instruction asks for by its numbers: the one table that says it.
 ghost use Rattle.std.specs.Prelude.{◌≡◌, ◌≤◌, take, false, IfSome, if◌then◌else◌};
 ghost use Rattle.full_settings.specs.FurtherRequests as requests;
-ghost use Rattle.full_settings.specs.FurtherRequests.{IsFurtherRequest, has_gaps, right_or_wrong};
+ghost use Rattle.full_settings.specs.FurtherRequests.{IsFurtherRequest, has_many, right_or_wrong};
 ghost use Rattle.full_settings.specs.PolygonParameters.{without_chord};
 
 use crate::character_moves::{CharacterMove, character_move};
+use crate::character_parameters::{font_choice, set_choice};
+use crate::character_setting::CharacterSetting;
 use crate::colour_parameters::colour_ranges;
 use crate::colour_range::ColourRanges;
 use crate::curve_parameters::arc_points;
@@ -25,6 +27,7 @@ use crate::tick_length::TickLength;
 use crate::tick_parameters::tick_setting;
 use crate::width_parameters::{thickness_setting, width_unit_setting};
 use crate::width_setting::WidthSetting;
+use character_sets::Selection;
 use hpgl_text::{Further, Number, Numbers};
 use plot_settings::Corner;
 
@@ -37,6 +40,8 @@ pub enum FurtherRequest {
     Width(WidthSetting),
     /// SR, SL, DR, DV, LO and ES: how letters are written.
     Letter(LetterSetting),
+    /// CS, CA, SD, AD, SS and SA: sets of characters and fonts.
+    Characters(CharacterSetting),
     /// TL: the length of ticks.
     Ticks(TickLength),
     /// IR: P1 and P2 in percent of the page.
@@ -102,10 +107,10 @@ pub fn request_without_chord(further: Further, numbers: &Numbers<'_>) -> Further
     }
 }
 
-// What an instruction other than UL asks for by so many of its first numbers.
+// What an instruction other than UL, SD and AD asks for by so many of its first numbers.
 fn request_by_few(further: Further, numbers: &Numbers<'_>, most: usize) -> FurtherRequest
     requires few { most ≤ 7 }
-    requires other { has_gaps further ≡ false }
+    requires other { has_many further ≡ false }
     ensures value { result ≡ requests.further_request further (take most numbers.now) }
     ensures sound { IsFurtherRequest result }
 {
@@ -113,9 +118,9 @@ fn request_by_few(further: Further, numbers: &Numbers<'_>, most: usize) -> Furth
     request_by_first(further, numbers, &list[..count.min(most)])
 }
 
-// What an instruction asks for by its first numbers, or, if it is UL, by all.
+// What an instruction asks for by its first numbers, or, if it is UL, SD or AD, by all.
 fn request_by_first(further: Further, numbers: &Numbers<'_>, first: &[Number]) -> FurtherRequest
-    ensures value { result ≡ requests.further_request further (if has_gaps further then numbers.now else first.now) }
+    ensures value { result ≡ requests.further_request further (if has_many further then numbers.now else first.now) }
     ensures sound { IsFurtherRequest result }
 {
     match right_request(further, numbers, first) {
@@ -131,7 +136,7 @@ fn right_request(
     first: &[Number],
 ) -> Option<FurtherRequest>
     ensures value { right_or_wrong result
-        ≡ requests.further_request further (if has_gaps further then numbers.now else first.now) }
+        ≡ requests.further_request further (if has_many further then numbers.now else first.now) }
     ensures sound { IfSome result IsFurtherRequest }
 {
     match further {
@@ -167,6 +172,28 @@ fn right_request(
         Further::ChordTolerance => Some(FurtherRequest::Chords(choice(first)?)),
         Further::RelativePoints => Some(FurtherRequest::Points(relative_points(first)?)),
         Further::ColourRange => Some(FurtherRequest::Colours(colour_ranges(first)?)),
+        Further::StandardSet => Some(FurtherRequest::Characters(set_choice(
+            Selection::Standard,
+            first,
+        ))),
+        Further::AlternateSet => Some(FurtherRequest::Characters(set_choice(
+            Selection::Alternate,
+            first,
+        ))),
+        Further::StandardFont => Some(FurtherRequest::Characters(font_choice(
+            Selection::Standard,
+            numbers,
+        )?)),
+        Further::AlternateFont => Some(FurtherRequest::Characters(font_choice(
+            Selection::Alternate,
+            numbers,
+        )?)),
+        Further::SelectStandard => Some(FurtherRequest::Characters(CharacterSetting::Select(
+            Selection::Standard,
+        ))),
+        Further::SelectAlternate => Some(FurtherRequest::Characters(CharacterSetting::Select(
+            Selection::Alternate,
+        ))),
         Further::EndSheet => Some(FurtherRequest::EndSheet),
         Further::BeginPlot => Some(FurtherRequest::Begin),
         Further::PrintBuffer => Some(FurtherRequest::Print),
