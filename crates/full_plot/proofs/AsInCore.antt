@@ -1,8 +1,11 @@
 -- Labels in the style of core's are written by core.
-use Rattle.std.proofs.Common.{◌≡◌, ◌∙◌, ◌≤◌, ℕ, ℤ, List, length, ap, ap₂, sym, subst, Option, Result}
-use Rattle.std.proofs.lemmas.Bool.{le-ltb}
+use Rattle.std.proofs.Common.{◌≡◌, ◌∙◌, ℕ, ℤ, List, ap, ap₂, sym, subst, Option, Result, IsTrue}
+use Rattle.character_sets.specs.Texts.{signs}
+use Rattle.character_sets.specs.declared.encoding.Encoding.{Encoding}
+use Rattle.character_sets.specs.declared.sets.Sets.{Sets}
 use Rattle.exact.specs.declared.spot.Spot.{Spot}
 use Rattle.directions.specs.Laws.{right}
+use Rattle.lettering.specs.CoreTexts.{is_core_text}
 use Rattle.lettering.specs.Laws.{usual_turned}
 use Rattle.lettering.specs.Styles.{usual}
 use Rattle.lettering.specs.declared.style.LineFeed.{LineFeed}
@@ -25,10 +28,11 @@ same_style s t w h d sl x y p f o =
     ∙ ap (λ (a : ℕ). record t { origin = a }) o
 
 -- what core answers for a label in its style
-pub core_label : {U : Type 0} (c v : core.World) (style : Style) (bytes : List ℕ) (r : Result U Stop)
-    → style ≡ core_style c.state → length bytes ≤ 4294967296 → core.Runs (core.step c (Write bytes)) v r → core.Runs (label_by style c bytes) v r
-core_label c v style bytes r e h k =
+pub core_label : {U : Type 0} (c v : core.World) (style : Style) (encoding : Encoding) (sets : Sets) (bytes : List ℕ) (r : Result U Stop)
+    → style ≡ core_style c.state → IsTrue (is_core_text encoding sets bytes) → core.Runs (core.step c (Write bytes)) v r
+    → core.Runs (label_by style c (signs encoding sets bytes)) v r
+core_label c v style encoding sets bytes r e h k =
     let turned_is : style ≡ usual_turned c.state.size (turn_in c.state) =
     e ∙ ap (λ (d : Spot). record usual { width = c.state.size.width; height = c.state.size.height; direction = d })
     (turned_twice (turn_by c.state.frame.rotation) (turn_by c.state.direction) right) in
-    subst (λ (o : Option core.World). core.Runs o v r) (sym (label_as_in_core c style bytes turned_is (le-ltb 4294967296 (length bytes) h))) k
+    subst (λ (o : Option core.World). core.Runs o v r) (sym (label_as_in_core c style encoding sets bytes turned_is h)) k

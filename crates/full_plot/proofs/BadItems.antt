@@ -9,13 +9,14 @@ use Rattle.hpgl_text.specs.declared.instruction.Instruction.{Instruction}
 use Rattle.hpgl_text.specs.declared.instruction.Instruction.TheVariants as is
 use Rattle.plot_settings.specs.Meanings.{Step, Set, DrawCircle, DrawArc, asks, edges, meaning, sets}
 use Rattle.plot_settings.specs.Slants.{is_off_axis}
-use Rattle.hpgl_plot.specs.declared.note.NoteKind.TheVariants.{Axis, Bad}
+use Rattle.hpgl_plot.specs.declared.note.NoteKind.TheVariants.{Axis, Bad, Skipped}
 use Rattle.hpgl_plot.specs.Notes.{parameters_noted}
 use Rattle.full_settings.specs.declared.fill_setting.FillSetting.TheVariants as fill
 use Rattle.full_settings.specs.declared.polygon_setting.PolygonStep.TheVariants as step
 use Rattle.full_settings.specs.declared.requests.FurtherRequest.{FurtherRequest}
 use Rattle.full_settings.specs.declared.requests.FurtherRequest.TheVariants as request
 use Rattle.full_settings.specs.FurtherRequests.{further_request, request_by}
+use Rattle.full_settings.specs.CharacterParameters.{names_unknown_set}
 use Rattle.full_settings.specs.ColourRanges.{pen_colour_in}
 use Rattle.full_settings.specs.LetterParameters.{direction}
 use Rattle.full_settings.specs.WidthParameters.{percent_width}
@@ -148,6 +149,8 @@ further_no_curves of.BezierRelative ns read t = absurd (true≢false t)
 further_no_curves of.ChordTolerance ns read t = not_curves request.Chords (λ a. refl) _
 further_no_curves of.RelativePoints ns read t = not_curves request.Points (λ a. refl) _
 further_no_curves of.ColourRange ns read t = not_curves request.Colours (λ a. refl) _
+further_no_curves of.StandardFont ns read t = not_curves request.Characters (λ a. refl) _
+further_no_curves of.AlternateFont ns read t = not_curves request.Characters (λ a. refl) _
 further_no_curves f ns read t = refl
 
 asked_no_curves : (in_polygon : Bool) (r : FurtherRequest) → is_curves r ≡ false → is_curves (asked_in in_polygon r) ≡ false
@@ -157,10 +160,15 @@ asked_no_curves false (request.Polygon step.Close) h = refl
 asked_no_curves false (request.Polygon step.End) h = refl
 asked_no_curves false r h = h
 
+only_skipped : (is_skipped : Bool) → (if is_skipped then Some Skipped else None) ≡ Some Bad → ⊥
+only_skipped true h = absurd (cc)
+only_skipped false h = absurd (cc)
+
 request_nothing : (c : Context) (r : FurtherRequest) (ns : List ℤ) → request_noted r ns ≡ Some Bad → is_curves r ≡ false
     → Nothing (request_steps r ns) c (request_after c r)
 request_nothing c request.Wrong ns h k = record { no_steps = refl; same = refl }
 request_nothing c (request.Curves relative) ns h k = absurd (true≢false k)
+request_nothing c (request.Characters s) ns h k = absurd (only_skipped (names_unknown_set s) h)
 request_nothing c (request.Fill fill.Solid) ns h k = absurd (cc)
 request_nothing c (request.Fill fill.Pattern) ns h k = absurd (cc)
 request_nothing c (request.Fill (fill.Hatched cross spacing angle)) ns h k = absurd (cc)

@@ -1,5 +1,5 @@
 -- Labels of core in the profile full: along an axis, in the usual style, they are those of core.
-use Rattle.std.proofs.Common.{◌≡◌, ◌∙◌, ℕ, zero, suc, ℤ, pos, negsuc, ap, ap₂, sym, refl, arith, true, false, true≢false, not, ◌&&◌, List, [], ◌∷◌, ◌++◌, length, map, nat_lt, Option, Some, None}
+use Rattle.std.proofs.Common.{◌≡◌, ◌∙◌, ℕ, zero, suc, ℤ, pos, negsuc, ap, ap₂, sym, refl, arith, true, false, true≢false, not, ◌&&◌, List, [], ◌∷◌, ◌++◌, length, map, Option, Some, None, IsTrue}
 use Rattle.std.specs.Prelude.{nat_le, int_lt}
 use Rattle.std.proofs.lemmas.Bool.{false_from_ne_true, le-leb, le-ltb, lt-leb}
 use Rattle.std.proofs.lemmas.Bool.Decides.{Decides-int_eq}
@@ -15,8 +15,13 @@ use Rattle.directions.proofs.Axes.{axes_are_exact_lem}
 use Rattle.stick_font.specs.Labels as upright
 use Rattle.stick_font.specs.declared.label.LabelStroke.{LabelStroke}
 use Rattle.stick_font.specs.declared.size.CharacterSize.{CharacterSize}
+use Rattle.character_sets.specs.Texts.{signs}
+use Rattle.character_sets.specs.declared.encoding.Encoding.{Encoding}
+use Rattle.character_sets.specs.declared.sets.Sets.{Sets}
+use Rattle.character_sets.specs.declared.sign.Sign.{Sign}
+use Rattle.lettering.specs.CoreTexts.{is_core_text}
 use Rattle.lettering.specs.Labels.{label_strokes, label_end}
-use Rattle.lettering.specs.Laws.{turned_offset, turned_stroke, usual_turned}
+use Rattle.lettering.specs.Laws.{IsTurned, turned_offset, turned_stroke, usual_turned}
 use Rattle.lettering.specs.Styles.{usual}
 use Rattle.lettering.specs.declared.style.Style.{Style}
 use Rattle.lettering.proofs.Turned.{usual_labels_are_turned_lem}
@@ -32,8 +37,10 @@ use Rattle.hpgl_plot.specs.declared.state.State.{State}
 use Rattle.hpgl_plot.specs.Machine as core
 use Rattle.hpgl_plot.proofs.Polylines.{lines_then, lines_then_out, one_line}
 use Rattle.hpgl_plot.proofs.Travels.{IsKept, lines_keep, step_by}
-use Rattle.full_settings.specs.LetterParameters.{is_vector}
-use Rattle.full_settings.specs.Letters.{LetterStyle, style_in, usual_letters}
+use Rattle.full_settings.specs.LetterParameters.{is_vector, pair}
+use Rattle.full_settings.specs.Letters.{LetterStyle, size_in, style_in, usual_letters}
+use Rattle.full_settings.specs.declared.font.Font.{Font}
+use Rattle.full_settings.specs.declared.letter_size.LetterSize.{LetterSize}
 use Rattle.full_settings.specs.declared.heading.Heading.TheVariants.{Absolute}
 use Rattle.full_plot.specs.Texts.{label_by, line_at, moved_by, put, turn_by}
 
@@ -110,29 +117,34 @@ lines_then_put c ks q (Some u) h =
     (sym (lines_then c u true ks ((q ∷ []) ∷ []) h ∙ one_line u true (q ∷ [])))
 
 -- the style that core's labels have
-pub style_is : (l : LetterStyle) (h : Pair ℤ) (size : CharacterSize) (points : Pair Ends) (r d : Rotation)
-    → l ≡ record usual_letters { heading = Absolute h } → unit h.x h.y ≡ turned (turn_by d) right
-    → style_in l size points (turn_by r) ≡ usual_turned size (composed (turn_by r) (turn_by d))
-style_is l h size points r d e f =
-    let styled : Spot → Style = λ (v : Spot). record usual { width = size.width; height = size.height; direction = v } in
-    ap (λ (m : LetterStyle). style_in m size points (turn_by r)) e
-    ∙ ap (λ (v : Spot). styled (turned (turn_by r) v)) f
-    ∙ ap styled (turned_twice (turn_by r) (turn_by d) right)
+pub style_is : (l : LetterStyle) (h : Pair ℤ) (z : LetterSize) (font : Font) (size : CharacterSize) (points : Pair Ends) (r d : Rotation)
+    → l ≡ record usual_letters { heading = Absolute h; size = z } → size_in z font size points ≡ pair size.width size.height
+    → unit h.x h.y ≡ turned (turn_by d) right
+    → style_in l font size points (turn_by r) ≡ usual_turned size (composed (turn_by r) (turn_by d))
+style_is l h z font size points r d e sized f =
+    let styled : Pair ℤ → Spot → Style = λ (p : Pair ℤ) (v : Spot). record usual { width = p.x; height = p.y; direction = v } in
+    let own : Pair ℤ = pair size.width size.height in
+    ap (λ (m : LetterStyle). style_in m font size points (turn_by r)) e
+    ∙ ap (λ (p : Pair ℤ). styled p (turned (turn_by r) (unit h.x h.y))) sized
+    ∙ ap (λ (v : Spot). styled own (turned (turn_by r) v)) f
+    ∙ ap (styled own) (turned_twice (turn_by r) (turn_by d) right)
 
-pub label_as_in_core : (c : core.World) (style : Style) (bytes : List ℕ)
-    → style ≡ usual_turned c.state.size (turn_in c.state) → nat_lt 4294967296 (length bytes) ≡ false
-    → label_by style c bytes ≡ core.step c (Write bytes)
-label_as_in_core c style bytes e short =
+pub label_as_in_core : (c : core.World) (style : Style) (encoding : Encoding) (sets : Sets) (bytes : List ℕ)
+    → style ≡ usual_turned c.state.size (turn_in c.state) → IsTrue (is_core_text encoding sets bytes)
+    → label_by style c (signs encoding sets bytes) ≡ core.step c (Write bytes)
+label_as_in_core c style encoding sets bytes e plain =
     let s : State = c.state in
     let t : Turn = turn_in s in
     let ks : List (List Spot) = map (stroke_places s) (upright.label_strokes bytes) in
     let q : Spot = label_place s (upright.label_end bytes) in
-    let strokes : map (line_at s.place) (label_strokes (usual_turned s.size t) bytes) ≡ ks =
-    ap (λ (l : List (Spot × Spot)). map (line_at s.place) l) (usual_labels_are_turned_lem.strokes s.size t bytes)
+    let own : List Sign = signs encoding sets bytes in
+    let is : IsTurned s.size t encoding sets bytes = usual_labels_are_turned_lem s.size t encoding sets bytes plain in
+    let strokes : map (line_at s.place) (label_strokes (usual_turned s.size t) own) ≡ ks =
+    ap (λ (l : List (Spot × Spot)). map (line_at s.place) l) is.strokes
     ∙ lines_are s (upright.label_strokes bytes) in
-    let end : moved_by s.place (label_end (usual_turned s.size t) bytes) ≡ q =
-    ap (λ (o : Spot). moved_by s.place o) (usual_labels_are_turned_lem.ends s.size t bytes) ∙ place_is s (upright.label_end bytes) in
-    rw (short, e)
+    let end : moved_by s.place (label_end (usual_turned s.size t) own) ≡ q =
+    ap (λ (o : Spot). moved_by s.place o) is.end ∙ place_is s (upright.label_end bytes) in
+    rw e
     (ap₂ (λ (ls : List (List Spot)) (p : Spot). core.followed (core.travelled_all c true ls) (λ (u : core.World). put u p)) strokes end
     ∙ lines_then_put c ks q (core.travelled_all c true ks) refl
     ∙ sym (step_by c (Write bytes) (path c.page s (Write bytes)) refl))

@@ -1,6 +1,7 @@
 -- Plots of core in the profile full.
 use Rattle.std.proofs.Common.{◌≡◌, ◌∙◌, append-nil, ap, sym, subst, refl, inl, inr, Bool, true, false, true≢false, ◌+◌, ℕ, arith, Result, Ok, Err, List, [], ◌∷◌, ◌++◌, length, nat_lt, Option, Some, None, ℤ, pos, All}
-use Rattle.std.specs.Prelude.{if◌then◌else◌, ⊤}
+use Rattle.std.specs.Prelude.{if◌then◌else◌, not, ◌&&◌, IsTrue, ⊤}
+use Rattle.std.specs.List.{list_all}
 use Rattle.std.proofs.lemmas.Bool.{cases_Bool, le-ltb, not-true}
 use Rattle.std.proofs.lemmas.Option.{none-some}
 use Rattle.std.proofs.lemmas.List.Elements.{All-head, All-tail}
@@ -9,10 +10,16 @@ use Rattle.carousel.specs.declared.carousel.Carousel.{Carousel}
 use Rattle.directions.specs.Directions.{turned, unit}
 use Rattle.directions.specs.Laws.{right}
 use Rattle.directions.proofs.Axes.{axes_are_exact_lem}
+use Rattle.stick_font.specs.declared.size.CharacterSize.{CharacterSize as Size}
+use Rattle.character_sets.specs.Ascii.{reads_ascii}
+use Rattle.character_sets.specs.declared.encoding.Encoding.{Encoding}
+use Rattle.character_sets.specs.declared.encoding.Encoding.TheVariants.{ByPlot}
+use Rattle.lettering.specs.CoreTexts.{is_core_byte}
 use Rattle.plot_frame.specs.declared.pair.Pair.{Pair}
+use Rattle.plot_frame.specs.declared.scaling.Ends.{Ends}
 use Rattle.plot_page.specs.declared.page.Page.{Page}
 use Rattle.plot_settings.specs.Meanings.{Step, Set, Write, Load, meaning, entry_steps, body_steps, sets, steps_of}
-use Rattle.plot_settings.specs.Parameters.{nearest_axis, when}
+use Rattle.plot_settings.specs.Parameters.{nearest_axis, usual_size, when}
 use Rattle.plot_settings.specs.Slants.{is_slanted}
 use Rattle.plot_settings.specs.declared.setting.Rotation.{Rotation}
 use Rattle.plot_settings.specs.declared.setting.Rotation.TheVariants as rotation
@@ -27,7 +34,11 @@ use Rattle.hpgl_plot.specs.Machine as core
 use Rattle.hpgl_plot.specs.Strokes.{strokes, strokes_after, strokes_with, refusal, refusal_after, refusal_with}
 use Rattle.hpgl_plot.proofs.Bridge.{told, world, Told}
 use Rattle.full_settings.specs.LetterParameters.{is_vector, pair}
-use Rattle.full_settings.specs.Letters.{LetterStyle, usual_letters}
+use Rattle.full_settings.specs.Characters.{Characters, usual_characters, usual_font}
+use Rattle.full_settings.specs.Letters.{LetterStyle, size_in, usual_letters}
+use Rattle.full_settings.specs.declared.letter_size.LetterSize.{LetterSize}
+use Rattle.full_settings.specs.declared.letter_size.LetterSize.TheVariants.{Absolute as BySize, ByFont}
+use Rattle.full_settings.specs.declared.letter_setting.LetterSetting.{LetterSetting}
 use Rattle.full_settings.specs.declared.heading.Heading.TheVariants.{Absolute}
 use Rattle.full_settings.specs.declared.letter_setting.LetterSetting.TheVariants as letter
 use Rattle.full_plot.specs.Items.{as_core, letters_steps, more_steps, params_steps, full_steps, taken}
@@ -37,16 +48,16 @@ use Rattle.full_plot.specs.Drawings.{at_start, at_start_with, ended, is_too_much
 use Rattle.full_plot.specs.Laws.{core_part, is_core_body, IsCoreItem, Draws}
 use Rattle.full_notes.specs.Contexts.{Context, first_context, read_in}
 use Rattle.full_notes.specs.Notes.{context_after}
-use Rattle.full_plot.specs.Texts.{turn_by}
+use Rattle.full_plot.specs.Texts.{lettered, turn_by}
 use Rattle.full_plot.proofs.CoreLabels.{axis_leads}
 use Rattle.full_plot.proofs.CoreNotes.{stays_first}
-use Rattle.full_plot.proofs.CoreSteps.{AllStill, IsAsInCore, IsLed, IsLikeCore, Leads, LikeIn, core_of, one_step, still_steps}
+use Rattle.full_plot.proofs.CoreSteps.{AllStill, IsAsInCore, IsCoreLabel, IsLed, IsLikeCore, Labelling, Leads, LikeIn, core_of, labelling, one_step, still_steps}
 use Rattle.full_plot.proofs.FullRuns.{run-append}
-use Rattle.full_plot.proofs.Stills.{entries_still, params_still, turns_labels}
+use Rattle.full_plot.proofs.Stills.{entries_still, params_still, sets_labels}
 
 -- an item leaves all but core as core has it
 abbrev Like : World → Type 0
-Like w = IsLikeCore w.core.state.direction w
+Like w = IsLikeCore (labelling w.core.state) w
 
 abbrev LikeNow : Option World → Type 0
 LikeNow None = ⊤
@@ -56,64 +67,41 @@ record IsCores (o : Option World) (p : Option core.World) : Type 0 where
   same : core_of o ≡ p
   like : LikeNow o
 
-like_now : (d : Rotation) (w : World) → IsLikeCore d w → w.core.state.direction ≡ d → Like w
-like_now d w h k = subst (λ (x : Rotation). IsLikeCore x w) (sym k) h
+like_now : (d : Labelling) (w : World) → IsLikeCore d w → labelling w.core.state ≡ d → Like w
+like_now d w h k = subst (λ (x : Labelling). IsLikeCore x w) (sym k) h
 
 -- steps of core, and then what an instruction does besides
-then_more : (d r : Rotation) (o : Option World) (more : List FullStep) → LikeIn d r o
-    → ((v : World) → IsLikeCore d v → v.core.state.direction ≡ r → IsCores (run v more) (Some v.core))
+then_more : (d r : Labelling) (o : Option World) (more : List FullStep) → LikeIn d r o
+    → ((v : World) → IsLikeCore d v → labelling v.core.state ≡ r → IsCores (run v more) (Some v.core))
     → IsCores (followed o (λ (v : World). run v more)) (core_of o)
 then_more d r None more h go = record { same = refl; like = tt }
 then_more d r (Some v) more h go = go v h.0 h.1
 
-with_more : (d r : Rotation) (o : Option World) (p : Option core.World) (more : List FullStep) → IsAsInCore d r o p
-    → ((v : World) → IsLikeCore d v → v.core.state.direction ≡ r → IsCores (run v more) (Some v.core))
+with_more : (d r : Labelling) (o : Option World) (p : Option core.World) (more : List FullStep) → IsAsInCore d r o p
+    → ((v : World) → IsLikeCore d v → labelling v.core.state ≡ r → IsCores (run v more) (Some v.core))
     → IsCores (followed o (λ (v : World). run v more)) p
 with_more d r o p more h go =
     subst (λ (q : Option core.World). IsCores (followed o (λ (v : World). run v more)) q) h.same (then_more d r o more h.like go)
 
 -- nothing more
-nothing : (d : Rotation) (v : World) → IsLikeCore d v → v.core.state.direction ≡ d → IsCores (Some v) (Some v.core)
+nothing : (d : Labelling) (v : World) → IsLikeCore d v → labelling v.core.state ≡ d → IsCores (Some v) (Some v.core)
 nothing d v h k = record { same = refl; like = like_now d v h k }
 
 -- IP: widths are in millimetres
 unchanged : (v : World) → v.context ≡ first_context → rewidened v ≡ v
 unchanged v h = ap (λ (c : Context). with_widths v (widths_in c.in_percent v.percents v.core.state)) h
 
-after_points : (d : Rotation) (v : World) (is_wrong : Bool) → IsLikeCore d v → v.core.state.direction ≡ d
+after_points : (d : Labelling) (v : World) (is_wrong : Bool) → IsLikeCore d v → labelling v.core.state ≡ d
     → IsCores (run v (if is_wrong then [] else Rewiden ∷ [])) (Some v.core)
 after_points d v true h k = nothing d v h k
 after_points d v false h k = rw (unchanged v h.first) (nothing d v h k)
 
--- SI: there is no size by SR
-sized : (d : Rotation) (l : LetterStyle) → IsLed d l → IsLed d (record l { relative_size = None })
-sized d l h = record { heading = h.heading; letters_are = ap (λ (m : LetterStyle). record m { relative_size = None }) h.letters_are; leads = h.leads }
-
-after_size : (d : Rotation) (v : World) (is_wrong : Bool) → IsLikeCore d v → v.core.state.direction ≡ d
-    → IsCores (run v (if is_wrong then [] else Letter letter.AbsoluteSize ∷ [])) (Some v.core)
-after_size d v true h k = nothing d v h k
-after_size d v false h k = record {
-  same = refl;
-  like = like_now d (record v { writing = record v.writing { letters = record v.writing.letters { relative_size = None } } })
-      (record {
-        solid = h.solid;
-        first = h.first;
-        no_symbol = h.no_symbol;
-        led = sized d v.writing.letters h.led;
-        no_extra = h.no_extra;
-        no_ends = h.no_ends;
-        few = h.few;
-        few_places = h.few_places;
-      })
-      k;
-}
-
-after_still : (d : Rotation) (i : Instruction) (ns : List ℤ) (v : World) → turns_labels i ≡ false → IsLikeCore d v → v.core.state.direction ≡ d
+after_still : (d : Labelling) (i : Instruction) (ns : List ℤ) (v : World) → sets_labels i ≡ false → IsLikeCore d v → labelling v.core.state ≡ d
     → IsCores (run v (more_steps i ns)) (Some v.core)
 after_still d Initialize ns v t h k = absurd (true≢false t)
 after_still d DefaultValues ns v t h k = absurd (true≢false t)
 after_still d InputPoints ns v t h k = after_points d v (meaning InputPoints ns).is_wrong h k
-after_still d CharacterSize ns v t h k = after_size d v (meaning CharacterSize ns).is_wrong h k
+after_still d CharacterSize ns v t h k = absurd (true≢false t)
 after_still d Direction ns v t h k = absurd (true≢false t)
 after_still d i ns v t h k = nothing d v h k
 
@@ -121,16 +109,32 @@ after_still d i ns v t h k = nothing d v h k
 to_right : unit (pos 1000000) (pos 0) ≡ right
 to_right = axes_are_exact_lem.x (pos 1000000) (omega arith)
 
-usual_led : IsLed rotation.None usual_letters
-usual_led = record { heading = pair (pos 1000000) (pos 0); letters_are = refl; leads = to_right }
+abbrev usual_labelling : Labelling
+usual_labelling = record { direction = rotation.None; size = usual_size }
 
-after_restart : (d : Rotation) (v : World) → IsLikeCore d v → v.core.state.direction ≡ rotation.None → IsCores (run v (Restart ∷ [])) (Some v.core)
+usual_led : IsLed usual_labelling usual_letters
+usual_led = record {
+  heading = pair (pos 1000000) (pos 0);
+  size = ByFont;
+  letters_are = refl;
+  leads = to_right;
+  sized = λ points. refl;
+}
+
+-- texts are read as at the start
+plain_again : (w : World) → IsTrue (reads_ascii w.encoding w.characters.sets) → w.characters ≡ usual_characters
+    → IsTrue (reads_ascii w.encoding usual_characters.sets)
+plain_again w h k = subst (λ (c : Characters). IsTrue (reads_ascii w.encoding c.sets)) k h
+
+after_restart : (d : Labelling) (v : World) → IsLikeCore d v → labelling v.core.state ≡ usual_labelling → IsCores (run v (Restart ∷ [])) (Some v.core)
 after_restart d v h k = record {
   same = refl;
-  like = like_now rotation.None _
+  like = like_now usual_labelling _
       (record {
         solid = refl;
         first = h.first;
+        plain = plain_again v h.plain h.usual;
+        usual = refl;
         no_symbol = refl;
         led = usual_led;
         no_extra = h.no_extra;
@@ -141,13 +145,15 @@ after_restart d v h k = record {
       k;
 }
 
-after_restyle : (d : Rotation) (v : World) → IsLikeCore d v → v.core.state.direction ≡ rotation.None → IsCores (run v (Restyle ∷ [])) (Some v.core)
+after_restyle : (d : Labelling) (v : World) → IsLikeCore d v → labelling v.core.state ≡ usual_labelling → IsCores (run v (Restyle ∷ [])) (Some v.core)
 after_restyle d v h k = record {
   same = refl;
-  like = like_now rotation.None _
+  like = like_now usual_labelling _
       (record {
         solid = refl;
         first = h.first;
+        plain = plain_again v h.plain h.usual;
+        usual = refl;
         no_symbol = refl;
         led = usual_led;
         no_extra = h.no_extra;
@@ -162,19 +168,23 @@ after_restyle d v h k = record {
 abbrev directed : Rotation → Pair ℤ → List FullStep
 directed r p = Core (Set (setting.Direction r)) ∷ (Letter (letter.Direction p) ∷ [])
 
-after_direction : (d r : Rotation) (p : Pair ℤ) (v : World) → unit p.x p.y ≡ turned (turn_by r) right
-    → IsLikeCore d v → v.core.state.direction ≡ r → IsCores (run v (Letter (letter.Direction p) ∷ [])) (Some v.core)
+after_direction : (d : Labelling) (r : Rotation) (p : Pair ℤ) (v : World) → unit p.x p.y ≡ turned (turn_by r) right
+    → IsLikeCore d v → labelling v.core.state ≡ record d { direction = r } → IsCores (run v (Letter (letter.Direction p) ∷ [])) (Some v.core)
 after_direction d r p v u h k = record {
   same = refl;
-  like = like_now r _
+  like = like_now (record d { direction = r }) _
       (record {
         solid = h.solid;
         first = h.first;
+        plain = h.plain;
+        usual = h.usual;
         no_symbol = h.no_symbol;
         led = record {
           heading = p;
+          size = h.led.size;
           letters_are = ap (λ (m : LetterStyle). record m { heading = Absolute p }) h.led.letters_are;
           leads = u;
+          sized = h.led.sized;
         };
         no_extra = h.no_extra;
         no_ends = h.no_ends;
@@ -184,16 +194,51 @@ after_direction d r p v u h k = record {
       k;
 }
 
+-- SI
+abbrev sized : Size → LetterSetting → List FullStep
+sized z s = Core (Set (setting.Size z)) ∷ (Letter s ∷ [])
+
+after_size : (d : Labelling) (z : Size) (s : LetterSetting) (by : LetterSize) (v : World)
+    → lettered s v ≡ record v { writing = record v.writing { letters = record v.writing.letters { size = by } } }
+    → ((points : Pair Ends) → size_in by usual_font z points ≡ pair z.width z.height)
+    → IsLikeCore d v → labelling v.core.state ≡ record d { size = z } → IsCores (run v (Letter s ∷ [])) (Some v.core)
+after_size d z s by v set fits h k =
+    let u : World = record v { writing = record v.writing { letters = record v.writing.letters { size = by } } } in
+    let is : IsCores (Some u) (Some v.core) = record {
+      same = refl;
+      like = like_now (record d { size = z }) u
+          (record {
+            solid = h.solid;
+            first = h.first;
+            plain = h.plain;
+            usual = h.usual;
+            no_symbol = h.no_symbol;
+            led = record {
+              heading = h.led.heading;
+              size = by;
+              letters_are = ap (λ (m : LetterStyle). record m { size = by }) h.led.letters_are;
+              leads = h.led.leads;
+              sized = fits;
+            };
+            no_extra = h.no_extra;
+            no_ends = h.no_ends;
+            few = h.few;
+            few_places = h.few_places;
+          })
+          k;
+    } in
+    subst (λ (x : World). IsCores (Some x) (Some v.core)) (sym set) is
+
 -- one setting
 core_to_end : (o : Option core.World) → core.followed o (λ (c : core.World). Some c) ≡ o
 core_to_end None = refl
 core_to_end (Some c) = refl
 
-set_then : (w : World) (r : Rotation) (s : Setting) (more : List FullStep) → Like w → Leads w.core.state.direction r (Set s)
-    → ((v : World) → IsLikeCore w.core.state.direction v → v.core.state.direction ≡ r → IsCores (run v more) (Some v.core))
+set_then : (w : World) (r : Labelling) (s : Setting) (more : List FullStep) → Like w → Leads (labelling w.core.state) r (Set s)
+    → ((v : World) → IsLikeCore (labelling w.core.state) v → labelling v.core.state ≡ r → IsCores (run v more) (Some v.core))
     → IsCores (run w (Core (Set s) ∷ more)) (core.run w.core (Set s ∷ []))
 set_then w r s more h l go =
-    let d : Rotation = w.core.state.direction in
+    let d : Labelling = labelling w.core.state in
     let c : core.World = w.core in
     subst (λ (p : Option core.World). IsCores (run w (Core (Set s) ∷ more)) p) (sym (core_to_end (core.step c (Set s))))
     (with_more d r (with_core w (core.step c (Set s))) (core.step c (Set s)) more (one_step d r w (Set s) l tt h refl) go)
@@ -201,8 +246,34 @@ set_then w r s more h l go =
 direction_run : (w : World) (r : Rotation) (p : Pair ℤ) → unit p.x p.y ≡ turned (turn_by r) right → Like w
     → IsCores (run w (directed r p)) (core.run w.core (Set (setting.Direction r) ∷ []))
 direction_run w r p u h =
-    set_then w r (setting.Direction r) (Letter (letter.Direction p) ∷ []) h (λ page s k. refl)
-    (λ (v : World) (l : IsLikeCore w.core.state.direction v) (k : v.core.state.direction ≡ r). after_direction w.core.state.direction r p v u l k)
+    let d : Labelling = labelling w.core.state in
+    set_then w (record d { direction = r }) (setting.Direction r) (Letter (letter.Direction p) ∷ []) h
+    (λ page s k. ap (λ (l : Labelling). record l { direction = r }) k)
+    (λ (v : World) (l : IsLikeCore d v) (k : labelling v.core.state ≡ record d { direction = r }). after_direction d r p v u l k)
+
+size_run : (w : World) (z : Size) (s : LetterSetting) (by : LetterSize)
+    → ((v : World) → lettered s v ≡ record v { writing = record v.writing { letters = record v.writing.letters { size = by } } })
+    → ((points : Pair Ends) → size_in by usual_font z points ≡ pair z.width z.height)
+    → Like w → IsCores (run w (sized z s)) (core.run w.core (Set (setting.Size z) ∷ []))
+size_run w z s by set fits h =
+    let d : Labelling = labelling w.core.state in
+    set_then w (record d { size = z }) (setting.Size z) (Letter s ∷ []) h
+    (λ page s k. ap (λ (l : Labelling). record l { size = z }) k)
+    (λ (v : World) (l : IsLikeCore d v) (k : labelling v.core.state ≡ record d { size = z }). after_size d z s by v (set v) fits l k)
+
+size_good : (w : World) (z : Size) (good : Bool) → Like w
+    → IsCores
+    (run w (as_core (sets (when good (setting.Size z))).steps
+    ++ (if (sets (when good (setting.Size z))).is_wrong then [] else Letter letter.AbsoluteSize ∷ [])))
+    (core.run w.core (sets (when good (setting.Size z))).steps)
+size_good w z true h = size_run w z letter.AbsoluteSize BySize (λ v. refl) (λ points. refl) h
+size_good w z false h = record { same = refl; like = h }
+
+si_run : (w : World) (ns : List ℤ) → Like w
+    → IsCores (run w (params_steps first_context CharacterSize ns)) (core.run w.core (meaning CharacterSize ns).steps)
+si_run w [] h = size_run w usual_size letter.FontSize ByFont (λ v. refl) (λ points. refl) h
+si_run w (x ∷ []) h = record { same = refl; like = h }
+si_run w (x ∷ (y ∷ ns)) h = size_good w _ _ h
 
 vector_run : (w : World) (x y : ℤ) (good : Bool) → (good ≡ true → unit x y ≡ turned (turn_by (nearest_axis x y)) right) → Like w
     → IsCores
@@ -232,42 +303,47 @@ in_two : (w : World) (i : Instruction) (ns : List ℤ)
 in_two w i ns =
     ap (λ (ss : List FullStep). run w ss) (steps_are i ns) ∙ run-append w (as_core (meaning i ns).steps) (more_steps i ns)
 
-still_run : (w : World) (i : Instruction) (ns : List ℤ) → turns_labels i ≡ false → Like w
+still_run : (w : World) (i : Instruction) (ns : List ℤ) → sets_labels i ≡ false → Like w
     → IsCores (run w (params_steps first_context i ns)) (core.run w.core (meaning i ns).steps)
 still_run w i ns t h =
-    let d : Rotation = w.core.state.direction in
+    let d : Labelling = labelling w.core.state in
     let o : Option World = run w (as_core (meaning i ns).steps) in
     subst (λ (x : Option World). IsCores x (core.run w.core (meaning i ns).steps)) (sym (in_two w i ns))
     (with_more d d o (core.run w.core (meaning i ns).steps) (more_steps i ns) (still_steps d (meaning i ns).steps w (params_still i ns t) h refl)
-    (λ (v : World) (l : IsLikeCore d v) (k : v.core.state.direction ≡ d). after_still d i ns v t l k))
+    (λ (v : World) (l : IsLikeCore d v) (k : labelling v.core.state ≡ d). after_still d i ns v t l k))
 
 params_run : (w : World) (i : Instruction) (ns : List ℤ) → is_core_body (Params i ns) ≡ true → Like w
     → IsCores (run w (params_steps first_context i ns)) (core.run w.core (meaning i ns).steps)
 params_run w Initialize ns e h =
-    let d : Rotation = w.core.state.direction in
-    set_then w rotation.None setting.Start (Restart ∷ []) h (λ page s k. refl)
-    (λ (v : World) (l : IsLikeCore d v) (k : v.core.state.direction ≡ rotation.None). after_restart d v l k)
+    let d : Labelling = labelling w.core.state in
+    set_then w usual_labelling setting.Start (Restart ∷ []) h (λ page s k. refl)
+    (λ (v : World) (l : IsLikeCore d v) (k : labelling v.core.state ≡ usual_labelling). after_restart d v l k)
 params_run w DefaultValues ns e h =
-    let d : Rotation = w.core.state.direction in
-    set_then w rotation.None setting.Defaults (Restyle ∷ []) h (λ page s k. refl)
-    (λ (v : World) (l : IsLikeCore d v) (k : v.core.state.direction ≡ rotation.None). after_restyle d v l k)
+    let d : Labelling = labelling w.core.state in
+    set_then w usual_labelling setting.Defaults (Restyle ∷ []) h (λ page s k. refl)
+    (λ (v : World) (l : IsLikeCore d v) (k : labelling v.core.state ≡ usual_labelling). after_restyle d v l k)
+params_run w CharacterSize ns e h = si_run w ns h
 params_run w Direction ns e h = di_run w ns (not-true (is_slanted ns) e) h
 params_run w i ns e h = still_run w i ns refl h
 
 -- an item of steps alone
 steps_run : (w : World) (ts : List Step) → AllStill ts → Like w → IsCores (run w (as_core ts)) (core.run w.core ts)
 steps_run w ts all h =
-    let d : Rotation = w.core.state.direction in
+    let d : Labelling = labelling w.core.state in
     let o : Option World = run w (as_core ts) in
     subst (λ (x : Option World). IsCores x (core.run w.core ts)) (to_end o)
     (with_more d d o (core.run w.core ts) [] (still_steps d ts w all h refl)
-    (λ (v : World) (l : IsLikeCore d v) (k : v.core.state.direction ≡ d). nothing d v l k))
+    (λ (v : World) (l : IsLikeCore d v) (k : labelling v.core.state ≡ d). nothing d v l k))
+
+core_label : (long : Bool) (text : List ℕ) → (not long && list_all is_core_byte text) ≡ true → nat_lt 67108864 (length text) ≡ long → IsCoreLabel text
+core_label true text e k = absurd (true≢false (sym e))
+core_label false text e k = record { short = k; plain = e }
 
 item_run : (w : World) (b : BodyShape) → is_core_body b ≡ true → Like w → IsCores (run w (full_steps first_context b)) (core.run w.core (body_steps b))
 item_run w (Params i ns) e h = params_run w i ns e h
 item_run w (Further f ns) e h = absurd (true≢false (sym e))
-item_run w (Label bytes) e h =
-    steps_run w (Write bytes ∷ []) (((λ d page s k. k), not-true (nat_lt 4294967296 (length bytes)) e), tt) h
+item_run w (Label text) e h =
+    steps_run w (Write text ∷ []) (((λ d page s k. k), core_label (nat_lt 67108864 (length text)) text e refl), tt) h
 item_run w (Coded entries) e h = steps_run w (entry_steps entries) (entries_still entries) h
 item_run w (Kept bytes) e h = absurd (true≢false (sym e))
 item_run w (Symbol byte) e h = absurd (true≢false (sym e))
@@ -322,10 +398,13 @@ items_run w (i ∷ more) all h =
     one.same
     (next_item i.at more (taken w i.body) one.like (λ (v : World) (l : Like v). items_run v more (All-tail IsCoreItem i more all) l))
 
-like_at_start : (carousel : Carousel) (page : Page) → Like (at_start_with carousel page)
-like_at_start carousel page = record {
+like_at_start : (encoding : Encoding) (carousel : Carousel) (page : Page) → IsTrue (reads_ascii encoding usual_characters.sets)
+    → Like (at_start_with encoding carousel page)
+like_at_start encoding carousel page plain = record {
   solid = refl;
   first = refl;
+  plain = plain;
+  usual = refl;
   no_symbol = refl;
   led = usual_led;
   no_extra = refl;
@@ -336,7 +415,7 @@ like_at_start carousel page = record {
 
 pub runs_as_in_core : (page : Page) (items : List ItemShape) → All IsCoreItem items
     → core_part (runs (at_start page) items) ≡ core.runs (core.at_start page) items
-runs_as_in_core page items all = (items_run (at_start page) items all (like_at_start empty page)).same
+runs_as_in_core page items all = (items_run (at_start page) items all (like_at_start ByPlot empty page refl)).same
 
 -- what core leaves is what its definitions say
 refusal_told : (page : Page) (before : List Step) (items : List ItemShape) (r : Result World PlotFault) → Told page before [] items (core_part r)
@@ -362,9 +441,10 @@ draws_from page before w items is l all =
 
 pub draws_as_in_core : (page : Page) (items : List ItemShape) → All IsCoreItem items
     → Draws (runs (at_start page) items) (refusal page items) (strokes page items)
-draws_as_in_core page items all = draws_from page [] (at_start page) items refl (like_at_start empty page) all
+draws_as_in_core page items all = draws_from page [] (at_start page) items refl (like_at_start ByPlot empty page refl) all
 
-pub draws_as_in_core_with : (carousel : Carousel) (page : Page) (items : List ItemShape) → All IsCoreItem items
-    → Draws (runs (at_start_with carousel page) items) (refusal_with carousel page items) (strokes_with carousel page items)
-draws_as_in_core_with carousel page items all =
-    draws_from page (Load carousel ∷ []) (at_start_with carousel page) items refl (like_at_start carousel page) all
+pub draws_as_in_core_with : (encoding : Encoding) (carousel : Carousel) (page : Page) (items : List ItemShape)
+    → IsTrue (reads_ascii encoding usual_characters.sets) → All IsCoreItem items
+    → Draws (runs (at_start_with encoding carousel page) items) (refusal_with carousel page items) (strokes_with carousel page items)
+draws_as_in_core_with encoding carousel page items plain all =
+    draws_from page (Load carousel ∷ []) (at_start_with encoding carousel page) items refl (like_at_start encoding carousel page plain) all

@@ -1,5 +1,5 @@
 -- Steps of core in the profile full, while all that it has besides is as core has it.
-use Rattle.std.proofs.Common.{◌≡◌, ◌∙◌, ◌≤◌, ap, sym, subst, refl, inl, inr, Bool, true, false, ℕ, ℤ, List, [], ◌∷◌, length, nat_lt, Option, Some, None}
+use Rattle.std.proofs.Common.{◌≡◌, ◌∙◌, ◌≤◌, ap, sym, subst, refl, inl, inr, Bool, true, false, true≢false, IsTrue, not, ◌&&◌, ◌||◌, if◌then◌else◌, ap₂, ℕ, ℤ, List, [], ◌∷◌, length, nat_eq, nat_lt, Option, Some, None}
 use Rattle.std.specs.Prelude.{⊤}
 use Rattle.std.specs.List.{list_all}
 use Rattle.std.proofs.lemmas.Bool.{cases_Bool}
@@ -7,7 +7,15 @@ use Rattle.std.proofs.lemmas.Option.{none-some, same_Some}
 use Rattle.exact.specs.declared.spot.Spot.{Spot}
 use Rattle.directions.specs.Directions.{turned, unit}
 use Rattle.directions.specs.Laws.{right}
+use Rattle.stick_font.specs.declared.size.CharacterSize.{CharacterSize}
+use Rattle.character_sets.specs.Ascii.{reads_ascii}
+use Rattle.character_sets.specs.Signs.{sets_after, shifted}
+use Rattle.character_sets.specs.declared.encoding.Encoding.{Encoding}
+use Rattle.character_sets.specs.declared.sets.Sets.{Sets}
+use Rattle.lettering.specs.CoreTexts.{is_core_byte}
+use Rattle.lettering.specs.Laws.{usual_turned}
 use Rattle.plot_frame.specs.declared.pair.Pair.{Pair}
+use Rattle.plot_frame.specs.declared.scaling.Ends.{Ends}
 use Rattle.plot_page.specs.declared.page.Page.{Page}
 use Rattle.plot_settings.specs.Meanings.{Step, Touch, Move, Go, Edge, DrawCircle, DrawArc, Write}
 use Rattle.plot_settings.specs.declared.setting.Rotation.{Rotation}
@@ -16,7 +24,11 @@ use Rattle.hpgl_plot.specs.Paths.{path}
 use Rattle.hpgl_plot.specs.Strokes.{are_in_range, path_strokes}
 use Rattle.hpgl_plot.specs.Machine as core
 use Rattle.full_settings.specs.LineStyles.{Style, is_solid}
-use Rattle.full_settings.specs.Letters.{LetterStyle, usual_letters}
+use Rattle.full_settings.specs.Characters.{Characters, selected_font, usual_characters, usual_font}
+use Rattle.full_settings.specs.LetterParameters.{pair}
+use Rattle.full_settings.specs.Letters.{LetterStyle, size_in, style_in, usual_letters}
+use Rattle.full_settings.specs.declared.font.Font.{Font}
+use Rattle.full_settings.specs.declared.letter_size.LetterSize.{LetterSize}
 use Rattle.full_settings.specs.declared.heading.Heading.TheVariants.{Absolute}
 use Rattle.full_plot.specs.Items.{as_core}
 use Rattle.polygons.specs.Buffers.{Contents}
@@ -24,22 +36,34 @@ use Rattle.full_notes.specs.Contexts.{Context, first_context}
 use Rattle.full_plot.specs.Lines.{line_step, lines_of}
 use Rattle.full_plot.specs.Machine.{core_step, marked, marked_in, moved, run, touched, touched_in}
 use Rattle.full_plot.specs.Polygons.{lined_by, lined_step, only_figure, with_buffer}
-use Rattle.full_plot.specs.Texts.{at_margin, label_by, marked_by, style_of, turn_by, with_margin, written}
+use Rattle.full_plot.specs.Texts.{at_margin, if_short, label_by, labelled, marked_by, signs_of, style_of, then_shifted, turn_by, with_margin, written}
 use Rattle.full_plot.specs.Worlds.{World, Writing, followed, with_core}
-use Rattle.full_plot.proofs.CoreLabels.{label_as_in_core, style_is}
+use Rattle.full_plot.proofs.CoreLabels.{label_as_in_core, style_is, turn_in}
 use Rattle.full_plot.proofs.FullRuns.{shape_solid, solid_line}
-use Rattle.full_plot.proofs.Nexts.{IsNext, NextIn, next_core_step}
+use Rattle.full_plot.proofs.Nexts.{IsNext, IsUnshifted, KeepsSets, NextIn, next_core_step}
 
--- labels lead along an axis, and are usual otherwise
-pub record IsLed (d : Rotation) (l : LetterStyle) : Type 0 where
+-- what core sets for labels
+pub record Labelling : Type 0 where
+  pub direction : Rotation
+  pub size : CharacterSize
+
+abbrev pub labelling : State → Labelling
+labelling s = record { direction = s.direction; size = s.size }
+
+-- labels lead along an axis and have a size as core has them, and are usual otherwise
+pub record IsLed (d : Labelling) (l : LetterStyle) : Type 0 where
   pub heading : Pair ℤ
-  pub letters_are : l ≡ record usual_letters { heading = Absolute heading }
-  pub leads : unit heading.x heading.y ≡ turned (turn_by d) right
+  pub size : LetterSize
+  pub letters_are : l ≡ record usual_letters { heading = Absolute heading; size = size }
+  pub leads : unit heading.x heading.y ≡ turned (turn_by d.direction) right
+  pub sized : (points : Pair Ends) → size_in size usual_font d.size points ≡ pair d.size.width d.size.height
 
--- besides core all is as at the start, but labels may lead along an axis
-pub record IsLikeCore (d : Rotation) (w : World) : Type 0 where
+-- besides core all is as at the start, but labels may lead along an axis and have a size
+pub record IsLikeCore (d : Labelling) (w : World) : Type 0 where
   pub solid : is_solid w.style.kind ≡ true
   pub first : w.context ≡ first_context
+  pub plain : IsTrue (reads_ascii w.encoding w.characters.sets)
+  pub usual : w.characters ≡ usual_characters
   pub no_symbol : w.writing.symbol ≡ None
   pub led : IsLed d w.writing.letters
   pub no_extra : w.extra ≡ 0
@@ -98,21 +122,70 @@ core_arc : (w : World) (o : Option core.World) → core_of (followed (with_core 
 core_arc w None = refl
 core_arc w (Some c) = refl
 
--- a label
-core_written : (w : World) (bytes : List ℕ) → IsLed w.core.state.direction w.writing.letters → nat_lt 4294967296 (length bytes) ≡ false
-    → core_of (written w bytes) ≡ core.step w.core (Write bytes)
-core_written w bytes l short =
-    let s : State = w.core.state in
-    core_margin w (label_by (style_of w) w.core bytes) _
-    ∙ label_as_in_core w.core (style_of w) bytes
-    (style_is w.writing.letters l.heading s.size s.frame.points s.frame.rotation s.direction l.letters_are l.leads) short
+-- a label that both profiles draw alike: a short one of bytes of core
+pub record IsCoreLabel (text : List ℕ) : Type 0 where
+  pub short : nat_lt 67108864 (length text) ≡ false
+  pub plain : IsTrue (list_all is_core_byte text)
 
--- a label that the profile full does not refuse
 abbrev pub IsShort : Step → Type 0
-IsShort (Write bytes) = nat_lt 4294967296 (length bytes) ≡ false
+IsShort (Write text) = IsCoreLabel text
 IsShort _ = ⊤
 
-pub step_as_in_core : (w : World) (t : Step) → IsLikeCore w.core.state.direction w → IsShort t → core_of (core_step w t) ≡ core.step w.core t
+core_shifted : (text : List ℕ) (o : Option World) → core_of (then_shifted text o) ≡ core_of o
+core_shifted text None = refl
+core_shifted text (Some v) = refl
+
+both : (a b : Bool) → IsTrue a → IsTrue b → IsTrue (a && b)
+both true b h k = k
+both false b h k = absurd (true≢false (sym h))
+
+first : (a b : Bool) → IsTrue (a && b) → IsTrue a
+first true b h = refl
+first false b h = h
+
+second : (a b : Bool) → IsTrue (a && b) → IsTrue b
+second true b h = h
+second false b h = absurd (true≢false (sym h))
+
+core_written : (w : World) (text : List ℕ) → IsLikeCore (labelling w.core.state) w → IsCoreLabel text
+    → core_of (written w text) ≡ core.step w.core (Write text)
+core_written w text h k =
+    let s : State = w.core.state in
+    let l : IsLed (labelling s) w.writing.letters = h.led in
+    let label : Option core.World = label_by (style_of w) w.core (signs_of w text) in
+    let font : selected_font w.characters ≡ usual_font = ap (λ (c : Characters). selected_font c) h.usual in
+    let style : style_of w ≡ usual_turned s.size (turn_in s) =
+    ap (λ (f : Font). style_in w.writing.letters f s.size s.frame.points (turn_by s.frame.rotation)) font
+    ∙ style_is w.writing.letters l.heading l.size usual_font s.size s.frame.points s.frame.rotation s.direction l.letters_are
+    (l.sized s.frame.points) l.leads in
+    core_shifted text (labelled w text)
+    ∙ core_margin w (if_short text label) _
+    ∙ rw k.short refl
+    ∙ label_as_in_core w.core (style_of w) w.encoding w.characters.sets text style
+    (both (reads_ascii w.encoding w.characters.sets) (list_all is_core_byte text) h.plain k.plain)
+
+-- bytes of core select no set
+no_shift : (low out inward more : Bool) (a b s : Sets) → IsTrue ((low && not (out || inward)) && more)
+    → (if out then a else (if inward then b else s)) ≡ s
+no_shift true true inward more a b s h = absurd (true≢false (sym h))
+no_shift true false true more a b s h = absurd (true≢false (sym h))
+no_shift true false false more a b s h = refl
+no_shift false out inward more a b s h = absurd (true≢false (sym h))
+
+unshifted_byte : (byte : ℕ) (sets : Sets) → IsTrue (is_core_byte byte) → shifted sets byte ≡ sets
+unshifted_byte byte sets h = no_shift (nat_lt byte 128) (nat_eq byte 14) (nat_eq byte 15) _ _ _ sets h
+
+unshifted : (text : List ℕ) → IsTrue (list_all is_core_byte text) → IsUnshifted text
+unshifted [] h sets = refl
+unshifted (byte ∷ text) h sets =
+    ap (λ (s : Sets). sets_after s text) (unshifted_byte byte sets (first (is_core_byte byte) (list_all is_core_byte text) h))
+    ∙ unshifted text (second (is_core_byte byte) (list_all is_core_byte text) h) sets
+
+keeps_sets : (t : Step) → IsShort t → KeepsSets t
+keeps_sets (Write text) h = unshifted text h.plain
+keeps_sets t h = tt
+
+pub step_as_in_core : (w : World) (t : Step) → IsLikeCore (labelling w.core.state) w → IsShort t → core_of (core_step w t) ≡ core.step w.core t
 step_as_in_core w Touch h short = core_touch w (outside w h.first)
 step_as_in_core w (Move x y) h short = core_go w (Move x y) h.solid (outside w h.first) h.no_symbol
 step_as_in_core w (Go relative x y) h short = core_go w (Go relative x y) h.solid (outside w h.first) h.no_symbol
@@ -123,14 +196,16 @@ step_as_in_core w (Edge relative x y) h short =
     core_buffer (only_figure (lines_of w.core.page w.core.state (Edge relative x y))) (line_step w (Edge relative x y))
     ∙ ap core_of (solid_is w (Edge relative x y) h.solid) ∙ core_with w (core.step w.core (Edge relative x y))
 step_as_in_core w (DrawCircle c) h short = ap core_of (lined_is w (DrawCircle c) h.solid (outside w h.first)) ∙ core_with w (core.step w.core (DrawCircle c))
-step_as_in_core w (Write bytes) h short = core_written w bytes h.led short
+step_as_in_core w (Write text) h short = core_written w text h short
 step_as_in_core w t h short = core_with w (core.step w.core t)
 
 -- what a step of core keeps
-pub like_next : (d : Rotation) (w v : World) → IsLikeCore d w → IsNext w v → IsLikeCore d v
+pub like_next : (d : Labelling) (w v : World) → IsLikeCore d w → IsNext w v → IsLikeCore d v
 like_next d w v h n = record {
   solid = ap (λ (s : Style). is_solid s.kind) n.style_is ∙ h.solid;
   first = n.context_is ∙ h.first;
+  plain = subst IsTrue (sym (ap₂ (λ (e : Encoding) (c : Characters). reads_ascii e c.sets) n.encoding_is n.characters_are)) h.plain;
+  usual = n.characters_are ∙ h.usual;
   no_symbol = ap (λ (s : Writing). s.symbol) n.writing_is ∙ h.no_symbol;
   led = subst (λ (s : Writing). IsLed d s.letters) (sym n.writing_is) h.led;
   no_extra = n.extra_is ∙ h.no_extra;
@@ -139,56 +214,56 @@ like_next d w v h n = record {
   few_places = n.few_places (outside w h.first) h.few_places;
 }
 
--- core's direction is d before a step, and r after it
-abbrev pub Leads : Rotation → Rotation → Step → Type 0
-Leads d r t = (page : Page) (s : State) → s.direction ≡ d → (core.after page s t).direction ≡ r
+-- what core sets for labels is d before a step, and r after it
+abbrev pub Leads : Labelling → Labelling → Step → Type 0
+Leads d r t = (page : Page) (s : State) → labelling s ≡ d → labelling (core.after page s t) ≡ r
 
-led_by : (c e : core.World) (d r : Rotation) (t : Step) → Leads d r t → c.state.direction ≡ d → core.step c t ≡ Some e → e.state.direction ≡ r
+led_by : (c e : core.World) (d r : Labelling) (t : Step) → Leads d r t → labelling c.state ≡ d → core.step c t ≡ Some e → labelling e.state ≡ r
 unfolding core.step
 led_by c e d r t l k h =
     let p = path c.page c.state t in
     let new : core.World = core.with_strokes c (core.after c.page c.state t) (path_strokes c.state p) in
     elim (cases_Bool (list_all are_in_range p.lines)) [
-      | inl i ↦ ap (λ (u : core.World). u.state.direction) (sym (same_Some new e (rw i at h))) ∙ l c.page c.state k
+      | inl i ↦ ap (λ (u : core.World). labelling u.state) (sym (same_Some new e (rw i at h))) ∙ l c.page c.state k
       | inr i ↦ absurd (none-some e (rw i at h))
     ]
 
--- what steps leave: core's direction is r then, and labels lead along d as before
-abbrev pub LikeIn : Rotation → Rotation → Option World → Type 0
+-- what steps leave: core sets r for labels then, and labels are by d as before
+abbrev pub LikeIn : Labelling → Labelling → Option World → Type 0
 LikeIn d r None = ⊤
-LikeIn d r (Some v) = IsLikeCore d v × (v.core.state.direction ≡ r)
+LikeIn d r (Some v) = IsLikeCore d v × (labelling v.core.state ≡ r)
 
-pub record IsAsInCore (d r : Rotation) (o : Option World) (p : Option core.World) : Type 0 where
+pub record IsAsInCore (d r : Labelling) (o : Option World) (p : Option core.World) : Type 0 where
   pub same : core_of o ≡ p
   pub like : LikeIn d r o
 
-like_after : (d r : Rotation) (w : World) (t : Step) (o : Option World) → Leads d r t → IsLikeCore d w → w.core.state.direction ≡ d
+like_after : (d r : Labelling) (w : World) (t : Step) (o : Option World) → Leads d r t → IsLikeCore d w → labelling w.core.state ≡ d
     → NextIn w o → core_of o ≡ core.step w.core t → LikeIn d r o
 like_after d r w t None l h k n e = tt
 like_after d r w t (Some v) l h k n e = (like_next d w v h n, led_by w.core v.core d r t l k (sym e))
 
-pub one_step : (d r : Rotation) (w : World) (t : Step) → Leads d r t → IsShort t → IsLikeCore d w → w.core.state.direction ≡ d
+pub one_step : (d r : Labelling) (w : World) (t : Step) → Leads d r t → IsShort t → IsLikeCore d w → labelling w.core.state ≡ d
     → IsAsInCore d r (core_step w t) (core.step w.core t)
 one_step d r w t l short h k =
     let e : core_of (core_step w t) ≡ core.step w.core t =
-    step_as_in_core w t (subst (λ (x : Rotation). IsLikeCore x w) (sym k) h) short in
-    record { same = e; like = like_after d r w t (core_step w t) l h k (next_core_step w t) e }
+    step_as_in_core w t (subst (λ (x : Labelling). IsLikeCore x w) (sym k) h) short in
+    record { same = e; like = like_after d r w t (core_step w t) l h k (next_core_step w t (keeps_sets t short)) e }
 
--- steps that leave core's direction as it is
+-- steps that leave what core sets for labels as it is
 abbrev pub IsStill : Step → Type 0
-IsStill t = ((d : Rotation) → Leads d d t) × IsShort t
+IsStill t = ((d : Labelling) → Leads d d t) × IsShort t
 
 abbrev pub AllStill : List Step → Type 0
 AllStill [] = ⊤
 AllStill (t ∷ ts) = IsStill t × AllStill ts
 
-next_still : (d r : Rotation) (o : Option World) (ts : List Step) → LikeIn d r o
-    → ((v : World) → IsLikeCore d v → v.core.state.direction ≡ r → IsAsInCore d r (run v (as_core ts)) (core.run v.core ts))
+next_still : (d r : Labelling) (o : Option World) (ts : List Step) → LikeIn d r o
+    → ((v : World) → IsLikeCore d v → labelling v.core.state ≡ r → IsAsInCore d r (run v (as_core ts)) (core.run v.core ts))
     → IsAsInCore d r (followed o (λ (v : World). run v (as_core ts))) (core.followed (core_of o) (λ (c : core.World). core.run c ts))
 next_still d r None ts h go = record { same = refl; like = tt }
 next_still d r (Some v) ts h go = go v h.0 h.1
 
-pub still_steps : (d : Rotation) (ts : List Step) (w : World) → AllStill ts → IsLikeCore d w → w.core.state.direction ≡ d
+pub still_steps : (d : Labelling) (ts : List Step) (w : World) → AllStill ts → IsLikeCore d w → labelling w.core.state ≡ d
     → IsAsInCore d d (run w (as_core ts)) (core.run w.core ts)
 still_steps d [] w all h k = record { same = refl; like = (h, k) }
 still_steps d (t ∷ ts) w all h k =
@@ -196,4 +271,4 @@ still_steps d (t ∷ ts) w all h k =
     subst
     (λ (p : Option core.World). IsAsInCore d d (run w (as_core (t ∷ ts))) (core.followed p (λ (c : core.World). core.run c ts)))
     one.same
-    (next_still d d (core_step w t) ts one.like (λ (v : World) (l : IsLikeCore d v) (m : v.core.state.direction ≡ d). still_steps d ts v all.1 l m))
+    (next_still d d (core_step w t) ts one.like (λ (v : World) (l : IsLikeCore d v) (m : labelling v.core.state ≡ d). still_steps d ts v all.1 l m))

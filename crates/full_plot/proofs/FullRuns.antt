@@ -10,7 +10,6 @@ use Rattle.line_types.specs.LineTypes.{Solid}
 use Rattle.hpgl_plot.specs.Paths.{path}
 use Rattle.hpgl_plot.specs.Strokes.{are_in_range}
 use Rattle.hpgl_plot.specs.Machine as core
-use Rattle.hpgl_text.specs.Cut.{last_or}
 use Rattle.hpgl_text.specs.declared.instruction.Instruction.{Instruction}
 use Rattle.hpgl_text.specs.declared.instruction.Instruction.TheVariants.{PenWidth, PenColour}
 use Rattle.std.specs.Result.{IsErrAnd}
@@ -26,7 +25,7 @@ use Rattle.full_settings.specs.LineStyles.{is_solid, shape_by}
 use Rattle.full_settings.specs.declared.line_setting.LineKind.TheVariants as kind
 use Rattle.full_settings.specs.declared.line_setting.LineKind.{LineKind}
 use Rattle.full_plot.specs.Worlds.{World, followed, with_core}
-use Rattle.full_plot.specs.Machine.{FullStep, Core, step, run, core_step, Runs}
+use Rattle.full_plot.specs.Machine.{last_end, FullStep, Core, step, run, core_step, Runs}
 use Rattle.full_plot.specs.Lines.{line_step, shape_in}
 use Rattle.full_plot.proofs.Solid.{solid_strokes, run_solid}
 
@@ -118,9 +117,9 @@ stopped V o p u v Memory (Err f) n h i = rw i tt
 stopped V o p u v OffRange (Err f) n h i = rw i (n h)
 
 -- the last number of a list
-pub last_is : (d e x : ℕ) (xs : List ℕ) → slice_index_or (x ∷ xs) (length xs) e ≡ last_or d (x ∷ xs)
-last_is d e x [] = refl
-last_is d e x (y ∷ ys) = last_is x e y ys
+pub last_is : (e x : ℕ) (xs : List ℕ) → slice_index_or (x ∷ xs) (length xs) e ≡ last_end (x ∷ xs)
+last_is e x [] = refl
+last_is e x (y ∷ ys) = last_is e y ys
 
 -- whether a chord is read or not
 pub any_read : (usual : Bool) (ns : List ℤ) → (if usual then ns else ns) ≡ ns

@@ -4,8 +4,9 @@ use Rattle.std.specs.Prelude.{if◌then◌else◌, ⊤}
 use Rattle.std.specs.List.{list_all}
 use Rattle.std.proofs.lemmas.Bool.{cases_Bool}
 use Rattle.carousel.specs.declared.carousel.Carousel.{Carousel}
+use Rattle.character_sets.specs.declared.encoding.Encoding.{Encoding}
 use Rattle.plot_page.specs.declared.page.Page.{Page}
-use Rattle.plot_settings.specs.Meanings.{Edge, Set, Step}
+use Rattle.plot_settings.specs.Meanings.{Edge, Set, Step, Write}
 use Rattle.plot_settings.specs.declared.setting.Setting.{Setting}
 use Rattle.hpgl_text.specs.Shapes.{ItemShape, BodyShape}
 use Rattle.hpgl_plot.specs.Paths.{path}
@@ -24,14 +25,14 @@ use Rattle.full_plot.specs.Curves.{pen_at_point}
 use Rattle.full_plot.specs.Drawings.{at_start_with, ended, is_too_much, runs, CarriesOut}
 use Rattle.full_plot.specs.Items.{full_steps, taken}
 use Rattle.full_plot.specs.Machine.{FullStep, Core, PointsBy, Letter, Print, Place, Tick, ArcThrough, Curve, PolygonBy, EdgeBuffer, FillBuffer, AnchorBy, Rectangle, WedgeEdge, WedgeFill}
-use Rattle.full_plot.specs.Machine.{anchored, step, run, then_filled, then_rewidened, points_set}
+use Rattle.full_plot.specs.Machine.{anchored, core_step, step, run, then_filled, then_rewidened, points_set}
 use Rattle.full_plot.specs.Polygons.{kept_step}
-use Rattle.full_plot.specs.Texts.{lettered, sets_margin}
+use Rattle.full_plot.specs.Texts.{labelled, lettered, sets_margin, then_shifted, written}
 use Rattle.full_plot.specs.Wedges.{wedge_edged, wedge_kept, wedge_places}
 use Rattle.full_plot.specs.Work.{then_worked}
 use Rattle.full_plot.specs.Worlds.{World, followed, with_core}
 use Rattle.full_plot.proofs.Filled.{IsLater, edges_are_filled, filled_work, is_filled, later_same, later_then}
-use Rattle.full_plot.proofs.Nexts.{few_kept, NextIn, next_arc, next_core, next_core_step, next_curve, next_moved_on, next_ticked, next_written}
+use Rattle.full_plot.proofs.Nexts.{few_kept, NextIn, next_arc, next_core, next_core_step, next_curve, next_labelled, next_moved_on, next_ticked}
 
 abbrev LaterIn : World → Option World → Type 0
 LaterIn w None = ⊤
@@ -93,13 +94,24 @@ by_edge w wedge = elim (cases_Bool (are_in_range (wedge_places w.core.page w.cor
   | inr i ↦ rw i tt
 ]
 
+by_shift : (text : List ℕ) (w : World) (o : Option World) → LaterIn w o → LaterIn w (then_shifted text o)
+by_shift text w None h = tt
+by_shift text w (Some v) h = record { context_is = h.context_is; few = h.few }
+
+by_label : (w : World) (text : List ℕ) → LaterIn w (written w text)
+by_label w text = by_shift text w (labelled w text) (by_next w (labelled w text) (next_labelled w text))
+
+by_core : (w : World) (t : Step) → LaterIn w (core_step w t)
+by_core w (Write text) = by_label w text
+by_core w t = by_next w (core_step w t) (next_core_step w t tt)
+
 later_step : (w : World) (s : FullStep) → LaterIn w (step w s)
-later_step w (Core t) = by_next w (step w (Core t)) (next_core_step w t)
+later_step w (Core t) = by_core w t
 later_step w (PointsBy p) =
     let set : Setting = points_set w p in
     by_points w (with_core w (core.step w.core (Set set))) (by_next w _ (next_core w (Set set)))
 later_step w (Letter s) = by_letters w s
-later_step w Print = by_work (length w.writing.text) w _ (by_next w _ (next_written w w.writing.text))
+later_step w Print = by_work (length w.writing.text) w _ (by_label w w.writing.text)
 later_step w (Place m) = by_next w (step w (Place m)) (next_moved_on w m)
 later_step w (Tick is_upright) = by_next w (step w (Tick is_upright)) (next_ticked w is_upright)
 later_step w (ArcThrough relative points) = by_next w (step w (ArcThrough relative points)) (next_arc w relative points)
@@ -180,5 +192,7 @@ few_by_items [] w h = h
 few_by_items (i ∷ more) w h =
     few_ended w i.body (taken w i.body) i.at more (after_item w i.body) h (λ (v : World) (k : Few v). few_by_items more v k)
 
-pub few_strokes : (carousel : Carousel) (page : Page) (items : List ItemShape) (v : World) → runs (at_start_with carousel page) items ≡ Ok v → length v.core.kept ≤ 4194304
-few_strokes carousel page items v e = subst FewAfter e (few_by_items items (at_start_with carousel page) (omega arith))
+pub few_strokes : (encoding : Encoding) (carousel : Carousel) (page : Page) (items : List ItemShape) (v : World)
+    → runs (at_start_with encoding carousel page) items ≡ Ok v → length v.core.kept ≤ 4194304
+few_strokes encoding carousel page items v e =
+    subst FewAfter e (few_by_items items (at_start_with encoding carousel page) (omega arith))

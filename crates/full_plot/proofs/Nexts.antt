@@ -1,5 +1,5 @@
 -- What steps of core leave alone in the profile full: all but core, the run, the margin, and how many strokes there are.
-use Rattle.std.proofs.Common.{◌≡◌, ◌∙◌, ◌<◌, ◌≤◌, ℕ, inl, inr, refl, arith, Bool, true, false, true≢false, sym, ap, max, List, [], ◌∷◌, ◌++◌, length, map, nat_eq, nat_lt, pos, neg_ℤ, Option, Some, None, length-append, ℤ}
+use Rattle.std.proofs.Common.{◌≡◌, ◌∙◌, ◌<◌, ◌≤◌, ℕ, inl, inr, refl, arith, Bool, true, false, true≢false, subst, sym, ap, max, List, [], ◌∷◌, ◌++◌, length, map, nat_eq, nat_lt, pos, neg_ℤ, Option, Some, None, length-append, ℤ}
 use Rattle.std.specs.Prelude.{⊤}
 use Rattle.std.specs.List.{list_all}
 use Rattle.std.proofs.lemmas.Bool.{cases_Bool}
@@ -15,6 +15,9 @@ use Rattle.hpgl_plot.specs.Machine as core
 use Rattle.full_settings.specs.declared.character_moves.CharacterMove.{CharacterMove}
 use Rattle.full_settings.specs.declared.character_moves.CharacterMove.TheVariants.{ToMargin, By}
 use Rattle.line_types.specs.declared.run.Run.{Run}
+use Rattle.character_sets.specs.Signs.{sets_after}
+use Rattle.character_sets.specs.declared.sets.Sets.{Sets}
+use Rattle.character_sets.specs.declared.sign.Sign.{Sign}
 use Rattle.lettering.specs.Cells.{cell_offset}
 use Rattle.lettering.specs.Labels.{label_end, label_strokes, margin_move}
 use Rattle.lettering.specs.Letters.{centred}
@@ -30,7 +33,7 @@ use Rattle.polygons.specs.Buffers.{Contents}
 use Rattle.full_plot.specs.Lines.{line_step, lines_of}
 use Rattle.full_plot.specs.Machine.{core_step, marked, marked_in, moved, touched_in}
 use Rattle.full_plot.specs.Polygons.{lined_by, lined_step, only_figure, trace_step, with_buffer}
-use Rattle.full_plot.specs.Texts.{at_margin, inked_at_pen, label_by, line_at, margin_by, marked_by, moved_by, moved_on, put, style_of, tick_distance, tick_end, ticked, with_margin, written}
+use Rattle.full_plot.specs.Texts.{at_margin, if_short, inked_at_pen, label_by, labelled, line_at, margin_by, marked_by, moved_by, moved_on, put, signs_of, style_of, then_shifted, tick_distance, tick_end, ticked, with_margin}
 use Rattle.full_plot.specs.Worlds.{World, followed, with_core}
 
 -- core keeps no more strokes than a plot may have, if it had no more before
@@ -88,18 +91,24 @@ few_inked c strokes = few_all (map (line_at c.state.place) strokes) c true
 few_at : (c : core.World) (q : Spot) → FewIn c (put c q)
 few_at c q = few_put c (pen_placed c.page c.state.frame q)
 
-few_label : (style : Style) (c : core.World) (bytes : List ℕ) → FewIn c (label_by style c bytes)
-few_label style c bytes = elim (cases_Bool (nat_lt 4294967296 (length bytes))) [
+few_label : (style : Style) (c : core.World) (signs : List Sign) → FewIn c (label_by style c signs)
+few_label style c signs =
+    few_then c (inked_at_pen c (label_strokes style signs))
+    (λ (d : core.World). put d (moved_by c.state.place (label_end style signs)))
+    (few_inked c (label_strokes style signs))
+    (λ (d : core.World). few_at d (moved_by c.state.place (label_end style signs)))
+
+few_if_short : (c : core.World) (text : List ℕ) (o : Option core.World) → FewIn c o → FewIn c (if_short text o)
+few_if_short c text o h = elim (cases_Bool (nat_lt 67108864 (length text))) [
   | inl i ↦ rw i tt
-  | inr i ↦ rw i (few_then c (inked_at_pen c (label_strokes style bytes))
-      (λ (d : core.World). put d (moved_by c.state.place (label_end style bytes)))
-      (few_inked c (label_strokes style bytes))
-      (λ (d : core.World). few_at d (moved_by c.state.place (label_end style bytes))))
+  | inr i ↦ rw i h
 ]
 
 -- from one world to a later one
 pub record IsNext (w v : World) : Type 0 where
   pub style_is : v.style ≡ w.style
+  pub encoding_is : v.encoding ≡ w.encoding
+  pub characters_are : v.characters ≡ w.characters
   pub writing_is : v.writing ≡ w.writing
   pub extra_is : v.extra ≡ w.extra
   pub ends_are : v.ends ≡ w.ends
@@ -114,6 +123,8 @@ NextIn w (Some v) = IsNext w v
 pub next_same : (w : World) → IsNext w w
 next_same w = record {
   style_is = refl;
+  encoding_is = refl;
+  characters_are = refl;
   writing_is = refl;
   extra_is = refl;
   ends_are = refl;
@@ -125,6 +136,8 @@ next_same w = record {
 pub next_of_next : (w v u : World) → IsNext w v → IsNext v u → IsNext w u
 next_of_next w v u h k = record {
   style_is = k.style_is ∙ h.style_is;
+  encoding_is = k.encoding_is ∙ h.encoding_is;
+  characters_are = k.characters_are ∙ h.characters_are;
   writing_is = k.writing_is ∙ h.writing_is;
   extra_is = k.extra_is ∙ h.extra_is;
   ends_are = k.ends_are ∙ h.ends_are;
@@ -145,6 +158,8 @@ next_by : (w : World) (c : core.World) (r : Option Run) (q : Spot) → (length w
     → IsNext w (record w { core = c; run = r; margin = q })
 next_by w c r q h = record {
   style_is = refl;
+  encoding_is = refl;
+  characters_are = refl;
   writing_is = refl;
   extra_is = refl;
   ends_are = refl;
@@ -158,6 +173,8 @@ next_with_buffer : (w : World) (c : core.World) (b : Contents) → (length w.cor
     → (w.context.in_polygon ≡ false → w.buffer.places ≤ 4194304 → b.places ≤ 4194304) → IsNext w (record w { core = c; buffer = b })
 next_with_buffer w c b h k = record {
   style_is = refl;
+  encoding_is = refl;
+  characters_are = refl;
   writing_is = refl;
   extra_is = refl;
   ends_are = refl;
@@ -214,14 +231,25 @@ next_kept_buffer w b (Some v) few h = next_of_next w v (record v { buffer = b })
 next_marked : (w : World) (symbol : Option ℕ) → NextIn w (marked_by symbol w)
 next_marked w None = next_same w
 next_marked w (Some byte) =
-    let strokes : List (Spot × Spot) = label_strokes (centred (style_of w)) (byte ∷ []) in
+    let strokes : List (Spot × Spot) = label_strokes (centred (style_of w)) (signs_of w (byte ∷ [])) in
     next_with_core w (inked_at_pen w.core strokes) (few_inked w.core strokes)
 
-pub next_written : (w : World) (bytes : List ℕ) → NextIn w (written w bytes)
-next_written w bytes =
-    let o : Option core.World = label_by (style_of w) w.core bytes in
-    next_margin w (margin_by w.margin (margin_move (style_of w) bytes)) (with_core w o)
-    (next_with_core w o (few_label (style_of w) w.core bytes))
+pub next_labelled : (w : World) (text : List ℕ) → NextIn w (labelled w text)
+next_labelled w text =
+    let style : Style = style_of w in
+    let signs : List Sign = signs_of w text in
+    let o : Option core.World = if_short text (label_by style w.core signs) in
+    next_margin w (margin_by w.margin (margin_move style signs)) (with_core w o)
+    (next_with_core w o (few_if_short w.core text (label_by style w.core signs) (few_label style w.core signs)))
+
+-- a text that selects no set
+abbrev pub IsUnshifted : List ℕ → Type 0
+IsUnshifted text = (sets : Sets) → sets_after sets text ≡ sets
+
+pub same_sets : (text : List ℕ) (o : Option World) → IsUnshifted text → then_shifted text o ≡ o
+same_sets text None h = refl
+same_sets text (Some v) h =
+    ap (λ (sets : Sets). Some (record v { characters = record v.characters { sets = sets } })) (h v.characters.sets)
 
 next_put : (w : World) (q p : Spot) → NextIn w (with_margin q (with_core w (put w.core p)))
 next_put w q p = next_margin w q (with_core w (put w.core p)) (next_with_core w (put w.core p) (few_at w.core p))
@@ -256,18 +284,24 @@ next_go w t =
     next_then w (lined_step w t) (λ (v : World). marked (at_margin v)) (next_lined_step w t)
     (λ (v : World). next_past v (at_margin v) (marked (at_margin v)) (next_at_margin v) (next_symbol v.context.in_polygon (at_margin v)))
 
-pub next_core_step : (w : World) (t : Step) → NextIn w (core_step w t)
-next_core_step w (Move x y) = next_go w (Move x y)
-next_core_step w (Go relative x y) = next_go w (Go relative x y)
-next_core_step w Touch = next_touched w.context.in_polygon w
-next_core_step w (DrawArc relative a) =
+-- a step that selects no set
+abbrev pub KeepsSets : Step → Type 0
+KeepsSets (Write text) = IsUnshifted text
+KeepsSets _ = ⊤
+
+pub next_core_step : (w : World) (t : Step) → KeepsSets t → NextIn w (core_step w t)
+next_core_step w (Move x y) k = next_go w (Move x y)
+next_core_step w (Go relative x y) k = next_go w (Go relative x y)
+next_core_step w Touch k = next_touched w.context.in_polygon w
+next_core_step w (DrawArc relative a) k =
     next_then w (lined_step w (DrawArc relative a)) (λ (v : World). Some (at_margin v)) (next_lined_step w (DrawArc relative a)) next_at_margin
-next_core_step w (Edge relative x y) =
+next_core_step w (Edge relative x y) k =
     next_kept_buffer w (only_figure (lines_of w.core.page w.core.state (Edge relative x y))) (line_step w (Edge relative x y))
     (edge_places w relative x y) (next_line w (Edge relative x y))
-next_core_step w (DrawCircle c) = next_lined_step w (DrawCircle c)
-next_core_step w (Write bytes) = next_written w bytes
-next_core_step w t = next_core w t
+next_core_step w (DrawCircle c) k = next_lined_step w (DrawCircle c)
+next_core_step w (Write text) k =
+    subst (λ (o : Option World). NextIn w o) (sym (same_sets text (labelled w text) k)) (next_labelled w text)
+next_core_step w t k = next_core w t
 
 -- a curve
 next_drawn_over : (w : World) (places : List Spot) → NextIn w (drawn_over w places)

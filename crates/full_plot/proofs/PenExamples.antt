@@ -2,6 +2,7 @@
 use Rattle.std.proofs.Common.{◌≡◌, ℕ, List, [], ◌∷◌, refl}
 use Rattle.std.specs.Prelude.{codes}
 use Rattle.exact.specs.Roots.{root_by}
+use Rattle.character_sets.specs.declared.encoding.Encoding.TheVariants.{ByPlot}
 use Rattle.carousel.specs.Carousels.{empty}
 use Rattle.carousel.proofs.Examples.{fine_and_orange}
 use Rattle.plot_page.specs.Segments.{Segment}
@@ -15,7 +16,7 @@ use Rattle.full_plot.specs.Polygons.{trace_step}
 use Rattle.full_plot.proofs.PlotExamples.{line, page}
 
 abbrev strokes : List ℕ → List Segment
-strokes plot = strokes_in (outcome_with fine_and_orange page plot)
+strokes plot = strokes_in (outcome_with ByPlot fine_and_orange page plot)
 
 -- of pen 2, and of pen 3
 abbrev fine : ℕ → ℕ → ℕ → ℕ → Segment

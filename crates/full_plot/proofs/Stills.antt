@@ -1,4 +1,4 @@
--- Instructions of core that leave its direction as it is: all but IN, DF and DI.
+-- Instructions of core that leave the direction and the size of labels as they are: all but IN, DF, DI and SI.
 use Rattle.std.proofs.Common.{◌≡◌, Bool, true, false, inl, inr, ℤ, pos, List, [], ◌∷◌, ◌++◌, Option, Some, None}
 use Rattle.std.specs.Prelude.{if◌then◌else◌, ⊤}
 use Rattle.std.specs.Ordering.{int_eq}
@@ -10,7 +10,7 @@ use Rattle.hpgl_text.specs.declared.instruction.Instruction.TheVariants.{Initial
 use Rattle.plot_frame.specs.declared.pair.Pair.{Pair}
 use Rattle.plot_frame.specs.declared.scaling.Range.{Range}
 use Rattle.plot_settings.specs.Meanings.{Step, Set, DrawCircle, DrawArc, asks, edges, entry_steps, lowered_then, meaning, moves, part_steps, sets}
-use Rattle.plot_settings.specs.Parameters.{anisotropic, arced, circled, character_size, isotropic_by, pen_colour, pen_width, point_factor, ranges_of, rotated, rotation_set, scaling_of_type, scaling_points, selected_pen, user_scaling, when, whole_of, window_corners}
+use Rattle.plot_settings.specs.Parameters.{anisotropic, arced, circled, isotropic_by, pen_colour, pen_width, point_factor, ranges_of, rotated, rotation_set, scaling_of_type, scaling_points, selected_pen, user_scaling, when, whole_of, window_corners}
 use Rattle.plot_settings.specs.declared.figure.Arc.{Arc}
 use Rattle.plot_settings.specs.declared.figure.Circle as circle
 use Rattle.plot_settings.specs.declared.setting.Rotation.TheVariants as rotation
@@ -101,11 +101,6 @@ colour_still (p ∷ (r ∷ [])) = tt
 colour_still (p ∷ (r ∷ (g ∷ []))) = tt
 colour_still (p ∷ (r ∷ (g ∷ (b ∷ ns)))) = when_still _ _ (λ d page s h. h, tt)
 
-size_still : (ns : List ℤ) → StillIn (character_size ns)
-size_still [] = (λ d page s h. h, tt)
-size_still (w ∷ []) = tt
-size_still (w ∷ (h ∷ ns)) = when_still _ _ (λ d page s h. h, tt)
-
 -- steps
 sets_still : (s : Option Setting) → StillIn s → AllStill (sets s).steps
 sets_still None h = tt
@@ -133,14 +128,15 @@ arc_still : (relative : Bool) (a : Option Arc) → AllStill (asks (DrawArc relat
 arc_still relative None = tt
 arc_still relative (Some a) = ((λ d page s h. h, tt), tt)
 
--- IN, DF and DI have other rules
-abbrev pub turns_labels : Instruction → Bool
-turns_labels Initialize = true
-turns_labels DefaultValues = true
-turns_labels Direction = true
-turns_labels _ = false
+-- IN, DF, DI and SI have other rules
+abbrev pub sets_labels : Instruction → Bool
+sets_labels Initialize = true
+sets_labels DefaultValues = true
+sets_labels CharacterSize = true
+sets_labels Direction = true
+sets_labels _ = false
 
-pub params_still : (i : Instruction) (ns : List ℤ) → turns_labels i ≡ false → AllStill (meaning i ns).steps
+pub params_still : (i : Instruction) (ns : List ℤ) → sets_labels i ≡ false → AllStill (meaning i ns).steps
 params_still Initialize ns h = absurd (cc h)
 params_still DefaultValues ns h = absurd (cc h)
 params_still InputPoints ns h = sets_still (scaling_points ns) (points_still ns)
@@ -159,7 +155,7 @@ params_still EdgeRelative ns h = edges_still true ns
 params_still Circle ns h = circle_still (circled ns)
 params_still ArcAbsolute ns h = arc_still false (arced ns)
 params_still ArcRelative ns h = arc_still true (arced ns)
-params_still CharacterSize ns h = sets_still (character_size ns) (size_still ns)
+params_still CharacterSize ns h = absurd (cc h)
 params_still Direction ns h = absurd (cc h)
 
 -- a PE

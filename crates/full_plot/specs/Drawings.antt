@@ -2,6 +2,8 @@
 use Rattle.std.specs.Prelude.{◌≡◌, ℕ, ◌+◌, ◌-◌, List, [], ◌∷◌, length, take, drop, nat_eq, nat_lt, slice_index_or}
 use Rattle.std.specs.Prelude.{Bool, ◌||◌, if◌then◌else◌, Option, Some, None, Result, Ok, Err, ⊤}
 use Rattle.carousel.specs.declared.carousel.Carousel.{Carousel}
+use Rattle.character_sets.specs.declared.encoding.Encoding.{Encoding}
+use Rattle.character_sets.specs.declared.encoding.Encoding.TheVariants.{ByPlot}
 use Rattle.plot_page.specs.declared.page.Page.{Page}
 use Rattle.plot_page.specs.Segments.{Segment}
 use Rattle.plot_page.specs.declared.stroke.TheConstants.{MOST_STROKES}
@@ -13,6 +15,7 @@ use Rattle.hpgl_plot.specs.declared.fault.PlotFault.TheVariants as fault
 use Rattle.hpgl_plot.specs.Machine as core
 pub use Rattle.hpgl_plot.specs.Machine.{CarriesOut}
 use Rattle.full_plot.specs.Items.{taken}
+use Rattle.full_settings.specs.Characters.{usual_characters}
 use Rattle.full_settings.specs.LineStyles.{usual_style}
 use Rattle.full_settings.specs.Widths.{all_percents}
 use Rattle.full_notes.specs.Contexts.{first_context}
@@ -20,7 +23,7 @@ use Rattle.full_plot.specs.Worlds.{World, usual_area, usual_writing}
 use Rattle.polygons.specs.Buffers.{empty}
 use Rattle.full_plot.specs.Machine.{ends_with}
 
--- before the first item
+-- before the first item, if texts are read by the sets that the plot chooses
 abbrev pub at_start : Page → World
 at_start page = record {
   core = core.at_start page;
@@ -28,6 +31,8 @@ at_start page = record {
   style = usual_style;
   run = None;
   percents = all_percents None;
+  encoding = ByPlot;
+  characters = usual_characters;
   writing = usual_writing;
   margin = (core.at_start page).state.place;
   area = usual_area;
@@ -36,9 +41,10 @@ at_start page = record {
   ends = [];
 }
 
--- with the pens of a carousel
-abbrev pub at_start_with : Carousel → Page → World
-at_start_with carousel page = record (at_start page) { core = core.at_start_with carousel page }
+-- with texts read as the user says, and the pens of a carousel
+abbrev pub at_start_with : Encoding → Carousel → Page → World
+at_start_with encoding carousel page =
+    record (at_start page) { core = core.at_start_with carousel page; encoding = encoding }
 
 -- there were more strokes than may be kept, or those that are kept are too many with the work that counts besides, or
 -- the buffer has as many places
@@ -58,8 +64,8 @@ runs w (i ∷ more) = ended (taken w i.body) i.at (λ (v : World). runs v more)
 abbrev pub outcome : Page → List ℕ → Result World PlotFault
 outcome page plot = runs (at_start page) (cut_by Full plot)
 
-abbrev pub outcome_with : Carousel → Page → List ℕ → Result World PlotFault
-outcome_with carousel page plot = runs (at_start_with carousel page) (cut_by Full plot)
+abbrev pub outcome_with : Encoding → Carousel → Page → List ℕ → Result World PlotFault
+outcome_with encoding carousel page plot = runs (at_start_with encoding carousel page) (cut_by Full plot)
 
 -- the refusal of a plot, or None if it is accepted
 abbrev pub refusal_in : Result World PlotFault → Option PlotFault

@@ -11,7 +11,7 @@ use Rattle.plot_settings.specs.Meanings.{Step, Set, meaning, sets, body_steps}
 use Rattle.full_settings.specs.declared.requests.FurtherRequest.{FurtherRequest}
 use Rattle.full_settings.specs.declared.requests.FurtherRequest.TheVariants as request
 use Rattle.full_settings.specs.declared.letter_setting.LetterSetting.{LetterSetting}
-use Rattle.full_settings.specs.declared.letter_setting.LetterSetting.TheVariants.{AbsoluteSize}
+use Rattle.full_settings.specs.declared.letter_setting.LetterSetting.TheVariants.{AbsoluteSize, FontSize}
 use Rattle.full_settings.specs.declared.width_setting.WidthSetting.{WidthSetting}
 use Rattle.full_settings.specs.ColourRanges.{pen_colour_in}
 use Rattle.full_settings.specs.CurveParameters.{curve_points}
@@ -20,7 +20,8 @@ use Rattle.full_settings.specs.WidthParameters.{percent_width}
 use Rattle.full_notes.specs.Contexts.{Context, read_in, request_in}
 use Rattle.full_notes.specs.Notes.{context_after}
 use Rattle.full_plot.specs.Worlds.{World}
-use Rattle.full_plot.specs.Machine.{FullStep, Core, Style, Restyle, Restart, Widen, Rewiden, PointsBy, Letter, Mark}
+use Rattle.full_plot.specs.Machine.{FullStep, Core, Style, Restyle, Restart, Widen, Rewiden, PointsBy, Letter}
+use Rattle.full_plot.specs.Machine.{CharactersBy, Mark}
 use Rattle.full_plot.specs.Machine.{Keep, Print, Place, TickBy, Tick, ArcThrough, Curve, PolygonBy, EdgeBuffer}
 use Rattle.full_plot.specs.Machine.{FillBuffer, FillBy, AnchorBy, Rectangle, WedgeEdge, WedgeFill, EndSheet, run}
 
@@ -29,6 +30,7 @@ abbrev pub request_steps : FurtherRequest → List ℤ → List FullStep
 request_steps (request.Line s) ns = Style s ∷ []
 request_steps (request.Width s) ns = Widen s ∷ []
 request_steps (request.Letter s) ns = Letter s ∷ []
+request_steps (request.Characters s) ns = CharactersBy s ∷ []
 request_steps (request.Ticks t) ns = TickBy t ∷ []
 request_steps (request.Points p) ns = PointsBy p ∷ []
 request_steps (request.Colours r) ns = []
@@ -55,13 +57,18 @@ abbrev pub letters_steps : Option LetterSetting → List FullStep
 letters_steps (Some s) = Letter s ∷ []
 letters_steps None = []
 
+-- where the size of letters comes from after a good SI: from its numbers, or without numbers from the font
+abbrev pub size_by : List ℤ → LetterSetting
+size_by [] = FontSize
+size_by _ = AbsoluteSize
+
 -- what an instruction of core does besides: IN and DF restore what else is set; after a good IP widths in percent are
 -- taken of the new P1 and P2; a good SI sets the size that SR had set; DI keeps its numbers
 abbrev pub more_steps : Instruction → List ℤ → List FullStep
 more_steps Initialize ns = Restart ∷ []
 more_steps DefaultValues ns = Restyle ∷ []
 more_steps InputPoints ns = if (meaning InputPoints ns).is_wrong then [] else Rewiden ∷ []
-more_steps CharacterSize ns = if (meaning CharacterSize ns).is_wrong then [] else Letter AbsoluteSize ∷ []
+more_steps CharacterSize ns = if (meaning CharacterSize ns).is_wrong then [] else Letter (size_by ns) ∷ []
 more_steps Direction ns = letters_steps (direction ns)
 more_steps _ ns = []
 

@@ -1,10 +1,13 @@
 -- Items of core have the same effect in both profiles.
-use Rattle.std.specs.Prelude.{◌≡◌, ℤ, ◌^◌, nat_lt, Bool, true, false, not, List, [], ◌∷◌, length, Option, Some, None, Result, Ok, Err}
-use Rattle.std.specs.List.{All}
+use Rattle.std.specs.Prelude.{◌≡◌, ℕ, ℤ, ◌^◌, nat_lt, Bool, true, false, IsTrue, not, ◌&&◌, List, [], ◌∷◌, length, Option, Some, None, Result, Ok, Err}
+use Rattle.std.specs.List.{All, list_all}
+use Rattle.character_sets.specs.Ascii.{reads_ascii}
+use Rattle.character_sets.specs.declared.encoding.Encoding.{Encoding}
+use Rattle.lettering.specs.CoreTexts.{is_core_byte}
 use Rattle.carousel.specs.declared.carousel.Carousel.{Carousel}
 use Rattle.plot_page.specs.Segments.{Segment}
 use Rattle.plot_page.specs.declared.page.Page.{Page}
-use Rattle.hpgl_text.specs.Shapes.{ItemShape, BodyShape, Params, Further, Label, Kept, Symbol, Known}
+use Rattle.hpgl_text.specs.Shapes.{ItemShape, BodyShape, Params, Further, Label, Terminator, Kept, Symbol, Known}
 use Rattle.hpgl_text.specs.declared.further.Further.TheVariants.{BeginPlot, BezierAbsolute, BezierRelative}
 use Rattle.hpgl_text.specs.declared.instruction.Instruction.TheVariants.{Initialize, PenUp, PenDown, PlotAbsolute, PlotRelative}
 use Rattle.plot_settings.specs.Slants.{is_off_axis}
@@ -13,17 +16,23 @@ use Rattle.hpgl_plot.specs.declared.fault.PlotFault.{PlotFault}
 use Rattle.hpgl_plot.specs.Machine as core
 use Rattle.hpgl_plot.specs.Strokes.{strokes, strokes_with, refusal, refusal_with}
 use Rattle.hpgl_plot.specs.Notes as noting
+use Rattle.full_settings.specs.Characters.{usual_characters}
 use Rattle.full_plot.specs.Drawings.{at_start, at_start_with, runs, refusal_in, strokes_in, ends_in}
 use Rattle.full_plot.specs.Worlds.{World}
 use Rattle.full_notes.specs.Notes.{body_noted, context_after, notes}
 use Rattle.full_plot.specs.Items.{taken}
 
--- what only the profile full reads is not of core, nor is a DI along no axis; nor is a label of more than 2^32 bytes,
--- which only the profile full refuses: no plot has one, since it has at most 67,108,864 bytes
+-- what only the profile full reads is not of core, nor is a DI along no axis, or a terminator that is printed; nor is a
+-- label with a small letter, a byte over 127, BS, HT, SO or SI; nor one of more than 2^26 bytes, which only the profile
+-- full refuses: no plot has one, since it has at most so many bytes itself
+abbrev pub is_core_label : List ℕ → Bool
+is_core_label text = not (nat_lt (2 ^ 26) (length text)) && list_all is_core_byte text
+
 abbrev pub is_core_body : BodyShape → Bool
 is_core_body (Params instruction ns) = not (is_off_axis instruction ns)
 is_core_body (Further f ns) = false
-is_core_body (Label bytes) = not (nat_lt (2 ^ 32) (length bytes))
+is_core_body (Label text) = is_core_label text
+is_core_body (Terminator terminator) = not terminator.is_printed
 is_core_body (Kept bytes) = false
 is_core_body (Symbol byte) = false
 is_core_body Known = false
@@ -50,10 +59,13 @@ abbrev pub CoreDrawsAsInCore : Type 0
 CoreDrawsAsInCore = (page : Page) (items : List ItemShape) → All IsCoreItem items
     → Draws (runs (at_start page) items) (refusal page items) (strokes page items)
 
--- the same with the same pens in both
+-- the same with the same pens in both, if texts are read by a set that has ASCII, or as UTF-8
 abbrev pub CoreDrawsAsInCoreWith : Type 0
-CoreDrawsAsInCoreWith = (carousel : Carousel) (page : Page) (items : List ItemShape) → All IsCoreItem items
-    → Draws (runs (at_start_with carousel page) items) (refusal_with carousel page items) (strokes_with carousel page items)
+CoreDrawsAsInCoreWith =
+    (encoding : Encoding) (carousel : Carousel) (page : Page) (items : List ItemShape)
+    → IsTrue (reads_ascii encoding usual_characters.sets) → All IsCoreItem items
+    → Draws (runs (at_start_with encoding carousel page) items)
+    (refusal_with carousel page items) (strokes_with carousel page items)
 
 -- what is noted on them
 abbrev pub CoreNotedAsInCore : Type 0
@@ -81,6 +93,7 @@ abbrev pub started_again : World → World
 started_again w = record (at_start w.core.page) {
   core = record w.core { state = (core.at_start_with w.core.state.carousel w.core.page).state };
   percents = w.percents;
+  encoding = w.encoding;
   extra = w.extra;
   ends = w.ends;
 }

@@ -5,7 +5,6 @@ use Rattle.std.specs.Prelude.{if◌then◌else◌, Option, Some, None}
 use Rattle.plot_page.specs.declared.page.Page.{Page}
 use Rattle.exact.specs.declared.spot.Spot.{Spot}
 use Rattle.polygons.specs.Buffers.{empty}
-use Rattle.hpgl_text.specs.Cut.{last_or}
 use Rattle.plot_settings.specs.Meanings.{Step, Set, Touch, Move, Go, Edge, DrawCircle, DrawArc, Write}
 use Rattle.plot_settings.specs.declared.figure.Corner.{Corner}
 use Rattle.plot_settings.specs.declared.setting.Rotation.{Rotation}
@@ -15,6 +14,7 @@ use Rattle.hpgl_plot.specs.declared.state.State.{State}
 use Rattle.hpgl_plot.specs.Machine as core
 pub use Rattle.hpgl_plot.specs.Machine.{Runs}
 use Rattle.full_settings.specs.declared.character_moves.CharacterMove.{CharacterMove}
+use Rattle.full_settings.specs.declared.character_setting.CharacterSetting.{CharacterSetting}
 use Rattle.full_settings.specs.declared.letter_setting.LetterSetting.{LetterSetting}
 use Rattle.full_settings.specs.declared.line_setting.LineSetting.{LineSetting}
 use Rattle.full_settings.specs.declared.page_points.RelativePoints.{RelativePoints}
@@ -27,6 +27,7 @@ use Rattle.full_settings.specs.declared.polygon_setting.PolygonStep.{PolygonStep
 use Rattle.full_settings.specs.declared.polygon_setting.Wedge.{Wedge}
 use Rattle.full_settings.specs.declared.tick_length.TickLength.{TickLength}
 use Rattle.full_settings.specs.declared.width_setting.WidthSetting.{WidthSetting}
+use Rattle.full_settings.specs.Characters.{characters_with, usual_characters}
 use Rattle.full_settings.specs.FillParameters.{fill_with}
 use Rattle.full_settings.specs.LineStyles.{style_with, usual_style, diagonal}
 use Rattle.full_settings.specs.RelativePoints.{setting_of}
@@ -117,11 +118,18 @@ abbrev pub then_rewidened : Option World → Option World
 then_rewidened None = None
 then_rewidened (Some w) = Some (rewidened w)
 
--- DF, besides what it does in core: the line style, what is set for labels and how polygons are filled are those of the
--- start, and the buffer is empty
+-- DF, besides what it does in core: the line style, the sets and fonts, what is set for labels and how polygons are
+-- filled are those of the start, and the buffer is empty
 abbrev pub restyled : World → World
 restyled w =
-    record w { style = usual_style; run = None; writing = usual_writing; area = usual_area; buffer = empty }
+    record w {
+      style = usual_style;
+      run = None;
+      characters = usual_characters;
+      writing = usual_writing;
+      area = usual_area;
+      buffer = empty;
+    }
 
 -- IN and BP, besides: the left margin is where the pen is
 abbrev pub restarted : World → World
@@ -146,7 +154,7 @@ then_filled None = None
 then_filled (Some w) = Some (filled false w)
 
 -- a step of core; what LT or UL sets; what DF and what IN do besides; what WU, PT or a PW in percent sets; widths by
--- other P1 and P2; P1 and P2 by IR; what SR, SL, DI, DR, ES, LO or DV sets; the symbol of SM; the text of BL, and PB; a
+-- other P1 and P2; P1 and P2 by IR; what SR, SL, DI, DR, ES, LO or DV sets; what CS, CA, SS, SA, SD or AD sets; the symbol of SM; the text of BL, and PB; a
 -- CP; what TL sets, and XT or YT; an AT or an RT, and a curve of BZ or BR; a PM; EP, and FP by winding or not; what FT
 -- and AC set; an RA or an RR; an EW, and a WG; the end of a sheet
 pub data FullStep : Type 0 where
@@ -158,6 +166,7 @@ pub data FullStep : Type 0 where
   Rewiden : FullStep
   PointsBy : RelativePoints → FullStep
   Letter : LetterSetting → FullStep
+  CharactersBy : CharacterSetting → FullStep
   Mark : Option ℕ → FullStep
   Keep : List ℕ → FullStep
   Print : FullStep
@@ -178,7 +187,9 @@ pub data FullStep : Type 0 where
 
 -- a sheet ends if it has a stroke; no strokes are taken from one sheet to the next
 abbrev pub last_end : List ℕ → ℕ
-last_end ends = last_or 0 ends
+last_end [] = 0
+last_end (end ∷ []) = end
+last_end (end ∷ (next ∷ ends)) = last_end (next ∷ ends)
 
 abbrev pub ends_with : List ℕ → ℕ → List ℕ
 ends_with ends count = if nat_lt (last_end ends) count then ends ++ count ∷ [] else ends
@@ -193,6 +204,7 @@ step w (Widen s) = Some (widened s w)
 step w Rewiden = Some (rewidened w)
 step w (PointsBy p) = then_rewidened (with_core w (core.step w.core (Set (points_set w p))))
 step w (Letter s) = Some (lettered s w)
+step w (CharactersBy s) = Some (record w { characters = characters_with s w.characters })
 step w (Mark byte) = Some (record w { writing = record w.writing { symbol = byte } })
 step w (Keep bytes) = Some (record w { writing = record w.writing { text = bytes } })
 step w Print = printed w
@@ -222,6 +234,8 @@ seen p = record {
   style = p.style;
   run = p.run;
   percents = p.percents;
+  encoding = p.encoding;
+  characters = p.characters;
   writing = p.writing;
   margin = p.margin;
   area = p.area;

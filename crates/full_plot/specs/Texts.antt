@@ -7,6 +7,8 @@ use Rattle.directions.specs.Directions.{turned}
 use Rattle.directions.specs.Laws.{right}
 use Rattle.directions.specs.declared.turn.Turn.{Turn}
 use Rattle.directions.specs.declared.turn.Turn.TheVariants as turn
+use Rattle.character_sets.specs.Texts.{signs}
+use Rattle.character_sets.specs.declared.sign.Sign.{Sign}
 use Rattle.lettering.specs.Cells.{cell_offset}
 use Rattle.lettering.specs.Labels.{label_strokes, label_end, margin_move}
 use Rattle.lettering.specs.Letters.{centred}
@@ -21,6 +23,7 @@ use Rattle.full_settings.specs.declared.character_moves.CharacterMove.{Character
 use Rattle.full_settings.specs.declared.character_moves.CharacterMove.TheVariants.{ToMargin, By}
 use Rattle.full_settings.specs.declared.letter_setting.LetterSetting.{LetterSetting}
 use Rattle.full_settings.specs.declared.letter_setting.LetterSetting.TheVariants as setting
+use Rattle.full_settings.specs.Characters.{characters_after, selected_font}
 use Rattle.full_settings.specs.LineStyles.{distance}
 use Rattle.full_settings.specs.Letters.{letters_with, style_in, grains_of_share}
 use Rattle.full_plot.specs.Worlds.{World, with_core}
@@ -35,7 +38,12 @@ turn_by rotation.ThreeQuarters = turn.ThreeQuarters
 -- how letters are written now
 abbrev pub style_of : World → Style
 style_of w =
-    let s = w.core.state in style_in w.writing.letters s.size s.frame.points (turn_by s.frame.rotation)
+    let s = w.core.state in
+    style_in w.writing.letters (selected_font w.characters) s.size s.frame.points (turn_by s.frame.rotation)
+
+-- the signs of a text, as it is read now
+abbrev pub signs_of : World → List ℕ → List Sign
+signs_of w text = signs w.encoding w.characters.sets text
 
 -- the style of core's labels
 abbrev pub core_style : State → Style
@@ -77,18 +85,33 @@ with_margin q (Some w) = Some (record w { margin = q })
 abbrev pub at_margin : World → World
 at_margin w = record w { margin = w.core.state.place }
 
--- a label: its strokes, and then the pen is at its end; one of more than 2^32 bytes is out of range, but no plot has
--- one, since it has at most 67,108,864 bytes
-abbrev pub label_by : Style → core.World → List ℕ → Option core.World
-label_by style v bytes =
-    if nat_lt (2 ^ 32) (length bytes) then None else
-    core.followed (inked_at_pen v (label_strokes style bytes)) (λ (u : core.World).
-    put u (moved_by v.state.place (label_end style bytes)))
+-- a label: its strokes, and then the pen is at its end
+abbrev pub label_by : Style → core.World → List Sign → Option core.World
+label_by style v signs =
+    core.followed (inked_at_pen v (label_strokes style signs)) (λ (u : core.World).
+    put u (moved_by v.state.place (label_end style signs)))
+
+-- a text of more than 2^26 bytes is out of range, but no plot has one, since it has at most so many bytes itself
+abbrev pub if_short : List ℕ → Option core.World → Option core.World
+if_short text o = if nat_lt (2 ^ 26) (length text) then None else o
 
 -- after a label the left margin is at the beginning of its last line
+abbrev pub labelled : World → List ℕ → Option World
+labelled w text =
+    let style = style_of w in
+    let signs = signs_of w text in
+    with_margin (margin_by w.margin (margin_move style signs)) (with_core w (if_short text (label_by style w.core signs)))
+
+-- SO and SI in a text select a set for what follows it, too
+abbrev pub shifted_by : List ℕ → World → World
+shifted_by text w = record w { characters = characters_after w.characters text }
+
+abbrev pub then_shifted : List ℕ → Option World → Option World
+then_shifted text None = None
+then_shifted text (Some w) = Some (shifted_by text w)
+
 abbrev pub written : World → List ℕ → Option World
-written w bytes =
-    with_margin (margin_by w.margin (margin_move (style_of w) bytes)) (with_core w (label_by (style_of w) w.core bytes))
+written w text = then_shifted text (labelled w text)
 
 -- the pen and the left margin at a place
 abbrev pub put_at_margin : World → Spot → Option World
@@ -103,10 +126,10 @@ moved_on w (By n) =
     with_margin (margin_by w.margin (cell_offset style (pos 0) (neg_ℤ n.y)))
     (with_core w (put w.core (moved_by w.core.state.place (cell_offset style n.x (neg_ℤ n.y)))))
 
--- the symbol at the pen, if one is set: a label of one letter, which is centred
+-- the symbol at the pen, if one is set: a label of its byte, which is centred
 abbrev pub marked_by : Option ℕ → World → Option World
 marked_by None w = Some w
-marked_by (Some byte) w = with_core w (inked_at_pen w.core (label_strokes (centred (style_of w)) (byte ∷ [])))
+marked_by (Some byte) w = with_core w (inked_at_pen w.core (label_strokes (centred (style_of w)) (signs_of w (byte ∷ []))))
 
 -- a point that far above the pen for XT, or to the right for YT, if the page is not turned
 abbrev pub tick_point : Bool → ℤ → Spot

@@ -3,7 +3,9 @@ use Rattle.std.specs.Prelude.{ℕ, pos, List, [], Option, Some, None}
 use Rattle.exact.specs.declared.spot.Spot.{Spot}
 use Rattle.line_types.specs.declared.run.Run.{Run}
 use Rattle.hpgl_plot.specs.Machine as core
+use Rattle.character_sets.specs.declared.encoding.Encoding.{Encoding}
 use Rattle.polygons.specs.Buffers.{Contents}
+use Rattle.full_settings.specs.Characters.{Characters}
 use Rattle.full_settings.specs.declared.tick_length.TickLength.{TickLength}
 use Rattle.full_settings.specs.FillParameters.{usual_fill}
 use Rattle.full_settings.specs.Letters.{LetterStyle, usual_letters}
@@ -33,8 +35,9 @@ abbrev pub usual_area : Area
 usual_area = record { fill = usual_fill; anchor = page_origin }
 
 -- what core has: the page, the state and the strokes; what decides how the next item is read; the line style, and the run
--- of its pattern; the widths of pens in percent, which have an effect while widths are in percent; what is set for
--- labels, and their left margin, a place; how polygons are filled, and the polygon buffer; how much work besides strokes
+-- of its pattern; the widths of pens in percent, which have an effect while widths are in percent; how the user reads
+-- texts, and the sets of characters and the fonts that the plot has chosen; what is set for labels, and their left margin, a
+-- place; how polygons are filled, and the polygon buffer; how much work besides strokes
 -- counts; for each sheet that has ended, how many strokes were made until then
 pub record World : Type 0 where
   pub core : core.World
@@ -42,6 +45,8 @@ pub record World : Type 0 where
   pub style : styles.Style
   pub run : Option Run
   pub percents : List (Option ℕ)
+  pub encoding : Encoding
+  pub characters : Characters
   pub writing : Writing
   pub margin : Spot
   pub area : Area

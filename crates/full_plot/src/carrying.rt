@@ -8,8 +8,9 @@ use crate::area::Area;
 use crate::plotter::FullPlotter;
 use crate::writing::Writing;
 use carousel::Carousel;
+use character_sets::Encoding;
 use full_notes::Context;
-use full_settings::{LineStyle, percent_of_all};
+use full_settings::{Characters, LineStyle, percent_of_all};
 use hpgl_plot::{NoteKind, PlotFault, Plotter, Stop};
 use hpgl_text::Item;
 use plot_page::{MOST_STROKES, Page};
@@ -21,12 +22,12 @@ impl FullPlotter {
     pub fn new(alloc: Global, page: &Page) -> FullPlotter
         ensures { seen result ≡ at_start page.now }
     {
-        FullPlotter::with_pens(alloc, page, &Carousel::empty())
+        FullPlotter::with(alloc, Encoding::ByPlot, page, &Carousel::empty())
     }
 
-    /// The same with the pens of a carousel.
-    pub fn with_pens(alloc: Global, page: &Page, carousel: &Carousel) -> FullPlotter
-        ensures { seen result ≡ at_start_with carousel.now page.now }
+    /// The same with texts read as the user says, and with the pens of a carousel.
+    pub fn with(alloc: Global, encoding: Encoding, page: &Page, carousel: &Carousel) -> FullPlotter
+        ensures { seen result ≡ at_start_with encoding carousel.now page.now }
     {
         let plotter = Plotter::with_pens(alloc, page, carousel);
         let margin = plotter.state.place;
@@ -36,6 +37,8 @@ impl FullPlotter {
             style: LineStyle::new(),
             run: None,
             percents: percent_of_all(None),
+            encoding,
+            characters: Characters::usual(),
             writing: Writing::usual(alloc),
             margin,
             area: Area::usual(),

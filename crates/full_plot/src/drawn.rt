@@ -10,6 +10,7 @@ ghost use Rattle.full_notes.specs.Notes as notes;
 use crate::plotter::FullPlotter;
 use crate::steps::last_end;
 use carousel::Carousel;
+use character_sets::Encoding;
 use hpgl_plot::{PlotFault, count_notes};
 use hpgl_text::{Items, Profile};
 use plot_page::{Page, Stroke};
@@ -49,29 +50,31 @@ pub fn draw_full(alloc: Global, text: &[u8], page: &Page) -> Result<FullDrawn, P
     ensures limit { IfOk result (λ drawn. length drawn.strokes.items ≤ MOST_STROKES) }
     ensures refused { IfErr result (λ fault. Explains fault (outcome page.now text.now)) }
 {
-    draw_full_with(alloc, text, page, &Carousel::empty())
+    draw_full_with(alloc, Encoding::ByPlot, text, page, &Carousel::empty())
 }
 
-/// The same with the pens of a carousel: a pen draws in its width and its colour there, if it has them,
+/// The same with the texts of labels read as the user says, whatever sets of characters the plot chooses, and with the
+/// pens of a carousel: a pen draws in its width and its colour there, if it has them,
 /// whatever the plot sets, and hatching is no denser than half that width. The lines of fills that have a
 /// width of their own keep it.
 pub fn draw_full_with(
     alloc: Global,
+    encoding: Encoding,
     text: &[u8],
     page: &Page,
     carousel: &Carousel,
 ) -> Result<FullDrawn, PlotFault>
-    ensures accepted { OnOk result (refusal_in (outcome_with carousel.now page.now text.now) ≡ None) }
+    ensures accepted { OnOk result (refusal_in (outcome_with encoding carousel.now page.now text.now) ≡ None) }
     ensures strokes { IfOk result
-        (λ drawn. drawn.strokes.items ≡ strokes_in (outcome_with carousel.now page.now text.now)) }
+        (λ drawn. drawn.strokes.items ≡ strokes_in (outcome_with encoding carousel.now page.now text.now)) }
     ensures ends { IfOk result
-        (λ drawn. drawn.ends.items ≡ ends_in (outcome_with carousel.now page.now text.now)) }
+        (λ drawn. drawn.ends.items ≡ ends_in (outcome_with encoding carousel.now page.now text.now)) }
     ensures notes { IfOk result (λ drawn. drawn.notes ≡ length (notes.notes (cut_by Full text.now))) }
     ensures limit { IfOk result (λ drawn. length drawn.strokes.items ≤ MOST_STROKES) }
-    ensures refused { IfErr result (λ fault. Explains fault (outcome_with carousel.now page.now text.now)) }
+    ensures refused { IfErr result (λ fault. Explains fault (outcome_with encoding carousel.now page.now text.now)) }
 {
     let mut items = Items::by_profile(Profile::Full, text);
-    let mut plotter = FullPlotter::with_pens(alloc, page, carousel);
+    let mut plotter = FullPlotter::with(alloc, encoding, page, carousel);
     let mut noted: usize = 0;
     'items: while let Some(item) = items.next() {
         let own = plotter.carry_out(&item)?;

@@ -60,6 +60,10 @@ impl FullPlotter {
                 self.letter(setting);
                 Ok(())
             }
+            FurtherRequest::Characters(setting) => {
+                self.characters.set(setting);
+                Ok(())
+            }
             FurtherRequest::Ticks(length) => {
                 self.set_ticks(length);
                 Ok(())

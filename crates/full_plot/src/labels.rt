@@ -3,6 +3,7 @@ ghost use Rattle.std.specs.Prelude.{◌≡◌, ◌≤◌, ◌^◌, length, nat_a
 ghost use Rattle.directions.specs.Bounds.{IsWithin};
 ghost use Rattle.full_settings.specs.CharacterMoves.{IsCharacterMove};
 ghost use Rattle.full_settings.specs.LetterParameters.{IsLetterSetting};
+ghost use Rattle.character_sets.specs.Texts.{signs};
 ghost use Rattle.lettering.specs.Labels.{margin_move};
 ghost use Rattle.hpgl_plot.specs.Machine as core;
 ghost use Rattle.full_plot.specs.Items.{letters_steps};
@@ -13,15 +14,16 @@ ghost use Rattle.full_plot.specs.Worlds.{with_core};
 use crate::core_labels::is_as_in_core;
 use crate::ink::{ink, margin_by, moved_by};
 use crate::plotter::FullPlotter;
+use character_sets::{Encoding, Sets, Signs};
 use directions::Turn;
 use exact::Spot;
 use full_settings::{CharacterMove, LetterSetting};
 use hpgl_plot::{Plotter, Stop};
-use lettering::Lettering;
+use lettering::{Lettering, is_core_text};
 use plot_settings::Rotation;
 
-// The most bytes of a label.
-const LONGEST: usize = 4_294_967_296;
+// The most bytes of a label, 2^26.
+const LONGEST: usize = 67_108_864;
 
 impl FullPlotter {
     /// LB: writes a text from the pen's place on.
@@ -29,7 +31,9 @@ impl FullPlotter {
         ensures { Runs (texts.written (seen self.old) text.now) (seen self.new) result }
     {
         let lettering = self.lettering();
-        self.margin = write_label(&mut self.plotter, &lettering, self.margin, text)?;
+        let reading = self.reading();
+        self.margin = write_label(&mut self.plotter, &lettering, self.margin, reading, text)?;
+        self.characters.pass_text(text);
         Ok(())
     }
 
@@ -38,9 +42,11 @@ impl FullPlotter {
         ensures { Runs (printed (seen self.old)) (seen self.new) result }
     {
         let lettering = self.lettering();
+        let reading = self.reading();
         let text = self.writing.text();
         let amount = text.len();
-        self.margin = write_label(&mut self.plotter, &lettering, self.margin, text)?;
+        self.margin = write_label(&mut self.plotter, &lettering, self.margin, reading, text)?;
+        self.characters.pass_text(text);
         self.work(amount);
         Ok(())
     }
@@ -94,7 +100,9 @@ impl FullPlotter {
         ensures { Runs (texts.marked_by (Some symbol) (seen self.old)) (seen self.new) result }
     {
         let lettering = self.lettering().centred();
-        ink(&mut self.plotter, lettering.strokes(&[symbol]))
+        let text = [symbol];
+        let signs = self.reading().signs(&text);
+        ink(&mut self.plotter, lettering.strokes(signs))
     }
 
     /// Sets what SR, SL, DI, DR, ES, LO or DV asks for.
@@ -124,8 +132,37 @@ impl FullPlotter {
     {
         let state = &self.plotter.state;
         let turn = turn_by(state.frame.rotation);
+        let font = self.characters.font();
         self.writing
-            .lettering(state.size, &state.frame.points, turn)
+            .lettering(font, state.size, &state.frame.points, turn)
+    }
+
+    // How texts are read now.
+    fn reading(&self) -> Reading
+        ensures encoding { result.encoding ≡ (seen self.now).encoding }
+        ensures sets { result.sets ≡ (seen self.now).characters.sets }
+    {
+        Reading {
+            encoding: self.encoding,
+            sets: self.characters.sets(),
+        }
+    }
+}
+
+// How texts are read: as the user says, or by the sets that the plot has chosen.
+#[derive(Clone, Copy)]
+struct Reading {
+    encoding: Encoding,
+    sets: Sets,
+}
+
+impl Reading {
+    // The signs of a text.
+    fn signs<'a>(self, text: &'a [u8]) -> Signs<'a>
+        ensures value { result ≡ signs self.encoding self.sets text.now }
+        ensures few { length result ≤ length text.now }
+    {
+        self.encoding.signs(self.sets, text)
     }
 }
 
@@ -134,44 +171,58 @@ fn write_label(
     plotter: &mut Plotter,
     lettering: &Lettering,
     margin: Spot,
+    reading: Reading,
     text: &[u8],
 ) -> Result<Spot, Stop>
     requires { IsWithin (2 ^ 96) margin }
-    ensures short { IfOk result (λ _. length text.now ≤ 2 ^ 32) }
     ensures within { IfOk result (IsWithin (2 ^ 96)) }
-    ensures margin { IfOk result (λ after. after ≡ texts.margin_by margin (margin_move lettering.now.style text.now)) }
+    ensures margin { IfOk result (λ after. after ≡ texts.margin_by margin
+        (margin_move lettering.now.style (signs reading.encoding reading.sets text.now))) }
     ensures runs { core.Runs
-        (texts.label_by lettering.now.style (core.seen plotter.old) text.now) (core.seen plotter.new) result }
+        (texts.if_short text.now (texts.label_by lettering.now.style (core.seen plotter.old)
+        (signs reading.encoding reading.sets text.now))) (core.seen plotter.new) result }
 {
     if text.len() > LONGEST {
         return Err(Stop::OffRange);
     }
-    write_text(plotter, lettering, text)?;
-    Ok(margin_by(margin, lettering.margin_move(text)))
+    write_text(plotter, lettering, reading, text)?;
+    Ok(margin_by(margin, lettering.margin_move(reading.signs(text))))
 }
 
 // Writes a text, and puts the pen at its end. Core is faster at what it can write.
-fn write_text(plotter: &mut Plotter, lettering: &Lettering, text: &[u8]) -> Result<(), Stop>
-    requires { length text.now ≤ 2 ^ 32 }
+fn write_text(
+    plotter: &mut Plotter,
+    lettering: &Lettering,
+    reading: Reading,
+    text: &[u8],
+) -> Result<(), Stop>
+    requires { length text.now ≤ 2 ^ 26 }
     ensures { core.Runs
-        (texts.label_by lettering.now.style (core.seen plotter.old) text.now) (core.seen plotter.new) result }
+        (texts.label_by lettering.now.style (core.seen plotter.old) (signs reading.encoding reading.sets text.now))
+        (core.seen plotter.new) result }
 {
-    if is_as_in_core(&lettering.style, &plotter.state) {
+    let is_usual = is_as_in_core(&lettering.style, &plotter.state);
+    if is_usual && is_core_text(reading.encoding, reading.sets, text) {
         plotter.write(text)
     } else {
-        write_in_style(plotter, lettering, text)
+        write_in_style(plotter, lettering, reading.signs(text))
     }
 }
 
-// The same in any style.
-fn write_in_style(plotter: &mut Plotter, lettering: &Lettering, text: &[u8]) -> Result<(), Stop>
-    requires { length text.now ≤ 2 ^ 32 }
+// The same in any style, by the signs of a text.
+fn write_in_style(
+    plotter: &mut Plotter,
+    lettering: &Lettering,
+    signs: Signs<'_>,
+) -> Result<(), Stop>
+    requires { length signs ≤ 2 ^ 26 }
     ensures { core.Runs
-        (texts.label_by lettering.now.style (core.seen plotter.old) text.now) (core.seen plotter.new) result }
+        (texts.label_by lettering.now.style (core.seen plotter.old) signs.entry) (core.seen plotter.new) result }
 {
     let start = plotter.state.place;
-    ink(plotter, lettering.strokes(text))?;
-    plotter.put(moved_by(start, lettering.end(text)))
+    let end = lettering.end(signs.again());
+    ink(plotter, lettering.strokes(signs))?;
+    plotter.put(moved_by(start, end))
 }
 
 // Lines up as lines down, in millionths.
@@ -190,7 +241,8 @@ fn sets_margin(setting: LetterSetting) -> bool
     match setting {
         LetterSetting::Direction(_) | LetterSetting::RelativeDirection(_) => true,
         LetterSetting::Path(..) | LetterSetting::Origin(_) => true,
-        LetterSetting::AbsoluteSize | LetterSetting::RelativeSize(_) => false,
+        LetterSetting::FontSize | LetterSetting::AbsoluteSize => false,
+        LetterSetting::RelativeSize(_) => false,
         LetterSetting::Slant(_) | LetterSetting::Step(_) => false,
     }
 }

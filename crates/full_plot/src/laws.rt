@@ -13,7 +13,8 @@ pub fn core_draws_as_in_core()
     ensures { CoreDrawsAsInCore }
 {}
 
-/// So it has with the same pens of a carousel in both.
+/// So it has with the same pens of a carousel in both, if texts are read by a set of characters that has ASCII,
+/// or as UTF-8.
 pub fn core_draws_as_in_core_with()
     ensures { CoreDrawsAsInCoreWith }
 {}

@@ -5,9 +5,10 @@ ghost use Rattle.full_plot.specs.Areas.{IsArea};
 
 use crate::area::Area;
 use crate::writing::Writing;
+use character_sets::Encoding;
 use exact::Spot;
 use full_notes::Context;
-use full_settings::LineStyle;
+use full_settings::{Characters, LineStyle};
 use hpgl_plot::Plotter;
 use line_types::Run;
 use polygons::Buffer;
@@ -25,6 +26,10 @@ pub struct FullPlotter {
     /// The widths of pens in millionths of a percent of the distance from P1 to P2; `None` for a pen whose
     /// width is in millimetres. While widths are in percent, core's widths are what these are in grains.
     pub percents: [Option<u32>; 256],
+    /// How texts are read, whatever sets of characters the plot chooses.
+    pub encoding: Encoding,
+    /// The sets of characters and the fonts that the plot has chosen.
+    pub characters: Characters,
     pub writing: Writing,
     /// The left margin of labels, a place on the page in grains.
     pub margin: Spot,

@@ -6,7 +6,7 @@ ghost use Rattle.plot_settings.specs.Parameters.{arced, circled};
 ghost use Rattle.full_settings.specs.ColourRanges.{pen_colour_in};
 ghost use Rattle.full_notes.specs.Contexts.{params_read};
 ghost use Rattle.full_notes.specs.Notes.{bad_if, bad_without, body_noted, params_noted};
-ghost use Rattle.full_plot.specs.Items.{as_core, more_steps, params_steps, taken};
+ghost use Rattle.full_plot.specs.Items.{as_core, more_steps, params_steps, size_by, taken};
 ghost use Rattle.full_plot.specs.Holding.{after_params};
 ghost use Rattle.full_plot.specs.Machine.{seen, step, run, last_end, Runs, Restyle, Restart, EndSheet};
 
@@ -14,7 +14,7 @@ use crate::area::Area;
 use crate::plotter::FullPlotter;
 use crate::writing::Writing;
 use full_notes::{arc_read, bad_without, circle_read, is_misplaced};
-use full_settings::{LetterSetting, LineStyle, colour_in, direction_setting};
+use full_settings::{Characters, LetterSetting, LineStyle, colour_in, direction_setting};
 use hpgl_plot::{NoteKind, Stop};
 use hpgl_text::{Body, Entries, Entry, Instruction, Item, Numbers, Part};
 use plot_settings::Setting;
@@ -159,7 +159,7 @@ impl FullPlotter {
             }
             Instruction::CharacterSize => {
                 if !is_wrong {
-                    self.letter(LetterSetting::AbsoluteSize);
+                    self.letter(size_by(numbers));
                 }
             }
             Instruction::Direction => {
@@ -170,12 +170,13 @@ impl FullPlotter {
         }
     }
 
-    // The line style, the labels and the polygons of the start.
+    // The line style, the sets of characters and the fonts, the labels and the polygons of the start.
     fn restyle(&mut self)
         ensures { step (seen self.old) Restyle ≡ Some (seen self.new) }
     {
         self.style = LineStyle::new();
         self.run = None;
+        self.characters = Characters::usual();
         self.writing = Writing::usual(self.alloc);
         self.area = Area::usual();
         self.buffer.clear();
@@ -226,6 +227,17 @@ impl FullPlotter {
             }
             Part::Bad | Part::Stray(_) => Ok(()),
         }
+    }
+}
+
+// Where the size of letters comes from after a good SI: from its numbers, or without numbers from the font.
+fn size_by(numbers: &Numbers<'_>) -> LetterSetting
+    ensures { result ≡ size_by numbers.now }
+{
+    if numbers.len() == 0 {
+        LetterSetting::FontSize
+    } else {
+        LetterSetting::AbsoluteSize
     }
 }
 

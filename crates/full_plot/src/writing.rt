@@ -1,13 +1,14 @@
 //! What is set for labels.
 ghost use Rattle.std.specs.Prelude.{◌≡◌, IfOk};
 ghost use Rattle.plot_frame.specs.Bounds.{IsPoints};
+ghost use Rattle.full_settings.specs.Characters.{IsFont};
 ghost use Rattle.full_settings.specs.LetterParameters.{IsLetterSetting};
 ghost use Rattle.full_settings.specs.Letters.{letters_with, style_in};
 ghost use Rattle.full_settings.specs.TickParameters.{IsTickLength};
 ghost use Rattle.full_plot.specs.Worlds.{usual_writing};
 
 use directions::Turn;
-use full_settings::{LetterSetting, Letters, TickLength};
+use full_settings::{Font, LetterSetting, Letters, TickLength};
 use lettering::Lettering;
 use plot_frame::{Ends, Pair};
 use std::alloc::{AllocError, Global};
@@ -103,11 +104,19 @@ impl Writing {
         self.ticks
     }
 
-    /// How letters are written, by SI's size and by P1 and P2 as they are now, and turned by RO.
-    pub fn lettering(&self, size: CharacterSize, points: &Pair<Ends>, turn: Turn) -> Lettering
-        requires { IsPoints points.now }
-        ensures { result.style ≡ style_in self.now.letters size points.now turn }
+    /// How letters are written, by the font that is selected, by SI's size and by P1 and P2 as they are now,
+    /// and turned by RO.
+    pub fn lettering(
+        &self,
+        font: Font,
+        size: CharacterSize,
+        points: &Pair<Ends>,
+        turn: Turn,
+    ) -> Lettering
+        requires font_in { IsFont font }
+        requires points_in { IsPoints points.now }
+        ensures { result.style ≡ style_in self.now.letters font size points.now turn }
     {
-        self.letters.lettering(size, points, turn)
+        self.letters.lettering(font, size, points, turn)
     }
 }

@@ -2,7 +2,8 @@
 // wanted, and fails unless both texts are equal.
 use crate::notes_and_sheets::notes_on;
 use crate::pens_set::carousel;
-use full_plot::{FullDrawn, draw_full, draw_full_with};
+use character_sets::Encoding;
+use full_plot::{Carousel, FullDrawn, draw_full, draw_full_with};
 use hpgl_plot::{Page, PlotFault, Stroke};
 use std::alloc::{AllocError, Global};
 use std::process::Abort;
@@ -21,6 +22,8 @@ pub enum Asked {
     Widths,
     // The pens of the strokes, with the pens of a carousel: their widths, their colours and their last ends.
     Pens,
+    // The ends of the strokes, with texts in UTF-8.
+    Utf8,
     // The greatest number of a sheet with a stroke.
     Sheets,
     // What is noted.
@@ -89,7 +92,10 @@ fn drawn(alloc: Global, asked: Asked, plot: &[u8]) -> Result<Result<FullDrawn, P
         _ => Page::new(1000, 1000, 0, 0)?,
     };
     match asked {
-        Asked::Pens => Ok(draw_full_with(alloc, plot, &page, &carousel())),
+        Asked::Pens => { Ok(draw_full_with(alloc, Encoding::ByPlot, plot, &page, &carousel())) }
+        Asked::Utf8 => {
+            Ok(draw_full_with(alloc, Encoding::Utf8, plot, &page, &Carousel::empty()))
+        }
         _ => Ok(draw_full(alloc, plot, &page)),
     }
 }

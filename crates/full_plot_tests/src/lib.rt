@@ -4,6 +4,8 @@
 #[cfg(test)]
 mod cases;
 #[cfg(test)]
+mod characters_set;
+#[cfg(test)]
 mod colours_set;
 #[cfg(test)]
 mod curves_set;

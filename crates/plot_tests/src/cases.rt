@@ -1,5 +1,6 @@
 // Cases as one text. A helper writes the cases again with the answers instead of those that are wanted, and fails unless
 // both texts are equal.
+use crate::characters_set::{choices_of, chosen_after};
 use crate::full_settings_set::{colours_of, further_settings_of, points_on_page};
 use crate::letters_set::{headings_after, size_after, style_after_told};
 use crate::settings::settings_of;
@@ -15,6 +16,8 @@ pub enum Asked {
     FurtherSettings,
     Points,
     Colours,
+    Choices,
+    Chosen,
     Sizes,
     Headings,
     Styles,
@@ -65,6 +68,8 @@ fn answer_of(alloc: Global, asked: Asked, text: &[u8]) -> Result<String, Fail> {
         Asked::FurtherSettings => further_settings_of(alloc, text),
         Asked::Points => points_on_page(alloc, text),
         Asked::Colours => colours_of(alloc, text),
+        Asked::Choices => choices_of(alloc, text),
+        Asked::Chosen => chosen_after(alloc, text),
         Asked::Sizes => size_after(alloc, text),
         Asked::Headings => headings_after(alloc, text),
         Asked::Styles => style_after_told(alloc, text),

@@ -2,9 +2,10 @@
 ghost use Rattle.std.specs.Prelude.{◌≤◌, ◌^◌, length};
 
 use crate::texts::has_text;
+use character_sets::{CharacterSet, Encoding, Selection, Sets, Signs};
 use directions::Direction;
 use exact::Spot;
-use lettering::{Lettering, LineFeed, Path, Strokes, Style};
+use lettering::{Lettering, LineFeed, Path, Strokes, Style, is_core_text};
 use std::alloc::{AllocError, Global};
 use std::process::Abort;
 
@@ -36,15 +37,15 @@ fn next_of(strokes: &mut Strokes<'_>) -> Option<(Spot, Spot)> {
 }
 
 // The strokes of a label, by their ends, and where it leaves the pen.
-fn told(alloc: Global, lettering: &Lettering, text: &[u8]) -> Result<String, AllocError>
-    requires { length text.now ≤ 2 ^ 32 }
+fn told(alloc: Global, lettering: &Lettering, signs: Signs<'_>) -> Result<String, AllocError>
+    requires { length signs ≤ 2 ^ 26 }
 {
     let mut told = String::new(alloc);
-    let mut strokes = lettering.strokes(text);
+    let end = lettering.end(signs.again());
+    let mut strokes = lettering.strokes(signs);
     for _ in 0..20 {
         told.push_str(stroke_told(alloc, next_of(&mut strokes))?.as_str())?;
     }
-    let end = lettering.end(text);
     write!(told, "end {},{}", end.x, end.y)?;
     Ok(told)
 }
@@ -56,7 +57,7 @@ fn stroke_told(alloc: Global, stroke: Option<(Spot, Spot)>) -> Result<String, Al
     }
 }
 
-// Fails unless a label has these strokes, and leaves the pen there.
+// Fails unless a label of a text in ISO 8859-1 has these strokes, and leaves the pen there.
 fn has_strokes(
     rt: &impl Abort,
     alloc: Global,
@@ -64,11 +65,23 @@ fn has_strokes(
     text: &[u8],
     wanted: &str,
 ) -> Result<(), AllocError>
-    requires { length text.now ≤ 2 ^ 32 }
+    requires { length text.now ≤ 2 ^ 26 }
 {
-    let told = told(alloc, lettering, text)?;
+    let signs = Encoding::Always(CharacterSet::Latin1).signs(Sets::START, text);
+    let told = told(alloc, lettering, signs)?;
     has_text(rt, told.as_str(), wanted);
     Ok(())
+}
+
+// The same in the usual style.
+fn has_usual_strokes(
+    rt: &(impl Abort + AllocGlobal),
+    text: &[u8],
+    wanted: &str,
+) -> Result<(), AllocError>
+    requires { length text.now ≤ 2 ^ 26 }
+{
+    has_strokes(rt, rt.alloc(), &with_origin(rt, 1), text, wanted)
 }
 
 // A mirrored style with a slant.
@@ -107,8 +120,9 @@ fn steps(rt: HostRuntime) -> Result<(), AllocError> {
     let lettering = checked(&rt, style);
     let wanted = "304,0 to 304,0; -608,0 to -608,0; -608,-5184 to -608,-5184; end 0,-5184";
     has_strokes(&rt, rt.alloc(), &lettering, b"..\r\n.", wanted)?;
-    let lines = lettering.margin_move(b"..\r\n.");
-    let line = lettering.margin_move(b"..");
+    let latin = Encoding::Always(CharacterSet::Latin1);
+    let lines = lettering.margin_move(latin.signs(Sets::START, b"..\r\n."));
+    let line = lettering.margin_move(latin.signs(Sets::START, b".."));
     assert_eq!(rt; [lines.x, lines.y, line.x, line.y], [0, -5184, 0, 0]);
     Ok(())
 }
@@ -152,15 +166,68 @@ fn paths(rt: HostRuntime) -> Result<(), AllocError> {
 #[test]
 fn symbols(rt: HostRuntime) -> Result<(), AllocError> {
     let symbol = on_path(&rt, Path::Down, LineFeed::Reverse).centred();
-    let stroke = stroke_told(rt.alloc(), symbol.letter(b'.', 0))?;
-    has_text(&rt, stroke.as_str(), "0,-864 to 0,-864; ");
-    assert!(rt; symbol.letter(b'.', 1).is_none());
+    let wanted = "0,-864 to 0,-864; end 912,0";
+    has_strokes(&rt, rt.alloc(), &symbol, b".", wanted)?;
     let (right, left) = (
         symbol.offset(2_000_000, 1_000_000),
         symbol.offset(500_000, -250_000),
     );
     assert_eq!(rt; [right.x, right.y, left.x, left.y], [3648, -3456, 912, 864]);
     Ok(())
+}
+
+#[test]
+fn letters(rt: HostRuntime) -> Result<(), AllocError> {
+    let small = "304,1728 to 608,1728; 608,1728 to 608,288; 608,288 to 912,0; end 1824,0";
+    has_usual_strokes(&rt, b"l", small)?;
+    let capital = "0,1728 to 0,0; 0,0 to 1216,0; end 1824,0";
+    has_usual_strokes(&rt, b"L", capital)?;
+    let below_the_line = "608,1152 to 912,1152; 912,1152 to 912,-288; 912,-288 to 608,-576; \
+        608,-576 to 0,-576; 912,1728 to 912,1728; end 1824,0";
+    has_usual_strokes(&rt, b"j", below_the_line)?;
+    let umlaut = "304,0 to 0,288; 0,288 to 0,864; 0,864 to 304,1152; 304,1152 to 912,1152; \
+        912,1152 to 1216,864; 1216,864 to 1216,288; 1216,288 to 912,0; 912,0 to 304,0; \
+        304,1728 to 304,1728; 912,1728 to 912,1728; end 1824,0";
+    has_usual_strokes(&rt, &[0xF6], umlaut)?;
+    has_usual_strokes(&rt, &[32, 160, 0, 127], "end 3648,0")
+}
+
+// A character that is not in the font is a box.
+#[test]
+fn boxes(rt: HostRuntime) -> Result<(), AllocError> {
+    let signs = Encoding::Utf8.signs(Sets::START, &[228, 184, 128]);
+    let told = told(rt.alloc(), &with_origin(&rt, 1), signs)?;
+    let wanted =
+        "0,0 to 0,1728; 0,1728 to 1216,1728; 1216,1728 to 1216,0; 1216,0 to 0,0; end 1824,0";
+    has_text(&rt, told.as_str(), wanted);
+    Ok(())
+}
+
+// BS goes back a column, also below 0, and HT on to the next of the columns 0, 8, 16 and so on.
+#[test]
+fn columns(rt: HostRuntime) -> Result<(), AllocError> {
+    let tab = "608,0 to 608,0; 15200,0 to 15200,0; end 16416,0";
+    has_usual_strokes(&rt, b".\t.", tab)?;
+    let stops = "14592,0 to 15808,0; end 32832,0";
+    has_usual_strokes(&rt, b"        _\t\x08\t\t\x08\x08\x08\x08\x08\x08", stops)?;
+    let back = "608,0 to 608,0; 608,0 to 608,0; end 1824,0";
+    has_usual_strokes(&rt, b".\x08.", back)?;
+    let below = "-3040,0 to -3040,0; 608,0 to 608,0; end 1824,0";
+    has_usual_strokes(&rt, b"\x08\x08.\t.", below)?;
+    let far_below = "-13984,0 to -13984,0; end 0,0";
+    has_usual_strokes(&rt, b"\x08\x08\x08\x08\x08\x08\x08\x08\x08\t.\t", far_below)
+}
+
+// A section is as long as the greatest column in it, and at least one letter.
+#[test]
+fn sections(rt: HostRuntime) -> Result<(), AllocError> {
+    let (beside, around) = (with_origin(&rt, 4), with_origin(&rt, 5));
+    let overprinted = "0,0 to 0,0; 0,0 to 0,0; end 912,0";
+    has_strokes(&rt, rt.alloc(), &beside, b".\x08.", overprinted)?;
+    let below = "-1824,-864 to -1824,-864; end 0,0";
+    has_strokes(&rt, rt.alloc(), &around, b"\x08.", below)?;
+    let tab = "-6384,0 to -6384,0; 0,-3456 to 0,-3456; end 912,-3456";
+    has_strokes(&rt, rt.alloc(), &beside, b".\t\x08\x08\n\r.", tab)
 }
 
 // Whether each origin from 0 to 21 is one.
@@ -180,4 +247,37 @@ fn ranges(rt: HostRuntime) {
     assert_eq!(rt; origins, wanted);
     let slants = [mirrored(-1_000_000_000), mirrored(-1_000_000_001)];
     assert!(rt; Lettering::new(slants[0]).is_some() && Lettering::new(slants[1]).is_none());
+}
+
+// Whether core's labels have the strokes of a text, read as the plot says, if these sets are selected.
+fn is_core_after(selection: Selection, text: &[u8]) -> bool {
+    let sets = Sets {
+        standard: CharacterSet::Latin1,
+        alternate: CharacterSet::German,
+        selection,
+    };
+    is_core_text(Encoding::ByPlot, sets, text)
+}
+
+#[test]
+fn texts_of_core(rt: HostRuntime) {
+    let standard = Selection::Standard;
+    let found = [
+        is_core_after(standard, b"A~ `{9\r\n\x00\x7f"),
+        is_core_after(standard, b""),
+        is_core_after(standard, b"Aa"),
+        is_core_after(standard, b"z"),
+        is_core_after(standard, b"\x08"),
+        is_core_after(standard, b"\t"),
+        is_core_after(standard, b"A\x0e"),
+        is_core_after(standard, b"\x0fA"),
+        is_core_after(standard, &[128]),
+        is_core_after(Selection::Alternate, b"A"),
+        is_core_text(Encoding::Utf8, Sets::START, b"A"),
+        is_core_text(Encoding::Always(CharacterSet::German), Sets::START, b"A"),
+    ];
+    let wanted = [
+        true, true, false, false, false, false, false, false, false, false, true, false,
+    ];
+    assert_eq!(rt; found, wanted);
 }

@@ -6,7 +6,7 @@ use crate::cases::{Asked, has_answers};
 use crate::texts::has_text;
 use directions::Turn;
 use full_settings::{
-    LetterSetting, Letters, direction_setting, origin_setting, path_setting,
+    Font, LetterSetting, Letters, direction_setting, origin_setting, path_setting,
     relative_direction_setting, relative_size_setting, slant_setting, space_setting,
 };
 use hpgl_text::{Body, Further, Instruction, Items, Number, Profile};
@@ -16,11 +16,14 @@ use std::alloc::{AllocError, Global};
 use std::test::Fail;
 use stick_font::CharacterSize;
 
-// What an item asks for; SI asks for its own size.
+// What an item asks for; SI asks for its own size, or without numbers for that of the font.
 pub fn setting_of(body: &Body<'_>) -> Option<LetterSetting>
     ensures { IfSome result IsLetterSetting }
 {
     match body {
+        Body::Params(Instruction::CharacterSize, numbers) if numbers.len() == 0 => {
+            Some(LetterSetting::FontSize)
+        }
         Body::Params(Instruction::CharacterSize, _) => Some(LetterSetting::AbsoluteSize),
         Body::Params(_, numbers) => {
             let (list, count) = numbers.leading();
@@ -48,7 +51,8 @@ fn further_setting(further: Further, numbers: &[Number]) -> Option<LetterSetting
     }
 }
 
-// The style after a text, with letters of 100 by 200 grains by SI, P1 (10, 20) and P2 (310, -380).
+// The style after a text, with a font of 23 points and 18 characters an inch, letters of 100 by 200 grains by SI, P1
+// (10, 20) and P2 (310, -380).
 fn style_after(text: &[u8], turn: Turn) -> Style {
     let mut letters = Letters::usual();
     for item in Items::by_profile(Profile::Full, text) {
@@ -70,7 +74,12 @@ fn style_after(text: &[u8], turn: Turn) -> Style {
             last: -380,
         },
     };
-    letters.lettering(size, &points, turn).style
+    let font = Font {
+        is_proportional: false,
+        pitch: 18_000_000,
+        height: 23_000_000,
+    };
+    letters.lettering(font, size, &points, turn).style
 }
 
 // The size of letters after a text.
@@ -106,7 +115,7 @@ fn style_told(alloc: Global, style: &Style) -> Result<String, AllocError> {
 #[test]
 fn at_the_start(rt: HostRuntime) -> Result<(), Fail> {
     let style = style_after(b"", Turn::None);
-    assert_eq!(rt; [style.width, style.height], [100, 200]);
+    assert_eq!(rt; [style.width, style.height], [608, 3456]);
     let told = style_told(rt.alloc(), &style)?;
     let usual = style_told(rt.alloc(), &Style::usual())?;
     let wanted = "slant 0, steps 1000000 1000000, LO1, Right Normal, 1073741824 0\n";
@@ -133,18 +142,25 @@ SR.010417,.007812;
 SR;
 36 -96
 
-// SI's size again
-SR10,10;SI;
+// SI's size
+SR10,10;SI1,1;
 100 200
 
-SR10,10;SI;SR20,10;SL1;
+SR10,10;SI1,1;SR20,10;SL1;
 960 -640
+
+// the font's size again
+SR10,10;SI;
+608 3456
+
+SI1,1;SI;
+608 3456
 
 ";
 
 #[test]
 fn sizes(rt: HostRuntime) -> Result<(), Fail> {
-    has_answers(&rt, rt.alloc(), Asked::Sizes, SIZES, 7)
+    has_answers(&rt, rt.alloc(), Asked::Sizes, SIZES, 9)
 }
 
 const HEADINGS: &str = "\

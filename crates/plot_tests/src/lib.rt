@@ -1,11 +1,13 @@
 //! Tests of what plots are made of, by public calls: pages, frames, arcs, curves, directions, dashes,
-//! characters, labels and settings, also those of the further instructions.
+//! characters, sets of characters, fonts, labels and settings, also those of the further instructions.
 #![tactic(auto)]
 
 #[cfg(test)]
 mod arcs;
 #[cfg(test)]
 mod cases;
+#[cfg(test)]
+mod characters_set;
 #[cfg(test)]
 mod curves_drawn;
 #[cfg(test)]

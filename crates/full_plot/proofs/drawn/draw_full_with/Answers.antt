@@ -72,5 +72,5 @@ items-preserved c =
 -- all items have left the strokes that there are
 pub returns-clause-limit : goal.returns-clause-limit
 returns-clause-limit c =
-    few_strokes c.args.carousel.now c.args.page.now (cut_by Full c.args.text.now) (seen c.items.plotter)
+    few_strokes c.args.encoding c.args.carousel.now c.args.page.now (cut_by Full c.args.text.now) (seen c.items.plotter)
     (sym c.items.invariant.same ∙ ap (λ (rest : List ItemShape). runs (seen c.items.plotter) rest) c.in_default.ensures.steps.0)

@@ -9,7 +9,7 @@ use Rattle.full_plot.proofs.drawn.draw_full_with.Given as goal
 -- the items that are left come to the outcome of the plot, and have the notes that are not counted yet
 abbrev pub invariant-items : goal.invariant-items
 invariant-items l = record {
-  same : runs (seen l.plotter) l.items ≡ outcome_with l.carousel l.page l.fn.text;
+  same : runs (seen l.plotter) l.items ≡ outcome_with l.fn.encoding l.carousel l.page l.fn.text;
   noted : l.noted + length (notes_from (seen l.plotter).context l.items) ≡ length (notes (cut_by Full l.fn.text));
 }
 

@@ -1,11 +1,11 @@
 use Rattle.std.proofs.Common.{◌≡◌, arith, length, [], ◌∷◌, ◌-◌, ℕ, List, slice_index_or, ap, ◌∙◌, ◌≤◌}
-use Rattle.hpgl_text.specs.Cut.{last_or}
+use Rattle.full_plot.specs.Machine.{last_end}
 use Rattle.full_plot.proofs.FullRuns.{last_is}
 use Rattle.full_plot.proofs.steps.last_end.Goals as goal
 
-last_of : (xs : List ℕ) → 1 ≤ length xs → slice_index_or xs (length xs - 1) 0 ≡ last_or 0 xs
+last_of : (xs : List ℕ) → 1 ≤ length xs → slice_index_or xs (length xs - 1) 0 ≡ last_end xs
 last_of [] h = absurd (omega arith)
-last_of (x ∷ xs) h = let e : length (x ∷ xs) - 1 ≡ length xs = omega arith in ap (λ (k : ℕ). slice_index_or (x ∷ xs) k 0) e ∙ last_is 0 0 x xs
+last_of (x ∷ xs) h = let e : length (x ∷ xs) - 1 ≡ length xs = omega arith in ap (λ (k : ℕ). slice_index_or (x ∷ xs) k 0) e ∙ last_is 0 x xs
 
 pub returns-in-len1-up : goal.returns-in-len1-up
 returns-in-len1-up c = rw (← c.as_slice.ensures.value) (last_of c.as_slice.result.now (omega (arith, c.in-len1-up.len_at_least)))
