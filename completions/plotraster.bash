@@ -3,7 +3,7 @@ _plotraster() {
     local word="${COMP_WORDS[COMP_CWORD]}" before="${COMP_WORDS[COMP_CWORD - 1]}"
     local command="${COMP_WORDS[1]}" options="--width --height --page --left --below --fit --margin"
     local papers="a0 a1 a2 a3 a4 a5 b4 letter legal tabloid ansi-a ansi-b ansi-c ansi-d ansi-e arch-d arch-e"
-    options="$options --profile --sheet --output --verbose --colours --widths"
+    options="$options --profile --sheet --characters --output --verbose --colours --widths"
     COMPREPLY=()
     if [ "$COMP_CWORD" -eq 1 ]; then
         COMPREPLY=($(compgen -W "draw png marks pbm ppm pcl report --help --version" -- "$word"))
@@ -44,6 +44,10 @@ _plotraster() {
             ;;
         --profile)
             COMPREPLY=($(compgen -W "core full" -- "$word"))
+            return
+            ;;
+        --characters)
+            COMPREPLY=($(compgen -W "roman-8 latin-1 windows-1252 pc-8 ascii utf-8" -- "$word"))
             return
             ;;
         -o | --output)

@@ -16,7 +16,8 @@ use Rattle.command_line.proofs.Plain.{plain_app}
 use Rattle.clap_parses.specs.Parses.{HasGoodMatches, IsSingleShape}
 use Rattle.clap_parses.proofs.ParseLaw.{parse_good}
 
--- In each of these width, height, page, left, below, margin, profile, sheet, output, colours and widths take one value each;
+-- In each of these width, height, page, left, below, margin, profile, sheet, characters, output, colours and widths take one
+-- value each;
 -- fit and verbose are flags; FILE takes one value at each use; the last one is help. In pictures dots and pens take one value
 -- each, and progress is a flag; size, smooth, form, band and from take one value each, and quiet is a flag.
 draw_single : (name : Text) → IsSingleShape (built_leaf (draw_app name).top)
@@ -42,9 +43,9 @@ draw_single name = record {
                     (
                       record { found = refl; kind = inl (record { sets = refl; takes = refl }); defaults = search rules },
                       (
-                        record { found = refl; kind = inr (inl (record { sets = refl; takes = refl; stands = search rules })); defaults = search rules },
+                        record { found = refl; kind = inl (record { sets = refl; takes = refl }); defaults = search rules },
                         (
-                          record { found = refl; kind = inl (record { sets = refl; takes = refl }); defaults = search rules },
+                          record { found = refl; kind = inr (inl (record { sets = refl; takes = refl; stands = search rules })); defaults = search rules },
                           (
                             record { found = refl; kind = inl (record { sets = refl; takes = refl }); defaults = search rules },
                             (
@@ -52,18 +53,21 @@ draw_single name = record {
                               (
                                 record { found = refl; kind = inl (record { sets = refl; takes = refl }); defaults = search rules },
                                 (
-                                  record { found = refl; kind = inr (inl (record { sets = refl; takes = refl; stands = search rules })); defaults = search rules },
+                                  record { found = refl; kind = inl (record { sets = refl; takes = refl }); defaults = search rules },
                                   (
-                                    record { found = refl; kind = inl (record { sets = refl; takes = refl }); defaults = search rules },
+                                    record { found = refl; kind = inr (inl (record { sets = refl; takes = refl; stands = search rules })); defaults = search rules },
                                     (
                                       record { found = refl; kind = inl (record { sets = refl; takes = refl }); defaults = search rules },
                                       (
                                         record { found = refl; kind = inl (record { sets = refl; takes = refl }); defaults = search rules },
                                         (
-                                          record { found = refl; kind = inr (inl (record { sets = refl; takes = refl; stands = search rules })); defaults = search rules },
+                                          record { found = refl; kind = inl (record { sets = refl; takes = refl }); defaults = search rules },
                                           (
-                                            record { found = refl; kind = inr (inr (inl (record { appends = refl; takes = refl }))); defaults = search rules },
-                                            (record { found = refl; kind = inr (inr (inr refl)); defaults = search rules }, tt),
+                                            record { found = refl; kind = inr (inl (record { sets = refl; takes = refl; stands = search rules })); defaults = search rules },
+                                            (
+                                              record { found = refl; kind = inr (inr (inl (record { appends = refl; takes = refl }))); defaults = search rules },
+                                              (record { found = refl; kind = inr (inr (inr refl)); defaults = search rules }, tt),
+                                            ),
                                           ),
                                         ),
                                       ),
@@ -111,9 +115,9 @@ plain_single name = record {
                     (
                       record { found = refl; kind = inl (record { sets = refl; takes = refl }); defaults = search rules },
                       (
-                        record { found = refl; kind = inr (inl (record { sets = refl; takes = refl; stands = search rules })); defaults = search rules },
+                        record { found = refl; kind = inl (record { sets = refl; takes = refl }); defaults = search rules },
                         (
-                          record { found = refl; kind = inl (record { sets = refl; takes = refl }); defaults = search rules },
+                          record { found = refl; kind = inr (inl (record { sets = refl; takes = refl; stands = search rules })); defaults = search rules },
                           (
                             record { found = refl; kind = inl (record { sets = refl; takes = refl }); defaults = search rules },
                             (
@@ -121,14 +125,17 @@ plain_single name = record {
                               (
                                 record { found = refl; kind = inl (record { sets = refl; takes = refl }); defaults = search rules },
                                 (
-                                  record { found = refl; kind = inr (inl (record { sets = refl; takes = refl; stands = search rules })); defaults = search rules },
+                                  record { found = refl; kind = inl (record { sets = refl; takes = refl }); defaults = search rules },
                                   (
-                                    record { found = refl; kind = inl (record { sets = refl; takes = refl }); defaults = search rules },
+                                    record { found = refl; kind = inr (inl (record { sets = refl; takes = refl; stands = search rules })); defaults = search rules },
                                     (
                                       record { found = refl; kind = inl (record { sets = refl; takes = refl }); defaults = search rules },
                                       (
-                                        record { found = refl; kind = inr (inr (inl (record { appends = refl; takes = refl }))); defaults = search rules },
-                                        (record { found = refl; kind = inr (inr (inr refl)); defaults = search rules }, tt),
+                                        record { found = refl; kind = inl (record { sets = refl; takes = refl }); defaults = search rules },
+                                        (
+                                          record { found = refl; kind = inr (inr (inl (record { appends = refl; takes = refl }))); defaults = search rules },
+                                          (record { found = refl; kind = inr (inr (inr refl)); defaults = search rules }, tt),
+                                        ),
                                       ),
                                     ),
                                   ),
@@ -174,9 +181,9 @@ smoothed_single name = record {
                     (
                       record { found = refl; kind = inl (record { sets = refl; takes = refl }); defaults = search rules },
                       (
-                        record { found = refl; kind = inr (inl (record { sets = refl; takes = refl; stands = search rules })); defaults = search rules },
+                        record { found = refl; kind = inl (record { sets = refl; takes = refl }); defaults = search rules },
                         (
-                          record { found = refl; kind = inl (record { sets = refl; takes = refl }); defaults = search rules },
+                          record { found = refl; kind = inr (inl (record { sets = refl; takes = refl; stands = search rules })); defaults = search rules },
                           (
                             record { found = refl; kind = inl (record { sets = refl; takes = refl }); defaults = search rules },
                             (
@@ -184,16 +191,19 @@ smoothed_single name = record {
                               (
                                 record { found = refl; kind = inl (record { sets = refl; takes = refl }); defaults = search rules },
                                 (
-                                  record { found = refl; kind = inr (inl (record { sets = refl; takes = refl; stands = search rules })); defaults = search rules },
+                                  record { found = refl; kind = inl (record { sets = refl; takes = refl }); defaults = search rules },
                                   (
-                                    record { found = refl; kind = inl (record { sets = refl; takes = refl }); defaults = search rules },
+                                    record { found = refl; kind = inr (inl (record { sets = refl; takes = refl; stands = search rules })); defaults = search rules },
                                     (
                                       record { found = refl; kind = inl (record { sets = refl; takes = refl }); defaults = search rules },
                                       (
                                         record { found = refl; kind = inl (record { sets = refl; takes = refl }); defaults = search rules },
                                         (
-                                          record { found = refl; kind = inr (inr (inl (record { appends = refl; takes = refl }))); defaults = search rules },
-                                          (record { found = refl; kind = inr (inr (inr refl)); defaults = search rules }, tt),
+                                          record { found = refl; kind = inl (record { sets = refl; takes = refl }); defaults = search rules },
+                                          (
+                                            record { found = refl; kind = inr (inr (inl (record { appends = refl; takes = refl }))); defaults = search rules },
+                                            (record { found = refl; kind = inr (inr (inr refl)); defaults = search rules }, tt),
+                                          ),
                                         ),
                                       ),
                                     ),
@@ -240,9 +250,9 @@ png_single name = record {
                     (
                       record { found = refl; kind = inl (record { sets = refl; takes = refl }); defaults = search rules },
                       (
-                        record { found = refl; kind = inr (inl (record { sets = refl; takes = refl; stands = search rules })); defaults = search rules },
+                        record { found = refl; kind = inl (record { sets = refl; takes = refl }); defaults = search rules },
                         (
-                          record { found = refl; kind = inl (record { sets = refl; takes = refl }); defaults = search rules },
+                          record { found = refl; kind = inr (inl (record { sets = refl; takes = refl; stands = search rules })); defaults = search rules },
                           (
                             record { found = refl; kind = inl (record { sets = refl; takes = refl }); defaults = search rules },
                             (
@@ -250,12 +260,15 @@ png_single name = record {
                               (
                                 record { found = refl; kind = inl (record { sets = refl; takes = refl }); defaults = search rules },
                                 (
-                                  record { found = refl; kind = inr (inl (record { sets = refl; takes = refl; stands = search rules })); defaults = search rules },
+                                  record { found = refl; kind = inl (record { sets = refl; takes = refl }); defaults = search rules },
                                   (
-                                    record { found = refl; kind = inl (record { sets = refl; takes = refl }); defaults = search rules },
+                                    record { found = refl; kind = inr (inl (record { sets = refl; takes = refl; stands = search rules })); defaults = search rules },
                                     (
-                                      record { found = refl; kind = inr (inr (inl (record { appends = refl; takes = refl }))); defaults = search rules },
-                                      (record { found = refl; kind = inr (inr (inr refl)); defaults = search rules }, tt),
+                                      record { found = refl; kind = inl (record { sets = refl; takes = refl }); defaults = search rules },
+                                      (
+                                        record { found = refl; kind = inr (inr (inl (record { appends = refl; takes = refl }))); defaults = search rules },
+                                        (record { found = refl; kind = inr (inr (inr refl)); defaults = search rules }, tt),
+                                      ),
                                     ),
                                   ),
                                 ),
@@ -300,14 +313,17 @@ report_single name = record {
                     (
                       record { found = refl; kind = inl (record { sets = refl; takes = refl }); defaults = search rules },
                       (
-                        record { found = refl; kind = inr (inl (record { sets = refl; takes = refl; stands = search rules })); defaults = search rules },
+                        record { found = refl; kind = inl (record { sets = refl; takes = refl }); defaults = search rules },
                         (
-                          record { found = refl; kind = inl (record { sets = refl; takes = refl }); defaults = search rules },
+                          record { found = refl; kind = inr (inl (record { sets = refl; takes = refl; stands = search rules })); defaults = search rules },
                           (
                             record { found = refl; kind = inl (record { sets = refl; takes = refl }); defaults = search rules },
                             (
-                              record { found = refl; kind = inr (inr (inl (record { appends = refl; takes = refl }))); defaults = search rules },
-                              (record { found = refl; kind = inr (inr (inr refl)); defaults = search rules }, tt),
+                              record { found = refl; kind = inl (record { sets = refl; takes = refl }); defaults = search rules },
+                              (
+                                record { found = refl; kind = inr (inr (inl (record { appends = refl; takes = refl }))); defaults = search rules },
+                                (record { found = refl; kind = inr (inr (inr refl)); defaults = search rules }, tt),
+                              ),
                             ),
                           ),
                         ),

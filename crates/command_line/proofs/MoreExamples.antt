@@ -1,15 +1,19 @@
--- What the command asks for of pens, sheets and pixels, at some words.
+-- What the command asks for of pens, sheets, characters and pixels, at some words.
 use Rattle.std.proofs.Common.{◌≡◌, ◌∷◌, [], List, Option, Some, None, ℕ, false, codes, refl}
 use Rattle.std.specs.Prelude.{option_and_then}
 use Rattle.clap.specs.Words.{Text, subcommand_of}
 use Rattle.clap.proofs.OnLiterals.{clap_on_literals}
 use Rattle.clap.specs.declared.error.kind.ErrorKind.TheVariants as kind
+use Rattle.character_sets.specs.declared.encoding.Encoding.{Encoding}
+use Rattle.character_sets.specs.declared.encoding.Encoding.TheVariants.{Always, ByPlot, Utf8}
+use Rattle.character_sets.specs.declared.set.CharacterSet.TheVariants.{Latin1, Pc8}
 use Rattle.plot_page.specs.declared.colour.Colour.{Colour}
 use Rattle.pen_list.specs.Assignments.{given}
 use Rattle.pen_list.specs.Colours.{colour_written}
 use Rattle.command_line.specs.declared.fault.LineFault.TheVariants as fault
 use Rattle.command_line.specs.Faults.{BadColours, BadWidths, Plain}
-use Rattle.command_line.specs.Lines.{colours_text, sheet_in}
+use Rattle.command_line.specs.Characters.{encoding_named}
+use Rattle.command_line.specs.Lines.{colours_text, encoding_of, sheet_in}
 use Rattle.command_line.specs.Options.{plot_app}
 use Rattle.command_line.specs.Sheets.{sheet_named}
 use Rattle.command_line.proofs.OnWords.{after_name, choice_on, faults_on, value_fault_on}
@@ -67,6 +71,54 @@ each_without_a_folder = refl
 each_in_a_folder : value_fault_on (codes "pbm" ∷ codes "--profile=full" ∷ codes "--sheet=each" ∷ codes "--output=out" ∷ []) ≡ None
 unfolding clap_on_literals
 each_in_a_folder = refl
+
+latin_1_is_a_set : encoding_named (codes "latin-1") ≡ Some (Always Latin1)
+latin_1_is_a_set = refl
+
+utf_8_is_no_set : encoding_named (codes "utf-8") ≡ Some Utf8
+utf_8_is_no_set = refl
+
+no_capital_ascii : encoding_named (codes "ASCII") ≡ None
+no_capital_ascii = refl
+
+no_such_characters : encoding_named (codes "latin-2") ≡ None
+no_such_characters = refl
+
+-- how a command line has the bytes of labels read
+abbrev encoding_on : List Text → Option Encoding
+encoding_on words = option_and_then (λ p. encoding_of p.1) (subcommand_of plot_app (after_name words))
+
+characters_left_out : encoding_on (codes "draw" ∷ []) ≡ Some ByPlot
+unfolding clap_on_literals
+characters_left_out = refl
+
+characters_given : encoding_on (codes "report" ∷ codes "--characters" ∷ codes "pc-8" ∷ codes "--profile=full" ∷ []) ≡ Some (Always Pc8)
+unfolding clap_on_literals
+characters_given = refl
+
+good_characters : value_fault_on (codes "draw" ∷ codes "--characters=ascii" ∷ []) ≡ None
+unfolding clap_on_literals
+good_characters = refl
+
+bad_characters : value_fault_on (codes "pbm" ∷ codes "--characters=german" ∷ codes "--profile=none" ∷ []) ≡ Some (Plain fault.BadCharacters)
+unfolding clap_on_literals
+bad_characters = refl
+
+sheet_before_characters : value_fault_on (codes "pbm" ∷ codes "--characters=german" ∷ codes "--sheet=none" ∷ []) ≡ Some (Plain fault.BadSheet)
+unfolding clap_on_literals
+sheet_before_characters = refl
+
+characters_in_core : value_fault_on (codes "png" ∷ codes "--characters=utf-8" ∷ []) ≡ Some (Plain fault.Characters)
+unfolding clap_on_literals
+characters_in_core = refl
+
+sheet_and_characters_in_core : value_fault_on (codes "draw" ∷ codes "--characters=utf-8" ∷ codes "--sheet=1" ∷ codes "--profile=core" ∷ []) ≡ Some (Plain fault.Sheet)
+unfolding clap_on_literals
+sheet_and_characters_in_core = refl
+
+characters_twice : faults_on (codes "pbm" ∷ codes "--characters=ascii" ∷ codes "--characters=ascii" ∷ []) ≡ kind.ArgumentConflict ∷ []
+unfolding clap_on_literals
+characters_twice = refl
 
 -- the colour that the options give a pen on a command line
 abbrev colour_on : List Text → ℕ → Option Colour

@@ -166,7 +166,7 @@ draw_page name rows good =
     numbers_of_page _ _ _ _ _ rows refl refl refl refl refl refl refl refl good.each (good.defaults.1.1.1.0 (omega arith)) (good.defaults.1.1.1.1.0 (omega arith))
 
 draw_pens : (name : Text) (rows : List Row) → RowsOf (built_leaf (draw_app name).top).rules rows → is_some (pens_text rows) ≡ true
-draw_pens name rows good = text_there _ _ (codes "pens") rows refl good.each (good.defaults.1.1.1.1.1.1.1.1.1.1.1.1.1.1.0 (omega arith))
+draw_pens name rows good = text_there _ _ (codes "pens") rows refl good.each (good.defaults.1.1.1.1.1.1.1.1.1.1.1.1.1.1.1.0 (omega arith))
 
 draw_picture : (name : Text) (rows : List Row) → RowsOf (built_leaf (draw_app name).top).rules rows → HasPictureValues rows
 draw_picture name rows good = picture_values _ _ rows (draw_page name rows good) refl refl (number_if_there _ _ (codes "smooth") rows 1 8 refl refl good.each) good.each
@@ -192,7 +192,7 @@ plain_page name rows good =
     numbers_of_page _ _ _ _ _ rows refl refl refl refl refl refl refl refl good.each (good.defaults.1.1.1.0 (omega arith)) (good.defaults.1.1.1.1.0 (omega arith))
 
 plain_pens : (name : Text) (rows : List Row) → RowsOf (built_leaf (plain_app name).top).rules rows → is_some (pens_text rows) ≡ true
-plain_pens name rows good = text_there _ _ (codes "pens") rows refl good.each (good.defaults.1.1.1.1.1.1.1.1.1.1.1.1.1.1.0 (omega arith))
+plain_pens name rows good = text_there _ _ (codes "pens") rows refl good.each (good.defaults.1.1.1.1.1.1.1.1.1.1.1.1.1.1.1.0 (omega arith))
 
 plain_picture : (name : Text) (rows : List Row) → RowsOf (built_leaf (plain_app name).top).rules rows → HasPictureValues rows
 plain_picture name rows good = picture_values _ _ rows (plain_page name rows good) refl refl (no_number _ (codes "smooth") rows 1 8 refl good.each) good.each
@@ -218,7 +218,7 @@ smoothed_page name rows good =
     numbers_of_page _ _ _ _ _ rows refl refl refl refl refl refl refl refl good.each (good.defaults.1.1.1.0 (omega arith)) (good.defaults.1.1.1.1.0 (omega arith))
 
 smoothed_pens : (name : Text) (rows : List Row) → RowsOf (built_leaf (picture_app Ppm name).top).rules rows → is_some (pens_text rows) ≡ true
-smoothed_pens name rows good = text_there _ _ (codes "pens") rows refl good.each (good.defaults.1.1.1.1.1.1.1.1.1.1.1.1.1.1.0 (omega arith))
+smoothed_pens name rows good = text_there _ _ (codes "pens") rows refl good.each (good.defaults.1.1.1.1.1.1.1.1.1.1.1.1.1.1.1.0 (omega arith))
 
 smoothed_picture : (name : Text) (rows : List Row) → RowsOf (built_leaf (picture_app Ppm name).top).rules rows → HasPictureValues rows
 smoothed_picture name rows good = picture_values _ _ rows (smoothed_page name rows good) refl refl (number_if_there _ _ (codes "smooth") rows 1 8 refl refl good.each) good.each
@@ -244,7 +244,7 @@ png_page name rows good =
     numbers_of_page _ _ _ _ _ rows refl refl refl refl refl refl refl refl good.each (good.defaults.1.1.1.0 (omega arith)) (good.defaults.1.1.1.1.0 (omega arith))
 
 png_pens : (name : Text) (rows : List Row) → RowsOf (built_leaf (png_app name).top).rules rows → is_some (pens_text rows) ≡ true
-png_pens name rows good = text_there _ _ (codes "pens") rows refl good.each (good.defaults.1.1.1.1.1.1.1.1.1.1.1.1.1.1.0 (omega arith))
+png_pens name rows good = text_there _ _ (codes "pens") rows refl good.each (good.defaults.1.1.1.1.1.1.1.1.1.1.1.1.1.1.1.0 (omega arith))
 
 png_picture : (name : Text) (rows : List Row) → RowsOf (built_leaf (png_app name).top).rules rows → HasPictureValues rows
 png_picture name rows good = picture_values _ _ rows (png_page name rows good) refl refl (number_if_there _ _ (codes "smooth") rows 1 8 refl refl good.each) good.each

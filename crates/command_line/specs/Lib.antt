@@ -1,10 +1,11 @@
--- What a reader must believe: the command, its defaults, the papers, forms and sheets that it names, what its matches ask
+-- What a reader must believe: the command, its defaults, the papers, forms, sheets and characters that it names, what its matches ask
 -- for, what is wrong with them, and exit statuses.
 pub mod Defaults
 pub mod Options
 pub mod Papers
 pub mod Forms
 pub mod Sheets
+pub mod Characters
 pub mod Faults
 pub mod Lines
 pub mod Statuses

@@ -10,8 +10,11 @@ use Rattle.plot_page.specs.declared.page.Page.{Page}
 use Rattle.plot_page.specs.declared.pens.PenSet.{PenSet}
 use Rattle.plot_page.specs.Pens.{has_pen}
 use Rattle.clap_parses.specs.Parses.{HasGoodMatches}
+use Rattle.character_sets.specs.declared.encoding.Encoding.{Encoding}
+use Rattle.character_sets.specs.declared.encoding.Encoding.TheVariants.{ByPlot}
 use Rattle.carousel.specs.Carousels.{colour_of, width_of}
 use Rattle.carousel.specs.declared.carousel.Carousel.{Carousel}
+use Rattle.command_line.specs.Characters.{encoding_named}
 use Rattle.command_line.specs.Defaults.{defaults_of}
 use Rattle.command_line.specs.Faults.{Refusal, BadColours, BadWidths, first_of_these, refusal_of}
 use Rattle.command_line.specs.Forms.{extension_of, form_named}
@@ -33,7 +36,7 @@ use Rattle.picture_job.specs.declared.smoothing.Smoothing.{Smoothing}
 use Rattle.picture_job.specs.declared.page_choice.PageChoice.{PageChoice}
 use Rattle.command_line.specs.declared.fault.LineFault.{LineFault}
 use Rattle.command_line.specs.declared.fault.LineFault.TheVariants.{Pens, Shades, Smooth, Paper, Size, Profile, Sheet}
-use Rattle.command_line.specs.declared.fault.LineFault.TheVariants.{BadSheet, Form as NoForm, Margin, NoFolder, NoPicture, Pixels, PrinterPixels, Several}
+use Rattle.command_line.specs.declared.fault.LineFault.TheVariants.{BadCharacters, BadSheet, Characters, Form as NoForm, Margin, NoFolder, NoPicture, Pixels, PrinterPixels, Several}
 use Rattle.command_line.specs.declared.line.Line.{Line}
 use Rattle.command_line.specs.declared.line.Task.{Task}
 use Rattle.command_line.specs.declared.line.Task.TheVariants.{Picture, Report}
@@ -69,6 +72,15 @@ sheet_in rows = option_map_or sheet_named (sheet_text rows) (Some 1)
 -- each sheet is asked for by itself
 abbrev pub asks_each : List Row → Bool
 asks_each rows = option_map_or is_each (sheet_text rows) false
+
+-- the name of how the bytes of labels are read, or None if none is given
+abbrev pub characters_text : List Row → Option Text
+characters_text rows = first_of (codes "characters") rows
+
+-- how the bytes of labels are read: as the name says, or as the plot chooses if no name is given; None if the name means
+-- nothing
+abbrev pub encoding_of : List Row → Option Encoding
+encoding_of rows = option_map_or encoding_named (characters_text rows) (Some ByPlot)
 
 -- the texts of the options for the colours and the widths of pens
 abbrev pub colours_text : List Row → Option Text
@@ -227,10 +239,12 @@ IsTaskOf kind rows (Picture (Rows job smoothing)) =
 IsTaskOf kind rows (Picture (Png job)) = (written kind rows ≡ Some output.Png) × IsPngJobOf kind true rows job
 IsTaskOf kind rows (Report page) = (written kind rows ≡ Some output.Report) × IsPageOf rows page
 
--- the plot is read in the profile core, or in full with the sheet that is asked for
+-- the plot is read in the profile core, or in full with the sheet and the characters that are asked for
 abbrev pub IsReadingOf : List Row → Reading → Type 0
-IsReadingOf rows Core = (profile_text rows ≡ Some (codes "core")) × (sheet_text rows ≡ None)
-IsReadingOf rows (Full sheet) = (profile_text rows ≡ Some (codes "full")) × (sheet_in rows ≡ Some sheet)
+IsReadingOf rows Core =
+    (profile_text rows ≡ Some (codes "core")) × (sheet_text rows ≡ None) × (characters_text rows ≡ None)
+IsReadingOf rows (Full sheet encoding) =
+    (profile_text rows ≡ Some (codes "full")) × (sheet_in rows ≡ Some sheet) × (encoding_of rows ≡ Some encoding)
 
 -- each pen has the colour and the width that the lists give it, and none if they give it none
 pub record IsCarouselOf (rows : List Row) (carousel : Carousel) : Type 0 where
@@ -363,12 +377,18 @@ has_bad_profile rows = not (has_profile rows (codes "core") || has_profile rows 
 abbrev pub has_stray_sheet : List Row → Bool
 has_stray_sheet rows = has_profile rows (codes "core") && is_given rows (codes "sheet")
 
+-- a name of characters is given in the profile core
+abbrev pub has_stray_characters : List Row → Bool
+has_stray_characters rows = has_profile rows (codes "core") && is_given rows (codes "characters")
+
 -- what is wrong with how the plot is to be read
 abbrev pub reading_fault : List Row → Option LineFault
 reading_fault rows =
     if not (is_some (sheet_in rows)) then Some BadSheet else
+    if not (is_some (encoding_of rows)) then Some BadCharacters else
     if has_bad_profile rows then Some Profile else
-    if has_stray_sheet rows then Some Sheet else None
+    if has_stray_sheet rows then Some Sheet else
+    if has_stray_characters rows then Some Characters else None
 
 -- what is wrong with the choice of the page
 abbrev pub choice_fault : Kind → List Row → Option LineFault

@@ -56,11 +56,12 @@ with_page a = with_rule (with_rule (with_rule (with_rule (with_rule a
 abbrev pub with_fit : App → App
 with_fit a = with_rule (with_rule a (flag_rule (codes "fit"))) (bare_rule (codes "margin") (whole_number 0 100))
 
--- how the plot is read: the profile, and the sheet, which has no default
+-- how the plot is read: the profile, and the sheet and the characters, which have no defaults
 abbrev pub with_reading : Defaults → App → App
-with_reading d a = with_rule (with_rule a
+with_reading d a = with_rule (with_rule (with_rule a
     (option_rule (codes "profile") vp.String d.profile))
-    (bare_rule (codes "sheet") vp.String)
+    (bare_rule (codes "sheet") vp.String))
+    (bare_rule (codes "characters") vp.String)
 
 -- `--output PATH` or `-o PATH`, without a default: the file that is written, or the folder of the files
 abbrev pub output_rule : Rule

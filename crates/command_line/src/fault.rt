@@ -50,9 +50,15 @@ pub enum LineFault<'a> {
     /// The text after `--sheet` is no number of a sheet, and is not `each`.
     #[error("bad sheet: use a number from 0 to 4194304, or each")]
     BadSheet,
+    /// The word after `--characters` names no characters.
+    #[error("bad characters: use roman-8, latin-1, windows-1252, pc-8, ascii or utf-8")]
+    BadCharacters,
     /// `--sheet` is given with the profile core, which has no sheets.
     #[error("--sheet needs --profile full")]
     Sheet,
+    /// `--characters` is given with the profile core, which reads labels as ASCII.
+    #[error("--characters needs --profile full")]
+    Characters,
     /// A report on each sheet is asked for.
     #[error("--sheet each needs a picture")]
     NoPicture,

@@ -79,6 +79,12 @@ pub(crate) const SHEET: HelpLine<'static> = HelpLine {
         a picture of each sheet, in the folder of --output [default: 1]",
 };
 
+pub(crate) const CHARACTERS: HelpLine<'static> = HelpLine {
+    value: "NAME",
+    help: "How the bytes of labels are read in the profile full, whatever the plot chooses: roman-8, latin-1, windows-1252, \
+        pc-8, ascii or utf-8",
+};
+
 pub(crate) const OUTPUT: HelpLine<'static> = HelpLine {
     value: "PATH",
     help: "File to write instead of standard output, or folder of the files to write; a file has its name only when it \

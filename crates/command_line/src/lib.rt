@@ -2,6 +2,7 @@
 #![tactic(auto)]
 
 mod carousels;
+mod characters;
 mod defaults;
 mod fault;
 mod forms;

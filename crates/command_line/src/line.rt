@@ -80,11 +80,12 @@ pub struct Line<'m, 'a> {
 /// and `--pens` is not a valid list, `Colours` or `Widths` with the first bad item of such a list, `Shades` if `--smooth` is
 /// given for a form that may not be smoothed, `Smooth` if `--dots` times `--smooth` is over 1200, `Paper` if `--page` names
 /// no paper and not the plot, `Size` if `--page` is given with `--width` or `--height`, `BadSheet` if `--sheet` is no number
-/// of 0 to 4194304 and not `each`, `Profile` if `--profile` is neither `core` nor `full`, `Sheet` if `--sheet` is given with
-/// the profile core, `NoPicture` or `NoFolder` if it is `each` for a report or without `--output`, `Pixels` if `--size` is
-/// given with `--dots`, `PrinterPixels` if it is given for PCL, `Margin` if `--margin` is given and the page is not fitted,
-/// and `Several` if several files are given without `--output`; no other one after a `parse` that succeeded. `Words` if the
-/// matches are of another command.
+/// of 0 to 4194304 and not `each`, `BadCharacters` if `--characters` names none, `Profile` if `--profile` is neither `core`
+/// nor `full`, `Sheet` or `Characters` if `--sheet` or `--characters` is given with the profile core, `NoPicture` or
+/// `NoFolder` if `--sheet` is `each` for a report or without `--output`, `Pixels` if `--size` is given with `--dots`,
+/// `PrinterPixels` if it is given for PCL, `Margin` if `--margin` is given and the page is not fitted, and `Several` if
+/// several files are given without `--output`; no other one after a `parse` that succeeded. `Words` if the matches are of
+/// another command.
 pub fn settle<'m, 'a>(matches: &'m ArgMatches<'a>) -> Result<Line<'m, 'a>, LineFault<'a>>
     ensures line { IfOk result (IsLineOf matches.now) }
     ensures pens { (result ≡ Err LineFault.Pens) ↔ (asks_bad_list matches.now ≡ true) }

@@ -18,8 +18,8 @@ ghost use Rattle.clap_parses.specs.Parses.{HasGoodMatches};
 use crate::defaults::defaults_of;
 use crate::fault::BuildFault;
 use crate::help::{
-    BAND, BELOW, COLOURS, FILE, FIT, FORM, FROM, HEIGHT, HelpLine, HelpPage, LEFT, OUTPUT, PENS,
-    PROFILE, QUIET, SHEET, SIZE, TOP, VERBOSE, VERSION, WIDTH, WIDTHS,
+    BAND, BELOW, CHARACTERS, COLOURS, FILE, FIT, FORM, FROM, HEIGHT, HelpLine, HelpPage, LEFT,
+    OUTPUT, PENS, PROFILE, QUIET, SHEET, SIZE, TOP, VERBOSE, VERSION, WIDTH, WIDTHS,
 };
 use crate::subcommands::{
     Kind, Output, SUBCOMMANDS, dots_line, is_smoothed, margin_line, page_line, progress_help,
@@ -126,6 +126,14 @@ fn sheet_of<'a>(alloc: Global) -> Arg<'a>
     bare_option(alloc, "sheet", ValueParser::string(), SHEET)
 }
 
+// `--characters NAME`, without a default, so that it is known whether it is given.
+fn characters_of<'a>(alloc: Global) -> Arg<'a>
+    ensures rule { rule_of result ≡ bare_rule (codes "characters") ValueParser.String }
+    ensures local { result.global ≡ false }
+{
+    bare_option(alloc, "characters", ValueParser::string(), CHARACTERS)
+}
+
 // `--profile core|full`
 fn profile_of<'a>(alloc: Global, given: &'a str) -> Arg<'a>
     ensures rule { rule_of result ≡ option_rule (codes "profile") ValueParser.String given.entry.now }
@@ -228,7 +236,9 @@ fn add_reading<'a>(
 {
     let given: &'a str = defaults_of(kind).profile;
     let profile = profile_of(alloc, given);
-    add(add(command, profile)?, sheet_of(alloc))
+    let command = add(command, profile)?;
+    let command = add(command, sheet_of(alloc))?;
+    add(command, characters_of(alloc))
 }
 
 fn add_carousel<'a>(alloc: Global, command: Command<'a>) -> Result<Command<'a>, AllocError>

@@ -1,4 +1,4 @@
-//! How a plot is read: its profile, and its sheets.
+//! How a plot is read: its profile, its sheets, and the characters of its labels.
 ghost use Rattle.std.specs.Prelude.{◌≡◌, ◌≢◌, Err, IfOk, None};
 ghost use Rattle.std.specs.Result.{result_err};
 ghost use Rattle.clap.specs.Words.{found_of, rows_of};
@@ -6,6 +6,7 @@ ghost use Rattle.command_line.specs.Lines.{IsReadingOf, asks_each, each_fault, i
 ghost use Rattle.command_line.specs.Readings.{HasProfile};
 ghost use Rattle.command_line.specs.Sheets.{is_each, sheet_named, sheet_number};
 
+use crate::characters::encoding_of;
 use crate::fault::LineFault;
 use crate::subcommands::{Kind, Output};
 use crate::values::is_given;
@@ -15,7 +16,7 @@ use picture_job::Reading;
 // The greatest sheet that may be asked for.
 const GREATEST_SHEET: i64 = 4_194_304;
 
-/// The profile, and the sheet in the profile full.
+/// The profile, and in the profile full the sheet and the characters.
 pub(crate) fn reading_of<'a>(options: &ArgMatches<'a>) -> Result<Reading, LineFault<'a>>
     ensures reading { IfOk result (IsReadingOf (rows_of (found_of options.now))) }
     ensures pens { result ≢ Err LineFault.Pens }
@@ -23,15 +24,19 @@ pub(crate) fn reading_of<'a>(options: &ArgMatches<'a>) -> Result<Reading, LineFa
         result_err result ≡ reading_fault (rows_of (found_of options.now)) }
 {
     let sheet = sheet_of(options).ok_or(LineFault::BadSheet)?;
+    let encoding = encoding_of(options).ok_or(LineFault::BadCharacters)?;
     let profile = options.get_str("profile").ok_or(LineFault::Words)?;
     if profile == "full" {
-        return Ok(Reading::Full { sheet });
+        return Ok(Reading::Full { sheet, encoding });
     }
     if profile != "core" {
         return Err(LineFault::Profile);
     }
     if is_given(options, "sheet") {
         return Err(LineFault::Sheet);
+    }
+    if is_given(options, "characters") {
+        return Err(LineFault::Characters);
     }
     Ok(Reading::Core)
 }

@@ -104,15 +104,15 @@ fn no_forms(rt: HostRuntime) -> Result<(), Fail> {
 }
 
 const READINGS: &str = "\
-Full { sheet: 1 }
+Full { sheet: 1, encoding: ByPlot }
 plotraster|draw
 plotraster|draw|--sheet=1
 plotraster|draw|--profile=full
 
-Full { sheet: 0 }
+Full { sheet: 0, encoding: ByPlot }
 plotraster|draw|--sheet=0
 
-Full { sheet: 3 }
+Full { sheet: 3, encoding: ByPlot }
 plotraster|draw|--profile|full|--sheet|3
 
 Core

@@ -6,6 +6,8 @@ mod carousels;
 #[cfg(test)]
 mod cases;
 #[cfg(test)]
+mod characters;
+#[cfg(test)]
 mod choices;
 #[cfg(test)]
 mod claims;

@@ -9,21 +9,21 @@ Core
 plotraster|@
 plotraster|@|--profile|core
 
-Full { sheet: 1 }
+Full { sheet: 1, encoding: ByPlot }
 plotraster|@|--profile=full
 plotraster|@|--profile=full|--sheet=1
 
-Full { sheet: 0 }
+Full { sheet: 0, encoding: ByPlot }
 plotraster|@|--profile|full|--sheet|0
 plotraster|@|--profile=full|--sheet=-0
 
-Full { sheet: 2 }
+Full { sheet: 2, encoding: ByPlot }
 plotraster|@|--sheet=2|--profile=full
 
-Full { sheet: 3 }
+Full { sheet: 3, encoding: ByPlot }
 plotraster|@|--sheet|+03|a.plt|--profile|full
 
-Full { sheet: 4194304 }
+Full { sheet: 4194304, encoding: ByPlot }
 plotraster|@|--profile=full|--sheet=4194304
 ";
 
@@ -34,7 +34,7 @@ fn profiles_and_sheets(rt: HostRuntime) -> Result<(), Fail> {
 }
 
 const EACH_SHEET: &str = "\
-Full { sheet: 0 } each
+Full { sheet: 0, encoding: ByPlot } each
 plotraster|@|--sheet=each|--profile=full|-o|out
 plotraster|@|--profile=full|a.plt|--output|out/|--sheet|each|b.plt
 
@@ -68,10 +68,10 @@ plotraster|report|--sheet=each|--profile=full|-o|out|--margin=1
 Sheet
 plotraster|report|--sheet=each|-o|out
 
-Full { sheet: 0 } each
+Full { sheet: 0, encoding: ByPlot } each
 plotraster|draw|--sheet=each|-o|out
 
-Full { sheet: 0 }
+Full { sheet: 0, encoding: ByPlot }
 plotraster|report|--sheet=0|--profile=full
 plotraster|draw|--sheet=0
 ";

@@ -190,7 +190,7 @@ converted_by_it rules sm job reaches before after sink sink' tests tests' answer
 -- an empty carousel changes nothing
 with_none : (reading : Reading) (carousel : Carousel) → carousel ≡ empty → rules_with reading carousel ≡ rules_of reading
 with_none Core carousel none = ap (rules_with Core) none ∙ (λ i. record core_rules { strokes = λ page plot. strokes_with_none page (cut plot) i; refusal = λ page plot. refusal_with_none page (cut plot) i })
-with_none (Full sheet) carousel none = ap (rules_with (Full sheet)) none
+with_none (Full sheet encoding) carousel none = ap (rules_with (Full sheet encoding)) none
 
 -- a run with an empty carousel on the given page
 pub converted_on_it : (reading : Reading) (carousel : Carousel) (sm : Smoothing) (job : Job) (reaches : Reach) (before after : SourceState) (sink sink' : SinkState) (tests tests' : ℕ)

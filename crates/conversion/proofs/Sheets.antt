@@ -6,6 +6,7 @@ use Rattle.plot_page.specs.Segments.{Segment}
 use Rattle.plot_page.specs.declared.page.Page.{Page}
 use Rattle.plot_page.specs.declared.pens.PenSet.{PenSet}
 use Rattle.carousel.specs.declared.carousel.Carousel.{Carousel}
+use Rattle.character_sets.specs.declared.encoding.Encoding.{Encoding}
 use Rattle.full_plot.specs.Drawings.{ends_in, outcome_with, sheet_strokes, strokes_in}
 use Rattle.page_fit.specs.declared.around.Corner.{Corner}
 use Rattle.page_fit.specs.Moves.{moved_if_selected}
@@ -35,27 +36,27 @@ placed_sheets Unasked pens on k page xs ends sheet = refl
 placed_sheets Blank pens on k page xs ends sheet = refl
 placed_sheets TooLarge pens on k page xs ends sheet = refl
 
-pub drawn_alike : (carousel : Carousel) (pens : PenSet) (place : Place) (plot : List ℕ) (sheet : ℕ)
-    → sheet_strokes ((placed_rules (rules_with (Full 0) carousel) pens place).strokes place.page plot) ((placed_rules (rules_with (Full 0) carousel) pens place).ends place.page plot) sheet
-    ≡ (placed_rules (rules_with (Full sheet) carousel) pens place).strokes place.page plot
-drawn_alike carousel pens place plot sheet =
-    let drawn = outcome_with carousel place.drawn_on plot in
+pub drawn_alike : (encoding : Encoding) (carousel : Carousel) (pens : PenSet) (place : Place) (plot : List ℕ) (sheet : ℕ)
+    → sheet_strokes ((placed_rules (rules_with (Full 0 encoding) carousel) pens place).strokes place.page plot) ((placed_rules (rules_with (Full 0 encoding) carousel) pens place).ends place.page plot) sheet
+    ≡ (placed_rules (rules_with (Full sheet encoding) carousel) pens place).strokes place.page plot
+drawn_alike encoding carousel pens place plot sheet =
+    let drawn = outcome_with encoding carousel place.drawn_on plot in
     placed_sheets place.placement pens place.drawn_on place.corner place.page (strokes_in drawn) (ends_in drawn) sheet
 
 -- the page that a plot is drawn on is the same for each sheet
-on_alike : (b : Bool) (carousel : Carousel) (given : Page) (plot : List ℕ) (sheet : ℕ) (p : Placement) (page : Page)
-    → IsDrawnOn b (rules_with (Full 0) carousel) given plot p page → IsDrawnOn b (rules_with (Full sheet) carousel) given plot p page
-on_alike false carousel given plot sheet p page h = h
-on_alike true carousel given plot sheet Asked page h = h
-on_alike true carousel given plot sheet Unasked page h = h
-on_alike true carousel given plot sheet Given page h = absurd h
-on_alike true carousel given plot sheet Fitted page h = absurd h
-on_alike true carousel given plot sheet Blank page h = absurd h
-on_alike true carousel given plot sheet TooLarge page h = absurd h
+on_alike : (b : Bool) (encoding : Encoding) (carousel : Carousel) (given : Page) (plot : List ℕ) (sheet : ℕ) (p : Placement) (page : Page)
+    → IsDrawnOn b (rules_with (Full 0 encoding) carousel) given plot p page → IsDrawnOn b (rules_with (Full sheet encoding) carousel) given plot p page
+on_alike false encoding carousel given plot sheet p page h = h
+on_alike true encoding carousel given plot sheet Asked page h = h
+on_alike true encoding carousel given plot sheet Unasked page h = h
+on_alike true encoding carousel given plot sheet Given page h = absurd h
+on_alike true encoding carousel given plot sheet Fitted page h = absurd h
+on_alike true encoding carousel given plot sheet Blank page h = absurd h
+on_alike true encoding carousel given plot sheet TooLarge page h = absurd h
 
-pub placed_alike : (c : PageChoice) (carousel : Carousel) (pens : PenSet) (given : Page) (plot : List ℕ) (place : Place) (sheet : ℕ) → c.margin ≡ None
-    → IsPlaced c (rules_with (Full 0) carousel) pens given plot place → IsPlaced c (rules_with (Full sheet) carousel) pens given plot place
-placed_alike c carousel pens given plot place sheet none placed =
-    let by : IsPlacedBy None c (rules_with (Full 0) carousel) pens given plot place = subst (λ (m : Option ℕ). IsPlacedBy m c (rules_with (Full 0) carousel) pens given plot place) none placed in
-    subst (λ (m : Option ℕ). IsPlacedBy m c (rules_with (Full sheet) carousel) pens given plot place) (sym none)
-    (on_alike c.asked carousel given plot sheet place.placement place.drawn_on by.0, by.1, by.2)
+pub placed_alike : (c : PageChoice) (encoding : Encoding) (carousel : Carousel) (pens : PenSet) (given : Page) (plot : List ℕ) (place : Place) (sheet : ℕ) → c.margin ≡ None
+    → IsPlaced c (rules_with (Full 0 encoding) carousel) pens given plot place → IsPlaced c (rules_with (Full sheet encoding) carousel) pens given plot place
+placed_alike c encoding carousel pens given plot place sheet none placed =
+    let by : IsPlacedBy None c (rules_with (Full 0 encoding) carousel) pens given plot place = subst (λ (m : Option ℕ). IsPlacedBy m c (rules_with (Full 0 encoding) carousel) pens given plot place) none placed in
+    subst (λ (m : Option ℕ). IsPlacedBy m c (rules_with (Full sheet encoding) carousel) pens given plot place) (sym none)
+    (on_alike c.asked encoding carousel given plot sheet place.placement place.drawn_on by.0, by.1, by.2)

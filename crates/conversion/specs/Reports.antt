@@ -25,7 +25,7 @@ use Rattle.conversion.specs.declared.fault.Fault.TheVariants.{TooLong, Memory, P
 -- the report on a plot that is read so, by the page that it names, its strokes and its sheets
 abbrev pub report_on : Reading → ReportPage → List Segment → ℕ → List ℕ → List ℕ
 report_on Core page strokes sheets plot = report_of page strokes (core_notes plot)
-report_on (Full sheet) page strokes sheets plot = full_report_of page sheets strokes (full_notes plot)
+report_on (Full sheet encoding) page strokes sheets plot = full_report_of page sheets strokes (full_notes plot)
 
 -- that on a plot that is drawn by these rules
 abbrev pub report_by : Reading → Rules → ReportPage → Page → List ℕ → List ℕ

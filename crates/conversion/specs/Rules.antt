@@ -6,9 +6,11 @@ use Rattle.hpgl_text.specs.declared.profile.Profile.TheVariants as profile
 use Rattle.hpgl_plot.specs.declared.fault.PlotFault.{PlotFault}
 use Rattle.hpgl_plot.specs.Notes as core
 use Rattle.hpgl_plot.specs.declared.note.Note.{Note}
+use Rattle.carousel.specs.Carousels.{empty}
 use Rattle.carousel.specs.declared.carousel.Carousel.{Carousel}
+use Rattle.character_sets.specs.declared.encoding.Encoding.{Encoding}
 use Rattle.hpgl_plot.specs.Strokes.{strokes_with, refusal_with}
-use Rattle.full_plot.specs.Drawings.{outcome, outcome_with, refusal_in, strokes_in, ends_in, sheet_strokes, sheet_count}
+use Rattle.full_plot.specs.Drawings.{outcome_with, refusal_in, strokes_in, ends_in, sheet_strokes, sheet_count}
 use Rattle.full_notes.specs.Notes as full
 use Rattle.page_fit.specs.Around.{Sides}
 use Rattle.plot_size.specs.Sizes.{sides_asked}
@@ -55,25 +57,23 @@ full_notes plot = full.notes (cut_by profile.Full plot)
 abbrev pub ends_of : ℕ → List ℕ → List ℕ
 ends_of sheet ends = if nat_eq sheet 0 then ends else []
 
--- the rules of the profile full, for a sheet, or for all sheets by 0
-abbrev pub full_rules : ℕ → Rules
-full_rules sheet = record {
-  strokes = λ page plot.
-      let drawn = outcome page plot in
-      sheet_strokes (strokes_in drawn) (ends_in drawn) sheet;
-  refusal = λ page plot. refusal_in (outcome page plot);
-  notes = λ plot. length (full_notes plot);
-  sheets = λ page plot.
-      let drawn = outcome page plot in
-      sheet_count (ends_in drawn) (length (strokes_in drawn));
-  ends = λ page plot. ends_of sheet (ends_in (outcome page plot));
-  asked = sides_asked profile.Full;
-}
+-- the rules of the profile full with the pens of a carousel, for a sheet, or for all sheets by 0
+abbrev pub full_rules : ℕ → Encoding → Carousel → Rules
+full_rules sheet encoding carousel =
+    let drawn = outcome_with encoding carousel in
+    record {
+      strokes = λ page plot. sheet_strokes (strokes_in (drawn page plot)) (ends_in (drawn page plot)) sheet;
+      refusal = λ page plot. refusal_in (drawn page plot);
+      notes = λ plot. length (full_notes plot);
+      sheets = λ page plot. sheet_count (ends_in (drawn page plot)) (length (strokes_in (drawn page plot)));
+      ends = λ page plot. ends_of sheet (ends_in (drawn page plot));
+      asked = sides_asked profile.Full;
+    }
 
 -- how a plot is drawn that is read so
 abbrev pub rules_of : Reading → Rules
 rules_of Core = core_rules
-rules_of (Full sheet) = full_rules sheet
+rules_of (Full sheet encoding) = full_rules sheet encoding empty
 
 -- the same with the pens of a carousel
 abbrev pub rules_with : Reading → Carousel → Rules
@@ -81,16 +81,7 @@ rules_with Core carousel = record core_rules {
   strokes = λ page plot. strokes_with carousel page (cut plot);
   refusal = λ page plot. refusal_with carousel page (cut plot);
 }
-rules_with (Full sheet) carousel = record (full_rules sheet) {
-  strokes = λ page plot.
-      let drawn = outcome_with carousel page plot in
-      sheet_strokes (strokes_in drawn) (ends_in drawn) sheet;
-  refusal = λ page plot. refusal_in (outcome_with carousel page plot);
-  sheets = λ page plot.
-      let drawn = outcome_with carousel page plot in
-      sheet_count (ends_in drawn) (length (strokes_in drawn));
-  ends = λ page plot. ends_of sheet (ends_in (outcome_with carousel page plot));
-}
+rules_with (Full sheet encoding) carousel = full_rules sheet encoding carousel
 
 -- the picture of a job and a plot by these rules, smoothed n times
 abbrev pub picture_by : Rules → ℕ → Job → Reach → List ℕ → List ℕ

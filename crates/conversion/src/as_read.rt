@@ -6,6 +6,7 @@ ghost use Rattle.picture_job.specs.declared.reading.Reading.TheVariants.{Core, F
 
 use crate::lines::Lines;
 use carousel::Carousel;
+use character_sets::Encoding;
 use full_plot::{draw_full_with, keep_sheet};
 use hpgl_plot::{PlotFault, draw_plot_with};
 use picture_job::Reading;
@@ -31,7 +32,9 @@ pub fn draw_as(
 {
     match reading {
         Reading::Core => draw_core(alloc, carousel, text, page),
-        Reading::Full { sheet } => draw_sheet(alloc, sheet, carousel, text, page),
+        Reading::Full { sheet, encoding } => {
+            draw_sheet(alloc, sheet, encoding, carousel, text, page)
+        }
     }
 }
 
@@ -62,18 +65,19 @@ fn draw_core(
 fn draw_sheet(
     alloc: Global,
     sheet: u32,
+    encoding: Encoding,
     carousel: &Carousel,
     text: &[u8],
     page: &Page,
 ) -> Result<Lines, PlotFault>
-    ensures accepted { OnOk result ((rules_with (Full sheet) carousel.now).refusal page.now text.now ≡ None) }
-    ensures strokes { IfOk result (λ drawn. drawn.strokes.items ≡ (rules_with (Full sheet) carousel.now).strokes page.now text.now) }
-    ensures notes { IfOk result (λ drawn. drawn.notes ≡ (rules_with (Full sheet) carousel.now).notes text.now) }
-    ensures sheets { IfOk result (λ drawn. drawn.sheets ≡ (rules_with (Full sheet) carousel.now).sheets page.now text.now) }
-    ensures ends { IfOk result (λ drawn. drawn.ends.items ≡ (rules_with (Full sheet) carousel.now).ends page.now text.now) }
-    ensures refused { IfErr result (λ fault. IsReason fault ((rules_with (Full sheet) carousel.now).refusal page.now text.now)) }
+    ensures accepted { OnOk result ((rules_with (Full sheet encoding) carousel.now).refusal page.now text.now ≡ None) }
+    ensures strokes { IfOk result (λ drawn. drawn.strokes.items ≡ (rules_with (Full sheet encoding) carousel.now).strokes page.now text.now) }
+    ensures notes { IfOk result (λ drawn. drawn.notes ≡ (rules_with (Full sheet encoding) carousel.now).notes text.now) }
+    ensures sheets { IfOk result (λ drawn. drawn.sheets ≡ (rules_with (Full sheet encoding) carousel.now).sheets page.now text.now) }
+    ensures ends { IfOk result (λ drawn. drawn.ends.items ≡ (rules_with (Full sheet encoding) carousel.now).ends page.now text.now) }
+    ensures refused { IfErr result (λ fault. IsReason fault ((rules_with (Full sheet encoding) carousel.now).refusal page.now text.now)) }
 {
-    let mut drawn = draw_full_with(alloc, text, page, carousel)?;
+    let mut drawn = draw_full_with(alloc, encoding, text, page, carousel)?;
     let sheets = drawn.sheets();
     keep_sheet(&mut drawn.strokes, drawn.ends.as_slice(), sheet);
     Ok(Lines {

@@ -1,4 +1,5 @@
 //! How a plot is read.
+use character_sets::Encoding;
 
 /// How a plot is read: in the profile core, or in the profile full.
 #[derive(Clone, Copy, Debug, PartialEq, Eq)]
@@ -9,5 +10,8 @@ pub enum Reading {
     Full {
         /// The sheet, counted from 1, or 0 for all sheets.
         sheet: u32,
+        /// How the bytes of labels are read: by the sets of characters that the plot chooses, or in one way whatever it
+        /// chooses.
+        encoding: Encoding,
     },
 }

@@ -28,10 +28,9 @@ pub(crate) fn deliver_sheets(
     only: Claimed<'_>,
 ) -> u8 {
     let mut source = OverRead::new(plot);
-    let reading = Reading::Full { sheet: 0 };
     let drawing = match draw_sheets(
         rt.alloc(),
-        reading,
+        of_all_sheets(line.reading),
         &line.carousel,
         line.choice,
         picture,
@@ -63,6 +62,14 @@ pub(crate) fn deliver_sheets(
         );
     }
     status
+}
+
+// The same reading, of all sheets.
+fn of_all_sheets(reading: Reading) -> Reading {
+    match reading {
+        Reading::Core => Reading::Core,
+        Reading::Full { encoding, .. } => Reading::Full { sheet: 0, encoding },
+    }
 }
 
 // Writes one sheet of so many into its file.

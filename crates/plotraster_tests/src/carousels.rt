@@ -2,8 +2,8 @@
 use crate::cases::text_of;
 use crate::pages::eight_by_eight;
 use plotraster::{
-    Carousel, Exact, Form, OverRead, OverWrite, PageChoice, Reading, Smoothing, Unwatched,
-    convert_on, read_colours, read_widths,
+    Carousel, Encoding, Exact, Form, OverRead, OverWrite, PageChoice, Reading, Smoothing,
+    Unwatched, convert_on, read_colours, read_widths,
 };
 use std::alloc::Global;
 use std::test::Fail;
@@ -46,7 +46,13 @@ fn drawn(
 
 #[test]
 fn colours_of_a_carousel(rt: HostRuntime) -> Result<(), Fail> {
-    for reading in [Reading::Core, Reading::Full { sheet: 1 }] {
+    for reading in [
+        Reading::Core,
+        Reading::Full {
+            sheet: 1,
+            encoding: Encoding::ByPlot,
+        },
+    ] {
         let marks = drawn(rt.alloc(), reading, "2=red", "3=1", PLOT)?;
         assert_eq!(rt; marks.as_str(), "4 3 2 ff0000\n7 0 1 000000\n");
         let marks = drawn(rt.alloc(), reading, "all=#0f0,2=#123456", "3=1", PLOT)?;
@@ -58,7 +64,13 @@ fn colours_of_a_carousel(rt: HostRuntime) -> Result<(), Fail> {
 // A width of 0.6 mm is 24 units, 3 pixels: the pixels beside and above are met, and those at the corners too.
 #[test]
 fn widths_of_a_carousel(rt: HostRuntime) -> Result<(), Fail> {
-    for reading in [Reading::Core, Reading::Full { sheet: 1 }] {
+    for reading in [
+        Reading::Core,
+        Reading::Full {
+            sheet: 1,
+            encoding: Encoding::ByPlot,
+        },
+    ] {
         let marks = drawn(
             rt.alloc(),
             reading,

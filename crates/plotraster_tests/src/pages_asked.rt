@@ -3,8 +3,8 @@ use crate::cases::text_of;
 use crate::pages::placed_on;
 use crate::placements::fitted;
 use plotraster::{
-    Carousel, Dots, Exact, Fault, Form, Job, OverRead, OverWrite, Page, PageChoice, PenSet,
-    PlotFault, Reading, Smoothing, Unwatched, convert_on, report_on,
+    Carousel, Dots, Encoding, Exact, Fault, Form, Job, OverRead, OverWrite, Page, PageChoice,
+    PenSet, PlotFault, Reading, Smoothing, Unwatched, convert_on, report_on,
 };
 use std::alloc::Global;
 use std::test::Fail;
@@ -62,7 +62,13 @@ fn pages_that_plots_ask_for(rt: HostRuntime) -> Result<(), Fail> {
     for case in CASES.trim_end().split("\n\n") {
         let (plots, wanted) = case.rsplit_once("\n").ok_or("a case with no answer")?;
         for plot in plots.lines() {
-            for reading in [Reading::Core, Reading::Full { sheet: 0 }] {
+            for reading in [
+                Reading::Core,
+                Reading::Full {
+                    sheet: 0,
+                    encoding: Encoding::ByPlot,
+                },
+            ] {
                 let answer = placed(rt.alloc(), reading, plot)?;
                 assert_eq!(rt; answer.as_str(), wanted, "{reading:?}: {plot}");
                 found = found.saturating_add(1);
@@ -80,7 +86,14 @@ const COMMENTED: &str = "CO PS400,300;PS500,200;";
 fn profiles_cut_otherwise(rt: HostRuntime) -> Result<(), Fail> {
     let core = placed(rt.alloc(), Reading::Core, COMMENTED)?;
     assert_eq!(rt; core.as_str(), "Asked 0 0 page 400 300 10 20");
-    let full = placed(rt.alloc(), Reading::Full { sheet: 1 }, COMMENTED)?;
+    let full = placed(
+        rt.alloc(),
+        Reading::Full {
+            sheet: 1,
+            encoding: Encoding::ByPlot,
+        },
+        COMMENTED,
+    )?;
     assert_eq!(rt; full.as_str(), "Asked 0 0 page 500 200 10 20");
     Ok(())
 }

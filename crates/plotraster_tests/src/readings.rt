@@ -2,7 +2,10 @@
 use crate::cases::text_of;
 use crate::pages::eight_by_eight;
 use crate::runs::drawn_as;
-use plotraster::{Carousel, Form, OverRead, OverWrite, Page, PageChoice, Reading, report_on};
+use plotraster::{
+    Carousel, CharacterSet, Encoding, Form, OverRead, OverWrite, Page, PageChoice, Reading,
+    report_on,
+};
 use std::alloc::Global;
 use std::process::Abort;
 use std::test::Fail;
@@ -29,7 +32,10 @@ fn has_rows(
 
 #[test]
 fn dashes_only_in_full(rt: HostRuntime) -> Result<(), Fail> {
-    let full = Reading::Full { sheet: 1 };
+    let full = Reading::Full {
+        sheet: 1,
+        encoding: Encoding::ByPlot,
+    };
     has_rows(&rt, rt.alloc(), full, DASHED, [0, 0, 0, 0, 0xf7, 0, 0, 0])?;
     has_rows(
         &rt,
@@ -50,9 +56,40 @@ fn a_sheet_or_all(rt: HostRuntime) -> Result<(), Fail> {
     ];
     let mut sheet = 0u32;
     for rows in sheets {
-        has_rows(&rt, rt.alloc(), Reading::Full { sheet }, SHEETS, rows)?;
+        has_rows(
+            &rt,
+            rt.alloc(),
+            Reading::Full {
+                sheet,
+                encoding: Encoding::ByPlot,
+            },
+            SHEETS,
+            rows,
+        )?;
         sheet = sheet.saturating_add(1);
     }
+    Ok(())
+}
+
+// The letter o with a dieresis in Latin-1, which is another character in Roman-8.
+const LETTER: &[u8] = b"SP1;PU0,0;LB\xf6\x03";
+
+#[test]
+fn characters_by_the_reading_or_by_the_plot(rt: HostRuntime) -> Result<(), Fail> {
+    let (alloc, job) = (rt.alloc(), eight_by_eight(Form::Pbm)?);
+    let by_plot = Reading::Full {
+        sheet: 1,
+        encoding: Encoding::ByPlot,
+    };
+    let latin = Reading::Full {
+        sheet: 1,
+        encoding: Encoding::Always(CharacterSet::Latin1),
+    };
+    let letter = drawn_as(alloc, latin, &job, LETTER)?;
+    let chosen = drawn_as(alloc, by_plot, &job, b"SD1,14;SP1;PU0,0;LB\xf6\x03")?;
+    assert!(rt; letter.as_slice() == chosen.as_slice());
+    let other = drawn_as(alloc, by_plot, &job, LETTER)?;
+    assert!(rt; letter.as_slice() != other.as_slice());
     Ok(())
 }
 
@@ -78,7 +115,10 @@ fn reported(alloc: Global, reading: Reading, page: &Page, plot: &[u8]) -> Result
 
 #[test]
 fn a_report_on_a_sheet(rt: HostRuntime) -> Result<(), Fail> {
-    let second = Reading::Full { sheet: 2 };
+    let second = Reading::Full {
+        sheet: 2,
+        encoding: Encoding::ByPlot,
+    };
     let report = reported(rt.alloc(), second, &eight_by_eight(Form::Pbm)?.page, SHEETS)?;
     assert_eq!(rt;
         report.as_str(),
@@ -107,7 +147,16 @@ fn sheets(alloc: Global, reading: Reading) -> Result<usize, Fail> {
 fn sheets_are_counted(rt: HostRuntime) -> Result<(), Fail> {
     assert_eq!(rt; sheets(rt.alloc(), Reading::Core)?, 0);
     for sheet in 0..4 {
-        assert_eq!(rt; sheets(rt.alloc(), Reading::Full { sheet })?, 2);
+        assert_eq!(rt;
+            sheets(
+                rt.alloc(),
+                Reading::Full {
+                    sheet,
+                    encoding: Encoding::ByPlot
+                }
+            )?,
+            2
+        );
     }
     Ok(())
 }

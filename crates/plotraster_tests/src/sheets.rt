@@ -2,8 +2,8 @@
 use crate::pages::eight_by_eight;
 use crate::runs::drawn_as;
 use plotraster::{
-    Carousel, Dots, Drawing, Fault, Form, Job, OverRead, OverWrite, PageChoice, Picture, PngJob,
-    Reading, Smoothing, Unwatched, draw_sheets, write_sheet,
+    Carousel, Dots, Drawing, Encoding, Fault, Form, Job, OverRead, OverWrite, PageChoice, Picture,
+    PngJob, Reading, Smoothing, Unwatched, draw_sheets, write_sheet,
 };
 use std::alloc::Global;
 use std::test::Fail;
@@ -11,7 +11,10 @@ use std::test::Fail;
 // Three sheets: a line in row 4, one in column 3, and one in row 1. The third one ends with the plot.
 const SHEETS: &[u8] = b"SP1;PU0,28;PD64,28;PG;PU28,0;PD28,64;PG;PU0,52;PD64,52;";
 
-const ALL: Reading = Reading::Full { sheet: 0 };
+const ALL: Reading = Reading::Full {
+    sheet: 0,
+    encoding: Encoding::ByPlot,
+};
 
 fn rows_of(job: Job) -> Picture {
     Picture::Rows {
@@ -63,7 +66,15 @@ fn sheets_of_one_drawing(rt: HostRuntime) -> Result<(), Fail> {
     assert_eq!(rt; drawing.sheets(), 3);
     for sheet in 0..5 {
         let one = picture_of(alloc, &drawing, sheet, choice, &picture)?;
-        let single = drawn_as(alloc, Reading::Full { sheet }, &job, SHEETS)?;
+        let single = drawn_as(
+            alloc,
+            Reading::Full {
+                sheet,
+                encoding: Encoding::ByPlot,
+            },
+            &job,
+            SHEETS,
+        )?;
         assert!(rt; one.as_slice() == single.as_slice(), "{sheet}");
     }
     Ok(())
@@ -78,7 +89,13 @@ fn a_drawing_of_one_sheet(rt: HostRuntime) -> Result<(), Fail> {
     let alloc = rt.alloc();
     let picture = rows_of(eight_by_eight(Form::Pbm)?);
     let choice = PageChoice::GIVEN;
-    for reading in [Reading::Full { sheet: 2 }, Reading::Core] {
+    for reading in [
+        Reading::Full {
+            sheet: 2,
+            encoding: Encoding::ByPlot,
+        },
+        Reading::Core,
+    ] {
         let drawing = drawing(alloc, reading, choice, &picture, TWO_SHEETS)?;
         let all = picture_of(alloc, &drawing, 0, choice, &picture)?;
         let first = picture_of(alloc, &drawing, 1, choice, &picture)?;
