@@ -157,6 +157,9 @@ def box_of_pen_2(made):
 GALLERY = {
     "The profile core": [Check(stored_each, PNG)],
     "The profile full": [Check(stored_each, PNG)],
+    "Letters": [Check(stored, PNG), Check(stored, PNG)],
+    "Plots of other programs": [Check(stored_each, (*PNG, "pnmcat")), Check(stored, (*PNG, "pnmcat")),
+                                Check(stored, (*PNG, "pnmcat"))],
     "Core and full side by side": [Check(stored_each, (*PNG, "pnmcat"))],
     "A chart by gnuplot": [Check(stored, PNG)],
     "A detail at 1200 dots per inch": [Check(stored, (*PNG, "pamcut"))],

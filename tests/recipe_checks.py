@@ -112,7 +112,7 @@ def wrong_smoothed(made, name, *words):
         yield f"not smoothed: {len(values)} values"
     whole = ["--width", str(DRAWN[0]), "--height", str(DRAWN[1])]
     corner = b"IP0,0,4000,4000;SC190,4190,190,4190;"
-    if made.pixmap(name) != made.run("ppm", *whole, *words, plot=plan(*A4).replace(b"IN;", b"IN;" + corner)):
+    if made.pixmap(name) != made.run("ppm", "--profile", "full", *whole, *words, plot=plan(*A4).replace(b"IN;", b"IN;" + corner)):
         yield "another picture"
 
 

@@ -46,7 +46,7 @@ def drawn(plot, options):
     page = Page(*(int(options.get(name, 0)) for name in ("width", "height", "left", "below")))
     sheet = int(options.get("sheet", 1)) if options.get("profile") == "full" else None
     try:
-        return draw(plot, page, sheet)
+        return draw(plot, page, sheet, characters=options.get("characters"))
     except Refused as refusal:
         return str(refusal)
 
@@ -137,6 +137,6 @@ def test_examples(name, keys):
 def test_number_of_examples():
     """Each row has a name of its own, a plot, and something that it says of it."""
     names = [name for name, _ in rows()]
-    assert len(names) == len(set(names)) == 110
+    assert len(names) == len(set(names)) == 154
     says = {"draws", "strokes", "refused"}
     assert_nothing(f"{name} says nothing" for name, keys in rows() if len(keys["plot"]) != 1 or not says & set(keys))

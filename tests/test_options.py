@@ -22,11 +22,12 @@ SECONDS = 10
 FLAGS = ("--fit", "--verbose", "--progress", "--quiet")
 ONLY_OF_DRAW = ("--size", "--form", "--quiet")
 # Options with a value that have no default.
-WITHOUT_DEFAULT = ("--output", "--colours", "--widths", "--size")
+WITHOUT_DEFAULT = ("--characters", "--output", "--colours", "--widths", "--size")
 HELP = "--help"
 VERSION = "--version"
 EVERY_COMMAND = "All commands"
 PAPER = "--page"
+CHARACTERS = "--characters"
 OUTPUT = "--output"
 PORTRAIT = "-portrait"
 # What --page names besides papers.
@@ -90,6 +91,12 @@ def papers_in_help(program, command):
         first, _, last = text.partition(" to ")
         found += [first[:-1] + chr(it) for it in range(ord(first[-1]), ord(last[-1]) + 1)] if last else [first]
     return [*found, *(f"{it}{PORTRAIT}" for it in found)]
+
+
+def characters_in_help(program, command):
+    """The names of characters that the help of a command gives."""
+    line = next(it for it in help_of(program, [command]) if it.startswith(f"      {CHARACTERS} "))
+    return re.split(r", | or ", line.rpartition(": ")[2])
 
 
 def ends(values):
@@ -249,6 +256,7 @@ def test_options(program):
         assert_nothing(wrong_ranges(program, command, options))
         assert_nothing(wrong_options(command, options, commands))
         words = {**words_in_help(program, command), PAPER: [*papers_in_help(program, command), PLOT]}
+        words[CHARACTERS] = characters_in_help(program, command)
         assert_nothing(wrong_values(command, options, words))
 
 
@@ -272,7 +280,7 @@ def test_page_begins_with_the_sentences_of_help(program):
     page = {(name, name_of(head)): text for name in ("COMMANDS", "OPTIONS")
             for _, head, text in entries(section(name))}
     sentences = list(sentences_of_help(program, commands))
-    assert len(sentences) == len(commands) + 19 + 13 + len(ONLY_OF_DRAW)
+    assert len(sentences) == len(commands) + 20 + 14 + len(ONLY_OF_DRAW)
     assert_nothing(f"{name}: the page has {page[part, name]!r}, the help {says!r}"
                    for part, name, says in sentences if not page[part, name].startswith(says + ". "))
 
@@ -309,6 +317,18 @@ def test_message_of_papers(program):
     names = re.search(r"--height: (.*);", "\n".join(help_of(program, ["report"])))[1]
     done = run(program, ["report", f"{PAPER}=none"], SECONDS, text=True)
     assert done.stderr == f"plotraster: bad page: use {names}, or one of these with {PORTRAIT}\n"
+
+
+def test_characters(program):
+    """The message on a bad name has the names as help has them, each of which is taken."""
+    for command in commands_in_help(program):
+        names = characters_in_help(program, command)
+        assert len(names) == 6
+        for name in names:
+            done = run(program, [command, "--profile=full", "--width=64", "--height=64", f"{CHARACTERS}={name}"], SECONDS)
+            assert done.returncode == 0, f"{command} {CHARACTERS} {name}"
+        done = run(program, [command, "--profile=full", f"{CHARACTERS}=none"], SECONDS, text=True)
+        assert done.stderr == f"plotraster: bad characters: use {', '.join(names[:-1])} or {names[-1]}\n"
 
 
 def test_completion_is_registered():

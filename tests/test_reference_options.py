@@ -126,7 +126,10 @@ def test_order_of_mistakes(options, text):
 @pytest.mark.parametrize("options, text", [
     ({"form": "pbm", "smooth": "2", "sheet": "x"}, "--smooth needs the form png or ppm"),
     ({"profile": "x", "sheet": "x"}, "bad sheet"), ({"profile": "x", "sheet": "each"}, "bad profile"),
+    ({"characters": "x", "sheet": "x"}, "bad sheet"), ({"characters": "x", "profile": "x"}, "bad characters: use roman-8, "),
     ({"profile": "core", "sheet": "each", "size": "20", "dots": "20"}, "--sheet needs --profile full"),
+    ({"profile": "core", "sheet": "1", "characters": "ascii"}, "--sheet needs --profile full"),
+    ({"profile": "core", "characters": "ascii", "size": "20", "dots": "20"}, "--characters needs --profile full"),
     ({"sheet": "each", "size": "20", "dots": "20"}, "--sheet each needs"),
     ({"size": "20", "dots": "20", "form": "pcl"}, "--size may not be given with --dots"),
     ({"size": "20", "form": "pcl", "width": "900", "margin": "1"}, "--size may not be given with the form pcl"),

@@ -43,6 +43,8 @@ EACH_WITHOUT_A_FOLDER = (2, b"plotraster: --sheet each needs --output FOLDER\n")
 SIZE_AND_DOTS = (2, b"plotraster: --size may not be given with --dots\n")
 SIZE_OF_PCL = (2, b"plotraster: --size may not be given with the form pcl\n")
 NO_SHEETS = (2, b"plotraster: --sheet needs --profile full\n")
+BAD_CHARACTERS = (2, b"plotraster: bad characters: use roman-8, latin-1, windows-1252, pc-8, ascii or utf-8\n")
+NO_CHARACTERS = (2, b"plotraster: --characters needs --profile full\n")
 NOT_OF_PCL = (2, b"plotraster: resolution is not one of PCL's\n")
 PAST_THE_END = (2, b"plotraster: first row is past the last row\n")
 NOT_READ = (3, b"plotraster: read failed\n")
@@ -97,7 +99,9 @@ def commands():
     yield ["--", "pbm", "line.plt"], USAGE
     for option in RANGES:
         yield [option, "100", "pbm"], USAGE
-    for option, value in [("--page", "a4"), ("--pens", "all"), ("--profile", "full"), ("--sheet", "1"), ("--output", "o")]:
+    for option, value in [
+        ("--page", "a4"), ("--pens", "all"), ("--profile", "full"), ("--sheet", "1"), ("--characters", "ascii"), ("--output", "o"),
+    ]:
         yield [option, value, "pbm"], USAGE
 
 
@@ -140,7 +144,7 @@ def no_numbers():
 
 def values_missing():
     """Options without a value, and values that look like options."""
-    for name in [*RANGES, "--page", "--pens", "--profile", "--sheet", "--margin", "--output", "-o"]:
+    for name in [*RANGES, "--page", "--pens", "--profile", "--sheet", "--characters", "--margin", "--output", "-o"]:
         yield ["pbm", name], USAGE
         yield ["pbm", "line.plt", name], USAGE
         yield ["pbm", name, "--", "line.plt"], USAGE
@@ -151,12 +155,14 @@ def values_missing():
 
 def options_twice():
     """An option that is given twice, with the same value or another, in both forms."""
-    texts = [("--page", "a4", "a5"), ("--pens", "all", "1"), ("--profile", "full", "core")]
+    texts = [
+        ("--page", "a4", "a5"), ("--pens", "all", "1"), ("--profile", "full", "core"), ("--characters", "ascii", "utf-8"),
+    ]
     for name, value, other in [*((it, "100", "101") for it in [*RANGES, "--sheet", "--margin"]), *texts]:
         yield ["marks", name, value, name, value], USAGE
         yield ["pbm", f"{name}={value}", f"{name}={other}"], USAGE
         yield ["ppm", f"{name}={value}", "line.plt", name, other], USAGE
-    for name in [*PAGE_RANGES, "--page", "--sheet", "--margin", "--profile", "--output"]:
+    for name in [*PAGE_RANGES, "--page", "--sheet", "--characters", "--margin", "--profile", "--output"]:
         yield ["report", name, "100", "line.plt", f"{name}=100"], USAGE
     yield ["report", "--fit", "line.plt", "--fit"], USAGE
     for flag in ["--verbose", "--progress"]:
@@ -170,7 +176,8 @@ def unknown_options():
     for word in [
         "--dot", "--d", "--pen", "--wid", "--Dots", "--DOTS", "--dots-per-inch", "--dotss", "--dots ", "--version", "-V",
         "--progres", "--progress=1", "-p",
-        "--verb", "--verbos", "-v", "-w", "--fi", "--fit=1", "--fit=", "--fits", "--margins=1", "--prof", "--sheets", "-dots",
+        "--verb", "--verbos", "-v", "-w", "--fi", "--fit=1", "--fit=", "--fits", "--margins=1", "--prof", "--sheets", "--char",
+        "-dots",
         "-1", "-0", "--1", "--=", "--=5", "---", "---dots", "--\u00e9", "-\u00e9", "--" + "w" * LONG, "-" + "w" * LONG,
     ]:
         yield ["pbm", word], USAGE
@@ -312,6 +319,18 @@ def sheets():
         yield [*each, "-o", "folder"], EACH_OF_A_REPORT if command == "report" else DONE
 
 
+def characters():
+    """The characters of labels in the profile full, names that are none, and the profile core, which has none."""
+    for command in COMMANDS:
+        for name in ["roman-8", "latin-1", "windows-1252", "pc-8", "ascii", "utf-8"]:
+            yield [command, "--profile=full", "--characters", name, "line.plt"], DONE
+            yield [command, f"--characters={name}", "--profile=core", "line.plt"], NO_CHARACTERS
+        yield ["draw", "--characters", "utf-8", "line.plt", "-o", "labels"], DONE
+        for word in ["", " ", "utf8", "UTF-8", "ascii ", " ascii", "latin-2", "latin-10", "roman8", "277", "\u00e9", "a" * LONG]:
+            yield [command, f"--characters={word}", "--profile=full"], BAD_CHARACTERS
+            yield [command, "--characters", word, "line.plt"], BAD_CHARACTERS
+
+
 def pens_by_option():
     """Lists of colours and of widths, and what is no assignment in them."""
     for command in ["draw", *COMMANDS]:
@@ -424,6 +443,13 @@ def orders_of_refusal():
     yield ["pbm", "--page=none", "missing.plt"], BAD_PAGE
     yield ["report", "--page=a4", "--width=64", "missing.plt"], PAGE_AND_SIDE
     yield ["pbm", "--profile=none", "--sheet=-1"], BAD_SHEET
+    yield ["pbm", "--characters=none", "--sheet=-1"], BAD_SHEET
+    yield ["ppm", "--characters=none", "--profile=none", "--sheet=1"], BAD_CHARACTERS
+    yield ["report", "--characters=ascii", "--profile=none"], BAD_PROFILE
+    yield ["pcl", "--characters=ascii", "--sheet=1"], NO_SHEETS
+    yield ["png", "--characters=ascii", "--margin=1"], NO_CHARACTERS
+    yield ["draw", "--characters=ascii", "--profile=core", "--margin=1", "missing.plt"], NO_CHARACTERS
+    yield ["draw", "--characters=none", "--sheet=each"], BAD_CHARACTERS
     yield ["pbm", "--colours=1=bleu", "--pens=0"], BAD_LIST
     yield ["pbm", "--widths=1=fat", "--colours=1=bleu"], (2, b"plotraster: bad colours: 1=bleu\n")
     yield ["png", "--widths=1=fat", "--dots=1200", "--smooth=2"], (2, b"plotraster: bad widths: 1=fat\n")
@@ -472,8 +498,8 @@ def bytes_that_are_no_text():
 
 GENERATORS = [
     plain, commands, numbers_in_range, numbers_out_of_range, no_numbers, values_missing, options_twice, unknown_options,
-    options_of_pictures, smoothing, lists_of_pens, fitted_pages, drawings, pages, profiles, sheets, pens_by_option, sizes,
-    resolutions_of_pcl, files, after_two_hyphens, calls_for_help, orders_of_refusal, bytes_that_are_no_text,
+    options_of_pictures, smoothing, lists_of_pens, fitted_pages, drawings, pages, profiles, sheets, characters, pens_by_option,
+    sizes, resolutions_of_pcl, files, after_two_hyphens, calls_for_help, orders_of_refusal, bytes_that_are_no_text,
 ]
 
 

@@ -29,8 +29,9 @@ FIT_OPTIONS = {"margin": (0, 100, 1)}
 DRAW_OPTIONS = {"dots": (10, 1200, 150), "size": (16, 20_000, None), "smooth": (1, MOST_SMOOTHING, 4), "margin": (0, 100, 5)}
 MOST_SHEETS = 4_194_304
 EACH = "each"
+CHARACTERS = ("roman-8", "latin-1", "windows-1252", "pc-8", "ascii", "utf-8")
 NO_SUCH_FORM = "no such form of picture: use png, ppm, pbm, pcl or marks, after --form or as the extension of the output file"
-TEXTS = ("profile", "sheet", "page", "fit", "colours", "colors", "widths")
+TEXTS = ("profile", "sheet", "characters", "page", "fit", "colours", "colors", "widths")
 
 
 class Request(NamedTuple):
@@ -42,6 +43,7 @@ class Request(NamedTuple):
     margin: int = None  # of the page that is fitted
     sheet: object = None  # in core None, else a number, 0 for all, or EACH
     is_sheet_named: bool = False
+    characters: str = None  # how the bytes of labels are read; None as the plot chooses
     pens: object = frozenset(range(1, 256))
     carousel: Carousel = carousel.EMPTY
     dots: int = None
@@ -153,15 +155,19 @@ def with_page(request, options):
 
 
 def with_sheet(request, options):
-    """A request with its sheet."""
+    """A request with its sheet and its characters."""
     profile, text = options.get("profile", "full" if request.is_draw else "core"), options.get("sheet", "1")
     if text != EACH and (not re.fullmatch(r"\+?[0-9]+", text) or int(text) > MOST_SHEETS):
         raise Mistake(f"bad sheet: use a number from 0 to {MOST_SHEETS}, or {EACH}")
+    characters = options.get("characters")
+    if characters not in (None, *CHARACTERS):
+        raise Mistake(f"bad characters: use {', '.join(CHARACTERS[:-1])} or {CHARACTERS[-1]}")
     if profile not in ("core", "full"):
         raise Mistake("bad profile")
     if profile == "core":
-        if "sheet" in options:
-            raise Mistake("--sheet needs --profile full")
+        for name in ("sheet", "characters"):
+            if name in options:
+                raise Mistake(f"--{name} needs --profile full")
         return request
     if "sheet" not in options and request.is_draw and request.folder:
         text = EACH
@@ -170,7 +176,8 @@ def with_sheet(request, options):
             raise Mistake("--sheet each needs a picture")
         if not request.folder:
             raise Mistake("--sheet each needs --output FOLDER")
-    return request._replace(sheet=text if text == EACH else int(text), is_sheet_named="sheet" in options)
+    sheet = text if text == EACH else int(text)
+    return request._replace(sheet=sheet, is_sheet_named="sheet" in options, characters=characters)
 
 
 def margin_of(command, options, numbers):

@@ -110,14 +110,19 @@ def numbers(plot, place):
         end = END_OF_NUMBERS.match(plot, place)
         if end:
             return found, end.end()
-        number = NUMBER.match(plot, place)
-        whole = number[2].lstrip(b"0") if number and number[2] else b""
-        if not number or len(whole) > 7 or int(whole or 0) > LARGEST_WHOLE:
-            raise BadFrom(place)
-        decimals = (number[3] or number[4] or b"")[:6].ljust(6, b"0")
-        size = int(whole or 0) * MILLION + int(decimals)
-        found.append(-size if number[1] == b"-" else size)
-        place = number.end()
+        number, place = one_number(plot, place)
+        found.append(number)
+
+
+def one_number(plot, place):
+    """The number at a place, in millionths, and the place after it."""
+    number = NUMBER.match(plot, place)
+    whole = number[2].lstrip(b"0") if number and number[2] else b""
+    if not number or len(whole) > 7 or int(whole or 0) > LARGEST_WHOLE:
+        raise BadFrom(place)
+    decimals = (number[3] or number[4] or b"")[:6].ljust(6, b"0")
+    size = int(whole or 0) * MILLION + int(decimals)
+    return -size if number[1] == b"-" else size, number.end()
 
 
 def label(plot, place, terminator):

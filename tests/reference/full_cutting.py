@@ -7,19 +7,24 @@ The core's items, and those of further instructions. An item of the kind `known`
 import re
 
 from . import cutting
-from .cutting import SKIPPED, BadFrom, Item
+from .cutting import MILLION, SKIPPED, BadFrom, Item, rounded
 
 FURTHER_WITH_NUMBERS = """
-    LT UL WU PT SR SL DR DV LO CP ES TL XT YT PM EP FP FT AC RA RR EW WG AT RT BZ BR CT IR CR
+    LT UL WU PT SR SL DR DV LO CP ES TL XT YT PM EP FP FT AC RA RR EW WG AT RT BZ BR CT IR CR CS CA SD AD
 """.split()
 # Instructions whose numbers are not read.
-WITHOUT_NUMBERS = "PG AF AH NR FR BP PB".split()
+WITHOUT_NUMBERS = "PG AF AH NR FR BP PB SS SA".split()
 WITHOUT_EFFECT = """
-    PS NP LA TR MC PP MT QL ST VS FS AS AP EC GC GM SD AD SS SA CS CA FN FI SB DS IV CM CF CC LM TD RF MG IM KY
+    PS NP LA TR MC PP MT QL ST VS FS AS AP EC GC GM FN FI SB DS IV CM CF CC LM TD RF MG IM KY
     DC DP OA OC OD OE OF OG OH OI OK OL OO OP OS OT OW
 """.split()
 # A comment: a quoted text if one comes first, and all up to its `;`.
 COMMENT = re.compile(rb'[ \t\r\n]*(?:"[^"]*(?:"|\Z))?[^;]*;?')
+BLANKS = re.compile(rb"[ \t\r\n]*")
+
+
+class Printed(int):
+    """A terminator that is the last byte of its text, too."""
 
 
 def items(plot):
@@ -43,10 +48,30 @@ def instruction(plot, at, terminator):
     if code == "CO":
         return Item(at, code, "known"), COMMENT.match(plot, place).end()
     if code in ("BL", "WD"):
-        text, end, _ = cutting.label(plot, place, terminator)
-        return Item(at, code, "text" if code == "BL" else "known", text), end
+        text, end, is_open = cutting.label(plot, place, terminator)
+        return Item(at, code, "text" if code == "BL" else "known", whole_text(text, terminator, is_open)), end
     if code == "SM":
         taken = plot[place : place + 1].replace(b";", b"")
         symbol = taken[0] if taken and 33 <= taken[0] <= 126 else None
         return Item(at, code, "byte", symbol), SKIPPED.match(plot, place + len(taken)).end()
-    return cutting.instruction(plot, at, terminator)
+    item, end = cutting.instruction(plot, at, terminator)
+    if item.kind == "label":
+        item = item._replace(has=whole_text(item.has, terminator, item.is_open))
+    elif item.kind == "terminator" and plot[place] != ord(";") and is_printed(plot, place + 1):
+        item = item._replace(has=Printed(item.has))
+    return item, end
+
+
+def whole_text(text, terminator, is_open):
+    """A text with its terminator, if that is printed."""
+    return text + bytes([terminator]) if isinstance(terminator, Printed) and not is_open else text
+
+
+def is_printed(plot, place):
+    """Whether the mode of a DT is 0, by what follows its byte: a comma, and a number that rounds to 0."""
+    if plot[place : place + 1] != b",":
+        return False
+    try:
+        return rounded(cutting.one_number(plot, BLANKS.match(plot, place + 1).end())[0], MILLION) == 0
+    except BadFrom:
+        return False

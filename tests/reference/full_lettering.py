@@ -3,17 +3,34 @@
 A place of a label is a column and a line: so many places on, and so many lines on.
 """
 
+import os
 from fractions import Fraction
 from typing import NamedTuple
 
-from . import lettering
+from .characters import BACK, LINE_FEED, RETURN, TAB
 from .cutting import rounded
 from .directions import swung
 from .geometry import turned
 
-RETURN, LINE_FEED = 13, 10
 PATHS = ((1, 0), (0, -1), (-1, 0), (0, 1))
 IN_THE_MIDDLE = 5
+BOX = "0,0 0,6 4,6 4,0 0,0"
+FONT = os.path.join(os.path.dirname(os.path.abspath(__file__)), "full_font.txt")
+
+
+def polylines(text):
+    """The polylines of a row of the font, as lists of points."""
+    return [[tuple(map(int, point.split(","))) for point in line.split()] for line in text.split("/") if line.strip()]
+
+
+def read_font():
+    """The polylines of each code point that has a row."""
+    with open(FONT, encoding="ascii") as rows:
+        parts = [row.rstrip("\n").partition(" ") for row in rows if not row.startswith("#")]
+    return {int(code, 16): polylines(lines) for code, _, lines in parts}
+
+
+GLYPHS = read_font()
 
 
 class Style(NamedTuple):
@@ -49,36 +66,38 @@ class Style(NamedTuple):
     def swung(self, dx, dy):
         return swung((dx, dy), self.direction)
 
-    def strokes(self, text):
+    def strokes(self, signs):
         """The strokes of a label, as offsets from its start."""
-        for byte, column, line, count in printed(text):
-            yield from self.letter(byte, column, line, count)
+        for code, column, line, greatest in printed(signs):
+            yield from self.letter(code, column, line, greatest)
 
-    def letter(self, byte, column=0, line=0, count=1):
-        """The strokes of a letter in a part of so many letters."""
+    def letter(self, code, column, line, greatest):
+        """The strokes of a letter in a part whose greatest column is given."""
         x, y = self.way(column, line)
-        to_the_left, down = self.displacement(count)
-        for ends in lettering.strokes(byte):
-            yield tuple(self.point(byte, x - to_the_left, y - down, *end) for end in ends)
+        to_the_left, down = self.displacement(greatest)
+        for points in GLYPHS.get(code, polylines(BOX)):
+            for ends in zip(points, points[1:] or points):
+                yield tuple(self.point(x - to_the_left, y - down, *end) for end in ends)
 
     def displacement(self, count):
-        """How far a part of so many letters lies left of and below its start, in twelfths and eighteenths."""
+        """How far a part of so many places lies left of and below its start, in twelfths and eighteenths."""
         column, row = self.anchor()
         x, y = column * (9 * self.steps[0] * (count - 1) + 6), 9 * row
         return (x + 6 * (column - 1), y + 9 * (row - 1)) if self.has_gap() else (x, y)
 
-    def point(self, byte, x, y, i, j):
+    def point(self, x, y, i, j):
         """A point of a letter's grid; the letter begins at x twelfths of the width, y eighteenths of the height."""
-        part = 2 if chr(byte).islower() else 3
         width, height = self.size
-        dx = times(x + part * i, width, 12) + times(self.slant, part * j * height, 18)
-        return self.swung(dx, times(y + part * j, height, 18))
+        dx = times(x + 3 * i, width, 12) + times(self.slant, 3 * j * height, 18)
+        return self.swung(dx, times(y + 3 * j, height, 18))
 
-    def end(self, text):
+    def end(self, signs):
         """Where the pen is after a label, as an offset."""
-        columns, lines = counts(text)
+        column = 0
+        for sign in signs:
+            column = next_column(column, sign)
         share = Fraction(2 - self.anchor()[0], 2)
-        return self.offset(columns * share, lines)
+        return self.offset(column * share, signs.count(LINE_FEED))
 
 
 def times(number, length, parts):
@@ -91,23 +110,38 @@ def size_of(percents, d, e):
     return tuple(rounded(16 * side * percent, 100_000_000) for side, percent in zip((d, e), percents))
 
 
-def is_printed(byte):
-    return 32 <= byte <= 126
+def next_column(column, sign):
+    """The column after a sign."""
+    if sign == RETURN:
+        return 0
+    if sign == BACK:
+        return column - 1
+    if sign == TAB:
+        return 8 * (column // 8 + 1)
+    return column if sign == LINE_FEED else column + 1
 
 
-def printed(text):
-    """Each printed byte with its column, its line, and the count of those in its part."""
+def parts_of(signs):
+    """The parts of a label, which returns separate."""
+    parts = [[]]
+    for sign in signs:
+        if sign == RETURN:
+            parts.append([])
+        else:
+            parts[-1].append(sign)
+    return parts
+
+
+def printed(signs):
+    """Each printed code point with its column, its line, and the greatest column of its part, at least 1."""
     line = 0
-    for part in text.split(bytes([RETURN])):
-        count, column = sum(map(is_printed, part)), 0
-        for byte in part:
-            if byte == LINE_FEED:
+    for part in parts_of(signs):
+        columns = [0]
+        for sign in part:
+            columns.append(next_column(columns[-1], sign))
+        greatest = max(1, *columns)
+        for sign, column in zip(part, columns):
+            if sign == LINE_FEED:
                 line += 1
-            elif is_printed(byte):
-                yield byte, column, line, count
-                column += 1
-
-
-def counts(text):
-    """The column and the line after a text."""
-    return sum(map(is_printed, text.split(bytes([RETURN]))[-1])), text.count(LINE_FEED)
+            elif sign > TAB:
+                yield sign, column, line, greatest

@@ -10,6 +10,7 @@ from typing import NamedTuple
 
 from . import curves, fills, line_types
 from .carousel import EMPTY
+from .characters import LINE_FEED, selected_after
 from .cutting import MILLION, rounded
 from .directions import length, moved
 from .full_cutting import items
@@ -27,11 +28,12 @@ TICKS_OF_A_UNIT = 16 * TICKS_OF_A_GRAIN
 MIDDLE_OF_A_UNIT = (0, 8)
 
 
-def draw(plot, page, carousel=EMPTY, most=MOST_STROKES):
+def draw(plot, page, carousel=EMPTY, most=MOST_STROKES, characters=None):
     """The strokes of all sheets and the notes of a plot; it is refused if it has more strokes than most."""
     if len(plot) > LONGEST_PLOT:
         raise Refused(f"plot is longer than {LONGEST_PLOT} bytes")
     plotter = FullPlotter(page, carousel, most)
+    plotter.characters = characters
     for item in items(plot):
         plotter.obey(item)
         if plotter.has_too_much():
@@ -141,21 +143,23 @@ class FullPlotter(FullSettings):
     def move(self, x, y):
         super().move(x, y)
         if self.symbol and not self.is_in_polygon:
-            self.write_from_the_pen(self.style()._replace(path=0, line=0, origin=IN_THE_MIDDLE), bytes([self.symbol]))
+            style = self.style()._replace(path=0, line=0, origin=IN_THE_MIDDLE)
+            self.write_from_the_pen(style, self.signs(bytes([self.symbol])))
 
     # Labels and ticks
 
-    def write_from_the_pen(self, style, text):
-        for ends in style.strokes(text):
+    def write_from_the_pen(self, style, signs):
+        for ends in style.strokes(signs):
             self.ink(*(self.in_range(moved(self.place, end)) for end in ends))
 
     def write(self, text):
         """LB: the strokes of each character; the pen ends as the origin says."""
-        style = self.style()
-        self.write_from_the_pen(style, text)
-        self.margin = moved(self.margin, style.offset(0, text.count(b"\n")))
-        self.place = self.in_range(moved(self.place, style.end(text)))
+        style, signs = self.style(), self.signs(text)
+        self.write_from_the_pen(style, signs)
+        self.margin = moved(self.margin, style.offset(0, signs.count(LINE_FEED)))
+        self.place = self.in_range(moved(self.place, style.end(signs)))
         self.recompute()
+        self.selected = selected_after(text, self.selected)
 
     def PB(self, _):
         """Writes the text that BL has kept."""

@@ -6,7 +6,7 @@ Each instruction has a method of its name. Percentages and what depends on P1 an
 from fractions import Fraction
 from typing import NamedTuple
 
-from . import line_types
+from . import characters, line_types
 from .cutting import MILLION, rounded
 from .directions import root, unit
 from .full_lettering import Style, size_of
@@ -23,6 +23,9 @@ USUAL_LENGTH = (4 * MILLION, 0)
 USUAL_RANGES = ((0, 255),) * 3
 USUAL_TICK = (MILLION // 2, MILLION // 2)
 ORIGINS = (*range(1, 10), *range(11, 20), 21)
+# The standard and the alternate set and font.
+STANDARD, ALTERNATE = 0, 1
+SET, SPACING, PITCH, HEIGHT = 1, 2, 3, 4
 SOLID_FILLS, HATCHING, CROSS_HATCHING, SHADING, PATTERNS = (1, 2), 3, 4, 10, (11, 21, 22)
 
 
@@ -38,8 +41,23 @@ class Direction(NamedTuple):
     is_relative: bool  # to the distances from P1 to P2
 
 
+class Font(NamedTuple):
+    """The pitch is in millionths of characters an inch, the height in millionths of a point."""
+
+    is_proportional: bool = False
+    pitch: int = 9 * MILLION
+    height: int = 11_500_000
+
+    def size(self):
+        """The width and the height of a capital in grains."""
+        width = (1980 * self.height, 23 * MILLION) if self.is_proportional else (10_944 * MILLION, self.pitch)
+        return rounded(*width), rounded(3456 * self.height, 23 * MILLION)
+
+
 class FullSettings(Plotter):
-    """The settings of a plotter of the profile full."""
+    """The settings of a plotter of the profile full; characters is how texts are read, or None if the plot chooses."""
+
+    characters = None
 
     def IN(self, numbers):
         self.is_percent = False  # how PW is read
@@ -56,7 +74,8 @@ class FullSettings(Plotter):
         self.line_type = self.remembered = SOLID
         self.pattern_length, self.patterns = USUAL_LENGTH, {}
         self.run = None  # the place where the last dashed line ended, and its phase there
-        self.relative_size = None
+        self.is_sized, self.relative_size = False, None
+        self.sets, self.fonts, self.selected = [characters.ROMAN_8] * 2, [Font()] * 2, STANDARD
         self.direction = Direction(MILLION, 0, False)
         self.slant, self.space, self.origin, self.path, self.symbol = 0, (0, 0), 1, (0, 0), None
         self.text = b""
@@ -177,9 +196,64 @@ class FullSettings(Plotter):
 
     # Letters
 
+    def CS(self, numbers):
+        """The standard set."""
+        return self.set_by(STANDARD, characters.BY_HP_NUMBER, *(listed(numbers, 0, 1) or [0]))
+
+    def CA(self, numbers):
+        """The alternate set."""
+        return self.set_by(ALTERNATE, characters.BY_HP_NUMBER, *(listed(numbers, 0, 1) or [0]))
+
+    def set_by(self, which, rows, number):
+        """The set of a number; without a row it stays, which is worth a note."""
+        name = rows.get(rounded(number, MILLION))
+        self.sets[which] = name or self.sets[which]
+        return None if name else "skipped"
+
+    def SS(self, _):
+        """Selects the standard set and font."""
+        self.selected = STANDARD
+
+    def SA(self, _):
+        """Selects the alternate set and font."""
+        self.selected = ALTERNATE
+
+    def SD(self, numbers):
+        """The standard font, by kinds and values."""
+        return self.set_font(STANDARD, numbers)
+
+    def AD(self, numbers):
+        """The alternate font, by kinds and values."""
+        return self.set_font(ALTERNATE, numbers)
+
+    def set_font(self, which, numbers):
+        if len(numbers) % 2:
+            raise Bad
+        pairs = [(rounded(kind, MILLION), value) for kind, value in zip(numbers[::2], numbers[1::2])]
+        font = self.fonts[which] if pairs else Font()
+        for kind, value in pairs:
+            if kind == SPACING:
+                font = font._replace(is_proportional=whole(value, 0, 1) == 1)
+            elif kind == PITCH:
+                font = font._replace(pitch=within(value, MILLION // 10, 1500 * MILLION))
+            elif kind == HEIGHT:
+                font = font._replace(height=within(value, MILLION // 10, 1500 * MILLION))
+        self.fonts[which] = font
+        numbers_of_sets = [value for kind, value in pairs if kind == SET] if pairs else [277 * MILLION]
+        notes = [self.set_by(which, characters.BY_SYMBOL_SET, number) for number in numbers_of_sets]
+        return "skipped" if any(notes) else None
+
+    def signs(self, text):
+        """The signs of a text, by what is set."""
+        if self.characters == characters.UTF_8:
+            return list(characters.signs_of_utf_8(text))
+        if self.characters:
+            return list(characters.signs(text, [self.characters] * 2, STANDARD))
+        return list(characters.signs(text, self.sets, self.selected))
+
     def SI(self, numbers):
         super().SI(numbers)
-        self.relative_size = None
+        self.is_sized, self.relative_size = numbers != [], None
 
     def SR(self, numbers):
         """The size of characters in percent of the distances from P1 to P2."""
@@ -235,8 +309,9 @@ class FullSettings(Plotter):
         d, e = self.distances()
         run, rise, is_relative = self.direction
         direction = unit(d * run, e * rise) if is_relative else unit(run, rise)
+        size = self.size if self.is_sized else self.fonts[self.selected].size()
         return Style(
-            size_of(self.relative_size, d, e) if self.relative_size else self.size,
+            size_of(self.relative_size, d, e) if self.relative_size else size,
             turned(*direction, self.rotation),
             Fraction(self.slant, MILLION),
             tuple(1 + Fraction(n, MILLION) for n in self.space),

@@ -58,11 +58,11 @@ class Drawing(NamedTuple):
     sheets: int = None
 
 
-def draw(plot, page, sheet, carousel=EMPTY):
+def draw(plot, page, sheet, carousel=EMPTY, characters=None):
     """What a plot draws in the profile core, if there is no sheet, or in full; those of all sheets are 0's."""
     if sheet is None:
         return Drawing(*plotter.draw(plot, page, carousel))
-    strokes, notes = full_plotter.draw(plot, page, carousel)
+    strokes, notes = full_plotter.draw(plot, page, carousel, characters=characters)
     sheets = max((stroke.sheet for stroke in strokes), default=0)
     return Drawing([stroke for stroke in strokes if sheet in (0, EACH, stroke.sheet)], notes, sheets)
 
@@ -83,7 +83,7 @@ def shown_by(request, plot):
     if request.is_page_asked:
         asked = asked_page(plot, request)
         page, why = asked or page, None if asked else "the default one: the plot asks for no size"
-    drawing = draw(plot, page, request.sheet, request.carousel)
+    drawing = draw(plot, page, request.sheet, request.carousel, request.characters)
     strokes = drawing.strokes
     if request.form != "report":
         strokes = [stroke for stroke in strokes if stroke.pen in request.pens]

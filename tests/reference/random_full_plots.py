@@ -12,6 +12,8 @@ from .geometry import Page
 from .plotter import Refused
 from .random_plots import Writer
 
+# The names of --characters.
+NAMES = ("roman-8", "latin-1", "windows-1252", "pc-8", "ascii", "utf-8", "utf-8")
 # The most strokes.
 MOST_OF_A_REPORT, MOST_OF_A_PICTURE = 2000, 200
 SHEETS = ("0", "0", "0", "1", "2", "3")
@@ -38,6 +40,9 @@ THEMES = [
         "sheet sheet PD LB RR SP PC IN BP",
         "known comment WD CO BL SM PG between skipped PD LB DT",
         "IR IR SC RO IP PD PU RR EA LB AC hatching",
+        "characters characters characters text text CS CA SD AD SS SA DT PD",
+        "text text SD AD SI SR CP LO ES DV DI PD SM characters",
+        "CS CA SA SS text BL PB DT LB DF IN BP SM PD IP mirrored",
         "LT UL WU PW PT PC CR IR SR DR DI SL ES LO DV CP BL PB SM TL XT YT PM EP FP FT AC RR EW WG AT RT BZ BR CT sheet",
         "LT PD LB FP PM EP FT RR SM IN DF IP SC RO IW SP PU PD PA PR PE EA ER CI AA AR LB DT SI DI",
         "PD PD PR AR ER CI IW LB units units bad",
@@ -45,8 +50,19 @@ THEMES = [
 ]
 DRAWING = ("PD", "PD", "PR", "PE", "EA", "ER", "CI", "AA", "LB", "RR", "EP", "FP", "BZ", "AT", "WG", "YT")
 KNOWN = (
-    b"PS100,200;", b"NP8;", b"LA1,4,2,4;", b"TR0;", b"MC1;", b"PP", b"VS20", b"SD1,277;", b"AD", b"SS;", b"SA", b"CS5;",
+    b"PS100,200;", b"NP8;", b"LA1,4,2,4;", b"TR0;", b"MC1;", b"PP", b"VS20",
     b"OE;", b"OI", b"DP", b"GM;", b"FN2", b"ST", b"RF1,1,1,0;", b"LM1;", b"TD1", b'QL"PD;"', b"EC", b"ow",
+)
+# Numbers of sets in SD and AD, and in CS and CA; the last two of each have no set.
+SYMBOL_SETS = (277, 14, 629, 341, 21, 85, 37, 39, 38, 6, 9, 83, 147, 115, 19, 4, 36, 11, 9999, -1)
+HP_NUMBERS = (0, 1, 2, 3, 4, 6, 7, 9, *range(30, 40), 5, -1)
+# What may follow the byte of a DT: the mode 0 or another one.
+MODES = (b"", b",0", b",0", b",1", b",2", b", 0", b" ,0", b",.4", b",-.5", b",.5", b",,0", b",0x", b",+0", b",00", b",8388608")
+# What a label's text has beside printed characters of any kind: CR, LF, back, tab, shifts, parts of UTF-8.
+CONTROLS_OF_TEXTS = (b"\r", b"\n", b"\b", b"\b", b"\t", b"\x0e", b"\x0f", b"\x0e|", b"\x7f", b"\x1b", b"\0")
+UTF_8_PARTS = (
+    "ü".encode(), "µ".encode(), "€".encode(), "\x85".encode(), "丼".encode(), "😀".encode(), b"\xc3", b"\xc0\x80", b"\xed\xa0\x80",
+    b"\xe2\x82", b"\xf4\x90\x80\x80", b"\x80", b"\xf0\x9f\x98",
 )
 COMMENTS = (
     b'COa "PD9,9" x;', b'CO"a;b" c;', b'CO "PD;', b"CO;", b"CO PD5,5;", b"CO", b"WDPD9,9;\x03", b"WDab;", b"UC1,2;", b"ZZ1;",
@@ -90,6 +106,8 @@ class FullWriter(Writer):
             options["sheet"] = self.pick(*SHEETS)
         elif self.is_wild and self.chance(5):
             options["sheet"] = self.pick("4194304", "4194305", "-1", "x", "")
+        if self.chance(20):
+            options["characters"] = self.pick(*NAMES, *(("UTF-8", "german", "") if self.is_wild else ()))
         return form, options
 
     def piece(self, name):
@@ -106,6 +124,11 @@ class FullWriter(Writer):
             "flat": self.flat_arc,
             "sheet": lambda: self.pick(b"PG", b"AF", b"AH", b"NR", b"FR", b"pg") + self.pick(*WITHOUT_NUMBERS),
             "known": lambda: self.pick(*KNOWN),
+            "characters": self.chosen_characters,
+            "text": self.text,
+            "SS": lambda: b"SS" + self.pick(*WITHOUT_NUMBERS),
+            "SA": lambda: b"SA" + self.pick(*WITHOUT_NUMBERS),
+            "DT": self.terminator_and_mode,
             "comment": lambda: self.pick(*COMMENTS),
             "SM": self.symbol,
             "BL": lambda: b"BL" + self.label(),
@@ -158,6 +181,50 @@ class FullWriter(Writer):
         """Shading, what it fills, and what would change it if it were hatching."""
         level = self.pick(b"", b",50", b",0", b",100", b",99.5", b",7", b",30")
         return self.pick(b"", b"AC1,2;", b"PW1;") + b"FT10" + level + b";" + self.piece(self.pick("RR", "WG", "polygon"))
+
+    def chosen_characters(self):
+        """A set or a font, what selects it, and a text that shows it."""
+        plot = self.piece(self.pick("CS", "CA", "SD", "AD", "SD", "AD"))
+        return plot + self.pick(b"", b"", b"SA;", b"SS;", b"SA", b"SI;") + self.text()
+
+    def text(self):
+        """A label of any bytes."""
+        parts = [self.part_of_a_text() for _ in range(self.pick(1, 1, 2, 3, 5))]
+        end = self.pick(self.terminator, self.terminator, b"\x03", b"$")
+        return self.pick(b"LB", b"LB", b"LB", b"BL", b"lb") + b"".join(parts) + end
+
+    def part_of_a_text(self):
+        kind = self.upto(99)
+        if kind < 25:
+            return self.pick(*CONTROLS_OF_TEXTS)
+        if kind < 40:
+            return self.pick(*UTF_8_PARTS)
+        if kind < 60:
+            return self.pick(*(bytes([byte]) for byte in b"#$'@[\\]^`{|}~"))
+        return bytes([self.pick(self.random.randint(32, 126), self.random.randint(97, 122), self.random.randint(128, 255))])
+
+    def terminator_and_mode(self):
+        self.terminator = self.pick(b"$", b"$", b"#", b"\r", b"\x03", b"\b", b"a", b"\x0e")
+        return b"DT" + self.terminator + self.pick(*MODES) + self.pick(b";", b";", b"")
+
+    def of_CS(self):
+        number = self.pick(*HP_NUMBERS) * MILLION + self.pick(0, 0, 0, 499_999, -500_000)
+        return self.pick([], [number], [number], [number], [number, number])
+
+    of_CA = of_CS
+
+    def of_SD(self):
+        pairs, wild = [], (0.099999, 1500, 1500.1, -1) if self.is_wild else ()
+        for _ in range(self.pick(0, 1, 1, 1, 2, 3)):
+            kind = self.pick(1, 1, 2, 3, 4, 4, 5, 6, 7, *((0, -1, 8) if self.is_wild else ()))
+            value = {
+                1: self.pick(*SYMBOL_SETS) * MILLION,
+                2: self.pick(0, 1, 1, *((2, -1) if self.is_wild else ())) * MILLION,
+            }.get(kind, round(self.pick(9, 11.5, 18, 23, 4, 40, 0.1, 100, *wild) * MILLION))
+            pairs += [kind * MILLION + self.pick(0, 0, 0, 499_999, -500_000), value + self.pick(0, 0, 0, 1)]
+        return pairs + ([MILLION] if self.is_wild and self.chance(10) else [])
+
+    of_AD = of_SD
 
     def symbol(self):
         symbol = self.pick(b"*", b"X", b"a", b".", b"!", b"~", b" ", b"\x7f", b"\xff", b"\x1b", b'"', b"")

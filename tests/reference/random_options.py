@@ -1,5 +1,5 @@
 """Random plots of either profile with options that change what is drawn, or how much of it: colours and widths of pens,
-sheets apart, and previews by `draw`.
+characters, sheets apart, and previews by `draw`.
 
 The plot of a seed is that of the same seed without these options; sheets apart are of the profile full, and have ends of
 sheets put between items.
@@ -8,7 +8,7 @@ sheets put between items.
 import random
 
 from .carousel import NAMES
-from .command_line import MOST_DOTS, PICTURES, WITH_SHADES, Mistake, request_of
+from .command_line import CHARACTERS, MOST_DOTS, PICTURES, WITH_SHADES, Mistake, request_of
 from .full_cutting import items
 from .outputs import shown_by
 from .plotter import Refused
@@ -26,6 +26,7 @@ WRONG_WIDTHS = ("", "20.000001", "-1", "+1", ".", "1e1", "1,5", "999999999999999
 MOST_TESTS = 400_000
 SIZES = (16, 16, 16, 17, 18, 20, 24, 30, 33, 40)
 WRONG_SIZES = ("15", "0", "20001", "-16", "x", "")
+WRONG_CHARACTERS = ("latin1", "UTF-8", "utf8", "ascii ", "german", "277", "")
 # The options of a case that a preview keeps.
 KEPT = ("left", "below", "pens", "profile", "sheet")
 
@@ -34,7 +35,8 @@ def random_pens_case(seed):
     """A case with colours or widths of pens by option, one in three with `--fit`."""
     chance = random.Random(seed)
     case = with_pens(base_case(seed), chance)
-    return fitted_case(case, chance) if chance.random() < 0.3 else case
+    case = fitted_case(case, chance) if chance.random() < 0.3 else case
+    return with_characters(case, chance)
 
 
 def with_pens(case, chance):
@@ -69,6 +71,14 @@ def lightened(case):
     return case._replace(plot=light(case.plot, request.page, most, request.carousel))
 
 
+def with_characters(case, chance):
+    """The case, in three of ten with characters in the profile full, and in one of a hundred in core, which has none."""
+    if chance.random() >= (0.3 if case.options.get("profile", "full" if case.form == "draw" else "core") == "full" else 0.01):
+        return case
+    name = chance.choice(CHARACTERS) if chance.random() < 0.95 else chance.choice(WRONG_CHARACTERS)
+    return case._replace(options={**case.options, "characters": name})
+
+
 def random_apart_case(seed):
     """A case of the profile full whose sheets have files of their own in a folder."""
     chance = random.Random(seed)
@@ -86,7 +96,7 @@ def random_apart_case(seed):
     if chance.random() < 0.02:
         name, text = chance.choice(("sheet", "profile")), chance.choice(("core", "0", "EACH", "2"))
         case = case._replace(options={**case.options, name: text})
-    return case
+    return with_characters(case, chance)
 
 
 def with_ends_of_sheets(plot, chance):
@@ -114,7 +124,8 @@ def random_drawn_case(seed):
     asked = b"PS%d,%d;" % (chance.randint(10, 5000), chance.randint(64, 70_000))
     plot = chance.choice((b"", b"", b"PS;", b"PS900;", asked)) + case.plot
     case = case._replace(form="draw", options=options, plot=plot)
-    return small_case(with_pens(case, chance) if chance.random() < 0.4 else lightened(case), chance)
+    case = with_pens(case, chance) if chance.random() < 0.4 else lightened(case)
+    return with_characters(small_case(case, chance), chance)
 
 
 def page_options(chance):
