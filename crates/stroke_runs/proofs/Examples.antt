@@ -1,0 +1,124 @@
+-- Some strokes, and their runs.
+use Rattle.std.proofs.Common.{◌≡◌, ℕ, ℤ, pos, negsuc, [], ◌∷◌, refl, replicate, set, true, false}
+use Rattle.plot_page.specs.Segments.{Segment}
+use Rattle.plot_page.specs.declared.colour.Colour.{Colour}
+use Rattle.plot_page.specs.declared.pens.PenSet.{PenSet}
+use Rattle.plot_page.specs.declared.window.Window.{Window}
+use Rattle.stroke_runs.specs.declared.runs.Link.TheVariants.{Begins, Apart, Joined}
+use Rattle.stroke_runs.specs.Drawn.{is_drawn, is_alike, is_joined}
+use Rattle.stroke_runs.specs.Runs.{following, runs_of, runs}
+use Rattle.stroke_runs.specs.Links.{link_after}
+
+abbrev black : Colour
+black = record { red = 0; green = 0; blue = 0 }
+
+abbrev blue : Colour
+blue = record { red = 0; green = 0; blue = 255 }
+
+abbrev page : Window
+page = record { x0 = pos 0; y0 = pos 0; x1 = pos 1024; y1 = pos 1024 }
+
+abbrev corner : Window
+corner = record { x0 = pos 0; y0 = pos 0; x1 = pos 16; y1 = pos 16 }
+
+-- one place
+abbrev point : Window
+point = record { x0 = pos 5; y0 = pos 5; x1 = pos 5; y1 = pos 5 }
+
+abbrev nowhere : Window
+nowhere = record { x0 = pos 6; y0 = pos 0; x1 = pos 5; y1 = pos 9 }
+
+abbrev low : Window
+low = record { x0 = pos 0; y0 = pos 6; x1 = pos 5; y1 = pos 5 }
+
+-- from (x, y), 100 grains to the right
+abbrev stroke : ℕ → Colour → ℕ → Window → ℤ → ℤ → Segment
+stroke pen colour width window x y =
+    record { pen = pen; colour = colour; width = width; window = window; ax = x; ay = y; bx = pos 100; by = y }
+
+abbrev first : Segment
+first = stroke 1 black 56 page (pos 0) (pos 7)
+
+-- it begins where the first one ends
+abbrev next : Segment
+next = stroke 1 black 56 page (pos 100) (pos 7)
+
+abbrev other_pen : Segment
+other_pen = stroke 2 black 56 page (pos 100) (pos 7)
+
+abbrev other_colour : Segment
+other_colour = stroke 1 blue 56 page (pos 100) (pos 7)
+
+abbrev other_width : Segment
+other_width = stroke 1 black 57 page (pos 100) (pos 7)
+
+abbrev other_window : Segment
+other_window = stroke 1 black 56 corner (pos 100) (pos 7)
+
+abbrev all_pens : PenSet
+all_pens = record { chosen = replicate 256 true }
+
+abbrev pen_1 : PenSet
+pen_1 = record { chosen = set (replicate 256 false) 1 true }
+
+drawn_by_selected_pen : is_drawn pen_1 first ≡ true
+drawn_by_selected_pen = refl
+
+pen_not_selected : is_drawn pen_1 other_pen ≡ false
+pen_not_selected = refl
+
+window_of_one_place : is_drawn all_pens (stroke 1 black 56 point (pos 0) (pos 0)) ≡ true
+window_of_one_place = refl
+
+empty_window : is_drawn all_pens (stroke 1 black 56 nowhere (pos 0) (pos 0)) ≡ false
+empty_window = refl
+
+empty_upright : is_drawn all_pens (stroke 1 black 56 low (pos 0) (pos 0)) ≡ false
+empty_upright = refl
+
+places_do_not_matter : is_alike first next ≡ true
+places_do_not_matter = refl
+
+follows : is_joined first next ≡ true
+follows = refl
+
+does_not_follow : is_joined next first ≡ false
+does_not_follow = refl
+
+follows_below : is_joined first (stroke 1 black 56 page (pos 100) (negsuc 6)) ≡ false
+follows_below = refl
+
+no_runs : runs all_pens [] ≡ []
+no_runs = refl
+
+one_run : runs all_pens (first ∷ next ∷ first ∷ []) ≡ (first ∷ next ∷ first ∷ []) ∷ []
+one_run = refl
+
+pen_breaks : runs_of (first ∷ other_pen ∷ first ∷ []) ≡ (first ∷ []) ∷ (other_pen ∷ []) ∷ (first ∷ []) ∷ []
+pen_breaks = refl
+
+colour_breaks : runs_of (first ∷ other_colour ∷ other_colour ∷ []) ≡ (first ∷ []) ∷ (other_colour ∷ other_colour ∷ []) ∷ []
+colour_breaks = refl
+
+width_breaks : runs_of (first ∷ next ∷ other_width ∷ []) ≡ (first ∷ next ∷ []) ∷ (other_width ∷ []) ∷ []
+width_breaks = refl
+
+window_breaks : runs_of (first ∷ other_window ∷ []) ≡ (first ∷ []) ∷ (other_window ∷ []) ∷ []
+window_breaks = refl
+
+-- a stroke that is not drawn breaks nothing
+skipped : runs pen_1 (first ∷ other_pen ∷ next ∷ []) ≡ (first ∷ next ∷ []) ∷ []
+skipped = refl
+
+-- if two more fit, the third begins another run
+full : following first 2 (next ∷ next ∷ next ∷ []) ≡ record { rest = next ∷ next ∷ []; runs = (next ∷ []) ∷ [] }
+full = refl
+
+goes_on_there : link_after first 999 next ≡ Joined
+goes_on_there = refl
+
+goes_on_elsewhere : link_after first 1 first ≡ Apart
+goes_on_elsewhere = refl
+
+no_room : link_after first 0 next ≡ Begins
+no_room = refl

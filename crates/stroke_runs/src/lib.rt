@@ -1,0 +1,9 @@
+//! Runs: strokes that follow one another and are drawn in one way, as a vector document draws them in one path.
+#![tactic(auto)]
+
+mod drawn;
+pub mod laws;
+mod runs;
+
+pub use drawn::{is_drawn, is_same_window};
+pub use runs::{Link, MOST_IN_RUN, Runs};
