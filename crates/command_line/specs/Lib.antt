@@ -1,5 +1,5 @@
--- What a reader must believe: the command, its defaults, the papers, forms, sheets and characters that it names, what its matches ask
--- for, what is wrong with them, and exit statuses.
+-- What a reader must believe: the command, its defaults, the papers, forms, sheets and characters that it names, what
+-- its matches ask for, what is wrong with them, and exit statuses.
 pub mod Defaults
 pub mod Options
 pub mod Papers

@@ -1,7 +1,7 @@
 //! Directions.
-ghost use Rattle.std.specs.Prelude.{◌≡◌, ◌+◌, ◌*◌, ◌≤◌, ◌<◌, ◌^◌, max, pos, nat_abs};
+ghost use Rattle.std.specs.Prelude.{◌≡◌, ◌+◌, ◌*◌, ◌≤◌, ◌<◌, ◌^◌, ◌≤ℤ◌, max, pos, nat_abs};
 ghost use Rattle.directions.specs.Bounds.{IsWithin};
-ghost use Rattle.directions.specs.Directions.{unit, turned, swung};
+ghost use Rattle.directions.specs.Directions.{unit, turned, swung, with_sign_of};
 ghost use Rattle.directions.specs.Directions.{surplus_of, shortened, part_in, size_in, rounded_part};
 
 use crate::turn::Turn;
@@ -44,6 +44,28 @@ impl Direction {
         requires not_both { 0 < nat_abs u + nat_abs v }
         ensures { result ≡ unit u v }
     {
+        if v == 0 {
+            return Direction {
+                x: with_sign_of(u, ONE),
+                y: 0,
+            };
+        }
+        if u == 0 {
+            return Direction {
+                x: 0,
+                y: with_sign_of(v, ONE),
+            };
+        }
+        Direction::between(u, v)
+    }
+
+    // The same for any vector, with divisions and roots, which directions along an axis do not need.
+    fn between(u: i128, v: i128) -> Direction
+        requires u_in { nat_abs u ≤ 2 ^ 125 }
+        requires v_in { nat_abs v ≤ 2 ^ 125 }
+        requires not_both { 0 < nat_abs u + nat_abs v }
+        ensures { result ≡ unit u v }
+    {
         let digits = surplus(u, v);
         let u = shortened(u, digits);
         let v = shortened(v, digits);
@@ -79,7 +101,26 @@ impl Direction {
 
     /// An offset that follows this direction: what pointed to the right points in the direction. Each
     /// coordinate is rounded once.
+    #[inline]
     pub fn swung(self, offset: Spot) -> Spot
+        requires { IsWithin (2 ^ 93) offset }
+        ensures value { result ≡ swung self offset }
+        ensures within { IsWithin (2 ^ 95) result }
+    {
+        if self.x == ONE && self.y == 0 {
+            return offset;
+        }
+        if self.x == 0 && self.y == ONE {
+            return Spot {
+                x: -offset.y,
+                y: offset.x,
+            };
+        }
+        self.swung_between(offset)
+    }
+
+    // The same for any direction, with products, which the two most usual directions do not need.
+    fn swung_between(self, offset: Spot) -> Spot
         requires { IsWithin (2 ^ 93) offset }
         ensures value { result ≡ swung self offset }
         ensures within { IsWithin (2 ^ 95) result }
@@ -147,7 +188,15 @@ fn part(a: i128, square: u128) -> i32
     ensures value { result ≡ part_in square a }
     ensures most { nat_abs result ≤ 2 ^ 30 }
 {
-    let size = size(a.unsigned_abs(), square);
+    with_sign_of(a, size(a.unsigned_abs(), square))
+}
+
+// A size of at least 0, with the sign of a number.
+fn with_sign_of(a: i128, size: i32) -> i32
+    requires { pos 0 ≤ℤ size }
+    ensures value { result ≡ with_sign_of a (nat_abs size) }
+    ensures same { nat_abs result ≡ nat_abs size }
+{
     if a < 0 { -size } else { size }
 }
 

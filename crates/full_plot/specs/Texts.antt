@@ -129,7 +129,8 @@ moved_on w (By n) =
 -- the symbol at the pen, if one is set: a label of its byte, which is centred
 abbrev pub marked_by : Option ℕ → World → Option World
 marked_by None w = Some w
-marked_by (Some byte) w = with_core w (inked_at_pen w.core (label_strokes (centred (style_of w)) (signs_of w (byte ∷ []))))
+marked_by (Some byte) w =
+    with_core w (inked_at_pen w.core (label_strokes (centred (style_of w)) (signs_of w (byte ∷ []))))
 
 -- a point that far above the pen for XT, or to the right for YT, if the page is not turned
 abbrev pub tick_point : Bool → ℤ → Spot

@@ -36,9 +36,9 @@ usual_area = record { fill = usual_fill; anchor = page_origin }
 
 -- what core has: the page, the state and the strokes; what decides how the next item is read; the line style, and the run
 -- of its pattern; the widths of pens in percent, which have an effect while widths are in percent; how the user reads
--- texts, and the sets of characters and the fonts that the plot has chosen; what is set for labels, and their left margin, a
--- place; how polygons are filled, and the polygon buffer; how much work besides strokes
--- counts; for each sheet that has ended, how many strokes were made until then
+-- texts, and the sets of characters and the fonts that the plot has chosen; what is set for labels, and their left
+-- margin, a place; how polygons are filled, and the polygon buffer; how much work besides strokes counts; for each sheet
+-- that has ended, how many strokes were made until then
 pub record World : Type 0 where
   pub core : core.World
   pub context : Context

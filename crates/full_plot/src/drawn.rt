@@ -53,10 +53,10 @@ pub fn draw_full(alloc: Global, text: &[u8], page: &Page) -> Result<FullDrawn, P
     draw_full_with(alloc, Encoding::ByPlot, text, page, &Carousel::empty())
 }
 
-/// The same with the texts of labels read as the user says, whatever sets of characters the plot chooses, and with the
-/// pens of a carousel: a pen draws in its width and its colour there, if it has them,
-/// whatever the plot sets, and hatching is no denser than half that width. The lines of fills that have a
-/// width of their own keep it.
+/// The same with the texts of labels read as the user says, whatever sets of characters the plot chooses, and
+/// with the pens of a carousel: a pen draws in its width and its colour there, if it has them, whatever the plot
+/// sets, and hatching is no denser than half that width. The lines of fills that have a width of their own keep
+/// it.
 pub fn draw_full_with(
     alloc: Global,
     encoding: Encoding,

@@ -1,7 +1,8 @@
 //! The strokes of a letter.
-ghost use Rattle.std.specs.Prelude.{◌≡◌, ◌<◌, ◌≤◌, ◌^◌, pos, nat_abs, ◌*ℤ◌, slice_get, IfSome};
+ghost use Rattle.std.specs.Prelude.{◌≡◌, ◌<◌, ◌≤◌, ◌*◌, ◌^◌, pos, nat_abs, ◌*ℤ◌, slice_get, IfSome};
 ghost use Rattle.directions.specs.Bounds.{IsWithin};
 ghost use Rattle.lettering.specs.Bounds.{IsStrokeWithin};
+ghost use Rattle.stick_font.specs.Labels as labels;
 ghost use Rattle.lettering.specs.Letters.{on_grid, letter_point, letter_strokes, centred};
 
 use crate::checked::Lettering;
@@ -61,6 +62,7 @@ impl Lettering {
     }
 
     // The point (i, j) of a letter's grid.
+    #[inline]
     fn point(&self, corner: Spot, i: u8, j: i8) -> Spot
         requires { IsWithin (2 ^ 65) corner }
         ensures value { result ≡ letter_point self.now.style corner i j }
@@ -68,16 +70,16 @@ impl Lettering {
     {
         let style = &self.style;
         let (column, row) = (i64::from(i), i64::from(j));
-        let slant = slanted(row, style.slant);
         style.direction.swung(Spot {
             x: share(on_grid(corner.x, column), style.width, WIDTH_PARTS)
-                + share(slant, style.height, HEIGHT_PARTS),
+                + slanted(row, style.slant, style.height),
             y: share(on_grid(corner.y, row), style.height, HEIGHT_PARTS),
         })
     }
 }
 
 // A coordinate that is `steps` steps of the grid from that of a corner.
+#[inline]
 fn on_grid(corner: i128, steps: i64) -> i128
     requires corner_in { nat_abs corner ≤ 2 ^ 65 }
     requires steps_in { nat_abs steps ≤ 255 }
@@ -87,8 +89,24 @@ fn on_grid(corner: i128, steps: i64) -> i128
     corner + i128::from(1_000_000 * (STEP * steps))
 }
 
-// How far a slant moves a point that is `steps` steps up, in millionths.
-fn slanted(steps: i64, slant: i64) -> i128
+// How far a slant moves a point that is `steps` steps up, in grains. Most letters are upright.
+#[inline]
+fn slanted(steps: i64, slant: i64, height: i64) -> i128
+    requires steps_in { nat_abs steps ≤ 255 }
+    requires slant_in { nat_abs slant ≤ 1000000000 }
+    requires height_in { nat_abs height ≤ 2 ^ 40 }
+    ensures value { result ≡ labels.share (pos 3 *ℤ steps *ℤ slant) height (18 * 10 ^ 6) }
+    ensures most { nat_abs result ≤ 2 ^ 84 }
+{
+    if slant == 0 {
+        0
+    } else {
+        share(slanted_parts(steps, slant), height, HEIGHT_PARTS)
+    }
+}
+
+// The same in millionths of parts of the height.
+fn slanted_parts(steps: i64, slant: i64) -> i128
     requires steps_in { nat_abs steps ≤ 255 }
     requires slant_in { nat_abs slant ≤ 1000000000 }
     ensures value { result ≡ pos 3 *ℤ steps *ℤ slant }

@@ -103,6 +103,26 @@ fn sizes_and_slants(rt: HostRuntime) -> Result<(), AllocError> {
     has_strokes(&rt, rt.alloc(), &slanted, b"L", wanted)
 }
 
+// Letters that are as wide as they are high.
+fn square(size: i64) -> Style {
+    let mut style = Style::usual();
+    style.width = size;
+    style.height = size;
+    style
+}
+
+#[test]
+fn large_sizes(rt: HostRuntime) -> Result<(), AllocError> {
+    let large = checked(&rt, square(16_777_215));
+    let wanted = "0,16777215 to 0,0; 0,0 to 16777215,0; end 25165823,0";
+    has_strokes(&rt, rt.alloc(), &large, b"L", wanted)?;
+    let wanted = "8388608,0 to 8388608,0; end 25165823,0";
+    has_strokes(&rt, rt.alloc(), &large, b".", wanted)?;
+    let larger = checked(&rt, square(16_777_217));
+    let wanted = "0,16777217 to 0,0; 0,0 to 16777217,0; end 25165826,0";
+    has_strokes(&rt, rt.alloc(), &larger, b"L", wanted)
+}
+
 #[test]
 fn between_the_axes(rt: HostRuntime) -> Result<(), AllocError> {
     let mut style = Style::usual();

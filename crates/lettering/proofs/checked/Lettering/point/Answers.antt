@@ -13,9 +13,9 @@ vector x y = record { x = x; y = y }
 pub overflow_add-share : goal.overflow_add-share
 overflow_add-share c =
     let h = c.share.ensures.most in
-    let k = c.share-2.ensures.most in
+    let k = c.slanted.ensures.most in
     let f : FitsSigned w128 c.share.result = omega (arith, ints, h) in
-    let g : FitsSigned w128 c.share-2.result = omega (arith, ints, k) in
+    let g : FitsSigned w128 c.slanted.result = omega (arith, ints, k) in
     simp to_z-of_z (omega (arith, ints, h, k))
 
 pub returns-clause-value : goal.returns-clause-value
@@ -40,21 +40,19 @@ returns-clause-value c =
     let f8 : FitsSigned w128 corner.y = omega (arith, ints, y_in) in
     let f9 : FitsSigned w128 c.on_grid.result = omega (arith, ints, c.on_grid.ensures.most) in
     let f10 : FitsSigned w128 c.on_grid-2.result = omega (arith, ints, c.on_grid-2.ensures.most) in
-    let f11 : FitsSigned w128 c.slanted-slant.result = omega (arith, ints, c.slanted-slant.ensures.most) in
     let f12 : FitsSigned w128 c.share.result = omega (arith, ints, c.share.ensures.most) in
-    let f13 : FitsSigned w128 c.share-2.result = omega (arith, ints, c.share-2.ensures.most) in
-    let f14 : FitsSigned w128 c.share-3.result = omega (arith, ints, c.share-3.ensures.most) in
-    let f15 : FitsSigned w128 (c.share.result +ℤ c.share-2.result) = omega (arith, ints, c.share.ensures.most, c.share-2.ensures.most) in
+    let f13 : FitsSigned w128 c.slanted.result = omega (arith, ints, c.slanted.ensures.most) in
+    let f14 : FitsSigned w128 c.share-2.result = omega (arith, ints, c.share-2.ensures.most) in
+    let f15 : FitsSigned w128 (c.share.result +ℤ c.slanted.result) = omega (arith, ints, c.share.ensures.most, c.slanted.ensures.most) in
     let right = simp to_z-of_z at c.on_grid.ensures.value in
     let up = simp to_z-of_z at c.on_grid-2.ensures.value in
-    let slant = simp to_z-of_z at c.slanted-slant.ensures.value in
     let x = simp to_z-of_z at c.share.ensures.value in
-    let z = simp to_z-of_z at c.share-2.ensures.value in
-    let y = simp to_z-of_z at c.share-3.ensures.value in
+    let z = simp to_z-of_z at c.slanted.ensures.value in
+    let y = simp to_z-of_z at c.share-2.ensures.value in
     let w = simp to_z-of_z at c.swung.ensures.value in
     w
     ∙ ap (λ (o : Spot). swung style.direction o) (ap₂ vector
     (ap₂ (λ (p q : ℤ). p +ℤ q)
     (x ∙ ap (λ (p : ℤ). share p style.width 12000000) (right ∙ ap (λ (p : ℤ). on_grid corner.x p) column))
-    (z ∙ ap (λ (p : ℤ). share p style.height 18000000) (slant ∙ ap (λ (p : ℤ). pos 3 *ℤ p *ℤ style.slant) row)))
+    (z ∙ ap (λ (p : ℤ). share (pos 3 *ℤ p *ℤ style.slant) style.height 18000000) row))
     (y ∙ ap (λ (p : ℤ). share p style.height 18000000) (up ∙ ap (λ (p : ℤ). on_grid corner.y p) row)))

@@ -3,8 +3,8 @@ use mir.Syntax.{w64, w128}
 use Rattle.std.proofs.lemmas.Int.{ints, to_z-of_z}
 use Rattle.stick_font.specs.Labels as labels
 use Rattle.lettering.proofs.Sizes.{share_in}
-use Rattle.lettering.proofs.share.share.Goals as goal
-use Rattle.lettering.proofs.share.share.Goals.{After-rounded}
+use Rattle.lettering.proofs.share.long_share.Goals as goal
+use Rattle.lettering.proofs.share.long_share.Goals.{After-rounded}
 
 is_share : (c : After-rounded) → c.rounded.result ≡ labels.share c.args.count c.args.size c.args.parts
 is_share c =

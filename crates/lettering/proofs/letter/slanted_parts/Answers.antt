@@ -1,7 +1,7 @@
 use Rattle.std.proofs.Common.{refl}
 use Rattle.std.proofs.lemmas.Int.{to_z-of_z}
 use Rattle.lettering.proofs.Sizes.{slanted_in}
-use Rattle.lettering.proofs.letter.slanted.Goals as goal
+use Rattle.lettering.proofs.letter.slanted_parts.Goals as goal
 
 pub returns-clause-value : goal.returns-clause-value
 returns-clause-value c =
