@@ -2,4 +2,4 @@
 pub mod Report
 -- What contracts of private functions need.
 pub mod Summaries
-pub mod Pieces
+pub mod PlotLines

@@ -2,10 +2,10 @@
 #![tactic(auto)]
 
 mod lines;
-mod pieces;
 mod report;
 mod report_page;
 mod summary;
+mod words;
 
 pub use report::{MOST_NOTES, write_full_report, write_report};
 pub use report_page::ReportPage;

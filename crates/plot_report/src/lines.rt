@@ -4,9 +4,9 @@ ghost use Rattle.std.specs.List.{join_with_byte};
 ghost use Rattle.plot_report.specs.Report.{space, line, page_line, sheets_line, corner_words, summary_line};
 ghost use Rattle.plot_report.specs.Report.{kind_words, note_line};
 
-use crate::pieces::{append_number, append_word};
 use crate::report_page::ReportPage;
 use crate::summary::PenSummary;
+use crate::words::{append_number, append_word};
 use devices::append;
 use hpgl_plot::{Note, NoteKind};
 

@@ -3,7 +3,7 @@ ghost use Rattle.std.specs.Prelude.{◌≡◌, ◌+◌, ◌-◌, ◌^◌, ◌<�
 ghost use Rattle.plot_page.specs.declared.stroke.TheConstants.{MOST_STROKES};
 ghost use Rattle.devices.specs.Sinks.{Writes};
 ghost use Rattle.plot_report.specs.Report.{report_of, full_report_of, strokes_line, pen_lines, note_line};
-ghost use Rattle.plot_report.specs.Pieces.{with_plot_lines};
+ghost use Rattle.plot_report.specs.PlotLines.{with_plot_lines};
 ghost use Rattle.plot_report.specs.Summaries.{summary_lines};
 
 use crate::lines::{
@@ -11,11 +11,11 @@ use crate::lines::{
     LONGEST_STROKES_LINE, append_note_line, append_page_line, append_pen_line, append_sheets_line,
     append_strokes_line,
 };
-use crate::pieces::put_piece;
 use crate::report_page::ReportPage;
 use crate::summary::{PENS, PenSummary, summarise};
 use devices::{Sink, WriteFault};
 use hpgl_plot::NoteSource;
+use pieces::put_piece;
 use plot_page::Stroke;
 
 /// The most notes of a report: as many as the longest plot has bytes.

@@ -3,7 +3,8 @@ use Rattle.std.proofs.lemmas.List.{length-take-le}
 use Rattle.std.proofs.lemmas.Result.{err_from_is_err_and}
 use Rattle.hpgl_plot.specs.declared.note.Note.{Note}
 use Rattle.plot_report.specs.Report.{note_line}
-use Rattle.plot_report.proofs.Written.{broken_off, last_piece, piece_written, note_appended}
+use Rattle.pieces.proofs.Written.{broken_off, last_piece, piece_written}
+use Rattle.plot_report.proofs.NoteLines.{note_appended}
 use Rattle.plot_report.proofs.report.put_notes.Goals as goal
 use Rattle.plot_report.proofs.report.put_notes.Goals.{then-used-piece+in_ok-done, else-used-piece}
 

@@ -1,12 +1,10 @@
 -- Pieces that are written one after another are the bytes of the whole.
-use Rattle.std.proofs.Common.{◌≡◌, ℕ, ◌+◌, ◌-◌, ◌<◌, ◌≤◌, List, [], ◌++◌, length, take, drop, Result, Ok, Err, arith, ◌∙◌, sym, ap, subst, flat_map, ◌∷◌, append_assoc}
-use Rattle.hpgl_plot.specs.declared.note.Note.{Note}
-use Rattle.plot_report.specs.Report.{note_line}
+use Rattle.std.proofs.Common.{◌≡◌, ℕ, ◌+◌, ◌-◌, ◌<◌, ◌≤◌, List, [], ◌++◌, length, take, drop, Result, Ok, Err, arith, sym, subst}
 use Rattle.std.specs.Io.KnownBytes.{Appends}
 use Rattle.devices.specs.declared.fault.WriteFault.{WriteFault}
 use Rattle.devices.specs.Sinks.{SinkState, Writes, taken_of}
 use Rattle.devices.proofs.KnownBytes.{written_next, cut_next, written_all}
-use Rattle.plot_report.specs.Pieces.{WritesAfter}
+use Rattle.pieces.specs.Pieces.{WritesAfter}
 
 -- the sink failed within this piece
 pub broken_off : (first before after : SinkState) (all piece rest : List ℕ) (done : ℕ) (e : WriteFault) → drop done all ≡ piece ++ rest → done ≤ length all → Appends first.held before.held (take done all) → before.faults ≡ first.faults
@@ -30,10 +28,3 @@ pub piece_written : (first before after : SinkState) (all piece rest : List ℕ)
 piece_written first before after all piece rest done n split within so_far quiet wrote =
     let P : ℕ → Type 0 = λ m. Appends first.held after.held (take m all) × (after.faults ≡ first.faults) × (drop m all ≡ rest) × (m ≤ length all) in
     subst P (sym wrote.2) (written_next _ _ _ _ _ _ all piece rest done split within so_far quiet (wrote.0, wrote.1))
-
--- the line of the next note was appended to the piece
-pub note_appended : (all p p' : List ℕ) (done u u' : ℕ) (note : Note) (notes notes' : List Note) → notes ≡ note ∷ notes' → drop done all ≡ take u p ++ flat_map note_line notes → take u' p' ≡ take u p ++ note_line note
-    → drop done all ≡ take u' p' ++ flat_map note_line notes'
-note_appended all p p' done u u' note notes notes' next rest line =
-    rest ∙ ap (λ (ns : List Note). take u p ++ flat_map note_line ns) next ∙ sym (append_assoc (take u p) (note_line note) (flat_map note_line notes'))
-    ∙ ap (λ (zs : List ℕ). zs ++ flat_map note_line notes') (sym line)

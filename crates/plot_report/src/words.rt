@@ -1,9 +1,8 @@
-//! Words appended to a piece of a report, and pieces written to a sink.
-ghost use Rattle.std.specs.Prelude.{◌≡◌, ◌-◌, ◌+◌, ◌^◌, ◌<◌, ◌≤◌, ◌++◌, ◌∷◌, length, take};
+//! Words appended to a piece of a report.
+ghost use Rattle.std.specs.Prelude.{◌≡◌, ◌+◌, ◌≤◌, ◌++◌, ◌∷◌, length, take};
 ghost use Rattle.plot_report.specs.Report.{space};
-ghost use Rattle.plot_report.specs.Pieces.{WritesAfter};
 
-use devices::{Sink, WriteFault, append, put_all};
+use devices::append;
 use itoa::{Buffer, Integer};
 
 // Appends a space and a word.
@@ -26,16 +25,4 @@ pub(crate) fn append_number<I: Integer>(piece: &mut [u8], used: usize, number: I
 {
     let mut digits = Buffer::new();
     append_word(piece, used, digits.format(number).as_bytes())
-}
-
-// Writes a piece after `done` bytes, and returns how many are written then.
-pub(crate) fn put_piece<K: Sink>(sink: &mut K, piece: &[u8], done: u64) -> Result<u64, WriteFault>
-    requires sound { (K.state sink.old).faults < 2 ^ 64 - 1 }
-    requires count { done + length piece.now < 2 ^ 64 }
-    ensures writes { WritesAfter (K.state sink.old) (K.state sink.new) done piece.now result }
-{
-    match put_all(sink, piece) {
-        Ok(()) => Ok(done + piece.len() as u64),
-        Err(fault) => Err(fault.after(done)),
-    }
 }

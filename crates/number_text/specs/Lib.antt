@@ -1,0 +1,2 @@
+-- What a reader must believe: thousandths as text.
+pub mod Fractions

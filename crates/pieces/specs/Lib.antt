@@ -1,0 +1,2 @@
+-- What the answers of writing a text in pieces mean.
+pub mod Pieces
