@@ -8,6 +8,7 @@ use Rattle.stroke_runs.specs.declared.runs.Link.TheVariants.{Begins, Apart, Join
 use Rattle.stroke_runs.specs.Drawn.{is_drawn, is_alike, is_joined}
 use Rattle.stroke_runs.specs.Runs.{following, runs_of, runs}
 use Rattle.stroke_runs.specs.Links.{link_after}
+use Rattle.stroke_runs.specs.Sheets.{sheets_of}
 
 abbrev black : Colour
 black = record { red = 0; green = 0; blue = 0 }
@@ -122,3 +123,18 @@ goes_on_elsewhere = refl
 
 no_room : link_after first 0 next ≡ Begins
 no_room = refl
+
+-- the end of the plot ends a sheet, too
+two_sheets : sheets_of (first ∷ next ∷ first ∷ []) (1 ∷ []) ≡ (first ∷ []) ∷ (next ∷ first ∷ []) ∷ []
+two_sheets = refl
+
+-- no stroke follows the last end
+ended_sheets : sheets_of (first ∷ next ∷ first ∷ []) (1 ∷ 3 ∷ []) ≡ (first ∷ []) ∷ (next ∷ first ∷ []) ∷ []
+ended_sheets = refl
+
+-- sheets without strokes do not count
+empty_sheets : sheets_of (first ∷ next ∷ []) (0 ∷ 1 ∷ 1 ∷ []) ≡ (first ∷ []) ∷ (next ∷ []) ∷ []
+empty_sheets = refl
+
+no_sheets : sheets_of [] [] ≡ []
+no_sheets = refl

@@ -1,6 +1,7 @@
--- What a reader must believe: which strokes are drawn, and their runs.
+-- What a reader must believe: which strokes are drawn, their runs, and sheets.
 pub mod Drawn
 pub mod Runs
+pub mod Sheets
 -- How strokes follow one another, taken one at a time.
 pub mod Links
 -- What the laws say of runs.

@@ -4,6 +4,8 @@
 mod drawn;
 pub mod laws;
 mod runs;
+mod sheets;
 
 pub use drawn::{is_drawn, is_same_window};
 pub use runs::{Link, MOST_IN_RUN, Runs};
+pub use sheets::{between, end_of};

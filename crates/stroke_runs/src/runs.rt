@@ -46,6 +46,13 @@ impl Runs {
         self.last.is_some()
     }
 
+    /// The last stroke that was taken, if there is one.
+    pub fn last(&self) -> Option<Stroke>
+        ensures { result ≡ self.now.last }
+    {
+        self.last
+    }
+
     /// Takes the next stroke that is drawn, and says how it follows.
     pub fn next(&mut self, stroke: &Stroke) -> Link
         ensures link { result ≡ link_of self.old stroke.now }

@@ -1,5 +1,4 @@
-pub mod Appended
-pub mod Counts
-pub mod Written
+pub mod ClipLaw
+pub mod ReadLaw
 pub mod Texts
 mod Examples

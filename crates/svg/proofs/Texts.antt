@@ -1,106 +1,134 @@
--- What is written stroke by stroke is the text of the runs.
-use Rattle.std.proofs.Common.{◌≡◌, ℕ, ◌+◌, ◌-◌, ◌<◌, List, [], ◌∷◌, ◌++◌, length, take, drop, get_or, Bool, true, false, cond, refl, ap, sym, ◌∙◌, append_assoc, suc, drop-cons, add-one, append-nil}
+-- What is written stroke by stroke is the text of the paths.
+use Rattle.std.proofs.Common.{◌≡◌, ℕ, ◌+◌, ◌-◌, ◌<◌, List, [], ◌∷◌, ◌++◌, flat_map, length, take, drop, get_or, Bool, true, false, cond, refl, ap, sym, ◌∙◌, append_assoc, append-nil, zero, suc, drop-cons, add-one, max, ◌≤◌, min, nat_eq, arith, length-append, length-drop}
+use Rattle.std.proofs.lemmas.List.{drop_more, length-take}
+use Rattle.std.proofs.lemmas.List.Concat.{flat_map-append}
 use Rattle.plot_page.specs.Segments.{Segment}
 use Rattle.plot_page.specs.declared.page.Page.{Page}
 use Rattle.plot_page.specs.declared.pens.PenSet.{PenSet}
 use Rattle.stroke_runs.specs.declared.runs.Link.{Link}
 use Rattle.stroke_runs.specs.declared.runs.Link.TheVariants.{Begins, Apart, Joined}
+use Rattle.stroke_runs.specs.declared.runs.Runs.{Runs}
 use Rattle.stroke_runs.specs.Drawn.{is_drawn, is_joined, drawn}
-use Rattle.stroke_runs.specs.Links.{after_stroke, link_of, room_after}
-use Rattle.stroke_runs.specs.Runs.{Following, going_on, beginning, goes_on, following, runs_of, runs}
-use Rattle.svg.specs.declared.clips.Clips.{Clips}
-use Rattle.svg.specs.declared.steps.Progress.{Progress}
-use Rattle.svg.specs.Documents.{foot_text, head_text, svg_bytes}
-use Rattle.svg.specs.Paths.{clips_after, end_text, line_text, no_clips, rest_text, runs_text, start_text, stroke_text}
-use Rattle.svg.specs.Steps.{after_drawn, after_step, clips_after_link, final_text, link_text, nothing_drawn, step_text, steps_text}
+use Rattle.stroke_runs.specs.Links.{after_stroke, at_start, link_of, room_after, runs_after}
+use Rattle.stroke_runs.specs.Runs.{Following, going_on, beginning, goes_on, following, runs_of}
+use Rattle.svg.specs.Commands.{Command, command_text, move, MoveTo}
+use Rattle.stroke_runs.specs.Sheets.{between, sheets_after}
+use Rattle.svg.specs.Documents.{paths_text, sheet_text, sheets_text}
+use Rattle.svg.specs.Paths.{clip_of, end_text, line_of, path_text, paths_of, rest_commands, start_text}
+use Rattle.svg.specs.Places.{end_of, start_of}
+use Rattle.svg.specs.Steps.{after_step, link_text, open_end, step_text, steps_text}
+
+-- the text of commands
+abbrev texts : List Command → List ℕ
+texts cs = flat_map command_text cs
 
 -- what is written for strokes that are all drawn
-abbrev drawn_text : Page → Progress → List Segment → List ℕ
-drawn_text page p [] = final_text p.runs
-drawn_text page p (s ∷ ss) = link_text page p (link_of p.runs s) s ++ drawn_text page (after_drawn page p s) ss
+abbrev drawn_text : Page → Runs → List Segment → List ℕ
+drawn_text page r [] = open_end r
+drawn_text page r (s ∷ ss) = link_text page r (link_of r s) s ++ drawn_text page (runs_after r s) ss
 
-skipped_step : (b : Bool) (page : Page) (pens : PenSet) (p q : Progress) (s : Segment) (ss rest : List Segment) (text : List ℕ) → ((r : Progress) → steps_text page pens r ss ≡ drawn_text page r rest) → text ++ drawn_text page q rest ≡ drawn_text page p (s ∷ rest)
+skipped_step : (b : Bool) (page : Page) (pens : PenSet) (p q : Runs) (s : Segment) (ss rest : List Segment) (text : List ℕ) → ((r : Runs) → steps_text page pens r ss ≡ drawn_text page r rest) → text ++ drawn_text page q rest ≡ drawn_text page p (s ∷ rest)
     → cond b text [] ++ steps_text page pens (cond b q p) ss ≡ drawn_text page p (cond b (s ∷ rest) rest)
 skipped_step true page pens p q s ss rest text h first = ap (λ (z : List ℕ). text ++ z) (h q) ∙ first
 skipped_step false page pens p q s ss rest text h first = h p
 
 -- a stroke that is not drawn changes nothing
-only_drawn : (page : Page) (pens : PenSet) (p : Progress) (ss : List Segment) → steps_text page pens p ss ≡ drawn_text page p (drawn pens ss)
+only_drawn : (page : Page) (pens : PenSet) (p : Runs) (ss : List Segment) → steps_text page pens p ss ≡ drawn_text page p (drawn pens ss)
 only_drawn page pens p [] = refl
-only_drawn page pens p (s ∷ ss) = skipped_step (is_drawn pens s) page pens p (after_drawn page p s) s ss (drawn pens ss) (link_text page p (link_of p.runs s) s) (λ r. only_drawn page pens r ss) refl
-
--- after a stroke
-abbrev at : Segment → ℕ → Clips → Progress
-at last room clips = record { runs = after_stroke last room; clips = clips }
+only_drawn page pens p (s ∷ ss) = skipped_step (is_drawn pens s) page pens p (runs_after p s) s ss (drawn pens ss) (link_text page p (link_of p s) s) (λ r. only_drawn page pens r ss) refl
 
 -- what follows in the run, and after it
-abbrev after_text : Page → Clips → List ℕ → List (List Segment) → List ℕ
-after_text page clips rest others = rest ++ end_text ++ runs_text page clips others ++ foot_text
+abbrev after_text : Page → List ℕ → List (List Segment) → List ℕ
+after_text page rest others = rest ++ end_text ++ flat_map path_text (paths_of page others)
 
-going_text : (l d r e t f : List ℕ) → d ≡ r ++ e ++ t ++ f → l ++ d ≡ (l ++ r) ++ e ++ t ++ f
-going_text l d r e t f h = ap (λ (z : List ℕ). l ++ z) h ∙ simp append_assoc
+going_text : (l d r e t : List ℕ) → d ≡ r ++ e ++ t → l ++ d ≡ (l ++ r) ++ e ++ t
+going_text l d r e t h = ap (λ (z : List ℕ). l ++ z) h ∙ simp append_assoc
 
-begun_text : (e a k d r t f : List ℕ) → d ≡ r ++ e ++ t ++ f → (e ++ a ++ k) ++ d ≡ e ++ (a ++ k ++ r ++ e ++ t) ++ f
-begun_text e a k d r t f h = ap (λ (z : List ℕ). (e ++ a ++ k) ++ z) h ∙ simp append_assoc
+-- a path that begins: a is what comes before its commands, m the first command, l the second one
+begun_path : (a m l d r e t : List ℕ) → d ≡ r ++ e ++ t → (a ++ m ++ l) ++ d ≡ (a ++ (m ++ (l ++ r)) ++ e) ++ t
+begun_path a m l d r e t h = ap (λ (z : List ℕ). (a ++ m ++ l) ++ z) h ∙ simp append_assoc
 
-first_text : (a k d r e t f : List ℕ) → d ≡ r ++ e ++ t ++ f → (a ++ k) ++ d ≡ (a ++ k ++ r ++ e ++ t) ++ f
-first_text a k d r e t f h = ap (λ (z : List ℕ). (a ++ k) ++ z) h ∙ simp append_assoc
+begun_text_after : (e a m l d r t : List ℕ) → d ≡ r ++ e ++ t → (e ++ (a ++ m ++ l)) ++ d ≡ e ++ ((a ++ (m ++ (l ++ r)) ++ e) ++ t)
+begun_text_after e a m l d r t h = append_assoc e (a ++ m ++ l) d ∙ ap (λ (z : List ℕ). e ++ z) (begun_path a m l d r e t h)
 
 abbrev link : Bool → Bool → Link
 link goes joined = cond goes (cond joined Joined Apart) Begins
 
-run_step : (goes joined : Bool) (page : Page) (clips : Clips) (last : Segment) (room : ℕ) (s : Segment) (ss : List Segment) (f g : Following)
-    → drawn_text page (at s (room - 1) clips) ss ≡ after_text page clips (rest_text page s f.rest) f.runs
-    → drawn_text page (at s 999 (clips_after page clips s.window)) ss ≡ after_text page (clips_after page clips s.window) (rest_text page s g.rest) g.runs
-    → link_text page (at last room clips) (link goes joined) s ++ drawn_text page (at s (room_after (link goes joined) room) (clips_after_link page clips (link goes joined) s.window)) ss
-    ≡ after_text page clips (cond goes (cond joined (line_text page s) (stroke_text page s) ++ rest_text page s f.rest) []) (cond goes (going_on s f) (beginning s g)).runs
-run_step true true page clips last room s ss f g p q = going_text (line_text page s) (drawn_text page (at s (room - 1) clips) ss) (rest_text page s f.rest) end_text (runs_text page clips f.runs) foot_text p
-run_step true false page clips last room s ss f g p q = going_text (stroke_text page s) (drawn_text page (at s (room - 1) clips) ss) (rest_text page s f.rest) end_text (runs_text page clips f.runs) foot_text p
-run_step false joined page clips last room s ss f g p q =
-    begun_text end_text (start_text page clips s) (stroke_text page s) (drawn_text page (at s 999 (clips_after page clips s.window)) ss) (rest_text page s g.rest) (runs_text page (clips_after page clips s.window) g.runs) foot_text q
+-- the commands of the next stroke in a run
+abbrev more : Bool → Page → Segment → Segment → List Command
+more joined page last s = cond joined (line_of page s ∷ []) (move (end_of page last) (start_of page s) ∷ line_of page s ∷ [])
 
-rest_step : (goes : Bool) (page : Page) (last s : Segment) (f g : Following) → cond goes (cond (is_joined last s) (line_text page s) (stroke_text page s) ++ rest_text page s f.rest) [] ≡ rest_text page last (cond goes (going_on s f) (beginning s g)).rest
+two : (a b : List ℕ) → a ++ b ≡ a ++ (b ++ [])
+two a b = ap (λ (z : List ℕ). a ++ z) (sym (append-nil b))
+
+more_text : (cs ds : List Command) (l : List ℕ) → l ≡ texts cs → l ++ texts ds ≡ texts (cs ++ ds)
+more_text cs ds l h = ap (λ (z : List ℕ). z ++ texts ds) h ∙ sym (flat_map-append command_text cs ds)
+
+run_step : (goes joined : Bool) (page : Page) (last : Segment) (room : ℕ) (s : Segment) (ss : List Segment) (f g : Following)
+    → drawn_text page (after_stroke s (room - 1)) ss ≡ after_text page (texts (rest_commands page s f.rest)) f.runs
+    → drawn_text page (after_stroke s 999) ss ≡ after_text page (texts (rest_commands page s g.rest)) g.runs
+    → link_text page (after_stroke last room) (link goes joined) s ++ drawn_text page (after_stroke s (room_after (link goes joined) room)) ss
+    ≡ after_text page (cond goes (texts (more joined page last s ++ rest_commands page s f.rest)) []) (cond goes (going_on s f) (beginning s g)).runs
+run_step true true page last room s ss f g p q =
+    let l = command_text (line_of page s) in
+    going_text l (drawn_text page (after_stroke s (room - 1)) ss) (texts (rest_commands page s f.rest)) end_text (flat_map path_text (paths_of page f.runs)) p
+run_step true false page last room s ss f g p q =
+    let m = command_text (move (end_of page last) (start_of page s)) in
+    let l = command_text (line_of page s) in
+    going_text (m ++ l) (drawn_text page (after_stroke s (room - 1)) ss) (texts (rest_commands page s f.rest)) end_text (flat_map path_text (paths_of page f.runs)) p
+    ∙ ap (λ (z : List ℕ). after_text page z f.runs) (append_assoc m l (texts (rest_commands page s f.rest)))
+run_step false joined page last room s ss f g p q =
+    begun_text_after end_text (start_text s.pen s.colour (max 24 s.width) (clip_of page s.window)) (command_text (MoveTo (start_of page s))) (command_text (line_of page s)) (drawn_text page (after_stroke s 999) ss) (texts (rest_commands page s g.rest)) (flat_map path_text (paths_of page g.runs)) q
+
+rest_step : (goes : Bool) (page : Page) (last s : Segment) (f g : Following) → cond goes (texts (more (is_joined last s) page last s ++ rest_commands page s f.rest)) [] ≡ texts (rest_commands page last (cond goes (going_on s f) (beginning s g)).rest)
 rest_step true page last s f g = refl
 rest_step false page last s f g = refl
 
 -- after a stroke, the rest of its run is written, and then the other runs
-run_text : (page : Page) (clips : Clips) (last : Segment) (room : ℕ) (ss : List Segment) → drawn_text page (at last room clips) ss ≡ after_text page clips (rest_text page last (following last room ss).rest) (following last room ss).runs
-run_text page clips last room [] = refl
-run_text page clips last room (s ∷ ss) =
+run_text : (page : Page) (last : Segment) (room : ℕ) (ss : List Segment) → drawn_text page (after_stroke last room) ss ≡ after_text page (texts (rest_commands page last (following last room ss).rest)) (following last room ss).runs
+run_text page last room [] = refl
+run_text page last room (s ∷ ss) =
     let f = following s (room - 1) ss in
     let g = following s 999 ss in
     let goes = goes_on last room s in
-    run_step goes (is_joined last s) page clips last room s ss f g (run_text page clips s (room - 1) ss) (run_text page (clips_after page clips s.window) s 999 ss)
-    ∙ ap (λ (z : List ℕ). after_text page clips z (cond goes (going_on s f) (beginning s g)).runs) (rest_step goes page last s f g)
+    run_step goes (is_joined last s) page last room s ss f g (run_text page s (room - 1) ss) (run_text page s 999 ss)
+    ∙ ap (λ (z : List ℕ). after_text page z (cond goes (going_on s f) (beginning s g)).runs) (rest_step goes page last s f g)
 
-all_runs : (page : Page) (ss : List Segment) → drawn_text page (nothing_drawn page) ss ≡ runs_text page (no_clips page) (runs_of ss) ++ foot_text
+all_runs : (page : Page) (ss : List Segment) → drawn_text page at_start ss ≡ flat_map path_text (paths_of page (runs_of ss))
 all_runs page [] = refl
 all_runs page (s ∷ ss) =
-    let clips = clips_after page (no_clips page) s.window in
     let f = following s 999 ss in
-    first_text (start_text page (no_clips page) s) (stroke_text page s) (drawn_text page (at s 999 clips) ss) (rest_text page s f.rest) end_text (runs_text page clips f.runs) foot_text (run_text page clips s 999 ss)
+    begun_path (start_text s.pen s.colour (max 24 s.width) (clip_of page s.window)) (command_text (MoveTo (start_of page s))) (command_text (line_of page s)) (drawn_text page (after_stroke s 999) ss) (texts (rest_commands page s f.rest)) end_text (flat_map path_text (paths_of page f.runs)) (run_text page s 999 ss)
 
--- the whole document
-pub whole : (page : Page) (pens : PenSet) (ss : List Segment) (head : List ℕ) → head ≡ head_text page → head ++ steps_text page pens (nothing_drawn page) ss ≡ svg_bytes page pens ss
-whole page pens ss head h =
-    ap (λ (z : List ℕ). z ++ steps_text page pens (nothing_drawn page) ss) h
-    ∙ ap (λ (z : List ℕ). head_text page ++ z) (only_drawn page pens (nothing_drawn page) ss ∙ all_runs page (drawn pens ss))
-    ∙ sym (append_assoc (head_text page) (runs_text page (no_clips page) (runs pens ss)) foot_text)
-
--- what is written for the next stroke was appended to the piece
-pub step_appended : (all p p' : List ℕ) (done u u' : ℕ) (page : Page) (pens : PenSet) (progress new : Progress) (s : Segment) (ss rest : List Segment) → drop done all ≡ take u p ++ steps_text page pens progress ss → ss ≡ s ∷ rest → take u' p' ≡ take u p ++ step_text page pens progress s
-    → new ≡ after_step page pens progress s → drop done all ≡ take u' p' ++ steps_text page pens new rest
-step_appended all p p' done u u' page pens progress new s ss rest left next text after =
-    left ∙ ap (λ (zs : List Segment). take u p ++ steps_text page pens progress zs) next
-    ∙ sym (append_assoc (take u p) (step_text page pens progress s) (steps_text page pens (after_step page pens progress s) rest))
-    ∙ ap (λ (z : List ℕ). z ++ steps_text page pens (after_step page pens progress s) rest) (sym text)
-    ∙ ap (λ (q : Progress). take u' p' ++ steps_text page pens q rest) (sym after)
+-- all that is written for strokes
+pub all_steps : (page : Page) (pens : PenSet) (ss : List Segment) → steps_text page pens at_start ss ≡ paths_text page pens ss
+all_steps page pens ss = only_drawn page pens at_start ss ∙ all_runs page (drawn pens ss)
 
 -- the next stroke of those that are left
 pub next_stroke : (ss : List Segment) (i : ℕ) (s : Segment) → i < length ss → s ≡ get_or ss i s → drop i ss ≡ s ∷ drop (i + 1) ss
 next_stroke ss i s lt is = drop-cons ss i s lt ∙ ap (λ (t : Segment). t ∷ drop (suc i) ss) (sym is) ∙ ap (λ (n : ℕ). s ∷ drop n ss) (sym (add-one i))
 
--- what follows the last stroke was appended to the piece
-pub last_appended : (all p p' : List ℕ) (done u u' : ℕ) (page : Page) (pens : PenSet) (progress : Progress) (ss : List Segment) → drop done all ≡ take u p ++ steps_text page pens progress ss → ss ≡ [] → take u' p' ≡ take u p ++ final_text progress.runs → drop done all ≡ take u' p' ++ []
-last_appended all p p' done u u' page pens progress ss left none text =
-    left ∙ ap (λ (zs : List Segment). take u p ++ steps_text page pens progress zs) none ∙ sym text ∙ sym (append-nil (take u' p'))
+-- what is written for the next stroke, and for those after it
+pub next_text : (page : Page) (pens : PenSet) (r : Runs) (ss : List Segment) (i : ℕ) (s : Segment) → i < length ss → s ≡ get_or ss i s → steps_text page pens r (drop i ss) ≡ step_text page pens r s ++ steps_text page pens (after_step pens r s) (drop (i + 1) ss)
+next_text page pens r ss i s lt is = ap (λ (zs : List Segment). steps_text page pens r zs) (next_stroke ss i s lt is)
+
+end_at : (ends : List ℕ) (n i : ℕ) → get_or (ends ++ n ∷ []) i n ≡ get_or ends i n
+end_at [] n zero = refl
+end_at [] n (suc i) = refl
+end_at (e ∷ ends) n zero = refl
+end_at (e ∷ ends) n (suc i) = end_at ends n i
+
+-- the next end of a sheet
+pub next_end : (ends : List ℕ) (n i : ℕ) → i ≤ length ends → drop i (ends ++ n ∷ []) ≡ get_or ends i n ∷ drop (i + 1) (ends ++ n ∷ [])
+next_end ends n i h =
+    drop_more (ends ++ n ∷ []) i n (omega (arith, h, length-append ends (n ∷ []))) ∙ ap (λ (e : ℕ). e ∷ drop (i + 1) (ends ++ n ∷ [])) (end_at ends n i)
+
+-- the next sheet, if it has a stroke, and if it has none
+pub taken_sheet : (page : Page) (pens : PenSet) (number : ℕ) (strokes : List Segment) (at end : ℕ) (ends : List ℕ) → nat_eq (length (between strokes at end)) 0 ≡ false → sheets_text page pens number (sheets_after strokes at (end ∷ ends)) ≡ sheet_text page pens (number + 1) (between strokes at end) ++ sheets_text page pens (number + 1) (sheets_after strokes end ends)
+taken_sheet page pens number strokes at end ends h = ap (λ (b : Bool). sheets_text page pens number (cond b (sheets_after strokes at ends) (between strokes at end ∷ sheets_after strokes end ends))) h
+
+pub passed_sheet : (page : Page) (pens : PenSet) (number : ℕ) (strokes : List Segment) (at end : ℕ) (ends : List ℕ) → nat_eq (length (between strokes at end)) 0 ≡ true → sheets_text page pens number (sheets_after strokes at (end ∷ ends)) ≡ sheets_text page pens number (sheets_after strokes at ends)
+passed_sheet page pens number strokes at end ends h = ap (λ (b : Bool). sheets_text page pens number (cond b (sheets_after strokes at ends) (between strokes at end ∷ sheets_after strokes end ends))) h
+
+pub sheet_size : (strokes : List Segment) (at end : ℕ) → length (between strokes at end) ≡ min end (length strokes) - at
+sheet_size strokes at end = length-drop at (take end strokes) ∙ ap (λ (n : ℕ). n - at) (length-take end strokes)

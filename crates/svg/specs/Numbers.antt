@@ -1,22 +1,8 @@
 -- Numbers and colours in an SVG document.
-use Rattle.std.specs.Prelude.{ℕ, ◌+◌, ◌*◌, ◌/◌, ◌%◌, ◌==◌, List, [], ◌∷◌, ◌++◌, take, if◌then◌else◌, false, codes, decimal}
+use Rattle.std.specs.Prelude.{ℕ, ◌*◌, ◌/◌, ◌%◌, List, [], ◌∷◌, ◌++◌, false, decimal}
 use Rattle.std.specs.Fmt.{digit_glyph}
+use Rattle.number_text.specs.Fractions.{fraction}
 use Rattle.plot_page.specs.declared.colour.Colour.{Colour}
-
--- how many digits of some thousandths are not zeros at the end
-abbrev pub decimals : ℕ → ℕ
-decimals thousandths = if thousandths % 100 == 0 then 1 else if thousandths % 10 == 0 then 2 else 3
-
--- the digit 0 has this code, and the others follow
-abbrev pub digit : ℕ → ℕ
-digit number = 48 + number
-
--- some thousandths, fewer than 1,000: a point and digits, without zeros at the end; nothing if there are none
-abbrev pub fraction : ℕ → List ℕ
-fraction thousandths =
-    if thousandths == 0 then [] else
-    codes "." ++ take (decimals thousandths)
-    (digit (thousandths / 100) ∷ digit (thousandths / 10 % 10) ∷ digit (thousandths % 10) ∷ [])
 
 -- a length of so many plotter units in millimetres: a unit is 25 thousandths
 abbrev pub millimetres : ℕ → List ℕ

@@ -1,197 +1,178 @@
-//! Clip paths: the windows of runs.
-ghost use Rattle.std.specs.Prelude.{◌≡◌, ℕ, ◌+◌, ◌-◌, ◌^◌, ◌<◌, ◌≤◌, ◌++◌, ◌*◌, ◌-ℤ◌, ◌≤ℤ◌, pos, nat_abs, length, take};
-ghost use Rattle.svg.specs.Paths.{clip_text, clipped_text, clips_after, is_new, is_whole_page, new_clip_text, no_clips, rectangle_text};
-ghost use Rattle.svg.specs.Paths.{turned, whole_page};
+//! Clip paths: what strokes are clipped to.
+ghost use Rattle.std.specs.Prelude.{◌≡◌, ◌+◌, ◌-◌, ◌*◌, ◌^◌, ◌<◌, ◌≤◌, ◌++◌, length, take, flat_map, Some, IfOk};
+ghost use Rattle.plot_page.specs.declared.stroke.TheConstants.{MOST_STROKES};
+ghost use Rattle.pieces.specs.Pieces.{Passes};
+ghost use Rattle.svg.specs.Clips.{clip_text, clips_of, clips_text, collected, rectangle_text, with_clip};
+ghost use Rattle.svg.specs.Paths.{clip_name, clip_of, clipped_text};
 
-use crate::pieces::{append_count, append_signed};
-use devices::append;
-use plot_page::{Page, Stroke, Window};
-use stroke_runs::is_same_window;
+use crate::clip_paths::ClipPaths;
+use crate::document::PIECE;
+use crate::head::LONGEST_HEAD;
+use crate::places::{Rectangle, is_whole_page, rectangle_of};
+use crate::sheets::KEPT;
+use devices::{Sink, WriteFault, append};
+use number_text::{LONGEST_SIGNED, append_signed};
+use pieces::{Waiting, make_room};
+use plot_page::{Page, PenSet, Stroke};
+use std::alloc::{AllocError, Global};
+use std::collections::BTreeSet;
+use stroke_runs::is_drawn;
 
-/// The longest clip path: 42 bytes, a number of ten digits, and a rectangle.
-pub(crate) const LONGEST_CLIP: usize = 52 + LONGEST_RECTANGLE;
+/// The longest reference to a clip path: 19 bytes, and a name.
+pub(crate) const LONGEST_CLIPPED: usize = 19 + LONGEST_NAME;
 
-/// The longest rectangle: 36 bytes, and four numbers of eleven characters.
-const LONGEST_RECTANGLE: usize = 80;
+/// The end of the clip paths.
+const LONGEST_CLIPS_END: usize = 8;
 
-/// The longest reference to a clip path: 20 bytes, and a number of ten digits.
-pub(crate) const LONGEST_CLIPPED: usize = 30;
+/// The longest clip path: 28 bytes, a name, and a rectangle.
+const LONGEST_CLIP: usize = 28 + LONGEST_NAME + LONGEST_RECTANGLE;
 
-// The window of the last run, and how many clip paths were written.
-#[derive(Clone, Copy)]
-pub(crate) struct Clips {
-    pub(crate) window: Window,
-    pub(crate) count: u32,
-}
+/// The longest rectangle: 36 bytes, and four numbers.
+const LONGEST_RECTANGLE: usize = 36 + 4 * LONGEST_SIGNED;
 
-impl Clips {
-    // Before the first run.
-    pub(crate) fn none(page: &Page) -> Clips
-        ensures { result ≡ no_clips page.now }
+/// The longest name of a clip path: a letter, three underscores, and four numbers.
+const LONGEST_NAME: usize = 4 + 4 * LONGEST_SIGNED;
+
+impl ClipPaths {
+    /// What those of the strokes are clipped to that are drawn by the selected pens on a page.
+    ///
+    /// Errors: only want of memory.
+    pub fn of(
+        alloc: Global,
+        page: &Page,
+        pens: &PenSet,
+        strokes: &[Stroke],
+    ) -> Result<ClipPaths, AllocError>
+        requires { length strokes.now ≤ MOST_STROKES }
+        ensures { IfOk result (λ clips. collected clips ≡ clips_of page.now pens.now strokes.now) }
     {
-        Clips {
-            window: whole_page(page),
-            count: 0,
+        let mut rectangles = BTreeSet::new(alloc);
+        for stroke in strokes {
+            if is_drawn(pens, stroke) {
+                add_clip(&mut rectangles, page, stroke)?;
+            }
         }
-    }
-
-    // Whether a run in this window needs a clip path.
-    fn is_new(&self, page: &Page, window: Window) -> bool
-        ensures { result ≡ is_new page.now self.now window }
-    {
-        !(is_whole_page(page, window) || is_same_window(self.window, window))
-    }
-
-    // After a run in this window.
-    pub(crate) fn after(&self, page: &Page, window: Window) -> Clips
-        requires { self.now.count < 2 ^ 32 - 1 }
-        ensures { result ≡ clips_after page.now self.now window }
-    {
-        let count = if self.is_new(page, window) {
-            self.count + 1
-        } else {
-            self.count
-        };
-        Clips { window, count }
+        Ok(ClipPaths { rectangles })
     }
 }
 
-// The whole page as a window.
-fn whole_page(page: &Page) -> Window
-    ensures { result ≡ whole_page page.now }
-{
-    Window {
-        x0: 0,
-        y0: 0,
-        x1: (16 * page.width) as i32,
-        y1: (16 * page.height) as i32,
-    }
-}
-
-fn is_whole_page(page: &Page, window: Window) -> bool
-    ensures { result ≡ is_whole_page page.now window }
-{
-    is_same_window(window, whole_page(page))
-}
-
-// A y of the page, from its upper edge downward.
-pub(crate) fn turned(page: &Page, y: i32) -> i32
-    requires { nat_abs y ≤ 1048576 }
-    ensures { result ≡ turned page.now y }
-{
-    (16 * page.height) as i32 - y
-}
-
-// Appends the clip path of a run that begins with this stroke, if it needs a new one.
-pub(crate) fn append_new_clip(
-    piece: &mut [u8],
-    used: usize,
+// Adds what a stroke is clipped to.
+fn add_clip(
+    rectangles: &mut BTreeSet<Rectangle>,
     page: &Page,
-    clips: &Clips,
     stroke: &Stroke,
-) -> usize
-    requires count { clips.now.count < 2 ^ 32 - 1 }
-    requires room { used + LONGEST_CLIP ≤ length piece.old }
-    ensures text { take result piece.new ≡ take used piece.old ++ new_clip_text page.now clips.now stroke.now.window }
-    ensures most { result ≤ used + LONGEST_CLIP }
-    ensures size { length piece.new ≡ length piece.old }
+) -> Result<(), AllocError>
+    ensures added { IfOk result
+        (λ _. rectangles.new.keys ≡ with_clip rectangles.old.keys (clip_of page.now stroke.now.window)) }
+    ensures count { IfOk result (λ _. length rectangles.new.keys ≤ length rectangles.old.keys + 1) }
 {
-    if clips.is_new(page, stroke.window) {
-        append_clip(piece, used, page, clips.count + 1, stroke)
-    } else {
-        used
+    if is_whole_page(page, stroke.window) {
+        return Ok(());
+    }
+    match rectangles.insert(rectangle_of(page, stroke)) {
+        Ok(_) => Ok(()),
+        Err(_) => Err(AllocError),
     }
 }
 
-// Appends the clip path of this number: what lies in the window of a stroke.
-fn append_clip(piece: &mut [u8], used: usize, page: &Page, number: u32, stroke: &Stroke) -> usize
-    requires room { used + LONGEST_CLIP ≤ length piece.old }
-    ensures text { take result piece.new ≡ take used piece.old ++ clip_text page.now number stroke.now.window }
+// Hands on the clip paths.
+pub(crate) fn put_clips<K: Sink>(
+    clips: &ClipPaths,
+    piece: &mut [u8],
+    waiting: Waiting,
+    sink: &mut K,
+) -> Result<Waiting, WriteFault>
+    requires sound { (K.state sink.old).faults < 2 ^ 64 - 1 }
+    requires used { waiting.used ≤ LONGEST_HEAD }
+    requires done { waiting.done ≡ 0 }
+    requires size { length piece.old ≡ PIECE }
+    ensures passes { Passes (K.state sink.old) (K.state sink.new) waiting.done
+        (take waiting.used piece.old ++ clips_text (collected clips.now)) piece.new result }
+    ensures used { IfOk result (λ w. w.used + KEPT ≤ PIECE) }
+    ensures done { IfOk result (λ w. w.done + w.used ≤ 2 ^ 32) }
+    ensures size { length piece.new ≡ length piece.old }
+{
+    if clips.rectangles.is_empty() {
+        return Ok(waiting);
+    }
+    let mut waiting = waiting;
+    waiting.used = append(piece, waiting.used, b"<defs>\n");
+    for clip in &clips.rectangles {
+        waiting = make_room(
+            piece,
+            waiting,
+            LONGEST_CLIP + LONGEST_CLIPS_END + KEPT,
+            sink,
+        )?;
+        waiting.used = append_clip(piece, waiting.used, *clip);
+    }
+    waiting.used = append(piece, waiting.used, b"</defs>\n");
+    Ok(waiting)
+}
+
+// Appends a clip path.
+fn append_clip(piece: &mut [u8], used: usize, clip: Rectangle) -> usize
+    requires { used + LONGEST_CLIP ≤ length piece.old }
+    ensures text { take result piece.new ≡ take used piece.old ++ clip_text clip }
     ensures most { result ≤ used + LONGEST_CLIP }
     ensures size { length piece.new ≡ length piece.old }
 {
-    let used = append_count(piece, used, b"<defs><clipPath id=\"w", number);
+    let used = append(piece, used, b"<clipPath id=\"");
+    let used = append_name(piece, used, clip);
     let used = append(piece, used, b"\">");
-    let used = append_window(piece, used, page, stroke.window);
-    append(piece, used, b"</clipPath></defs>\n")
+    let used = append_rectangle(piece, used, clip);
+    append(piece, used, b"</clipPath>\n")
 }
 
-// Appends a window as a rectangle.
-fn append_window(piece: &mut [u8], used: usize, page: &Page, window: Window) -> usize
-    requires x0 { nat_abs window.x0 ≤ 1048576 }
-    requires y0 { nat_abs window.y0 ≤ 1048576 }
-    requires x1 { nat_abs window.x1 ≤ 1048576 }
-    requires y1 { nat_abs window.y1 ≤ 1048576 }
-    requires room { used + LONGEST_RECTANGLE ≤ length piece.old }
-    ensures text { take result piece.new ≡ take used piece.old
-        ++ rectangle_text window.x0 (turned page.now window.y1) (window.x1 -ℤ window.x0) (window.y1 -ℤ window.y0) }
-    ensures most { result ≤ used + LONGEST_RECTANGLE }
+// Appends the name of a clip path.
+fn append_name(piece: &mut [u8], used: usize, clip: Rectangle) -> usize
+    requires { used + LONGEST_NAME ≤ length piece.old }
+    ensures text { take result piece.new ≡ take used piece.old ++ clip_name clip }
+    ensures most { result ≤ used + LONGEST_NAME }
     ensures size { length piece.new ≡ length piece.old }
 {
-    let top = turned(page, window.y1);
-    let width = distance(window.x0, window.x1);
-    let height = distance(window.y0, window.y1);
-    append_rectangle(piece, used, window.x0, top, width, height)
+    let used = append_signed(piece, used, b"w", clip.x);
+    let used = append_signed(piece, used, b"_", clip.y);
+    let used = append_signed(piece, used, b"_", clip.width);
+    append_signed(piece, used, b"_", clip.height)
 }
 
-// How far one place is from another.
-fn distance(from: i32, to: i32) -> i32
-    requires from { nat_abs from ≤ 1048576 }
-    requires to { nat_abs to ≤ 1048576 }
-    ensures { result ≡ to -ℤ from }
-{
-    to - from
-}
-
-// Appends a rectangle, from its left upper corner.
-fn append_rectangle(piece: &mut [u8], used: usize, x: i32, y: i32, width: i32, height: i32) -> usize
+// Appends a rectangle.
+fn append_rectangle(piece: &mut [u8], used: usize, clip: Rectangle) -> usize
     requires { used + LONGEST_RECTANGLE ≤ length piece.old }
-    ensures text { take result piece.new ≡ take used piece.old ++ rectangle_text x y width height }
+    ensures text { take result piece.new ≡ take used piece.old ++ rectangle_text clip }
     ensures most { result ≤ used + LONGEST_RECTANGLE }
     ensures size { length piece.new ≡ length piece.old }
 {
-    let used = append_signed(piece, used, b"<rect x=\"", x);
-    let used = append_signed(piece, used, b"\" y=\"", y);
-    let used = append_signed(piece, used, b"\" width=\"", width);
-    let used = append_signed(piece, used, b"\" height=\"", height);
+    let used = append_signed(piece, used, b"<rect x=\"", clip.x);
+    let used = append_signed(piece, used, b"\" y=\"", clip.y);
+    let used = append_signed(piece, used, b"\" width=\"", clip.width);
+    let used = append_signed(piece, used, b"\" height=\"", clip.height);
     append(piece, used, b"\"/>")
 }
 
-// Appends the reference to the clip path of a run that begins with this stroke, if it has one.
-pub(crate) fn append_clipped(
-    piece: &mut [u8],
-    used: usize,
-    page: &Page,
-    clips: &Clips,
-    stroke: &Stroke,
-) -> usize
-    requires count { clips.now.count < 2 ^ 32 - 1 }
-    requires room { used + LONGEST_CLIPPED ≤ length piece.old }
-    ensures text { take result piece.new ≡ take used piece.old ++ clipped_text page.now clips.now stroke.now.window }
+// Appends the reference to the clip path of a stroke, if it is clipped.
+pub(crate) fn append_clipped(piece: &mut [u8], used: usize, page: &Page, stroke: &Stroke) -> usize
+    requires { used + LONGEST_CLIPPED ≤ length piece.old }
+    ensures text { take result piece.new
+        ≡ take used piece.old ++ clipped_text (clip_of page.now stroke.now.window) }
     ensures most { result ≤ used + LONGEST_CLIPPED }
     ensures size { length piece.new ≡ length piece.old }
 {
-    append_reference(piece, used, page, clips, stroke.window)
-}
-
-// Appends the reference to the clip path of a run in this window, if it has one.
-fn append_reference(
-    piece: &mut [u8],
-    used: usize,
-    page: &Page,
-    clips: &Clips,
-    window: Window,
-) -> usize
-    requires count { clips.now.count < 2 ^ 32 - 1 }
-    requires room { used + LONGEST_CLIPPED ≤ length piece.old }
-    ensures text { take result piece.new ≡ take used piece.old ++ clipped_text page.now clips.now window }
-    ensures most { result ≤ used + LONGEST_CLIPPED }
-    ensures size { length piece.new ≡ length piece.old }
-{
-    if is_whole_page(page, window) {
+    if is_whole_page(page, stroke.window) {
         return used;
     }
-    let number = clips.after(page, window).count;
-    let used = append_count(piece, used, b" clip-path=\"url(#w", number);
+    append_reference(piece, used, rectangle_of(page, stroke))
+}
+
+// Appends the reference to a clip path.
+fn append_reference(piece: &mut [u8], used: usize, clip: Rectangle) -> usize
+    requires { used + LONGEST_CLIPPED ≤ length piece.old }
+    ensures text { take result piece.new ≡ take used piece.old ++ clipped_text (Some clip) }
+    ensures most { result ≤ used + LONGEST_CLIPPED }
+    ensures size { length piece.new ≡ length piece.old }
+{
+    let used = append(piece, used, b" clip-path=\"url(#");
+    let used = append_name(piece, used, clip);
     append(piece, used, b")\"")
 }

@@ -1,25 +1,28 @@
 //! The whole document.
-ghost use Rattle.std.specs.Prelude.{◌≡◌, ◌+◌, ◌-◌, ◌^◌, ◌<◌, ◌≤◌, ◌++◌, length, take, IfOk};
+ghost use Rattle.std.specs.Prelude.{◌≡◌, ◌+◌, ◌-◌, ◌*◌, ◌^◌, ◌<◌, ◌≤◌, ◌++◌, length, take, IfOk};
 ghost use Rattle.devices.specs.Sinks.{Writes};
+ghost use Rattle.pieces.specs.Pieces.{Passes, WritesAfter};
 ghost use Rattle.plot_page.specs.declared.stroke.TheConstants.{MOST_STROKES};
-ghost use Rattle.svg.specs.Documents.{svg_bytes};
-ghost use Rattle.svg.specs.Steps.{nothing_drawn, steps_text};
+ghost use Rattle.svg.specs.Clips.{clips_of, clips_text, collected};
+ghost use Rattle.svg.specs.Documents.{foot_text, head_text, sheets_bytes, svg_bytes};
 
-use crate::head::{LONGEST_HEAD, append_head};
-use crate::pieces::put_piece;
-use crate::steps::{LONGEST_FINAL, LONGEST_STEP, Progress, append_final, append_step};
-use devices::{Sink, WriteFault};
+use crate::clip_paths::ClipPaths;
+use crate::clips::put_clips;
+use crate::head::append_head;
+use crate::sheets::{FOOT, KEPT, put_sheets, put_strokes};
+use devices::{Sink, WriteFault, append};
+use pieces::{Waiting, put_piece};
 use plot_page::{Page, PenSet, Stroke};
 
-// The length of a piece, in bytes. It takes the head, and what is written for a stroke and after the last one.
-const PIECE: usize = 32_768;
+/// The length of a piece, in bytes.
+pub(crate) const PIECE: usize = 32_768;
 
 /// Writes the strokes of the selected pens on a page as an SVG 1.1 document. Its size is that of the page, its unit the
 /// grain (1/16 plotter unit).
 ///
 /// Each run of strokes with the same pen, colour, width and window is a path, with the class `pen2` if the pen is 2, at
 /// most 1,000 strokes, and a width of at least 24 grains. A stroke with an empty window is left out. A window other than the
-/// page is a clip path, written again whenever the window changes.
+/// page is a clip path: `clips` has those of these strokes.
 ///
 /// Returns how many bytes the document has. It asks for no memory.
 ///
@@ -28,47 +31,74 @@ pub fn write_svg<K: Sink>(
     page: &Page,
     pens: &PenSet,
     strokes: &[Stroke],
+    clips: &ClipPaths,
     sink: &mut K,
 ) -> Result<u64, WriteFault>
     requires sound { (K.state sink.old).faults < 2 ^ 64 - 1 }
     requires strokes { length strokes.now ≤ MOST_STROKES }
+    requires clips { collected clips.now ≡ clips_of page.now pens.now strokes.now }
     ensures writes { Writes (K.state sink.old) (K.state sink.new)
         (svg_bytes page.now pens.now strokes.now) result }
     ensures count { IfOk result (λ n. n ≡ length (svg_bytes page.now pens.now strokes.now)) }
 {
     let mut piece = [0; PIECE];
-    let used = append_head(&mut piece, 0, page);
-    put_steps(page, pens, strokes, &mut piece, used, sink)
+    let waiting = put_start(page, clips, &mut piece, sink)?;
+    let waiting = put_strokes(page, pens, strokes, &mut piece, waiting, sink)?;
+    put_foot(&mut piece, waiting, sink)
 }
 
-// Writes the first `used` bytes of a piece, and then what is written for the strokes and after them.
-fn put_steps<K: Sink>(
+/// Writes all sheets of a plot as one document, one above another: each one is a group, `sheet-1`, `sheet-2` and so on.
+/// `ends` tells how many strokes there were when each sheet ended; the end of the strokes ends one, too, and a sheet without
+/// strokes does not count. All else is as `write_svg` has it.
+pub fn write_svg_sheets<K: Sink>(
     page: &Page,
     pens: &PenSet,
     strokes: &[Stroke],
-    piece: &mut [u8],
-    used: usize,
+    ends: &[usize],
+    clips: &ClipPaths,
     sink: &mut K,
 ) -> Result<u64, WriteFault>
     requires sound { (K.state sink.old).faults < 2 ^ 64 - 1 }
     requires strokes { length strokes.now ≤ MOST_STROKES }
-    requires used { used ≤ LONGEST_HEAD }
-    requires room { length piece.old ≡ PIECE }
+    requires clips { collected clips.now ≡ clips_of page.now pens.now strokes.now }
     ensures writes { Writes (K.state sink.old) (K.state sink.new)
-        (take used piece.old ++ steps_text page.now pens.now (nothing_drawn page.now) strokes.now) result }
-    ensures count { IfOk result
-        (λ n. n ≡ length (take used piece.old ++ steps_text page.now pens.now (nothing_drawn page.now) strokes.now)) }
+        (sheets_bytes page.now pens.now strokes.now ends.now) result }
+    ensures count { IfOk result (λ n. n ≡ length (sheets_bytes page.now pens.now strokes.now ends.now)) }
 {
-    let mut progress = Progress::none(page);
-    let mut used = used;
-    let mut done = 0;
-    for stroke in strokes {
-        if used + LONGEST_STEP + LONGEST_FINAL > piece.len() {
-            done = put_piece(sink, &piece[..used], done)?;
-            used = 0;
-        }
-        used = append_step(piece, used, page, pens, &mut progress, stroke);
-    }
-    used = append_final(piece, used, &progress.runs);
-    put_piece(sink, &piece[..used], done)
+    let mut piece = [0; PIECE];
+    let waiting = put_start(page, clips, &mut piece, sink)?;
+    let waiting = put_sheets(page, pens, strokes, ends, &mut piece, waiting, sink)?;
+    put_foot(&mut piece, waiting, sink)
+}
+
+// Hands on what comes before the paths.
+fn put_start<K: Sink>(
+    page: &Page,
+    clips: &ClipPaths,
+    piece: &mut [u8],
+    sink: &mut K,
+) -> Result<Waiting, WriteFault>
+    requires sound { (K.state sink.old).faults < 2 ^ 64 - 1 }
+    requires room { length piece.old ≡ PIECE }
+    ensures passes { Passes (K.state sink.old) (K.state sink.new) 0
+        (head_text page.now ++ clips_text (collected clips.now)) piece.new result }
+    ensures used { IfOk result (λ w. w.used + KEPT ≤ PIECE) }
+    ensures done { IfOk result (λ w. w.done + w.used ≤ 2 ^ 32) }
+    ensures size { length piece.new ≡ length piece.old }
+{
+    let used = append_head(piece, 0, page);
+    put_clips(clips, piece, Waiting { used, done: 0 }, sink)
+}
+
+// Writes what waits, and the end of the document.
+fn put_foot<K: Sink>(piece: &mut [u8], waiting: Waiting, sink: &mut K) -> Result<u64, WriteFault>
+    requires sound { (K.state sink.old).faults < 2 ^ 64 - 1 }
+    requires room { waiting.used + FOOT ≤ length piece.old }
+    requires size { length piece.old ≡ PIECE }
+    requires count { waiting.done + waiting.used ≤ 2 ^ 41 }
+    ensures writes { WritesAfter (K.state sink.old) (K.state sink.new) waiting.done
+        (take waiting.used piece.old ++ foot_text) result }
+{
+    let used = append(piece, waiting.used, b"</g></svg>\n");
+    put_piece(sink, &piece[..used], waiting.done)
 }

@@ -1,10 +1,10 @@
 //! What comes before the paths of a document.
 ghost use Rattle.std.specs.Prelude.{◌≡◌, ◌+◌, ◌<◌, ◌≤◌, ◌++◌, length, take};
 ghost use Rattle.svg.specs.Documents.{head_text, page_text};
-ghost use Rattle.svg.specs.Numbers.{decimals, fraction, millimetres};
+ghost use Rattle.svg.specs.Numbers.{millimetres};
 
-use crate::pieces::append_count;
 use devices::append;
+use number_text::{append_count, append_fraction};
 use plot_page::Page;
 
 /// The longest head: two texts of 78 and 63 bytes, and the longest page.
@@ -59,46 +59,4 @@ fn append_millimetres(piece: &mut [u8], used: usize, text: &[u8], units: u32) ->
 {
     let used = append_count(piece, used, text, units / 40);
     append_fraction(piece, used, 25 * (units % 40))
-}
-
-// Appends a point and some thousandths, without zeros at the end; nothing if there are none.
-fn append_fraction(piece: &mut [u8], used: usize, thousandths: u32) -> usize
-    requires small { thousandths < 1000 }
-    requires room { used + 4 ≤ length piece.old }
-    ensures text { take result piece.new ≡ take used piece.old ++ fraction thousandths }
-    ensures most { result ≤ used + 4 }
-    ensures size { length piece.new ≡ length piece.old }
-{
-    if thousandths == 0 {
-        return used;
-    }
-    let digits = [
-        digit(thousandths / 100),
-        digit(thousandths / 10 % 10),
-        digit(thousandths % 10),
-    ];
-    let used = append(piece, used, b".");
-    append(piece, used, &digits[..decimals(thousandths)])
-}
-
-// How many digits of some thousandths are not zeros at the end.
-fn decimals(thousandths: u32) -> usize
-    ensures value { result ≡ decimals thousandths }
-    ensures most { result ≤ 3 }
-{
-    if thousandths % 100 == 0 {
-        1
-    } else if thousandths % 10 == 0 {
-        2
-    } else {
-        3
-    }
-}
-
-// The digit of a number below 10.
-fn digit(number: u32) -> u8
-    requires { number < 10 }
-    ensures { result ≡ 48 + number }
-{
-    b'0' + number as u8
 }

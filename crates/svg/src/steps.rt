@@ -1,42 +1,23 @@
 //! What is written for each stroke, one at a time.
-ghost use Rattle.std.specs.Prelude.{◌≡◌, ◌+◌, ◌-◌, ◌^◌, ◌<◌, ◌≤◌, ◌++◌, length, take};
-ghost use Rattle.svg.specs.Paths.{start_text, stroke_text};
-ghost use Rattle.svg.specs.Steps.{after_drawn, after_step, final_text, link_text, nothing_drawn, open_end, step_text};
-ghost use Rattle.stroke_runs.specs.Links.{link_of};
+ghost use Rattle.std.specs.Prelude.{◌≡◌, ◌+◌, ◌*◌, ◌≤◌, ◌++◌, length, take};
+ghost use Rattle.svg.specs.Commands.{command_text};
+ghost use Rattle.svg.specs.Paths.{line_of};
+ghost use Rattle.svg.specs.Places.{IsNear};
+ghost use Rattle.svg.specs.Steps.{after_step, apart_text, begun_text, last_place, link_text, open_end, step_text};
+ghost use Rattle.stroke_runs.specs.Links.{link_of, runs_after};
 
-use crate::clips::Clips;
-use crate::paths::{LONGEST_START, LONGEST_STROKE, append_line, append_start, append_stroke};
+use crate::commands::{LONGEST_COMMAND, append_first, append_line, append_move};
+use crate::paths::{LONGEST_START, append_start};
+use crate::places::{Place, end_of, start_of};
 use devices::append;
 use plot_page::{Page, PenSet, Stroke};
 use stroke_runs::{Link, Runs, is_drawn};
 
-/// The longest text of a stroke: the end of a path, the start of another one, and a stroke.
-pub(crate) const LONGEST_STEP: usize = LONGEST_END + LONGEST_START + LONGEST_STROKE;
-
-/// The longest text after the last stroke: the end of a path, and the foot.
-pub(crate) const LONGEST_FINAL: usize = LONGEST_END + 11;
+/// The longest text of a stroke: the end of a path, the start of another one, and two commands.
+pub(crate) const LONGEST_STEP: usize = LONGEST_END + LONGEST_START + 2 * LONGEST_COMMAND;
 
 /// The end of a path.
-const LONGEST_END: usize = 4;
-
-// How the strokes so far were drawn.
-#[derive(Clone, Copy)]
-pub(crate) struct Progress {
-    pub(crate) runs: Runs,
-    pub(crate) clips: Clips,
-}
-
-impl Progress {
-    // Before the first stroke.
-    pub(crate) fn none(page: &Page) -> Progress
-        ensures { result ≡ nothing_drawn page.now }
-    {
-        Progress {
-            runs: Runs::new(),
-            clips: Clips::none(page),
-        }
-    }
-}
+pub(crate) const LONGEST_END: usize = 4;
 
 // Appends what is written for a stroke, if it is drawn.
 pub(crate) fn append_step(
@@ -44,21 +25,19 @@ pub(crate) fn append_step(
     used: usize,
     page: &Page,
     pens: &PenSet,
-    progress: &mut Progress,
+    runs: &mut Runs,
     stroke: &Stroke,
 ) -> usize
-    requires count { progress.old.clips.count < 2 ^ 32 - 1 }
-    requires room { used + LONGEST_STEP ≤ length piece.old }
-    ensures text { take result piece.new ≡ take used piece.old ++ step_text page.now pens.now progress.old stroke.now }
+    requires { used + LONGEST_STEP ≤ length piece.old }
+    ensures text { take result piece.new ≡ take used piece.old ++ step_text page.now pens.now runs.old stroke.now }
     ensures most { result ≤ used + LONGEST_STEP }
     ensures size { length piece.new ≡ length piece.old }
-    ensures after { progress.new ≡ after_step page.now pens.now progress.old stroke.now }
-    ensures count { progress.new.clips.count ≤ progress.old.clips.count + 1 }
+    ensures after { runs.new ≡ after_step pens.now runs.old stroke.now }
 {
     if !is_drawn(pens, stroke) {
         return used;
     }
-    append_drawn(piece, used, page, progress, stroke)
+    append_drawn(piece, used, page, runs, stroke)
 }
 
 // Appends what is written for a stroke that is drawn.
@@ -66,51 +45,29 @@ fn append_drawn(
     piece: &mut [u8],
     used: usize,
     page: &Page,
-    progress: &mut Progress,
+    runs: &mut Runs,
     stroke: &Stroke,
 ) -> usize
-    requires count { progress.old.clips.count < 2 ^ 32 - 1 }
-    requires room { used + LONGEST_STEP ≤ length piece.old }
+    requires { used + LONGEST_STEP ≤ length piece.old }
     ensures text { take result piece.new
-        ≡ take used piece.old ++ link_text page.now progress.old (link_of progress.old.runs stroke.now) stroke.now }
+        ≡ take used piece.old ++ link_text page.now runs.old (link_of runs.old stroke.now) stroke.now }
     ensures most { result ≤ used + LONGEST_STEP }
     ensures size { length piece.new ≡ length piece.old }
-    ensures after { progress.new ≡ after_drawn page.now progress.old stroke.now }
-    ensures count { progress.new.clips.count ≤ progress.old.clips.count + 1 }
+    ensures after { runs.new ≡ runs_after runs.old stroke.now }
 {
-    let before = *progress;
-    match progress.runs.next(stroke) {
+    let before = *runs;
+    match runs.next(stroke) {
         Link::Begins => {
-            progress.clips = before.clips.after(page, stroke.window);
-            append_begun(piece, used, page, &before, stroke)
+            let used = append_end(piece, used, &before);
+            append_begun(piece, used, page, stroke)
         }
-        Link::Apart => append_stroke(piece, used, page, stroke),
-        Link::Joined => append_line(piece, used, page, stroke),
+        Link::Apart => append_apart(piece, used, page, last_place(page, &before), stroke),
+        Link::Joined => append_line_of(piece, used, page, stroke),
     }
 }
 
-// Appends the end of the path before this stroke, if there is one, and the stroke in a path of its own.
-fn append_begun(
-    piece: &mut [u8],
-    used: usize,
-    page: &Page,
-    before: &Progress,
-    stroke: &Stroke,
-) -> usize
-    requires count { before.now.clips.count < 2 ^ 32 - 1 }
-    requires room { used + LONGEST_STEP ≤ length piece.old }
-    ensures text { take result piece.new ≡ take used piece.old ++ (open_end before.now.runs
-        ++ start_text page.now before.now.clips stroke.now ++ stroke_text page.now stroke.now) }
-    ensures most { result ≤ used + LONGEST_STEP }
-    ensures size { length piece.new ≡ length piece.old }
-{
-    let used = append_end(piece, used, &before.runs);
-    let used = append_start(piece, used, page, &before.clips, stroke);
-    append_stroke(piece, used, page, stroke)
-}
-
 // Appends the end of the path that has begun, if there is one.
-fn append_end(piece: &mut [u8], used: usize, runs: &Runs) -> usize
+pub(crate) fn append_end(piece: &mut [u8], used: usize, runs: &Runs) -> usize
     requires { used + LONGEST_END ≤ length piece.old }
     ensures text { take result piece.new ≡ take used piece.old ++ open_end runs.now }
     ensures most { result ≤ used + LONGEST_END }
@@ -122,13 +79,48 @@ fn append_end(piece: &mut [u8], used: usize, runs: &Runs) -> usize
     append(piece, used, b"\"/>\n")
 }
 
-// Appends what follows the last stroke.
-pub(crate) fn append_final(piece: &mut [u8], used: usize, runs: &Runs) -> usize
-    requires { used + LONGEST_FINAL ≤ length piece.old }
-    ensures text { take result piece.new ≡ take used piece.old ++ final_text runs.now }
-    ensures most { result ≤ used + LONGEST_FINAL }
+// Appends a stroke that begins a path.
+fn append_begun(piece: &mut [u8], used: usize, page: &Page, stroke: &Stroke) -> usize
+    requires { used + LONGEST_START + 2 * LONGEST_COMMAND ≤ length piece.old }
+    ensures text { take result piece.new ≡ take used piece.old ++ begun_text page.now stroke.now }
+    ensures most { result ≤ used + LONGEST_START + 2 * LONGEST_COMMAND }
     ensures size { length piece.new ≡ length piece.old }
 {
-    let used = append_end(piece, used, runs);
-    append(piece, used, b"</g></svg>\n")
+    let used = append_start(piece, used, page, stroke);
+    let used = append_first(piece, used, start_of(page, stroke));
+    append_line_of(piece, used, page, stroke)
+}
+
+// Where the last stroke ended, or the corner of the page before the first one.
+fn last_place(page: &Page, runs: &Runs) -> Place
+    ensures value { result ≡ last_place page.now runs.now.last }
+    ensures near { IsNear result }
+{
+    match runs.last() {
+        Some(stroke) => end_of(page, &stroke),
+        None => Place { x: 0, y: 0 },
+    }
+}
+
+// Appends a stroke that goes on a path at another place than this one.
+fn append_apart(piece: &mut [u8], used: usize, page: &Page, from: Place, stroke: &Stroke) -> usize
+    requires from { IsNear from }
+    requires room { used + 2 * LONGEST_COMMAND ≤ length piece.old }
+    ensures text { take result piece.new ≡ take used piece.old ++ apart_text page.now from stroke.now }
+    ensures most { result ≤ used + 2 * LONGEST_COMMAND }
+    ensures size { length piece.new ≡ length piece.old }
+{
+    let used = append_move(piece, used, from, start_of(page, stroke));
+    append_line_of(piece, used, page, stroke)
+}
+
+// Appends the line of a stroke.
+fn append_line_of(piece: &mut [u8], used: usize, page: &Page, stroke: &Stroke) -> usize
+    requires { used + LONGEST_COMMAND ≤ length piece.old }
+    ensures text { take result piece.new ≡ take used piece.old ++ command_text (line_of page.now stroke.now) }
+    ensures most { result ≤ used + LONGEST_COMMAND }
+    ensures size { length piece.new ≡ length piece.old }
+{
+    let from = start_of(page, stroke);
+    append_line(piece, used, from, end_of(page, stroke))
 }

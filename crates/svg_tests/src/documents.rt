@@ -5,7 +5,7 @@ use plot_page::{MOST_STROKES, Page};
 use std::alloc::Global;
 use std::process::Abort;
 use std::test::Fail;
-use svg::write_svg;
+use svg::{ClipPaths, write_svg};
 
 // What comes before the paths on the page of 64 by 66 units.
 pub const HEAD: &str = "<?xml version=\"1.0\" encoding=\"UTF-8\"?>\n\
@@ -32,7 +32,9 @@ fn is_document(
         text.push_str(part)?;
     }
     let mut sink = OverWrite::new(Vec::new(alloc));
-    let bytes = write_svg(page, &three_pens(), &strokes, &mut sink)?;
+    let pens = three_pens();
+    let clips = ClipPaths::of(alloc, page, &pens, &strokes)?;
+    let bytes = write_svg(page, &pens, &strokes, &clips, &mut sink)?;
     assert_eq!(rt; sink.failures(), 0);
     assert_eq!(rt;
         str::from_utf8(sink.into_inner().as_slice())?,
@@ -82,7 +84,8 @@ fn sizes(rt: HostRuntime) -> Result<(), Fail> {
     has_size(&rt, rt.alloc(), 84, 119, "2.1", "2.975")
 }
 
-// Lines that follow one another, one elsewhere, and one of length zero; y grows downward from the upper edge.
+// Lines that follow one another, some elsewhere, and one of length zero; y grows downward from the upper edge. Each command
+// is the shorter one, and absolute if both are equally long.
 #[test]
 fn one_path(rt: HostRuntime) -> Result<(), Fail> {
     let strokes = "\
@@ -93,7 +96,7 @@ fn one_path(rt: HostRuntime) -> Result<(), Fail> {
 1 0 56 0 16 32 16 32
 ";
     let paths = "<path class=\"pen1\" stroke=\"#000000\" stroke-width=\"56\" \
-        d=\"M0 1056L1024 0L512 1M500 1L512 1M512 2L700 2M16 1024L16 1024\"/>\n";
+        d=\"M0 1056L1024 0L512 1M500 1l12 0m0 1L700 2M16 1024l0 0\"/>\n";
     draws(&rt, rt.alloc(), strokes, paths)
 }
 
@@ -110,11 +113,10 @@ fn off_the_page(rt: HostRuntime) -> Result<(), Fail> {
 #[test]
 fn least_width(rt: HostRuntime) -> Result<(), Fail> {
     let strokes = "1 0 0 0 0 0 0 1\n1 0 23 0 0 1 0 2\n1 0 24 0 0 2 0 3\n1 0 25 0 0 3 0 4\n";
-    let paths =
-        "<path class=\"pen1\" stroke=\"#000000\" stroke-width=\"24\" d=\"M0 1056L0 1055\"/>\n\
-<path class=\"pen1\" stroke=\"#000000\" stroke-width=\"24\" d=\"M0 1055L0 1054\"/>\n\
-<path class=\"pen1\" stroke=\"#000000\" stroke-width=\"24\" d=\"M0 1054L0 1053\"/>\n\
-<path class=\"pen1\" stroke=\"#000000\" stroke-width=\"25\" d=\"M0 1053L0 1052\"/>\n";
+    let paths = "<path class=\"pen1\" stroke=\"#000000\" stroke-width=\"24\" d=\"M0 1056l0 -1\"/>\n\
+<path class=\"pen1\" stroke=\"#000000\" stroke-width=\"24\" d=\"M0 1055l0 -1\"/>\n\
+<path class=\"pen1\" stroke=\"#000000\" stroke-width=\"24\" d=\"M0 1054l0 -1\"/>\n\
+<path class=\"pen1\" stroke=\"#000000\" stroke-width=\"25\" d=\"M0 1053l0 -1\"/>\n";
     draws(&rt, rt.alloc(), strokes, paths)
 }
 
@@ -131,42 +133,52 @@ fn pens_and_colours(rt: HostRuntime) -> Result<(), Fail> {
 2 4 56 0 0 0 0 0
 ";
     let paths = "\
-<path class=\"pen1\" stroke=\"#000000\" stroke-width=\"56\" d=\"M0 1056L0 1056\"/>\n\
-<path class=\"pen2\" stroke=\"#000000\" stroke-width=\"56\" d=\"M0 1056L0 1056\"/>\n\
-<path class=\"pen2\" stroke=\"#100000\" stroke-width=\"56\" d=\"M0 1056L0 1056\"/>\n\
-<path class=\"pen2\" stroke=\"#000000\" stroke-width=\"56\" d=\"M0 1056L0 1056\"/>\n\
-<path class=\"pen2\" stroke=\"#001000\" stroke-width=\"56\" d=\"M0 1056L0 1056\"/>\n\
-<path class=\"pen2\" stroke=\"#000000\" stroke-width=\"56\" d=\"M0 1056L0 1056\"/>\n\
-<path class=\"pen2\" stroke=\"#000010\" stroke-width=\"56\" d=\"M0 1056L0 1056\"/>\n";
+<path class=\"pen1\" stroke=\"#000000\" stroke-width=\"56\" d=\"M0 1056l0 0\"/>\n\
+<path class=\"pen2\" stroke=\"#000000\" stroke-width=\"56\" d=\"M0 1056l0 0\"/>\n\
+<path class=\"pen2\" stroke=\"#100000\" stroke-width=\"56\" d=\"M0 1056l0 0\"/>\n\
+<path class=\"pen2\" stroke=\"#000000\" stroke-width=\"56\" d=\"M0 1056l0 0\"/>\n\
+<path class=\"pen2\" stroke=\"#001000\" stroke-width=\"56\" d=\"M0 1056l0 0\"/>\n\
+<path class=\"pen2\" stroke=\"#000000\" stroke-width=\"56\" d=\"M0 1056l0 0\"/>\n\
+<path class=\"pen2\" stroke=\"#000010\" stroke-width=\"56\" d=\"M0 1056l0 0\"/>\n";
     draws(&rt, rt.alloc(), strokes, paths)
 }
 
-// A clip path is written where the window changes, and used until it changes again.
+// Each window other than the page is a clip path once, in the order of its left edge, its upper edge, its width and its
+// height, whatever the order of the strokes.
 #[test]
 fn windows(rt: HostRuntime) -> Result<(), Fail> {
     let strokes = "\
+1 0 56 2 0 0 0 0
+1 0 56 0 0 0 0 0
 1 0 56 1 0 0 0 0
 1 0 57 1 0 0 0 0
 1 0 56 2 0 0 0 0
-1 0 56 0 0 0 0 0
-1 0 56 2 0 0 0 0
+1 0 56 6 0 0 0 0
+1 0 56 7 0 0 0 0
+1 0 56 8 0 0 0 0
 1 0 56 3 0 0 0 0
 ";
-    let paths =
-        "<defs><clipPath id=\"w1\"><rect x=\"0\" y=\"736\" width=\"160\" height=\"320\"/></clipPath></defs>\n\
-<path class=\"pen1\" stroke=\"#000000\" stroke-width=\"56\" clip-path=\"url(#w1)\" d=\"M0 1056L0 1056\"/>\n\
-<path class=\"pen1\" stroke=\"#000000\" stroke-width=\"57\" clip-path=\"url(#w1)\" d=\"M0 1056L0 1056\"/>\n\
-<defs><clipPath id=\"w2\"><rect x=\"512\" y=\"0\" width=\"512\" height=\"1056\"/></clipPath></defs>\n\
-<path class=\"pen1\" stroke=\"#000000\" stroke-width=\"56\" clip-path=\"url(#w2)\" d=\"M0 1056L0 1056\"/>\n\
-<path class=\"pen1\" stroke=\"#000000\" stroke-width=\"56\" d=\"M0 1056L0 1056\"/>\n\
-<defs><clipPath id=\"w3\"><rect x=\"512\" y=\"0\" width=\"512\" height=\"1056\"/></clipPath></defs>\n\
-<path class=\"pen1\" stroke=\"#000000\" stroke-width=\"56\" clip-path=\"url(#w3)\" d=\"M0 1056L0 1056\"/>\n\
-<defs><clipPath id=\"w4\"><rect x=\"5\" y=\"1050\" width=\"0\" height=\"0\"/></clipPath></defs>\n\
-<path class=\"pen1\" stroke=\"#000000\" stroke-width=\"56\" clip-path=\"url(#w4)\" d=\"M0 1056L0 1056\"/>\n";
+    let paths = "<defs>\n\
+<clipPath id=\"w0_736_160_160\"><rect x=\"0\" y=\"736\" width=\"160\" height=\"160\"/></clipPath>\n\
+<clipPath id=\"w0_736_160_320\"><rect x=\"0\" y=\"736\" width=\"160\" height=\"320\"/></clipPath>\n\
+<clipPath id=\"w0_736_320_320\"><rect x=\"0\" y=\"736\" width=\"320\" height=\"320\"/></clipPath>\n\
+<clipPath id=\"w0_896_160_160\"><rect x=\"0\" y=\"896\" width=\"160\" height=\"160\"/></clipPath>\n\
+<clipPath id=\"w5_1050_0_0\"><rect x=\"5\" y=\"1050\" width=\"0\" height=\"0\"/></clipPath>\n\
+<clipPath id=\"w512_0_512_1056\"><rect x=\"512\" y=\"0\" width=\"512\" height=\"1056\"/></clipPath>\n\
+</defs>\n\
+<path class=\"pen1\" stroke=\"#000000\" stroke-width=\"56\" clip-path=\"url(#w512_0_512_1056)\" d=\"M0 1056l0 0\"/>\n\
+<path class=\"pen1\" stroke=\"#000000\" stroke-width=\"56\" d=\"M0 1056l0 0\"/>\n\
+<path class=\"pen1\" stroke=\"#000000\" stroke-width=\"56\" clip-path=\"url(#w0_736_160_320)\" d=\"M0 1056l0 0\"/>\n\
+<path class=\"pen1\" stroke=\"#000000\" stroke-width=\"57\" clip-path=\"url(#w0_736_160_320)\" d=\"M0 1056l0 0\"/>\n\
+<path class=\"pen1\" stroke=\"#000000\" stroke-width=\"56\" clip-path=\"url(#w512_0_512_1056)\" d=\"M0 1056l0 0\"/>\n\
+<path class=\"pen1\" stroke=\"#000000\" stroke-width=\"56\" clip-path=\"url(#w0_736_320_320)\" d=\"M0 1056l0 0\"/>\n\
+<path class=\"pen1\" stroke=\"#000000\" stroke-width=\"56\" clip-path=\"url(#w0_736_160_160)\" d=\"M0 1056l0 0\"/>\n\
+<path class=\"pen1\" stroke=\"#000000\" stroke-width=\"56\" clip-path=\"url(#w0_896_160_160)\" d=\"M0 1056l0 0\"/>\n\
+<path class=\"pen1\" stroke=\"#000000\" stroke-width=\"56\" clip-path=\"url(#w5_1050_0_0)\" d=\"M0 1056l0 0\"/>\n";
     draws(&rt, rt.alloc(), strokes, paths)
 }
 
-// Strokes of other pens, and with an empty window, are left out, and end no path.
+// Strokes of other pens, and with an empty window, are left out, end no path, and have no clip path.
 #[test]
 fn left_out(rt: HostRuntime) -> Result<(), Fail> {
     let strokes = "\
@@ -179,6 +191,6 @@ fn left_out(rt: HostRuntime) -> Result<(), Fail> {
 4 0 56 2 40 0 50 0
 ";
     let paths =
-        "<path class=\"pen1\" stroke=\"#000000\" stroke-width=\"56\" d=\"M10 1056L20 1056L40 1056\"/>\n";
+        "<path class=\"pen1\" stroke=\"#000000\" stroke-width=\"56\" d=\"M10 1056l10 0l20 0\"/>\n";
     draws(&rt, rt.alloc(), strokes, paths)
 }

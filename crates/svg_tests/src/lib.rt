@@ -4,8 +4,10 @@
 #[cfg(test)]
 mod documents;
 #[cfg(test)]
-mod pieces;
+mod long_documents;
 #[cfg(test)]
 mod runs;
+#[cfg(test)]
+mod sheets;
 #[cfg(test)]
 mod strokes;

@@ -10,14 +10,17 @@ pub fn page() -> Result<Page, Fail> {
 }
 
 /// The whole page, its corner, its right half, a window of one place, one without width that is empty, and one that is
-/// empty in y.
-const WINDOWS: [[i32; 4]; 6] = [
+/// empty in y; and three with the left edge of the corner: a wider one, one that is less high, and one whose upper edge is lower.
+const WINDOWS: [[i32; 4]; 9] = [
     [0, 0, 1024, 1056],
     [0, 0, 160, 320],
     [512, 0, 1024, 1056],
     [5, 6, 5, 6],
     [9, 0, 8, 1056],
     [0, 9, 1024, 8],
+    [0, 0, 320, 320],
+    [0, 160, 160, 320],
+    [0, 0, 160, 160],
 ];
 
 // Black, a colour whose digits all differ, and three that differ from black in one part.
@@ -63,7 +66,7 @@ fn colour_of(number: i32) -> Result<Colour, Fail> {
 }
 
 fn window_of(number: i32) -> Result<Window, Fail> {
-    if number < 0 || 5 < number {
+    if number < 0 || 8 < number {
         return Err("no window".into());
     }
     let [x0, y0, x1, y1] = WINDOWS[number as usize];

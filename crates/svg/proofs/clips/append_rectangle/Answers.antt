@@ -7,10 +7,10 @@ use Rattle.svg.proofs.clips.append_rectangle.Goals as goal
 -- each number is the one that was passed
 pub returns-clause-text : goal.returns-clause-text
 returns-clause-text c =
-    let x : SFits w32 c.args.x = search rules in
-    let y : SFits w32 c.args.y = search rules in
-    let width : SFits w32 c.args.width = search rules in
-    let height : SFits w32 c.args.height = search rules in
+    let x : SFits w32 c.args.clip.x = search rules in
+    let y : SFits w32 c.args.clip.y = search rules in
+    let width : SFits w32 c.args.clip.width = search rules in
+    let height : SFits w32 c.args.clip.height = search rules in
     simp (
       c.append.ensures.piece,
       c.append_signed-used-4.ensures.text,

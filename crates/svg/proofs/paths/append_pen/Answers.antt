@@ -1,6 +1,6 @@
 use Rattle.std.proofs.Common.{◌++◌, ◌∙◌, ℕ, List, ap, take, codes, decimal}
 use Rattle.svg.specs.Numbers.{colour_digits}
-use Rattle.svg.proofs.Appended.{first_two, one_more, two_more}
+use Rattle.number_text.proofs.Appended.{first_two, one_more, two_more}
 use Rattle.svg.proofs.paths.append_pen.Goals as goal
 
 pub returns-clause-text : goal.returns-clause-text

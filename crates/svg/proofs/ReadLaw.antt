@@ -1,0 +1,164 @@
+-- What the paths show are the strokes that are drawn.
+use Rattle.std.proofs.Common.{◌≡◌, ℕ, ℤ, pos, ◌+ℤ◌, ◌-ℤ◌, ◌*◌, max, List, [], ◌∷◌, ◌++◌, flat_map, map, Bool, true, false, cond, Some, None, refl, ap, sym, ◌∙◌, arith, ◌&&◌, ◌==◌}
+use Rattle.std.specs.Ordering.{int_eq}
+use Rattle.std.proofs.lemmas.Bool.{and_parts}
+use Rattle.std.proofs.lemmas.Bool.Decides.{nat_tests}
+use Rattle.std.proofs.lemmas.Int.{ints}
+use Rattle.std.proofs.lemmas.List.{map-append}
+use Rattle.plot_page.specs.Segments.{Segment}
+use Rattle.plot_page.specs.declared.page.Page.{Page}
+use Rattle.plot_page.specs.declared.pens.PenSet.{PenSet}
+use Rattle.plot_page.specs.declared.window.Window.{Window}
+use Rattle.stroke_runs.proofs.RunLaws.{all_of, alike_of}
+use Rattle.stroke_runs.proofs.SheetLaws.{all_sheets}
+use Rattle.stroke_runs.specs.Drawn.{drawn, is_alike, is_drawn, is_joined, is_same_colour, is_same_window}
+use Rattle.stroke_runs.specs.Laws.{joined, AreAlike, AreRuns}
+use Rattle.stroke_runs.specs.Runs.{runs_of}
+use Rattle.stroke_runs.specs.Sheets.{sheets_of}
+use Rattle.svg.specs.declared.places.Place.{Place}
+use Rattle.svg.specs.Commands.{Command, MoveTo, LineTo, MoveBy, LineBy, line, move}
+use Rattle.svg.specs.Documents.{paths}
+use Rattle.svg.specs.Paths.{Path, line_of, path_of, paths_of, rest_commands}
+use Rattle.svg.specs.Places.{end_of, is_whole_page, moved, offset, place_of, rectangle_of, start_of, whole_page}
+use Rattle.svg.specs.Readings.{lines_from, read_paths, seen_in, shown, stroke_of, strokes_of, window_of}
+
+there : (a b : ℤ) → a +ℤ (b -ℤ a) ≡ b
+there a b = omega (arith, ints)
+
+back : (h y : ℤ) → h -ℤ (h -ℤ y) ≡ y
+back h y = omega (arith, ints)
+
+lower : (h a b : ℤ) → h -ℤ ((h -ℤ b) +ℤ (b -ℤ a)) ≡ a
+lower h a b = omega (arith, ints)
+
+moved_offset : (a b : Place) → moved a (offset a b) ≡ b
+moved_offset a b = λ i. record { x = there a.x b.x i; y = there a.y b.y i }
+
+either_line : (t : Bool) (a b : Place) (cs : List Command) → lines_from a (cond t (LineBy (offset a b)) (LineTo b) ∷ cs) ≡ (a, b) ∷ lines_from b cs
+either_line true a b cs = ap (λ (p : Place). (a, p) ∷ lines_from p cs) (moved_offset a b)
+either_line false a b cs = refl
+
+either_move : (t : Bool) (a b : Place) (cs : List Command) → lines_from a (cond t (MoveBy (offset a b)) (MoveTo b) ∷ cs) ≡ lines_from b cs
+either_move true a b cs = ap (λ (p : Place). lines_from p cs) (moved_offset a b)
+either_move false a b cs = refl
+
+line_read : (a b : Place) (cs : List Command) → lines_from a (line a b ∷ cs) ≡ (a, b) ∷ lines_from b cs
+line_read a b cs = either_line _ a b cs
+
+move_read : (a b : Place) (cs : List Command) → lines_from a (move a b ∷ cs) ≡ lines_from b cs
+move_read a b cs = either_move _ a b cs
+
+same_int : (a b : ℤ) → int_eq a b ≡ true → a ≡ b
+same_int a b h = grind (arith, ints, h)
+
+same_nat : (a b : ℕ) → (a == b) ≡ true → a ≡ b
+same_nat a b h = grind (arith, nat_tests, h)
+
+-- where a stroke lies
+abbrev ends : Page → Segment → Place × Place
+ends page s = (start_of page s, end_of page s)
+
+joined_places : (page : Page) (last s : Segment) → is_joined last s ≡ true → end_of page last ≡ start_of page s
+joined_places page last s h =
+    let both = and_parts (int_eq s.ax last.bx) (int_eq s.ay last.by) h in
+    let x = sym (same_int s.ax last.bx both.0) in
+    let y = sym (same_int s.ay last.by both.1) in
+    λ i. place_of page (x i) (y i)
+
+next_read : (j : Bool) (page : Page) (last s : Segment) (cs : List Command) → is_joined last s ≡ j → lines_from (end_of page last) (cond j (line_of page s ∷ []) (move (end_of page last) (start_of page s) ∷ line_of page s ∷ []) ++ cs) ≡ ends page s ∷ lines_from (end_of page s) cs
+next_read true page last s cs h =
+    ap (λ (p : Place). lines_from p (line_of page s ∷ cs)) (joined_places page last s h) ∙ line_read (start_of page s) (end_of page s) cs
+next_read false page last s cs h = move_read (end_of page last) (start_of page s) (line_of page s ∷ cs) ∙ line_read (start_of page s) (end_of page s) cs
+
+rest_read : (page : Page) (last : Segment) (ss : List Segment) → lines_from (end_of page last) (rest_commands page last ss) ≡ map (ends page) ss
+rest_read page last [] = refl
+rest_read page last (s ∷ ss) =
+    next_read (is_joined last s) page last s (rest_commands page s ss) refl ∙ ap (λ (ls : List (Place × Place)). ends page s ∷ ls) (rest_read page s ss)
+
+-- a path shows this stroke as it is drawn
+abbrev Draws : Page → Path → Segment → Type 0
+Draws page p s = (p.pen ≡ s.pen) × (p.colour ≡ s.colour) × (p.width ≡ max 24 s.width) × (seen_in page p.clip ≡ s.window)
+
+same_window : (v w : Window) → is_same_window v w ≡ true → v ≡ w
+same_window v w h =
+    let a = and_parts ((int_eq v.x0 w.x0 && int_eq v.y0 w.y0) && int_eq v.x1 w.x1) (int_eq v.y1 w.y1) h in
+    let b = and_parts (int_eq v.x0 w.x0 && int_eq v.y0 w.y0) (int_eq v.x1 w.x1) a.0 in
+    let d = and_parts (int_eq v.x0 w.x0) (int_eq v.y0 w.y0) b.0 in
+    let x0 = same_int v.x0 w.x0 d.0 in
+    let y0 = same_int v.y0 w.y0 d.1 in
+    let x1 = same_int v.x1 w.x1 b.1 in
+    let y1 = same_int v.y1 w.y1 a.1 in
+    λ i. record { x0 = x0 i; y0 = y0 i; x1 = x1 i; y1 = y1 i }
+
+read_window : (page : Page) (w : Window) → window_of page (rectangle_of page w) ≡ w
+read_window page w =
+    let h = pos (16 * page.height) in
+    λ i. record { x0 = w.x0; y0 = lower h w.y0 w.y1 i; x1 = there w.x0 w.x1 i; y1 = back h w.y1 i }
+
+either_window : (t : Bool) (page : Page) (w : Window) → is_whole_page page w ≡ t → seen_in page (cond t None (Some (rectangle_of page w))) ≡ w
+either_window true page w h = sym (same_window w (whole_page page) h)
+either_window false page w h = read_window page w
+
+begins_right : (page : Page) (s : Segment) (ss : List Segment) → Draws page (path_of page s ss) s
+begins_right page s ss = (refl, refl, refl, either_window (is_whole_page page s.window) page s.window refl)
+
+goes_right : (page : Page) (p : Path) (last s : Segment) → is_alike last s ≡ true → Draws page p last → Draws page p s
+goes_right page p last s h d =
+    let a = and_parts ((last.pen == s.pen && last.width == s.width) && is_same_colour last.colour s.colour) (is_same_window last.window s.window) h in
+    let b = and_parts (last.pen == s.pen && last.width == s.width) (is_same_colour last.colour s.colour) a.0 in
+    let pw = and_parts (last.pen == s.pen) (last.width == s.width) b.0 in
+    let cs = and_parts (last.colour.red == s.colour.red && last.colour.green == s.colour.green) (last.colour.blue == s.colour.blue) b.1 in
+    let rg = and_parts (last.colour.red == s.colour.red) (last.colour.green == s.colour.green) cs.0 in
+    let red = same_nat last.colour.red s.colour.red rg.0 in
+    let green = same_nat last.colour.green s.colour.green rg.1 in
+    let blue = same_nat last.colour.blue s.colour.blue cs.1 in (
+      d.0 ∙ same_nat last.pen s.pen pw.0,
+      d.1 ∙ (λ i. record { red = red i; green = green i; blue = blue i }),
+      d.2 ∙ ap (λ (n : ℕ). max 24 n) (same_nat last.width s.width pw.1),
+      d.3 ∙ same_window last.window s.window a.1,
+    )
+
+stroke_read : (page : Page) (p : Path) (s : Segment) → Draws page p s → stroke_of page p (ends page s) ≡ shown s
+stroke_read page p s d =
+    let h = pos (16 * page.height) in
+    λ i. record { pen = d.0 i; colour = d.1 i; width = d.2 i; window = d.3 i; ax = s.ax; ay = back h s.ay i; bx = s.bx; by = back h s.by i }
+
+strokes_read : (page : Page) (p : Path) (last : Segment) (ss : List Segment) → Draws page p last → AreAlike last ss → map (stroke_of page p) (map (ends page) ss) ≡ map shown ss
+strokes_read page p last [] d h = refl
+strokes_read page p last (s ∷ ss) d h =
+    let e = goes_right page p last s h.0 d in
+    (λ i. stroke_read page p s e i ∷ strokes_read page p s ss e h.1 i)
+
+path_read : (page : Page) (s : Segment) (ss : List Segment) → AreAlike s ss → strokes_of page (path_of page s ss) ≡ map shown (s ∷ ss)
+path_read page s ss h =
+    let p = path_of page s ss in
+    let lines : lines_from (start_of page s) (line_of page s ∷ rest_commands page s ss) ≡ map (ends page) (s ∷ ss) =
+    line_read (start_of page s) (end_of page s) (rest_commands page s ss) ∙ ap (λ (ls : List (Place × Place)). ends page s ∷ ls) (rest_read page s ss) in
+    let d = begins_right page s ss in
+    ap (λ (ls : List (Place × Place)). map (stroke_of page p) ls) lines ∙ (λ i. stroke_read page p s d i ∷ strokes_read page p s ss d h i)
+
+runs_read : (page : Page) (rs : List (List Segment)) → AreRuns rs → read_paths page (paths_of page rs) ≡ map shown (joined rs)
+runs_read page [] h = refl
+runs_read page ([] ∷ rs) h = absurd h.0
+runs_read page ((s ∷ ss) ∷ rs) h =
+    (λ i. path_read page s ss h.0.1 i ++ runs_read page rs h.1 i) ∙ sym (map-append shown (s ∷ ss) (joined rs))
+
+pub all_read : (page : Page) (pens : PenSet) (strokes : List Segment) → read_paths page (paths page pens strokes) ≡ map shown (drawn pens strokes)
+all_read page pens strokes = runs_read page (runs_of (drawn pens strokes)) (alike_of (drawn pens strokes)) ∙ ap (λ (ss : List Segment). map shown ss) (all_of (drawn pens strokes))
+
+drawn_both : (b : Bool) (s : Segment) (us vs ws : List Segment) → us ++ vs ≡ ws → cond b (s ∷ us) us ++ vs ≡ cond b (s ∷ ws) ws
+drawn_both true s us vs ws h = ap (λ (zs : List Segment). s ∷ zs) h
+drawn_both false s us vs ws h = h
+
+-- what is drawn of strokes and of others
+drawn_append : (pens : PenSet) (ss ts : List Segment) → drawn pens ss ++ drawn pens ts ≡ drawn pens (ss ++ ts)
+drawn_append pens [] ts = refl
+drawn_append pens (s ∷ ss) ts = drawn_both (is_drawn pens s) s (drawn pens ss) (drawn pens ts) (drawn pens (ss ++ ts)) (drawn_append pens ss ts)
+
+each_read : (page : Page) (pens : PenSet) (sheets : List (List Segment)) → flat_map (λ (sheet : List Segment). read_paths page (paths page pens sheet)) sheets ≡ map shown (drawn pens (joined sheets))
+each_read page pens [] = refl
+each_read page pens (sheet ∷ sheets) =
+    (λ i. all_read page pens sheet i ++ each_read page pens sheets i) ∙ sym (map-append shown (drawn pens sheet) (drawn pens (joined sheets))) ∙ ap (λ (zs : List Segment). map shown zs) (drawn_append pens sheet (joined sheets))
+
+pub sheets_read : (page : Page) (pens : PenSet) (strokes : List Segment) (ends : List ℕ) → flat_map (λ (sheet : List Segment). read_paths page (paths page pens sheet)) (sheets_of strokes ends) ≡ map shown (drawn pens strokes)
+sheets_read page pens strokes ends = each_read page pens (sheets_of strokes ends) ∙ ap (λ (ss : List Segment). map shown (drawn pens ss)) (all_sheets strokes ends)
