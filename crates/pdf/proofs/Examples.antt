@@ -1,0 +1,126 @@
+-- The bytes of small documents.
+use Rattle.std.proofs.Common.{◌≡◌, ℕ, ℤ, pos, negsuc, [], ◌∷◌, ◌++◌, codes, refl, replicate, true, arith}
+use Rattle.std.specs.Fmt.{digits}
+use Rattle.plot_page.specs.Segments.{Segment}
+use Rattle.plot_page.specs.declared.colour.Colour.{Colour}
+use Rattle.plot_page.specs.declared.page.Page.{Page}
+use Rattle.plot_page.specs.declared.pens.PenSet.{PenSet}
+use Rattle.plot_page.specs.declared.window.Window.{Window}
+use Rattle.pdf.specs.Contents.{colour_text, content_text, runs_text, stroke_text}
+use Rattle.pdf.specs.Documents.{header_text, pdf_bytes, pens_drawn, sheets}
+use Rattle.pdf.specs.Numbers.{part, points, utf_16_text}
+use Rattle.pdf.specs.Objects.{entry_text, objects_text, offsets_of}
+
+-- one inch by two
+abbrev page : Page
+page = record {
+  width = 1016;
+  height = 2032;
+  left = 0;
+  below = 0;
+  width_in = (omega arith, omega arith);
+  height_in = (omega arith, omega arith);
+  left_in = omega arith;
+  below_in = omega arith;
+}
+
+abbrev black : Colour
+black = record { red = 0; green = 0; blue = 0 }
+
+abbrev orange : Colour
+orange = record { red = 255; green = 136; blue = 1 }
+
+abbrev whole : Window
+whole = record { x0 = pos 0; y0 = pos 0; x1 = pos 16256; y1 = pos 32512 }
+
+abbrev corner : Window
+corner = record { x0 = pos 160; y0 = pos 320; x1 = pos 8000; y1 = pos 9000 }
+
+abbrev stroke : ℕ → Colour → ℕ → Window → ℤ → ℤ → ℤ → ℤ → Segment
+stroke pen colour width window ax ay bx by =
+    record { pen = pen; colour = colour; width = width; window = window; ax = ax; ay = ay; bx = bx; by = by }
+
+abbrev across : Segment
+across = stroke 1 black 56 whole (pos 0) (pos 448) (pos 16256) (pos 448)
+
+-- it begins where the last one ends
+abbrev up : Segment
+up = stroke 1 black 56 whole (pos 16256) (pos 448) (pos 16256) (negsuc 0)
+
+-- of length zero
+abbrev dot : Segment
+dot = stroke 1 black 56 whole (pos 16) (pos 32) (pos 16) (pos 32)
+
+abbrev clipped : Segment
+clipped = stroke 2 orange 0 corner (pos 0) (pos 0) (pos 16256) (pos 32512)
+
+abbrev all_pens : PenSet
+all_pens = record { chosen = replicate 256 true }
+
+a4_width : points 11880 ≡ codes "841.89"
+unfolding digits
+a4_width = refl
+
+an_inch : points 1016 ≡ codes "72"
+unfolding digits
+an_inch = refl
+
+no_colour : part 0 ≡ codes "0"
+unfolding digits
+no_colour = refl
+
+half_a_colour : part 128 ≡ codes "0.502"
+unfolding digits
+half_a_colour = refl
+
+all_of_a_colour : part 255 ≡ codes "1"
+unfolding digits
+all_of_a_colour = refl
+
+a_colour : colour_text orange ≡ codes "1 0.533 0.004 RG\n"
+unfolding digits
+a_colour = refl
+
+an_entry : entry_text 12034 ≡ codes "0000012034 00000 n \n"
+an_entry = refl
+
+-- y grows upward
+a_stroke : stroke_text up ≡ codes "16256 448 m\n16256 -1 l\n"
+unfolding digits
+a_stroke = refl
+
+-- two strokes that follow one another, and a dot
+one_path : runs_text page ((across ∷ up ∷ dot ∷ []) ∷ []) ≡ codes "/OC /P1 BDC\nq\n0 0 0 RG\n56 w\n0 448 m\n16256 448 l\n16256 -1 l\n16 32 m\n16 32 l\nS\nQ\nEMC\n"
+unfolding digits
+one_path = refl
+
+-- the width is at least 24 grains
+in_a_window : runs_text page ((clipped ∷ []) ∷ []) ≡ codes "/OC /P2 BDC\nq\n160 320 7840 8680 re\nW\nn\n1 0.533 0.004 RG\n24 w\n0 0 m\n16256 32512 l\nS\nQ\nEMC\n"
+unfolding digits
+in_a_window = refl
+
+empty_content : content_text page all_pens [] ≡ codes "0.004429133858 0 0 0.004429133858 0 0 cm\n1 J\n1 j\n"
+empty_content = refl
+
+two_sheets : sheets (across ∷ up ∷ dot ∷ []) 0 (1 ∷ 3 ∷ []) ≡ (across ∷ []) ∷ (up ∷ dot ∷ []) ∷ []
+two_sheets = refl
+
+pens_by_number : pens_drawn all_pens (clipped ∷ across ∷ clipped ∷ []) ≡ 1 ∷ 2 ∷ []
+pens_by_number = refl
+
+two_objects : objects_text 8 (codes "null" ∷ codes "[]" ∷ []) ≡ codes "9 0 obj\nnull\nendobj\n10 0 obj\n[]\nendobj\n"
+unfolding digits
+two_objects = refl
+
+where_they_begin : offsets_of 15 8 (codes "null" ∷ codes "[]" ∷ []) ≡ 15 ∷ 35 ∷ []
+unfolding digits
+where_they_begin = refl
+
+-- a document without pages
+no_pages : pdf_bytes (codes "1") [] page [] [] [] ≡ header_text ++ codes "1 0 obj\n<</Type/Catalog/Pages 3 0 R/OCProperties<</OCGs 4 0 R/D<</Order 4 0 R/ON 4 0 R>>>>>>\nendobj\n2 0 obj\n<</Producer(plotraster 1)>>\nendobj\n3 0 obj\n<</Type/Pages/MediaBox[0 0 72 144]/Resources<</Properties<<>>>>/Count 0/Kids[]>>\nendobj\n4 0 obj\n[]\nendobj\nxref\n0 5\n0000000000 65535 f \n0000000015 00000 n \n0000000115 00000 n \n0000000158 00000 n \n0000000254 00000 n \ntrailer\n<</Size 5/Root 1 0 R/Info 2 0 R>>\nstartxref\n272\n%%EOF\n"
+unfolding digits
+no_pages = refl
+
+-- a letter, one that is not ASCII, and one that needs two numbers of 16 bits
+a_title : utf_16_text (65 ∷ 228 ∷ 128516 ∷ []) ≡ codes "004100e4d83dde04"
+a_title = refl

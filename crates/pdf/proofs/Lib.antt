@@ -1,0 +1,10 @@
+pub mod Puts
+pub mod AddedObjects
+pub mod AddedPages
+pub mod Lists
+pub mod DrawnPens
+pub mod Contents
+pub mod OperatorTexts
+pub mod ReadRuns
+pub mod Offsets
+mod Examples

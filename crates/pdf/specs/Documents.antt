@@ -1,0 +1,128 @@
+-- A whole PDF document, version 1.5.
+use Rattle.std.specs.Prelude.{◌≡◌, ℕ, ◌+◌, ◌==◌, ◌&&◌, ◌||◌, Bool, false, List, [], ◌∷◌, ◌++◌, length, take, drop}
+use Rattle.std.specs.Prelude.{filter, Some, codes, decimal, if◌then◌else◌}
+use Rattle.std.specs.List.{range_with_len}
+use Rattle.std.specs.Str.{chars}
+use Rattle.deflate.specs.Zlib.{unzlib}
+use Rattle.plot_page.specs.Segments.{Segment}
+use Rattle.plot_page.specs.declared.page.Page.{Page}
+use Rattle.plot_page.specs.declared.pens.PenSet.{PenSet}
+use Rattle.stroke_runs.specs.Drawn.{is_drawn}
+use Rattle.pdf.specs.Contents.{content_text}
+use Rattle.pdf.specs.Numbers.{points, utf_16_text}
+use Rattle.pdf.specs.Objects.{objects_text, offsets_of, reference_text, table_text, trailer_text}
+
+-- the strokes of each sheet, of which the first one begins after so many strokes; each ends after so many
+abbrev pub sheets : List Segment → ℕ → List ℕ → List (List Segment)
+sheets strokes from [] = []
+sheets strokes from (end ∷ ends) = drop from (take end strokes) ∷ sheets strokes end ends
+
+-- a stroke of this pen is drawn
+abbrev pub has_drawn : PenSet → List Segment → ℕ → Bool
+has_drawn pens [] pen = false
+has_drawn pens (s ∷ strokes) pen = (is_drawn pens s && (pen == s.pen)) || has_drawn pens strokes pen
+
+-- the pens that draw a stroke, by their numbers
+abbrev pub pens_drawn : PenSet → List Segment → List ℕ
+pens_drawn pens strokes = filter (has_drawn pens strokes) (range_with_len 0 256)
+
+-- the version, and a comment with bytes that no text has
+abbrev pub header_text : List ℕ
+header_text = codes "%PDF-1.5\n%" ++ 226 ∷ 227 ∷ 207 ∷ 211 ∷ 10 ∷ []
+
+-- the first object: the root, whose layers are listed in the fourth one
+abbrev pub catalog_text : List ℕ
+catalog_text = codes "<</Type/Catalog/Pages 3 0 R/OCProperties<</OCGs 4 0 R/D<</Order 4 0 R/ON 4 0 R>>>>>>"
+
+-- a title in UTF-16 after the byte order mark; an empty one is none
+abbrev pub title_text : List ℕ → List ℕ
+title_text title =
+    if length title == 0 then [] else codes "/Title<FEFF" ++ utf_16_text (chars title) ++ codes ">"
+
+-- the second one: this version of the program made the document
+abbrev pub info_text : List ℕ → List ℕ → List ℕ
+info_text version title = codes "<</Producer(plotraster " ++ version ++ codes ")" ++ title_text title ++ codes ">>"
+
+-- references to layers, from this number on
+abbrev pub layers_text : ℕ → List ℕ → List ℕ
+layers_text number [] = []
+layers_text number (pen ∷ pens) = reference_text number ++ layers_text (number + 1) pens
+
+-- the same, each after the name by which a content calls it
+abbrev pub properties_text : ℕ → List ℕ → List ℕ
+properties_text number [] = []
+properties_text number (pen ∷ pens) =
+    codes "/P" ++ decimal pen ++ reference_text number ++ properties_text (number + 1) pens
+
+-- references to the pages of sheets that end there, each three objects
+abbrev pub kids_text : ℕ → List ℕ → List ℕ
+kids_text number [] = []
+kids_text number (end ∷ ends) = reference_text number ++ kids_text (number + 3) ends
+
+-- what all pages have: their size, the names of layers, and how many pages there are
+abbrev pub shared_text : Page → List ℕ → ℕ → List ℕ
+shared_text page pens count =
+    codes "<</Type/Pages/MediaBox[0 0 " ++ points page.width ++ codes " " ++ points page.height
+    ++ codes "]/Resources<</Properties<<" ++ properties_text 5 pens ++ codes ">>>>/Count " ++ decimal count
+    ++ codes "/Kids["
+
+-- the third one: the pages, which come after the layers
+abbrev pub pages_text : Page → List ℕ → List ℕ → List ℕ
+pages_text page pens ends = shared_text page pens (length ends) ++ kids_text (5 + length pens) ends ++ codes "]>>"
+
+-- the fourth one: all layers
+abbrev pub list_text : List ℕ → List ℕ
+list_text pens = codes "[" ++ layers_text 5 pens ++ codes "]"
+
+-- a layer: it is called `Pen 2`
+abbrev pub layer_object : ℕ → List ℕ
+layer_object pen = codes "<</Type/OCG/Name(Pen " ++ decimal pen ++ codes ")>>"
+
+abbrev pub layer_objects : List ℕ → List (List ℕ)
+layer_objects [] = []
+layer_objects (pen ∷ pens) = layer_object pen ∷ layer_objects pens
+
+-- a page, whose content is the object of this number
+abbrev pub page_object : ℕ → List ℕ
+page_object content = codes "<</Type/Page/Parent 3 0 R/Contents" ++ reference_text content ++ codes ">>"
+
+-- its content, whose length is in the object of this number
+abbrev pub stream_object : ℕ → List ℕ → List ℕ
+stream_object size stream =
+    codes "<</Filter/FlateDecode/Length" ++ reference_text size ++ codes ">>stream\n" ++ stream ++ codes "\nendstream"
+
+-- a page after so many objects: the page, its content, and how long that is
+abbrev pub page_objects : ℕ → List ℕ → List (List ℕ)
+page_objects before stream =
+    page_object (before + 2) ∷ stream_object (before + 3) stream ∷ decimal (length stream) ∷ []
+
+abbrev pub pages_objects : ℕ → List (List ℕ) → List (List ℕ)
+pages_objects before [] = []
+pages_objects before (stream ∷ streams) = page_objects before stream ++ pages_objects (before + 3) streams
+
+-- all objects
+abbrev pub objects : List ℕ → List ℕ → Page → List ℕ → List ℕ → List (List ℕ) → List (List ℕ)
+objects version title page pens ends streams =
+    (catalog_text ∷ info_text version title ∷ pages_text page pens ends ∷ list_text pens ∷ []) ++ layer_objects pens
+    ++ pages_objects (4 + length pens) streams
+
+-- what comes after objects that begin there: their table, which begins at `at`
+abbrev pub end_text : List ℕ → ℕ → List ℕ
+end_text offsets at = table_text offsets ++ trailer_text (length offsets) at
+
+-- a document of these objects
+abbrev pub document_text : List (List ℕ) → List ℕ
+document_text all =
+    header_text ++ objects_text 0 all
+    ++ end_text (offsets_of (length header_text) 0 all) (length (header_text ++ objects_text 0 all))
+
+-- a document with a layer for each of these pens, and a page for each sheet, whose contents are in these streams
+abbrev pub pdf_bytes : List ℕ → List ℕ → Page → List ℕ → List ℕ → List (List ℕ) → List ℕ
+pdf_bytes version title page pens ends streams = document_text (objects version title page pens ends streams)
+
+-- zlib streams (RFC 1950) of the contents of these sheets
+abbrev pub AreStreams : Page → PenSet → List (List Segment) → List (List ℕ) → Type 0
+AreStreams page pens [] [] = Unit {0}
+AreStreams page pens (strokes ∷ others) (stream ∷ streams) =
+    (unzlib stream ≡ Some (content_text page pens strokes)) × AreStreams page pens others streams
+AreStreams page pens _ _ = ⊥

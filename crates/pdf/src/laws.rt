@@ -1,0 +1,32 @@
+//! Laws of contents and of tables.
+ghost use Rattle.std.specs.Prelude.{◌≡◌, ℕ, ◌<◌, List, length, get_or, map, []};
+ghost use Rattle.pdf.specs.Contents.{content_text};
+ghost use Rattle.pdf.specs.Documents.{document_text, header_text};
+ghost use Rattle.pdf.specs.Laws.{BeginsAt};
+ghost use Rattle.pdf.specs.Objects.{object_text, offsets_of};
+ghost use Rattle.pdf.specs.Operators.{content_operators, operators_text};
+ghost use Rattle.pdf.specs.Readings.{read, start_of, widened};
+ghost use Rattle.stroke_runs.specs.Drawn.{drawn};
+
+use plot_page::{Page, PenSet, Stroke};
+
+/// The content of a page is the text of its operators.
+pub fn content_is_operators(page: &Page, pens: &PenSet, strokes: &[Stroke])
+    ensures { content_text page.now pens.now strokes.now
+        ≡ operators_text (content_operators page.now pens.now strokes.now) }
+{}
+
+/// Reading these operators paints the strokes that are drawn, in their order, each once, with its colour, its window and
+/// a width of at least 24 grains, in the layer of its pen.
+pub fn content_is_strokes(page: &Page, pens: &PenSet, strokes: &[Stroke])
+    ensures { (read (start_of page.now) (content_operators page.now pens.now strokes.now)).painted
+        ≡ map widened (drawn pens.now strokes.now) }
+{}
+
+/// In each document an object begins where the table says, and the table has an offset for each object.
+pub fn table_is_right()
+    ensures begins { (all : List (List ℕ)) (k : ℕ) → k < length all
+        → BeginsAt (document_text all) (get_or (offsets_of (length header_text) 0 all) k 0)
+        (object_text k (get_or all k [])) }
+    ensures whole { (all : List (List ℕ)) → length (offsets_of (length header_text) 0 all) ≡ length all }
+{}

@@ -1,0 +1,100 @@
+//! The content of a page, written as a zlib stream.
+ghost use Rattle.std.specs.Prelude.{◌≡◌, ◌+◌, ◌-◌, ◌*◌, ◌^◌, ◌<◌, ◌≤◌, ◌++◌, [], length, take, OnOk, IfOk};
+ghost use Rattle.deflate.specs.Streams.{Encodes};
+ghost use Rattle.deflate.specs.declared.sizes.TheConstants.{FULL, PIECE, SIZE};
+ghost use Rattle.plot_page.specs.declared.stroke.TheConstants.{MOST_STROKES};
+ghost use Rattle.pdf.specs.Contents.{content_text};
+ghost use Rattle.pdf.specs.Writings.{Continues, Encoding, Flushes, PutsStream};
+
+use crate::objects::put;
+use crate::steps::{LONGEST_STEP, append_end, append_step};
+use deflate::{Code, Encoder};
+use devices::{Sink, WriteFault};
+use plot_page::{Page, PenSet, Stroke};
+use stroke_runs::Runs;
+
+// Writes the content of a page as a zlib stream after `done` bytes, and returns how many are written then.
+pub(crate) fn put_stream<K: Sink>(
+    sink: &mut K,
+    done: u64,
+    page: &Page,
+    pens: &PenSet,
+    strokes: &[Stroke],
+) -> Result<u64, WriteFault>
+    requires sound { (K.state sink.old).faults < 2 ^ 64 - 1 }
+    requires few { length strokes.now ≤ MOST_STROKES }
+    requires count { done ≤ 2 ^ 62 }
+    ensures puts { PutsStream (K.state sink.old) (K.state sink.new) done
+        (content_text page.now pens.now strokes.now) result }
+    ensures near { IfOk result (λ now. now ≤ done + SIZE * (length strokes.now + 4)) }
+{
+    let mut encoder = Encoder::new(Code::Words);
+    let now = put_strokes(sink, done, &mut encoder, page, pens, strokes)?;
+    let now = flush(sink, now, &mut encoder)?;
+    encoder.end();
+    flush(sink, now, &mut encoder)
+}
+
+// Writes the content of a page, of which a part stays in the encoder.
+fn put_strokes<K: Sink>(
+    sink: &mut K,
+    done: u64,
+    encoder: &mut Encoder,
+    page: &Page,
+    pens: &PenSet,
+    strokes: &[Stroke],
+) -> Result<u64, WriteFault>
+    requires sound { (K.state sink.old).faults < 2 ^ 64 - 1 }
+    requires few { length strokes.now ≤ MOST_STROKES }
+    requires count { done ≤ 2 ^ 62 }
+    requires fresh { Encodes [] encoder.old [] }
+    ensures encodes { Encoding (K.state sink.old) (K.state sink.new) done encoder.new
+        (content_text page.now pens.now strokes.now) result }
+    ensures near { IfOk result (λ now. now ≤ done + SIZE * (length strokes.now + 2)) }
+{
+    let mut piece = [0; LONGEST_STEP];
+    let mut runs = Runs::new();
+    let head = b"0.004429133858 0 0 0.004429133858 0 0 cm\n1 J\n1 j\n";
+    let mut now = encode(sink, done, encoder, head)?;
+    for stroke in strokes {
+        let used = append_step(&mut piece, 0, page, pens, &mut runs, stroke);
+        now = encode(sink, now, encoder, &piece[..used])?;
+    }
+    let used = append_end(&mut piece, 0, &runs);
+    encode(sink, now, encoder, &piece[..used])
+}
+
+// Encodes more bytes of a content, and writes what is in the encoder before if it is full.
+fn encode<K: Sink>(
+    sink: &mut K,
+    done: u64,
+    encoder: &mut Encoder,
+    bytes: &[u8],
+) -> Result<u64, WriteFault>
+    requires sound { (K.state sink.old).faults < 2 ^ 64 - 1 }
+    requires few { length bytes.now ≤ PIECE }
+    requires count { done ≤ 2 ^ 63 }
+    ensures continues { Continues (K.state sink.old) (K.state sink.new) done encoder.old encoder.new bytes.now result }
+    ensures near { IfOk result (λ now. now ≤ done + SIZE) }
+{
+    if !encoder.is_full() {
+        encoder.take(bytes);
+        return Ok(done);
+    }
+    let now = flush(sink, done, encoder)?;
+    encoder.take(bytes);
+    Ok(now)
+}
+
+// Writes the whole bytes that are in an encoder.
+fn flush<K: Sink>(sink: &mut K, done: u64, encoder: &mut Encoder) -> Result<u64, WriteFault>
+    requires sound { (K.state sink.old).faults < 2 ^ 64 - 1 }
+    requires count { done ≤ 2 ^ 63 }
+    ensures flushes { Flushes (K.state sink.old) (K.state sink.new) done encoder.old encoder.new result }
+    ensures room { OnOk result (encoder.new.block.buffer.used ≡ 0) }
+    ensures near { IfOk result (λ now. now ≤ done + SIZE) }
+{
+    let now = put(sink, done, encoder.bytes())?;
+    encoder.let_go();
+    Ok(now)
+}

@@ -1,0 +1,75 @@
+//! Long documents, and sinks that take little or fail.
+ghost use Rattle.std.specs.Prelude.{◌≡◌, ◌-◌, ◌^◌, ◌<◌, Some};
+
+use crate::documents::{bytes_of, two_sheets};
+use crate::strokes::{BLACK, write};
+use crc32::crc_of;
+use devices::{Sink, SinkFault};
+use std::test::Fail;
+
+// A sink that takes at most three bytes a call, and fails once, after `limit` bytes.
+#[derive(Drop)]
+struct Failing {
+    bytes: Vec<u8>,
+    limit: usize,
+    failures: u64,
+}
+
+impl Sink for Failing {
+    ghost state = { λ s. record { held = Some s.bytes.items; faults = s.failures } };
+
+    fn put(&mut self, piece: &[u8]) -> Result<usize, SinkFault> {
+        let fails = self.bytes.len() >= self.limit && self.failures == 0;
+        let taken = piece.len().min(3);
+        if fails || self.bytes.extend_from_slice(&piece[..taken]).is_err() {
+            self.failures += 1;
+            return Err(SinkFault);
+        }
+        Ok(taken)
+    }
+
+    fn failures(&self) -> u64 {
+        self.failures
+    }
+}
+
+// A sink fails after each number of bytes: it has taken as many as the fault says, and nothing is written after it.
+#[test]
+fn failing_once(rt: HostRuntime) -> Result<(), Fail> {
+    let strokes = two_sheets(rt.alloc())?;
+    let whole = bytes_of(&rt, rt.alloc(), &strokes, &[6, 8])?;
+    for limit in 0..=whole.len() {
+        let mut sink = Failing {
+            bytes: Vec::new(rt.alloc()),
+            limit,
+            failures: 0,
+        };
+        let bytes = write(rt.alloc(), &strokes, &[6, 8], &mut sink)?;
+        let failures = if sink.bytes.len() < whole.len() { 1 } else { 0 };
+        assert_eq!(&rt; (bytes, sink.failures), (sink.bytes.len() as u64, failures));
+        assert!(&rt; whole.as_slice().starts_with(&sink.bytes));
+    }
+    Ok(())
+}
+
+// A place of its own for each number.
+fn place(number: u16) -> (i32, i32) {
+    let number = i32::from(number);
+    (number * 7 % 16_000, number * 11 % 32_000)
+}
+
+// Strokes that follow one another: a path ends after 1,000 strokes, and the encoder is emptied many times. The writer
+// in Python says how long this document is, and its CRC-32.
+#[test]
+fn many_strokes(rt: HostRuntime) -> Result<(), Fail> {
+    let mut strokes = Vec::new(rt.alloc());
+    let mut from = place(0);
+    for number in 1..4_501u16 {
+        let to = place(number);
+        strokes.push(BLACK.stroke([from.0, from.1, to.0, to.1])?)?;
+        from = to;
+    }
+    let document = bytes_of(&rt, rt.alloc(), &strokes, &[0, 3000, 2000, 4500, 9000])?;
+    assert_eq!(&rt; (document.len(), crc_of(&document)), (35_749, 0x10d5_d9f7));
+    Ok(())
+}
