@@ -34,7 +34,7 @@ pub record Reading : Type 0 where
   pub lines : List Line
   pub painted : List Segment
 
--- at the start of a page lines are black and a point wide, and the window is the page
+-- at the start of a page lines are black and of width 1, and the window is the page
 abbrev pub start_of : Page → Reading
 start_of page = record {
   pen = 0;
@@ -64,7 +64,7 @@ abbrev pub restored : Reading → List Graphics → Reading
 restored r [] = r
 restored r (set ∷ saved) = record r { set = set; saved = saved }
 
--- what an operator does
+-- what an operator does; a rectangle clips within the whole page, since each run restores what was set before it
 abbrev pub after : Reading → Operator → Reading
 after r (Layer pen) = record r { pen = pen }
 after r EndLayer = record r { pen = 0 }
