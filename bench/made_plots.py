@@ -80,11 +80,11 @@ def encoded(lines):
         yield ";\n"
 
 
-def labels(width, height, count):
-    """Labels of 20 characters of 1 by 1.4 mm."""
+def labels(width, height, count, first="!", last="~"):
+    """Labels of 20 characters, each from the first to the last, of 1 by 1.4 mm."""
     yield "SI0.1,0.14;"
     for _ in range(count):
-        text = "".join(chr(random.randint(33, 126)) for _ in range(20))
+        text = "".join(chr(random.randint(ord(first), ord(last))) for _ in range(20))
         yield f"PU{random.randint(0, width - 3000)},{random.randint(100, height - 200)};LB{text}\x03\n"
 
 

@@ -25,7 +25,7 @@ pub fn ink(plotter: &mut Plotter, strokes: Strokes<'_>) -> Result<(), Stop>
 }
 
 /// Draws a stroke from one offset to another.
-#[inline]
+#[inline(always)]
 pub fn ink_stroke(plotter: &mut Plotter, start: Spot, from: Spot, to: Spot) -> Result<(), Stop>
     requires start_in { IsInRange start }
     requires from_in { IsWithin (2 ^ 95) from }
@@ -38,7 +38,7 @@ pub fn ink_stroke(plotter: &mut Plotter, start: Spot, from: Spot, to: Spot) -> R
 }
 
 /// A place, moved by an offset.
-#[inline]
+#[inline(always)]
 pub fn moved_by(place: Spot, offset: Spot) -> Spot
     requires place_in { IsWithin (2 ^ 96) place }
     requires offset_in { IsWithin (2 ^ 95) offset }

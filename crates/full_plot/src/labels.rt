@@ -185,25 +185,30 @@ fn write_label(
     if text.len() > LONGEST {
         return Err(Stop::OffRange);
     }
-    write_text(plotter, lettering, reading, text)?;
-    Ok(margin_by(margin, lettering.margin_move(reading.signs(text))))
+    let moved = write_text(plotter, lettering, reading, text)?;
+    Ok(margin_by(margin, moved))
 }
 
-// Writes a text, and puts the pen at its end. Core is faster at what it can write.
+// Writes a text, puts the pen at its end, and gives how far it moves the left margin. Core is faster at what it can
+// write.
 fn write_text(
     plotter: &mut Plotter,
     lettering: &Lettering,
     reading: Reading,
     text: &[u8],
-) -> Result<(), Stop>
+) -> Result<Spot, Stop>
     requires { length text.now ≤ 2 ^ 26 }
-    ensures { core.Runs
+    ensures within { IfOk result (IsWithin (2 ^ 95)) }
+    ensures moved { IfOk result (λ moved. moved
+        ≡ margin_move lettering.now.style (signs reading.encoding reading.sets text.now)) }
+    ensures runs { core.Runs
         (texts.label_by lettering.now.style (core.seen plotter.old) (signs reading.encoding reading.sets text.now))
         (core.seen plotter.new) result }
 {
     let is_usual = is_as_in_core(&lettering.style, &plotter.state);
     if is_usual && is_core_text(reading.encoding, reading.sets, text) {
-        plotter.write(text)
+        plotter.write(text)?;
+        Ok(lettering.margin_move(reading.signs(text)))
     } else {
         write_in_style(plotter, lettering, reading.signs(text))
     }
@@ -214,15 +219,18 @@ fn write_in_style(
     plotter: &mut Plotter,
     lettering: &Lettering,
     signs: Signs<'_>,
-) -> Result<(), Stop>
+) -> Result<Spot, Stop>
     requires { length signs ≤ 2 ^ 26 }
-    ensures { core.Runs
+    ensures within { IfOk result (IsWithin (2 ^ 95)) }
+    ensures moved { IfOk result (λ moved. moved ≡ margin_move lettering.now.style signs.entry) }
+    ensures runs { core.Runs
         (texts.label_by lettering.now.style (core.seen plotter.old) signs.entry) (core.seen plotter.new) result }
 {
     let start = plotter.state.place;
-    let end = lettering.end(signs.again());
+    let ends = lettering.ends(signs.again());
     ink(plotter, lettering.strokes(signs))?;
-    plotter.put(moved_by(start, end))
+    plotter.put(moved_by(start, ends.pen))?;
+    Ok(ends.margin)
 }
 
 // Lines up as lines down, in millionths.

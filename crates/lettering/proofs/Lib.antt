@@ -1,3 +1,4 @@
+pub mod Beside
 mod Examples
 pub mod Lists
 pub mod Reaches

@@ -1,10 +1,13 @@
 -- How large shares of a size and steps are.
-use Rattle.std.proofs.Common.{◌≡◌, ℕ, ◌+◌, ◌*◌, ◌^◌, ◌<◌, ◌≤◌, arith, ℤ, pos, nat_abs, ◌+ℤ◌, ◌-ℤ◌, ◌*ℤ◌, FitsSigned, to_z, of_z}
+use Rattle.std.proofs.Common.{◌≡◌, ap, ◌∙◌, ℕ, ◌+◌, ◌*◌, ◌^◌, ◌<◌, ◌≤◌, arith, ℤ, pos, nat_abs, ◌+ℤ◌, ◌-ℤ◌, ◌*ℤ◌, FitsSigned, to_z, of_z}
 use mir.Syntax.{w64, w128}
 use Rattle.std.proofs.lemmas.Int.{ints, to_z-of_z}
 use Rattle.std.proofs.lemmas.Nat.{mul-le}
-use Rattle.exact.proofs.Between.{within}
+use Rattle.exact.specs.Fraction.{quotient}
+use Rattle.exact.proofs.Between.{exactly, within}
 use Rattle.exact.proofs.Fit.{product_within}
+use Rattle.exact.proofs.Ring.{mul_assoc_z, mul_left_comm_z}
+use Rattle.exact.proofs.Rounding.{same_lem}
 use Rattle.stick_font.specs.Labels as labels
 
 pub record IsShare (count size : ℤ) (parts : ℕ) : Type 0 where
@@ -99,3 +102,17 @@ slanted_in steps slant u s =
       fits = omega (arith, ints, p);
       most = omega (arith, p);
     }
+
+-- a share of k times as many parts, of which a size has k times as many
+pub scaled : (k : ℕ) (a b size : ℤ) (parts : ℕ) → 0 < k → 0 < parts → 0 < k * parts → a ≡ pos k *ℤ b → labels.share a size (k * parts) ≡ labels.share b size parts
+scaled k a b size parts h i j e =
+    let t : ℤ = b *ℤ size in
+    let over : a *ℤ size ≡ pos k *ℤ t = ap (λ (z : ℤ). z *ℤ size) e ∙ mul_assoc_z (pos k) b size in
+    same_lem (quotient (a *ℤ size) (pos (k * parts))) (quotient t (pos parts)) j i
+    (ap (λ (z : ℤ). z *ℤ pos parts) over ∙ mul_assoc_z (pos k) t (pos parts) ∙ mul_left_comm_z (pos k) t (pos parts))
+
+-- a slant of 0 moves nothing
+pub upright_is : (u size : ℤ) → labels.share (u *ℤ pos 0) size 18000000 ≡ pos 0
+upright_is u size =
+    let e : u *ℤ pos 0 ≡ pos 0 = omega (arith, ints) in
+    exactly 18000000 ((u *ℤ pos 0) *ℤ size) (pos 0) (omega arith) (ap (λ (z : ℤ). z *ℤ size) e ∙ omega (arith, ints))

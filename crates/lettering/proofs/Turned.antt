@@ -6,11 +6,7 @@ use Rattle.std.specs.Option.{option_to_list}
 use Rattle.std.proofs.lemmas.Bool.{cases_Bool}
 use Rattle.std.proofs.lemmas.Bool.Decides.{nat_tests}
 use Rattle.std.proofs.lemmas.List.{append-nil, map-append, reverse-append}
-use Rattle.exact.specs.Fraction.{quotient}
 use Rattle.exact.specs.declared.spot.Spot.{Spot}
-use Rattle.exact.proofs.Between.{exactly}
-use Rattle.exact.proofs.Ring.{mul_assoc_z, mul_left_comm_z}
-use Rattle.exact.proofs.Rounding.{same_lem}
 use Rattle.directions.specs.Directions.{swung, turned}
 use Rattle.directions.specs.Laws.{right}
 use Rattle.directions.specs.declared.turn.Turn.{Turn}
@@ -40,23 +36,10 @@ use Rattle.lettering.specs.Laws.{usual_turned, turned_offset, turned_stroke, Usu
 use Rattle.lettering.specs.Letters.{letter_corner, letter_point, letter_stroke, on_grid}
 use Rattle.lettering.specs.declared.cell.Cell.{Cell}
 use Rattle.lettering.specs.declared.style.Style.{Style}
+use Rattle.lettering.proofs.Sizes.{scaled, upright_is}
 
 abbrev vector : ℤ → ℤ → Spot
 vector x y = record { x = x; y = y }
-
--- a share of k times as many parts, of which a size has k times as many
-scaled : (k : ℕ) (a b size : ℤ) (parts : ℕ) → 0 < k → 0 < parts → 0 < k * parts → a ≡ pos k *ℤ b → upright.share a size (k * parts) ≡ upright.share b size parts
-scaled k a b size parts h i j e =
-    let t : ℤ = b *ℤ size in
-    let over : a *ℤ size ≡ pos k *ℤ t = ap (λ (z : ℤ). z *ℤ size) e ∙ mul_assoc_z (pos k) b size in
-    same_lem (quotient (a *ℤ size) (pos (k * parts))) (quotient t (pos parts)) j i
-    (ap (λ (z : ℤ). z *ℤ pos parts) over ∙ mul_assoc_z (pos k) t (pos parts) ∙ mul_left_comm_z (pos k) t (pos parts))
-
--- no slant
-upright_is : (u size : ℤ) → upright.share (u *ℤ pos 0) size 18000000 ≡ pos 0
-upright_is u size =
-    let e : u *ℤ pos 0 ≡ pos 0 = omega (arith, ints) in
-    exactly 18000000 ((u *ℤ pos 0) *ℤ size) (pos 0) (omega arith) (ap (λ (z : ℤ). z *ℤ size) e ∙ omega (arith, ints))
 
 -- a cell of the stick font's labels as one of this crate's
 abbrev as_cell : upright_cell.Cell → Cell

@@ -1,7 +1,10 @@
 -- The ranges of a style, which keep the arithmetic in 128 bits, and of the offsets of strokes.
-use Rattle.std.specs.Prelude.{◌≤◌, ◌%◌, ◌^◌, nat_abs}
+use Rattle.std.specs.Prelude.{◌≡◌, ◌≤◌, ◌%◌, ◌^◌, nat_abs, pos}
 use Rattle.exact.specs.declared.spot.Spot.{Spot}
 use Rattle.directions.specs.Bounds.{IsWithin}
+use Rattle.directions.specs.Directions.{turned}
+use Rattle.directions.specs.Laws.{right}
+use Rattle.directions.specs.declared.turn.Turn.{Turn}
 use Rattle.lettering.specs.declared.style.Style.{Style}
 
 -- a slant of up to 1000 either way, steps of up to 101, and LO's numbers, 1 to 9 and 11 to 19
@@ -18,3 +21,12 @@ pub record IsStyle (style : Style) : Type 0 where
 pub record IsStrokeWithin (s : Spot × Spot) : Type 0 where
   pub from_in : IsWithin (2 ^ 95) s.0
   pub to_in : IsWithin (2 ^ 95) s.1
+
+-- a letter of which the points are computed in 64 bits: it is upright, of a usual size, near the label's start, and
+-- turned by quarters
+pub record IsNear (style : Style) (corner : Spot) (turn : Turn) : Type 0 where
+  pub upright : style.slant ≡ pos 0
+  pub width_in : nat_abs style.width ≤ 2 ^ 24
+  pub height_in : nat_abs style.height ≤ 2 ^ 24
+  pub corner_in : IsWithin (2 ^ 35) corner
+  pub along : style.direction ≡ turned turn right

@@ -1,6 +1,7 @@
 //! Offsets of cells.
-ghost use Rattle.std.specs.Prelude.{◌≡◌, ◌≤◌, ◌^◌, max, nat_abs};
+ghost use Rattle.std.specs.Prelude.{◌≡◌, ◌≤◌, ◌*◌, ◌^◌, ◌*ℤ◌, max, nat_abs, pos};
 ghost use Rattle.directions.specs.Bounds.{IsWithin};
+ghost use Rattle.stick_font.specs.Labels as labels;
 ghost use Rattle.lettering.specs.Cells.{cell_offset};
 ghost use Rattle.lettering.specs.Styles.{steps_to, lines_up};
 
@@ -9,11 +10,10 @@ use crate::share::{share, stepped};
 use crate::style::{LineFeed, Path};
 use exact::Spot;
 
-// The parts of a width and of a height in which cells are measured: millionths of millionths of twelfths
-// and of eighteenths.
-const WIDTH_PARTS: u64 = 12_000_000_000_000;
+const MILLION: u64 = 1_000_000;
 
-const HEIGHT_PARTS: u64 = 18_000_000_000_000;
+// The step to the next letter and to the next line, if ES asks for no other.
+const USUAL_STEP: i64 = 1_000_000;
 
 impl Lettering {
     /// How far the cell is that is `columns` columns and `lines` lines on, in grains. Both are in millionths,
@@ -26,11 +26,9 @@ impl Lettering {
     {
         let style = &self.style;
         let steps = self.steps(columns, lines);
-        let right = stepped(18, style.step_x, steps.x);
-        let up = stepped(36, style.step_y, steps.y);
         style.direction.swung(Spot {
-            x: share(right, style.width, WIDTH_PARTS),
-            y: share(up, style.height, HEIGHT_PARTS),
+            x: distance(18, style.step_x, steps.x, style.width, 12),
+            y: distance(36, style.step_y, steps.y, style.height, 18),
         })
     }
 
@@ -50,6 +48,27 @@ impl Lettering {
             Path::Left => Spot { x: -along, y: -up },
             Path::Up => Spot { x: -up, y: along },
         }
+    }
+}
+
+// How far `steps` millionths of steps are, each of `parts` times `step` millionths of parts of a size, of which it has
+// `whole`.
+#[inline]
+fn distance(parts: u8, step: i64, steps: i128, size: i64, whole: u64) -> i128
+    requires parts_in { parts ≤ 36 }
+    requires step_in { nat_abs step ≤ 101000000 }
+    requires steps_in { nat_abs steps ≤ 2 ^ 52 }
+    requires size_in { nat_abs size ≤ 2 ^ 40 }
+    requires whole_above { 12 ≤ whole }
+    requires whole_in { whole ≤ 18 }
+    ensures value { result ≡ labels.share (pos parts *ℤ step *ℤ steps) size (whole * 10 ^ 12) }
+    ensures most { nat_abs result ≤ 2 ^ 84 }
+{
+    if step == USUAL_STEP {
+        share(i128::from(parts) * steps, size, whole * MILLION)
+    } else {
+        let count = stepped(parts, step, steps);
+        share(count, size, whole * MILLION * MILLION)
     }
 }
 

@@ -36,6 +36,9 @@ impl Lettering {
         ensures value { result ≡ shift self.now.style letters }
         ensures within { IsWithin (2 ^ 64) result }
     {
+        if self.origin() == 1 {
+            return Spot { x: 0, y: 0 };
+        }
         let column = self.origin_column();
         let row = self.origin_row();
         Spot {

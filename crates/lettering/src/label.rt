@@ -10,6 +10,15 @@ use crate::written::Written;
 use character_sets::Signs;
 use exact::Spot;
 
+/// Where a label ends, from its start, in grains.
+#[derive(Clone, Copy, Debug)]
+pub struct LabelEnds {
+    /// How far it leaves the pen.
+    pub pen: Spot,
+    /// How far it moves the left margin, at which `CP;` begins the next line.
+    pub margin: Spot,
+}
+
 impl Lettering {
     /// The strokes of a label of at most 2^26 signs (HP-GL/2: LB): letter by letter, from its start on.
     pub fn strokes<'a>(&'a self, signs: Signs<'a>) -> Strokes<'a>
@@ -19,18 +28,24 @@ impl Lettering {
         Strokes::of(Written::new(self, signs))
     }
 
-    /// How far from its start a label leaves the pen, in grains.
-    pub fn end(&self, signs: Signs<'_>) -> Spot
+    /// Where a label ends.
+    pub fn ends(&self, signs: Signs<'_>) -> LabelEnds
         requires { length signs ≤ 2 ^ 26 }
-        ensures value { result ≡ label_end self.now.style signs.entry }
-        ensures within { IsWithin (2 ^ 95) result }
+        ensures pen { result.pen ≡ label_end self.now.style signs.entry }
+        ensures margin { result.margin ≡ margin_move self.now.style signs.entry }
+        ensures pen_within { IsWithin (2 ^ 95) result.pen }
+        ensures margin_within { IsWithin (2 ^ 95) result.margin }
     {
         let cell = last_cell(signs);
         let halves = 2 - self.origin_column();
-        self.offset(half_columns(halves, cell.column), whole_lines(cell.line))
+        let lines = whole_lines(cell.line);
+        LabelEnds {
+            pen: self.offset(half_columns(halves, cell.column), lines),
+            margin: self.offset(0, lines),
+        }
     }
 
-    /// How far a label moves the left margin, at which `CP;` begins the next line, in grains.
+    /// How far a label moves the left margin, in grains.
     pub fn margin_move(&self, signs: Signs<'_>) -> Spot
         requires { length signs ≤ 2 ^ 26 }
         ensures value { result ≡ margin_move self.now.style signs.entry }

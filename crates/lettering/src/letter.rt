@@ -1,25 +1,26 @@
 //! The strokes of a letter.
 ghost use Rattle.std.specs.Prelude.{◌≡◌, ◌<◌, ◌≤◌, ◌*◌, ◌^◌, pos, nat_abs, ◌*ℤ◌, slice_get, IfSome};
 ghost use Rattle.directions.specs.Bounds.{IsWithin};
-ghost use Rattle.lettering.specs.Bounds.{IsStrokeWithin};
+ghost use Rattle.lettering.specs.Bounds.{IsNear, IsStrokeWithin};
 ghost use Rattle.stick_font.specs.Labels as labels;
-ghost use Rattle.lettering.specs.Letters.{on_grid, letter_point, letter_strokes, centred};
+ghost use Rattle.lettering.specs.Letters.{on_grid, letter_point, letter_stroke, letter_strokes, centred};
 
 use crate::checked::Lettering;
 use crate::share::share;
 use crate::style::{LineFeed, Path, Style};
+use directions::Turn;
 use exact::Spot;
-use full_font::glyph;
+use full_font::{GlyphStroke, glyph};
 
 // The parts of a width and of a height in which points are measured: millionths of twelfths and of
 // eighteenths.
-const WIDTH_PARTS: u64 = 12_000_000;
+pub(crate) const WIDTH_PARTS: u64 = 12_000_000;
 
-const HEIGHT_PARTS: u64 = 18_000_000;
+pub(crate) const HEIGHT_PARTS: u64 = 18_000_000;
 
 // How far apart the columns and the rows of the grid are, in twelfths of a width and in eighteenths of a
 // height.
-const STEP: i64 = 3;
+pub(crate) const STEP: i64 = 3;
 
 impl Lettering {
     /// The same style, with letters that are centred at their start, whatever DV and LO say: the path to the right, and
@@ -45,20 +46,50 @@ impl Lettering {
 
     // Stroke `k` of the character with this code point, or `None` if `k` is past its last, by the letter's
     // corner: the offsets of its two ends from the label's start, in grains. Strokes are numbered from 0.
-    pub(crate) fn stroke(&self, corner: Spot, code_point: u32, k: usize) -> Option<(Spot, Spot)>
-        requires { IsWithin (2 ^ 65) corner }
+    // If it is near, it is faster: `near_turn` tells that once for all strokes of a letter.
+    #[inline(always)]
+    pub(crate) fn stroke(
+        &self,
+        corner: Spot,
+        code_point: u32,
+        k: usize,
+        near: Option<Turn>,
+    ) -> Option<(Spot, Spot)>
+        requires within { IsWithin (2 ^ 65) corner }
+        requires near { IfSome near (IsNear self.now.style corner) }
         ensures value { result ≡ slice_get (letter_strokes self.now.style corner code_point) k }
         ensures within { IfSome result IsStrokeWithin }
         ensures few { IfSome result (λ _. k < 15) }
     {
         match glyph(code_point, k) {
-            Some(stroke) => {
-                let from = self.point(corner, stroke.ax, stroke.ay);
-                let to = self.point(corner, stroke.bx, stroke.by);
-                Some((from, to))
-            }
+            Some(stroke) => Some(self.placed(corner, stroke, near)),
             None => None,
         }
+    }
+
+    // A stroke of a letter.
+    #[inline(always)]
+    fn placed(&self, corner: Spot, stroke: GlyphStroke, near: Option<Turn>) -> (Spot, Spot)
+        requires within { IsWithin (2 ^ 65) corner }
+        requires near { IfSome near (IsNear self.now.style corner) }
+        ensures value { result ≡ letter_stroke self.now.style corner stroke }
+        ensures within { IsStrokeWithin result }
+    {
+        match near {
+            Some(turn) => self.near_stroke(corner, stroke, turn),
+            None => self.far_stroke(corner, stroke),
+        }
+    }
+
+    // The same of any letter.
+    fn far_stroke(&self, corner: Spot, stroke: GlyphStroke) -> (Spot, Spot)
+        requires { IsWithin (2 ^ 65) corner }
+        ensures value { result ≡ letter_stroke self.now.style corner stroke }
+        ensures within { IsStrokeWithin result }
+    {
+        let from = self.point(corner, stroke.ax, stroke.ay);
+        let to = self.point(corner, stroke.bx, stroke.by);
+        (from, to)
     }
 
     // The point (i, j) of a letter's grid.

@@ -10,6 +10,7 @@ mod corner;
 mod label;
 pub mod laws;
 mod letter;
+mod near;
 mod sections;
 mod share;
 mod strokes;
@@ -18,5 +19,6 @@ mod written;
 
 pub use checked::Lettering;
 pub use core_text::is_core_text;
+pub use label::LabelEnds;
 pub use strokes::Strokes;
 pub use style::{LineFeed, Path, Style};

@@ -33,14 +33,20 @@ fn is_short(count: i128, size: i64) -> bool
     ensures count { result ≡ true → nat_abs count ≤ 2 ^ 36 }
     ensures size { result ≡ true → nat_abs size ≤ 2 ^ 24 }
 {
-    -MOST_SHORT_COUNT <= count
-        && count <= MOST_SHORT_COUNT
-        && -MOST_SHORT_SIZE <= size
-        && size <= MOST_SHORT_SIZE
+    is_short_size(size) && -MOST_SHORT_COUNT <= count && count <= MOST_SHORT_COUNT
 }
 
+/// Whether a size is.
 #[inline]
-fn short_share(count: i64, size: i64, parts: u64) -> i64
+pub fn is_short_size(size: i64) -> bool
+    ensures { result ≡ true → nat_abs size ≤ 2 ^ 24 }
+{
+    -MOST_SHORT_SIZE <= size && size <= MOST_SHORT_SIZE
+}
+
+/// The same as `share`, for a number of parts and a size that are small enough for 64 bits.
+#[inline(always)]
+pub fn short_share(count: i64, size: i64, parts: u64) -> i64
     requires count_in { nat_abs count ≤ 2 ^ 36 }
     requires size_in { nat_abs size ≤ 2 ^ 24 }
     requires parts_above { 0 < parts }

@@ -38,6 +38,7 @@ impl<'a> Strokes<'a> {
     }
 
     /// The next stroke. Its ends are within 2^95 grains of the label's start.
+    #[inline(always)]
     pub fn next_stroke(&mut self) -> Option<(Spot, Spot)>
         ensures taken { IfSome result (λ stroke. self.old ≡ stroke ∷ self.new) }
         ensures none { result ≡ None → self.old ≡ [] }

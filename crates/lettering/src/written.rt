@@ -6,13 +6,16 @@ use crate::cell::Cell;
 use crate::checked::Lettering;
 use crate::sections::section_letters;
 use character_sets::{Sign, Signs};
+use directions::Turn;
 use exact::Spot;
 
-// A letter of which strokes may be left: its lower left corner, and its next stroke.
+// A letter of which strokes may be left: its lower left corner, how it is turned if its points are computed in 64
+// bits, and its next stroke.
 #[derive(Clone, Copy, Drop)]
 pub struct Letter {
     pub code_point: u32,
     pub corner: Spot,
+    pub near: Option<Turn>,
     pub stroke: usize,
 }
 
@@ -28,11 +31,31 @@ pub struct Written<'a> {
     pub letters: i64,
 }
 
+impl Lettering {
+    ghost use Rattle.lettering.specs.Columns.{section_letters};
+    ghost use Rattle.lettering.specs.Labels.{strokes_from};
+    ghost use Rattle.lettering.specs.declared.cell.Cell.{Cell};
+
+    // How many letters the first section of a label has, or 1 if its strokes are the same whatever it has: they
+    // are if the label is right of its start.
+    fn first_letters(&self, signs: Signs<'_>) -> i64
+        requires { length signs ≤ 2 ^ 26 }
+        ensures same { (cell : Cell) → strokes_from self.now.style result cell signs.entry
+            ≡ strokes_from self.now.style (section_letters signs.entry) cell signs.entry }
+        ensures most { nat_abs result ≤ 2 ^ 29 }
+    {
+        if self.origin_column() == 0 {
+            1
+        } else {
+            section_letters(signs)
+        }
+    }
+}
+
 impl<'a> Written<'a> {
     ghost use Rattle.lettering.specs.Bounds.{IsStrokeWithin};
-    ghost use Rattle.directions.specs.Bounds.{IsWithin};
     ghost use Rattle.lettering.specs.Labels.{label_strokes, letters_after, sign_strokes};
-    ghost use Rattle.lettering.specs.Left.{IsWritten, letter_left, written_left};
+    ghost use Rattle.lettering.specs.Left.{IsLetter, IsWritten, letter_left, written_left};
 
     // A label from its start on.
     pub fn new(lettering: &'a Lettering, signs: Signs<'a>) -> Written<'a>
@@ -40,7 +63,7 @@ impl<'a> Written<'a> {
         ensures sound { IsWritten result }
         ensures all { written_left result ≡ label_strokes lettering.now.style signs.entry }
     {
-        let letters = section_letters(signs.again());
+        let letters = lettering.first_letters(signs.again());
         Written {
             lettering,
             letter: None,
@@ -51,6 +74,7 @@ impl<'a> Written<'a> {
     }
 
     // The next stroke.
+    #[inline(always)]
     pub fn next(&mut self) -> Option<(Spot, Spot)>
         requires { IsWritten self.old }
         ensures sound { IsWritten self.new }
@@ -69,6 +93,7 @@ impl<'a> Written<'a> {
     }
 
     // The next stroke of the letter.
+    #[inline(always)]
     fn next_of_letter(&mut self) -> Option<(Spot, Spot)>
         requires { IsWritten self.old }
         ensures sound { IsWritten self.new }
@@ -77,14 +102,16 @@ impl<'a> Written<'a> {
         ensures within { IfSome result IsStrokeWithin }
         ensures rest { self.new.rest ≡ self.old.rest }
     {
-        let letter = self.letter?;
-        let stroke = self
-            .lettering
-            .stroke(letter.corner, letter.code_point, letter.stroke)?;
-        self.letter = Some(Letter {
-            stroke: letter.stroke + 1,
-            ..letter
-        });
+        let Some(letter) = &mut self.letter else {
+            return None;
+        };
+        let stroke = self.lettering.stroke(
+            letter.corner,
+            letter.code_point,
+            letter.stroke,
+            letter.near,
+        )?;
+        letter.stroke += 1;
         Some(stroke)
     }
 
@@ -113,14 +140,18 @@ impl<'a> Written<'a> {
         requires letters_in { nat_abs self.now.letters ≤ 2 ^ 29 }
         ensures value { letter_left self.now.lettering.now.style result
             ≡ sign_strokes self.now.lettering.now.style self.now.letters self.now.cell sign }
-        ensures corner_in { IfSome result (λ letter. IsWithin (2 ^ 65) letter.corner) }
+        ensures sound { IfSome result (IsLetter self.now.lettering.now.style) }
     {
         match sign {
-            Sign::Printed(code_point) => Some(Letter {
-                code_point,
-                corner: self.lettering.corner(self.cell, self.letters),
-                stroke: 0,
-            }),
+            Sign::Printed(code_point) => {
+                let corner = self.lettering.corner(self.cell, self.letters);
+                Some(Letter {
+                    code_point,
+                    corner,
+                    near: self.lettering.near_turn(corner),
+                    stroke: 0,
+                })
+            }
             _ => None,
         }
     }

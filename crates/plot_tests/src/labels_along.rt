@@ -3,7 +3,7 @@ ghost use Rattle.std.specs.Prelude.{◌≤◌, ◌^◌, length};
 
 use crate::texts::has_text;
 use character_sets::{CharacterSet, Encoding, Selection, Sets, Signs};
-use directions::Direction;
+use directions::{Direction, Turn};
 use exact::Spot;
 use lettering::{Lettering, LineFeed, Path, Strokes, Style, is_core_text};
 use std::alloc::{AllocError, Global};
@@ -41,7 +41,7 @@ fn told(alloc: Global, lettering: &Lettering, signs: Signs<'_>) -> Result<String
     requires { length signs ≤ 2 ^ 26 }
 {
     let mut told = String::new(alloc);
-    let end = lettering.end(signs.again());
+    let end = lettering.ends(signs.again()).pen;
     let mut strokes = lettering.strokes(signs);
     for _ in 0..20 {
         told.push_str(stroke_told(alloc, next_of(&mut strokes))?.as_str())?;
@@ -111,6 +111,12 @@ fn square(size: i64) -> Style {
     style
 }
 
+fn turned(rt: &impl Abort, turn: Turn) -> Lettering {
+    let mut style = Style::usual();
+    style.direction = Direction::RIGHT.turned(turn);
+    checked(rt, style)
+}
+
 #[test]
 fn large_sizes(rt: HostRuntime) -> Result<(), AllocError> {
     let large = checked(&rt, square(16_777_215));
@@ -120,7 +126,46 @@ fn large_sizes(rt: HostRuntime) -> Result<(), AllocError> {
     has_strokes(&rt, rt.alloc(), &large, b".", wanted)?;
     let larger = checked(&rt, square(16_777_217));
     let wanted = "0,16777217 to 0,0; 0,0 to 16777217,0; end 25165826,0";
-    has_strokes(&rt, rt.alloc(), &larger, b"L", wanted)
+    has_strokes(&rt, rt.alloc(), &larger, b"L", wanted)?;
+    let below_the_line =
+        "8388609,11184811 to 12582913,11184811; 12582913,11184811 to 12582913,-2796203; \
+        12582913,-2796203 to 8388609,-5592406; 8388609,-5592406 to 0,-5592406; \
+        12582913,16777217 to 12582913,16777217; end 25165826,0";
+    has_strokes(&rt, rt.alloc(), &larger, b"j", below_the_line)
+}
+
+// A large letter that is far from its label's start.
+#[test]
+fn far_letters(rt: HostRuntime) -> Result<(), AllocError> {
+    let mut style = square(16_777_215);
+    style.step_x = 101_000_000;
+    let wanted = "508358003108,0 to 508358003108,0; end 510891362573,0";
+    has_strokes(
+        &rt,
+        rt.alloc(),
+        &checked(&rt, style),
+        b"\t\t\t\t\t\t\t\t\t\t\t\t\t\t\t\t\t\t\t\t\t\t\t\t\t.",
+        wanted,
+    )
+}
+
+// The letter l, turned by quarters.
+#[test]
+fn along_the_axes(rt: HostRuntime) -> Result<(), AllocError> {
+    let upward = "-1728,304 to -1728,608; -1728,608 to -288,608; -288,608 to 0,912; end 0,1824";
+    has_strokes(&rt, rt.alloc(), &turned(&rt, Turn::Quarter), b"l", upward)?;
+    let back =
+        "-304,-1728 to -608,-1728; -608,-1728 to -608,-288; -608,-288 to -912,0; end -1824,0";
+    has_strokes(&rt, rt.alloc(), &turned(&rt, Turn::Half), b"l", back)?;
+    let downward = "1728,-304 to 1728,-608; 1728,-608 to 288,-608; 288,-608 to 0,-912; end 0,-1824";
+    has_strokes(
+        &rt,
+        rt.alloc(),
+        &turned(&rt, Turn::ThreeQuarters),
+        b"l",
+        downward,
+    )?;
+    Ok(())
 }
 
 #[test]
@@ -141,7 +186,10 @@ fn steps(rt: HostRuntime) -> Result<(), AllocError> {
     let wanted = "304,0 to 304,0; -608,0 to -608,0; -608,-5184 to -608,-5184; end 0,-5184";
     has_strokes(&rt, rt.alloc(), &lettering, b"..\r\n.", wanted)?;
     let latin = Encoding::Always(CharacterSet::Latin1);
-    let lines = lettering.margin_move(latin.signs(Sets::START, b"..\r\n."));
+    let signs = latin.signs(Sets::START, b"..\r\n.");
+    let ends = lettering.ends(signs.again());
+    let lines = lettering.margin_move(signs);
+    assert_eq!(rt; [ends.margin.x, ends.margin.y], [lines.x, lines.y]);
     let line = lettering.margin_move(latin.signs(Sets::START, b".."));
     assert_eq!(rt; [lines.x, lines.y, line.x, line.y], [0, -5184, 0, 0]);
     Ok(())
@@ -149,6 +197,8 @@ fn steps(rt: HostRuntime) -> Result<(), AllocError> {
 
 #[test]
 fn origins(rt: HostRuntime) -> Result<(), AllocError> {
+    let above = "1216,864 to 1216,864; end 1824,0";
+    has_strokes(&rt, rt.alloc(), &with_origin(&rt, 11), b".", above)?;
     let left = "1216,-864 to 1216,-864; 3040,-864 to 3040,-864; end 3648,0";
     has_strokes(&rt, rt.alloc(), &with_origin(&rt, 12), b"..", left)?;
     let middle = "-912,-1728 to -912,-1728; 912,-1728 to 912,-1728; end 1824,0";

@@ -1,9 +1,27 @@
-use Rattle.std.proofs.Common.{rules}
+use Rattle.std.proofs.Common.{rules, Option, Ok, Err}
+use Rattle.exact.specs.declared.spot.Spot.{Spot}
+use Rattle.character_sets.specs.Texts.{signs}
 use Rattle.hpgl_plot.specs.Machine as core
+use Rattle.hpgl_plot.specs.declared.plotter.Stop.TheVariants.{OffRange}
+use Rattle.hpgl_plot.proofs.Travels.{stopped}
+use Rattle.plot_settings.specs.Meanings.{Write}
+use Rattle.full_plot.specs.Texts.{label_by}
 use Rattle.full_plot.proofs.AsInCore.{core_label}
 use Rattle.full_plot.proofs.labels.write_text.Goals as goal
 
-pub returns-then-is_core_text : goal.returns-then-is_core_text
-returns-then-is_core_text c =
-    core_label (core.seen c.args.plotter.now) (core.seen c.write.new.self) c.args.lettering.now.style c.args.reading.encoding c.args.reading.sets
-    c.args.text.now c.write.result (search rules) (search rules) c.write.ensures
+pub returns-in_err-write-clause-runs : goal.returns-in_err-write-clause-runs
+returns-in_err-write-clause-runs c =
+    let w = core.seen c.args.plotter.now in
+    let v = core.seen c.write.new.self in
+    let style = c.args.lettering.now.style in
+    let reading = c.args.reading in
+    let text = c.args.text.now in
+    stopped (core.step w (Write text)) (label_by style w (signs reading.encoding reading.sets text)) v v c.in_err-write.field-0.0 c.from_residual.result
+    (λ none. core_label {U = Spot} w v style reading.encoding reading.sets text (Err OffRange) (search rules) (search rules) none)
+    c.in_err-write.ensures c.from_residual.ensures.1
+
+pub returns-in_ok-write-clause-runs : goal.returns-in_ok-write-clause-runs
+returns-in_ok-write-clause-runs c =
+    let reading = c.args.reading in
+    core_label {U = Spot} (core.seen c.args.plotter.now) (core.seen c.write.new.self) c.args.lettering.now.style reading.encoding reading.sets
+    c.args.text.now (Ok c.margin_move.result) (search rules) (search rules) c.in_ok-write.ensures

@@ -10,17 +10,16 @@ use Rattle.lettering.proofs.written.Written.next_of_letter.Goals as goal
 pub returns-in_err-stroke-clause-none : goal.returns-in_err-stroke-clause-none
 returns-in_err-stroke-clause-none c = λ none.
     let style = c.args.self.now.lettering.now.style in
-    let letter = c.in_ok-letter.letter in
-    ap (λ (o : Option Letter). letter_left style o) c.in_ok-letter.was
-    ∙ drop_none (letter_strokes style letter.corner letter.code_point) letter.stroke (sym c.in_err-stroke.ensures.value)
+    let letter = c.in-Some.letter in
+    drop_none (letter_strokes style letter.corner letter.code_point) letter.stroke (sym c.in_err-stroke.ensures.value)
 
 pub returns-clause-taken : goal.returns-clause-taken
 returns-clause-taken c =
     let w = c.args.self.now in
     let style = w.lettering.now.style in
-    let letter = c.in_ok-letter.letter in
+    let letter = c.in-Some.letter in
     let rest : List (Spot × Spot) = strokes_from style w.letters w.cell w.rest in
     rw add-one
-    (ap (λ (o : Option Letter). letter_left style o ++ rest) c.in_ok-letter.was
+    (ap (λ (o : Option Letter). letter_left style o ++ rest) c.in-Some.is
     ∙ ap (λ (xs : List (Spot × Spot)). xs ++ rest)
     (drop_taken (letter_strokes style letter.corner letter.code_point) letter.stroke c.in_ok-stroke.stroke (sym c.in_ok-stroke.ensures.value)))
