@@ -3,9 +3,9 @@ use Rattle.std.proofs.Common.{◌≡◌, ℕ, ◌+◌, ◌<◌, ◌≤◌, List,
 use Rattle.std.proofs.lemmas.List.{length-take, length-take-le}
 use Rattle.std.specs.Io.KnownBytes.{Appends}
 use Rattle.deflate.specs.Buffers.{bytes_in}
-use Rattle.deflate.specs.Streams.{Encodes}
+use Rattle.deflate.specs.Histories.{EncodesText}
 use Rattle.deflate.specs.Zlib.{unzlib}
-use Rattle.deflate.specs.declared.encoder.Encoder.{Encoder}
+use Rattle.deflate.specs.declared.text_encoder.TextEncoder.{TextEncoder}
 use Rattle.devices.specs.declared.fault.WriteFault.{WriteFault}
 use Rattle.devices.specs.Sinks.{SinkState, taken_of}
 use Rattle.devices.proofs.KnownBytes.{Appends-join, Appends-none}
@@ -36,25 +36,25 @@ part_put a b d n e f bytes p lt failed later =
     (take (taken_of e) bytes, p, omega (arith, later, length-take-le (taken_of e) bytes (omega (arith, lt))), failed)
 
 -- the encoder's whole bytes were written
-pub flushed : (first b c : SinkState) (start d n : ℕ) (before after : Encoder) (text : List ℕ) → HasEncoded first b start d before text
+pub flushed : (first b c : SinkState) (start d n : ℕ) (before after : TextEncoder) (text : List ℕ) → HasEncoded first b start d before text
     → HasPut b c d n (bytes_in before.block.buffer)
-    → ((sent text : List ℕ) → Encodes sent before text → Encodes (sent ++ bytes_in before.block.buffer) after text)
+    → ((sent text : List ℕ) → EncodesText sent before text → EncodesText (sent ++ bytes_in before.block.buffer) after text)
     → HasEncoded first c start n after text
 flushed first b c start d n before after text h put moved =
     (h.0 ++ bytes_in before.block.buffer, put_more first b c start d n h.0 (bytes_in before.block.buffer) h.1 put, moved h.0 text h.2)
 
 -- more bytes were taken
-pub encoded_more : (first b : SinkState) (start d : ℕ) (before after : Encoder) (text more : List ℕ) → HasEncoded first b start d before text
-    → ((sent text : List ℕ) → Encodes sent before text → Encodes sent after (text ++ more)) → HasEncoded first b start d after (text ++ more)
+pub encoded_more : (first b : SinkState) (start d : ℕ) (before after : TextEncoder) (text more : List ℕ) → HasEncoded first b start d before text
+    → ((sent text : List ℕ) → EncodesText sent before text → EncodesText sent after (text ++ more)) → HasEncoded first b start d after (text ++ more)
 encoded_more first b start d before after text more h took = (h.0, h.1, took h.0 text h.2)
 
 -- the same text
-pub encoded_text : (first b : SinkState) (start d : ℕ) (e : Encoder) (text same : List ℕ) → text ≡ same → HasEncoded first b start d e text → HasEncoded first b start d e same
+pub encoded_text : (first b : SinkState) (start d : ℕ) (e : TextEncoder) (text same : List ℕ) → text ≡ same → HasEncoded first b start d e text → HasEncoded first b start d e same
 encoded_text first b start d e text same is h = let P : List ℕ → Type 0 = λ z. HasEncoded first b start d e z in subst P is h
 
 -- the last bytes of a stream were written
-pub stream_put : (first b c : SinkState) (start d n : ℕ) (before after : Encoder) (text : List ℕ) → HasEncoded first b start d before text
-    → ((sent text : List ℕ) → Encodes sent before text → unzlib (sent ++ bytes_in after.block.buffer) ≡ Some text)
+pub stream_put : (first b c : SinkState) (start d n : ℕ) (before after : TextEncoder) (text : List ℕ) → HasEncoded first b start d before text
+    → ((sent text : List ℕ) → EncodesText sent before text → unzlib (sent ++ bytes_in after.block.buffer) ≡ Some text)
     → HasPut b c d n (bytes_in after.block.buffer) → (stream : List ℕ) × HasPut first c start n stream × (unzlib stream ≡ Some text)
 stream_put first b c start d n before after text h ended put =
     (h.0 ++ bytes_in after.block.buffer, put_more first b c start d n h.0 (bytes_in after.block.buffer) h.1 put, ended h.0 text h.2)
@@ -72,14 +72,14 @@ pub take_most : (j : ℕ) (xs : List ℕ) → length (take j xs) ≤ j
 take_most j xs = omega (arith, length-take j xs)
 
 -- the last bytes of a content were encoded, or not
-pub last_encoding : (first b c : SinkState) (start d : ℕ) (before after : Encoder) (text more all : List ℕ) (r : Result ℕ WriteFault) → HasEncoded first b start d before text
+pub last_encoding : (first b c : SinkState) (start d : ℕ) (before after : TextEncoder) (text more all : List ℕ) (r : Result ℕ WriteFault) → HasEncoded first b start d before text
     → text ++ more ≡ all → Continues b c d before after more r → Encoding first c start after all r
 last_encoding first b c start d before after text more all (Ok n) h is q = encoded_text first c start n after (text ++ more) all is (q first start text h)
 last_encoding first b c start d before after text more all (Err e) h is q = failed_later first b c start d h.0 e h.1 q
 
 -- the last bytes of a stream were written, or not
-pub last_of_stream : (first b c : SinkState) (start d : ℕ) (before ended after : Encoder) (text : List ℕ) (r : Result ℕ WriteFault) → HasEncoded first b start d before text
-    → ((sent text : List ℕ) → Encodes sent before text → unzlib (sent ++ bytes_in ended.block.buffer) ≡ Some text)
+pub last_of_stream : (first b c : SinkState) (start d : ℕ) (before ended after : TextEncoder) (text : List ℕ) (r : Result ℕ WriteFault) → HasEncoded first b start d before text
+    → ((sent text : List ℕ) → EncodesText sent before text → unzlib (sent ++ bytes_in ended.block.buffer) ≡ Some text)
     → Flushes b c d ended after r → PutsStream first c start text r
 last_of_stream first b c start d before ended after text (Ok n) h end q = stream_put first b c start d n before ended text h end q.0
 last_of_stream first b c start d before ended after text (Err e) h end q = failed_later first b c start d h.0 e h.1 q

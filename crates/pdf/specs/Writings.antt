@@ -2,9 +2,9 @@
 use Rattle.std.specs.Prelude.{◌≡◌, ℕ, ◌+◌, List, ◌++◌, length, take, Result, Ok, Err, Some}
 use Rattle.std.specs.Io.KnownBytes.{Appends}
 use Rattle.deflate.specs.Buffers.{bytes_in}
-use Rattle.deflate.specs.Streams.{Encodes}
+use Rattle.deflate.specs.Histories.{EncodesText}
 use Rattle.deflate.specs.Zlib.{unzlib}
-use Rattle.deflate.specs.declared.encoder.Encoder.{Encoder}
+use Rattle.deflate.specs.declared.text_encoder.TextEncoder.{TextEncoder}
 use Rattle.devices.specs.declared.fault.WriteFault.{WriteFault}
 use Rattle.devices.specs.Sinks.{SinkState, taken_of}
 use Rattle.plot_page.specs.Segments.{Segment}
@@ -41,26 +41,27 @@ Adds old new offsets noted before done bodies (Ok now) = HasAdded old new offset
 Adds old new offsets noted before done bodies (Err fault) = HasFailed old new done fault
 
 -- the first bytes of a stream were written, which with the encoder's are those of a text
-abbrev pub HasEncoded : SinkState → SinkState → ℕ → ℕ → Encoder → List ℕ → Type 0
+abbrev pub HasEncoded : SinkState → SinkState → ℕ → ℕ → TextEncoder → List ℕ → Type 0
 HasEncoded old new done now encoder text =
-    (sent : List ℕ) × HasPut old new done now sent × Encodes sent encoder text
+    (sent : List ℕ) × HasPut old new done now sent × EncodesText sent encoder text
 
-abbrev pub Encoding : SinkState → SinkState → ℕ → Encoder → List ℕ → Result ℕ WriteFault → Type 0
+abbrev pub Encoding : SinkState → SinkState → ℕ → TextEncoder → List ℕ → Result ℕ WriteFault → Type 0
 Encoding old new done encoder text (Ok now) = HasEncoded old new done now encoder text
 Encoding old new done encoder text (Err fault) = HasFailed old new done fault
 
 -- whatever was encoded before, more bytes were encoded
-abbrev pub Continues : SinkState → SinkState → ℕ → Encoder → Encoder → List ℕ → Result ℕ WriteFault → Type 0
+abbrev pub Continues : SinkState → SinkState → ℕ → TextEncoder → TextEncoder → List ℕ → Result ℕ WriteFault → Type 0
 Continues old new done encoder after bytes (Ok now) =
     (first : SinkState) (start : ℕ) (text : List ℕ) → HasEncoded first old start done encoder text
     → HasEncoded first new start now after (text ++ bytes)
 Continues old new done encoder after bytes (Err fault) = HasFailed old new done fault
 
 -- whatever was encoded before, the encoder's whole bytes were written
-abbrev pub Flushes : SinkState → SinkState → ℕ → Encoder → Encoder → Result ℕ WriteFault → Type 0
+abbrev pub Flushes : SinkState → SinkState → ℕ → TextEncoder → TextEncoder → Result ℕ WriteFault → Type 0
 Flushes old new done encoder after (Ok now) =
     HasPut old new done now (bytes_in encoder.block.buffer)
-    × ((sent text : List ℕ) → Encodes sent encoder text → Encodes (sent ++ bytes_in encoder.block.buffer) after text)
+    × ((sent text : List ℕ) → EncodesText sent encoder text
+    → EncodesText (sent ++ bytes_in encoder.block.buffer) after text)
 Flushes old new done encoder after (Err fault) = HasFailed old new done fault
 
 -- a whole stream of a text was written

@@ -13,6 +13,7 @@ use crate::objects::put;
 use crate::pages::put_pages;
 use crate::pens::{PENS, list_pens};
 use crate::table::{put_table, put_trailer};
+use deflate::TextEncoder;
 use devices::{Sink, WriteFault};
 use plot_page::{Page, PenSet, Stroke};
 
@@ -33,7 +34,8 @@ pub fn room_for(pages: usize) -> usize
 /// of at least 24 grains (1/16 plotter unit). A stroke with an empty window is left out. A window other than the page is a
 /// clipping path. Each pen that draws a stroke is a layer, `Pen 2`.
 ///
-/// Returns how many bytes the document has. It asks for no memory: where objects begin is noted in `offsets`.
+/// Returns how many bytes the document has. It asks for no memory: where objects begin is noted in `offsets`, and the
+/// encoder begins a stream for each page, whatever it encoded before.
 ///
 /// Errors: a `WriteFault` if and only if the sink fails; it has then taken `bytes` bytes, which are of no use.
 pub fn write_pdf<K: Sink>(
@@ -44,6 +46,7 @@ pub fn write_pdf<K: Sink>(
     strokes: &[Stroke],
     ends: &[usize],
     offsets: &mut [u64],
+    encoder: &mut TextEncoder,
     sink: &mut K,
 ) -> Result<u64, WriteFault>
     requires sound { (K.state sink.old).faults < 2 ^ 64 - 1 }
@@ -71,7 +74,9 @@ pub fn write_pdf<K: Sink>(
     )?;
     let now = put_layers(sink, offsets, 4, now, drawn)?;
     let before = 4 + count as u32;
-    let now = put_pages(sink, offsets, before, now, page, pens, strokes, ends)?;
+    let now = put_pages(
+        sink, offsets, encoder, before, now, page, pens, strokes, ends,
+    )?;
     let objects = before as usize + 3 * ends.len();
     put_end(sink, now, &offsets[..objects])
 }

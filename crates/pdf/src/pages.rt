@@ -11,6 +11,7 @@ ghost use Rattle.pdf.specs.Writings.{Adds, AddsPage, AddsPages, Puts};
 use crate::layers::{LONGEST_REFERENCE, append_reference};
 use crate::objects::{append_head, note, put, put_object};
 use crate::stream::put_stream;
+use deflate::TextEncoder;
 use devices::{Sink, WriteFault, append};
 use number_text::{LONGEST_COUNT, LONGEST_LARGE, append_large};
 use plot_page::{Page, PenSet, Stroke};
@@ -25,6 +26,7 @@ const LONGEST_START: usize = 45 + LONGEST_COUNT + LONGEST_REFERENCE;
 fn put_page<K: Sink>(
     sink: &mut K,
     offsets: &mut [u64],
+    encoder: &mut TextEncoder,
     before: u32,
     done: u64,
     page: &Page,
@@ -44,7 +46,7 @@ fn put_page<K: Sink>(
     let used = append_page(&mut piece, before + 2);
     let at = put_object(sink, offsets, before, done, &piece[..used])?;
     let start = put_start(sink, offsets, before + 1, at)?;
-    let end = put_stream(sink, start, page, pens, strokes)?;
+    let end = put_stream(sink, start, encoder, page, pens, strokes)?;
     let now = put(sink, end, b"\nendstream\nendobj\n")?;
     put_length(sink, offsets, before + 2, now, end - start)
 }
@@ -126,6 +128,7 @@ fn put_length<K: Sink>(
 pub(crate) fn put_pages<K: Sink>(
     sink: &mut K,
     offsets: &mut [u64],
+    encoder: &mut TextEncoder,
     before: u32,
     done: u64,
     page: &Page,
@@ -150,6 +153,7 @@ pub(crate) fn put_pages<K: Sink>(
         now = put_page(
             sink,
             offsets,
+            encoder,
             before + 3 * index as u32,
             now,
             page,

@@ -1,6 +1,6 @@
 //! The content of a page, written as a zlib stream.
 ghost use Rattle.std.specs.Prelude.{◌≡◌, ◌+◌, ◌-◌, ◌*◌, ◌^◌, ◌<◌, ◌≤◌, ◌++◌, [], length, take, OnOk, IfOk};
-ghost use Rattle.deflate.specs.Streams.{Encodes};
+ghost use Rattle.deflate.specs.Histories.{EncodesText};
 ghost use Rattle.deflate.specs.declared.sizes.TheConstants.{FULL, PIECE, SIZE};
 ghost use Rattle.plot_page.specs.declared.stroke.TheConstants.{MOST_STROKES};
 ghost use Rattle.pdf.specs.Contents.{content_text};
@@ -8,7 +8,7 @@ ghost use Rattle.pdf.specs.Writings.{Continues, Encoding, Flushes, PutsStream};
 
 use crate::objects::put;
 use crate::steps::{LONGEST_STEP, append_end, append_step};
-use deflate::{Code, Encoder};
+use deflate::TextEncoder;
 use devices::{Sink, WriteFault};
 use plot_page::{Page, PenSet, Stroke};
 use stroke_runs::Runs;
@@ -17,6 +17,7 @@ use stroke_runs::Runs;
 pub(crate) fn put_stream<K: Sink>(
     sink: &mut K,
     done: u64,
+    encoder: &mut TextEncoder,
     page: &Page,
     pens: &PenSet,
     strokes: &[Stroke],
@@ -28,18 +29,18 @@ pub(crate) fn put_stream<K: Sink>(
         (content_text page.now pens.now strokes.now) result }
     ensures near { IfOk result (λ now. now ≤ done + SIZE * (length strokes.now + 4)) }
 {
-    let mut encoder = Encoder::new(Code::Words);
-    let now = put_strokes(sink, done, &mut encoder, page, pens, strokes)?;
-    let now = flush(sink, now, &mut encoder)?;
+    encoder.begin();
+    let now = put_strokes(sink, done, encoder, page, pens, strokes)?;
+    let now = flush(sink, now, encoder)?;
     encoder.end();
-    flush(sink, now, &mut encoder)
+    flush(sink, now, encoder)
 }
 
 // Writes the content of a page, of which a part stays in the encoder.
 fn put_strokes<K: Sink>(
     sink: &mut K,
     done: u64,
-    encoder: &mut Encoder,
+    encoder: &mut TextEncoder,
     page: &Page,
     pens: &PenSet,
     strokes: &[Stroke],
@@ -47,7 +48,7 @@ fn put_strokes<K: Sink>(
     requires sound { (K.state sink.old).faults < 2 ^ 64 - 1 }
     requires few { length strokes.now ≤ MOST_STROKES }
     requires count { done ≤ 2 ^ 62 }
-    requires fresh { Encodes [] encoder.old [] }
+    requires fresh { EncodesText [] encoder.old [] }
     ensures encodes { Encoding (K.state sink.old) (K.state sink.new) done encoder.new
         (content_text page.now pens.now strokes.now) result }
     ensures near { IfOk result (λ now. now ≤ done + SIZE * (length strokes.now + 2)) }
@@ -68,7 +69,7 @@ fn put_strokes<K: Sink>(
 fn encode<K: Sink>(
     sink: &mut K,
     done: u64,
-    encoder: &mut Encoder,
+    encoder: &mut TextEncoder,
     bytes: &[u8],
 ) -> Result<u64, WriteFault>
     requires sound { (K.state sink.old).faults < 2 ^ 64 - 1 }
@@ -87,7 +88,7 @@ fn encode<K: Sink>(
 }
 
 // Writes the whole bytes that are in an encoder.
-fn flush<K: Sink>(sink: &mut K, done: u64, encoder: &mut Encoder) -> Result<u64, WriteFault>
+fn flush<K: Sink>(sink: &mut K, done: u64, encoder: &mut TextEncoder) -> Result<u64, WriteFault>
     requires sound { (K.state sink.old).faults < 2 ^ 64 - 1 }
     requires count { done ≤ 2 ^ 63 }
     ensures flushes { Flushes (K.state sink.old) (K.state sink.new) done encoder.old encoder.new result }

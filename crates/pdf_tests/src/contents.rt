@@ -33,7 +33,7 @@ fn off_the_page(rt: HostRuntime) -> Result<(), Fail> {
         rt.alloc(),
         look,
         [-1_048_576, -1_048_576, 1_048_576, 1_048_576],
-        (899, 0x2376_6745),
+        (924, 0x1519_6e80),
     )
 }
 
@@ -42,8 +42,8 @@ fn off_the_page(rt: HostRuntime) -> Result<(), Fail> {
 fn least_width(rt: HostRuntime) -> Result<(), Fail> {
     let thin = Look { width: 23, ..BLACK };
     let thick = Look { width: 25, ..BLACK };
-    draws(&rt, rt.alloc(), thin, [0, 0, 0, 1], (855, 0x3895_0589))?;
-    draws(&rt, rt.alloc(), thick, [0, 0, 0, 1], (855, 0x9a8e_9959))
+    draws(&rt, rt.alloc(), thin, [0, 0, 0, 1], (886, 0x0221_9c13))?;
+    draws(&rt, rt.alloc(), thick, [0, 0, 0, 1], (886, 0x7e9f_60f9))
 }
 
 // A window of one place, and one that differs from the page in one number.
@@ -57,6 +57,6 @@ fn windows(rt: HostRuntime) -> Result<(), Fail> {
         window: [0, 0, 16_256, 32_511],
         ..BLACK
     };
-    draws(&rt, rt.alloc(), place, [0, 0, 100, 100], (868, 0x809b_fa60))?;
-    draws(&rt, rt.alloc(), part, [0, 0, 100, 100], (872, 0xeee9_f105))
+    draws(&rt, rt.alloc(), place, [0, 0, 100, 100], (902, 0x8856_476e))?;
+    draws(&rt, rt.alloc(), part, [0, 0, 100, 100], (906, 0x43ab_1d92))
 }

@@ -1,6 +1,7 @@
 //! Documents, byte by byte.
 use crate::strokes::{BLACK, Look, WHOLE, write, write_titled};
 use crc32::crc_of;
+use deflate::TextEncoder;
 use devices::{OverWrite, Sink};
 use plot_page::Stroke;
 use std::alloc::Global;
@@ -28,15 +29,15 @@ endobj\n\
 endobj\n\
 6 0 obj\n\
 <</Filter/FlateDecode/Length 7 0 R>>stream\n\
-x\x01\xed\xc1\x03\xc0\xe8\x09\x17&\xf4\x8c\x93\xedz2\xdf\xf7>\xc7\xe7\xe4\xe6\x9d\
-i\xea\xabif\xee\xad6\xebk\xc3\xd7\xf9o\xdd\xd5\xdd\xddl\xdb\xb6m\xdb\xb6\
-m\xdb\xb6m\xff~|%#l\xd5}r@\x10|%#l\xd5}r@\x10\
-\xdf}D\xf1\x1dQ|O\xfe#\xeau\x09_\
+x\x01\xed\xfd\x05\xe0w=\xb2\x1f\x0e\xe1rpw\x08\xae\xbbw<\x13\x9cn\xcb\x85Bi{\x8b;\x14-\xe7\
+\x0b\x14[\xdc\xdd\xdd\xdd\xdd\xdd\xdd\xdd\xdd\xdd\xdd\xa5\xc0g&'\xe7\xf7<\xbb\xef\xde\xfe+W\
+\xfam\xef\xbe\xcf\xe77\xc9\xc4&\x93df\x92C?&2\x93\xc5\xaa\xe99h\xd0\xf8\xce\x9f~\xef\xe7\xe2\
+\xf1\xdb/\x1e\xbf\xef\xfa\x03\xeau\x09_\
 \n\
 endstream\n\
 endobj\n\
 7 0 obj\n\
-86\n\
+105\n\
 endobj\n\
 xref\n\
 0 8\n\
@@ -47,11 +48,11 @@ xref\n\
 0000000264 00000 n \n\
 0000000282 00000 n \n\
 0000000340 00000 n \n\
-0000000495 00000 n \n\
+0000000514 00000 n \n\
 trailer\n\
 <</Size 8/Root 1 0 R/Info 2 0 R>>\n\
 startxref\n\
-513\n\
+533\n\
 %%EOF\n";
 
 /// The bytes of a document of some strokes.
@@ -62,7 +63,8 @@ pub fn bytes_of(
     ends: &[usize],
 ) -> Result<Vec<u8>, Fail> {
     let mut sink = OverWrite::new(Vec::new(alloc));
-    let bytes = write(alloc, strokes, ends, &mut sink)?;
+    let mut encoder = TextEncoder::new(alloc)?;
+    let bytes = write(alloc, &mut encoder, strokes, ends, &mut sink)?;
     assert_eq!(rt; sink.failures(), 0);
     let document = sink.into_inner();
     assert_eq!(rt; bytes, document.len() as u64);
@@ -119,7 +121,7 @@ pub fn two_sheets(alloc: Global) -> Result<Vec<Stroke>, Fail> {
 fn sheets_and_layers(rt: HostRuntime) -> Result<(), Fail> {
     let strokes = two_sheets(rt.alloc())?;
     let document = bytes_of(&rt, rt.alloc(), &strokes, &[6, 8])?;
-    assert_eq!(&rt; (document.len(), crc_of(&document)), (1475, 0xa44b_9360));
+    assert_eq!(&rt; (document.len(), crc_of(&document)), (1499, 0x1ff8_a361));
     Ok(())
 }
 
@@ -127,9 +129,11 @@ fn sheets_and_layers(rt: HostRuntime) -> Result<(), Fail> {
 #[test]
 fn titles(rt: HostRuntime) -> Result<(), Fail> {
     let mut sink = OverWrite::new(Vec::new(rt.alloc()));
-    write_titled(rt.alloc(), "Plan \u{e4}\u{1f604}", &[], &[0], &mut sink)?;
+    let mut encoder = TextEncoder::new(rt.alloc())?;
+    let title = "Plan \u{e4}\u{1f604}";
+    write_titled(rt.alloc(), &mut encoder, title, &[], &[0], &mut sink)?;
     assert_eq!(&rt; sink.failures(), 0);
     let document = sink.into_inner();
-    assert_eq!(&rt; (document.len(), crc_of(&document)), (788, 0x3138_8328));
+    assert_eq!(&rt; (document.len(), crc_of(&document)), (808, 0xc142_0203));
     Ok(())
 }

@@ -4,6 +4,7 @@ ghost use Rattle.std.specs.Prelude.{◌≡◌, ◌-◌, ◌^◌, ◌<◌, Some};
 use crate::documents::{bytes_of, two_sheets};
 use crate::strokes::{BLACK, write};
 use crc32::crc_of;
+use deflate::TextEncoder;
 use devices::{Sink, SinkFault};
 use std::test::Fail;
 
@@ -33,18 +34,20 @@ impl Sink for Failing {
     }
 }
 
-// A sink fails after each number of bytes: it has taken as many as the fault says, and nothing is written after it.
+// A sink fails after each number of bytes: it has taken as many as the fault says, and nothing is written after it. The
+// encoder begins anew after each.
 #[test]
 fn failing_once(rt: HostRuntime) -> Result<(), Fail> {
     let strokes = two_sheets(rt.alloc())?;
     let whole = bytes_of(&rt, rt.alloc(), &strokes, &[6, 8])?;
+    let mut encoder = TextEncoder::new(rt.alloc())?;
     for limit in 0..=whole.len() {
         let mut sink = Failing {
             bytes: Vec::new(rt.alloc()),
             limit,
             failures: 0,
         };
-        let bytes = write(rt.alloc(), &strokes, &[6, 8], &mut sink)?;
+        let bytes = write(rt.alloc(), &mut encoder, &strokes, &[6, 8], &mut sink)?;
         let failures = if sink.bytes.len() < whole.len() { 1 } else { 0 };
         assert_eq!(&rt; (bytes, sink.failures), (sink.bytes.len() as u64, failures));
         assert!(&rt; whole.as_slice().starts_with(&sink.bytes));
@@ -70,6 +73,6 @@ fn many_strokes(rt: HostRuntime) -> Result<(), Fail> {
         from = to;
     }
     let document = bytes_of(&rt, rt.alloc(), &strokes, &[0, 3000, 2000, 4500, 9000])?;
-    assert_eq!(&rt; (document.len(), crc_of(&document)), (35_749, 0x10d5_d9f7));
+    assert_eq!(&rt; (document.len(), crc_of(&document)), (35_394, 0x5a97_752c));
     Ok(())
 }

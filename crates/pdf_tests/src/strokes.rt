@@ -4,6 +4,7 @@ ghost use Rattle.std.specs.Prelude.{◌≤◌, length};
 ghost use Rattle.std.specs.Str.{chars};
 ghost use Rattle.pdf.specs.declared.title.TheConstants.{MOST_CHARACTERS};
 
+use deflate::TextEncoder;
 use devices::Sink;
 use pdf::{room_for, write_pdf};
 use plot_page::{Colour, MOST_STROKES, Page, PenSet, Stroke, Window};
@@ -46,16 +47,18 @@ impl Look {
 /// and 255. Returns the count of bytes, whole or not.
 pub fn write<K: Sink>(
     alloc: Global,
+    encoder: &mut TextEncoder,
     strokes: &[Stroke],
     ends: &[usize],
     sink: &mut K,
 ) -> Result<u64, Fail> {
-    write_titled(alloc, "", strokes, ends, sink)
+    write_titled(alloc, encoder, "", strokes, ends, sink)
 }
 
 /// The same with a title.
 pub fn write_titled<K: Sink>(
     alloc: Global,
+    encoder: &mut TextEncoder,
     title: &str,
     strokes: &[Stroke],
     ends: &[usize],
@@ -73,7 +76,9 @@ pub fn write_titled<K: Sink>(
     }
     let mut offsets = vec![in alloc; 0u64; room_for(ends.len())]?;
     let offsets = offsets.as_mut_slice();
-    match write_pdf("0.2.0", title, &page, &pens, strokes, ends, offsets, sink) {
+    match write_pdf(
+        "0.2.0", title, &page, &pens, strokes, ends, offsets, encoder, sink,
+    ) {
         Ok(bytes) => Ok(bytes),
         Err(fault) => Ok(fault.bytes()),
     }

@@ -15,3 +15,5 @@ mod pictures;
 mod stream_failures;
 #[cfg(test)]
 mod streams;
+#[cfg(test)]
+mod texts;
