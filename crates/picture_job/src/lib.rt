@@ -9,6 +9,7 @@ mod picture;
 mod png_job;
 mod reading;
 mod smoothing;
+mod vector_job;
 
 pub use job::Job;
 pub use page_choice::{MOST_PIXELS_CHOSEN, PageChoice};
@@ -16,3 +17,4 @@ pub use picture::Picture;
 pub use png_job::PngJob;
 pub use reading::Reading;
 pub use smoothing::Smoothing;
+pub use vector_job::{VectorFormat, VectorJob};

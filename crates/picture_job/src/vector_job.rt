@@ -1,0 +1,23 @@
+//! A request for a vector document.
+use plot_page::{Page, PenSet};
+
+/// The formats of vector documents.
+#[derive(Clone, Copy, Debug, PartialEq, Eq)]
+pub enum VectorFormat {
+    /// SVG 1.1.
+    Svg,
+    /// PDF 1.5.
+    Pdf,
+}
+
+/// A request for a vector document: format, page and pens. Its strokes are not pixels, so it has no resolution, and it is
+/// written whole, so it has no first row.
+#[derive(Clone, Copy)]
+pub struct VectorJob {
+    /// The format of the document.
+    pub format: VectorFormat,
+    /// The page, in plotter units of 0.025 mm.
+    pub page: Page,
+    /// The pens whose strokes are drawn.
+    pub pens: PenSet,
+}
