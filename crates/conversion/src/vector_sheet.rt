@@ -1,0 +1,139 @@
+//! The vector document of a drawing: of all that is drawn, or of one sheet.
+ghost use Rattle.std.specs.Prelude.{◌≡◌, ◌-◌, ◌^◌, ◌<◌, ◌≤◌, IfErr, false, length};
+ghost use Rattle.std.specs.Str.{chars};
+ghost use Rattle.pdf.specs.declared.title.TheConstants.{MOST_CHARACTERS};
+ghost use Rattle.plot_page.specs.declared.stroke.TheConstants.{MOST_STROKES};
+ghost use Rattle.conversion.specs.Conversions.{is_write};
+ghost use Rattle.conversion.specs.Rules.{ends_of};
+ghost use Rattle.conversion.specs.Vectors.{IsPdf, IsVector, PutsVector, WritesVector, svg_of, title_kept};
+
+use crate::fault::Fault;
+use crate::lines::Lines;
+use crate::naming::Naming;
+use crate::outcome::Outcome;
+use crate::page_ends::page_ends;
+use crate::place::Drawing;
+use crate::sheet::outcome_of;
+use deflate::TextEncoder;
+use devices::Sink;
+use full_plot::sheet_of;
+use pdf::{MOST_CHARACTERS, room_for, write_pdf};
+use picture_job::{VectorFormat, VectorJob};
+use plot_page::{Page, PenSet, Stroke};
+use std::alloc::Global;
+use svg::{ClipPaths, write_svg, write_svg_sheets};
+
+/// Writes the vector document of a sheet of a drawing, which counts from 1, or of all that is drawn for 0, on the page where
+/// the drawing lies. The job's page is not used. Of all that is drawn an SVG has a group for each sheet, one above another,
+/// if sheets end, and a PDF a page for each.
+///
+/// Errors: `Unfinished` if the sink fails, and what it has taken is of no use; `Memory` if memory is refused, and then the
+/// sink is as it was.
+pub fn write_vector_sheet<K: Sink>(
+    alloc: Global,
+    drawing: &Drawing,
+    sheet: u32,
+    job: &VectorJob,
+    naming: Naming<'_>,
+    sink: &mut K,
+) -> Result<Outcome, Fault>
+    requires sinking { (K.state sink.old).faults < 2 ^ 64 - 1 }
+    ensures writes { WritesVector job.now naming.entry drawing.now sheet (K.state sink.old) (K.state sink.new) result }
+    ensures untouched { IfErr result (λ fault. is_write fault ≡ false → sink.new ≡ sink.old) }
+{
+    let lines = &drawing.lines;
+    let strokes = sheet_of(lines.strokes.as_slice(), lines.ends.as_slice(), sheet);
+    let ends = ends_in(lines, sheet);
+    match job.format {
+        VectorFormat::Svg => put_svg(alloc, &drawing.page, &job.pens, strokes, ends, sink)?,
+        VectorFormat::Pdf => put_pdf(alloc, naming, &drawing.page, &job.pens, strokes, ends, sink)?,
+    }
+    Ok(outcome_of(drawing, job.pens, strokes, 0, 0))
+}
+
+// Where sheets end in what is drawn of a sheet: nowhere, unless it is all.
+fn ends_in(lines: &Lines, sheet: u32) -> &[usize]
+    ensures { result.now ≡ ends_of sheet lines.now.ends.items }
+{
+    if sheet == 0 {
+        lines.ends.as_slice()
+    } else {
+        &[]
+    }
+}
+
+// Writes the SVG of strokes among which sheets end there.
+fn put_svg<K: Sink>(
+    alloc: Global,
+    page: &Page,
+    pens: &PenSet,
+    strokes: &[Stroke],
+    ends: &[usize],
+    sink: &mut K,
+) -> Result<(), Fault>
+    requires few { length strokes.now ≤ MOST_STROKES }
+    requires sinking { (K.state sink.old).faults < 2 ^ 64 - 1 }
+    ensures puts { PutsVector (λ document. document ≡ svg_of page.now pens.now strokes.now ends.now)
+        (K.state sink.old) (K.state sink.new) result }
+    ensures untouched { IfErr result (λ fault. is_write fault ≡ false → sink.new ≡ sink.old) }
+{
+    let clips = ClipPaths::of(alloc, page, pens, strokes)?;
+    let written = if ends.is_empty() {
+        write_svg(page, pens, strokes, &clips, sink)
+    } else {
+        write_svg_sheets(page, pens, strokes, ends, &clips, sink)
+    };
+    match written {
+        Ok(_) => Ok(()),
+        Err(_) => Err(Fault::Unfinished),
+    }
+}
+
+// Writes the PDF of the same.
+fn put_pdf<K: Sink>(
+    alloc: Global,
+    naming: Naming<'_>,
+    page: &Page,
+    pens: &PenSet,
+    strokes: &[Stroke],
+    ends: &[usize],
+    sink: &mut K,
+) -> Result<(), Fault>
+    requires few { length strokes.now ≤ MOST_STROKES }
+    requires sinking { (K.state sink.old).faults < 2 ^ 64 - 1 }
+    ensures puts { PutsVector (IsPdf naming.entry page.now pens.now strokes.now ends.now)
+        (K.state sink.old) (K.state sink.new) result }
+    ensures untouched { IfErr result (λ fault. is_write fault ≡ false → sink.new ≡ sink.old) }
+{
+    let pages = page_ends(alloc, strokes.len(), ends)?;
+    let pages = pages.as_slice();
+    let mut offsets = vec![in alloc; 0u64; room_for(pages.len())]?;
+    let mut encoder = TextEncoder::new(alloc)?;
+    let written = write_pdf(
+        naming.version,
+        title_kept(naming.title),
+        page,
+        pens,
+        strokes,
+        pages,
+        offsets.as_mut_slice(),
+        &mut encoder,
+        sink,
+    );
+    match written {
+        Ok(_) => Ok(()),
+        Err(_) => Err(Fault::Unfinished),
+    }
+}
+
+// The title, unless it is too long.
+fn title_kept(title: &str) -> &str
+    ensures title { result.now ≡ title_kept title.now }
+    ensures few { length (chars result.now) ≤ MOST_CHARACTERS }
+{
+    if title.len() <= MOST_CHARACTERS {
+        title
+    } else {
+        ""
+    }
+}
