@@ -9,9 +9,9 @@ use Rattle.clap.specs.declared.error.Error.{Error}
 use Rattle.clap.specs.declared.parser.matches.ArgMatches.{ArgMatches}
 use Rattle.command_line.specs.declared.subcommands.Kind.{Kind}
 use Rattle.command_line.specs.declared.subcommands.Kind.TheVariants.{Draw, Write}
-use Rattle.command_line.specs.declared.subcommands.Output.TheVariants.{Picture, Png, Report}
+use Rattle.command_line.specs.declared.subcommands.Output.TheVariants.{Picture, Png, Report, Vector}
 use Rattle.picture_out.specs.declared.form.Form.TheVariants.{Marks, Pbm, Ppm, Pcl}
-use Rattle.command_line.specs.Options.{draw_app, picture_app, plot_app, png_app, report_app, subcommand_app, subcommands}
+use Rattle.command_line.specs.Options.{draw_app, picture_app, plot_app, png_app, report_app, subcommand_app, subcommands, vector_app}
 use Rattle.command_line.proofs.Plain.{plain_app}
 use Rattle.clap_parses.specs.Parses.{HasGoodMatches, IsSingleShape}
 use Rattle.clap_parses.proofs.ParseLaw.{parse_good}
@@ -290,6 +290,60 @@ png_single name = record {
   no_again = refl;
 }
 
+vector_single : (name : Text) → IsSingleShape (built_leaf (vector_app name).top)
+vector_single name = record {
+  single = (
+    record { found = refl; kind = inl (record { sets = refl; takes = refl }); defaults = search rules },
+    (
+      record { found = refl; kind = inl (record { sets = refl; takes = refl }); defaults = search rules },
+      (
+        record { found = refl; kind = inl (record { sets = refl; takes = refl }); defaults = search rules },
+        (
+          record { found = refl; kind = inl (record { sets = refl; takes = refl }); defaults = search rules },
+          (
+            record { found = refl; kind = inl (record { sets = refl; takes = refl }); defaults = search rules },
+            (
+              record { found = refl; kind = inr (inl (record { sets = refl; takes = refl; stands = search rules })); defaults = search rules },
+              (
+                record { found = refl; kind = inl (record { sets = refl; takes = refl }); defaults = search rules },
+                (
+                  record { found = refl; kind = inl (record { sets = refl; takes = refl }); defaults = search rules },
+                  (
+                    record { found = refl; kind = inl (record { sets = refl; takes = refl }); defaults = search rules },
+                    (
+                      record { found = refl; kind = inl (record { sets = refl; takes = refl }); defaults = search rules },
+                      (
+                        record { found = refl; kind = inl (record { sets = refl; takes = refl }); defaults = search rules },
+                        (
+                          record { found = refl; kind = inr (inl (record { sets = refl; takes = refl; stands = search rules })); defaults = search rules },
+                          (
+                            record { found = refl; kind = inl (record { sets = refl; takes = refl }); defaults = search rules },
+                            (
+                              record { found = refl; kind = inl (record { sets = refl; takes = refl }); defaults = search rules },
+                              (
+                                record { found = refl; kind = inl (record { sets = refl; takes = refl }); defaults = search rules },
+                                (
+                                  record { found = refl; kind = inr (inr (inl (record { appends = refl; takes = refl }))); defaults = search rules },
+                                  (record { found = refl; kind = inr (inr (inr refl)); defaults = search rules }, tt),
+                                ),
+                              ),
+                            ),
+                          ),
+                        ),
+                      ),
+                    ),
+                  ),
+                ),
+              ),
+            ),
+          ),
+        ),
+      ),
+    ),
+  );
+  no_again = refl;
+}
+
 report_single : (name : Text) → IsSingleShape (built_leaf (report_app name).top)
 report_single name = record {
   single = (
@@ -348,6 +402,7 @@ single (name, Write (Picture Pbm)) = plain_single name
 single (name, Write (Picture Ppm)) = smoothed_single name
 single (name, Write (Picture Pcl)) = plain_single name
 single (name, Write Png) = png_single name
+single (name, Write (Vector format)) = vector_single name
 single (name, Write Report) = report_single name
 
 pub all_made : {X Y : Type 0} (f : X → Y) (P : Y → Type 0) → ((x : X) → P (f x)) → (xs : List X) → AllByRecursion P (map f xs)

@@ -5,6 +5,7 @@ use Rattle.std.specs.Option.{option_map_or}
 use Rattle.clap.specs.Words.{Text, first_of, subcommand_of, takes}
 use Rattle.clap.proofs.OnLiterals.{clap_on_literals}
 use Rattle.clap.specs.declared.error.kind.ErrorKind.TheVariants as kind
+use Rattle.picture_job.specs.declared.vector_job.VectorFormat.TheVariants as format
 use Rattle.picture_out.specs.declared.form.Form.TheVariants as form
 use Rattle.command_line.specs.declared.subcommands.Kind.TheVariants as kind_of
 use Rattle.command_line.specs.declared.subcommands.Output.{Output}
@@ -193,7 +194,11 @@ form_by_extension : written_on (codes "draw" ∷ codes "-o" ∷ codes "plan.pbm"
 unfolding clap_on_literals path_extension path_file_name rsplit_once split_last_component trim_trailing
 form_by_extension = refl
 
-no_form : value_fault_on (codes "draw" ∷ codes "-o" ∷ codes "plan.svg" ∷ codes "--pens=0" ∷ []) ≡ Some (Plain fault.Form)
+document_by_extension : written_on (codes "draw" ∷ codes "-o" ∷ codes "plan.svg" ∷ []) ≡ Some (output.Vector format.Svg)
+unfolding clap_on_literals path_extension path_file_name rsplit_once split_last_component trim_trailing
+document_by_extension = refl
+
+no_form : value_fault_on (codes "draw" ∷ codes "-o" ∷ codes "plan.eps" ∷ codes "--pens=0" ∷ []) ≡ Some (Plain fault.Form)
 unfolding clap_on_literals path_extension path_file_name rsplit_once split_last_component trim_trailing
 no_form = refl
 

@@ -64,6 +64,14 @@ each_report : value_fault_on (codes "report" ∷ codes "--sheet=each" ∷ codes 
 unfolding clap_on_literals
 each_report = refl
 
+each_page : value_fault_on (codes "pdf" ∷ codes "--sheet=each" ∷ codes "--profile=full" ∷ []) ≡ None
+unfolding clap_on_literals
+each_page = refl
+
+dots_of_a_document : value_fault_on (codes "draw" ∷ codes "--form=pdf" ∷ codes "--dots=150" ∷ codes "--page=none" ∷ []) ≡ Some (Plain fault.NoPixels)
+unfolding clap_on_literals
+dots_of_a_document = refl
+
 each_without_a_folder : value_fault_on (codes "draw" ∷ codes "--sheet=each" ∷ []) ≡ Some (Plain fault.NoFolder)
 unfolding clap_on_literals
 each_without_a_folder = refl

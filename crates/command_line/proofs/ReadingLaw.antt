@@ -18,10 +18,10 @@ use Rattle.clap.proofs.ValueTestLemmas.{accepts-Accepts}
 use Rattle.clap_parses.specs.Parses.{HasGoodMatches, IsIn, RowOf, RowsOf, first, past}
 use Rattle.command_line.specs.declared.subcommands.Kind.{Kind}
 use Rattle.command_line.specs.declared.subcommands.Kind.TheVariants.{Draw, Write}
-use Rattle.command_line.specs.declared.subcommands.Output.TheVariants.{Picture, Png, Report}
+use Rattle.command_line.specs.declared.subcommands.Output.TheVariants.{Picture, Png, Report, Vector}
 use Rattle.command_line.specs.Lines.{kind_named, number_in, pens_text}
 use Rattle.picture_out.specs.declared.form.Form.TheVariants.{Marks, Pbm, Ppm, Pcl}
-use Rattle.command_line.specs.Options.{draw_app, picture_app, plot_app, png_app, report_app, subcommand_app, subcommands}
+use Rattle.command_line.specs.Options.{draw_app, picture_app, plot_app, png_app, report_app, subcommand_app, subcommands, vector_app}
 use Rattle.command_line.proofs.Plain.{plain_app}
 use Rattle.command_line.specs.Readings.{HasFormValues, HasMargin, HasNumber, HasPageNumbers, HasPictureValues, HasProfile, HasTaskValues, HasValues}
 use Rattle.command_line.specs.Readings.{MayHaveNumber}
@@ -249,6 +249,22 @@ png_pens name rows good = text_there _ _ (codes "pens") rows refl good.each (goo
 png_picture : (name : Text) (rows : List Row) → RowsOf (built_leaf (png_app name).top).rules rows → HasPictureValues rows
 png_picture name rows good = picture_values _ _ rows (png_page name rows good) refl refl (number_if_there _ _ (codes "smooth") rows 1 8 refl refl good.each) good.each
 
+vector_profile : (name : Text) (rows : List Row) → RowsOf (built_leaf (vector_app name).top).rules rows → HasProfile rows
+vector_profile name rows good = text_there _ _ (codes "profile") rows refl good.each (good.defaults.1.1.1.1.1.1.1.0 (omega arith))
+
+vector_margin : (name : Text) (rows : List Row) → RowsOf (built_leaf (vector_app name).top).rules rows → HasMargin rows
+vector_margin name rows good = number_if_there _ _ (codes "margin") rows 0 100 refl refl good.each
+
+vector_pixels : (name : Text) (rows : List Row) → RowsOf (built_leaf (vector_app name).top).rules rows → MayHaveNumber rows (codes "size") 16 20000
+vector_pixels name rows good = no_number _ (codes "size") rows 16 20000 refl good.each
+
+vector_page : (name : Text) (rows : List Row) → RowsOf (built_leaf (vector_app name).top).rules rows → HasPageNumbers rows
+vector_page name rows good =
+    numbers_of_page _ _ _ _ _ rows refl refl refl refl refl refl refl refl good.each (good.defaults.1.1.1.0 (omega arith)) (good.defaults.1.1.1.1.0 (omega arith))
+
+vector_pens : (name : Text) (rows : List Row) → RowsOf (built_leaf (vector_app name).top).rules rows → is_some (pens_text rows) ≡ true
+vector_pens name rows good = text_there _ _ (codes "pens") rows refl good.each (good.defaults.1.1.1.1.1.1.1.1.1.1.1.1.1.1.0 (omega arith))
+
 -- the rows of a subcommand give its options values
 abbrev Reads : Shape → Type 0
 Reads command = (kind : Kind) → kind_named command.name ≡ Some kind → (rows : List Row) → RowsOf command.rules rows → HasValues kind rows
@@ -303,6 +319,13 @@ row_reads (name, Write Png) named = by_name name (Write Png) _ named (λ rows go
   pixels = png_pixels name rows good;
   margin = png_margin name rows good;
 })
+row_reads (name, Write (Vector format)) named = by_name name (Write (Vector format)) _ named (λ rows good. record {
+  pens = λ _. vector_pens name rows good;
+  task = vector_page name rows good;
+  profile = vector_profile name rows good;
+  pixels = vector_pixels name rows good;
+  margin = vector_margin name rows good;
+})
 row_reads (name, Write Report) named = by_name name (Write Report) _ named (λ rows good. record {
   pens = λ is. absurd (cc);
   task = report_page name rows good;
@@ -329,6 +352,7 @@ row_name (name, Write (Picture Pbm)) named = ap is_some named
 row_name (name, Write (Picture Ppm)) named = ap is_some named
 row_name (name, Write (Picture Pcl)) named = ap is_some named
 row_name (name, Write Png) named = ap is_some named
+row_name (name, Write (Vector format)) named = ap is_some named
 row_name (name, Write Report) named = ap is_some named
 
 names : (its : List (Text × Kind)) → AllByRecursion IsNamed its → AllByRecursion HasName (map (λ (it : Text × Kind). built_leaf (subcommand_app it).top) its)

@@ -28,15 +28,18 @@ use Rattle.pen_list.specs.Widths.{width_written}
 use Rattle.picture_out.specs.declared.form.Form.{Form}
 use Rattle.picture_out.specs.declared.form.Form.TheVariants.{Pcl}
 use Rattle.picture_job.specs.declared.job.Job.{Job}
-use Rattle.picture_job.specs.declared.picture.Picture.TheVariants.{Png, Rows}
+use Rattle.picture_job.specs.declared.picture.Picture.TheVariants.{Png, Rows, Vector}
 use Rattle.picture_job.specs.declared.png_job.PngJob.{PngJob}
+use Rattle.picture_job.specs.declared.vector_job.VectorFormat.{VectorFormat}
+use Rattle.picture_job.specs.declared.vector_job.VectorFormat.TheVariants.{Pdf}
+use Rattle.picture_job.specs.declared.vector_job.VectorJob.{VectorJob}
 use Rattle.picture_job.specs.declared.reading.Reading.{Reading}
 use Rattle.picture_job.specs.declared.reading.Reading.TheVariants.{Core, Full}
 use Rattle.picture_job.specs.declared.smoothing.Smoothing.{Smoothing}
 use Rattle.picture_job.specs.declared.page_choice.PageChoice.{PageChoice}
 use Rattle.command_line.specs.declared.fault.LineFault.{LineFault}
 use Rattle.command_line.specs.declared.fault.LineFault.TheVariants.{Pens, Shades, Smooth, Paper, Size, Profile, Sheet}
-use Rattle.command_line.specs.declared.fault.LineFault.TheVariants.{BadCharacters, BadSheet, Characters, Form as NoForm, Margin, NoFolder, NoPicture, Pixels, PrinterPixels, Several}
+use Rattle.command_line.specs.declared.fault.LineFault.TheVariants.{BadCharacters, BadSheet, Characters, Form as NoForm, Margin, NoFolder, NoPicture, NoPixels, Pixels, PrinterPixels, Several}
 use Rattle.command_line.specs.declared.line.Line.{Line}
 use Rattle.command_line.specs.declared.line.Task.{Task}
 use Rattle.command_line.specs.declared.line.Task.TheVariants.{Picture, Report}
@@ -158,6 +161,7 @@ written (Write output) rows = Some output
 abbrev pub is_picture : Output → Bool
 is_picture (output.Picture form) = true
 is_picture output.Png = true
+is_picture (output.Vector format) = true
 is_picture output.Report = false
 
 -- the dots per inch: as the option says, or else as the subcommand does
@@ -167,6 +171,10 @@ dots_in kind rows = unwrap_or (number_in rows (codes "dots")) (defaults_of kind)
 -- the picture's pixels are chosen, and not its dots per inch
 abbrev pub is_sized : List Row → Bool
 is_sized rows = is_given rows (codes "size")
+
+-- something is said of pixels: how many there are, in an inch or in all, or how they are smoothed
+abbrev pub has_pixels : List Row → Bool
+has_pixels rows = is_given rows (codes "dots") || (is_sized rows || is_given rows (codes "smooth"))
 
 -- how much finer a picture is painted if no option says it: 8 times if its pixels are chosen, and else as much as the
 -- subcommand does, if 1200 dots per inch allow it
@@ -227,16 +235,29 @@ pub record IsJobOf (kind : Kind) (rows : List Row) (job : Job) (smoothing : Smoo
   pub band : unwrap_or (number_in rows (codes "band")) 64 ≡ job.band
   pub first_row : unwrap_or (number_in rows (codes "from")) 0 ≡ job.first_row
 
+-- the page and the pens of the job are those of the options, and nothing is said of pixels
+pub record IsVectorJobOf (rows : List Row) (job : VectorJob) : Type 0 where
+  pub page : IsPageOf rows job.page
+  pub pens : ArePensOf rows job.pens
+  pub plain : has_pixels rows ≡ false
+
 -- the task is a picture in this form, by these options
 abbrev pub IsPictureOf : Kind → Form → List Row → Task → Type 0
 IsPictureOf kind form rows (Picture (Rows job smoothing)) = (job.form ≡ form) × IsJobOf kind rows job smoothing
 IsPictureOf kind form rows _ = ⊥
+
+-- the same of a vector document in this format
+abbrev pub IsVectorOf : VectorFormat → List Row → Task → Type 0
+IsVectorOf format rows (Picture (Vector job)) = (job.format ≡ format) × IsVectorJobOf rows job
+IsVectorOf format rows _ = ⊥
 
 -- the task is what a subcommand does, by its options
 abbrev pub IsTaskOf : Kind → List Row → Task → Type 0
 IsTaskOf kind rows (Picture (Rows job smoothing)) =
     (written kind rows ≡ Some (output.Picture job.form)) × IsJobOf kind rows job smoothing
 IsTaskOf kind rows (Picture (Png job)) = (written kind rows ≡ Some output.Png) × IsPngJobOf kind true rows job
+IsTaskOf kind rows (Picture (Vector job)) =
+    (written kind rows ≡ Some (output.Vector job.format)) × IsVectorJobOf rows job
 IsTaskOf kind rows (Report page) = (written kind rows ≡ Some output.Report) × IsPageOf rows page
 
 -- the plot is read in the profile core, or in full with the sheet and the characters that are asked for
@@ -276,12 +297,20 @@ abbrev pub is_report : Kind → Bool
 is_report (Write output.Report) = true
 is_report _ = false
 
--- what is wrong with asking for each sheet by itself: there is no picture, or nothing says where the output goes
+-- a PDF is written, in which each sheet has a page
+abbrev pub is_pdf : Output → Bool
+is_pdf (output.Vector Pdf) = true
+is_pdf _ = false
+
+abbrev pub has_pages : Kind → List Row → Bool
+has_pages kind rows = option_map_or is_pdf (written kind rows) false
+
+-- what is wrong with asking for each sheet by itself: there is no picture, or nothing says where the files go
 abbrev pub each_fault : Kind → List Row → Option LineFault
 each_fault kind rows =
     if not (asks_each rows) then None else
     if is_report kind then Some NoPicture else
-    if not (is_given rows (codes "output")) then Some NoFolder else None
+    if not (is_given rows (codes "output") || has_pages kind rows) then Some NoFolder else None
 
 -- PCL is written
 abbrev pub is_pcl : Output → Bool
@@ -309,7 +338,7 @@ pub record IsLineBy (kind : Kind) (rows : List Row) (line : Line) : Type 0 where
   pub output : option_map (λ s. s.now) line.output ≡ output_text rows
   pub placed : has_no_place rows ≡ false
   pub sheet_named : line.sheet_named ≡ is_given rows (codes "sheet")
-  pub each_sheet : line.each_sheet ≡ asks_each rows
+  pub each_sheet : line.each_sheet ≡ (asks_each rows && not (has_pages kind rows))
   pub each_placed : each_fault kind rows ≡ None
   pub verbose : line.verbose ≡ has_flag rows (codes "verbose")
   pub quiet : line.quiet ≡ has_flag rows (codes "quiet")
@@ -405,9 +434,14 @@ picture_fault kind is_smoothed rows =
     if is_too_fine kind is_smoothed rows then Some Smooth else
     page_fault rows
 
+-- the same of a vector document: first comes what is said of pixels
+abbrev pub vector_fault : List Row → Option LineFault
+vector_fault rows = if has_pixels rows then Some NoPixels else page_fault rows
+
 -- what is wrong with the values for what is written
 abbrev pub fault_of_output : Kind → List Row → Output → Option LineFault
 fault_of_output kind rows output.Report = page_fault rows
+fault_of_output kind rows (output.Vector format) = vector_fault rows
 fault_of_output kind rows o = picture_fault kind (is_smoothed o) rows
 
 -- what is wrong with the task

@@ -6,12 +6,13 @@ use Rattle.clap.specs.declared.builder.command.Command.TheViews.{out-Command}
 use Rattle.clap.specs.declared.builder.action.ArgAction.TheVariants.{Set, SetTrue, Append}
 use Rattle.clap.specs.declared.builder.value_parser.ValueParser.{ValueParser}
 use Rattle.clap.specs.declared.builder.value_parser.ValueParser.TheVariants as vp
+use Rattle.picture_job.specs.declared.vector_job.VectorFormat.TheVariants.{Pdf, Svg}
 use Rattle.picture_out.specs.declared.form.Form.{Form}
 use Rattle.picture_out.specs.declared.form.Form.TheVariants.{Marks, Pbm, Ppm, Pcl}
 use Rattle.command_line.specs.declared.subcommands.Kind.{Kind}
 use Rattle.command_line.specs.declared.subcommands.Kind.TheVariants.{Draw, Write}
 use Rattle.command_line.specs.declared.subcommands.Output.{Output}
-use Rattle.command_line.specs.declared.subcommands.Output.TheVariants.{Picture, Png, Report}
+use Rattle.command_line.specs.declared.subcommands.Output.TheVariants.{Picture, Png, Report, Vector}
 use Rattle.command_line.specs.Defaults.{Defaults, of_draw, of_others}
 
 -- `--NAME VALUE`, at most once, with a parser
@@ -81,12 +82,14 @@ abbrev pub with_plot : Defaults → App → App
 with_plot d a =
     with_carousel (with_rule (with_rule (with_reading d (with_fit (with_page a))) output_rule) (flag_rule (codes "verbose")))
 
+-- the pens whose strokes are drawn
+abbrev pub with_pens : App → App
+with_pens a = with_rule a (option_rule (codes "pens") vp.String (codes "all"))
+
 -- how a picture is made: dots per inch, which have no default, pens, and whether to show how far the picture is
 abbrev pub with_picture : App → App
-with_picture a = with_rule (with_rule (with_rule a
-    (bare_rule (codes "dots") (whole_number 10 1200)))
-    (option_rule (codes "pens") vp.String (codes "all")))
-    (flag_rule (codes "progress"))
+with_picture a =
+    with_rule (with_pens (with_rule a (bare_rule (codes "dots") (whole_number 10 1200)))) (flag_rule (codes "progress"))
 
 -- the most pixels of a picture's longer side, which have no default
 abbrev pub with_size : App → App
@@ -128,6 +131,10 @@ picture_app form name = with_rule
 abbrev pub png_app : Text → App
 png_app name = with_rule (with_smoothing (with_picture (with_plot of_others (new_app name)))) file_rule
 
+-- a subcommand that writes a vector document
+abbrev pub vector_app : Text → App
+vector_app name = with_rule (with_pens (with_plot of_others (new_app name))) file_rule
+
 -- a subcommand that describes a plot
 abbrev pub report_app : Text → App
 report_app name = with_rule (with_plot of_others (new_app name)) file_rule
@@ -143,6 +150,8 @@ abbrev pub subcommands : List (Text × Kind)
 subcommands =
     (codes "draw", Draw)
     ∷ (codes "png", Write Png)
+    ∷ (codes "pdf", Write (Vector Pdf))
+    ∷ (codes "svg", Write (Vector Svg))
     ∷ (codes "marks", Write (Picture Marks))
     ∷ (codes "pbm", Write (Picture Pbm))
     ∷ (codes "ppm", Write (Picture Ppm))
@@ -154,6 +163,7 @@ abbrev pub subcommand_app : Text × Kind → App
 subcommand_app (name, Draw) = draw_app name
 subcommand_app (name, Write (Picture form)) = picture_app form name
 subcommand_app (name, Write Png) = png_app name
+subcommand_app (name, Write (Vector format)) = vector_app name
 subcommand_app (name, Write Report) = report_app name
 
 abbrev pub add_subcommand : App → Text × Kind → App

@@ -6,7 +6,7 @@ use Rattle.clap.specs.Words.{Row, Text, one_of}
 use Rattle.command_line.specs.declared.subcommands.Kind.{Kind}
 use Rattle.command_line.specs.declared.subcommands.Kind.TheVariants.{Draw, Write}
 use Rattle.command_line.specs.declared.subcommands.Output.{Output}
-use Rattle.command_line.specs.declared.subcommands.Output.TheVariants.{Picture, Png, Report}
+use Rattle.command_line.specs.declared.subcommands.Output.TheVariants.{Picture, Png, Report, Vector}
 use Rattle.command_line.specs.declared.fault.LineFault.{LineFault}
 use Rattle.command_line.specs.declared.fault.LineFault.TheVariants.{Paper, Shades, Size}
 use Rattle.command_line.specs.Papers.{size_named}
@@ -59,6 +59,7 @@ stray_smooth_fault is_smoothed rows = if has_stray_smooth is_smoothed rows then 
 abbrev pub HasValuesOf : Output → List Row → Type 0
 HasValuesOf (Picture form) rows = HasFormValues rows
 HasValuesOf Png rows = HasPictureValues rows
+HasValuesOf (Vector format) rows = HasPageNumbers rows
 HasValuesOf Report rows = HasPageNumbers rows
 
 -- the same for what a subcommand may write

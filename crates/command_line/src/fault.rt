@@ -21,7 +21,7 @@ pub enum LineFault<'a> {
     #[error("words not understood")]
     Words,
     /// The form that draw is asked for, by `--form` or by the extension of the output file, is none.
-    #[error("no such form of picture: use png, ppm, pbm, pcl or marks, after --form or as the extension of the output file")]
+    #[error("no such form of picture: use png, pdf, svg, ppm, pbm, pcl or marks, after --form or as the extension of the output file")]
     Form,
     /// The text after `--pens` is no list of pens.
     #[error("bad pen list")]
@@ -35,6 +35,9 @@ pub enum LineFault<'a> {
     /// `--smooth` is given for a form without shades.
     #[error("--smooth needs the form png or ppm")]
     Shades,
+    /// `--dots`, `--size` or `--smooth` is given for a vector document, which has no pixels.
+    #[error("--dots, --size and --smooth may not be given with the forms pdf and svg")]
+    NoPixels,
     /// The resolution times the smoothing is over 1200 dots per inch.
     #[error("--dots times --smooth is over 1200")]
     Smooth,
@@ -62,7 +65,7 @@ pub enum LineFault<'a> {
     /// A report on each sheet is asked for.
     #[error("--sheet each needs a picture")]
     NoPicture,
-    /// Each sheet is asked for by itself, without `--output`.
+    /// Each sheet is asked for by itself, without `--output`, and not in a PDF.
     #[error("--sheet each needs --output FOLDER")]
     NoFolder,
     /// `--size` is given with `--dots`.

@@ -4,12 +4,15 @@ ghost use Rattle.std.specs.Str.{str_eq_ignore_ascii_case};
 ghost use Rattle.command_line.specs.Forms.{extension_of, form_in, form_named};
 
 use crate::subcommands::Output;
+use picture_job::VectorFormat;
 use picture_out::Form;
 use std::path::Path;
 
 // The name of each form, which is the extension of its files, and what is written.
-const FORMS: [(&str, Output); 5] = [
+const FORMS: [(&str, Output); 7] = [
     ("png", Output::Png),
+    ("pdf", Output::Vector(VectorFormat::Pdf)),
+    ("svg", Output::Vector(VectorFormat::Svg)),
     ("ppm", Output::Picture(Form::Ppm)),
     ("pbm", Output::Picture(Form::Pbm)),
     ("pcl", Output::Picture(Form::Pcl)),

@@ -7,8 +7,8 @@ pub(crate) struct HelpLine<'a> {
     pub(crate) help: &'a str,
 }
 
-/// The version that `--version` prints, which is the changelog's.
-pub(crate) const VERSION: &str = "0.2.0";
+/// The version of the program, which is the changelog's.
+pub const VERSION: &str = "0.2.0";
 
 /// What help says of a command, and an example of its use.
 #[derive(Clone, Copy)]
@@ -76,7 +76,7 @@ pub(crate) const PROFILE: HelpLine<'static> = HelpLine {
 pub(crate) const SHEET: HelpLine<'static> = HelpLine {
     value: "SHEET",
     help: "Sheet to draw in the profile full, 0 to 4194304: counted from 1, or 0 for all sheets in one picture, or each for \
-        a picture of each sheet, in the folder of --output [default: 1]",
+        a picture of each sheet, in the folder of --output, or a page in a PDF [default: 1]",
 };
 
 pub(crate) const CHARACTERS: HelpLine<'static> = HelpLine {
@@ -106,8 +106,8 @@ pub(crate) const QUIET: &str = "Show no progress, and do not say that nothing is
 // `clap` is given no default: without this option the name of the output file decides.
 pub(crate) const FORM: HelpLine<'static> = HelpLine {
     value: "NAME",
-    help: "Form of the picture: 'png', 'ppm', 'pbm', 'pcl' or 'marks'; without it the extension of the output file says \
-        the form [default: png]",
+    help: "Form of the picture: 'png', 'pdf', 'svg', 'ppm', 'pbm', 'pcl' or 'marks'; without it the extension of the output \
+        file says the form [default: png]",
 };
 
 // `clap` is given no default, so that it is known whether the option is given.
@@ -177,7 +177,7 @@ pub(crate) const FILE: &str =
     "The plot files; without one the plot is read from standard input, and several need --output and a folder";
 
 pub(crate) const TOP: HelpPage<'static> = HelpPage {
-    about: "Turn an HP-GL or HP-GL/2 plot into a raster picture with exact pixels, or describe it",
+    about: "Turn an HP-GL or HP-GL/2 plot into a raster picture with exact pixels, or a PDF or SVG of its lines, or describe it",
     example: "Example:\n  plotraster draw plan.plt -o plan.png\n\n\
         'plotraster draw --help' lists the options of draw, and so for each command.",
 };

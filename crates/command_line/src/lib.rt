@@ -15,5 +15,6 @@ mod subcommands;
 mod values;
 
 pub use fault::{BuildFault, LineFault, parse_status};
+pub use help::VERSION;
 pub use line::{Line, Task, settle};
 pub use options::{command, parse};

@@ -6,12 +6,12 @@ ghost use Rattle.clap.specs.Words.{found_of, rows_of};
 ghost use Rattle.plot_page.specs.Pages.{has_page_size};
 ghost use Rattle.command_line.specs.Faults.{refusal_of};
 ghost use Rattle.command_line.specs.Lines.{number_in, lists_no_pens, has_bad_list, asks_bad_list, written, form_text, asked_picture};
-ghost use Rattle.command_line.specs.Lines.{ArePensOf, IsPageOf, IsPictureOf, IsPngJobOf, IsTaskOf, IsLineBy, IsLineOf, AreOfThisCommand};
+ghost use Rattle.command_line.specs.Lines.{ArePensOf, IsPageOf, IsPictureOf, IsPngJobOf, IsTaskOf, IsVectorOf, IsLineBy, IsLineOf, AreOfThisCommand};
 ghost use Rattle.command_line.specs.Lines.{has_stray_smooth, picture_fault, smooth_or, usual_smooth, dots_in, is_picture, selection_fault};
 ghost use Rattle.command_line.specs.Lines.{IsReadingOf, line_fault, page_fault, pens_text, reading_fault, task_fault, values_fault};
 ghost use Rattle.command_line.specs.Lines.{IsChoiceOf, choice_fault, gives_page, has_flag, has_paper_and_side, is_given, names_page, page_size};
 ghost use Rattle.command_line.specs.Lines.{asks_each, each_fault, is_for_printers, is_report, pixels_fault, sheet_in};
-ghost use Rattle.command_line.specs.Lines.{files_in, has_no_place, output_fault, output_text};
+ghost use Rattle.command_line.specs.Lines.{files_in, has_no_place, has_pixels, output_fault, output_text, vector_fault};
 ghost use Rattle.command_line.specs.Options.{is_smoothed};
 ghost use Rattle.command_line.specs.Readings.{HasFormValues, HasMargin, HasNumber, HasPageNumbers, HasPens, HasPictureValues};
 ghost use Rattle.command_line.specs.Readings.{HasProfile, HasTaskValues, HasValues, MayHaveNumber, paper_or_fault, stray_smooth_fault};
@@ -27,7 +27,7 @@ use crate::values::{has_flag, is_given, number_if_given, number_of};
 use carousel::Carousel;
 use clap::ArgMatches;
 use pen_list::read_pens;
-use picture_job::{Job, PageChoice, Picture, PngJob, Reading, Smoothing};
+use picture_job::{Job, PageChoice, Picture, PngJob, Reading, Smoothing, VectorFormat, VectorJob};
 use picture_out::Form;
 use plot_page::{Dots, Page, PenSet};
 
@@ -58,7 +58,8 @@ pub struct Line<'m, 'a> {
     pub output: Option<&'a str>,
     /// Whether the sheet was named, or else the first one is drawn.
     pub sheet_named: bool,
-    /// Whether each sheet is to be written by itself; then there is a picture and an output, and all sheets are read.
+    /// Whether each sheet is to be written into a file of its own; then there is a picture and an output, and all sheets are
+    /// read. Each sheet that is asked for in a PDF has a page there, and no file of its own.
     pub each_sheet: bool,
     /// Whether to say on standard error what was drawn.
     pub verbose: bool,
@@ -78,11 +79,11 @@ pub struct Line<'m, 'a> {
 ///
 /// Errors, of which the first is given: `Form` if draw is asked for a form that is none, `Pens` if a picture is asked for
 /// and `--pens` is not a valid list, `Colours` or `Widths` with the first bad item of such a list, `Shades` if `--smooth` is
-/// given for a form that may not be smoothed, `Smooth` if `--dots` times `--smooth` is over 1200, `Paper` if `--page` names
+/// given for a form that may not be smoothed, `Smooth` if `--dots` times `--smooth` is over 1200, `NoPixels` if one of these or `--size` is given for a PDF or an SVG, `Paper` if `--page` names
 /// no paper and not the plot, `Size` if `--page` is given with `--width` or `--height`, `BadSheet` if `--sheet` is no number
 /// of 0 to 4194304 and not `each`, `BadCharacters` if `--characters` names none, `Profile` if `--profile` is neither `core`
 /// nor `full`, `Sheet` or `Characters` if `--sheet` or `--characters` is given with the profile core, `NoPicture` or
-/// `NoFolder` if `--sheet` is `each` for a report or without `--output`, `Pixels` if `--size` is given with `--dots`,
+/// `NoFolder` if `--sheet` is `each` for a report, or without `--output` and not for a PDF, `Pixels` if `--size` is given with `--dots`,
 /// `PrinterPixels` if it is given for PCL, `Margin` if `--margin` is given and the page is not fitted, and `Several` if
 /// several files are given without `--output`; no other one after a `parse` that succeeded. `Words` if the matches are of
 /// another command.
@@ -141,7 +142,7 @@ fn selection_of<'a>(kind: Kind, options: &ArgMatches<'a>) -> Result<(Output, Pen
     let output = written(kind, options).ok_or(LineFault::Form)?;
     match output {
         Output::Report => Ok((output, PenSet::all())),
-        Output::Picture(_) | Output::Png => Ok((output, pens_of(options)?)),
+        Output::Picture(_) | Output::Png | Output::Vector(_) => Ok((output, pens_of(options)?)),
     }
 }
 
@@ -161,12 +162,13 @@ fn task_of<'a>(
     match output {
         Output::Picture(form) => picture_of(kind, options, form, pens),
         Output::Png => Ok(Task::Picture(Picture::Png(png_job_of(kind, options, true, pens)?))),
+        Output::Vector(format) => vector_of(options, format, pens),
         Output::Report => Ok(Task::Report(page_of(options)?)),
     }
 }
 
 // What is written, or `None` if it is asked for by a name that is no form's.
-fn written(kind: Kind, options: &ArgMatches<'_>) -> Option<Output>
+pub(crate) fn written(kind: Kind, options: &ArgMatches<'_>) -> Option<Output>
     ensures { result ≡ written kind (rows_of (found_of options.now)) }
 {
     match kind {
@@ -249,6 +251,33 @@ fn png_job_of<'a>(
         pens,
         smoothing,
     })
+}
+
+// A vector document, of which nothing may be said of pixels.
+fn vector_of<'a>(
+    options: &ArgMatches<'a>,
+    format: VectorFormat,
+    pens: PenSet,
+) -> Result<Task, LineFault<'a>>
+    requires { ArePensOf (rows_of (found_of options.now)) pens }
+    ensures vector { IfOk result (IsVectorOf format (rows_of (found_of options.now))) }
+    ensures pens { result ≢ Err LineFault.Pens }
+    ensures refused { HasPageNumbers (rows_of (found_of options.now)) →
+        result_err result ≡ vector_fault (rows_of (found_of options.now)) }
+{
+    if has_pixels(options) {
+        return Err(LineFault::NoPixels);
+    }
+    let page = page_of(options)?;
+    let job = VectorJob { format, page, pens };
+    Ok(Task::Picture(Picture::Vector(job)))
+}
+
+// Whether something is said of pixels.
+fn has_pixels(options: &ArgMatches<'_>) -> bool
+    ensures { result ≡ has_pixels (rows_of (found_of options.now)) }
+{
+    is_given(options, "dots") || is_given(options, "size") || is_given(options, "smooth")
 }
 
 // The dots per inch: as the option says, or else as the subcommand does.

@@ -10,7 +10,7 @@ ghost use Rattle.command_line.specs.Options.{bare_rule, option_rule, whole_numbe
 ghost use Rattle.command_line.specs.Options.{colours_rule, with_carousel, with_size};
 ghost use Rattle.command_line.specs.Options.{output_rule, with_fit, with_page, with_reading, with_plot, with_picture};
 ghost use Rattle.command_line.specs.Defaults.{defaults_of};
-ghost use Rattle.command_line.specs.Options.{draw_app, png_app, with_form, with_rows, with_smoothing};
+ghost use Rattle.command_line.specs.Options.{draw_app, png_app, vector_app, with_form, with_pens, with_rows, with_smoothing};
 ghost use Rattle.command_line.specs.Options.{picture_app, report_app, subcommand_app, add_subcommand, plot_app};
 ghost use Rattle.command_line.specs.Options.{top_app, IsOf};
 ghost use Rattle.clap_parses.specs.Parses.{HasGoodMatches};
@@ -27,6 +27,7 @@ use crate::subcommands::{
 };
 use clap::builder::ValueParser;
 use clap::{Arg, ArgAction, ArgMatches, Command};
+use picture_job::VectorFormat;
 use picture_out::Form;
 use std::alloc::{AllocError, Global};
 use std::convert::AsStr;
@@ -260,6 +261,13 @@ fn add_plot<'a>(alloc: Global, command: Command<'a>, kind: Kind) -> Result<Comma
     add_carousel(alloc, command)
 }
 
+fn add_pens<'a>(alloc: Global, command: Command<'a>) -> Result<Command<'a>, AllocError>
+    requires { (fields_of command).has_globals ≡ false }
+    ensures { IfOk result (IsOf (with_pens (app_of command.entry))) }
+{
+    add(command, pens_of(alloc))
+}
+
 fn add_picture<'a>(
     alloc: Global,
     command: Command<'a>,
@@ -269,11 +277,10 @@ fn add_picture<'a>(
     ensures { IfOk result (IsOf (with_picture (app_of command.entry))) }
 {
     let dots = bare_number_of(alloc, "dots", 10, 1200, dots_line(kind));
-    let pens = pens_of(alloc);
     let help: &'a str = progress_help(kind);
     let progress = flag_of(alloc, "progress", help);
     let command = add(command, dots)?;
-    let command = add(command, pens)?;
+    let command = add_pens(alloc, command)?;
     add(command, progress)
 }
 
@@ -364,6 +371,20 @@ fn png_command<'a>(
     add(command, file_of(alloc))
 }
 
+fn vector_command<'a>(
+    alloc: Global,
+    name: &'a str,
+    page: HelpPage<'a>,
+    format: VectorFormat,
+) -> Result<Command<'a>, AllocError>
+    ensures { IfOk result (IsOf (vector_app name.entry.now)) }
+{
+    let kind = Kind::Write(Output::Vector(format));
+    let command = add_plot(alloc, bare(alloc, name, page), kind)?;
+    let command = add_pens(alloc, command)?;
+    add(command, file_of(alloc))
+}
+
 fn report_command<'a>(
     alloc: Global,
     name: &'a str,
@@ -388,6 +409,7 @@ fn command_of<'a>(
         Kind::Draw => draw_command(alloc, name, page),
         Kind::Write(Output::Picture(form)) => picture_command(alloc, name, page, form),
         Kind::Write(Output::Png) => png_command(alloc, name, page),
+        Kind::Write(Output::Vector(format)) => vector_command(alloc, name, page, format),
         Kind::Write(Output::Report) => report_command(alloc, name, page),
     }
 }

@@ -1,17 +1,18 @@
 //! How a plot is read: its profile, its sheets, and the characters of its labels.
-ghost use Rattle.std.specs.Prelude.{◌≡◌, ◌≢◌, Err, IfOk, None};
+ghost use Rattle.std.specs.Prelude.{◌≡◌, ◌≢◌, ◌&&◌, not, Err, IfOk, None};
 ghost use Rattle.std.specs.Result.{result_err};
 ghost use Rattle.clap.specs.Words.{found_of, rows_of};
-ghost use Rattle.command_line.specs.Lines.{IsReadingOf, asks_each, each_fault, is_report, reading_fault, sheet_in};
+ghost use Rattle.command_line.specs.Lines.{IsReadingOf, asks_each, each_fault, has_pages, is_report, reading_fault, sheet_in};
 ghost use Rattle.command_line.specs.Readings.{HasProfile};
 ghost use Rattle.command_line.specs.Sheets.{is_each, sheet_named, sheet_number};
 
 use crate::characters::encoding_of;
 use crate::fault::LineFault;
+use crate::line::written;
 use crate::subcommands::{Kind, Output};
 use crate::values::is_given;
 use clap::ArgMatches;
-use picture_job::Reading;
+use picture_job::{Reading, VectorFormat};
 
 // The greatest sheet that may be asked for.
 const GREATEST_SHEET: i64 = 4_194_304;
@@ -51,9 +52,10 @@ fn sheet_of(options: &ArgMatches<'_>) -> Option<u32>
     }
 }
 
-/// Whether each sheet is to be written by itself, which takes a picture and an output.
+/// Whether each sheet is to be written into a file of its own, which takes a picture and an output; in a PDF it has a page.
 pub(crate) fn each_of<'a>(kind: Kind, options: &ArgMatches<'a>) -> Result<bool, LineFault<'a>>
-    ensures each { IfOk result (λ each. each ≡ asks_each (rows_of (found_of options.now))) }
+    ensures each { IfOk result (λ each. each ≡ (asks_each (rows_of (found_of options.now))
+        && not (has_pages kind (rows_of (found_of options.now))))) }
     ensures placed { IfOk result (λ _. each_fault kind (rows_of (found_of options.now)) ≡ None) }
     ensures pens { result ≢ Err LineFault.Pens }
     ensures refused { result_err result ≡ each_fault kind (rows_of (found_of options.now)) }
@@ -64,10 +66,23 @@ pub(crate) fn each_of<'a>(kind: Kind, options: &ArgMatches<'a>) -> Result<bool, 
     if is_report(kind) {
         return Err(LineFault::NoPicture);
     }
+    if has_pages(kind, options) {
+        return Ok(false);
+    }
     if !is_given(options, "output") {
         return Err(LineFault::NoFolder);
     }
     Ok(true)
+}
+
+// Whether a PDF is written, in which each sheet has a page.
+fn has_pages(kind: Kind, options: &ArgMatches<'_>) -> bool
+    ensures { result ≡ has_pages kind (rows_of (found_of options.now)) }
+{
+    match written(kind, options) {
+        Some(Output::Vector(VectorFormat::Pdf)) => true,
+        Some(_) | None => false,
+    }
 }
 
 fn asks_each(options: &ArgMatches<'_>) -> bool

@@ -7,6 +7,7 @@ use crate::help::{
     DOTS, DRAW_DOTS, DRAW_MARGIN, DRAW_PAGE, DRAW_PROGRESS, DRAW_SMOOTH, HelpLine, MARGIN, PAGE,
     PCL_DOTS, PROGRESS, SMOOTH,
 };
+use picture_job::VectorFormat;
 use picture_out::Form;
 
 /// What a subcommand does.
@@ -25,13 +26,15 @@ pub(crate) enum Output {
     Picture(Form),
     /// A PNG picture.
     Png,
+    /// A vector document.
+    Vector(VectorFormat),
     /// A report.
     Report,
 }
 
 /// All subcommands, in the order of the help: the name, what it does, what help says of it, and
 /// an example of its use.
-pub(crate) const SUBCOMMANDS: [(&str, Kind, &str, &str); 7] = [
+pub(crate) const SUBCOMMANDS: [(&str, Kind, &str, &str); 9] = [
     (
         "draw",
         Kind::Draw,
@@ -40,7 +43,8 @@ pub(crate) const SUBCOMMANDS: [(&str, Kind, &str, &str); 7] = [
             - reads the plot in the profile full, and draws its first sheet;\n\
             - draws on the page that the plot asks for by PS, or on A4;\n\
             - shows what is drawn, wherever on that page it is, with a margin of 5 mm;\n\
-            - writes 150 dots per inch, smoothed 4 times, as PNG, or as the output file's extension says;\n\
+            - writes 150 dots per inch, smoothed 4 times, as PNG, or as the output file's extension says: as PDF or SVG the \
+            lines themselves, in PDF those of all sheets, a page each;\n\
             - shows progress on a terminal, and says if nothing is drawn.\n\n\
             Example:\n  plotraster draw plan.plt -o plan.png",
     ),
@@ -49,6 +53,19 @@ pub(crate) const SUBCOMMANDS: [(&str, Kind, &str, &str); 7] = [
         Kind::Write(Output::Png),
         "Write a colour picture as PNG, which browsers and viewers show",
         "Example, smoothed:\n  plotraster png --dots 150 --smooth 4 plan.plt > plan.png",
+    ),
+    (
+        "pdf",
+        Kind::Write(Output::Vector(VectorFormat::Pdf)),
+        "Write the lines themselves as PDF, which prints and zooms at any size, with a page for each sheet and a layer for \
+            each pen",
+        "Example, all sheets:\n  plotraster pdf --profile full --sheet each plan.plt > plan.pdf",
+    ),
+    (
+        "svg",
+        Kind::Write(Output::Vector(VectorFormat::Svg)),
+        "Write the lines themselves as SVG, which browsers show and drawing programs edit",
+        "Example, the drawing and 5 mm around it:\n  plotraster svg --fit --margin 5 plan.plt > plan.svg",
     ),
     (
         "marks",

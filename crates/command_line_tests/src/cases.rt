@@ -3,7 +3,7 @@ use carousel::Carousel;
 use clap::ArgMatches;
 use command_line::{Line, Task, command, parse, parse_status, settle};
 use pen_list::read_pens;
-use picture_job::{Job, Picture, PngJob, Smoothing};
+use picture_job::{Job, Picture, PngJob, Smoothing, VectorFormat, VectorJob};
 use picture_out::Form;
 use plot_page::{Page, PenSet};
 use std::alloc::{AllocError, Global};
@@ -119,6 +119,7 @@ fn line_told(alloc: Global, asked: Asked, line: &Line<'_, '_>) -> Result<String,
             job_told(alloc, job, *smoothing, file)
         }
         (_, Task::Picture(Picture::Png(job))) => png_told(alloc, job, file),
+        (_, Task::Picture(Picture::Vector(job))) => vector_told(alloc, job, file),
         (_, Task::Report(page)) => {
             let (width, height, left, below) = (page.width, page.height, page.left, page.below);
             format!(in alloc; "report {width} {height} {left} {below} of {file:?}")
@@ -188,6 +189,7 @@ fn page_of(task: &Task) -> Page {
     match task {
         Task::Picture(Picture::Rows { job, .. }) => job.page,
         Task::Picture(Picture::Png(job)) => job.page,
+        Task::Picture(Picture::Vector(job)) => job.page,
         Task::Report(page) => *page,
     }
 }
@@ -226,6 +228,18 @@ fn png_told(alloc: Global, job: &PngJob, file: Option<&str>) -> Result<String, A
     let (dots, times) = (job.dots.per_inch(), job.smoothing.times());
     let pens = pens_told(alloc, &job.pens)?;
     format!(in alloc; "png {width} {height} {left} {below} {dots} {times} {pens} of {file:?}")
+}
+
+// The format, the page, the pens and the file.
+fn vector_told(alloc: Global, job: &VectorJob, file: Option<&str>) -> Result<String, AllocError> {
+    let format = match job.format {
+        VectorFormat::Pdf => "pdf",
+        VectorFormat::Svg => "svg",
+    };
+    let page = job.page;
+    let (width, height, left, below) = (page.width, page.height, page.left, page.below);
+    let pens = pens_told(alloc, &job.pens)?;
+    format!(in alloc; "{format} {width} {height} {left} {below} {pens} of {file:?}")
 }
 
 // The form, with its smoothing if there is one, the numbers in the order of the manual page, the pens and the file.

@@ -76,7 +76,7 @@ plotraster|draw|--form=.png
 plotraster|draw|--form|png |-o|plan.png
 plotraster|draw|--form=report
 plotraster|draw|--form=draw
-plotraster|draw|-o|plan.svg
+plotraster|draw|-o|plan.eps
 plotraster|draw|-o|plan.txt
 plotraster|draw|-o|plan.
 plotraster|draw|-o|plan.png.gz
@@ -84,8 +84,8 @@ plotraster|draw|-o|plan.jpng
 plotraster|draw|-o|plan.pn
 plotraster|draw|-o|out.d
 plotraster|draw|-o|out.png/a.d
-plotraster|draw|-o|plan.svg|--pens=0
-plotraster|draw|-o|plan.svg|--page=none|--sheet=1|--profile=core|a.plt|b.plt
+plotraster|draw|-o|plan.eps|--pens=0
+plotraster|draw|-o|plan.dxf|--page=none|--sheet=1|--profile=core|a.plt|b.plt
 
 Pens
 plotraster|draw|-o|plan.pbm|--pens=0|--smooth=2

@@ -31,3 +31,5 @@ mod readings;
 mod sizes;
 #[cfg(test)]
 mod smoothing;
+#[cfg(test)]
+mod vectors;
