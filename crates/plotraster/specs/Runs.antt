@@ -4,7 +4,7 @@ use Rattle.command_line.specs.declared.line.Task.{Task}
 use Rattle.command_line.specs.declared.line.Task.TheVariants.{Report}
 use Rattle.command_line.specs.declared.line.Task.TheVariants.{Picture as Draw}
 use Rattle.picture_job.specs.declared.picture.Picture.{Picture}
-use Rattle.picture_job.specs.declared.picture.Picture.TheVariants.{Rows, Png}
+use Rattle.picture_job.specs.declared.picture.Picture.TheVariants.{Rows, Png, Vector}
 use Rattle.picture_job.specs.declared.reading.Reading.{Reading}
 use Rattle.picture_job.specs.declared.page_choice.PageChoice.{PageChoice}
 use Rattle.carousel.specs.declared.carousel.Carousel.{Carousel}
@@ -14,27 +14,32 @@ use Rattle.conversion.specs.Documents.{HasConvertedToPng, is_png_possible_in}
 use Rattle.conversion.specs.Pictures.{exact}
 use Rattle.conversion.specs.Faults.{status_of}
 use Rattle.conversion.specs.Reports.{HasReportedOn}
+use Rattle.conversion.specs.Vectors.{HasConvertedToVector}
 use Rattle.devices.specs.Sinks.{SinkState}
 use Rattle.devices.specs.Sources.{SourceState}
+use Rattle.conversion.specs.declared.naming.Naming.{Naming}
 use Rattle.conversion.specs.declared.outcome.Outcome.{Outcome}
 use Rattle.conversion.specs.declared.fault.Fault.{Fault}
 
--- a picture is converted by the exact gauge, after no tests, to a form or to a PNG; a report is written; each of a plot
--- that is read so and drawn with the pens of the carousel, on the page that was chosen
-abbrev pub HasRun : Reading → Carousel → PageChoice → Task → SourceState → SourceState → SinkState → SinkState →
-    Result Outcome Fault → Type 0
-HasRun reading carousel choice (Draw (Rows job smoothing)) before after sink sink' answer =
+-- a picture is converted by the exact gauge, after no tests, to a form or to a PNG, or to a vector document named so; a
+-- report is written; each of a plot that is read so and drawn with the pens of the carousel, on the page that was chosen
+abbrev pub HasRun : Reading → Carousel → PageChoice → Task → Naming → SourceState → SourceState → SinkState →
+    SinkState → Result Outcome Fault → Type 0
+HasRun reading carousel choice (Draw (Rows job smoothing)) naming before after sink sink' answer =
     (tests : ℕ)
     × HasConvertedOn (rules_with reading carousel) choice smoothing job exact before after sink sink' 0 tests answer
-HasRun reading carousel choice (Draw (Png job)) before after sink sink' answer =
+HasRun reading carousel choice (Draw (Png job)) naming before after sink sink' answer =
     (tests : ℕ) × HasConvertedToPng (rules_with reading carousel) choice job exact before after sink sink' 0 tests answer
-HasRun reading carousel choice (Report page) before after sink sink' answer =
+HasRun reading carousel choice (Draw (Vector job)) naming before after sink sink' answer =
+    HasConvertedToVector (rules_with reading carousel) choice job naming before after sink sink' answer
+HasRun reading carousel choice (Report page) naming before after sink sink' answer =
     HasReportedOn (rules_with reading carousel) reading choice page before after sink sink' answer
 
 -- the form of a picture has its resolution, or has any if pixels are chosen, and a picture that is smoothed is not too fine
 abbrev pub is_picture_possible : PageChoice → Picture → Bool
 is_picture_possible choice (Rows job smoothing) = is_possible_in choice.pixels smoothing.times job
 is_picture_possible choice (Png job) = is_png_possible_in choice.pixels job
+is_picture_possible choice (Vector job) = true
 
 -- the same of a task; a report is always possible
 abbrev pub is_task_possible : PageChoice → Task → Bool

@@ -9,8 +9,8 @@ ghost use Rattle.plotraster.specs.SheetRuns.{WritesSheet, page_of, pens_of};
 
 use carousel::Carousel;
 use conversion::{
-    Drawing, Fault, Outcome, Watcher, draw_source, is_picture_possible_in, is_png_possible_in,
-    write_picture_sheet, write_png_sheet,
+    Drawing, Fault, Naming, Outcome, Watcher, draw_source, is_picture_possible_in,
+    is_png_possible_in, write_picture_sheet, write_png_sheet, write_vector_sheet,
 };
 use devices::{Sink, Source};
 use picture_job::{PageChoice, Picture, Reading};
@@ -55,20 +55,21 @@ pub fn draw_sheets<S: Source>(
 }
 
 /// Writes the picture of a sheet of a drawing, which counts from 1, or of all that is drawn for 0, on the page where the
-/// drawing lies, by the gauge `Exact`. Gives the sink back. The errors are those of `conversion::write_picture_sheet` and of
-/// `write_png_sheet`.
+/// drawing lies, by the gauge `Exact`; a vector document is named so. Gives the sink back. The watcher is told nothing of a
+/// vector document. The errors are those of `conversion::write_picture_sheet`, `write_png_sheet` and `write_vector_sheet`.
 pub fn write_sheet<K: Sink, W: Watcher>(
     alloc: Global,
     drawing: &Drawing,
     sheet: u32,
     choice: PageChoice,
     picture: &Picture,
+    naming: Naming<'_>,
     sink: K,
     watcher: &mut W,
 ) -> (K, Result<Outcome, Fault>)
     requires sinking { (K.state sink).faults < 2 ^ 64 - 1 }
     ensures resolution { (result.1 ≡ Err Fault.Resolution) ↔ (is_picture_possible choice picture.now ≡ false) }
-    ensures writes { WritesSheet choice picture.now drawing.now sheet (K.state sink) (K.state result.0) result.1 }
+    ensures writes { WritesSheet choice picture.now naming.entry drawing.now sheet (K.state sink) (K.state result.0) result.1 }
     ensures untouched { IfErr result.1 (λ fault. is_write fault ≡ false → result.0 ≡ sink) }
 {
     let mut gauge = Exact::new();
@@ -85,6 +86,10 @@ pub fn write_sheet<K: Sink, W: Watcher>(
                 alloc, drawing, sheet, choice, job, &mut gauge, sink, watcher,
             )
         }
+        Picture::Vector(job) => {
+            let outcome = write_vector_sheet(alloc, drawing, sheet, job, naming, &mut sink);
+            (sink, outcome)
+        }
     }
 }
 
@@ -95,6 +100,7 @@ fn is_picture_possible(choice: PageChoice, picture: &Picture) -> bool
     match picture {
         Picture::Rows { job, smoothing } => is_picture_possible_in(choice.pixels, job, *smoothing),
         Picture::Png(job) => is_png_possible_in(choice.pixels, job),
+        Picture::Vector(_) => true,
     }
 }
 
@@ -105,6 +111,7 @@ fn page_of(picture: &Picture) -> Page
     match picture {
         Picture::Rows { job, .. } => job.page,
         Picture::Png(job) => job.page,
+        Picture::Vector(job) => job.page,
     }
 }
 
@@ -115,5 +122,6 @@ fn pens_of(picture: &Picture) -> PenSet
     match picture {
         Picture::Rows { job, .. } => job.pens,
         Picture::Png(job) => job.pens,
+        Picture::Vector(job) => job.pens,
     }
 }

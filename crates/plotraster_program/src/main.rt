@@ -9,7 +9,7 @@ mod sheets;
 
 use crate::messages::{About, refuse, refuse_open, refuse_words};
 use crate::output::{claims_of, deliver};
-use crate::several::{deliver_each, has_folder};
+use crate::several::{deliver_each, has_folder, title_of};
 use clap::ArgMatches;
 use plotraster::{Fault, LineFault, command, parse, parse_status, settle};
 use std::fs::File;
@@ -71,9 +71,9 @@ fn work(rt: &HostRuntime, matches: &ArgMatches<'_>) -> u8 {
         return refuse(rt, About::RUN, &Fault::Memory);
     };
     match line.files {
-        [] if !line.each_sheet => deliver(rt, &line, &claims, rt.stdin()),
+        [] if !line.each_sheet => deliver(rt, &line, &claims, rt.stdin(), ""),
         [plot] if !line.each_sheet && !has_folder(rt, &line) => match File::open(rt, plot) {
-            Ok(file) => deliver(rt, &line, &claims, file),
+            Ok(file) => deliver(rt, &line, &claims, file, title_of(plot)),
             Err(error) => refuse_open(rt, &line, plot, &error),
         },
         _ => deliver_each(rt, &line, &mut claims),

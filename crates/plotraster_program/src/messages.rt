@@ -1,4 +1,5 @@
 //! Messages on standard error, and the exit status of a run that ends with one.
+use crate::sheets::has_all_pages;
 use plotraster::{Fault, Line, LineFault, Outcome, Picture, Placement, Task, status};
 use std::fmt::{Display, Formatter, Result, Write};
 use std::io::{Error, ErrorKind};
@@ -9,17 +10,20 @@ const USAGE: u8 = 2;
 // The exit status if a file cannot be opened or written.
 const DEVICE: u8 = 3;
 
-// What a message is about: one plot of several, which it names, and one sheet of several, or the run.
+// What a message is about: one plot of several, which it names, and one sheet of several, or the run; and the title of a
+// document of it.
 #[derive(Clone, Copy)]
 pub(crate) struct About<'a> {
     pub(crate) plot: Option<&'a str>,
     pub(crate) sheet: Option<u32>,
+    pub(crate) title: &'a str,
 }
 
 impl About<'_> {
     pub(crate) const RUN: About<'static> = About {
         plot: None,
         sheet: None,
+        title: "",
     };
 }
 
@@ -72,7 +76,7 @@ impl Display for Reason<'_> {
 pub(crate) fn refuse_open(rt: &HostRuntime, line: &Line<'_, '_>, path: &str, error: &Error) -> u8 {
     let missing = "no such file or folder";
     let reason = Reason { error, missing };
-    if line.interactive || matches!(&line.task, Task::Picture(Picture::Png(_))) {
+    if line.interactive || is_document(&line.task) {
         let _ = eprintln!(rt; "plotraster: cannot open {path}: {reason}");
         return DEVICE;
     }
@@ -81,6 +85,11 @@ pub(crate) fn refuse_open(rt: &HostRuntime, line: &Line<'_, '_>, path: &str, err
         let _ = eprintln!(rt; "plotraster: {reason}");
     }
     DEVICE
+}
+
+// Whether a document is written, and no form whose messages are those of former versions.
+fn is_document(task: &Task) -> bool {
+    matches!(task, Task::Picture(Picture::Png(_) | Picture::Vector(_)))
 }
 
 // Says why a file cannot be written, by the error of the system.
@@ -140,7 +149,7 @@ fn is_blank(outcome: &Outcome) -> bool {
 // A picture is that of the first sheet of several, and nobody chose it. A report says itself how many sheets there are.
 fn has_more_sheets(line: &Line<'_, '_>, outcome: &Outcome) -> bool {
     let is_report = matches!(&line.task, Task::Report(_));
-    outcome.sheets > 1 && !line.sheet_named && !line.quiet && !is_report
+    outcome.sheets > 1 && !line.sheet_named && !line.quiet && !is_report && !has_all_pages(line)
 }
 
 // What page it is instead, and why.

@@ -1,9 +1,10 @@
 //! Where the output of a plot goes: standard output, a device, or a new file that gets its name when it is whole.
 use crate::messages::{About, cannot_write, refuse, refuse_terminal, refuse_write, tell_outcome};
 use crate::progress::Progress;
+use crate::sheets::reading_of;
 use plotraster::{
-    Claims, Drawing, Fault, FileId, Line, Outcome, OverRead, OverWrite, Part, Picture, exit_status,
-    part_after, run_task, write_sheet,
+    Claims, Drawing, Fault, FileId, Line, Naming, Outcome, OverRead, OverWrite, Part, Picture,
+    exit_status, naming_of, part_after, run_task, write_sheet,
 };
 use std::alloc::AllocError;
 use std::fs::{File, OpenOptions, metadata, remove_file, rename};
@@ -31,12 +32,17 @@ pub(crate) fn deliver<R: Read + Drop>(
     line: &Line<'_, '_>,
     plots: &Claims,
     plot: R,
+    title: &str,
 ) -> u8 {
+    let about = About {
+        title,
+        ..About::RUN
+    };
     let content: Content<R, SheetOf<'_>> = Content::Plot(plot);
     match line.output {
         None if line.interactive && rt.stdout().is_terminal() => refuse_terminal(rt),
-        None => exit_status(&perform(rt, line, About::RUN, content, rt.stdout())),
-        Some(path) => deliver_to(rt, line, About::RUN, plots, content, path),
+        None => exit_status(&perform(rt, line, about, content, rt.stdout())),
+        Some(path) => deliver_to(rt, line, about, plots, content, path),
     }
 }
 
@@ -66,7 +72,8 @@ fn perform<R: Read + Drop, W: Write + Drop>(
 ) -> Result<Outcome, Fault> {
     let is_sheet = matches!(&content, Content::Sheet(_));
     let mut progress = Progress::new(rt, about, line.progress);
-    let outcome = put(rt, line, content, to, &mut progress);
+    let naming = naming_of(about.title);
+    let outcome = put(rt, line, naming, content, to, &mut progress);
     progress.end();
     match &outcome {
         Ok(outcome) => tell_outcome(rt, line, about, is_sheet, outcome),
@@ -80,6 +87,7 @@ fn perform<R: Read + Drop, W: Write + Drop>(
 fn put<R: Read + Drop, W: Write + Drop>(
     rt: &HostRuntime,
     line: &Line<'_, '_>,
+    naming: Naming<'_>,
     content: Content<R, SheetOf<'_>>,
     to: W,
     progress: &mut Progress<'_>,
@@ -90,10 +98,11 @@ fn put<R: Read + Drop, W: Write + Drop>(
             let mut source = OverRead::new(plot);
             let (_, outcome) = run_task(
                 alloc,
-                line.reading,
+                reading_of(line),
                 &line.carousel,
                 choice,
                 &line.task,
+                naming,
                 &mut source,
                 sink,
                 progress,
@@ -107,6 +116,7 @@ fn put<R: Read + Drop, W: Write + Drop>(
                 sheet.number,
                 choice,
                 sheet.picture,
+                naming,
                 sink,
                 progress,
             );

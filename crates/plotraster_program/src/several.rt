@@ -3,9 +3,11 @@ use crate::messages::{About, cannot_write, refuse, refuse_open, refuse_words, re
 use crate::output::{Content, SheetOf, deliver_to, id_of, refuse_plot};
 use crate::sheets::{deliver_sheets, picture_of_sheets};
 use plotraster::{
-    Claim, Claims, Fault, Form, Line, LineFault, Picture, Task, file_name, greater_status,
+    Claim, Claims, Fault, Form, Line, LineFault, Picture, Task, VectorFormat, file_name,
+    greater_status,
 };
 use std::fs::{File, metadata};
+use std::path::Path;
 
 // A plot, the folder that its output goes into, and what messages say of it.
 #[derive(Clone, Copy)]
@@ -20,6 +22,11 @@ pub(crate) struct Target<'r> {
 pub(crate) struct Claimed<'r> {
     pub(crate) path: &'r str,
     pub(crate) claim: Claim,
+}
+
+// The title of a plot's document: the name of its file.
+pub(crate) fn title_of(file: &str) -> &str {
+    Path::new(file).file_name().unwrap_or("")
 }
 
 // The output goes into a folder, not into a file.
@@ -42,7 +49,11 @@ pub(crate) fn deliver_each(rt: &HostRuntime, line: &Line<'_, '_>, claims: &mut C
     let mut status = 0;
     for &file in line.files {
         let plot = if is_named { Some(file) } else { None };
-        let about = About { plot, sheet: None };
+        let about = About {
+            plot,
+            sheet: None,
+            title: title_of(file),
+        };
         let target = Target {
             folder,
             file,
@@ -140,7 +151,15 @@ fn extension_of(task: &Task) -> &'static str {
     match task {
         Task::Picture(Picture::Rows { job, .. }) => extension_of_form(job.form),
         Task::Picture(Picture::Png(_)) => "png",
+        Task::Picture(Picture::Vector(job)) => extension_of_format(job.format),
         Task::Report(_) => "report",
+    }
+}
+
+fn extension_of_format(format: VectorFormat) -> &'static str {
+    match format {
+        VectorFormat::Pdf => "pdf",
+        VectorFormat::Svg => "svg",
     }
 }
 

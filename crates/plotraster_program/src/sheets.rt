@@ -3,16 +3,44 @@ use crate::messages::{About, refuse};
 use crate::output::{Content, SheetOf, id_of};
 use crate::several::{Claimed, Target, deliver_claimed, path_of};
 use plotraster::{
-    Claims, Drawing, Fault, Line, OverRead, Picture, Reading, Task, draw_sheets, greater_status,
+    Claims, Drawing, Fault, Line, OverRead, Picture, Reading, Task, VectorFormat, draw_sheets,
+    greater_status,
 };
 use std::fs::File;
 
-// The picture that each sheet has in a folder: if that is asked for, or by draw in the profile full if no sheet is named.
+// The picture that each sheet has in a folder: if that is asked for, or by draw in the profile full if no sheet is named. The
+// sheets of a PDF are pages of one file.
 pub(crate) fn picture_of_sheets<'r>(line: &'r Line<'_, '_>) -> Option<&'r Picture> {
-    let is_usual = line.interactive && !line.sheet_named && line.reading != Reading::Core;
     match &line.task {
-        Task::Picture(picture) if line.each_sheet || is_usual => Some(picture),
+        Task::Picture(_) if is_pdf(&line.task) => None,
+        Task::Picture(picture) if line.each_sheet || is_of_all(line) => Some(picture),
         _ => None,
+    }
+}
+
+// How the plot is read for one file: for a PDF by draw all sheets, if none is named.
+pub(crate) fn reading_of(line: &Line<'_, '_>) -> Reading {
+    if has_all_pages(line) {
+        of_all_sheets(line.reading)
+    } else {
+        line.reading
+    }
+}
+
+// Whether all sheets are pages of a PDF though no sheet is named.
+pub(crate) fn has_all_pages(line: &Line<'_, '_>) -> bool {
+    is_of_all(line) && is_pdf(&line.task)
+}
+
+// draw writes all sheets in the profile full, if it can and no sheet is named.
+fn is_of_all(line: &Line<'_, '_>) -> bool {
+    line.interactive && !line.sheet_named && line.reading != Reading::Core
+}
+
+fn is_pdf(task: &Task) -> bool {
+    match task {
+        Task::Picture(Picture::Vector(job)) => job.format == VectorFormat::Pdf,
+        _ => false,
     }
 }
 
@@ -47,8 +75,8 @@ pub(crate) fn deliver_sheets(
     let mut status = 0;
     for number in 1..=sheets {
         let about = About {
-            plot: target.about.plot,
             sheet: Some(number),
+            ..target.about
         };
         let target = Target {
             folder: target.folder,

@@ -52,4 +52,6 @@ mod smoothed;
 #[cfg(test)]
 mod streams;
 #[cfg(test)]
+mod vectors;
+#[cfg(test)]
 mod watched;

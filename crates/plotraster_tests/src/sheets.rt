@@ -3,7 +3,7 @@ use crate::pages::eight_by_eight;
 use crate::runs::drawn_as;
 use plotraster::{
     Carousel, Dots, Drawing, Encoding, Fault, Form, Job, OverRead, OverWrite, PageChoice, Picture,
-    PngJob, Reading, Smoothing, Unwatched, draw_sheets, write_sheet,
+    PngJob, Reading, Smoothing, Unwatched, draw_sheets, naming_of, write_sheet,
 };
 use std::alloc::Global;
 use std::test::Fail;
@@ -51,7 +51,17 @@ fn picture_of(
     picture: &Picture,
 ) -> Result<Vec<u8>, Fail> {
     let sink = OverWrite::new(Vec::new(alloc));
-    let (sink, outcome) = write_sheet(alloc, drawing, sheet, choice, picture, sink, &mut Unwatched);
+    let naming = naming_of("");
+    let (sink, outcome) = write_sheet(
+        alloc,
+        drawing,
+        sheet,
+        choice,
+        picture,
+        naming,
+        sink,
+        &mut Unwatched,
+    );
     outcome?;
     Ok(sink.into_inner())
 }

@@ -3,7 +3,7 @@ use crate::pages::{LINE, job_at};
 use crate::streams::{Reader, Writer};
 use plotraster::{
     Carousel, Dots, Fault, Form, Job, Outcome, OverRead, OverWrite, Page, PageChoice, PenSet,
-    Picture, PngJob, Reading, Smoothing, Task, Unwatched, run_task,
+    Picture, PngJob, Reading, Smoothing, Task, Unwatched, naming_of, run_task,
 };
 use std::alloc::Global;
 use std::test::Fail;
@@ -36,6 +36,7 @@ fn run<'a>(alloc: Global, task: &Task, plot: &'a [u8], writer: Writer) -> Answer
         &Carousel::empty(),
         PageChoice::GIVEN,
         task,
+        naming_of(""),
         &mut source,
         OverWrite::new(writer),
         &mut Unwatched,
