@@ -6,7 +6,7 @@
 # make prove      every proof and the tests of the crates (rt ci), and the mutants that are marked for the gate
 # make check      all of these, some side by side: what fails early comes first
 # make audit      hands every mutant to the prover, for a release or after a change of a contract
-# make fuzz       compares the built command with tests/reference on new random plots, with options of five kinds for
+# make fuzz       compares the built command with tests/reference on new random plots, with options of six kinds for
 #                 SECONDS=120 each, and runs it on MUTILATED=20000 plots that were mutilated, in either profile
 # make install    copies the command, its manual page and its completion under PREFIX (/usr/local), below DESTDIR if it is set
 # make uninstall  removes them
@@ -27,7 +27,7 @@ CARD = --width 4000 --height 3000
 # Debian's Python, which has Debian's pytest.
 PYTEST = PYTHONDONTWRITEBYTECODE=1 /usr/bin/python3 -m pytest -q -p no:cacheprovider --no-skips
 # The tests that need no built command.
-SOURCE_TESTS = tests/test_style.py tests/test_quotations.py tests/test_reference_fitting.py tests/test_reference_options.py $(wildcard tests/test_full_*.py)
+SOURCE_TESTS = tests/test_style.py tests/test_quotations.py tests/test_reference_fitting.py tests/test_reference_options.py tests/test_reference_vectors.py $(wildcard tests/test_full_*.py)
 
 build:
 	@test -x $(PROGRAM) || tools/prove plotraster_program
@@ -90,6 +90,7 @@ fuzz: built
 	$(FUZZ) --pens
 	$(FUZZ) --apart
 	$(FUZZ) --draw
+	$(FUZZ) --vector
 	@for profile in core full; do \
 	    tests/campaign $(PROGRAM) --profile $$profile --plots $(MUTILATED) --seed $$$$ --jobs 4 || exit 1; \
 	done

@@ -1,8 +1,8 @@
 """The built program beside tests/reference, a plain plotter: do they answer a case alike?
 
-Standard output, status and standard error must be the same; of a PNG what tests/reference reads in it. Of a mistake in
-usage only the status and the beginning of the text are compared. The longest plot and the most strokes take the reference
-too long; tests/cases has them.
+Standard output, status and standard error must be the same; of a PNG, a PDF and an SVG what tests/reference reads in it. Of a
+mistake in usage only the status and the beginning of the text are compared. The longest plot and the most strokes take the
+reference too long; tests/cases has them.
 """
 
 import os
@@ -10,7 +10,10 @@ import subprocess
 import tempfile
 
 from reference.outputs import PLOT, USAGE, Answer, answer, listed
-from reference.png import Wrong, read_png
+from reference.pdf import read_pdf
+from reference.png import read_png
+from reference.reading import Wrong
+from reference.svg import read_svg
 
 TIMEOUT = 20
 
@@ -45,16 +48,27 @@ def read(folder, name):
         return file.read()
 
 
+def listing_of_png(data):
+    """How many pixels a metre has, and a pixmap."""
+    picture = read_png(data)
+    return b"%d pixels a metre\n" % picture.per_metre + picture.ppm()
+
+
+# What the reference has of a document, by its form.
+LISTINGS = {
+    "png": listing_of_png, "pdf": lambda data: read_pdf(data).document.listing(), "svg": lambda data: read_svg(data).listing(),
+}
+
+
 def shown(data, case):
-    """An output as the reference has it: of a PNG how many pixels a metre has, and a pixmap; or why it is no PNG."""
+    """An output as the reference has it, or why it is no such document."""
     form = case.options.get("form", "png").lower() if case.form == "draw" else case.form
-    if form != "png" or not data:
+    if form not in LISTINGS or not data:
         return data
     try:
-        picture = read_png(data)
+        return LISTINGS[form](data)
     except Wrong as wrong:
-        return f"no PNG: {wrong}".encode()
-    return b"%d pixels a metre\n" % picture.per_metre + picture.ppm()
+        return f"no {form}: {wrong}".encode()
 
 
 def answers(program, case):

@@ -6,7 +6,7 @@ import re
 import subprocess
 import sys
 
-from recipe_checks import A4, PNG, SECONDS, Check, netpbm, plan
+from recipe_checks import A4, PNG, SECONDS, Check, lines_of, netpbm, plan
 from shared import TOP, ink, pixels, read, read_bitmap
 
 # Commands that stand in documents and are not run by tests/test_documents.py, each with the reason.
@@ -73,10 +73,20 @@ def transcript(text):
         yield command, output
 
 
+def few_lines(made, name):
+    """A document of lines has some on its first sheet, on a page that is none too small."""
+    found = lines_of(made, name)
+    if len(found.sheets[0]) < 4 or min(found.width, found.height) < 1000:
+        yield f"{name}: {len(found.sheets[0])} lines on {found.width} by {found.height} units"
+
+
 def pictures(made):
     """Each file that the block names as output is a picture, and what is printed is for a printer."""
     named = set(re.findall(r"(?:>|plt -o) (\S+)", made.block))
     for name in named:
+        if name.endswith((".pdf", ".svg")):
+            yield from few_lines(made, name)
+            continue
         data = made.of_png(name) if name.endswith(".png") else made.read(name)
         about = netpbm(["pamfile", "-"], data)
         if len(data) < 1000 or re.search(rb"P[BGP]M raw, \d{3,} by \d{3,}", about) is None:
@@ -125,6 +135,14 @@ def stored(made):
     yield from wrong_picture(made, re.findall(r"(?:>|-o) (\w+)\.png", made.block)[-1], plot)
 
 
+def stored_lines(made):
+    """The SVG of a block is the one in docs/, and its PDF has the lines of the SVG."""
+    if made.read("metro.svg").decode() != read("docs", "metro.svg"):
+        yield "metro.svg is another document than docs/metro.svg"
+    if lines_of(made, "metro.pdf").sheets != lines_of(made, "metro.svg").sheets:
+        yield "metro.pdf has other lines"
+
+
 def stored_each(made):
     """The pictures of a block with a loop over plots are those in docs/."""
     for name in re.search(r"^for name in (.+); do$", made.block, re.M)[1].split():
@@ -161,6 +179,7 @@ GALLERY = {
     "Plots of other programs": [Check(stored_each, (*PNG, "pnmcat")), Check(stored, (*PNG, "pnmcat")),
                                 Check(stored, (*PNG, "pnmcat"))],
     "Core and full side by side": [Check(stored_each, (*PNG, "pnmcat"))],
+    "PDF and SVG": [Check(stored_lines)],
     "A chart by gnuplot": [Check(stored, PNG)],
     "A detail at 1200 dots per inch": [Check(stored, (*PNG, "pamcut"))],
     "A chart in both profiles": [Check(stored, (*PNG, "pnmcat"))],

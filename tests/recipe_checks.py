@@ -9,6 +9,8 @@ import signal
 import struct
 import subprocess
 
+from reference.pdf import read_pdf
+from reference.svg import read_svg
 from shared import ink, pixels, read_bitmap, write
 from test_printer import bitmap_of
 
@@ -143,16 +145,40 @@ def black_png(made):
         yield f"{across} by {upward} pixels a unit {unit}"
 
 
-def pdf(made):
-    """The page, and its pixels as Ghostscript draws them; the box in the PDF is in whole points."""
-    data = made.read("plan.pdf")
-    if not data.startswith(b"%PDF-") or b"/MediaBox [0 0 841 595]" not in data or b"/CCITTFaxDecode" not in data:
-        yield f"{data[:200]!r}"
-    shown = netpbm(["gs", "-q", "-sDEVICE=pbmraw", "-r300", "-o", "-", made.path("plan.pdf")], None)
-    drawn = read_bitmap(re.sub(rb"\n#[^\n]*", b"", shown, count=1))
-    whole = read_bitmap(made.run("pbm", "--dots", "300", "plan.plt"))
-    if ink(drawn) != ink(whole):
-        yield f"{ink(drawn)} black pixels instead of {ink(whole)}"
+def lines_of(made, name):
+    """What a document of lines shows."""
+    data = made.read(name)
+    return read_pdf(data).document if name.endswith(".pdf") else read_svg(data)
+
+
+# What `draw` does to the lines of a plot, in words of the other commands.
+AS_DRAW = ("--profile", "full", "--page", "plot", "--fit", "--margin", "5")
+
+
+def drawn_pdf(made):
+    """All lines, on the page around them: a frame, two lines, a circle of 120 parts and a label."""
+    found = read_pdf(made.read("plan.pdf"))
+    if made.read("plan.pdf") != made.run("pdf", *AS_DRAW, "--sheet", "0", "plan.plt"):
+        yield "another document"
+    if (found.document.width, found.document.height) != DRAWN:
+        yield f"a page of {found.document.width} by {found.document.height} units"
+    if found.layers != [1, 2, 3, 5, 8] or found.document.title != "plan.plt" or len(found.document.sheets) != 1:
+        yield f"the layers {found.layers} in {found.document.title}"
+
+
+def printed_pdf(made):
+    yield from drawn_pdf(made)
+    if made.printed != [("lp -o media=A4 -o fit-to-page plan.pdf", b"")]:
+        yield f"printed {made.printed}"
+
+
+def pen_as_svg(made):
+    """The frame alone."""
+    lines, = lines_of(made, "plan.svg").sheets
+    if [line.pen for line in lines] != [1] * 4 or {line.width for line in lines} != {320}:
+        yield f"{lines}"
+    if made.read("plan.svg") != made.run("svg", *AS_DRAW, "--pens", "1", "plan.plt"):
+        yield "another document"
 
 
 def tiff(made):
@@ -445,7 +471,9 @@ CHECKS = {
     "docs/RECIPES.md": {
         "PNG, in colour": [Check(drawn_png, PNG), Check(preview, PNG), Check(coloured_png, PNG)],
         "PNG, black and white": [Check(black_png, PNG)],
-        "PDF and TIFF, true to size": [Check(pdf, ("pnmtops", "ps2pdf")), Check(tiff, ("pamtotiff", "tifftopnm"))],
+        "PDF and SVG": [Check(drawn_pdf), Check(pen_as_svg)],
+        "A large plot on small paper": [Check(printed_pdf)],
+        "TIFF, true to size": [Check(tiff, ("pamtotiff", "tifftopnm"))],
         "A PostScript printer, true to size": [Check(postscript, ("pnmtops",))],
         "A PCL printer": [Check(pcl, ("pamflip", "pbmtolj"))],
         "A page that fits the drawing": [Check(fitted_page, PNG)],

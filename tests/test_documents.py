@@ -22,6 +22,7 @@ import pytest
 from document_checks import DOCUMENT_CHECKS, box_of_pen_2, commands_in_sentences, eight_marks, is_not_run, leaves_out
 from document_checks import missing_files, pictures, transcript
 from recipe_checks import CHECKS, PNG, SECONDS, Check, Made, samples
+from reference.command_line import DOCUMENTS
 from reference.outputs import FORMS
 from shared import TOP, assert_nothing, need, read, write
 
@@ -190,7 +191,7 @@ HELP_CHECKS = {
 }
 
 
-@pytest.mark.parametrize("command", ["", "png", *FORMS, "report"])
+@pytest.mark.parametrize("command", ["", *DOCUMENTS, *FORMS, "report"])
 def test_example_of_help(command, program, pytestconfig):
     """The example that ends each page of help."""
     words = [program, *([command] if command else []), "--help"]
@@ -205,15 +206,15 @@ def test_example_of_help(command, program, pytestconfig):
 def test_formats_of_each_command():
     """docs/FORMATS.md has a section for each form, and one for the report."""
     sections = re.findall(r"^## ([a-z]+)$", read("docs", "FORMATS.md"), re.M)
-    assert sections == ["png", *FORMS, "report"]
+    assert sections == [*DOCUMENTS, *FORMS, "report"]
 
 
 def test_pictures_of_the_gallery():
-    """Each picture that docs/GALLERY.md shows is made by one of its blocks, and the other way round."""
+    """Each picture that docs/GALLERY.md shows is made by one of its blocks, but for one of a viewer, and the other way round."""
     text = read("docs", "GALLERY.md")
     made = [name for names in re.findall(r"^for name in (.+); do$", text, re.M) for name in names.split()]
     made += [name for name in re.findall(r"(?:>|-o) (\w+)\.png$", text, re.M)]
-    assert sorted(made) == sorted(re.findall(r"\]\((\w+)\.png\)", text))
+    assert sorted([*made, "layers"]) == sorted(re.findall(r"\]\((\w+)\.png\)", text))
 
 
 def test_number_of_blocks():

@@ -3,6 +3,7 @@
 import os
 
 import pytest
+from reference.command_line import DOCUMENTS, VECTORS
 from reference.outputs import FORMS
 from shared import EXAMPLES, read_bytes, run
 from terminals import with_terminal
@@ -12,6 +13,7 @@ SECONDS = 60
 WHOLE = ["--page=plot", "--fit", "--margin=5"]
 READ = ["--profile=full", "--dots=150"]
 SMOOTHED = {"png": ["--smooth=4"], "ppm": ["--smooth=4"]}
+ALL_SHEETS = {"pdf": ["--sheet=0"]}
 PLOTS = {
     "without a size": b"SP2;PU-500,-300;PD900,700;LT2;PD0,0;",
     "with a size": b"PS3000,2000;RO90;PW1;PU100,100;PD900,700;",
@@ -27,11 +29,12 @@ def picture(program, words, plot):
     return done.stdout
 
 
-@pytest.mark.parametrize("form", ["png", *FORMS])
+@pytest.mark.parametrize("form", [*DOCUMENTS, *FORMS])
 @pytest.mark.parametrize("plot", PLOTS.values(), ids=PLOTS)
 def test_defaults(program, plot, form):
     given = picture(program, ["draw", f"--form={form}"], plot)
-    assert given == picture(program, [form, *WHOLE, *READ, *SMOOTHED.get(form, [])], plot)
+    read = READ[:1] if form in VECTORS else READ
+    assert given == picture(program, [form, *WHOLE, *read, *SMOOTHED.get(form, []), *ALL_SHEETS.get(form, [])], plot)
 
 
 @pytest.mark.parametrize("words", [["--page=a5"], ["--width=900"], ["--height=700", "--left=600"], ["--page=plot"]])
@@ -60,7 +63,7 @@ def test_overrides(program):
 def test_form_by_extension(program, tmp_path):
     """The extension of the file says the form, and a folder's name says none."""
     plot = PLOTS["with a size"]
-    for name, form in [(f"plan.{it}", it) for it in ["png", *FORMS]] + [("PLAN.PBM", "pbm"), ("plan", "png")]:
+    for name, form in [(f"plan.{it}", it) for it in [*DOCUMENTS, *FORMS]] + [("PLAN.PBM", "pbm"), ("plan", "png")]:
         path = tmp_path / name
         assert picture(program, ["draw", "-o", str(path)], plot) == b""
         assert path.read_bytes() == picture(program, ["draw", f"--form={form}"], plot), name
@@ -87,13 +90,18 @@ REMARKS = [
     (["draw", "--pens=3"], LINE, ["nothing is drawn on the page"]),
     (["draw", "--width=800", "--height=800"], OFF_PAGE, ["nothing is drawn on the page"]),
     (["draw", "--width=800", "--height=800", "--quiet"], OFF_PAGE, []),
+    (["draw", "--form=pdf"], BLANK, ["nothing is drawn on the page"]),
+    (["draw", "--form=svg", "--width=800", "--height=800"], OFF_PAGE, ["nothing is drawn on the page"]),
     (["draw", "--dots=10"], TOO_LARGE, [f"{NOT_FITTED}the drawing is larger than a page can be"]),
     (["draw", "--dots=10", "--quiet"], TOO_LARGE, [f"{NOT_FITTED}the drawing is larger than a page can be"]),
     (["draw"], PLOTS["of two sheets"], ["the plot has 2 sheets; this is the first"]),
     (["draw", "--quiet"], PLOTS["of two sheets"], []),
     (["draw", "--sheet=1"], PLOTS["of two sheets"], []),
+    (["draw", "--form=svg"], PLOTS["of two sheets"], ["the plot has 2 sheets; this is the first"]),
+    (["draw", "--form=pdf"], PLOTS["of two sheets"], []),
     (["draw", "--profile=core"], PLOTS["of two sheets"], []),
     (["png", "--profile=full"], PLOTS["of two sheets"], ["the plot has 2 sheets; this is the first"]),
+    (["pdf", "--profile=full"], PLOTS["of two sheets"], ["the plot has 2 sheets; this is the first"]),
     (["png", "--fit"], BLANK, [f"{NOT_FITTED}nothing is drawn"]),
     (["png"], BLANK, []),
     (["pbm", "--page=plot"], LINE, ["the page is the default one: the plot asks for no size"]),

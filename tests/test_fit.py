@@ -5,6 +5,7 @@ import os
 import re
 
 import pytest
+from reference.command_line import DOCUMENTS, VECTORS
 from reference.outputs import FORMS
 from shared import EXAMPLES, assert_nothing, ink, read_bitmap, read_bytes, run
 
@@ -114,11 +115,11 @@ def test_page_of_half_units(program):
     assert page_of(program, ["--fit", "--margin=0"], plot) == ["--width=64", "--height=64", "--left=11", "--below=21"]
 
 
-@pytest.mark.parametrize("command", ["png", *FORMS])
+@pytest.mark.parametrize("command", [*DOCUMENTS, *FORMS])
 def test_picture_is_that_of_the_page(program, command):
     """The picture of a fitted page is the picture of the page that the report has, if options may name it and the drawing
     does not depend on it."""
-    dots = ["--dots", "75"]
+    dots = [] if command in VECTORS else ["--dots", "75"]
     for name, plot in plots().items():
         if name in OF_THE_PAGE:
             continue
@@ -214,7 +215,7 @@ def test_verbose(program):
     """One line on standard error after the output, which is the same as without."""
     for plot, words, said in SAID:
         errors = f"plotraster: {said}, see plotraster report\n".encode()
-        for command in ["png", *FORMS] if "--pens=1" in words else ["png", *FORMS, "report"]:
+        for command in [*DOCUMENTS, *FORMS, *([] if "--pens=1" in words else ["report"])]:
             output = drawn(program, [command, *words, "--verbose"], plot, errors)
             assert output == drawn(program, [command, *words], plot)
 

@@ -12,6 +12,7 @@ import re
 import subprocess
 
 from recipe_checks import units_of
+from reference.command_line import DOCUMENTS
 from reference.outputs import FORMS
 from shared import TOP, assert_nothing, read, run
 
@@ -169,13 +170,21 @@ def name_of(head):
     return next((it for it in words if it.startswith("--")), words[0])
 
 
+def commands_of(part, commands):
+    """The commands that a part of the options is about."""
+    if part == EVERY_COMMAND:
+        return commands
+    others = re.fullmatch("All but (.+)", part)
+    named = re.findall(r"[a-z]+", others[1] if others else part.replace(" and ", ","))
+    return [it for it in commands if it not in named] if others else named
+
+
 def options_in_page(command, commands):
     """The options of a command, as `options_in_help` gives them."""
     found = {}
     for part, head, text in entries(section("OPTIONS")):
         words = head.split()
-        names = commands if part == EVERY_COMMAND else re.findall(r"[a-z]+", part.replace(" and ", ","))
-        if {HELP, VERSION} & set(words) or command not in names:
+        if {HELP, VERSION} & set(words) or command not in commands_of(part, commands):
             continue
         name = name_of(head)
         if name in FLAGS:
@@ -244,7 +253,7 @@ def wrong_values(command, options, words):
 
 def test_commands(program):
     commands = commands_in_help(program)
-    assert commands == ["draw", "png", *FORMS, "report"]
+    assert commands == ["draw", *DOCUMENTS, *FORMS, "report"]
     assert_nothing(wrong_commands(program, commands))
 
 

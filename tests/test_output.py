@@ -10,6 +10,7 @@ import subprocess
 import tempfile
 
 import pytest
+from reference.command_line import DOCUMENTS
 from reference.outputs import FORMS
 from shared import read_bytes, run, write
 
@@ -37,7 +38,7 @@ def wanted(program, command, plot=LINE):
     return done.stdout
 
 
-@pytest.mark.parametrize("command", ["png", *FORMS, "report"])
+@pytest.mark.parametrize("command", [*DOCUMENTS, *FORMS, "report"])
 def test_file_has_what_standard_output_has(program, tmp_path, command):
     for name, words in [("a", ["-o", "a"]), ("b", ["--output=b"]), ("c.c", ["-oc.c"]), ("-", ["--output", "-"])]:
         assert write_to(program, tmp_path, [command, *words]) == (0, b"")

@@ -1,6 +1,7 @@
 """What `--page plot` does: the page of the size that the plot asks for by `PS`."""
 
 import pytest
+from reference.command_line import DOCUMENTS, VECTORS
 from reference.outputs import FORMS
 from shared import run
 
@@ -66,13 +67,14 @@ def test_profiles(program):
     assert page_of(program, [*ASKED, "--profile=full"], plot) == (500, 200, 0, 0)
 
 
-@pytest.mark.parametrize("command", ["png", *FORMS])
+@pytest.mark.parametrize("command", [*DOCUMENTS, *FORMS])
 def test_pictures(program, command):
     """The picture and the report are those of the page that is asked for."""
     for plot, size in PLOTS.items():
         sides = [f"--{side}={number}" for side, number in zip(("width", "height"), size or DEFAULT)]
         errors = NO_SIZE if size is None else b""
-        for words in (["--dots=75"], ["--left=100", "--below=50", "--dots=75", "--profile=full"]):
+        dots = [] if command in VECTORS else ["--dots=75"]
+        for words in (dots, ["--left=100", "--below=50", *dots, "--profile=full"]):
             plotted = plot + b";" + DRAWN
             assert drawn(program, [command, *ASKED, *words], plotted, errors) == drawn(program, [command, *sides, *words], plotted)
     report = drawn(program, ["report", *ASKED], b"PS400,300;" + DRAWN)
@@ -111,6 +113,6 @@ def test_conflicts(program):
         (["--fit", "--height=400"], "--page may not be given with --width or --height"),
         (["--margin=3"], "--margin needs --fit"),
     ]:
-        for command in ("draw", "png", *FORMS, "report"):
+        for command in ("draw", *DOCUMENTS, *FORMS, "report"):
             done = run(program, [command, *ASKED, *words], SECONDS, input=b"PS400,300;")
             assert (done.returncode, done.stdout, done.stderr) == (2, b"", f"plotraster: {message}\n".encode()), words

@@ -1,50 +1,22 @@
 """PNG: Netpbm, PIL, pngcheck and the reader of tests/reference find in it the pixels that `ppm` has."""
 
-import functools
 import glob
 import io
 import os
-import resource
-import signal
 import struct
-import subprocess
 
 import pytest
 from PIL import Image
 
+from document_runs import SMALL, WHITE, colours, drawn, filtered, plot_in
 from reference.png import PALETTE, TRUECOLOUR, chunks, read_png
-from shared import EXAMPLES, need, pixels, read_bytes, run, with_sheet, write
+from shared import EXAMPLES, need, pixels, read_bytes, with_sheet
 from test_full_reference import options_of, plot_of, rows
 from test_pictures import cases, words_of
 
-SECONDS = 60
-WHITE = b"\xff\xff\xff"
-SMALL = ["--width=4000", "--height=3000"]
-LINE = b"SP1;PU0,0;PD3000,2000;"
-OLD = b"an older picture\n"
-NOT_WRITTEN = (3, b"plotraster: write failed\n")
 NAMES = [os.path.basename(path)[:-4] for path in sorted(glob.glob(os.path.join(EXAMPLES, "*.plt")))]
 # A pixel of 10 dots per inch has 102 units or so: up to 126 pixels there are as many as here.
 UNITS_AT_10_DOTS = 102
-
-
-def drawn(program, words, plot):
-    """What the program writes, without a message."""
-    done = run(program, words, SECONDS, input=plot)
-    assert (done.returncode, done.stderr) == (0, b""), words
-    return done.stdout
-
-
-def ends_of(program, words, plot, **how):
-    """The exit status and the message of a run that writes nothing to standard output."""
-    done = run(program, words, SECONDS, input=plot, **how)
-    assert done.stdout == b"", words
-    return done.returncode, done.stderr
-
-
-def filtered(command, data):
-    """What a command makes of data."""
-    return subprocess.run(command, input=data, capture_output=True, check=True, timeout=SECONDS).stdout
 
 
 def has_same_pixels(data, pixmap):
@@ -105,20 +77,6 @@ def test_odd_widths(program):
             assert (picture.columns, picture.rows) == (columns, 5)
 
 
-def colours(count):
-    """So many colours, of which the first is white."""
-    return [WHITE, *(bytes((i * 7 % 256, i // 256, 255 - i % 256)) for i in range(1, count))]
-
-
-def plot_in(its_colours):
-    """A plot with a dot of a pixel in each colour but white, in rows of 100."""
-    dots = []
-    for number, colour in enumerate(its_colours[1:]):
-        column, row = number % 100, number // 100
-        dots.append("PC1,%d,%d,%d;PU%d,%d;PD;" % (*colour, 16 * column + 4, 16 * row + 4))
-    return "".join(["SP1;PW0;", *dots]).encode()
-
-
 # Columns and colours: rows of about 8,192 bytes, and of about 32,768, as a deflate window has.
 LONG = [(columns, 2) for columns in (65535, 65536)] + [(columns, 17) for columns in (32767, 32768, 32769)]
 LONG += [(columns, 257) for columns in (10922, 10923)]
@@ -172,86 +130,6 @@ def test_white_strokes(program, plot, words, palette):
         for width in (b"", b"PW3;"):
             picture = same_as_ppm(program, [*SMALL, f"--dots={dots}", *words], width + plot)
             assert picture.palette == palette
-
-
-# ---- refusals, and writes that fail
-
-
-@pytest.mark.parametrize("words, plot, ends", [
-    ([], b"PD99999,0;", (1, b"plotraster: place off range at byte 0\n")),
-    (["--pens=0"], LINE, (2, b"plotraster: bad pen list\n")),
-    (["missing.plt"], LINE, (3, b"plotraster: cannot open missing.plt: no such file or folder\n")),
-    (["folder"], LINE, (3, b"plotraster: read failed\n")),
-])
-def test_refusals(program, tmp_path, words, plot, ends):
-    """Nothing is written, and an old file stays."""
-    os.mkdir(tmp_path / "folder")
-    write(str(tmp_path / "out"), OLD)
-    for where in ([], ["-o", "out"], ["-o", "new"]):
-        assert ends_of(program, ["png", *words, *where], plot, cwd=tmp_path) == ends
-    assert (sorted(os.listdir(tmp_path)), read_bytes(tmp_path / "out")) == (["folder", "out"], OLD)
-
-
-def test_options_of_rows(program):
-    for word in ("--from=0", "--from=5", "--band=64"):
-        status, message = ends_of(program, ["png", word], LINE)
-        assert status == 2 and message.startswith(b"error: ")
-
-
-def test_full_device(program):
-    with open("/dev/full", "wb") as full:
-        done = subprocess.run(["plotraster", "png", *SMALL], executable=program, input=LINE, stdout=full,
-                              stderr=subprocess.PIPE, timeout=SECONDS)
-    assert (done.returncode, done.stderr) == NOT_WRITTEN
-    assert ends_of(program, ["png", *SMALL, "-o", "/dev/full"], LINE) == NOT_WRITTEN
-    assert not os.path.exists("/dev/full.part")
-
-
-def limit(size):
-    """From here on no file may have more bytes, and a write beyond them fails."""
-    signal.signal(signal.SIGXFSZ, signal.SIG_IGN)
-    resource.setrlimit(resource.RLIMIT_FSIZE, (size, size))
-
-
-@pytest.mark.parametrize("size", [0, 1, 100])
-def test_full_disk(program, tmp_path, size):
-    """FILE stays as it was, and FILE.part is removed, since there is nowhere to go on from."""
-    write(str(tmp_path / "out"), OLD)
-    limited = functools.partial(limit, size)
-    for name in ("out", "new"):
-        assert ends_of(program, ["png", *SMALL, "-o", name], LINE, cwd=tmp_path, preexec_fn=limited) == NOT_WRITTEN
-    assert (os.listdir(tmp_path), read_bytes(tmp_path / "out")) == (["out"], OLD)
-
-
-def test_each_write_fails(program, refuse):
-    """What was written before is a beginning of the picture."""
-    plot = read_bytes(os.path.join(EXAMPLES, "figures.plt"))
-    words = ["png", *SMALL, "--dots=300"]
-    whole, number = drawn(program, words, plot), 0
-    while True:
-        number += 1
-        surroundings = dict(os.environ, LD_PRELOAD=refuse, WRITE_FAILS=str(number))
-        done = run(program, words, SECONDS, input=plot, env=surroundings)
-        assert whole.startswith(done.stdout)
-        if done.returncode == 0:
-            break
-        assert (done.returncode, done.stderr) == NOT_WRITTEN and done.stdout != whole
-    assert number > 1 and done.stdout == whole
-
-
-@pytest.mark.parametrize("plot", [LINE, plot_in(colours(257))], ids=["palette", "truecolour"])
-def test_refused_allocations(program, refuse, plot):
-    """Each allocation of a run is refused in turn: nothing is written, or the whole picture."""
-    words, number, without_effect = ["png", "--width=64", "--height=64"], 0, 0
-    whole = drawn(program, words, plot)
-    while without_effect < 10:
-        number += 1
-        surroundings = dict(os.environ, LD_PRELOAD=refuse, MEMORY_FAILS=str(number))
-        done = run(program, words, SECONDS, input=plot, env=surroundings)
-        ended = (done.returncode, done.stdout, done.stderr)
-        assert ended in ((0, whole, b""), (4, b"", b"plotraster: out of memory\n"))
-        without_effect = 0 if done.returncode else without_effect + 1
-    assert number > 11
 
 
 def test_blank_sheets_are_small(program):

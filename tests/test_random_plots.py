@@ -1,7 +1,7 @@
 """Compares the built program with tests/reference on plots that are the same each time: the examples, all
 characters, all whole angles, and random plots: 3,000 in the profile core and 3,000 in full, and of both 1,200 on the page
-around their drawing, 1,200 with colours and widths of pens by option, 600 as previews, and 600 with their sheets apart. `make
-fuzz` compares new ones."""
+around their drawing, 1,200 with colours and widths of pens by option, 600 as previews, 600 with their sheets apart, and 2,400
+as PDF or SVG. `make fuzz` compares new ones."""
 
 import glob
 import os
@@ -9,26 +9,31 @@ import os
 import pytest
 
 from comparing import difference, differs
+from reference.command_line import VECTORS
 from reference.random_fitted_plots import random_fitted_case
 from reference.random_full_plots import random_full_case
 from reference.random_options import random_apart_case, random_drawn_case, random_pens_case
 from reference.random_plots import Case, random_case
+from reference.random_vectors import random_vector_case
 from shared import EXAMPLES, assert_nothing, read_bytes
 from test_full_reference import options_of, plot_of, rows
 
 COUNT = 3000
 # The cases whose options change what is drawn, or how much of it, and how many there are.
-OTHERS = {random_fitted_case: 1200, random_pens_case: 1200, random_apart_case: 600, random_drawn_case: 600}
+OTHERS = {
+    random_fitted_case: 1200, random_pens_case: 1200, random_apart_case: 600, random_drawn_case: 600, random_vector_case: 2400,
+}
 PARTS = 12
 
 
 def examples():
-    """The plots of examples/, each as a report and as a small picture."""
+    """The plots of examples/, each as a report, as a small picture, and as documents of lines."""
     page = {"width": "4000", "height": "3000"}
     for path in sorted(glob.glob(os.path.join(EXAMPLES, "*.plt"))):
         plot = read_bytes(path)
         yield os.path.basename(path), Case("report", page, plot)
         yield os.path.basename(path), Case("ppm", {**page, "dots": "10"}, plot)
+        yield from ((os.path.basename(path), Case(form, page, plot)) for form in VECTORS)
 
 
 def characters():
@@ -46,9 +51,11 @@ def angles():
 
 
 def full_examples():
-    """The examples of the profile full, as reports."""
+    """The examples of the profile full, as reports and as documents of lines."""
     for name, keys in rows():
-        yield name, Case("report", options_of(keys), plot_of(keys["plot"][0]))
+        plot = plot_of(keys["plot"][0])
+        yield name, Case("report", options_of(keys), plot)
+        yield from ((name, Case(form, options_of(keys), plot)) for form in VECTORS)
 
 
 def random_plots(case_of, part, count=COUNT):
@@ -76,7 +83,7 @@ def test_angles(program):
 
 def test_full_examples(program):
     cases = list(full_examples())
-    assert len(cases) >= 100
+    assert len(cases) >= 300
     assert_same(program, cases)
 
 

@@ -8,6 +8,7 @@ import stat
 
 import pytest
 
+from reference.command_line import DOCUMENTS
 from reference.outputs import FORMS
 from shared import read_bytes, run, write
 
@@ -17,7 +18,7 @@ LINE = b"SP1;PU0,0;PD3000,2000;"
 DOWN = b"SP2;PU0,2900;PD3900,100;"
 OFF_RANGE = b"PD99999,0;"
 OLD = b"an older picture\n"
-COMMANDS = ["png", *FORMS, "report"]
+COMMANDS = [*DOCUMENTS, *FORMS, "report"]
 
 
 @pytest.fixture
@@ -51,8 +52,10 @@ def files_in(folder):
 def test_each_plot_has_a_file(program, folder, command):
     assert ends_of(program, folder, [command, "-o", "out", "a.plt", "b.plt"]) == (0, [])
     assert files_in(folder / "out") == [f"a.{command}", f"b.{command}"]
-    assert read_bytes(folder / "out" / f"a.{command}") == drawn(program, command, LINE)
-    assert read_bytes(folder / "out" / f"b.{command}") == drawn(program, command, DOWN)
+    for name in ("a", "b"):
+        alone = run(program, [command, *SMALL, f"{name}.plt"], SECONDS, cwd=folder)
+        assert (alone.returncode, alone.stderr) == (0, b"")
+        assert read_bytes(folder / "out" / f"{name}.{command}") == alone.stdout != b""
 
 
 @pytest.mark.parametrize("words", [

@@ -54,15 +54,17 @@ def files_in(folder):
     return {name: read_bytes(folder / "out" / name) for name in os.listdir(folder / "out")}
 
 
-@pytest.mark.parametrize("command", ["png", *FORMS])
+@pytest.mark.parametrize("command", ["png", "svg", *FORMS])
 def test_each_sheet_has_a_file(program, folder, command):
     """Each has the bytes of its sheet by itself. The numbers have as many digits as the last one."""
-    assert ends_of(program, folder, [command, *EACH, "one.plt", "two.plt", "twelve.plt", "blank.plt"]) == (0, [])
-    wanted = {f"{name}.{command}": sheet_of(program, [command, *FULL], 1, plot)
+    words = [command, *(it for it in FULL if command != "svg" or "--dots" not in it)]
+    plots = ["one.plt", "two.plt", "twelve.plt", "blank.plt"]
+    assert ends_of(program, folder, [*words, "--sheet=each", "-o", "out", *plots]) == (0, [])
+    wanted = {f"{name}.{command}": sheet_of(program, words, 1, plot)
               for name, plot in [("one", plot_of(1)), ("blank", b"IN;")]}
     for name, sheets, digits in [("two", 2, 1), ("twelve", 12, 2)]:
         for sheet in range(1, sheets + 1):
-            wanted[f"{name}-{sheet:0{digits}}.{command}"] = sheet_of(program, [command, *FULL], sheet, plot_of(sheets))
+            wanted[f"{name}-{sheet:0{digits}}.{command}"] = sheet_of(program, words, sheet, plot_of(sheets))
     assert files_in(folder) == wanted
     # Sheets of one number are the same in all plots, and each other one is another picture.
     assert len(set(wanted.values())) == 13

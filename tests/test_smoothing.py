@@ -8,13 +8,13 @@ import subprocess
 
 import pytest
 
+from document_runs import NOT_WRITTEN, OLD, SECONDS, WHITE, drawn, ends_of, limit
 from reference.png import GREY, PALETTE, TRUECOLOUR, chunks, read_png
 from shared import EXAMPLES, need, pixels, read_bytes, run, with_sheet, write
 from test_full_reference import options_of, plot_of, rows
 from test_pictures import cases, words_of
-from test_png import NAMES, NOT_WRITTEN, OLD, WHITE, depth_of, drawn, ends_of, has_same_pixels, limit
+from test_png import NAMES, depth_of, has_same_pixels
 
-SECONDS = 60
 TOO_FINE = (2, b"plotraster: --dots times --smooth is over 1200\n")
 SMALL = ["--width=1000", "--height=800"]
 # Lines by pens of several colours, along the edges of the small page and across it.

@@ -110,7 +110,7 @@ def test_options_that_make_passes():
     helped = subprocess.run([os.path.join(TOP, "tests", "fuzz"), "--help"], capture_output=True, text=True, timeout=SECONDS)
     assert helped.returncode == 0, helped.stderr
     options = re.findall(r"--\w+", called)
-    assert set(options) > {"--fit", "--pens", "--apart", "--draw"}, called
+    assert set(options) > {"--fit", "--pens", "--apart", "--draw", "--vector"}, called
     assert all(it in helped.stdout for it in options), called
 
 

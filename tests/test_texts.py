@@ -10,6 +10,7 @@ import subprocess
 
 import pytest
 
+from reference.command_line import DOCUMENTS
 from shared import assert_nothing, ink, read, read_bitmap, run
 
 SECONDS = 10
@@ -214,12 +215,13 @@ def test_status_of_several_plots(program, tmp_path):
 
 
 def test_life_of_a_part(program, tmp_path):
-    """An older NAME.part is replaced, removed if the plot is refused, and kept after a failed write, unless it is a PNG."""
+    """An older NAME.part is replaced, removed if the plot is refused, and kept after a failed write, unless it is a document."""
     said = re.search(r"NAME \.part, which (replaces) an older file .* It is (removed) if the plot is refused, and (kept) after"
-                     r" a failed write, (unless) it is a PNG\.", plain(PAGE))
+                     r" a failed write, (unless) it is a PNG, a PDF or an SVG,", plain(PAGE))
     assert said
     part = tmp_path / "to.part"
-    for command, plot, is_left in (("pbm", b"PA70000,0;", False), ("pbm", b"", True), ("png", b"", False)):
+    documents = [(command, b"", False) for command in DOCUMENTS]
+    for command, plot, is_left in (("pbm", b"PA70000,0;", False), ("pbm", b"", True), *documents):
         part.write_bytes(b"older")
         limited = ["bash", "-c", 'trap "" XFSZ; ulimit -f 0; exec "$0" "$@"', program, command, "-o", "to"]
         done = subprocess.run(limited, input=plot, capture_output=True, cwd=tmp_path, timeout=SECONDS)

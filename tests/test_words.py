@@ -16,6 +16,7 @@ import tempfile
 
 import pytest
 
+from reference.command_line import DOCUMENTS, VECTORS
 from reference.outputs import FORMS
 from shared import assert_nothing, read, run, write
 
@@ -35,6 +36,7 @@ PAGE_AND_SIDE = (2, b"plotraster: --page may not be given with --width or --heig
 BAD_PROFILE = (2, b"plotraster: bad profile\n")
 NO_FORM = (2, b"plotraster: no such form of picture: ")
 NO_SHADES = (2, b"plotraster: --smooth needs the form png or ppm\n")
+NO_PIXELS = (2, b"plotraster: --dots, --size and --smooth may not be given with the forms pdf and svg\n")
 NO_FIT = (2, b"plotraster: --margin needs --fit\n")
 NO_FOLDER = (2, b"plotraster: several plots need --output FOLDER\n")
 BAD_SHEET = (2, b"plotraster: bad sheet: use a number from 0 to 4194304, or each\n")
@@ -51,7 +53,7 @@ NOT_READ = (3, b"plotraster: read failed\n")
 NOT_A_FOLDER = (3, b"plotraster: cannot write line.plt: it is not a folder\n")
 NOT_WRITTEN = (3, b"plotraster: cannot write folder: Is a directory (os error 21)\n")
 
-COMMANDS = ["png", *FORMS, "report"]
+COMMANDS = [*DOCUMENTS, *FORMS, "report"]
 # A page of 64 by 64 units: 6 rows at the default resolution.
 SMALL = ["--width=64", "--height=64"]
 ROWS = 6
@@ -72,7 +74,7 @@ LONG = 120000
 def not_opened(name, reason=None, command="pbm"):
     """What a run must end with if a file cannot be opened. With --verbose the reason is in a second line; of a document it
     is always in the first."""
-    if command == "png":
+    if command in DOCUMENTS:
         return 3, f"plotraster: cannot open {name}: {reason or 'no such file or folder'}\n".encode()
     why = f"plotraster: {reason}\n" if reason else ""
     return 3, f"plotraster: cannot open {name}\n{why}".encode()
@@ -187,8 +189,12 @@ def unknown_options():
 
 
 def options_of_pictures():
-    """A report has no options of a picture."""
+    """A report has no options of a picture, and a document of lines none of pixels."""
     yield ["report", "--progress"], USAGE
+    for command in VECTORS:
+        for word in ["--dots=100", "--progress"]:
+            yield [command, word], USAGE
+            yield [command, "line.plt", *word.split("=")], USAGE
     for word in ["--dots=100", "--pens=all", "--band=64", "--from=0"]:
         yield ["report", word], USAGE
         yield ["report", *word.split("="), "line.plt"], USAGE
@@ -196,7 +202,7 @@ def options_of_pictures():
 
 
 def smoothing():
-    """Smoothing of PNG and PPM, and options that a PNG has not."""
+    """Smoothing of PNG and PPM, and options that documents have not."""
     for command in ["png", "ppm"]:
         for words in [["--smooth=1"], ["--smooth", "+8"], ["--smooth=8", "--dots=150"], ["--dots=600", "--smooth", "2"]]:
             yield [command, *SMALL, *words, "line.plt"], DONE
@@ -208,11 +214,12 @@ def smoothing():
             yield [command, f"--smooth={text}"], USAGE
         yield [command, "--smooth"], USAGE
         yield [command, "--smooth=2", "--smooth=2"], USAGE
-    for command in ["marks", "pbm", "pcl", "report"]:
+    for command in [*VECTORS, "marks", "pbm", "pcl", "report"]:
         yield [command, "--smooth=1"], USAGE
-    for word in ["--from=0", "--band=64"]:
-        yield ["png", word], USAGE
-        yield ["png", "line.plt", *word.split("=")], USAGE
+    for command in DOCUMENTS:
+        for word in ["--from=0", "--band=64"]:
+            yield [command, word], USAGE
+            yield [command, "line.plt", *word.split("=")], USAGE
 
 
 def lists_of_pens():
@@ -249,15 +256,20 @@ def fitted_pages():
 def drawings():
     """What draw takes, and what it refuses."""
     yield ["draw", "line.plt"], DONE
-    for form in ["png", *FORMS]:
+    for form in [*DOCUMENTS, *FORMS]:
         yield ["draw", "line.plt", f"--form={form}"], DONE
         yield ["draw", "line.plt", "--form", form.upper(), "--quiet"], DONE
         yield ["draw", "line.plt", "-o", f"picture.{form}"], DONE
-    for words in [["--form=gif"], ["--form="], ["-o", "picture.svg"], ["-o", "a.d"], ["-o", "picture.", "--pens=0"]]:
+    for words in [["--form=gif"], ["--form="], ["-o", "picture.eps"], ["-o", "a.d"], ["-o", "picture.", "--pens=0"]]:
         yield ["draw", "line.plt", *words], NO_FORM
     for form in ["pbm", "pcl", "marks"]:
         yield ["draw", "line.plt", f"--form={form}", "--smooth=1"], NO_SHADES
         yield ["draw", "line.plt", "-o", f"picture.{form}", "--smooth", "4", "--page=none"], NO_SHADES
+    for form in VECTORS:
+        for word in ["--dots=100", "--size=100", "--smooth=1"]:
+            yield ["draw", "line.plt", word, f"--form={form}"], NO_PIXELS
+            yield ["draw", "line.plt", word, "-o", f"picture.{form}", "--page=none", "--sheet=x"], NO_PIXELS
+            yield ["draw", "line.plt", word, f"--form={form}", "--pens=0"], BAD_LIST
     yield ["draw", "line.plt", "--page=plot", "--margin=5"], NO_FIT
     for words in [["--page=a4"], ["--width=64"], ["--height=64"]]:
         yield ["draw", "line.plt", *words], DONE
@@ -314,7 +326,7 @@ def sheets():
             yield [command, f"--sheet={sheet}", "--profile=full"], BAD_SHEET
             yield [command, f"--sheet={sheet}"], BAD_SHEET
         each = [command, "--profile=full", "--sheet=each", "line.plt"]
-        yield each, EACH_OF_A_REPORT if command == "report" else EACH_WITHOUT_A_FOLDER
+        yield each, {"report": EACH_OF_A_REPORT, "pdf": DONE}.get(command, EACH_WITHOUT_A_FOLDER)
         yield [command, "--sheet=each", "-o", "folder", "line.plt"], NO_SHEETS
         yield [*each, "-o", "folder"], EACH_OF_A_REPORT if command == "report" else DONE
 
@@ -382,7 +394,7 @@ def files():
             ("missing.plt", "no such file or folder"), ("line.plt/", "Not a directory (os error 20)"),
             ("n" * LONG, "File name too long (os error 36)"),
         ]:
-            yield [command, name], not_opened(name, reason if command == "png" else None, command)
+            yield [command, name], not_opened(name, reason if command in DOCUMENTS else None, command)
             yield [command, name, "--verbose"], not_opened(name, reason, command)
         for name in ["folder", ".", "..", "/"]:
             yield [command, name], NOT_READ
@@ -453,6 +465,11 @@ def orders_of_refusal():
     yield ["pbm", "--colours=1=bleu", "--pens=0"], BAD_LIST
     yield ["pbm", "--widths=1=fat", "--colours=1=bleu"], (2, b"plotraster: bad colours: 1=bleu\n")
     yield ["png", "--widths=1=fat", "--dots=1200", "--smooth=2"], (2, b"plotraster: bad widths: 1=fat\n")
+    yield ["pdf", "--sheet=each"], NO_SHEETS
+    yield ["pdf", "--profile=full", "--sheet=each", "--margin=1"], NO_FIT
+    yield ["svg", "--profile=full", "--sheet=each", "--margin=1"], EACH_WITHOUT_A_FOLDER
+    yield ["draw", "--form=svg", "--dots=100", "--size=100", "--sheet=each"], NO_PIXELS
+    yield ["draw", "--form=pdf", "--widths=1=fat", "--smooth=2"], (2, b"plotraster: bad widths: 1=fat\n")
     yield ["report", "--sheet=each", "--profile=none"], BAD_PROFILE
     yield ["draw", "--sheet=each", "--size=100", "--dots=10", "line.plt"], EACH_WITHOUT_A_FOLDER
     yield ["draw", "--size=100", "--dots=10", "line.plt", "far.plt"], SIZE_AND_DOTS
@@ -553,7 +570,7 @@ def test_unreadable_file(program):
         copy = shutil.copy(program, folder)
         write(os.path.join(folder, "locked.plt"), LINE, 0)
         for command in COMMANDS:
-            for more, reason in [([], "permission denied" if command == "png" else None), (["--verbose"], "permission denied")]:
+            for more, reason in [([], "permission denied" if command in DOCUMENTS else None), (["--verbose"], "permission denied")]:
                 done = run(copy, [command, "locked.plt", *more], SECONDS, cwd=folder, **another)
                 assert (done.returncode, done.stderr) == not_opened("locked.plt", reason, command)
                 assert done.stdout == b""

@@ -11,7 +11,9 @@ from .carousel import Carousel
 from .geometry import Page
 from .pen_lists import pens_of
 
-PICTURES = ("marks", "pbm", "ppm", "pcl", "png")
+VECTORS = ("pdf", "svg")
+DOCUMENTS = ("png", *VECTORS)
+PICTURES = ("marks", "pbm", "ppm", "pcl", *DOCUMENTS)
 WITH_SHADES = ("png", "ppm")
 DOTS_OF_PCL = (75, 100, 150, 200, 300, 600)
 MOST_DOTS = 1200
@@ -30,12 +32,14 @@ DRAW_OPTIONS = {"dots": (10, 1200, 150), "size": (16, 20_000, None), "smooth": (
 MOST_SHEETS = 4_194_304
 EACH = "each"
 CHARACTERS = ("roman-8", "latin-1", "windows-1252", "pc-8", "ascii", "utf-8")
-NO_SUCH_FORM = "no such form of picture: use png, ppm, pbm, pcl or marks, after --form or as the extension of the output file"
+NO_SUCH_FORM = (
+    "no such form of picture: use png, pdf, svg, ppm, pbm, pcl or marks, after --form or as the extension of the output file"
+)
 TEXTS = ("profile", "sheet", "characters", "page", "fit", "colours", "colors", "widths")
 
 
 class Request(NamedTuple):
-    """What a command line asks for. A report has no dots, and a picture has dots or pixels."""
+    """What a command line asks for. A picture has dots or pixels, but a report and a document of lines have neither."""
 
     form: str
     page: Page
@@ -61,10 +65,9 @@ class Mistake(Exception):
 def ranges_of(command):
     """The options with a number that a command has."""
     ranges = {**PAGE_OPTIONS, **FIT_OPTIONS}
-    if command in PICTURES:
+    if command in PICTURES and command not in VECTORS:
         ranges.update(PICTURE_OPTIONS)
-    if command in PICTURES and command != "png":
-        ranges.update(ROW_OPTIONS)
+        ranges.update({} if command == "png" else ROW_OPTIONS)
     if command in WITH_SHADES:
         ranges.update(SMOOTH_OPTIONS)
     return {**ranges, **DRAW_OPTIONS} if command == "draw" else ranges
@@ -84,7 +87,9 @@ def request_of(command, options):
     assigned = carousel_of(options)
     request = Request(form, Page(*(numbers[name] for name in PAGE_OPTIONS)), pens=pens, carousel=assigned)
     request = request._replace(folder=options.get("output"), first=numbers.get("from", 0), is_draw=command == "draw")
-    if form != "report":
+    if form in VECTORS and {"dots", "size", "smooth"} & set(options):
+        raise Mistake("--dots, --size and --smooth may not be given with the forms pdf and svg")
+    if form != "report" and form not in VECTORS:
         request = with_resolution(request, options, numbers)
     request = with_sheet(with_page(request, options), options)
     if "size" in options and "dots" in options:
@@ -169,13 +174,15 @@ def with_sheet(request, options):
             if name in options:
                 raise Mistake(f"--{name} needs --profile full")
         return request
-    if "sheet" not in options and request.is_draw and request.folder:
+    if "sheet" not in options and request.is_draw and (request.folder or request.form == "pdf"):
         text = EACH
-    if text == EACH:
-        if request.form == "report":
-            raise Mistake("--sheet each needs a picture")
-        if not request.folder:
-            raise Mistake("--sheet each needs --output FOLDER")
+    if text == EACH and request.form == "report":
+        raise Mistake("--sheet each needs a picture")
+    if text == EACH and request.form == "pdf":
+        # All are pages of one file.
+        text = "0"
+    if text == EACH and not request.folder:
+        raise Mistake("--sheet each needs --output FOLDER")
     sheet = text if text == EACH else int(text)
     return request._replace(sheet=sheet, is_sheet_named="sheet" in options, characters=characters)
 

@@ -30,6 +30,12 @@ MIDDLE_OF_A_UNIT = (0, 8)
 
 def draw(plot, page, carousel=EMPTY, most=MOST_STROKES, characters=None):
     """The strokes of all sheets and the notes of a plot; it is refused if it has more strokes than most."""
+    plotter = after(plot, page, carousel, most, characters)
+    return plotter.strokes_drawn(), plotter.notes
+
+
+def after(plot, page, carousel=EMPTY, most=MOST_STROKES, characters=None):
+    """The plotter after a plot."""
     if len(plot) > LONGEST_PLOT:
         raise Refused(f"plot is longer than {LONGEST_PLOT} bytes")
     plotter = FullPlotter(page, carousel, most)
@@ -38,7 +44,7 @@ def draw(plot, page, carousel=EMPTY, most=MOST_STROKES, characters=None):
         plotter.obey(item)
         if plotter.has_too_much():
             raise Refused(f"too many strokes at byte {item.at}")
-    return list(chain.from_iterable(plotter.parts)), plotter.notes
+    return plotter
 
 
 class Dashes(NamedTuple):
@@ -64,6 +70,10 @@ class FullPlotter(FullSettings):
         self.parts = []  # what is drawn: each has strokes
         self.sum = 0  # of strokes, and of what counts as strokes: places that are filled or edged, and texts of PB
         super().__init__(page, carousel)
+
+    def strokes_drawn(self):
+        """The strokes of all sheets."""
+        return list(chain.from_iterable(self.parts))
 
     def set_defaults(self):
         super().set_defaults()

@@ -1,16 +1,17 @@
 """The outputs, from the words of the command line and the bytes of a plot.
 
-docs/FORMATS.md. Of a PNG it is what a reader is to find in it.
+docs/FORMATS.md. Of a PNG, a PDF and an SVG it is what a reader is to find in it.
 """
 
 from typing import NamedTuple
 
 from . import cutting, full_cutting, full_plotter, plotter, raster
 from .carousel import EMPTY
-from .command_line import DOTS_OF_PCL, EACH, MOST_DOTS, PAGE_OPTIONS, Mistake, request_of
+from .command_line import DOTS_OF_PCL, EACH, MOST_DOTS, PAGE_OPTIONS, VECTORS, Mistake, request_of
 from .fitting import BLANK, TOO_LARGE, fitted, is_off
 from .geometry import Page
 from .plotter import Refused
+from .vectors import Document, lines_of
 
 ESC = b"\x1b"
 WHITE = b"\xff\xff\xff"
@@ -51,20 +52,24 @@ def answer(command, options, plot):
 
 
 class Drawing(NamedTuple):
-    """What is drawn of a plot: the strokes of the sheet asked for, all notes, and in full the greatest sheet."""
+    """What is drawn of a plot: the strokes of the sheet asked for, all notes, in full the greatest sheet, and whether a sheet
+    ends before the plot does."""
 
     strokes: list
     notes: list
     sheets: int = None
+    has_ends: bool = False
 
 
 def draw(plot, page, sheet, carousel=EMPTY, characters=None):
     """What a plot draws in the profile core, if there is no sheet, or in full; those of all sheets are 0's."""
     if sheet is None:
         return Drawing(*plotter.draw(plot, page, carousel))
-    strokes, notes = full_plotter.draw(plot, page, carousel, characters=characters)
+    plotted = full_plotter.after(plot, page, carousel, characters=characters)
+    strokes = plotted.strokes_drawn()
     sheets = max((stroke.sheet for stroke in strokes), default=0)
-    return Drawing([stroke for stroke in strokes if sheet in (0, EACH, stroke.sheet)], notes, sheets)
+    strokes = [stroke for stroke in strokes if sheet in (0, EACH, stroke.sheet)]
+    return Drawing(strokes, plotted.notes, sheets, plotted.sheet > 1)
 
 
 class Shown(NamedTuple):
@@ -126,14 +131,14 @@ def said_of(request, shown, strokes, about=""):
     if request.is_draw and is_blank and shown.why != f"not fitted: {TOO_LARGE}":
         said = f"plotraster: {about}nothing is drawn on the page\n"
     sheets = shown.drawing.sheets or 0
-    if sheets > 1 and not request.is_sheet_named and request.sheet != EACH and request.form != "report":
+    if sheets > 1 and not request.is_sheet_named and request.sheet not in (0, EACH) and request.form != "report":
         said += f"plotraster: the plot has {sheets} sheets; this is the first\n"
     return said
 
 
 def pictured(request, shown):
     """The picture of what is shown, or in a folder those of all sheets."""
-    if request.first > raster.count(shown.page.height, shown.dots):
+    if request.first and request.first > raster.count(shown.page.height, shown.dots):
         return fault(2, "first row is past the last row")
     strokes = shown.drawing.strokes
     if not request.folder:
@@ -160,12 +165,25 @@ def listed(files):
 
 def picture_of(request, shown, strokes):
     """The picture of strokes on the page that is shown."""
+    if request.form in VECTORS:
+        return document_of(request, shown, strokes).listing()
     page, dots, smooth, first = shown.page, shown.dots, shown.smooth, request.first
     if request.form == "png" or smooth > 1:
         rows = smoothed_rows(strokes, page, dots, smooth, request.pens, first)
         return pixmap(request.form, page, dots, rows, first == 0)
     rows = raster.rows(strokes, page, dots, request.pens, first)
     return picture(request.form, page, dots, rows, first == 0)
+
+
+def document_of(request, shown, strokes):
+    """What a document of strokes on the page that is shown has: in PDF pages, and in SVG groups if there is more than a sheet
+    by itself."""
+    is_pdf, is_whole = request.form == "pdf", request.sheet == 0
+    numbers = range(1, max(1, shown.drawing.sheets if is_whole else 1) + 1)
+    sheets = [[it for it in strokes if not is_whole or it.sheet == number] for number in numbers]
+    are_numbered = is_pdf or is_whole and shown.drawing.has_ends
+    page, title = shown.page, f"{PLOT}.plt" if is_pdf and request.folder else None
+    return Document(page.width, page.height, [lines_of(it, page) for it in sheets], are_numbered, title)
 
 
 def smoothed_rows(strokes, page, dots, times, pens, first):
@@ -245,7 +263,7 @@ FORMS = {
 
 def report(drawing, page):
     """The lines of a report: the page, in full the sheets, the strokes of each pen, and the notes."""
-    strokes, notes, sheets = drawing
+    strokes, notes, sheets, _ = drawing
     lines = ["page %d %d %d %d" % page]
     lines += [] if sheets is None else [f"sheets {sheets}"]
     lines.append(f"strokes {len(strokes)}")

@@ -6,7 +6,7 @@ picture has too many pixels for the reference, it gets another resolution, or is
 
 import random
 
-from .command_line import DOTS_OF_PCL, FIT_OPTIONS, MOST_DOTS, PAGE_OPTIONS, TEXTS, Mistake, request_of
+from .command_line import DOTS_OF_PCL, FIT_OPTIONS, MOST_DOTS, PAGE_OPTIONS, TEXTS, VECTORS, Mistake, request_of
 from .cutting import MILLION
 from .fitting import LONGEST
 from .geometry import Page
@@ -36,7 +36,7 @@ def base_case(seed):
 def fitted_case(case, chance):
     """A case with `--fit`."""
     case = case._replace(options=fitted_options(case.options, chance), plot=beginning(case, chance) + case.plot)
-    return case if case.form == "report" else light_case(case, chance)
+    return case if case.form in ("report", *VECTORS) else light_case(case, chance)
 
 
 def fitted_options(options, chance):

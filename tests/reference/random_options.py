@@ -8,7 +8,7 @@ sheets put between items.
 import random
 
 from .carousel import NAMES
-from .command_line import CHARACTERS, MOST_DOTS, PICTURES, WITH_SHADES, Mistake, request_of
+from .command_line import CHARACTERS, MOST_DOTS, PICTURES, VECTORS, WITH_SHADES, Mistake, request_of
 from .full_cutting import items
 from .outputs import shown_by
 from .plotter import Refused
@@ -67,7 +67,7 @@ def lightened(case):
         request = request_of(case.form, case.options)
     except Mistake:
         return case
-    most = MOST_OF_A_REPORT if case.form == "report" else MOST_OF_A_PICTURE
+    most = MOST_OF_A_REPORT if case.form in ("report", *VECTORS) else MOST_OF_A_PICTURE
     return case._replace(plot=light(case.plot, request.page, most, request.carousel))
 
 
@@ -101,9 +101,14 @@ def random_apart_case(seed):
 
 def with_ends_of_sheets(plot, chance):
     """The plot with ends of sheets before some of its items."""
+    return with_pieces(plot, chance, lambda: b";PG;")
+
+
+def with_pieces(plot, chance, piece):
+    """The plot with pieces before some of its items."""
     places = [item.at for item in items(plot)] + [len(plot)]
     for at in sorted(chance.choices(places, k=chance.choice((0, 1, 2, 3, 12))), reverse=True):
-        plot = plot[:at] + b";PG;" + plot[at:]
+        plot = plot[:at] + piece() + plot[at:]
     return plot
 
 

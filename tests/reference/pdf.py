@@ -1,0 +1,198 @@
+"""A reader of PDF documents, by ISO 32000-1: what a document shows, or why it is none.
+
+It knows what plotraster may write: objects in the order of their numbers, each of which is used, a table of where they begin,
+a layer for each pen, and pages of one size, each with a stream of operators.
+"""
+
+import re
+from fractions import Fraction
+from typing import NamedTuple
+
+from .pdf_content import lines_of
+from .reading import Wrong, inflated, must
+from .vectors import Document
+
+HEADER = b"%PDF-1.5\n%\xe2\xe3\xcf\xd3\n"
+END = re.compile(rb"\nstartxref\n([1-9][0-9]*)\n%%EOF\n\Z")
+TABLE = re.compile(rb"xref\n0 ([1-9][0-9]*)\n0000000000 65535 f \n((?:[0-9]{10} 00000 n \n)+)trailer\n")
+TOKEN = re.compile(
+    rb" ?(?:(?P<mark><<|>>|\[|\])|/(?P<name>[A-Za-z0-9]+)|\((?P<text>[ -'*-\[\]-~]*)\)|<(?P<digits>(?:[0-9A-Fa-f]{2})*)>"
+    rb"|(?P<object>[1-9][0-9]*) 0 R|(?P<number>(?:0|[1-9][0-9]*)(?:\.[0-9]*[1-9])?))")
+# What is rounded to three decimals is nearer than this.
+HALF_A_THOUSANDTH = Fraction(1, 2000)
+
+
+class Name(str):
+    """A name, without its slash."""
+
+
+class Reference(NamedTuple):
+    """The number of an object that is referred to."""
+
+    number: int
+
+
+class Pdf(NamedTuple):
+    """What a document shows, what made it, and the pens that have a layer, in order."""
+
+    document: Document
+    producer: str
+    layers: list
+
+
+def read_pdf(data):
+    """What a document shows."""
+    offsets, at, trailer = table_of(data)
+    objects = Objects(data, [*offsets, at])
+    size, root, info = values(trailer, "Size", "Root", "Info")
+    must(size == len(offsets) + 1, "the number of objects")
+    pages, properties = values(objects.at(root, "Catalog"), "Pages", "OCProperties")
+    listed, shown = values(properties, "OCGs", "D")
+    must(values(shown, "Order", "ON") == [listed, listed], f"layers are shown as {shown}")
+    groups = references(objects.at(listed))
+    layers = [pen_of(objects.at(it, "OCG")) for it in groups]
+    must(layers == sorted(set(layers)), f"the layers {layers}")
+    box, resources, count, kids = values(objects.at(pages, "Pages"), "MediaBox", "Resources", "Count", "Kids")
+    named, = values(resources, "Properties")
+    must(values(named, *(f"P{pen}" for pen in layers)) == groups, f"the properties {named}")
+    must(count == len(references(kids)) >= 1, f"{len(kids)} pages instead of {count}")
+    must(isinstance(box, list) and len(box) == 4 and box[:2] == [0, 0], f"the box {box}")
+    width, height = map(units_of, box[2:])
+    sheets = [lines_of(content_of(objects, kid, pages), width, height) for kid in kids]
+    must({line.pen for lines in sheets for line in lines} == set(layers), "a layer without a line, or a line without one")
+    producer, title = names_of(objects.at(info))
+    must(objects.used == set(range(1, len(offsets) + 1)), "an object that is not used")
+    return Pdf(Document(width, height, sheets, True, title), producer, layers)
+
+
+def table_of(data):
+    """Where each object begins, where the table does, and the trailer."""
+    end = END.search(data)
+    must(data.startswith(HEADER) and end, "no header, or no end")
+    at = int(end[1])
+    table = TABLE.match(data, at)
+    must(table, f"no table at byte {at}")
+    offsets = [int(entry[:10]) for entry in table[2].splitlines()]
+    must(int(table[1]) == len(offsets) + 1, "the length of the table")
+    trailer, stop = value_at(data, table.end())
+    must(stop == end.start(), "more than a trailer")
+    return offsets, at, trailer
+
+
+class Objects:
+    """The objects of a document, each from where the table says up to where the next one begins."""
+
+    def __init__(self, data, bounds):
+        must(bounds[0] == len(HEADER) and bounds == sorted(set(bounds)), "where objects begin")
+        self.used = set()
+        self.texts = []
+        for number, (first, last) in enumerate(zip(bounds, bounds[1:]), 1):
+            start, end = b"%d 0 obj\n" % number, b"\nendobj\n"
+            text = data[first:last]
+            must(text.startswith(start) and text.endswith(end) and len(text) > len(start + end), f"object {number}")
+            self.texts.append(text[len(start):-len(end)])
+
+    def text(self, reference):
+        must(isinstance(reference, Reference) and reference.number <= len(self.texts), f"the reference {reference}")
+        self.used.add(reference.number)
+        return self.texts[reference.number - 1]
+
+    def at(self, reference, kind=None):
+        """The object of a reference, which has this type."""
+        text = self.text(reference)
+        value, stop = value_at(text, 0)
+        must(stop == len(text), f"more in object {reference}")
+        if kind is not None:
+            must(isinstance(value, dict) and value.pop("Type", None) == kind, f"object {reference} is no {kind}")
+        return value
+
+    def stream(self, reference):
+        """What a stream has, whose length is in an object."""
+        text = self.text(reference)
+        about, stop = value_at(text, 0)
+        filter_name, length = values(about, "Filter", "Length")
+        start, end = b"stream\n", b"\nendstream"
+        must(filter_name == Name("FlateDecode") and text[stop:].startswith(start) and text.endswith(end), "a stream")
+        found = text[stop + len(start):-len(end)]
+        must(self.at(length) == len(found), f"{len(found)} bytes in a stream")
+        return inflated(found)
+
+
+def value_at(data, at):
+    """The value that begins at a byte, and where it ends."""
+    token = TOKEN.match(data, at)
+    must(token, f"no value: {data[at:at + 30]}")
+    at, kind, text = token.end(), token.lastgroup, token[token.lastgroup]
+    if kind != "mark":
+        return VALUES[kind](text), at
+    must(text in (b"<<", b"["), f"{text} without a beginning")
+    end, found = {b"<<": b">>", b"[": b"]"}[text], []
+    while not data.startswith(end, at):
+        value, at = value_at(data, at)
+        found.append(value)
+    at += len(end)
+    if end == b"]":
+        return found, at
+    names, values = found[::2], found[1::2]
+    must(len(names) == len(values) and all(isinstance(it, Name) for it in names), "a dictionary without names")
+    must(len(set(names)) == len(names), f"a name that comes twice in {names}")
+    return dict(zip(names, values)), at
+
+
+VALUES = {
+    "name": lambda text: Name(text.decode()),
+    "text": lambda text: text.decode(),
+    "digits": lambda text: bytes.fromhex(text.decode()),
+    "object": lambda text: Reference(int(text)),
+    "number": lambda text: Fraction(text.decode()),
+}
+
+
+def values(dictionary, *names):
+    """The values of a dictionary, which has these names and no others."""
+    must(isinstance(dictionary, dict) and list(dictionary) == list(names), f"{dictionary} has not {names}")
+    return list(dictionary.values())
+
+
+def references(found):
+    """A list of references to objects, each once."""
+    must(isinstance(found, list) and all(isinstance(it, Reference) for it in found), f"references {found}")
+    must(len(set(found)) == len(found), f"a reference that comes twice in {found}")
+    return found
+
+
+def pen_of(layer):
+    """The pen of a layer."""
+    name, = values(layer, "Name")
+    must(type(name) is str and re.fullmatch("Pen [1-9][0-9]{0,2}", name) and int(name[4:]) < 256, f"the layer {name}")
+    return int(name[4:])
+
+
+def units_of(points):
+    """A side of a page in plotter units, of which 1,016 are 72 points."""
+    must(isinstance(points, Fraction), f"a side of {points}")
+    units = round(points * 1016 / 72)
+    must(abs(points - Fraction(72 * units, 1016)) <= HALF_A_THOUSANDTH, f"a side of {points} points")
+    return units
+
+
+def content_of(objects, reference, parent):
+    """The operators of a page."""
+    above, contents = values(objects.at(reference, "Page"), "Parent", "Contents")
+    must(above == parent, "a page of other pages")
+    return objects.stream(contents)
+
+
+def names_of(info):
+    """What made the document, and its title or None."""
+    must(isinstance(info, dict) and list(info) in (["Producer"], ["Producer", "Title"]), f"the names {info}")
+    producer, *titles = info.values()
+    must(type(producer) is str and re.fullmatch(r"plotraster [0-9]+\.[0-9]+\.[0-9]+", producer), f"made by {producer}")
+    if not titles:
+        return producer, None
+    title, = titles
+    must(isinstance(title, bytes) and title.startswith(b"\xfe\xff") and len(title) > 2, f"the title {title}")
+    try:
+        return producer, title[2:].decode("utf-16-be")
+    except UnicodeDecodeError as error:
+        raise Wrong(str(error)) from error

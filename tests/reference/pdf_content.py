@@ -1,0 +1,145 @@
+"""The operators of a PDF's page, read one after another, by ISO 32000-1: the lines that they draw, or why they are wrong."""
+
+import re
+from fractions import Fraction
+from typing import NamedTuple
+
+from .reading import must
+from .vectors import LEAST_WIDTH, MOST_IN_A_PATH, Line
+
+WHOLE = re.compile(rb"0|-?[1-9][0-9]*")
+PART = re.compile(rb"0(?:\.[0-9]{0,2}[1-9])?|1")
+SCALE = re.compile(rb"(0\.[0-9]{12}) 0 0 \1 0 0")
+# A grain in points, rounded to twelve decimals, and a part of a colour, rounded to three.
+GRAIN = Fraction(9, 2032)
+ROUNDED_GRAIN = Fraction(1, 2 * 10**12)
+ROUNDED_PART = Fraction(1, 2000)
+
+
+class Set(NamedTuple):
+    """What is set for the lines that are drawn; before that nothing is."""
+
+    colour: tuple = None
+    width: int = None
+    window: tuple = None
+
+
+def lines_of(content, width, height):
+    """The lines that the operators of a page of so many plotter units draw."""
+    must(content.endswith(b"\n"), "no end of the last line")
+    page = Content((0, 0, 16 * width, 16 * height))
+    for line in content[:-1].split(b"\n"):
+        operands, _, operator = line.rpartition(b" ")
+        must(operator in OPERATORS, f"the operator {line[:60]}")
+        OPERATORS[operator](page, operands)
+    must(page.begun == {"cm", "J", "j"} and page.pen is None, "how a page begins, or a layer that does not end")
+    return page.painted
+
+
+def numbers(operands, count):
+    found = operands.split(b" ")
+    must(len(found) == count and all(map(WHOLE.fullmatch, found)), f"the numbers {operands}")
+    return tuple(map(int, found))
+
+
+class Content:
+    """What operators have set and drawn."""
+
+    def __init__(self, whole):
+        self.whole = whole
+        self.begun = set()
+        self.pen, self.set, self.saved = None, Set(), None
+        self.rectangle, self.is_clip = None, False
+        self.place, self.lines, self.is_moved = None, [], False
+        self.painted, self.is_painted = [], False
+
+    def begin(self, name, holds):
+        """An operator that comes once, before all layers."""
+        must(holds and name not in self.begun and not self.painted and self.pen is None, f"a wrong {name}")
+        self.begun.add(name)
+
+    def scale(self, operands):
+        found = SCALE.fullmatch(operands)
+        self.begin("cm", found and abs(Fraction(found[1].decode()) - GRAIN) <= ROUNDED_GRAIN)
+
+    def line_ends(self, operands):
+        self.begin("J", operands == b"1")
+
+    def line_joins(self, operands):
+        self.begin("j", operands == b"1")
+
+    def layer(self, operands):
+        found = re.fullmatch(rb"/OC /P([1-9][0-9]{0,2})", operands)
+        must(found and self.pen is None, f"the layer {operands}")
+        self.pen = int(found[1])
+
+    def end_layer(self, operands):
+        must(not operands and self.pen is not None and self.saved is None, "the end of no layer")
+        self.pen = None
+
+    def save(self, operands):
+        must(not operands and self.pen is not None and self.saved is None, "more is saved than once in a layer")
+        self.saved, self.is_painted = self.set, False
+
+    def restore(self, operands):
+        must(not operands and self.saved is not None and self.is_painted, "nothing is saved, or nothing was painted")
+        self.set, self.saved = self.saved, None
+
+    def clip_rectangle(self, operands):
+        x, y, width, height = numbers(operands, 4)
+        must(self.saved is not None and self.rectangle is None and self.set.window is None, "a second window")
+        must(width >= 0 and height >= 0 and self.place is None and not self.is_painted, "a rectangle of lines")
+        self.rectangle = x, y, x + width, y + height
+
+    def clip(self, operands):
+        must(not operands and self.rectangle is not None and not self.is_clip, "what clips is no rectangle")
+        self.is_clip = True
+
+    def no_paint(self, operands):
+        must(not operands and self.is_clip, "a path that neither clips nor is painted")
+        must(self.rectangle != self.whole, "a window that is the page")
+        self.set = self.set._replace(window=self.rectangle)
+        self.rectangle, self.is_clip = None, False
+
+    def colour(self, operands):
+        parts = operands.split(b" ")
+        must(len(parts) == 3 and all(map(PART.fullmatch, parts)), f"the colour {operands}")
+        found = [Fraction(part.decode()) for part in parts]
+        colour = tuple(round(part * 255) for part in found)
+        must(all(abs(part - Fraction(it, 255)) <= ROUNDED_PART for part, it in zip(found, colour)), f"the colour {operands}")
+        self.change("colour", colour)
+
+    def width(self, operands):
+        width, = numbers(operands, 1)
+        must(width >= LEAST_WIDTH, f"a width of {width}")
+        self.change("width", width)
+
+    def change(self, name, value):
+        """Sets something once in a layer, before its lines."""
+        must(self.saved is not None and self.rectangle is None and self.place is None, f"{name} at a wrong place")
+        must(getattr(self.set, name) is None, f"{name} is set twice")
+        self.set = self.set._replace(**{name: value})
+
+    def move(self, operands):
+        must(None not in (self.saved, self.set.colour, self.set.width) and self.rectangle is None, "lines of nothing")
+        must(not self.is_moved and not self.is_painted, "a move without a line, or after what is painted")
+        self.place, self.is_moved = numbers(operands, 2), True
+
+    def line(self, operands):
+        must(self.place is not None, "a line from nowhere")
+        to = numbers(operands, 2)
+        self.lines.append(Line(self.pen, *self.set, self.place, to))
+        self.place, self.is_moved = to, False
+
+    def stroke(self, operands):
+        must(not operands and self.lines and not self.is_moved, "a path without a line at its end")
+        must(len(self.lines) <= MOST_IN_A_PATH, f"{len(self.lines)} lines in a path")
+        self.painted += self.lines
+        self.lines, self.place, self.is_painted = [], None, True
+
+
+OPERATORS = {
+    b"cm": Content.scale, b"J": Content.line_ends, b"j": Content.line_joins, b"BDC": Content.layer, b"EMC": Content.end_layer,
+    b"q": Content.save, b"Q": Content.restore, b"re": Content.clip_rectangle, b"W": Content.clip, b"n": Content.no_paint,
+    b"RG": Content.colour, b"w": Content.width, b"m": Content.move, b"l": Content.line, b"S": Content.stroke,
+}

@@ -1,0 +1,134 @@
+"""A reader of SVG documents, by SVG 1.1: what a document shows, or why it is none.
+
+It knows what plotraster may write: a page in millimetres, clip paths of one rectangle, groups of sheets, and paths of lines
+from place to place.
+"""
+
+import re
+from fractions import Fraction
+from xml.etree import ElementTree
+
+from .reading import Wrong, must
+from .vectors import LEAST_WIDTH, MOST_IN_A_PATH, Document, Line
+
+DECLARATION = b'<?xml version="1.0" encoding="UTF-8"?>\n'
+SPACE = "{http://www.w3.org/2000/svg}"
+COUNT = "(?:0|[1-9][0-9]*)"
+WHOLE = "(?:0|-?[1-9][0-9]*)"
+MILLIMETRES = re.compile(rf"({COUNT}(?:\.[0-9]*[1-9])?)mm")
+COMMAND = re.compile(f"([MmLl])({WHOLE}) ({WHOLE})")
+LINES = f"(?:[Ll]{WHOLE} {WHOLE})+"
+# Lines follow each move, and the first move is to a place.
+PATH = re.compile(f"M{WHOLE} {WHOLE}{LINES}(?:[Mm]{WHOLE} {WHOLE}{LINES})*")
+ROUND = {"fill": "none", "stroke-linecap": "round", "stroke-linejoin": "round"}
+UNITS_OF_A_MILLIMETRE = 40
+
+
+def read_svg(data):
+    """What a document shows."""
+    must(data.startswith(DECLARATION) and data.endswith(b"\n"), "no declaration, or no end of the last line")
+    must(data.count(b"<?") == 1 and not re.search(rb"<!|&", data), "more than elements")
+    try:
+        root = ElementTree.fromstring(data)
+    except ElementTree.ParseError as error:
+        raise Wrong(str(error)) from error
+    must(all(not (text or "").strip() for it in root.iter() for text in (it.text, it.tail)), "a text")
+    width, height = page_of(root)
+    group = only_child(root, "g")
+    must(group.attrib == ROUND, f"the group has {group.attrib}")
+    clips = {}
+    found = list(group)
+    if found and found[0].tag == f"{SPACE}defs":
+        clips = clips_of(found.pop(0), 16 * height)
+        must(clips, "no clip paths in defs")
+    are_numbered = bool(found) and found[0].tag == f"{SPACE}g"
+    sheets = [list(sheet) for sheet in groups(found)] if are_numbered else [found]
+    used = set()
+    lines = [[line for path in sheet for line in lines_of(path, clips, used, 16 * height)] for sheet in sheets]
+    must(used == set(clips), f"clip paths that are not used: {sorted(set(clips) - used)}")
+    return Document(width, height, lines, are_numbered)
+
+
+def attributes(element, name, *names):
+    """The values of an element's attributes, which has these and no others."""
+    must(element.tag == SPACE + name, f"{element.tag} instead of {name}")
+    must(list(element.attrib) == list(names), f"{name} has {list(element.attrib)}")
+    return list(element.attrib.values())
+
+
+def only_child(element, name):
+    found = list(element)
+    must([it.tag for it in found] == [SPACE + name], f"{element.tag} has {[it.tag for it in found]}")
+    return found[0]
+
+
+def page_of(root):
+    """The sides of the page in plotter units, which are in millimetres and in grains."""
+    *sides, box = attributes(root, "svg", "width", "height", "viewBox")
+    units = []
+    for side in sides:
+        found = MILLIMETRES.fullmatch(side)
+        must(found, f"a side of {side}")
+        units.append(Fraction(found[1]) * UNITS_OF_A_MILLIMETRE)
+    must(all(side.denominator == 1 for side in units), f"sides of {sides}")
+    width, height = map(int, units)
+    must(box == f"0 0 {16 * width} {16 * height}", f"a page of {sides} in {box}")
+    return width, height
+
+
+def clips_of(defs, top):
+    """The windows of the clip paths by their names, each once."""
+    attributes(defs, "defs")
+    clips = {}
+    for path in defs:
+        name, = attributes(path, "clipPath", "id")
+        rectangle = only_child(path, "rect")
+        numbers = attributes(rectangle, "rect", "x", "y", "width", "height")
+        must(all(re.fullmatch(WHOLE, it) for it in numbers), f"the rectangle {numbers}")
+        x, y, width, height = map(int, numbers)
+        must(name == "w" + "_".join(numbers) and width >= 0 and height >= 0, f"{name} is {numbers}")
+        must(name not in clips, f"{name} comes twice")
+        clips[name] = x, top - y - height, x + width, top - y
+    must(len(set(clips.values())) == len(clips), "two clip paths of one rectangle")
+    return clips
+
+
+def groups(elements):
+    """The groups of sheets, in order."""
+    for number, element in enumerate(elements, 1):
+        name, = attributes(element, "g", "id")
+        must(name == f"sheet-{number}", f"{name} instead of sheet {number}")
+        yield element
+
+
+def lines_of(path, clips, used, top):
+    """The lines of a path, and the name of its clip path among those that are used."""
+    is_clipped = "clip-path" in path.attrib
+    names = ("class", "stroke", "stroke-width", *(["clip-path"] if is_clipped else []), "d")
+    pen, colour, width, *clip, commands = attributes(path, "path", *names)
+    must(not list(path), "something in a path")
+    must(re.fullmatch("pen[1-9][0-9]{0,2}", pen) and int(pen[3:]) < 256, f"the class {pen}")
+    must(re.fullmatch("#[0-9a-f]{6}", colour), f"the colour {colour}")
+    must(re.fullmatch(COUNT, width) and int(width) >= LEAST_WIDTH, f"the width {width}")
+    window = None
+    if is_clipped:
+        name = clip[0].removeprefix("url(#").removesuffix(")")
+        must(clip[0] == f"url(#{name})" and name in clips, f"the clip path {clip[0]}")
+        used.add(name)
+        window = clips[name]
+    look = int(pen[3:]), tuple(bytes.fromhex(colour[1:])), int(width), window
+    found = [Line(*look, *((x, top - y) for x, y in ends)) for ends in ends_of(commands)]
+    must(len(found) <= MOST_IN_A_PATH, f"{len(found)} lines in a path")
+    return found
+
+
+def ends_of(commands):
+    """The ends of the lines that commands draw."""
+    must(PATH.fullmatch(commands), f"the commands {commands[:60]}")
+    at, found = (0, 0), []
+    for letter, x, y in COMMAND.findall(commands):
+        to = (int(x), int(y)) if letter.isupper() else (at[0] + int(x), at[1] + int(y))
+        if letter in "Ll":
+            found.append((at, to))
+        at = to
+    return found
