@@ -1,0 +1,14 @@
+use Rattle.std.proofs.Common.{◌∙◌, sym, set, ap}
+use Rattle.std.proofs.lemmas.List.Edits.{map_over_more}
+use Rattle.labels.specs.Labels.{LabelShape}
+use Rattle.labels.specs.Sheets.{counted}
+use Rattle.labels.proofs.sheets.count_all.Goals as goal
+
+pub loop-label-preserved : goal.loop-label-preserved
+loop-label-preserved c =
+    let i = c.loop-label.label-index in
+    let labels = c.loop-label.labels in
+    let label : LabelShape = c.label-item.result in
+    let f : LabelShape → LabelShape = counted c.args.before in
+    ap (set labels i) (c.count.ensures ∙ ap f (sym c.label-item.is))
+    ∙ map_over_more f c.args.labels.now labels i label c.loop-label-test.true c.loop-label.invariant c.label-item.is
