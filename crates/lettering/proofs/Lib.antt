@@ -1,5 +1,6 @@
 pub mod Beside
 mod Examples
+mod LineExamples
 pub mod Lists
 pub mod Reaches
 pub mod Sizes

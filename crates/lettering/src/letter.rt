@@ -94,7 +94,7 @@ impl Lettering {
 
     // The point (i, j) of a letter's grid.
     #[inline]
-    fn point(&self, corner: Spot, i: u8, j: i8) -> Spot
+    pub(crate) fn point(&self, corner: Spot, i: u8, j: i8) -> Spot
         requires { IsWithin (2 ^ 65) corner }
         ensures value { result ≡ letter_point self.now.style corner i j }
         ensures within { IsWithin (2 ^ 95) result }

@@ -1,5 +1,5 @@
-//! Labels of any size, direction, slant, spacing, path and origin: the strokes of their letters, and where
-//! the pen ends.
+//! Labels of any size, direction, slant, spacing, path and origin: the strokes of their letters, where the pen
+//! ends, and the lines of their texts.
 #![tactic(auto)]
 
 mod cell;
@@ -10,6 +10,7 @@ mod corner;
 mod label;
 pub mod laws;
 mod letter;
+mod lines;
 mod near;
 mod sections;
 mod share;
