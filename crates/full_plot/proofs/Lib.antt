@@ -15,6 +15,7 @@ pub mod Filled
 pub mod Aside
 pub mod Wedged
 pub mod Later
+pub mod LabelsOver
 pub mod CoreNotes
 pub mod CoreLabels
 pub mod AsInCore

@@ -92,6 +92,13 @@ ends_in (Err fault) = []
 abbrev pub sheet_count : List ℕ → ℕ → ℕ
 sheet_count ends count = length (ends_with ends count)
 
+-- how many strokes there were when a sheet began, which counts from 1, and when it ended; those of all sheets for 0
+abbrev pub sheet_start : List ℕ → ℕ → ℕ → ℕ
+sheet_start ends count sheet = if nat_eq sheet 0 then 0 else slice_index_or (0 ∷ ends) (sheet - 1) count
+
+abbrev pub sheet_end : List ℕ → ℕ → ℕ → ℕ
+sheet_end ends count sheet = if nat_eq sheet 0 then count else slice_index_or ends (sheet - 1) count
+
 -- the strokes of a sheet, which counts from 1; those of all sheets for 0
 abbrev pub sheet_strokes : List Segment → List ℕ → ℕ → List Segment
 sheet_strokes strokes ends sheet =

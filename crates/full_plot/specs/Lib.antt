@@ -12,6 +12,7 @@ pub mod Curves
 pub mod Machine
 pub mod Items
 pub mod Drawings
+pub mod Labels
 pub mod Laws
 -- What contracts of private calls need: what is held back while core draws lines, and ranges.
 pub mod Holding

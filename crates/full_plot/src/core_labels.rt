@@ -3,7 +3,7 @@ ghost use Rattle.std.specs.Prelude.{◌≡◌, IsTrue};
 ghost use Rattle.lettering.specs.Styles.{usual};
 ghost use Rattle.full_plot.specs.Texts.{core_style};
 
-use crate::labels::turn_by;
+use crate::texts::turn_by;
 use directions::Direction;
 use hpgl_plot::State;
 use lettering::{LineFeed, Path, Style};

@@ -5,6 +5,7 @@ ghost use Rattle.hpgl_text.specs.Cut.{cut_by};
 ghost use Rattle.hpgl_text.specs.declared.profile.Profile.TheVariants.{Full};
 ghost use Rattle.full_plot.specs.Drawings.{outcome, outcome_with, refusal_in, strokes_in, ends_in};
 ghost use Rattle.full_plot.specs.Drawings.{sheet_count, Explains};
+ghost use Rattle.full_plot.specs.Labels.{labels_kept, labels_of};
 ghost use Rattle.full_notes.specs.Notes as notes;
 
 use crate::plotter::FullPlotter;
@@ -13,16 +14,18 @@ use carousel::Carousel;
 use character_sets::Encoding;
 use hpgl_plot::{PlotFault, count_notes};
 use hpgl_text::{Items, Profile};
+use labels::Label;
 use plot_page::{Page, Stroke};
 use std::alloc::Global;
 
-/// What a plot draws: its strokes in drawing order, how many there were when each sheet ended, and how
-/// many notes there are on it.
+/// What a plot draws: its strokes in drawing order, how many there were when each sheet ended, how many notes there are on it,
+/// and its labels, if they are kept.
 #[derive(Drop)]
 pub struct FullDrawn {
     pub strokes: Vec<Stroke>,
     pub ends: Vec<usize>,
     pub notes: usize,
+    pub labels: Vec<Label>,
 }
 
 impl FullDrawn {
@@ -50,19 +53,27 @@ pub fn draw_full(alloc: Global, text: &[u8], page: &Page) -> Result<FullDrawn, P
     ensures limit { IfOk result (λ drawn. length drawn.strokes.items ≤ MOST_STROKES) }
     ensures refused { IfErr result (λ fault. Explains fault (outcome page.now text.now)) }
 {
-    draw_full_with(alloc, Encoding::ByPlot, text, page, &Carousel::empty())
+    draw_full_with(
+        alloc,
+        Encoding::ByPlot,
+        text,
+        page,
+        &Carousel::empty(),
+        false,
+    )
 }
 
 /// The same with the texts of labels read as the user says, whatever sets of characters the plot chooses, and
 /// with the pens of a carousel: a pen draws in its width and its colour there, if it has them, whatever the plot
 /// sets, and hatching is no denser than half that width. The lines of fills that have a width of their own keep
-/// it.
+/// it. Labels are kept if the last argument says so: what LB and PB write, if it makes a stroke.
 pub fn draw_full_with(
     alloc: Global,
     encoding: Encoding,
     text: &[u8],
     page: &Page,
     carousel: &Carousel,
+    keeps_labels: bool,
 ) -> Result<FullDrawn, PlotFault>
     ensures accepted { OnOk result (refusal_in (outcome_with encoding carousel.now page.now text.now) ≡ None) }
     ensures strokes { IfOk result
@@ -71,18 +82,22 @@ pub fn draw_full_with(
         (λ drawn. drawn.ends.items ≡ ends_in (outcome_with encoding carousel.now page.now text.now)) }
     ensures notes { IfOk result (λ drawn. drawn.notes ≡ length (notes.notes (cut_by Full text.now))) }
     ensures limit { IfOk result (λ drawn. length drawn.strokes.items ≤ MOST_STROKES) }
+    ensures labels { IfOk result (λ drawn. drawn.labels.items
+        ≡ labels_kept keeps_labels (labels_of encoding carousel.now page.now text.now)) }
     ensures refused { IfErr result (λ fault. Explains fault (outcome_with encoding carousel.now page.now text.now)) }
 {
     let mut items = Items::by_profile(Profile::Full, text);
     let mut plotter = FullPlotter::with(alloc, encoding, page, carousel);
+    let mut labels = Vec::new(alloc);
     let mut noted: usize = 0;
     'items: while let Some(item) = items.next() {
-        let own = plotter.carry_out(&item)?;
+        let own = plotter.advance(&item, keeps_labels, &mut labels)?;
         noted += count_notes(&item, own);
     }
     Ok(FullDrawn {
         strokes: plotter.plotter.strokes,
         ends: plotter.ends,
         notes: noted,
+        labels,
     })
 }

@@ -1,7 +1,10 @@
 //! The sheets of a plot, which count from 1.
 ghost use Rattle.std.specs.Prelude.{◌≡◌, drop, take, slice_index_or};
-ghost use Rattle.full_plot.specs.Drawings.{sheet_strokes};
+ghost use Rattle.labels.specs.Sheets.{all_counted};
+ghost use Rattle.full_plot.specs.Drawings.{sheet_end, sheet_start, sheet_strokes};
+ghost use Rattle.full_plot.specs.Labels.{labels_of_sheet};
 
+use labels::{Label, keep_labels, labels_between};
 use plot_page::Stroke;
 
 /// Keeps the strokes of a sheet alone, in their order; for 0 it keeps those of all sheets. `ends`
@@ -34,6 +37,59 @@ pub fn sheet_of<'a>(strokes: &'a [Stroke], ends: &[usize], sheet: u32) -> &'a [S
         return kept;
     }
     after(kept, end_of(ends, before - 1, count))
+}
+
+/// Keeps the labels of a sheet alone, by the strokes of the sheet; for 0 it keeps those of all sheets. `count` is how many
+/// strokes there are on all sheets.
+pub fn keep_labels_of(labels: &mut Vec<Label>, ends: &[usize], count: usize, sheet: u32)
+    ensures { labels.new.items ≡ labels_of_sheet labels.old.items ends.now count sheet }
+{
+    if sheet != 0 {
+        keep_labels(
+            labels,
+            start_of(ends, count, sheet),
+            sheet_end(ends, count, sheet),
+        );
+    }
+}
+
+/// The labels of a sheet, as `keep_labels_of` keeps them, but for how their strokes are counted: so many come before the sheet.
+pub fn labels_on<'a>(
+    labels: &'a [Label],
+    ends: &[usize],
+    count: usize,
+    sheet: u32,
+) -> (&'a [Label], usize)
+    ensures { all_counted result.1 result.0.now ≡ labels_of_sheet labels.now ends.now count sheet }
+{
+    if sheet == 0 {
+        return (labels, 0);
+    }
+    let start = start_of(ends, count, sheet);
+    let end = sheet_end(ends, count, sheet);
+    (labels_between(labels, start, end), start)
+}
+
+// How many strokes there were when a sheet began.
+fn start_of(ends: &[usize], count: usize, sheet: u32) -> usize
+    ensures { result ≡ sheet_start ends.now count sheet }
+{
+    if sheet <= 1 {
+        0
+    } else {
+        end_of(ends, sheet as usize - 2, count)
+    }
+}
+
+// How many there were when it ended.
+fn sheet_end(ends: &[usize], count: usize, sheet: u32) -> usize
+    ensures { result ≡ sheet_end ends.now count sheet }
+{
+    if sheet == 0 {
+        count
+    } else {
+        end_of(ends, sheet as usize - 1, count)
+    }
 }
 
 // The first `count` strokes, or all if there are fewer.

@@ -5,6 +5,7 @@ use crate::pens_set::carousel;
 use character_sets::Encoding;
 use full_plot::{Carousel, FullDrawn, draw_full, draw_full_with};
 use hpgl_plot::{Page, PlotFault, Stroke};
+use labels::{Label, Line, Place};
 use std::alloc::{AllocError, Global};
 use std::process::Abort;
 use std::test::Fail;
@@ -24,6 +25,8 @@ pub enum Asked {
     Pens,
     // The ends of the strokes, with texts in UTF-8.
     Utf8,
+    // The labels.
+    Labels,
     // The greatest number of a sheet with a stroke.
     Sheets,
     // What is noted.
@@ -92,9 +95,28 @@ fn drawn(alloc: Global, asked: Asked, plot: &[u8]) -> Result<Result<FullDrawn, P
         _ => Page::new(1000, 1000, 0, 0)?,
     };
     match asked {
-        Asked::Pens => { Ok(draw_full_with(alloc, Encoding::ByPlot, plot, &page, &carousel())) }
+        Asked::Pens => {
+            Ok(draw_full_with(alloc, Encoding::ByPlot, plot, &page, &carousel(), false))
+        }
         Asked::Utf8 => {
-            Ok(draw_full_with(alloc, Encoding::Utf8, plot, &page, &Carousel::empty()))
+            Ok(draw_full_with(
+                alloc,
+                Encoding::Utf8,
+                plot,
+                &page,
+                &Carousel::empty(),
+                false,
+            ))
+        }
+        Asked::Labels => {
+            Ok(draw_full_with(
+                alloc,
+                Encoding::ByPlot,
+                plot,
+                &page,
+                &Carousel::empty(),
+                true,
+            ))
         }
         _ => Ok(draw_full(alloc, plot, &page)),
     }
@@ -104,6 +126,9 @@ fn drawn_told(alloc: Global, asked: Asked, drawn: &FullDrawn) -> Result<String, 
     if let Asked::Sheets = asked {
         let sheets = drawn.sheets();
         return format!(in alloc; "{sheets}");
+    }
+    if let Asked::Labels = asked {
+        return labels_told(alloc, drawn.labels.as_slice());
     }
     let mut list = String::new(alloc);
     for stroke in drawn.strokes.as_slice() {
@@ -116,6 +141,34 @@ fn drawn_told(alloc: Global, asked: Asked, drawn: &FullDrawn) -> Result<String, 
         list.push_str("none")?;
     }
     Ok(list)
+}
+
+// The labels of a plot, or "none".
+pub fn labels_told(alloc: Global, labels: &[Label]) -> Result<String, AllocError> {
+    let mut list = String::new(alloc);
+    for label in labels {
+        let (first, after) = (label.first, label.after);
+        write!(list, "{first}-{after}")?;
+        for line in label.lines.as_slice() {
+            list.push_str(line_told(alloc, line)?.as_str())?;
+        }
+        list.push_str(";")?;
+    }
+    if list.is_empty() {
+        list.push_str("none")?;
+    }
+    Ok(list)
+}
+
+fn line_told(alloc: Global, line: &Line) -> Result<String, AllocError> {
+    let mut text = String::new(alloc);
+    for code in line.text.as_slice() {
+        text.push(char::from_u32(*code).unwrap_or('?'))?;
+    }
+    let (start, end, top) = (line.start, line.end, line.top);
+    let Place { x, y } = start;
+    let (end_x, end_y, top_x, top_y) = (end.x, end.y, top.x, top.y);
+    format!(in alloc; " {text} {x},{y} {end_x},{end_y} {top_x},{top_y}")
 }
 
 fn stroke_told(alloc: Global, asked: Asked, s: &Stroke) -> Result<String, AllocError> {

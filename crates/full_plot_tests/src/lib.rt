@@ -10,6 +10,8 @@ mod colours_set;
 #[cfg(test)]
 mod curves_set;
 #[cfg(test)]
+mod label_texts_set;
+#[cfg(test)]
 mod labels_set;
 #[cfg(test)]
 mod line_types_set;

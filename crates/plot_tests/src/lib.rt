@@ -19,9 +19,9 @@ mod frames;
 #[cfg(test)]
 mod full_settings_set;
 #[cfg(test)]
-mod labels;
-#[cfg(test)]
 mod labels_along;
+#[cfg(test)]
+mod labels_of_core;
 #[cfg(test)]
 mod letters_set;
 #[cfg(test)]

@@ -1,4 +1,4 @@
-use Rattle.std.proofs.Common.{◌≡◌, ◌∙◌, ap, sym, arith, length, length-append, List, [], ◌∷◌, Option}
+use Rattle.std.proofs.Common.{◌≡◌, ◌∙◌, ap, sym, arith, length, length-append, List, [], ◌∷◌, ◌++◌, Option}
 use Rattle.hpgl_text.specs.Shapes.{ItemShape}
 use Rattle.hpgl_text.specs.Cut.{cut_by}
 use Rattle.hpgl_text.specs.declared.profile.Profile.TheVariants.{Full}
@@ -9,6 +9,8 @@ use Rattle.full_plot.specs.Machine.{seen}
 use Rattle.full_notes.specs.Contexts.{Context}
 use Rattle.full_notes.specs.Notes.{body_noted, context_after, notes_from}
 use Rattle.full_notes.proofs.FewNotes.{few_notes}
+use Rattle.full_plot.specs.Labels.{labels_from, labels_kept}
+use Rattle.full_plot.proofs.LabelsOver.{kept_past}
 use Rattle.full_plot.proofs.Later.{carried_out, few_strokes, told_as_set}
 use Rattle.full_plot.proofs.drawn.draw_full_with.Goals as goal
 
@@ -50,12 +52,12 @@ items-preserved c =
     let item = c.in-Some.item in
     let rest = c.next.new.self in
     let old = seen c.items.plotter in
-    let new = seen c.carry_out.new.self in
+    let new = seen c.advance.new.self in
     let before : Context = (seen c.items.plotter).context in
     let own = body_noted before item.body in
     let noted : c.in_ok-own.own ≡ own = c.in_ok-own.ensures.noted in
     let goes_on : (more : List ItemShape) → runs old (item ∷ more) ≡ runs new more =
-    carried_out old new item c.carry_out.result c.in_ok-own.own c.carry_out.ensures.carried c.in_ok-own.was in
+    carried_out old new item c.advance.result c.in_ok-own.own c.advance.ensures.carried c.in_ok-own.was in
     record {
       same = sym (goes_on rest) ∙ sym (ap (λ (is : List ItemShape). runs old is) c.in-Some.ensures.steps) ∙ c.items.invariant.same;
       noted = omega (
@@ -67,6 +69,10 @@ items-preserved c =
         ap (λ (b : Context). length (notes_from b rest)) (told_as_set old new item (goes_on [])),
         c.count_notes-noted.ensures,
       );
+      labelled =
+          kept_past c.args.keeps_labels old new item rest c.items.labels.items c.advance.new.labels.items (goes_on []) c.in_ok-own.ensures.labels
+          ∙ ap (λ (is : List ItemShape). c.items.labels.items ++ labels_kept c.args.keeps_labels (labels_from old is)) (sym c.in-Some.ensures.steps)
+          ∙ c.items.invariant.labelled;
     }
 
 -- all items have left the strokes that there are

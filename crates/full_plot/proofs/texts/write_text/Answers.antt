@@ -7,7 +7,7 @@ use Rattle.hpgl_plot.proofs.Travels.{stopped}
 use Rattle.plot_settings.specs.Meanings.{Write}
 use Rattle.full_plot.specs.Texts.{label_by}
 use Rattle.full_plot.proofs.AsInCore.{core_label}
-use Rattle.full_plot.proofs.labels.write_text.Goals as goal
+use Rattle.full_plot.proofs.texts.write_text.Goals as goal
 
 pub returns-in_err-write-clause-runs : goal.returns-in_err-write-clause-runs
 returns-in_err-write-clause-runs c =

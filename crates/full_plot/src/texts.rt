@@ -126,8 +126,8 @@ impl FullPlotter {
         }
     }
 
-    // How letters are written now.
-    fn lettering(&self) -> Lettering
+    /// How letters are written now.
+    pub(crate) fn lettering(&self) -> Lettering
         ensures { result.style ≡ texts.style_of (seen self.now) }
     {
         let state = &self.plotter.state;
@@ -137,8 +137,8 @@ impl FullPlotter {
             .lettering(font, state.size, &state.frame.points, turn)
     }
 
-    // How texts are read now.
-    fn reading(&self) -> Reading
+    /// How texts are read now.
+    pub(crate) fn reading(&self) -> Reading
         ensures encoding { result.encoding ≡ (seen self.now).encoding }
         ensures sets { result.sets ≡ (seen self.now).characters.sets }
     {
@@ -149,16 +149,16 @@ impl FullPlotter {
     }
 }
 
-// How texts are read: as the user says, or by the sets that the plot has chosen.
+/// How texts are read: as the user says, or by the sets that the plot has chosen.
 #[derive(Clone, Copy)]
-struct Reading {
+pub(crate) struct Reading {
     encoding: Encoding,
     sets: Sets,
 }
 
 impl Reading {
-    // The signs of a text.
-    fn signs<'a>(self, text: &'a [u8]) -> Signs<'a>
+    /// The signs of a text.
+    pub(crate) fn signs<'a>(self, text: &'a [u8]) -> Signs<'a>
         ensures value { result ≡ signs self.encoding self.sets text.now }
         ensures few { length result ≤ length text.now }
     {
