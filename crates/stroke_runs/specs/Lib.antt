@@ -1,7 +1,8 @@
--- What a reader must believe: which strokes are drawn, their runs, and sheets.
+-- What a reader must believe: which strokes are drawn, their runs, sheets, and how a document shows them.
 pub mod Drawn
 pub mod Runs
 pub mod Sheets
+pub mod Shown
 -- How strokes follow one another, taken one at a time.
 pub mod Links
 -- What the laws say of runs.

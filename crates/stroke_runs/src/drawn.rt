@@ -34,8 +34,8 @@ fn is_same_colour(one: Colour, other: Colour) -> bool
     one.red == other.red && one.green == other.green && one.blue == other.blue
 }
 
-/// Whether two windows have the same corners.
-pub fn is_same_window(one: Window, other: Window) -> bool
+// Whether two windows have the same corners.
+pub(crate) fn is_same_window(one: Window, other: Window) -> bool
     ensures { result ≡ is_same_window one other }
 {
     one.x0 == other.x0 && one.y0 == other.y0 && one.x1 == other.x1 && one.y1 == other.y1

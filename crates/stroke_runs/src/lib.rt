@@ -5,7 +5,9 @@ mod drawn;
 pub mod laws;
 mod runs;
 mod sheets;
+mod shown;
 
-pub use drawn::{is_drawn, is_same_window};
+pub use drawn::is_drawn;
 pub use runs::{Link, MOST_IN_RUN, Runs};
 pub use sheets::{between, end_of};
+pub use shown::{LEAST_WIDTH, is_shown, is_whole_page, shown_width};
