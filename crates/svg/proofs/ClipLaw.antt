@@ -17,8 +17,7 @@ use Rattle.stroke_runs.specs.Laws.{joined}
 use Rattle.stroke_runs.specs.Runs.{runs_of}
 use Rattle.svg.specs.declared.places.Rectangle.{Rectangle}
 use Rattle.svg.specs.Clips.{IsAmong, clips_of, rectangle_cmp, with_clip, with_clips}
-use Rattle.svg.specs.Documents.{paths}
-use Rattle.svg.specs.Paths.{Path, clip_of, path_of, paths_of}
+use Rattle.svg.specs.Paths.{Path, clip_of, path_of, paths, paths_of}
 
 equal_int : (a b : ℤ) → int_cmp a b ≡ Equal → a ≡ b
 equal_int a b h =

@@ -8,15 +8,15 @@ use Rattle.plot_page.specs.declared.pens.PenSet.{PenSet}
 use Rattle.plot_page.specs.declared.window.Window.{Window}
 use Rattle.svg.specs.Clips.{clip_text, clips_of, clips_text}
 use Rattle.svg.specs.Commands.{LineBy, LineTo, MoveBy, MoveTo, command_text, line, move}
-use Rattle.svg.specs.Documents.{foot_text, head_text, page_text, paths, sheets_bytes, svg_bytes}
+use Rattle.svg.specs.Documents.{foot_text, head_text, page_text, sheets_bytes, svg_bytes}
 use Rattle.svg.specs.Numbers.{colour_digits, millimetres}
-use Rattle.svg.specs.Paths.{clipped_text, path_of, path_text, pen_text, run_commands}
+use Rattle.svg.specs.Paths.{clipped_text, path_of, path_text, paths, pen_text, run_commands}
 use Rattle.svg.specs.Places.{rectangle_of}
 use Rattle.svg.specs.Readings.{lines_from, read_paths}
 use Rattle.svg.specs.declared.places.Place.{Place}
 
 -- 64 by 66 plotter units
-abbrev page : Page
+abbrev pub page : Page
 page = record {
   width = 64;
   height = 66;
@@ -48,15 +48,15 @@ abbrev stroke : ℕ → Colour → ℕ → Window → ℤ → ℤ → ℤ → �
 stroke pen colour width window ax ay bx by =
     record { pen = pen; colour = colour; width = width; window = window; ax = ax; ay = ay; bx = bx; by = by }
 
-abbrev across : Segment
+abbrev pub across : Segment
 across = stroke 1 black 56 whole (pos 0) (pos 448) (pos 1024) (pos 448)
 
 -- it begins where the last one ends
-abbrev up : Segment
+abbrev pub up : Segment
 up = stroke 1 black 56 whole (pos 1024) (pos 448) (pos 1024) (pos 1056)
 
 -- of length zero
-abbrev dot : Segment
+abbrev pub dot : Segment
 dot = stroke 1 black 56 whole (pos 16) (pos 32) (pos 16) (pos 32)
 
 abbrev clipped : Segment
@@ -65,7 +65,11 @@ clipped = stroke 2 orange 0 corner (pos 0) (pos 0) (pos 1024) (pos 1056)
 abbrev clipped_right : Segment
 clipped_right = stroke 2 orange 30 right (pos 0) (pos 0) (pos 0) (pos 0)
 
-abbrev all_pens : PenSet
+-- its window is empty
+abbrev pub empty : Segment
+empty = stroke 1 black 56 (record { x0 = pos 1; y0 = pos 0; x1 = pos 0; y1 = pos 0 }) (pos 0) (pos 0) (pos 0) (pos 0)
+
+abbrev pub all_pens : PenSet
 all_pens = record { chosen = replicate 256 true }
 
 a4_width : millimetres 11880 ≡ codes "297"
@@ -158,15 +162,15 @@ unfolding digits
 strokes_read = refl
 
 -- the width is 24 grains at least
-a_document : svg_bytes page all_pens (across ∷ clipped ∷ []) ≡ codes "<?xml version=\"1.0\" encoding=\"UTF-8\"?>\n<svg xmlns=\"http://www.w3.org/2000/svg\" width=\"1.6mm\" height=\"1.65mm\" viewBox=\"0 0 1024 1056\">\n<g fill=\"none\" stroke-linecap=\"round\" stroke-linejoin=\"round\">\n<defs>\n<clipPath id=\"w0_736_160_320\"><rect x=\"0\" y=\"736\" width=\"160\" height=\"320\"/></clipPath>\n</defs>\n<path class=\"pen1\" stroke=\"#000000\" stroke-width=\"56\" d=\"M0 608l1024 0\"/>\n<path class=\"pen2\" stroke=\"#ff8801\" stroke-width=\"24\" clip-path=\"url(#w0_736_160_320)\" d=\"M0 1056L1024 0\"/>\n</g></svg>\n"
+a_document : svg_bytes page all_pens (across ∷ clipped ∷ []) [] ≡ codes "<?xml version=\"1.0\" encoding=\"UTF-8\"?>\n<svg xmlns=\"http://www.w3.org/2000/svg\" width=\"1.6mm\" height=\"1.65mm\" viewBox=\"0 0 1024 1056\">\n<g fill=\"none\" stroke-linecap=\"round\" stroke-linejoin=\"round\">\n<defs>\n<clipPath id=\"w0_736_160_320\"><rect x=\"0\" y=\"736\" width=\"160\" height=\"320\"/></clipPath>\n</defs>\n<path class=\"pen1\" stroke=\"#000000\" stroke-width=\"56\" d=\"M0 608l1024 0\"/>\n<path class=\"pen2\" stroke=\"#ff8801\" stroke-width=\"24\" clip-path=\"url(#w0_736_160_320)\" d=\"M0 1056L1024 0\"/>\n</g></svg>\n"
 unfolding digits
 a_document = refl
 
 -- two sheets, of which the second one ends with the plot
-two_sheets : sheets_bytes page all_pens (across ∷ up ∷ []) (1 ∷ []) ≡ head_text page ++ codes "<g id=\"sheet-1\">\n<path class=\"pen1\" stroke=\"#000000\" stroke-width=\"56\" d=\"M0 608l1024 0\"/>\n</g>\n<g id=\"sheet-2\">\n<path class=\"pen1\" stroke=\"#000000\" stroke-width=\"56\" d=\"M1024 608L1024 0\"/>\n</g>\n" ++ foot_text
+two_sheets : sheets_bytes page all_pens (across ∷ up ∷ []) (1 ∷ []) [] ≡ head_text page ++ codes "<g id=\"sheet-1\">\n<path class=\"pen1\" stroke=\"#000000\" stroke-width=\"56\" d=\"M0 608l1024 0\"/>\n</g>\n<g id=\"sheet-2\">\n<path class=\"pen1\" stroke=\"#000000\" stroke-width=\"56\" d=\"M1024 608L1024 0\"/>\n</g>\n" ++ foot_text
 unfolding digits
 two_sheets = refl
 
-empty_document : svg_bytes page all_pens [] ≡ head_text page ++ foot_text
+empty_document : svg_bytes page all_pens [] [] ≡ head_text page ++ foot_text
 unfolding digits
 empty_document = refl

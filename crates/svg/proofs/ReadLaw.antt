@@ -17,10 +17,10 @@ use Rattle.stroke_runs.specs.Runs.{runs_of}
 use Rattle.stroke_runs.specs.Sheets.{sheets_of}
 use Rattle.svg.specs.declared.places.Place.{Place}
 use Rattle.svg.specs.Commands.{Command, MoveTo, LineTo, MoveBy, LineBy, line, move}
-use Rattle.svg.specs.Documents.{paths}
-use Rattle.svg.specs.Paths.{Path, line_of, path_of, paths_of, rest_commands}
-use Rattle.svg.specs.Places.{end_of, is_whole_page, moved, offset, place_of, rectangle_of, start_of, whole_page}
-use Rattle.svg.specs.Readings.{lines_from, read_paths, seen_in, shown, stroke_of, strokes_of, window_of}
+use Rattle.svg.specs.Paths.{Path, line_of, path_of, paths, paths_of, rest_commands}
+use Rattle.stroke_runs.specs.Shown.{is_whole_page, whole_page, widened}
+use Rattle.svg.specs.Places.{end_of, moved, offset, place_of, rectangle_of, start_of}
+use Rattle.svg.specs.Readings.{lines_from, read_paths, seen_in, stroke_of, strokes_of, window_of}
 
 there : (a b : ℤ) → a +ℤ (b -ℤ a) ≡ b
 there a b = omega (arith, ints)
@@ -118,18 +118,18 @@ goes_right page p last s h d =
       d.3 ∙ same_window last.window s.window a.1,
     )
 
-stroke_read : (page : Page) (p : Path) (s : Segment) → Draws page p s → stroke_of page p (ends page s) ≡ shown s
+stroke_read : (page : Page) (p : Path) (s : Segment) → Draws page p s → stroke_of page p (ends page s) ≡ widened s
 stroke_read page p s d =
     let h = pos (16 * page.height) in
     λ i. record { pen = d.0 i; colour = d.1 i; width = d.2 i; window = d.3 i; ax = s.ax; ay = back h s.ay i; bx = s.bx; by = back h s.by i }
 
-strokes_read : (page : Page) (p : Path) (last : Segment) (ss : List Segment) → Draws page p last → AreAlike last ss → map (stroke_of page p) (map (ends page) ss) ≡ map shown ss
+strokes_read : (page : Page) (p : Path) (last : Segment) (ss : List Segment) → Draws page p last → AreAlike last ss → map (stroke_of page p) (map (ends page) ss) ≡ map widened ss
 strokes_read page p last [] d h = refl
 strokes_read page p last (s ∷ ss) d h =
     let e = goes_right page p last s h.0 d in
     (λ i. stroke_read page p s e i ∷ strokes_read page p s ss e h.1 i)
 
-path_read : (page : Page) (s : Segment) (ss : List Segment) → AreAlike s ss → strokes_of page (path_of page s ss) ≡ map shown (s ∷ ss)
+path_read : (page : Page) (s : Segment) (ss : List Segment) → AreAlike s ss → strokes_of page (path_of page s ss) ≡ map widened (s ∷ ss)
 path_read page s ss h =
     let p = path_of page s ss in
     let lines : lines_from (start_of page s) (line_of page s ∷ rest_commands page s ss) ≡ map (ends page) (s ∷ ss) =
@@ -137,28 +137,28 @@ path_read page s ss h =
     let d = begins_right page s ss in
     ap (λ (ls : List (Place × Place)). map (stroke_of page p) ls) lines ∙ (λ i. stroke_read page p s d i ∷ strokes_read page p s ss d h i)
 
-runs_read : (page : Page) (rs : List (List Segment)) → AreRuns rs → read_paths page (paths_of page rs) ≡ map shown (joined rs)
+runs_read : (page : Page) (rs : List (List Segment)) → AreRuns rs → read_paths page (paths_of page rs) ≡ map widened (joined rs)
 runs_read page [] h = refl
 runs_read page ([] ∷ rs) h = absurd h.0
 runs_read page ((s ∷ ss) ∷ rs) h =
-    (λ i. path_read page s ss h.0.1 i ++ runs_read page rs h.1 i) ∙ sym (map-append shown (s ∷ ss) (joined rs))
+    (λ i. path_read page s ss h.0.1 i ++ runs_read page rs h.1 i) ∙ sym (map-append widened (s ∷ ss) (joined rs))
 
-pub all_read : (page : Page) (pens : PenSet) (strokes : List Segment) → read_paths page (paths page pens strokes) ≡ map shown (drawn pens strokes)
-all_read page pens strokes = runs_read page (runs_of (drawn pens strokes)) (alike_of (drawn pens strokes)) ∙ ap (λ (ss : List Segment). map shown ss) (all_of (drawn pens strokes))
+pub all_read : (page : Page) (pens : PenSet) (strokes : List Segment) → read_paths page (paths page pens strokes) ≡ map widened (drawn pens strokes)
+all_read page pens strokes = runs_read page (runs_of (drawn pens strokes)) (alike_of (drawn pens strokes)) ∙ ap (λ (ss : List Segment). map widened ss) (all_of (drawn pens strokes))
 
 drawn_both : (b : Bool) (s : Segment) (us vs ws : List Segment) → us ++ vs ≡ ws → cond b (s ∷ us) us ++ vs ≡ cond b (s ∷ ws) ws
 drawn_both true s us vs ws h = ap (λ (zs : List Segment). s ∷ zs) h
 drawn_both false s us vs ws h = h
 
 -- what is drawn of strokes and of others
-drawn_append : (pens : PenSet) (ss ts : List Segment) → drawn pens ss ++ drawn pens ts ≡ drawn pens (ss ++ ts)
+pub drawn_append : (pens : PenSet) (ss ts : List Segment) → drawn pens ss ++ drawn pens ts ≡ drawn pens (ss ++ ts)
 drawn_append pens [] ts = refl
 drawn_append pens (s ∷ ss) ts = drawn_both (is_drawn pens s) s (drawn pens ss) (drawn pens ts) (drawn pens (ss ++ ts)) (drawn_append pens ss ts)
 
-each_read : (page : Page) (pens : PenSet) (sheets : List (List Segment)) → flat_map (λ (sheet : List Segment). read_paths page (paths page pens sheet)) sheets ≡ map shown (drawn pens (joined sheets))
+each_read : (page : Page) (pens : PenSet) (sheets : List (List Segment)) → flat_map (λ (sheet : List Segment). read_paths page (paths page pens sheet)) sheets ≡ map widened (drawn pens (joined sheets))
 each_read page pens [] = refl
 each_read page pens (sheet ∷ sheets) =
-    (λ i. all_read page pens sheet i ++ each_read page pens sheets i) ∙ sym (map-append shown (drawn pens sheet) (drawn pens (joined sheets))) ∙ ap (λ (zs : List Segment). map shown zs) (drawn_append pens sheet (joined sheets))
+    (λ i. all_read page pens sheet i ++ each_read page pens sheets i) ∙ sym (map-append widened (drawn pens sheet) (drawn pens (joined sheets))) ∙ ap (λ (zs : List Segment). map widened zs) (drawn_append pens sheet (joined sheets))
 
-pub sheets_read : (page : Page) (pens : PenSet) (strokes : List Segment) (ends : List ℕ) → flat_map (λ (sheet : List Segment). read_paths page (paths page pens sheet)) (sheets_of strokes ends) ≡ map shown (drawn pens strokes)
-sheets_read page pens strokes ends = each_read page pens (sheets_of strokes ends) ∙ ap (λ (ss : List Segment). map shown (drawn pens ss)) (all_sheets strokes ends)
+pub sheets_read : (page : Page) (pens : PenSet) (strokes : List Segment) (ends : List ℕ) → flat_map (λ (sheet : List Segment). read_paths page (paths page pens sheet)) (sheets_of strokes ends) ≡ map widened (drawn pens strokes)
+sheets_read page pens strokes ends = each_read page pens (sheets_of strokes ends) ∙ ap (λ (ss : List Segment). map widened (drawn pens ss)) (all_sheets strokes ends)

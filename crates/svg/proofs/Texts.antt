@@ -2,6 +2,8 @@
 use Rattle.std.proofs.Common.{◌≡◌, ℕ, ◌+◌, ◌-◌, ◌<◌, List, [], ◌∷◌, ◌++◌, flat_map, length, take, drop, get_or, Bool, true, false, cond, refl, ap, sym, ◌∙◌, append_assoc, append-nil, zero, suc, drop-cons, add-one, max, ◌≤◌, min, nat_eq, arith, length-append, length-drop}
 use Rattle.std.proofs.lemmas.List.{drop_more, length-take}
 use Rattle.std.proofs.lemmas.List.Concat.{flat_map-append}
+use Rattle.labels.specs.Labels.{LabelShape}
+use Rattle.labels.specs.Sheets.{count_to}
 use Rattle.plot_page.specs.Segments.{Segment}
 use Rattle.plot_page.specs.declared.page.Page.{Page}
 use Rattle.plot_page.specs.declared.pens.PenSet.{PenSet}
@@ -12,9 +14,10 @@ use Rattle.stroke_runs.specs.Drawn.{is_drawn, is_joined, drawn}
 use Rattle.stroke_runs.specs.Links.{after_stroke, at_start, link_of, room_after, runs_after}
 use Rattle.stroke_runs.specs.Runs.{Following, going_on, beginning, goes_on, following, runs_of}
 use Rattle.svg.specs.Commands.{Command, command_text, move, MoveTo}
-use Rattle.stroke_runs.specs.Sheets.{between, sheets_after}
-use Rattle.svg.specs.Documents.{paths_text, sheet_text, sheets_text}
-use Rattle.svg.specs.Paths.{clip_of, end_text, line_of, path_text, paths_of, rest_commands, start_text}
+use Rattle.stroke_runs.specs.Sheets.{between}
+use Rattle.svg.specs.Sheets.{labelled_after, sheet_between}
+use Rattle.svg.specs.Documents.{sheet_text, sheets_text}
+use Rattle.svg.specs.Paths.{clip_of, end_text, line_of, path_text, paths_of, paths_text, rest_commands, start_text}
 use Rattle.svg.specs.Places.{end_of, start_of}
 use Rattle.svg.specs.Steps.{after_step, link_text, open_end, step_text, steps_text}
 
@@ -124,11 +127,11 @@ next_end ends n i h =
     drop_more (ends ++ n ∷ []) i n (omega (arith, h, length-append ends (n ∷ []))) ∙ ap (λ (e : ℕ). e ∷ drop (i + 1) (ends ++ n ∷ [])) (end_at ends n i)
 
 -- the next sheet, if it has a stroke, and if it has none
-pub taken_sheet : (page : Page) (pens : PenSet) (number : ℕ) (strokes : List Segment) (at end : ℕ) (ends : List ℕ) → nat_eq (length (between strokes at end)) 0 ≡ false → sheets_text page pens number (sheets_after strokes at (end ∷ ends)) ≡ sheet_text page pens (number + 1) (between strokes at end) ++ sheets_text page pens (number + 1) (sheets_after strokes end ends)
-taken_sheet page pens number strokes at end ends h = ap (λ (b : Bool). sheets_text page pens number (cond b (sheets_after strokes at ends) (between strokes at end ∷ sheets_after strokes end ends))) h
+pub taken_sheet : (page : Page) (pens : PenSet) (number : ℕ) (strokes : List Segment) (at end : ℕ) (ends : List ℕ) (labels : List LabelShape) → nat_eq (length (between strokes at end)) 0 ≡ false → sheets_text page pens number (labelled_after strokes at (end ∷ ends) labels) ≡ sheet_text page pens (number + 1) (sheet_between strokes at end labels) ++ sheets_text page pens (number + 1) (labelled_after strokes end ends (drop (count_to end labels) labels))
+taken_sheet page pens number strokes at end ends labels h = ap (λ (b : Bool). sheets_text page pens number (cond b (labelled_after strokes at ends labels) (sheet_between strokes at end labels ∷ labelled_after strokes end ends (drop (count_to end labels) labels)))) h
 
-pub passed_sheet : (page : Page) (pens : PenSet) (number : ℕ) (strokes : List Segment) (at end : ℕ) (ends : List ℕ) → nat_eq (length (between strokes at end)) 0 ≡ true → sheets_text page pens number (sheets_after strokes at (end ∷ ends)) ≡ sheets_text page pens number (sheets_after strokes at ends)
-passed_sheet page pens number strokes at end ends h = ap (λ (b : Bool). sheets_text page pens number (cond b (sheets_after strokes at ends) (between strokes at end ∷ sheets_after strokes end ends))) h
+pub passed_sheet : (page : Page) (pens : PenSet) (number : ℕ) (strokes : List Segment) (at end : ℕ) (ends : List ℕ) (labels : List LabelShape) → nat_eq (length (between strokes at end)) 0 ≡ true → sheets_text page pens number (labelled_after strokes at (end ∷ ends) labels) ≡ sheets_text page pens number (labelled_after strokes at ends labels)
+passed_sheet page pens number strokes at end ends labels h = ap (λ (b : Bool). sheets_text page pens number (cond b (labelled_after strokes at ends labels) (sheet_between strokes at end labels ∷ labelled_after strokes end ends (drop (count_to end labels) labels)))) h
 
 pub sheet_size : (strokes : List Segment) (at end : ℕ) → length (between strokes at end) ≡ min end (length strokes) - at
 sheet_size strokes at end = length-drop at (take end strokes) ∙ ap (λ (n : ℕ). n - at) (length-take end strokes)

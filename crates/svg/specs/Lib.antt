@@ -1,5 +1,8 @@
--- What a reader must believe: the bytes of an SVG document, and what its paths show.
+-- What a reader must believe: the bytes of an SVG document, and what its paths and its titles show.
 pub mod Documents
+pub mod Sheets
+pub mod Parts
+pub mod Titles
 pub mod Paths
 pub mod Commands
 pub mod Places

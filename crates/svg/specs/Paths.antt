@@ -4,13 +4,16 @@ use Rattle.std.specs.Fmt.{signed_decimal}
 use Rattle.plot_page.specs.Segments.{Segment}
 use Rattle.plot_page.specs.declared.colour.Colour.{Colour}
 use Rattle.plot_page.specs.declared.page.Page.{Page}
+use Rattle.plot_page.specs.declared.pens.PenSet.{PenSet}
 use Rattle.plot_page.specs.declared.window.Window.{Window}
 use Rattle.stroke_runs.specs.Drawn.{is_joined}
-use Rattle.svg.specs.declared.paths.TheConstants.{LEAST_WIDTH}
+use Rattle.stroke_runs.specs.declared.shown.TheConstants.{LEAST_WIDTH}
+use Rattle.stroke_runs.specs.Runs.{runs}
+use Rattle.stroke_runs.specs.Shown.{is_whole_page}
 use Rattle.svg.specs.declared.places.Rectangle.{Rectangle}
 use Rattle.svg.specs.Commands.{Command, MoveTo, command_text, line, move}
 use Rattle.svg.specs.Numbers.{colour_digits}
-use Rattle.svg.specs.Places.{end_of, is_whole_page, rectangle_of, start_of}
+use Rattle.svg.specs.Places.{end_of, rectangle_of, start_of}
 
 -- a path: the number of the pen, the colour, the width in grains, what it is clipped to, and its commands
 pub record Path : Type 0 where
@@ -82,3 +85,10 @@ end_text = codes "\"/>\n"
 
 abbrev pub path_text : Path → List ℕ
 path_text p = start_text p.pen p.colour p.width p.clip ++ flat_map command_text p.commands ++ end_text
+
+-- the paths of the strokes that are drawn
+abbrev pub paths : Page → PenSet → List Segment → List Path
+paths page pens strokes = paths_of page (runs pens strokes)
+
+abbrev pub paths_text : Page → PenSet → List Segment → List ℕ
+paths_text page pens strokes = flat_map path_text (paths page pens strokes)

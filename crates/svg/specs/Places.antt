@@ -1,10 +1,9 @@
 -- Places and rectangles of an SVG document, in grains (1/16 plotter unit) from the left upper corner of the page: y grows
 -- downward.
-use Rattle.std.specs.Prelude.{ℤ, pos, ◌-ℤ◌, ◌+ℤ◌, ◌*◌, ◌≤◌, nat_abs, Bool}
+use Rattle.std.specs.Prelude.{ℤ, pos, ◌-ℤ◌, ◌+ℤ◌, ◌*◌, ◌≤◌, nat_abs}
 use Rattle.plot_page.specs.Segments.{Segment}
 use Rattle.plot_page.specs.declared.page.Page.{Page}
 use Rattle.plot_page.specs.declared.window.Window.{Window}
-use Rattle.stroke_runs.specs.Drawn.{is_same_window}
 use Rattle.svg.specs.declared.places.Place.{Place}
 use Rattle.svg.specs.declared.places.Rectangle.{Rectangle}
 
@@ -32,13 +31,6 @@ moved from by = record { x = from.x +ℤ by.x; y = from.y +ℤ by.y }
 -- within twice the size of the greatest page
 abbrev pub IsNear : Place → Type 0
 IsNear p = (nat_abs p.x ≤ 2097152) × (nat_abs p.y ≤ 2097152)
-
--- the whole page as a window
-abbrev pub whole_page : Page → Window
-whole_page page = record { x0 = pos 0; y0 = pos 0; x1 = pos (16 * page.width); y1 = pos (16 * page.height) }
-
-abbrev pub is_whole_page : Page → Window → Bool
-is_whole_page page window = is_same_window window (whole_page page)
 
 -- a window as a rectangle
 abbrev pub rectangle_of : Page → Window → Rectangle

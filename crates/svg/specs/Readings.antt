@@ -1,14 +1,17 @@
 -- What the paths of a document show, by the rules of SVG 1.1, 8.3.
-use Rattle.std.specs.Prelude.{pos, max, ◌+ℤ◌, List, [], ◌∷◌, flat_map, map, Option, Some, None}
+use Rattle.std.specs.Prelude.{ℕ, pos, ◌+ℤ◌, List, [], ◌∷◌, flat_map, map, Option, Some, None}
 use Rattle.plot_page.specs.Segments.{Segment}
 use Rattle.plot_page.specs.declared.page.Page.{Page}
+use Rattle.plot_page.specs.declared.pens.PenSet.{PenSet}
 use Rattle.plot_page.specs.declared.window.Window.{Window}
-use Rattle.svg.specs.declared.paths.TheConstants.{LEAST_WIDTH}
+use Rattle.stroke_runs.specs.Shown.{whole_page}
 use Rattle.svg.specs.declared.places.Place.{Place}
 use Rattle.svg.specs.declared.places.Rectangle.{Rectangle}
 use Rattle.svg.specs.Commands.{Command, MoveTo, LineTo, MoveBy, LineBy}
+use Rattle.svg.specs.Parts.{Part, Plain, Group, parts}
 use Rattle.svg.specs.Paths.{Path}
-use Rattle.svg.specs.Places.{moved, turned, whole_page}
+use Rattle.svg.specs.Places.{moved, turned}
+use Rattle.svg.specs.Sheets.{Sheet}
 
 -- the lines that commands draw, each from a place to a place, from where the commands begin
 abbrev pub lines_from : Place → List Command → List (Place × Place)
@@ -48,6 +51,22 @@ strokes_of page p = map (stroke_of page p) (lines_from (record { x = pos 0; y = 
 abbrev pub read_paths : Page → List Path → List Segment
 read_paths page paths = flat_map (strokes_of page) paths
 
--- a stroke as a document shows it: at least 24 grains wide
-abbrev pub shown : Segment → Segment
-shown s = record s { width = max LEAST_WIDTH s.width }
+-- the paths of a part, and its titles
+abbrev pub part_paths : Part → List Path
+part_paths (Plain paths) = paths
+part_paths (Group text paths) = paths
+
+abbrev pub part_titles : Part → List (List ℕ)
+part_titles (Plain paths) = []
+part_titles (Group text paths) = text ∷ []
+
+-- the strokes of parts, and their titles
+abbrev pub read_parts : Page → List Part → List Segment
+read_parts page parts = read_paths page (flat_map part_paths parts)
+
+abbrev pub titles : List Part → List (List ℕ)
+titles parts = flat_map part_titles parts
+
+-- the strokes of sheets
+abbrev pub read_sheets : Page → PenSet → List Sheet → List Segment
+read_sheets page pens sheets = flat_map (λ sheet. read_parts page (parts page pens sheet.strokes sheet.labels)) sheets

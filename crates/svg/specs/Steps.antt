@@ -8,7 +8,7 @@ use Rattle.stroke_runs.specs.declared.runs.Link.TheVariants.{Begins, Apart, Join
 use Rattle.stroke_runs.specs.declared.runs.Runs.{Runs}
 use Rattle.stroke_runs.specs.Drawn.{is_drawn}
 use Rattle.stroke_runs.specs.Links.{has_begun, link_of, runs_after}
-use Rattle.svg.specs.declared.paths.TheConstants.{LEAST_WIDTH}
+use Rattle.stroke_runs.specs.declared.shown.TheConstants.{LEAST_WIDTH}
 use Rattle.svg.specs.declared.places.Place.{Place}
 use Rattle.svg.specs.Commands.{MoveTo, command_text, move}
 use Rattle.svg.specs.Paths.{clip_of, end_text, line_of, start_text}

@@ -8,7 +8,7 @@ ghost use Rattle.svg.specs.Paths.{clip_name, clip_of, clipped_text};
 use crate::clip_paths::ClipPaths;
 use crate::document::PIECE;
 use crate::head::LONGEST_HEAD;
-use crate::places::{Rectangle, is_whole_page, rectangle_of};
+use crate::places::{Rectangle, rectangle_of};
 use crate::sheets::KEPT;
 use devices::{Sink, WriteFault, append};
 use number_text::{LONGEST_SIGNED, append_signed};
@@ -16,7 +16,7 @@ use pieces::{Waiting, make_room};
 use plot_page::{Page, PenSet, Stroke};
 use std::alloc::{AllocError, Global};
 use std::collections::BTreeSet;
-use stroke_runs::is_drawn;
+use stroke_runs::{is_drawn, is_whole_page};
 
 /// The longest reference to a clip path: 19 bytes, and a name.
 pub(crate) const LONGEST_CLIPPED: usize = 19 + LONGEST_NAME;

@@ -1,24 +1,55 @@
 //! Laws of documents.
-ghost use Rattle.std.specs.Prelude.{◌≡◌, flat_map, map};
+ghost use Rattle.std.specs.Prelude.{◌≡◌, [], ◌++◌, filter, map};
 ghost use Rattle.std.specs.List.{All};
 ghost use Rattle.stroke_runs.specs.Drawn.{drawn};
-ghost use Rattle.stroke_runs.specs.Sheets.{sheets_of};
+ghost use Rattle.stroke_runs.specs.Shown.{is_shown, widened};
 ghost use Rattle.svg.specs.Clips.{IsAmong, clips_of};
-ghost use Rattle.svg.specs.Documents.{paths};
-ghost use Rattle.svg.specs.Readings.{read_paths, shown};
+ghost use Rattle.svg.specs.Documents.{foot_text, start_text, svg_bytes};
+ghost use Rattle.svg.specs.Parts.{AreInOrder, cut_labels, parts};
+ghost use Rattle.svg.specs.Paths.{paths, paths_text};
+ghost use Rattle.svg.specs.Readings.{read_parts, read_sheets, titles};
+ghost use Rattle.svg.specs.Sheets.{labelled_sheets};
+ghost use Rattle.svg.specs.Titles.{label_text};
 
+use labels::Label;
 use plot_page::{Page, PenSet, Stroke};
 
-/// The paths of strokes show those that are drawn, in their order, each once: with its pen, its colour, its window, and its
-/// width, which is at least 24 grains.
-pub fn paths_show_strokes(page: &Page, pens: &PenSet, strokes: &[Stroke])
-    ensures { read_paths page.now (paths page.now pens.now strokes.now) ≡ map shown (drawn pens.now strokes.now) }
+/// The paths of strokes, in their groups and outside of them, show those that are drawn, in their order, each once: with its
+/// pen, its colour, its window, and its width, which is at least 24 grains. It does not matter what the labels say.
+pub fn paths_show_strokes(page: &Page, pens: &PenSet, strokes: &[Stroke], labels: &[Label])
+    ensures { read_parts page.now (parts page.now pens.now strokes.now labels.now)
+        ≡ map widened (drawn pens.now strokes.now) }
 {}
 
 /// The paths of all sheets, one after another, show the same.
-pub fn sheets_show_strokes(page: &Page, pens: &PenSet, strokes: &[Stroke], ends: &[usize])
-    ensures { flat_map (λ sheet. read_paths page.now (paths page.now pens.now sheet)) (sheets_of strokes.now ends.now)
-        ≡ map shown (drawn pens.now strokes.now) }
+pub fn sheets_show_strokes(
+    page: &Page,
+    pens: &PenSet,
+    strokes: &[Stroke],
+    ends: &[usize],
+    labels: &[Label],
+)
+    ensures { read_sheets page.now pens.now (labelled_sheets strokes.now ends.now labels.now)
+        ≡ map widened (drawn pens.now strokes.now) }
+{}
+
+/// The titles of strokes are the texts of the labels of which a stroke is drawn, in order. A stroke of two labels belongs to
+/// the first one.
+pub fn titles_are_labels(page: &Page, pens: &PenSet, strokes: &[Stroke], labels: &[Label])
+    ensures { titles (parts page.now pens.now strokes.now labels.now)
+        ≡ map label_text (filter (is_shown pens.now strokes.now) (cut_labels 0 labels.now)) }
+{}
+
+/// Labels in order, of which no two have the same stroke, keep all their strokes.
+pub fn labels_in_order_are_whole(labels: &[Label])
+    requires { AreInOrder 0 labels.now }
+    ensures { cut_labels 0 labels.now ≡ labels.now }
+{}
+
+/// A document without labels has no groups of labels.
+pub fn paths_without_labels(page: &Page, pens: &PenSet, strokes: &[Stroke])
+    ensures { svg_bytes page.now pens.now strokes.now []
+        ≡ start_text page.now pens.now strokes.now ++ paths_text page.now pens.now strokes.now ++ foot_text }
 {}
 
 /// What a path is clipped to is a clip path of the document.

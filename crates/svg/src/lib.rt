@@ -1,4 +1,4 @@
-//! SVG 1.1: strokes on a page as a document of paths.
+//! SVG 1.1: strokes on a page as a document of paths, and the texts of labels as titles.
 #![tactic(auto)]
 
 mod clip_paths;
@@ -7,10 +7,15 @@ mod commands;
 mod document;
 mod head;
 pub mod laws;
+mod lengths;
+mod parts;
 mod paths;
 mod places;
 mod sheets;
 mod steps;
+mod strokes;
+mod titles;
 
 pub use clip_paths::ClipPaths;
 pub use document::{write_svg, write_svg_sheets};
+pub use lengths::{MOST_CHARACTERS, texts_fit};

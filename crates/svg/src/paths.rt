@@ -1,5 +1,6 @@
 //! Paths: how the strokes of a run are drawn.
 ghost use Rattle.std.specs.Prelude.{◌≡◌, ◌+◌, ◌-◌, ◌<◌, ◌≤◌, ◌++◌, length, take, max, false};
+ghost use Rattle.stroke_runs.specs.declared.shown.TheConstants.{LEAST_WIDTH};
 ghost use Rattle.svg.specs.Numbers.{colour_digits};
 ghost use Rattle.svg.specs.Paths.{clip_of, pen_text, start_text};
 
@@ -7,9 +8,7 @@ use crate::clips::{LONGEST_CLIPPED, append_clipped};
 use devices::append;
 use number_text::{append_count, hex_digit};
 use plot_page::{Colour, Page, Stroke};
-
-/// The least width of a path, in grains: what 1.5 pixels are at 1016 dots per inch, so that the lines of a solid fill meet.
-pub const LEAST_WIDTH: u32 = 24;
+use stroke_runs::shown_width;
 
 /// The longest start of a path: the pen, a reference, and four bytes.
 pub(crate) const LONGEST_START: usize = LONGEST_PEN + LONGEST_CLIPPED + 4;
@@ -40,8 +39,7 @@ fn append_pen_of(piece: &mut [u8], used: usize, stroke: &Stroke) -> usize
     ensures size { length piece.new ≡ length piece.old }
 {
     let pen = u32::from(stroke.pen);
-    let width = LEAST_WIDTH.max(stroke.width);
-    append_pen(piece, used, pen, stroke.colour, width)
+    append_pen(piece, used, pen, stroke.colour, shown_width(stroke))
 }
 
 // Appends how the strokes of a path are drawn.

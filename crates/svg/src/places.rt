@@ -1,9 +1,8 @@
 //! Places of a document, in grains from the left upper corner of the page.
 ghost use Rattle.std.specs.Prelude.{◌≡◌, ◌≤◌, ◌-ℤ◌, nat_abs};
-ghost use Rattle.svg.specs.Places.{end_of, is_whole_page, IsNear, offset, place_of, rectangle_of, start_of, turned, whole_page};
+ghost use Rattle.svg.specs.Places.{end_of, IsNear, offset, place_of, rectangle_of, start_of, turned};
 
-use plot_page::{Page, Stroke, Window};
-use stroke_runs::is_same_window;
+use plot_page::{Page, Stroke};
 
 /// A place, or how far one place is from another: to the right, and downward.
 #[derive(Clone, Copy)]
@@ -57,25 +56,6 @@ pub(crate) fn end_of(page: &Page, stroke: &Stroke) -> Place
     ensures near { IsNear result }
 {
     place_of(page, stroke.bx, stroke.by)
-}
-
-// The whole page as a window.
-fn whole_page(page: &Page) -> Window
-    ensures { result ≡ whole_page page.now }
-{
-    Window {
-        x0: 0,
-        y0: 0,
-        x1: (16 * page.width) as i32,
-        y1: (16 * page.height) as i32,
-    }
-}
-
-// Whether a stroke is seen in the whole page.
-pub(crate) fn is_whole_page(page: &Page, window: Window) -> bool
-    ensures { result ≡ is_whole_page page.now window }
-{
-    is_same_window(window, whole_page(page))
 }
 
 // The rectangle of the window of a stroke.

@@ -1,86 +1,64 @@
-//! The strokes of a document, and its sheets.
+//! The sheets of a document.
 ghost use Rattle.std.specs.Prelude.{◌≡◌, ◌+◌, ◌-◌, ◌*◌, ◌^◌, ◌<◌, ◌≤◌, ◌++◌, length, take, IfOk};
+ghost use Rattle.labels.specs.Sheets.{all_counted, count_to};
 ghost use Rattle.pieces.specs.Pieces.{Passes};
 ghost use Rattle.plot_page.specs.declared.stroke.TheConstants.{MOST_STROKES};
-ghost use Rattle.stroke_runs.specs.Sheets.{sheets_of};
-ghost use Rattle.svg.specs.Documents.{open_text, paths_text, sheet_text, sheets_text};
+ghost use Rattle.svg.specs.Documents.{open_text, sheet_text, sheets_text};
+ghost use Rattle.svg.specs.Sheets.{labelled_sheets};
+ghost use Rattle.svg.specs.Titles.{text_length};
 
 use crate::document::PIECE;
-use crate::steps::{LONGEST_END, LONGEST_STEP, append_end, append_step};
+use crate::lengths::MOST_CHARACTERS;
+use crate::parts::{LONGEST_PART, put_parts};
+use crate::titles::LONGEST_CHARACTER;
 use devices::{Sink, WriteFault, append};
+use labels::Label;
 use number_text::{LONGEST_COUNT, append_count};
 use pieces::{Waiting, make_room};
 use plot_page::{Page, PenSet, Stroke};
-use stroke_runs::{Runs, between, end_of};
+use stroke_runs::{between, end_of};
 
-/// Room that is kept in a piece after each stroke: for the end of a path, of a group, and of the document.
-pub(crate) const KEPT: usize = LONGEST_END + CLOSE + FOOT;
+/// Room that is kept in a piece after strokes: for the end of their group, and of the document.
+pub(crate) const KEPT: usize = CLOSE + FOOT;
 
 /// The end of the document, in bytes.
 pub(crate) const FOOT: usize = 11;
 
 /// The end of a group, in bytes.
-const CLOSE: usize = 5;
+pub(crate) const CLOSE: usize = 5;
 
 /// The longest start of a group: 16 bytes, and a number.
 const LONGEST_OPEN: usize = 16 + LONGEST_COUNT;
 
-// Hands on the paths of strokes.
-pub(crate) fn put_strokes<K: Sink>(
-    page: &Page,
-    pens: &PenSet,
-    strokes: &[Stroke],
-    piece: &mut [u8],
-    waiting: Waiting,
-    sink: &mut K,
-) -> Result<Waiting, WriteFault>
-    requires sound { (K.state sink.old).faults < 2 ^ 64 - 1 }
-    requires strokes { length strokes.now ≤ MOST_STROKES }
-    requires used { waiting.used + KEPT ≤ PIECE }
-    requires count { waiting.done + waiting.used ≤ 2 ^ 40 }
-    requires size { length piece.old ≡ PIECE }
-    ensures passes { Passes (K.state sink.old) (K.state sink.new) waiting.done
-        (take waiting.used piece.old ++ paths_text page.now pens.now strokes.now) piece.new result }
-    ensures used { IfOk result (λ w. w.used + CLOSE + FOOT ≤ PIECE) }
-    ensures count { IfOk result (λ w. w.done + w.used
-        ≤ waiting.done + waiting.used + LONGEST_STEP * length strokes.now + LONGEST_END) }
-    ensures size { length piece.new ≡ length piece.old }
-{
-    let mut runs = Runs::new();
-    let mut waiting = waiting;
-    for stroke in strokes {
-        waiting = make_room(piece, waiting, LONGEST_STEP + KEPT, sink)?;
-        waiting.used = append_step(piece, waiting.used, page, pens, &mut runs, stroke);
-    }
-    waiting.used = append_end(piece, waiting.used, &runs);
-    Ok(waiting)
-}
-
-// Hands on a sheet of this number.
+// Hands on a sheet of this number, with its labels, whose strokes are counted from `before` and `at` strokes before these.
 fn put_sheet<K: Sink>(
     page: &Page,
     pens: &PenSet,
     number: u32,
     sheet: &[Stroke],
+    labels: &[Label],
+    before: usize,
+    at: usize,
     piece: &mut [u8],
     waiting: Waiting,
     sink: &mut K,
 ) -> Result<Waiting, WriteFault>
     requires sound { (K.state sink.old).faults < 2 ^ 64 - 1 }
-    requires strokes { length sheet.now ≤ MOST_STROKES }
     requires used { waiting.used + FOOT ≤ PIECE }
-    requires count { waiting.done + waiting.used ≤ 2 ^ 39 }
+    requires count { waiting.done + waiting.used + LONGEST_PART * length sheet.now
+        + LONGEST_CHARACTER * text_length labels.now + LONGEST_OPEN + CLOSE < 2 ^ 64 }
     requires size { length piece.old ≡ PIECE }
     ensures passes { Passes (K.state sink.old) (K.state sink.new) waiting.done
-        (take waiting.used piece.old ++ sheet_text page.now pens.now number sheet.now) piece.new result }
+        (take waiting.used piece.old ++ sheet_text page.now pens.now number
+        (record { strokes = sheet.now; labels = all_counted at (all_counted before labels.now) })) piece.new result }
     ensures used { IfOk result (λ w. w.used + FOOT ≤ PIECE) }
     ensures count { IfOk result (λ w. w.done + w.used ≤ waiting.done + waiting.used
-        + LONGEST_STEP * length sheet.now + LONGEST_OPEN + LONGEST_END + CLOSE) }
+        + LONGEST_PART * length sheet.now + LONGEST_CHARACTER * text_length labels.now + LONGEST_OPEN + CLOSE) }
     ensures size { length piece.new ≡ length piece.old }
 {
-    let mut waiting = make_room(piece, waiting, LONGEST_OPEN + KEPT, sink)?;
+    let mut waiting = make_room(piece, waiting, LONGEST_OPEN, sink)?;
     waiting.used = append_open(piece, waiting.used, number);
-    let mut waiting = put_strokes(page, pens, sheet, piece, waiting, sink)?;
+    let mut waiting = put_parts(page, pens, sheet, labels, before, at, piece, waiting, sink)?;
     waiting.used = append(piece, waiting.used, b"</g>\n");
     Ok(waiting)
 }
@@ -96,38 +74,63 @@ fn append_open(piece: &mut [u8], used: usize, number: u32) -> usize
     append(piece, used, b"\">\n")
 }
 
-// Hands on all sheets.
+// How many of the labels are on a sheet that ends after `end` strokes, if so many come before the first sheet.
+fn count_to(labels: &[Label], before: usize, end: usize) -> usize
+    ensures value { result ≡ count_to end (all_counted before labels.now) }
+    ensures most { result ≤ length labels.now }
+{
+    let mut rest = labels;
+    let mut count = 0;
+    'labels: while let [label, others @ ..] = rest {
+        if label.first.saturating_sub(before) >= end {
+            break;
+        }
+        count += 1;
+        rest = others;
+    }
+    count
+}
+
+// Hands on all sheets, with the labels, whose strokes are counted from `before` strokes before these.
 pub(crate) fn put_sheets<K: Sink>(
     page: &Page,
     pens: &PenSet,
     strokes: &[Stroke],
     ends: &[usize],
+    labels: &[Label],
+    before: usize,
     piece: &mut [u8],
     waiting: Waiting,
     sink: &mut K,
 ) -> Result<Waiting, WriteFault>
     requires sound { (K.state sink.old).faults < 2 ^ 64 - 1 }
     requires strokes { length strokes.now ≤ MOST_STROKES }
-    requires used { waiting.used + KEPT ≤ PIECE }
+    requires labels { text_length labels.now ≤ MOST_CHARACTERS }
+    requires used { waiting.used + FOOT ≤ PIECE }
     requires count { waiting.done + waiting.used ≤ 2 ^ 32 }
     requires size { length piece.old ≡ PIECE }
     ensures passes { Passes (K.state sink.old) (K.state sink.new) waiting.done
-        (take waiting.used piece.old ++ sheets_text page.now pens.now 0 (sheets_of strokes.now ends.now))
-        piece.new result }
+        (take waiting.used piece.old ++ sheets_text page.now pens.now 0
+        (labelled_sheets strokes.now ends.now (all_counted before labels.now))) piece.new result }
     ensures used { IfOk result (λ w. w.used + FOOT ≤ PIECE) }
-    ensures count { IfOk result (λ w. w.done + w.used ≤ 2 ^ 40) }
+    ensures count { IfOk result (λ w. w.done + w.used < 2 ^ 63) }
     ensures size { length piece.new ≡ length piece.old }
 {
     let mut waiting = waiting;
+    let mut rest = labels;
     let mut at = 0;
     let mut number = 0;
-    for before in 0..ends.len() + 1 {
-        let end = end_of(strokes, ends, before);
+    for ended in 0..ends.len() + 1 {
+        let end = end_of(strokes, ends, ended);
         let sheet = between(strokes, at, end);
         if !sheet.is_empty() {
+            let (here, later) = rest.split_at(count_to(rest, before, end));
             number += 1;
-            waiting = put_sheet(page, pens, number, sheet, piece, waiting, sink)?;
+            waiting = put_sheet(
+                page, pens, number, sheet, here, before, at, piece, waiting, sink,
+            )?;
             at = end;
+            rest = later;
         }
     }
     Ok(waiting)

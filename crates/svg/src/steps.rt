@@ -71,6 +71,7 @@ pub(crate) fn append_end(piece: &mut [u8], used: usize, runs: &Runs) -> usize
     requires { used + LONGEST_END ≤ length piece.old }
     ensures text { take result piece.new ≡ take used piece.old ++ open_end runs.now }
     ensures most { result ≤ used + LONGEST_END }
+    ensures used { result ≡ used + length (open_end runs.now) }
     ensures size { length piece.new ≡ length piece.old }
 {
     if !runs.has_begun() {

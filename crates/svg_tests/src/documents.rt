@@ -34,7 +34,7 @@ fn is_document(
     let mut sink = OverWrite::new(Vec::new(alloc));
     let pens = three_pens();
     let clips = ClipPaths::of(alloc, page, &pens, &strokes)?;
-    let bytes = write_svg(page, &pens, &strokes, &clips, &mut sink)?;
+    let bytes = write_svg(page, &pens, &strokes, &[], 0, &clips, &mut sink)?;
     assert_eq!(rt; sink.failures(), 0);
     assert_eq!(rt;
         str::from_utf8(sink.into_inner().as_slice())?,

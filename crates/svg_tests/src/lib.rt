@@ -4,6 +4,8 @@
 #[cfg(test)]
 mod documents;
 #[cfg(test)]
+mod groups;
+#[cfg(test)]
 mod long_documents;
 #[cfg(test)]
 mod runs;
@@ -11,3 +13,7 @@ mod runs;
 mod sheets;
 #[cfg(test)]
 mod strokes;
+#[cfg(test)]
+mod titles;
+#[cfg(test)]
+mod written;

@@ -4,11 +4,12 @@ ghost use Rattle.std.specs.Prelude.{◌≡◌, ◌-◌, ◌^◌, ◌<◌, Some};
 use crate::documents::{FOOT, HEAD};
 use crate::strokes::{page, strokes_of, three_pens};
 use devices::{Sink, SinkFault};
+use labels::Label;
 use plot_page::{Colour, MOST_STROKES, Stroke, Window};
 use std::alloc::Global;
 use std::process::Abort;
 use std::test::Fail;
-use svg::{ClipPaths, write_svg, write_svg_sheets};
+use svg::{ClipPaths, texts_fit, write_svg, write_svg_sheets};
 
 // A sink that takes at most `step` bytes a call, and fails after `limit` bytes.
 #[derive(Drop)]
@@ -60,12 +61,13 @@ impl Narrow {
     }
 }
 
-// Writes the document of some strokes, by themselves or as sheets that end after so many of them, and returns how many bytes
-// were written, whole or not.
+// Writes the document of some strokes with their labels, by themselves or as sheets that end after so many of them, and
+// returns how many bytes were written, whole or not.
 fn bytes_written(
     alloc: Global,
     strokes: &[Stroke],
     ends: Option<&[usize]>,
+    labels: &[Label],
     sink: &mut Narrow,
 ) -> Result<u64, Fail>
     requires { sink.old.failures ≡ 0 }
@@ -73,11 +75,14 @@ fn bytes_written(
     if strokes.len() > MOST_STROKES {
         return Err("too many strokes".into());
     }
+    if !texts_fit(labels) {
+        return Err("too long a text".into());
+    }
     let (page, pens) = (page()?, three_pens());
     let clips = ClipPaths::of(alloc, &page, &pens, strokes)?;
     let written = match ends {
-        Some(ends) => write_svg_sheets(&page, &pens, strokes, ends, &clips, sink),
-        None => write_svg(&page, &pens, strokes, &clips, sink),
+        Some(ends) => write_svg_sheets(&page, &pens, strokes, ends, labels, 0, &clips, sink),
+        None => write_svg(&page, &pens, strokes, labels, 0, &clips, sink),
     };
     match written {
         Ok(bytes) => Ok(bytes),
@@ -85,18 +90,19 @@ fn bytes_written(
     }
 }
 
-// Fails unless a document is written up to `limit`, at most `step` bytes a call, and returns how many calls that took.
-fn calls_of(
+/// Fails unless a document is written up to `limit`, at most `step` bytes a call, and returns how many calls that took.
+pub fn calls_of(
     rt: &impl Abort,
     alloc: Global,
     strokes: &[Stroke],
     ends: Option<&[usize]>,
+    labels: &[Label],
     whole: &[u8],
     step: usize,
     limit: usize,
 ) -> Result<u64, Fail> {
     let mut sink = Narrow::new(alloc, step, limit);
-    let bytes = bytes_written(alloc, strokes, ends, &mut sink)?;
+    let bytes = bytes_written(alloc, strokes, ends, labels, &mut sink)?;
     let end = limit.min(whole.len());
     let failures = if end < whole.len() { 1 } else { 0 };
     assert_eq!(rt; (bytes, sink.failures), (end as u64, failures));
@@ -136,6 +142,7 @@ fn more_than_a_piece(rt: HostRuntime) -> Result<(), Fail> {
         rt.alloc(),
         &strokes,
         None,
+        &[],
         whole,
         usize::MAX,
         usize::MAX,
@@ -149,7 +156,7 @@ fn failing_within_later_pieces(rt: HostRuntime) -> Result<(), Fail> {
     let (strokes, text) = long(rt.alloc())?;
     let whole = text.as_str().as_bytes();
     for limit in [32_000, 32_768, 33_000, 36_000] {
-        calls_of(&rt, rt.alloc(), &strokes, None, whole, 1000, limit)?;
+        calls_of(&rt, rt.alloc(), &strokes, None, &[], whole, 1000, limit)?;
     }
     Ok(())
 }
@@ -170,7 +177,7 @@ fn failing_sinks(rt: HostRuntime) -> Result<(), Fail> {
     text.push_str(FOOT)?;
     let whole = text.as_str().as_bytes();
     for limit in 0..=whole.len() {
-        calls_of(&rt, rt.alloc(), &strokes, None, whole, 1, limit)?;
+        calls_of(&rt, rt.alloc(), &strokes, None, &[], whole, 1, limit)?;
     }
     Ok(())
 }
@@ -200,7 +207,7 @@ fn failing_sheets(rt: HostRuntime) -> Result<(), Fail> {
     let (strokes, ends, text) = many_sheets(rt.alloc(), 2)?;
     let whole = text.as_str().as_bytes();
     for limit in 0..=whole.len() {
-        calls_of(&rt, rt.alloc(), &strokes, Some(&ends), whole, 1, limit)?;
+        calls_of(&rt, rt.alloc(), &strokes, Some(&ends), &[], whole, 1, limit)?;
     }
     Ok(())
 }
@@ -215,12 +222,22 @@ fn more_sheets_than_a_piece(rt: HostRuntime) -> Result<(), Fail> {
         rt.alloc(),
         &strokes,
         Some(&ends),
+        &[],
         whole,
         usize::MAX,
         usize::MAX,
     )?;
     assert_eq!(&rt; calls, 3);
-    calls_of(&rt, rt.alloc(), &strokes, Some(&ends), whole, 1000, 40_000)?;
+    calls_of(
+        &rt,
+        rt.alloc(),
+        &strokes,
+        Some(&ends),
+        &[],
+        whole,
+        1000,
+        40_000,
+    )?;
     Ok(())
 }
 
@@ -271,13 +288,14 @@ fn many_clip_paths(rt: HostRuntime) -> Result<(), Fail> {
         rt.alloc(),
         &strokes,
         None,
+        &[],
         whole,
         usize::MAX,
         usize::MAX,
     )?;
     assert_eq!(&rt; calls, 3);
     for limit in [20_000, 32_768, 34_000] {
-        calls_of(&rt, rt.alloc(), &strokes, None, whole, 1000, limit)?;
+        calls_of(&rt, rt.alloc(), &strokes, None, &[], whole, 1000, limit)?;
     }
     Ok(())
 }

@@ -25,7 +25,7 @@ fn has_groups(
     let mut sink = OverWrite::new(Vec::new(alloc));
     let (page, pens) = (page()?, three_pens());
     let clips = ClipPaths::of(alloc, &page, &pens, &strokes)?;
-    let bytes = write_svg_sheets(&page, &pens, &strokes, ends, &clips, &mut sink)?;
+    let bytes = write_svg_sheets(&page, &pens, &strokes, ends, &[], 0, &clips, &mut sink)?;
     assert_eq!(rt; sink.failures(), 0);
     assert_eq!(rt;
         str::from_utf8(sink.into_inner().as_slice())?,

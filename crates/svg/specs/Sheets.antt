@@ -1,0 +1,27 @@
+-- The sheets of a document, with their labels.
+use Rattle.std.specs.Prelude.{ℕ, nat_eq, List, [], ◌∷◌, ◌++◌, length, drop, if◌then◌else◌}
+use Rattle.labels.specs.Labels.{LabelShape}
+use Rattle.labels.specs.Sheets.{all_counted, count_to, labels_to}
+use Rattle.plot_page.specs.Segments.{Segment}
+use Rattle.stroke_runs.specs.Sheets.{between}
+
+-- the strokes of a sheet, and its labels, counted by these strokes
+pub record Sheet : Type 0 where
+  pub strokes : List Segment
+  pub labels : List LabelShape
+
+-- the strokes after the first `at`, up to and including number `end`, with their labels
+abbrev pub sheet_between : List Segment → ℕ → ℕ → List LabelShape → Sheet
+sheet_between strokes at end labels =
+    record { strokes = between strokes at end; labels = all_counted at (labels_to end labels) }
+
+-- the sheets after the first `at` strokes, by how many strokes there were when each one ended, with these labels left
+abbrev pub labelled_after : List Segment → ℕ → List ℕ → List LabelShape → List Sheet
+labelled_after strokes at [] labels = []
+labelled_after strokes at (end ∷ ends) labels =
+    if nat_eq (length (between strokes at end)) 0 then labelled_after strokes at ends labels else
+    sheet_between strokes at end labels ∷ labelled_after strokes end ends (drop (count_to end labels) labels)
+
+-- all sheets: the end of the plot ends a sheet, too
+abbrev pub labelled_sheets : List Segment → List ℕ → List LabelShape → List Sheet
+labelled_sheets strokes ends labels = labelled_after strokes 0 (ends ++ length strokes ∷ []) labels
