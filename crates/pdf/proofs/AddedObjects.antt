@@ -78,3 +78,7 @@ object_put a b o p before d text body (Err e) noted size is put = put
 
 pub entries_more : (xs : List ℕ) (i : ℕ) → i < length xs → entries_text (take i xs) ++ entry_text (get_or xs i 0) ≡ entries_text (take (i + 1) xs)
 entries_more xs i lt = sym (entries_join (take i xs) (get_or xs i 0)) ∙ ap entries_text (sym (take_more xs i 0 lt))
+
+-- the same objects, written or not
+pub adds_as : (a b : SinkState) (o p : List ℕ) (before d : ℕ) (xs ys : List (List ℕ)) (r : Result ℕ WriteFault) → xs ≡ ys → Adds a b o p before d xs r → Adds a b o p before d ys r
+adds_as a b o p before d xs ys r e h = let P : List (List ℕ) → Type 0 = λ z. Adds a b o p before d z r in subst P e h

@@ -3,14 +3,17 @@ use Rattle.std.proofs.Common.{◌≡◌, ℕ, suc, ◌+◌, ◌-◌, ◌*◌, Re
 use Rattle.deflate.specs.Zlib.{unzlib}
 use Rattle.devices.specs.declared.fault.WriteFault.{WriteFault}
 use Rattle.devices.specs.Sinks.{SinkState}
+use Rattle.labels.specs.Labels.{LabelShape}
+use Rattle.labels.specs.Sheets.{all_counted, count_to, labels_to}
 use Rattle.plot_page.specs.Segments.{Segment}
 use Rattle.plot_page.specs.declared.page.Page.{Page}
 use Rattle.plot_page.specs.declared.pens.PenSet.{PenSet}
 use Rattle.pdf.specs.Contents.{content_text}
-use Rattle.pdf.specs.Documents.{AreStreams, catalog_text, document_text, end_text, header_text, info_text, layer_objects, list_text, objects, page_object, page_objects, pages_objects, pages_text, pdf_bytes, pens_drawn, sheets, stream_object}
+use Rattle.pdf.specs.Documents.{AreStreams, catalog_text, document_text, end_text, font_count, font_objects, header_text, info_text, layer_objects, list_text, objects, page_object, page_objects, pages_objects, pages_text, pdf_bytes, pens_drawn, rows_shown, sheet_labels, sheets, stream_object}
 use Rattle.pdf.specs.Objects.{object_text, objects_text, offsets_of, reference_text}
 use Rattle.pdf.specs.Writings.{Adds, AddsPage, HasAdded, HasPut, Puts, WritesPdf}
 use Rattle.pdf.proofs.AddedObjects.{added_as, added_more, one_added}
+use Rattle.pdf.proofs.FontLists.{fonts_size}
 use Rattle.pdf.proofs.Lists.{layer_objects_size}
 use Rattle.pdf.proofs.Puts.{failed_later, last_put, put_more, puts_as}
 
@@ -30,11 +33,16 @@ pages_size before (x ∷ xs) =
     length-append (page_objects before x) (pages_objects (before + 3) xs) ∙ ap (λ (k : ℕ). 3 + k) (pages_size (before + 3) xs)
     ∙ (let e : 3 + 3 * length xs ≡ 3 * length (x ∷ xs) = omega arith in e)
 
-pub streams_size : (page : Page) (pens : PenSet) (pages : List (List Segment)) (streams : List (List ℕ)) → AreStreams page pens pages streams → length streams ≡ length pages
-streams_size page pens [] [] h = refl
-streams_size page pens [] (x ∷ xs) h = absurd h
-streams_size page pens (s ∷ ss) [] h = absurd h
-streams_size page pens (s ∷ ss) (x ∷ xs) h = ap (λ (k : ℕ). suc k) (streams_size page pens ss xs h.1)
+pub streams_size : (page : Page) (pens : PenSet) (pages : List (List Segment)) (labels : List (List LabelShape)) (streams : List (List ℕ)) → AreStreams page pens pages labels streams
+    → length streams ≡ length pages
+streams_size page pens [] [] [] h = refl
+streams_size page pens [] [] (x ∷ xs) h = absurd h
+streams_size page pens [] (l ∷ ls) [] h = absurd h
+streams_size page pens [] (l ∷ ls) (x ∷ xs) h = absurd h
+streams_size page pens (s ∷ ss) [] [] h = absurd h
+streams_size page pens (s ∷ ss) [] (x ∷ xs) h = absurd h
+streams_size page pens (s ∷ ss) (l ∷ ls) [] h = absurd h
+streams_size page pens (s ∷ ss) (l ∷ ls) (x ∷ xs) h = ap (λ (k : ℕ). suc k) (streams_size page pens ss ls xs h.1)
 
 pub sheets_size : (strokes : List Segment) (from : ℕ) (ends : List ℕ) → length (sheets strokes from ends) ≡ length ends
 sheets_size strokes from [] = refl
@@ -63,17 +71,20 @@ page_added a b c d e f o p q r before n0 n1 n2 n3 n4 n5 start stream first noted
     (ap (λ (k : ℕ). page_object (before + 2) ∷ stream_object k stream ∷ decimal (length stream) ∷ []) sum) three
 
 -- the pages of the sheets that are left
-abbrev pub Follows : Page → PenSet → List (List Segment) → List (List Segment) → List (List ℕ) → Type 0
-Follows page pens all left streams = (rest : List (List ℕ)) → AreStreams page pens left rest → AreStreams page pens all (streams ++ rest)
+abbrev pub Follows : Page → PenSet → List (List Segment) → List (List LabelShape) → List (List Segment) → List (List LabelShape) → List (List ℕ) → Type 0
+Follows page pens all labels left others streams = (rest : List (List ℕ)) → AreStreams page pens left others rest → AreStreams page pens all labels (streams ++ rest)
 
-pub next_follows : (page : Page) (pens : PenSet) (all : List (List Segment)) (strokes sheet : List Segment) (from end : ℕ) (ends others : List ℕ) (streams : List (List ℕ)) (stream : List ℕ)
-    → Follows page pens all (sheets strokes from ends) streams → ends ≡ end ∷ others → sheet ≡ drop from (take end strokes)
-    → unzlib stream ≡ Some (content_text page pens sheet) → Follows page pens all (sheets strokes end others) (streams ++ stream ∷ [])
-next_follows page pens all strokes sheet from end ends others streams stream so_far next is read rest h =
-    let P : List ℕ → Type 0 = λ zs. Follows page pens all (sheets strokes from zs) streams in
-    let Q : List Segment → Type 0 = λ z. unzlib stream ≡ Some (content_text page pens z) in
-    let R : List (List ℕ) → Type 0 = λ z. AreStreams page pens all z in
-    subst R (sym (append_assoc streams (stream ∷ []) rest)) (subst P next so_far (stream ∷ rest) (subst Q is read, h))
+pub next_follows : (page : Page) (pens : PenSet) (all : List (List Segment)) (labels : List (List LabelShape)) (strokes sheet : List Segment) (left shown after : List LabelShape) (from end : ℕ) (ends others : List ℕ) (streams : List (List ℕ)) (stream : List ℕ)
+    → Follows page pens all labels (sheets strokes from ends) (sheet_labels left from ends) streams → ends ≡ end ∷ others → sheet ≡ drop from (take end strokes)
+    → shown ≡ all_counted from (labels_to end left) → after ≡ drop (count_to end left) left
+    → unzlib stream ≡ Some (content_text page pens sheet shown) → Follows page pens all labels (sheets strokes end others) (sheet_labels after end others) (streams ++ stream ∷ [])
+next_follows page pens all labels strokes sheet left shown after from end ends others streams stream so_far next is has then read rest h =
+    let P : List ℕ → Type 0 = λ zs. Follows page pens all labels (sheets strokes from zs) (sheet_labels left from zs) streams in
+    let Q : List Segment → Type 0 = λ z. unzlib stream ≡ Some (content_text page pens z shown) in
+    let S : List LabelShape → Type 0 = λ z. unzlib stream ≡ Some (content_text page pens (drop from (take end strokes)) z) in
+    let T : List LabelShape → Type 0 = λ z. AreStreams page pens (sheets strokes end others) (sheet_labels z end others) rest in
+    let R : List (List ℕ) → Type 0 = λ z. AreStreams page pens all labels z in
+    subst R (sym (append_assoc streams (stream ∷ []) rest)) (subst P next so_far (stream ∷ rest) (subst S has (subst Q is read), subst T then h))
 
 -- one page more was written
 pub page_more : (a b c : SinkState) (o p q : List ℕ) (before next d n m : ℕ) (streams : List (List ℕ)) (stream : List ℕ) → next ≡ before + 3 * length streams
@@ -86,10 +97,11 @@ page_more a b c o p q before next d n m streams stream is first then =
     added_as a c o q before d m _ _ same (added_more a b c o p q before next d n m _ _ size first then)
 
 -- all pages were written
-pub all_follow : (page : Page) (pens : PenSet) (all left : List (List Segment)) (streams : List (List ℕ)) → Follows page pens all left streams → left ≡ [] → AreStreams page pens all streams
-all_follow page pens all left streams so_far none =
-    let P : List (List Segment) → Type 0 = λ z. Follows page pens all z streams in
-    let R : List (List ℕ) → Type 0 = λ z. AreStreams page pens all z in
+pub all_follow : (page : Page) (pens : PenSet) (all : List (List Segment)) (labels : List (List LabelShape)) (strokes : List Segment) (shown : List LabelShape) (from : ℕ) (ends : List ℕ) (streams : List (List ℕ))
+    → Follows page pens all labels (sheets strokes from ends) (sheet_labels shown from ends) streams → ends ≡ [] → AreStreams page pens all labels streams
+all_follow page pens all labels strokes shown from ends streams so_far none =
+    let P : List ℕ → Type 0 = λ z. Follows page pens all labels (sheets strokes from z) (sheet_labels shown from z) streams in
+    let R : List (List ℕ) → Type 0 = λ z. AreStreams page pens all labels z in
     subst R (append-nil streams) (subst P none so_far [] tt)
 
 -- the start of a stream's object
@@ -130,34 +142,55 @@ document_put a b e f o r n1 n4 all offsets result put added is last =
     (last_put a e f 0 n4 (header_text ++ objects_text 0 all) (end_text offsets n4) result both last)
 
 -- the whole document was written, or not
-pub pdf_written : (a b : SinkState) (version title : List ℕ) (page : Page) (pens : PenSet) (strokes : List Segment) (ends : List ℕ) (streams : List (List ℕ)) (result : Result ℕ WriteFault)
-    → AreStreams page pens (sheets strokes 0 ends) streams → Puts a b 0 (pdf_bytes version title page (pens_drawn pens strokes) ends streams) result → WritesPdf a b version title page pens strokes ends result
-pdf_written a b version title page pens strokes ends streams (Ok n) are put = (streams, are, put)
-pdf_written a b version title page pens strokes ends streams (Err e) are put = put
+pub pdf_written : (a b : SinkState) (version title : List ℕ) (page : Page) (pens : PenSet) (strokes : List Segment) (ends : List ℕ) (labels : List LabelShape) (streams : List (List ℕ)) (result : Result ℕ WriteFault)
+    → AreStreams page pens (sheets strokes 0 ends) (sheet_labels labels 0 ends) streams
+    → Puts a b 0 (pdf_bytes version title page (pens_drawn pens strokes) (rows_shown pens strokes labels) ends streams) result → WritesPdf a b version title page pens strokes ends labels result
+pdf_written a b version title page pens strokes ends labels streams (Ok n) are put = (streams, are, put)
+pdf_written a b version title page pens strokes ends labels streams (Err e) are put = put
 
--- the objects of a document
-pub objects_added : (a b c d : SinkState) (o p q r : List ℕ) (next n0 n1 n2 n3 : ℕ) (version title : List ℕ) (page : Page) (pens ends : List ℕ) (streams : List (List ℕ)) → next ≡ 4 + length pens
-    → HasAdded a b o p 0 n0 n1 (catalog_text ∷ info_text version title ∷ pages_text page pens ends ∷ list_text pens ∷ []) → HasAdded b c p q 4 n1 n2 (layer_objects pens)
-    → HasAdded c d q r next n2 n3 (pages_objects next streams) → HasAdded a d o r 0 n0 n3 (objects version title page pens ends streams)
-objects_added a b c d o p q r next n0 n1 n2 n3 version title page pens ends streams is front layers pages =
-    let four = catalog_text ∷ info_text version title ∷ pages_text page pens ends ∷ list_text pens ∷ [] in
-    let P : ℕ → Type 0 = λ k. HasAdded c d q r k n2 n3 (pages_objects k streams) in
+-- the first four objects
+abbrev pub front : List ℕ → List ℕ → Page → List ℕ → List ℕ → List ℕ → List (List ℕ)
+front version title page pens rows ends = catalog_text ∷ info_text version title ∷ pages_text page pens rows ends ∷ list_text pens ∷ []
+
+-- the objects before the pages
+pub fonts_added : (a b c d : SinkState) (o p q r : List ℕ) (next n0 n1 n2 n3 : ℕ) (version title : List ℕ) (page : Page) (pens rows ends : List ℕ) → next ≡ 4 + length pens
+    → HasAdded a b o p 0 n0 n1 (front version title page pens rows ends) → HasAdded b c p q 4 n1 n2 (layer_objects pens)
+    → HasAdded c d q r next n2 n3 (font_objects next rows) → HasAdded a d o r 0 n0 n3 (front version title page pens rows ends ++ layer_objects pens ++ font_objects (4 + length pens) rows)
+fonts_added a b c d o p q r next n0 n1 n2 n3 version title page pens rows ends is first layers fonts =
+    let four = front version title page pens rows ends in
+    let P : ℕ → Type 0 = λ k. HasAdded c d q r k n2 n3 (font_objects k rows) in
     let after : 4 + length pens ≡ 0 + length (four ++ layer_objects pens) =
     omega (arith, length-append four (layer_objects pens), layer_objects_size pens) in
-    added_more a c d o q r 0 (4 + length pens) n0 n2 n3 (four ++ layer_objects pens) (pages_objects (4 + length pens) streams) after
-    (added_more a b c o p q 0 4 n0 n1 n2 four (layer_objects pens) refl front layers) (subst P is pages)
+    added_more a c d o q r 0 (4 + length pens) n0 n2 n3 (four ++ layer_objects pens) (font_objects (4 + length pens) rows) after
+    (added_more a b c o p q 0 4 n0 n1 n2 four (layer_objects pens) refl first layers) (subst P is fonts)
+
+-- the objects of a document
+pub objects_added : (a d e : SinkState) (o r s : List ℕ) (next n0 n3 n4 : ℕ) (version title : List ℕ) (page : Page) (pens rows ends : List ℕ) (streams : List (List ℕ)) → next ≡ 4 + length pens + font_count rows
+    → HasAdded a d o r 0 n0 n3 (front version title page pens rows ends ++ layer_objects pens ++ font_objects (4 + length pens) rows)
+    → HasAdded d e r s next n3 n4 (pages_objects next streams) → HasAdded a e o s 0 n0 n4 (objects version title page pens rows ends streams)
+objects_added a d e o r s next n0 n3 n4 version title page pens rows ends streams is first pages =
+    let four = front version title page pens rows ends in
+    let fonts = font_objects (4 + length pens) rows in
+    let P : ℕ → Type 0 = λ k. HasAdded d e r s k n3 n4 (pages_objects k streams) in
+    let after : 4 + length pens + font_count rows ≡ 0 + length (four ++ layer_objects pens ++ fonts) =
+    omega (arith, length-append (four ++ layer_objects pens) fonts, length-append four (layer_objects pens), layer_objects_size pens, fonts_size (4 + length pens) rows) in
+    added_more a d e o r s 0 (4 + length pens + font_count rows) n0 n3 n4 (four ++ layer_objects pens ++ fonts) (pages_objects (4 + length pens + font_count rows) streams) after first (subst P is pages)
 
 -- how many objects a document has
-pub objects_size : (version title : List ℕ) (page : Page) (pens ends : List ℕ) (pages : List (List Segment)) (streams : List (List ℕ)) (set : PenSet) → AreStreams page set pages streams → length pages ≡ length ends
-    → length (objects version title page pens ends streams) ≡ 4 + length pens + 3 * length ends
-objects_size version title page pens ends pages streams set are same =
-    let four = catalog_text ∷ info_text version title ∷ pages_text page pens ends ∷ list_text pens ∷ [] in
+pub objects_size : (version title : List ℕ) (page : Page) (pens rows ends : List ℕ) (pages : List (List Segment)) (labels : List (List LabelShape)) (streams : List (List ℕ)) (set : PenSet)
+    → AreStreams page set pages labels streams → length pages ≡ length ends
+    → length (objects version title page pens rows ends streams) ≡ 4 + length pens + font_count rows + 3 * length ends
+objects_size version title page pens rows ends pages labels streams set are same =
+    let four = front version title page pens rows ends in
+    let fonts = font_objects (4 + length pens) rows in
     omega (
       arith,
-      length-append (four ++ layer_objects pens) (pages_objects (4 + length pens) streams),
+      length-append (four ++ layer_objects pens ++ fonts) (pages_objects (4 + length pens + font_count rows) streams),
+      length-append (four ++ layer_objects pens) fonts,
       length-append four (layer_objects pens),
       layer_objects_size pens,
-      pages_size (4 + length pens) streams,
-      streams_size page set pages streams are,
+      fonts_size (4 + length pens) rows,
+      pages_size (4 + length pens + font_count rows) streams,
+      streams_size page set pages labels streams are,
       same,
     )

@@ -9,7 +9,7 @@ use Rattle.stroke_runs.specs.declared.runs.Runs.{Runs}
 use Rattle.stroke_runs.specs.Drawn.{is_drawn, is_joined, drawn}
 use Rattle.stroke_runs.specs.Links.{after_stroke, at_start, link_of, room_after, runs_after}
 use Rattle.stroke_runs.specs.Runs.{Following, going_on, beginning, goes_on, following, runs_of}
-use Rattle.pdf.specs.Contents.{content_text, end_text, head_text, line_text, rest_text, runs_text, start_text, stroke_text}
+use Rattle.pdf.specs.RunTexts.{end_text, head_text, line_text, rest_text, runs_text, start_text, stroke_text, strokes_text}
 use Rattle.pdf.specs.Steps.{after_step, link_text, open_end, step_text, steps_text}
 
 -- what is written for strokes that are all drawn
@@ -82,8 +82,8 @@ all_runs page (s ∷ ss) =
     first_text (start_text page s) (stroke_text s) (drawn_text page (after_stroke s 999) ss) (rest_text s f.rest) end_text (runs_text page f.runs)
     (run_text page s 999 ss)
 
--- the whole content
-pub whole : (page : Page) (pens : PenSet) (ss : List Segment) → head_text ++ steps_text page pens at_start ss ≡ content_text page pens ss
+-- the drawn strokes
+pub whole : (page : Page) (pens : PenSet) (ss : List Segment) → head_text ++ steps_text page pens at_start ss ≡ strokes_text page pens ss
 whole page pens ss = ap (λ (z : List ℕ). head_text ++ z) (only_drawn page pens at_start ss ∙ all_runs page (drawn pens ss))
 
 -- the next of those that are left

@@ -1,14 +1,18 @@
 -- The bytes of small documents.
-use Rattle.std.proofs.Common.{◌≡◌, ℕ, ℤ, pos, negsuc, [], ◌∷◌, ◌++◌, codes, refl, replicate, true, arith}
+use Rattle.std.proofs.Common.{◌≡◌, ℕ, ℤ, pos, negsuc, [], ◌∷◌, ◌++◌, codes, length, refl, replicate, true, arith}
 use Rattle.std.specs.Fmt.{digits}
 use Rattle.plot_page.specs.Segments.{Segment}
 use Rattle.plot_page.specs.declared.colour.Colour.{Colour}
 use Rattle.plot_page.specs.declared.page.Page.{Page}
 use Rattle.plot_page.specs.declared.pens.PenSet.{PenSet}
 use Rattle.plot_page.specs.declared.window.Window.{Window}
-use Rattle.pdf.specs.Contents.{colour_text, content_text, runs_text, stroke_text}
-use Rattle.pdf.specs.Documents.{header_text, pdf_bytes, pens_drawn, sheets}
-use Rattle.pdf.specs.Numbers.{part, points, utf_16_text}
+use Rattle.labels.specs.Labels.{LabelShape, LineShape}
+use Rattle.pdf.specs.Contents.{content_text, lines_operators, runs_operators, stroke_operators, texts_operators}
+use Rattle.pdf.specs.Operators.{colour_text, operators_text}
+use Rattle.pdf.specs.Documents.{font_object, font_objects, header_text, pdf_bytes, pens_drawn, resources_text, rows_shown, sheet_labels, sheets}
+use Rattle.pdf.specs.Numbers.{part, points, rounded, signed_thousandths, utf_16_text}
+use Rattle.pdf.specs.TextReadings.{placed, texts_of}
+use Rattle.pdf.specs.Texts.{above, along, pieces}
 use Rattle.pdf.specs.Objects.{entry_text, objects_text, offsets_of}
 
 -- one inch by two
@@ -85,21 +89,21 @@ an_entry : entry_text 12034 ≡ codes "0000012034 00000 n \n"
 an_entry = refl
 
 -- y grows upward
-a_stroke : stroke_text up ≡ codes "16256 448 m\n16256 -1 l\n"
+a_stroke : operators_text (stroke_operators up) ≡ codes "16256 448 m\n16256 -1 l\n"
 unfolding digits
 a_stroke = refl
 
 -- two strokes that follow one another, and a dot
-one_path : runs_text page ((across ∷ up ∷ dot ∷ []) ∷ []) ≡ codes "/OC /P1 BDC\nq\n0 0 0 RG\n56 w\n0 448 m\n16256 448 l\n16256 -1 l\n16 32 m\n16 32 l\nS\nQ\nEMC\n"
+one_path : operators_text (runs_operators page ((across ∷ up ∷ dot ∷ []) ∷ [])) ≡ codes "/OC /P1 BDC\nq\n0 0 0 RG\n56 w\n0 448 m\n16256 448 l\n16256 -1 l\n16 32 m\n16 32 l\nS\nQ\nEMC\n"
 unfolding digits
 one_path = refl
 
 -- the width is at least 24 grains
-in_a_window : runs_text page ((clipped ∷ []) ∷ []) ≡ codes "/OC /P2 BDC\nq\n160 320 7840 8680 re\nW\nn\n1 0.533 0.004 RG\n24 w\n0 0 m\n16256 32512 l\nS\nQ\nEMC\n"
+in_a_window : operators_text (runs_operators page ((clipped ∷ []) ∷ [])) ≡ codes "/OC /P2 BDC\nq\n160 320 7840 8680 re\nW\nn\n1 0.533 0.004 RG\n24 w\n0 0 m\n16256 32512 l\nS\nQ\nEMC\n"
 unfolding digits
 in_a_window = refl
 
-empty_content : content_text page all_pens [] ≡ codes "0.004429133858 0 0 0.004429133858 0 0 cm\n1 J\n1 j\n"
+empty_content : content_text page all_pens [] [] ≡ codes "0.004429133858 0 0 0.004429133858 0 0 cm\n1 J\n1 j\n"
 empty_content = refl
 
 two_sheets : sheets (across ∷ up ∷ dot ∷ []) 0 (1 ∷ 3 ∷ []) ≡ (across ∷ []) ∷ (up ∷ dot ∷ []) ∷ []
@@ -117,10 +121,82 @@ unfolding digits
 where_they_begin = refl
 
 -- a document without pages
-no_pages : pdf_bytes (codes "1") [] page [] [] [] ≡ header_text ++ codes "1 0 obj\n<</Type/Catalog/Pages 3 0 R/OCProperties<</OCGs 4 0 R/D<</Order 4 0 R/ON 4 0 R>>>>>>\nendobj\n2 0 obj\n<</Producer(plotraster 1)>>\nendobj\n3 0 obj\n<</Type/Pages/MediaBox[0 0 72 144]/Resources<</Properties<<>>>>/Count 0/Kids[]>>\nendobj\n4 0 obj\n[]\nendobj\nxref\n0 5\n0000000000 65535 f \n0000000015 00000 n \n0000000115 00000 n \n0000000158 00000 n \n0000000254 00000 n \ntrailer\n<</Size 5/Root 1 0 R/Info 2 0 R>>\nstartxref\n272\n%%EOF\n"
+no_pages : pdf_bytes (codes "1") [] page [] [] [] [] ≡ header_text ++ codes "1 0 obj\n<</Type/Catalog/Pages 3 0 R/OCProperties<</OCGs 4 0 R/D<</Order 4 0 R/ON 4 0 R>>>>>>\nendobj\n2 0 obj\n<</Producer(plotraster 1)>>\nendobj\n3 0 obj\n<</Type/Pages/MediaBox[0 0 72 144]/Resources<</Properties<<>>>>/Count 0/Kids[]>>\nendobj\n4 0 obj\n[]\nendobj\nxref\n0 5\n0000000000 65535 f \n0000000015 00000 n \n0000000115 00000 n \n0000000158 00000 n \n0000000254 00000 n \ntrailer\n<</Size 5/Root 1 0 R/Info 2 0 R>>\nstartxref\n272\n%%EOF\n"
 unfolding digits
 no_pages = refl
 
 -- a letter, one that is not ASCII, and one that needs two numbers of 16 bits
 a_title : utf_16_text (65 ∷ 228 ∷ 128516 ∷ []) ≡ codes "004100e4d83dde04"
 a_title = refl
+
+-- half away from zero
+half_up : rounded 1 (pos 5) 2 ≡ pos 3
+half_up = refl
+
+half_down : rounded 1 (negsuc 4) 2 ≡ negsuc 2
+half_down = refl
+
+nearly_half : rounded 2 (negsuc 1) 3 ≡ negsuc 0
+nearly_half = refl
+
+rounds_to_zero : rounded 1 (negsuc 0) 3 ≡ pos 0
+rounds_to_zero = refl
+
+below_zero : signed_thousandths (negsuc 1499) ≡ codes "-1.5"
+unfolding digits
+below_zero = refl
+
+-- 16 letters, and one
+across_letters : along (pos 100) (pos 10084) 16 ≡ pos 1040000
+across_letters = refl
+
+backward_letter : along (pos 100) (pos 0) 1 ≡ negsuc 166666
+backward_letter = refl
+
+a_capital : above (pos 0) (pos 360) ≡ pos 640000
+a_capital = refl
+
+-- Latin, Greek, Latin, and a letter of more than 16 bits
+some_pieces : pieces (65 ∷ 66 ∷ 945 ∷ 946 ∷ 67 ∷ 128516 ∷ [])
+    ≡ record { row = 0; bytes = 65 ∷ 66 ∷ [] } ∷ record { row = 3; bytes = 177 ∷ 178 ∷ [] } ∷ record { row = 0; bytes = 67 ∷ [] } ∷ record { row = 255; bytes = 253 ∷ [] } ∷ []
+some_pieces = refl
+
+abbrev ab : LineShape
+ab = record { text = 65 ∷ 945 ∷ []; start = record { x = negsuc 0; y = pos 20 }; end = record { x = pos 119; y = pos 20 }; top = record { x = negsuc 0; y = pos 65 } }
+
+a_line : operators_text (lines_operators (ab ∷ [])) ≡ codes "100 0 0 80 -1 20 Tm\n/F0 1 Tf\n<41> Tj\n/F3 1 Tf\n<b1> Tj\n"
+unfolding digits
+a_line = refl
+
+abbrev label : LabelShape
+label = record { first = 1; after = 2; lines = ab ∷ [] }
+
+a_text : operators_text (texts_operators all_pens (across ∷ up ∷ []) (label ∷ []))
+    ≡ codes "BT\n3 Tr\n100 0 0 80 -1 20 Tm\n/F0 1 Tf\n<41> Tj\n/F3 1 Tf\n<b1> Tj\nET\n"
+unfolding digits
+a_text = refl
+
+-- its strokes are not among these
+no_text : texts_operators all_pens (across ∷ []) (label ∷ []) ≡ []
+no_text = refl
+
+a_reading : texts_of (texts_operators all_pens (across ∷ up ∷ []) (label ∷ [])) ≡ placed ab ∷ []
+a_reading = refl
+
+-- the second sheet has the label, which comes after the first stroke of it
+two_pages : sheet_labels (record label { first = 3; after = 4 } ∷ []) 0 (2 ∷ 4 ∷ []) ≡ [] ∷ (label ∷ []) ∷ []
+two_pages = refl
+
+rows_by_number : rows_shown all_pens (across ∷ up ∷ []) (label ∷ []) ≡ 0 ∷ 3 ∷ []
+rows_by_number = refl
+
+some_resources : resources_text 7 (0 ∷ 3 ∷ []) ≡ codes "/Font<</F0 8 0 R/F3 10 0 R>>"
+unfolding digits
+some_resources = refl
+
+a_font : font_object 7 9 ≡ codes "<</Type/Font/Subtype/Type1/BaseFont/Courier/Encoding 7 0 R/ToUnicode 9 0 R>>"
+unfolding digits
+a_font = refl
+
+five_objects : length (font_objects 6 (0 ∷ 3 ∷ [])) ≡ 5
+five_objects = refl

@@ -7,4 +7,9 @@ pub mod Contents
 pub mod OperatorTexts
 pub mod ReadRuns
 pub mod Offsets
+pub mod ReadTexts
+pub mod LetterTexts
+pub mod LabelLists
+pub mod FontLists
+pub mod Marks
 mod Examples

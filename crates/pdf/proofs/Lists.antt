@@ -67,3 +67,8 @@ pub next_character : (cs ys : List ℕ) (c : ℕ) → length ys < length cs → 
 next_character cs ys c lt is =
     let size : length ys + 1 ≡ length (ys ++ c ∷ []) = omega (arith, length-append ys (c ∷ [])) in
     ap utf_16_text (next_of cs (length ys) c lt is) ∙ ap (λ (n : ℕ). character_text c ++ utf_16_text (drop n cs)) size
+
+-- what all pages have
+pub shared_whole : (s a b c d e f g h i j k : List ℕ)
+    → s ++ a ++ b ++ c ++ d ++ e ++ f ++ g ++ h ++ i ++ j ++ k ≡ s ++ (a ++ b ++ c ++ d ++ e ++ f ++ g ++ h ++ i ++ j ++ k)
+shared_whole s a b c d e f g h i j k = simp append_assoc

@@ -5,10 +5,13 @@ use Rattle.plot_page.specs.declared.colour.Colour.{Colour}
 use Rattle.plot_page.specs.declared.page.Page.{Page}
 use Rattle.plot_page.specs.declared.pens.PenSet.{PenSet}
 use Rattle.plot_page.specs.declared.window.Window.{Window}
-use Rattle.stroke_runs.specs.Drawn.{is_joined, is_same_window}
+use Rattle.stroke_runs.specs.Drawn.{is_joined}
 use Rattle.stroke_runs.specs.Runs.{runs}
-use Rattle.pdf.specs.Contents.{colour_text, clip_text, content_text, end_text, head_text, layer_text, line_text, place_text, rest_text, runs_text, start_text, stroke_text, whole_page, width_text, window_text}
-use Rattle.pdf.specs.Operators.{Operator, Clip, Layer, LineWidth, NoPaint, Rectangle, Save, StrokeColour, Scale, LineEnds, LineJoins, clip_operators, content_operators, end_operators, line_operators, operator_text, operators_text, rest_operators, runs_operators, start_operators, stroke_operators}
+use Rattle.labels.specs.Labels.{LabelShape, LineShape}
+use Rattle.stroke_runs.specs.Shown.{is_whole_page, is_shown}
+use Rattle.pdf.specs.Contents.{clip_operators, content_text, end_operators, labels_operators, line_operators, lines_operators, rest_operators, runs_operators, start_operators, stroke_operators, text_operators, texts_operators}
+use Rattle.pdf.specs.Operators.{Operator, Clip, Layer, LineWidth, NoPaint, Rectangle, Save, StrokeColour, Scale, LineEnds, LineJoins, BeginText, Invisible, EndText, colour_text, operator_text, operators_text, place_text, width_text}
+use Rattle.pdf.specs.RunTexts.{clip_text, end_text, head_text, layer_text, line_text, rest_text, runs_text, start_text, stroke_text, strokes_text, window_text}
 
 join : (xs ys : List Operator) → operators_text (xs ++ ys) ≡ operators_text xs ++ operators_text ys
 join [] ys = refl
@@ -32,7 +35,7 @@ of_set c width = ap (λ (z : List ℕ). colour_text c ++ z) (append-nil (width_t
 of_start : (page : Page) (s : Segment) → operators_text (start_operators page s) ≡ start_text page s
 of_start page s =
     both ((Layer s.pen ∷ Save ∷ []) ++ clip_operators page s.window) (StrokeColour s.colour ∷ LineWidth (max 24 s.width) ∷ []) (layer_text s.pen ++ clip_text page s.window) _
-    (both (Layer s.pen ∷ Save ∷ []) (clip_operators page s.window) (layer_text s.pen) (clip_text page s.window) (of_layer s.pen) (of_window (is_same_window s.window (whole_page page)) s.window))
+    (both (Layer s.pen ∷ Save ∷ []) (clip_operators page s.window) (layer_text s.pen) (clip_text page s.window) (of_layer s.pen) (of_window (is_whole_page page s.window) s.window))
     (of_set s.colour (max 24 s.width))
     ∙ sym (append_assoc (layer_text s.pen ++ clip_text page s.window) (colour_text s.colour) (width_text (max 24 s.width)))
 
@@ -60,6 +63,34 @@ of_runs page ((s ∷ ss) ∷ rs) =
     (both (start_operators page s ++ stroke_operators s) (rest_operators s ss) (start_text page s ++ stroke_text s) (rest_text s ss)
     (both (start_operators page s) (stroke_operators s) (start_text page s) (stroke_text s) (of_start page s) (of_stroke s)) (of_rest s ss)) refl) (of_runs page rs)
 
-pub of_content : (page : Page) (pens : PenSet) (strokes : List Segment) → content_text page pens strokes ≡ operators_text (content_operators page pens strokes)
-of_content page pens strokes =
-    sym (both (Scale ∷ LineEnds ∷ LineJoins ∷ []) (runs_operators page (runs pens strokes)) head_text (runs_text page (runs pens strokes)) refl (of_runs page (runs pens strokes)))
+-- the strokes and the labels
+pub of_content : (page : Page) (pens : PenSet) (strokes : List Segment) (labels : List LabelShape)
+    → content_text page pens strokes labels ≡ strokes_text page pens strokes ++ operators_text (texts_operators pens strokes labels)
+of_content page pens strokes labels =
+    both ((Scale ∷ LineEnds ∷ LineJoins ∷ []) ++ runs_operators page (runs pens strokes)) (texts_operators pens strokes labels) (strokes_text page pens strokes) (operators_text (texts_operators pens strokes labels))
+    (both (Scale ∷ LineEnds ∷ LineJoins ∷ []) (runs_operators page (runs pens strokes)) head_text (runs_text page (runs pens strokes)) refl (of_runs page (runs pens strokes))) refl
+
+-- one line more
+pub of_lines : (l : LineShape) (ls : List LineShape) → operators_text (lines_operators (l ∷ ls)) ≡ operators_text (text_operators l) ++ operators_text (lines_operators ls)
+of_lines l ls = join (text_operators l) (lines_operators ls)
+
+-- one label more
+pub of_labels : (pens : PenSet) (strokes : List Segment) (l : LabelShape) (ls : List LabelShape)
+    → operators_text (labels_operators pens strokes (l ∷ ls)) ≡ operators_text (labels_operators pens strokes (l ∷ [])) ++ operators_text (labels_operators pens strokes ls)
+of_labels pens strokes l ls =
+    join (cond (is_shown pens strokes l) (lines_operators l.lines) []) (labels_operators pens strokes ls)
+    ∙ ap (λ (z : List Operator). operators_text z ++ operators_text (labels_operators pens strokes ls)) (sym (append-nil (cond (is_shown pens strokes l) (lines_operators l.lines) [])))
+
+-- a label that is not shown, and one that is
+pub of_label : (b : Bool) (lines : List LineShape) → operators_text (cond b (lines_operators lines) [] ++ []) ≡ cond b (operators_text (lines_operators lines)) []
+of_label true lines = ap operators_text (append-nil (lines_operators lines))
+of_label false lines = refl
+
+-- the whole text, if a label is shown
+pub of_texts : (os : List Operator) → operators_text ((BeginText ∷ Invisible ∷ []) ++ os ++ (EndText ∷ [])) ≡ (codes "BT\n3 Tr\n" ++ operators_text os) ++ codes "ET\n"
+of_texts os = both ((BeginText ∷ Invisible ∷ []) ++ os) (EndText ∷ []) (codes "BT\n3 Tr\n" ++ operators_text os) (codes "ET\n") refl refl
+
+-- the text of the next line, or of the next label, was encoded
+pub part_encoded : (all before piece whole part rest : List ℕ) → before ++ whole ≡ all → whole ≡ part ++ rest → piece ≡ part → (before ++ piece) ++ rest ≡ all
+part_encoded all before piece whole part rest so_far split is =
+    append_assoc before piece rest ∙ ap (λ (z : List ℕ). before ++ (z ++ rest)) is ∙ ap (λ (z : List ℕ). before ++ z) (sym split) ∙ so_far

@@ -13,9 +13,13 @@ use Rattle.stroke_runs.specs.Drawn.{drawn, is_alike, is_joined, is_same_colour, 
 use Rattle.stroke_runs.specs.Runs.{runs}
 use Rattle.stroke_runs.specs.Laws.{joined, AreAlike, AreRuns}
 use Rattle.stroke_runs.proofs.RunLaws.{all_of, alike_of}
-use Rattle.pdf.specs.Contents.{whole_page}
-use Rattle.pdf.specs.Operators.{Operator, Layer, LineWidth, Rectangle, Clip, NoPaint, Save, StrokeColour, content_operators, end_operators, line_operators, rest_operators, runs_operators, start_operators, stroke_operators}
-use Rattle.pdf.specs.Readings.{Graphics, Line, Reading, painted_line, read, start_of, widened}
+use Rattle.labels.specs.Labels.{LabelShape, LineShape}
+use Rattle.std.specs.List.{list_any}
+use Rattle.stroke_runs.specs.Shown.{is_shown, whole_page, widened}
+use Rattle.pdf.specs.Contents.{content_operators, end_operators, labels_operators, line_operators, lines_operators, pieces_operators, rest_operators, runs_operators, start_operators, stroke_operators, text_operators, texts_operators}
+use Rattle.pdf.specs.Operators.{Operator, Layer, LineWidth, Rectangle, Clip, NoPaint, Save, StrokeColour, Scale, LineEnds, LineJoins, BeginText, Invisible, EndText, TextMatrix}
+use Rattle.pdf.specs.Readings.{Graphics, Line, Reading, painted_line, read, start_of}
+use Rattle.pdf.specs.Texts.{Piece, has_letters, has_text, matrix_of, pieces}
 
 read_join : (r : Reading) (xs ys : List Operator) → read r (xs ++ ys) ≡ read (read r xs) ys
 read_join r [] ys = refl
@@ -196,8 +200,41 @@ runs_read page w x y painted ((s ∷ ss) ∷ rs) h =
     ∙ append_assoc painted (map widened (s ∷ ss)) (map widened (joined rs))
     ∙ ap (λ (zs : List Segment). painted ++ zs) (sym (map-append widened (s ∷ ss) (joined rs)))
 
+-- texts paint nothing
+pieces_read : (r : Reading) (ps : List Piece) → read r (pieces_operators ps) ≡ r
+pieces_read r [] = refl
+pieces_read r (p ∷ ps) = pieces_read r ps
+
+text_read : (b : Bool) (r : Reading) (l : LineShape) → read r (cond b (TextMatrix (matrix_of l) l.start.x l.start.y ∷ pieces_operators (pieces l.text)) []) ≡ r
+text_read true r l = pieces_read r (pieces l.text)
+text_read false r l = refl
+
+lines_read : (r : Reading) (ls : List LineShape) → read r (lines_operators ls) ≡ r
+lines_read r [] = refl
+lines_read r (l ∷ ls) =
+    read_join r (text_operators l) (lines_operators ls) ∙ ap (λ (q : Reading). read q (lines_operators ls)) (text_read (has_letters l) r l) ∙ lines_read r ls
+
+label_read : (b : Bool) (r : Reading) (ls : List LineShape) → read r (cond b (lines_operators ls) []) ≡ r
+label_read true r ls = lines_read r ls
+label_read false r ls = refl
+
+labels_read : (r : Reading) (pens : PenSet) (strokes : List Segment) (ls : List LabelShape) → read r (labels_operators pens strokes ls) ≡ r
+labels_read r pens strokes [] = refl
+labels_read r pens strokes (l ∷ ls) =
+    read_join r (cond (is_shown pens strokes l) (lines_operators l.lines) []) (labels_operators pens strokes ls)
+    ∙ ap (λ (q : Reading). read q (labels_operators pens strokes ls)) (label_read (is_shown pens strokes l) r l.lines) ∙ labels_read r pens strokes ls
+
+texts_read : (b : Bool) (r : Reading) (os : List Operator) → read r os ≡ r → read r (cond b ((BeginText ∷ Invisible ∷ []) ++ os ++ (EndText ∷ [])) []) ≡ r
+texts_read true r os h = read_join r os (EndText ∷ []) ∙ ap (λ (q : Reading). read q (EndText ∷ [])) h
+texts_read false r os h = refl
+
 -- reading the content gives the strokes that are drawn
-pub content_read : (page : Page) (pens : PenSet) (strokes : List Segment) → (read (start_of page) (content_operators page pens strokes)).painted ≡ map widened (drawn pens strokes)
-content_read page pens strokes =
-    runs_read page (whole_page page) (pos 0) (pos 0) [] (runs pens strokes) (alike_of (drawn pens strokes))
+pub content_read : (page : Page) (pens : PenSet) (strokes : List Segment) (labels : List LabelShape) → (read (start_of page) (content_operators page pens strokes labels)).painted ≡ map widened (drawn pens strokes)
+content_read page pens strokes labels =
+    let drawing = (Scale ∷ LineEnds ∷ LineJoins ∷ []) ++ runs_operators page (runs pens strokes) in
+    let painted = read (start_of page) drawing in
+    ap (λ (r : Reading). r.painted)
+    (read_join (start_of page) drawing (texts_operators pens strokes labels)
+    ∙ texts_read (list_any (has_text pens strokes) labels) painted (labels_operators pens strokes labels) (labels_read painted pens strokes labels))
+    ∙ runs_read page (whole_page page) (pos 0) (pos 0) [] (runs pens strokes) (alike_of (drawn pens strokes))
     ∙ ap (map widened) (all_of (drawn pens strokes))

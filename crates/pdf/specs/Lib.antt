@@ -2,11 +2,15 @@
 pub mod Documents
 pub mod Objects
 pub mod Contents
-pub mod Numbers
--- What the laws say: the operators of a content, and what they draw.
-pub mod Laws
+pub mod Texts
 pub mod Operators
+pub mod Numbers
+-- What the laws say: what the operators of a content draw, and which texts they show.
+pub mod Laws
 pub mod Readings
+pub mod TextReadings
 -- What contracts of private functions need.
+pub mod RunTexts
 pub mod Steps
+pub mod TextSteps
 pub mod Writings

@@ -1,11 +1,25 @@
 -- Numbers in a PDF document.
 use Rattle.std.specs.Prelude.{ℕ, ◌+◌, ◌-◌, ◌*◌, ◌/◌, ◌%◌, nat_lt, false, if◌then◌else◌, List, [], ◌∷◌, ◌++◌, decimal}
+use Rattle.std.specs.Prelude.{ℤ, pos, neg_ℤ, nat_abs, int_lt, codes}
 use Rattle.std.specs.Fmt.{digit_glyph}
 use Rattle.number_text.specs.Fractions.{digit, fraction}
 
 -- some thousandths as a decimal number
 abbrev pub thousandths : ℕ → List ℕ
 thousandths number = decimal (number / 1000) ++ fraction (number % 1000)
+
+-- the same with a sign
+abbrev pub signed_thousandths : ℤ → List ℕ
+signed_thousandths z = (if int_lt z (pos 0) then codes "-" else []) ++ thousandths (nat_abs z)
+
+-- a number of parts, of which `d` are one, rounded to the nearest, half up
+abbrev pub nearest : ℕ → ℕ → ℕ
+nearest n d = (2 * n + d) / (2 * d)
+
+-- so many times a number of parts, rounded to the nearest, half away from zero
+abbrev pub rounded : ℕ → ℤ → ℕ → ℤ
+rounded times z d =
+    if int_lt z (pos 0) then neg_ℤ (pos (nearest (times * nat_abs z) d)) else pos (nearest (times * nat_abs z) d)
 
 -- a length of so many plotter units in points, to three decimals: 1,016 units are 72 points
 abbrev pub points : ℕ → List ℕ
@@ -21,6 +35,14 @@ ten_digits n =
     digit (n / 1000000000 % 10) ∷ digit (n / 100000000 % 10) ∷ digit (n / 10000000 % 10) ∷ digit (n / 1000000 % 10)
     ∷ digit (n / 100000 % 10) ∷ digit (n / 10000 % 10) ∷ digit (n / 1000 % 10) ∷ digit (n / 100 % 10)
     ∷ digit (n / 10 % 10) ∷ digit (n % 10) ∷ []
+
+-- a byte as two hexadecimal digits
+abbrev pub two_digits : ℕ → List ℕ
+two_digits n = digit_glyph false (n / 16) ∷ digit_glyph false (n % 16) ∷ []
+
+abbrev pub digits_text : List ℕ → List ℕ
+digits_text [] = []
+digits_text (n ∷ ns) = two_digits n ++ digits_text ns
 
 -- a number of 16 bits as four hexadecimal digits
 abbrev pub four_digits : ℕ → List ℕ

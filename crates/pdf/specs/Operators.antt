@@ -1,17 +1,13 @@
--- The content of a page as operators. ISO 32000-1, 8.4.4, 8.5.2, 8.5.3, 8.5.4 and 14.6.
-use Rattle.std.specs.Prelude.{ℕ, ℤ, max, List, [], ◌∷◌, ◌++◌, if◌then◌else◌, codes, decimal}
-use Rattle.plot_page.specs.Segments.{Segment}
+-- Operators of the content of a page, and their text. ISO 32000-1, 8.4.4, 8.5.2, 8.5.3, 8.5.4, 9.3, 9.4 and 14.6.
+use Rattle.std.specs.Prelude.{ℕ, ℤ, ◌-ℤ◌, List, [], ◌∷◌, ◌++◌, codes, decimal}
+use Rattle.std.specs.Fmt.{signed_decimal}
 use Rattle.plot_page.specs.declared.colour.Colour.{Colour}
-use Rattle.plot_page.specs.declared.page.Page.{Page}
-use Rattle.plot_page.specs.declared.pens.PenSet.{PenSet}
 use Rattle.plot_page.specs.declared.window.Window.{Window}
-use Rattle.stroke_runs.specs.Drawn.{is_joined, is_same_window}
-use Rattle.stroke_runs.specs.Runs.{runs}
-use Rattle.pdf.specs.declared.paths.TheConstants.{LEAST_WIDTH}
-use Rattle.pdf.specs.Contents.{colour_text, place_text, rectangle_text, whole_page, width_text}
+use Rattle.pdf.specs.Numbers.{digits_text, part, signed_thousandths}
+use Rattle.pdf.specs.Texts.{Matrix}
 
 -- a layer begins and ends; what is set is saved and restored; a rectangle is a path that clips; lines go from place to
--- place, and are painted
+-- place, and are painted; a text begins and ends, is invisible, is placed by a matrix, and has letters of a font
 pub data Operator : Type 0 where
   Scale : Operator
   Layer : (pen : ℕ) → Operator
@@ -28,6 +24,34 @@ pub data Operator : Type 0 where
   MoveTo : (x y : ℤ) → Operator
   LineTo : (x y : ℤ) → Operator
   StrokePath : Operator
+  BeginText : Operator
+  Invisible : Operator
+  TextMatrix : (matrix : Matrix) (x y : ℤ) → Operator
+  Font : (row : ℕ) → Operator
+  ShowText : (bytes : List ℕ) → Operator
+  EndText : Operator
+
+-- a place
+abbrev pub place_text : ℤ → ℤ → List ℕ
+place_text x y = signed_decimal x ++ codes " " ++ signed_decimal y
+
+-- a window as a rectangle: its lower left corner, its width and its height
+abbrev pub rectangle_text : Window → List ℕ
+rectangle_text w = place_text w.x0 w.y0 ++ codes " " ++ place_text (w.x1 -ℤ w.x0) (w.y1 -ℤ w.y0) ++ codes " re\n"
+
+-- the colour of lines
+abbrev pub colour_text : Colour → List ℕ
+colour_text c = part c.red ++ codes " " ++ part c.green ++ codes " " ++ part c.blue ++ codes " RG\n"
+
+-- the width of lines
+abbrev pub width_text : ℕ → List ℕ
+width_text width = decimal width ++ codes " w\n"
+
+-- the first four numbers of a text matrix
+abbrev pub matrix_text : Matrix → List ℕ
+matrix_text m =
+    signed_thousandths m.a ++ codes " " ++ signed_thousandths m.b ++ codes " " ++ signed_thousandths m.c ++ codes " "
+    ++ signed_thousandths m.d
 
 -- an operator as text
 abbrev pub operator_text : Operator → List ℕ
@@ -46,47 +70,13 @@ operator_text LineJoins = codes "1 j\n"
 operator_text (MoveTo x y) = place_text x y ++ codes " m\n"
 operator_text (LineTo x y) = place_text x y ++ codes " l\n"
 operator_text StrokePath = codes "S\n"
+operator_text BeginText = codes "BT\n"
+operator_text Invisible = codes "3 Tr\n"
+operator_text (TextMatrix matrix x y) = matrix_text matrix ++ codes " " ++ place_text x y ++ codes " Tm\n"
+operator_text (Font row) = codes "/F" ++ decimal row ++ codes " 1 Tf\n"
+operator_text (ShowText bytes) = codes "<" ++ digits_text bytes ++ codes "> Tj\n"
+operator_text EndText = codes "ET\n"
 
 abbrev pub operators_text : List Operator → List ℕ
 operators_text [] = []
 operators_text (o ∷ os) = operator_text o ++ operators_text os
-
--- a stroke that begins where the last one ended
-abbrev pub line_operators : Segment → List Operator
-line_operators s = LineTo s.bx s.by ∷ []
-
--- a stroke that begins elsewhere
-abbrev pub stroke_operators : Segment → List Operator
-stroke_operators s = MoveTo s.ax s.ay ∷ LineTo s.bx s.by ∷ []
-
--- the strokes of a run after one of it
-abbrev pub rest_operators : Segment → List Segment → List Operator
-rest_operators last [] = []
-rest_operators last (s ∷ ss) =
-    (if is_joined last s then line_operators s else stroke_operators s) ++ rest_operators s ss
-
--- the window of a run, if it is not the whole page
-abbrev pub clip_operators : Page → Window → List Operator
-clip_operators page w = if is_same_window w (whole_page page) then [] else Rectangle w ∷ Clip ∷ NoPaint ∷ []
-
--- what comes before the places of a run that begins with this stroke
-abbrev pub start_operators : Page → Segment → List Operator
-start_operators page s =
-    (Layer s.pen ∷ Save ∷ []) ++ clip_operators page s.window
-    ++ (StrokeColour s.colour ∷ LineWidth (max LEAST_WIDTH s.width) ∷ [])
-
--- what comes after them
-abbrev pub end_operators : List Operator
-end_operators = StrokePath ∷ Restore ∷ EndLayer ∷ []
-
--- runs one after another
-abbrev pub runs_operators : Page → List (List Segment) → List Operator
-runs_operators page [] = []
-runs_operators page ([] ∷ others) = runs_operators page others
-runs_operators page ((s ∷ ss) ∷ others) =
-    start_operators page s ++ stroke_operators s ++ rest_operators s ss ++ end_operators ++ runs_operators page others
-
--- the content of a page
-abbrev pub content_operators : Page → PenSet → List Segment → List Operator
-content_operators page pens strokes =
-    (Scale ∷ LineEnds ∷ LineJoins ∷ []) ++ runs_operators page (runs pens strokes)

@@ -1,13 +1,13 @@
--- What operators draw, read one after another. ISO 32000-1, 8.4.4, 8.5.2, 8.5.3, 8.5.4 and 14.6.
-use Rattle.std.specs.Prelude.{ℕ, ℤ, pos, max, List, [], ◌∷◌, ◌++◌, map}
+-- What operators draw, read one after another. ISO 32000-1, 8.4.4, 8.5.2, 8.5.3, 8.5.4, 9.4 and 14.6.
+use Rattle.std.specs.Prelude.{ℕ, ℤ, pos, List, [], ◌∷◌, ◌++◌, map}
 use Rattle.plot_page.specs.Segments.{Segment}
 use Rattle.plot_page.specs.declared.colour.Colour.{Colour}
 use Rattle.plot_page.specs.declared.page.Page.{Page}
 use Rattle.plot_page.specs.declared.window.Window.{Window}
-use Rattle.pdf.specs.declared.paths.TheConstants.{LEAST_WIDTH}
-use Rattle.pdf.specs.Contents.{whole_page}
+use Rattle.stroke_runs.specs.Shown.{whole_page}
 use Rattle.pdf.specs.Operators.{Operator, Scale, Layer, EndLayer, Save, Restore, Rectangle, Clip, NoPaint, StrokeColour}
-use Rattle.pdf.specs.Operators.{LineWidth, LineEnds, LineJoins, MoveTo, LineTo, StrokePath}
+use Rattle.pdf.specs.Operators.{LineWidth, LineEnds, LineJoins, MoveTo, LineTo, StrokePath, BeginText, Invisible}
+use Rattle.pdf.specs.Operators.{TextMatrix, Font, ShowText, EndText}
 
 -- what is set: how lines are drawn, and the window that they are seen in
 pub record Graphics : Type 0 where
@@ -82,12 +82,14 @@ after r Scale = r
 after r NoPaint = r
 after r LineEnds = r
 after r LineJoins = r
+after r BeginText = r
+after r Invisible = r
+after r (TextMatrix matrix x y) = r
+after r (Font row) = r
+after r (ShowText bytes) = r
+after r EndText = r
 
 -- operators are read one after another
 abbrev pub read : Reading → List Operator → Reading
 read r [] = r
 read r (o ∷ os) = read (after r o) os
-
--- a stroke as it is drawn: its width is at least 24 grains
-abbrev pub widened : Segment → Segment
-widened s = record s { width = max LEAST_WIDTH s.width }

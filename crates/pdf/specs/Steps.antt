@@ -8,7 +8,7 @@ use Rattle.stroke_runs.specs.declared.runs.Link.TheVariants.{Begins, Apart, Join
 use Rattle.stroke_runs.specs.declared.runs.Runs.{Runs}
 use Rattle.stroke_runs.specs.Drawn.{is_drawn}
 use Rattle.stroke_runs.specs.Links.{has_begun, link_of, runs_after}
-use Rattle.pdf.specs.Contents.{end_text, line_text, start_text, stroke_text}
+use Rattle.pdf.specs.RunTexts.{end_text, line_text, start_text, stroke_text}
 
 -- the end of the run that has begun, if there is one
 abbrev pub open_end : Runs → List ℕ

@@ -7,10 +7,12 @@ use Rattle.deflate.specs.Zlib.{unzlib}
 use Rattle.deflate.specs.declared.text_encoder.TextEncoder.{TextEncoder}
 use Rattle.devices.specs.declared.fault.WriteFault.{WriteFault}
 use Rattle.devices.specs.Sinks.{SinkState, taken_of}
+use Rattle.labels.specs.Labels.{LabelShape}
 use Rattle.plot_page.specs.Segments.{Segment}
 use Rattle.plot_page.specs.declared.page.Page.{Page}
 use Rattle.plot_page.specs.declared.pens.PenSet.{PenSet}
-use Rattle.pdf.specs.Documents.{AreStreams, page_objects, pages_objects, pdf_bytes, pens_drawn, sheets}
+use Rattle.pdf.specs.Documents.{AreStreams, page_objects, pages_objects, pdf_bytes, pens_drawn, rows_shown, sheet_labels}
+use Rattle.pdf.specs.Documents.{sheets}
 use Rattle.pdf.specs.Objects.{objects_text, offsets_of}
 
 -- after so many bytes these were written
@@ -49,11 +51,14 @@ abbrev pub Encoding : SinkState → SinkState → ℕ → TextEncoder → List �
 Encoding old new done encoder text (Ok now) = HasEncoded old new done now encoder text
 Encoding old new done encoder text (Err fault) = HasFailed old new done fault
 
--- whatever was encoded before, more bytes were encoded
+-- whatever was encoded before, more bytes were encoded, of which some were written
+abbrev pub HasContinued : SinkState → SinkState → ℕ → ℕ → TextEncoder → TextEncoder → List ℕ → Type 0
+HasContinued old new done now encoder after bytes =
+    (sent : List ℕ) × HasPut old new done now sent
+    × ((before text : List ℕ) → EncodesText before encoder text → EncodesText (before ++ sent) after (text ++ bytes))
+
 abbrev pub Continues : SinkState → SinkState → ℕ → TextEncoder → TextEncoder → List ℕ → Result ℕ WriteFault → Type 0
-Continues old new done encoder after bytes (Ok now) =
-    (first : SinkState) (start : ℕ) (text : List ℕ) → HasEncoded first old start done encoder text
-    → HasEncoded first new start now after (text ++ bytes)
+Continues old new done encoder after bytes (Ok now) = HasContinued old new done now encoder after bytes
 Continues old new done encoder after bytes (Err fault) = HasFailed old new done fault
 
 -- whatever was encoded before, the encoder's whole bytes were written
@@ -79,16 +84,17 @@ AddsPage old new offsets noted before done text (Err fault) = HasFailed old new 
 
 -- pages were written, whose contents are in streams
 abbrev pub AddsPages : SinkState → SinkState → List ℕ → List ℕ → ℕ → ℕ → Page → PenSet → List (List Segment)
-    → Result ℕ WriteFault → Type 0
-AddsPages old new offsets noted before done page pens pages (Ok now) =
-    (streams : List (List ℕ)) × AreStreams page pens pages streams
+    → List (List LabelShape) → Result ℕ WriteFault → Type 0
+AddsPages old new offsets noted before done page pens pages labels (Ok now) =
+    (streams : List (List ℕ)) × AreStreams page pens pages labels streams
     × HasAdded old new offsets noted before done now (pages_objects before streams)
-AddsPages old new offsets noted before done page pens pages (Err fault) = HasFailed old new done fault
+AddsPages old new offsets noted before done page pens pages labels (Err fault) = HasFailed old new done fault
 
 -- a document was written whose contents are in streams
 abbrev pub WritesPdf : SinkState → SinkState → List ℕ → List ℕ → Page → PenSet → List Segment → List ℕ
-    → Result ℕ WriteFault → Type 0
-WritesPdf old new version title page pens strokes ends (Ok now) =
-    (streams : List (List ℕ)) × AreStreams page pens (sheets strokes 0 ends) streams
-    × HasPut old new 0 now (pdf_bytes version title page (pens_drawn pens strokes) ends streams)
-WritesPdf old new version title page pens strokes ends (Err fault) = HasFailed old new 0 fault
+    → List LabelShape → Result ℕ WriteFault → Type 0
+WritesPdf old new version title page pens strokes ends labels (Ok now) =
+    (streams : List (List ℕ)) × AreStreams page pens (sheets strokes 0 ends) (sheet_labels labels 0 ends) streams
+    × HasPut old new 0 now
+    (pdf_bytes version title page (pens_drawn pens strokes) (rows_shown pens strokes labels) ends streams)
+WritesPdf old new version title page pens strokes ends labels (Err fault) = HasFailed old new 0 fault

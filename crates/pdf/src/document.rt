@@ -1,28 +1,34 @@
 //! The whole document.
 ghost use Rattle.std.specs.Prelude.{◌≡◌, ◌+◌, ◌-◌, ◌*◌, ◌^◌, ◌<◌, ◌≤◌, ◌++◌, length, take};
+ghost use Rattle.labels.specs.Sheets.{all_counted};
 ghost use Rattle.plot_page.specs.declared.stroke.TheConstants.{MOST_STROKES};
 ghost use Rattle.pdf.specs.Documents.{end_text};
+ghost use Rattle.pdf.specs.Texts.{letter_count};
 ghost use Rattle.pdf.specs.Writings.{Puts, WritesPdf};
 ghost use Rattle.pdf.specs.declared.front.TheConstants.{LONGEST_VERSION};
+ghost use Rattle.pdf.specs.declared.counts.TheConstants.{MOST_LETTERS};
 ghost use Rattle.pdf.specs.declared.title.TheConstants.{MOST_CHARACTERS};
 ghost use Rattle.std.specs.Str.{chars};
 
+use crate::fonts::{font_count, put_fonts};
 use crate::front::put_front;
 use crate::layers::put_layers;
 use crate::objects::put;
 use crate::pages::put_pages;
 use crate::pens::{PENS, list_pens};
+use crate::rows::{ROWS, list_rows};
 use crate::table::{put_table, put_trailer};
 use deflate::TextEncoder;
 use devices::{Sink, WriteFault};
+use labels::Label;
 use plot_page::{Page, PenSet, Stroke};
 
 /// How many offsets `write_pdf` needs room for, to write so many pages.
 pub fn room_for(pages: usize) -> usize
     requires { pages ≤ MOST_STROKES }
-    ensures { result ≡ 260 + 3 * pages }
+    ensures { result ≡ 773 + 3 * pages }
 {
-    260 + 3 * pages
+    773 + 3 * pages
 }
 
 /// Writes the strokes of the selected pens as a PDF 1.5 document, of which each sheet is a page. The first sheet has
@@ -33,6 +39,11 @@ pub fn room_for(pages: usize) -> usize
 /// Each run of strokes with the same pen, colour, width and window is a path of at most 1,000 strokes and with a width
 /// of at least 24 grains (1/16 plotter unit). A stroke with an empty window is left out. A window other than the page is a
 /// clipping path. Each pen that draws a stroke is a layer, `Pen 2`.
+///
+/// A page has the labels before whose strokes its sheet ends, of which those with a stroke that is drawn are shown: their
+/// text lies over their letters, invisible, so that a search finds it. Labels count strokes from `before` strokes before
+/// these. A code point over U+FFFF is written as U+FFFD. All labels have at most `MOST_LETTERS` letters, of which
+/// `has_few_letters` is the test.
 ///
 /// Returns how many bytes the document has. It asks for no memory: where objects begin is noted in `offsets`, and the
 /// encoder begins a stream for each page, whatever it encoded before.
@@ -45,6 +56,8 @@ pub fn write_pdf<K: Sink>(
     pens: &PenSet,
     strokes: &[Stroke],
     ends: &[usize],
+    labels: &[Label],
+    before: usize,
     offsets: &mut [u64],
     encoder: &mut TextEncoder,
     sink: &mut K,
@@ -54,13 +67,17 @@ pub fn write_pdf<K: Sink>(
     requires title { length (chars title.now) ≤ MOST_CHARACTERS }
     requires strokes { length strokes.now ≤ MOST_STROKES }
     requires pages { length ends.now ≤ MOST_STROKES }
-    requires room { 260 + 3 * length ends.now ≤ length offsets.old }
+    requires letters { letter_count labels.now ≤ MOST_LETTERS }
+    requires room { 773 + 3 * length ends.now ≤ length offsets.old }
     ensures writes { WritesPdf (K.state sink.old) (K.state sink.new) version.now title.now page.now pens.now
-        strokes.now ends.now result }
+        strokes.now ends.now (all_counted before labels.now) result }
 {
     let mut list = [0; PENS];
     let count = list_pens(pens, strokes, &mut list);
     let drawn = &list[..count];
+    let mut list = [0; ROWS];
+    let row_count = list_rows(pens, strokes, labels, before, &mut list);
+    let rows = &list[..row_count];
     let now = put(sink, 0, b"%PDF-1.5\n%\xE2\xE3\xCF\xD3\n")?;
     let now = put_front(
         sink,
@@ -70,14 +87,17 @@ pub fn write_pdf<K: Sink>(
         title,
         page,
         drawn,
+        rows,
         ends,
     )?;
     let now = put_layers(sink, offsets, 4, now, drawn)?;
-    let before = 4 + count as u32;
+    let layers = 4 + count as u32;
+    let now = put_fonts(sink, offsets, layers, now, rows)?;
+    let fonts = layers + font_count(rows);
     let now = put_pages(
-        sink, offsets, encoder, before, now, page, pens, strokes, ends,
+        sink, offsets, encoder, fonts, now, page, pens, strokes, ends, labels, before,
     )?;
-    let objects = before as usize + 3 * ends.len();
+    let objects = fonts as usize + 3 * ends.len();
     put_end(sink, now, &offsets[..objects])
 }
 

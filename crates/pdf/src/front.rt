@@ -6,12 +6,14 @@ ghost use Rattle.pdf.specs.Documents.{catalog_text, info_text, kids_text, list_t
 ghost use Rattle.pdf.specs.Writings.{Adds, Puts};
 ghost use Rattle.std.specs.Str.{chars};
 
+use crate::fonts::{LONGEST_RESOURCES, append_resources, font_count};
 use crate::layers::{
     LONGEST_PROPERTY, LONGEST_REFERENCE, append_layers, append_properties, append_reference,
 };
 use crate::numbers::{LONGEST_THOUSANDTHS, append_points};
 use crate::objects::{append_head, note, put, put_object};
 use crate::pens::PENS;
+use crate::rows::ROWS;
 use crate::title::{LONGEST_TITLE, MOST_CHARACTERS, append_title};
 use devices::{Sink, WriteFault, append};
 use number_text::{LONGEST_COUNT, append_count};
@@ -23,11 +25,12 @@ pub const LONGEST_VERSION: usize = 100;
 /// The producer and the title: 26 bytes, the version and the title.
 const LONGEST_INFO: usize = 26 + LONGEST_VERSION + LONGEST_TITLE;
 
-/// What all pages have: 78 bytes, the size of a page, a number, and the names of layers.
+/// What all pages have: 78 bytes, the size of a page, a number, and the names of layers and of fonts.
 const LONGEST_SHARED: usize = 78
     + 2 * LONGEST_THOUSANDTHS
     + LONGEST_COUNT
-    + LONGEST_PROPERTY * PENS;
+    + LONGEST_PROPERTY * PENS
+    + LONGEST_RESOURCES;
 
 /// The same as the start of an object.
 const LONGEST_START: usize = 7 + LONGEST_COUNT + LONGEST_SHARED;
@@ -35,7 +38,8 @@ const LONGEST_START: usize = 7 + LONGEST_COUNT + LONGEST_SHARED;
 /// The longest list of layers.
 const LONGEST_LIST: usize = 2 + LONGEST_REFERENCE * PENS;
 
-// Writes the first four objects of a document with layers for these pens and with a page for each end.
+// Writes the first four objects of a document with layers for these pens, with fonts for these rows
+// and with a page for each end.
 pub(crate) fn put_front<K: Sink>(
     sink: &mut K,
     offsets: &mut [u64],
@@ -44,25 +48,27 @@ pub(crate) fn put_front<K: Sink>(
     title: &str,
     page: &Page,
     pens: &[u8],
+    rows: &[u8],
     ends: &[usize],
 ) -> Result<u64, WriteFault>
     requires sound { (K.state sink.old).faults < 2 ^ 64 - 1 }
     requires version { length version.now ≤ LONGEST_VERSION }
     requires title { length (chars title.now) ≤ MOST_CHARACTERS }
     requires few { length pens.now ≤ PENS }
+    requires rows { length rows.now ≤ ROWS }
     requires pages { length ends.now ≤ MOST_STROKES }
     requires count { done ≤ 100 }
     requires room { 4 ≤ length offsets.old }
     ensures adds { Adds (K.state sink.old) (K.state sink.new) offsets.old offsets.new 0 done
-        (catalog_text ∷ info_text version.now title.now ∷ pages_text page.now pens.now ends.now
+        (catalog_text ∷ info_text version.now title.now ∷ pages_text page.now pens.now rows.now ends.now
         ∷ list_text pens.now ∷ []) result }
-    ensures near { IfOk result (λ now. now ≤ done + 30000 + 20 * length ends.now) }
+    ensures near { IfOk result (λ now. now ≤ done + 40000 + 20 * length ends.now) }
 {
     let catalog =
         b"<</Type/Catalog/Pages 3 0 R/OCProperties<</OCGs 4 0 R/D<</Order 4 0 R/ON 4 0 R>>>>>>";
     let now = put_object(sink, offsets, 0, done, catalog)?;
     let now = put_info(sink, offsets, now, version, title)?;
-    let now = put_kids(sink, offsets, now, page, pens, ends)?;
+    let now = put_kids(sink, offsets, now, page, pens, rows, ends)?;
     put_list(sink, offsets, now, pens)
 }
 
@@ -111,31 +117,42 @@ fn put_kids<K: Sink>(
     done: u64,
     page: &Page,
     pens: &[u8],
+    rows: &[u8],
     ends: &[usize],
 ) -> Result<u64, WriteFault>
     requires sound { (K.state sink.old).faults < 2 ^ 64 - 1 }
     requires few { length pens.now ≤ PENS }
+    requires rows { length rows.now ≤ ROWS }
     requires pages { length ends.now ≤ MOST_STROKES }
     requires count { done ≤ 2 ^ 20 }
     requires room { 3 ≤ length offsets.old }
     ensures adds { Adds (K.state sink.old) (K.state sink.new) offsets.old offsets.new 2 done
-        (pages_text page.now pens.now ends.now ∷ []) result }
-    ensures near { IfOk result (λ now. now ≤ done + 10000 + 20 * length ends.now) }
+        (pages_text page.now pens.now rows.now ends.now ∷ []) result }
+    ensures near { IfOk result (λ now. now ≤ done + 20000 + 20 * length ends.now) }
 {
     note(offsets, 2, done);
     let mut piece = [0; LONGEST_START];
     let used = append_head(&mut piece, 2);
-    let used = append_shared(&mut piece, used, page, pens, ends.len() as u32);
+    let used = append_shared(&mut piece, used, page, pens, rows, ends.len() as u32);
     let now = put(sink, done, &piece[..used])?;
-    let now = put_references(sink, now, 5 + pens.len() as u32, ends)?;
+    let number = 5 + pens.len() as u32 + font_count(rows);
+    let now = put_references(sink, now, number, ends)?;
     put(sink, now, b"]>>\nendobj\n")
 }
 
 // Appends what all pages have, up to the references to them.
-fn append_shared(piece: &mut [u8], used: usize, page: &Page, pens: &[u8], count: u32) -> usize
+fn append_shared(
+    piece: &mut [u8],
+    used: usize,
+    page: &Page,
+    pens: &[u8],
+    rows: &[u8],
+    count: u32,
+) -> usize
     requires few { length pens.now ≤ PENS }
+    requires rows { length rows.now ≤ ROWS }
     requires room { used + LONGEST_SHARED ≤ length piece.old }
-    ensures text { take result piece.new ≡ take used piece.old ++ shared_text page.now pens.now count }
+    ensures text { take result piece.new ≡ take used piece.old ++ shared_text page.now pens.now rows.now count }
     ensures most { result ≤ used + LONGEST_SHARED }
     ensures size { length piece.new ≡ length piece.old }
 {
@@ -143,7 +160,9 @@ fn append_shared(piece: &mut [u8], used: usize, page: &Page, pens: &[u8], count:
     let used = append_points(piece, used, b" ", page.height);
     let used = append(piece, used, b"]/Resources<</Properties<<");
     let used = append_properties(piece, used, 5, pens);
-    let used = append_count(piece, used, b">>>>/Count ", count);
+    let used = append(piece, used, b">>");
+    let used = append_resources(piece, used, 5 + pens.len() as u32, rows);
+    let used = append_count(piece, used, b">>/Count ", count);
     append(piece, used, b"/Kids[")
 }
 

@@ -1,26 +1,30 @@
 //! Laws of contents and of tables.
 ghost use Rattle.std.specs.Prelude.{◌≡◌, ℕ, ◌<◌, List, length, get_or, map, []};
-ghost use Rattle.pdf.specs.Contents.{content_text};
+ghost use Rattle.pdf.specs.Contents.{content_operators};
 ghost use Rattle.pdf.specs.Documents.{document_text, header_text};
 ghost use Rattle.pdf.specs.Laws.{BeginsAt};
 ghost use Rattle.pdf.specs.Objects.{object_text, offsets_of};
-ghost use Rattle.pdf.specs.Operators.{content_operators, operators_text};
-ghost use Rattle.pdf.specs.Readings.{read, start_of, widened};
+ghost use Rattle.pdf.specs.Readings.{read, start_of};
+ghost use Rattle.pdf.specs.TextReadings.{placed, texts_of};
+ghost use Rattle.pdf.specs.Texts.{shown_lines};
 ghost use Rattle.stroke_runs.specs.Drawn.{drawn};
+ghost use Rattle.stroke_runs.specs.Shown.{widened};
 
+use labels::Label;
 use plot_page::{Page, PenSet, Stroke};
 
-/// The content of a page is the text of its operators.
-pub fn content_is_operators(page: &Page, pens: &PenSet, strokes: &[Stroke])
-    ensures { content_text page.now pens.now strokes.now
-        ≡ operators_text (content_operators page.now pens.now strokes.now) }
+/// Reading the operators of a page paints the strokes that are drawn, in their order, each once, with its colour, its
+/// window and a width of at least 24 grains, in the layer of its pen.
+pub fn content_is_strokes(page: &Page, pens: &PenSet, strokes: &[Stroke], labels: &[Label])
+    ensures { (read (start_of page.now) (content_operators page.now pens.now strokes.now labels.now)).painted
+        ≡ map widened (drawn pens.now strokes.now) }
 {}
 
-/// Reading these operators paints the strokes that are drawn, in their order, each once, with its colour, its window and
-/// a width of at least 24 grains, in the layer of its pen.
-pub fn content_is_strokes(page: &Page, pens: &PenSet, strokes: &[Stroke])
-    ensures { (read (start_of page.now) (content_operators page.now pens.now strokes.now)).painted
-        ≡ map widened (drawn pens.now strokes.now) }
+/// Reading them finds the text of each line of each label that is shown, in their order, each once, with its place; lines
+/// without letters are left out.
+pub fn content_has_texts(page: &Page, pens: &PenSet, strokes: &[Stroke], labels: &[Label])
+    ensures { texts_of (content_operators page.now pens.now strokes.now labels.now)
+        ≡ map placed (shown_lines pens.now strokes.now labels.now) }
 {}
 
 /// In each document an object begins where the table says, and the table has an offset for each object.

@@ -1,20 +1,27 @@
-//! PDF 1.5: the strokes of sheets as a document of pages, with a layer for each pen.
+//! PDF 1.5: the strokes of sheets as a document of pages, with a layer for each pen, and the texts of labels.
 #![tactic(auto)]
 
+mod counts;
 mod document;
+mod fonts;
 mod front;
 pub mod laws;
 mod layers;
+mod letters;
+mod matrices;
 mod numbers;
 mod objects;
 mod pages;
 mod paths;
 mod pens;
+mod rows;
 mod steps;
 mod stream;
 mod table;
+mod texts;
 mod title;
 
+pub use counts::{MOST_LETTERS, has_few_letters};
 pub use document::{room_for, write_pdf};
 pub use front::LONGEST_VERSION;
 pub use title::MOST_CHARACTERS;

@@ -1,18 +1,14 @@
 //! Paths: the strokes of a run in the content of a page.
 ghost use Rattle.std.specs.Prelude.{◌≡◌, ◌+◌, ◌-◌, ◌^◌, ◌<◌, ◌≤◌, ◌++◌, ◌-ℤ◌, nat_abs, length, take, max, codes};
-ghost use Rattle.pdf.specs.Contents.{clip_text, colour_text, layer_text, line_text, place_text, rectangle_text};
-ghost use Rattle.pdf.specs.Contents.{start_text, stroke_text};
-ghost use Rattle.pdf.specs.Contents.{whole_page, width_text, window_text};
+ghost use Rattle.pdf.specs.Operators.{colour_text, place_text, rectangle_text, width_text};
+ghost use Rattle.pdf.specs.RunTexts.{clip_text, layer_text, line_text, start_text, stroke_text, window_text};
+ghost use Rattle.stroke_runs.specs.declared.shown.TheConstants.{LEAST_WIDTH};
 
 use crate::numbers::{LONGEST_THOUSANDTHS, append_part};
 use devices::append;
 use number_text::{LONGEST_COUNT, LONGEST_SIGNED, append_count, append_signed};
 use plot_page::{Colour, Page, Stroke, Window};
-use stroke_runs::is_same_window;
-
-/// The least width of a path, in grains: what 1.5 pixels are at 1016 dots per inch, so that the lines of a solid fill
-/// meet.
-pub const LEAST_WIDTH: u32 = 24;
+use stroke_runs::{is_whole_page, shown_width};
 
 /// The longest start of a run: its layer, its window, its colour and its width.
 pub(crate) const LONGEST_START: usize = LONGEST_LAYER
@@ -24,7 +20,7 @@ pub(crate) const LONGEST_START: usize = LONGEST_LAYER
 pub(crate) const LONGEST_STROKE: usize = 2 * LONGEST_PLACE + 6;
 
 /// The longest place: two numbers and a space.
-const LONGEST_PLACE: usize = 2 * LONGEST_SIGNED + 1;
+pub(crate) const LONGEST_PLACE: usize = 2 * LONGEST_SIGNED + 1;
 
 /// The longest layer: 13 bytes and a number.
 const LONGEST_LAYER: usize = 13 + LONGEST_COUNT;
@@ -72,21 +68,10 @@ fn append_clip(piece: &mut [u8], used: usize, page: &Page, stroke: &Stroke) -> u
     ensures most { result ≤ used + LONGEST_WINDOW }
     ensures size { length piece.new ≡ length piece.old }
 {
-    if is_same_window(stroke.window, whole_page(page)) {
+    if is_whole_page(page, stroke.window) {
         used
     } else {
         append_window(piece, used, stroke.window)
-    }
-}
-
-fn whole_page(page: &Page) -> Window
-    ensures { result ≡ whole_page page.now }
-{
-    Window {
-        x0: 0,
-        y0: 0,
-        x1: (16 * page.width) as i32,
-        y1: (16 * page.height) as i32,
     }
 }
 
@@ -135,10 +120,11 @@ fn append_rectangle(piece: &mut [u8], used: usize, x: i32, y: i32, width: i32, h
 }
 
 // How far one place is from another.
-fn distance(from: i32, to: i32) -> i32
+pub(crate) fn distance(from: i32, to: i32) -> i32
     requires from { nat_abs from ≤ 1048576 }
     requires to { nat_abs to ≤ 1048576 }
-    ensures { result ≡ to -ℤ from }
+    ensures value { result ≡ to -ℤ from }
+    ensures near { nat_abs result ≤ 2097152 }
 {
     to - from
 }
@@ -163,7 +149,7 @@ fn append_width(piece: &mut [u8], used: usize, stroke: &Stroke) -> usize
     ensures most { result ≤ used + LONGEST_WIDTH }
     ensures size { length piece.new ≡ length piece.old }
 {
-    let used = append_count(piece, used, b"", LEAST_WIDTH.max(stroke.width));
+    let used = append_count(piece, used, b"", shown_width(stroke));
     append(piece, used, b" w\n")
 }
 
@@ -191,7 +177,7 @@ pub(crate) fn append_line(piece: &mut [u8], used: usize, stroke: &Stroke) -> usi
 }
 
 // Appends some text and a place.
-fn append_place(piece: &mut [u8], used: usize, text: &[u8], x: i32, y: i32) -> usize
+pub(crate) fn append_place(piece: &mut [u8], used: usize, text: &[u8], x: i32, y: i32) -> usize
     requires room { used + length text.now + LONGEST_PLACE ≤ length piece.old }
     ensures text { take result piece.new ≡ take used piece.old ++ text.now ++ place_text x y }
     ensures most { result ≤ used + length text.now + LONGEST_PLACE }

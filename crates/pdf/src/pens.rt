@@ -56,8 +56,8 @@ fn list_set(set: &PenSet, list: &mut [u8; PENS]) -> usize
     count
 }
 
-// Adds a pen to the first `count` of a list, or not, and returns how many are listed then.
-fn append_if(list: &mut [u8; PENS], count: usize, is_listed: bool, pen: u8) -> usize
+// Adds a number to the first `count` of a list, or not, and returns how many are listed then.
+pub(crate) fn append_if(list: &mut [u8; PENS], count: usize, is_listed: bool, pen: u8) -> usize
     requires { count < PENS }
     ensures list { take result list.new ≡ take count list.old ++ (if is_listed then (pen ∷ []) else []) }
     ensures few { result ≤ count + 1 }

@@ -1,6 +1,6 @@
 //! What is written for each stroke, one at a time.
 ghost use Rattle.std.specs.Prelude.{◌≡◌, ◌+◌, ◌≤◌, ◌++◌, length, take};
-ghost use Rattle.pdf.specs.Contents.{start_text, stroke_text};
+ghost use Rattle.pdf.specs.RunTexts.{start_text, stroke_text};
 ghost use Rattle.pdf.specs.Steps.{after_step, link_text, open_end, step_text};
 ghost use Rattle.stroke_runs.specs.Links.{link_of, runs_after};
 

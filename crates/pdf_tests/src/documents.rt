@@ -131,7 +131,16 @@ fn titles(rt: HostRuntime) -> Result<(), Fail> {
     let mut sink = OverWrite::new(Vec::new(rt.alloc()));
     let mut encoder = TextEncoder::new(rt.alloc())?;
     let title = "Plan \u{e4}\u{1f604}";
-    write_titled(rt.alloc(), &mut encoder, title, &[], &[0], &mut sink)?;
+    write_titled(
+        rt.alloc(),
+        &mut encoder,
+        title,
+        &[],
+        &[0],
+        &[],
+        0,
+        &mut sink,
+    )?;
     assert_eq!(&rt; sink.failures(), 0);
     let document = sink.into_inner();
     assert_eq!(&rt; (document.len(), crc_of(&document)), (808, 0xc142_0203));

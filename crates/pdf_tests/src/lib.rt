@@ -9,3 +9,5 @@ mod documents;
 mod sinks;
 #[cfg(test)]
 mod strokes;
+#[cfg(test)]
+mod texts;

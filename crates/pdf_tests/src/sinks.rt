@@ -2,7 +2,8 @@
 ghost use Rattle.std.specs.Prelude.{◌≡◌, ◌-◌, ◌^◌, ◌<◌, Some};
 
 use crate::documents::{bytes_of, two_sheets};
-use crate::strokes::{BLACK, write};
+use crate::strokes::{BLACK, write, write_titled};
+use crate::texts::{TWO_PAGES, labels_of};
 use crc32::crc_of;
 use deflate::TextEncoder;
 use devices::{Sink, SinkFault};
@@ -52,6 +53,37 @@ fn failing_once(rt: HostRuntime) -> Result<(), Fail> {
         assert_eq!(&rt; (bytes, sink.failures), (sink.bytes.len() as u64, failures));
         assert!(&rt; whole.as_slice().starts_with(&sink.bytes));
     }
+    Ok(())
+}
+
+// The same with labels.
+#[test]
+fn failing_with_labels(rt: HostRuntime) -> Result<(), Fail> {
+    let strokes = two_sheets(rt.alloc())?;
+    let labels = labels_of(rt.alloc(), 0)?;
+    let mut encoder = TextEncoder::new(rt.alloc())?;
+    let mut last = 0;
+    for limit in 0..=TWO_PAGES.0 {
+        let mut sink = Failing {
+            bytes: Vec::new(rt.alloc()),
+            limit,
+            failures: 0,
+        };
+        let bytes = write_titled(
+            rt.alloc(),
+            &mut encoder,
+            "",
+            &strokes,
+            &[6, 8],
+            &labels,
+            0,
+            &mut sink,
+        )?;
+        let failures = if sink.bytes.len() < TWO_PAGES.0 { 1 } else { 0 };
+        assert_eq!(&rt; (bytes, sink.failures), (sink.bytes.len() as u64, failures));
+        last = crc_of(&sink.bytes);
+    }
+    assert_eq!(&rt; last, TWO_PAGES.1);
     Ok(())
 }
 

@@ -6,7 +6,8 @@ ghost use Rattle.pdf.specs.declared.title.TheConstants.{MOST_CHARACTERS};
 
 use deflate::TextEncoder;
 use devices::Sink;
-use pdf::{room_for, write_pdf};
+use labels::Label;
+use pdf::{has_few_letters, room_for, write_pdf};
 use plot_page::{Colour, MOST_STROKES, Page, PenSet, Stroke, Window};
 use std::alloc::Global;
 use std::test::Fail;
@@ -43,8 +44,8 @@ impl Look {
     }
 }
 
-/// Writes a document without a title of sheets that end there on the page of one inch by two, for the pens 1, 2, 7, 9
-/// and 255. Returns the count of bytes, whole or not.
+/// Writes a document without a title and without labels of sheets that end there on the page of one inch by two, for the
+/// pens 1, 2, 7, 9 and 255. Returns the count of bytes, whole or not.
 pub fn write<K: Sink>(
     alloc: Global,
     encoder: &mut TextEncoder,
@@ -52,22 +53,27 @@ pub fn write<K: Sink>(
     ends: &[usize],
     sink: &mut K,
 ) -> Result<u64, Fail> {
-    write_titled(alloc, encoder, "", strokes, ends, sink)
+    write_titled(alloc, encoder, "", strokes, ends, &[], 0, sink)
 }
 
-/// The same with a title.
+/// The same with a title, and with labels that count strokes from `before` strokes before these.
 pub fn write_titled<K: Sink>(
     alloc: Global,
     encoder: &mut TextEncoder,
     title: &str,
     strokes: &[Stroke],
     ends: &[usize],
+    labels: &[Label],
+    before: usize,
     sink: &mut K,
 ) -> Result<u64, Fail>
     requires { length (chars title.now) ≤ MOST_CHARACTERS }
 {
     if strokes.len() > MOST_STROKES || ends.len() > MOST_STROKES || sink.failures() > 0 {
         return Err("too many strokes or sheets".into());
+    }
+    if !has_few_letters(labels) {
+        return Err("too many letters".into());
     }
     let page = Page::new(1016, 2032, 7, 8)?;
     let mut pens = PenSet::none();
@@ -77,7 +83,7 @@ pub fn write_titled<K: Sink>(
     let mut offsets = vec![in alloc; 0u64; room_for(ends.len())]?;
     let offsets = offsets.as_mut_slice();
     match write_pdf(
-        "0.2.0", title, &page, &pens, strokes, ends, offsets, encoder, sink,
+        "0.2.0", title, &page, &pens, strokes, ends, labels, before, offsets, encoder, sink,
     ) {
         Ok(bytes) => Ok(bytes),
         Err(fault) => Ok(fault.bytes()),

@@ -25,7 +25,7 @@ pub returns-clause-adds : goal.returns-clause-adds
 returns-clause-adds g c =
     let first = g.K.Sink.state c.args.sink.now in
     let info = info_text c.args.version.now c.args.title.now in
-    let pages = pages_text c.args.page.now c.args.pens.now c.args.ends.now in
+    let pages = pages_text c.args.page.now c.args.pens.now c.args.rows.now c.args.ends.now in
     let two = added_more first (g.K.Sink.state c.put_object.new.sink) (g.K.Sink.state c.put_info.new.sink) c.args.offsets.now c.put_object.new.offsets c.put_info.new.offsets 0 1 c.args.done c.in_ok-now.now c.in_ok-now-2.now
     (catalog_text ∷ []) (info ∷ []) refl (c.in_ok-now.ensures {u = tt}).adds (c.in_ok-now-2.ensures {u = tt}).adds in
     let three = added_more first (g.K.Sink.state c.put_info.new.sink) (g.K.Sink.state c.put_kids.new.sink) c.args.offsets.now c.put_info.new.offsets c.put_kids.new.offsets 0 2 c.args.done c.in_ok-now-2.now c.in_ok-now-3.now

@@ -2,4 +2,4 @@ use Rattle.pdf.proofs.ReadRuns.{content_read}
 use Rattle.pdf.proofs.laws.content_is_strokes.Goals as goal
 
 pub returns : goal.returns
-returns c = content_read c.args.page.now c.args.pens.now c.args.strokes.now
+returns c = content_read c.args.page.now c.args.pens.now c.args.strokes.now c.args.labels.now

@@ -1,5 +1,6 @@
 use Rattle.std.proofs.Common.{◌+◌, ◌-◌, ◌++◌, [], ◌∷◌, refl, take}
 use Rattle.std.proofs.lemmas.Result.{err_from_is_err_and}
+use Rattle.labels.specs.Sheets.{all_counted}
 use Rattle.pdf.specs.Contents.{content_text}
 use Rattle.pdf.specs.Objects.{objects_text}
 use Rattle.pdf.proofs.AddedPages.{page_put, start_text}
@@ -41,5 +42,5 @@ returns-clause-adds g c =
     let stream = (c.in_ok-end.ensures {u = tt}).puts in
     page_put (g.K.Sink.state c.args.sink.now) (g.K.Sink.state c.put_object.new.sink) (g.K.Sink.state c.put_start.new.sink) (g.K.Sink.state c.put_stream.new.sink) (g.K.Sink.state c.put.new.sink) (g.K.Sink.state c.put_length.new.sink)
     c.args.offsets.now c.put_object.new.offsets c.put_start.new.offsets c.put_length.new.offsets c.args.before c.args.done c.in_ok-at.at c.in_ok-start.start c.in_ok-end.end c.in_ok-now.now (c.in_ok-end.end - c.in_ok-start.start)
-    first stream.0 (content_text c.args.page.now c.args.pens.now c.args.strokes.now) c.put_length.result c.append_page-used.ensures.text (c.in_ok-at.ensures {u = tt}).adds
+    first stream.0 (content_text c.args.page.now c.args.pens.now c.args.strokes.now (all_counted c.args.from (all_counted c.args.earlier c.args.labels.now))) c.put_length.result c.append_page-used.ensures.text (c.in_ok-at.ensures {u = tt}).adds
     (c.in_ok-start.ensures {u = tt}).noted (c.in_ok-start.ensures {u = tt}).size (c.in_ok-start.ensures {u = tt}).puts stream.1 stream.2 (c.in_ok-now.ensures {u = tt}).puts refl c.put_length.ensures.adds

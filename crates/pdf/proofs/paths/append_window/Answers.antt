@@ -1,5 +1,5 @@
 use Rattle.std.proofs.Common.{take, codes}
-use Rattle.pdf.specs.Contents.{rectangle_text}
+use Rattle.pdf.specs.Operators.{rectangle_text}
 use Rattle.number_text.proofs.Appended.{one_more}
 use Rattle.pdf.proofs.paths.append_window.Goals as goal
 

@@ -1,9 +1,8 @@
-use Rattle.pdf.proofs.Puts.{encoded_more, flushed}
+use Rattle.std.proofs.Common.{◌++◌}
+use Rattle.deflate.specs.Buffers.{bytes_in}
 use Rattle.pdf.proofs.stream.encode.Goals as goal
 
 pub returns-clause-continues : goal.returns-clause-continues
-returns-clause-continues g c = λ first start text h.
+returns-clause-continues g c =
     let flushes = (c.in_ok-now.ensures {u = tt}).flushes in
-    encoded_more first (g.K.Sink.state c.flush.new.sink) start c.in_ok-now.now c.flush.new.encoder c.take-2.new.self text c.args.bytes.now
-    (flushed first (g.K.Sink.state c.args.sink.now) (g.K.Sink.state c.flush.new.sink) start c.args.done c.in_ok-now.now c.args.encoder.now c.flush.new.encoder text h flushes.0 flushes.1)
-    (λ sent t e. c.take-2.ensures sent t e)
+    (bytes_in c.args.encoder.now.block.buffer, flushes.0, λ before text h. c.take-2.ensures (before ++ bytes_in c.args.encoder.now.block.buffer) text (flushes.1 before text h))

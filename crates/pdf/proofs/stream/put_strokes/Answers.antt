@@ -2,10 +2,10 @@ use Rattle.std.proofs.Common.{◌≡◌, ◌+◌, ◌++◌, ◌∙◌, [], ap, t
 use Rattle.std.proofs.lemmas.List.{drop_all}
 use Rattle.std.proofs.lemmas.Result.{err_from_is_err_and}
 use Rattle.stroke_runs.specs.declared.runs.Runs.{Runs}
-use Rattle.pdf.specs.Contents.{content_text, head_text}
+use Rattle.pdf.specs.RunTexts.{head_text, strokes_text}
 use Rattle.pdf.specs.Steps.{steps_text}
 use Rattle.pdf.proofs.Contents.{last_encoded, next_of, step_encoded, whole}
-use Rattle.pdf.proofs.Puts.{failed_later, last_encoding, nothing_put}
+use Rattle.pdf.proofs.Puts.{encoded_on, failed_later, last_encoding, nothing_put}
 use Rattle.pdf.proofs.stream.put_strokes.Goals as goal
 
 pub loop-stroke-init : goal.loop-stroke-init
@@ -16,7 +16,7 @@ loop-stroke-init g c =
     let first = g.K.Sink.state c.args.sink.now in
     record {
       text = head_text;
-      encoded = (c.in_ok-now.ensures {u = tt}).continues first c.args.done [] ([], nothing_put first c.args.done, c.requires.fresh);
+      encoded = encoded_on first first (g.K.Sink.state c.encode.new.sink) c.args.done c.args.done c.in_ok-now.now c.args.encoder.now c.encode.new.encoder [] head_text ([], nothing_put first c.args.done, c.requires.fresh) (c.in_ok-now.ensures {u = tt}).continues;
       rest = ap (λ (r : Runs). head_text ++ steps_text page pens r strokes) c.new-runs.ensures ∙ whole page pens strokes;
       near = omega (arith, (c.in_ok-now.ensures {u = tt}).near);
     }
@@ -39,8 +39,9 @@ loop-stroke-preserved g c =
     let piece = take c.append_step-used.result c.append_step-used.new.piece in
     record {
       text = l.invariant.text ++ piece;
-      encoded = (c.in_ok-now-2.ensures {u = tt}).continues (g.K.Sink.state c.args.sink.now) c.args.done l.invariant.text l.invariant.encoded;
-      rest = step_encoded (content_text page pens strokes) l.invariant.text piece page pens l.runs c.append_step-used.new.runs s (drop i strokes) (drop (i + 1) strokes)
+      encoded = encoded_on (g.K.Sink.state c.args.sink.now) (g.K.Sink.state l.sink) (g.K.Sink.state c.encode-in-loop-stroke.new.sink) c.args.done l.now c.in_ok-now-2.now l.encoder c.encode-in-loop-stroke.new.encoder
+          l.invariant.text piece l.invariant.encoded (c.in_ok-now-2.ensures {u = tt}).continues;
+      rest = step_encoded (strokes_text page pens strokes) l.invariant.text piece page pens l.runs c.append_step-used.new.runs s (drop i strokes) (drop (i + 1) strokes)
           l.invariant.rest (next_of strokes i s c.loop-stroke-test.true c.stroke-item.is) c.append_step-used.ensures.text c.append_step-used.ensures.after;
       near = omega (arith, (c.in_ok-now-2.ensures {u = tt}).near, l.invariant.near);
     }
@@ -55,5 +56,5 @@ returns-clause-encodes g c =
     let left = drop l.stroke-index strokes in
     let none : left ≡ [] = drop_all l.stroke-index strokes (omega (arith, c.loop-stroke-test.false)) in
     last_encoding (g.K.Sink.state c.args.sink.now) (g.K.Sink.state l.sink) (g.K.Sink.state c.encode-2.new.sink) c.args.done l.now l.encoder c.encode-2.new.encoder l.invariant.text piece
-    (content_text page pens strokes) c.encode-2.result l.invariant.encoded
-    (last_encoded (content_text page pens strokes) l.invariant.text piece page pens l.runs left l.invariant.rest none c.append_end-used.ensures.text) c.encode-2.ensures.continues
+    (strokes_text page pens strokes) c.encode-2.result l.invariant.encoded
+    (last_encoded (strokes_text page pens strokes) l.invariant.text piece page pens l.runs left l.invariant.rest none c.append_end-used.ensures.text) c.encode-2.ensures.continues
