@@ -7,7 +7,8 @@ use Rattle.plot_page.specs.declared.page.Page.{Page}
 use Rattle.conversion.specs.Rules.{Rules}
 use Rattle.plot_page.specs.declared.pens.PenSet.{PenSet}
 use Rattle.picture_job.specs.declared.page_choice.PageChoice.{PageChoice}
-use Rattle.conversion.specs.Placements.{IsFirstPage, IsPlaced, Place, page_reported, placed_rules, strokes_at}
+use Rattle.full_plot.specs.Labels.{labels_kept}
+use Rattle.conversion.specs.Placements.{IsFirstPage, IsPlaced, Place, labels_at, page_reported, placed_rules, strokes_at}
 use Rattle.conversion.specs.declared.lines.Lines.{Lines}
 use Rattle.conversion.specs.declared.place.Drawing.{Drawing}
 use Rattle.conversion.specs.Readings.{WasRead, WasTooLong}
@@ -25,13 +26,15 @@ abbrev pub IsReasonOnFirst : PageChoice → Rules → Page → List ℕ → Plot
 IsReasonOnFirst choice rules given plot fault =
     (page : Page) × IsFirstPage choice rules given plot page × IsReason fault (rules.refusal page plot)
 
--- the plot is accepted for the page, and these are what it draws there, and how many notes there are on it
+-- the plot is accepted for the page, and these are what it draws there, its labels, if they are kept, and how many notes there
+-- are on it
 pub record AreLinesOf (rules : Rules) (page : Page) (plot : List ℕ) (lines : Lines) : Type 0 where
   pub accepted : rules.refusal page plot ≡ None
   pub strokes_are : lines.strokes.items ≡ rules.strokes page plot
   pub notes_are : lines.notes ≡ rules.notes plot
   pub sheets_are : lines.sheets ≡ rules.sheets page plot
   pub ends_are : lines.ends.items ≡ rules.ends page plot
+  pub labels_are : lines.labels.items ≡ labels_kept lines.labelled (rules.labels page plot)
 
 -- where its picture lies
 abbrev pub place_of : Drawing → Place
@@ -49,6 +52,8 @@ pub record AreMoved (pens : PenSet) (lines : Lines) (place : Place) (moved : Lin
   pub notes_are : moved.notes ≡ lines.notes
   pub sheets_are : moved.sheets ≡ lines.sheets
   pub ends_are : moved.ends.items ≡ lines.ends.items
+  pub labels_are : moved.labels.items ≡ labels_at place.placement place.corner lines.labels.items
+  pub labelled_are : moved.labelled ≡ lines.labelled
 
 -- the plot was read whole, and this is what it draws, where its picture lies
 pub record IsDrawn (rules : Rules) (choice : PageChoice) (pens : PenSet) (given : Page) (input : List ℕ)

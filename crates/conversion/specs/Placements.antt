@@ -1,5 +1,7 @@
 -- Which page a plot is drawn on, and which page its picture shows.
 use Rattle.std.specs.Prelude.{◌≡◌, ℕ, Bool, true, false, List, Option, Some, None, pos, ◌-ℤ◌}
+use Rattle.labels.specs.Labels.{LabelShape}
+use Rattle.labels.specs.Moves.{moved_labels}
 use Rattle.plot_page.specs.Segments.{Segment}
 use Rattle.plot_page.specs.declared.page.Page.{Page}
 use Rattle.plot_page.specs.declared.pens.PenSet.{PenSet}
@@ -91,7 +93,12 @@ abbrev pub strokes_at : Placement → PenSet → Page → Corner → Page → Li
 strokes_at Fitted pens drawn_on corner page strokes = moved_strokes pens drawn_on corner page strokes
 strokes_at _ pens drawn_on corner page strokes = strokes
 
--- the rules of a picture that lies there: the plot is drawn on its page, and its strokes are moved
+-- and its labels
+abbrev pub labels_at : Placement → Corner → List LabelShape → List LabelShape
+labels_at Fitted corner labels = moved_labels corner labels
+labels_at _ corner labels = labels
+
+-- the rules of a picture that lies there: the plot is drawn on its page, and its strokes and labels are moved
 abbrev pub placed_rules : Rules → PenSet → Place → Rules
 placed_rules rules pens place = record {
   strokes = λ page plot.
@@ -101,6 +108,7 @@ placed_rules rules pens place = record {
   sheets = λ page plot. rules.sheets place.drawn_on plot;
   ends = λ page plot. rules.ends place.drawn_on plot;
   asked = rules.asked;
+  labels = λ page plot. labels_at place.placement place.corner (rules.labels place.drawn_on plot);
 }
 
 -- the page that a report on a picture names: the corner of the page around strokes lies left of (0, 0) and below it as far as

@@ -11,7 +11,9 @@ use Rattle.carousel.specs.declared.carousel.Carousel.{Carousel}
 use Rattle.character_sets.specs.declared.encoding.Encoding.{Encoding}
 use Rattle.hpgl_plot.specs.Strokes.{strokes_with, refusal_with}
 use Rattle.full_plot.specs.Drawings.{outcome_with, refusal_in, strokes_in, ends_in, sheet_strokes, sheet_count}
+use Rattle.full_plot.specs.Labels.{labels_of, labels_of_sheet}
 use Rattle.full_notes.specs.Notes as full
+use Rattle.labels.specs.Labels.{LabelShape}
 use Rattle.page_fit.specs.Around.{Sides}
 use Rattle.plot_size.specs.Sizes.{sides_asked}
 use Rattle.plot_page.specs.Segments.{Segment}
@@ -25,7 +27,8 @@ use Rattle.conversion.specs.declared.fault.Fault.TheVariants.{TooLong, Memory, W
 
 -- the strokes of a plot that is accepted for a page, the first refusal, or None if it is accepted, how many notes there
 -- are on it, how many sheets have strokes, 0 where that is not counted, how many strokes there were when each sheet of
--- these strokes ended, and the page that it asks for where one is given, or None if it asks for none
+-- these strokes ended, the page that it asks for where one is given, or None if it asks for none, and its labels, by these
+-- strokes: none in core
 pub record Rules : Type 0 where
   pub strokes : Page → List ℕ → List Segment
   pub refusal : Page → List ℕ → Option PlotFault
@@ -33,6 +36,7 @@ pub record Rules : Type 0 where
   pub sheets : Page → List ℕ → ℕ
   pub ends : Page → List ℕ → List ℕ
   pub asked : Page → List ℕ → Option Sides
+  pub labels : Page → List ℕ → List LabelShape
 
 -- what is noted on a plot in the profile core
 abbrev pub core_notes : List ℕ → List Note
@@ -47,6 +51,7 @@ core_rules = record {
   sheets = λ page plot. 0;
   ends = λ page plot. [];
   asked = sides_asked profile.Core;
+  labels = λ page plot. [];
 }
 
 -- what is noted on a plot in the profile full
@@ -68,6 +73,8 @@ full_rules sheet encoding carousel =
       sheets = λ page plot. sheet_count (ends_in (drawn page plot)) (length (strokes_in (drawn page plot)));
       ends = λ page plot. ends_of sheet (ends_in (drawn page plot));
       asked = sides_asked profile.Full;
+      labels = λ page plot. labels_of_sheet (labels_of encoding carousel page plot) (ends_in (drawn page plot))
+          (length (strokes_in (drawn page plot))) sheet;
     }
 
 -- how a plot is drawn that is read so

@@ -1,6 +1,8 @@
 -- The picture of strokes of a drawing: of all of them, or of those of one sheet.
 use Rattle.std.specs.Prelude.{◌≡◌, ℕ, ◌-◌, false, List, length, Result, Ok, Err}
 use Rattle.full_plot.specs.Drawings.{sheet_strokes}
+use Rattle.full_plot.specs.Labels.{labels_of_sheet}
+use Rattle.labels.specs.Labels.{LabelShape}
 use Rattle.plot_page.specs.Segments.{Segment}
 use Rattle.plot_page.specs.Resolutions.{rows_of}
 use Rattle.plot_page.specs.declared.pens.PenSet.{PenSet}
@@ -22,6 +24,12 @@ use Rattle.conversion.specs.declared.place.Drawing.{Drawing}
 -- the strokes of a sheet of a drawing, which counts from 1; all that is drawn for 0
 abbrev pub strokes_on : Drawing → ℕ → List Segment
 strokes_on drawing sheet = sheet_strokes drawing.lines.strokes.items drawing.lines.ends.items sheet
+
+-- its labels, by these strokes
+abbrev pub labels_on : Drawing → ℕ → List LabelShape
+labels_on drawing sheet =
+    let lines = drawing.lines in
+    labels_of_sheet lines.labels.items lines.ends.items (length lines.strokes.items) sheet
 
 -- an outcome tells of these strokes of a drawing, of which the selected pens' are seen
 pub record TellsOf (drawing : Drawing) (pens : PenSet) (strokes : List Segment) (outcome : Outcome) : Type 0 where

@@ -1,5 +1,5 @@
 -- Vector documents of plots: what is written for a drawing, and what a conversion to one answers.
-use Rattle.std.specs.Prelude.{◌≡◌, ◌⊎◌, ℕ, ◌+◌, min, nat_eq, nat_le, nat_lt, if◌then◌else◌, List, [], ◌∷◌, length, Result, Ok, Err, IfOk, ⊤}
+use Rattle.std.specs.Prelude.{◌≡◌, ◌⊎◌, ℕ, ◌+◌, min, nat_eq, nat_le, nat_lt, true, if◌then◌else◌, List, [], ◌∷◌, length, Result, Ok, Err, IfOk, ⊤}
 use Rattle.std.specs.Io.KnownBytes.{Appends}
 use Rattle.plot_page.specs.Segments.{Segment}
 use Rattle.plot_page.specs.declared.page.Page.{Page}
@@ -8,14 +8,15 @@ use Rattle.picture_job.specs.declared.page_choice.PageChoice.{PageChoice}
 use Rattle.picture_job.specs.declared.vector_job.VectorFormat.{VectorFormat}
 use Rattle.picture_job.specs.declared.vector_job.VectorFormat.TheVariants.{Pdf, Svg}
 use Rattle.picture_job.specs.declared.vector_job.VectorJob.{VectorJob}
+use Rattle.labels.specs.Labels.{LabelShape}
 use Rattle.devices.specs.Sinks.{SinkState}
 use Rattle.devices.specs.Sources.{SourceState}
-use Rattle.pdf.specs.Documents.{AreStreams, pdf_bytes, pens_drawn, sheets}
+use Rattle.pdf.specs.Documents.{AreStreams, pdf_bytes, pens_drawn, rows_shown, sheet_labels, sheets}
 use Rattle.pdf.specs.declared.title.TheConstants.{MOST_CHARACTERS}
 use Rattle.svg.specs.Documents.{sheets_bytes, svg_bytes}
 use Rattle.conversion.specs.Drawings.{HasDrawn}
 use Rattle.conversion.specs.Rules.{Rules, ends_of}
-use Rattle.conversion.specs.Sheets.{TellsOf, strokes_on}
+use Rattle.conversion.specs.Sheets.{TellsOf, labels_on, strokes_on}
 use Rattle.conversion.specs.declared.fault.Fault.{Fault}
 use Rattle.conversion.specs.declared.fault.Fault.TheVariants.{Memory, Unfinished}
 use Rattle.conversion.specs.declared.naming.Naming.{Naming}
@@ -37,22 +38,23 @@ ends_after count at (end ∷ ends) =
 abbrev pub page_ends : ℕ → List ℕ → List ℕ
 page_ends count ends = if nat_eq count 0 then 0 ∷ [] else ends_after count 0 ends
 
--- the SVG of strokes among which sheets end there: with a group for each sheet, if one ends
-abbrev pub svg_of : Page → PenSet → List Segment → List ℕ → List ℕ
-svg_of page pens strokes ends =
-    if nat_eq (length ends) 0 then svg_bytes page pens strokes else sheets_bytes page pens strokes ends
+-- the SVG of strokes and labels among which sheets end there: with a group for each sheet, if one ends
+abbrev pub svg_of : Page → PenSet → List Segment → List ℕ → List LabelShape → List ℕ
+svg_of page pens strokes ends labels =
+    if nat_eq (length ends) 0 then svg_bytes page pens strokes labels else sheets_bytes page pens strokes ends labels
 
 -- a PDF of the same, with a page for each sheet
-abbrev pub IsPdf : Naming → Page → PenSet → List Segment → List ℕ → List ℕ → Type 0
-IsPdf naming page pens strokes ends document =
+abbrev pub IsPdf : Naming → Page → PenSet → List Segment → List ℕ → List LabelShape → List ℕ → Type 0
+IsPdf naming page pens strokes ends labels document =
     let pages = page_ends (length strokes) ends in
-    (streams : List (List ℕ)) × AreStreams page pens (sheets strokes 0 pages) streams
-    × (document ≡ pdf_bytes naming.version.now (title_kept naming.title.now) page (pens_drawn pens strokes) pages streams)
+    (streams : List (List ℕ)) × AreStreams page pens (sheets strokes 0 pages) (sheet_labels labels 0 pages) streams
+    × (document ≡ pdf_bytes naming.version.now (title_kept naming.title.now) page (pens_drawn pens strokes)
+    (rows_shown pens strokes labels) pages streams)
 
 -- a document of the same in a format
-abbrev pub IsVector : VectorFormat → Naming → Page → PenSet → List Segment → List ℕ → List ℕ → Type 0
-IsVector Svg naming page pens strokes ends document = document ≡ svg_of page pens strokes ends
-IsVector Pdf naming page pens strokes ends document = IsPdf naming page pens strokes ends document
+abbrev pub IsVector : VectorFormat → Naming → Page → PenSet → List Segment → List ℕ → List LabelShape → List ℕ → Type 0
+IsVector Svg naming page pens strokes ends labels document = document ≡ svg_of page pens strokes ends labels
+IsVector Pdf naming page pens strokes ends labels document = IsPdf naming page pens strokes ends labels document
 
 -- a document was written after what the sink held, the sink failed, or there was no memory
 abbrev pub PutsVector : {U : Type 0} → (List ℕ → Type 0) → SinkState → SinkState → Result U Fault → Type 0
@@ -66,14 +68,14 @@ PutsVector IsIt sink sink' (Err _) = ⊥
 pub record WritesVector (job : VectorJob) (naming : Naming) (drawing : Drawing) (sheet : ℕ) (sink sink' : SinkState)
     (answer : Result Outcome Fault) : Type 0 where
   pub puts : PutsVector (IsVector job.format naming drawing.page job.pens (strokes_on drawing sheet)
-      (ends_of sheet drawing.lines.ends.items)) sink sink' answer
+      (ends_of sheet drawing.lines.ends.items) (labels_on drawing sheet)) sink sink' answer
   pub rows : IfOk answer (λ outcome. outcome.done.rows ≡ 0)
   pub tells : IfOk answer (TellsOf drawing job.pens (strokes_on drawing sheet))
 
--- a plot was drawn, and the document of all that is drawn was written, or it was not drawn, for the reason that is answered
+-- a plot was drawn, with its labels, and the document of all that is drawn was written, or it was not drawn, for the reason that is answered
 abbrev pub HasConvertedToVector : Rules → PageChoice → VectorJob → Naming → SourceState → SourceState → SinkState →
     SinkState → Result Outcome Fault → Type 0
 HasConvertedToVector rules choice job naming before after sink sink' answer =
     ((drawing : Drawing) × HasDrawn rules choice job.pens job.page before after (Ok drawing)
-    × WritesVector job naming drawing 0 sink sink' answer)
+    × (drawing.lines.labelled ≡ true) × WritesVector job naming drawing 0 sink sink' answer)
     ⊎ ((fault : Fault) × HasDrawn rules choice job.pens job.page before after (Err fault) × (answer ≡ Err fault))

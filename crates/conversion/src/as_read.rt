@@ -1,5 +1,6 @@
 //! Drawing a plot as it is read: in the profile core, or in the profile full and of one sheet.
 ghost use Rattle.std.specs.Prelude.{◌≡◌, [], None, OnOk, IfOk, IfErr};
+ghost use Rattle.full_plot.specs.Labels.{labels_kept};
 ghost use Rattle.conversion.specs.Drawings.{IsReason};
 ghost use Rattle.conversion.specs.Rules.{ends_of, rules_with};
 ghost use Rattle.picture_job.specs.declared.reading.Reading.TheVariants.{Core, Full};
@@ -7,13 +8,13 @@ ghost use Rattle.picture_job.specs.declared.reading.Reading.TheVariants.{Core, F
 use crate::lines::Lines;
 use carousel::Carousel;
 use character_sets::Encoding;
-use full_plot::{draw_full_with, keep_sheet};
+use full_plot::{draw_full_with, keep_labels_of, keep_sheet};
 use hpgl_plot::{PlotFault, draw_plot_with};
 use picture_job::Reading;
 use plot_page::Page;
 use std::alloc::Global;
 
-/// What the text of a plot draws on a page.
+/// What the text of a plot draws on a page, with its labels if the last argument says so.
 ///
 /// Errors: the refusal of the plot for the page; `Memory` if memory runs out.
 pub fn draw_as(
@@ -22,18 +23,21 @@ pub fn draw_as(
     carousel: &Carousel,
     text: &[u8],
     page: &Page,
+    keeps_labels: bool,
 ) -> Result<Lines, PlotFault>
     ensures accepted { OnOk result ((rules_with reading carousel.now).refusal page.now text.now ≡ None) }
     ensures strokes { IfOk result (λ drawn. drawn.strokes.items ≡ (rules_with reading carousel.now).strokes page.now text.now) }
     ensures notes { IfOk result (λ drawn. drawn.notes ≡ (rules_with reading carousel.now).notes text.now) }
     ensures sheets { IfOk result (λ drawn. drawn.sheets ≡ (rules_with reading carousel.now).sheets page.now text.now) }
     ensures ends { IfOk result (λ drawn. drawn.ends.items ≡ (rules_with reading carousel.now).ends page.now text.now) }
+    ensures labels { IfOk result (λ drawn. drawn.labels.items ≡ labels_kept drawn.labelled ((rules_with reading carousel.now).labels page.now text.now)) }
+    ensures labelled { IfOk result (λ drawn. drawn.labelled ≡ keeps_labels) }
     ensures refused { IfErr result (λ fault. IsReason fault ((rules_with reading carousel.now).refusal page.now text.now)) }
 {
     match reading {
-        Reading::Core => draw_core(alloc, carousel, text, page),
+        Reading::Core => draw_core(alloc, carousel, text, page, keeps_labels),
         Reading::Full { sheet, encoding } => {
-            draw_sheet(alloc, sheet, encoding, carousel, text, page)
+            draw_sheet(alloc, sheet, encoding, carousel, text, page, keeps_labels)
         }
     }
 }
@@ -44,12 +48,15 @@ fn draw_core(
     carousel: &Carousel,
     text: &[u8],
     page: &Page,
+    keeps_labels: bool,
 ) -> Result<Lines, PlotFault>
     ensures accepted { OnOk result ((rules_with Core carousel.now).refusal page.now text.now ≡ None) }
     ensures strokes { IfOk result (λ drawn. drawn.strokes.items ≡ (rules_with Core carousel.now).strokes page.now text.now) }
     ensures notes { IfOk result (λ drawn. drawn.notes ≡ (rules_with Core carousel.now).notes text.now) }
     ensures sheets { IfOk result (λ drawn. drawn.sheets ≡ 0) }
     ensures ends { IfOk result (λ drawn. drawn.ends.items ≡ []) }
+    ensures labels { IfOk result (λ drawn. drawn.labels.items ≡ labels_kept drawn.labelled ((rules_with Core carousel.now).labels page.now text.now)) }
+    ensures labelled { IfOk result (λ drawn. drawn.labelled ≡ keeps_labels) }
     ensures refused { IfErr result (λ fault. IsReason fault ((rules_with Core carousel.now).refusal page.now text.now)) }
 {
     let drawn = draw_plot_with(alloc, text, page, carousel)?;
@@ -58,6 +65,8 @@ fn draw_core(
         notes: drawn.notes,
         sheets: 0,
         ends: Vec::new(alloc),
+        labels: Vec::new(alloc),
+        labelled: keeps_labels,
     })
 }
 
@@ -69,22 +78,35 @@ fn draw_sheet(
     carousel: &Carousel,
     text: &[u8],
     page: &Page,
+    keeps_labels: bool,
 ) -> Result<Lines, PlotFault>
     ensures accepted { OnOk result ((rules_with (Full sheet encoding) carousel.now).refusal page.now text.now ≡ None) }
     ensures strokes { IfOk result (λ drawn. drawn.strokes.items ≡ (rules_with (Full sheet encoding) carousel.now).strokes page.now text.now) }
     ensures notes { IfOk result (λ drawn. drawn.notes ≡ (rules_with (Full sheet encoding) carousel.now).notes text.now) }
     ensures sheets { IfOk result (λ drawn. drawn.sheets ≡ (rules_with (Full sheet encoding) carousel.now).sheets page.now text.now) }
     ensures ends { IfOk result (λ drawn. drawn.ends.items ≡ (rules_with (Full sheet encoding) carousel.now).ends page.now text.now) }
+    ensures labels { IfOk result (λ drawn. drawn.labels.items ≡ labels_kept drawn.labelled ((rules_with (Full sheet encoding) carousel.now).labels page.now text.now)) }
+    ensures labelled { IfOk result (λ drawn. drawn.labelled ≡ keeps_labels) }
     ensures refused { IfErr result (λ fault. IsReason fault ((rules_with (Full sheet encoding) carousel.now).refusal page.now text.now)) }
 {
-    let mut drawn = draw_full_with(alloc, encoding, text, page, carousel)?;
+    let mut drawn = draw_full_with(alloc, encoding, text, page, carousel, keeps_labels)?;
     let sheets = drawn.sheets();
+    if keeps_labels {
+        keep_labels_of(
+            &mut drawn.labels,
+            drawn.ends.as_slice(),
+            drawn.strokes.len(),
+            sheet,
+        );
+    }
     keep_sheet(&mut drawn.strokes, drawn.ends.as_slice(), sheet);
     Ok(Lines {
         strokes: drawn.strokes,
         notes: drawn.notes,
         sheets,
         ends: kept_ends(alloc, drawn.ends, sheet),
+        labels: drawn.labels,
+        labelled: keeps_labels,
     })
 }
 

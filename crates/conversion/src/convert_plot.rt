@@ -126,7 +126,7 @@ pub fn convert_on<G: Gauge, S: Source, K: Sink, W: Watcher>(
         return Err(Fault::Resolution);
     }
     let drawing = draw_source(
-        alloc, reading, carousel, choice, job.pens, &job.page, source,
+        alloc, reading, carousel, choice, job.pens, &job.page, false, source,
     )?;
     let strokes = drawing.lines.strokes.as_slice();
     write_strokes(

@@ -17,6 +17,7 @@ use crate::placement::Placement;
 use carousel::Carousel;
 use hpgl_plot::PlotFault;
 use hpgl_text::Profile;
+use labels::move_labels;
 use page_fit::{Corner, Extent, are_movable, corner_around, extent_of, move_strokes, page_around};
 use picture_job::{PageChoice, Reading};
 use plot_page::{Page, PenSet, Stroke};
@@ -54,7 +55,7 @@ impl Drawing {
 }
 
 /// What the text of a plot draws, on the page that was chosen: the one that is given, the one that the plot asks for, or
-/// the one around what the selected pens draw on either of them.
+/// the one around what the selected pens draw on either of them. Labels are kept if the last argument says so.
 ///
 /// Errors: the refusal of the plot for the page that it is drawn on; `Memory` if memory runs out.
 pub fn draw_placed(
@@ -65,15 +66,17 @@ pub fn draw_placed(
     pens: PenSet,
     page: &Page,
     text: &[u8],
+    keeps_labels: bool,
 ) -> Result<Drawing, PlotFault>
     ensures placed { IfOk result (λ drawn. IsPlaced choice (rules_with reading carousel.now) pens page.now text.now (place_of drawn)) }
     ensures lines { IfOk result (λ drawn. AreLinesOf (placed_rules (rules_with reading carousel.now) pens (place_of drawn))
         drawn.page text.now drawn.lines) }
     ensures named { IfOk result (λ drawn. drawn.named ≡ page_reported (place_of drawn)) }
+    ensures labelled { IfOk result (λ drawn. drawn.lines.labelled ≡ keeps_labels) }
     ensures refused { IfErr result (IsReasonOnFirst choice (rules_with reading carousel.now) page.now text.now) }
 {
     let (placement, first) = first_page(reading, choice.asked, page, text);
-    let lines = draw_as(alloc, reading, carousel, text, &first)?;
+    let lines = draw_as(alloc, reading, carousel, text, &first, keeps_labels)?;
     Ok(match choice.margin {
         Some(margin) => fitted(margin, pens, first, lines),
         None => unmoved(placement, first, lines),
@@ -177,6 +180,7 @@ fn moved(pens: PenSet, page: Page, corner: Corner, around: Page, lines: Lines) -
 {
     let mut lines = lines;
     move_strokes(lines.strokes.as_mut_slice(), &pens, &page, corner, &around);
+    move_labels(lines.labels.as_mut_slice(), corner);
     Drawing {
         placement: Placement::Fitted,
         drawn_on: page,

@@ -53,7 +53,7 @@ pub fn convert_png<G: Gauge, S: Source, K: Sink, W: Watcher>(
         return (sink, Err(Fault::Resolution));
     }
     let drawing = match draw_source(
-        alloc, reading, carousel, choice, job.pens, &job.page, source,
+        alloc, reading, carousel, choice, job.pens, &job.page, false, source,
     ) {
         Ok(drawing) => drawing,
         Err(fault) => return (sink, Err(fault)),

@@ -91,6 +91,7 @@ pub fn report_on<S: Source, K: Sink>(
         pens,
         page,
         plot.as_slice(),
+        false,
     )?;
     let strokes = drawn.lines.strokes.as_slice();
     match write_as(

@@ -41,7 +41,7 @@ pub fn convert_vector<S: Source, K: Sink>(
     ensures untouched { IfErr result (λ fault. is_write fault ≡ false → sink.new ≡ sink.old) }
 {
     let drawing = draw_source(
-        alloc, reading, carousel, choice, job.pens, &job.page, source,
+        alloc, reading, carousel, choice, job.pens, &job.page, true, source,
     )?;
     write_vector_sheet(alloc, &drawing, 0, job, naming, sink)
 }

@@ -1,6 +1,7 @@
 //! The vector document of a drawing: of all that is drawn, or of one sheet.
 ghost use Rattle.std.specs.Prelude.{◌≡◌, ◌-◌, ◌^◌, ◌<◌, ◌≤◌, IfErr, false, length};
 ghost use Rattle.std.specs.Str.{chars};
+ghost use Rattle.labels.specs.Sheets.{all_counted};
 ghost use Rattle.pdf.specs.declared.title.TheConstants.{MOST_CHARACTERS};
 ghost use Rattle.plot_page.specs.declared.stroke.TheConstants.{MOST_STROKES};
 ghost use Rattle.conversion.specs.Conversions.{is_write};
@@ -16,16 +17,17 @@ use crate::place::Drawing;
 use crate::sheet::outcome_of;
 use deflate::TextEncoder;
 use devices::Sink;
-use full_plot::sheet_of;
-use pdf::{MOST_CHARACTERS, room_for, write_pdf};
+use full_plot::{labels_on, sheet_of};
+use labels::Label;
+use pdf::{MOST_CHARACTERS, has_few_letters, room_for, write_pdf};
 use picture_job::{VectorFormat, VectorJob};
 use plot_page::{Page, PenSet, Stroke};
 use std::alloc::Global;
-use svg::{ClipPaths, write_svg, write_svg_sheets};
+use svg::{ClipPaths, texts_fit, write_svg, write_svg_sheets};
 
 /// Writes the vector document of a sheet of a drawing, which counts from 1, or of all that is drawn for 0, on the page where
 /// the drawing lies. The job's page is not used. Of all that is drawn an SVG has a group for each sheet, one above another,
-/// if sheets end, and a PDF a page for each.
+/// if sheets end, and a PDF a page for each. The drawing has the labels of the plot, if they were kept.
 ///
 /// Errors: `Unfinished` if the sink fails, and what it has taken is of no use; `Memory` if memory is refused, and then the
 /// sink is as it was.
@@ -42,11 +44,23 @@ pub fn write_vector_sheet<K: Sink>(
     ensures untouched { IfErr result (λ fault. is_write fault ≡ false → sink.new ≡ sink.old) }
 {
     let lines = &drawing.lines;
-    let strokes = sheet_of(lines.strokes.as_slice(), lines.ends.as_slice(), sheet);
+    let all = lines.strokes.as_slice();
+    let strokes = sheet_of(all, lines.ends.as_slice(), sheet);
     let ends = ends_in(lines, sheet);
+    let (labels, before) = labels_on(
+        lines.labels.as_slice(),
+        lines.ends.as_slice(),
+        all.len(),
+        sheet,
+    );
+    let (page, pens) = (&drawing.page, &job.pens);
     match job.format {
-        VectorFormat::Svg => put_svg(alloc, &drawing.page, &job.pens, strokes, ends, sink)?,
-        VectorFormat::Pdf => put_pdf(alloc, naming, &drawing.page, &job.pens, strokes, ends, sink)?,
+        VectorFormat::Svg => put_svg(alloc, page, pens, strokes, ends, labels, before, sink)?,
+        VectorFormat::Pdf => {
+            put_pdf(
+                alloc, naming, page, pens, strokes, ends, labels, before, sink,
+            )?;
+        }
     }
     Ok(outcome_of(drawing, job.pens, strokes, 0, 0))
 }
@@ -62,26 +76,33 @@ fn ends_in(lines: &Lines, sheet: u32) -> &[usize]
     }
 }
 
-// Writes the SVG of strokes among which sheets end there.
+// Writes the SVG of strokes among which sheets end there, with labels whose strokes are counted from `before` strokes before
+// these.
 fn put_svg<K: Sink>(
     alloc: Global,
     page: &Page,
     pens: &PenSet,
     strokes: &[Stroke],
     ends: &[usize],
+    labels: &[Label],
+    before: usize,
     sink: &mut K,
 ) -> Result<(), Fault>
     requires few { length strokes.now ≤ MOST_STROKES }
     requires sinking { (K.state sink.old).faults < 2 ^ 64 - 1 }
-    ensures puts { PutsVector (λ document. document ≡ svg_of page.now pens.now strokes.now ends.now)
+    ensures puts { PutsVector (λ document. document ≡ svg_of page.now pens.now strokes.now ends.now
+        (all_counted before labels.now))
         (K.state sink.old) (K.state sink.new) result }
     ensures untouched { IfErr result (λ fault. is_write fault ≡ false → sink.new ≡ sink.old) }
 {
+    if !texts_fit(labels) {
+        return Err(Fault::Memory);
+    }
     let clips = ClipPaths::of(alloc, page, pens, strokes)?;
     let written = if ends.is_empty() {
-        write_svg(page, pens, strokes, &clips, sink)
+        write_svg(page, pens, strokes, labels, before, &clips, sink)
     } else {
-        write_svg_sheets(page, pens, strokes, ends, &clips, sink)
+        write_svg_sheets(page, pens, strokes, ends, labels, before, &clips, sink)
     };
     match written {
         Ok(_) => Ok(()),
@@ -97,14 +118,19 @@ fn put_pdf<K: Sink>(
     pens: &PenSet,
     strokes: &[Stroke],
     ends: &[usize],
+    labels: &[Label],
+    before: usize,
     sink: &mut K,
 ) -> Result<(), Fault>
     requires few { length strokes.now ≤ MOST_STROKES }
     requires sinking { (K.state sink.old).faults < 2 ^ 64 - 1 }
-    ensures puts { PutsVector (IsPdf naming.entry page.now pens.now strokes.now ends.now)
+    ensures puts { PutsVector (IsPdf naming.entry page.now pens.now strokes.now ends.now (all_counted before labels.now))
         (K.state sink.old) (K.state sink.new) result }
     ensures untouched { IfErr result (λ fault. is_write fault ≡ false → sink.new ≡ sink.old) }
 {
+    if !has_few_letters(labels) {
+        return Err(Fault::Memory);
+    }
     let pages = page_ends(alloc, strokes.len(), ends)?;
     let pages = pages.as_slice();
     let mut offsets = vec![in alloc; 0u64; room_for(pages.len())]?;
@@ -116,6 +142,8 @@ fn put_pdf<K: Sink>(
         pens,
         strokes,
         pages,
+        labels,
+        before,
         offsets.as_mut_slice(),
         &mut encoder,
         sink,

@@ -1,5 +1,5 @@
 -- What drawing all sheets of a plot answers, and writing the picture of one of them.
-use Rattle.std.specs.Prelude.{ℕ, Result}
+use Rattle.std.specs.Prelude.{ℕ, Bool, true, false, Result}
 use Rattle.plot_page.specs.declared.page.Page.{Page}
 use Rattle.plot_page.specs.declared.pens.PenSet.{PenSet}
 use Rattle.picture_job.specs.declared.page_choice.PageChoice.{PageChoice}
@@ -24,6 +24,11 @@ abbrev pub pens_of : Picture → PenSet
 pens_of (Rows job smoothing) = job.pens
 pens_of (Png job) = job.pens
 pens_of (Vector job) = job.pens
+
+-- a vector document has the labels of the plot
+abbrev pub has_labels : Picture → Bool
+has_labels (Vector job) = true
+has_labels _ = false
 
 -- a picture of a sheet of a drawing is written by the exact gauge, in a form or as a PNG, or as a vector document named so
 abbrev pub WritesSheet : PageChoice → Picture → Naming → Drawing → ℕ → SinkState → SinkState → Result Outcome Fault → Type 0

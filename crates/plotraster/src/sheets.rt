@@ -1,11 +1,11 @@
 //! The sheets of a plot, each as a picture by itself.
-ghost use Rattle.std.specs.Prelude.{◌≡◌, ◌+◌, ◌-◌, ◌^◌, ◌<◌, ◌↔◌, Err, IfErr, true, false};
+ghost use Rattle.std.specs.Prelude.{◌≡◌, ◌+◌, ◌-◌, ◌^◌, ◌<◌, ◌↔◌, Err, IfErr, IfOk, true, false};
 ghost use Rattle.std.specs.Io.KnownBytes.{IsAtEnd};
 ghost use Rattle.conversion.specs.Conversions.{is_write};
 ghost use Rattle.conversion.specs.Drawings.{HasDrawn};
 ghost use Rattle.conversion.specs.Rules.{rules_with};
 ghost use Rattle.plotraster.specs.Runs.{is_picture_possible};
-ghost use Rattle.plotraster.specs.SheetRuns.{WritesSheet, page_of, pens_of};
+ghost use Rattle.plotraster.specs.SheetRuns.{WritesSheet, has_labels, page_of, pens_of};
 
 use carousel::Carousel;
 use conversion::{
@@ -37,6 +37,7 @@ pub fn draw_sheets<S: Source>(
     ensures unread { is_picture_possible choice picture.now ≡ false → source.new ≡ source.old }
     ensures draws { is_picture_possible choice picture.now ≡ true → HasDrawn (rules_with reading carousel.now) choice
         (pens_of picture.now) (page_of picture.now) (S.state source.old) (S.state source.new) result }
+    ensures labelled { IfOk result (λ drawn. drawn.lines.labelled ≡ has_labels picture.now) }
     ensures end { (S.state source.new).ends ≡ (S.state source.old).ends + 1 → IsAtEnd (S.state source.new).left }
 {
     if !is_picture_possible(choice, picture) {
@@ -50,6 +51,7 @@ pub fn draw_sheets<S: Source>(
         choice,
         pens_of(picture),
         &page,
+        has_labels(picture),
         source,
     )
 }
@@ -123,5 +125,15 @@ fn pens_of(picture: &Picture) -> PenSet
         Picture::Rows { job, .. } => job.pens,
         Picture::Png(job) => job.pens,
         Picture::Vector(job) => job.pens,
+    }
+}
+
+// Whether a picture has the labels of the plot.
+fn has_labels(picture: &Picture) -> bool
+    ensures { result ≡ has_labels picture.now }
+{
+    match picture {
+        Picture::Vector(_) => true,
+        _ => false,
     }
 }

@@ -52,6 +52,8 @@ mod smoothed;
 #[cfg(test)]
 mod streams;
 #[cfg(test)]
+mod vector_labels;
+#[cfg(test)]
 mod vectors;
 #[cfg(test)]
 mod watched;

@@ -13,7 +13,8 @@ use std::test::Fail;
 const SHEETS: &[u8] =
     b"SP1;PU0,20;PD64,20,64,30;SP2;PU60,0;PD70,0;PG;SP1;PU32,0;PD32,64;PG;PG;PU1,2;PD3,4;";
 
-const ALL: Reading = Reading::Full {
+// All sheets.
+pub const ALL: Reading = Reading::Full {
     sheet: 0,
     encoding: Encoding::ByPlot,
 };
@@ -33,7 +34,8 @@ const SECOND: &str =
 
 const FOOT: &str = "</g></svg>\n";
 
-fn job_of(format: VectorFormat, pens: PenSet) -> Result<VectorJob, Fail> {
+// A job on a small page.
+pub fn job_of(format: VectorFormat, pens: PenSet) -> Result<VectorJob, Fail> {
     Ok(VectorJob {
         format,
         page: Page::new(64, 64, 0, 0)?,
@@ -43,12 +45,13 @@ fn job_of(format: VectorFormat, pens: PenSet) -> Result<VectorJob, Fail> {
 
 // What a run answers, and what its writer took.
 #[derive(Drop)]
-struct Answered {
-    answer: Result<Outcome, Fault>,
-    writer: Writer,
+pub struct Answered {
+    pub answer: Result<Outcome, Fault>,
+    pub writer: Writer,
 }
 
-fn run(
+// A run of a job on a plot.
+pub fn run(
     alloc: Global,
     reading: Reading,
     job: VectorJob,
@@ -162,7 +165,7 @@ fn one_sheet_has_no_group(rt: HostRuntime) -> Result<(), Fail> {
 }
 
 // How often a text stands in a document.
-fn count_of(document: &[u8], text: &[u8]) -> usize {
+pub fn count_of(document: &[u8], text: &[u8]) -> usize {
     let mut count: usize = 0;
     for at in 0..document.len() {
         let starts = match document.get(at..) {

@@ -1,7 +1,9 @@
-use Rattle.std.proofs.Common.{◌≡◌, List, ap, ap₂, subst, ◌∙◌}
+use Rattle.std.proofs.Common.{◌≡◌, List, length, ap, ap₂, subst, ◌∙◌}
 use Rattle.full_plot.specs.Drawings.{sheet_strokes}
 use Rattle.plot_page.specs.Segments.{Segment}
-use Rattle.conversion.specs.Sheets.{TellsOf, strokes_on}
+use Rattle.full_plot.specs.Labels.{labels_of_sheet}
+use Rattle.labels.specs.Sheets.{all_counted}
+use Rattle.conversion.specs.Sheets.{TellsOf, labels_on, strokes_on}
 use Rattle.conversion.proofs.Vectors.{puts_same}
 use Rattle.conversion.proofs.vector_sheet.write_vector_sheet.Goals as goal
 use Rattle.conversion.proofs.vector_sheet.write_vector_sheet.Goals.{in-Svg+in_ok-put_svg-in-Svg, in-Pdf+in_ok-put_pdf-in-Pdf}
@@ -9,16 +11,21 @@ use Rattle.conversion.proofs.vector_sheet.write_vector_sheet.Goals.{in-Svg+in_ok
 pub returns-clause-writes : goal.returns-clause-writes
 returns-clause-writes g c =
     let drawing = c.args.drawing.now in
+    let all = c.as_slice-all.ensures.value in
     let strokes : c.sheet_of-strokes.result.now ≡ strokes_on drawing c.args.sheet =
-    c.sheet_of-strokes.ensures ∙ ap₂ (λ s e. sheet_strokes s e c.args.sheet) c.as_slice.ensures.value c.as_slice-2.ensures.value in
+    c.sheet_of-strokes.ensures ∙ ap₂ (λ s e. sheet_strokes s e c.args.sheet) all c.as_slice.ensures.value in
+    let labels : all_counted c.labels_on-before.result.1 c.labels_on-before.result.0.now ≡ labels_on drawing c.args.sheet =
+    c.labels_on-before.ensures
+    ∙ ap (λ s. labels_of_sheet c.as_slice-2.result.now c.as_slice-3.result.now (length s) c.args.sheet) all
+    ∙ ap₂ (λ l e. labels_of_sheet l e (length drawing.lines.strokes.items) c.args.sheet) c.as_slice-2.ensures.value c.as_slice-3.ensures.value in
     record {
       puts = elim c.match-job.branch [
         | in-Svg+in_ok-put_svg-in-Svg w ↦
-            puts_same c.outcome_of.result w.in_ok-put_svg-in-Svg.field-0 c.args.job.now.format _ c.args.naming drawing.page c.args.job.now.pens _ _ _ _ _ _ _
-            w.in-Svg.is strokes c.ends_in-ends.ensures (ap g.K.Sink.state w.sink-is) w.in_ok-put_svg-in-Svg.ensures.puts
+            puts_same c.outcome_of.result w.in_ok-put_svg-in-Svg.field-0 c.args.job.now.format _ c.args.naming drawing.page c.args.job.now.pens _ _ _ _ _ _ _ _ _
+            w.in-Svg.is strokes c.ends_in-ends.ensures labels (ap g.K.Sink.state w.sink-is) w.in_ok-put_svg-in-Svg.ensures.puts
         | in-Pdf+in_ok-put_pdf-in-Pdf w ↦
-            puts_same c.outcome_of.result w.in_ok-put_pdf-in-Pdf.field-0 c.args.job.now.format _ c.args.naming drawing.page c.args.job.now.pens _ _ _ _ _ _ _
-            w.in-Pdf.is strokes c.ends_in-ends.ensures (ap g.K.Sink.state w.sink-is) w.in_ok-put_pdf-in-Pdf.ensures.puts
+            puts_same c.outcome_of.result w.in_ok-put_pdf-in-Pdf.field-0 c.args.job.now.format _ c.args.naming drawing.page c.args.job.now.pens _ _ _ _ _ _ _ _ _
+            w.in-Pdf.is strokes c.ends_in-ends.ensures labels (ap g.K.Sink.state w.sink-is) w.in_ok-put_pdf-in-Pdf.ensures.puts
       ];
       rows = c.outcome_of.ensures.rows;
       tells = subst (λ (s : List Segment). TellsOf drawing c.args.job.now.pens s c.outcome_of.result) strokes c.outcome_of.ensures.tells;
