@@ -11,14 +11,15 @@ from reference.command_line import DOCUMENTS
 from shared import EXAMPLES, read_bytes, run, write
 
 SHEETS = b"SP2;PU0,0;PD3000,2000;PG;IW0,0,900,900;PD5,5;"
+LABELS = b"LBab\r\nc\xd0\x96\x03PG;SP2;BL<d>\x03PB;PD9,9;"
 FULL = ["--profile=full", "--sheet=0"]
 EACH = ["--profile=full", "--sheet=each"]
 # The words of a document, a plot, and the options that tell kinds of documents.
 KINDS = [
     ("png", LINE, []), ("png", plot_in(colours(257)), []), ("pdf", LINE, []), ("pdf", SHEETS, FULL), ("svg", LINE, []),
-    ("svg", SHEETS, FULL),
+    ("svg", SHEETS, FULL), ("pdf", LABELS, [*FULL, "--characters=utf-8"]), ("svg", LABELS, [*FULL, "--characters=utf-8"]),
 ]
-NAMES = ["palette", "truecolour", "pdf", "pdf of sheets", "svg", "svg of sheets"]
+NAMES = ["palette", "truecolour", "pdf", "pdf of sheets", "svg", "svg of sheets", "pdf of labels", "svg of labels"]
 
 
 @pytest.mark.parametrize("command", DOCUMENTS)

@@ -31,11 +31,12 @@ def page_of(case):
 
 
 def drawn(draw, plot, page):
-    """The strokes and the notes of a plot, or the text of its refusal."""
+    """The strokes and the notes of a plot, or the text of its refusal. Core has no labels, so strokes are of none."""
     try:
-        return draw(plot, page)
+        strokes, notes = draw(plot, page)
     except Refused as refusal:
         return str(refusal)
+    return [stroke._replace(label=None) for stroke in strokes], notes
 
 
 # What both profiles draw

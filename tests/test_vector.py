@@ -7,6 +7,7 @@ import os
 import pytest
 
 from document_runs import SMALL, colours, drawn
+from reference.labels import lines_of_texts
 from reference.pdf import read_pdf
 from reference.svg import read_svg
 from shared import EXAMPLES, assert_nothing, need, read_bytes, with_sheet
@@ -36,7 +37,9 @@ def checked(program, words, plot, folder):
     found = [drawn(program, [command, *words], plot) for command in ("pdf", "svg")]
     assert_nothing([*said_of_pdf(found[0], folder / "plan.pdf"), *said_of_svg(found[1])])
     pdf, svg = read_pdf(found[0]).document, read_svg(found[1])
-    assert pdf._replace(are_numbered=svg.are_numbered) == svg
+    assert pdf.without_labels()._replace(are_numbered=svg.are_numbered) == svg.without_labels()
+    for sheet in range(1, len(svg.sheets) + 1):
+        assert lines_of_texts(pdf.texts(sheet)) == lines_of_texts(svg.texts(sheet))
     return found
 
 

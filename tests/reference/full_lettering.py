@@ -5,14 +5,17 @@ A place of a label is a column and a line: so many places on, and so many lines 
 
 import os
 from fractions import Fraction
+from itertools import groupby
 from typing import NamedTuple
 
-from .characters import BACK, LINE_FEED, RETURN, TAB
+from .characters import BACK, CONTROLS, LINE_FEED, RETURN, TAB
 from .cutting import rounded
 from .directions import swung
 from .geometry import turned
 
 PATHS = ((1, 0), (0, -1), (-1, 0), (0, 1))
+# By the path the corner of a letter's box from which the text runs on, and the one above it as the text is read.
+CORNERS = (((0, 0), (0, 6)), ((0, 6), (4, 6)), ((4, 6), (4, 0)), ((4, 0), (0, 0)))
 IN_THE_MIDDLE = 5
 BOX = "0,0 0,6 4,6 4,0 0,0"
 FONT = os.path.join(os.path.dirname(os.path.abspath(__file__)), "full_font.txt")
@@ -73,11 +76,25 @@ class Style(NamedTuple):
 
     def letter(self, code, column, line, greatest):
         """The strokes of a letter in a part whose greatest column is given."""
-        x, y = self.way(column, line)
-        to_the_left, down = self.displacement(greatest)
+        x, y = self.beginning(column, line, greatest)
         for points in GLYPHS.get(code, polylines(BOX)):
             for ends in zip(points, points[1:] or points):
-                yield tuple(self.point(x - to_the_left, y - down, *end) for end in ends)
+                yield tuple(self.point(x, y, *end) for end in ends)
+
+    def beginning(self, column, line, greatest):
+        """Where a letter begins, in twelfths and eighteenths."""
+        x, y = self.way(column, line)
+        to_the_left, down = self.displacement(greatest)
+        return x - to_the_left, y - down
+
+    def lines(self, signs):
+        """The code points of each line of a label, with the offsets of its start, its end and the corner above its start."""
+        start, top = CORNERS[self.path]
+        for has_letters, found in groupby(cells(signs), lambda cell: cell[0] not in CONTROLS):
+            if has_letters:
+                codes, columns, (line, *_), (greatest, *_) = zip(*found)
+                first, after = (self.beginning(column, line, greatest) for column in (columns[0], columns[-1] + 1))
+                yield codes, (self.point(*first, *start), self.point(*after, *start), self.point(*first, *top))
 
     def displacement(self, count):
         """How far a part of so many places lies left of and below its start, in twelfths and eighteenths."""
@@ -134,6 +151,11 @@ def parts_of(signs):
 
 def printed(signs):
     """Each printed code point with its column, its line, and the greatest column of its part, at least 1."""
+    return (cell for cell in cells(signs) if cell[0] not in CONTROLS)
+
+
+def cells(signs):
+    """Each sign with its column, its line, and the greatest column of its part, at least 1. A return follows each part."""
     line = 0
     for part in parts_of(signs):
         columns = [0]
@@ -141,7 +163,6 @@ def printed(signs):
             columns.append(next_column(columns[-1], sign))
         greatest = max(1, *columns)
         for sign, column in zip(part, columns):
-            if sign == LINE_FEED:
-                line += 1
-            elif sign > TAB:
-                yield sign, column, line, greatest
+            yield sign, column, line, greatest
+            line += sign == LINE_FEED
+        yield RETURN, columns[-1], line, greatest

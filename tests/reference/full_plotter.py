@@ -19,6 +19,7 @@ from .full_settings import (
     CROSS_HATCHING, HATCHING, MOST_TICKS, SHADING, SOLID, TICKS_OF_A_GRAIN, FullSettings,
 )
 from .geometry import sign, turned, turned_about, turns
+from .labels import rows_of
 from .plotter import LONGEST_PLOT, MOST_STROKES, USUAL_WIDTH, Bad, Refused, Stroke, listed, whole
 from .polygons import Buffer
 
@@ -69,6 +70,7 @@ class FullPlotter(FullSettings):
         self.sheet, self.is_sheet_empty = 1, True
         self.parts = []  # what is drawn: each has strokes
         self.sum = 0  # of strokes, and of what counts as strokes: places that are filled or edged, and texts of PB
+        self.labels, self.label = [], None  # the lines of each label that has strokes, and which one is written now
         super().__init__(page, carousel)
 
     def strokes_drawn(self):
@@ -101,7 +103,7 @@ class FullPlotter(FullSettings):
             self.add(1, [self.stroke(a, b, self.width() if width is None else width)])
 
     def stroke(self, a, b, width):
-        return Stroke(self.pen, self.colour(), width, self.window, a, b, self.sheet)
+        return Stroke(self.pen, self.colour(), width, self.window, a, b, self.sheet, self.label)
 
     def add(self, count, strokes):
         """Draws so many strokes; after too many the plot is refused, and none are needed."""
@@ -165,11 +167,19 @@ class FullPlotter(FullSettings):
     def write(self, text):
         """LB: the strokes of each character; the pen ends as the origin says."""
         style, signs = self.style(), self.signs(text)
-        self.write_from_the_pen(style, signs)
+        self.write_label(style, signs)
         self.margin = moved(self.margin, style.offset(0, signs.count(LINE_FEED)))
         self.place = self.in_range(moved(self.place, style.end(signs)))
         self.recompute()
         self.selected = selected_after(text, self.selected)
+
+    def write_label(self, style, signs):
+        """The strokes of a label, which is kept if it has some."""
+        before, self.label = len(self.parts), len(self.labels)
+        self.write_from_the_pen(style, signs)
+        self.label = None
+        if len(self.parts) > before:
+            self.labels.append(rows_of(style, self.place, signs))
 
     def PB(self, _):
         """Writes the text that BL has kept."""

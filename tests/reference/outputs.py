@@ -8,10 +8,11 @@ from typing import NamedTuple
 from . import cutting, full_cutting, full_plotter, plotter, raster
 from .carousel import EMPTY
 from .command_line import DOTS_OF_PCL, EACH, MOST_DOTS, PAGE_OPTIONS, VECTORS, Mistake, request_of
-from .fitting import BLANK, TOO_LARGE, fitted, is_off
+from .fitting import BLANK, TOO_LARGE, UNIT, fitted, is_off
 from .geometry import Page
+from .labels import groups_of, rows_moved, texts_of
 from .plotter import Refused
-from .vectors import Document, lines_of
+from .vectors import Document, lines_of, spans_of
 
 ESC = b"\x1b"
 WHITE = b"\xff\xff\xff"
@@ -52,13 +53,14 @@ def answer(command, options, plot):
 
 
 class Drawing(NamedTuple):
-    """What is drawn of a plot: the strokes of the sheet asked for, all notes, in full the greatest sheet, and whether a sheet
-    ends before the plot does."""
+    """What is drawn of a plot: the strokes of the sheet asked for, all notes, in full the greatest sheet, whether a sheet
+    ends before the plot does, and the lines of all labels."""
 
     strokes: list
     notes: list
     sheets: int = None
     has_ends: bool = False
+    labels: list = ()
 
 
 def draw(plot, page, sheet, carousel=EMPTY, characters=None):
@@ -69,7 +71,7 @@ def draw(plot, page, sheet, carousel=EMPTY, characters=None):
     strokes = plotted.strokes_drawn()
     sheets = max((stroke.sheet for stroke in strokes), default=0)
     strokes = [stroke for stroke in strokes if sheet in (0, EACH, stroke.sheet)]
-    return Drawing(strokes, plotted.notes, sheets, plotted.sheet > 1)
+    return Drawing(strokes, plotted.notes, sheets, plotted.sheet > 1, plotted.labels)
 
 
 class Shown(NamedTuple):
@@ -93,7 +95,10 @@ def shown_by(request, plot):
     if request.form != "report":
         strokes = [stroke for stroke in strokes if stroke.pen in request.pens]
     if request.margin is not None:
-        page, strokes, reason = fitted(strokes, page, request.margin)
+        given = page
+        page, strokes, reason = fitted(strokes, given, request.margin)
+        by = UNIT * (page.left - given.left), UNIT * (page.below - given.below)
+        drawing = drawing._replace(labels=[rows_moved(rows, *by) for rows in drawing.labels])
         why = f"not fitted: {reason}" if reason else None
     dots, smooth = request.dots, request.smooth
     if request.pixels:
@@ -183,7 +188,9 @@ def document_of(request, shown, strokes):
     sheets = [[it for it in strokes if not is_whole or it.sheet == number] for number in numbers]
     are_numbered = is_pdf or is_whole and shown.drawing.has_ends
     page, title = shown.page, f"{PLOT}.plt" if is_pdf and request.folder else None
-    return Document(page.width, page.height, [lines_of(it, page) for it in sheets], are_numbered, title)
+    read = texts_of if is_pdf else groups_of
+    labels = [it for number, own in enumerate(sheets, 1) for it in read(number, spans_of(own), shown.drawing.labels)]
+    return Document(page.width, page.height, [lines_of(it, page) for it in sheets], are_numbered, title, tuple(labels))
 
 
 def smoothed_rows(strokes, page, dots, times, pens, first):
@@ -263,7 +270,7 @@ FORMS = {
 
 def report(drawing, page):
     """The lines of a report: the page, in full the sheets, the strokes of each pen, and the notes."""
-    strokes, notes, sheets, _ = drawing
+    strokes, notes, sheets, *_ = drawing
     lines = ["page %d %d %d %d" % page]
     lines += [] if sheets is None else [f"sheets {sheets}"]
     lines.append(f"strokes {len(strokes)}")

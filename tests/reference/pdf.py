@@ -1,14 +1,16 @@
 """A reader of PDF documents, by ISO 32000-1: what a document shows, or why it is none.
 
 It knows what plotraster may write: objects in the order of their numbers, each of which is used, a table of where they begin,
-a layer for each pen, and pages of one size, each with a stream of operators.
+a layer for each pen, fonts for the texts of labels, and pages of one size, each with a stream of operators.
 """
 
 import re
 from fractions import Fraction
 from typing import NamedTuple
 
+from .labels import Text
 from .pdf_content import lines_of
+from .pdf_fonts import fonts_of
 from .reading import Wrong, inflated, must
 from .vectors import Document
 
@@ -16,8 +18,9 @@ HEADER = b"%PDF-1.5\n%\xe2\xe3\xcf\xd3\n"
 END = re.compile(rb"\nstartxref\n([1-9][0-9]*)\n%%EOF\n\Z")
 TABLE = re.compile(rb"xref\n0 ([1-9][0-9]*)\n0000000000 65535 f \n((?:[0-9]{10} 00000 n \n)+)trailer\n")
 TOKEN = re.compile(
-    rb" ?(?:(?P<mark><<|>>|\[|\])|/(?P<name>[A-Za-z0-9]+)|\((?P<text>[ -'*-\[\]-~]*)\)|<(?P<digits>(?:[0-9A-Fa-f]{2})*)>"
+    rb"[ \n]*(?:(?P<mark><<|>>|\[|\])|/(?P<name>[A-Za-z0-9]+)|\((?P<text>[ -'*-\[\]-~]*)\)|<(?P<digits>(?:[0-9A-Fa-f]{2})*)>"
     rb"|(?P<object>[1-9][0-9]*) 0 R|(?P<number>(?:0|[1-9][0-9]*)(?:\.[0-9]*[1-9])?))")
+ENDS = {b"<<": re.compile(rb"[ \n]*>>"), b"[": re.compile(rb"[ \n]*\]")}
 # What is rounded to three decimals is nearer than this.
 HALF_A_THOUSANDTH = Fraction(1, 2000)
 
@@ -53,16 +56,28 @@ def read_pdf(data):
     layers = [pen_of(objects.at(it, "OCG")) for it in groups]
     must(layers == sorted(set(layers)), f"the layers {layers}")
     box, resources, count, kids = values(objects.at(pages, "Pages"), "MediaBox", "Resources", "Count", "Kids")
-    named, = values(resources, "Properties")
+    must(isinstance(resources, dict) and set(resources) in ({"Properties"}, {"Properties", "Font"}), f"the resources {resources}")
+    named = resources["Properties"]
     must(values(named, *(f"P{pen}" for pen in layers)) == groups, f"the properties {named}")
     must(count == len(references(kids)) >= 1, f"{len(kids)} pages instead of {count}")
     must(isinstance(box, list) and len(box) == 4 and box[:2] == [0, 0], f"the box {box}")
     width, height = map(units_of, box[2:])
-    sheets = [lines_of(content_of(objects, kid, pages), width, height) for kid in kids]
+    found = [lines_of(content_of(objects, kid, pages), width, height) for kid in kids]
+    sheets = [lines for lines, _ in found]
     must({line.pen for lines in sheets for line in lines} == set(layers), "a layer without a line, or a line without one")
+    characters = fonts_of(objects, resources.get("Font"))
+    texts = [Text(number, text_of(row, characters), row.matrix) for number, (_, rows) in enumerate(found, 1) for row in rows]
+    used = {font for _, rows in found for row in rows for font, _ in row.pieces}
+    must(used == set(characters), f"the fonts {sorted(characters)}, but not those of texts")
     producer, title = names_of(objects.at(info))
     must(objects.used == set(range(1, len(offsets) + 1)), "an object that is not used")
-    return Pdf(Document(width, height, sheets, True, title), producer, layers)
+    return Pdf(Document(width, height, sheets, True, title, tuple(texts)), producer, layers)
+
+
+def text_of(row, characters):
+    """The text of a line, by the characters of each font."""
+    must(all(font in characters for font, _ in row.pieces), f"a font that is not there in {row.pieces}")
+    return "".join(characters[font][code] for font, codes in row.pieces for code in codes)
 
 
 def table_of(data):
@@ -106,16 +121,28 @@ class Objects:
             must(isinstance(value, dict) and value.pop("Type", None) == kind, f"object {reference} is no {kind}")
         return value
 
-    def stream(self, reference):
-        """What a stream has, whose length is in an object."""
+    def stream(self, reference, is_compressed=True):
+        """What a stream has, which is compressed, or may be."""
         text = self.text(reference)
         about, stop = value_at(text, 0)
-        filter_name, length = values(about, "Filter", "Length")
-        start, end = b"stream\n", b"\nendstream"
-        must(filter_name == Name("FlateDecode") and text[stop:].startswith(start) and text.endswith(end), "a stream")
-        found = text[stop + len(start):-len(end)]
-        must(self.at(length) == len(found), f"{len(found)} bytes in a stream")
+        must(isinstance(about, dict) and set(about) in ({"Filter", "Length"}, {"Length"}), f"the stream {about}")
+        found = self.data_of(text[stop:], about["Length"])
+        if "Filter" not in about and not is_compressed:
+            return found
+        must(about.get("Filter") == Name("FlateDecode"), f"the filter {about.get('Filter')}")
         return inflated(found)
+
+    def data_of(self, text, length):
+        """What is between the marks of a stream, which has this length."""
+        start, end = b"stream\n", b"\nendstream"
+        must(text.startswith(start) and text.endswith(end) and len(text) >= len(start + end), "a stream")
+        found = text[len(start):-len(end)]
+        must(self.resolved(length) == len(found), f"{len(found)} bytes in a stream")
+        return found
+
+    def resolved(self, value):
+        """A value itself, or that of the object to which it refers."""
+        return self.at(value) if isinstance(value, Reference) else value
 
 
 def value_at(data, at):
@@ -126,12 +153,12 @@ def value_at(data, at):
     if kind != "mark":
         return VALUES[kind](text), at
     must(text in (b"<<", b"["), f"{text} without a beginning")
-    end, found = {b"<<": b">>", b"[": b"]"}[text], []
-    while not data.startswith(end, at):
+    end, found = ENDS[text], []
+    while not (stop := end.match(data, at)):
         value, at = value_at(data, at)
         found.append(value)
-    at += len(end)
-    if end == b"]":
+    at = stop.end()
+    if text == b"[":
         return found, at
     names, values = found[::2], found[1::2]
     must(len(names) == len(values) and all(isinstance(it, Name) for it in names), "a dictionary without names")

@@ -1,4 +1,5 @@
-"""The operators of a PDF's page, read one after another, by ISO 32000-1: the lines that they draw, or why they are wrong."""
+"""The operators of a PDF's page, read one after another, by ISO 32000-1: the lines that they draw and the texts that they write
+invisibly after these, or why they are wrong."""
 
 import re
 from fractions import Fraction
@@ -9,6 +10,10 @@ from .vectors import LEAST_WIDTH, MOST_IN_A_PATH, Line
 
 WHOLE = re.compile(rb"0|-?[1-9][0-9]*")
 PART = re.compile(rb"0(?:\.[0-9]{0,2}[1-9])?|1")
+DECIMAL = re.compile(rb"0|-?(?:[1-9][0-9]*|0(?=\.))(?:\.[0-9]{0,2}[1-9])?")
+FONT = re.compile(rb"/F(0|[1-9][0-9]*) 1")
+CODES = re.compile(rb"<((?:[0-9a-f]{2})+)>")
+INVISIBLE = b"3"
 SCALE = re.compile(rb"(0\.[0-9]{12}) 0 0 \1 0 0")
 # A grain in points, rounded to twelve decimals, and a part of a colour, rounded to three.
 GRAIN = Fraction(9, 2032)
@@ -24,8 +29,15 @@ class Set(NamedTuple):
     window: tuple = None
 
 
+class Row(NamedTuple):
+    """A line of text: its matrix, and its pieces, each as the number of a font and the codes of characters in it."""
+
+    matrix: tuple
+    pieces: list
+
+
 def lines_of(content, width, height):
-    """The lines that the operators of a page of so many plotter units draw."""
+    """The lines that the operators of a page of so many plotter units draw, and those of text that they write."""
     must(content.endswith(b"\n"), "no end of the last line")
     page = Content((0, 0, 16 * width, 16 * height))
     for line in content[:-1].split(b"\n"):
@@ -33,7 +45,8 @@ def lines_of(content, width, height):
         must(operator in OPERATORS, f"the operator {line[:60]}")
         OPERATORS[operator](page, operands)
     must(page.begun == {"cm", "J", "j"} and page.pen is None, "how a page begins, or a layer that does not end")
-    return page.painted
+    must(page.rows is None or page.is_text_ended, "a text that does not end")
+    return page.painted, page.rows or []
 
 
 def numbers(operands, count):
@@ -52,6 +65,7 @@ class Content:
         self.rectangle, self.is_clip = None, False
         self.place, self.lines, self.is_moved = None, [], False
         self.painted, self.is_painted = [], False
+        self.rows, self.is_invisible, self.is_text_ended, self.font = None, False, False, None
 
     def begin(self, name, holds):
         """An operator that comes once, before all layers."""
@@ -70,7 +84,7 @@ class Content:
 
     def layer(self, operands):
         found = re.fullmatch(rb"/OC /P([1-9][0-9]{0,2})", operands)
-        must(found and self.pen is None, f"the layer {operands}")
+        must(found and self.pen is None and self.rows is None, f"the layer {operands}")
         self.pen = int(found[1])
 
     def end_layer(self, operands):
@@ -137,9 +151,46 @@ class Content:
         self.painted += self.lines
         self.lines, self.place, self.is_painted = [], None, True
 
+    def begin_text(self, operands):
+        must(not operands and self.pen is None and self.rows is None and self.painted, "text that is not after all lines")
+        self.rows = []
+
+    def way_of_text(self, operands):
+        must(operands == INVISIBLE and self.rows == [] and not self.is_invisible, f"the way of text {operands}")
+        self.is_invisible = True
+
+    def matrix(self, operands):
+        parts = operands.split(b" ")
+        must(len(parts) == 6 and all(map(DECIMAL.fullmatch, parts)), f"the matrix {operands}")
+        must(all(map(WHOLE.fullmatch, parts[4:])), f"the place {operands}")
+        must(self.is_row_whole() and not self.is_text_ended, "a line of no text, or before text begins")
+        self.rows.append(Row(tuple(Fraction(part.decode()) for part in parts), []))
+
+    def is_row_whole(self):
+        """Whether text is invisible, and the last line has text in its last font."""
+        return self.is_invisible and self.font is None and (not self.rows or bool(self.rows[-1].pieces))
+
+    def choose_font(self, operands):
+        found = FONT.fullmatch(operands)
+        must(found and self.rows and self.font is None and not self.is_text_ended, f"the font {operands}")
+        self.font = int(found[1])
+        must(not self.rows[-1].pieces or self.rows[-1].pieces[-1][0] != self.font, "a font that is chosen already")
+
+    def show(self, operands):
+        found = CODES.fullmatch(operands)
+        must(found and self.font is not None, f"the text {operands}")
+        self.rows[-1].pieces.append((self.font, bytes.fromhex(found[1].decode())))
+        self.font = None
+
+    def end_text(self, operands):
+        must(not operands and self.rows and self.is_row_whole() and not self.is_text_ended, "the end of no text")
+        self.is_text_ended = True
+
 
 OPERATORS = {
     b"cm": Content.scale, b"J": Content.line_ends, b"j": Content.line_joins, b"BDC": Content.layer, b"EMC": Content.end_layer,
     b"q": Content.save, b"Q": Content.restore, b"re": Content.clip_rectangle, b"W": Content.clip, b"n": Content.no_paint,
     b"RG": Content.colour, b"w": Content.width, b"m": Content.move, b"l": Content.line, b"S": Content.stroke,
+    b"BT": Content.begin_text, b"Tr": Content.way_of_text, b"Tm": Content.matrix, b"Tf": Content.choose_font,
+    b"Tj": Content.show, b"ET": Content.end_text,
 }

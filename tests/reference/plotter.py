@@ -37,6 +37,7 @@ class Stroke(NamedTuple):
     a: tuple
     b: tuple
     sheet: int = 1
+    label: int = None  # the number of the label that it is part of, from 0 on
 
 
 class Note(NamedTuple):

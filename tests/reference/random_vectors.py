@@ -1,12 +1,13 @@
 """Random plots of either profile as PDF and SVG, with all options that such a document has.
 
-The plot of a seed is that of the same seed in another form, in full often with more ends of sheets.
+The plot of a seed is that of the same seed in another form, in full often with more ends of sheets and with labels.
 """
 
 import random
 
 from .command_line import EACH, PAGE_OPTIONS, VECTORS
 from .random_fitted_plots import MARGINS, OF_REPORTS, base_case, fitted_case, number
+from .random_labels import random_label
 from .random_options import page_options, with_characters, with_ends_of_sheets, with_pens, with_pieces
 
 SHEETS = ("0", "0", "0", EACH, EACH, "1", "2", "3")
@@ -27,6 +28,8 @@ def random_vector_case(seed):
         case = with_windows(case, chance)
     if case.options.get("profile") == "full":
         case = with_sheets(case, chance)
+    if case.options.get("profile", "full" if case.form == "draw" else "core") == "full" and chance.random() < 0.6:
+        case = with_labels(case, chance)
     if chance.random() < 0.02:
         case.options[chance.choice(OTHERS)] = "100"
     case = with_pens(case, chance) if chance.random() < 0.3 else case
@@ -52,6 +55,16 @@ def with_windows(case, chance):
     corner = lambda: ",".join(str(chance.randint(-side // 8, side + side // 8)) for side in sides)
     window = lambda: chance.choice((b";IW;", f";IW{corner()},{corner()};".encode()))
     return case._replace(plot=with_pieces(case.plot, chance, window))
+
+
+def with_labels(case, chance):
+    """The case with more labels, often in UTF-8; or with labels only, so that most of them are drawn."""
+    if chance.random() < 0.5:
+        plot = b"".join(random_label(chance) for _ in range(chance.choice((1, 2, 3, 5))))
+    else:
+        plot = with_pieces(case.plot, chance, lambda: random_label(chance))
+    options = {**case.options, "characters": "utf-8"} if chance.random() < 0.4 else case.options
+    return case._replace(options=options, plot=plot)
 
 
 def with_sheets(case, chance):

@@ -1,13 +1,14 @@
 """A reader of SVG documents, by SVG 1.1: what a document shows, or why it is none.
 
-It knows what plotraster may write: a page in millimetres, clip paths of one rectangle, groups of sheets, and paths of lines
-from place to place.
+It knows what plotraster may write: a page in millimetres, clip paths of one rectangle, groups of sheets, groups of labels with
+their texts as titles, and paths of lines from place to place.
 """
 
 import re
 from fractions import Fraction
 from xml.etree import ElementTree
 
+from .labels import Group
 from .reading import Wrong, must
 from .vectors import LEAST_WIDTH, MOST_IN_A_PATH, Document, Line
 
@@ -20,6 +21,8 @@ COMMAND = re.compile(f"([MmLl])({WHOLE}) ({WHOLE})")
 LINES = f"(?:[Ll]{WHOLE} {WHOLE})+"
 # Lines follow each move, and the first move is to a place.
 PATH = re.compile(f"M{WHOLE} {WHOLE}{LINES}(?:[Mm]{WHOLE} {WHOLE}{LINES})*")
+# A title as it is written: what need not be escaped is not.
+TITLE = re.compile(rb"<g><title>((?:[^<>&]|&amp;|&lt;|&gt;)+)</title>\n")
 ROUND = {"fill": "none", "stroke-linecap": "round", "stroke-linejoin": "round"}
 UNITS_OF_A_MILLIMETRE = 40
 
@@ -27,12 +30,15 @@ UNITS_OF_A_MILLIMETRE = 40
 def read_svg(data):
     """What a document shows."""
     must(data.startswith(DECLARATION) and data.endswith(b"\n"), "no declaration, or no end of the last line")
-    must(data.count(b"<?") == 1 and not re.search(rb"<!|&", data), "more than elements")
+    titles = TITLE.findall(data)
+    must(data.count(b"<?") == 1 and b"<!" not in data and len(titles) == data.count(b"<title"), "more than elements")
+    must(data.count(b"&") == sum(title.count(b"&") for title in titles), "something escaped that is in no title")
     try:
         root = ElementTree.fromstring(data)
     except ElementTree.ParseError as error:
         raise Wrong(str(error)) from error
-    must(all(not (text or "").strip() for it in root.iter() for text in (it.text, it.tail)), "a text")
+    texts = [text for it in root.iter() for text in (it.text if it.tag != f"{SPACE}title" else "", it.tail)]
+    must(all(not (text or "").strip() for text in texts), "a text")
     width, height = page_of(root)
     group = only_child(root, "g")
     must(group.attrib == ROUND, f"the group has {group.attrib}")
@@ -41,12 +47,13 @@ def read_svg(data):
     if found and found[0].tag == f"{SPACE}defs":
         clips = clips_of(found.pop(0), 16 * height)
         must(clips, "no clip paths in defs")
-    are_numbered = bool(found) and found[0].tag == f"{SPACE}g"
+    are_numbered = bool(found) and found[0].tag == f"{SPACE}g" and "id" in found[0].attrib
     sheets = [list(sheet) for sheet in groups(found)] if are_numbered else [found]
     used = set()
-    lines = [[line for path in sheet for line in lines_of(path, clips, used, 16 * height)] for sheet in sheets]
+    read = [things_of(sheet, number, clips, used, 16 * height) for number, sheet in enumerate(sheets, 1)]
     must(used == set(clips), f"clip paths that are not used: {sorted(set(clips) - used)}")
-    return Document(width, height, lines, are_numbered)
+    labels = tuple(label for _, own in read for label in own)
+    return Document(width, height, [lines for lines, _ in read], are_numbered, None, labels)
 
 
 def attributes(element, name, *names):
@@ -99,6 +106,23 @@ def groups(elements):
         name, = attributes(element, "g", "id")
         must(name == f"sheet-{number}", f"{name} instead of sheet {number}")
         yield element
+
+
+def things_of(sheet, number, clips, used, top):
+    """The lines of a sheet, and its labels."""
+    lines, labels = [], []
+    for element in sheet:
+        first, paths = len(lines), [element]
+        if element.tag == f"{SPACE}g":
+            attributes(element, "g")
+            must(len(element) > 1, "a label without lines")
+            title, *paths = element
+            attributes(title, "title")
+            must(not list(title), "a title of elements")
+        for path in paths:
+            lines += lines_of(path, clips, used, top)
+        labels += [Group(number, first, len(lines), title.text)] if element.tag == f"{SPACE}g" else []
+    return lines, labels
 
 
 def lines_of(path, clips, used, top):
