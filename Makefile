@@ -8,17 +8,28 @@
 # make audit      hands every mutant to the prover, for a release or after a change of a contract
 # make fuzz       compares the built command with tests/reference on new random plots, with options of six kinds for
 #                 SECONDS=120 each, and runs it on MUTILATED=20000 plots that were mutilated, in either profile
-# make install    copies the command, its manual page and its completion under PREFIX (/usr/local), below DESTDIR if it is set
-# make uninstall  removes them
-# make dist       makes build/plotraster-VERSION-x86_64-linux.tar.gz and build/plotraster_VERSION_amd64.deb, which lintian checks
+# make install    copies the command, its manual page, its completions, and the type of plots and their thumbnailer for
+#                 desktops under PREFIX (/usr/local), below DESTDIR if it is set
+# make install-cups     copies the filter of plots for CUPS, which finds it if PREFIX is /usr
+# make uninstall  removes all of these
+# make dist       makes build/plotraster-VERSION-x86_64-linux.tar.gz, build/plotraster_VERSION_amd64.deb and
+#                 build/plotraster-cups_VERSION_all.deb, which lintian checks
 # make clean      removes all that was built; the next build proves everything again
 SHELL = /bin/bash
 .SHELLFLAGS = -o pipefail -c
 PREFIX ?= /usr/local
 PROGRAM = crates/plotraster_program/out/plotraster_program
-BIN = $(DESTDIR)$(PREFIX)/bin
-MAN = $(DESTDIR)$(PREFIX)/share/man/man1
-COMPLETIONS = $(DESTDIR)$(PREFIX)/share/bash-completion/completions
+# Where the files of make install and of make install-cups are put: Debian's zsh reads another folder below /usr.
+SHARE = $(PREFIX)/share
+ZSH = $(SHARE)/zsh/site-functions
+MIME = $(SHARE)/mime
+INSTALLED = $(PREFIX)/bin/plotraster $(SHARE)/man/man1/plotraster.1 $(SHARE)/bash-completion/completions/plotraster \
+    $(ZSH)/_plotraster $(SHARE)/fish/vendor_completions.d/plotraster.fish $(MIME)/packages/plotraster.xml \
+    $(SHARE)/thumbnailers/plotraster.thumbnailer
+CUPS = $(PREFIX)/lib/cups/filter/hpgltopdf $(SHARE)/cups/mime/plotraster.types $(SHARE)/cups/mime/plotraster.convs
+COPY = install -D -m 644
+# The folder of types knows a file that is new or gone, unless that is put elsewhere first.
+KNOW = @test -n "$(DESTDIR)" || ! test -d $(MIME) || ! command -v update-mime-database > /dev/null || update-mime-database $(MIME)
 SECONDS = 120
 FUZZ = tests/fuzz $(PROGRAM) --seconds $(SECONDS) --processes 4
 MUTILATED = 20000
@@ -27,7 +38,7 @@ CARD = --width 4000 --height 3000
 # Debian's Python, which has Debian's pytest.
 PYTEST = PYTHONDONTWRITEBYTECODE=1 /usr/bin/python3 -m pytest -q -p no:cacheprovider --no-skips
 # The tests that need no built command.
-SOURCE_TESTS = tests/test_style.py tests/test_quotations.py tests/test_reference_fitting.py tests/test_reference_options.py tests/test_reference_vectors.py $(wildcard tests/test_full_*.py)
+SOURCE_TESTS = tests/test_style.py tests/test_quotations.py tests/test_reference_fitting.py tests/test_reference_labels.py tests/test_reference_options.py tests/test_reference_vectors.py $(wildcard tests/test_full_*.py)
 
 build:
 	@test -x $(PROGRAM) || tools/prove plotraster_program
@@ -99,12 +110,23 @@ built:
 	@test -x $(PROGRAM) || { echo 'nothing is built yet: type make, which proves and builds the command' >&2; exit 1; }
 
 install: built
-	install -D -m 755 $(PROGRAM) $(BIN)/plotraster
-	install -D -m 644 man/plotraster.1 $(MAN)/plotraster.1
-	install -D -m 644 completions/plotraster.bash $(COMPLETIONS)/plotraster
+	install -D -m 755 $(PROGRAM) $(DESTDIR)$(PREFIX)/bin/plotraster
+	$(COPY) man/plotraster.1 $(DESTDIR)$(SHARE)/man/man1/plotraster.1
+	$(COPY) completions/plotraster.bash $(DESTDIR)$(SHARE)/bash-completion/completions/plotraster
+	$(COPY) completions/plotraster.zsh $(DESTDIR)$(ZSH)/_plotraster
+	$(COPY) completions/plotraster.fish $(DESTDIR)$(SHARE)/fish/vendor_completions.d/plotraster.fish
+	$(COPY) packaging/desktop/plotraster.xml $(DESTDIR)$(MIME)/packages/plotraster.xml
+	$(COPY) packaging/desktop/plotraster.thumbnailer $(DESTDIR)$(SHARE)/thumbnailers/plotraster.thumbnailer
+	$(KNOW)
+
+install-cups:
+	install -D -m 755 packaging/cups/hpgltopdf $(DESTDIR)$(PREFIX)/lib/cups/filter/hpgltopdf
+	$(COPY) packaging/cups/plotraster.types $(DESTDIR)$(SHARE)/cups/mime/plotraster.types
+	$(COPY) packaging/cups/plotraster.convs $(DESTDIR)$(SHARE)/cups/mime/plotraster.convs
 
 uninstall:
-	rm -f $(BIN)/plotraster $(MAN)/plotraster.1 $(COMPLETIONS)/plotraster
+	rm -f $(addprefix $(DESTDIR),$(INSTALLED) $(CUPS))
+	$(KNOW)
 
 dist: built
 	tools/dist $(PROGRAM) build
@@ -112,4 +134,4 @@ dist: built
 clean:
 	rm -rf build crates/*/out
 
-.PHONY: build first demo setup style mutants prove proofs refusals test check audit fuzz built install uninstall dist clean
+.PHONY: build first demo setup style mutants prove proofs refusals test check audit fuzz built install install-cups uninstall dist clean

@@ -130,11 +130,6 @@ def preview(made):
     yield from wrong_smoothed(made, "preview.png", "--dots", "35", "--smooth", "8")
 
 
-def coloured_png(made):
-    if made.pixmap("plan.png") != made.run("ppm", "--dots", "150", "plan.plt"):
-        yield "another picture"
-
-
 def black_png(made):
     if made.of_png("plan.png") != made.run("pbm", "--dots", "300", "plan.plt"):
         yield "another bitmap"
@@ -169,6 +164,26 @@ def drawn_pdf(made):
 def printed_pdf(made):
     yield from drawn_pdf(made)
     if made.printed != [("lp -o media=A4 -o fit-to-page plan.pdf", b"")]:
+        yield f"printed {made.printed}"
+
+
+def numbered(program, folder, _):
+    """Draws two plots, each with another number in its label."""
+    for name, number in (("bracket", "4711"), ("shaft", "4712")):
+        subprocess.run([program, "draw", "--quiet", "-o", f"{name}.pdf"], input=f"PU400,400;LBno. {number}\x03".encode(),
+                       cwd=folder, check=True, timeout=SECONDS)
+    return []
+
+
+def found(made):
+    """The drawing that has the number."""
+    if made.output != "bracket.pdf\n":
+        yield f"printed {made.output!r}"
+
+
+def printed_plot(made):
+    """The plot itself is given to CUPS; tests/test_cups.py calls the filter."""
+    if made.printed != [("lp plan.plt", b"")]:
         yield f"printed {made.printed}"
 
 
@@ -445,21 +460,21 @@ def causes(made):
 
 
 def units_of(size):
-    """The width and the height in plotter units of a size such as `297 mm by 210 mm`."""
-    sides = re.fullmatch(r"([0-9.]+) (mm|in) by ([0-9.]+) \2", size)
-    return [round(float(side) * {"mm": 40, "in": 1016}[sides[2]]) for side in (sides[1], sides[3])]
+    """The width and the height in plotter units of a size such as `297 by 210 mm`."""
+    sides = re.fullmatch(r"([0-9.]+) by ([0-9.]+) (mm|in)", size)
+    return [round(float(side) * {"mm": 40, "in": 1016}[sides[3]]) for side in (sides[1], sides[2])]
 
 
 def sizes(made):
     bitmap = read_bitmap(made.read("plan.pbm"))
     if (bitmap.columns, bitmap.rows) != (pixels(A0[1], 200), pixels(A0[0], 200)):
         yield f"{bitmap.columns} by {bitmap.rows} pixels"
-    rows = [row for row in made.section["rows"] if row[0] != "Paper"]
+    rows = [row for row in made.section["rows"] if row[0] != "`--page`"]
     if len(rows) != 17:
         yield f"{len(rows)} papers"
     for name, size in rows:
         width, height = units_of(size)
-        if made.run("report", *name.strip("`").split(), plot=b"") != f"page {width} {height} 0 0\nstrokes 0\n".encode():
+        if made.run("report", "--page", name.strip("`"), plot=b"") != f"page {width} {height} 0 0\nstrokes 0\n".encode():
             yield f"{name}: another page than {width} by {height}"
 
 
@@ -469,10 +484,11 @@ Check = collections.namedtuple("Check", "made needs plots prepare", defaults=(()
 PNG = ("pnmtopng", "pngtopam")
 CHECKS = {
     "docs/RECIPES.md": {
-        "PNG, in colour": [Check(drawn_png, PNG), Check(preview, PNG), Check(coloured_png, PNG)],
+        "PNG, in colour": [Check(drawn_png, PNG), Check(preview, PNG)],
         "PNG, black and white": [Check(black_png, PNG)],
-        "PDF and SVG": [Check(drawn_pdf), Check(pen_as_svg)],
+        "PDF and SVG": [Check(drawn_pdf), Check(found, ("pdfgrep",), {}, numbered), Check(pen_as_svg)],
         "A large plot on small paper": [Check(printed_pdf)],
+        "Plots by CUPS": [Check(printed_plot)],
         "TIFF, true to size": [Check(tiff, ("pamtotiff", "tifftopnm"))],
         "A PostScript printer, true to size": [Check(postscript, ("pnmtops",))],
         "A PCL printer": [Check(pcl, ("pamflip", "pbmtolj"))],

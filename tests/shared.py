@@ -11,9 +11,11 @@ HERE = os.path.dirname(os.path.abspath(__file__))
 TOP = os.path.dirname(HERE)
 EXAMPLES = os.path.join(TOP, "examples")
 DEBIAN = {
-    "cc": "gcc libc6-dev", "dpkg-deb": "dpkg", "gs": "ghostscript", "lintian": "lintian", "man": "man-db",
-    "mutool": "mupdf-tools", "parallel": "parallel", "pdfinfo": "poppler-utils", "pdftoppm": "poppler-utils",
-    "pngcheck": "pngcheck", "qpdf": "qpdf", "readelf": "binutils", "rsvg-convert": "librsvg2-bin", "xmllint": "libxml2-utils",
+    "cc": "gcc libc6-dev", "dpkg-deb": "dpkg", "fish": "fish", "gio": "libglib2.0-bin", "gs": "ghostscript", "lintian": "lintian",
+    "man": "man-db", "mutool": "mupdf-tools", "parallel": "parallel", "pdfgrep": "pdfgrep", "pdfinfo": "poppler-utils",
+    "pdftoppm": "poppler-utils", "pdftotext": "poppler-utils",
+    "pngcheck": "pngcheck", "qpdf": "qpdf", "readelf": "binutils", "rsvg-convert": "librsvg2-bin",
+    "update-mime-database": "shared-mime-info", "xmllint": "libxml2-utils", "zsh": "zsh",
 }
 
 # A line of a bitmap is a number: its bits are the pixels, the leftmost is the highest.

@@ -1,15 +1,13 @@
-"""Compares what the program, its manual page and its completion say of commands and options.
+"""Compares what the program and its manual page say of commands and options.
 
-The program says it by `--help`, the page man/plotraster.1 in its sections COMMANDS and OPTIONS, and
-completions/plotraster.bash by what it completes. Each must name the same commands and, for each
-command, the same options, in the same order. The page and the program must give an option the same
-name of its value, the same range and the same default, and the program must take the ends of each
-range and nothing beyond them.
+The program says it by `--help`, and the page man/plotraster.1 in its sections COMMANDS and OPTIONS. Each
+must name the same commands and, for each command, the same options, in the same order. They must give an
+option the same name of its value, the same range and the same default, and the program must take the ends
+of each range and nothing beyond them. tests/test_completions.py compares the completions with the help.
 """
 
 import os
 import re
-import subprocess
 
 from recipe_checks import units_of
 from reference.command_line import DOCUMENTS
@@ -17,7 +15,6 @@ from reference.outputs import FORMS
 from shared import TOP, assert_nothing, read, run
 
 PAGE = os.path.join(TOP, "man", "plotraster.1")
-COMPLETION = os.path.join(TOP, "completions", "plotraster.bash")
 SECONDS = 10
 # Options that take no value.
 FLAGS = ("--fit", "--verbose", "--progress", "--quiet")
@@ -197,18 +194,7 @@ def options_in_page(command, commands):
     return found
 
 
-# ---- what the completion says
-
-
-def completed(*words, folder=None):
-    """What the completion offers for the last of these words."""
-    script = 'source "$0"; COMP_WORDS=("$@"); COMP_CWORD=$(($# - 1)); _plotraster; printf "%s\\n" "${COMPREPLY[@]}"'
-    done = subprocess.run(
-        ["bash", "-c", script, COMPLETION, "plotraster", *words],
-        stdin=subprocess.DEVNULL, capture_output=True, text=True, timeout=SECONDS, cwd=folder,
-    )
-    assert (done.returncode, done.stderr) == (0, ""), COMPLETION
-    return done.stdout.split()
+# ---- the tests
 
 
 def differ(what, one, one_says, other, other_says):
@@ -221,7 +207,6 @@ def wrong_commands(program, commands):
     yield from differ("commands", "the program", commands, "the page", commands_in_page())
     for choice in commands_in_synopsis():
         yield from differ("commands", "the program", commands, "the synopsis", choice)
-    yield from differ("commands", "the program", [*commands, HELP, VERSION], "the completion", completed(""))
 
 
 def wrong_options(command, options, commands):
@@ -230,25 +215,6 @@ def wrong_options(command, options, commands):
     yield from differ(command, "the program", list(options), "the page", list(page))
     for name in options.keys() & page.keys():
         yield from differ(f"{command} {name}", "the program", options[name], "the page", page[name])
-    offered = completed(command, "-")
-    yield from differ(command, "the program", [*options, HELP], "the completion", offered)
-
-
-def allowed(values, offered):
-    """Those of the offered words that a description of values allows."""
-    numbers = [int(it) for it in re.findall(r"\d+", values)]
-    if " to " in values:
-        return [it for it in offered if it.isdigit() and numbers[0] <= int(it) <= numbers[1]]
-    return [str(it) for it in numbers]
-
-
-def wrong_values(command, options, words):
-    """The options of a command whose values the completion gets wrong. It may offer no number, and files only for --output."""
-    for name, (_, values, _) in options.items():
-        offered = [] if name in (OUTPUT, *FLAGS) else completed(command, name, "")
-        if offered or name in words:
-            wanted = words[name] if name in words else allowed(values, offered)
-            yield from differ(f"{command} {name}", "the program", wanted, "the completion", offered)
 
 
 def test_commands(program):
@@ -264,9 +230,6 @@ def test_options(program):
         assert len(options) >= 4
         assert_nothing(wrong_ranges(program, command, options))
         assert_nothing(wrong_options(command, options, commands))
-        words = {**words_in_help(program, command), PAPER: [*papers_in_help(program, command), PLOT]}
-        words[CHARACTERS] = characters_in_help(program, command)
-        assert_nothing(wrong_values(command, options, words))
 
 
 def sentences_of_help(program, commands):
@@ -307,7 +270,7 @@ def test_quoted_values_of_help(program):
 
 def papers_in_recipes():
     """The width and the height of each paper in docs/RECIPES.md, by its name."""
-    rows = re.findall(r"^\| `--page (\S+)` \| (.+) \|$", read("docs", "RECIPES.md"), re.M)
+    rows = re.findall(r"^\| `(\S+)` \| (\S+ by \S+ \w+) \|$", read("docs", "RECIPES.md"), re.M)
     landscape = {name: tuple(units_of(size)) for name, size in rows}
     return {**landscape, **{f"{name}{PORTRAIT}": (height, width) for name, (width, height) in landscape.items()}}
 
@@ -338,22 +301,3 @@ def test_characters(program):
             assert done.returncode == 0, f"{command} {CHARACTERS} {name}"
         done = run(program, [command, "--profile=full", f"{CHARACTERS}=none"], SECONDS, text=True)
         assert done.stderr == f"plotraster: bad characters: use {', '.join(names[:-1])} or {names[-1]}\n"
-
-
-def test_completion_is_registered():
-    """Once bash has read the file, it completes the words of `plotraster`, and file names too."""
-    words = ["bash", "-c", 'source "$0" && complete -p plotraster', COMPLETION]
-    done = subprocess.run(words, capture_output=True, text=True, timeout=SECONDS)
-    assert done.stdout.startswith("complete "), done.stderr
-    assert "-F _plotraster plotraster" in done.stdout
-    assert "-o filenames" in done.stdout or "-o default" in done.stdout
-
-
-def test_completion_offers_files(tmp_path):
-    (tmp_path / "example.plt").touch()
-    (tmp_path / "other.plt").touch()
-    for command in ("pbm", "report"):
-        assert completed(command, "ex", folder=tmp_path) == ["example.plt"]
-        assert sorted(completed(command, "--left", "5", "", folder=tmp_path)) == ["example.plt", "other.plt"]
-        for option in ("-o", OUTPUT):
-            assert completed(command, option, "o", folder=tmp_path) == ["other.plt"]

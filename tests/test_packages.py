@@ -3,8 +3,8 @@
 `tools/dist` makes them twice, and the bytes must be the same. Each package is unpacked into an empty folder,
 where the command, without its symbols, the manual page and the documents must be those of the repository, with all
 that `make install` copies; the command draws there what the program under test draws, `man` shows the page, and bash
-completes words.
-dpkg installs the package for Debian below a folder, and removes all of it. Copies of the repository with another
+completes words. The package of the filter for CUPS has what `make install-cups` copies.
+dpkg installs the packages for Debian below a folder, and removes all of them. Copies of the repository with another
 version, without a file, or with a field that lintian refuses, and a command that needs more than the C library,
 must be refused.
 """
@@ -27,9 +27,25 @@ SECONDS = 60
 MOMENT = 1700000000
 DOCUMENTS = ("CHANGELOG.md", "LICENSE-APACHE", "LICENSE-MIT", "README.md", "docs/FORMATS.md", "docs/INSTRUCTIONS.md",
              "docs/RECIPES.md")
+# What `make install` and `make install-cups` copy, below the prefix, beside the command.
+INSTALLED = {
+    "share/man/man1/plotraster.1": "man/plotraster.1",
+    "share/bash-completion/completions/plotraster": "completions/plotraster.bash",
+    "share/zsh/site-functions/_plotraster": "completions/plotraster.zsh",
+    "share/fish/vendor_completions.d/plotraster.fish": "completions/plotraster.fish",
+    "share/mime/packages/plotraster.xml": "packaging/desktop/plotraster.xml",
+    "share/thumbnailers/plotraster.thumbnailer": "packaging/desktop/plotraster.thumbnailer",
+}
+CUPS = {
+    "lib/cups/filter/hpgltopdf": "packaging/cups/hpgltopdf",
+    "share/cups/mime/plotraster.types": "packaging/cups/plotraster.types",
+    "share/cups/mime/plotraster.convs": "packaging/cups/plotraster.convs",
+}
+SCRIPT = "packaging/cups/restart"
+EXECUTABLE = ("bin/plotraster", "filter/hpgltopdf")
 # What `make dist` reads. Each of these must be there.
-SOURCES = ("Makefile", "man/plotraster.1", "completions/plotraster.bash", "packaging/control", "packaging/copyright",
-           "tools/dist", *DOCUMENTS)
+SOURCES = ("Makefile", "packaging/control", "packaging/copyright", "packaging/cups/control", SCRIPT, "tools/dist",
+           *INSTALLED.values(), *CUPS.values(), *DOCUMENTS)
 FIRST = "marks --width 64 --height 64 --dots 127 line.plt"
 ROSE = "ppm --dots 150 rose.plt"
 FIRST_MARKS = "".join(f"4 {column} 1 000000\n" for column in range(8))
@@ -69,7 +85,7 @@ def wrong_files(root, wanted):
         path = os.path.join(root, name)
         if source and read(path) != read(TOP, source):
             yield f"{name} is not {source}"
-        mode = 0o755 if name.endswith("bin/plotraster") else 0o644
+        mode = 0o755 if name.endswith(EXECUTABLE) else 0o644
         if os.stat(path).st_mode & 0o777 != mode:
             yield f"{name} has the mode {os.stat(path).st_mode & 0o777:o}"
 
@@ -78,7 +94,7 @@ def wrong_entries(entries):
     """All entries belong to root, and have the same time and the usual modes."""
     for entry in entries:
         owner = f"{entry.uid}:{entry.gid} {entry.uname}:{entry.gname}"
-        mode = 0o755 if entry.isdir() or entry.name.endswith("/bin/plotraster") else 0o644
+        mode = 0o755 if entry.isdir() or entry.name.endswith(EXECUTABLE) else 0o644
         if (owner, entry.mtime, entry.mode) != ("0:0 root:root", MOMENT, mode):
             yield f"{entry.name}: owner {owner}, time {entry.mtime}, mode {entry.mode:o}"
 
@@ -86,10 +102,12 @@ def wrong_entries(entries):
 def missing_of_install(stripped, root, folder):
     """What `make install` copies, and what an unpacked package has otherwise. It may compress a file."""
     done = run(["make", "--silent", "install", f"PROGRAM={stripped}", f"DESTDIR={folder}", "PREFIX="], TOP)
-    if done.returncode or len(listed(folder)) < 3:
+    if done.returncode or listed(folder) != {"bin/plotraster", *INSTALLED}:
         yield f"make install: {done.stderr}"
     for name in listed(folder):
-        copies = [each for each in (name, f"{name}.gz") if os.path.exists(os.path.join(root, each))]
+        # Debian's zsh reads another folder.
+        names = {name, f"{name}.gz", name.replace("site-functions", "vendor-completions")}
+        copies = [each for each in names if os.path.exists(os.path.join(root, each))]
         if len(copies) != 1 or read(root, copies[0]) != read(folder, name):
             yield f"{name} of make install is not in the package, or is another file"
 
@@ -137,8 +155,7 @@ def wrong_archive(program, stripped, made, number, folder):
     ran = run(["tar", "xzf", os.path.join(made, said[1]), *said[2].split(), "-C", root], folder)
     if ran.returncode or f"apt install ./build/plotraster_{number}_amd64.deb " not in readme:
         yield f"not as in the README: {ran.stderr}"
-    wanted = {"bin/plotraster": stripped, "share/man/man1/plotraster.1": "man/plotraster.1",
-              "share/bash-completion/completions/plotraster": "completions/plotraster.bash"}
+    wanted = {"bin/plotraster": stripped, **INSTALLED}
     wanted.update({f"share/doc/plotraster/{name}": name for name in DOCUMENTS})
     yield from wrong_files(root, wanted)
     yield from wrong_use(program, stripped, root, "plotraster.1", os.path.join(folder, "use"))
@@ -149,15 +166,14 @@ def versions(text, heading):
     return {number: re.findall(r"[^\s*\[\]#-]\S*", said) for number, said in re.findall(heading, text, re.M | re.S)}
 
 
-def wrong_control(control, root, number, files):
+def wrong_control(control, root, named, depends, files):
     """The sums and the fields of a package for Debian."""
     sums = run(["md5sum", "--check", "--quiet", "--strict", f"{control}/md5sums"], root)
     if sums.returncode or len(read(control, "md5sums").splitlines()) != files:
         yield f"md5sums: {sums.stdout}{sums.stderr}"
     text = read(control, "control").decode()
     fields = dict(re.findall(r"^([\w-]+): (.+)$", text, re.M))
-    named = {"Package": "plotraster", "Version": number, "Architecture": "amd64"}
-    if not named.items() <= fields.items() or not re.fullmatch(r"libc6 \(>= 2\.\d+\)", fields["Depends"]):
+    if not named.items() <= fields.items() or not re.fullmatch(depends, fields["Depends"]):
         yield f"control: {fields}"
     if re.search("@[A-Z]+@", text):
         yield f"control has a mark that is not replaced: {text}"
@@ -166,35 +182,69 @@ def wrong_control(control, root, number, files):
         yield f"Installed-Size is {fields['Installed-Size']}, the files have {size:.0f} KiB"
 
 
-def wrong_package(program, stripped, made, number, folder):
-    path, root, control = os.path.join(made, f"plotraster_{number}_amd64.deb"), f"{folder}/package", f"{folder}/control"
+def unpacked(path, folder):
+    """Unpacks a package for Debian: gives the folders of its files and of what dpkg wants to know, and what is wrong."""
+    root, control = f"{folder}/package", f"{folder}/control"
     with open(f"{folder}/data.tar", "wb") as data:
         subprocess.run(["dpkg-deb", "--fsys-tarfile", path], stdout=data, check=True, timeout=SECONDS)
     with tarfile.open(f"{folder}/data.tar") as data:
-        yield from wrong_entries(data)
+        wrong = list(wrong_entries(data))
     for words in (["--extract", path, root], ["--control", path, control]):
         subprocess.run(["dpkg-deb", *words], check=True, timeout=SECONDS)
-    changes = "usr/share/doc/plotraster/changelog.gz"
-    wanted = {"usr/bin/plotraster": stripped, "usr/share/man/man1/plotraster.1.gz": "man/plotraster.1",
-              "usr/share/bash-completion/completions/plotraster": "completions/plotraster.bash",
-              changes: None, "usr/share/doc/plotraster/copyright": "packaging/copyright"}
-    wanted.update({f"usr/share/doc/plotraster/{name}": name for name in DOCUMENTS if name != "CHANGELOG.md"})
-    yield from wrong_files(root, wanted)
-    said = versions(read(root, changes).decode(), r"^plotraster \((\S+)\) unstable; urgency=medium$(.*?)^ -- ")
+    return root, control, wrong
+
+
+def wrong_documents(root, package):
+    """The changelog of a package for Debian."""
+    changes = f"usr/share/doc/{package}/changelog.gz"
+    said = versions(read(root, changes).decode(), rf"^{package} \((\S+)\) unstable; urgency=medium$(.*?)^ -- ")
     if said != versions(read(TOP, "CHANGELOG.md").decode(), r"^## (\S+) \([\d-]+\)$(.*?)(?=^## |\Z)"):
         yield f"{changes} has other words than CHANGELOG.md: {said}"
-    yield from wrong_control(control, root, number, len(wanted))
+
+
+def wrong_package(program, stripped, made, number, folder):
+    root, control, wrong = unpacked(os.path.join(made, f"plotraster_{number}_amd64.deb"), folder)
+    yield from wrong
+    wanted = {"usr/bin/plotraster": stripped, "usr/share/doc/plotraster/changelog.gz": None,
+              "usr/share/doc/plotraster/copyright": "packaging/copyright"}
+    wanted.update({f"usr/{name}".replace("site-functions", "vendor-completions"): of for name, of in INSTALLED.items()})
+    wanted["usr/share/man/man1/plotraster.1.gz"] = wanted.pop("usr/share/man/man1/plotraster.1")
+    wanted.update({f"usr/share/doc/plotraster/{name}": name for name in DOCUMENTS if name != "CHANGELOG.md"})
+    yield from wrong_files(root, wanted)
+    yield from wrong_documents(root, "plotraster")
+    named = {"Package": "plotraster", "Version": number, "Architecture": "amd64"}
+    yield from wrong_control(control, root, named, r"libc6 \(>= 2\.\d+\)", len(wanted))
     yield from wrong_use(program, stripped, f"{root}/usr", "plotraster.1.gz", f"{folder}/use")
 
 
-def wrong_installation(package, folder):
-    """dpkg installs a package below a folder, finds its files as their sums say, and removes all of them."""
-    dpkg = ["dpkg", f"--root={folder}", "--log=/dev/null", "--force-depends,not-root,bad-path"]
-    ran = [run([*dpkg, *words], folder) for words in (["--install", package], ["--verify", "plotraster"])]
+def wrong_package_for_cups(_program, _stripped, made, number, folder):
+    root, control, wrong = unpacked(os.path.join(made, f"plotraster-cups_{number}_all.deb"), folder)
+    yield from wrong
+    documents = "usr/share/doc/plotraster-cups"
+    wanted = {**{f"usr/{name}": of for name, of in CUPS.items()}, f"{documents}/changelog.gz": None,
+              f"{documents}/copyright": "packaging/copyright"}
+    yield from wrong_files(root, wanted)
+    yield from wrong_documents(root, "plotraster-cups")
+    named = {"Package": "plotraster-cups", "Version": number, "Architecture": "all"}
+    yield from wrong_control(control, root, named, rf"cups-filters, plotraster \(>= {re.escape(number)}\)", len(wanted))
+    scripts = listed(control) - {"control", "md5sums"}
+    if scripts != {"postinst", "postrm"} or any(read(control, name) != read(TOP, SCRIPT) for name in scripts):
+        yield f"the scripts are {scripts}"
+
+
+def wrong_installation(packages, folder):
+    """dpkg installs packages below a folder, finds their files as their sums say, and removes all of them."""
+    # The scripts run as in a system that is put together, where they do nothing.
+    dpkg = ["dpkg", f"--root={folder}", "--log=/dev/null", "--force-depends,not-root,bad-path,script-chrootless"]
+    names = [os.path.basename(path).split("_")[0] for path in packages]
+    ran = [run([*dpkg, *words], folder) for words in (["--install", *packages], ["--verify", *names])]
     shown = run([f"{folder}/usr/bin/plotraster", "--version"], folder)
-    ran.append(run([*dpkg, "--purge", "plotraster"], folder))
+    installed = listed(folder)
+    ran.append(run([*dpkg, "--purge", *names], folder))
     if any(each.returncode for each in ran) or ran[1].stdout or not shown.stdout.startswith("plotraster "):
         yield f"dpkg: {[(each.returncode, each.stdout, each.stderr) for each in (*ran, shown)]}"
+    if not {f"usr/{name}" for name in CUPS} <= installed:
+        yield f"dpkg installs {installed}"
     left = [name for name in listed(folder) if not name.startswith("var/lib/dpkg/")]
     if left:
         yield f"dpkg --purge leaves {left}"
@@ -220,7 +270,7 @@ def change(path, pattern, text):
 def wrong_versions(program, number, folder):
     """Another version in one place after another, and in the last copy in all places but the command."""
     places = (("CHANGELOG.md", "## "), ("man/plotraster.1", "plotraster "), ("README.md", "version "),
-              ("README.md", "plotraster_"), ("README.md", "plotraster-"))
+              ("README.md", "plotraster_"), ("README.md", "plotraster-cups_"), ("README.md", "plotraster-"))
     for at, changed in enumerate([*([place] for place in places), places]):
         top = copy_of_sources(f"{folder}/version/{at}")
         for name, before in changed:
@@ -258,7 +308,7 @@ def made(program, pytestconfig, tmp_path_factory):
     need(pytestconfig, "readelf", "dpkg-deb", "man")
     folder = str(tmp_path_factory.mktemp("packages") / "first")
     status, said = make(program, TOP, folder, "--unchecked")
-    assert status == 0 and len(os.listdir(folder)) == 2, said
+    assert status == 0 and len(os.listdir(folder)) == 3, said
     return folder
 
 
@@ -282,7 +332,7 @@ def test_what_lintian_refuses(program, pytestconfig, tmp_path):
     assert os.listdir(tmp_path / "made") == []
 
 
-@pytest.mark.parametrize("wrong", [wrong_archive, wrong_package])
+@pytest.mark.parametrize("wrong", [wrong_archive, wrong_package, wrong_package_for_cups])
 def test_package(wrong, program, made, number, tmp_path):
     stripped = str(tmp_path / "stripped")
     subprocess.run(["strip", "--remove-section=.comment", "-o", stripped, program], check=True, timeout=SECONDS)
@@ -290,7 +340,8 @@ def test_package(wrong, program, made, number, tmp_path):
 
 
 def test_installation_by_dpkg(made, number, tmp_path):
-    assert_nothing(wrong_installation(os.path.join(made, f"plotraster_{number}_amd64.deb"), str(tmp_path)))
+    packages = [os.path.join(made, f"plotraster{name}.deb") for name in (f"_{number}_amd64", f"-cups_{number}_all")]
+    assert_nothing(wrong_installation(packages, str(tmp_path)))
 
 
 def test_times_are_those_of_the_commit(program, made, tmp_path):
@@ -307,12 +358,13 @@ def test_times_are_those_of_the_commit(program, made, tmp_path):
 
 
 def test_install_and_uninstall(program, tmp_path):
-    """What `make install` copies is there, and `make uninstall` removes all of it."""
+    """What `make install` and `make install-cups` copy is there, and `make uninstall` removes all of it."""
     place = [f"PROGRAM={program}", f"DESTDIR={tmp_path}", "PREFIX=/usr"]
-    for target, wanted in (("install", 3), ("uninstall", 0)):
+    wanted = {f"usr/{name}" for name in ("bin/plotraster", *INSTALLED)}
+    for target, files in (("install", wanted), ("install-cups", wanted | {f"usr/{name}" for name in CUPS}), ("uninstall", set())):
         done = run(["make", "--silent", target, *place], TOP)
         assert done.returncode == 0, done.stderr
-        assert len(listed(tmp_path)) == wanted, target
+        assert listed(tmp_path) == files, target
 
 
 def test_install_says_what_to_run_first(tmp_path):
