@@ -1,6 +1,7 @@
 """Calls the filter for CUPS as CUPS does: with a job's number, user, title, copies and options, and a file or standard input."""
 
 import os
+import pathlib
 import re
 import signal
 import subprocess
@@ -100,21 +101,30 @@ def test_failed_writes(queue):
     assert (job.returncode, output) == (1, b"") and said.endswith(b"ERROR: there is no place for messages\n")
 
 
+def children(job):
+    """The commands that a job runs: the name of each, and its number."""
+    for child in pathlib.Path(f"/proc/{job.pid}/task/{job.pid}/children").read_text().split():
+        try:
+            yield pathlib.Path(f"/proc/{child}/comm").read_text().strip(), child
+        except OSError:
+            pass
+
+
 def test_cancelled(queue):
     """A job that is cancelled while its plot arrives ends at once, with the command that it has started."""
     reading, writing = os.pipe()
     job = queue.start("1", "user", "title", "1", "", stdin=reading)
     os.close(reading)
-    children = f"/proc/{job.pid}/task/{job.pid}/children"
     end = time.monotonic() + SECONDS
-    while time.monotonic() < end and not (os.listdir(queue.temporary) and open(children).read().split()):
+    while "plotraster" not in dict(children(job)) and time.monotonic() < end:
         time.sleep(0.01)
-    child, = open(children).read().split()
+    child = pathlib.Path("/proc", dict(children(job))["plotraster"], "stat")
     job.send_signal(signal.SIGTERM)
     output, _ = job.communicate(timeout=SECONDS)
+    while child.exists() and ") Z " not in child.read_text() and time.monotonic() < end:
+        time.sleep(0.01)
     os.close(writing)
-    assert (job.returncode, output, os.listdir(queue.temporary)) == (1, b"", [])
-    assert not os.path.exists(f"/proc/{child}") or " (zombie)" in open(f"/proc/{child}/status").read()
+    assert (job.returncode, output, os.listdir(queue.temporary)) == (1, b"", []) and time.monotonic() < end
 
 
 def test_conversion():
