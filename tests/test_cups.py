@@ -1,8 +1,8 @@
 """Calls the filter for CUPS as CUPS does: with a job's number, user, title, copies and options, and a file or standard input."""
 
 import os
-import pathlib
 import re
+import shutil
 import signal
 import subprocess
 import time
@@ -19,14 +19,13 @@ BAD = b"IN;PU0,0;PD70000,0;"
 
 
 class Queue:
-    """Where CUPS calls the filter: the command is on the path, and TMPDIR is a folder for the job."""
+    """Where CUPS calls the filter: the command is on the path."""
 
     def __init__(self, program, folder):
-        self.folder, self.temporary = folder, folder / "temporary"
-        os.makedirs(self.temporary)
+        self.folder = folder
         os.makedirs(folder / "bin")
         os.symlink(program, folder / "bin" / "plotraster")
-        self.surroundings = {**os.environ, "PATH": f"{folder}/bin:/usr/bin:/bin", "TMPDIR": str(self.temporary)}
+        self.surroundings = {**os.environ, "PATH": f"{folder}/bin:/usr/bin:/bin"}
 
     def start(self, *words, **how):
         how = {"stdin": subprocess.DEVNULL, "stdout": subprocess.PIPE, **how}
@@ -38,10 +37,9 @@ class Queue:
             how["stdin"] = subprocess.PIPE
         with self.start(*words, **how) as job:
             output, said = job.communicate(plot, timeout=SECONDS)
-        lines = [re.fullmatch(r"(DEBUG|WARNING|ERROR): (.+)", line) for line in said.decode().splitlines()]
+        lines = [re.fullmatch(r"(WARNING|ERROR): (.+)", line) for line in said.decode().splitlines()]
         assert None not in lines, said
-        assert os.listdir(self.temporary) == []
-        return job.returncode, output, [line.groups() for line in lines if line[1] != "DEBUG"]
+        return job.returncode, output, [line.groups() for line in lines]
 
 
 @pytest.fixture
@@ -72,7 +70,7 @@ def test_words_of_a_job(queue):
 
 
 def test_errors(queue):
-    """A message that CUPS shows, status 1, and nothing printed."""
+    """A message that CUPS shows, another status than 0, and nothing printed."""
     job = ("1", "user", "title", "1", "")
     assert queue.send(BAD, *job) == (1, b"", [("ERROR", "plotraster: place off range at byte 9")])
     assert queue.send(None, *job, "none.plt") == (1, b"", [("ERROR", "the plot cannot be read")])
@@ -82,49 +80,41 @@ def test_errors(queue):
         assert (status, output) == (1, b"") and said[0][1].startswith("usage: "), words
 
 
-def test_a_plot_that_draws_nothing(queue):
-    """It is printed, as an empty page, with a message."""
-    status, output, said = queue.send(b"IN;PU;", "1", "user", "title", "1", "")
-    assert (status, output[:5], said) == (0, b"%PDF-", [("WARNING", "plotraster: nothing is drawn on the page")])
+def test_warnings(queue):
+    """A plot that draws nothing is printed as an empty page, and one that is larger than a page is cut off, with a message."""
+    large = b"SP1;PU-32000,-32000;PD-32000,32767,32767,32767;PU65000,65000;PD0,0;"
+    for plot, message in ((b"IN;PU;", "nothing is drawn on the page"),
+                          (large, "the page is not fitted: the drawing is larger than a page can be")):
+        status, output, said = queue.send(plot, "1", "user", "title", "1", "")
+        assert (status, output[:5], said) == (0, b"%PDF-", [("WARNING", f"plotraster: {message}")])
 
 
-def test_failed_writes(queue):
-    """The next filter has ended, and there is no place for messages."""
+def test_failures(queue):
+    """The next filter has ended, and there is no command."""
     reading, writing = os.pipe()
     os.close(reading)
     status, _, said = queue.send(PLOT, "1", "user", "title", "1", "", stdout=writing)
     os.close(writing)
-    assert (status, said) == (1, [("ERROR", "plotraster: write failed")])
-    queue.surroundings["TMPDIR"] = str(queue.folder / "none")
-    with queue.start("1", "user", "title", "1", "") as job:
-        output, said = job.communicate(timeout=SECONDS)
-    assert (job.returncode, output) == (1, b"") and said.endswith(b"ERROR: there is no place for messages\n")
-
-
-def children(job):
-    """The commands that a job runs: the name of each, and its number."""
-    for child in pathlib.Path(f"/proc/{job.pid}/task/{job.pid}/children").read_text().split():
-        try:
-            yield pathlib.Path(f"/proc/{child}/comm").read_text().strip(), child
-        except OSError:
-            pass
+    assert (status, said) == (3, [("ERROR", "plotraster: write failed")])
+    os.remove(queue.folder / "bin" / "plotraster")
+    queue.surroundings["PATH"] = f"{queue.folder}/bin:{os.path.dirname(shutil.which('sed'))}"
+    if not shutil.which("plotraster", path=queue.surroundings["PATH"]):
+        status, output, said = queue.send(b"", "1", "user", "title", "1", "")
+        assert (status, output) == (127, b"") and said[0][1].endswith("plotraster: not found")
 
 
 def test_cancelled(queue):
-    """A job that is cancelled while its plot arrives ends at once, with the command that it has started."""
-    reading, writing = os.pipe()
-    job = queue.start("1", "user", "title", "1", "", stdin=reading)
-    os.close(reading)
-    end = time.monotonic() + SECONDS
-    while "plotraster" not in dict(children(job)) and time.monotonic() < end:
-        time.sleep(0.01)
-    child = pathlib.Path("/proc", dict(children(job))["plotraster"], "stat")
-    job.send_signal(signal.SIGTERM)
-    output, _ = job.communicate(timeout=SECONDS)
-    while child.exists() and ") Z " not in child.read_text() and time.monotonic() < end:
-        time.sleep(0.01)
-    os.close(writing)
-    assert (job.returncode, output, os.listdir(queue.temporary)) == (1, b"", []) and time.monotonic() < end
+    """A job that is cancelled at any time, while its plot arrives, ends at once, and so does all that it has started."""
+    for wait in range(30):
+        reading, writing = os.pipe()
+        job = queue.start("1", "user", "title", "1", "", stdin=reading)
+        os.close(reading)
+        time.sleep(wait / 1000)
+        job.send_signal(signal.SIGTERM)
+        # The end of its messages is that of the last command that writes them.
+        output, _ = job.communicate(timeout=SECONDS)
+        os.close(writing)
+        assert (job.returncode, output) == (-signal.SIGTERM, b"")
 
 
 def test_conversion():
