@@ -202,11 +202,15 @@ SAID = [
     (b"SP1;PU-900,-900;PD-500,-500;", [], "nothing is drawn: 1 line, 1 off the page; 0 notes"),
     (b"SP1;PU20000,0;PD20000,500;PU0,9000;PD500,9000;", [], "nothing is drawn: 2 lines, 2 off the page; 0 notes"),
     (b"SP1;PU20000,0;PD20000,500;", ["--page=a0"], "1 line, 0 off the page; 0 notes"),
+    (b"SP1;PD20000,0;", [], "1 line, 0 off the page, 1 cut at its edge; 0 notes"),
+    (b"SP1;PD20000,0,20000,900,0,900;", [], "3 lines, 1 off the page, 2 cut at its edge; 0 notes"),
+    (b"SP1;IW0,0,90,90;PD20000,0;", [], "1 line, 0 off the page; 0 notes"),
+    (b"SP1;PD20000,0;", ["--fit"], "1 line, 0 off the page; 0 notes"),
     (b"SP2;PD100,100;", ["--pens=1"], "nothing is drawn: 0 lines, 0 off the page; 0 notes"),
     (b"", [], "nothing is drawn: 0 lines, 0 off the page; 0 notes"),
     (b"UC1,1;", ["--profile=full"], "nothing is drawn: 0 lines, 0 off the page; 1 note"),
     # A line of 0.35 mm is 14 units wide: it reaches the page from 7 units beside it, and not from 8.
-    (b"SP1;PU-7,0;PD-7,100;", [], "1 line, 0 off the page; 0 notes"),
+    (b"SP1;PU-7,0;PD-7,100;", [], "1 line, 0 off the page, 1 cut at its edge; 0 notes"),
     (b"SP1;PU-8,0;PD-8,100;", [], "nothing is drawn: 1 line, 1 off the page; 0 notes"),
 ]
 

@@ -1,28 +1,32 @@
-//! How many strokes are drawn, and how many of them lie off the page.
+//! How many strokes are drawn, how many of them lie off the page, and how many reach over its edge.
 ghost use Rattle.std.specs.Prelude.{◌≡◌, ℕ, ℤ, ◌+◌, ◌-◌, ◌*◌, ◌^◌, ◌<◌, ◌≤◌, ◌||◌, int_lt, pos, ◌+ℤ◌, ◌-ℤ◌, false, IsTrue};
 ghost use Rattle.std.specs.Int.{int_max, int_min};
-ghost use Rattle.page_fit.specs.Census.{census_of, counted, is_beside};
+ghost use Rattle.page_fit.specs.Census.{census_of, counted, is_beside, is_on, is_within, lies_on};
 ghost use Rattle.page_fit.specs.Extents.{IsNear, reach};
 
-use crate::extent::Extent;
+use crate::extent::{Extent, holds_page};
 use plot_page::{Page, PenSet, Stroke};
 
-/// How many strokes the selected pens draw, and how many of these lie off the page.
+/// How many strokes the selected pens draw, how many of these lie off the page, and how many reach over its edge.
 #[derive(Clone, Copy, Debug, PartialEq, Eq)]
 pub struct Census {
     /// How many strokes the selected pens draw.
     pub strokes: usize,
     /// How many of them lie off the page with all of their width.
     pub off_page: usize,
+    /// How many others, which no window cuts, have an end off the page.
+    pub cut: usize,
 }
 
-/// Counts the strokes that the selected pens draw, and those of them that lie off the page. No window cuts them.
+/// Counts the strokes that the selected pens draw, those of them that lie off the page whatever window hides them, and those
+/// others that reach over its edge and that no window cuts.
 pub fn census_of(strokes: &[Stroke], pens: PenSet, page: &Page) -> Census
     ensures { result ≡ census_of pens page.now strokes.now }
 {
     let mut census = Census {
         strokes: 0,
         off_page: 0,
+        cut: 0,
     };
     for stroke in strokes {
         census = census.with(stroke, &pens, page);
@@ -36,33 +40,57 @@ impl Census {
     fn with(self, stroke: &Stroke, pens: &PenSet, page: &Page) -> Census
         requires strokes { self.strokes < 2 ^ 64 - 1 }
         requires off_page { self.off_page < 2 ^ 64 - 1 }
+        requires cut { self.cut < 2 ^ 64 - 1 }
         ensures value { result ≡ counted pens.now page.now self stroke.now }
         ensures strokes { result.strokes ≤ self.strokes + 1 }
         ensures off_page { result.off_page ≤ self.off_page + 1 }
+        ensures cut { result.cut ≤ self.cut + 1 }
     {
         if !pens.has(stroke.pen) {
             return self;
         }
-        let lies_beside = !begins_on(page, stroke) && is_beside(page, Extent::of(stroke));
+        let lies_on = lies_on(page, stroke);
+        let lies_beside = !lies_on && is_beside(page, Extent::of(stroke));
+        let is_cut = !lies_on && !lies_beside && holds_page(page, stroke.window);
         Census {
             strokes: self.strokes + 1,
             off_page: self.off_page + usize::from(lies_beside),
+            cut: self.cut + usize::from(is_cut),
         }
     }
 }
 
-// Whether a stroke's first end lies on the page, as most do. Then the stroke does not lie beside it.
+// Whether both ends of a stroke lie on the page, as most do. Then the stroke does not lie beside it.
+#[inline]
+fn lies_on(page: &Page, stroke: &Stroke) -> bool
+    ensures value { result ≡ lies_on page.now stroke.now }
+    ensures not_beside { IsTrue result → is_beside page.now (reach stroke.now) ≡ false }
+{
+    begins_on(page, stroke) && is_on(page, stroke.bx, stroke.by)
+}
+
+// Whether a stroke's first end lies on the page. Then the stroke does not lie beside it.
 #[inline]
 fn begins_on(page: &Page, stroke: &Stroke) -> bool
-    ensures { IsTrue result → is_beside page.now (reach stroke.now) ≡ false }
+    ensures value { result ≡ is_on page.now stroke.now.ax stroke.now.ay }
+    ensures not_beside { IsTrue result → is_beside page.now (reach stroke.now) ≡ false }
 {
     is_within(page.width, stroke.ax) && is_within(page.height, stroke.ay)
+}
+
+// Whether a place lies on the page.
+#[inline]
+fn is_on(page: &Page, x: i32, y: i32) -> bool
+    ensures { result ≡ is_on page.now x y }
+{
+    is_within(page.width, x) && is_within(page.height, y)
 }
 
 // Whether a place lies within a side of the page. Then nothing that reaches it lies beside that side.
 #[inline]
 fn is_within(side: u32, place: i32) -> bool
-    ensures { IsTrue result → (other : ℤ) (around : ℕ) → (int_lt (int_max place other +ℤ pos around) (pos 0)
+    ensures value { result ≡ is_within side place }
+    ensures not_beside { IsTrue result → (other : ℤ) (around : ℕ) → (int_lt (int_max place other +ℤ pos around) (pos 0)
         || int_lt (pos (16 * side)) (int_min place other -ℤ pos around)) ≡ false }
 {
     0 <= place && i64::from(place) <= 16 * i64::from(side)

@@ -162,7 +162,8 @@ fn reason_of(placement: Placement) -> Option<&'static str> {
     }
 }
 
-// Says how many lines the selected pens drew, how many of them lie off the page, and how many notes there are.
+// Says how many lines the selected pens drew, how many of them lie off the page, how many others are cut at its edge if any are,
+// and how many notes there are.
 fn tell_drawn(rt: &HostRuntime, about: About<'_>, outcome: &Outcome) {
     let lines = outcome.census.strokes;
     let off_page = outcome.census.off_page;
@@ -172,9 +173,22 @@ fn tell_drawn(rt: &HostRuntime, about: About<'_>, outcome: &Outcome) {
     } else {
         ""
     };
+    let cut = Cut(outcome.census.cut);
     let line = if lines == 1 { "line" } else { "lines" };
     let note = if notes == 1 { "note" } else { "notes" };
     let _ = eprintln!(rt;
-        "plotraster: {about}{nothing}{lines} {line}, {off_page} off the page; {notes} {note}, see plotraster report"
+        "plotraster: {about}{nothing}{lines} {line}, {off_page} off the page{cut}; {notes} {note}, see plotraster report"
     );
+}
+
+// How many lines are cut at the edge of the page, if any are.
+struct Cut(usize);
+
+impl Display for Cut {
+    fn fmt<W: Write>(&self, f: &mut Formatter<W>) -> Result {
+        match self.0 {
+            0 => Ok(()),
+            lines => write!(f, ", {lines} cut at its edge"),
+        }
+    }
 }

@@ -58,6 +58,7 @@ fn numbers_and_texts(rt: HostRuntime) -> Result<(), Fail> {
         census: Census {
             strokes: 2,
             off_page: 0,
+            cut: 0,
         },
     };
     assert_eq!(rt; exit_status(&Ok(outcome)), 0);

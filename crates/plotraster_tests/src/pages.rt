@@ -29,8 +29,8 @@ pub fn job_at(form: Form, per_inch: u32) -> Result<Job, Fail> {
     })
 }
 
-/// What `report_on` says of a plot: the placement, how many strokes there are and how many of them lie off the page, and the
-/// page.
+/// What `report_on` says of a plot: the placement, how many strokes there are, how many of them lie off the page, how many others
+/// reach over its edge, and the page.
 pub fn placed_on(
     alloc: Global,
     page: &Page,
@@ -55,6 +55,6 @@ pub fn placed_on(
         .next()
         .ok_or("no line")?;
     let (placement, census) = (outcome.placement, outcome.census);
-    let (strokes, off_page) = (census.strokes, census.off_page);
-    Ok(format!(in alloc; "{placement:?} {strokes} {off_page} {line}")?)
+    let (strokes, off_page, cut) = (census.strokes, census.off_page, census.cut);
+    Ok(format!(in alloc; "{placement:?} {strokes} {off_page} {cut} {line}")?)
 }

@@ -9,8 +9,8 @@ use plotraster::{
 use std::alloc::Global;
 use std::test::Fail;
 
-// Plots on a line each, and on the next what becomes of them in both profiles: the placement, the strokes and how many of
-// them lie off the page, and the page of the report. The page that is given is 800 by 600 units, its corner at (-10,-20).
+// Plots on a line each, and on the next what becomes of them in both profiles: the placement, the strokes, how many of
+// them lie off the page and how many others reach over its edge, and the page of the report. The page that is given is 800 by 600 units, its corner at (-10,-20).
 const CASES: &str = "\
 PS400,300;SP1;PD100,200;
 IN;PS400,300;SP1;PD100,200;
@@ -20,25 +20,25 @@ PS400,300,50;SP1;PD100,200;
 PS400,300;PS100,100;SP1;PD100,200;
 PS;PS63,64;PS64,63;PS-400,300;PS400,300:;PS400.1,299.9;SP1;PD100,200;
 PS400,+300.SP1PD100,200
-Asked 1 0 page 400 300 10 20
+Asked 1 0 0 page 400 300 10 20
 
 PS64.4,64.5;SP1;PD;
-Asked 1 0 page 64 65 10 20
+Asked 1 0 0 page 64 65 10 20
 
 PS64.499999,65536.499999;SP1;PD;
-Asked 1 0 page 64 65536 10 20
+Asked 1 0 0 page 64 65536 10 20
 
 PS400;SP1;PU0,590;PD9,590;
 PS400,;SP1;PU0,590;PD9,590;
 PS400,65536.5;PS400;SP1;PU0,590;PD9,590;
-Asked 1 1 page 400 600 10 20
+Asked 1 1 0 page 400 600 10 20
 
 SP1;PD100,200;
 PS;SP1;PD100,200;
 PS63;PS0;PS-400;PS65536.5;PS400,8388608;PS400,%;P S400,300;SP1;PD100,200;
 PS\"400\";PS400\"PS400,300\";SP1;PD100,200;
 SP0;LBPS400,300;\x03SP1;PU0,0;PD100,200;
-Unasked 1 0 page 800 600 10 20
+Unasked 1 0 0 page 800 600 10 20
 ";
 
 const ASKED: PageChoice = PageChoice {
@@ -85,7 +85,7 @@ const COMMENTED: &str = "CO PS400,300;PS500,200;";
 #[test]
 fn profiles_cut_otherwise(rt: HostRuntime) -> Result<(), Fail> {
     let core = placed(rt.alloc(), Reading::Core, COMMENTED)?;
-    assert_eq!(rt; core.as_str(), "Asked 0 0 page 400 300 10 20");
+    assert_eq!(rt; core.as_str(), "Asked 0 0 0 page 400 300 10 20");
     let full = placed(
         rt.alloc(),
         Reading::Full {
@@ -94,7 +94,7 @@ fn profiles_cut_otherwise(rt: HostRuntime) -> Result<(), Fail> {
         },
         COMMENTED,
     )?;
-    assert_eq!(rt; full.as_str(), "Asked 0 0 page 500 200 10 20");
+    assert_eq!(rt; full.as_str(), "Asked 0 0 0 page 500 200 10 20");
     Ok(())
 }
 
@@ -147,9 +147,9 @@ fn pages_around_drawings_on_pages_asked_for(rt: HostRuntime) -> Result<(), Fail>
         pixels: None,
     };
     let answer = placed_on(rt.alloc(), &given()?, Reading::Core, choice, plot)?;
-    assert_eq!(rt; answer.as_str(), "Fitted 1 0 page 800 600 10 20");
+    assert_eq!(rt; answer.as_str(), "Fitted 1 0 0 page 800 600 10 20");
     let answer = placed_on(rt.alloc(), &given()?, Reading::Core, fitted(0), plot)?;
-    assert_eq!(rt; answer.as_str(), "Fitted 1 0 page 800 600 10 20");
+    assert_eq!(rt; answer.as_str(), "Fitted 1 0 0 page 800 600 10 20");
     let answer = placed_on(
         rt.alloc(),
         &given()?,
@@ -157,7 +157,7 @@ fn pages_around_drawings_on_pages_asked_for(rt: HostRuntime) -> Result<(), Fail>
         choice,
         "SP1;PW0;PU0,0;PD8,90;",
     )?;
-    assert_eq!(rt; answer.as_str(), "Fitted 1 0 page 64 90 0 0");
+    assert_eq!(rt; answer.as_str(), "Fitted 1 0 0 page 64 90 0 0");
     Ok(())
 }
 

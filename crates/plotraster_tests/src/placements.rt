@@ -8,56 +8,56 @@ use plotraster::{
 use std::alloc::Global;
 use std::test::Fail;
 
-// A plot on a line, and on the next what becomes of it: the placement, the strokes and how many of them lie off the page, and
-// the page of the report. The margin is 1 mm.
+// A plot on a line, and on the next what becomes of it: the placement, the strokes, how many of them lie off the page and how
+// many others reach over its edge, and the page of the report. The margin is 1 mm.
 const CASES: &str = "\
 SP1;PW1;PU0,0;PD100,200;
-Fitted 1 0 page 220 320 60 60
+Fitted 1 0 0 page 220 320 60 60
 
 SP1;PW1;PU-100,0;PD100,-200;
-Fitted 1 0 page 320 320 160 260
+Fitted 1 0 0 page 320 320 160 260
 
 SP1;PW0;PU1000,1000;PD1010.5,1000;
-Fitted 1 0 page 91 80 -960 -960
+Fitted 1 0 0 page 91 80 -960 -960
 
 SP1;PW0;PD;
-Fitted 1 0 page 80 80 40 40
+Fitted 1 0 0 page 80 80 40 40
 
 SP1;PW0.001;PD;
-Fitted 1 0 page 82 82 41 41
+Fitted 1 0 0 page 82 82 41 41
 
 SP1;PW0;PU-5000,0;PD-5000,5;
-Fitted 1 0 page 80 85 5040 40
+Fitted 1 0 0 page 80 85 5040 40
 
 SP1;PW1;PU0,0;PD100,200;SP2;PW2;PU500,0;PD500,1;
-Fitted 2 0 page 640 340 60 80
+Fitted 2 0 0 page 640 340 60 80
 
 PU100,200;
-Blank 0 0 page 64 64 0 0
+Blank 0 0 0 page 64 64 0 0
 
 SP1;PU-60000,0;PD60000,0;
-TooLarge 1 0 page 64 64 0 0
+TooLarge 1 0 1 page 64 64 0 0
 
 SP1;PU65000,0;PD65500,0;
-Fitted 1 0 page 594 94 -64953 47
+Fitted 1 0 0 page 594 94 -64953 47
 
 SP1;SC0,9,0,9;PD5,5;
-Fitted 1 0 page 130 130 47 47
+Fitted 1 0 0 page 130 130 47 47
 
 SP1;RO90;PD5,5;
-Fitted 1 0 page 153 99 47 47
+Fitted 1 0 0 page 153 99 47 47
 
 SP1;RO90;PU0,65000;PD0,65100;
-Fitted 1 0 page 194 94 65083 47
+Fitted 1 0 0 page 194 94 65083 47
 
 SP1;PW0;IW0,0,30,30;PU10,10;PD500,10;
-Fitted 1 0 page 100 80 30 30
+Fitted 1 0 0 page 100 80 30 30
 
 SP1;PW0;IW0,0,30,30;PU40,10;PD500,10;
-Blank 1 0 page 64 64 0 0
+Blank 1 0 0 page 64 64 0 0
 
 SP1;PW0;IW0,0,30,30;PU10,10;PD65530,10;
-TooLarge 1 0 page 64 64 0 0
+TooLarge 1 0 0 page 64 64 0 0
 ";
 
 // The page around the drawing, with a margin in millimetres.
@@ -89,10 +89,10 @@ fn pages_around_drawings(rt: HostRuntime) -> Result<(), Fail> {
 }
 
 const MARGINS: [(u32, &str); 4] = [
-    (0, "Fitted 1 0 page 140 240 20 20"),
-    (1, "Fitted 1 0 page 220 320 60 60"),
-    (1000, "TooLarge 1 0 page 64 64 0 0"),
-    (4_294_967_295, "TooLarge 1 0 page 64 64 0 0"),
+    (0, "Fitted 1 0 0 page 140 240 20 20"),
+    (1, "Fitted 1 0 0 page 220 320 60 60"),
+    (1000, "TooLarge 1 0 1 page 64 64 0 0"),
+    (4_294_967_295, "TooLarge 1 0 1 page 64 64 0 0"),
 ];
 
 #[test]
@@ -103,19 +103,27 @@ fn margins_around_drawings(rt: HostRuntime) -> Result<(), Fail> {
         assert_eq!(rt; answer.as_str(), wanted);
     }
     let answer = placed(rt.alloc(), PageChoice::GIVEN, plot)?;
-    assert_eq!(rt; answer.as_str(), "Given 1 0 page 64 64 0 0");
+    assert_eq!(rt; answer.as_str(), "Given 1 0 1 page 64 64 0 0");
     Ok(())
 }
 
-// Plots on a page of 64 units a side, and how many of their lines lie off it. Lines are 14 units wide.
-const OFF_THE_PAGE: [(&str, &str); 7] = [
-    ("SP1;PU-7,0;PD-7,60;", "Given 1 0 page 64 64 0 0"),
-    ("SP1;PU-8,0;PD-8,60;", "Given 1 1 page 64 64 0 0"),
-    ("SP1;PU0,-8;PD60,-8;", "Given 1 1 page 64 64 0 0"),
-    ("SP1;PU71,0;PD71,60;", "Given 1 0 page 64 64 0 0"),
-    ("SP1;PU72,0;PD72,60;", "Given 1 1 page 64 64 0 0"),
-    ("SP1;PU0,72;PD60,72;", "Given 1 1 page 64 64 0 0"),
-    ("SP1;PU-20,30;PD90,30;", "Given 1 0 page 64 64 0 0"),
+// Plots on a page of 64 units a side, how many of their lines lie off it, and how many others reach over its edge. Lines are 14
+// units wide.
+const OFF_THE_PAGE: [(&str, &str); 14] = [
+    ("SP1;PU-7,0;PD-7,60;", "Given 1 0 1 page 64 64 0 0"),
+    ("SP1;PU-8,0;PD-8,60;", "Given 1 1 0 page 64 64 0 0"),
+    ("SP1;PU0,-8;PD60,-8;", "Given 1 1 0 page 64 64 0 0"),
+    ("SP1;PU71,0;PD71,60;", "Given 1 0 1 page 64 64 0 0"),
+    ("SP1;PU72,0;PD72,60;", "Given 1 1 0 page 64 64 0 0"),
+    ("SP1;PU0,72;PD60,72;", "Given 1 1 0 page 64 64 0 0"),
+    ("SP1;PU-20,30;PD90,30;", "Given 1 0 1 page 64 64 0 0"),
+    ("SP1;PU0,0;PD64,64;", "Given 1 0 0 page 64 64 0 0"),
+    ("SP1;PU0,0;PD65,64;", "Given 1 0 1 page 64 64 0 0"),
+    ("SP1;PU65,0;PD0,64;", "Given 1 0 1 page 64 64 0 0"),
+    ("SP1;PU30,-1;PD30,30;", "Given 1 0 1 page 64 64 0 0"),
+    ("SP1;PU30,30;PD30,65;", "Given 1 0 1 page 64 64 0 0"),
+    ("SP1;IW0,0,50,50;PU0,0;PD99,0;", "Given 1 0 0 page 64 64 0 0"),
+    ("SP1;IW0,0,99,99;PU0,0;PD99,0;", "Given 1 0 1 page 64 64 0 0"),
 ];
 
 #[test]
