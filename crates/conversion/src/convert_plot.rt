@@ -4,6 +4,7 @@ ghost use Rattle.std.specs.Io.KnownBytes.{IsAtEnd};
 ghost use Rattle.conversion.specs.Conversions.{HasConverted, HasConvertedBy, HasConvertedOn, is_possible_in, is_write};
 ghost use Rattle.conversion.specs.Pictures.{has_resolution};
 ghost use Rattle.conversion.specs.Rules.{rules_of, rules_with};
+ghost use Rattle.conversion.specs.Watching.{IsTold};
 
 use crate::done::Done;
 use crate::drawing::draw_source;
@@ -99,6 +100,7 @@ pub(crate) fn convert_given<G: Gauge, S: Source, K: Sink>(
 /// Errors: those of `convert`, in the same order. `Resolution` comes also if the finer picture would have more than 1,200
 /// dots per inch, and if pixels are chosen in PCL, which has resolutions of its own. The plot is refused for the page that it
 /// asks for, if that is chosen and it asks for one, else for that of the job.
+#[tactic(auto, using(crate::proofs::Watched::not_told))]
 pub fn convert_on<G: Gauge, S: Source, K: Sink, W: Watcher>(
     alloc: Global,
     reading: Reading,
@@ -120,6 +122,7 @@ pub fn convert_on<G: Gauge, S: Source, K: Sink, W: Watcher>(
         (G.count gauge.old) (G.count gauge.new) result }
     ensures end { (S.state source.new).ends ≡ (S.state source.old).ends + 1 → IsAtEnd (S.state source.new).left }
     ensures same { G.reaches gauge.new ≡ G.reaches gauge.old }
+    ensures told { IsTold W.hears watcher.old watcher.new result }
     ensures untouched { IfErr result (λ fault. is_write fault ≡ false → sink.new ≡ sink.old) }
 {
     if !is_picture_possible_in(choice.pixels, job, smoothing) {

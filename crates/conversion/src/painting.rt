@@ -1,10 +1,12 @@
 //! Painting a job's strokes, and writing its picture.
 ghost use Rattle.std.specs.Prelude.{◌≡◌, ℕ, ◌+◌, ◌-◌, ◌^◌, ◌<◌, ◌≤◌, length, IfErr, false, true};
 ghost use Rattle.plot_page.specs.declared.stroke.TheConstants.{MOST_STROKES};
+ghost use Rattle.plot_page.specs.Resolutions.{rows_of};
 ghost use Rattle.conversion.specs.Boxes.{strokes_boxes};
 ghost use Rattle.conversion.specs.Pictures.{is_possible, strokes_row};
 ghost use Rattle.conversion.specs.Conversions.{is_write};
 ghost use Rattle.conversion.specs.Progress.{HasPainted};
+ghost use Rattle.conversion.specs.Watching.{IsToldOf};
 
 use crate::bands::Bands;
 use crate::cell_bands::CellBands;
@@ -43,6 +45,7 @@ pub fn paint<G: Gauge, K: Sink, W: Watcher>(
     ensures paints { HasPainted smoothing.times job.now (G.reaches gauge.old) strokes.now (K.state sink.old) (K.state sink.new) result }
     ensures tests { G.count gauge.new ≤ G.count gauge.old + strokes_boxes smoothing.times job.now strokes.now }
     ensures same { G.reaches gauge.new ≡ G.reaches gauge.old }
+    ensures told { IsToldOf W.hears (rows_of job.now.page job.now.dots - job.now.first_row) watcher.old watcher.new result }
     ensures untouched { IfErr result (λ fault. is_write fault ≡ false → sink.new ≡ sink.old) }
 {
     if is_smoothed(job.form, smoothing) {
@@ -64,6 +67,7 @@ pub fn paint<G: Gauge, K: Sink, W: Watcher>(
 }
 
 // The same by these bands, which are asked for so.
+#[tactic(auto, using(crate::proofs::Watched::not_told))]
 fn paint_by<'a, B: Bands<'a> + Drop, G: Gauge, K: Sink, W: Watcher>(
     alloc: Global,
     job: &Job,
@@ -82,6 +86,7 @@ fn paint_by<'a, B: Bands<'a> + Drop, G: Gauge, K: Sink, W: Watcher>(
     ensures tests { G.count gauge.new ≤ G.count gauge.old
         + B.asked_tests ask job.now.pens strokes.entry.now job.now.page job.now.dots job.now.first_row }
     ensures same { G.reaches gauge.new ≡ G.reaches gauge.old }
+    ensures told { IsToldOf W.hears (rows_of job.now.page job.now.dots - job.now.first_row) watcher.old watcher.new result }
     ensures untouched { IfErr result (λ fault. is_write fault ≡ false → sink.new ≡ sink.old) }
 {
     let mut bands = B::begin(

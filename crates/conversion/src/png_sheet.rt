@@ -4,6 +4,7 @@ ghost use Rattle.plot_page.specs.declared.stroke.TheConstants.{MOST_STROKES};
 ghost use Rattle.conversion.specs.Conversions.{is_write};
 ghost use Rattle.conversion.specs.Documents.{is_png_possible, is_png_possible_in, png_boxes, png_on_page};
 ghost use Rattle.conversion.specs.Sheets.{WritesPng, strokes_on};
+ghost use Rattle.conversion.specs.Watching.{IsTold};
 
 use crate::fault::Fault;
 use crate::outcome::Outcome;
@@ -42,6 +43,7 @@ pub fn write_png_sheet<G: Gauge, K: Sink, W: Watcher>(
     ensures tests { G.count gauge.new ≤ G.count gauge.old
         + png_boxes (png_on_page choice drawing.now.page job.now) (strokes_on drawing.now sheet) }
     ensures same { G.reaches gauge.new ≡ G.reaches gauge.old }
+    ensures told { IsTold W.hears watcher.old watcher.new result.1 }
     ensures untouched { IfErr result.1 (λ fault. is_write fault ≡ false → result.0 ≡ sink) }
 {
     let lines = &drawing.lines;
@@ -50,6 +52,7 @@ pub fn write_png_sheet<G: Gauge, K: Sink, W: Watcher>(
 }
 
 /// The same of these strokes of the drawing.
+#[tactic(auto, using(crate::proofs::Watched::not_told))]
 pub(crate) fn write_png_strokes<G: Gauge, K: Sink, W: Watcher>(
     alloc: Global,
     drawing: &Drawing,
@@ -68,6 +71,7 @@ pub(crate) fn write_png_strokes<G: Gauge, K: Sink, W: Watcher>(
     ensures tests { G.count gauge.new ≤ G.count gauge.old
         + png_boxes (png_on_page choice drawing.now.page job.now) strokes.now }
     ensures same { G.reaches gauge.new ≡ G.reaches gauge.old }
+    ensures told { IsTold W.hears watcher.old watcher.new result.1 }
     ensures untouched { IfErr result.1 (λ fault. is_write fault ≡ false → result.0 ≡ sink) }
 {
     if !is_png_possible_in(choice.pixels, job) {

@@ -5,6 +5,7 @@ ghost use Rattle.conversion.specs.Boxes.{strokes_boxes};
 ghost use Rattle.conversion.specs.Conversions.{is_possible_in, is_write, on_page, times_on};
 ghost use Rattle.conversion.specs.Pictures.{has_any_resolution, has_resolution, is_fine, is_possible, is_smoothed};
 ghost use Rattle.conversion.specs.Sheets.{TellsOf, WritesStrokes, strokes_on};
+ghost use Rattle.conversion.specs.Watching.{IsTold};
 
 use crate::done::Done;
 use crate::fault::Fault;
@@ -46,6 +47,7 @@ pub fn write_picture_sheet<G: Gauge, K: Sink, W: Watcher>(
     ensures tests { G.count gauge.new ≤ G.count gauge.old + strokes_boxes (times_on choice drawing.now.page job.now smoothing)
         (on_page choice drawing.now.page job.now) (strokes_on drawing.now sheet) }
     ensures same { G.reaches gauge.new ≡ G.reaches gauge.old }
+    ensures told { IsTold W.hears watcher.old watcher.new result }
     ensures untouched { IfErr result (λ fault. is_write fault ≡ false → sink.new ≡ sink.old) }
 {
     let lines = &drawing.lines;
@@ -56,6 +58,7 @@ pub fn write_picture_sheet<G: Gauge, K: Sink, W: Watcher>(
 }
 
 /// The same of these strokes of the drawing.
+#[tactic(auto, using(crate::proofs::Watched::not_told))]
 pub(crate) fn write_strokes<G: Gauge, K: Sink, W: Watcher>(
     alloc: Global,
     drawing: &Drawing,
@@ -75,6 +78,7 @@ pub(crate) fn write_strokes<G: Gauge, K: Sink, W: Watcher>(
     ensures tests { G.count gauge.new ≤ G.count gauge.old + strokes_boxes (times_on choice drawing.now.page job.now smoothing)
         (on_page choice drawing.now.page job.now) strokes.now }
     ensures same { G.reaches gauge.new ≡ G.reaches gauge.old }
+    ensures told { IsTold W.hears watcher.old watcher.new result }
     ensures untouched { IfErr result (λ fault. is_write fault ≡ false → sink.new ≡ sink.old) }
 {
     if !is_picture_possible_in(choice.pixels, job, smoothing) {

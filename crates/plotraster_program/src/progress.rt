@@ -1,4 +1,6 @@
 //! How far a picture is, on standard error.
+ghost use Rattle.std.specs.Prelude.{⊤};
+
 use crate::messages::About;
 use plotraster::Watcher;
 use std::io::IsTerminal;
@@ -34,6 +36,8 @@ impl<'a> Progress<'a> {
 }
 
 impl Watcher for Progress<'_> {
+    ghost hears = { λ _ _ _ _. ⊤ };
+
     fn rows_written(&mut self, done: u32, rows: u32) {
         let hundredths = u64::from(done) * 100 / u64::from(rows);
         let is_one_band = done == rows && self.hundredths == 0;

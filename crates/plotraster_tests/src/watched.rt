@@ -1,4 +1,6 @@
 //! Pictures that are watched while they are written.
+ghost use Rattle.std.specs.Prelude.{⊤};
+
 use crate::pages::{CROSSING, eight_by_eight, job_at};
 use crate::runs::drawn;
 use crate::streams::Writer;
@@ -17,6 +19,8 @@ struct Diary {
 }
 
 impl Watcher for Diary {
+    ghost hears = { λ _ _ _ _. ⊤ };
+
     fn rows_written(&mut self, done: u32, rows: u32) {
         let _ = write!(self.told, "{done}/{rows} ");
     }

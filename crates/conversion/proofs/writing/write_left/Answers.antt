@@ -1,9 +1,25 @@
-use Rattle.std.proofs.Common.{◌≡◌, ◌≤◌, ℕ, List, sym, ap, subst, ◌∙◌, arith, Result, Ok, Err}
+use Rattle.std.proofs.Common.{◌≡◌, ◌≤◌, ◌-◌, ℕ, List, refl, sym, ap, subst, ◌∙◌, arith, rules, Result, Ok, Err}
 use Rattle.conversion.specs.declared.writing.Broken.{Broken}
 use Rattle.conversion.specs.Pictures.{Reach}
 use Rattle.conversion.specs.Progress.{WritesRows}
+use Rattle.conversion.proofs.Watched.{told_all, told_more, told_nothing}
 use Rattle.conversion.proofs.WrittenRows.{rows_after, cut_in_more}
 use Rattle.conversion.proofs.writing.write_left.Goals as goal
+
+pub each-init : goal.each-init
+each-init g c = record {
+  so_far = search rules;
+  text = refl;
+  rows = refl;
+  next = sym c.next_row-first.ensures.next;
+  from = omega (arith, c.next_row-first.ensures.next);
+  to = omega (arith, c.next_row-first.ensures.next, c.next_row-first.ensures.within, c.rows-rows.ensures.count);
+  most = omega (arith, c.rows-rows.ensures.count, c.rows-rows.ensures.most);
+  small = omega (arith, c.requires.few);
+  same = refl;
+  told = told_nothing g.W.Watcher.hears (c.rows-rows.result - c.next_row-first.result) c.next_row-first.result c.args.watcher.now;
+  tests = omega arith;
+}
 
 pub each-preserved : goal.each-preserved
 each-preserved g c =
@@ -34,6 +50,8 @@ each-preserved g c =
       most = inv.most;
       small = omega (arith, inv.small, made.small, inv.next, there, later);
       same = made.same ∙ inv.same;
+      told = told_more g.W.Watcher.hears c.next_row-first.result c.each.at c.next_row-at.result c.rows-rows.result c.args.watcher.now c.each.watcher c.tell.new.watcher
+          (omega (arith, inv.from, c.next_row-first.ensures.next)) (omega (arith, there, inv.next, made.some)) (omega (arith, made.within, rows_are, there)) inv.told c.tell.ensures;
       tests = omega (arith, inv.tests, made.tests);
     }
 
@@ -57,3 +75,12 @@ returns-in-Err-clause-writes g c =
     let within : end ≤ g.B.Bands.rows c.args.bands.now = omega (arith, made.within, made.rows, inv.rows) in
     cut_in_more row first first end (g.B.Bands.rows c.args.bands.now) c.args.done (g.K.Sink.state c.args.sink.now) is c.in-Err.stop within
     (rows_after row first first c.each.at end c.args.done c.each.written (g.K.Sink.state c.args.sink.now) was is answer inv.from later inv.so_far wrote)
+
+pub returns-in-Err-clause-told : goal.returns-in-Err-clause-told
+returns-in-Err-clause-told g c = record { rows = _; done = _; told = c.each.invariant.told }
+
+pub returns-clause-told : goal.returns-clause-told
+returns-clause-told g c =
+    let inv = c.each.invariant in
+    told_all g.W.Watcher.hears c.next_row-first.result c.each.at c.rows-rows.result (g.B.Bands.next c.args.bands.now) (g.B.Bands.rows c.args.bands.now)
+    c.args.watcher.now c.each.watcher (omega arith) inv.to c.rows-rows.ensures.count c.next_row-first.ensures.next inv.told

@@ -1,5 +1,6 @@
 use Rattle.std.proofs.Common.{◌≡◌, ◌≤◌, ◌-◌, ◌+◌, ◌*◌, Ok}
 use Rattle.conversion.specs.Progress.{WritesRows}
+use Rattle.conversion.specs.Watching.{WasTold}
 use Rattle.conversion.proofs.writing.write_left.Given as goal
 
 -- the rows up to `at` were written, and the bands are those of the same picture
@@ -16,6 +17,7 @@ invariant-each g l =
       most : l.rows ≤ 77405;
       small : l.written ≤ 128 + l.at * 4194304;
       same : g.G.Gauge.reaches l.gauge ≡ g.G.Gauge.reaches l.fn.gauge;
+      told : WasTold g.W.Watcher.hears (l.rows - l.first) l.fn.watcher (l.at - l.first) l.watcher;
       tests : g.G.Gauge.count l.gauge + g.B.Bands.tests l.bands ≤ g.G.Gauge.count l.fn.gauge + g.B.Bands.tests l.fn.bands;
     }
 
