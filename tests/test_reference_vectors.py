@@ -67,7 +67,7 @@ OTHER = b"0.004429133858 0 0 0.004429133858 0 0 cm\n1 J\n1 j\n"
 OTHER += b"/OC /P1 BDC\nq\n160 320 640 580 re\nW\nn\n0 0 1 RG\n56 w\n0 0 m\n1 1 l\nS\nQ\nEMC\n"
 OBJECTS = [
     b"<</Type/Catalog/Pages 3 0 R/OCProperties<</OCGs 4 0 R/D<</Order 4 0 R/ON 4 0 R>>>>>>",
-    b"<</Producer(plotraster 0.2.0)/Title<FEFF0050D83DDE00>>>",
+    b"<</Producer(plotraster 0.3.0)/Title<FEFF0050D83DDE00>>>",
     b"<</Type/Pages/MediaBox[0 0 72 35.433]/Resources<</Properties<</P1 5 0 R/P7 6 0 R>>>>/Count 2/Kids[ 7 0 R 10 0 R]>>",
     b"[ 5 0 R 6 0 R]",
     b"<</Type/OCG/Name(Pen 1)>>",
@@ -111,7 +111,7 @@ def test_svg():
 
 def test_pdf():
     wanted = Document(1016, 500, [FIRST, SECOND], True, "P\N{GRINNING FACE}")
-    assert read_pdf(PDF) == (wanted, "plotraster 0.2.0", [1, 7])
+    assert read_pdf(PDF) == (wanted, "plotraster 0.3.0", [1, 7])
 
 
 def test_nothing_drawn():
@@ -122,8 +122,8 @@ def test_nothing_drawn():
     page = OBJECTS[6].replace(b"8 0 R", b"6 0 R"), OBJECTS[7].replace(b"9 0 R", b"7 0 R"), OBJECTS[8]
     content = zlib.compress(CONTENT[:CONTENT.index(b"/OC")])
     page = [text.replace(b"CONTENT", content).replace(b"LENGTH", b"%d" % len(content)) for text in page]
-    data = pdf_of([OBJECTS[0], b"<</Producer(plotraster 0.2.0)>>", pages, b"[]", *page])
-    assert read_pdf(data) == (Document(1016, 500, [[]]), "plotraster 0.2.0", [])
+    data = pdf_of([OBJECTS[0], b"<</Producer(plotraster 0.3.0)>>", pages, b"[]", *page])
+    assert read_pdf(data) == (Document(1016, 500, [[]]), "plotraster 0.3.0", [])
 
 
 @pytest.mark.parametrize("read, data", [(read_svg, SVG), (read_pdf, PDF)], ids=["svg", "pdf"])
@@ -159,7 +159,7 @@ def test_wrong_svg(old, new):
     (b"/Count 2", b"/Count 3"), (b"72 35.433", b"72 35.43"), (b"(Pen 7)", b"(Pen 8)"), (b"/P7 6 0 R", b"/P7 5 0 R"),
     (b"/ON 4 0 R", b"/ON 4 0 R/OFF[]"), (b"/Parent 3 0 R", b"/Parent 1 0 R"), (b"FlateDecode", b"LZWDecode"),
     (b"[ 7 0 R 10 0 R]", b"[ 7 0 R]"), (b"[ 7 0 R 10 0 R]", b"[ 7 0 R 7 0 R]"), (b"FEFF", b"FFFE"), (b"FEFF0050D83DDE00", b"FEFF"),
-    (b"plotraster 0.2.0", b"plotraster"), (b"<FEFF0050D83DDE00>", b"(P)"), (b"(Pen 1)", b"(Pen 01)"),
+    (b"plotraster 0.3.0", b"plotraster"), (b"<FEFF0050D83DDE00>", b"(P)"), (b"(Pen 1)", b"(Pen 01)"),
     (b"[ 5 0 R 6 0 R]", b"[ 6 0 R 5 0 R]"),
 ])
 def test_wrong_objects(old, new):

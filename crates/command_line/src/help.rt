@@ -8,7 +8,7 @@ pub(crate) struct HelpLine<'a> {
 }
 
 /// The version of the program, which is the changelog's.
-pub const VERSION: &str = "0.2.0";
+pub const VERSION: &str = "0.3.0";
 
 /// What help says of a command, and an example of its use.
 #[derive(Clone, Copy)]

@@ -122,8 +122,14 @@ const OFF_THE_PAGE: [(&str, &str); 14] = [
     ("SP1;PU65,0;PD0,64;", "Given 1 0 1 page 64 64 0 0"),
     ("SP1;PU30,-1;PD30,30;", "Given 1 0 1 page 64 64 0 0"),
     ("SP1;PU30,30;PD30,65;", "Given 1 0 1 page 64 64 0 0"),
-    ("SP1;IW0,0,50,50;PU0,0;PD99,0;", "Given 1 0 0 page 64 64 0 0"),
-    ("SP1;IW0,0,99,99;PU0,0;PD99,0;", "Given 1 0 1 page 64 64 0 0"),
+    (
+        "SP1;IW0,0,50,50;PU0,0;PD99,0;",
+        "Given 1 0 0 page 64 64 0 0",
+    ),
+    (
+        "SP1;IW0,0,99,99;PU0,0;PD99,0;",
+        "Given 1 0 1 page 64 64 0 0",
+    ),
 ];
 
 #[test]
