@@ -187,6 +187,7 @@ GALLERY = {
 DOCUMENT_CHECKS = {
     "docs/GALLERY.md": GALLERY,
     "README.md": {
+        "plotraster": [Check(stored, PNG)],
         "Use": [Check(pictures, (*PNG, "pamfile"))],
         "More": [Check(more_pictures, (*PNG, "pamfile"))],
     },
