@@ -1,4 +1,4 @@
-# make first      draws a first plot in about a minute; proves nothing
+# make first      draws an example, or with PLOT=plan.plt that plot, in about a minute; proves nothing
 # make            proves and builds the command
 # make demo       builds it and runs it on the plots of examples/
 # make test       every test of the built command
@@ -48,7 +48,7 @@ build:
 
 first:
 	@tools/setup
-	@tools/first
+	@tools/first $(if $(PLOT),'$(PLOT)')
 
 demo: build
 	@echo 'plotraster marks --width 64 --height 64 --dots 127 examples/line.plt'
