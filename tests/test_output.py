@@ -140,6 +140,28 @@ def test_devices_stay_what_they_are(program, tmp_path):
     assert sorted(os.listdir(tmp_path)) == ["pipe", "read"] and stat.S_ISFIFO(os.stat(tmp_path / "pipe").st_mode)
 
 
+@pytest.mark.parametrize("name", ["/dev/stdout", "/dev/fd/1", "/proc/self/fd/1"])
+def test_standard_output_by_its_name(program, tmp_path, name):
+    """The picture goes on where standard output is, and the link to it stays."""
+    picture = run(program, ["pbm"], SECONDS, input=LINE).stdout
+    with open(tmp_path / "both", "wb") as both:
+        both.write(b"before")
+        both.flush()
+        done = subprocess.run([program, "pbm", "-o", name], input=LINE, stdout=both, stderr=subprocess.PIPE, timeout=SECONDS)
+    assert (done.returncode, done.stderr) == (0, b"")
+    assert (tmp_path / "both").read_bytes() == b"before" + picture
+    assert os.path.islink("/dev/stdout") and not os.path.exists(f"{name}.part")
+
+
+def test_standard_error_by_its_name(program, tmp_path):
+    """It is written as a device, and the link to it stays."""
+    picture = run(program, ["pbm"], SECONDS, input=LINE).stdout
+    with open(tmp_path / "errors", "wb") as errors:
+        done = subprocess.run([program, "pbm", "-o", "/dev/stderr"], input=LINE, stderr=errors, timeout=SECONDS)
+    assert done.returncode == 0 and (tmp_path / "errors").read_bytes() == picture
+    assert os.path.islink("/dev/stderr") and not os.path.exists("/dev/stderr.part")
+
+
 def test_full_disk(program, tmp_path):
     """FILE stays as it was, and FILE.part has the bytes that the message names."""
     def limit():

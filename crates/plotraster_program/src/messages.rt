@@ -134,7 +134,9 @@ fn tell_page(rt: &HostRuntime, line: &Line<'_, '_>, about: About<'_>, outcome: &
     let is_small = outcome.placement != Placement::TooLarge;
     if line.interactive && is_small && is_blank(outcome) {
         if line.remarks {
-            let _ = eprintln!(rt; "plotraster: {about}nothing is drawn on the page");
+            let _ = eprintln!(rt;
+                "plotraster: {about}nothing is drawn on the page: see plotraster report"
+            );
         }
     } else if let Some(reason) = reason_of(outcome.placement) {
         let _ = eprintln!(rt; "plotraster: {about}the page is {reason}");

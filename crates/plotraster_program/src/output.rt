@@ -42,6 +42,9 @@ pub(crate) fn deliver<R: Read + Drop>(
     match line.output {
         None if line.interactive && rt.stdout().is_terminal() => refuse_terminal(rt),
         None => exit_status(&perform(rt, line, about, content, rt.stdout())),
+        Some(path) if is_standard_output(path) => {
+            exit_status(&perform(rt, line, about, content, rt.stdout()))
+        }
         Some(path) => deliver_to(rt, line, about, plots, content, path),
     }
 }
@@ -125,8 +128,21 @@ fn put<R: Read + Drop, W: Write + Drop>(
     }
 }
 
-// There is something of this name that is no regular file.
+// A link of the system to standard output, which must not be replaced by a file.
+fn is_standard_output(path: &str) -> bool {
+    path == "/dev/stdout" || path == "/dev/fd/1" || path == "/proc/self/fd/1"
+}
+
+// Other such links, to what else is open.
+fn is_open_file(path: &str) -> bool {
+    path == "/dev/stderr" || path.starts_with("/dev/fd/") || path.starts_with("/proc/self/fd/")
+}
+
+// There is something of this name that is no regular file, or that is open already.
 fn is_device(rt: &HostRuntime, path: &str) -> bool {
+    if is_open_file(path) {
+        return true;
+    }
     match metadata(rt, path) {
         Ok(found) => !found.is_file(),
         Err(_) => false,
