@@ -43,5 +43,5 @@ def differences(program):
 
 
 def test_pictures(program):
-    assert len(cases()) == 35
+    assert len(cases()) == 42
     assert_nothing(differences(program))
