@@ -2,6 +2,7 @@
 
 import collections
 import functools
+import gzip
 import os
 import re
 import resource
@@ -408,6 +409,9 @@ def continued(made):
 CAUSES = [
     (b"IN;SP0;PU100,100;PD5000,5000;", r"strokes 0\n\Z", "sed"),
     (b"%PDF-1.4\n1 0 obj\n<< /Type /Catalog >>\n" * 9, r"strokes 1\n.*\n(note \d+ (stray|skipped) \S+\n){9}", "head"),
+    (gzip.compress(b"IN;SP1;PU100,100;PD5000,5000;", mtime=0), r"note 0 stray 31\nnote 1 stray 139\n", "zcat"),
+    ("IN;SP1;PU100,100;PD5000,5000;".encode("utf-16"), r"(note \d+ stray 0\n(note \d+ stray [1-9]\d*\n)?){9}", "iconv"),
+    (b'Valve of 3" pipe\r\nIN;PU100,100;PD5000,5000;', r"strokes 0\nnote 0 .+\n", "sed"),
     (b"PU-9000,-9000;PD-100,-100;", r"box -144000 -144000 -1600 -1600\n\Z", "--fit"),
     (b"PU20000,20000;PD30000,30000;", r"box 320000 320000 480000 480000\n\Z", "--fit"),
     (b"IN;SC0,0,0,9;PA1,1;PD5,5;", r"box 16 16 80 80\nnote 3 bad SC\n\Z", "tail"),
@@ -427,7 +431,7 @@ def remedied(made, cell, remedy, note):
     if remedy == "pbm":
         return made.run("pbm", "plan.plt")
     shown = run(["bash", "-c", command.replace("\\|", "|")], env=dict(os.environ, AT=note)).stdout
-    return made.run("pbm", plot=shown) if remedy == "sed" else shown
+    return made.run("pbm", plot=shown) if remedy in ("sed", "zcat", "iconv") else shown
 
 
 def is_blank(made, *words):
