@@ -78,20 +78,21 @@ BLANK = b"IN;"
 OFF_PAGE = b"PU3000,3000;PD4000,4000;"
 TOO_LARGE = b"PU-60000,0;PD60000,0;"
 NOT_FITTED = "the page is not fitted: "
+NOTHING = "nothing is drawn on the page: see plotraster report --profile full"
 # A command line, a plot, and what is said of the picture.
 REMARKS = [
     (["draw"], LINE, []),
     (["draw", "--verbose"], LINE, ["1 line, 0 off the page; 0 notes, see plotraster report"]),
     (["draw", "--quiet", "--verbose"], LINE, ["1 line, 0 off the page; 0 notes, see plotraster report"]),
-    (["draw"], BLANK, ["nothing is drawn on the page: see plotraster report"]),
+    (["draw"], BLANK, [NOTHING]),
     (["draw", "--quiet"], BLANK, []),
-    (["draw", "--width=800"], BLANK, ["nothing is drawn on the page: see plotraster report"]),
+    (["draw", "--width=800"], BLANK, [NOTHING]),
     (["draw", "--width=800", "--quiet"], BLANK, []),
-    (["draw", "--pens=3"], LINE, ["nothing is drawn on the page: see plotraster report"]),
-    (["draw", "--width=800", "--height=800"], OFF_PAGE, ["nothing is drawn on the page: see plotraster report"]),
+    (["draw", "--pens=3"], LINE, [NOTHING]),
+    (["draw", "--width=800", "--height=800"], OFF_PAGE, [NOTHING]),
     (["draw", "--width=800", "--height=800", "--quiet"], OFF_PAGE, []),
-    (["draw", "--form=pdf"], BLANK, ["nothing is drawn on the page: see plotraster report"]),
-    (["draw", "--form=svg", "--width=800", "--height=800"], OFF_PAGE, ["nothing is drawn on the page: see plotraster report"]),
+    (["draw", "--form=pdf"], BLANK, [NOTHING]),
+    (["draw", "--form=svg", "--width=800", "--height=800"], OFF_PAGE, [NOTHING]),
     (["draw", "--dots=10"], TOO_LARGE, [f"{NOT_FITTED}the drawing is larger than a page can be"]),
     (["draw", "--dots=10", "--quiet"], TOO_LARGE, [f"{NOT_FITTED}the drawing is larger than a page can be"]),
     (["draw"], PLOTS["of two sheets"], ["the plot has 2 sheets; this is the first"]),

@@ -191,7 +191,7 @@ def test_mistakes_about_sheets(command, options, text):
 def test_messages_about_sheets():
     """Each sheet has its own; of a plot of one sheet they name none."""
     plot = b"PU0,0;PD900,0;PG;SP2;PD900,900;"
-    blank, kept = "nothing is drawn on the page: see plotraster report", "the page is not fitted: nothing is drawn"
+    blank, kept = "nothing is drawn on the page: see plotraster report --profile full", "the page is not fitted: nothing is drawn"
     options = {"size": "16", "form": "marks", "output": "pictures"}
     assert answer("draw", {**options, "pens": "2"}, plot).error == f"plotraster: sheet 1: {blank}\n"
     assert answer("draw", options, b"").error == f"plotraster: {blank}\n"
@@ -204,7 +204,8 @@ def test_draw_says_that_nothing_is_on_the_page(x, is_blank):
     """A line 14 units wide beside a page of 1,000 units, or at its edge."""
     for plot in (b"PU%d,5;PD%d,900;" % (x, x), b"PU5,%d;PD900,%d;" % (x, x)):
         error = answer("draw", {"width": "1000", "height": "1000", "form": "marks", "dots": "10"}, plot).error
-        assert error == ("plotraster: nothing is drawn on the page: see plotraster report\n" if is_blank else ""), plot
+        said = "plotraster: nothing is drawn on the page: see plotraster report --profile full\n"
+        assert error == (said if is_blank else ""), plot
 
 
 def test_draw_has_sheets_apart_in_a_folder():

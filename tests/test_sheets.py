@@ -174,7 +174,7 @@ def test_what_is_said_of_a_sheet(program, folder):
     """A line names the sheet if there are several."""
     write(str(folder / "off.plt"), b"PU5,5;PD500,500;PG;PU3000,3000;PD4000,4000;")
     words = ["draw", *PAGE, "-o", "out"]
-    blank = "nothing is drawn on the page: see plotraster report"
+    blank = "nothing is drawn on the page: see plotraster report --profile full"
     assert ends_of(program, folder, [*words, "off.plt"]) == (0, [f"plotraster: sheet 2: {blank}"])
     lines = [f"plotraster: off.plt: sheet 2: {blank}", f"plotraster: blank.plt: {blank}"]
     assert ends_of(program, folder, [*words, "off.plt", "blank.plt"]) == (0, lines)

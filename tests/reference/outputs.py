@@ -134,7 +134,7 @@ def said_of(request, shown, strokes, about=""):
     said = f"plotraster: {about}the page is {shown.why}\n" if shown.why else ""
     is_blank = shown.why == f"not fitted: {BLANK}" or all(is_off(it, shown.page) for it in strokes)
     if request.is_draw and is_blank and shown.why != f"not fitted: {TOO_LARGE}":
-        said = f"plotraster: {about}nothing is drawn on the page: see plotraster report\n"
+        said = f"plotraster: {about}nothing is drawn on the page: see plotraster report --profile full\n"
     sheets = shown.drawing.sheets or 0
     if sheets > 1 and not request.is_sheet_named and request.sheet not in (0, EACH) and request.form != "report":
         said += f"plotraster: the plot has {sheets} sheets; this is the first\n"

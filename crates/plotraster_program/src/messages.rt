@@ -135,7 +135,7 @@ fn tell_page(rt: &HostRuntime, line: &Line<'_, '_>, about: About<'_>, outcome: &
     if line.interactive && is_small && is_blank(outcome) {
         if line.remarks {
             let _ = eprintln!(rt;
-                "plotraster: {about}nothing is drawn on the page: see plotraster report"
+                "plotraster: {about}nothing is drawn on the page: see plotraster report --profile full"
             );
         }
     } else if let Some(reason) = reason_of(outcome.placement) {
