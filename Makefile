@@ -7,7 +7,8 @@
 # make check      all of these, some side by side: what fails early comes first
 # make audit      hands every mutant to the prover, for a release or after a change of a contract
 # make fuzz       compares the built command with tests/reference on new random plots, with options of six kinds for
-#                 SECONDS=120 each, and runs it on MUTILATED=20000 plots that were mutilated, in either profile
+#                 SECONDS=120 each, and attacks it MUTILATED=20000 times: with mutilated plots, wrong command lines, folders
+#                 and devices that fail, and refused memory
 # make install    copies the command, its manual page, its completions, and the type of plots and their thumbnailer for
 #                 desktops under PREFIX (/usr/local), below DESTDIR if it is set
 # make install-cups     copies the filter of plots for CUPS, which finds it if PREFIX is /usr
@@ -102,9 +103,7 @@ fuzz: built
 	$(FUZZ) --apart
 	$(FUZZ) --draw
 	$(FUZZ) --vector
-	@for profile in core full; do \
-	    tests/campaign $(PROGRAM) --profile $$profile --plots $(MUTILATED) --seed $$$$ --jobs 4 || exit 1; \
-	done
+	tests/campaign $(PROGRAM) --cases $(MUTILATED) --seed $$(date +%s) --jobs 4
 
 built:
 	@test -x $(PROGRAM) || { echo 'nothing is built yet: type make, which proves and builds the command' >&2; exit 1; }

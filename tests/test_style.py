@@ -103,14 +103,17 @@ def test_mutants():
     assert not wrong, wrong
 
 
-def test_options_that_make_passes():
-    """`make fuzz` calls its script with options that the script has."""
+@pytest.mark.parametrize("script, wanted", [
+    ("fuzz", {"--fit", "--pens", "--apart", "--draw", "--vector"}), ("campaign", {"--cases", "--seed"}),
+])
+def test_options_that_make_passes(script, wanted):
+    """`make fuzz` calls its scripts with options that they have."""
     made = subprocess.run(["make", "-n", "fuzz"], cwd=TOP, capture_output=True, text=True, check=True, timeout=SECONDS)
-    called = "\n".join(re.findall(r"^tests/fuzz .*", made.stdout, re.M))
-    helped = subprocess.run([os.path.join(TOP, "tests", "fuzz"), "--help"], capture_output=True, text=True, timeout=SECONDS)
+    called = "\n".join(re.findall(rf"^tests/{script} .*", made.stdout, re.M))
+    helped = subprocess.run([os.path.join(TOP, "tests", script), "--help"], capture_output=True, text=True, timeout=SECONDS)
     assert helped.returncode == 0, helped.stderr
     options = re.findall(r"--\w+", called)
-    assert set(options) > {"--fit", "--pens", "--apart", "--draw", "--vector"}, called
+    assert set(options) > wanted, called
     assert all(it in helped.stdout for it in options), called
 
 

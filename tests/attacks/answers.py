@@ -1,0 +1,72 @@
+"""What the manual page promises of each run: its exit status, its message, and what standard output has."""
+
+import os
+import re
+import shlex
+
+MANUAL = os.path.join(os.path.dirname(__file__), "..", "..", "man", "plotraster.1")
+# What is said of an output that is written.
+REMARKS = rb"""nothing is drawn on the page
+the page is (the default one: the plot asks for no size|not fitted: (nothing is drawn|the drawing is larger than a page can be))
+the plot has [0-9]+ sheets; this is the first
+(nothing is drawn: )?[0-9]+ lines?, [0-9]+ off the page; [0-9]+ notes?, see plotraster report""".splitlines()
+# Why a file cannot be opened, which --verbose says in a line of its own.
+REASONS = rb"no such file or folder|permission denied|[A-Z][a-z ]+ \(os error [0-9]+\)"
+# The exit statuses of the messages that begin so; of all others it is 2.
+STATUSES = {
+    "place off range": 1, "too many": 1, "plot is longer": 1, "write failed": 3, "cannot": 3, "read failed": 3, "out of memory": 4,
+}
+REFUSED, USAGE, DEVICE, MEMORY = 1, 2, 3, 4
+
+
+class Broken(Exception):
+    """What a run broke."""
+
+
+def messages():
+    """The pattern of each message of the manual page, with its exit status; the name of a plot, and a sheet, may come first."""
+    with open(MANUAL, encoding="utf-8") as manual:
+        heads = re.findall(r'^\.(?:B|BI) "plotraster: (.*)', manual.read().replace("\\-", "-"), re.M)
+    for head in heads:
+        status = next((status for begins, status in STATUSES.items() if head.startswith(begins)), USAGE)
+        parts = enumerate(shlex.split('"' + head))
+        text = "".join(re.escape(part) if number % 2 == 0 else ".+" for number, part in parts)
+        yield re.compile(b"plotraster: (.*: )?" + text.encode(), re.S), status
+
+
+MESSAGES = [
+    *((re.compile(b"plotraster: (.*: )?(" + remark + b")", re.S), 0) for remark in REMARKS), *messages(),
+    (re.compile(b"plotraster: (" + REASONS + b")"), DEVICE),
+]
+
+
+def must(holds, why):
+    if not holds:
+        raise Broken(why)
+
+
+def said(line):
+    """The exit status of a message."""
+    for pattern, status in MESSAGES:
+        if pattern.fullmatch(line):
+            return status
+    raise Broken(f"says {line[:200]!r}")
+
+
+def keep_promises(ran):
+    """Any run ends with a status of the manual page, says why if it is not 0, and then writes nothing to standard output but the
+    beginning of an output that could not be written whole."""
+    must(0 <= ran.status <= MEMORY, f"status {ran.status}, says {ran.errors[:200]!r}")
+    if ran.errors.startswith(b"error: "):
+        must(ran.status == USAGE, f"status {ran.status} for {ran.errors[:200]!r}")
+    else:
+        found = [said(line) for line in ran.errors.splitlines()]
+        must(max(found, default=0) == ran.status, f"status {ran.status}, says {ran.errors[:200]!r}")
+        must(ran.errors.endswith(b"\n") or not ran.errors, "an end of line is missing")
+    if ran.status != 0 and b"write failed" not in ran.errors:
+        must(not ran.output, f"status {ran.status}, writes {ran.output[:100]!r}")
+
+
+def refusals(ran):
+    """The messages of a run that are no remarks."""
+    return [line for line in ran.errors.splitlines() if said(line)]
