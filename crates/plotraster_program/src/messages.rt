@@ -184,6 +184,7 @@ fn tell_drawn(rt: &HostRuntime, about: About<'_>, outcome: &Outcome) {
 }
 
 // How many lines are cut at the edge of the page, if any are.
+#[derive(Clone, Copy)]
 struct Cut(usize);
 
 impl Display for Cut {
