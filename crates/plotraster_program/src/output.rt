@@ -178,6 +178,8 @@ fn write_file<R: Read + Drop>(
     if plots.is_plot(id_of(rt, part)) {
         return refuse_plot(rt, line, about, part);
     }
+    // An older one may be a link to another file, which must not be written.
+    let _ = remove_file(rt, part);
     match File::create(rt, part) {
         Ok(file) => {
             let outcome = perform(rt, line, about, content, file);
