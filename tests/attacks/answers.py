@@ -30,7 +30,7 @@ def messages():
     for head in heads:
         status = next((status for begins, status in STATUSES.items() if head.startswith(begins)), USAGE)
         parts = enumerate(shlex.split('"' + head))
-        text = "".join(re.escape(part) if number % 2 == 0 else ".+" for number, part in parts)
+        text = "".join(re.escape(part) if number % 2 == 0 else ".*" for number, part in parts)
         yield re.compile(b"plotraster: (.*: )?" + text.encode(), re.S), status
 
 

@@ -107,8 +107,14 @@ def wrong_words(bench, dice, _):
         words = soup(dice)
     ran = bench.run(words)
     must(wrong is None or ran.status == USAGE and ran.errors.startswith(wrong.encode()), f"{ends(ran)} for {wrong}")
-    must(read("a.plt") == read("b.plt") == LINE, "a plot is overwritten")
+    for name in ("a.plt", "b.plt"):
+        must(read(name) == LINE or kind == 2 and is_output(name, words), f"{name} is overwritten")
     must(kind == 2 or sorted(os.listdir(".")) == ["a.plt", "b.plt", FOLDER] and not os.listdir(FOLDER), "a file is written")
+
+
+def is_output(name, words):
+    """Whether words name a file as the output."""
+    return any(option in ("-o", "--output") and word == name for option, word in zip(words, words[1:]))
 
 
 def plots_into_a_folder(bench, dice, plots):

@@ -173,7 +173,7 @@ def soup(dice):
         if kind == 0 and at:
             del words[at - 1]
         elif kind == 1:
-            words.insert(at, dice.choice(("--", "-h", "--help", "a.plt", "b.plt", "-", "", "--fit", "none.plt", "each", "=", "\n")))
+            words.insert(at, dice.choice(("--", "-h", "--help", "a.plt", "b.plt", "-", "", "--fit", "none.plt", "each", "=")))
         elif kind == 2:
             words.insert(at, dice.choice((*UNKNOWN, *NO_TEXT, *COMMANDS, "--margin=1", "--sheet=each", "--profile=full")))
         elif kind == 3:
