@@ -58,6 +58,17 @@ def test_old_file_is_replaced(program, tmp_path):
     assert os.listdir(tmp_path) == ["out"]
 
 
+@pytest.mark.parametrize("plot, ends", [(LINE, (0, b"")), (b"PD99999,0;", (1, b"plotraster: place off range at byte 0\n"))])
+@pytest.mark.parametrize("make", [os.symlink, os.link, lambda _, part: os.mkfifo(part)], ids=["link", "hard link", "pipe"])
+def test_older_part_is_replaced(program, tmp_path, make, plot, ends):
+    """Not what it leads to, also if it is no file of its own; a refused plot leaves that, too."""
+    write(str(tmp_path / "other"), OLD)
+    make(tmp_path / "other", tmp_path / "out.part")
+    assert write_to(program, tmp_path, ["pbm", "-o", "out"], plot) == ends
+    assert read_bytes(tmp_path / "other") == OLD and sorted(os.listdir(tmp_path)) == (["other"] if ends[0] else ["other", "out"])
+    assert ends[0] or not os.path.islink(tmp_path / "out") and read_bytes(tmp_path / "out") == wanted(program, "pbm")
+
+
 @pytest.mark.parametrize("words, plot, ends", [
     ([], b"PD99999,0;", (1, b"plotraster: place off range at byte 0\n")),
     (["--dots=10", "--from=999"], LINE, (2, b"plotraster: first row is past the last row\n")),

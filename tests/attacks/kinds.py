@@ -20,7 +20,10 @@ TOO_LONG = b"plotraster: plot is longer than 67108864 bytes\n"
 # The most bytes of an output that is written byte by byte.
 MOST_SHORT = 3000
 # Plots of one name and of several, and names that need care.
-NAMES = ("a.plt", "b.plt", "deep/a.plt", "a.hpgl", "plan", ".plan", "pl\u00e4n.v2.plt", "dot.", "a b.PLT", "deep/plan.gz")
+NAMES = (
+    "a.plt", "b.plt", "deep/a.plt", "a.hpgl", "plan", ".plan", "pl\u00e4n.v2.plt", "dot.", "a b.PLT", "deep/plan.gz",
+    "\U0001f58a)(\\.plt", "<&>\"\u202e.plt", "\x01\x7f\u2028.plt", "\ufeff", "n" * 240,
+)
 # Programs that read a form, too: a few outputs are given to them.
 READERS = {"png": ("pngcheck", "-q"), "pdf": ("qpdf", "--check"), "svg": ("xmllint", "--noout")}
 SAMPLE = 0.002
@@ -123,7 +126,8 @@ def plots_into_a_folder(bench, dice, plots):
     names = dice.sample(NAMES, dice.choice((1, 1, 2, 3, 4)))
     for name in names:
         write(name, mutilated(plots, dice))
-    form, before = form_of(command, options), {name: read(name) for name in names}
+    write("other", OLD)
+    form, before = form_of(command, options), {name: read(name) for name in (*names, "other")}
     is_full = options.get("profile", "full" if command == "draw" else "core") == "full"
     if is_full and form not in ("report", "pdf") and dice.random() < 0.3:
         options["sheet"] = EACH
@@ -136,7 +140,7 @@ def plots_into_a_folder(bench, dice, plots):
     obstacles = put_obstacles(names, form, dice)
     ran = bench.run(words_of(command, {**options, "output": FOLDER}, names, dice))
     must(ran.output == b"", "a picture is on standard output")
-    must(before == {name: read(name) for name in names}, "a plot is overwritten")
+    must(before == {name: read(name) for name in before}, "a plot or another file is overwritten")
     if is_apart:
         check_apart(form, names, set(obstacles), int(options.get("from", 0)) == 0)
     else:
@@ -154,11 +158,13 @@ def put_obstacles(names, form, dice):
         file = os.path.join(FOLDER, f"{stem_of(name)}.{form}")
         if file in obstacles or dice.random() < 0.6:
             continue
-        obstacles[file] = kind = dice.choice(("old", "part", "folder", "folder.part", "null", "full", "dangling"))
+        obstacles[file] = kind = dice.choice(("old", "part", "link.part", "folder", "folder.part", "null", "full", "dangling"))
         if kind in ("old", "part"):
             write(file + (".part" if kind == "part" else ""), OLD)
         elif kind in ("folder", "folder.part"):
             os.mkdir(file + kind.removeprefix("folder"))
+        elif kind == "link.part":
+            os.symlink("../other", file + ".part")
         else:
             os.symlink("none" if kind == "dangling" else f"/dev/{kind}", file)
     return obstacles
