@@ -6,10 +6,14 @@ import shlex
 
 MANUAL = os.path.join(os.path.dirname(__file__), "..", "..", "man", "plotraster.1")
 # What is said of an output that is written.
-REMARKS = rb"""nothing is drawn on the page
-the page is (the default one: the plot asks for no size|not fitted: (nothing is drawn|the drawing is larger than a page can be))
-the plot has [0-9]+ sheets; this is the first
-(nothing is drawn: )?[0-9]+ lines?, [0-9]+ off the page; [0-9]+ notes?, see plotraster report""".splitlines()
+LINES = rb"[0-9]+ lines?, [0-9]+ off the page(, [0-9]+ cut at its edge)?"
+REMARKS = (
+    b"nothing is drawn on the page: see plotraster report --profile full",
+    b"the page is the default one: the plot asks for no size",
+    b"the page is not fitted: (nothing is drawn|the drawing is larger than a page can be)",
+    rb"the plot has [0-9]+ sheets; this is the first",
+    b"(nothing is drawn: )?" + LINES + rb"; [0-9]+ notes?, see plotraster report",
+)
 # Why a file cannot be opened, which --verbose says in a line of its own.
 REASONS = rb"no such file or folder|permission denied|[A-Z][a-z ]+ \(os error [0-9]+\)"
 # The exit statuses of the messages that begin so; of all others it is 2.
