@@ -16,7 +16,7 @@ const EMPTY: &[u8] = b"\
 <</Type/Catalog/Pages 3 0 R/OCProperties<</OCGs 4 0 R/D<</Order 4 0 R/ON 4 0 R>>>>>>\n\
 endobj\n\
 2 0 obj\n\
-<</Producer(plotraster 0.3.0)>>\n\
+<</Producer(plotraster 0.2.0)>>\n\
 endobj\n\
 3 0 obj\n\
 <</Type/Pages/MediaBox[0 0 72 144]/Resources<</Properties<<>>>>/Count 1/Kids[ 5 0 R]>>\n\

@@ -83,7 +83,7 @@ pub fn write_titled<K: Sink>(
     let mut offsets = vec![in alloc; 0u64; room_for(ends.len())]?;
     let offsets = offsets.as_mut_slice();
     match write_pdf(
-        "0.3.0", title, &page, &pens, strokes, ends, labels, before, offsets, encoder, sink,
+        "0.2.0", title, &page, &pens, strokes, ends, labels, before, offsets, encoder, sink,
     ) {
         Ok(bytes) => Ok(bytes),
         Err(fault) => Ok(fault.bytes()),
