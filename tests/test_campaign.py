@@ -10,7 +10,7 @@ from shared import HERE, need, write
 
 SECONDS = 120
 KINDS = ("mutilated_plots", "wrong_words", "plots_into_a_folder", "plots_into_files", "devices_that_fail", "refused_memory")
-# What a program that is none does instead.
+# What broken programs do instead.
 BROKEN = {
     "a signal": "kill -SEGV $$", "an unknown status": "exit 5", "no output": "exit 0", "no message": "exit 1",
     "an unknown message": "echo plotraster: oh >&2; exit 1",

@@ -12,7 +12,7 @@ EXAMPLES = os.path.join(TESTS, "..", "examples")
 CASES = os.path.join(TESTS, "cases")
 EXTREMES = (b"8388607", b"-8388607", b"8388608", b"65536", b"-65537", b"0", b"-0", b".", b"0.000001",
             b"1e9", b"99999999999999999999", b"360", b"-360", b"0.5", b"180", b"255", b"256", b"32767")
-# Instructions of both profiles, some that take a text, one that asks for a page and some that there are not.
+# Instructions of both profiles, some that take a text, one that asks for a page, and some that do not exist.
 CODES = [it.encode() for it in (*WITH_NUMBERS, *FURTHER_WITH_NUMBERS, *WITHOUT_NUMBERS, *"PE LB DT BL SM CO PS PG UC WD".split())]
 # The most bytes of a plot: a long one takes longer to draw than the program to start.
 LENGTHS = (100, 300, 300, 1000, 1000, 1000, 3000, 20000)
