@@ -33,13 +33,14 @@ use Rattle.full_settings.specs.declared.heading.Heading.TheVariants.{Absolute}
 use Rattle.full_plot.specs.Items.{as_core}
 use Rattle.polygons.specs.Buffers.{Contents}
 use Rattle.full_notes.specs.Contexts.{Context, first_context}
-use Rattle.full_plot.specs.Lines.{line_step, lines_of}
+use Rattle.full_plot.specs.Lines.{line_step, places_of}
 use Rattle.full_plot.specs.Machine.{core_step, marked, marked_in, moved, run, touched, touched_in}
 use Rattle.full_plot.specs.Polygons.{lined_by, lined_step, only_figure, with_buffer}
 use Rattle.full_plot.specs.Texts.{at_margin, if_short, label_by, labelled, marked_by, signs_of, style_of, then_shifted, turn_by, with_margin, written}
 use Rattle.full_plot.specs.Worlds.{World, Writing, followed, with_core}
 use Rattle.full_plot.proofs.CoreLabels.{label_as_in_core, style_is, turn_in}
-use Rattle.full_plot.proofs.FullRuns.{shape_solid, solid_line}
+use Rattle.full_plot.proofs.LinesAlong.{IsLine, solid_line}
+use Rattle.full_plot.proofs.Solid.{shape_solid}
 use Rattle.full_plot.proofs.Nexts.{IsNext, IsUnshifted, KeepsSets, NextIn, next_core_step}
 
 -- what core sets for labels
@@ -88,12 +89,12 @@ core_margin w None q = refl
 core_margin w (Some c) q = refl
 
 -- a solid line
-solid_is : (w : World) (t : Step) → is_solid w.style.kind ≡ true → line_step w t ≡ with_core w (core.step w.core t)
-solid_is w t h = solid_line w t (shape_solid w.style.kind w.style.own _ h)
+solid_is : (w : World) (t : Step) → IsLine w t → is_solid w.style.kind ≡ true → line_step w t ≡ with_core w (core.step w.core t)
+solid_is w t l h = solid_line w t l (shape_solid w.style.kind w.style.own _ h)
 
 -- out of polygon mode
-lined_is : (w : World) (t : Step) → is_solid w.style.kind ≡ true → w.context.in_polygon ≡ false → lined_step w t ≡ with_core w (core.step w.core t)
-lined_is w t h off = ap (λ (b : Bool). lined_by b w t) off ∙ solid_is w t h
+lined_is : (w : World) (t : Step) → IsLine w t → is_solid w.style.kind ≡ true → w.context.in_polygon ≡ false → lined_step w t ≡ with_core w (core.step w.core t)
+lined_is w t l h off = ap (λ (b : Bool). lined_by b w t) off ∙ solid_is w t l h
 
 -- a move, after which no symbol is drawn
 core_move : (w : World) (o : Option core.World) → w.context.in_polygon ≡ false → w.writing.symbol ≡ None
@@ -103,10 +104,10 @@ core_move w (Some c) off h =
     let v : World = at_margin (record w { core = c }) in
     ap (λ (b : Bool). core_of (marked_in b v)) off ∙ ap (λ (s : Option ℕ). core_of (marked_by s v)) h
 
-core_go : (w : World) (t : Step) → is_solid w.style.kind ≡ true → w.context.in_polygon ≡ false → w.writing.symbol ≡ None
+core_go : (w : World) (t : Step) → IsLine w t → is_solid w.style.kind ≡ true → w.context.in_polygon ≡ false → w.writing.symbol ≡ None
     → core_of (moved w t) ≡ core.step w.core t
-core_go w t h off k =
-    ap (λ (o : Option World). core_of (followed o (λ (v : World). marked (at_margin v)))) (lined_is w t h off)
+core_go w t l h off k =
+    ap (λ (o : Option World). core_of (followed o (λ (v : World). marked (at_margin v)))) (lined_is w t l h off)
     ∙ core_move w (core.step w.core t) off k
 
 -- a dot
@@ -187,15 +188,15 @@ keeps_sets t h = tt
 
 pub step_as_in_core : (w : World) (t : Step) → IsLikeCore (labelling w.core.state) w → IsShort t → core_of (core_step w t) ≡ core.step w.core t
 step_as_in_core w Touch h short = core_touch w (outside w h.first)
-step_as_in_core w (Move x y) h short = core_go w (Move x y) h.solid (outside w h.first) h.no_symbol
-step_as_in_core w (Go relative x y) h short = core_go w (Go relative x y) h.solid (outside w h.first) h.no_symbol
+step_as_in_core w (Move x y) h short = core_go w (Move x y) refl h.solid (outside w h.first) h.no_symbol
+step_as_in_core w (Go relative x y) h short = core_go w (Go relative x y) refl h.solid (outside w h.first) h.no_symbol
 step_as_in_core w (DrawArc relative a) h short =
-    ap (λ (o : Option World). core_of (followed o (λ (v : World). Some (at_margin v)))) (lined_is w (DrawArc relative a) h.solid (outside w h.first))
+    ap (λ (o : Option World). core_of (followed o (λ (v : World). Some (at_margin v)))) (lined_is w (DrawArc relative a) refl h.solid (outside w h.first))
     ∙ core_arc w (core.step w.core (DrawArc relative a))
 step_as_in_core w (Edge relative x y) h short =
-    core_buffer (only_figure (lines_of w.core.page w.core.state (Edge relative x y))) (line_step w (Edge relative x y))
-    ∙ ap core_of (solid_is w (Edge relative x y) h.solid) ∙ core_with w (core.step w.core (Edge relative x y))
-step_as_in_core w (DrawCircle c) h short = ap core_of (lined_is w (DrawCircle c) h.solid (outside w h.first)) ∙ core_with w (core.step w.core (DrawCircle c))
+    core_buffer (only_figure (places_of w (Edge relative x y))) (line_step w (Edge relative x y))
+    ∙ ap core_of (solid_is w (Edge relative x y) refl h.solid) ∙ core_with w (core.step w.core (Edge relative x y))
+step_as_in_core w (DrawCircle c) h short = ap core_of (lined_is w (DrawCircle c) refl h.solid (outside w h.first)) ∙ core_with w (core.step w.core (DrawCircle c))
 step_as_in_core w (Write text) h short = core_written w text h short
 step_as_in_core w t h short = core_with w (core.step w.core t)
 

@@ -86,7 +86,7 @@ pub same_shape : (w v : World) (ls : List Segment) → Some (drawn w ls) ≡ Som
 same_shape w v ls k = sym (ap (λ (u : World). shape_in u) (same_Some _ _ k))
 
 -- some lines, and more of them
-drawn-append : (w : World) (ls ms : List Segment) → drawn w (ls ++ ms) ≡ drawn (drawn w ls) ms
+pub drawn-append : (w : World) (ls ms : List Segment) → drawn w (ls ++ ms) ≡ drawn (drawn w ls) ms
 drawn-append w [] ms = sym (ap (λ (u : World). drawn u ms) (none_drawn w))
 drawn-append w (l ∷ ls) ms =
     more_drawn w l (ls ++ ms) ∙ drawn-append (drawn w (l ∷ [])) ls ms ∙ sym (ap (λ (u : World). drawn u ms) (more_drawn w l ls))

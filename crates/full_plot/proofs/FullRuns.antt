@@ -13,13 +13,14 @@ use Rattle.hpgl_plot.specs.Machine as core
 use Rattle.hpgl_text.specs.declared.instruction.Instruction.{Instruction}
 use Rattle.hpgl_text.specs.declared.instruction.Instruction.TheVariants.{PenWidth, PenColour}
 use Rattle.std.specs.Result.{IsErrAnd}
+use Rattle.std.specs.Prelude.{IfErr, IfOk}
 use Rattle.hpgl_plot.specs.declared.plotter.Stop.{Stop}
 use Rattle.hpgl_plot.specs.declared.plotter.Stop.TheVariants.{Memory, OffRange}
 use Rattle.full_settings.specs.declared.requests.FurtherRequest.{FurtherRequest}
 use Rattle.full_notes.specs.Contexts.{Context}
 use Rattle.full_notes.specs.Notes.{request_after}
 use Rattle.full_plot.specs.Items.{as_core, more_steps, params_steps, request_steps}
-use Rattle.full_plot.specs.Holding.{after_request}
+use Rattle.full_plot.specs.ContextsAfter.{after_request}
 use Rattle.full_notes.proofs.Noted.{is_own}
 use Rattle.full_settings.specs.LineStyles.{is_solid, shape_by}
 use Rattle.full_settings.specs.declared.line_setting.LineKind.TheVariants as kind
@@ -27,7 +28,6 @@ use Rattle.full_settings.specs.declared.line_setting.LineKind.{LineKind}
 use Rattle.full_plot.specs.Worlds.{World, followed, with_core}
 use Rattle.full_plot.specs.Machine.{last_end, FullStep, Core, step, run, core_step, Runs}
 use Rattle.full_plot.specs.Lines.{line_step, shape_in}
-use Rattle.full_plot.proofs.Solid.{solid_strokes, run_solid}
 
 followed-followed : (o : Option World) (f g : World → Option World) → followed (followed o f) g ≡ followed o (λ (v : World). followed (f v) g)
 followed-followed None f g = refl
@@ -69,33 +69,6 @@ lower_long w z [] h f = absurd (omega arith)
 lower_long w z (a ∷ []) h f = absurd (omega arith)
 lower_long w z (a ∷ (b ∷ ns)) h f = rw f refl
 
--- a solid line is core's
-pub solid_line : (w : World) (t : Step) → shape_in w ≡ Solid → line_step w t ≡ with_core w (core.step w.core t)
-unfolding line_step core.step
-solid_line w t h =
-    let s = w.core.state in
-    let p = path w.core.page s t in
-    elim (cases_Bool (list_all are_in_range p.lines)) [
-      | inl i ↦ rw (i, h, solid_strokes s w.run p, run_solid w.run _) refl
-      | inr i ↦ rw i refl
-    ]
-
-pub shape_solid : (k : LineKind) (own : List (Option (List ℕ))) (ticks : ℕ) → is_solid k ≡ true → shape_by k own ticks ≡ Solid
-shape_solid kind.Solid own ticks h = refl
-shape_solid (kind.Patterned n) own ticks h = absurd (true≢false (sym h))
-
--- what core answers, in the profile full
-pub with_runs : {U : Type 0} (w : World) (o : Option core.World) (v : core.World) (r : Result U Stop) → core.Runs o v r → Runs (with_core w o) (record w { core = v }) r
-with_runs w o v (Ok x) h = ap (λ (p : Option core.World). with_core w p) h
-with_runs w o v (Err Memory) h = tt
-with_runs w o v (Err OffRange) h = ap (λ (p : Option core.World). with_core w p) h
-
--- a figure in solid lines is core's
-pub solid_runs : {U : Type 0} (w : World) (t : Step) (v : core.World) (r : Result U Stop) → is_solid w.style.kind ≡ true
-    → core.Runs (core.step w.core t) v r → Runs (line_step w t) (record w { core = v }) r
-solid_runs w t v r h k =
-    rw (solid_line w t (shape_solid w.style.kind w.style.own _ h)) (with_runs w (core.step w.core t) v r k)
-
 -- an instruction without steps of its own
 pub other_steps : (c : Context) (i : Instruction) (ns : List ℤ) → is_own i ≡ false → params_steps c i ns ≡ as_core (meaning i ns).steps ++ more_steps i ns
 other_steps c PenWidth ns h = absurd (true≢false h)
@@ -115,6 +88,12 @@ pub stopped : {U : Type 0} (V : Type 0) (o p : Option World) (u v : World) (e : 
 stopped V o p u v e (Ok x) n h i = absurd i
 stopped V o p u v Memory (Err f) n h i = rw i tt
 stopped V o p u v OffRange (Err f) n h i = rw i (n h)
+
+-- what a call leaves that can only want memory
+pub runs_by : {U : Type 0} (o : Option World) (v : World) (r : Result U Stop) (P : Type 0) → (P → o ≡ Some v) → IfOk r (λ x. P) → IfErr r (λ e. e ≡ Memory)
+    → Runs o v r
+runs_by o v (Ok x) P f h i = f h
+runs_by o v (Err e) P f h i = rw i tt
 
 -- the last number of a list
 pub last_is : (e x : ℕ) (xs : List ℕ) → slice_index_or (x ∷ xs) (length xs) e ≡ last_end (x ∷ xs)

@@ -26,6 +26,7 @@ use Rattle.full_plot.specs.Drawings.{at_start_with, ended, is_too_much, runs, Ca
 use Rattle.full_plot.specs.Items.{full_steps, taken}
 use Rattle.full_plot.specs.Machine.{FullStep, Core, PointsBy, Letter, Print, Place, Tick, ArcThrough, Curve, PolygonBy, EdgeBuffer, FillBuffer, AnchorBy, Rectangle, WedgeEdge, WedgeFill}
 use Rattle.full_plot.specs.Machine.{anchored, core_step, step, run, then_filled, then_rewidened, points_set}
+use Rattle.full_plot.specs.Lines.{places_of}
 use Rattle.full_plot.specs.Polygons.{kept_step}
 use Rattle.full_plot.specs.Texts.{labelled, lettered, sets_margin, then_shifted, written}
 use Rattle.full_plot.specs.Wedges.{wedge_edged, wedge_kept, wedge_places}
@@ -77,7 +78,7 @@ by_anchor w (At p) = elim (cases_Bool (are_in_range ((pen_at_point w false p).pl
 ]
 
 by_rectangle : (w : World) (t : Step) → LaterIn w (kept_step w t)
-by_rectangle w t = elim (cases_Bool (list_all are_in_range (path w.core.page w.core.state t).lines)) [
+by_rectangle w t = elim (cases_Bool (are_in_range (places_of w t))) [
   | inl i ↦ rw i (record { context_is = refl; few = λ h. h })
   | inr i ↦ rw i tt
 ]

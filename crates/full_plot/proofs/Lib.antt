@@ -6,14 +6,12 @@ pub mod WidthTables
 pub mod Kept
 pub mod DrawnLines
 pub mod Solid
-pub mod CoreLines
+pub mod LinesAlong
+pub mod Curved
 pub mod FullRuns
-pub mod LinesOver
 pub mod Nexts
-pub mod Traces
 pub mod Filled
 pub mod Aside
-pub mod Wedged
 pub mod Later
 pub mod LabelsOver
 pub mod CoreNotes

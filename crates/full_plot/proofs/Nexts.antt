@@ -30,7 +30,7 @@ use Rattle.curves.specs.Beziers.{bezier_places}
 use Rattle.full_notes.specs.Contexts.{Context}
 use Rattle.full_plot.specs.Curves.{arc_step, arrived, curve_step, drawn_over, gone_over, if_in_range, lined, lined_in, pen_at_point, traced_over}
 use Rattle.polygons.specs.Buffers.{Contents}
-use Rattle.full_plot.specs.Lines.{line_step, lines_of}
+use Rattle.full_plot.specs.Lines.{drawn_along, line_step, places_of}
 use Rattle.full_plot.specs.Machine.{core_step, marked, marked_in, moved, touched_in}
 use Rattle.full_plot.specs.Polygons.{lined_by, lined_step, only_figure, trace_step, with_buffer}
 use Rattle.full_plot.specs.Texts.{at_margin, if_short, inked_at_pen, label_by, labelled, line_at, margin_by, marked_by, moved_by, moved_on, put, signs_of, style_of, then_shifted, tick_distance, tick_end, ticked, with_margin}
@@ -192,7 +192,7 @@ next_core w t = next_with_core w (core.step w.core t) (few_step w.core t)
 
 next_line : (w : World) (t : Step) → NextIn w (line_step w t)
 unfolding line_step
-next_line w t = elim (cases_Bool (list_all are_in_range (path w.core.page w.core.state t).lines)) [
+next_line w t = elim (cases_Bool (are_in_range (places_of w t))) [
   | inl i ↦ rw i (next_by w _ _ w.margin (λ h. few_kept w.core.kept w.core.full _ h))
   | inr i ↦ rw i tt
 ]
@@ -206,7 +206,7 @@ next_margin w q (Some v) h = next_of_next w v (record v { margin = q }) h (next_
 
 next_traced : (w : World) (t : Step) → w.context.in_polygon ≡ true → NextIn w (trace_step w t)
 unfolding trace_step
-next_traced w t on = elim (cases_Bool (list_all are_in_range (path w.core.page w.core.state t).lines)) [
+next_traced w t on = elim (cases_Bool (are_in_range (places_of w t))) [
   | inl i ↦ rw i (next_with_buffer w _ _ (λ h. h) (λ off few. absurd (true≢false (sym on ∙ off))))
   | inr i ↦ rw i tt
 ]
@@ -219,10 +219,8 @@ next_lined_step : (w : World) (t : Step) → NextIn w (lined_step w t)
 next_lined_step w t = next_lined_by w.context.in_polygon w t refl
 
 -- the edge of a rectangle has five places
-edge_places : (w : World) (relative : Bool) (x y : ℤ) → (only_figure (lines_of w.core.page w.core.state (Edge relative x y))).places ≤ 4194304
-edge_places w relative x y =
-    let e : nat_eq (max 1 w.core.state.pen) 0 ≡ false = grind (arith, nat_tests) in
-    rw e (omega arith)
+edge_places : (w : World) (relative : Bool) (x y : ℤ) → (only_figure (places_of w (Edge relative x y))).places ≤ 4194304
+edge_places w relative x y = omega arith
 
 next_kept_buffer : (w : World) (b : Contents) (o : Option World) → b.places ≤ 4194304 → NextIn w o → NextIn w (with_buffer b o)
 next_kept_buffer w b None few h = tt
@@ -296,7 +294,7 @@ next_core_step w Touch k = next_touched w.context.in_polygon w
 next_core_step w (DrawArc relative a) k =
     next_then w (lined_step w (DrawArc relative a)) (λ (v : World). Some (at_margin v)) (next_lined_step w (DrawArc relative a)) next_at_margin
 next_core_step w (Edge relative x y) k =
-    next_kept_buffer w (only_figure (lines_of w.core.page w.core.state (Edge relative x y))) (line_step w (Edge relative x y))
+    next_kept_buffer w (only_figure (places_of w (Edge relative x y))) (line_step w (Edge relative x y))
     (edge_places w relative x y) (next_line w (Edge relative x y))
 next_core_step w (DrawCircle c) k = next_lined_step w (DrawCircle c)
 next_core_step w (Write text) k =
@@ -304,8 +302,8 @@ next_core_step w (Write text) k =
 next_core_step w t k = next_core w t
 
 -- a curve
-next_drawn_over : (w : World) (places : List Spot) → NextIn w (drawn_over w places)
-next_drawn_over w places = elim (cases_Bool (are_in_range (w.core.state.place ∷ places))) [
+next_along : (w : World) (draws : Bool) (places : List Spot) → NextIn w (drawn_along w draws places)
+next_along w draws places = elim (cases_Bool (are_in_range places)) [
   | inl i ↦ rw i (next_by w _ _ w.margin (λ h. few_kept w.core.kept w.core.full _ h))
   | inr i ↦ rw i tt
 ]
@@ -318,7 +316,7 @@ next_traced_over w places on = elim (cases_Bool (are_in_range (w.core.state.plac
 
 next_lined_in : (on : Bool) (w : World) (places : List Spot) → w.context.in_polygon ≡ on → NextIn w (lined_in on w places)
 next_lined_in true w places e = next_traced_over w places e
-next_lined_in false w places e = next_drawn_over w places
+next_lined_in false w places e = next_along w w.core.state.is_down (w.core.state.place ∷ places)
 
 next_lined : (w : World) (places : List Spot) → NextIn w (lined w places)
 next_lined w places = next_lined_in w.context.in_polygon w places refl

@@ -1,5 +1,5 @@
 -- Solid lines are those of core.
-use Rattle.std.proofs.Common.{◌≡◌, ◌∙◌, ◌≤◌, ℕ, max, List, [], ◌∷◌, ◌++◌, refl, ap, ap₂, sym, inl, inr, nat_eq, arith, Option, Bool, true, false}
+use Rattle.std.proofs.Common.{◌≡◌, ◌∙◌, ◌≤◌, ℕ, max, List, [], ◌∷◌, ◌++◌, refl, ap, ap₂, sym, inl, inr, nat_eq, arith, Option, Bool, true, false, true≢false}
 use Rattle.std.specs.Prelude.{if◌then◌else◌}
 use Rattle.std.proofs.lemmas.Bool.{cases_Bool, eqb-true}
 use Rattle.std.proofs.lemmas.Bool.Decides.{nat_tests}
@@ -8,6 +8,9 @@ use Rattle.exact.specs.declared.spot.Spot.{Spot}
 use Rattle.plot_page.specs.Segments.{Segment}
 use Rattle.line_types.specs.declared.run.Run.{Run}
 use Rattle.line_types.specs.LineTypes.{Solid}
+use Rattle.full_settings.specs.LineStyles.{is_solid, shape_by}
+use Rattle.full_settings.specs.declared.line_setting.LineKind.TheVariants as kind
+use Rattle.full_settings.specs.declared.line_setting.LineKind.{LineKind}
 use Rattle.hpgl_plot.specs.declared.state.State.{State}
 use Rattle.hpgl_plot.specs.Paths.{Path}
 use Rattle.hpgl_plot.specs.Strokes.{by_a_pen, joined, path_strokes}
@@ -28,16 +31,6 @@ nothing_joined s e [] = refl
 nothing_joined s e (a ∷ []) = refl
 nothing_joined s e (a ∷ (b ∷ rest)) = rw e (nothing_joined s e (b ∷ rest))
 
-nothing_in_all : (s : State) → s.pen ≡ 0 → (lines : List (List Spot)) → flat_map (joined s) lines ≡ []
-nothing_in_all s e [] = refl
-nothing_in_all s e (l ∷ ls) = ap₂ (λ (a b : List Segment). a ++ b) (nothing_joined s e l) (nothing_in_all s e ls)
-
-nothing_drawn : (s : State) → s.pen ≡ 0 → (p : Path) → path_strokes s p ≡ []
-nothing_drawn s e p = elim (cases_Bool p.draws) [
-  | inl t ↦ rw t (nothing_in_all s e p.lines)
-  | inr t ↦ rw t refl
-]
-
 nothing_if : (s : State) → s.pen ≡ 0 → (draws : Bool) (places : List Spot) → (if draws then joined s places else []) ≡ []
 nothing_if s e true places = nothing_joined s e places
 nothing_if s e false places = refl
@@ -45,13 +38,6 @@ nothing_if s e false places = refl
 has_a_pen : (s : State) → 1 ≤ s.pen → by_a_pen s ≡ s
 has_a_pen s h = let e : max 1 s.pen ≡ s.pen = omega arith in ap (λ (n : ℕ). record s { pen = n }) e
 
-pub solid_strokes : (s : State) (run : Option Run) (p : Path) → inked s (dashed Solid run (path_strokes (by_a_pen s) p)) ≡ path_strokes s p
-solid_strokes s run p = elim (cases_Bool (nat_eq s.pen 0)) [
-  | inl t ↦ rw t (sym (nothing_drawn s (eqb-true _ _ t) p))
-  | inr t ↦ rw t (dashed_solid run (path_strokes (by_a_pen s) p) ∙ ap (λ (r : State). path_strokes r p) (has_a_pen s (grind (arith, nat_tests))))
-]
-
--- the same of one line
 pub solid_joined : (s : State) (run : Option Run) (draws : Bool) (places : List Spot)
     → inked s (dashed Solid run (if draws then joined (by_a_pen s) places else [])) ≡ (if draws then joined s places else [])
 solid_joined s run draws places = elim (cases_Bool (nat_eq s.pen 0)) [
@@ -59,3 +45,8 @@ solid_joined s run draws places = elim (cases_Bool (nat_eq s.pen 0)) [
   | inr t ↦ rw t (dashed_solid run (if draws then joined (by_a_pen s) places else [])
       ∙ ap (λ (r : State). if draws then joined r places else []) (has_a_pen s (grind (arith, nat_tests))))
 ]
+
+-- a solid line type
+pub shape_solid : (k : LineKind) (own : List (Option (List ℕ))) (ticks : ℕ) → is_solid k ≡ true → shape_by k own ticks ≡ Solid
+shape_solid kind.Solid own ticks h = refl
+shape_solid (kind.Patterned n) own ticks h = absurd (true≢false (sym h))

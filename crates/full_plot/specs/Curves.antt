@@ -4,18 +4,16 @@ use Rattle.std.specs.Prelude.{Bool, true, false, List, [], ◌∷◌, Option, So
 use Rattle.exact.specs.declared.spot.Spot.{Spot}
 use Rattle.curves.specs.Arcs.{arc_places}
 use Rattle.curves.specs.Beziers.{bezier_places}
-use Rattle.plot_page.specs.Segments.{Segment}
 use Rattle.polygons.specs.Buffers.{begun_at}
 use Rattle.hpgl_plot.specs.declared.state.Position.{Position}
-use Rattle.hpgl_plot.specs.declared.state.State.{State}
 use Rattle.hpgl_plot.specs.Paths.{pen_at, target}
-use Rattle.hpgl_plot.specs.Strokes.{are_in_range, by_a_pen, joined}
+use Rattle.hpgl_plot.specs.Strokes.{are_in_range}
 use Rattle.hpgl_plot.specs.Machine as core
 use Rattle.full_settings.specs.declared.points.ArcPoints.{ArcPoints}
 use Rattle.full_settings.specs.declared.points.CurvePoints.{CurvePoints}
 use Rattle.full_settings.specs.declared.points.Point.{Point}
-use Rattle.full_plot.specs.Lines.{drawn, ended_by}
-use Rattle.full_plot.specs.Polygons.{reached_all}
+use Rattle.full_plot.specs.Lines.{drawn_along, ended_by}
+use Rattle.full_plot.specs.Polygons.{reached}
 use Rattle.full_plot.specs.Texts.{at_margin}
 use Rattle.full_plot.specs.Worlds.{World, followed}
 
@@ -24,23 +22,13 @@ abbrev pub pen_at_point : World → Bool → Point → Position
 pen_at_point w relative p =
     let s = w.core.state in pen_at w.core.page s.frame (target relative s.coordinates p.x p.y)
 
--- the lines from the pen over places, whatever pen is selected
-abbrev pub lines_over : State → List Spot → List Segment
-lines_over s places = if s.is_down then joined (by_a_pen s) (s.place ∷ places) else []
-
--- the same in the line type: None if a place is out of range
+-- the lines from the pen over places, in the line type if it is down: None if a place is out of range
 abbrev pub drawn_over : World → List Spot → Option World
-drawn_over w places =
-    let s = w.core.state in
-    if are_in_range (s.place ∷ places) then Some (drawn w (lines_over s places)) else None
+drawn_over w places = let s = w.core.state in drawn_along w s.is_down (s.place ∷ places)
 
 -- in polygon mode they are points of the polygon, which follow the pen's place
 abbrev pub traced_over : World → List Spot → Option World
-traced_over w places =
-    let s = w.core.state in
-    if are_in_range (s.place ∷ places)
-    then Some (record w { buffer = reached_all s.is_down (begun_at w.buffer s.place) places })
-    else None
+traced_over w places = reached (record w { buffer = begun_at w.buffer w.core.state.place }) places
 
 abbrev pub lined_in : Bool → World → List Spot → Option World
 lined_in true w places = traced_over w places

@@ -14,7 +14,7 @@ pub mod Items
 pub mod Drawings
 pub mod Labels
 pub mod Laws
--- What contracts of private calls need: what is held back while core draws lines, and ranges.
-pub mod Holding
+-- What contracts of private calls need: the context after an instruction, and ranges.
+pub mod ContextsAfter
 pub mod Areas
 pub mod Inking

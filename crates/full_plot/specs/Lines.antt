@@ -1,13 +1,12 @@
--- Moves and figures: their lines are those of core, drawn in the line type.
-use Rattle.std.specs.Prelude.{List, [], nat_eq, if◌then◌else◌, Option, Some, None}
-use Rattle.std.specs.List.{list_all}
-use Rattle.plot_page.specs.declared.page.Page.{Page}
+-- Moves and figures: the lines along their places are drawn in the line type.
+use Rattle.std.specs.Prelude.{Bool, List, [], ◌∷◌, nat_eq, if◌then◌else◌, Option, Some, None}
+use Rattle.exact.specs.declared.spot.Spot.{Spot}
 use Rattle.plot_page.specs.Segments.{Segment}
 use Rattle.line_types.specs.LineTypes.{LineShape}
 use Rattle.plot_settings.specs.Meanings.{Step}
 use Rattle.hpgl_plot.specs.declared.state.State.{State}
-use Rattle.hpgl_plot.specs.Paths.{path}
-use Rattle.hpgl_plot.specs.Strokes.{are_in_range, by_a_pen, path_strokes}
+use Rattle.hpgl_plot.specs.Paths.{Path, path}
+use Rattle.hpgl_plot.specs.Strokes.{are_in_range, by_a_pen, joined}
 use Rattle.hpgl_plot.specs.Machine as core
 use Rattle.full_settings.specs.LineStyles.{shape_of}
 use Rattle.full_plot.specs.Dashing.{dashed, run_through}
@@ -17,9 +16,9 @@ use Rattle.full_plot.specs.Worlds.{World}
 abbrev pub shape_in : World → LineShape
 shape_in w = shape_of w.style w.core.state.frame.points
 
--- the lines of a step, whatever pen is selected
-abbrev pub lines_of : Page → State → Step → List Segment
-lines_of page s t = path_strokes (by_a_pen s) (path page s t)
+-- the lines from each place to the next, whatever pen is selected
+abbrev pub lines_along : State → Bool → List Spot → List Segment
+lines_along s draws places = if draws then joined (by_a_pen s) places else []
 
 -- pen 0 makes no stroke
 abbrev pub inked : State → List Segment → List Segment
@@ -32,14 +31,33 @@ drawn w lines = record w {
   run = run_through (shape_in w) w.run lines;
 }
 
+-- the lines along these places, in the line type: None if a place is out of range
+abbrev pub drawn_along : World → Bool → List Spot → Option World
+drawn_along w draws places =
+    if are_in_range places then Some (drawn w (lines_along w.core.state draws places)) else None
+
 abbrev pub ended_by : World → State → World
 ended_by w s = record w { core = record w.core { state = s } }
 
--- a step whose lines are drawn in the line type: None if a place is out of range
+abbrev pub ended_in : State → Option World → Option World
+ended_in s None = None
+ended_in s (Some w) = Some (ended_by w s)
+
+-- the path of a move or a figure is one line
+abbrev pub first_line : List (List Spot) → List Spot
+first_line [] = []
+first_line (l ∷ ls) = l
+
+abbrev pub step_path : World → Step → Path
+step_path w t = path w.core.page w.core.state t
+
+-- the places that a step passes
+abbrev pub places_of : World → Step → List Spot
+places_of w t = first_line (step_path w t).lines
+
+abbrev pub state_after : World → Step → State
+state_after w t = core.after w.core.page w.core.state t
+
+-- a step whose line is drawn in the line type
 unfoldable pub line_step : World → Step → Option World
-line_step w t =
-    let page = w.core.page in
-    let s = w.core.state in
-    if list_all are_in_range (path page s t).lines
-    then Some (ended_by (drawn w (lines_of page s t)) (core.after page s t))
-    else None
+line_step w t = ended_in (state_after w t) (drawn_along w (step_path w t).draws (places_of w t))

@@ -1,21 +1,16 @@
 -- Polygon mode (HP-GL/2 guide: PM): the places that the pen comes to are points of a polygon, and nothing is drawn. EA,
 -- ER, RA, RR, EW and WG put their figure into the buffer.
 use Rattle.std.specs.Prelude.{Bool, true, false, List, [], ◌∷◌, map, filter, Option, Some, None, if◌then◌else◌}
-use Rattle.std.specs.List.{list_all}
 use Rattle.exact.specs.declared.spot.Spot.{Spot}
-use Rattle.plot_page.specs.declared.page.Page.{Page}
 use Rattle.plot_page.specs.Segments.{Segment}
 use Rattle.plot_settings.specs.Meanings.{Step, DrawCircle, DrawArc}
 use Rattle.polygons.specs.Buffers.{Contents, begun_at, reached_at, closed, empty}
 use Rattle.polygons.specs.declared.edge.Edge.{Edge}
 use Rattle.hpgl_plot.specs.declared.state.State.{State}
-use Rattle.hpgl_plot.specs.Paths.{path}
 use Rattle.hpgl_plot.specs.Strokes.{are_in_range, by_a_pen, stroke}
-use Rattle.hpgl_plot.specs.Machine as core
 use Rattle.full_settings.specs.declared.polygon_setting.PolygonStep.{PolygonStep}
 use Rattle.full_settings.specs.declared.polygon_setting.PolygonStep.TheVariants.{Begin, Close, End}
-use Rattle.full_plot.specs.Dashing.{from_of, to_of}
-use Rattle.full_plot.specs.Lines.{drawn, ended_by, line_step, lines_of}
+use Rattle.full_plot.specs.Lines.{drawn, ended_by, line_step, places_of, state_after}
 use Rattle.full_plot.specs.Worlds.{World}
 
 -- further places of a polygon
@@ -23,44 +18,48 @@ abbrev pub reached_all : Bool → Contents → List Spot → Contents
 reached_all is_drawn b [] = b
 reached_all is_drawn b (q ∷ qs) = reached_all is_drawn (reached_at b q is_drawn) qs
 
--- the places to which lines lead
-abbrev pub reached_by : Bool → Contents → List Segment → Contents
-reached_by is_drawn b lines = reached_all is_drawn b (map to_of lines)
+-- the places to which the pen comes: None if one is out of range
+abbrev pub reached : World → List Spot → Option World
+reached w places =
+    let s = w.core.state in
+    if are_in_range (s.place ∷ places)
+    then Some (record w { buffer = reached_all s.is_down w.buffer places })
+    else None
 
--- lines that are a polygon of their own, whose edges are drawn
-abbrev pub figure_in : Contents → List Segment → Contents
+-- the places after the first one
+abbrev pub reached_past : Bool → Contents → List Spot → Contents
+reached_past is_drawn b [] = b
+reached_past is_drawn b (q ∷ qs) = reached_all is_drawn b qs
+
+-- places that are a polygon of its own, whose edges are drawn
+abbrev pub figure_in : Contents → List Spot → Contents
 figure_in b [] = b
-figure_in b (l ∷ ls) = closed (reached_by true (begun_at b (from_of l)) (l ∷ ls)) true
+figure_in b (q ∷ qs) = closed (reached_all true (begun_at b q) qs) true
 
-abbrev pub only_figure : List Segment → Contents
-only_figure lines = figure_in empty lines
+abbrev pub only_figure : List Spot → Contents
+only_figure places = figure_in empty places
+
+-- it is the only polygon in the buffer: None if a place is out of range
+abbrev pub figure_kept : World → List Spot → Option World
+figure_kept w places = if are_in_range places then Some (record w { buffer = only_figure places }) else None
 
 abbrev pub with_buffer : Contents → Option World → Option World
 with_buffer b None = None
 with_buffer b (Some w) = Some (record w { buffer = b })
 
--- the lines of a step, whether the pen is down or not
-abbrev pub lowered : State → State
-lowered s = record s { is_down = true }
-
-abbrev pub traced_lines : Page → State → Step → List Segment
-traced_lines page s t = lines_of page (lowered s) t
-
--- the buffer after a step: a circle is a polygon of its own; the points of an arc follow the pen's place
-abbrev pub traced : World → Step → List Segment → Contents
-traced w (DrawCircle c) lines = figure_in (closed w.buffer w.core.state.is_down) lines
-traced w (DrawArc relative a) lines =
-    let s = w.core.state in reached_by s.is_down (begun_at w.buffer s.place) lines
-traced w t lines = reached_by w.core.state.is_down w.buffer lines
+-- the buffer after a step that passes these places, whether the pen is down or not: a circle is a polygon of its own;
+-- the points of an arc follow the pen's place
+abbrev pub traced : World → Step → List Spot → Contents
+traced w (DrawCircle c) places = figure_in (closed w.buffer w.core.state.is_down) places
+traced w (DrawArc relative a) places =
+    let s = w.core.state in reached_past s.is_down (begun_at w.buffer s.place) places
+traced w t places = reached_past w.core.state.is_down w.buffer places
 
 -- a step in polygon mode: None if a place is out of range
 unfoldable pub trace_step : World → Step → Option World
 trace_step w t =
-    let page = w.core.page in
-    let s = w.core.state in
-    if list_all are_in_range (path page s t).lines
-    then Some (record (ended_by w (core.after page s t)) { buffer = traced w t (traced_lines page s t) })
-    else None
+    let places = places_of w t in
+    if are_in_range places then Some (record (ended_by w (state_after w t)) { buffer = traced w t places }) else None
 
 -- a step with lines, in polygon mode or out of it
 abbrev pub lined_by : Bool → World → Step → Option World
@@ -72,16 +71,11 @@ lined_step w t = lined_by w.context.in_polygon w t
 
 -- the edge of a rectangle, which is the only polygon in the buffer then
 abbrev pub edge_step : World → Step → Option World
-edge_step w t = with_buffer (only_figure (lines_of w.core.page w.core.state t)) (line_step w t)
+edge_step w t = with_buffer (only_figure (places_of w t)) (line_step w t)
 
 -- a filled one is only put into the buffer
 abbrev pub kept_step : World → Step → Option World
-kept_step w t =
-    let page = w.core.page in
-    let s = w.core.state in
-    if list_all are_in_range (path page s t).lines
-    then Some (record w { buffer = only_figure (lines_of page s t) })
-    else None
+kept_step w t = figure_kept w (places_of w t)
 
 -- PM: polygon mode begins with an empty buffer and the pen's place, or a polygon is closed
 abbrev pub polygon_set : PolygonStep → World → World

@@ -1,5 +1,5 @@
 //! Arcs through three places, and Bezier curves.
-ghost use Rattle.std.specs.Prelude.{◌≡◌, ◌≤◌, length, map, IfOk};
+ghost use Rattle.std.specs.Prelude.{◌≡◌, map, IfOk};
 ghost use Rattle.hpgl_plot.specs.Bounds.{IsInRange};
 ghost use Rattle.hpgl_plot.specs.Frames.{place};
 ghost use Rattle.full_settings.specs.CurveParameters.{curve_points};
@@ -67,7 +67,6 @@ impl FullPlotter {
 
     // The pen goes over places to its end, where the left margin is then, too.
     fn go_over(&mut self, places: &[Spot], end: Position) -> Result<(), Stop>
-        requires few { length places.now ≤ 256 }
         requires in_range { IsInRange end.place }
         requires placed { end.place ≡ place self.old.plotter.page self.old.plotter.state.frame end.coordinates }
         ensures { Runs (steps.gone_over (seen self.old) places.now end) (seen self.new) result }

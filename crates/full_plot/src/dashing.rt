@@ -1,9 +1,10 @@
 //! Lines in the line type.
 ghost use Rattle.std.specs.Prelude.{◌≡◌, ◌∷◌, [], All, IfOk, IfErr, Some, map};
+ghost use Rattle.hpgl_plot.specs.Bounds.{IsInRange};
 ghost use Rattle.hpgl_plot.specs.Machine as core;
 ghost use Rattle.line_types.specs.Bounds.{IsPlace};
 ghost use Rattle.line_types.specs.LineTypes.{line_shape};
-ghost use Rattle.full_plot.specs.Lines.{drawn, shape_in};
+ghost use Rattle.full_plot.specs.Lines.{drawn, drawn_along, shape_in};
 ghost use Rattle.full_plot.specs.Machine.{seen, Runs};
 ghost use Rattle.full_plot.specs.Dashing.{part_of, from_of, to_of, IsDash, with_one_more};
 
@@ -14,13 +15,47 @@ use line_types::{Dashes, Line, LineType};
 use plot_page::{MOST_STROKES, Stroke};
 
 impl FullPlotter {
-    /// Draws lines in the line type, one after another.
-    pub fn dash(&mut self, lines: &Vec<Stroke>) -> Result<(), Stop>
-        ensures { Runs (Some (drawn (seen self.old) lines.now.items)) (seen self.new) result }
+    /// Draws the lines from a place to each of these places in turn, in the line type. The pen stays where it is.
+    pub fn draw_along(&mut self, start: Spot, places: &[Spot], draws: bool) -> Result<(), Stop>
+        ensures { Runs (drawn_along (seen self.old) draws (start ∷ places.now)) (seen self.new) result }
+    {
+        if self.style.is_solid() {
+            return self.plotter.travel(start, places, draws);
+        }
+        self.dash_along(start, places, draws)
+    }
+
+    // The same in dashes.
+    fn dash_along(&mut self, start: Spot, places: &[Spot], draws: bool) -> Result<(), Stop>
+        ensures { Runs (drawn_along (seen self.old) draws (start ∷ places.now)) (seen self.new) result }
     {
         let line_type = self.style.line_type(&self.plotter.state.frame.points);
-        for line in lines {
-            self.dash_line(line, &line_type)?;
+        self.plotter.begin(start)?;
+        let mut from = start;
+        for place in places {
+            self.dash_to(from, *place, draws, &line_type)?;
+            from = *place;
+        }
+        Ok(())
+    }
+
+    // The line from one place to the next.
+    fn dash_to(
+        &mut self,
+        from: Spot,
+        place: Spot,
+        draws: bool,
+        line_type: &LineType,
+    ) -> Result<(), Stop>
+        requires shape { line_shape line_type.now ≡ shape_in (seen self.old) }
+        requires from_in { IsInRange from }
+        ensures in_range { IfOk result (λ _. IsInRange place) }
+        ensures runs { Runs (drawn_along (seen self.old) draws (from ∷ (place ∷ []))) (seen self.new) result }
+    {
+        self.plotter.begin(place)?;
+        if draws {
+            let line = self.plotter.line(from, place);
+            self.dash_line(&line, line_type)?;
         }
         Ok(())
     }

@@ -1,22 +1,19 @@
 //! Figures that are the only polygon in the buffer then: rectangles and wedges, edged or filled.
-ghost use Rattle.std.specs.Prelude.{◌≡◌, ◌∷◌, ◌++◌, [], pos, ◌+ℤ◌, Some, IfOk, IfErr, true};
-ghost use Rattle.hpgl_plot.specs.Machine as core;
+ghost use Rattle.std.specs.Prelude.{◌≡◌, ◌∷◌, ◌++◌, [], pos, ◌+ℤ◌, IfOk, IfErr, true};
 ghost use Rattle.plot_arc.specs.Arcs.{turn_after};
 ghost use Rattle.plot_settings.specs.Bounds.{IsCorner};
 ghost use Rattle.plot_settings.specs.Meanings.{Edge};
 ghost use Rattle.full_settings.specs.PolygonParameters.{IsWedge};
-ghost use Rattle.full_plot.specs.Lines.{lines_of};
+ghost use Rattle.full_plot.specs.Lines.{drawn_along};
 ghost use Rattle.full_plot.specs.Machine.{seen, step, Runs, Rectangle, WedgeEdge, WedgeFill};
-ghost use Rattle.full_plot.specs.Polygons.{edge_step, kept_step, only_figure, with_buffer};
+ghost use Rattle.full_plot.specs.Polygons.{edge_step, only_figure, with_buffer};
 ghost use Rattle.full_plot.specs.Wedges as wedges;
 
 use crate::plotter::FullPlotter;
-use crate::polygons_traced::put_figure;
 use exact::Spot;
 use full_settings::Wedge;
 use hpgl_plot::Stop;
 use plot_arc::{turn, turn_count};
-use plot_page::Stroke;
 use plot_settings::Corner;
 
 impl FullPlotter {
@@ -25,8 +22,9 @@ impl FullPlotter {
         requires { IsCorner corner }
         ensures { Runs (edge_step (seen self.old) (Edge is_relative corner.x corner.y)) (seen self.new) result }
     {
-        let lines = self.keep_rectangle(is_relative, corner)?;
-        self.dash(&lines)
+        let start = self.plotter.state.place;
+        let corners = self.plotter.corners(is_relative, corner);
+        self.draw_figure(start, &corners)
     }
 
     /// RA and RR: a filled rectangle.
@@ -34,22 +32,10 @@ impl FullPlotter {
         requires { IsCorner corner }
         ensures { Runs (step (seen self.old) (Rectangle is_relative corner)) (seen self.new) result }
     {
-        self.keep_rectangle(is_relative, corner)?;
+        let start = self.plotter.state.place;
+        let corners = self.plotter.corners(is_relative, corner);
+        self.keep_figure(start, &corners)?;
         self.fill_polygon(false)
-    }
-
-    // Puts a rectangle into the buffer, and gives its lines.
-    fn keep_rectangle(&mut self, is_relative: bool, corner: Corner) -> Result<Vec<Stroke>, Stop>
-        requires { IsCorner corner }
-        ensures lines { IfOk result (λ lines. lines.items ≡ lines_of
-            self.old.plotter.page self.old.plotter.state (Edge is_relative corner.x corner.y)) }
-        ensures runs { Runs (kept_step (seen self.old) (Edge is_relative corner.x corner.y)) (seen self.new) result }
-    {
-        let held = self.hold();
-        self.plotter.edge(is_relative, corner)?;
-        let lines = self.bring_back(held);
-        self.keep_figure(&lines)?;
-        Ok(lines)
     }
 
     /// EW: the edge of a wedge.
@@ -57,8 +43,11 @@ impl FullPlotter {
         requires { IsWedge wedge }
         ensures { Runs (step (seen self.old) (WedgeEdge wedge)) (seen self.new) result }
     {
-        let lines = self.keep_wedge(wedge)?;
-        self.dash(&lines)
+        let places = self.wedge_places(wedge)?;
+        let [first, rest @ ..] = places.as_slice() else {
+            return Ok(());
+        };
+        self.draw_figure(*first, rest)
     }
 
     /// WG: a filled wedge.
@@ -66,35 +55,21 @@ impl FullPlotter {
         requires { IsWedge wedge }
         ensures { Runs (step (seen self.old) (WedgeFill wedge)) (seen self.new) result }
     {
-        self.keep_wedge(wedge)?;
+        let places = self.wedge_places(wedge)?;
+        let [first, rest @ ..] = places.as_slice() else {
+            return Ok(());
+        };
+        self.keep_figure(*first, rest)?;
         self.fill_polygon(false)
     }
 
-    // Puts a wedge into the buffer, and gives its lines.
-    fn keep_wedge(&mut self, wedge: Wedge) -> Result<Vec<Stroke>, Stop>
-        requires { IsWedge wedge }
-        ensures lines { IfOk result
-            (λ lines. lines.items ≡ wedges.wedge_lines self.old.plotter.page self.old.plotter.state wedge) }
-        ensures runs { Runs (wedges.wedge_kept (seen self.old) wedge) (seen self.new) result }
+    // Draws lines along places, which are the only polygon in the buffer then.
+    fn draw_figure(&mut self, start: Spot, places: &[Spot]) -> Result<(), Stop>
+        ensures { Runs (with_buffer (only_figure (start ∷ places.now))
+            (drawn_along (seen self.old) true (start ∷ places.now))) (seen self.new) result }
     {
-        let places = self.wedge_places(wedge)?;
-        let held = self.hold();
-        self.travel_over(&places)?;
-        let lines = self.bring_back(held);
-        self.keep_figure(&lines)?;
-        Ok(lines)
-    }
-
-    // Lines from the first of some places to each further one.
-    fn travel_over(&mut self, places: &Vec<Spot>) -> Result<(), Stop>
-        ensures core { core.Runs (core.travelled (core.seen self.old.plotter) true places.now.items)
-            (core.seen self.new.plotter) result }
-        ensures same { record (seen self.new) { core = core.seen self.old.plotter } ≡ seen self.old }
-    {
-        match places.as_slice() {
-            [] => Ok(()),
-            [first, rest @ ..] => self.plotter.travel(*first, rest, true),
-        }
+        self.draw_along(start, places, true)?;
+        self.keep_figure(start, places)
     }
 
     // The places of a wedge; a whole turn is without the pen's.
@@ -130,14 +105,6 @@ impl FullPlotter {
             push(places, place)?;
         }
         Ok(())
-    }
-
-    // These lines are the only polygon in the buffer.
-    fn keep_figure(&mut self, lines: &Vec<Stroke>) -> Result<(), Stop>
-        ensures { Runs (with_buffer (only_figure lines.now.items) (Some (seen self.old))) (seen self.new) result }
-    {
-        self.buffer.clear();
-        put_figure(&mut self.buffer, lines)
     }
 }
 

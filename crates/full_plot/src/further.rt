@@ -9,7 +9,7 @@ ghost use Rattle.full_notes.specs.Contexts.{request_in};
 ghost use Rattle.full_notes.specs.Notes.{request_noted};
 ghost use Rattle.full_plot.specs.Items.{request_steps};
 ghost use Rattle.full_plot.specs.Machine as machine;
-ghost use Rattle.full_plot.specs.Holding.{after_request};
+ghost use Rattle.full_plot.specs.ContextsAfter.{after_request};
 ghost use Rattle.full_plot.specs.Machine.{seen, step, run, Runs, Style, TickBy, PointsBy, FillBy, AnchorBy};
 
 use crate::plotter::FullPlotter;

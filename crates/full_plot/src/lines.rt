@@ -1,29 +1,17 @@
-//! The steps of core whose lines are drawn in the line type.
-ghost use Rattle.std.specs.Prelude.{◌≡◌, ◌≤◌, length, Some};
+//! Moves, circles, arcs and curves: lines in the line type, or points of a polygon in polygon mode.
+ghost use Rattle.std.specs.Prelude.{◌≡◌, ◌∷◌, []};
 ghost use Rattle.plot_settings.specs.Bounds.{IsCircle, IsArc};
 ghost use Rattle.plot_settings.specs.Meanings.{Move, Go, DrawCircle, DrawArc};
-ghost use Rattle.hpgl_plot.specs.Machine as core;
 ghost use Rattle.full_plot.specs.Curves.{drawn_over, lined};
-ghost use Rattle.full_plot.specs.Lines.{line_step, drawn};
+ghost use Rattle.full_plot.specs.Lines.{line_step};
 ghost use Rattle.full_plot.specs.Machine.{seen, core_step, Runs};
-ghost use Rattle.full_plot.specs.Holding.{cleared, with_held};
 ghost use Rattle.full_plot.specs.Polygons.{lined_step};
 
 use crate::plotter::FullPlotter;
 use exact::Spot;
 use hpgl_plot::Stop;
 use hpgl_text::Number;
-use plot_page::Stroke;
 use plot_settings::{Arc, Circle};
-use std::mem::replace;
-
-// What is held back while core draws lines.
-#[derive(Drop)]
-pub struct Held {
-    pub strokes: Vec<Stroke>,
-    pub pen: u8,
-    pub is_full: bool,
-}
 
 impl FullPlotter {
     /// A move to coordinates, which are relative or absolute by the most recent PA or PR.
@@ -65,9 +53,10 @@ impl FullPlotter {
         if self.style.is_solid() {
             return self.plotter.go(is_relative, x, y);
         }
-        let held = self.hold();
-        self.plotter.go(is_relative, x, y)?;
-        self.release(held)
+        let end = self.plotter.end_of(is_relative, x, y);
+        self.draw_over(&[end.place])?;
+        self.plotter.arrive(end);
+        Ok(())
     }
 
     /// A circle about the pen, or a polygon in polygon mode.
@@ -89,9 +78,8 @@ impl FullPlotter {
         if self.style.is_solid() {
             return self.plotter.circle(circle);
         }
-        let held = self.hold();
-        self.plotter.circle(circle)?;
-        self.release(held)
+        let outline = self.plotter.circle_outline(self.alloc, circle)?;
+        self.draw_along(outline.start, outline.places.as_slice(), true)
     }
 
     /// An arc from the pen on, or points of a polygon in polygon mode. Then the left margin is where the pen is.
@@ -124,15 +112,15 @@ impl FullPlotter {
         if self.style.is_solid() {
             return self.plotter.arc(is_relative, arc);
         }
-        let held = self.hold();
-        self.plotter.arc(is_relative, arc)?;
-        self.release(held)
+        let outline = self.plotter.arc_outline(self.alloc, is_relative, arc)?;
+        self.draw_over(outline.places.as_slice())?;
+        self.plotter.arrive(outline.end);
+        Ok(())
     }
 
     /// The lines from the pen over places, drawn if it is down, or points of a polygon in polygon mode. The pen
     /// stays where it is.
     pub fn line_over(&mut self, places: &[Spot]) -> Result<(), Stop>
-        requires { length places.now ≤ 256 }
         ensures { Runs (lined (seen self.old) places.now) (seen self.new) result }
     {
         if self.context.in_polygon {
@@ -144,58 +132,10 @@ impl FullPlotter {
 
     // The same out of polygon mode.
     fn draw_over(&mut self, places: &[Spot]) -> Result<(), Stop>
-        requires { length places.now ≤ 256 }
         ensures { Runs (drawn_over (seen self.old) places.now) (seen self.new) result }
     {
         let start = self.plotter.state.place;
         let draws = self.plotter.state.is_down;
-        if self.style.is_solid() {
-            return self.plotter.travel(start, places, draws);
-        }
-        let held = self.hold();
-        self.plotter.travel(start, places, draws)?;
-        self.release(held)
-    }
-
-    /// Takes the strokes away, and selects a pen that draws.
-    #[tactic(auto, unfolding(hpgl_plot::specs::Machine::step))]
-    pub fn hold(&mut self) -> Held
-        ensures core { core.seen self.new.plotter ≡ cleared (seen self.old) }
-        ensures kept { result.strokes.items ≡ self.old.plotter.strokes.items }
-        ensures full { result.is_full ≡ self.old.plotter.is_full }
-        ensures pen { result.pen ≡ self.old.plotter.state.pen }
-        ensures same { record (seen self.new) { core = cleared (seen self.old) }
-            ≡ record (seen self.old) { core = cleared (seen self.old) } }
-    {
-        let pen = self.plotter.state.pen;
-        self.plotter.select(pen.max(1));
-        let is_full = replace(&mut self.plotter.is_full, false);
-        let strokes = replace(&mut self.plotter.strokes, Vec::new(self.alloc));
-        Held {
-            strokes,
-            pen,
-            is_full,
-        }
-    }
-
-    // Brings the strokes back, and draws in the line type what core has drawn.
-    fn release(&mut self, held: Held) -> Result<(), Stop>
-        ensures { Runs (Some (drawn (with_held (seen self.old) held) self.old.plotter.strokes.items))
-            (seen self.new) result }
-    {
-        let lines = self.bring_back(held);
-        self.dash(&lines)
-    }
-
-    /// Brings the strokes and the pen back, and gives what core has drawn.
-    #[tactic(auto, unfolding(hpgl_plot::specs::Machine::step))]
-    pub fn bring_back(&mut self, held: Held) -> Vec<Stroke>
-        ensures lines { result.items ≡ self.old.plotter.strokes.items }
-        ensures world { seen self.new ≡ with_held (seen self.old) held }
-    {
-        let lines = replace(&mut self.plotter.strokes, held.strokes);
-        self.plotter.is_full = held.is_full;
-        self.plotter.select(held.pen);
-        lines
+        self.draw_along(start, places, draws)
     }
 }

@@ -7,7 +7,7 @@ ghost use Rattle.full_settings.specs.ColourRanges.{pen_colour_in};
 ghost use Rattle.full_notes.specs.Contexts.{params_read};
 ghost use Rattle.full_notes.specs.Notes.{bad_if, bad_without, body_noted, params_noted};
 ghost use Rattle.full_plot.specs.Items.{as_core, more_steps, params_steps, size_by, taken};
-ghost use Rattle.full_plot.specs.Holding.{after_params};
+ghost use Rattle.full_plot.specs.ContextsAfter.{after_params};
 ghost use Rattle.full_plot.specs.Machine.{seen, step, run, last_end, Runs, Restyle, Restart, EndSheet};
 
 use crate::area::Area;

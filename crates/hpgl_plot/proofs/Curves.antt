@@ -32,11 +32,9 @@ use Rattle.hpgl_plot.specs.Bounds.{AreAxes, IsSound, IsInRange, IsSmallIn, AreSm
 use Rattle.hpgl_plot.specs.Frames.{place}
 use Rattle.hpgl_plot.specs.Machine.{World, travelled, Runs}
 use Rattle.plot_settings.specs.Meanings.{DrawCircle, DrawArc}
-use Rattle.hpgl_plot.proofs.Fed.{travelled_more, travelled_never, travelled_one, within}
+use Rattle.hpgl_plot.proofs.Fed.{travelled_more, travelled_never, travelled_one}
 use Rattle.hpgl_plot.specs.OnPage.{margin}
 use Rattle.hpgl_plot.proofs.OnAxes.{axis_is, margin_in}
-use Rattle.hpgl_plot.proofs.Sound.{sound_at}
-use Rattle.hpgl_plot.proofs.Travels.{travelled_keeps}
 
 small_along : (n : AxisName) (page : Page) (axes : Pair Axis) (f : Frame) (u t : ℤ) → AreAxes page f axes → IsNear (on_axis n axes) u → nat_abs t ≤ 2 ^ 55
     → IsSmallIn page f (u +ℤ t)
@@ -203,15 +201,5 @@ pub arc_path_is : (page : Page) (s : State) (relative : Bool) (a : Arc) (curve :
     → path page s (DrawArc relative a) ≡ along (s.place ∷ curve_places page s.frame curve) s.is_down end
 arc_path_is page s relative a curve end e h = rw (h, e) refl
 
-placed : (page : Page) (f : Frame) (u : Spot) (end : Position) → end ≡ pen_at page f u → end.place ≡ place page f end.coordinates
+pub placed : (page : Page) (f : Frame) (u : Spot) (end : Position) → end ≡ pen_at page f u → end.place ≡ place page f end.coordinates
 placed page f u end e = rw e refl
-
--- the pen may move to an arc's end
-pub arc_sound : (w v : World) (axes : Pair Axis) (draws : Bool) (places : List Spot) (u : Spot) (end : Position) → IsSound v.page axes v.state
-    → travelled w draws places ≡ Some v
-    → end ≡ pen_at w.page w.state.frame u → IsInRange end.place
-    → IsSound v.page axes (record v.state { place = end.place; coordinates = end.coordinates })
-arc_sound w v axes draws places u end h t e r =
-    let k = travelled_keeps w v draws places t in
-    sound_at v.page axes v.state end.coordinates end.place h (rw (k.page_is, k.state_is) (placed w.page w.state.frame u end e))
-    (within end.place r)

@@ -60,17 +60,6 @@ pub travelled_one : (w : World) (draws : Bool) (a : Spot) → IsInRange a → tr
 travelled_one w true a h = rw (within a h) refl
 travelled_one w false a h = rw (within a h) refl
 
--- a path that was travelled is in range
-pub travelled_within : (w v : World) (draws : Bool) (a : Spot) (rest : List Spot) → travelled w draws (a ∷ rest) ≡ Some v
-    → are_in_range rest ≡ true
-travelled_within w v draws a rest h = elim (cases_Bool (is_in_range a)) [
-  | inr s ↦ absurd (none-some v (rw s at h))
-  | inl s ↦ elim (cases_Bool (are_in_range rest)) [
-    | inl t ↦ t
-    | inr t ↦ absurd (none-some v (rw (s, t) at h))
-  ]
-]
-
 -- a path that does not begin, and the whole path
 pub travelled_out : (w : World) (draws : Bool) (a : Spot) (rest : List Spot) → travelled w draws (a ∷ []) ≡ None
     → travelled w draws (a ∷ rest) ≡ None

@@ -46,7 +46,7 @@ pub record Line : Type 0 where
   pub draws : Bool
   pub ends : Position
 
-step_along : (w : World) (s : Step) (p : Line) → path w.page w.state s ≡ along p.places p.draws p.ends
+pub step_along : (w : World) (s : Step) (p : Line) → path w.page w.state s ≡ along p.places p.draws p.ends
     → step w s ≡ ends_in (after w.page w.state s) (travelled w p.draws p.places)
 step_along w s p e =
     step_by w s (along p.places p.draws p.ends) e

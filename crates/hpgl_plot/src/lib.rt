@@ -30,6 +30,7 @@ pub use noting::{count_notes, noted_kind};
 pub use plot::{Plot, draw};
 pub use plot_arc::{chord_point, sine};
 pub use plot_page::{Colour, MOST_STROKES, Page, PageFault, Stroke, Window};
+pub use plotter::outlines::Outline;
 pub use plotter::{Plotter, Stop};
 pub use state::{Frame, Position, State};
 pub use stick_font::{GridStroke, glyph};

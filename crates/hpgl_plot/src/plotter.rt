@@ -7,6 +7,7 @@ mod arcs;
 mod figures;
 mod labels;
 mod moves;
+pub mod outlines;
 mod plain;
 mod settings;
 

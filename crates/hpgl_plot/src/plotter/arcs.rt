@@ -54,7 +54,7 @@ impl Plotter {
     }
 
     // A circle in coordinates.
-    fn circle_curve(&self, circle: Circle) -> Curve
+    pub(crate) fn circle_curve(&self, circle: Circle) -> Curve
         requires { IsCircle circle }
         ensures value { result ≡ curves.circle_curve self.now.state.coordinates circle }
         ensures curve { IsCurve self.now.page self.now.state.frame result }
@@ -73,7 +73,7 @@ impl Plotter {
     }
 
     // An arc in coordinates.
-    fn arc_curve(&self, is_relative: bool, arc: Arc) -> Curve
+    pub(crate) fn arc_curve(&self, is_relative: bool, arc: Arc) -> Curve
         requires { IsArc arc }
         ensures value { result ≡ curves.arc_curve self.now.state.coordinates
             (target is_relative self.now.state.coordinates arc.x arc.y) arc }

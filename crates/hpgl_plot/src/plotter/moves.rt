@@ -60,9 +60,9 @@ impl Plotter {
         }
     }
 
-    // Where the pen is after a move to coordinates.
+    /// Where the pen is after a move to coordinates.
     #[inline(always)]
-    fn end_of(&self, is_relative: bool, x: Number, y: Number) -> Position
+    pub fn end_of(&self, is_relative: bool, x: Number, y: Number) -> Position
         ensures { result ≡ paths.pen_at self.now.page self.now.state.frame
             (paths.target is_relative self.now.state.coordinates x y) }
     {
@@ -179,12 +179,23 @@ impl Plotter {
     {
         self.begin(place)?;
         let coordinates = coordinates_at(&self.page, &self.state.frame, &self.axes, place);
-        self.arrive(Position { place, coordinates });
+        self.set_position(Position { place, coordinates });
         Ok(())
     }
 
     /// The pen comes to a position.
+    #[inline(always)]
     pub fn arrive(&mut self, end: Position)
+        requires place_in { IsInRange end.place }
+        requires placed { end.place ≡ frames.place self.old.page self.old.state.frame end.coordinates }
+        ensures { ends_in (moved self.old.state end) (Some (seen self.old)) ≡ Some (seen self.new) }
+    {
+        self.set_position(end);
+    }
+
+    // Sets where the pen is.
+    #[inline(always)]
+    fn set_position(&mut self, end: Position)
         requires place_in { IsInRange end.place }
         requires x_near { IsNear self.old.axes.x end.coordinates.x }
         requires y_near { IsNear self.old.axes.y end.coordinates.y }

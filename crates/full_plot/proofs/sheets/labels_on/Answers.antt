@@ -1,4 +1,3 @@
-use Rattle.std.proofs.Common.{◌≡◌}
 use Rattle.full_plot.proofs.LabelsOver.{counted_none}
 use Rattle.full_plot.proofs.sheets.labels_on.Goals as goal
 

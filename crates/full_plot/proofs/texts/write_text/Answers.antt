@@ -1,4 +1,4 @@
-use Rattle.std.proofs.Common.{rules, Option, Ok, Err}
+use Rattle.std.proofs.Common.{rules, Ok, Err}
 use Rattle.exact.specs.declared.spot.Spot.{Spot}
 use Rattle.character_sets.specs.Texts.{signs}
 use Rattle.hpgl_plot.specs.Machine as core

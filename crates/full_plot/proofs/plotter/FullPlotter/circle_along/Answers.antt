@@ -1,35 +1,23 @@
-use Rattle.std.proofs.Common.{◌≡◌, ◌∙◌, sym, ap, subst, Option, Some, Err, rules}
-use Rattle.std.specs.Bool.{⊤}
+use Rattle.std.proofs.Common.{◌∙◌, ◌∷◌, List, Option, true, ap, refl, subst, sym, rules}
+use Rattle.exact.specs.declared.spot.Spot.{Spot}
 use Rattle.plot_settings.specs.Meanings.{DrawCircle}
 use Rattle.hpgl_plot.specs.Machine as core
-use Rattle.full_plot.specs.Holding.{cleared, with_held}
-use Rattle.full_plot.specs.Worlds.{World}
+use Rattle.hpgl_plot.specs.Paths.{along}
 use Rattle.full_plot.specs.Machine.{seen, Runs}
-use Rattle.full_plot.specs.Lines.{line_step, drawn}
-use Rattle.full_plot.proofs.FullRuns.{solid_runs}
-use Rattle.full_plot.proofs.CoreLines.{brought_back, line_runs, line_out, line_stopped, circle_lines}
+use Rattle.full_plot.specs.Worlds.{World}
+use Rattle.full_plot.proofs.LinesAlong.{solid_runs, still_by}
 use Rattle.full_plot.proofs.plotter.FullPlotter.circle_along.Goals as goal
-
-pub returns-in_err-circle : goal.returns-in_err-circle
-returns-in_err-circle c =
-    let w = seen c.args.self.now in
-    let v = core.seen c.circle-2.new.self in
-    let t = DrawCircle c.args.circle in
-    line_stopped {U = ⊤} (core.step (cleared w) t) (line_step w t) v _ c.in_err-circle.field-0.0 c.from_residual.result
-    (line_out w t (circle_lines w.core.page w.core.state c.args.circle c.requires)) (subst (λ (u : core.World). core.Runs {U = ⊤} (core.step u t) v (Err c.in_err-circle.field-0.0)) c.hold-held.ensures.core c.in_err-circle.ensures) c.from_residual.ensures.1
 
 pub returns-then-is_solid : goal.returns-then-is_solid
 returns-then-is_solid c =
-    solid_runs (seen c.args.self.now) (DrawCircle c.args.circle) (core.seen c.circle.new.self) c.circle.result (search rules) c.circle.ensures
+    solid_runs (seen c.args.self.now) (DrawCircle c.args.circle) (core.seen c.circle.new.self) c.circle.result refl (search rules) c.circle.ensures
 
 pub returns : goal.returns
 returns c =
     let w = seen c.args.self.now in
-    let v = core.seen c.circle-2.new.self in
-    let h = c.hold-held.ensures in
-    let t = DrawCircle c.args.circle in
-    let k = subst (λ (u : core.World). core.step u t ≡ Some v) h.core c.in_ok-circle.ensures in
-    let e = brought_back w (seen c.hold-held.new.self) (cleared w) v c.hold-held.result h.same h.kept h.full h.pen in
-    let f : Some (drawn (with_held (record (seen c.hold-held.new.self) { core = v }) c.hold-held.result) v.kept) ≡ line_step w t =
-    ap (λ (y : World). Some (drawn y v.kept)) e ∙ sym (line_runs w t v (circle_lines w.core.page w.core.state c.args.circle c.requires) k) in
-    subst (λ (o : Option World). Runs o (seen c.release.new.self) c.release.result) f c.release.ensures
+    let start = c.in_ok-outline.outline.start in
+    let end = c.in_ok-outline.outline.end in
+    let places : List Spot = c.as_slice.result.now in
+    let path = c.in_ok-outline.ensures.path ∙ ap (λ (qs : List Spot). along (start ∷ qs) true end) (search rules) in
+    subst (λ (o : Option World). Runs o (seen c.draw_along.new.self) c.draw_along.result)
+    (sym (still_by w (DrawCircle c.args.circle) true (start ∷ places) end path refl)) c.draw_along.ensures

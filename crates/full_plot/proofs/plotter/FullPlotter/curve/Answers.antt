@@ -1,15 +1,7 @@
-use Rattle.std.proofs.Common.{◌≡◌, ◌≤◌, length, List, subst, sym, rules}
-use Rattle.exact.specs.declared.spot.Spot.{Spot}
-use Rattle.curves.specs.Beziers.{bezier_places}
+use Rattle.std.proofs.Common.{rules}
 use Rattle.full_plot.specs.Machine.{seen}
-use Rattle.full_plot.proofs.LinesOver.{curve_few, curve_runs}
+use Rattle.full_plot.proofs.Curved.{curve_runs}
 use Rattle.full_plot.proofs.plotter.FullPlotter.curve.Goals as goal
-
-pub go_over-requires-clause-few : goal.go_over-requires-clause-few
-go_over-requires-clause-few c =
-    let start = c.args.self.now.plotter.state.place in
-    let places : c.as_slice.result.now ≡ bezier_places start c.in_ok-first.first.place c.in_ok-second.second.place c.in_ok-end.end.place = search rules in
-    subst (λ (ps : List Spot). length ps ≤ 256) (sym places) (curve_few start c.in_ok-first.first.place c.in_ok-second.second.place c.in_ok-end.end.place)
 
 pub returns : goal.returns
 returns c =

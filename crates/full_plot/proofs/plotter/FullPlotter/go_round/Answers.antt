@@ -7,7 +7,7 @@ use Rattle.plot_arc.specs.Arcs.{chord_point_of, chords_of}
 use Rattle.hpgl_plot.specs.Frames.{place}
 use Rattle.hpgl_plot.specs.Paths.{right_of}
 use Rattle.full_plot.specs.Wedges.{wedge_place}
-use Rattle.full_plot.proofs.Wedged.{one_round}
+use Rattle.full_plot.proofs.Curved.{one_round}
 use Rattle.full_plot.proofs.plotter.FullPlotter.go_round.Goals as goal
 
 pub loop-k-preserved : goal.loop-k-preserved

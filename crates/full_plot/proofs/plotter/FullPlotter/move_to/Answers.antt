@@ -1,7 +1,7 @@
 use Rattle.std.proofs.Common.{subst, Option}
 use Rattle.full_plot.specs.Machine.{seen, Runs}
 use Rattle.full_plot.specs.Worlds.{World}
-use Rattle.full_plot.proofs.Traces.{move_is_go}
+use Rattle.full_plot.proofs.Curved.{move_is_go}
 use Rattle.full_plot.proofs.plotter.FullPlotter.move_to.Goals as goal
 
 pub returns : goal.returns

@@ -7,7 +7,7 @@ use Rattle.plot_settings.specs.Parameters.{arced}
 use Rattle.full_notes.specs.Contexts.{params_read}
 use Rattle.full_notes.specs.Notes.{params_noted}
 use Rattle.full_notes.proofs.Noted.{all_read, is_own, read_noted}
-use Rattle.full_plot.specs.Holding.{after_params}
+use Rattle.full_plot.specs.ContextsAfter.{after_params}
 use Rattle.full_plot.specs.Items.{as_core, params_steps}
 use Rattle.full_plot.specs.Machine.{FullStep, seen, run, Runs}
 use Rattle.full_plot.proofs.FullRuns.{any_read, other_steps}

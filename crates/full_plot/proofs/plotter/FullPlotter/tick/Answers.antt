@@ -9,7 +9,7 @@ use Rattle.full_settings.specs.Letters.{grains_of_share}
 use Rattle.full_settings.specs.declared.tick_length.TickLength.{TickLength}
 use Rattle.full_plot.specs.Machine.{seen}
 use Rattle.full_plot.specs.Texts.{inked_at_pen, line_at, tick_distance, tick_end}
-use Rattle.full_plot.proofs.FullRuns.{with_runs}
+use Rattle.full_plot.proofs.LinesAlong.{with_runs}
 use Rattle.full_plot.proofs.plotter.FullPlotter.tick.Goals as goal
 
 pub returns : goal.returns

@@ -1,44 +1,59 @@
-use Rattle.std.proofs.Common.{◌≡◌, ◌∙◌, sym, ap, ap₂, subst, refl, Option, Some, Err, List}
+use Rattle.std.proofs.Common.{◌∙◌, ◌∷◌, List, Option, ap, refl, rules}
 use Rattle.std.specs.Bool.{⊤}
-use Rattle.plot_page.specs.Segments.{Segment}
-use Rattle.plot_settings.specs.Meanings.{DrawArc}
 use Rattle.exact.specs.declared.spot.Spot.{Spot}
-use Rattle.polygons.specs.Buffers.{begun_at, Contents}
+use Rattle.plot_settings.specs.Meanings.{DrawArc}
 use Rattle.hpgl_plot.specs.Machine as core
-use Rattle.full_plot.specs.Holding.{cleared, lowered_world, put_down, restored}
-use Rattle.full_plot.specs.Polygons.{lowered, reached_by, trace_step}
+use Rattle.hpgl_plot.specs.Paths.{along}
+use Rattle.full_plot.specs.Curves.{traced_over}
+use Rattle.full_plot.specs.Lines.{ended_in, state_after}
+use Rattle.full_plot.specs.Machine.{seen}
+use Rattle.full_plot.specs.Polygons.{trace_step}
 use Rattle.full_plot.specs.Worlds.{World}
-use Rattle.full_plot.specs.Machine.{seen, Runs}
-use Rattle.full_plot.proofs.CoreLines.{brought_back, line_stopped, arc_lines}
-use Rattle.full_plot.proofs.Traces.{HasPlaces, IsTraced, traced_out, traced_runs}
+use Rattle.full_plot.proofs.Curved.{arc_end_in_range, arc_end_is_placed, arc_traced, ended_at, traced_in, traced_keeps}
+use Rattle.full_plot.proofs.FullRuns.{stopped}
 use Rattle.full_plot.proofs.plotter.FullPlotter.trace_arc.Goals as goal
 
-pub returns-in_err-arc : goal.returns-in_err-arc
-returns-in_err-arc c =
+pub returns-in_err-trace_over : goal.returns-in_err-trace_over
+returns-in_err-trace_over c =
     let w = seen c.args.self.now in
-    let v = core.seen c.arc.new.self in
+    let v = seen c.trace_over.new.self in
     let t = DrawArc c.args.is_relative c.args.arc in
-    let p : HasPlaces w.core.page w.core.state t = record { lines = arc_lines w.core.page (lowered w.core.state) c.args.is_relative c.args.arc c.requires; places_are = refl; after_is = refl } in
-    line_stopped {U = ⊤} (core.step (cleared (lowered_world w)) t) (trace_step w t) v _ c.in_err-arc.field-0.0 c.from_residual.result
-    (traced_out w t p) (subst (λ (u : core.World). core.Runs {U = ⊤} (core.step u t) v (Err c.in_err-arc.field-0.0)) c.hold_lowered-held.ensures.core c.in_err-arc.ensures) c.from_residual.ensures.1
+    let places : List Spot = c.as_slice.result.now in
+    let end = c.in_ok-outline.outline.end in
+    let path = c.in_ok-outline.ensures.path ∙ ap (λ (qs : List Spot). along (w.core.state.place ∷ qs) w.core.state.is_down end) (search rules) in
+    stopped ⊤ (traced_over w places) (trace_step w t) v v c.in_err-trace_over.field-0.0 c.from_residual-in_err-trace_over.result
+    (λ h. arc_traced w c.args.is_relative c.args.arc places end path
+    ∙ ap (λ (o : Option World). ended_in (state_after w t) o) h)
+    c.in_err-trace_over.ensures c.from_residual-in_err-trace_over.ensures.1
+
+pub arrive-requires-clause-place_in : goal.arrive-requires-clause-place_in
+arrive-requires-clause-place_in c =
+    let w = seen c.args.self.now in
+    let places : List Spot = c.as_slice.result.now in
+    let end = c.in_ok-outline.outline.end in
+    let path = c.in_ok-outline.ensures.path ∙ ap (λ (qs : List Spot). along (w.core.state.place ∷ qs) w.core.state.is_down end) (search rules) in
+    arc_end_in_range w c.args.is_relative c.args.arc places end path
+    (traced_in w (seen c.trace_over.new.self) places c.in_ok-trace_over.ensures)
+
+pub arrive-requires-clause-placed : goal.arrive-requires-clause-placed
+arrive-requires-clause-placed c =
+    let w = seen c.args.self.now in
+    let u = seen c.trace_over.new.self in
+    let places : List Spot = c.as_slice.result.now in
+    let end = c.in_ok-outline.outline.end in
+    let path = c.in_ok-outline.ensures.path ∙ ap (λ (qs : List Spot). along (w.core.state.place ∷ qs) w.core.state.is_down end) (search rules) in
+    arc_end_is_placed w u c.args.is_relative c.args.arc places end path
+    (traced_keeps w u places c.in_ok-trace_over.ensures)
 
 pub returns : goal.returns
 returns c =
     let w = seen c.args.self.now in
-    let v = core.seen c.arc.new.self in
-    let h = c.hold_lowered-held.ensures in
+    let u = seen c.trace_over.new.self in
+    let s = w.core.state in
     let t = DrawArc c.args.is_relative c.args.arc in
-    let p : HasPlaces w.core.page w.core.state t = record { lines = arc_lines w.core.page (lowered w.core.state) c.args.is_relative c.args.arc c.requires; places_are = refl; after_is = refl } in
-    let k = subst (λ (u : core.World). core.step u t ≡ Some v) h.core c.in_ok-arc.ensures in
-    let r : IsTraced w t v = traced_runs w t v p k in
-    let e = brought_back w (seen c.hold_lowered-held.new.self) (cleared (lowered_world w)) v c.hold_lowered-held.result h.same h.kept h.full h.pen in
-    let y : seen c.take_back-lines.new.self ≡ put_down w.core.state.is_down (restored w v) =
-    c.take_back-lines.ensures.world ∙ ap (λ (u : World). put_down w.core.state.is_down u) e in
-    let d = w.core.state.is_down in
-    let b : c.open.new.self ≡ begun_at w.buffer w.core.state.place =
-    c.open.ensures ∙ ap₂ (λ (u : World) (q : Spot). begun_at u.buffer q) y c.new-start.ensures in
-    let f : Some (record (record (seen c.take_back-lines.new.self) { buffer = c.open.new.self }) { buffer = reached_by d c.open.new.self c.take_back-lines.result.items }) ≡ trace_step w t =
-    ap (λ (k : Contents). Some (record (seen c.take_back-lines.new.self) { buffer = reached_by d k c.take_back-lines.result.items })) b
-    ∙ ap₂ (λ (u : World) (ls : List Segment). Some (record u { buffer = reached_by d (begun_at w.buffer w.core.state.place) ls })) y c.take_back-lines.ensures.lines
-    ∙ sym r.step_is in
-    subst (λ (o : Option World). Runs o (seen c.reach_ends.new.self) c.reach_ends.result) f c.reach_ends.ensures
+    let places : List Spot = c.as_slice.result.now in
+    let end = c.in_ok-outline.outline.end in
+    let path = c.in_ok-outline.ensures.path ∙ ap (λ (qs : List Spot). along (w.core.state.place ∷ qs) w.core.state.is_down end) (search rules) in
+    ended_at w u (core.seen c.arrive.new.self) t s.is_down (s.place ∷ places) end (traced_over w places) (trace_step w t)
+    (arc_traced w c.args.is_relative c.args.arc places end path) c.in_ok-trace_over.ensures path refl
+    (traced_keeps w u places c.in_ok-trace_over.ensures) c.arrive.ensures

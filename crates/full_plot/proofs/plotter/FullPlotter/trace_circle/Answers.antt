@@ -1,40 +1,50 @@
-use Rattle.std.proofs.Common.{◌≡◌, ◌∙◌, sym, ap, ap₂, subst, refl, Option, Some, Err, List}
+use Rattle.std.proofs.Common.{◌≡◌, ◌∙◌, ◌∷◌, List, Some, true, false, ap, ap₂, sym, rules}
 use Rattle.std.specs.Bool.{⊤}
-use Rattle.plot_page.specs.Segments.{Segment}
+use Rattle.exact.specs.declared.spot.Spot.{Spot}
 use Rattle.plot_settings.specs.Meanings.{DrawCircle}
-use Rattle.polygons.specs.Buffers.{closed}
 use Rattle.hpgl_plot.specs.Machine as core
-use Rattle.full_plot.specs.Holding.{cleared, lowered_world, put_down, restored}
-use Rattle.full_plot.specs.Polygons.{figure_in, lowered, trace_step}
-use Rattle.full_plot.specs.Worlds.{World}
-use Rattle.full_plot.specs.Machine.{seen, Runs}
-use Rattle.full_plot.proofs.CoreLines.{brought_back, line_stopped, circle_lines}
-use Rattle.full_plot.proofs.Traces.{HasPlaces, IsTraced, traced_out, traced_runs}
+use Rattle.hpgl_plot.specs.Paths.{along}
+use Rattle.full_plot.specs.Machine.{seen}
+use Rattle.full_plot.specs.Polygons.{figure_in, trace_step}
+use Rattle.polygons.specs.Buffers.{Contents}
+use Rattle.full_plot.proofs.FullRuns.{runs_by}
+use Rattle.full_plot.proofs.Curved.{circle_out, circle_traced}
+use Rattle.full_plot.proofs.LinesAlong.{core_stopped, not_drawn, rest_in_range, travelled_in}
 use Rattle.full_plot.proofs.plotter.FullPlotter.trace_circle.Goals as goal
 
-pub returns-in_err-circle : goal.returns-in_err-circle
-returns-in_err-circle c =
+pub returns-in_err-travel : goal.returns-in_err-travel
+returns-in_err-travel c =
     let w = seen c.args.self.now in
-    let v = core.seen c.circle.new.self in
     let t = DrawCircle c.args.circle in
-    let p : HasPlaces w.core.page w.core.state t = record { lines = circle_lines w.core.page (lowered w.core.state) c.args.circle c.requires; places_are = refl; after_is = refl } in
-    line_stopped {U = ⊤} (core.step (cleared (lowered_world w)) t) (trace_step w t) v _ c.in_err-circle.field-0.0 c.from_residual.result
-    (traced_out w t p) (subst (λ (u : core.World). core.Runs {U = ⊤} (core.step u t) v (Err c.in_err-circle.field-0.0)) c.hold_lowered-held.ensures.core c.in_err-circle.ensures) c.from_residual.ensures.1
+    let start = c.in_ok-outline.outline.start in
+    let end = c.in_ok-outline.outline.end in
+    let places : List Spot = c.as_slice-places.result.now in
+    let same : c.in_ok-outline.outline.places.items ≡ places = search rules in
+    let path = c.in_ok-outline.ensures.path ∙ ap (λ (qs : List Spot). along (start ∷ qs) true end) same in
+    core_stopped ⊤ (core.travelled w.core false (start ∷ places)) (trace_step w t) (core.seen c.travel.new.self) _
+    c.in_err-travel.field-0.0 c.from_residual-in_err-travel.result
+    (circle_out w c.args.circle (start ∷ places) end path) c.in_err-travel.ensures c.from_residual-in_err-travel.ensures.1
+
+pub put_figure-requires-clause-places_in : goal.put_figure-requires-clause-places_in
+put_figure-requires-clause-places_in c =
+    let w = seen c.args.self.now in
+    let start = c.in_ok-outline.outline.start in
+    let places : List Spot = c.as_slice-places.result.now in
+    rest_in_range start places (travelled_in w.core (core.seen c.travel.new.self) false (start ∷ places) c.in_ok-travel.ensures)
 
 pub returns : goal.returns
 returns c =
     let w = seen c.args.self.now in
-    let v = core.seen c.circle.new.self in
-    let h = c.hold_lowered-held.ensures in
     let t = DrawCircle c.args.circle in
-    let p : HasPlaces w.core.page w.core.state t = record { lines = circle_lines w.core.page (lowered w.core.state) c.args.circle c.requires; places_are = refl; after_is = refl } in
-    let k = subst (λ (u : core.World). core.step u t ≡ Some v) h.core c.in_ok-circle.ensures in
-    let r : IsTraced w t v = traced_runs w t v p k in
-    let e = brought_back w (seen c.hold_lowered-held.new.self) (cleared (lowered_world w)) v c.hold_lowered-held.result h.same h.kept h.full h.pen in
-    let y : seen c.take_back-lines.new.self ≡ put_down w.core.state.is_down (restored w v) =
-    c.take_back-lines.ensures.world ∙ ap (λ (u : World). put_down w.core.state.is_down u) e in
-    let d = w.core.state.is_down in
-    let f : Some (record (seen c.take_back-lines.new.self) { buffer = figure_in (closed (seen c.take_back-lines.new.self).buffer d) c.take_back-lines.result.items }) ≡ trace_step w t =
-    ap₂ (λ (u : World) (ls : List Segment). Some (record u { buffer = figure_in (closed u.buffer d) ls })) y c.take_back-lines.ensures.lines
-    ∙ sym r.step_is in
-    subst (λ (o : Option World). Runs o (seen c.add_figure.new.self) c.add_figure.result) f c.add_figure.ensures
+    let start = c.in_ok-outline.outline.start in
+    let end = c.in_ok-outline.outline.end in
+    let places : List Spot = c.as_slice-places.result.now in
+    let same : c.in_ok-outline.outline.places.items ≡ places = search rules in
+    let path = c.in_ok-outline.ensures.path ∙ ap (λ (qs : List Spot). along (start ∷ qs) true end) same in
+    let in_range = travelled_in w.core (core.seen c.travel.new.self) false (start ∷ places) c.in_ok-travel.ensures in
+    let core_is : core.seen c.travel.new.self ≡ w.core = not_drawn w.core (core.seen c.travel.new.self) (start ∷ places) c.in_ok-travel.ensures in
+    runs_by (trace_step w t) _ c.put_figure.result (c.put_figure.new.buffer ≡ figure_in c.close.new.buffer (start ∷ places))
+    (λ h. circle_traced w c.args.circle (start ∷ places) end path in_range
+    ∙ ap₂ (λ (x : core.World) (b : Contents). Some (record w { core = x; buffer = b })) (sym core_is)
+    (ap (λ (b : Contents). figure_in b (start ∷ places)) (sym c.in_ok-close.ensures.closed) ∙ sym h))
+    c.put_figure.ensures.figure c.put_figure.ensures.memory

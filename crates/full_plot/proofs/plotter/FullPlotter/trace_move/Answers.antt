@@ -1,38 +1,50 @@
-use Rattle.std.proofs.Common.{◌≡◌, ◌∙◌, sym, ap, ap₂, subst, refl, Option, Some, Err, List}
+use Rattle.std.proofs.Common.{◌∙◌, ◌∷◌, [], Option, ap, refl}
 use Rattle.std.specs.Bool.{⊤}
-use Rattle.plot_page.specs.Segments.{Segment}
 use Rattle.plot_settings.specs.Meanings.{Go}
 use Rattle.hpgl_plot.specs.Machine as core
-use Rattle.full_plot.specs.Holding.{cleared, lowered_world, put_down, restored}
-use Rattle.full_plot.specs.Polygons.{lowered, reached_by, trace_step}
+use Rattle.hpgl_plot.specs.Paths.{target}
+use Rattle.full_plot.specs.Lines.{ended_in, state_after}
+use Rattle.full_plot.specs.Machine.{seen}
+use Rattle.full_plot.specs.Polygons.{reached, trace_step}
 use Rattle.full_plot.specs.Worlds.{World}
-use Rattle.full_plot.specs.Machine.{seen, Runs}
-use Rattle.full_plot.proofs.CoreLines.{brought_back, line_stopped, go_lines}
-use Rattle.full_plot.proofs.Traces.{HasPlaces, IsTraced, traced_out, traced_runs}
+use Rattle.full_plot.proofs.Curved.{end_is_placed, ended_at, move_path_is, move_traced, reached_in, reached_keeps}
+use Rattle.full_plot.proofs.FullRuns.{stopped}
+use Rattle.full_plot.proofs.LinesAlong.{second_in_range}
 use Rattle.full_plot.proofs.plotter.FullPlotter.trace_move.Goals as goal
 
-pub returns-in_err-go : goal.returns-in_err-go
-returns-in_err-go c =
+pub returns-in_err-reach : goal.returns-in_err-reach
+returns-in_err-reach c =
     let w = seen c.args.self.now in
-    let v = core.seen c.go.new.self in
+    let v = seen c.reach.new.self in
     let t = Go c.args.is_relative c.args.x c.args.y in
-    let p : HasPlaces w.core.page w.core.state t = record { lines = go_lines w.core.page (lowered w.core.state) c.args.is_relative c.args.x c.args.y; places_are = refl; after_is = refl } in
-    line_stopped {U = ⊤} (core.step (cleared (lowered_world w)) t) (trace_step w t) v _ c.in_err-go.field-0.0 c.from_residual.result
-    (traced_out w t p) (subst (λ (u : core.World). core.Runs {U = ⊤} (core.step u t) v (Err c.in_err-go.field-0.0)) c.hold_lowered-held.ensures.core c.in_err-go.ensures) c.from_residual.ensures.1
+    let end = c.end_of-end.result in
+    let e = move_path_is w c.args.is_relative c.args.x c.args.y end c.end_of-end.ensures in
+    stopped ⊤ (reached w (end.place ∷ [])) (trace_step w t) v v c.in_err-reach.field-0.0 c.from_residual.result
+    (λ h. move_traced w c.args.is_relative c.args.x c.args.y end e ∙ ap (λ (o : Option World). ended_in (state_after w t) o) h)
+    c.in_err-reach.ensures c.from_residual.ensures.1
+
+pub arrive-requires-clause-place_in : goal.arrive-requires-clause-place_in
+arrive-requires-clause-place_in c =
+    let w = seen c.args.self.now in
+    let end = c.end_of-end.result in
+    second_in_range w.core.state.place end.place [] (reached_in w (seen c.reach.new.self) (end.place ∷ []) c.in_ok-reach.ensures)
+
+pub arrive-requires-clause-placed : goal.arrive-requires-clause-placed
+arrive-requires-clause-placed c =
+    let w = seen c.args.self.now in
+    let u = seen c.reach.new.self in
+    let end = c.end_of-end.result in
+    end_is_placed w u end (target c.args.is_relative w.core.state.coordinates c.args.x c.args.y) c.end_of-end.ensures
+    (reached_keeps w u (end.place ∷ []) c.in_ok-reach.ensures)
 
 pub returns : goal.returns
 returns c =
     let w = seen c.args.self.now in
-    let v = core.seen c.go.new.self in
-    let h = c.hold_lowered-held.ensures in
+    let u = seen c.reach.new.self in
+    let s = w.core.state in
     let t = Go c.args.is_relative c.args.x c.args.y in
-    let p : HasPlaces w.core.page w.core.state t = record { lines = go_lines w.core.page (lowered w.core.state) c.args.is_relative c.args.x c.args.y; places_are = refl; after_is = refl } in
-    let k = subst (λ (u : core.World). core.step u t ≡ Some v) h.core c.in_ok-go.ensures in
-    let r : IsTraced w t v = traced_runs w t v p k in
-    let e = brought_back w (seen c.hold_lowered-held.new.self) (cleared (lowered_world w)) v c.hold_lowered-held.result h.same h.kept h.full h.pen in
-    let y : seen c.take_back-lines.new.self ≡ put_down w.core.state.is_down (restored w v) =
-    c.take_back-lines.ensures.world ∙ ap (λ (u : World). put_down w.core.state.is_down u) e in
-    let f : Some (record (seen c.take_back-lines.new.self) { buffer = reached_by w.core.state.is_down (seen c.take_back-lines.new.self).buffer c.take_back-lines.result.items }) ≡ trace_step w t =
-    ap₂ (λ (u : World) (ls : List Segment). Some (record u { buffer = reached_by w.core.state.is_down u.buffer ls })) y c.take_back-lines.ensures.lines
-    ∙ sym r.step_is in
-    subst (λ (o : Option World). Runs o (seen c.reach_ends.new.self) c.reach_ends.result) f c.reach_ends.ensures
+    let end = c.end_of-end.result in
+    let e = move_path_is w c.args.is_relative c.args.x c.args.y end c.end_of-end.ensures in
+    ended_at w u (core.seen c.arrive.new.self) t s.is_down (s.place ∷ (end.place ∷ [])) end (reached w (end.place ∷ [])) (trace_step w t)
+    (move_traced w c.args.is_relative c.args.x c.args.y end e) c.in_ok-reach.ensures e refl
+    (reached_keeps w u (end.place ∷ []) c.in_ok-reach.ensures) c.arrive.ensures

@@ -10,7 +10,7 @@ use Rattle.lettering.specs.declared.style.Style.{Style}
 use Rattle.hpgl_plot.specs.Machine as core
 use Rattle.full_plot.specs.Machine.{seen}
 use Rattle.full_plot.specs.Texts.{inked_at_pen, signs_of, style_of}
-use Rattle.full_plot.proofs.FullRuns.{with_runs}
+use Rattle.full_plot.proofs.LinesAlong.{with_runs}
 use Rattle.full_plot.proofs.plotter.FullPlotter.write_symbol.Goals as goal
 
 pub returns : goal.returns

@@ -3,8 +3,8 @@ use Rattle.hpgl_plot.specs.declared.state.Position.{Position}
 use Rattle.hpgl_plot.specs.Paths.{chord_count, curve_point, curve_places, Path, pen_at}
 use Rattle.plot_settings.specs.Meanings.{DrawArc}
 use Rattle.hpgl_plot.specs.Machine.{seen, step, moved, travelled}
-use Rattle.hpgl_plot.proofs.Curves.{arc_path_is, arc_sound, stopped_by}
-use Rattle.hpgl_plot.proofs.Travels.{Line, moved_runs, step_out}
+use Rattle.hpgl_plot.proofs.Curves.{arc_path_is, placed, stopped_by}
+use Rattle.hpgl_plot.proofs.Travels.{Line, moved_runs, step_out, travelled_keeps}
 use Rattle.hpgl_plot.proofs.plotter.Plotter.arc.Goals as goal
 
 pub returns-in_err-end : goal.returns-in_err-end
@@ -20,23 +20,14 @@ returns-in_err-end c =
     (step w (DrawArc c.args.is_relative c.args.arc)) v v c.in_err-end.field-0.0 c.from_residual.result
     (step_out w (DrawArc c.args.is_relative c.args.arc) p e) c.in_err-end.ensures.runs c.from_residual.ensures.1
 
-pub arrive-requires-clause-x_near : goal.arrive-requires-clause-x_near
-arrive-requires-clause-x_near c =
+pub arrive-requires-clause-placed : goal.arrive-requires-clause-placed
+arrive-requires-clause-placed c =
     let w = seen c.args.self.now in
     let s = w.state in
     let curve = c.arc_curve-curve.result in
-    (arc_sound w (seen c.follow_curve.new.self) c.follow_curve.new.self.axes s.is_down (s.place ∷ curve_places w.page s.frame curve)
-    (curve_point curve (chord_count curve)) c.in_ok-end.end c.follow_curve.new.self.sound
-    c.in_ok-end.ensures.runs c.in_ok-end.ensures.end c.in_ok-end.ensures.in_range).x_near
-
-pub arrive-requires-clause-y_near : goal.arrive-requires-clause-y_near
-arrive-requires-clause-y_near c =
-    let w = seen c.args.self.now in
-    let s = w.state in
-    let curve = c.arc_curve-curve.result in
-    (arc_sound w (seen c.follow_curve.new.self) c.follow_curve.new.self.axes s.is_down (s.place ∷ curve_places w.page s.frame curve)
-    (curve_point curve (chord_count curve)) c.in_ok-end.end c.follow_curve.new.self.sound
-    c.in_ok-end.ensures.runs c.in_ok-end.ensures.end c.in_ok-end.ensures.in_range).y_near
+    let places = s.place ∷ curve_places w.page s.frame curve in
+    let k = travelled_keeps w (seen c.follow_curve.new.self) s.is_down places c.in_ok-end.ensures.runs in
+    rw (k.page_is, k.state_is) (placed w.page s.frame (curve_point curve (chord_count curve)) c.in_ok-end.end c.in_ok-end.ensures.end)
 
 pub returns : goal.returns
 returns c =

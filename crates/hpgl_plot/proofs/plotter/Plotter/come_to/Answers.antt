@@ -2,7 +2,6 @@ use Rattle.std.proofs.Common.{◌∙◌, ◌∷◌, [], ap, sym, Option, Some}
 use Rattle.hpgl_plot.specs.declared.state.Position.{Position}
 use Rattle.hpgl_plot.specs.declared.state.State.{State}
 use Rattle.hpgl_plot.specs.Machine.{World, seen, moved, travelled, ends_in}
-use Rattle.hpgl_plot.proofs.Sound.{sound_after}
 use Rattle.hpgl_plot.proofs.Travels.{stopped, travelled_keeps}
 use Rattle.hpgl_plot.proofs.plotter.Plotter.come_to.Goals as goal
 
@@ -16,19 +15,11 @@ returns-in_err-reach c =
     stopped ran (ends_in (moved s end) ran) v v c.in_err-reach.field-0.0 c.from_residual.result
     (λ h. ap (λ (o : Option World). ends_in (moved s end) o) h) c.in_err-reach.ensures.runs c.from_residual.ensures.1
 
-pub arrive-requires-clause-x_near : goal.arrive-requires-clause-x_near
-arrive-requires-clause-x_near c =
+pub arrive-requires-clause-placed : goal.arrive-requires-clause-placed
+arrive-requires-clause-placed c =
     let s = c.args.self.now.state in
-    let v = c.reach.new.self in
-    let end = c.args.end in
-    (sound_after (seen c.args.self.now) (seen v) v.axes s.is_down s.place end.coordinates end.place v.sound (ap (λ (p : Position). p.place) c.requires) c.in_ok-reach.ensures.runs).x_near
-
-pub arrive-requires-clause-y_near : goal.arrive-requires-clause-y_near
-arrive-requires-clause-y_near c =
-    let s = c.args.self.now.state in
-    let v = c.reach.new.self in
-    let end = c.args.end in
-    (sound_after (seen c.args.self.now) (seen v) v.axes s.is_down s.place end.coordinates end.place v.sound (ap (λ (p : Position). p.place) c.requires) c.in_ok-reach.ensures.runs).y_near
+    let k = travelled_keeps (seen c.args.self.now) (seen c.reach.new.self) s.is_down (s.place ∷ (c.args.end.place ∷ [])) c.in_ok-reach.ensures.runs in
+    rw (k.page_is, k.state_is) (ap (λ (p : Position). p.place) c.requires)
 
 pub returns : goal.returns
 returns c =

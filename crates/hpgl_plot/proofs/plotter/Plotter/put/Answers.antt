@@ -17,5 +17,5 @@ pub returns : goal.returns
 returns c =
     let w = seen c.args.self.now in
     let q = c.args.place in
-    put_there w (seen c.arrive.new.self) q c.coordinates_at-coordinates.result c.coordinates_at-coordinates.ensures.value
-    (travelled_one w true q c.in_ok-begin.ensures.in_range) c.arrive.ensures
+    put_there w (seen c.set_position.new.self) q c.coordinates_at-coordinates.result c.coordinates_at-coordinates.ensures.value
+    (travelled_one w true q c.in_ok-begin.ensures.in_range) c.set_position.ensures

@@ -1,0 +1,233 @@
+-- Lines along places: those in solid lines are core's, and the others are dashed one after another.
+use Rattle.std.proofs.Common.{◌≡◌, ◌∙◌, ◌<◌, ◌+◌, ◌&&◌, drop, drop-cons, Bool, true, false, true≢false, slice_index_or, ℕ, zero, suc, List, [], ◌∷◌, ◌++◌, length, append-nil, refl, sym, ap, subst, inl, inr, arith, Option, Some, None, Result, Ok, Err}
+use Rattle.std.specs.Prelude.{if◌then◌else◌, max, nat_eq}
+use Rattle.std.specs.Result.{IsErrAnd}
+use Rattle.std.proofs.lemmas.Bool.{cases_Bool}
+use Rattle.std.proofs.lemmas.Bool.Decides.{nat_tests}
+use Rattle.std.proofs.lemmas.Option.{none-some, same_Some}
+use Rattle.exact.specs.declared.spot.Spot.{Spot}
+use Rattle.line_types.specs.LineTypes.{Solid}
+use Rattle.plot_page.specs.Segments.{Segment}
+use Rattle.plot_settings.specs.Meanings.{Step}
+use Rattle.hpgl_plot.specs.declared.plotter.Stop.{Stop}
+use Rattle.hpgl_plot.specs.declared.plotter.Stop.TheVariants.{Memory, OffRange}
+use Rattle.hpgl_plot.specs.declared.state.Position.{Position}
+use Rattle.hpgl_plot.specs.declared.state.State.{State}
+use Rattle.hpgl_plot.specs.Bounds.{IsInRange}
+use Rattle.hpgl_plot.specs.Paths.{Path, along}
+use Rattle.hpgl_plot.specs.Strokes.{are_in_range, by_a_pen, is_in_range, joined, stroke}
+use Rattle.hpgl_plot.specs.Strokes as strokes
+use Rattle.hpgl_plot.specs.Machine as core
+use Rattle.hpgl_plot.proofs.Fed.{within}
+use Rattle.hpgl_plot.proofs.Travels.{Line, step_along}
+use Rattle.full_settings.specs.LineStyles.{is_solid}
+use Rattle.full_plot.specs.Lines.{drawn, drawn_along, ended_by, ended_in, line_step, lines_along, places_of, shape_in, state_after, step_path}
+use Rattle.full_plot.specs.Machine.{Runs}
+use Rattle.full_plot.specs.Polygons.{trace_step, traced}
+use Rattle.full_plot.specs.Worlds.{World, with_core}
+use Rattle.full_plot.proofs.DrawnLines.{drawn-append, none_drawn}
+use Rattle.full_plot.proofs.Solid.{run_solid, shape_solid, solid_joined}
+
+-- what stops core stops a step, if it goes out of range with core
+pub core_stopped : {U : Type 0} (T : Type 0) (o : Option core.World) (p : Option World) (u : core.World) (v : World) (e : Stop) (r : Result U Stop) → (o ≡ None → p ≡ None)
+    → core.Runs {U = T} o u (Err e) → IsErrAnd r (λ f. f ≡ e) → Runs p v r
+core_stopped T o p u v e (Ok x) n h i = absurd i
+core_stopped T o p u v Memory (Err f) n h i = rw i tt
+core_stopped T o p u v OffRange (Err f) n h i = rw i (n h)
+
+-- what core answers, in the profile full
+pub with_runs : {U : Type 0} (w : World) (o : Option core.World) (v : core.World) (r : Result U Stop) → core.Runs o v r → Runs (with_core w o) (record w { core = v }) r
+with_runs w o v (Ok x) h = ap (λ (p : Option core.World). with_core w p) h
+with_runs w o v (Err Memory) h = tt
+with_runs w o v (Err OffRange) h = ap (λ (p : Option core.World). with_core w p) h
+
+-- in solid lines they are core's
+pub solid_along : (w : World) (draws : Bool) (places : List Spot) → shape_in w ≡ Solid
+    → drawn_along w draws places ≡ with_core w (core.travelled w.core draws places)
+solid_along w draws places h = elim (cases_Bool (are_in_range places)) [
+  | inl i ↦ rw (i, h, solid_joined w.core.state w.run draws places, run_solid w.run _) refl
+  | inr i ↦ rw i refl
+]
+
+pub solid_along_runs : {U : Type 0} (w : World) (draws : Bool) (places : List Spot) (v : core.World) (r : Result U Stop) → is_solid w.style.kind ≡ true
+    → core.Runs (core.travelled w.core draws places) v r → Runs (drawn_along w draws places) (record w { core = v }) r
+solid_along_runs w draws places v r h k =
+    rw (solid_along w draws places (shape_solid w.style.kind w.style.own _ h)) (with_runs w _ v r k)
+
+-- a step whose path is one line
+abbrev pub IsLine : World → Step → Type 0
+IsLine w t = step_path w t ≡ along (places_of w t) (step_path w t).draws (step_path w t).ends
+
+ended_with : (w : World) (s : State) (o : Option core.World) → ended_in s (with_core w o) ≡ with_core w (core.ends_in s o)
+ended_with w s None = refl
+ended_with w s (Some c) = refl
+
+pub solid_line : (w : World) (t : Step) → IsLine w t → shape_in w ≡ Solid → line_step w t ≡ with_core w (core.step w.core t)
+unfolding line_step
+solid_line w t l h =
+    let p : Line = record { places = places_of w t; draws = (step_path w t).draws; ends = (step_path w t).ends } in
+    let s = state_after w t in
+    ap (λ (o : Option World). ended_in s o) (solid_along w p.draws p.places h)
+    ∙ ended_with w s (core.travelled w.core p.draws p.places)
+    ∙ ap (λ (o : Option core.World). with_core w o) (sym (step_along w.core t p l))
+
+pub solid_runs : {U : Type 0} (w : World) (t : Step) (v : core.World) (r : Result U Stop) → IsLine w t → is_solid w.style.kind ≡ true
+    → core.Runs (core.step w.core t) v r → Runs (line_step w t) (record w { core = v }) r
+solid_runs w t v r l h k =
+    rw (solid_line w t l (shape_solid w.style.kind w.style.own _ h)) (with_runs w (core.step w.core t) v r k)
+
+-- a step with this path
+pub line_by : (w : World) (t : Step) (draws : Bool) (places : List Spot) (end : Position) → step_path w t ≡ along places draws end
+    → line_step w t ≡ ended_in (state_after w t) (drawn_along w draws places)
+unfolding line_step
+line_by w t draws places end e = rw e refl
+
+-- a figure after which the pen is where it was
+still_in : (b : Bool) (w v : World) → v.core.state ≡ w.core.state → ended_in w.core.state (if b then Some v else None) ≡ (if b then Some v else None)
+still_in true w v h = ap (λ (s : State). Some (ended_by v s)) (sym h)
+still_in false w v h = refl
+
+pub still_by : (w : World) (t : Step) (draws : Bool) (places : List Spot) (end : Position) → step_path w t ≡ along places draws end
+    → state_after w t ≡ w.core.state → line_step w t ≡ drawn_along w draws places
+still_by w t draws places end e h =
+    line_by w t draws places end e
+    ∙ ap (λ (s : State). ended_in s (drawn_along w draws places)) h
+    ∙ still_in (are_in_range places) w (drawn w (lines_along w.core.state draws places)) refl
+
+pub traced_by : (w : World) (t : Step) (draws : Bool) (places : List Spot) (end : Position) → step_path w t ≡ along places draws end
+    → trace_step w t ≡ (if are_in_range places then Some (record (ended_by w (state_after w t)) { buffer = traced w t places }) else None)
+unfolding trace_step
+traced_by w t draws places end e = rw e refl
+
+-- one place
+pub along_one : (w : World) (draws : Bool) (a : Spot) → IsInRange a → drawn_along w draws (a ∷ []) ≡ Some w
+along_one w true a h = rw (within a h) (ap (λ (u : World). Some u) (none_drawn w))
+along_one w false a h = rw (within a h) (ap (λ (u : World). Some u) (none_drawn w))
+
+-- a place that core finds out of range
+out_is : (c : core.World) (draws : Bool) (a : Spot) → core.travelled c draws (a ∷ []) ≡ None → is_in_range a ≡ false
+out_is c draws a k = elim (cases_Bool (is_in_range a)) [
+  | inl i ↦ absurd (none-some _ (sym (rw i at k)))
+  | inr i ↦ i
+]
+
+pub along_out : (w : World) (draws : Bool) (a : Spot) (rest : List Spot) → core.travelled w.core draws (a ∷ []) ≡ None → drawn_along w draws (a ∷ rest) ≡ None
+along_out w draws a rest k = rw (out_is w.core draws a k) refl
+
+-- two places: one line, if it is drawn
+has_a_pen : (s : State) → nat_eq (by_a_pen s).pen 0 ≡ false
+has_a_pen s = grind (arith, nat_tests)
+
+pub along_two : (w : World) (draws : Bool) (a b : Spot) → IsInRange a → IsInRange b
+    → drawn_along w draws (a ∷ (b ∷ [])) ≡ Some (drawn w (if draws then stroke (by_a_pen w.core.state) a b ∷ [] else []))
+along_two w true a b h k = rw (within a h, within b k, has_a_pen w.core.state) refl
+along_two w false a b h k = rw (within a h, within b k) refl
+
+pub along_two_out : (w : World) (draws : Bool) (a b : Spot) → core.travelled w.core draws (b ∷ []) ≡ None → drawn_along w draws (a ∷ (b ∷ [])) ≡ None
+along_two_out w draws a b k = elim (cases_Bool (is_in_range a)) [
+  | inl i ↦ rw (i, out_is w.core draws b k) refl
+  | inr i ↦ rw i refl
+]
+
+-- the first line, and the rest
+more_lines : (w : World) (draws : Bool) (a b : Spot) (rest : List Spot)
+    → drawn w (lines_along w.core.state draws (a ∷ (b ∷ rest)))
+    ≡ drawn (drawn w (lines_along w.core.state draws (a ∷ (b ∷ [])))) (lines_along w.core.state draws (b ∷ rest))
+more_lines w true a b rest =
+    let s = by_a_pen w.core.state in
+    rw (append-nil (strokes.drawn s a b)) (drawn-append w (strokes.drawn s a b) (joined s (b ∷ rest)))
+more_lines w false a b rest = sym (none_drawn (drawn w []))
+
+pub along_more : (w v : World) (draws : Bool) (a b : Spot) (rest : List Spot) → drawn_along w draws (a ∷ (b ∷ [])) ≡ Some v
+    → drawn_along w draws (a ∷ (b ∷ rest)) ≡ drawn_along v draws (b ∷ rest)
+along_more w v draws a b rest h = elim (cases_Bool (is_in_range a)) [
+  | inr s ↦ absurd (none-some v (rw s at h))
+  | inl s ↦ elim (cases_Bool (is_in_range b)) [
+    | inr t ↦ absurd (none-some v (rw (s, t) at h))
+    | inl t ↦ (let e = same_Some _ _ (rw (s, t) at h) in
+        subst (λ (u : World). drawn_along w draws (a ∷ (b ∷ rest)) ≡ drawn_along u draws (b ∷ rest)) e
+        (rw (s, t) (ap (λ (u : World). if are_in_range rest then Some u else None) (more_lines w draws a b rest))))
+  ]
+]
+
+pub along_never : (w : World) (draws : Bool) (a b : Spot) (rest : List Spot) → drawn_along w draws (a ∷ (b ∷ [])) ≡ None
+    → drawn_along w draws (a ∷ (b ∷ rest)) ≡ None
+along_never w draws a b rest h = elim (cases_Bool (is_in_range a)) [
+  | inr s ↦ rw s refl
+  | inl s ↦ elim (cases_Bool (is_in_range b)) [
+    | inr t ↦ rw (s, t) refl
+    | inl t ↦ absurd (none-some _ (sym (rw (s, t) at h)))
+  ]
+]
+
+-- lines leave the page and the state as they are
+pub record Keeps (w v : World) : Type 0 where
+  pub page_is : v.core.page ≡ w.core.page
+  pub state_is : v.core.state ≡ w.core.state
+
+pub along_keeps : (w v : World) (draws : Bool) (places : List Spot) → drawn_along w draws places ≡ Some v → Keeps w v
+along_keeps w v draws places k = elim (cases_Bool (are_in_range places)) [
+  | inl i ↦ (let same = same_Some _ _ (rw i at k) in
+      record { page_is = sym (ap (λ (x : World). x.core.page) same); state_is = sym (ap (λ (x : World). x.core.state) same) })
+  | inr i ↦ absurd (none-some v (rw i at k))
+]
+
+pub along_shape : (w v : World) (draws : Bool) (places : List Spot) → drawn_along w draws places ≡ Some v → shape_in v ≡ shape_in w
+along_shape w v draws places k = elim (cases_Bool (are_in_range places)) [
+  | inl i ↦ sym (ap (λ (x : World). shape_in x) (same_Some _ _ (rw i at k)))
+  | inr i ↦ absurd (none-some v (rw i at k))
+]
+
+-- where the pen comes to
+in_range_of : (q : Spot) → is_in_range q ≡ true → IsInRange q
+in_range_of q h = record { x_in = grind (arith, nat_tests); y_in = grind (arith, nat_tests) }
+
+pub both_of : (a b : Bool) → (a && b) ≡ true → (a ≡ true) × (b ≡ true)
+both_of true b h = (refl, h)
+both_of false b h = absurd (true≢false (sym h))
+
+pub places_in_range : (ps : List Spot) → are_in_range ps ≡ true → (k : ℕ) (d : Spot) → k < length ps → IsInRange (slice_index_or ps k d)
+places_in_range [] h k d l = absurd (omega arith)
+places_in_range (q ∷ qs) h zero d l = in_range_of q (both_of (is_in_range q) (are_in_range qs) h).0
+places_in_range (q ∷ qs) h (suc k) d l = places_in_range qs (both_of (is_in_range q) (are_in_range qs) h).1 k d (omega arith)
+
+pub first_in_range : (q : Spot) (qs : List Spot) → are_in_range (q ∷ qs) ≡ true → IsInRange q
+first_in_range q qs h = in_range_of q (both_of (is_in_range q) (are_in_range qs) h).0
+
+pub second_in_range : (a q : Spot) (qs : List Spot) → are_in_range (a ∷ (q ∷ qs)) ≡ true → IsInRange q
+second_in_range a q qs h = first_in_range q qs (both_of (is_in_range a) (are_in_range (q ∷ qs)) h).1
+
+pub rest_in_range : (q : Spot) (qs : List Spot) → are_in_range (q ∷ qs) ≡ true → (k : ℕ) (d : Spot) → k < length qs → IsInRange (slice_index_or qs k d)
+rest_in_range q qs h = places_in_range qs (both_of (is_in_range q) (are_in_range qs) h).1
+
+pub travelled_in : (c d : core.World) (draws : Bool) (places : List Spot) → core.travelled c draws places ≡ Some d → are_in_range places ≡ true
+travelled_in c d draws places k = elim (cases_Bool (are_in_range places)) [
+  | inl i ↦ i
+  | inr i ↦ absurd (none-some d (rw i at k))
+]
+
+pub along_in : (w v : World) (draws : Bool) (places : List Spot) → drawn_along w draws places ≡ Some v → are_in_range places ≡ true
+along_in w v draws places k = elim (cases_Bool (are_in_range places)) [
+  | inl i ↦ i
+  | inr i ↦ absurd (none-some v (rw i at k))
+]
+
+-- core passes places without lines: nothing is drawn
+pub not_drawn : (c d : core.World) (places : List Spot) → core.travelled c false places ≡ Some d → d ≡ c
+not_drawn c d places k = sym (same_Some c d (rw (travelled_in c d false places k) at k))
+
+pub not_passed : (c : core.World) (draws : Bool) (places : List Spot) → core.travelled c draws places ≡ None → are_in_range places ≡ false
+not_passed c draws places k = elim (cases_Bool (are_in_range places)) [
+  | inl i ↦ absurd (none-some _ (sym (rw i at k)))
+  | inr i ↦ i
+]
+
+-- one line more of those along a list of places
+pub one_along : (w v : World) (draws : Bool) (a d : Spot) (places : List Spot) (i : ℕ) → i < length places
+    → drawn_along w draws (a ∷ (slice_index_or places i d ∷ [])) ≡ Some v
+    → drawn_along v draws (slice_index_or places i d ∷ drop (i + 1) places) ≡ drawn_along w draws (a ∷ drop i places)
+one_along w v draws a d places i h k =
+    let q = slice_index_or places i d in
+    let next : suc i ≡ i + 1 = omega arith in
+    let cons : drop i places ≡ q ∷ drop (i + 1) places = rw next at (drop-cons places i d h) in
+    sym (along_more w v draws a q (drop (i + 1) places) k) ∙ ap (λ (qs : List Spot). drawn_along w draws (a ∷ qs)) (sym cons)
