@@ -171,10 +171,10 @@ module _ (rules : Rules) (sm : Smoothing) (job : Job) (reaches : Reach) (input :
   converts_there (Err Resolution) h = h
   converts_there (Err Unfinished) h = h
 
-converted_by_it : (rules : Rules) (sm : Smoothing) (job : Job) (reaches : Reach) (before after : SourceState) (sink sink' : SinkState) (tests tests' : ℕ)
-    (answer : Result Outcome Fault) → sm.times ≡ 1 → HasConvertedOn rules given_choice sm job reaches before after sink sink' tests tests' answer
+converted_by_it : {W : Type 0} (rules : Rules) (sm : Smoothing) (job : Job) (reaches : Reach) (before after : SourceState) (sink sink' : SinkState) (tests tests' : ℕ)
+    (hears : W → ℕ → ℕ → W → Type 0) (w w' : W) (answer : Result Outcome Fault) → sm.times ≡ 1 → HasConvertedOn rules given_choice sm job reaches before after sink sink' tests tests' hears w w' answer
     → HasConvertedBy rules job reaches before after sink sink' tests tests' (done_of answer)
-converted_by_it rules sm job reaches before after sink sink' tests tests' answer once h =
+converted_by_it rules sm job reaches before after sink sink' tests tests' hears w w' answer once h =
     let is : h.place ≡ place_on Given job.page = h.given refl refl in
     let converts = converts_there rules sm job reaches h.input before after sink sink' answer
     (subst (λ (x : Place). ConvertsOn rules given_choice sm job x reaches h.input before after sink sink' answer) is h.converts) in
@@ -193,12 +193,13 @@ with_none Core carousel none = ap (rules_with Core) none ∙ (λ i. record core_
 with_none (Full sheet encoding) carousel none = ap (rules_with (Full sheet encoding)) none
 
 -- a run with an empty carousel on the given page
-pub converted_on_it : (reading : Reading) (carousel : Carousel) (sm : Smoothing) (job : Job) (reaches : Reach) (before after : SourceState) (sink sink' : SinkState) (tests tests' : ℕ)
-    (answer : Result Outcome Fault) → carousel ≡ empty → sm.times ≡ 1 → HasConvertedOn (rules_with reading carousel) given_choice sm job reaches before after sink sink' tests tests' answer
+pub converted_on_it : {W : Type 0} (reading : Reading) (carousel : Carousel) (sm : Smoothing) (job : Job) (reaches : Reach) (before after : SourceState) (sink sink' : SinkState) (tests tests' : ℕ)
+    (hears : W → ℕ → ℕ → W → Type 0) (w w' : W) (answer : Result Outcome Fault) → carousel ≡ empty → sm.times ≡ 1
+    → HasConvertedOn (rules_with reading carousel) given_choice sm job reaches before after sink sink' tests tests' hears w w' answer
     → HasConvertedBy (rules_of reading) job reaches before after sink sink' tests tests' (done_of answer)
-converted_on_it reading carousel sm job reaches before after sink sink' tests tests' answer none once h =
-    converted_by_it (rules_of reading) sm job reaches before after sink sink' tests tests' answer once
-    (subst (λ (rules : Rules). HasConvertedOn rules given_choice sm job reaches before after sink sink' tests tests' answer) (with_none reading carousel none) h)
+converted_on_it reading carousel sm job reaches before after sink sink' tests tests' hears w w' answer none once h =
+    converted_by_it (rules_of reading) sm job reaches before after sink sink' tests tests' hears w w' answer once
+    (subst (λ (rules : Rules). HasConvertedOn rules given_choice sm job reaches before after sink sink' tests tests' hears w w' answer) (with_none reading carousel none) h)
 
 module _ (reading : Reading) (pens : PenSet) (given : Page) (input : List ℕ) (before after : SourceState) (sink sink' : SinkState) where
   reports_there : (answer : Result Outcome Fault) → ReportsOn (rules_of reading) reading given_choice pens given (place_on Given given) input before after sink sink' answer

@@ -78,18 +78,19 @@ module _ (rules : Rules) (c : PageChoice) (reaches : Reach) (input : List ℕ) (
       let shown : PngJob = png_on_page c drawing.page job in
       let painted = subst (λ (ss : List Segment). HasPaintedPng {U = Outcome} (picture_shown shown reaches ss) sink sink' (Ok o)) are h.0 in (
         drawn.placed,
-        h.2.placement,
+        h.3.placement,
         record {
           read = drawn.read;
           accepted = drawn.lines.accepted;
           holds = painted.0;
           sound = painted.1;
           rows = h.1;
-          strokes_count = h.2.strokes_count ∙ ap length are;
-          notes = h.2.notes ∙ drawn.lines.notes_are;
+          bytes = h.2;
+          strokes_count = h.3.strokes_count ∙ ap length are;
+          notes = h.3.notes ∙ drawn.lines.notes_are;
         },
-        h.2.census ∙ ap (λ (ss : List Segment). census_of job.pens drawing.page ss) are,
-        h.2.sheets ∙ drawn.lines.sheets_are,
+        h.3.census ∙ ap (λ (ss : List Segment). census_of job.pens drawing.page ss) are,
+        h.3.sheets ∙ drawn.lines.sheets_are,
       )
   converts_png_drawn job strokes (Err Resolution) possible drawn are h = absurd (cc (possible, h))
   converts_png_drawn job strokes (Err TooLong) possible drawn are h = absurd h

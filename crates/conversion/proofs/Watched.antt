@@ -1,9 +1,22 @@
 -- Watchers that are told of nothing, of one number more, and of all rows.
-use Rattle.std.proofs.Common.{◌≡◌, ◌-◌, ◌<◌, ◌≤◌, ℕ, sym, subst, arith}
-use Rattle.conversion.specs.Watching.{WasTold, WasToldInPart}
+use Rattle.std.proofs.Common.{◌≡◌, ◌-◌, ◌<◌, ◌≤◌, ℕ, refl, sym, subst, arith}
+use Rattle.conversion.specs.Watching.{IsToldIn, WasTold, WasToldInPart}
+use Rattle.conversion.specs.declared.fault.Fault.{Fault}
+use Rattle.conversion.specs.declared.fault.Fault.TheVariants.{Memory, Paint, Plot, Read, Resolution, TooLong, Unfinished, Write}
 
-pub not_told : {W : Type 0} (hears : W → ℕ → ℕ → W → Type 0) (watcher : W) → WasToldInPart hears watcher watcher
-not_told hears watcher = record { rows = 0; done = 0; told = WasTold.nothing }
+pub none_told : {W : Type 0} (hears : W → ℕ → ℕ → W → Type 0) (rows : ℕ) (watcher : W) → WasToldInPart hears rows watcher watcher
+none_told hears rows watcher = record { done = 0; told = WasTold.nothing }
+
+-- whatever the fault
+pub not_told : {W : Type 0} (hears : W → ℕ → ℕ → W → Type 0) (rows : ℕ) (watcher : W) (fault : Fault) → IsToldIn hears rows watcher watcher fault
+not_told hears rows watcher TooLong = refl
+not_told hears rows watcher Memory = refl
+not_told hears rows watcher (Plot refusal) = refl
+not_told hears rows watcher (Paint refusal) = refl
+not_told hears rows watcher (Write row whole bytes) = none_told hears rows watcher
+not_told hears rows watcher Unfinished = none_told hears rows watcher
+not_told hears rows watcher Read = refl
+not_told hears rows watcher Resolution = refl
 
 -- before the first row
 pub told_nothing : {W : Type 0} (hears : W → ℕ → ℕ → W → Type 0) (rows first : ℕ) (watcher : W)
@@ -18,6 +31,11 @@ pub told_more : {W : Type 0} (hears : W → ℕ → ℕ → W → Type 0) (first
     → hears watcher (to - first) (end - first) after → WasTold hears (end - first) before (to - first) after
 told_more hears first at to end before watcher after from more within told heard =
     WasTold.more (to - first) after told (omega (arith, from, more)) (omega (arith, from, more, within)) heard
+
+-- of some rows of as many
+pub told_some : {W : Type 0} (hears : W → ℕ → ℕ → W → Type 0) (rows count done : ℕ) (before after : W) → rows ≡ count → WasTold hears rows before done after
+    → WasToldInPart hears count before after
+told_some hears rows count done before after same told = record { done = done; told = subst (λ (n : ℕ). WasTold hears n before done after) same told }
 
 -- after the last row, by the numbers that the rows have elsewhere
 pub told_all : {W : Type 0} (hears : W → ℕ → ℕ → W → Type 0) (first at end from to : ℕ) (before after : W) → end ≤ at

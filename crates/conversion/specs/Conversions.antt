@@ -19,6 +19,7 @@ use Rattle.picture_job.specs.declared.page_choice.PageChoice.{PageChoice}
 use Rattle.picture_job.specs.declared.smoothing.Smoothing.{Smoothing}
 use Rattle.picture_job.specs.Sizes.{dots_in, smoothing_in}
 use Rattle.conversion.specs.Placements.{IsFirstPage, IsGivenPlace, IsPlaced, Place, placed_rules}
+use Rattle.conversion.specs.Watching.{IsToldOf}
 use Rattle.page_fit.specs.Census.{census_of}
 use Rattle.conversion.specs.declared.outcome.Outcome.{Outcome}
 
@@ -82,6 +83,10 @@ HasConverted = HasConvertedBy core_rules
 abbrev pub on_page : PageChoice → Page → Job → Job
 on_page choice page job = record job { page = page; dots = dots_in choice.pixels page job.dots }
 
+-- how many rows of this picture are written: those from the job's first row on
+abbrev pub rows_on : PageChoice → Page → Job → ℕ
+rows_on choice page job = rows_of page (on_page choice page job).dots - job.first_row
+
 -- how many times finer this picture is painted
 abbrev pub times_on : PageChoice → Page → Job → Smoothing → ℕ
 times_on choice page job smoothing = (smoothing_in choice.pixels (dots_in choice.pixels page job.dots) smoothing).times
@@ -114,10 +119,10 @@ ConvertsOn rules choice smoothing job place reaches input before after sink sink
 ConvertsOn rules choice smoothing job place reaches input before after sink sink' (Err fault) =
     Converts rules smoothing.times job reaches input before after sink sink' (Err fault)
 
--- a conversion by these rules where the page was chosen, as HasConvertedBy
-pub record HasConvertedOn (rules : Rules) (choice : PageChoice) (smoothing : Smoothing) (job : Job) (reaches : Reach)
-    (before after : SourceState) (sink sink' : SinkState) (tests tests' : ℕ)
-    (answer : Result Outcome Fault) : Type 0 where
+-- a conversion by these rules where the page was chosen, as HasConvertedBy, and what the watcher was told of its rows
+pub record HasConvertedOn {W : Type 0} (rules : Rules) (choice : PageChoice) (smoothing : Smoothing) (job : Job) (reaches : Reach)
+    (before after : SourceState) (sink sink' : SinkState) (tests tests' : ℕ) (hears : W → ℕ → ℕ → W → Type 0)
+    (watcher watcher' : W) (answer : Result Outcome Fault) : Type 0 where
   pub input : List ℕ
   pub taken : Consumes before.left after.left input
   pub place : Place
@@ -125,6 +130,7 @@ pub record HasConvertedOn (rules : Rules) (choice : PageChoice) (smoothing : Smo
   pub converts : ConvertsOn rules choice smoothing job place reaches input before after sink sink' answer
   pub tested : tests' ≤ tests
       + strokes_boxes (times_on choice place.page job smoothing) (on_page choice place.page job) ((placed_rules rules job.pens place).strokes place.page input)
+  pub told : IsToldOf hears (rows_on choice place.page job) watcher watcher' answer
 
 -- the sink failed
 abbrev pub is_write : Fault → Bool

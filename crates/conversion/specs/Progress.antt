@@ -23,6 +23,7 @@ use Rattle.conversion.specs.PixelRows.{layout_bytes}
 use Rattle.conversion.specs.declared.fault.Fault.{Fault}
 use Rattle.conversion.specs.declared.fault.Fault.TheVariants.{Memory, Paint, Write}
 use Rattle.conversion.specs.Stops.{IsStoppedAt}
+use Rattle.conversion.specs.Watching.{WasTold, WasToldInPart}
 use Rattle.conversion.specs.declared.writing.Broken.{Broken}
 
 -- the bytes of a list of rows, the first of which has this number
@@ -80,6 +81,11 @@ pub record AreCutShort (row : ℕ → List ℕ) (first at end done : ℕ) (sink 
 abbrev pub WritesRows : (ℕ → List ℕ) → ℕ → ℕ → ℕ → ℕ → SinkState → SinkState → Result ℕ Broken → Type 0
 WritesRows row first at end done sink sink' (Ok n) = AreWritten (rows_bytes row at (end - at)) done sink sink' n
 WritesRows row first at end done sink sink' (Err stop) = AreCutShort row first at end done sink sink' stop
+
+-- a watcher was told of all of so many rows, or the sink failed in one of them
+abbrev pub IsToldOfRows : {W : Type 0} → (W → ℕ → ℕ → W → Type 0) → ℕ → W → W → Result ℕ Broken → Type 0
+IsToldOfRows hears rows before after (Ok _) = WasTold hears rows before rows after
+IsToldOfRows hears rows before after (Err _) = WasToldInPart hears rows before after
 
 -- a picture was written
 pub record IsWhole (text : List ℕ) (sink sink' : SinkState) (bytes : ℕ) : Type 0 where

@@ -1,10 +1,9 @@
 -- The picture of strokes of a drawing: of all of them, or of those of one sheet.
-use Rattle.std.specs.Prelude.{◌≡◌, ℕ, ◌-◌, false, List, length, Result, Ok, Err}
+use Rattle.std.specs.Prelude.{◌≡◌, ℕ, false, List, length, Result, Ok, Err}
 use Rattle.full_plot.specs.Drawings.{sheet_strokes}
 use Rattle.full_plot.specs.Labels.{labels_of_sheet}
 use Rattle.labels.specs.Labels.{LabelShape}
 use Rattle.plot_page.specs.Segments.{Segment}
-use Rattle.plot_page.specs.Resolutions.{rows_of}
 use Rattle.plot_page.specs.declared.pens.PenSet.{PenSet}
 use Rattle.page_fit.specs.Census.{census_of}
 use Rattle.picture_job.specs.declared.job.Job.{Job}
@@ -12,8 +11,8 @@ use Rattle.picture_job.specs.declared.png_job.PngJob.{PngJob}
 use Rattle.picture_job.specs.declared.page_choice.PageChoice.{PageChoice}
 use Rattle.picture_job.specs.declared.smoothing.Smoothing.{Smoothing}
 use Rattle.devices.specs.Sinks.{SinkState}
-use Rattle.conversion.specs.Conversions.{is_possible_in, on_page, times_on}
-use Rattle.conversion.specs.Documents.{HasPaintedPng, is_png_possible_in, picture_shown, png_on_page}
+use Rattle.conversion.specs.Conversions.{is_possible_in, on_page, rows_on, times_on}
+use Rattle.conversion.specs.Documents.{HasPaintedPng, is_png_possible_in, picture_shown, png_on_page, png_rows_on}
 use Rattle.conversion.specs.Pictures.{Reach}
 use Rattle.conversion.specs.Progress.{HasPainted}
 use Rattle.conversion.specs.declared.fault.Fault.{Fault}
@@ -46,7 +45,7 @@ abbrev pub WritesStrokes : PageChoice → Smoothing → Job → Drawing → List
 WritesStrokes choice smoothing job drawing strokes reaches sink sink' (Ok outcome) =
     HasPainted (times_on choice drawing.page job smoothing) (on_page choice drawing.page job) reaches strokes sink sink'
     (Ok outcome.done.bytes)
-    × (outcome.done.rows ≡ rows_of drawing.page (on_page choice drawing.page job).dots - job.first_row)
+    × (outcome.done.rows ≡ rows_on choice drawing.page job)
     × TellsOf drawing job.pens strokes outcome
 WritesStrokes choice smoothing job drawing strokes reaches sink sink' (Err Resolution) =
     is_possible_in choice.pixels smoothing.times job ≡ false
@@ -54,12 +53,13 @@ WritesStrokes choice smoothing job drawing strokes reaches sink sink' (Err fault
     HasPainted (times_on choice drawing.page job smoothing) (on_page choice drawing.page job) reaches strokes sink sink'
     (Err fault)
 
--- the same of a PNG
+-- the same of a PNG, whose bytes are not counted
 abbrev pub WritesPng : PageChoice → PngJob → Drawing → List Segment → Reach → SinkState → SinkState → Result Outcome Fault →
     Type 0
 WritesPng choice job drawing strokes reaches sink sink' (Ok outcome) =
     HasPaintedPng (picture_shown (png_on_page choice drawing.page job) reaches strokes) sink sink' (Ok outcome)
-    × (outcome.done.rows ≡ rows_of drawing.page (png_on_page choice drawing.page job).dots)
+    × (outcome.done.rows ≡ png_rows_on choice drawing.page job)
+    × (outcome.done.bytes ≡ 0)
     × TellsOf drawing job.pens strokes outcome
 WritesPng choice job drawing strokes reaches sink sink' (Err Resolution) = is_png_possible_in choice.pixels job ≡ false
 WritesPng choice job drawing strokes reaches sink sink' (Err fault) =

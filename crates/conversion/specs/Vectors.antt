@@ -64,12 +64,14 @@ PutsVector IsIt sink sink' (Err Unfinished) = sink'.faults ≡ sink.faults + 1
 PutsVector IsIt sink sink' (Err Memory) = ⊤
 PutsVector IsIt sink sink' (Err _) = ⊥
 
--- the document of a sheet of a drawing, or of all that is drawn for 0, was written, on the page where the drawing lies
+-- the document of a sheet of a drawing, or of all that is drawn for 0, was written, on the page where the drawing lies; it has
+-- no rows, and its bytes are not counted
 pub record WritesVector (job : VectorJob) (naming : Naming) (drawing : Drawing) (sheet : ℕ) (sink sink' : SinkState)
     (answer : Result Outcome Fault) : Type 0 where
   pub puts : PutsVector (IsVector job.format naming drawing.page job.pens (strokes_on drawing sheet)
       (ends_of sheet drawing.lines.ends.items) (labels_on drawing sheet)) sink sink' answer
   pub rows : IfOk answer (λ outcome. outcome.done.rows ≡ 0)
+  pub bytes : IfOk answer (λ outcome. outcome.done.bytes ≡ 0)
   pub tells : IfOk answer (TellsOf drawing job.pens (strokes_on drawing sheet))
 
 -- a plot was drawn, with its labels, and the document of all that is drawn was written, or it was not drawn, for the reason that is answered

@@ -4,7 +4,6 @@ ghost use Rattle.std.specs.Io.KnownBytes.{IsAtEnd};
 ghost use Rattle.conversion.specs.Conversions.{HasConverted, HasConvertedBy, HasConvertedOn, is_possible_in, is_write};
 ghost use Rattle.conversion.specs.Pictures.{has_resolution};
 ghost use Rattle.conversion.specs.Rules.{rules_of, rules_with};
-ghost use Rattle.conversion.specs.Watching.{IsTold};
 
 use crate::done::Done;
 use crate::drawing::draw_source;
@@ -93,14 +92,13 @@ pub(crate) fn convert_given<G: Gauge, S: Source, K: Sink>(
 ///
 /// Each pixel of a smoothed PPM is the mean of n by n pixels of a picture that is n times finer. Marks, PBM and PCL have no
 /// shades, and are written as without smoothing. The watcher is told after each band of rows how many are written; a picture
-/// without rows has no bands.
+/// without rows has no bands. After every error but `Write` it was told of nothing.
 ///
 /// If pixels are chosen, the page that the picture shows has so many along its longer side, instead of the job's resolution.
 ///
 /// Errors: those of `convert`, in the same order. `Resolution` comes also if the finer picture would have more than 1,200
 /// dots per inch, and if pixels are chosen in PCL, which has resolutions of its own. The plot is refused for the page that it
 /// asks for, if that is chosen and it asks for one, else for that of the job.
-#[tactic(auto, using(crate::proofs::Watched::not_told))]
 pub fn convert_on<G: Gauge, S: Source, K: Sink, W: Watcher>(
     alloc: Global,
     reading: Reading,
@@ -119,10 +117,9 @@ pub fn convert_on<G: Gauge, S: Source, K: Sink, W: Watcher>(
     ensures resolution { (result ≡ Err Fault.Resolution) ↔ (is_possible_in choice.pixels smoothing.times job.now ≡ false) }
     ensures converts { HasConvertedOn (rules_with reading carousel.now) choice smoothing job.now (G.reaches gauge.old)
         (S.state source.old) (S.state source.new) (K.state sink.old) (K.state sink.new)
-        (G.count gauge.old) (G.count gauge.new) result }
+        (G.count gauge.old) (G.count gauge.new) W.hears watcher.old watcher.new result }
     ensures end { (S.state source.new).ends ≡ (S.state source.old).ends + 1 → IsAtEnd (S.state source.new).left }
     ensures same { G.reaches gauge.new ≡ G.reaches gauge.old }
-    ensures told { IsTold W.hears watcher.old watcher.new result }
     ensures untouched { IfErr result (λ fault. is_write fault ≡ false → sink.new ≡ sink.old) }
 {
     if !is_picture_possible_in(choice.pixels, job, smoothing) {

@@ -4,7 +4,6 @@ ghost use Rattle.std.specs.Io.KnownBytes.{IsAtEnd};
 ghost use Rattle.conversion.specs.Conversions.{is_write};
 ghost use Rattle.conversion.specs.Documents.{HasConvertedToPng, is_png_possible_in};
 ghost use Rattle.conversion.specs.Rules.{rules_with};
-ghost use Rattle.conversion.specs.Watching.{IsTold};
 
 use crate::drawing::draw_source;
 use crate::fault::Fault;
@@ -27,8 +26,7 @@ use stroke_raster::Gauge;
 /// Errors, in this order: `Resolution` if the finer picture of a smoothed one would have more than 1200 dots per inch and no
 /// pixels are chosen, and then the source is not read; those of reading and drawing the plot (`Read`, `TooLong`, `Plot`); `Unfinished` if the sink
 /// fails, and what it has taken is of no use. `Memory` comes when memory is refused. After every error but `Unfinished`
-/// the sink is as it was.
-#[tactic(auto, using(crate::proofs::Watched::not_told))]
+/// the sink is as it was, and the watcher was told of nothing.
 pub fn convert_png<G: Gauge, S: Source, K: Sink, W: Watcher>(
     alloc: Global,
     reading: Reading,
@@ -46,10 +44,9 @@ pub fn convert_png<G: Gauge, S: Source, K: Sink, W: Watcher>(
     ensures resolution { (result.1 ≡ Err Fault.Resolution) ↔ (is_png_possible_in choice.pixels job.now ≡ false) }
     ensures converts { HasConvertedToPng (rules_with reading carousel.now) choice job.now (G.reaches gauge.old)
         (S.state source.old) (S.state source.new) (K.state sink) (K.state result.0)
-        (G.count gauge.old) (G.count gauge.new) result.1 }
+        (G.count gauge.old) (G.count gauge.new) W.hears watcher.old watcher.new result.1 }
     ensures end { (S.state source.new).ends ≡ (S.state source.old).ends + 1 → IsAtEnd (S.state source.new).left }
     ensures same { G.reaches gauge.new ≡ G.reaches gauge.old }
-    ensures told { IsTold W.hears watcher.old watcher.new result.1 }
     ensures untouched { IfErr result.1 (λ fault. is_write fault ≡ false → result.0 ≡ sink) }
 {
     if !is_png_possible_in(choice.pixels, job) {

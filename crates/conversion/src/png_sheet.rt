@@ -2,9 +2,9 @@
 ghost use Rattle.std.specs.Prelude.{◌≡◌, ◌+◌, ◌-◌, ◌^◌, ◌<◌, ◌≤◌, ◌↔◌, Err, IfErr, false, length};
 ghost use Rattle.plot_page.specs.declared.stroke.TheConstants.{MOST_STROKES};
 ghost use Rattle.conversion.specs.Conversions.{is_write};
-ghost use Rattle.conversion.specs.Documents.{is_png_possible, is_png_possible_in, png_boxes, png_on_page};
+ghost use Rattle.conversion.specs.Documents.{is_png_possible, is_png_possible_in, png_boxes, png_on_page, png_rows_on};
 ghost use Rattle.conversion.specs.Sheets.{WritesPng, strokes_on};
-ghost use Rattle.conversion.specs.Watching.{IsTold};
+ghost use Rattle.conversion.specs.Watching.{IsToldOf};
 
 use crate::fault::Fault;
 use crate::outcome::Outcome;
@@ -25,7 +25,7 @@ use stroke_raster::Gauge;
 ///
 /// Errors, in this order: `Resolution` if the finer picture of a smoothed one would have more than 1200 dots per inch and no
 /// pixels are chosen; `Unfinished` if the sink fails, and what it has taken is of no use. `Memory` comes when memory is
-/// refused. After every error but `Unfinished` the sink is as it was.
+/// refused. After every error but `Unfinished` the sink is as it was, and the watcher was told of nothing.
 pub fn write_png_sheet<G: Gauge, K: Sink, W: Watcher>(
     alloc: Global,
     drawing: &Drawing,
@@ -43,7 +43,7 @@ pub fn write_png_sheet<G: Gauge, K: Sink, W: Watcher>(
     ensures tests { G.count gauge.new ≤ G.count gauge.old
         + png_boxes (png_on_page choice drawing.now.page job.now) (strokes_on drawing.now sheet) }
     ensures same { G.reaches gauge.new ≡ G.reaches gauge.old }
-    ensures told { IsTold W.hears watcher.old watcher.new result.1 }
+    ensures told { IsToldOf W.hears (png_rows_on choice drawing.now.page job.now) watcher.old watcher.new result.1 }
     ensures untouched { IfErr result.1 (λ fault. is_write fault ≡ false → result.0 ≡ sink) }
 {
     let lines = &drawing.lines;
@@ -71,7 +71,7 @@ pub(crate) fn write_png_strokes<G: Gauge, K: Sink, W: Watcher>(
     ensures tests { G.count gauge.new ≤ G.count gauge.old
         + png_boxes (png_on_page choice drawing.now.page job.now) strokes.now }
     ensures same { G.reaches gauge.new ≡ G.reaches gauge.old }
-    ensures told { IsTold W.hears watcher.old watcher.new result.1 }
+    ensures told { IsToldOf W.hears (png_rows_on choice drawing.now.page job.now) watcher.old watcher.new result.1 }
     ensures untouched { IfErr result.1 (λ fault. is_write fault ≡ false → result.0 ≡ sink) }
 {
     if !is_png_possible_in(choice.pixels, job) {

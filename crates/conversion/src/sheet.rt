@@ -2,10 +2,10 @@
 ghost use Rattle.std.specs.Prelude.{◌≡◌, ◌+◌, ◌-◌, ◌^◌, ◌<◌, ◌≤◌, ◌↔◌, Err, IfErr, false, length};
 ghost use Rattle.plot_page.specs.declared.stroke.TheConstants.{MOST_STROKES};
 ghost use Rattle.conversion.specs.Boxes.{strokes_boxes};
-ghost use Rattle.conversion.specs.Conversions.{is_possible_in, is_write, on_page, times_on};
+ghost use Rattle.conversion.specs.Conversions.{is_possible_in, is_write, on_page, rows_on, times_on};
 ghost use Rattle.conversion.specs.Pictures.{has_any_resolution, has_resolution, is_fine, is_possible, is_smoothed};
 ghost use Rattle.conversion.specs.Sheets.{TellsOf, WritesStrokes, strokes_on};
-ghost use Rattle.conversion.specs.Watching.{IsTold};
+ghost use Rattle.conversion.specs.Watching.{IsToldOf};
 
 use crate::done::Done;
 use crate::fault::Fault;
@@ -28,7 +28,7 @@ use stroke_raster::Gauge;
 /// Errors, in this order: `Resolution` if the form cannot have the job's resolution, if pixels are chosen and the form does
 /// not take every resolution, or if the finer picture of a smoothed one would have more than 1,200 dots per inch; `Paint` for
 /// a band height or a first row out of range; `Write` if the sink fails. `Memory` comes when memory is refused. After every
-/// error but `Write` the sink is as it was.
+/// error but `Write` the sink is as it was, and the watcher was told of nothing.
 pub fn write_picture_sheet<G: Gauge, K: Sink, W: Watcher>(
     alloc: Global,
     drawing: &Drawing,
@@ -47,7 +47,7 @@ pub fn write_picture_sheet<G: Gauge, K: Sink, W: Watcher>(
     ensures tests { G.count gauge.new ≤ G.count gauge.old + strokes_boxes (times_on choice drawing.now.page job.now smoothing)
         (on_page choice drawing.now.page job.now) (strokes_on drawing.now sheet) }
     ensures same { G.reaches gauge.new ≡ G.reaches gauge.old }
-    ensures told { IsTold W.hears watcher.old watcher.new result }
+    ensures told { IsToldOf W.hears (rows_on choice drawing.now.page job.now) watcher.old watcher.new result }
     ensures untouched { IfErr result (λ fault. is_write fault ≡ false → sink.new ≡ sink.old) }
 {
     let lines = &drawing.lines;
@@ -78,7 +78,7 @@ pub(crate) fn write_strokes<G: Gauge, K: Sink, W: Watcher>(
     ensures tests { G.count gauge.new ≤ G.count gauge.old + strokes_boxes (times_on choice drawing.now.page job.now smoothing)
         (on_page choice drawing.now.page job.now) strokes.now }
     ensures same { G.reaches gauge.new ≡ G.reaches gauge.old }
-    ensures told { IsTold W.hears watcher.old watcher.new result }
+    ensures told { IsToldOf W.hears (rows_on choice drawing.now.page job.now) watcher.old watcher.new result }
     ensures untouched { IfErr result (λ fault. is_write fault ≡ false → sink.new ≡ sink.old) }
 {
     if !is_picture_possible_in(choice.pixels, job, smoothing) {

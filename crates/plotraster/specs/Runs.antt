@@ -1,5 +1,5 @@
 -- What a task does, and the status that a run of it ends with.
-use Rattle.std.specs.Prelude.{ℕ, Bool, true, Result, Ok, Err}
+use Rattle.std.specs.Prelude.{◌≡◌, ℕ, Bool, true, Result, Ok, Err}
 use Rattle.command_line.specs.declared.line.Task.{Task}
 use Rattle.command_line.specs.declared.line.Task.TheVariants.{Report}
 use Rattle.command_line.specs.declared.line.Task.TheVariants.{Picture as Draw}
@@ -22,18 +22,20 @@ use Rattle.conversion.specs.declared.outcome.Outcome.{Outcome}
 use Rattle.conversion.specs.declared.fault.Fault.{Fault}
 
 -- a picture is converted by the exact gauge, after no tests, to a form or to a PNG, or to a vector document named so; a
--- report is written; each of a plot that is read so and drawn with the pens of the carousel, on the page that was chosen
-abbrev pub HasRun : Reading → Carousel → PageChoice → Task → Naming → SourceState → SourceState → SinkState →
-    SinkState → Result Outcome Fault → Type 0
-HasRun reading carousel choice (Draw (Rows job smoothing)) naming before after sink sink' answer =
-    (tests : ℕ)
-    × HasConvertedOn (rules_with reading carousel) choice smoothing job exact before after sink sink' 0 tests answer
-HasRun reading carousel choice (Draw (Png job)) naming before after sink sink' answer =
-    (tests : ℕ) × HasConvertedToPng (rules_with reading carousel) choice job exact before after sink sink' 0 tests answer
-HasRun reading carousel choice (Draw (Vector job)) naming before after sink sink' answer =
-    HasConvertedToVector (rules_with reading carousel) choice job naming before after sink sink' answer
-HasRun reading carousel choice (Report page) naming before after sink sink' answer =
-    HasReportedOn (rules_with reading carousel) reading choice page before after sink sink' answer
+-- report is written; each of a plot that is read so and drawn with the pens of the carousel, on the page that was chosen. A
+-- watcher is told of the rows of a picture in pixels, and of nothing else
+abbrev pub HasRun : {W : Type 0} → Reading → Carousel → PageChoice → Task → Naming → SourceState → SourceState →
+    SinkState → SinkState → (W → ℕ → ℕ → W → Type 0) → W → W → Result Outcome Fault → Type 0
+HasRun reading carousel choice (Draw (Rows job smoothing)) naming before after sink sink' hears watcher watcher' answer =
+    (tests : ℕ) × HasConvertedOn (rules_with reading carousel) choice smoothing job exact before after sink sink' 0 tests
+    hears watcher watcher' answer
+HasRun reading carousel choice (Draw (Png job)) naming before after sink sink' hears watcher watcher' answer =
+    (tests : ℕ) × HasConvertedToPng (rules_with reading carousel) choice job exact before after sink sink' 0 tests
+    hears watcher watcher' answer
+HasRun reading carousel choice (Draw (Vector job)) naming before after sink sink' hears watcher watcher' answer =
+    HasConvertedToVector (rules_with reading carousel) choice job naming before after sink sink' answer × (watcher' ≡ watcher)
+HasRun reading carousel choice (Report page) naming before after sink sink' hears watcher watcher' answer =
+    HasReportedOn (rules_with reading carousel) reading choice page before after sink sink' answer × (watcher' ≡ watcher)
 
 -- the form of a picture has its resolution, or has any if pixels are chosen, and a picture that is smoothed is not too fine
 abbrev pub is_picture_possible : PageChoice → Picture → Bool

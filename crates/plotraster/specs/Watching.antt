@@ -1,21 +1,20 @@
--- What a watcher is told by a task, and by writing a picture.
+-- What a watcher is told by writing the picture of a sheet.
 use Rattle.std.specs.Prelude.{◌≡◌, ℕ, Result}
-use Rattle.command_line.specs.declared.line.Task.{Task}
-use Rattle.command_line.specs.declared.line.Task.TheVariants.{Report}
-use Rattle.command_line.specs.declared.line.Task.TheVariants.{Picture as Draw}
+use Rattle.plot_page.specs.declared.page.Page.{Page}
+use Rattle.picture_job.specs.declared.page_choice.PageChoice.{PageChoice}
 use Rattle.picture_job.specs.declared.picture.Picture.{Picture}
 use Rattle.picture_job.specs.declared.picture.Picture.TheVariants.{Rows, Png, Vector}
-use Rattle.conversion.specs.Watching.{IsTold}
+use Rattle.conversion.specs.Conversions.{rows_on}
+use Rattle.conversion.specs.Documents.{png_rows_on}
+use Rattle.conversion.specs.Watching.{IsToldOf}
 use Rattle.conversion.specs.declared.outcome.Outcome.{Outcome}
 use Rattle.conversion.specs.declared.fault.Fault.{Fault}
 
--- of a picture in pixels the rows that are written, and nothing of a vector document
-abbrev pub IsToldOfPicture : {W : Type 0} → (W → ℕ → ℕ → W → Type 0) → Picture → W → W → Result Outcome Fault → Type 0
-IsToldOfPicture hears (Rows job smoothing) before after answer = IsTold hears before after answer
-IsToldOfPicture hears (Png job) before after answer = IsTold hears before after answer
-IsToldOfPicture hears (Vector job) before after answer = after ≡ before
-
--- the same of a task, and nothing of a report
-abbrev pub IsToldByTask : {W : Type 0} → (W → ℕ → ℕ → W → Type 0) → Task → W → W → Result Outcome Fault → Type 0
-IsToldByTask hears (Draw picture) before after answer = IsToldOfPicture hears picture before after answer
-IsToldByTask hears (Report page) before after answer = after ≡ before
+-- of a picture in pixels, on the page that it shows, the rows that are written, and nothing of a vector document
+abbrev pub IsToldOfPicture : {W : Type 0} → (W → ℕ → ℕ → W → Type 0) → PageChoice → Picture → Page → W → W →
+    Result Outcome Fault → Type 0
+IsToldOfPicture hears choice (Rows job smoothing) page before after answer =
+    IsToldOf hears (rows_on choice page job) before after answer
+IsToldOfPicture hears choice (Png job) page before after answer =
+    IsToldOf hears (png_rows_on choice page job) before after answer
+IsToldOfPicture hears choice (Vector job) page before after answer = after ≡ before

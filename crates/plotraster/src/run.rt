@@ -4,7 +4,6 @@ ghost use Rattle.std.specs.Io.KnownBytes.{IsAtEnd};
 ghost use Rattle.command_line.specs.declared.help.TheConstants.{VERSION};
 ghost use Rattle.conversion.specs.Conversions.{is_write};
 ghost use Rattle.plotraster.specs.Runs.{HasRun, exit_status_of, is_task_possible};
-ghost use Rattle.plotraster.specs.Watching.{IsToldByTask};
 
 use carousel::Carousel;
 use command_line::{Task, VERSION};
@@ -36,8 +35,7 @@ pub fn run_task<S: Source, K: Sink, W: Watcher>(
     requires sinking { (K.state sink).faults < 2 ^ 64 - 1 }
     ensures resolution { (result.1 ≡ Err Fault.Resolution) ↔ (is_task_possible choice task.now ≡ false) }
     ensures runs { HasRun reading carousel.now choice task.now naming.entry
-        (S.state source.old) (S.state source.new) (K.state sink) (K.state result.0) result.1 }
-    ensures told { IsToldByTask W.hears task.now watcher.old watcher.new result.1 }
+        (S.state source.old) (S.state source.new) (K.state sink) (K.state result.0) W.hears watcher.old watcher.new result.1 }
     ensures end { (S.state source.new).ends ≡ (S.state source.old).ends + 1 → IsAtEnd (S.state source.new).left }
     ensures untouched { IfErr result.1 (λ fault. is_write fault ≡ false → result.0 ≡ sink) }
 {

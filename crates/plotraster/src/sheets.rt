@@ -73,7 +73,7 @@ pub fn write_sheet<K: Sink, W: Watcher>(
     requires sinking { (K.state sink).faults < 2 ^ 64 - 1 }
     ensures resolution { (result.1 ≡ Err Fault.Resolution) ↔ (is_picture_possible choice picture.now ≡ false) }
     ensures writes { WritesSheet choice picture.now naming.entry drawing.now sheet (K.state sink) (K.state result.0) result.1 }
-    ensures told { IsToldOfPicture W.hears picture.now watcher.old watcher.new result.1 }
+    ensures told { IsToldOfPicture W.hears choice picture.now drawing.now.page watcher.old watcher.new result.1 }
     ensures untouched { IfErr result.1 (λ fault. is_write fault ≡ false → result.0 ≡ sink) }
 {
     let mut gauge = Exact::new();

@@ -91,7 +91,8 @@ fn pictures_with_palettes(rt: HostRuntime) -> Result<(), Fail> {
     );
     assert_eq!(rt; all.writer.bytes.as_slice(), ALL.as_slice());
     let outcome = all.answer?;
-    assert_eq!(rt; (outcome.done.rows, outcome.done.strokes), (8, 4));
+    let done = outcome.done;
+    assert_eq!(rt; (done.rows, done.bytes, done.strokes), (8, 0, 4));
     let second = job_of(64, PenSet::none().with(2))?;
     let run = run(alloc, &second, LINES, Writer::new(alloc));
     assert_eq!(rt; run.writer.bytes.as_slice(), SECOND.as_slice());

@@ -237,7 +237,7 @@ fn fitted_documents(rt: HostRuntime) -> Result<(), Fail> {
             &mut source,
             &mut sink,
         );
-        answer?;
+        assert_eq!(rt; answer?.done.bytes, 0);
         let written = sink.into_inner();
         for text in texts {
             assert_eq!(rt;

@@ -5,12 +5,15 @@ use crate::pages::{CROSSING, eight_by_eight, job_at};
 use crate::runs::drawn;
 use crate::streams::Writer;
 use plotraster::{
-    Carousel, Exact, Form, Job, OverRead, OverWrite, PageChoice, Reading, Smoothing, Watcher,
-    convert_on,
+    Carousel, Exact, Form, Job, OverRead, OverWrite, PageChoice, PngJob, Reading, Smoothing,
+    Watcher, convert_on, convert_png,
 };
 use std::alloc::Global;
 use std::process::Abort;
 use std::test::Fail;
+
+// A plot that is refused.
+const OFF_RANGE: &[u8] = b"PA70000,0;";
 
 // Keeps what it is told.
 #[derive(Drop)]
@@ -85,4 +88,65 @@ fn watchers_of_other_forms(rt: HostRuntime) -> Result<(), Fail> {
     let mut job = job_at(Form::Pcl, 75)?;
     job.band = 1;
     is_told(&rt, rt.alloc(), &job, 1000, "1/5 2/5 3/5 4/5 5/5 ")
+}
+
+// Fails unless a picture is refused, and its watcher is told of nothing.
+fn is_not_told(rt: &impl Abort, alloc: Global, job: &Job, plot: &[u8]) -> Result<(), Fail> {
+    let mut diary = Diary {
+        told: String::new(alloc),
+    };
+    let answer = convert_on(
+        alloc,
+        Reading::Core,
+        &Carousel::empty(),
+        PageChoice::GIVEN,
+        job,
+        Smoothing::NONE,
+        &mut Exact::new(),
+        &mut OverRead::new(plot),
+        &mut OverWrite::new(Writer::new(alloc)),
+        &mut diary,
+    );
+    assert!(rt; answer.is_err());
+    assert_eq!(rt; diary.told.as_str(), "");
+    Ok(())
+}
+
+#[test]
+fn watchers_of_refused_pictures(rt: HostRuntime) -> Result<(), Fail> {
+    let alloc = rt.alloc();
+    is_not_told(&rt, alloc, &job_at(Form::Pcl, 127)?, CROSSING)?;
+    let mut job = eight_by_eight(Form::Ppm)?;
+    is_not_told(&rt, alloc, &job, OFF_RANGE)?;
+    job.first_row = 9;
+    is_not_told(&rt, alloc, &job, CROSSING)
+}
+
+#[test]
+fn watchers_of_refused_pngs(rt: HostRuntime) -> Result<(), Fail> {
+    let alloc = rt.alloc();
+    let common = eight_by_eight(Form::Ppm)?;
+    let job = PngJob {
+        page: common.page,
+        dots: common.dots,
+        pens: common.pens,
+        smoothing: Smoothing::NONE,
+    };
+    let mut diary = Diary {
+        told: String::new(alloc),
+    };
+    let (_, answer) = convert_png(
+        alloc,
+        Reading::Core,
+        &Carousel::empty(),
+        PageChoice::GIVEN,
+        &job,
+        &mut Exact::new(),
+        &mut OverRead::new(OFF_RANGE),
+        OverWrite::new(Writer::new(alloc)),
+        &mut diary,
+    );
+    assert!(rt; answer.is_err());
+    assert_eq!(rt; diary.told.as_str(), "");
+    Ok(())
 }

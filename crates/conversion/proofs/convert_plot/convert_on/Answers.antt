@@ -12,6 +12,7 @@ use Rattle.devices.specs.Sinks.{SinkState}
 use Rattle.conversion.proofs.Choices.{given_place, not_drawn_on}
 use Rattle.conversion.proofs.Drawn.{converts_drawn}
 use Rattle.conversion.proofs.Refusals.{passed_on}
+use Rattle.conversion.proofs.Watched.{not_told}
 use Rattle.conversion.proofs.convert_plot.convert_on.Goals as goal
 
 pub returns-clause-converts : goal.returns-clause-converts
@@ -36,6 +37,7 @@ returns-clause-converts g c =
           (sym c.is_picture_possible_in.ensures ∙ c.if-not-is_picture_possible_in.false) drawing.draws drawn c.write_strokes.ensures.writes;
       tested = subst (λ (ss : List Segment). g.G.Gauge.count c.write_strokes.new.gauge ≤ g.G.Gauge.count c.args.gauge.now
           + strokes_boxes (times_on c.args.choice made.page job c.args.smoothing) (on_page c.args.choice made.page job) ss) drawn c.write_strokes.ensures.tests;
+      told = c.write_strokes.ensures.told;
     }
 
 pub returns-then-not-is_picture_possible_in-clause-converts : goal.returns-then-not-is_picture_possible_in-clause-converts
@@ -46,6 +48,7 @@ returns-then-not-is_picture_possible_in-clause-converts g c = record {
   given = λ _ _. refl;
   converts = refl;
   tested = omega arith;
+  told = refl;
 }
 
 pub returns-in_err-drawing-clause-converts : goal.returns-in_err-drawing-clause-converts
@@ -57,9 +60,11 @@ returns-in_err-drawing-clause-converts g c =
     let is = g.S.Source.state c.draw_source.new.source in
     let sink : SinkState = g.K.Sink.state c.args.sink.now in
     let count = g.G.Gauge.count c.args.gauge.now in
+    let hears = g.W.Watcher.hears in
+    let watcher = c.args.watcher.now in
     let reaches = g.G.Gauge.reaches c.args.gauge.now in
     let refused = not_drawn_on rules c.args.choice c.args.smoothing job reaches drawing.input was is sink sink _ drawing.draws in
-    subst (λ (answer : Result Outcome Fault). HasConvertedOn rules c.args.choice c.args.smoothing job reaches was is sink sink count count answer)
+    subst (λ (answer : Result Outcome Fault). HasConvertedOn rules c.args.choice c.args.smoothing job reaches was is sink sink count count hears watcher watcher answer)
     (sym (passed_on _ _ c.from_residual.ensures.1))
     (record {
       input = drawing.input;
@@ -68,4 +73,5 @@ returns-in_err-drawing-clause-converts g c =
       given = refused.1;
       converts = refused.2;
       tested = omega arith;
+      told = not_told hears _ watcher _;
     })

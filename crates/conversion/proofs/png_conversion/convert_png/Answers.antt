@@ -8,6 +8,7 @@ use Rattle.conversion.specs.declared.placement.Placement.TheVariants.{Given}
 use Rattle.devices.specs.Sinks.{SinkState}
 use Rattle.conversion.proofs.Choices.{given_place, png_not_drawn}
 use Rattle.conversion.proofs.Drawn.{converts_png_drawn}
+use Rattle.conversion.proofs.Watched.{not_told}
 use Rattle.conversion.proofs.png_conversion.convert_png.Goals as goal
 
 pub returns-in-Err-clause-converts : goal.returns-in-Err-clause-converts
@@ -23,6 +24,7 @@ returns-in-Err-clause-converts g c =
       given = refused.1;
       converts = refused.2;
       tested = omega arith;
+      told = not_told g.W.Watcher.hears _ c.args.watcher.now c.in-Err.fault;
     }
 
 pub returns-clause-converts : goal.returns-clause-converts
@@ -45,6 +47,7 @@ returns-clause-converts g c =
       converts = converts_png_drawn rules c.args.choice reaches drawing.input _ _ was is made job c.as_slice-strokes.result.now c.write_png_strokes.result.1
           (sym c.is_png_possible_in.ensures ∙ c.if-not-is_png_possible_in.false) drawing.draws drawn c.write_png_strokes.ensures.writes;
       tested = subst (λ (ss : List Segment). g.G.Gauge.count c.write_png_strokes.new.gauge ≤ g.G.Gauge.count c.args.gauge.now + png_boxes (png_on_page c.args.choice made.page job) ss) drawn c.write_png_strokes.ensures.tests;
+      told = c.write_png_strokes.ensures.told;
     }
 
 pub returns-then-not-is_png_possible_in-clause-converts : goal.returns-then-not-is_png_possible_in-clause-converts
@@ -55,4 +58,5 @@ returns-then-not-is_png_possible_in-clause-converts g c = record {
   given = λ _ _. refl;
   converts = refl;
   tested = omega arith;
+  told = refl;
 }

@@ -28,5 +28,6 @@ returns-clause-writes g c =
             w.in-Pdf.is strokes c.ends_in-ends.ensures labels (ap g.K.Sink.state w.sink-is) w.in_ok-put_pdf-in-Pdf.ensures.puts
       ];
       rows = c.outcome_of.ensures.rows;
+      bytes = c.outcome_of.ensures.bytes;
       tells = subst (λ (s : List Segment). TellsOf drawing c.args.job.now.pens s c.outcome_of.result) strokes c.outcome_of.ensures.tells;
     }

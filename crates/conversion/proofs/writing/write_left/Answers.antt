@@ -2,7 +2,7 @@ use Rattle.std.proofs.Common.{◌≡◌, ◌≤◌, ◌-◌, ℕ, List, refl, sy
 use Rattle.conversion.specs.declared.writing.Broken.{Broken}
 use Rattle.conversion.specs.Pictures.{Reach}
 use Rattle.conversion.specs.Progress.{WritesRows}
-use Rattle.conversion.proofs.Watched.{told_all, told_more, told_nothing}
+use Rattle.conversion.proofs.Watched.{told_all, told_more, told_nothing, told_some}
 use Rattle.conversion.proofs.WrittenRows.{rows_after, cut_in_more}
 use Rattle.conversion.proofs.writing.write_left.Goals as goal
 
@@ -77,7 +77,9 @@ returns-in-Err-clause-writes g c =
     (rows_after row first first c.each.at end c.args.done c.each.written (g.K.Sink.state c.args.sink.now) was is answer inv.from later inv.so_far wrote)
 
 pub returns-in-Err-clause-told : goal.returns-in-Err-clause-told
-returns-in-Err-clause-told g c = record { rows = _; done = _; told = c.each.invariant.told }
+returns-in-Err-clause-told g c =
+    told_some g.W.Watcher.hears (c.rows-rows.result - c.next_row-first.result) _ _ c.args.watcher.now c.each.watcher
+    (omega (arith, c.rows-rows.ensures.count, c.next_row-first.ensures.next)) c.each.invariant.told
 
 pub returns-clause-told : goal.returns-clause-told
 returns-clause-told g c =
