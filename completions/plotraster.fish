@@ -58,7 +58,7 @@ __plotraster_option "$pixels" -l progress \
 __plotraster_option draw -x -l size -d 'Most pixels of the picture\'s longer side'
 __plotraster_option "draw png ppm" -x -l smooth -d 'Smoothing, 1 to 8'
 __plotraster_option draw -x -l form -a 'png pdf svg ppm pbm pcl marks' -d 'Form of the picture'
-__plotraster_option draw -l quiet -d 'Show no progress, and do not say that nothing is drawn'
+__plotraster_option draw -l quiet -d 'Show no progress, and do not say that little or nothing is drawn'
 __plotraster_option "$rows" -x -l band -d 'Most rows of pixels painted at a time'
 __plotraster_option "$rows" -x -l from -d 'First row of pixels to write, counted from 0 at the top'
 

@@ -60,7 +60,7 @@ _plotraster() {
             options+=(
                 "--size=[Most pixels of the picture's longer side]:PIXELS: "
                 '--form=[Form of the picture]:NAME:(png pdf svg ppm pbm pcl marks)'
-                '--quiet[Show no progress, and do not say that nothing is drawn]'
+                '--quiet[Show no progress, and do not say that little or nothing is drawn]'
             )
             ;;
     esac

@@ -81,9 +81,11 @@ def test_errors(queue):
 
 
 def test_warnings(queue):
-    """A plot that draws nothing is printed as an empty page, and one that is larger than a page is cut off, with a message."""
+    """A plot that draws nothing is printed as an empty page, one that is hardly understood as what it draws, and one that is
+    larger than a page is cut off, with a message."""
     large = b"SP1;PU-32000,-32000;PD-32000,32767,32767,32767;PU65000,65000;PD0,0;"
     for plot, message in ((b"IN;PU;", "nothing is drawn on the page: see plotraster report --profile full"),
+                          (b"PU0,0;PD300,200;XX;XX;", "2 notes on 1 line: see plotraster report --profile full"),
                           (large, "the page is not fitted: the drawing is larger than a page can be")):
         status, output, said = queue.send(plot, "1", "user", "title", "1", "")
         assert (status, output[:5], said) == (0, b"%PDF-", [("WARNING", f"plotraster: {message}")])

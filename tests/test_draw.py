@@ -77,24 +77,38 @@ LINE = b"PU0,0;PD300,200;"
 BLANK = b"IN;"
 OFF_PAGE = b"PU3000,3000;PD4000,4000;"
 TOO_LARGE = b"PU-60000,0;PD60000,0;"
+SKIPPED = b"XX;"
 NOT_FITTED = "the page is not fitted: "
-NOTHING = "nothing is drawn on the page: see plotraster report --profile full"
+REPORT = "see plotraster report --profile full"
+NOTHING = f"nothing is drawn on the page: {REPORT}"
 # A command line, a plot, and what is said of the picture.
 REMARKS = [
     (["draw"], LINE, []),
-    (["draw", "--verbose"], LINE, ["1 line, 0 off the page; 0 notes, see plotraster report"]),
-    (["draw", "--quiet", "--verbose"], LINE, ["1 line, 0 off the page; 0 notes, see plotraster report"]),
+    (["draw", "--verbose"], LINE, [f"1 line, 0 off the page; 0 notes, {REPORT}"]),
+    (["draw", "--quiet", "--verbose"], LINE, [f"1 line, 0 off the page; 0 notes, {REPORT}"]),
     (["draw"], BLANK, [NOTHING]),
     (["draw", "--quiet"], BLANK, []),
     (["draw", "--width=800"], BLANK, [NOTHING]),
     (["draw", "--width=800", "--quiet"], BLANK, []),
     (["draw", "--pens=3"], LINE, [NOTHING]),
+    (["draw", "--profile=core"], BLANK, ["nothing is drawn on the page: see plotraster report"]),
     (["draw", "--width=800", "--height=800"], OFF_PAGE, [NOTHING]),
     (["draw", "--width=800", "--height=800", "--quiet"], OFF_PAGE, []),
     (["draw", "--form=pdf"], BLANK, [NOTHING]),
     (["draw", "--form=svg", "--width=800", "--height=800"], OFF_PAGE, [NOTHING]),
     (["draw", "--dots=10"], TOO_LARGE, [f"{NOT_FITTED}the drawing is larger than a page can be"]),
     (["draw", "--dots=10", "--quiet"], TOO_LARGE, [f"{NOT_FITTED}the drawing is larger than a page can be"]),
+    (["draw"], LINE + 1 * SKIPPED, []),
+    (["draw"], LINE + 2 * SKIPPED, [f"2 notes on 1 line: {REPORT}"]),
+    (["draw", "--profile=core"], LINE + 2 * SKIPPED, ["2 notes on 1 line: see plotraster report"]),
+    (["draw", "--pens=1"], b"SP1;" + LINE + b"SP2;" + LINE + 2 * SKIPPED, []),
+    (["draw", "--pens=1"], b"SP1;" + LINE + b"SP2;" + LINE + 3 * SKIPPED, [f"3 notes on 2 lines: {REPORT}"]),
+    (["draw", "--quiet"], LINE + 2 * SKIPPED, []),
+    (["draw", "--verbose"], LINE + 2 * SKIPPED, [f"1 line, 0 off the page; 2 notes, {REPORT}"]),
+    (["draw"], 2 * SKIPPED, [NOTHING]),
+    (["png", "--profile=full"], LINE + 2 * SKIPPED, []),
+    (["draw"], PLOTS["of two sheets"] + 9 * SKIPPED, ["the plot has 2 sheets; this is the first"]),
+    (["draw", "--form=pdf"], PLOTS["of two sheets"] + 9 * SKIPPED, [f"9 notes on 2 lines: {REPORT}"]),
     (["draw"], PLOTS["of two sheets"], ["the plot has 2 sheets; this is the first"]),
     (["draw", "--quiet"], PLOTS["of two sheets"], []),
     (["draw", "--sheet=1"], PLOTS["of two sheets"], []),

@@ -218,7 +218,8 @@ SAID = [
 def test_verbose(program):
     """One line on standard error after the output, which is the same as without."""
     for plot, words, said in SAID:
-        errors = f"plotraster: {said}, see plotraster report\n".encode()
+        report = "plotraster report" + (" --profile full" if "--profile=full" in words else "")
+        errors = f"plotraster: {said}, see {report}\n".encode()
         for command in [*DOCUMENTS, *FORMS, *([] if "--pens=1" in words else ["report"])]:
             output = drawn(program, [command, *words, "--verbose"], plot, errors)
             assert output == drawn(program, [command, *words], plot)

@@ -288,7 +288,7 @@ def test_message_of_papers(program):
     """The message on a bad name has the names as help has them."""
     names = re.search(r"--height: (.*);", "\n".join(help_of(program, ["report"])))[1]
     done = run(program, ["report", f"{PAPER}=none"], SECONDS, text=True)
-    assert done.stderr == f"plotraster: bad page: use {names}, or one of these with {PORTRAIT}\n"
+    assert done.stderr == f"plotraster: bad page: use {names}, one of these with {PORTRAIT}, or plot\n"
 
 
 def test_characters(program):

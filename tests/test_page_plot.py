@@ -103,6 +103,7 @@ def test_verbose(program):
     """The line on the page comes before that on the drawing."""
     said = b"plotraster: 1 line, 0 off the page; 0 notes, see plotraster report\n"
     drawn(program, ["pbm", "--verbose", *ASKED], DRAWN, NO_SIZE + said)
+    said = said.replace(b"report", b"report --profile full")
     drawn(program, ["pbm", "--verbose", *ASKED, "--profile=full"], b"PS400,300;" + DRAWN, said)
 
 

@@ -7,12 +7,14 @@ import shlex
 MANUAL = os.path.join(os.path.dirname(__file__), "..", "..", "man", "plotraster.1")
 # What is said of an output that is written.
 LINES = rb"[0-9]+ lines?, [0-9]+ off the page(, [0-9]+ cut at its edge)?"
+REPORT = b"see plotraster report( --profile full)?"
 REMARKS = (
-    b"nothing is drawn on the page: see plotraster report --profile full",
+    b"nothing is drawn on the page: " + REPORT,
+    rb"[0-9]+ notes on [0-9]+ lines?: " + REPORT,
     b"the page is the default one: the plot asks for no size",
     b"the page is not fitted: (nothing is drawn|the drawing is larger than a page can be)",
     rb"the plot has [0-9]+ sheets; this is the first",
-    b"(nothing is drawn: )?" + LINES + rb"; [0-9]+ notes?, see plotraster report",
+    b"(nothing is drawn: )?" + LINES + rb"; [0-9]+ notes?, " + REPORT,
 )
 # Why a file cannot be opened, which --verbose says in a line of its own.
 REASONS = rb"no such file or folder|permission denied|[A-Z][a-z ]+ \(os error [0-9]+\)"

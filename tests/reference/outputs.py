@@ -75,13 +75,15 @@ def draw(plot, page, sheet, carousel=EMPTY, characters=None):
 
 
 class Shown(NamedTuple):
-    """A page, what is drawn on it, how finely, and why it is another page than was asked for, or None."""
+    """A page, what is drawn on it, how finely, why it is another page than was asked for, or None, and of how many lines of
+    all pens."""
 
     page: Page
     drawing: Drawing
     dots: int
     smooth: int
     why: str
+    lines: int
 
 
 def shown_by(request, plot):
@@ -91,7 +93,7 @@ def shown_by(request, plot):
         asked = asked_page(plot, request)
         page, why = asked or page, None if asked else "the default one: the plot asks for no size"
     drawing = draw(plot, page, request.sheet, request.carousel, request.characters)
-    strokes = drawing.strokes
+    strokes, lines = drawing.strokes, len(drawing.strokes)
     if request.form != "report":
         strokes = [stroke for stroke in strokes if stroke.pen in request.pens]
     if request.margin is not None:
@@ -104,7 +106,7 @@ def shown_by(request, plot):
     if request.pixels:
         dots = dots_of_size(page, request.pixels)
         smooth = min(smooth, MOST_DOTS // dots)
-    return Shown(page, drawing._replace(strokes=strokes), dots, smooth, why)
+    return Shown(page, drawing._replace(strokes=strokes), dots, smooth, why, lines)
 
 
 def asked_page(plot, request):
@@ -132,10 +134,14 @@ def dots_of_size(page, pixels):
 def said_of(request, shown, strokes, about=""):
     """What is said of strokes that are shown, beside their picture, with what it is about."""
     said = f"plotraster: {about}the page is {shown.why}\n" if shown.why else ""
+    report = "plotraster report" + ("" if request.sheet is None else " --profile full")
     is_blank = shown.why == f"not fitted: {BLANK}" or all(is_off(it, shown.page) for it in strokes)
     if request.is_draw and is_blank and shown.why != f"not fitted: {TOO_LARGE}":
-        said = f"plotraster: {about}nothing is drawn on the page: see plotraster report --profile full\n"
-    sheets = shown.drawing.sheets or 0
+        said = f"plotraster: {about}nothing is drawn on the page: see {report}\n"
+    sheets, notes = shown.drawing.sheets or 0, len(shown.drawing.notes)
+    if request.is_draw and not is_blank and (sheets < 2 or request.sheet == 0) and notes > shown.lines:
+        lines = "1 line" if shown.lines == 1 else f"{shown.lines} lines"
+        said += f"plotraster: {notes} notes on {lines}: see {report}\n"
     if sheets > 1 and not request.is_sheet_named and request.sheet not in (0, EACH) and request.form != "report":
         said += f"plotraster: the plot has {sheets} sheets; this is the first\n"
     return said

@@ -15,7 +15,7 @@ pub record Defaults : Type 0 where
   pub margin : ℕ
   -- if no page is given, the page that the plot asks for is fitted to the drawing
   pub fits : Bool
-  -- a person waits for the picture: progress is shown, and it is said if nothing is drawn
+  -- a person waits for the picture: progress is shown, and it is said if little or nothing is drawn
   pub interactive : Bool
 
 -- those of draw

@@ -17,7 +17,7 @@ pub(crate) struct Defaults<'a> {
     pub(crate) margin: u32,
     /// Whether the page that the plot asks for is fitted to the drawing, if no page is given.
     pub(crate) fits: bool,
-    /// Whether a person waits for the picture: progress is shown, and it is said if nothing is drawn.
+    /// Whether a person waits for the picture: progress is shown, and it is said if little or nothing is drawn.
     pub(crate) interactive: bool,
 }
 

@@ -42,7 +42,7 @@ pub enum LineFault<'a> {
     #[error("--dots times --smooth is over 1200")]
     Smooth,
     /// The word after `--page` names no paper, and is not `plot`.
-    #[error("bad page: use a0 to a5, b4, letter, legal, tabloid, ansi-a to ansi-e, arch-d or arch-e, or one of these with -portrait")]
+    #[error("bad page: use a0 to a5, b4, letter, legal, tabloid, ansi-a to ansi-e, arch-d or arch-e, one of these with -portrait, or plot")]
     Paper,
     /// `--page` is given with `--width` or `--height`.
     #[error("--page may not be given with --width or --height")]

@@ -101,7 +101,7 @@ pub(crate) const DRAW_PROGRESS: &str =
     "Show on standard error, if it is a terminal, how many rows of a long picture are written, and how many are left: \
     draw does so without this option";
 
-pub(crate) const QUIET: &str = "Show no progress, and do not say that nothing is drawn";
+pub(crate) const QUIET: &str = "Show no progress, and do not say that little or nothing is drawn";
 
 // `clap` is given no default: without this option the name of the output file decides.
 pub(crate) const FORM: HelpLine<'static> = HelpLine {

@@ -71,7 +71,7 @@ pub struct Line<'m, 'a> {
     /// Whether the subcommand is draw, which is made for a person who waits for the picture: the picture is not to be
     /// written to a terminal.
     pub interactive: bool,
-    /// Whether to say on standard error that nothing is drawn: if the line is interactive, unless it is quiet.
+    /// Whether to say on standard error that little or nothing is drawn: if the line is interactive, unless it is quiet.
     pub remarks: bool,
 }
 

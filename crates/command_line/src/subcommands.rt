@@ -45,7 +45,7 @@ pub(crate) const SUBCOMMANDS: [(&str, Kind, &str, &str); 9] = [
             - shows what is drawn, wherever on that page it is, with a margin of 5 mm;\n\
             - writes 150 dots per inch, smoothed 4 times, as PNG, or as the output file's extension says: as PDF or SVG the \
             lines themselves, in PDF those of all sheets, a page each;\n\
-            - shows progress on a terminal, and says if nothing is drawn.\n\n\
+            - shows progress on a terminal, and says if little or nothing is drawn.\n\n\
             Example:\n  plotraster draw plan.plt -o plan.png",
     ),
     (

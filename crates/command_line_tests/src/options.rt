@@ -309,7 +309,7 @@ fn prints_faults(rt: HostRuntime) -> Result<(), Fail> {
     let text = format!(in rt.alloc(); "{}", LineFault::Paper)?;
     assert_eq!(rt;
         text.as_str(),
-        "bad page: use a0 to a5, b4, letter, legal, tabloid, ansi-a to ansi-e, arch-d or arch-e, or one of these with -portrait"
+        "bad page: use a0 to a5, b4, letter, legal, tabloid, ansi-a to ansi-e, arch-d or arch-e, one of these with -portrait, or plot"
     );
     Ok(())
 }

@@ -1,6 +1,6 @@
 //! Messages on standard error, and the exit status of a run that ends with one.
-use crate::sheets::has_all_pages;
-use plotraster::{Fault, Line, LineFault, Outcome, Picture, Placement, Task, status};
+use crate::sheets::{has_all_pages, reading_of};
+use plotraster::{Fault, Line, LineFault, Outcome, Picture, Placement, Reading, Task, status};
 use std::fmt::{Display, Formatter, Result, Write};
 use std::io::{Error, ErrorKind};
 
@@ -119,12 +119,23 @@ pub(crate) fn tell_outcome(
     outcome: &Outcome,
 ) {
     tell_page(rt, line, about, outcome);
+    if is_hardly_understood(line, is_sheet, outcome) {
+        tell_notes(rt, line, about, outcome);
+    }
     if !is_sheet && has_more_sheets(line, outcome) {
         let sheets = outcome.sheets;
         let _ = eprintln!(rt; "plotraster: {about}the plot has {sheets} sheets; this is the first");
     }
     if line.verbose {
-        tell_drawn(rt, about, outcome);
+        tell_drawn(rt, line, about, outcome);
+    }
+}
+
+// The report that reads a plot as this run does.
+fn report_of(line: &Line<'_, '_>) -> &'static str {
+    match line.reading {
+        Reading::Core => "plotraster report",
+        Reading::Full { .. } => "plotraster report --profile full",
     }
 }
 
@@ -134,9 +145,8 @@ fn tell_page(rt: &HostRuntime, line: &Line<'_, '_>, about: About<'_>, outcome: &
     let is_small = outcome.placement != Placement::TooLarge;
     if line.interactive && is_small && is_blank(outcome) {
         if line.remarks {
-            let _ = eprintln!(rt;
-                "plotraster: {about}nothing is drawn on the page: see plotraster report --profile full"
-            );
+            let report = report_of(line);
+            let _ = eprintln!(rt; "plotraster: {about}nothing is drawn on the page: see {report}");
         }
     } else if let Some(reason) = reason_of(outcome.placement) {
         let _ = eprintln!(rt; "plotraster: {about}the page is {reason}");
@@ -146,6 +156,30 @@ fn tell_page(rt: &HostRuntime, line: &Line<'_, '_>, about: About<'_>, outcome: &
 // Nothing that the selected pens draw is on the page.
 fn is_blank(outcome: &Outcome) -> bool {
     outcome.placement == Placement::Blank || outcome.census.off_page == outcome.census.strokes
+}
+
+// There are more notes than lines, of pens that are not drawn, too. The notes are those of the whole plot, so this is not asked
+// of one sheet of several, and draw need not say it if it is to be quiet or says these numbers anyway.
+fn is_hardly_understood(line: &Line<'_, '_>, is_sheet: bool, outcome: &Outcome) -> bool {
+    let is_whole = outcome.sheets < 2 || !is_sheet && has_all_sheets(reading_of(line));
+    let is_said = line.remarks && !line.verbose;
+    is_said && is_whole && !is_blank(outcome) && outcome.done.notes > outcome.done.strokes
+}
+
+// All sheets are drawn.
+fn has_all_sheets(reading: Reading) -> bool {
+    match reading {
+        Reading::Core => true,
+        Reading::Full { sheet, .. } => sheet == 0,
+    }
+}
+
+// Says that there are more notes than lines, of which there is one at least.
+fn tell_notes(rt: &HostRuntime, line: &Line<'_, '_>, about: About<'_>, outcome: &Outcome) {
+    let notes = outcome.done.notes;
+    let lines = Lines(outcome.done.strokes);
+    let report = report_of(line);
+    let _ = eprintln!(rt; "plotraster: {about}{notes} notes on {lines}: see {report}");
 }
 
 // A picture is that of the first sheet of several, and nobody chose it. A report says itself how many sheets there are.
@@ -166,8 +200,8 @@ fn reason_of(placement: Placement) -> Option<&'static str> {
 
 // Says how many lines the selected pens drew, how many of them lie off the page, how many others are cut at its edge if any are,
 // and how many notes there are.
-fn tell_drawn(rt: &HostRuntime, about: About<'_>, outcome: &Outcome) {
-    let lines = outcome.census.strokes;
+fn tell_drawn(rt: &HostRuntime, line: &Line<'_, '_>, about: About<'_>, outcome: &Outcome) {
+    let lines = Lines(outcome.census.strokes);
     let off_page = outcome.census.off_page;
     let notes = outcome.done.notes;
     let nothing = if is_blank(outcome) {
@@ -176,11 +210,24 @@ fn tell_drawn(rt: &HostRuntime, about: About<'_>, outcome: &Outcome) {
         ""
     };
     let cut = Cut(outcome.census.cut);
-    let line = if lines == 1 { "line" } else { "lines" };
     let note = if notes == 1 { "note" } else { "notes" };
+    let report = report_of(line);
     let _ = eprintln!(rt;
-        "plotraster: {about}{nothing}{lines} {line}, {off_page} off the page{cut}; {notes} {note}, see plotraster report"
+        "plotraster: {about}{nothing}{lines}, {off_page} off the page{cut}; {notes} {note}, see {report}"
     );
+}
+
+// How many lines there are.
+#[derive(Clone, Copy)]
+struct Lines(usize);
+
+impl Display for Lines {
+    fn fmt<W: Write>(&self, f: &mut Formatter<W>) -> Result {
+        match self.0 {
+            1 => write!(f, "1 line"),
+            lines => write!(f, "{lines} lines"),
+        }
+    }
 }
 
 // How many lines are cut at the edge of the page, if any are.
