@@ -92,9 +92,12 @@ IP0,0,300,400;LT2,10;PU0,0;CI5,90;
 80,0 0,80;0,80 -80,0;-80,0 0,-80;0,-80 43,-37;
 
 IP0,0,300,400;LT2,10;PU50,0;PD;AA0,0,60,30;
-800,0 800,0;800,0 697,386;420,673 400,693;";
+800,0 800,0;800,0 697,386;420,673 400,693;
+
+IP0,0,300,400;LT2,10;PU50,0;PD;AA0,0,90,90;LT;PR0,50;
+800,0 800,0;800,0 517,283;234,566 0,800;0,800 0,1600;";
 
 #[test]
 fn runs_and_figures(rt: HostRuntime) -> Result<(), Fail> {
-    has_answers(&rt, rt.alloc(), Asked::Strokes, RUNS_AND_FIGURES, 6)
+    has_answers(&rt, rt.alloc(), Asked::Strokes, RUNS_AND_FIGURES, 7)
 }

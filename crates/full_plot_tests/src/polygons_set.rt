@@ -27,6 +27,9 @@ PU0,0;PM0;PD9,0;CI5,120;PA5,5,6,6;PM2;EP;
 PU0,0;PM0;PD;AA5,0,90,45;PU;AR0,5,90,90;PM1;AR2,0,180,90;PM2;EP;
 0,0 23,-57;23,-57 80,-80;
 
+PU50,0;PM0;PD;AA0,0,90,90;PR0,50;PM2;EP;
+800,0 0,800;0,800 0,1600;0,1600 800,0;
+
 PU0,0;PM;PD9,0;PM1;AA5,0,90,45;PM2;EP;
 0,0 144,0;144,0 0,0;144,0 125,45;125,45 80,64;80,64 144,0;
 
@@ -160,7 +163,7 @@ SC0,100,0,100;AC10,10;FT3,2;PU0,0;RR20,5;AC;RR20,5;
 
 #[test]
 fn polygons_and_their_edges(rt: HostRuntime) -> Result<(), Fail> {
-    has_answers(&rt, rt.alloc(), Asked::Strokes, POLYGONS, 17)
+    has_answers(&rt, rt.alloc(), Asked::Strokes, POLYGONS, 18)
 }
 
 #[test]
