@@ -5,7 +5,7 @@ use Rattle.std.proofs.lemmas.Bool.Decides.{nat_tests}
 use Rattle.std.specs.Char.{encode_utf8, IsScalar}
 use Rattle.std.proofs.lemmas.List.{take-append-drop}
 use Rattle.character_sets.specs.Laws.{BeginsWithCharacter}
-use Rattle.character_sets.specs.Utf8.{begins_with, decoded, rows, sequence, tail}
+use Rattle.character_sets.specs.Utf8.{begins_in, decoded_sequence, rows, sequence, tail}
 
 -- these bytes are the encoding of a scalar value from 0x80 on
 record IsEncoding (text : List ℕ) (code : ℕ) : Type 0 where
@@ -13,7 +13,7 @@ record IsEncoding (text : List ℕ) (code : ℕ) : Type 0 where
   wide : 0x80 ≤ code
   bytes : encode_utf8 code ≡ text
 
-of_two : (a b : ℕ) → 0xC2 ≤ a → a ≤ 0xDF → 0x80 ≤ b → b ≤ 0xBF → IsEncoding (a ∷ b ∷ []) (decoded (a ∷ b ∷ []))
+of_two : (a b : ℕ) → 0xC2 ≤ a → a ≤ 0xDF → 0x80 ≤ b → b ≤ 0xBF → IsEncoding (a ∷ b ∷ []) (decoded_sequence (a ∷ b ∷ []))
 unfolding encode_utf8
 of_two a b p q r s = record {
   is_scalar = grind (arith, nat_tests);
@@ -22,7 +22,7 @@ of_two a b p q r s = record {
 }
 
 of_three : (a b d : ℕ) → 0xE0 ≤ a → a ≤ 0xEF → 0x80 ≤ b → b ≤ 0xBF → 0x80 ≤ d → d ≤ 0xBF
-    → 0x800 ≤ decoded (a ∷ b ∷ d ∷ []) → IsScalar (decoded (a ∷ b ∷ d ∷ [])) → IsEncoding (a ∷ b ∷ d ∷ []) (decoded (a ∷ b ∷ d ∷ []))
+    → 0x800 ≤ decoded_sequence (a ∷ b ∷ d ∷ []) → IsScalar (decoded_sequence (a ∷ b ∷ d ∷ [])) → IsEncoding (a ∷ b ∷ d ∷ []) (decoded_sequence (a ∷ b ∷ d ∷ []))
 unfolding encode_utf8
 of_three a b d p q r s t u least scalar = record {
   is_scalar = scalar;
@@ -31,7 +31,7 @@ of_three a b d p q r s t u least scalar = record {
 }
 
 of_four : (a b d e : ℕ) → 0xF0 ≤ a → a ≤ 0xF4 → 0x80 ≤ b → b ≤ 0xBF → 0x80 ≤ d → d ≤ 0xBF → 0x80 ≤ e → e ≤ 0xBF
-    → 0x10000 ≤ decoded (a ∷ b ∷ d ∷ e ∷ []) → decoded (a ∷ b ∷ d ∷ e ∷ []) < 0x110000 → IsEncoding (a ∷ b ∷ d ∷ e ∷ []) (decoded (a ∷ b ∷ d ∷ e ∷ []))
+    → 0x10000 ≤ decoded_sequence (a ∷ b ∷ d ∷ e ∷ []) → decoded_sequence (a ∷ b ∷ d ∷ e ∷ []) < 0x110000 → IsEncoding (a ∷ b ∷ d ∷ e ∷ []) (decoded_sequence (a ∷ b ∷ d ∷ e ∷ []))
 unfolding encode_utf8
 of_four a b d e p q r s t u v w least most = record {
   is_scalar = grind (arith, nat_tests);
@@ -63,23 +63,23 @@ Row = List (ℕ × ℕ)
 
 -- what holds of a row that a text fits
 abbrev IsRowOf : List ℕ → Row → Type 0
-IsRowOf text row = IsEncoding (take (length row) text) (decoded (take (length row) text))
+IsRowOf text row = IsEncoding (take (length row) text) (decoded_sequence (take (length row) text))
 
-row_of_two : (text : List ℕ) → begins_with text ((0xC2, 0xDF) ∷ tail ∷ []) ≡ true → IsRowOf text ((0xC2, 0xDF) ∷ tail ∷ [])
+row_of_two : (text : List ℕ) → begins_in text ((0xC2, 0xDF) ∷ tail ∷ []) ≡ true → IsRowOf text ((0xC2, 0xDF) ∷ tail ∷ [])
 row_of_two [] h = cc
 row_of_two (a ∷ []) h = grind (arith, nat_tests)
 row_of_two (a ∷ b ∷ text) h = of_two a b (grind (arith, nat_tests)) (grind (arith, nat_tests)) (grind (arith, nat_tests)) (grind (arith, nat_tests))
 
 abbrev three : ℕ → ℕ → ℕ → ℕ
-three a b d = decoded (a ∷ b ∷ d ∷ [])
+three a b d = decoded_sequence (a ∷ b ∷ d ∷ [])
 
 abbrev four : ℕ → ℕ → ℕ → ℕ → ℕ
-four a b d e = decoded (a ∷ b ∷ d ∷ e ∷ [])
+four a b d e = decoded_sequence (a ∷ b ∷ d ∷ e ∷ [])
 
 module _ (first last low high : ℕ) where
   row_of_three : (text : List ℕ) → 0xE0 ≤ first → last ≤ 0xEF → 0x80 ≤ low → high ≤ 0xBF
       → ((a b d : ℕ) → first ≤ a → a ≤ last → low ≤ b → b ≤ high → 0x80 ≤ d → d ≤ 0xBF → (0x800 ≤ three a b d) × IsScalar (three a b d))
-      → begins_with text ((first, last) ∷ (low, high) ∷ tail ∷ []) ≡ true → IsRowOf text ((first, last) ∷ (low, high) ∷ tail ∷ [])
+      → begins_in text ((first, last) ∷ (low, high) ∷ tail ∷ []) ≡ true → IsRowOf text ((first, last) ∷ (low, high) ∷ tail ∷ [])
   row_of_three [] p q r s all h = cc
   row_of_three (a ∷ []) p q r s all h = grind (arith, nat_tests)
   row_of_three (a ∷ b ∷ []) p q r s all h = grind (arith, nat_tests)
@@ -95,7 +95,7 @@ module _ (first last low high : ℕ) where
 
   row_of_four : (text : List ℕ) → 0xF0 ≤ first → last ≤ 0xF4 → 0x80 ≤ low → high ≤ 0xBF
       → ((a b d e : ℕ) → first ≤ a → a ≤ last → low ≤ b → b ≤ high → 0x80 ≤ d → d ≤ 0xBF → 0x80 ≤ e → e ≤ 0xBF → (0x10000 ≤ four a b d e) × (four a b d e < 0x110000))
-      → begins_with text ((first, last) ∷ (low, high) ∷ tail ∷ tail ∷ []) ≡ true → IsRowOf text ((first, last) ∷ (low, high) ∷ tail ∷ tail ∷ [])
+      → begins_in text ((first, last) ∷ (low, high) ∷ tail ∷ tail ∷ []) ≡ true → IsRowOf text ((first, last) ∷ (low, high) ∷ tail ∷ tail ∷ [])
   row_of_four [] p q r s all h = cc
   row_of_four (a ∷ []) p q r s all h = grind (arith, nat_tests)
   row_of_four (a ∷ b ∷ []) p q r s all h = grind (arith, nat_tests)
@@ -112,7 +112,7 @@ module _ (first last low high : ℕ) where
       let fits = all a b d e a_least a_most b_least b_most d_least d_most e_least e_most in
       of_four a b d e (omega arith) (omega arith) (omega arith) (omega arith) d_least d_most e_least e_most fits.0 fits.1
 
-found_row : (text : List ℕ) (row : Row) → find (λ row. begins_with text row) rows ≡ Some row → IsRowOf text row
+found_row : (text : List ℕ) (row : Row) → find (λ row. begins_in text row) rows ≡ Some row → IsRowOf text row
 found_row text row =
     pick (IsRowOf text) _ _ _ row (row_of_two text)
     (pick (IsRowOf text) _ _ _ row (row_of_three 0xE0 0xE0 0xA0 0xBF text (omega arith) (omega arith) (omega arith) (omega arith) (λ a b d p q r s t u. (omega arith, grind (arith, nat_tests))))
@@ -133,7 +133,7 @@ begins text count code e = record {
 }
 
 abbrev code_of : List ℕ → Row → ℕ
-code_of text row = decoded (take (length row) text)
+code_of text row = decoded_sequence (take (length row) text)
 
 found_of : (text : List ℕ) (found : Option Row) (code : ℕ) → ((row : Row) → found ≡ Some row → IsRowOf text row)
     → option_map (λ row. code_of text row) found ≡ Some code → BeginsWithCharacter text code
@@ -144,7 +144,7 @@ found_of text (Some row) code h e =
 
 pub sound : (text : List ℕ) (code : ℕ) → sequence text ≡ Some code → BeginsWithCharacter text code
 unfolding sequence
-sound text code e = found_of text (find (λ row. begins_with text row) rows) code (found_row text) e
+sound text code e = found_of text (find (λ row. begins_in text row) rows) code (found_row text) e
 
 encode_two : (code : ℕ) → 0x80 ≤ code → code < 0x800 → encode_utf8 code ≡ (192 + code / 64) ∷ (128 + code % 64) ∷ []
 unfolding encode_utf8

@@ -33,19 +33,19 @@ replacements SpanishLatinAmerican = SPANISH_LATIN_AMERICAN
 replacements _ = []
 
 -- the place of a byte among them, or their number if it is not there
-abbrev pub place : ℕ → ℕ
-place byte = position_or_len (λ replaced. replaced == byte) replaced_bytes
+abbrev pub replaced_place : ℕ → ℕ
+replaced_place byte = position_or_len (λ replaced. replaced == byte) replaced_bytes
 
 -- the character of a byte of ASCII: that in its place, or its own
 abbrev pub replaced : CharacterSet → ℕ → ℕ
-replaced set byte = slice_index_or (replacements set) (place byte) byte
+replaced set byte = slice_index_or (replacements set) (replaced_place byte) byte
 
 -- an entry of a table: 0 is open
-abbrev pub entry : ℕ → Option ℕ
-entry character = if character == 0 then None else Some character
+abbrev pub table_entry : ℕ → Option ℕ
+table_entry character = if character == 0 then None else Some character
 
 abbrev pub entry_of : List ℕ → ℕ → Option ℕ
-entry_of table i = entry (slice_index_or table i 0)
+entry_of table i = table_entry (slice_index_or table i 0)
 
 -- the character of a byte from 128 on: sets other than the first three have Roman-8's
 abbrev pub upper : CharacterSet → ℕ → Option ℕ

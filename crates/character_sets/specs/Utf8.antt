@@ -20,18 +20,18 @@ rows =
     ∷ []
 
 -- a text begins with bytes of these values
-abbrev pub begins_with : List ℕ → List (ℕ × ℕ) → Bool
-begins_with text [] = true
-begins_with [] (values ∷ others) = false
-begins_with (byte ∷ text) (values ∷ others) = is_in_range values.0 values.1 byte && begins_with text others
+abbrev pub begins_in : List ℕ → List (ℕ × ℕ) → Bool
+begins_in text [] = true
+begins_in [] (values ∷ others) = false
+begins_in (byte ∷ text) (values ∷ others) = is_in_range values.0 values.1 byte && begins_in text others
 
 -- the code point of a sequence: six bits of each byte after the first, and what the first has beside its mark
-abbrev pub decoded : List ℕ → ℕ
-decoded (a ∷ b ∷ []) = 64 * (a - 0xC0) + (b - 0x80)
-decoded (a ∷ b ∷ c ∷ []) = 64 * (64 * (a - 0xE0) + (b - 0x80)) + (c - 0x80)
-decoded (a ∷ b ∷ c ∷ d ∷ []) = 64 * (64 * (64 * (a - 0xF0) + (b - 0x80)) + (c - 0x80)) + (d - 0x80)
-decoded _ = 0
+abbrev pub decoded_sequence : List ℕ → ℕ
+decoded_sequence (a ∷ b ∷ []) = 64 * (a - 0xC0) + (b - 0x80)
+decoded_sequence (a ∷ b ∷ c ∷ []) = 64 * (64 * (a - 0xE0) + (b - 0x80)) + (c - 0x80)
+decoded_sequence (a ∷ b ∷ c ∷ d ∷ []) = 64 * (64 * (64 * (a - 0xF0) + (b - 0x80)) + (c - 0x80)) + (d - 0x80)
+decoded_sequence _ = 0
 
 -- the code point of the sequence that a text begins with
 unfoldable pub sequence : List ℕ → Option ℕ
-sequence text = option_map (λ row. decoded (take (length row) text)) (find (λ row. begins_with text row) rows)
+sequence text = option_map (λ row. decoded_sequence (take (length row) text)) (find (λ row. begins_in text row) rows)

@@ -1,6 +1,7 @@
 //! The characters of bytes.
 ghost use Rattle.std.specs.Prelude.{◌≡◌, ◌≤◌};
-ghost use Rattle.character_sets.specs.CodePoints.{code_point, entry, lower, place, replaced, replacements, upper};
+ghost use Rattle.character_sets.specs.CodePoints.{code_point, table_entry, lower, replaced_place};
+ghost use Rattle.character_sets.specs.CodePoints.{replaced, replacements, upper};
 
 use crate::national::{
     FRENCH, FRENCH_GERMAN, GERMAN, HP_9825, INTERNATIONAL_REFERENCE, ITALIAN, JAPANESE, NORWEGIAN,
@@ -42,11 +43,13 @@ impl CharacterSet {
         ensures { result ≡ upper self byte }
     {
         match self {
-            CharacterSet::Pc8 => entry(PC_8[usize::from(byte - 128)]),
-            CharacterSet::Windows1252 if byte < 160 => entry(WINDOWS_1252[usize::from(byte - 128)]),
+            CharacterSet::Pc8 => table_entry(PC_8[usize::from(byte - 128)]),
+            CharacterSet::Windows1252 if byte < 160 => table_entry(
+                WINDOWS_1252[usize::from(byte - 128)],
+            ),
             _ if byte < 160 => None,
             CharacterSet::Latin1 | CharacterSet::Windows1252 => Some(u32::from(byte)),
-            _ => entry(ROMAN_8[usize::from(byte - 160)]),
+            _ => table_entry(ROMAN_8[usize::from(byte - 160)]),
         }
     }
 
@@ -54,7 +57,7 @@ impl CharacterSet {
     fn replaced(self, byte: u8) -> u32
         ensures { result ≡ replaced self byte }
     {
-        match self.replacements().get(place(byte)) {
+        match self.replacements().get(replaced_place(byte)) {
             Some(character) => u32::from(*character),
             None => u32::from(byte),
         }
@@ -88,8 +91,8 @@ impl CharacterSet {
 }
 
 // The character of an entry of a table.
-fn entry(character: char) -> Option<u32>
-    ensures { result ≡ entry character }
+fn table_entry(character: char) -> Option<u32>
+    ensures { result ≡ table_entry character }
 {
     match character {
         OPEN => None,
@@ -98,8 +101,8 @@ fn entry(character: char) -> Option<u32>
 }
 
 // The place of a byte among those that sets replace, or their number if it is not there.
-fn place(byte: u8) -> usize
-    ensures { result ≡ place byte }
+fn replaced_place(byte: u8) -> usize
+    ensures { result ≡ replaced_place byte }
 {
     match byte {
         b'#' => 0,

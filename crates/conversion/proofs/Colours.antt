@@ -11,7 +11,7 @@ use Rattle.plot_page.specs.Segments.{Segment}
 use Rattle.plot_page.specs.Pens.{has_pen}
 use Rattle.plot_page.specs.declared.pens.PenSet.{PenSet}
 use Rattle.stroke_raster.specs.Boxes.{selected}
-use Rattle.picture_out.specs.Inks.{colour_of, paper}
+use Rattle.picture_out.specs.Inks.{colour_bytes, paper}
 use Rattle.conversion.specs.Palettes.{AreNumbers, IsNumbered, colour_bytes, colours_used, with_colour}
 
 -- the palette of one stroke more
@@ -19,7 +19,7 @@ pub palette_more : (pens : PenSet) (ss : List Segment) (i : ℕ) (s : Segment) �
     → colours_used pens (take (i + 1) ss) ≡ cond (has_pen pens s.pen) (with_colour (colours_used pens (take i ss)) (colour_bytes s)) (colours_used pens (take i ss))
 palette_more pens ss i s lt is =
     let front = take i ss in
-    let white = colour_of paper ∷ [] in
+    let white = colour_bytes paper ∷ [] in
     let old = colours_used pens front in
     let all : take (i + 1) ss ≡ front ++ s ∷ [] = take_more ss i s lt ∙ ap (λ (t : Segment). front ++ t ∷ []) (sym is) in
     let chosen : selected pens (take (i + 1) ss) ≡ selected pens front ++ selected pens (s ∷ []) = ap (selected pens) all ∙ filter-append (λ (t : Segment). has_pen pens t.pen) front (s ∷ []) in

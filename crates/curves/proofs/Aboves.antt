@@ -6,8 +6,9 @@ use Rattle.std.proofs.lemmas.Bool.{cases_Bool, cases_lt}
 use Rattle.std.proofs.lemmas.Bool.Decides.{Decides-int_eq}
 use Rattle.std.proofs.lemmas.Int.{ints}
 use Rattle.std.proofs.lemmas.List.Elements.{All-append, All-cons, All-nil}
+use Rattle.exact.specs.Spots.{is_same_spot}
 use Rattle.exact.specs.declared.spot.Spot.{Spot}
-use Rattle.curves.specs.Arcs.{is_same_spot, centre_of, circle_by, whole_circle, circle_through, between, middle}
+use Rattle.curves.specs.Arcs.{centre_of, circle_by, whole_circle, circle_through, between, middle}
 use Rattle.curves.specs.Bounds.{IsNotZero}
 use Rattle.curves.specs.Vectors.{way, sum_of, dot, cross, turned_against, unit_of}
 use Rattle.curves.proofs.Centres.{centre_above}

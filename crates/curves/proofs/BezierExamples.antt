@@ -1,30 +1,30 @@
 -- Bezier curves: theorems that compute.
 use Rattle.std.proofs.Common.{◌≡◌, ◌^◌, [], ◌∷◌, refl, ℤ, pos, negsuc}
 use Rattle.exact.specs.declared.spot.Spot.{Spot}
-use Rattle.curves.specs.Beziers.{chords_of, greatest_bend, place_after, bezier_places}
+use Rattle.curves.specs.Beziers.{chords_of_bend, greatest_bend, curve_place, bezier_places}
 
 abbrev at : ℤ → ℤ → Spot
 at x y = record { x = x; y = y }
 
 -- bends on both sides of a change of the number of chords
-up_to_256 : chords_of 256 ≡ 4
-unfolding chords_of
+up_to_256 : chords_of_bend 256 ≡ 4
+unfolding chords_of_bend
 up_to_256 = refl
 
-above_256 : chords_of 257 ≡ 8
-unfolding chords_of
+above_256 : chords_of_bend 257 ≡ 8
+unfolding chords_of_bend
 above_256 = refl
 
-up_to_262144 : chords_of 262144 ≡ 128
-unfolding chords_of
+up_to_262144 : chords_of_bend 262144 ≡ 128
+unfolding chords_of_bend
 up_to_262144 = refl
 
-above_262144 : chords_of 262145 ≡ 256
-unfolding chords_of
+above_262144 : chords_of_bend 262145 ≡ 256
+unfolding chords_of_bend
 above_262144 = refl
 
-the_greatest : chords_of (2 ^ 22) ≡ 256
-unfolding chords_of
+the_greatest : chords_of_bend (2 ^ 22) ≡ 256
+unfolding chords_of_bend
 the_greatest = refl
 
 -- a bow: its bend is 128 at both control points, in x
@@ -33,16 +33,16 @@ bow_bend = refl
 
 bow : bezier_places (at (pos 0) (pos 0)) (at (pos 0) (pos 64)) (at (pos 128) (pos 64)) (at (pos 128) (pos 0))
     ≡ at (pos 20) (pos 36) ∷ at (pos 64) (pos 48) ∷ at (pos 108) (pos 36) ∷ at (pos 128) (pos 0) ∷ []
-unfolding chords_of place_after
+unfolding chords_of_bend curve_place
 bow = refl
 
 -- a straight line in four parts, each place rounded
 straight : bezier_places (at (pos 0) (pos 0)) (at (pos 100) (pos 0)) (at (pos 200) (pos 0)) (at (pos 301) (pos 0))
     ≡ at (pos 75) (pos 0) ∷ at (pos 150) (pos 0) ∷ at (pos 225) (pos 0) ∷ at (pos 301) (pos 0) ∷ []
-unfolding chords_of place_after
+unfolding chords_of_bend curve_place
 straight = refl
 
 -- halves are rounded up, on both sides of 0
-halves : place_after 2 1 (at (pos 4) (negsuc 3)) (at (pos 0) (pos 0)) (at (pos 0) (pos 0)) (at (pos 0) (pos 0)) ≡ at (pos 1) (pos 0)
-unfolding place_after
+halves : curve_place 2 1 (at (pos 4) (negsuc 3)) (at (pos 0) (pos 0)) (at (pos 0) (pos 0)) (at (pos 0) (pos 0)) ≡ at (pos 1) (pos 0)
+unfolding curve_place
 halves = refl

@@ -1,17 +1,14 @@
 -- Arcs through three places (HP-GL/2 guide: AT and RT): from a through b to c, in grains.
-use Rattle.std.specs.Prelude.{ℕ, zero, suc, ◌*◌, ◌^◌, max, nat_abs, nat_lt, Bool, false, ◌&&◌, if◌then◌else◌}
+use Rattle.std.specs.Prelude.{ℕ, zero, suc, ◌*◌, ◌^◌, max, nat_abs, nat_lt, Bool, false, if◌then◌else◌}
 use Rattle.std.specs.Prelude.{List, [], ◌∷◌, ◌++◌, map, Option, Some, None, pos, int_lt, int_le, ◌+ℤ◌, ◌-ℤ◌, ◌*ℤ◌}
 use Rattle.std.specs.Ordering.{int_eq}
 use Rattle.exact.specs.Fraction.{round, quotient}
+use Rattle.exact.specs.Spots.{is_same_spot}
 use Rattle.exact.specs.declared.spot.Spot.{Spot}
-use Rattle.directions.specs.Directions.{square_of, turned}
+use Rattle.directions.specs.Directions.{square_of, vector_turned}
 use Rattle.directions.specs.declared.turn.Turn.TheVariants.{Half}
 use Rattle.curves.specs.Vectors.{way, sum_of, dot, cross, turned_against, unit_of}
 use Rattle.curves.specs.declared.circle.Circle.{Circle}
-
--- two places are one
-abbrev pub is_same_spot : Spot → Spot → Bool
-is_same_spot a b = int_eq a.x b.x && int_eq a.y b.y
 
 -- from a to the centre of the circle through a, a + b and a + c, in ticks of 1/256 grain
 abbrev pub centre_of : Spot → Spot → Spot
@@ -44,7 +41,7 @@ whole_circle a b =
       centre = record { x = pos 128 *ℤ b.x; y = pos 128 *ℤ b.y };
       clockwise = false;
       first = first;
-      last = turned Half first;
+      last = vector_turned Half first;
     }
 
 -- the circle through three places; none if they are on one line

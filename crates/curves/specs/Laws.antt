@@ -7,7 +7,7 @@ use Rattle.exact.specs.declared.spot.Spot.{Spot}
 use Rattle.directions.specs.Directions.{square_of}
 use Rattle.curves.specs.Vectors.{dot}
 use Rattle.curves.specs.Arcs.{between, place_at, circle_through, arc_places}
-use Rattle.curves.specs.Beziers.{weighed, place_after, bezier_places}
+use Rattle.curves.specs.Beziers.{weighed, curve_place, bezier_places}
 use Rattle.curves.specs.Bounds.{IsNotZero}
 use Rattle.curves.specs.declared.circle.Circle.{Circle}
 
@@ -58,6 +58,6 @@ reach n k p0 p1 p2 p3 = record { over = weighed (n - k) k p0 p1 p2 p3; under = n
 -- the place after k of n parts is this sum, rounded once in x and once in y
 pub record BezierPlacesAreRounded : Type 0 where
   pub x : (n k : ℕ) (p0 p1 p2 p3 : Spot) → 0 < n
-      → IsRounded (reach n k p0.x p1.x p2.x p3.x) (place_after n k p0 p1 p2 p3).x
+      → IsRounded (reach n k p0.x p1.x p2.x p3.x) (curve_place n k p0 p1 p2 p3).x
   pub y : (n k : ℕ) (p0 p1 p2 p3 : Spot) → 0 < n
-      → IsRounded (reach n k p0.y p1.y p2.y p3.y) (place_after n k p0 p1 p2 p3).y
+      → IsRounded (reach n k p0.y p1.y p2.y p3.y) (curve_place n k p0 p1 p2 p3).y

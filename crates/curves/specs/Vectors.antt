@@ -1,7 +1,7 @@
 -- Vectors of whole numbers, and their directions.
 use Rattle.std.specs.Prelude.{Bool, true, false, ℤ, ◌+ℤ◌, ◌-ℤ◌, ◌*ℤ◌}
 use Rattle.exact.specs.declared.spot.Spot.{Spot}
-use Rattle.directions.specs.Directions.{unit, turned}
+use Rattle.directions.specs.Directions.{unit, vector_turned}
 use Rattle.directions.specs.declared.turn.Turn.TheVariants.{Quarter, ThreeQuarters}
 
 -- from a to b
@@ -22,8 +22,8 @@ cross v w = v.x *ℤ w.y -ℤ v.y *ℤ w.x
 
 -- turned by 90 degrees against an arc's sense: to the left if the arc is clockwise, else to the right
 abbrev pub turned_against : Bool → Spot → Spot
-turned_against true v = turned Quarter v
-turned_against false v = turned ThreeQuarters v
+turned_against true v = vector_turned Quarter v
+turned_against false v = vector_turned ThreeQuarters v
 
 -- the direction of a vector that is not (0, 0), in parts of 2^30
 abbrev pub unit_of : Spot → Spot

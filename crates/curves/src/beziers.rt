@@ -2,8 +2,8 @@
 ghost use Rattle.std.specs.Prelude.{◌≡◌, ◌+◌, ◌*◌, ◌≤◌, ◌<◌, ◌^◌, nat_abs, pos, ◌*ℤ◌, IfOk};
 ghost use Rattle.std.specs.List.{All};
 ghost use Rattle.directions.specs.Bounds.{IsWithin};
-ghost use Rattle.curves.specs.Beziers.{bend_of, greatest_bend, chords_of, weighed};
-ghost use Rattle.curves.specs.Beziers.{coordinate, place_after, bezier_places};
+ghost use Rattle.curves.specs.Beziers.{bend_of, greatest_bend, chords_of_bend, weighed};
+ghost use Rattle.curves.specs.Beziers.{curve_coordinate, curve_place, bezier_places};
 
 use exact::{Spot, rounded};
 use std::alloc::{AllocError, Global};
@@ -27,7 +27,7 @@ pub fn bezier_places(
     let chords = chords(greatest_bend(p0, p1, p2, p3));
     let mut places = Vec::new(alloc);
     for k in 0..chords {
-        places.push(place_after(chords, k + 1, p0, p1, p2, p3))?;
+        places.push(curve_place(chords, k + 1, p0, p1, p2, p3))?;
     }
     Ok(places)
 }
@@ -56,9 +56,9 @@ fn bend(a: i128, b: i128, c: i128) -> u128
 }
 
 // How many chords a curve of this bend has. Each bound is 16 * n * n.
-#[tactic(auto, unfolding(crate::specs::Beziers::chords_of))]
+#[tactic(auto, unfolding(crate::specs::Beziers::chords_of_bend))]
 fn chords(bend: u128) -> u64
-    ensures value { result ≡ chords_of bend }
+    ensures value { result ≡ chords_of_bend bend }
     ensures above { 0 < result }
     ensures most { result ≤ 256 }
 {
@@ -74,8 +74,8 @@ fn chords(bend: u128) -> u64
 }
 
 // The place after k of n parts of a curve.
-#[tactic(auto, unfolding(crate::specs::Beziers::place_after))]
-fn place_after(n: u64, k: u64, p0: Spot, p1: Spot, p2: Spot, p3: Spot) -> Spot
+#[tactic(auto, unfolding(crate::specs::Beziers::curve_place))]
+fn curve_place(n: u64, k: u64, p0: Spot, p1: Spot, p2: Spot, p3: Spot) -> Spot
     requires k_in { k ≤ n }
     requires above { 0 < n }
     requires n_in { n ≤ 256 }
@@ -83,17 +83,17 @@ fn place_after(n: u64, k: u64, p0: Spot, p1: Spot, p2: Spot, p3: Spot) -> Spot
     requires p1_in { IsWithin (2 ^ 20) p1 }
     requires p2_in { IsWithin (2 ^ 20) p2 }
     requires p3_in { IsWithin (2 ^ 20) p3 }
-    ensures value { result ≡ place_after n k p0 p1 p2 p3 }
+    ensures value { result ≡ curve_place n k p0 p1 p2 p3 }
     ensures within { IsWithin (2 ^ 20) result }
 {
     Spot {
-        x: coordinate(n, k, p0.x, p1.x, p2.x, p3.x),
-        y: coordinate(n, k, p0.y, p1.y, p2.y, p3.y),
+        x: curve_coordinate(n, k, p0.x, p1.x, p2.x, p3.x),
+        y: curve_coordinate(n, k, p0.y, p1.y, p2.y, p3.y),
     }
 }
 
 // Its coordinate in x or in y.
-fn coordinate(n: u64, k: u64, p0: i128, p1: i128, p2: i128, p3: i128) -> i128
+fn curve_coordinate(n: u64, k: u64, p0: i128, p1: i128, p2: i128, p3: i128) -> i128
     requires k_in { k ≤ n }
     requires above { 0 < n }
     requires n_in { n ≤ 256 }
@@ -101,7 +101,7 @@ fn coordinate(n: u64, k: u64, p0: i128, p1: i128, p2: i128, p3: i128) -> i128
     requires p1_in { nat_abs p1 ≤ 2 ^ 20 }
     requires p2_in { nat_abs p2 ≤ 2 ^ 20 }
     requires p3_in { nat_abs p3 ≤ 2 ^ 20 }
-    ensures value { result ≡ coordinate n k p0 p1 p2 p3 }
+    ensures value { result ≡ curve_coordinate n k p0 p1 p2 p3 }
     ensures most { nat_abs result ≤ 2 ^ 20 }
 {
     rounded(

@@ -10,7 +10,7 @@ use Rattle.exact.proofs.Ring.{mul-neg_z}
 use Rattle.exact.specs.Fraction.{quotient, round}
 use Rattle.exact.specs.Roots.{root, root_by}
 use Rattle.exact.specs.declared.spot.Spot.{Spot}
-use Rattle.directions.specs.Directions.{surplus_of, shortened, short_vector, size_in, with_sign_of, part_in, direction_of, unit, swung, turned}
+use Rattle.directions.specs.Directions.{surplus_of, shortened, short_vector, size_in, with_sign_of, part_in, direction_of, unit, swung, vector_turned}
 use Rattle.directions.specs.Laws.{IsPart, UnitsAreNearest, AxesAreExact, right}
 use Rattle.directions.specs.declared.turn.Turn.{Turn}
 use Rattle.directions.specs.declared.turn.Turn.TheVariants.{None, Quarter, Half, ThreeQuarters}
@@ -134,11 +134,11 @@ whole a d e = exactly (2 ^ 30) a d (omega arith) e
 swung_is : (d o v : Spot) → o.x *ℤ d.x -ℤ o.y *ℤ d.y ≡ pos (2 ^ 30) *ℤ v.x → o.x *ℤ d.y +ℤ o.y *ℤ d.x ≡ pos (2 ^ 30) *ℤ v.y → swung d o ≡ v
 swung_is d o v p q = ap₂ vector (whole (o.x *ℤ d.x -ℤ o.y *ℤ d.y) v.x p) (whole (o.x *ℤ d.y +ℤ o.y *ℤ d.x) v.y q)
 
-swings_lem : (t : Turn) (o : Spot) → swung (turned t right) o ≡ turned t o
+swings_lem : (t : Turn) (o : Spot) → swung (vector_turned t right) o ≡ vector_turned t o
 swings_lem None o = swung_is right o o (omega (arith, ints)) (omega (arith, ints))
-swings_lem Quarter o = swung_is (turned Quarter right) o (turned Quarter o) (omega (arith, ints)) (omega (arith, ints))
-swings_lem Half o = swung_is (turned Half right) o (turned Half o) (omega (arith, ints)) (omega (arith, ints))
-swings_lem ThreeQuarters o = swung_is (turned ThreeQuarters right) o (turned ThreeQuarters o) (omega (arith, ints)) (omega (arith, ints))
+swings_lem Quarter o = swung_is (vector_turned Quarter right) o (vector_turned Quarter o) (omega (arith, ints)) (omega (arith, ints))
+swings_lem Half o = swung_is (vector_turned Half right) o (vector_turned Half o) (omega (arith, ints)) (omega (arith, ints))
+swings_lem ThreeQuarters o = swung_is (vector_turned ThreeQuarters right) o (vector_turned ThreeQuarters o) (omega (arith, ints)) (omega (arith, ints))
 
 pub axes_are_exact_lem : AxesAreExact
 axes_are_exact_lem = record { x = unit_x; y = unit_y; swings = swings_lem }

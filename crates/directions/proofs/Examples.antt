@@ -2,7 +2,7 @@
 use Rattle.std.proofs.Common.{◌≡◌, ◌^◌, ◌-◌, refl, ℤ, pos, negsuc, neg_ℤ}
 use Rattle.exact.specs.Roots.{root_by}
 use Rattle.exact.specs.declared.spot.Spot.{Spot}
-use Rattle.directions.specs.Directions.{surplus, surplus_of, short_vector, unit, turned, swung}
+use Rattle.directions.specs.Directions.{surplus, surplus_of, short_vector, unit, vector_turned, swung}
 use Rattle.directions.specs.Laws.{right}
 use Rattle.directions.specs.declared.turn.Turn.TheVariants.{Quarter, Half, ThreeQuarters}
 
@@ -51,13 +51,13 @@ nearly_right : unit (pos (10 ^ 9)) (pos 1) ≡ at (pos (2 ^ 30)) (pos 1)
 unfolding root_by surplus
 nearly_right = refl
 
-turned_by_quarters : turned Quarter (at (pos 3) (pos 4)) ≡ at (negsuc 3) (pos 3)
+turned_by_quarters : vector_turned Quarter (at (pos 3) (pos 4)) ≡ at (negsuc 3) (pos 3)
 turned_by_quarters = refl
 
-turned_by_halves : turned Half (at (pos 3) (pos 4)) ≡ at (negsuc 2) (negsuc 3)
+turned_by_halves : vector_turned Half (at (pos 3) (pos 4)) ≡ at (negsuc 2) (negsuc 3)
 turned_by_halves = refl
 
-turned_back : turned ThreeQuarters (at (pos 3) (pos 4)) ≡ at (pos 4) (negsuc 2)
+turned_back : vector_turned ThreeQuarters (at (pos 3) (pos 4)) ≡ at (pos 4) (negsuc 2)
 turned_back = refl
 
 -- a width of 1216 grains and a height of 1728, in the direction of 3 to 4

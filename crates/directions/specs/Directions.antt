@@ -48,11 +48,11 @@ abbrev pub unit : ℤ → ℤ → Spot
 unit u v = direction_of (short_vector u v)
 
 -- a vector turned counterclockwise
-abbrev pub turned : Turn → Spot → Spot
-turned None v = v
-turned Quarter v = record { x = neg_ℤ v.y; y = v.x }
-turned Half v = record { x = neg_ℤ v.x; y = neg_ℤ v.y }
-turned ThreeQuarters v = record { x = v.y; y = neg_ℤ v.x }
+abbrev pub vector_turned : Turn → Spot → Spot
+vector_turned None v = v
+vector_turned Quarter v = record { x = neg_ℤ v.y; y = v.x }
+vector_turned Half v = record { x = neg_ℤ v.x; y = neg_ℤ v.y }
+vector_turned ThreeQuarters v = record { x = v.y; y = neg_ℤ v.x }
 
 -- a number of parts of 2^30, rounded
 abbrev pub rounded_part : ℤ → ℤ

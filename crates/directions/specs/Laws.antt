@@ -1,7 +1,7 @@
 -- What holds of directions.
 use Rattle.std.specs.Prelude.{◌≡◌, ℕ, ◌+◌, ◌-◌, ◌*◌, ◌^◌, ◌<◌, ◌≤◌, nat_abs, ℤ, pos, ◌*ℤ◌, ◌≤ℤ◌}
 use Rattle.exact.specs.declared.spot.Spot.{Spot}
-use Rattle.directions.specs.Directions.{unit, swung, turned, with_sign_of}
+use Rattle.directions.specs.Directions.{unit, swung, vector_turned, with_sign_of}
 use Rattle.directions.specs.declared.turn.Turn.{Turn}
 
 -- r is the size of 2^30 * a / length to the nearest whole number, by the square of the length: r - 1/2 at the least,
@@ -30,4 +30,4 @@ right = record { x = pos (2 ^ 30); y = pos 0 }
 pub record AxesAreExact : Type 0 where
   pub x : (u : ℤ) → 0 < nat_abs u → unit u (pos 0) ≡ record { x = with_sign_of u (2 ^ 30); y = pos 0 }
   pub y : (v : ℤ) → 0 < nat_abs v → unit (pos 0) v ≡ record { x = pos 0; y = with_sign_of v (2 ^ 30) }
-  pub swings : (t : Turn) (o : Spot) → swung (turned t right) o ≡ turned t o
+  pub swings : (t : Turn) (o : Spot) → swung (vector_turned t right) o ≡ vector_turned t o

@@ -1,7 +1,7 @@
 //! Directions.
 ghost use Rattle.std.specs.Prelude.{◌≡◌, ◌+◌, ◌*◌, ◌≤◌, ◌<◌, ◌^◌, ◌≤ℤ◌, max, pos, nat_abs};
 ghost use Rattle.directions.specs.Bounds.{IsWithin};
-ghost use Rattle.directions.specs.Directions.{unit, turned, swung, with_sign_of};
+ghost use Rattle.directions.specs.Directions.{unit, vector_turned, swung, with_sign_of};
 ghost use Rattle.directions.specs.Directions.{surplus_of, shortened, part_in, size_in, rounded_part};
 
 use crate::turn::Turn;
@@ -80,7 +80,7 @@ impl Direction {
 
     /// The direction after a turn.
     pub fn turned(self, turn: Turn) -> Direction
-        ensures { result ≡ turned turn self }
+        ensures { result ≡ vector_turned turn self }
     {
         match turn {
             Turn::None => self,

@@ -7,42 +7,42 @@ use Rattle.full_font.specs.declared.grid.GlyphStroke.{GlyphStroke}
 use Rattle.full_font.specs.declared.grid.Point.{Point}
 
 -- the value of a digit, 0 to 9
-abbrev pub digit : ℕ → ℕ
-digit byte = if nat_le 48 byte && nat_le byte 57 then byte - 48 else 0
+abbrev pub digit_or_0 : ℕ → ℕ
+digit_or_0 byte = if nat_le 48 byte && nat_le byte 57 then byte - 48 else 0
 
 -- the y that a byte stands for: a digit, or -1 for a and -2 for b
 abbrev pub y_of : ℕ → ℤ
-y_of byte = if nat_eq byte 97 then negsuc 0 else if nat_eq byte 98 then negsuc 1 else pos (digit byte)
+y_of byte = if nat_eq byte 97 then negsuc 0 else if nat_eq byte 98 then negsuc 1 else pos (digit_or_0 byte)
 
-abbrev pub point : ℕ → ℕ → Point
-point x y = record { x = digit x; y = y_of y }
+abbrev pub glyph_point : ℕ → ℕ → Point
+glyph_point x y = record { x = digit_or_0 x; y = y_of y }
 
 -- the points of a polyline's text: two bytes each, x and y, with a space between two points
-abbrev pub grid_points : List ℕ → List Point
-grid_points [] = []
-grid_points (x ∷ []) = []
-grid_points (x ∷ y ∷ []) = point x y ∷ []
-grid_points (x ∷ y ∷ _ ∷ rest) = point x y ∷ grid_points rest
+abbrev pub glyph_points : List ℕ → List Point
+glyph_points [] = []
+glyph_points (x ∷ []) = []
+glyph_points (x ∷ y ∷ []) = glyph_point x y ∷ []
+glyph_points (x ∷ y ∷ _ ∷ rest) = glyph_point x y ∷ glyph_points rest
 
 -- a stroke from one point to another
 abbrev pub glyph_stroke : Point → Point → GlyphStroke
 glyph_stroke a b = record { ax = a.x; ay = a.y; bx = b.x; by = b.y }
 
 -- the strokes from each point to the next
-abbrev pub joins : List Point → List GlyphStroke
-joins [] = []
-joins (a ∷ []) = []
-joins (a ∷ b ∷ rest) = glyph_stroke a b ∷ joins (b ∷ rest)
+abbrev pub glyph_joins : List Point → List GlyphStroke
+glyph_joins [] = []
+glyph_joins (a ∷ []) = []
+glyph_joins (a ∷ b ∷ rest) = glyph_stroke a b ∷ glyph_joins (b ∷ rest)
 
 -- a single point is a dot: a stroke from the point to itself
-abbrev pub strokes_through : List Point → List GlyphStroke
-strokes_through [] = []
-strokes_through (a ∷ []) = glyph_stroke a a ∷ []
-strokes_through (a ∷ b ∷ rest) = joins (a ∷ b ∷ rest)
+abbrev pub glyph_strokes_through : List Point → List GlyphStroke
+glyph_strokes_through [] = []
+glyph_strokes_through (a ∷ []) = glyph_stroke a a ∷ []
+glyph_strokes_through (a ∷ b ∷ rest) = glyph_joins (a ∷ b ∷ rest)
 
 -- the strokes of a polyline
-abbrev pub polyline_strokes : List ℕ → List GlyphStroke
-polyline_strokes line = strokes_through (grid_points line)
+abbrev pub polyline_glyph_strokes : List ℕ → List GlyphStroke
+polyline_glyph_strokes line = glyph_strokes_through (glyph_points line)
 
 -- a row of the font: a code point, and the texts of its polylines
 abbrev pub Row : Type 0
@@ -64,5 +64,5 @@ lines_in [] code_point = box
 lines_in (row ∷ rows) code_point = if nat_eq row.0 code_point then row.1 else lines_in rows code_point
 
 -- the strokes of a character, in the order in which they are drawn
-abbrev pub glyph_strokes : ℕ → List GlyphStroke
-glyph_strokes code_point = flat_map polyline_strokes (lines_in font code_point)
+abbrev pub code_point_strokes : ℕ → List GlyphStroke
+code_point_strokes code_point = flat_map polyline_glyph_strokes (lines_in font code_point)

@@ -4,7 +4,7 @@ use Rattle.std.specs.List.{list_all, list_any}
 use Rattle.stick_font.specs.Glyphs as capitals
 use Rattle.stick_font.specs.declared.grid.GridStroke.{GridStroke}
 use Rattle.full_font.specs.declared.grid.GlyphStroke.{GlyphStroke}
-use Rattle.full_font.specs.Glyphs.{font, glyph_strokes}
+use Rattle.full_font.specs.Glyphs.{font, code_point_strokes}
 use Rattle.full_font.specs.Rows.{code_points, is_rising}
 
 -- x is 0 to 4, y is -2 to 8
@@ -15,11 +15,11 @@ is_on_grid x y = nat_le x 4 && (int_le (negsuc 1) y && int_le y (pos 8))
 abbrev pub StrokesAreOnTheGrid : Type 0
 StrokesAreOnTheGrid =
     (code_point : ℕ)
-    → IsTrue (list_all (λ s. is_on_grid s.ax s.ay && is_on_grid s.bx s.by) (glyph_strokes code_point))
+    → IsTrue (list_all (λ s. is_on_grid s.ax s.ay && is_on_grid s.bx s.by) (code_point_strokes code_point))
 
 -- no character has more than 15 strokes
 abbrev pub CharactersHaveFewStrokes : Type 0
-CharactersHaveFewStrokes = (code_point : ℕ) → length (glyph_strokes code_point) ≤ 15
+CharactersHaveFewStrokes = (code_point : ℕ) → length (code_point_strokes code_point) ≤ 15
 
 -- a stroke of the stick font of ASCII on this font's grid
 abbrev pub as_glyph_stroke : GridStroke → GlyphStroke
@@ -34,7 +34,7 @@ abbrev pub CapitalsAreThoseOfTheStickFont : Type 0
 CapitalsAreThoseOfTheStickFont =
     (byte : ℕ)
     → IsTrue (is_capital_or_sign byte)
-    → glyph_strokes byte ≡ map as_glyph_stroke (capitals.glyph_strokes byte)
+    → code_point_strokes byte ≡ map as_glyph_stroke (capitals.glyph_strokes byte)
 
 -- the rows are sorted by their code points, of which none is there twice
 abbrev pub RowsAreSorted : Type 0
@@ -60,4 +60,4 @@ CharactersDiffer =
     → IsTrue (is_in (code_points font) a)
     → IsTrue (is_in (code_points font) b)
     → a < b
-    → (glyph_strokes a ≡ glyph_strokes b) ↔ IsTrue (are_look_alikes a b)
+    → (code_point_strokes a ≡ code_point_strokes b) ↔ IsTrue (are_look_alikes a b)

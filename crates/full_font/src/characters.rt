@@ -9,7 +9,7 @@ use crate::rows::polylines;
 /// Strokes are numbered from 0, in the order in which they are drawn. A character that is not in the
 /// font has the strokes of an empty box; the space and the no-break space have none.
 pub fn glyph(code_point: u32, k: usize) -> Option<GlyphStroke>
-    ensures { result ≡ slice_get (glyphs.glyph_strokes code_point) k }
+    ensures { result ≡ slice_get (glyphs.code_point_strokes code_point) k }
 {
     let mut left = k;
     for line in polylines(code_point) {
@@ -25,7 +25,7 @@ pub fn glyph(code_point: u32, k: usize) -> Option<GlyphStroke>
 
 // How many strokes a polyline has.
 fn stroke_count(line: &[u8]) -> usize
-    ensures { result ≡ length (glyphs.polyline_strokes line.now) }
+    ensures { result ≡ length (glyphs.polyline_glyph_strokes line.now) }
 {
     match point_count(line) {
         0 => 0,
@@ -36,8 +36,8 @@ fn stroke_count(line: &[u8]) -> usize
 
 // Stroke k of a polyline. A single point is joined to itself.
 fn stroke_at(line: &[u8], k: usize) -> GlyphStroke
-    requires { k < length (glyphs.polyline_strokes line.now) }
-    ensures { slice_get (glyphs.polyline_strokes line.now) k ≡ Some result }
+    requires { k < length (glyphs.polyline_glyph_strokes line.now) }
+    ensures { slice_get (glyphs.polyline_glyph_strokes line.now) k ≡ Some result }
 {
     let from = point_at(line, k);
     if k + 1 < point_count(line) {
@@ -61,15 +61,15 @@ fn stroke(from: Point, to: Point) -> GlyphStroke
 
 // How many points a polyline has: each but the last has a space after it.
 fn point_count(line: &[u8]) -> usize
-    ensures { result ≡ length (glyphs.grid_points line.now) }
+    ensures { result ≡ length (glyphs.glyph_points line.now) }
 {
     (line.len() + 1) / 3
 }
 
 // Point i of a polyline.
 fn point_at(line: &[u8], i: usize) -> Point
-    requires { i < length (glyphs.grid_points line.now) }
-    ensures { slice_get (glyphs.grid_points line.now) i ≡ Some result }
+    requires { i < length (glyphs.glyph_points line.now) }
+    ensures { slice_get (glyphs.glyph_points line.now) i ≡ Some result }
 {
     Point {
         x: digit(line[3 * i]),
@@ -90,7 +90,7 @@ fn y_of(byte: u8) -> i8
 
 // The value of a digit.
 fn digit(byte: u8) -> u8
-    ensures value { result ≡ glyphs.digit byte }
+    ensures value { result ≡ glyphs.digit_or_0 byte }
     ensures most { result ≤ 9 }
 {
     match byte {

@@ -6,7 +6,7 @@ use Rattle.hpgl_text.specs.declared.instruction.Instruction.TheVariants.{PenWidt
 use Rattle.plot_settings.specs.Meanings.{meaning, sets}
 use Rattle.plot_settings.specs.Parameters.{nearest_axis, when}
 use Rattle.plot_settings.specs.declared.setting.Setting.TheVariants as setting
-use Rattle.full_settings.specs.LetterParameters.{direction, is_vector, pair}
+use Rattle.full_settings.specs.LetterParameters.{letter_direction, is_vector, pair_of}
 use Rattle.full_settings.specs.declared.letter_setting.LetterSetting.TheVariants as letter
 use Rattle.full_notes.specs.Contexts.{Context, params_read}
 use Rattle.full_notes.specs.Notes.{bad_if, bad_without, params_noted}
@@ -29,11 +29,11 @@ all_read true ArcRelative ns h = absurd (true≢false h)
 all_read true i ns h = refl
 
 pub vector_noted : (good : Bool) (x y : ℤ)
-    → bad_without (when good (letter.Direction (pair x y))) ≡ bad_if (sets (when good (setting.Direction (nearest_axis x y)))).is_wrong
+    → bad_without (when good (letter.Direction (pair_of x y))) ≡ bad_if (sets (when good (setting.Direction (nearest_axis x y)))).is_wrong
 vector_noted true x y = refl
 vector_noted false x y = refl
 
-direction_noted : (ns : List ℤ) → bad_without (direction ns) ≡ bad_if (meaning Direction ns).is_wrong
+direction_noted : (ns : List ℤ) → bad_without (letter_direction ns) ≡ bad_if (meaning Direction ns).is_wrong
 direction_noted [] = refl
 direction_noted (x ∷ []) = refl
 direction_noted (x ∷ (y ∷ ns)) = vector_noted (is_vector x y) x y

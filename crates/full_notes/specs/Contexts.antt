@@ -69,7 +69,7 @@ without_chord ArcRelative ns = take 3 ns
 without_chord i ns = ns
 
 abbrev pub numbers_read : Bool → further.Further → List ℤ → List ℤ
-numbers_read usual_chords f ns = if usual_chords then polygons.without_chord f ns else ns
+numbers_read usual_chords f ns = if usual_chords then polygons.without_polygon_chord f ns else ns
 
 -- what a further instruction asks for
 abbrev pub request_in : Context → further.Further → List ℤ → FurtherRequest

@@ -20,7 +20,7 @@ use Rattle.full_settings.specs.declared.width_setting.WidthSetting.TheVariants.{
 use Rattle.full_settings.specs.CharacterParameters.{names_unknown_set}
 use Rattle.full_settings.specs.ColourRanges.{pen_colour_in}
 use Rattle.full_settings.specs.CurveParameters.{are_curves}
-use Rattle.full_settings.specs.LetterParameters.{direction}
+use Rattle.full_settings.specs.LetterParameters.{letter_direction}
 use Rattle.full_settings.specs.WidthParameters.{percent_width}
 use Rattle.full_notes.specs.Contexts.{Context, first_context, read_in, request_in}
 
@@ -88,7 +88,7 @@ width_noted false ns = parameters_noted PenWidth ns
 abbrev pub params_noted : Context → Instruction → List ℤ → Option NoteKind
 params_noted c PenWidth ns = width_noted c.in_percent ns
 params_noted c PenColour ns = bad_without (pen_colour_in c.ranges ns)
-params_noted c Direction ns = bad_without (direction ns)
+params_noted c Direction ns = bad_without (letter_direction ns)
 params_noted c instruction ns = parameters_noted instruction ns
 
 -- what is noted on an item at its first byte

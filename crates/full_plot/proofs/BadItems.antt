@@ -18,7 +18,7 @@ use Rattle.full_settings.specs.declared.requests.FurtherRequest.TheVariants as r
 use Rattle.full_settings.specs.FurtherRequests.{further_request, request_by}
 use Rattle.full_settings.specs.CharacterParameters.{names_unknown_set}
 use Rattle.full_settings.specs.ColourRanges.{pen_colour_in}
-use Rattle.full_settings.specs.LetterParameters.{direction}
+use Rattle.full_settings.specs.LetterParameters.{letter_direction}
 use Rattle.full_settings.specs.WidthParameters.{percent_width}
 use Rattle.full_notes.proofs.Noted.{read_noted}
 use Rattle.full_notes.specs.Contexts.{Context, first_context, asked_in, body_read, is_misplaced, numbers_read, params_read, read_in, request_in}
@@ -26,7 +26,7 @@ use Rattle.full_notes.specs.Notes.{after_body, bad_if, bad_without, body_noted, 
 use Rattle.full_plot.specs.Items.{as_core, full_steps, letters_steps, params_steps, request_steps, taken, width_steps, widths_steps}
 use Rattle.full_plot.specs.Laws.{draws_in_part}
 use Rattle.full_plot.specs.Machine.{FullStep, run}
-use Rattle.full_plot.specs.Worlds.{World}
+use Rattle.full_plot.specs.Worlds.{FullWorld}
 
 -- no steps, and the context stays
 record Nothing (steps : List FullStep) (before after : Context) : Type 0 where
@@ -68,10 +68,10 @@ no_widths true ns h = ap widths_steps (no_setting (percent_width ns) h)
 no_widths false ns h = ap as_core (asks_nothing Set _ (is_wrong is.PenWidth ns h))
 
 -- DI sets two directions, or none
-direction_nothing : (ns : List ℤ) → bad_without (direction ns) ≡ Some Bad → as_core (meaning is.Direction ns).steps ++ letters_steps (direction ns) ≡ []
+direction_nothing : (ns : List ℤ) → bad_without (letter_direction ns) ≡ Some Bad → as_core (meaning is.Direction ns).steps ++ letters_steps (letter_direction ns) ≡ []
 direction_nothing ns h =
     none_of_two _ _ (asks_nothing Set _ (bad_is (meaning is.Direction ns).is_wrong (sym (read_noted first_context is.Direction ns refl) ∙ h)))
-    (ap letters_steps (no_setting (direction ns) h))
+    (ap letters_steps (no_setting (letter_direction ns) h))
   where
     bad_is : (is_wrong : Bool) → bad_if is_wrong ≡ Some Bad → is_wrong ≡ true
     bad_is true h = refl
@@ -195,7 +195,7 @@ read_no_part true usual b t = refl
 read_no_part false usual (Params i ns) t = same_part i ns (params_read usual i ns) t
 read_no_part false usual b t = t
 
-pub bad_does_nothing : (w : World) (i : ItemShape) → body_noted w.context i.body ≡ Some Bad → draws_in_part i.body ≡ false → taken w i.body ≡ Some w
+pub bad_does_nothing : (w : FullWorld) (i : ItemShape) → body_noted w.context i.body ≡ Some Bad → draws_in_part i.body ≡ false → taken w i.body ≡ Some w
 bad_does_nothing w i h t =
     let c = w.context in
     let n = body_nothing c (read_in c i.body) h (read_no_part (is_misplaced c.in_polygon i.body) c.usual_chords i.body t) in

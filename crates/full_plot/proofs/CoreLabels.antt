@@ -7,7 +7,7 @@ use Rattle.plot_page.specs.declared.page.Page.{Page}
 use Rattle.std.specs.Ordering.{int_eq}
 use Rattle.std.proofs.lemmas.Int.{ints}
 use Rattle.exact.specs.declared.spot.Spot.{Spot}
-use Rattle.directions.specs.Directions.{turned, unit}
+use Rattle.directions.specs.Directions.{vector_turned, unit}
 use Rattle.directions.specs.Laws.{right}
 use Rattle.directions.specs.declared.turn.Turn.{Turn}
 use Rattle.directions.specs.declared.turn.Turn.TheVariants.{None as NoTurn, Quarter, Half, ThreeQuarters}
@@ -20,7 +20,7 @@ use Rattle.character_sets.specs.declared.encoding.Encoding.{Encoding}
 use Rattle.character_sets.specs.declared.sets.Sets.{Sets}
 use Rattle.character_sets.specs.declared.sign.Sign.{Sign}
 use Rattle.lettering.specs.CoreTexts.{is_core_text}
-use Rattle.lettering.specs.Labels.{label_strokes, label_end}
+use Rattle.lettering.specs.Labels.{styled_label_strokes, styled_label_end}
 use Rattle.lettering.specs.Laws.{IsTurned, turned_offset, turned_stroke, usual_turned}
 use Rattle.lettering.specs.Styles.{usual}
 use Rattle.lettering.specs.declared.style.Style.{Style}
@@ -37,8 +37,8 @@ use Rattle.hpgl_plot.specs.declared.state.State.{State}
 use Rattle.hpgl_plot.specs.Machine as core
 use Rattle.hpgl_plot.proofs.Polylines.{lines_then, lines_then_out, one_line}
 use Rattle.hpgl_plot.proofs.Travels.{IsKept, lines_keep, step_by}
-use Rattle.full_settings.specs.LetterParameters.{is_vector, pair}
-use Rattle.full_settings.specs.Letters.{LetterStyle, size_in, style_in, usual_letters}
+use Rattle.full_settings.specs.LetterParameters.{is_vector, pair_of}
+use Rattle.full_settings.specs.Letters.{LetterStyle, letter_size_in, style_in, usual_letters}
 use Rattle.full_settings.specs.declared.font.Font.{Font}
 use Rattle.full_settings.specs.declared.letter_size.LetterSize.{LetterSize}
 use Rattle.full_settings.specs.declared.heading.Heading.TheVariants.{Absolute}
@@ -61,7 +61,7 @@ composed ThreeQuarters ThreeQuarters = Half
 abbrev vector : ℤ → ℤ → Spot
 vector x y = record { x = x; y = y }
 
-pub turned_twice : (s t : Turn) (v : Spot) → turned s (turned t v) ≡ turned (composed s t) v
+pub turned_twice : (s t : Turn) (v : Spot) → vector_turned s (vector_turned t v) ≡ vector_turned (composed s t) v
 turned_twice NoTurn t v = refl
 turned_twice s NoTurn v = refl
 turned_twice Quarter Quarter v = refl
@@ -75,7 +75,7 @@ turned_twice ThreeQuarters Half v = ap₂ vector refl (omega (arith, ints))
 turned_twice ThreeQuarters ThreeQuarters v = refl
 
 -- RO and core's directions as turns
-turns_vector : (r : Rotation) (v : Spot) → turned_vector r v ≡ turned (turn_by r) v
+turns_vector : (r : Rotation) (v : Spot) → turned_vector r v ≡ vector_turned (turn_by r) v
 turns_vector rotation.None v = refl
 turns_vector rotation.Quarter v = ap₂ vector (omega (arith, ints)) refl
 turns_vector rotation.Half v = ap₂ vector (omega (arith, ints)) (omega (arith, ints))
@@ -91,7 +91,7 @@ place_is s p =
     let r : Rotation = s.frame.rotation in
     ap (λ (v : Spot). moved_by s.place v)
     (sym (turned_twice (turn_by r) (turn_by s.direction) o)
-    ∙ ap (λ (v : Spot). turned (turn_by r) v) (sym (turns_vector s.direction o))
+    ∙ ap (λ (v : Spot). vector_turned (turn_by r) v) (sym (turns_vector s.direction o))
     ∙ sym (turns_vector r (turned_vector s.direction o)))
 
 lines_are : (s : State) (ts : List LabelStroke)
@@ -118,15 +118,15 @@ lines_then_put c ks q (Some u) h =
 
 -- the style that core's labels have
 pub style_is : (l : LetterStyle) (h : Pair ℤ) (z : LetterSize) (font : Font) (size : CharacterSize) (points : Pair Ends) (r d : Rotation)
-    → l ≡ record usual_letters { heading = Absolute h; size = z } → size_in z font size points ≡ pair size.width size.height
-    → unit h.x h.y ≡ turned (turn_by d) right
+    → l ≡ record usual_letters { heading = Absolute h; size = z } → letter_size_in z font size points ≡ pair_of size.width size.height
+    → unit h.x h.y ≡ vector_turned (turn_by d) right
     → style_in l font size points (turn_by r) ≡ usual_turned size (composed (turn_by r) (turn_by d))
 style_is l h z font size points r d e sized f =
     let styled : Pair ℤ → Spot → Style = λ (p : Pair ℤ) (v : Spot). record usual { width = p.x; height = p.y; direction = v } in
-    let own : Pair ℤ = pair size.width size.height in
+    let own : Pair ℤ = pair_of size.width size.height in
     ap (λ (m : LetterStyle). style_in m font size points (turn_by r)) e
-    ∙ ap (λ (p : Pair ℤ). styled p (turned (turn_by r) (unit h.x h.y))) sized
-    ∙ ap (λ (v : Spot). styled own (turned (turn_by r) v)) f
+    ∙ ap (λ (p : Pair ℤ). styled p (vector_turned (turn_by r) (unit h.x h.y))) sized
+    ∙ ap (λ (v : Spot). styled own (vector_turned (turn_by r) v)) f
     ∙ ap (styled own) (turned_twice (turn_by r) (turn_by d) right)
 
 pub label_as_in_core : (c : core.World) (style : Style) (encoding : Encoding) (sets : Sets) (bytes : List ℕ)
@@ -139,10 +139,10 @@ label_as_in_core c style encoding sets bytes e plain =
     let q : Spot = label_place s (upright.label_end bytes) in
     let own : List Sign = signs encoding sets bytes in
     let is : IsTurned s.size t encoding sets bytes = usual_labels_are_turned_lem s.size t encoding sets bytes plain in
-    let strokes : map (line_at s.place) (label_strokes (usual_turned s.size t) own) ≡ ks =
+    let strokes : map (line_at s.place) (styled_label_strokes (usual_turned s.size t) own) ≡ ks =
     ap (λ (l : List (Spot × Spot)). map (line_at s.place) l) is.strokes
     ∙ lines_are s (upright.label_strokes bytes) in
-    let end : moved_by s.place (label_end (usual_turned s.size t) own) ≡ q =
+    let end : moved_by s.place (styled_label_end (usual_turned s.size t) own) ≡ q =
     ap (λ (o : Spot). moved_by s.place o) is.end ∙ place_is s (upright.label_end bytes) in
     rw e
     (ap₂ (λ (ls : List (List Spot)) (p : Spot). core.followed (core.travelled_all c true ls) (λ (u : core.World). put u p)) strokes end
@@ -165,7 +165,7 @@ not_none n =
     (λ t. let e : pos (suc n) ≡ pos 0 = (Decides-int_eq (pos (suc n)) (pos 0)).0 t in cc e)
 
 pub axis_leads : (x y : ℤ) → is_vector x y ≡ true → (not (int_eq x (pos 0)) && not (int_eq y (pos 0))) ≡ false
-    → unit x y ≡ turned (turn_by (nearest_axis x y)) right
+    → unit x y ≡ vector_turned (turn_by (nearest_axis x y)) right
 axis_leads (pos zero) (pos zero) v h = absurd (true≢false (sym v))
 axis_leads (pos zero) (pos (suc n)) v h = rw (above n, not_left n) (axes_are_exact_lem.y (pos (suc n)) (omega (arith, ints)))
 axis_leads (pos zero) (negsuc n) v h = rw (above n) (axes_are_exact_lem.y (negsuc n) (omega (arith, ints)))

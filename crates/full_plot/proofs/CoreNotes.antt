@@ -6,14 +6,14 @@ use Rattle.hpgl_text.specs.Shapes.{ItemShape, BodyShape, Params, Further}
 use Rattle.hpgl_text.specs.declared.instruction.Instruction.{Instruction}
 use Rattle.hpgl_text.specs.declared.instruction.Instruction.TheVariants.{PenColour, Initialize, DefaultValues, Direction}
 use Rattle.plot_settings.specs.Meanings.{sets}
-use Rattle.plot_settings.specs.Parameters.{pen_colour}
+use Rattle.plot_settings.specs.Parameters.{pen_colour_setting}
 use Rattle.plot_settings.specs.Slants.{is_slanted}
 use Rattle.plot_settings.specs.declared.setting.Setting.{Setting}
 use Rattle.hpgl_plot.specs.declared.note.Note.{Note}
 use Rattle.hpgl_plot.specs.declared.note.NoteKind.{NoteKind}
 use Rattle.hpgl_plot.specs.Notes.{notes_with, parameters_noted}
 use Rattle.hpgl_plot.specs.Notes as core
-use Rattle.full_settings.specs.LetterParameters.{direction, is_vector}
+use Rattle.full_settings.specs.LetterParameters.{letter_direction, is_vector}
 use Rattle.full_plot.specs.Laws.{is_core_body, IsCoreItem}
 use Rattle.full_notes.proofs.Noted.{vector_noted}
 use Rattle.full_notes.specs.Contexts.{Context, first_context}
@@ -25,13 +25,13 @@ by_colour (Some s) = refl
 by_colour None = refl
 
 -- a DI along an axis
-by_direction : (ns : List ℤ) → is_slanted ns ≡ false → bad_without (direction ns) ≡ parameters_noted Direction ns
+by_direction : (ns : List ℤ) → is_slanted ns ≡ false → bad_without (letter_direction ns) ≡ parameters_noted Direction ns
 by_direction [] h = refl
 by_direction (x ∷ []) h = refl
 by_direction (x ∷ (y ∷ ns)) h = rw h (vector_noted (is_vector x y) x y)
 
 params_as_in_core : (i : Instruction) (ns : List ℤ) → is_core_body (Params i ns) ≡ true → params_noted first_context i ns ≡ parameters_noted i ns
-params_as_in_core PenColour ns h = by_colour (pen_colour ns)
+params_as_in_core PenColour ns h = by_colour (pen_colour_setting ns)
 params_as_in_core Direction ns h = by_direction ns (not-true (is_slanted ns) h)
 params_as_in_core i ns h = refl
 

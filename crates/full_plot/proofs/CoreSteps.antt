@@ -5,7 +5,7 @@ use Rattle.std.specs.List.{list_all}
 use Rattle.std.proofs.lemmas.Bool.{cases_Bool}
 use Rattle.std.proofs.lemmas.Option.{none-some, same_Some}
 use Rattle.exact.specs.declared.spot.Spot.{Spot}
-use Rattle.directions.specs.Directions.{turned, unit}
+use Rattle.directions.specs.Directions.{vector_turned, unit}
 use Rattle.directions.specs.Laws.{right}
 use Rattle.stick_font.specs.declared.size.CharacterSize.{CharacterSize}
 use Rattle.character_sets.specs.Ascii.{reads_ascii}
@@ -25,8 +25,8 @@ use Rattle.hpgl_plot.specs.Strokes.{are_in_range, path_strokes}
 use Rattle.hpgl_plot.specs.Machine as core
 use Rattle.full_settings.specs.LineStyles.{Style, is_solid}
 use Rattle.full_settings.specs.Characters.{Characters, selected_font, usual_characters, usual_font}
-use Rattle.full_settings.specs.LetterParameters.{pair}
-use Rattle.full_settings.specs.Letters.{LetterStyle, size_in, style_in, usual_letters}
+use Rattle.full_settings.specs.LetterParameters.{pair_of}
+use Rattle.full_settings.specs.Letters.{LetterStyle, letter_size_in, style_in, usual_letters}
 use Rattle.full_settings.specs.declared.font.Font.{Font}
 use Rattle.full_settings.specs.declared.letter_size.LetterSize.{LetterSize}
 use Rattle.full_settings.specs.declared.heading.Heading.TheVariants.{Absolute}
@@ -34,10 +34,10 @@ use Rattle.full_plot.specs.Items.{as_core}
 use Rattle.polygons.specs.Buffers.{Contents}
 use Rattle.full_notes.specs.Contexts.{Context, first_context}
 use Rattle.full_plot.specs.Lines.{line_step, places_of}
-use Rattle.full_plot.specs.Machine.{core_step, marked, marked_in, moved, run, touched, touched_in}
+use Rattle.full_plot.specs.Machine.{core_step, marked, marked_in, full_moved, run, touched, touched_in}
 use Rattle.full_plot.specs.Polygons.{lined_by, lined_step, only_figure, with_buffer}
 use Rattle.full_plot.specs.Texts.{at_margin, if_short, label_by, labelled, marked_by, signs_of, style_of, then_shifted, turn_by, with_margin, written}
-use Rattle.full_plot.specs.Worlds.{World, Writing, followed, with_core}
+use Rattle.full_plot.specs.Worlds.{FullWorld, Writing, full_followed, with_core}
 use Rattle.full_plot.proofs.CoreLabels.{label_as_in_core, style_is, turn_in}
 use Rattle.full_plot.proofs.LinesAlong.{IsLine, solid_line}
 use Rattle.full_plot.proofs.Solid.{shape_solid}
@@ -56,11 +56,11 @@ pub record IsLed (d : Labelling) (l : LetterStyle) : Type 0 where
   pub heading : Pair ℤ
   pub size : LetterSize
   pub letters_are : l ≡ record usual_letters { heading = Absolute heading; size = size }
-  pub leads : unit heading.x heading.y ≡ turned (turn_by d.direction) right
-  pub sized : (points : Pair Ends) → size_in size usual_font d.size points ≡ pair d.size.width d.size.height
+  pub leads : unit heading.x heading.y ≡ vector_turned (turn_by d.direction) right
+  pub sized : (points : Pair Ends) → letter_size_in size usual_font d.size points ≡ pair_of d.size.width d.size.height
 
 -- besides core all is as at the start, but labels may lead along an axis and have a size
-pub record IsLikeCore (d : Labelling) (w : World) : Type 0 where
+pub record IsLikeCore (d : Labelling) (w : FullWorld) : Type 0 where
   pub solid : is_solid w.style.kind ≡ true
   pub first : w.context ≡ first_context
   pub plain : IsTrue (reads_ascii w.encoding w.characters.sets)
@@ -72,54 +72,54 @@ pub record IsLikeCore (d : Labelling) (w : World) : Type 0 where
   pub few : length w.core.kept ≤ 4194304
   pub few_places : w.buffer.places ≤ 4194304
 
-outside : (w : World) → w.context ≡ first_context → w.context.in_polygon ≡ false
+outside : (w : FullWorld) → w.context ≡ first_context → w.context.in_polygon ≡ false
 outside w h = ap (λ (c : Context). c.in_polygon) h
 
 -- what core has of a world
-abbrev pub core_of : Option World → Option core.World
+abbrev pub core_of : Option FullWorld → Option core.World
 core_of None = None
 core_of (Some w) = Some w.core
 
-core_with : (w : World) (o : Option core.World) → core_of (with_core w o) ≡ o
+core_with : (w : FullWorld) (o : Option core.World) → core_of (with_core w o) ≡ o
 core_with w None = refl
 core_with w (Some c) = refl
 
-core_margin : (w : World) (o : Option core.World) (q : Spot) → core_of (with_margin q (with_core w o)) ≡ o
+core_margin : (w : FullWorld) (o : Option core.World) (q : Spot) → core_of (with_margin q (with_core w o)) ≡ o
 core_margin w None q = refl
 core_margin w (Some c) q = refl
 
 -- a solid line
-solid_is : (w : World) (t : Step) → IsLine w t → is_solid w.style.kind ≡ true → line_step w t ≡ with_core w (core.step w.core t)
+solid_is : (w : FullWorld) (t : Step) → IsLine w t → is_solid w.style.kind ≡ true → line_step w t ≡ with_core w (core.step w.core t)
 solid_is w t l h = solid_line w t l (shape_solid w.style.kind w.style.own _ h)
 
 -- out of polygon mode
-lined_is : (w : World) (t : Step) → IsLine w t → is_solid w.style.kind ≡ true → w.context.in_polygon ≡ false → lined_step w t ≡ with_core w (core.step w.core t)
+lined_is : (w : FullWorld) (t : Step) → IsLine w t → is_solid w.style.kind ≡ true → w.context.in_polygon ≡ false → lined_step w t ≡ with_core w (core.step w.core t)
 lined_is w t l h off = ap (λ (b : Bool). lined_by b w t) off ∙ solid_is w t l h
 
 -- a move, after which no symbol is drawn
-core_move : (w : World) (o : Option core.World) → w.context.in_polygon ≡ false → w.writing.symbol ≡ None
-    → core_of (followed (with_core w o) (λ (v : World). marked (at_margin v))) ≡ o
+core_move : (w : FullWorld) (o : Option core.World) → w.context.in_polygon ≡ false → w.writing.symbol ≡ None
+    → core_of (full_followed (with_core w o) (λ (v : FullWorld). marked (at_margin v))) ≡ o
 core_move w None off h = refl
 core_move w (Some c) off h =
-    let v : World = at_margin (record w { core = c }) in
+    let v : FullWorld = at_margin (record w { core = c }) in
     ap (λ (b : Bool). core_of (marked_in b v)) off ∙ ap (λ (s : Option ℕ). core_of (marked_by s v)) h
 
-core_go : (w : World) (t : Step) → IsLine w t → is_solid w.style.kind ≡ true → w.context.in_polygon ≡ false → w.writing.symbol ≡ None
-    → core_of (moved w t) ≡ core.step w.core t
+core_go : (w : FullWorld) (t : Step) → IsLine w t → is_solid w.style.kind ≡ true → w.context.in_polygon ≡ false → w.writing.symbol ≡ None
+    → core_of (full_moved w t) ≡ core.step w.core t
 core_go w t l h off k =
-    ap (λ (o : Option World). core_of (followed o (λ (v : World). marked (at_margin v)))) (lined_is w t l h off)
+    ap (λ (o : Option FullWorld). core_of (full_followed o (λ (v : FullWorld). marked (at_margin v)))) (lined_is w t l h off)
     ∙ core_move w (core.step w.core t) off k
 
 -- a dot
-core_touch : (w : World) → w.context.in_polygon ≡ false → core_of (touched w) ≡ core.step w.core Touch
+core_touch : (w : FullWorld) → w.context.in_polygon ≡ false → core_of (touched w) ≡ core.step w.core Touch
 core_touch w off = ap (λ (b : Bool). core_of (touched_in b w)) off ∙ core_with w (core.step w.core Touch)
 
 -- the edge of a rectangle
-core_buffer : (b : Contents) (o : Option World) → core_of (with_buffer b o) ≡ core_of o
+core_buffer : (b : Contents) (o : Option FullWorld) → core_of (with_buffer b o) ≡ core_of o
 core_buffer b None = refl
 core_buffer b (Some v) = refl
 
-core_arc : (w : World) (o : Option core.World) → core_of (followed (with_core w o) (λ (v : World). Some (at_margin v))) ≡ o
+core_arc : (w : FullWorld) (o : Option core.World) → core_of (full_followed (with_core w o) (λ (v : FullWorld). Some (at_margin v))) ≡ o
 core_arc w None = refl
 core_arc w (Some c) = refl
 
@@ -132,7 +132,7 @@ abbrev pub IsShort : Step → Type 0
 IsShort (Write text) = IsCoreLabel text
 IsShort _ = ⊤
 
-core_shifted : (text : List ℕ) (o : Option World) → core_of (then_shifted text o) ≡ core_of o
+core_shifted : (text : List ℕ) (o : Option FullWorld) → core_of (then_shifted text o) ≡ core_of o
 core_shifted text None = refl
 core_shifted text (Some v) = refl
 
@@ -148,7 +148,7 @@ second : (a b : Bool) → IsTrue (a && b) → IsTrue b
 second true b h = h
 second false b h = absurd (true≢false (sym h))
 
-core_written : (w : World) (text : List ℕ) → IsLikeCore (labelling w.core.state) w → IsCoreLabel text
+core_written : (w : FullWorld) (text : List ℕ) → IsLikeCore (labelling w.core.state) w → IsCoreLabel text
     → core_of (written w text) ≡ core.step w.core (Write text)
 core_written w text h k =
     let s : State = w.core.state in
@@ -186,12 +186,12 @@ keeps_sets : (t : Step) → IsShort t → KeepsSets t
 keeps_sets (Write text) h = unshifted text h.plain
 keeps_sets t h = tt
 
-pub step_as_in_core : (w : World) (t : Step) → IsLikeCore (labelling w.core.state) w → IsShort t → core_of (core_step w t) ≡ core.step w.core t
+pub step_as_in_core : (w : FullWorld) (t : Step) → IsLikeCore (labelling w.core.state) w → IsShort t → core_of (core_step w t) ≡ core.step w.core t
 step_as_in_core w Touch h short = core_touch w (outside w h.first)
 step_as_in_core w (Move x y) h short = core_go w (Move x y) refl h.solid (outside w h.first) h.no_symbol
 step_as_in_core w (Go relative x y) h short = core_go w (Go relative x y) refl h.solid (outside w h.first) h.no_symbol
 step_as_in_core w (DrawArc relative a) h short =
-    ap (λ (o : Option World). core_of (followed o (λ (v : World). Some (at_margin v)))) (lined_is w (DrawArc relative a) refl h.solid (outside w h.first))
+    ap (λ (o : Option FullWorld). core_of (full_followed o (λ (v : FullWorld). Some (at_margin v)))) (lined_is w (DrawArc relative a) refl h.solid (outside w h.first))
     ∙ core_arc w (core.step w.core (DrawArc relative a))
 step_as_in_core w (Edge relative x y) h short =
     core_buffer (only_figure (places_of w (Edge relative x y))) (line_step w (Edge relative x y))
@@ -201,7 +201,7 @@ step_as_in_core w (Write text) h short = core_written w text h short
 step_as_in_core w t h short = core_with w (core.step w.core t)
 
 -- what a step of core keeps
-pub like_next : (d : Labelling) (w v : World) → IsLikeCore d w → IsNext w v → IsLikeCore d v
+pub like_next : (d : Labelling) (w v : FullWorld) → IsLikeCore d w → IsNext w v → IsLikeCore d v
 like_next d w v h n = record {
   solid = ap (λ (s : Style). is_solid s.kind) n.style_is ∙ h.solid;
   first = n.context_is ∙ h.first;
@@ -230,20 +230,20 @@ led_by c e d r t l k h =
     ]
 
 -- what steps leave: core sets r for labels then, and labels are by d as before
-abbrev pub LikeIn : Labelling → Labelling → Option World → Type 0
+abbrev pub LikeIn : Labelling → Labelling → Option FullWorld → Type 0
 LikeIn d r None = ⊤
 LikeIn d r (Some v) = IsLikeCore d v × (labelling v.core.state ≡ r)
 
-pub record IsAsInCore (d r : Labelling) (o : Option World) (p : Option core.World) : Type 0 where
+pub record IsAsInCore (d r : Labelling) (o : Option FullWorld) (p : Option core.World) : Type 0 where
   pub same : core_of o ≡ p
   pub like : LikeIn d r o
 
-like_after : (d r : Labelling) (w : World) (t : Step) (o : Option World) → Leads d r t → IsLikeCore d w → labelling w.core.state ≡ d
+like_after : (d r : Labelling) (w : FullWorld) (t : Step) (o : Option FullWorld) → Leads d r t → IsLikeCore d w → labelling w.core.state ≡ d
     → NextIn w o → core_of o ≡ core.step w.core t → LikeIn d r o
 like_after d r w t None l h k n e = tt
 like_after d r w t (Some v) l h k n e = (like_next d w v h n, led_by w.core v.core d r t l k (sym e))
 
-pub one_step : (d r : Labelling) (w : World) (t : Step) → Leads d r t → IsShort t → IsLikeCore d w → labelling w.core.state ≡ d
+pub one_step : (d r : Labelling) (w : FullWorld) (t : Step) → Leads d r t → IsShort t → IsLikeCore d w → labelling w.core.state ≡ d
     → IsAsInCore d r (core_step w t) (core.step w.core t)
 one_step d r w t l short h k =
     let e : core_of (core_step w t) ≡ core.step w.core t =
@@ -258,13 +258,13 @@ abbrev pub AllStill : List Step → Type 0
 AllStill [] = ⊤
 AllStill (t ∷ ts) = IsStill t × AllStill ts
 
-next_still : (d r : Labelling) (o : Option World) (ts : List Step) → LikeIn d r o
-    → ((v : World) → IsLikeCore d v → labelling v.core.state ≡ r → IsAsInCore d r (run v (as_core ts)) (core.run v.core ts))
-    → IsAsInCore d r (followed o (λ (v : World). run v (as_core ts))) (core.followed (core_of o) (λ (c : core.World). core.run c ts))
+next_still : (d r : Labelling) (o : Option FullWorld) (ts : List Step) → LikeIn d r o
+    → ((v : FullWorld) → IsLikeCore d v → labelling v.core.state ≡ r → IsAsInCore d r (run v (as_core ts)) (core.run v.core ts))
+    → IsAsInCore d r (full_followed o (λ (v : FullWorld). run v (as_core ts))) (core.followed (core_of o) (λ (c : core.World). core.run c ts))
 next_still d r None ts h go = record { same = refl; like = tt }
 next_still d r (Some v) ts h go = go v h.0 h.1
 
-pub still_steps : (d : Labelling) (ts : List Step) (w : World) → AllStill ts → IsLikeCore d w → labelling w.core.state ≡ d
+pub still_steps : (d : Labelling) (ts : List Step) (w : FullWorld) → AllStill ts → IsLikeCore d w → labelling w.core.state ≡ d
     → IsAsInCore d d (run w (as_core ts)) (core.run w.core ts)
 still_steps d [] w all h k = record { same = refl; like = (h, k) }
 still_steps d (t ∷ ts) w all h k =
@@ -272,4 +272,4 @@ still_steps d (t ∷ ts) w all h k =
     subst
     (λ (p : Option core.World). IsAsInCore d d (run w (as_core (t ∷ ts))) (core.followed p (λ (c : core.World). core.run c ts)))
     one.same
-    (next_still d d (core_step w t) ts one.like (λ (v : World) (l : IsLikeCore d v) (m : labelling v.core.state ≡ d). still_steps d ts v all.1 l m))
+    (next_still d d (core_step w t) ts one.like (λ (v : FullWorld) (l : IsLikeCore d v) (m : labelling v.core.state ≡ d). still_steps d ts v all.1 l m))

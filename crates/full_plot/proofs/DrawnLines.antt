@@ -20,9 +20,9 @@ use Rattle.hpgl_plot.specs.declared.state.State.{State}
 use Rattle.hpgl_plot.specs.Machine.{with_strokes}
 use Rattle.hpgl_plot.specs.Machine as core
 use Rattle.hpgl_plot.proofs.Fed.{with_more}
-use Rattle.full_plot.specs.Dashing.{IsDash, parts_of, dashed, run_past, run_through}
-use Rattle.full_plot.specs.Worlds.{World}
-use Rattle.full_plot.specs.Lines.{inked, drawn, shape_in}
+use Rattle.full_plot.specs.Dashing.{IsDash, dash_segments, dashed, run_past, run_through}
+use Rattle.full_plot.specs.Worlds.{FullWorld}
+use Rattle.full_plot.specs.Lines.{inked, drawn_in_type, shape_in}
 
 -- dashes are as near as the ends of their line
 abbrev low : Spot
@@ -51,7 +51,7 @@ dashes_are_places shape run a b h k n d l =
     (box_place _ e.0, box_place _ e.1)
 
 -- no lines
-pub none_drawn : (w : World) → drawn w [] ≡ w
+pub none_drawn : (w : FullWorld) → drawn_in_type w [] ≡ w
 none_drawn w = elim (cases_Bool (nat_eq w.core.state.pen 0)) [
   | inl t ↦ rw t refl
   | inr t ↦ rw t refl
@@ -64,32 +64,32 @@ inked-append s a b = elim (cases_Bool (nat_eq s.pen 0)) [
 ]
 
 -- one line, and the rest of them
-pub more_drawn : (w : World) (l : Segment) (ls : List Segment) → drawn w (l ∷ ls) ≡ drawn (drawn w (l ∷ [])) ls
+pub more_drawn : (w : FullWorld) (l : Segment) (ls : List Segment) → drawn_in_type w (l ∷ ls) ≡ drawn_in_type (drawn_in_type w (l ∷ [])) ls
 more_drawn w l ls =
     let s = w.core.state in
     let shape = shape_in w in
-    let first = parts_of shape w.run l in
+    let first = dash_segments shape w.run l in
     let rest = dashed shape (run_past shape w.run l) ls in
     rw (append-nil first)
     (ap (λ (c : core.World). record w { core = c; run = run_through shape w.run (l ∷ ls) })
     (ap (λ (ss : List Segment). with_strokes w.core s ss) (inked-append s first rest) ∙ with_more w.core (inked s first) (inked s rest)))
 
-pub one_drawn : (w v o : World) (ls : List Segment) (i : ℕ) (l : Segment) → i < length ls → l ≡ get_or ls i l → Some (drawn w (l ∷ [])) ≡ Some v
-    → drawn w (drop i ls) ≡ o → drawn v (drop (i + 1) ls) ≡ o
+pub one_drawn : (w v o : FullWorld) (ls : List Segment) (i : ℕ) (l : Segment) → i < length ls → l ≡ get_or ls i l → Some (drawn_in_type w (l ∷ [])) ≡ Some v
+    → drawn_in_type w (drop i ls) ≡ o → drawn_in_type v (drop (i + 1) ls) ≡ o
 one_drawn w v o ls i l h e k m =
     let next : suc i ≡ i + 1 = omega arith in
     let cons : drop i ls ≡ l ∷ drop (i + 1) ls = (rw next at (drop-cons ls i l h)) ∙ ap (λ (x : Segment). x ∷ drop (i + 1) ls) (sym e) in
     let first = same_Some _ _ k in
-    sym (ap (λ (u : World). drawn u (drop (i + 1) ls)) first) ∙ sym (more_drawn w l (drop (i + 1) ls)) ∙ sym (ap (λ (xs : List Segment). drawn w xs) cons) ∙ m
+    sym (ap (λ (u : FullWorld). drawn_in_type u (drop (i + 1) ls)) first) ∙ sym (more_drawn w l (drop (i + 1) ls)) ∙ sym (ap (λ (xs : List Segment). drawn_in_type w xs) cons) ∙ m
 
-pub same_shape : (w v : World) (ls : List Segment) → Some (drawn w ls) ≡ Some v → shape_in v ≡ shape_in w
-same_shape w v ls k = sym (ap (λ (u : World). shape_in u) (same_Some _ _ k))
+pub same_shape : (w v : FullWorld) (ls : List Segment) → Some (drawn_in_type w ls) ≡ Some v → shape_in v ≡ shape_in w
+same_shape w v ls k = sym (ap (λ (u : FullWorld). shape_in u) (same_Some _ _ k))
 
 -- some lines, and more of them
-pub drawn-append : (w : World) (ls ms : List Segment) → drawn w (ls ++ ms) ≡ drawn (drawn w ls) ms
-drawn-append w [] ms = sym (ap (λ (u : World). drawn u ms) (none_drawn w))
-drawn-append w (l ∷ ls) ms =
-    more_drawn w l (ls ++ ms) ∙ drawn-append (drawn w (l ∷ [])) ls ms ∙ sym (ap (λ (u : World). drawn u ms) (more_drawn w l ls))
+pub drawn_in_type-append : (w : FullWorld) (ls ms : List Segment) → drawn_in_type w (ls ++ ms) ≡ drawn_in_type (drawn_in_type w ls) ms
+drawn_in_type-append w [] ms = sym (ap (λ (u : FullWorld). drawn_in_type u ms) (none_drawn w))
+drawn_in_type-append w (l ∷ ls) ms =
+    more_drawn w l (ls ++ ms) ∙ drawn_in_type-append (drawn_in_type w (l ∷ [])) ls ms ∙ sym (ap (λ (u : FullWorld). drawn_in_type u ms) (more_drawn w l ls))
 
 -- one edge, and the rest of them
 if_drawn : (is_drawn : Bool) (e : Edge) (rest : List Edge) → (if is_drawn then e ∷ rest else rest) ≡ (if is_drawn then e ∷ [] else []) ++ rest
@@ -99,16 +99,16 @@ if_drawn false e rest = refl
 first_edge : (f : Edge → Segment) (e : Edge) (rest : List Edge) → map f (drawn_edges (e ∷ rest)) ≡ map f (drawn_edges (e ∷ [])) ++ map f (drawn_edges rest)
 first_edge f e rest = ap (λ (es : List Edge). map f es) (if_drawn e.is_drawn e (drawn_edges rest)) ∙ map-append f (drawn_edges (e ∷ [])) (drawn_edges rest)
 
-pub one_edge : (w v o : World) (s : State) (es : List Edge) (i : ℕ) (e : Edge) → i < length es → e ≡ get_or es i e → w.core.state ≡ s
-    → Some (drawn w (map (edge_line w.core.state) (drawn_edges (e ∷ [])))) ≡ Some v
-    → drawn w (map (edge_line s) (drawn_edges (drop i es))) ≡ o → drawn v (map (edge_line s) (drawn_edges (drop (i + 1) es))) ≡ o
+pub one_edge : (w v o : FullWorld) (s : State) (es : List Edge) (i : ℕ) (e : Edge) → i < length es → e ≡ get_or es i e → w.core.state ≡ s
+    → Some (drawn_in_type w (map (edge_line w.core.state) (drawn_edges (e ∷ [])))) ≡ Some v
+    → drawn_in_type w (map (edge_line s) (drawn_edges (drop i es))) ≡ o → drawn_in_type v (map (edge_line s) (drawn_edges (drop (i + 1) es))) ≡ o
 one_edge w v o s es i e h k same l m =
     let next : suc i ≡ i + 1 = omega arith in
     let rest : List Edge = drop (i + 1) es in
     let cons : drop i es ≡ e ∷ rest = (rw next at (drop-cons es i e h)) ∙ ap (λ (x : Edge). x ∷ rest) (sym k) in
-    let first : v ≡ drawn w (map (edge_line s) (drawn_edges (e ∷ []))) =
-    sym (same_Some _ _ l) ∙ ap (λ (x : State). drawn w (map (edge_line x) (drawn_edges (e ∷ [])))) same in
-    ap (λ (u : World). drawn u (map (edge_line s) (drawn_edges rest))) first
-    ∙ sym (drawn-append w (map (edge_line s) (drawn_edges (e ∷ []))) (map (edge_line s) (drawn_edges rest)))
-    ∙ ap (λ (ls : List Segment). drawn w ls) (sym (first_edge (edge_line s) e rest))
-    ∙ sym (ap (λ (xs : List Edge). drawn w (map (edge_line s) (drawn_edges xs))) cons) ∙ m
+    let first : v ≡ drawn_in_type w (map (edge_line s) (drawn_edges (e ∷ []))) =
+    sym (same_Some _ _ l) ∙ ap (λ (x : State). drawn_in_type w (map (edge_line x) (drawn_edges (e ∷ [])))) same in
+    ap (λ (u : FullWorld). drawn_in_type u (map (edge_line s) (drawn_edges rest))) first
+    ∙ sym (drawn_in_type-append w (map (edge_line s) (drawn_edges (e ∷ []))) (map (edge_line s) (drawn_edges rest)))
+    ∙ ap (λ (ls : List Segment). drawn_in_type w ls) (sym (first_edge (edge_line s) e rest))
+    ∙ sym (ap (λ (xs : List Edge). drawn_in_type w (map (edge_line s) (drawn_edges xs))) cons) ∙ m

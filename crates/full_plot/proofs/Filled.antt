@@ -8,75 +8,75 @@ use Rattle.polygons.specs.declared.lines.Rule.{Rule}
 use Rattle.polygons.specs.declared.span.Span.{Span}
 use Rattle.full_settings.specs.declared.fill_setting.FillKind.{FillKind}
 use Rattle.full_settings.specs.declared.fill_setting.FillKind.TheVariants.{Solid, Hatched, CrossHatched, Shaded}
-use Rattle.full_plot.specs.Fills.{counted, edge_span, edges_inked, filled, filled_by, hatched, hatching_lines, over_lines, over_spans, rule_by, shaded, shading_lines, solid_filled, solid_lines, span_stroke, unless, with_span, with_stroke}
+use Rattle.full_plot.specs.Fills.{counted, edge_span, edges_inked, area_filled, filled_by, hatched, hatching_lines, over_lines, over_spans, rule_by, shaded, shading_lines, solid_filled, solid_lines, span_stroke, unless, with_span, with_stroke}
 use Rattle.full_plot.specs.declared.fills.Ink.{Ink}
 use Rattle.full_plot.specs.declared.fills.Ink.TheVariants.{Width, Line}
-use Rattle.full_plot.specs.Lines.{drawn}
+use Rattle.full_plot.specs.Lines.{drawn_in_type}
 use Rattle.full_plot.specs.Polygons.{edges_drawn}
 use Rattle.full_plot.specs.Work.{worked}
-use Rattle.full_plot.specs.Worlds.{World}
+use Rattle.full_plot.specs.Worlds.{FullWorld}
 use Rattle.full_plot.proofs.Nexts.{few_kept}
 
 -- a later world
-pub record IsLater (w v : World) : Type 0 where
+pub record IsLater (w v : FullWorld) : Type 0 where
   pub context_is : v.context ≡ w.context
   pub few : length w.core.kept ≤ 4194304 → length v.core.kept ≤ 4194304
 
-pub later_same : (w : World) → IsLater w w
+pub later_same : (w : FullWorld) → IsLater w w
 later_same w = record { context_is = refl; few = λ h. h }
 
-pub later_then : (w v u : World) → IsLater w v → IsLater v u → IsLater w u
+pub later_then : (w v u : FullWorld) → IsLater w v → IsLater v u → IsLater w u
 later_then w v u h k = record {
   context_is = k.context_is ∙ h.context_is;
   few = λ few. k.few (h.few few);
 }
 
 -- work, and a stroke
-pub filled_work : (n : ℕ) (w : World) → IsLater w (worked n w)
+pub filled_work : (n : ℕ) (w : FullWorld) → IsLater w (worked n w)
 filled_work n w = elim (cases_Bool (nat_lt 4194304 (length w.core.kept + w.extra + n))) [
   | inl i ↦ rw i (record { context_is = refl; few = λ h. h })
   | inr i ↦ rw i (record { context_is = refl; few = λ h. h })
 ]
 
-filled_stroke : (w : World) (l : Segment) → IsLater w (with_stroke w l)
+filled_stroke : (w : FullWorld) (l : Segment) → IsLater w (with_stroke w l)
 filled_stroke w l = record { context_is = refl; few = λ h. few_kept w.core.kept w.core.full (l ∷ []) h }
 
-filled_lines : (w : World) (ls : List Segment) → IsLater w (drawn w ls)
+filled_lines : (w : FullWorld) (ls : List Segment) → IsLater w (drawn_in_type w ls)
 filled_lines w ls = record { context_is = refl; few = λ h. few_kept w.core.kept w.core.full _ h }
 
-filled_counted : (w v : World) → IsLater w v → IsLater w (counted w v)
+filled_counted : (w v : FullWorld) → IsLater w v → IsLater w (counted w v)
 filled_counted w v h = elim (cases_Bool (nat_eq (length v.core.kept) (length w.core.kept))) [
   | inl i ↦ rw i (later_then w v (worked 1 v) h (filled_work 1 v))
   | inr i ↦ rw i h
 ]
 
-ink_filled : (ink : Ink) (w : World) (p : Span) → IsLater w (with_span ink w p)
+ink_filled : (ink : Ink) (w : FullWorld) (p : Span) → IsLater w (with_span ink w p)
 ink_filled (Width width) w p = filled_stroke w _
-ink_filled Line w p = filled_counted w (drawn w (span_stroke w.core.state p ∷ [])) (filled_lines w (span_stroke w.core.state p ∷ []))
+ink_filled Line w p = filled_counted w (drawn_in_type w (span_stroke w.core.state p ∷ [])) (filled_lines w (span_stroke w.core.state p ∷ []))
 
 -- spans one after another
-unless_filled : (full : Bool) (w v : World) → IsLater w v → IsLater w (unless full w v)
+unless_filled : (full : Bool) (w v : FullWorld) → IsLater w v → IsLater w (unless full w v)
 unless_filled true w v h = later_same w
 unless_filled false w v h = h
 
-spans_filled : (ink : Ink) (ps : List Span) (w : World) → IsLater w (over_spans ink w ps)
+spans_filled : (ink : Ink) (ps : List Span) (w : FullWorld) → IsLater w (over_spans ink w ps)
 spans_filled ink [] w = later_same w
 spans_filled ink (p ∷ ps) w =
-    let v : World = with_span ink w p in
+    let v : FullWorld = with_span ink w p in
     unless_filled w.core.full w (over_spans ink v ps) (later_then w v (over_spans ink v ps) (ink_filled ink w p) (spans_filled ink ps v))
 
-lines_filled : (ink : Ink) (w : World) (rule : Rule) (lines : Lines) → IsLater w (over_lines ink w rule lines)
+lines_filled : (ink : Ink) (w : FullWorld) (rule : Rule) (lines : Lines) → IsLater w (over_lines ink w rule lines)
 lines_filled ink w rule lines = spans_filled ink (spans lines rule w.buffer.edges) w
 
-edges_filled : (w : World) → IsLater w (edges_inked w)
+edges_filled : (w : FullWorld) → IsLater w (edges_inked w)
 edges_filled w = spans_filled (Width 0) (map edge_span w.buffer.edges) w
 
-solid_is_filled : (rule : Rule) (w : World) → IsLater w (solid_filled rule w)
+solid_is_filled : (rule : Rule) (w : FullWorld) → IsLater w (solid_filled rule w)
 solid_is_filled rule w =
-    let v : World = over_lines (Width 0) w rule solid_lines in
+    let v : FullWorld = over_lines (Width 0) w rule solid_lines in
     later_then w v (edges_inked v) (lines_filled (Width 0) w rule solid_lines) (edges_filled v)
 
-shaded_is_filled : (rule : Rule) (w : World) → IsLater w (shaded rule w)
+shaded_is_filled : (rule : Rule) (w : FullWorld) → IsLater w (shaded rule w)
 shaded_is_filled rule w = elim (cases_Bool (nat_eq w.area.fill.level 0)) [
   | inl i ↦ rw i (later_same w)
   | inr i ↦ elim (cases_Bool (nat_eq w.area.fill.level 100000000)) [
@@ -85,10 +85,10 @@ shaded_is_filled rule w = elim (cases_Bool (nat_eq w.area.fill.level 0)) [
   ]
 ]
 
-hatched_is_filled : (rule : Rule) (more : ℤ) (w : World) → IsLater w (hatched rule more w)
+hatched_is_filled : (rule : Rule) (more : ℤ) (w : FullWorld) → IsLater w (hatched rule more w)
 hatched_is_filled rule more w = lines_filled Line w rule (hatching_lines w more)
 
-by_kind : (kind : FillKind) (rule : Rule) (w : World) → IsLater w (filled_by kind rule w)
+by_kind : (kind : FillKind) (rule : Rule) (w : FullWorld) → IsLater w (filled_by kind rule w)
 by_kind Solid rule w = solid_is_filled rule w
 by_kind Hatched rule w = hatched_is_filled rule (pos 0) w
 by_kind CrossHatched rule w =
@@ -96,14 +96,14 @@ by_kind CrossHatched rule w =
     (hatched_is_filled rule (pos 90000) (hatched rule (pos 0) w))
 by_kind Shaded rule w = shaded_is_filled rule w
 
-pub is_filled : (by_winding : Bool) (w : World) → IsLater w (filled by_winding w)
+pub is_filled : (by_winding : Bool) (w : FullWorld) → IsLater w (area_filled by_winding w)
 is_filled by_winding w =
-    let v : World = worked w.buffer.places w in
+    let v : FullWorld = worked w.buffer.places w in
     elim (cases_Bool (nat_eq v.core.state.pen 0)) [
       | inl i ↦ rw i (filled_work w.buffer.places w)
       | inr i ↦ rw i (later_then w v (filled_by v.area.fill.kind (rule_by by_winding) v) (filled_work w.buffer.places w)
           (by_kind v.area.fill.kind (rule_by by_winding) v))
     ]
 
-pub edges_are_filled : (w : World) → IsLater w (worked w.buffer.places (edges_drawn w))
+pub edges_are_filled : (w : FullWorld) → IsLater w (worked w.buffer.places (edges_drawn w))
 edges_are_filled w = later_then w (edges_drawn w) (worked w.buffer.places (edges_drawn w)) (filled_lines w _) (filled_work w.buffer.places (edges_drawn w))

@@ -8,24 +8,24 @@ use Rattle.hpgl_text.specs.Shapes.{ItemShape}
 use Rattle.hpgl_plot.specs.declared.fault.PlotFault.{PlotFault}
 use Rattle.labels.specs.Labels.{LabelShape}
 use Rattle.labels.specs.Sheets.{all_counted, counted}
-use Rattle.full_plot.specs.Drawings.{ended, is_too_much, runs}
+use Rattle.full_plot.specs.Drawings.{full_ended, is_too_much, full_runs}
 use Rattle.full_plot.specs.Items.{taken}
 use Rattle.full_plot.specs.Labels.{label_between, labels_by, labels_from, labels_kept}
-use Rattle.full_plot.specs.Worlds.{World}
+use Rattle.full_plot.specs.Worlds.{FullWorld}
 
-judged : (b : Bool) (e : PlotFault) (u v : World) → (if b then Err e else Ok u) ≡ Ok v → u ≡ v
+judged : (b : Bool) (e : PlotFault) (u v : FullWorld) → (if b then Err e else Ok u) ≡ Ok v → u ≡ v
 judged true e u v h = absurd (cc h)
 judged false e u v h = cc h
 
-past : (o : Option World) (i : ItemShape) (v : World) → ended o i.at (λ (u : World). Ok u) ≡ Ok v → o ≡ Some v
+past : (o : Option FullWorld) (i : ItemShape) (v : FullWorld) → full_ended o i.at (λ (u : FullWorld). Ok u) ≡ Ok v → o ≡ Some v
 past None i v h = absurd (cc h)
-past (Some u) i v h = ap (λ (t : World). Some t) (judged (is_too_much u) _ u v h)
+past (Some u) i v h = ap (λ (t : FullWorld). Some t) (judged (is_too_much u) _ u v h)
 
 -- an item that is carried out, and those after it
-pub labels_past : (w v : World) (i : ItemShape) (more : List ItemShape) → runs w (i ∷ []) ≡ Ok v
+pub labels_past : (w v : FullWorld) (i : ItemShape) (more : List ItemShape) → full_runs w (i ∷ []) ≡ Ok v
     → labels_from w (i ∷ more) ≡ label_between w i.body v ++ labels_from v more
 labels_past w v i more h =
-    ap (λ (o : Option World). labels_by w i.body o (λ (u : World). labels_from u more)) (past (taken w i.body) i v h)
+    ap (λ (o : Option FullWorld). labels_by w i.body o (λ (u : FullWorld). labels_from u more)) (past (taken w i.body) i v h)
 
 -- those that are kept, or none
 kept_append : (keeps : Bool) (a b : List LabelShape) → labels_kept keeps (a ++ b) ≡ labels_kept keeps a ++ labels_kept keeps b
@@ -33,7 +33,7 @@ kept_append true a b = refl
 kept_append false a b = refl
 
 -- labels that are there, with those of an item and of those after it
-pub kept_past : (keeps : Bool) (w v : World) (i : ItemShape) (more : List ItemShape) (before after : List LabelShape) → runs w (i ∷ []) ≡ Ok v
+pub kept_past : (keeps : Bool) (w v : FullWorld) (i : ItemShape) (more : List ItemShape) (before after : List LabelShape) → full_runs w (i ∷ []) ≡ Ok v
     → after ≡ before ++ labels_kept keeps (label_between w i.body v)
     → after ++ labels_kept keeps (labels_from v more) ≡ before ++ labels_kept keeps (labels_from w (i ∷ more))
 kept_past keeps w v i more before after h e =

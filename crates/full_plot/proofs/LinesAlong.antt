@@ -21,88 +21,88 @@ use Rattle.hpgl_plot.specs.Machine as core
 use Rattle.hpgl_plot.proofs.Fed.{within}
 use Rattle.hpgl_plot.proofs.Travels.{Line, step_along}
 use Rattle.full_settings.specs.LineStyles.{is_solid}
-use Rattle.full_plot.specs.Lines.{drawn, drawn_along, ended_by, ended_in, line_step, lines_along, places_of, shape_in, state_after, step_path}
+use Rattle.full_plot.specs.Lines.{drawn_in_type, drawn_along, with_state, ended_in, line_step, lines_along, places_of, shape_in, state_after, step_path}
 use Rattle.full_plot.specs.Machine.{Runs}
 use Rattle.full_plot.specs.Polygons.{trace_step, traced}
-use Rattle.full_plot.specs.Worlds.{World, with_core}
-use Rattle.full_plot.proofs.DrawnLines.{drawn-append, none_drawn}
+use Rattle.full_plot.specs.Worlds.{FullWorld, with_core}
+use Rattle.full_plot.proofs.DrawnLines.{drawn_in_type-append, none_drawn}
 use Rattle.full_plot.proofs.Solid.{run_solid, shape_solid, solid_joined}
 
 -- what stops core stops a step, if it goes out of range with core
-pub core_stopped : {U : Type 0} (T : Type 0) (o : Option core.World) (p : Option World) (u : core.World) (v : World) (e : Stop) (r : Result U Stop) → (o ≡ None → p ≡ None)
+pub core_stopped : {U : Type 0} (T : Type 0) (o : Option core.World) (p : Option FullWorld) (u : core.World) (v : FullWorld) (e : Stop) (r : Result U Stop) → (o ≡ None → p ≡ None)
     → core.Runs {U = T} o u (Err e) → IsErrAnd r (λ f. f ≡ e) → Runs p v r
 core_stopped T o p u v e (Ok x) n h i = absurd i
 core_stopped T o p u v Memory (Err f) n h i = rw i tt
 core_stopped T o p u v OffRange (Err f) n h i = rw i (n h)
 
 -- what core answers, in the profile full
-pub with_runs : {U : Type 0} (w : World) (o : Option core.World) (v : core.World) (r : Result U Stop) → core.Runs o v r → Runs (with_core w o) (record w { core = v }) r
+pub with_runs : {U : Type 0} (w : FullWorld) (o : Option core.World) (v : core.World) (r : Result U Stop) → core.Runs o v r → Runs (with_core w o) (record w { core = v }) r
 with_runs w o v (Ok x) h = ap (λ (p : Option core.World). with_core w p) h
 with_runs w o v (Err Memory) h = tt
 with_runs w o v (Err OffRange) h = ap (λ (p : Option core.World). with_core w p) h
 
 -- in solid lines they are core's
-pub solid_along : (w : World) (draws : Bool) (places : List Spot) → shape_in w ≡ Solid
+pub solid_along : (w : FullWorld) (draws : Bool) (places : List Spot) → shape_in w ≡ Solid
     → drawn_along w draws places ≡ with_core w (core.travelled w.core draws places)
 solid_along w draws places h = elim (cases_Bool (are_in_range places)) [
   | inl i ↦ rw (i, h, solid_joined w.core.state w.run draws places, run_solid w.run _) refl
   | inr i ↦ rw i refl
 ]
 
-pub solid_along_runs : {U : Type 0} (w : World) (draws : Bool) (places : List Spot) (v : core.World) (r : Result U Stop) → is_solid w.style.kind ≡ true
+pub solid_along_runs : {U : Type 0} (w : FullWorld) (draws : Bool) (places : List Spot) (v : core.World) (r : Result U Stop) → is_solid w.style.kind ≡ true
     → core.Runs (core.travelled w.core draws places) v r → Runs (drawn_along w draws places) (record w { core = v }) r
 solid_along_runs w draws places v r h k =
     rw (solid_along w draws places (shape_solid w.style.kind w.style.own _ h)) (with_runs w _ v r k)
 
 -- a step whose path is one line
-abbrev pub IsLine : World → Step → Type 0
+abbrev pub IsLine : FullWorld → Step → Type 0
 IsLine w t = step_path w t ≡ along (places_of w t) (step_path w t).draws (step_path w t).ends
 
-ended_with : (w : World) (s : State) (o : Option core.World) → ended_in s (with_core w o) ≡ with_core w (core.ends_in s o)
+ended_with : (w : FullWorld) (s : State) (o : Option core.World) → ended_in s (with_core w o) ≡ with_core w (core.ends_in s o)
 ended_with w s None = refl
 ended_with w s (Some c) = refl
 
-pub solid_line : (w : World) (t : Step) → IsLine w t → shape_in w ≡ Solid → line_step w t ≡ with_core w (core.step w.core t)
+pub solid_line : (w : FullWorld) (t : Step) → IsLine w t → shape_in w ≡ Solid → line_step w t ≡ with_core w (core.step w.core t)
 unfolding line_step
 solid_line w t l h =
     let p : Line = record { places = places_of w t; draws = (step_path w t).draws; ends = (step_path w t).ends } in
     let s = state_after w t in
-    ap (λ (o : Option World). ended_in s o) (solid_along w p.draws p.places h)
+    ap (λ (o : Option FullWorld). ended_in s o) (solid_along w p.draws p.places h)
     ∙ ended_with w s (core.travelled w.core p.draws p.places)
     ∙ ap (λ (o : Option core.World). with_core w o) (sym (step_along w.core t p l))
 
-pub solid_runs : {U : Type 0} (w : World) (t : Step) (v : core.World) (r : Result U Stop) → IsLine w t → is_solid w.style.kind ≡ true
+pub solid_runs : {U : Type 0} (w : FullWorld) (t : Step) (v : core.World) (r : Result U Stop) → IsLine w t → is_solid w.style.kind ≡ true
     → core.Runs (core.step w.core t) v r → Runs (line_step w t) (record w { core = v }) r
 solid_runs w t v r l h k =
     rw (solid_line w t l (shape_solid w.style.kind w.style.own _ h)) (with_runs w (core.step w.core t) v r k)
 
 -- a step with this path
-pub line_by : (w : World) (t : Step) (draws : Bool) (places : List Spot) (end : Position) → step_path w t ≡ along places draws end
+pub line_by : (w : FullWorld) (t : Step) (draws : Bool) (places : List Spot) (end : Position) → step_path w t ≡ along places draws end
     → line_step w t ≡ ended_in (state_after w t) (drawn_along w draws places)
 unfolding line_step
 line_by w t draws places end e = rw e refl
 
 -- a figure after which the pen is where it was
-still_in : (b : Bool) (w v : World) → v.core.state ≡ w.core.state → ended_in w.core.state (if b then Some v else None) ≡ (if b then Some v else None)
-still_in true w v h = ap (λ (s : State). Some (ended_by v s)) (sym h)
+still_in : (b : Bool) (w v : FullWorld) → v.core.state ≡ w.core.state → ended_in w.core.state (if b then Some v else None) ≡ (if b then Some v else None)
+still_in true w v h = ap (λ (s : State). Some (with_state v s)) (sym h)
 still_in false w v h = refl
 
-pub still_by : (w : World) (t : Step) (draws : Bool) (places : List Spot) (end : Position) → step_path w t ≡ along places draws end
+pub still_by : (w : FullWorld) (t : Step) (draws : Bool) (places : List Spot) (end : Position) → step_path w t ≡ along places draws end
     → state_after w t ≡ w.core.state → line_step w t ≡ drawn_along w draws places
 still_by w t draws places end e h =
     line_by w t draws places end e
     ∙ ap (λ (s : State). ended_in s (drawn_along w draws places)) h
-    ∙ still_in (are_in_range places) w (drawn w (lines_along w.core.state draws places)) refl
+    ∙ still_in (are_in_range places) w (drawn_in_type w (lines_along w.core.state draws places)) refl
 
-pub traced_by : (w : World) (t : Step) (draws : Bool) (places : List Spot) (end : Position) → step_path w t ≡ along places draws end
-    → trace_step w t ≡ (if are_in_range places then Some (record (ended_by w (state_after w t)) { buffer = traced w t places }) else None)
+pub traced_by : (w : FullWorld) (t : Step) (draws : Bool) (places : List Spot) (end : Position) → step_path w t ≡ along places draws end
+    → trace_step w t ≡ (if are_in_range places then Some (record (with_state w (state_after w t)) { buffer = traced w t places }) else None)
 unfolding trace_step
 traced_by w t draws places end e = rw e refl
 
 -- one place
-pub along_one : (w : World) (draws : Bool) (a : Spot) → IsInRange a → drawn_along w draws (a ∷ []) ≡ Some w
-along_one w true a h = rw (within a h) (ap (λ (u : World). Some u) (none_drawn w))
-along_one w false a h = rw (within a h) (ap (λ (u : World). Some u) (none_drawn w))
+pub along_one : (w : FullWorld) (draws : Bool) (a : Spot) → IsInRange a → drawn_along w draws (a ∷ []) ≡ Some w
+along_one w true a h = rw (within a h) (ap (λ (u : FullWorld). Some u) (none_drawn w))
+along_one w false a h = rw (within a h) (ap (λ (u : FullWorld). Some u) (none_drawn w))
 
 -- a place that core finds out of range
 out_is : (c : core.World) (draws : Bool) (a : Spot) → core.travelled c draws (a ∷ []) ≡ None → is_in_range a ≡ false
@@ -111,46 +111,46 @@ out_is c draws a k = elim (cases_Bool (is_in_range a)) [
   | inr i ↦ i
 ]
 
-pub along_out : (w : World) (draws : Bool) (a : Spot) (rest : List Spot) → core.travelled w.core draws (a ∷ []) ≡ None → drawn_along w draws (a ∷ rest) ≡ None
+pub along_out : (w : FullWorld) (draws : Bool) (a : Spot) (rest : List Spot) → core.travelled w.core draws (a ∷ []) ≡ None → drawn_along w draws (a ∷ rest) ≡ None
 along_out w draws a rest k = rw (out_is w.core draws a k) refl
 
 -- two places: one line, if it is drawn
 has_a_pen : (s : State) → nat_eq (by_a_pen s).pen 0 ≡ false
 has_a_pen s = grind (arith, nat_tests)
 
-pub along_two : (w : World) (draws : Bool) (a b : Spot) → IsInRange a → IsInRange b
-    → drawn_along w draws (a ∷ (b ∷ [])) ≡ Some (drawn w (if draws then stroke (by_a_pen w.core.state) a b ∷ [] else []))
+pub along_two : (w : FullWorld) (draws : Bool) (a b : Spot) → IsInRange a → IsInRange b
+    → drawn_along w draws (a ∷ (b ∷ [])) ≡ Some (drawn_in_type w (if draws then stroke (by_a_pen w.core.state) a b ∷ [] else []))
 along_two w true a b h k = rw (within a h, within b k, has_a_pen w.core.state) refl
 along_two w false a b h k = rw (within a h, within b k) refl
 
-pub along_two_out : (w : World) (draws : Bool) (a b : Spot) → core.travelled w.core draws (b ∷ []) ≡ None → drawn_along w draws (a ∷ (b ∷ [])) ≡ None
+pub along_two_out : (w : FullWorld) (draws : Bool) (a b : Spot) → core.travelled w.core draws (b ∷ []) ≡ None → drawn_along w draws (a ∷ (b ∷ [])) ≡ None
 along_two_out w draws a b k = elim (cases_Bool (is_in_range a)) [
   | inl i ↦ rw (i, out_is w.core draws b k) refl
   | inr i ↦ rw i refl
 ]
 
 -- the first line, and the rest
-more_lines : (w : World) (draws : Bool) (a b : Spot) (rest : List Spot)
-    → drawn w (lines_along w.core.state draws (a ∷ (b ∷ rest)))
-    ≡ drawn (drawn w (lines_along w.core.state draws (a ∷ (b ∷ [])))) (lines_along w.core.state draws (b ∷ rest))
+more_lines : (w : FullWorld) (draws : Bool) (a b : Spot) (rest : List Spot)
+    → drawn_in_type w (lines_along w.core.state draws (a ∷ (b ∷ rest)))
+    ≡ drawn_in_type (drawn_in_type w (lines_along w.core.state draws (a ∷ (b ∷ [])))) (lines_along w.core.state draws (b ∷ rest))
 more_lines w true a b rest =
     let s = by_a_pen w.core.state in
-    rw (append-nil (strokes.drawn s a b)) (drawn-append w (strokes.drawn s a b) (joined s (b ∷ rest)))
-more_lines w false a b rest = sym (none_drawn (drawn w []))
+    rw (append-nil (strokes.drawn s a b)) (drawn_in_type-append w (strokes.drawn s a b) (joined s (b ∷ rest)))
+more_lines w false a b rest = sym (none_drawn (drawn_in_type w []))
 
-pub along_more : (w v : World) (draws : Bool) (a b : Spot) (rest : List Spot) → drawn_along w draws (a ∷ (b ∷ [])) ≡ Some v
+pub along_more : (w v : FullWorld) (draws : Bool) (a b : Spot) (rest : List Spot) → drawn_along w draws (a ∷ (b ∷ [])) ≡ Some v
     → drawn_along w draws (a ∷ (b ∷ rest)) ≡ drawn_along v draws (b ∷ rest)
 along_more w v draws a b rest h = elim (cases_Bool (is_in_range a)) [
   | inr s ↦ absurd (none-some v (rw s at h))
   | inl s ↦ elim (cases_Bool (is_in_range b)) [
     | inr t ↦ absurd (none-some v (rw (s, t) at h))
     | inl t ↦ (let e = same_Some _ _ (rw (s, t) at h) in
-        subst (λ (u : World). drawn_along w draws (a ∷ (b ∷ rest)) ≡ drawn_along u draws (b ∷ rest)) e
-        (rw (s, t) (ap (λ (u : World). if are_in_range rest then Some u else None) (more_lines w draws a b rest))))
+        subst (λ (u : FullWorld). drawn_along w draws (a ∷ (b ∷ rest)) ≡ drawn_along u draws (b ∷ rest)) e
+        (rw (s, t) (ap (λ (u : FullWorld). if are_in_range rest then Some u else None) (more_lines w draws a b rest))))
   ]
 ]
 
-pub along_never : (w : World) (draws : Bool) (a b : Spot) (rest : List Spot) → drawn_along w draws (a ∷ (b ∷ [])) ≡ None
+pub along_never : (w : FullWorld) (draws : Bool) (a b : Spot) (rest : List Spot) → drawn_along w draws (a ∷ (b ∷ [])) ≡ None
     → drawn_along w draws (a ∷ (b ∷ rest)) ≡ None
 along_never w draws a b rest h = elim (cases_Bool (is_in_range a)) [
   | inr s ↦ rw s refl
@@ -161,20 +161,20 @@ along_never w draws a b rest h = elim (cases_Bool (is_in_range a)) [
 ]
 
 -- lines leave the page and the state as they are
-pub record Keeps (w v : World) : Type 0 where
+pub record Keeps (w v : FullWorld) : Type 0 where
   pub page_is : v.core.page ≡ w.core.page
   pub state_is : v.core.state ≡ w.core.state
 
-pub along_keeps : (w v : World) (draws : Bool) (places : List Spot) → drawn_along w draws places ≡ Some v → Keeps w v
+pub along_keeps : (w v : FullWorld) (draws : Bool) (places : List Spot) → drawn_along w draws places ≡ Some v → Keeps w v
 along_keeps w v draws places k = elim (cases_Bool (are_in_range places)) [
   | inl i ↦ (let same = same_Some _ _ (rw i at k) in
-      record { page_is = sym (ap (λ (x : World). x.core.page) same); state_is = sym (ap (λ (x : World). x.core.state) same) })
+      record { page_is = sym (ap (λ (x : FullWorld). x.core.page) same); state_is = sym (ap (λ (x : FullWorld). x.core.state) same) })
   | inr i ↦ absurd (none-some v (rw i at k))
 ]
 
-pub along_shape : (w v : World) (draws : Bool) (places : List Spot) → drawn_along w draws places ≡ Some v → shape_in v ≡ shape_in w
+pub along_shape : (w v : FullWorld) (draws : Bool) (places : List Spot) → drawn_along w draws places ≡ Some v → shape_in v ≡ shape_in w
 along_shape w v draws places k = elim (cases_Bool (are_in_range places)) [
-  | inl i ↦ sym (ap (λ (x : World). shape_in x) (same_Some _ _ (rw i at k)))
+  | inl i ↦ sym (ap (λ (x : FullWorld). shape_in x) (same_Some _ _ (rw i at k)))
   | inr i ↦ absurd (none-some v (rw i at k))
 ]
 
@@ -206,7 +206,7 @@ travelled_in c d draws places k = elim (cases_Bool (are_in_range places)) [
   | inr i ↦ absurd (none-some d (rw i at k))
 ]
 
-pub along_in : (w v : World) (draws : Bool) (places : List Spot) → drawn_along w draws places ≡ Some v → are_in_range places ≡ true
+pub along_in : (w v : FullWorld) (draws : Bool) (places : List Spot) → drawn_along w draws places ≡ Some v → are_in_range places ≡ true
 along_in w v draws places k = elim (cases_Bool (are_in_range places)) [
   | inl i ↦ i
   | inr i ↦ absurd (none-some v (rw i at k))
@@ -223,7 +223,7 @@ not_passed c draws places k = elim (cases_Bool (are_in_range places)) [
 ]
 
 -- one line more of those along a list of places
-pub one_along : (w v : World) (draws : Bool) (a d : Spot) (places : List Spot) (i : ℕ) → i < length places
+pub one_along : (w v : FullWorld) (draws : Bool) (a d : Spot) (places : List Spot) (i : ℕ) → i < length places
     → drawn_along w draws (a ∷ (slice_index_or places i d ∷ [])) ≡ Some v
     → drawn_along v draws (slice_index_or places i d ∷ drop (i + 1) places) ≡ drawn_along w draws (a ∷ drop i places)
 one_along w v draws a d places i h k =

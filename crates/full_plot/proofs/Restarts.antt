@@ -6,14 +6,14 @@ use Rattle.hpgl_text.specs.declared.instruction.Instruction.TheVariants.{Initial
 use Rattle.hpgl_plot.specs.Machine.{step}
 use Rattle.full_plot.specs.Items.{taken}
 use Rattle.full_plot.specs.Laws.{InitializeRestarts, started_again}
-use Rattle.full_plot.specs.Worlds.{World}
+use Rattle.full_plot.specs.Worlds.{FullWorld}
 
-by_in : (in_polygon : Bool) (w : World) (ns : List ℤ) → w.context.in_polygon ≡ in_polygon → taken w (Params Initialize ns) ≡ Some (started_again w)
+by_in : (in_polygon : Bool) (w : FullWorld) (ns : List ℤ) → w.context.in_polygon ≡ in_polygon → taken w (Params Initialize ns) ≡ Some (started_again w)
 unfolding step
 by_in true w ns on = rw on refl
 by_in false w ns on = rw on refl
 
-by_bp : (in_polygon : Bool) (w : World) (ns : List ℤ) → w.context.in_polygon ≡ in_polygon → taken w (Further BeginPlot ns) ≡ Some (started_again w)
+by_bp : (in_polygon : Bool) (w : FullWorld) (ns : List ℤ) → w.context.in_polygon ≡ in_polygon → taken w (Further BeginPlot ns) ≡ Some (started_again w)
 unfolding step
 by_bp true w ns on = rw on refl
 by_bp false w ns on = rw on refl

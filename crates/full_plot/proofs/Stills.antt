@@ -10,7 +10,7 @@ use Rattle.hpgl_text.specs.declared.instruction.Instruction.TheVariants.{Initial
 use Rattle.plot_frame.specs.declared.pair.Pair.{Pair}
 use Rattle.plot_frame.specs.declared.scaling.Range.{Range}
 use Rattle.plot_settings.specs.Meanings.{Step, Set, DrawCircle, DrawArc, asks, edges, entry_steps, lowered_then, meaning, moves, part_steps, sets}
-use Rattle.plot_settings.specs.Parameters.{anisotropic, arced, circled, isotropic_by, pen_colour, pen_width, point_factor, ranges_of, rotated, rotation_set, scaling_of_type, scaling_points, selected_pen, user_scaling, when, whole_of, window_corners}
+use Rattle.plot_settings.specs.Parameters.{anisotropic, arced, circled, isotropic_by, pen_colour_setting, pen_width_setting, point_factor, ranges_of, rotated, rotation_set, scaling_of_type, scaling_points, selected_pen, user_scaling, when, whole_of, window_corners}
 use Rattle.plot_settings.specs.declared.figure.Arc.{Arc}
 use Rattle.plot_settings.specs.declared.figure.Circle as circle
 use Rattle.plot_settings.specs.declared.setting.Rotation.TheVariants as rotation
@@ -89,12 +89,12 @@ pen_still : (ns : List ℤ) → StillIn (selected_pen ns)
 pen_still [] = (λ d page s h. h, tt)
 pen_still (n ∷ ns) = when_still _ _ (λ d page s h. h, tt)
 
-width_still : (ns : List ℤ) → StillIn (pen_width ns)
+width_still : (ns : List ℤ) → StillIn (pen_width_setting ns)
 width_still [] = (λ d page s h. h, tt)
 width_still (n ∷ []) = when_still _ _ (λ d page s h. h, tt)
 width_still (n ∷ (p ∷ ns)) = when_still _ _ (λ d page s h. h, tt)
 
-colour_still : (ns : List ℤ) → StillIn (pen_colour ns)
+colour_still : (ns : List ℤ) → StillIn (pen_colour_setting ns)
 colour_still [] = (λ d page s h. h, tt)
 colour_still (p ∷ []) = when_still _ _ (λ d page s h. h, tt)
 colour_still (p ∷ (r ∷ [])) = tt
@@ -144,8 +144,8 @@ params_still Scale ns h = sets_still (user_scaling ns) (scaling_still ns)
 params_still Rotate ns h = sets_still (rotated ns) (rotated_still ns)
 params_still InputWindow ns h = sets_still (window_corners ns) (window_still ns)
 params_still SelectPen ns h = sets_still (selected_pen ns) (pen_still ns)
-params_still PenWidth ns h = sets_still (pen_width ns) (width_still ns)
-params_still PenColour ns h = sets_still (pen_colour ns) (colour_still ns)
+params_still PenWidth ns h = sets_still (pen_width_setting ns) (width_still ns)
+params_still PenColour ns h = sets_still (pen_colour_setting ns) (colour_still ns)
 params_still PenUp ns h = ((λ d page s h. h, tt), moves_still ns)
 params_still PenDown ns h = lowered_still (moves ns) (moves_still ns)
 params_still PlotAbsolute ns h = ((λ d page s h. h, tt), moves_still ns)

@@ -1,6 +1,6 @@
 -- Numbers of PW and DI.
 use Rattle.std.proofs.Common.{◌≡◌, ℤ, List, [], take, ◌∷◌, refl}
-use Rattle.full_settings.specs.LetterParameters.{direction}
+use Rattle.full_settings.specs.LetterParameters.{letter_direction}
 use Rattle.full_settings.specs.WidthParameters.{percent_width}
 
 -- further numbers of a PW in percent are not read
@@ -10,7 +10,7 @@ first_numbers (n ∷ []) = refl
 first_numbers (n ∷ (p ∷ ns)) = refl
 
 -- nor are those of a DI
-pub first_direction : (ns : List ℤ) → direction (take 7 ns) ≡ direction ns
+pub first_direction : (ns : List ℤ) → letter_direction (take 7 ns) ≡ letter_direction ns
 first_direction [] = refl
 first_direction (x ∷ []) = refl
 first_direction (x ∷ (y ∷ ns)) = refl

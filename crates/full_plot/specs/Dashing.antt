@@ -15,11 +15,11 @@ abbrev pub to_of : Segment → Spot
 to_of s = record { x = s.bx; y = s.by }
 
 -- a dash of a line, with the line's pen, colour, width and window
-abbrev pub part_of : Segment → Spot × Spot → Segment
-part_of s d = record s { ax = d.0.x; ay = d.0.y; bx = d.1.x; by = d.1.y }
+abbrev pub dash_of : Segment → Spot × Spot → Segment
+dash_of s d = record s { ax = d.0.x; ay = d.0.y; bx = d.1.x; by = d.1.y }
 
-abbrev pub parts_of : LineShape → Option Run → Segment → List Segment
-parts_of shape run s = map (part_of s) (dashes_of shape run (from_of s) (to_of s))
+abbrev pub dash_segments : LineShape → Option Run → Segment → List Segment
+dash_segments shape run s = map (dash_of s) (dashes_of shape run (from_of s) (to_of s))
 
 abbrev pub run_past : LineShape → Option Run → Segment → Option Run
 run_past shape run s = run_after shape run (from_of s) (to_of s)
@@ -27,7 +27,7 @@ run_past shape run s = run_after shape run (from_of s) (to_of s)
 -- the dashes of lines, one line after another
 abbrev pub dashed : LineShape → Option Run → List Segment → List Segment
 dashed shape run [] = []
-dashed shape run (s ∷ rest) = parts_of shape run s ++ dashed shape (run_past shape run s) rest
+dashed shape run (s ∷ rest) = dash_segments shape run s ++ dashed shape (run_past shape run s) rest
 
 -- the run that these lines leave
 abbrev pub run_through : LineShape → Option Run → List Segment → Option Run

@@ -19,13 +19,13 @@ use Rattle.full_settings.specs.Characters.{usual_characters}
 use Rattle.full_settings.specs.LineStyles.{usual_style}
 use Rattle.full_settings.specs.Widths.{all_percents}
 use Rattle.full_notes.specs.Contexts.{first_context}
-use Rattle.full_plot.specs.Worlds.{World, usual_area, usual_writing}
-use Rattle.polygons.specs.Buffers.{empty}
+use Rattle.full_plot.specs.Worlds.{FullWorld, usual_area, usual_writing}
+use Rattle.polygons.specs.Buffers.{empty_buffer}
 use Rattle.full_plot.specs.Machine.{ends_with}
 
 -- before the first item, if texts are read by the sets that the plot chooses
-abbrev pub at_start : Page → World
-at_start page = record {
+abbrev pub full_at_start : Page → FullWorld
+full_at_start page = record {
   core = core.at_start page;
   context = first_context;
   style = usual_style;
@@ -36,55 +36,55 @@ at_start page = record {
   writing = usual_writing;
   margin = (core.at_start page).state.place;
   area = usual_area;
-  buffer = empty;
+  buffer = empty_buffer;
   extra = 0;
   ends = [];
 }
 
 -- with texts read as the user says, and the pens of a carousel
-abbrev pub at_start_with : Encoding → Carousel → Page → World
-at_start_with encoding carousel page =
-    record (at_start page) { core = core.at_start_with carousel page; encoding = encoding }
+abbrev pub full_at_start_with : Encoding → Carousel → Page → FullWorld
+full_at_start_with encoding carousel page =
+    record (full_at_start page) { core = core.at_start_with carousel page; encoding = encoding }
 
 -- there were more strokes than may be kept, or those that are kept are too many with the work that counts besides, or
 -- the buffer has as many places
-abbrev pub is_too_much : World → Bool
+abbrev pub is_too_much : FullWorld → Bool
 is_too_much w =
     w.core.full || (nat_lt MOST_STROKES (length w.core.kept + w.extra) || nat_lt MOST_STROKES w.buffer.places)
 
 -- the items, one after another, up to the first refusal: a place out of range, or else a stroke too many
-abbrev pub ended : Option World → ℕ → (World → Result World PlotFault) → Result World PlotFault
-ended None at go = Err (fault.OffRange at)
-ended (Some w) at go = if is_too_much w then Err (fault.TooManyStrokes at) else go w
+abbrev pub full_ended : Option FullWorld → ℕ → (FullWorld → Result FullWorld PlotFault) → Result FullWorld PlotFault
+full_ended None at go = Err (fault.OffRange at)
+full_ended (Some w) at go = if is_too_much w then Err (fault.TooManyStrokes at) else go w
 
-abbrev pub runs : World → List ItemShape → Result World PlotFault
-runs w [] = Ok w
-runs w (i ∷ more) = ended (taken w i.body) i.at (λ (v : World). runs v more)
+abbrev pub full_runs : FullWorld → List ItemShape → Result FullWorld PlotFault
+full_runs w [] = Ok w
+full_runs w (i ∷ more) = full_ended (taken w i.body) i.at (λ (v : FullWorld). full_runs v more)
 
-abbrev pub outcome : Page → List ℕ → Result World PlotFault
-outcome page plot = runs (at_start page) (cut_by Full plot)
+abbrev pub outcome : Page → List ℕ → Result FullWorld PlotFault
+outcome page plot = full_runs (full_at_start page) (cut_by Full plot)
 
-abbrev pub outcome_with : Encoding → Carousel → Page → List ℕ → Result World PlotFault
-outcome_with encoding carousel page plot = runs (at_start_with encoding carousel page) (cut_by Full plot)
+abbrev pub outcome_with : Encoding → Carousel → Page → List ℕ → Result FullWorld PlotFault
+outcome_with encoding carousel page plot = full_runs (full_at_start_with encoding carousel page) (cut_by Full plot)
 
 -- the refusal of a plot, or None if it is accepted
-abbrev pub refusal_in : Result World PlotFault → Option PlotFault
+abbrev pub refusal_in : Result FullWorld PlotFault → Option PlotFault
 refusal_in (Ok w) = None
 refusal_in (Err fault) = Some fault
 
 -- memory aside, the fault is the plot's refusal
-abbrev pub Explains : PlotFault → Result World PlotFault → Type 0
+abbrev pub Explains : PlotFault → Result FullWorld PlotFault → Type 0
 Explains fault.Memory o = ⊤
 Explains (fault.OffRange at) o = refusal_in o ≡ Some (fault.OffRange at)
 Explains (fault.TooManyStrokes at) o = refusal_in o ≡ Some (fault.TooManyStrokes at)
 
 -- the strokes of all sheets
-abbrev pub strokes_in : Result World PlotFault → List Segment
+abbrev pub strokes_in : Result FullWorld PlotFault → List Segment
 strokes_in (Ok w) = w.core.kept
 strokes_in (Err fault) = []
 
 -- where sheets end
-abbrev pub ends_in : Result World PlotFault → List ℕ
+abbrev pub ends_in : Result FullWorld PlotFault → List ℕ
 ends_in (Ok w) = w.ends
 ends_in (Err fault) = []
 

@@ -26,9 +26,9 @@ use Rattle.full_settings.specs.declared.fill_setting.FillKind.TheVariants.{Solid
 use Rattle.full_settings.specs.LineStyles.{diagonal}
 use Rattle.full_plot.specs.declared.fills.Ink.{Ink}
 use Rattle.full_plot.specs.declared.fills.Ink.TheVariants.{Width, Line}
-use Rattle.full_plot.specs.Lines.{drawn}
+use Rattle.full_plot.specs.Lines.{drawn_in_type}
 use Rattle.full_plot.specs.Work.{worked}
-use Rattle.full_plot.specs.Worlds.{World, page_origin}
+use Rattle.full_plot.specs.Worlds.{FullWorld, page_origin}
 
 abbrev pub rule_by : Bool → Rule
 rule_by by_winding = if by_winding then Winding else OddCounts
@@ -57,61 +57,61 @@ abbrev pub spacing_on : Axis → ℕ → ℤ
 spacing_on a spacing = round (quotient (pos (256 * (nat_abs a.slope * spacing))) a.under)
 
 -- the spacing of FT, along x, or by spacing 0 one percent of the distance from P1 to P2
-abbrev pub spacing_in : World → ℤ
+abbrev pub spacing_in : FullWorld → ℤ
 spacing_in w =
     let s = w.core.state in
     if nat_eq w.area.fill.spacing 0 then pos (length_by_percent (diagonal s.frame.points) 1000000)
     else spacing_on (line_in w.core.page s.frame X) w.area.fill.spacing
 
 -- the distance of lines of hatching: the spacing, but lines are no denser than half the pen's width
-abbrev pub hatching_distance : World → ℕ
+abbrev pub hatching_distance : FullWorld → ℕ
 hatching_distance w =
     let s = w.core.state in cut_distance (int_max (spacing_in w) (pos (128 * pen_width s)))
 
 -- RO turns hatching
-abbrev pub turn_of : Rotation → ℤ
-turn_of rotation.None = pos 0
-turn_of rotation.Quarter = pos 90000
-turn_of rotation.Half = pos 180000
-turn_of rotation.ThreeQuarters = pos 270000
+abbrev pub hatching_turn : Rotation → ℤ
+hatching_turn rotation.None = pos 0
+hatching_turn rotation.Quarter = pos 90000
+hatching_turn rotation.Half = pos 180000
+hatching_turn rotation.ThreeQuarters = pos 270000
 
-abbrev pub hatching_lines : World → ℤ → Lines
+abbrev pub hatching_lines : FullWorld → ℤ → Lines
 hatching_lines w more =
-    lines_at (pos w.area.fill.angle +ℤ turn_of w.core.state.frame.rotation +ℤ more) (hatching_distance w) w.area.anchor
+    lines_at (pos w.area.fill.angle +ℤ hatching_turn w.core.state.frame.rotation +ℤ more) (hatching_distance w) w.area.anchor
 
 -- the line of a span, whatever pen is selected
 abbrev pub span_stroke : State → Span → Segment
 span_stroke s p = stroke (by_a_pen s) p.from p.to
 
-abbrev pub with_stroke : World → Segment → World
+abbrev pub with_stroke : FullWorld → Segment → FullWorld
 with_stroke w l = record w { core = core.with_strokes w.core w.core.state (l ∷ []) }
 
 -- a span of a fill as a stroke of this width
-abbrev pub inked_span : ℕ → World → Span → World
+abbrev pub inked_span : ℕ → FullWorld → Span → FullWorld
 inked_span width w p = with_stroke w (record (span_stroke w.core.state p) { width = width })
 
 -- a line that gives no stroke counts as work
-abbrev pub counted : World → World → World
+abbrev pub counted : FullWorld → FullWorld → FullWorld
 counted before after = if nat_eq (length after.core.kept) (length before.core.kept) then worked 1 after else after
 
 -- a span of a fill as a line in the line type
-abbrev pub lined_span : World → Span → World
-lined_span w p = counted w (drawn w (span_stroke w.core.state p ∷ []))
+abbrev pub lined_span : FullWorld → Span → FullWorld
+lined_span w p = counted w (drawn_in_type w (span_stroke w.core.state p ∷ []))
 
 -- spans one after another; nothing more is drawn when there is too much
-abbrev pub unless : Bool → World → World → World
+abbrev pub unless : Bool → FullWorld → FullWorld → FullWorld
 unless true w v = w
 unless false w v = v
 
-abbrev pub with_span : Ink → World → Span → World
+abbrev pub with_span : Ink → FullWorld → Span → FullWorld
 with_span (Width width) w p = inked_span width w p
 with_span Line w p = lined_span w p
 
-abbrev pub over_spans : Ink → World → List Span → World
+abbrev pub over_spans : Ink → FullWorld → List Span → FullWorld
 over_spans ink w [] = w
 over_spans ink w (p ∷ ps) = unless w.core.full w (over_spans ink (with_span ink w p) ps)
 
-abbrev pub over_lines : Ink → World → Rule → Lines → World
+abbrev pub over_lines : Ink → FullWorld → Rule → Lines → FullWorld
 over_lines ink w rule lines = over_spans ink w (spans lines rule w.buffer.edges)
 
 -- the edges of the buffer as spans
@@ -119,30 +119,30 @@ abbrev pub edge_span : Edge → Span
 edge_span e = record { from = e.from; to = e.to }
 
 -- solid: lines and edges of width 0
-abbrev pub edges_inked : World → World
+abbrev pub edges_inked : FullWorld → FullWorld
 edges_inked w = over_spans (Width 0) w (map edge_span w.buffer.edges)
 
-abbrev pub solid_filled : Rule → World → World
+abbrev pub solid_filled : Rule → FullWorld → FullWorld
 solid_filled rule w = edges_inked (over_lines (Width 0) w rule solid_lines)
 
-abbrev pub shaded : Rule → World → World
+abbrev pub shaded : Rule → FullWorld → FullWorld
 shaded rule w =
     let level = w.area.fill.level in
     if nat_eq level 0 then w else
     if nat_eq level 100000000 then solid_filled rule w else
     over_lines (Width 224) w rule (shading_lines level)
 
-abbrev pub hatched : Rule → ℤ → World → World
+abbrev pub hatched : Rule → ℤ → FullWorld → FullWorld
 hatched rule more w = over_lines Line w rule (hatching_lines w more)
 
-abbrev pub filled_by : FillKind → Rule → World → World
+abbrev pub filled_by : FillKind → Rule → FullWorld → FullWorld
 filled_by Solid rule w = solid_filled rule w
 filled_by Hatched rule w = hatched rule (pos 0) w
 filled_by CrossHatched rule w = hatched rule (pos 90000) (hatched rule (pos 0) w)
 filled_by Shaded rule w = shaded rule w
 
 -- FP: the places in the buffer count as work; pen 0 draws nothing
-abbrev pub filled : Bool → World → World
-filled by_winding w =
+abbrev pub area_filled : Bool → FullWorld → FullWorld
+area_filled by_winding w =
     let v = worked w.buffer.places w in
     if nat_eq v.core.state.pen 0 then v else filled_by v.area.fill.kind (rule_by by_winding) v

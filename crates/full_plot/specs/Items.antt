@@ -15,11 +15,11 @@ use Rattle.full_settings.specs.declared.letter_setting.LetterSetting.TheVariants
 use Rattle.full_settings.specs.declared.width_setting.WidthSetting.{WidthSetting}
 use Rattle.full_settings.specs.ColourRanges.{pen_colour_in}
 use Rattle.full_settings.specs.CurveParameters.{curve_points}
-use Rattle.full_settings.specs.LetterParameters.{direction}
+use Rattle.full_settings.specs.LetterParameters.{letter_direction}
 use Rattle.full_settings.specs.WidthParameters.{percent_width}
 use Rattle.full_notes.specs.Contexts.{Context, read_in, request_in}
 use Rattle.full_notes.specs.Notes.{context_after}
-use Rattle.full_plot.specs.Worlds.{World}
+use Rattle.full_plot.specs.Worlds.{FullWorld}
 use Rattle.full_plot.specs.Machine.{FullStep, Core, Style, Restyle, Restart, Widen, Rewiden, PointsBy, Letter}
 use Rattle.full_plot.specs.Machine.{CharactersBy, Mark}
 use Rattle.full_plot.specs.Machine.{Keep, Print, Place, TickBy, Tick, ArcThrough, Curve, PolygonBy, EdgeBuffer}
@@ -69,7 +69,7 @@ more_steps Initialize ns = Restart ∷ []
 more_steps DefaultValues ns = Restyle ∷ []
 more_steps InputPoints ns = if (meaning InputPoints ns).is_wrong then [] else Rewiden ∷ []
 more_steps CharacterSize ns = if (meaning CharacterSize ns).is_wrong then [] else Letter (size_by ns) ∷ []
-more_steps Direction ns = letters_steps (direction ns)
+more_steps Direction ns = letters_steps (letter_direction ns)
 more_steps _ ns = []
 
 -- steps of core
@@ -98,6 +98,6 @@ full_steps c (Symbol byte) = Mark byte ∷ []
 full_steps c body = as_core (body_steps body)
 
 -- an item is read by the context before it, and makes its steps in the one after it
-abbrev pub taken : World → BodyShape → Option World
+abbrev pub taken : FullWorld → BodyShape → Option FullWorld
 taken w body =
     run (record w { context = context_after w.context body }) (full_steps w.context (read_in w.context body))

@@ -17,8 +17,8 @@ use Rattle.hpgl_plot.specs.Machine as core
 use Rattle.hpgl_plot.specs.Strokes.{strokes, strokes_with, refusal, refusal_with}
 use Rattle.hpgl_plot.specs.Notes as noting
 use Rattle.full_settings.specs.Characters.{usual_characters}
-use Rattle.full_plot.specs.Drawings.{at_start, at_start_with, runs, refusal_in, strokes_in, ends_in}
-use Rattle.full_plot.specs.Worlds.{World}
+use Rattle.full_plot.specs.Drawings.{full_at_start, full_at_start_with, full_runs, refusal_in, strokes_in, ends_in}
+use Rattle.full_plot.specs.Worlds.{FullWorld}
 use Rattle.full_notes.specs.Notes.{body_noted, context_after, notes}
 use Rattle.full_plot.specs.Items.{taken}
 
@@ -42,29 +42,29 @@ abbrev pub IsCoreItem : ItemShape → Type 0
 IsCoreItem i = is_core_body i.body ≡ true
 
 -- what core has of a plot in the profile full
-abbrev pub core_part : Result World PlotFault → Result core.World PlotFault
+abbrev pub core_part : Result FullWorld PlotFault → Result core.World PlotFault
 core_part (Ok w) = Ok w.core
 core_part (Err fault) = Err fault
 
 -- one item after another
 abbrev pub CoreRunsAsInCore : Type 0
 CoreRunsAsInCore = (page : Page) (items : List ItemShape) → All IsCoreItem items
-    → core_part (runs (at_start page) items) ≡ core.runs (core.at_start page) items
+    → core_part (full_runs (full_at_start page) items) ≡ core.runs (core.at_start page) items
 
 -- the whole of a plot: it has this refusal, or else these strokes, on one sheet
-abbrev pub Draws : Result World PlotFault → Option PlotFault → List Segment → Type 0
+abbrev pub Draws : Result FullWorld PlotFault → Option PlotFault → List Segment → Type 0
 Draws r refused drawn = (refusal_in r ≡ refused) × (refused ≡ None → strokes_in r ≡ drawn) × (ends_in r ≡ [])
 
 abbrev pub CoreDrawsAsInCore : Type 0
 CoreDrawsAsInCore = (page : Page) (items : List ItemShape) → All IsCoreItem items
-    → Draws (runs (at_start page) items) (refusal page items) (strokes page items)
+    → Draws (full_runs (full_at_start page) items) (refusal page items) (strokes page items)
 
 -- the same with the same pens in both, if texts are read by a set that has ASCII, or as UTF-8
 abbrev pub CoreDrawsAsInCoreWith : Type 0
 CoreDrawsAsInCoreWith =
     (encoding : Encoding) (carousel : Carousel) (page : Page) (items : List ItemShape)
     → IsTrue (reads_ascii encoding usual_characters.sets) → All IsCoreItem items
-    → Draws (runs (at_start_with encoding carousel page) items)
+    → Draws (full_runs (full_at_start_with encoding carousel page) items)
     (refusal_with carousel page items) (strokes_with carousel page items)
 
 -- what is noted on them
@@ -84,13 +84,13 @@ draws_in_part _ = false
 
 -- any other item that is noted as bad does nothing
 abbrev pub BadItemsDoNothing : Type 0
-BadItemsDoNothing = (w : World) (i : ItemShape) → body_noted w.context i.body ≡ Some Bad → draws_in_part i.body ≡ false
+BadItemsDoNothing = (w : FullWorld) (i : ItemShape) → body_noted w.context i.body ≡ Some Bad → draws_in_part i.body ≡ false
     → taken w i.body ≡ Some w
 
 -- as at the start, but for the page, the carousel, the strokes, the ends of sheets and the work that counts; and for the
 -- widths in percent, which have no effect before widths are in percent again
-abbrev pub started_again : World → World
-started_again w = record (at_start w.core.page) {
+abbrev pub started_again : FullWorld → FullWorld
+started_again w = record (full_at_start w.core.page) {
   core = record w.core { state = (core.at_start_with w.core.state.carousel w.core.page).state };
   percents = w.percents;
   encoding = w.encoding;
@@ -100,10 +100,10 @@ started_again w = record (at_start w.core.page) {
 
 -- IN and BP
 abbrev pub InitializeRestarts : Type 0
-InitializeRestarts = (w : World) (ns : List ℤ)
+InitializeRestarts = (w : FullWorld) (ns : List ℤ)
     → (taken w (Params Initialize ns) ≡ Some (started_again w)) × (taken w (Further BeginPlot ns) ≡ Some (started_again w))
 
 -- the steps of an item leave the context that notes have after it
 abbrev pub NotesAreTold : Type 0
-NotesAreTold = (w v : World) (i : ItemShape) → runs w (i ∷ []) ≡ Ok v
+NotesAreTold = (w v : FullWorld) (i : ItemShape) → full_runs w (i ∷ []) ≡ Ok v
     → v.context ≡ context_after w.context i.body

@@ -10,10 +10,10 @@ use Rattle.hpgl_plot.specs.Strokes.{are_in_range, by_a_pen, joined}
 use Rattle.hpgl_plot.specs.Machine as core
 use Rattle.full_settings.specs.LineStyles.{shape_of}
 use Rattle.full_plot.specs.Dashing.{dashed, run_through}
-use Rattle.full_plot.specs.Worlds.{World}
+use Rattle.full_plot.specs.Worlds.{FullWorld}
 
 -- the line type, with P1 and P2 as they are now
-abbrev pub shape_in : World → LineShape
+abbrev pub shape_in : FullWorld → LineShape
 shape_in w = shape_of w.style w.core.state.frame.points
 
 -- the lines from each place to the next, whatever pen is selected
@@ -25,39 +25,39 @@ abbrev pub inked : State → List Segment → List Segment
 inked s strokes = if nat_eq s.pen 0 then [] else strokes
 
 -- these lines, in the line type
-abbrev pub drawn : World → List Segment → World
-drawn w lines = record w {
+abbrev pub drawn_in_type : FullWorld → List Segment → FullWorld
+drawn_in_type w lines = record w {
   core = core.with_strokes w.core w.core.state (inked w.core.state (dashed (shape_in w) w.run lines));
   run = run_through (shape_in w) w.run lines;
 }
 
 -- the lines along these places, in the line type: None if a place is out of range
-abbrev pub drawn_along : World → Bool → List Spot → Option World
+abbrev pub drawn_along : FullWorld → Bool → List Spot → Option FullWorld
 drawn_along w draws places =
-    if are_in_range places then Some (drawn w (lines_along w.core.state draws places)) else None
+    if are_in_range places then Some (drawn_in_type w (lines_along w.core.state draws places)) else None
 
-abbrev pub ended_by : World → State → World
-ended_by w s = record w { core = record w.core { state = s } }
+abbrev pub with_state : FullWorld → State → FullWorld
+with_state w s = record w { core = record w.core { state = s } }
 
-abbrev pub ended_in : State → Option World → Option World
+abbrev pub ended_in : State → Option FullWorld → Option FullWorld
 ended_in s None = None
-ended_in s (Some w) = Some (ended_by w s)
+ended_in s (Some w) = Some (with_state w s)
 
 -- the path of a move or a figure is one line
 abbrev pub first_line : List (List Spot) → List Spot
 first_line [] = []
 first_line (l ∷ ls) = l
 
-abbrev pub step_path : World → Step → Path
+abbrev pub step_path : FullWorld → Step → Path
 step_path w t = path w.core.page w.core.state t
 
 -- the places that a step passes
-abbrev pub places_of : World → Step → List Spot
+abbrev pub places_of : FullWorld → Step → List Spot
 places_of w t = first_line (step_path w t).lines
 
-abbrev pub state_after : World → Step → State
+abbrev pub state_after : FullWorld → Step → State
 state_after w t = core.after w.core.page w.core.state t
 
 -- a step whose line is drawn in the line type
-unfoldable pub line_step : World → Step → Option World
+unfoldable pub line_step : FullWorld → Step → Option FullWorld
 line_step w t = ended_in (state_after w t) (drawn_along w (step_path w t).draws (places_of w t))

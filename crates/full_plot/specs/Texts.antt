@@ -3,14 +3,14 @@ use Rattle.std.specs.Prelude.{ℕ, ◌^◌, nat_lt, List, [], ◌∷◌, length,
 use Rattle.std.specs.Prelude.{Option, Some, None, ℤ, pos, ◌+ℤ◌, neg_ℤ}
 use Rattle.std.specs.Int.{int_min, int_max}
 use Rattle.exact.specs.declared.spot.Spot.{Spot}
-use Rattle.directions.specs.Directions.{turned}
+use Rattle.directions.specs.Directions.{vector_turned}
 use Rattle.directions.specs.Laws.{right}
 use Rattle.directions.specs.declared.turn.Turn.{Turn}
 use Rattle.directions.specs.declared.turn.Turn.TheVariants as turn
 use Rattle.character_sets.specs.Texts.{signs}
 use Rattle.character_sets.specs.declared.sign.Sign.{Sign}
 use Rattle.lettering.specs.Cells.{cell_offset}
-use Rattle.lettering.specs.Labels.{label_strokes, label_end, margin_move}
+use Rattle.lettering.specs.Labels.{styled_label_strokes, styled_label_end, margin_move}
 use Rattle.lettering.specs.Letters.{centred}
 use Rattle.lettering.specs.Styles.{usual}
 use Rattle.lettering.specs.declared.style.Style.{Style}
@@ -26,7 +26,7 @@ use Rattle.full_settings.specs.declared.letter_setting.LetterSetting.TheVariants
 use Rattle.full_settings.specs.Characters.{characters_after, selected_font}
 use Rattle.full_settings.specs.LineStyles.{distance}
 use Rattle.full_settings.specs.Letters.{letters_with, style_in, grains_of_share}
-use Rattle.full_plot.specs.Worlds.{World, with_core}
+use Rattle.full_plot.specs.Worlds.{FullWorld, with_core}
 
 -- RO as a turn of directions
 abbrev pub turn_by : Rotation → Turn
@@ -36,13 +36,13 @@ turn_by rotation.Half = turn.Half
 turn_by rotation.ThreeQuarters = turn.ThreeQuarters
 
 -- how letters are written now
-abbrev pub style_of : World → Style
+abbrev pub style_of : FullWorld → Style
 style_of w =
     let s = w.core.state in
     style_in w.writing.letters (selected_font w.characters) s.size s.frame.points (turn_by s.frame.rotation)
 
 -- the signs of a text, as it is read now
-abbrev pub signs_of : World → List ℕ → List Sign
+abbrev pub signs_of : FullWorld → List ℕ → List Sign
 signs_of w text = signs w.encoding w.characters.sets text
 
 -- the style of core's labels
@@ -50,7 +50,7 @@ abbrev pub core_style : State → Style
 core_style s = record usual {
   width = s.size.width;
   height = s.size.height;
-  direction = turned (turn_by s.frame.rotation) (turned (turn_by s.direction) right);
+  direction = vector_turned (turn_by s.frame.rotation) (vector_turned (turn_by s.direction) right);
 }
 
 abbrev pub moved_by : Spot → Spot → Spot
@@ -77,75 +77,75 @@ abbrev pub margin_by : Spot → Spot → Spot
 margin_by margin offset =
     let q = moved_by margin offset in record { x = cut_far q.x; y = cut_far q.y }
 
-abbrev pub with_margin : Spot → Option World → Option World
+abbrev pub with_margin : Spot → Option FullWorld → Option FullWorld
 with_margin q None = None
 with_margin q (Some w) = Some (record w { margin = q })
 
 -- the left margin is where the pen is
-abbrev pub at_margin : World → World
+abbrev pub at_margin : FullWorld → FullWorld
 at_margin w = record w { margin = w.core.state.place }
 
 -- a label: its strokes, and then the pen is at its end
 abbrev pub label_by : Style → core.World → List Sign → Option core.World
 label_by style v signs =
-    core.followed (inked_at_pen v (label_strokes style signs)) (λ (u : core.World).
-    put u (moved_by v.state.place (label_end style signs)))
+    core.followed (inked_at_pen v (styled_label_strokes style signs)) (λ (u : core.World).
+    put u (moved_by v.state.place (styled_label_end style signs)))
 
 -- a text of more than 2^26 bytes is out of range, but no plot has one, since it has at most so many bytes itself
 abbrev pub if_short : List ℕ → Option core.World → Option core.World
 if_short text o = if nat_lt (2 ^ 26) (length text) then None else o
 
 -- after a label the left margin is at the beginning of its last line
-abbrev pub labelled : World → List ℕ → Option World
+abbrev pub labelled : FullWorld → List ℕ → Option FullWorld
 labelled w text =
     let style = style_of w in
     let signs = signs_of w text in
     with_margin (margin_by w.margin (margin_move style signs)) (with_core w (if_short text (label_by style w.core signs)))
 
 -- SO and SI in a text select a set for what follows it, too
-abbrev pub shifted_by : List ℕ → World → World
+abbrev pub shifted_by : List ℕ → FullWorld → FullWorld
 shifted_by text w = record w { characters = characters_after w.characters text }
 
-abbrev pub then_shifted : List ℕ → Option World → Option World
+abbrev pub then_shifted : List ℕ → Option FullWorld → Option FullWorld
 then_shifted text None = None
 then_shifted text (Some w) = Some (shifted_by text w)
 
-abbrev pub written : World → List ℕ → Option World
+abbrev pub written : FullWorld → List ℕ → Option FullWorld
 written w text = then_shifted text (labelled w text)
 
 -- the pen and the left margin at a place
-abbrev pub put_at_margin : World → Spot → Option World
+abbrev pub put_at_margin : FullWorld → Spot → Option FullWorld
 put_at_margin w q = with_margin q (with_core w (put w.core q))
 
 -- CP without numbers: one line on from the left margin, which is then there; with numbers: as many columns to the right
 -- and lines up from where the pen is, and the left margin as many lines up
-abbrev pub moved_on : World → CharacterMove → Option World
-moved_on w ToMargin = put_at_margin w (margin_by w.margin (cell_offset (style_of w) (pos 0) (pos (10 ^ 6))))
-moved_on w (By n) =
+abbrev pub moved_by_characters : FullWorld → CharacterMove → Option FullWorld
+moved_by_characters w ToMargin = put_at_margin w (margin_by w.margin (cell_offset (style_of w) (pos 0) (pos (10 ^ 6))))
+moved_by_characters w (By n) =
     let style = style_of w in
     with_margin (margin_by w.margin (cell_offset style (pos 0) (neg_ℤ n.y)))
     (with_core w (put w.core (moved_by w.core.state.place (cell_offset style n.x (neg_ℤ n.y)))))
 
 -- the symbol at the pen, if one is set: a label of its byte, which is centred
-abbrev pub marked_by : Option ℕ → World → Option World
+abbrev pub marked_by : Option ℕ → FullWorld → Option FullWorld
 marked_by None w = Some w
 marked_by (Some byte) w =
-    with_core w (inked_at_pen w.core (label_strokes (centred (style_of w)) (signs_of w (byte ∷ []))))
+    with_core w (inked_at_pen w.core (styled_label_strokes (centred (style_of w)) (signs_of w (byte ∷ []))))
 
 -- a point that far above the pen for XT, or to the right for YT, if the page is not turned
 abbrev pub tick_point : Bool → ℤ → Spot
 tick_point is_upright n = if is_upright then record { x = pos 0; y = n } else record { x = n; y = pos 0 }
 
-abbrev pub tick_distance : World → Bool → ℤ
+abbrev pub tick_distance : FullWorld → Bool → ℤ
 tick_distance w is_upright =
     let points = w.core.state.frame.points in distance (if is_upright then points.y else points.x)
 
 -- where a part of a tick ends that is so many grains long, from the pen, as RO turns it
 abbrev pub tick_end : Rotation → Bool → ℤ → Spot
-tick_end r is_upright n = turned (turn_by r) (tick_point is_upright n)
+tick_end r is_upright n = vector_turned (turn_by r) (tick_point is_upright n)
 
 -- a tick, upright by XT and level by YT
-abbrev pub ticked : World → Bool → Option World
+abbrev pub ticked : FullWorld → Bool → Option FullWorld
 ticked w is_upright =
     let part = grains_of_share (tick_distance w is_upright) in
     let end = tick_end w.core.state.frame.rotation is_upright in
@@ -160,7 +160,7 @@ sets_margin (setting.Path path line) = true
 sets_margin (setting.Origin n) = true
 sets_margin _ = false
 
-abbrev pub lettered : LetterSetting → World → World
+abbrev pub lettered : LetterSetting → FullWorld → FullWorld
 lettered s w =
     let v = record w { writing = record w.writing { letters = letters_with s w.writing.letters } } in
     if sets_margin s then at_margin v else v

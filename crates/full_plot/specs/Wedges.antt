@@ -10,7 +10,7 @@ use Rattle.hpgl_plot.specs.Paths.{right_of}
 use Rattle.full_settings.specs.declared.polygon_setting.Wedge.{Wedge}
 use Rattle.full_plot.specs.Lines.{drawn_along}
 use Rattle.full_plot.specs.Polygons.{figure_kept, only_figure, with_buffer}
-use Rattle.full_plot.specs.Worlds.{World}
+use Rattle.full_plot.specs.Worlds.{FullWorld}
 
 -- the end of its k-th chord, and its first point, the 0th: the point on the right of the pen, turned
 abbrev pub wedge_place : Page → State → Wedge → ℕ → Spot
@@ -28,11 +28,11 @@ wedge_places page s w =
     else s.place ∷ (round_places page s w ++ s.place ∷ [])
 
 -- the wedge is the only polygon in the buffer: None if a place is out of range
-abbrev pub wedge_kept : World → Wedge → Option World
+abbrev pub wedge_kept : FullWorld → Wedge → Option FullWorld
 wedge_kept w wedge = figure_kept w (wedge_places w.core.page w.core.state wedge)
 
 -- EW: its edge is drawn, too
-abbrev pub wedge_edged : World → Wedge → Option World
+abbrev pub wedge_edged : FullWorld → Wedge → Option FullWorld
 wedge_edged w wedge =
     let places = wedge_places w.core.page w.core.state wedge in
     with_buffer (only_figure places) (drawn_along w true places)

@@ -39,7 +39,7 @@ usual_area = record { fill = usual_fill; anchor = page_origin }
 -- texts, and the sets of characters and the fonts that the plot has chosen; what is set for labels, and their left
 -- margin, a place; how polygons are filled, and the polygon buffer; how much work besides strokes counts; for each sheet
 -- that has ended, how many strokes were made until then
-pub record World : Type 0 where
+pub record FullWorld : Type 0 where
   pub core : core.World
   pub context : Context
   pub style : styles.Style
@@ -55,10 +55,10 @@ pub record World : Type 0 where
   pub ends : List ℕ
 
 -- what core leaves, or None if it stops
-abbrev pub with_core : World → Option core.World → Option World
+abbrev pub with_core : FullWorld → Option core.World → Option FullWorld
 with_core w None = None
 with_core w (Some v) = Some (record w { core = v })
 
-abbrev pub followed : Option World → (World → Option World) → Option World
-followed None f = None
-followed (Some w) f = f w
+abbrev pub full_followed : Option FullWorld → (FullWorld → Option FullWorld) → Option FullWorld
+full_followed None f = None
+full_followed (Some w) f = f w

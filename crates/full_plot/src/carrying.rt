@@ -1,7 +1,7 @@
 //! Carrying out a plot, one item at a time.
 ghost use Rattle.std.specs.Prelude.{◌≡◌, IfOk};
 ghost use Rattle.full_notes.specs.Notes.{body_noted};
-ghost use Rattle.full_plot.specs.Drawings.{at_start, at_start_with, is_too_much, runs, CarriesOut};
+ghost use Rattle.full_plot.specs.Drawings.{full_at_start, full_at_start_with, is_too_much, full_runs, CarriesOut};
 ghost use Rattle.full_plot.specs.Machine.{seen};
 
 use crate::area::Area;
@@ -20,14 +20,14 @@ use std::alloc::Global;
 impl FullPlotter {
     /// A plotter on a page, before the first item.
     pub fn new(alloc: Global, page: &Page) -> FullPlotter
-        ensures { seen result ≡ at_start page.now }
+        ensures { seen result ≡ full_at_start page.now }
     {
         FullPlotter::with(alloc, Encoding::ByPlot, page, &Carousel::empty())
     }
 
     /// The same with texts read as the user says, and with the pens of a carousel.
     pub fn with(alloc: Global, encoding: Encoding, page: &Page, carousel: &Carousel) -> FullPlotter
-        ensures { seen result ≡ at_start_with encoding carousel.now page.now }
+        ensures { seen result ≡ full_at_start_with encoding carousel.now page.now }
     {
         let plotter = Plotter::with_pens(alloc, page, carousel);
         let margin = plotter.state.place;
@@ -52,7 +52,7 @@ impl FullPlotter {
     /// Carries out an item, and answers what is noted on it at its first byte, or the refusal at it: of a
     /// place out of range, or of a stroke too many.
     pub fn carry_out(&mut self, item: &Item<'_>) -> Result<Option<NoteKind>, PlotFault>
-        ensures carried { CarriesOut runs (seen self.old) item.now (seen self.new) result }
+        ensures carried { CarriesOut full_runs (seen self.old) item.now (seen self.new) result }
         ensures noted { IfOk result (λ noted. noted ≡ body_noted (seen self.old).context item.now.body) }
     {
         match self.take(item) {

@@ -55,7 +55,7 @@ impl FullPlotter {
 
     /// The pen at a point, if its place is in range.
     pub fn pen_at(&self, is_relative: bool, point: Point) -> Result<Position, Stop>
-        ensures value { IfOk result (λ pen. pen ≡ steps.pen_at_point (seen self.now) is_relative point) }
+        ensures value { IfOk result (λ pen. pen ≡ steps.curve_pen (seen self.now) is_relative point) }
         ensures in_range { IfOk result (λ pen. IsInRange pen.place) }
         ensures runs { Runs (steps.point_tested (seen self.now) is_relative point) (seen self.now) result }
     {

@@ -4,9 +4,9 @@ ghost use Rattle.hpgl_plot.specs.Bounds.{IsInRange};
 ghost use Rattle.hpgl_plot.specs.Machine as core;
 ghost use Rattle.line_types.specs.Bounds.{IsPlace};
 ghost use Rattle.line_types.specs.LineTypes.{line_shape};
-ghost use Rattle.full_plot.specs.Lines.{drawn, drawn_along, shape_in};
+ghost use Rattle.full_plot.specs.Lines.{drawn_in_type, drawn_along, shape_in};
 ghost use Rattle.full_plot.specs.Machine.{seen, Runs};
-ghost use Rattle.full_plot.specs.Dashing.{part_of, from_of, to_of, IsDash, with_one_more};
+ghost use Rattle.full_plot.specs.Dashing.{dash_of, from_of, to_of, IsDash, with_one_more};
 
 use crate::plotter::FullPlotter;
 use exact::Spot;
@@ -63,7 +63,7 @@ impl FullPlotter {
     /// Draws a line, and leaves the run where the pattern goes on.
     pub fn dash_line(&mut self, line: &Stroke, line_type: &LineType) -> Result<(), Stop>
         requires { line_shape line_type.now ≡ shape_in (seen self.old) }
-        ensures { Runs (Some (drawn (seen self.old) (line.now ∷ []))) (seen self.new) result }
+        ensures { Runs (Some (drawn_in_type (seen self.old) (line.now ∷ []))) (seen self.new) result }
     {
         let measured = measured(line);
         if self.plotter.state.pen != 0 {
@@ -82,7 +82,7 @@ impl FullPlotter {
 fn keep_dashes(plotter: &mut Plotter, line: &Stroke, dashes: Dashes<'_>) -> Result<(), Stop>
     requires { All IsDash dashes }
     ensures kept { IfOk result (λ _. core.seen plotter.new
-        ≡ core.with_strokes (core.seen plotter.old) plotter.old.state (map (part_of line.now) dashes.entry)) }
+        ≡ core.with_strokes (core.seen plotter.old) plotter.old.state (map (dash_of line.now) dashes.entry)) }
     ensures memory { IfErr result (λ e. e ≡ Stop.Memory) }
 {
     let mut rest = dashes;
@@ -124,7 +124,7 @@ fn measured(line: &Stroke) -> Line
 fn part(line: &Stroke, from: Spot, to: Spot) -> Stroke
     requires from_in { IsPlace from }
     requires to_in { IsPlace to }
-    ensures { result ≡ part_of line.now (from, to) }
+    ensures { result ≡ dash_of line.now (from, to) }
 {
     Stroke {
         pen: line.pen,

@@ -1,9 +1,9 @@
 //! Drawing the edges of the polygons in the buffer.
 ghost use Rattle.std.specs.Prelude.{◌≡◌, ◌∷◌, [], map, Some};
 ghost use Rattle.line_types.specs.LineTypes.{line_shape};
-ghost use Rattle.full_plot.specs.Lines.{drawn, shape_in};
+ghost use Rattle.full_plot.specs.Lines.{drawn_in_type, shape_in};
 ghost use Rattle.full_plot.specs.Polygons.{edge_line, drawn_edges};
-ghost use Rattle.full_plot.specs.Machine.{seen, step, Runs, EdgeBuffer};
+ghost use Rattle.full_plot.specs.Machine.{seen, full_step, Runs, EdgeBuffer};
 
 use crate::plotter::FullPlotter;
 use hpgl_plot::Stop;
@@ -14,7 +14,7 @@ use std::mem::replace;
 impl FullPlotter {
     /// EP: the edges of the polygons that are drawn, in the line type. The places in the buffer count as work.
     pub fn edge_polygon(&mut self) -> Result<(), Stop>
-        ensures { Runs (step (seen self.old) EdgeBuffer) (seen self.new) result }
+        ensures { Runs (full_step (seen self.old) EdgeBuffer) (seen self.new) result }
     {
         let buffer = replace(&mut self.buffer, Buffer::new(self.alloc));
         let drawn = self.draw_edges(buffer.edges());
@@ -26,7 +26,7 @@ impl FullPlotter {
 
     // Draws the edges that are drawn, in the line type.
     fn draw_edges(&mut self, edges: &[Edge]) -> Result<(), Stop>
-        ensures { Runs (Some (drawn (seen self.old)
+        ensures { Runs (Some (drawn_in_type (seen self.old)
             (map (edge_line (seen self.old).core.state) (drawn_edges edges.now)))) (seen self.new) result }
     {
         let line_type = self.style.line_type(&self.plotter.state.frame.points);
@@ -40,7 +40,7 @@ impl FullPlotter {
     #[tactic(auto, using(crate::proofs::DrawnLines::none_drawn))]
     fn draw_edge(&mut self, edge: Edge, line_type: &LineType) -> Result<(), Stop>
         requires { line_shape line_type.now ≡ shape_in (seen self.old) }
-        ensures { Runs (Some (drawn (seen self.old)
+        ensures { Runs (Some (drawn_in_type (seen self.old)
             (map (edge_line (seen self.old).core.state) (drawn_edges (edge ∷ []))))) (seen self.new) result }
     {
         if !edge.is_drawn {

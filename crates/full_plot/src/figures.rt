@@ -5,7 +5,7 @@ ghost use Rattle.plot_settings.specs.Bounds.{IsCorner};
 ghost use Rattle.plot_settings.specs.Meanings.{Edge};
 ghost use Rattle.full_settings.specs.PolygonParameters.{IsWedge};
 ghost use Rattle.full_plot.specs.Lines.{drawn_along};
-ghost use Rattle.full_plot.specs.Machine.{seen, step, Runs, Rectangle, WedgeEdge, WedgeFill};
+ghost use Rattle.full_plot.specs.Machine.{seen, full_step, Runs, Rectangle, WedgeEdge, WedgeFill};
 ghost use Rattle.full_plot.specs.Polygons.{edge_step, only_figure, with_buffer};
 ghost use Rattle.full_plot.specs.Wedges as wedges;
 
@@ -30,7 +30,7 @@ impl FullPlotter {
     /// RA and RR: a filled rectangle.
     pub fn fill_rectangle(&mut self, is_relative: bool, corner: Corner) -> Result<(), Stop>
         requires { IsCorner corner }
-        ensures { Runs (step (seen self.old) (Rectangle is_relative corner)) (seen self.new) result }
+        ensures { Runs (full_step (seen self.old) (Rectangle is_relative corner)) (seen self.new) result }
     {
         let start = self.plotter.state.place;
         let corners = self.plotter.corners(is_relative, corner);
@@ -41,7 +41,7 @@ impl FullPlotter {
     /// EW: the edge of a wedge.
     pub fn edge_wedge(&mut self, wedge: Wedge) -> Result<(), Stop>
         requires { IsWedge wedge }
-        ensures { Runs (step (seen self.old) (WedgeEdge wedge)) (seen self.new) result }
+        ensures { Runs (full_step (seen self.old) (WedgeEdge wedge)) (seen self.new) result }
     {
         let places = self.wedge_places(wedge)?;
         let [first, rest @ ..] = places.as_slice() else {
@@ -53,7 +53,7 @@ impl FullPlotter {
     /// WG: a filled wedge.
     pub fn fill_wedge(&mut self, wedge: Wedge) -> Result<(), Stop>
         requires { IsWedge wedge }
-        ensures { Runs (step (seen self.old) (WedgeFill wedge)) (seen self.new) result }
+        ensures { Runs (full_step (seen self.old) (WedgeFill wedge)) (seen self.new) result }
     {
         let places = self.wedge_places(wedge)?;
         let [first, rest @ ..] = places.as_slice() else {

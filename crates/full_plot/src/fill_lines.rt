@@ -130,7 +130,7 @@ fn signed(angle: u32) -> i32
 
 // RO turns hatching.
 fn turn_of(rotation: Rotation) -> i32
-    ensures value { result ≡ fills.turn_of rotation }
+    ensures value { result ≡ fills.hatching_turn rotation }
     ensures most { nat_abs result ≤ 270000 }
 {
     match rotation {

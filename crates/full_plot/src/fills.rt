@@ -4,8 +4,8 @@ ghost use Rattle.polygons.specs.Fills.{filled, spans};
 ghost use Rattle.full_plot.specs.Fills as fills;
 ghost use Rattle.full_plot.specs.Inking.{IsInk};
 ghost use Rattle.full_plot.specs.declared.fills.Ink.TheVariants as ink_of;
-ghost use Rattle.full_plot.specs.Lines.{drawn};
-ghost use Rattle.full_plot.specs.Machine.{seen, step, Runs, FillBuffer};
+ghost use Rattle.full_plot.specs.Lines.{drawn_in_type};
+ghost use Rattle.full_plot.specs.Machine.{seen, full_step, Runs, FillBuffer};
 
 use crate::fill_lines::{shading_lines, solid_lines};
 use crate::plotter::FullPlotter;
@@ -28,7 +28,7 @@ pub enum Ink {
 impl FullPlotter {
     /// FP: fills the polygons by winding or by odd counts. The places in the buffer count as work.
     pub fn fill_polygon(&mut self, by_winding: bool) -> Result<(), Stop>
-        ensures { Runs (step (seen self.old) (FillBuffer by_winding)) (seen self.new) result }
+        ensures { Runs (full_step (seen self.old) (FillBuffer by_winding)) (seen self.new) result }
     {
         let places = self.buffer.places();
         self.work(places);
@@ -177,7 +177,7 @@ impl FullPlotter {
 
     // Draws a line in the line type; one that gives no stroke counts as work.
     fn draw_counted(&mut self, line: &Stroke) -> Result<(), Stop>
-        ensures { Runs (Some (fills.counted (seen self.old) (drawn (seen self.old) (line.now ∷ []))))
+        ensures { Runs (Some (fills.counted (seen self.old) (drawn_in_type (seen self.old) (line.now ∷ []))))
             (seen self.new) result }
     {
         let before = self.plotter.strokes.len();

@@ -10,7 +10,7 @@ ghost use Rattle.full_notes.specs.Notes.{request_noted};
 ghost use Rattle.full_plot.specs.Items.{request_steps};
 ghost use Rattle.full_plot.specs.Machine as machine;
 ghost use Rattle.full_plot.specs.ContextsAfter.{after_request};
-ghost use Rattle.full_plot.specs.Machine.{seen, step, run, Runs, Style, TickBy, PointsBy, FillBy, AnchorBy};
+ghost use Rattle.full_plot.specs.Machine.{seen, full_step, run, Runs, Style, TickBy, PointsBy, FillBy, AnchorBy};
 
 use crate::plotter::FullPlotter;
 use exact::Spot;
@@ -116,7 +116,7 @@ impl FullPlotter {
     // Sets what an LT or a UL asks for, and ends the run.
     fn set_style(&mut self, setting: LineSetting)
         requires { IsLineSetting setting }
-        ensures { step (seen self.old) (Style setting) ≡ Some (seen self.new) }
+        ensures { full_step (seen self.old) (Style setting) ≡ Some (seen self.new) }
     {
         self.style.set(setting);
         self.run = None;
@@ -125,7 +125,7 @@ impl FullPlotter {
     // Sets the length of ticks by TL.
     fn set_ticks(&mut self, length: TickLength)
         requires { IsTickLength length }
-        ensures { step (seen self.old) (TickBy length) ≡ Some (seen self.new) }
+        ensures { full_step (seen self.old) (TickBy length) ≡ Some (seen self.new) }
     {
         self.writing.set_ticks(length);
     }
@@ -133,14 +133,14 @@ impl FullPlotter {
     // Sets how polygons are filled, by FT.
     fn set_fill(&mut self, setting: FillSetting)
         requires { IsFillSetting setting }
-        ensures { step (seen self.old) (FillBy setting) ≡ Some (seen self.new) }
+        ensures { full_step (seen self.old) (FillBy setting) ≡ Some (seen self.new) }
     {
         self.area.fill = self.area.fill.with(setting);
     }
 
     // Sets the place that a line of hatching goes through, by AC.
     fn set_anchor(&mut self, anchor: Anchor) -> Result<(), Stop>
-        ensures { Runs (step (seen self.old) (AnchorBy anchor)) (seen self.new) result }
+        ensures { Runs (full_step (seen self.old) (AnchorBy anchor)) (seen self.new) result }
     {
         match anchor {
             Anchor::PageOrigin => self.area.anchor = Spot { x: 0, y: 0 },
@@ -155,7 +155,7 @@ impl FullPlotter {
     // Sets P1 and P2 by IR, and widths in percent of them.
     fn set_points(&mut self, points: RelativePoints)
         requires { IsRelativePoints points }
-        ensures { step (seen self.old) (PointsBy points) ≡ Some (seen self.new) }
+        ensures { full_step (seen self.old) (PointsBy points) ≡ Some (seen self.new) }
     {
         let page = &self.plotter.page;
         let rotation = self.plotter.state.frame.rotation;

@@ -8,7 +8,7 @@ ghost use Rattle.full_notes.specs.Contexts.{params_read};
 ghost use Rattle.full_notes.specs.Notes.{bad_if, bad_without, body_noted, params_noted};
 ghost use Rattle.full_plot.specs.Items.{as_core, more_steps, params_steps, size_by, taken};
 ghost use Rattle.full_plot.specs.ContextsAfter.{after_params};
-ghost use Rattle.full_plot.specs.Machine.{seen, step, run, last_end, Runs, Restyle, Restart, EndSheet};
+ghost use Rattle.full_plot.specs.Machine.{seen, full_step, run, last_end, Runs, Restyle, Restart, EndSheet};
 
 use crate::area::Area;
 use crate::plotter::FullPlotter;
@@ -172,7 +172,7 @@ impl FullPlotter {
 
     // The line style, the sets of characters and the fonts, the labels and the polygons of the start.
     fn restyle(&mut self)
-        ensures { step (seen self.old) Restyle ≡ Some (seen self.new) }
+        ensures { full_step (seen self.old) Restyle ≡ Some (seen self.new) }
     {
         self.style = LineStyle::new();
         self.run = None;
@@ -184,7 +184,7 @@ impl FullPlotter {
 
     /// The same, with the left margin at the pen.
     pub(crate) fn restart(&mut self)
-        ensures { step (seen self.old) Restart ≡ Some (seen self.new) }
+        ensures { full_step (seen self.old) Restart ≡ Some (seen self.new) }
     {
         self.restyle();
         self.margin = self.plotter.state.place;

@@ -7,7 +7,7 @@ ghost use Rattle.character_sets.specs.Texts.{signs};
 ghost use Rattle.lettering.specs.Labels.{margin_move};
 ghost use Rattle.hpgl_plot.specs.Machine as core;
 ghost use Rattle.full_plot.specs.Items.{letters_steps};
-ghost use Rattle.full_plot.specs.Machine.{seen, step, run, Runs, Letter, marked, printed};
+ghost use Rattle.full_plot.specs.Machine.{seen, full_step, run, Runs, Letter, marked, printed};
 ghost use Rattle.full_plot.specs.Texts as texts;
 ghost use Rattle.full_plot.specs.Worlds.{with_core};
 
@@ -54,7 +54,7 @@ impl FullPlotter {
     /// CP: puts the pen by columns and lines, or to the next line at the left margin.
     pub fn place(&mut self, way: CharacterMove) -> Result<(), Stop>
         requires { IsCharacterMove way }
-        ensures { Runs (texts.moved_on (seen self.old) way) (seen self.new) result }
+        ensures { Runs (texts.moved_by_characters (seen self.old) way) (seen self.new) result }
     {
         let lettering = self.lettering();
         match way {
@@ -108,7 +108,7 @@ impl FullPlotter {
     /// Sets what SR, SL, DI, DR, ES, LO or DV asks for.
     pub fn letter(&mut self, setting: LetterSetting)
         requires { IsLetterSetting setting }
-        ensures { step (seen self.old) (Letter setting) ≡ Some (seen self.new) }
+        ensures { full_step (seen self.old) (Letter setting) ≡ Some (seen self.new) }
     {
         self.writing.set_letters(setting);
         if sets_margin(setting) {

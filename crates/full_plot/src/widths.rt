@@ -2,7 +2,7 @@
 ghost use Rattle.std.specs.Prelude.{◌≡◌, IfOk, IfSome, Some};
 ghost use Rattle.full_notes.specs.Notes.{width_noted};
 ghost use Rattle.full_plot.specs.Items.{width_steps, widths_steps};
-ghost use Rattle.full_plot.specs.Machine.{seen, step, run, Runs, Widen, Rewiden, widths_set};
+ghost use Rattle.full_plot.specs.Machine.{seen, full_step, run, Runs, Widen, Rewiden, widths_set};
 ghost use Rattle.full_settings.specs.Widths.{IsWidthSetting};
 
 use crate::plotter::FullPlotter;
@@ -41,7 +41,7 @@ impl FullPlotter {
     /// Sets what a WU, a PT or a PW in percent asks for, in the context after it.
     pub fn widen(&mut self, setting: WidthSetting)
         requires { IsWidthSetting setting }
-        ensures { step (seen self.old) (Widen setting) ≡ Some (seen self.new) }
+        ensures { full_step (seen self.old) (Widen setting) ≡ Some (seen self.new) }
     {
         self.set_widths(setting);
         self.rewiden();
@@ -69,7 +69,7 @@ impl FullPlotter {
 
     /// Takes the widths that are in percent of P1 and P2 as they are now.
     pub fn rewiden(&mut self)
-        ensures { step (seen self.old) Rewiden ≡ Some (seen self.new) }
+        ensures { full_step (seen self.old) Rewiden ≡ Some (seen self.new) }
     {
         if self.context.in_percent {
             let diagonal = diagonal_by(&self.plotter.state.frame.points);

@@ -4,7 +4,7 @@ use Rattle.std.proofs.Common.{◌≡◌, List, [], ◌∷◌, refl, pos, negsuc,
 use Rattle.character_sets.specs.Signs.{selected}
 use Rattle.character_sets.specs.declared.set.CharacterSet.TheVariants.{Roman8, Latin1, Ascii, German}
 use Rattle.character_sets.specs.declared.sets.Selection.TheVariants.{Standard, Alternate}
-use Rattle.full_settings.specs.LetterParameters.{pair}
+use Rattle.full_settings.specs.LetterParameters.{pair_of}
 use Rattle.full_settings.specs.CharacterParameters.{set_choice, no_font, usual_font_setting, font_setting, font_choice, names_unknown_set}
 use Rattle.full_settings.specs.Characters.{Characters, usual_font, usual_characters, characters_with, characters_after, selected_font, font_size}
 use Rattle.full_settings.specs.declared.character_setting.CharacterSetting.{CharacterSetting}
@@ -113,17 +113,17 @@ known = refl
 
 -- Sizes
 
-usual_size : font_size usual_font ≡ pair (pos 1216) (pos 1728)
+usual_size : font_size usual_font ≡ pair_of (pos 1216) (pos 1728)
 usual_size = refl
 
-high_size : font_size (record usual_font { height = 23000000 }) ≡ pair (pos 1216) (pos 3456)
+high_size : font_size (record usual_font { height = 23000000 }) ≡ pair_of (pos 1216) (pos 3456)
 high_size = refl
 
-narrow_size : font_size (record usual_font { pitch = 18000000 }) ≡ pair (pos 608) (pos 1728)
+narrow_size : font_size (record usual_font { pitch = 18000000 }) ≡ pair_of (pos 608) (pos 1728)
 narrow_size = refl
 
-proportional_size : font_size (record { is_proportional = true; pitch = 18000000; height = 23000000 }) ≡ pair (pos 1980) (pos 3456)
+proportional_size : font_size (record { is_proportional = true; pitch = 18000000; height = 23000000 }) ≡ pair_of (pos 1980) (pos 3456)
 proportional_size = refl
 
-greatest_size : font_size (record { is_proportional = false; pitch = 100000; height = 1500000000 }) ≡ pair (pos 109440) (pos 225391)
+greatest_size : font_size (record { is_proportional = false; pitch = 100000; height = 1500000000 }) ≡ pair_of (pos 109440) (pos 225391)
 greatest_size = refl

@@ -13,19 +13,19 @@ use Rattle.plot_frame.specs.declared.scaling.Ends.{Ends}
 use Rattle.plot_settings.specs.Parameters.{usual_size}
 use Rattle.full_settings.specs.declared.letter_setting.LetterSetting.{LetterSetting}
 use Rattle.full_settings.specs.declared.letter_setting.LetterSetting.TheVariants as setting
-use Rattle.full_settings.specs.LetterParameters.{pair, relative_size, slant, direction, relative_direction, space, origin, text_path}
+use Rattle.full_settings.specs.LetterParameters.{pair_of, relative_size, slant, letter_direction, relative_direction, space, letter_origin, text_path}
 use Rattle.full_settings.specs.Characters.{usual_font}
 use Rattle.full_settings.specs.Letters.{LetterStyle, usual_letters, letters_with, style_in}
 
 -- SR
 
-no_size : relative_size [] ≡ Some (setting.RelativeSize (pair (pos 750000) (pos 1500000)))
+no_size : relative_size [] ≡ Some (setting.RelativeSize (pair_of (pos 750000) (pos 1500000)))
 no_size = refl
 
 no_height : relative_size (pos 1000000 ∷ []) ≡ None
 no_height = refl
 
-greatest_size : relative_size (negsuc 999999999 ∷ pos 1000000000 ∷ []) ≡ Some (setting.RelativeSize (pair (negsuc 999999999) (pos 1000000000)))
+greatest_size : relative_size (negsuc 999999999 ∷ pos 1000000000 ∷ []) ≡ Some (setting.RelativeSize (pair_of (negsuc 999999999) (pos 1000000000)))
 greatest_size = refl
 
 too_wide : relative_size (negsuc 1000000000 ∷ pos 1 ∷ []) ≡ None
@@ -47,24 +47,24 @@ too_slanted = refl
 
 -- DI and DR
 
-no_direction : direction [] ≡ Some (setting.Direction (pair (pos 1000000) (pos 0)))
+no_direction : letter_direction [] ≡ Some (setting.Direction (pair_of (pos 1000000) (pos 0)))
 no_direction = refl
 
-direction_3_4 : direction (pos 3000000 ∷ pos 4000000 ∷ pos 0 ∷ []) ≡ Some (setting.Direction (pair (pos 3000000) (pos 4000000)))
+direction_3_4 : letter_direction (pos 3000000 ∷ pos 4000000 ∷ pos 0 ∷ []) ≡ Some (setting.Direction (pair_of (pos 3000000) (pos 4000000)))
 direction_3_4 = refl
 
-direction_0_0 : direction (pos 0 ∷ pos 0 ∷ []) ≡ None
+direction_0_0 : letter_direction (pos 0 ∷ pos 0 ∷ []) ≡ None
 direction_0_0 = refl
 
-relative_up : relative_direction (pos 0 ∷ negsuc 0 ∷ []) ≡ Some (setting.RelativeDirection (pair (pos 0) (negsuc 0)))
+relative_up : relative_direction (pos 0 ∷ negsuc 0 ∷ []) ≡ Some (setting.RelativeDirection (pair_of (pos 0) (negsuc 0)))
 relative_up = refl
 
 -- ES: a step is 1 and what is added
 
-no_space : space [] ≡ Some (setting.Step (pair (pos 1000000) (pos 1000000)))
+no_space : space [] ≡ Some (setting.Step (pair_of (pos 1000000) (pos 1000000)))
 no_space = refl
 
-space_of_minus_100 : space (negsuc 99999999 ∷ []) ≡ Some (setting.Step (pair (negsuc 98999999) (pos 1000000)))
+space_of_minus_100 : space (negsuc 99999999 ∷ []) ≡ Some (setting.Step (pair_of (negsuc 98999999) (pos 1000000)))
 space_of_minus_100 = refl
 
 too_many_lines : space (pos 0 ∷ pos 100000001 ∷ []) ≡ None
@@ -72,19 +72,19 @@ too_many_lines = refl
 
 -- LO
 
-origin_of_half : origin (pos 500000 ∷ []) ≡ Some (setting.Origin 1)
+origin_of_half : letter_origin (pos 500000 ∷ []) ≡ Some (setting.Origin 1)
 origin_of_half = refl
 
-no_origin_10 : origin (pos 10000000 ∷ []) ≡ None
+no_origin_10 : letter_origin (pos 10000000 ∷ []) ≡ None
 no_origin_10 = refl
 
-origin_19 : origin (pos 19000000 ∷ []) ≡ Some (setting.Origin 19)
+origin_19 : letter_origin (pos 19000000 ∷ []) ≡ Some (setting.Origin 19)
 origin_19 = refl
 
-no_origin_20 : origin (pos 20000000 ∷ []) ≡ None
+no_origin_20 : letter_origin (pos 20000000 ∷ []) ≡ None
 no_origin_20 = refl
 
-origin_21 : origin (pos 21000000 ∷ []) ≡ Some (setting.Origin 1)
+origin_21 : letter_origin (pos 21000000 ∷ []) ≡ Some (setting.Origin 1)
 origin_21 = refl
 
 -- DV
@@ -129,17 +129,17 @@ size_of_font_again : (style_after (setting.AbsoluteSize ∷ setting.FontSize ∷
 size_of_font_again = refl
 
 -- 10 percent of either distance, in grains
-relative_width : (style_after (setting.RelativeSize (pair (pos 10000000) (pos 10000000)) ∷ [])).width ≡ pos 480
+relative_width : (style_after (setting.RelativeSize (pair_of (pos 10000000) (pos 10000000)) ∷ [])).width ≡ pos 480
 relative_width = refl
 
-relative_height : (style_after (setting.RelativeSize (pair (pos 10000000) (pos 10000000)) ∷ [])).height ≡ negsuc 639
+relative_height : (style_after (setting.RelativeSize (pair_of (pos 10000000) (pos 10000000)) ∷ [])).height ≡ negsuc 639
 relative_height = refl
 
-size_of_si : (style_after (setting.RelativeSize (pair (pos 10000000) (pos 10000000)) ∷ setting.AbsoluteSize ∷ [])).width ≡ pos 1216
+size_of_si : (style_after (setting.RelativeSize (pair_of (pos 10000000) (pos 10000000)) ∷ setting.AbsoluteSize ∷ [])).width ≡ pos 1216
 size_of_si = refl
 
 -- 4 percent of 300, and -3 percent of -400
-relative_diagonal : (style_after (setting.RelativeDirection (pair (pos 4000000) (negsuc 2999999)) ∷ [])).direction
+relative_diagonal : (style_after (setting.RelativeDirection (pair_of (pos 4000000) (negsuc 2999999)) ∷ [])).direction
     ≡ record { x = pos 759250125; y = pos 759250125 }
 unfolding root_by surplus
 relative_diagonal = refl

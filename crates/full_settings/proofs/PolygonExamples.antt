@@ -2,7 +2,7 @@
 use Rattle.std.proofs.Common.{◌≡◌, [], ◌∷◌, refl, pos, negsuc, true, false, Some, None}
 use Rattle.full_settings.specs.CurveParameters.{point_at}
 use Rattle.full_settings.specs.FillParameters.{fill_type, fill_with, usual_fill}
-use Rattle.full_settings.specs.PolygonParameters.{anchor, by_winding, polygon_step, wedge, without_chord}
+use Rattle.full_settings.specs.PolygonParameters.{anchor, by_winding, polygon_step, wedge, without_polygon_chord}
 use Rattle.full_settings.specs.declared.fill_setting.FillKind.TheVariants as kind
 use Rattle.full_settings.specs.declared.fill_setting.FillSetting.TheVariants.{Hatched, Pattern, Shaded, Solid}
 use Rattle.full_settings.specs.declared.polygon_setting.Anchor.TheVariants.{At, PageOrigin}
@@ -63,8 +63,8 @@ no_chord_of_0 = refl
 
 -- after CT 1
 
-chord_left_out : without_chord EdgeWedge (pos 1 ∷ pos 2 ∷ pos 3 ∷ pos 4 ∷ []) ≡ pos 1 ∷ pos 2 ∷ pos 3 ∷ []
+chord_left_out : without_polygon_chord EdgeWedge (pos 1 ∷ pos 2 ∷ pos 3 ∷ pos 4 ∷ []) ≡ pos 1 ∷ pos 2 ∷ pos 3 ∷ []
 chord_left_out = refl
 
-fill_as_it_is : without_chord FillType (pos 1 ∷ pos 2 ∷ pos 3 ∷ pos 4 ∷ []) ≡ pos 1 ∷ pos 2 ∷ pos 3 ∷ pos 4 ∷ []
+fill_as_it_is : without_polygon_chord FillType (pos 1 ∷ pos 2 ∷ pos 3 ∷ pos 4 ∷ []) ≡ pos 1 ∷ pos 2 ∷ pos 3 ∷ pos 4 ∷ []
 fill_as_it_is = refl

@@ -8,7 +8,7 @@ use Rattle.character_sets.specs.declared.sets.Selection.{Selection}
 use Rattle.character_sets.specs.declared.sets.Selection.TheVariants.{Standard, Alternate}
 use Rattle.character_sets.specs.declared.sets.Sets.{Sets}
 use Rattle.plot_frame.specs.declared.pair.Pair.{Pair}
-use Rattle.full_settings.specs.LetterParameters.{pair}
+use Rattle.full_settings.specs.LetterParameters.{pair_of}
 use Rattle.full_settings.specs.CharacterParameters.{IsFontSize}
 use Rattle.full_settings.specs.declared.font.Font.{Font}
 use Rattle.full_settings.specs.declared.character_setting.CharacterSetting.{CharacterSetting}
@@ -82,7 +82,7 @@ font_width font =
     else round (record { over = pos (10944 * 10 ^ 6); under = font.pitch })
 
 abbrev pub font_size : Font → Pair ℤ
-font_size font = pair (font_width font) (round (record { over = pos (3456 * font.height); under = 23 * 10 ^ 6 }))
+font_size font = pair_of (font_width font) (round (record { over = pos (3456 * font.height); under = 23 * 10 ^ 6 }))
 
 -- what is chosen is in its range
 pub record IsFont (font : Font) : Type 0 where

@@ -5,7 +5,7 @@ use Rattle.std.specs.Prelude.{List, [], ◌∷◌, length, Option, Some, None, i
 use Rattle.std.specs.Ordering.{int_eq}
 use Rattle.exact.specs.Fraction.{round, quotient}
 use Rattle.plot_settings.specs.Colours.{rgb}
-use Rattle.plot_settings.specs.Parameters.{whole_of, when, is_byte, pen_colour}
+use Rattle.plot_settings.specs.Parameters.{whole_of, when, is_byte, pen_colour_setting}
 use Rattle.plot_settings.specs.declared.setting.Setting.{Setting}
 use Rattle.plot_settings.specs.declared.setting.Setting.TheVariants.{PenColour}
 use Rattle.full_settings.specs.declared.colour_range.ColourRange.{ColourRange}
@@ -37,24 +37,25 @@ ranges_by red green blue =
     (record { red = red; green = green; blue = blue })
 
 -- CR: black and white of red, green and blue, each rounded to a whole number; the usual ranges if none is named
-abbrev pub ranges_of : List ℤ → Option ColourRanges
-ranges_of [] = Some usual_ranges
-ranges_of (a ∷ (b ∷ (c ∷ (d ∷ (e ∷ (f ∷ ns)))))) =
+abbrev pub colour_ranges_of : List ℤ → Option ColourRanges
+colour_ranges_of [] = Some usual_ranges
+colour_ranges_of (a ∷ (b ∷ (c ∷ (d ∷ (e ∷ (f ∷ ns)))))) =
     ranges_by (range (whole_of a) (whole_of b)) (range (whole_of c) (whole_of d)) (range (whole_of e) (whole_of f))
-ranges_of _ = None
+colour_ranges_of _ = None
 
 -- what is out of its range is black or white
 abbrev pub cut : ℤ → ℕ
 cut n = if int_lt n (pos 0) then 0 else min (nat_abs n) 255
 
 -- a red, green or blue as written: 0 if it is black, 255 if it is white
-abbrev pub part : ColourRange → ℤ → ℕ
-part r v =
+abbrev pub colour_part : ColourRange → ℤ → ℕ
+colour_part r v =
     cut (round (quotient (pos 255 *ℤ (v -ℤ pos 1000000 *ℤ r.black)) (pos 1000000 *ℤ (r.white -ℤ r.black))))
 
 abbrev pub colour_by : ColourRanges → ℤ → ℤ → ℤ → ℤ → Option Setting
 colour_by rs pen red green blue =
-    when (is_byte pen) (PenColour (nat_abs pen) (rgb (part rs.red red) (part rs.green green) (part rs.blue blue)))
+    when (is_byte pen)
+    (PenColour (nat_abs pen) (rgb (colour_part rs.red red) (colour_part rs.green green) (colour_part rs.blue blue)))
 
 abbrev pub ranged : ColourRanges → List ℤ → Option Setting
 ranged rs (p ∷ (r ∷ (g ∷ (b ∷ ns)))) = colour_by rs (whole_of p) r g b
@@ -65,7 +66,7 @@ abbrev pub is_of_core : ColourRanges → List ℤ → Bool
 is_of_core rs ns = is_usual rs || nat_lt (length ns) 4
 
 abbrev pub pen_colour_in : ColourRanges → List ℤ → Option Setting
-pen_colour_in rs ns = if is_of_core rs ns then pen_colour ns else ranged rs ns
+pen_colour_in rs ns = if is_of_core rs ns then pen_colour_setting ns else ranged rs ns
 
 pub record IsColourRange (r : ColourRange) : Type 0 where
   pub black_in : nat_abs r.black ≤ 2 ^ 36

@@ -34,21 +34,21 @@ shading (l ∷ ns) = when (is_percent l) (setting.Shaded (Some (nat_abs l)))
 abbrev pub is_solid_type : ℤ → Bool
 is_solid_type n = int_eq n (pos 1) || int_eq n (pos 2)
 
-abbrev pub is_pattern_type : ℤ → Bool
-is_pattern_type n = int_eq n (pos 11) || (int_eq n (pos 21) || int_eq n (pos 22))
+abbrev pub is_pattern_fill : ℤ → Bool
+is_pattern_fill n = int_eq n (pos 11) || (int_eq n (pos 21) || int_eq n (pos 22))
 
-abbrev pub type_given : ℤ → List ℤ → Option FillSetting
-type_given n ns =
+abbrev pub fill_type_given : ℤ → List ℤ → Option FillSetting
+fill_type_given n ns =
     if is_solid_type n then Some setting.Solid else
     if int_eq n (pos 3) then hatching false ns else
     if int_eq n (pos 4) then hatching true ns else
     if int_eq n (pos 10) then shading ns else
-    if is_pattern_type n then Some setting.Pattern else
+    if is_pattern_fill n then Some setting.Pattern else
     None
 
 abbrev pub fill_type : List ℤ → Option FillSetting
 fill_type [] = Some setting.Solid
-fill_type (t ∷ ns) = type_given (whole_of t) ns
+fill_type (t ∷ ns) = fill_type_given (whole_of t) ns
 
 abbrev pub hatched_kind : Bool → FillKind
 hatched_kind is_crossed = if is_crossed then kind.CrossHatched else kind.Hatched

@@ -7,15 +7,15 @@ use Rattle.character_sets.specs.declared.sets.Selection.TheVariants.{Standard, A
 use Rattle.full_settings.specs.CharacterMoves.{character_move, IsCharacterMove}
 use Rattle.full_settings.specs.CharacterParameters.{set_choice, font_choice, IsCharacterSetting}
 use Rattle.full_settings.specs.declared.character_setting.CharacterSetting.TheVariants.{Select}
-use Rattle.full_settings.specs.ColourRanges.{ranges_of, IsColourRanges}
+use Rattle.full_settings.specs.ColourRanges.{colour_ranges_of, IsColourRanges}
 use Rattle.full_settings.specs.CurveParameters.{arc_points}
-use Rattle.full_settings.specs.LetterParameters.{relative_size, slant, relative_direction, space, origin, text_path}
+use Rattle.full_settings.specs.LetterParameters.{relative_size, slant, relative_direction, space, letter_origin, text_path}
 use Rattle.full_settings.specs.LetterParameters.{IsLetterSetting}
 use Rattle.full_settings.specs.LineParameters.{line_type, user_line_type}
 use Rattle.full_settings.specs.LineStyles.{IsLineSetting}
 use Rattle.full_settings.specs.RelativePoints.{relative_points, IsRelativePoints}
 use Rattle.full_settings.specs.FillParameters.{fill_type, IsFillSetting}
-use Rattle.full_settings.specs.PolygonParameters.{anchor, by_winding, corner, polygon_step, usual_chords, wedge}
+use Rattle.full_settings.specs.PolygonParameters.{anchor, by_winding, opposite_corner, polygon_step, usual_chords, wedge}
 use Rattle.full_settings.specs.PolygonParameters.{IsWedge}
 use Rattle.full_settings.specs.TickParameters.{tick_length, IsTickLength}
 use Rattle.full_settings.specs.WidthParameters.{width_unit, thickness}
@@ -46,7 +46,7 @@ further_request of.RelativeSize ns = request_by Letter (relative_size ns)
 further_request of.Slant ns = request_by Letter (slant ns)
 further_request of.RelativeDirection ns = request_by Letter (relative_direction ns)
 further_request of.TextPath ns = request_by Letter (text_path ns)
-further_request of.LabelOrigin ns = request_by Letter (origin ns)
+further_request of.LabelOrigin ns = request_by Letter (letter_origin ns)
 further_request of.ExtraSpace ns = request_by Letter (space ns)
 further_request of.CharacterPlot ns = request_by Move (character_move ns)
 further_request of.TickLength ns = request_by Ticks (tick_length ns)
@@ -57,8 +57,8 @@ further_request of.EdgePolygon ns = EdgePolygon
 further_request of.FillPolygon ns = request_by FillPolygon (by_winding ns)
 further_request of.FillType ns = request_by Fill (fill_type ns)
 further_request of.AnchorCorner ns = request_by Anchor (anchor ns)
-further_request of.FillAbsolute ns = request_by (Rectangle false) (corner ns)
-further_request of.FillRelative ns = request_by (Rectangle true) (corner ns)
+further_request of.FillAbsolute ns = request_by (Rectangle false) (opposite_corner ns)
+further_request of.FillRelative ns = request_by (Rectangle true) (opposite_corner ns)
 further_request of.EdgeWedge ns = request_by EdgeWedge (wedge ns)
 further_request of.FillWedge ns = request_by FillWedge (wedge ns)
 further_request of.ArcAbsoluteThreePoint ns = request_by (Arc false) (arc_points ns)
@@ -67,7 +67,7 @@ further_request of.BezierAbsolute ns = Curves false
 further_request of.BezierRelative ns = Curves true
 further_request of.ChordTolerance ns = request_by Chords (usual_chords ns)
 further_request of.RelativePoints ns = request_by Points (relative_points ns)
-further_request of.ColourRange ns = request_by Colours (ranges_of ns)
+further_request of.ColourRange ns = request_by Colours (colour_ranges_of ns)
 further_request of.StandardSet ns = Characters (set_choice Standard ns)
 further_request of.AlternateSet ns = Characters (set_choice Alternate ns)
 further_request of.StandardFont ns = request_by Characters (font_choice Standard ns)

@@ -15,17 +15,17 @@ use Rattle.full_settings.specs.Percentages.{is_percentage}
 use Rattle.full_settings.specs.declared.letter_setting.LetterSetting.{LetterSetting}
 use Rattle.full_settings.specs.declared.letter_setting.LetterSetting.TheVariants as setting
 
-abbrev pub pair : ℤ → ℤ → Pair ℤ
-pair x y = record { x = x; y = y }
+abbrev pub pair_of : ℤ → ℤ → Pair ℤ
+pair_of x y = record { x = x; y = y }
 
 -- SR width, height: percentages of the distances from P1 to P2, 0.75 and 1.5 if none is named
 abbrev pub is_relative_size : ℤ → Bool
 is_relative_size n = not (int_eq n (pos 0)) && is_percentage n
 
 abbrev pub relative_size : List ℤ → Option LetterSetting
-relative_size [] = Some (setting.RelativeSize (pair (pos 750000) (pos 1500000)))
+relative_size [] = Some (setting.RelativeSize (pair_of (pos 750000) (pos 1500000)))
 relative_size (w ∷ []) = None
-relative_size (w ∷ (h ∷ ns)) = when (is_relative_size w && is_relative_size h) (setting.RelativeSize (pair w h))
+relative_size (w ∷ (h ∷ ns)) = when (is_relative_size w && is_relative_size h) (setting.RelativeSize (pair_of w h))
 
 -- SL tangent: -1000 to 1000, which is our choice; 0 if none is named
 abbrev pub is_tangent : ℤ → Bool
@@ -40,16 +40,16 @@ abbrev pub is_vector : ℤ → ℤ → Bool
 is_vector x y = not (int_eq x (pos 0) && int_eq y (pos 0))
 
 -- DI run, rise: to the right if none is named
-abbrev pub direction : List ℤ → Option LetterSetting
-direction [] = Some (setting.Direction (pair (pos 1000000) (pos 0)))
-direction (x ∷ []) = None
-direction (x ∷ (y ∷ ns)) = when (is_vector x y) (setting.Direction (pair x y))
+abbrev pub letter_direction : List ℤ → Option LetterSetting
+letter_direction [] = Some (setting.Direction (pair_of (pos 1000000) (pos 0)))
+letter_direction (x ∷ []) = None
+letter_direction (x ∷ (y ∷ ns)) = when (is_vector x y) (setting.Direction (pair_of x y))
 
 -- DR run, rise: percentages of the distances from P1 to P2; to the right if none is named
 abbrev pub relative_direction : List ℤ → Option LetterSetting
-relative_direction [] = Some (setting.RelativeDirection (pair (pos 1000000) (pos 0)))
+relative_direction [] = Some (setting.RelativeDirection (pair_of (pos 1000000) (pos 0)))
 relative_direction (x ∷ []) = None
-relative_direction (x ∷ (y ∷ ns)) = when (is_vector x y) (setting.RelativeDirection (pair x y))
+relative_direction (x ∷ (y ∷ ns)) = when (is_vector x y) (setting.RelativeDirection (pair_of x y))
 
 -- ES spaces, lines: how much more than a letter's cell a step to the next letter takes, and one to the next line; 0 if
 -- none is named. That they are -100 to 100 is our choice
@@ -59,13 +59,13 @@ is_space n = is_between (negsuc 99999999) (pos 100000000) n
 abbrev pub more_than_1 : ℤ → ℤ
 more_than_1 n = pos (10 ^ 6) +ℤ n
 
-abbrev pub step_by : ℤ → ℤ → Option LetterSetting
-step_by x y = when (is_space x && is_space y) (setting.Step (pair (more_than_1 x) (more_than_1 y)))
+abbrev pub spacing_by : ℤ → ℤ → Option LetterSetting
+spacing_by x y = when (is_space x && is_space y) (setting.Step (pair_of (more_than_1 x) (more_than_1 y)))
 
 abbrev pub space : List ℤ → Option LetterSetting
-space [] = step_by (pos 0) (pos 0)
-space (x ∷ []) = step_by x (pos 0)
-space (x ∷ (y ∷ ns)) = step_by x y
+space [] = spacing_by (pos 0) (pos 0)
+space (x ∷ []) = spacing_by x (pos 0)
+space (x ∷ (y ∷ ns)) = spacing_by x y
 
 -- LO position: 1 to 9, 11 to 19, or 21, which is 1; 1 if none is named
 abbrev pub is_origin : ℤ → Bool
@@ -75,9 +75,9 @@ abbrev pub origin_by : ℤ → Option LetterSetting
 origin_by n =
     if int_eq n (pos 21) then Some (setting.Origin 1) else when (is_origin n) (setting.Origin (nat_abs n))
 
-abbrev pub origin : List ℤ → Option LetterSetting
-origin [] = Some (setting.Origin 1)
-origin (n ∷ ns) = origin_by (whole_of n)
+abbrev pub letter_origin : List ℤ → Option LetterSetting
+letter_origin [] = Some (setting.Origin 1)
+letter_origin (n ∷ ns) = origin_by (whole_of n)
 
 -- DV path, line: the path 0 to the right, 1 down, 2 to the left, 3 up; line 1 for a reverse line feed; each 0 if it is
 -- not named
@@ -89,8 +89,8 @@ path_by n =
     if int_eq n (pos 3) then Some Up else
     None
 
-abbrev pub line_by : ℤ → Option LineFeed
-line_by n =
+abbrev pub line_feed_by : ℤ → Option LineFeed
+line_feed_by n =
     if int_eq n (pos 0) then Some Normal else
     if int_eq n (pos 1) then Some Reverse else
     None
@@ -100,9 +100,9 @@ path_and_line (Some path) (Some line) = Some (setting.Path path line)
 path_and_line _ _ = None
 
 abbrev pub text_path : List ℤ → Option LetterSetting
-text_path [] = path_and_line (path_by (pos 0)) (line_by (pos 0))
-text_path (p ∷ []) = path_and_line (path_by (whole_of p)) (line_by (pos 0))
-text_path (p ∷ (l ∷ ns)) = path_and_line (path_by (whole_of p)) (line_by (whole_of l))
+text_path [] = path_and_line (path_by (pos 0)) (line_feed_by (pos 0))
+text_path (p ∷ []) = path_and_line (path_by (whole_of p)) (line_feed_by (pos 0))
+text_path (p ∷ (l ∷ ns)) = path_and_line (path_by (whole_of p)) (line_feed_by (whole_of l))
 
 -- both numbers are at most n on either side of 0
 pub record IsPairWithin (n : ℕ) (p : Pair ℤ) : Type 0 where

@@ -2,7 +2,7 @@
 use Rattle.std.specs.Prelude.{ℕ, ◌*◌, ◌^◌, ◌≤◌, nat_abs, ℤ, pos, ◌*ℤ◌, ⊤}
 use Rattle.exact.specs.Fraction.{round}
 use Rattle.exact.specs.declared.spot.Spot.{Spot}
-use Rattle.directions.specs.Directions.{unit, turned}
+use Rattle.directions.specs.Directions.{unit, vector_turned}
 use Rattle.directions.specs.declared.turn.Turn.{Turn}
 use Rattle.stick_font.specs.declared.size.CharacterSize.{CharacterSize}
 use Rattle.lettering.specs.declared.style.LineFeed.{LineFeed}
@@ -12,7 +12,7 @@ use Rattle.lettering.specs.declared.style.Path.TheVariants.{Right}
 use Rattle.lettering.specs.declared.style.Style.{Style}
 use Rattle.plot_frame.specs.declared.pair.Pair.{Pair}
 use Rattle.plot_frame.specs.declared.scaling.Ends.{Ends}
-use Rattle.full_settings.specs.LetterParameters.{pair, IsPairWithin, IsHeading, IsOrigin}
+use Rattle.full_settings.specs.LetterParameters.{pair_of, IsPairWithin, IsHeading, IsOrigin}
 use Rattle.full_settings.specs.LineStyles.{distance}
 use Rattle.full_settings.specs.declared.heading.Heading.{Heading}
 use Rattle.full_settings.specs.declared.heading.Heading.TheVariants.{Absolute, Relative}
@@ -39,9 +39,9 @@ pub record LetterStyle : Type 0 where
 abbrev pub usual_letters : LetterStyle
 usual_letters = record {
   size = ByFont;
-  heading = Absolute (pair (pos 1000000) (pos 0));
+  heading = Absolute (pair_of (pos 1000000) (pos 0));
   slant = pos 0;
-  step = pair (pos 1000000) (pos 1000000);
+  step = pair_of (pos 1000000) (pos 1000000);
   origin = 1;
   path = Right;
   line_feed = Normal;
@@ -64,11 +64,11 @@ abbrev pub grains_of_share : ℤ → ℤ → ℤ
 grains_of_share distance percent = round (record { over = pos 16 *ℤ distance *ℤ percent; under = 100 * 10 ^ 6 })
 
 -- the size in grains: that of the font, that of SI, or by SR parts of the distances from P1 to P2
-abbrev pub size_in : LetterSize → Font → CharacterSize → Pair Ends → Pair ℤ
-size_in ByFont font size points = font_size font
-size_in of.Absolute font size points = pair size.width size.height
-size_in (of.Relative percents) font size points =
-    pair (grains_of_share (distance points.x) percents.x) (grains_of_share (distance points.y) percents.y)
+abbrev pub letter_size_in : LetterSize → Font → CharacterSize → Pair Ends → Pair ℤ
+letter_size_in ByFont font size points = font_size font
+letter_size_in of.Absolute font size points = pair_of size.width size.height
+letter_size_in (of.Relative percents) font size points =
+    pair_of (grains_of_share (distance points.x) percents.x) (grains_of_share (distance points.y) percents.y)
 
 -- where labels lead, before RO turns them
 abbrev pub direction_in : Heading → Pair Ends → Spot
@@ -78,9 +78,9 @@ direction_in (Relative h) points = unit (distance points.x *ℤ h.x) (distance p
 -- the style in which letters are written, by the font that is selected, SI's size, and P1 and P2, and turned by RO
 abbrev pub style_in : LetterStyle → Font → CharacterSize → Pair Ends → Turn → Style
 style_in l font size points turn = record {
-  width = (size_in l.size font size points).x;
-  height = (size_in l.size font size points).y;
-  direction = turned turn (direction_in l.heading points);
+  width = (letter_size_in l.size font size points).x;
+  height = (letter_size_in l.size font size points).y;
+  direction = vector_turned turn (direction_in l.heading points);
   slant = l.slant;
   step_x = l.step.x;
   step_y = l.step.y;

@@ -35,14 +35,14 @@ abbrev pub is_solid : LineKind → Bool
 is_solid kind.Solid = true
 is_solid (kind.Patterned n) = false
 
-abbrev pub kind_or : LineKind → LineKind → LineKind
-kind_or kind.Solid before = before
-kind_or (kind.Patterned n) before = kind.Patterned n
+abbrev pub line_kind_or : LineKind → LineKind → LineKind
+line_kind_or kind.Solid before = before
+line_kind_or (kind.Patterned n) before = kind.Patterned n
 
 -- after an LT or a UL
 abbrev pub style_with : LineSetting → Style → Style
-style_with setting.Solid s = record s { kind = kind.Solid; remembered = kind_or s.kind s.remembered }
-style_with setting.Again s = record s { kind = kind_or s.kind s.remembered }
+style_with setting.Solid s = record s { kind = kind.Solid; remembered = line_kind_or s.kind s.remembered }
+style_with setting.Again s = record s { kind = line_kind_or s.kind s.remembered }
 style_with (setting.Type n) s = record s { kind = kind.Patterned n }
 style_with (setting.TypeAndLength n l) s = record s { kind = kind.Patterned n; size = l }
 style_with setting.UsualPatterns s = record s { own = replicate 8 None }

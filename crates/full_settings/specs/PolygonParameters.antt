@@ -54,9 +54,9 @@ anchor (x ∷ []) = None
 anchor (x ∷ (y ∷ ns)) = Some (At (point_at x y))
 
 -- RA and RR x, y: the corner opposite the pen
-abbrev pub corner : List ℤ → Option Corner
-corner (x ∷ (y ∷ ns)) = Some (record { x = x; y = y })
-corner _ = None
+abbrev pub opposite_corner : List ℤ → Option Corner
+opposite_corner (x ∷ (y ∷ ns)) = Some (record { x = x; y = y })
+opposite_corner _ = None
 
 -- an angle in thousandths of a degree, without whole turns, which change no direction
 abbrev pub angle_of : ℤ → ℤ
@@ -84,9 +84,9 @@ pub record IsWedge (w : Wedge) : Type 0 where
   pub chord_above : 0 < w.chord
 
 -- the numbers that are read after CT 1: no chord of an arc or a wedge
-abbrev pub without_chord : further.Further → List ℤ → List ℤ
-without_chord of.ArcAbsoluteThreePoint ns = take 4 ns
-without_chord of.ArcRelativeThreePoint ns = take 4 ns
-without_chord of.EdgeWedge ns = take 3 ns
-without_chord of.FillWedge ns = take 3 ns
-without_chord f ns = ns
+abbrev pub without_polygon_chord : further.Further → List ℤ → List ℤ
+without_polygon_chord of.ArcAbsoluteThreePoint ns = take 4 ns
+without_polygon_chord of.ArcRelativeThreePoint ns = take 4 ns
+without_polygon_chord of.EdgeWedge ns = take 3 ns
+without_polygon_chord of.FillWedge ns = take 3 ns
+without_polygon_chord f ns = ns

@@ -6,14 +6,14 @@ use Rattle.plot_frame.specs.declared.pair.Pair.{Pair}
 use Rattle.plot_settings.specs.Parameters.{when, points_at}
 use Rattle.plot_settings.specs.declared.setting.Setting.{Setting}
 use Rattle.plot_settings.specs.declared.setting.Setting.TheVariants.{PageCorners, FirstPoint, BothPoints}
-use Rattle.full_settings.specs.LetterParameters.{pair, IsPairWithin}
+use Rattle.full_settings.specs.LetterParameters.{pair_of, IsPairWithin}
 use Rattle.full_settings.specs.Percentages.{is_percentage}
 use Rattle.full_settings.specs.declared.page_points.RelativePoints.{RelativePoints}
 use Rattle.full_settings.specs.declared.page_points.RelativePoints.TheVariants.{Page, First, Both}
 
 -- a point in percent of the page
-abbrev pub point : ℤ → ℤ → Option (Pair ℤ)
-point x y = when (is_percentage x && is_percentage y) (pair x y)
+abbrev pub relative_point : ℤ → ℤ → Option (Pair ℤ)
+relative_point x y = when (is_percentage x && is_percentage y) (pair_of x y)
 
 abbrev pub first_point : Option (Pair ℤ) → Option RelativePoints
 first_point (Some p) = Some (First p)
@@ -26,25 +26,25 @@ both_points _ _ = None
 -- IR x, y, x, y: none, only P1, or both
 abbrev pub relative_points : List ℤ → Option RelativePoints
 relative_points [] = Some Page
-relative_points (a ∷ (b ∷ [])) = first_point (point a b)
-relative_points (a ∷ (b ∷ (c ∷ (d ∷ ns)))) = both_points (point a b) (point c d)
+relative_points (a ∷ (b ∷ [])) = first_point (relative_point a b)
+relative_points (a ∷ (b ∷ (c ∷ (d ∷ ns)))) = both_points (relative_point a b) (relative_point c d)
 relative_points _ = None
 
 -- a percentage of a side of the page, whose corner is `before` plotter units before 0, as a coordinate in plotter units
-abbrev pub part_of : ℤ → ℕ → ℕ → ℤ
-part_of percent side before = round (record { over = percent *ℤ pos side; under = 100 * 10 ^ 6 }) -ℤ pos before
+abbrev pub side_part : ℤ → ℕ → ℕ → ℤ
+side_part percent side before = round (record { over = percent *ℤ pos side; under = 100 * 10 ^ 6 }) -ℤ pos before
 
 -- what it sets on a page of this width and height as it is turned, with the corner (-left, -below)
 abbrev pub setting_of : RelativePoints → ℕ → ℕ → ℕ → ℕ → Setting
 setting_of Page width height left below = PageCorners
-setting_of (First p) width height left below = FirstPoint (part_of p.x width left) (part_of p.y height below)
+setting_of (First p) width height left below = FirstPoint (side_part p.x width left) (side_part p.y height below)
 setting_of (Both p q) width height left below =
     BothPoints
     (points_at
-    (part_of p.x width left)
-    (part_of p.y height below)
-    (part_of q.x width left)
-    (part_of q.y height below))
+    (side_part p.x width left)
+    (side_part p.y height below)
+    (side_part q.x width left)
+    (side_part q.y height below))
 
 abbrev pub IsRelativePoints : RelativePoints → Type 0
 IsRelativePoints Page = ⊤

@@ -3,14 +3,14 @@
 use Rattle.std.specs.Prelude.{ℕ, ◌*◌, ◌^◌, ◌≤◌, min, List, [], ◌∷◌, Option, Some, None, set, replicate, ⊤}
 use Rattle.plot_page.specs.declared.stroke.TheConstants.{GREATEST_WIDTH}
 use Rattle.plot_settings.specs.Settings.{all_pens}
-use Rattle.line_types.specs.Patterns.{nearest}
+use Rattle.line_types.specs.Patterns.{nearest_quotient}
 use Rattle.full_settings.specs.declared.width_setting.WidthSetting.{WidthSetting}
 use Rattle.full_settings.specs.declared.width_setting.WidthSetting.TheVariants.{Millimetres, PercentOfAll, Percent}
 use Rattle.full_settings.specs.declared.width_setting.WidthSetting.TheVariants.{Thickness}
 
 -- a percentage of a diagonal in ticks of 1/256 grain, as a width in grains
 abbrev pub grains_of_percent : ℕ → ℕ → ℕ
-grains_of_percent diagonal percent = min (nearest (diagonal * percent) (256 * (100 * 10 ^ 6))) GREATEST_WIDTH
+grains_of_percent diagonal percent = min (nearest_quotient (diagonal * percent) (256 * (100 * 10 ^ 6))) GREATEST_WIDTH
 
 -- a pen's width in grains: by its percentage, or else the one that it has
 abbrev pub width_by : ℕ → Option ℕ → ℕ → ℕ

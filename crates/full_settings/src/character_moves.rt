@@ -1,7 +1,7 @@
 //! What CP asks for, or `None` if its numbers are wrong.
 ghost use Rattle.std.specs.Prelude.{◌≡◌, ◌&&◌, IfSome};
 ghost use Rattle.plot_settings.specs.Parameters.{when};
-ghost use Rattle.full_settings.specs.LetterParameters.{pair};
+ghost use Rattle.full_settings.specs.LetterParameters.{pair_of};
 ghost use Rattle.full_settings.specs.CharacterMoves as moves;
 ghost use Rattle.full_settings.specs.CharacterMoves.{IsCharacterMove};
 ghost use Rattle.full_settings.specs.declared.character_moves.CharacterMove.TheVariants.{By};
@@ -35,7 +35,7 @@ pub fn character_move(numbers: &[Number]) -> Option<CharacterMove>
 }
 
 fn move_by(columns: i64, lines: i64) -> Option<CharacterMove>
-    ensures value { result ≡ when (moves.is_near columns && moves.is_near lines) (By (pair columns lines)) }
+    ensures value { result ≡ when (moves.is_near columns && moves.is_near lines) (By (pair_of columns lines)) }
     ensures sound { IfSome result IsCharacterMove }
 {
     if is_near(columns) && is_near(lines) {

@@ -16,7 +16,7 @@ use plot_settings::{Request, Setting, request_of, whole_number};
 /// 0 and 255 for all if no number is there. `None` if there are one to five, or if black and white are the
 /// same.
 pub fn colour_ranges(numbers: &[Number]) -> Option<ColourRanges>
-    ensures value { result ≡ colours.ranges_of numbers.now }
+    ensures value { result ≡ colours.colour_ranges_of numbers.now }
     ensures sound { IfSome result IsColourRanges }
 {
     match numbers {
@@ -79,7 +79,7 @@ pub fn colour_in(ranges: &ColourRanges, numbers: &Numbers<'_>) -> Option<Setting
 
 // What PC sets in the profile core.
 fn core_colour(numbers: &Numbers<'_>) -> Option<Setting>
-    ensures value { result ≡ parameters.pen_colour numbers.now }
+    ensures value { result ≡ parameters.pen_colour_setting numbers.now }
     ensures sound { IfSome result IsSetting }
 {
     match request_of(Instruction::PenColour, numbers) {
@@ -128,7 +128,7 @@ fn colour_of_pen(
 // A red, green or blue: 0 if it is black, 255 if it is white.
 fn part(range: ColourRange, value: Number) -> u8
     requires { IsColourRange range }
-    ensures { result ≡ colours.part range value }
+    ensures { result ≡ colours.colour_part range value }
 {
     let from_black = value.millionths() - 1_000_000 * range.black;
     let extent = range.white - range.black;

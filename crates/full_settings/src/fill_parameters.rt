@@ -24,7 +24,7 @@ pub fn fill_type_setting(numbers: &[Number]) -> Option<FillSetting>
 }
 
 fn fill_of_type(kind: i64, rest: &[Number]) -> Option<FillSetting>
-    ensures value { result ≡ fills.type_given kind rest.now }
+    ensures value { result ≡ fills.fill_type_given kind rest.now }
     ensures sound { IfSome result IsFillSetting }
 {
     match kind {

@@ -2,7 +2,7 @@
 ghost use Rattle.std.specs.Prelude.{◌≡◌, ◌≤◌, ◌^◌, ◌&&◌, nat_abs, IfSome};
 ghost use Rattle.plot_settings.specs.Parameters.{when};
 ghost use Rattle.full_settings.specs.LetterParameters as parameters;
-ghost use Rattle.full_settings.specs.LetterParameters.{IsLetterSetting, IsHeading, pair};
+ghost use Rattle.full_settings.specs.LetterParameters.{IsLetterSetting, IsHeading, pair_of};
 ghost use Rattle.full_settings.specs.declared.letter_setting.LetterSetting.TheVariants as setting;
 
 use crate::letter_setting::LetterSetting;
@@ -34,7 +34,7 @@ pub fn relative_size_setting(numbers: &[Number]) -> Option<LetterSetting>
 fn relative_size_by(width: i64, height: i64) -> Option<LetterSetting>
     ensures value { result ≡
         when (parameters.is_relative_size width && parameters.is_relative_size height)
-        (setting.RelativeSize (pair width height)) }
+        (setting.RelativeSize (pair_of width height)) }
     ensures sound { IfSome result IsLetterSetting }
 {
     if is_relative_size(width) && is_relative_size(height) {
@@ -79,7 +79,7 @@ fn slant_by(tangent: i64) -> Option<LetterSetting>
 /// DI run, rise (Absolute Direction): where labels lead, or to the right if no number is there. `None` if
 /// the rise is missing, or both are 0.
 pub fn direction_setting(numbers: &[Number]) -> Option<LetterSetting>
-    ensures value { result ≡ parameters.direction numbers.now }
+    ensures value { result ≡ parameters.letter_direction numbers.now }
     ensures sound { IfSome result IsLetterSetting }
 {
     match numbers {
@@ -112,7 +112,7 @@ pub fn relative_direction_setting(numbers: &[Number]) -> Option<LetterSetting>
 fn heading_by(run: i64, rise: i64) -> Option<Pair<i64>>
     requires run_in { nat_abs run ≤ 2 ^ 55 }
     requires rise_in { nat_abs rise ≤ 2 ^ 55 }
-    ensures value { result ≡ when (parameters.is_vector run rise) (pair run rise) }
+    ensures value { result ≡ when (parameters.is_vector run rise) (pair_of run rise) }
     ensures sound { IfSome result IsHeading }
 {
     if run == 0 && rise == 0 {
@@ -136,7 +136,7 @@ pub fn space_setting(numbers: &[Number]) -> Option<LetterSetting>
 }
 
 fn step_by(spaces: i64, lines: i64) -> Option<LetterSetting>
-    ensures value { result ≡ parameters.step_by spaces lines }
+    ensures value { result ≡ parameters.spacing_by spaces lines }
     ensures sound { IfSome result IsLetterSetting }
 {
     if is_space(spaces) && is_space(lines) {
@@ -158,7 +158,7 @@ fn is_space(millionths: i64) -> bool
 /// LO position (Label Origin): 1 to 9, 11 to 19, or 21, which is 1; 1 if no number is there. `None` for any
 /// other position.
 pub fn origin_setting(numbers: &[Number]) -> Option<LetterSetting>
-    ensures value { result ≡ parameters.origin numbers.now }
+    ensures value { result ≡ parameters.letter_origin numbers.now }
     ensures sound { IfSome result IsLetterSetting }
 {
     match numbers {
@@ -226,7 +226,7 @@ fn path_by(number: i64) -> Option<Path>
 }
 
 fn line_by(number: i64) -> Option<LineFeed>
-    ensures { result ≡ parameters.line_by number }
+    ensures { result ≡ parameters.line_feed_by number }
 {
     match number {
         0 => Some(LineFeed::Normal),

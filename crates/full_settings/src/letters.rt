@@ -1,9 +1,9 @@
 //! What is set of the letters of labels.
 ghost use Rattle.std.specs.Prelude.{◌≡◌, ◌≤◌, ◌^◌, nat_abs};
-ghost use Rattle.directions.specs.Directions.{turned};
+ghost use Rattle.directions.specs.Directions.{vector_turned};
 ghost use Rattle.plot_frame.specs.Bounds.{IsPoints};
 ghost use Rattle.full_settings.specs.LetterParameters.{IsLetterSetting, IsPairWithin};
-ghost use Rattle.full_settings.specs.Letters.{usual_letters, letters_with, IsLed, size_in, direction_in, style_in};
+ghost use Rattle.full_settings.specs.Letters.{usual_letters, letters_with, IsLed, letter_size_in, direction_in, style_in};
 ghost use Rattle.full_settings.specs.Characters.{IsFont};
 ghost use Rattle.full_settings.specs.Letters as letters;
 
@@ -141,7 +141,7 @@ impl Letters {
     fn size(&self, font: Font, size: CharacterSize, points: &Pair<Ends>) -> Pair<i64>
         requires font_in { IsFont font }
         requires points_in { IsPoints points.now }
-        ensures value { result ≡ size_in self.now.size font size points.now }
+        ensures value { result ≡ letter_size_in self.now.size font size points.now }
         ensures within { IsPairWithin (2 ^ 40) result }
     {
         match self.size {

@@ -2,7 +2,7 @@
 ghost use Rattle.std.specs.Prelude.{◌≡◌, ◌≤◌, ◌^◌, nat_abs, replicate, None};
 ghost use Rattle.plot_frame.specs.Bounds.{IsEnds, IsPoints};
 ghost use Rattle.line_types.specs.LineTypes.{line_shape};
-ghost use Rattle.full_settings.specs.LineStyles.{IsLineSetting, usual_style, style_with, kind_or, is_solid};
+ghost use Rattle.full_settings.specs.LineStyles.{IsLineSetting, usual_style, style_with, line_kind_or, is_solid};
 ghost use Rattle.full_settings.specs.LineStyles.{usual_gaps, gaps_of};
 ghost use Rattle.full_settings.specs.LineStyles.{distance, diagonal, ticks_of, patterned_shape, shape_of};
 
@@ -53,10 +53,10 @@ impl LineStyle {
     {
         match setting {
             LineSetting::Solid => {
-                self.remembered = kind_or(self.kind, self.remembered);
+                self.remembered = line_kind_or(self.kind, self.remembered);
                 self.kind = LineKind::Solid;
             }
-            LineSetting::Again => self.kind = kind_or(self.kind, self.remembered),
+            LineSetting::Again => self.kind = line_kind_or(self.kind, self.remembered),
             LineSetting::Type(n) => self.kind = LineKind::Patterned(n),
             LineSetting::TypeAndLength(n, length) => {
                 self.kind = LineKind::Patterned(n);
@@ -126,8 +126,8 @@ fn patterned(n: i8, pattern: Pattern, length: Length) -> LineType
 }
 
 // A kind, or the one before solid lines.
-fn kind_or(kind: LineKind, before: LineKind) -> LineKind
-    ensures { result ≡ kind_or kind before }
+fn line_kind_or(kind: LineKind, before: LineKind) -> LineKind
+    ensures { result ≡ line_kind_or kind before }
 {
     match kind {
         LineKind::Solid => before,

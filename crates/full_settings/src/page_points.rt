@@ -5,7 +5,7 @@ ghost use Rattle.plot_settings.specs.Bounds.{IsSetting};
 ghost use Rattle.plot_settings.specs.Parameters.{ends_at};
 ghost use Rattle.full_settings.specs.LetterParameters.{IsPairWithin};
 ghost use Rattle.full_settings.specs.RelativePoints as points;
-ghost use Rattle.full_settings.specs.RelativePoints.{IsRelativePoints, part_of, setting_of};
+ghost use Rattle.full_settings.specs.RelativePoints.{IsRelativePoints, side_part, setting_of};
 
 use crate::percentages::is_percentage;
 use exact::rounded;
@@ -42,7 +42,7 @@ pub fn relative_points(numbers: &[Number]) -> Option<RelativePoints>
 
 // A point in percent of the page.
 fn point(x: Number, y: Number) -> Option<Pair<i64>>
-    ensures value { result ≡ points.point x y }
+    ensures value { result ≡ points.relative_point x y }
     ensures sound { IfSome result (IsPairWithin (10 ^ 9)) }
 {
     let (x, y) = (x.millionths(), y.millionths());
@@ -90,7 +90,7 @@ pub fn points_of(points: RelativePoints, width: u32, height: u32, left: u32, bel
     match points {
         RelativePoints::Page => Setting::PageCorners,
         RelativePoints::First(p) => {
-            Setting::FirstPoint(part_of(p.x, width, left), part_of(p.y, height, below))
+            Setting::FirstPoint(side_part(p.x, width, left), side_part(p.y, height, below))
         }
         RelativePoints::Both(p, q) => Setting::BothPoints(Pair {
             x: ends_of(p.x, q.x, width, left),
@@ -101,11 +101,11 @@ pub fn points_of(points: RelativePoints, width: u32, height: u32, left: u32, bel
 
 // Millionths of a percent of a side of the page, which begins `before` plotter units before 0, as a
 // coordinate in plotter units.
-fn part_of(percent: i64, side: u32, before: u32) -> i64
+fn side_part(percent: i64, side: u32, before: u32) -> i64
     requires percent_in { nat_abs percent ≤ 1000000000 }
     requires side_in { side ≤ 65536 }
     requires before_in { before ≤ 65536 }
-    ensures value { result ≡ part_of percent side before }
+    ensures value { result ≡ side_part percent side before }
     ensures most { nat_abs result ≤ 2 ^ 20 }
 {
     rounded(i128::from(percent) * i128::from(side), 100_000_000) as i64 - i64::from(before)
@@ -117,10 +117,13 @@ fn ends_of(first: i64, last: i64, side: u32, before: u32) -> Ends
     requires last_in { nat_abs last ≤ 1000000000 }
     requires side_in { side ≤ 65536 }
     requires before_in { before ≤ 65536 }
-    ensures value { result ≡ ends_at (part_of first side before) (part_of last side before) }
+    ensures value { result ≡ ends_at (side_part first side before) (side_part last side before) }
     ensures sound { IsEnds result }
 {
-    ends_at(part_of(first, side, before), part_of(last, side, before))
+    ends_at(
+        side_part(first, side, before),
+        side_part(last, side, before),
+    )
 }
 
 // P1 and P2 on an axis: where both are the same, P2 gets one plotter unit more.

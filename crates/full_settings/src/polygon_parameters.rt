@@ -57,7 +57,7 @@ pub fn anchor(numbers: &[Number]) -> Option<Anchor>
 
 /// RA and RR x, y (Fill Rectangle): the corner opposite the pen. `None` if a coordinate is missing.
 pub fn fill_corner(numbers: &[Number]) -> Option<Corner>
-    ensures value { result ≡ polygons.corner numbers.now }
+    ensures value { result ≡ polygons.opposite_corner numbers.now }
     ensures sound { IfSome result (λ c. IsCorner c) }
 {
     match numbers {

@@ -2,7 +2,7 @@
 ghost use Rattle.std.specs.Prelude.{◌≡◌, ◌≤◌, take, false, IfSome, if◌then◌else◌};
 ghost use Rattle.full_settings.specs.FurtherRequests as requests;
 ghost use Rattle.full_settings.specs.FurtherRequests.{IsFurtherRequest, has_many, right_or_wrong};
-ghost use Rattle.full_settings.specs.PolygonParameters.{without_chord};
+ghost use Rattle.full_settings.specs.PolygonParameters.{without_polygon_chord};
 
 use crate::character_moves::{CharacterMove, character_move};
 use crate::character_parameters::{font_choice, set_choice};
@@ -95,7 +95,7 @@ pub fn further_request(further: Further, numbers: &Numbers<'_>) -> FurtherReques
 
 /// The same after CT 1, by which chords of arcs and wedges are not read.
 pub fn request_without_chord(further: Further, numbers: &Numbers<'_>) -> FurtherRequest
-    ensures value { result ≡ requests.further_request further (without_chord further numbers.now) }
+    ensures value { result ≡ requests.further_request further (without_polygon_chord further numbers.now) }
     ensures sound { IsFurtherRequest result }
 {
     match further {

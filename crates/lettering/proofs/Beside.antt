@@ -4,7 +4,7 @@ use Rattle.std.proofs.lemmas.Int.{ints}
 use Rattle.exact.specs.declared.spot.Spot.{Spot}
 use Rattle.character_sets.specs.declared.sign.Sign.{Sign}
 use Rattle.character_sets.specs.declared.sign.Sign.TheVariants.{Printed, CarriageReturn, LineFeed, Back, Tab}
-use Rattle.lettering.specs.Columns.{moved_on}
+use Rattle.lettering.specs.Columns.{cell_moved_on}
 use Rattle.lettering.specs.Labels.{strokes_from}
 use Rattle.lettering.specs.Letters.{gap, letter_corner, letter_strokes, letters_beside, origin_column, shift}
 use Rattle.lettering.specs.Styles.{parts_of, steps_to}
@@ -25,10 +25,10 @@ same_corner style cell n m e =
 pub same_strokes : (style : Style) (n m : ℤ) (cell : Cell) (signs : List Sign) → origin_column style ≡ 0 → strokes_from style n cell signs ≡ strokes_from style m cell signs
 same_strokes style n m cell [] e = refl
 same_strokes style n m cell (CarriageReturn ∷ signs) e = refl
-same_strokes style n m cell (LineFeed ∷ signs) e = same_strokes style n m (moved_on cell LineFeed) signs e
-same_strokes style n m cell (Back ∷ signs) e = same_strokes style n m (moved_on cell Back) signs e
-same_strokes style n m cell (Tab ∷ signs) e = same_strokes style n m (moved_on cell Tab) signs e
+same_strokes style n m cell (LineFeed ∷ signs) e = same_strokes style n m (cell_moved_on cell LineFeed) signs e
+same_strokes style n m cell (Back ∷ signs) e = same_strokes style n m (cell_moved_on cell Back) signs e
+same_strokes style n m cell (Tab ∷ signs) e = same_strokes style n m (cell_moved_on cell Tab) signs e
 same_strokes style n m cell (Printed code ∷ signs) e =
     ap₂ (λ (here rest : List (Spot × Spot)). here ++ rest)
     (ap (λ (corner : Spot). letter_strokes style corner code) (same_corner style cell n m e))
-    (same_strokes style n m (moved_on cell (Printed code)) signs e)
+    (same_strokes style n m (cell_moved_on cell (Printed code)) signs e)

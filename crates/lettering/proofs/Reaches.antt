@@ -4,7 +4,7 @@ use Rattle.std.proofs.lemmas.Int.{ints, clamps}
 use Rattle.std.specs.Int.{int_max}
 use Rattle.character_sets.specs.declared.sign.Sign.{Sign}
 use Rattle.character_sets.specs.declared.sign.Sign.TheVariants.{Printed, CarriageReturn, LineFeed, Back, Tab}
-use Rattle.lettering.specs.Columns.{column_after, reach_from}
+use Rattle.lettering.specs.Columns.{column_after_sign, reach_from}
 
 -- a reach begins with its column
 pub reach_least : (column : ℤ) (signs : List Sign) → column ≤ℤ reach_from column signs
@@ -21,9 +21,9 @@ through most column next reach p q = omega (arith, ints, clamps)
 
 -- a reach goes on with that of the next column
 pub reach_more : (most column : ℤ) (sign : Sign) (signs : List Sign) → column ≤ℤ most → sign ≢ CarriageReturn
-    → int_max most (reach_from column (sign ∷ signs)) ≡ int_max (int_max most (column_after column sign)) (reach_from (column_after column sign) signs)
+    → int_max most (reach_from column (sign ∷ signs)) ≡ int_max (int_max most (column_after_sign column sign)) (reach_from (column_after_sign column sign) signs)
 reach_more most column CarriageReturn signs p h = absurd (h refl)
-reach_more most column (Printed code) signs p h = through most column (column_after column (Printed code)) _ p (reach_least (column_after column (Printed code)) signs)
+reach_more most column (Printed code) signs p h = through most column (column_after_sign column (Printed code)) _ p (reach_least (column_after_sign column (Printed code)) signs)
 reach_more most column LineFeed signs p h = through most column column _ p (reach_least column signs)
-reach_more most column Back signs p h = through most column (column_after column Back) _ p (reach_least (column_after column Back) signs)
-reach_more most column Tab signs p h = through most column (column_after column Tab) _ p (reach_least (column_after column Tab) signs)
+reach_more most column Back signs p h = through most column (column_after_sign column Back) _ p (reach_least (column_after_sign column Back) signs)
+reach_more most column Tab signs p h = through most column (column_after_sign column Tab) _ p (reach_least (column_after_sign column Tab) signs)

@@ -7,7 +7,7 @@ use Rattle.std.proofs.lemmas.Bool.{cases_Bool}
 use Rattle.std.proofs.lemmas.Bool.Decides.{nat_tests}
 use Rattle.std.proofs.lemmas.List.{append-nil, map-append, reverse-append}
 use Rattle.exact.specs.declared.spot.Spot.{Spot}
-use Rattle.directions.specs.Directions.{swung, turned}
+use Rattle.directions.specs.Directions.{swung, vector_turned}
 use Rattle.directions.specs.Laws.{right}
 use Rattle.directions.specs.declared.turn.Turn.{Turn}
 use Rattle.directions.proofs.Axes.{axes_are_exact_lem}
@@ -28,10 +28,10 @@ use Rattle.character_sets.specs.declared.set.CharacterSet.TheVariants.{Ascii}
 use Rattle.character_sets.specs.declared.sign.Sign.{Sign}
 use Rattle.character_sets.specs.declared.sign.Sign.TheVariants.{Printed, CarriageReturn, LineFeed}
 use Rattle.character_sets.proofs.AsciiSigns.{ascii_signs, unshifted_signs}
-use Rattle.lettering.specs.Columns.{cell_after, first_cell, moved_on, section_letters}
+use Rattle.lettering.specs.Columns.{cell_after_signs, first_cell, cell_moved_on, section_letters}
 use Rattle.lettering.specs.CoreTexts.{is_core_byte}
 use Rattle.lettering.specs.Cells.{cell_offset}
-use Rattle.lettering.specs.Labels.{sign_strokes, strokes_from, label_strokes, label_end}
+use Rattle.lettering.specs.Labels.{sign_strokes, strokes_from, styled_label_strokes, styled_label_end}
 use Rattle.lettering.specs.Laws.{usual_turned, turned_offset, turned_stroke, UsualLabelsAreTurned}
 use Rattle.lettering.specs.Letters.{letter_corner, letter_point, letter_stroke, on_grid}
 use Rattle.lettering.specs.declared.cell.Cell.{Cell}
@@ -97,7 +97,7 @@ kind_of byte = elim (cases_Bool (nat_eq byte 13)) [
 
 -- a printed byte goes on a column, and one that is nothing stays in its cell
 printed_cell : (before : List ℕ) (byte : ℕ) → nat_eq byte 13 ≡ false → nat_eq byte 10 ≡ false → upright.is_printed byte ≡ true
-    → moved_on (as_cell (upright.cell_after before)) (Printed byte) ≡ as_cell (upright.cell_after (byte ∷ before))
+    → cell_moved_on (as_cell (upright.cell_after before)) (Printed byte) ≡ as_cell (upright.cell_after (byte ∷ before))
 printed_cell before byte r f p =
     rw (r, f, p) (ap (λ (n : ℕ). record { column = pos n; line = upright.line_after before }) (omega arith))
 
@@ -115,20 +115,20 @@ blank_sign byte core r f p = sign_is byte core ∙ rw (r, f, p) refl
 
 -- the cells of a text
 cells_step : (before : List ℕ) (byte : ℕ) (signs : List Sign) → is_core_byte byte ≡ true → Kind byte
-    → cell_after (as_cell (upright.cell_after before)) (option_to_list (sign_of Ascii byte) ++ signs) ≡ cell_after (as_cell (upright.cell_after (byte ∷ before))) signs
+    → cell_after_signs (as_cell (upright.cell_after before)) (option_to_list (sign_of Ascii byte) ++ signs) ≡ cell_after_signs (as_cell (upright.cell_after (byte ∷ before))) signs
 cells_step before byte signs core (returns e) =
-    subst (λ (b : ℕ). cell_after (as_cell (upright.cell_after before)) (option_to_list (sign_of Ascii b) ++ signs) ≡ cell_after (as_cell (upright.cell_after (b ∷ before))) signs) (sym e) refl
+    subst (λ (b : ℕ). cell_after_signs (as_cell (upright.cell_after before)) (option_to_list (sign_of Ascii b) ++ signs) ≡ cell_after_signs (as_cell (upright.cell_after (b ∷ before))) signs) (sym e) refl
 cells_step before byte signs core (feeds e) =
-    subst (λ (b : ℕ). cell_after (as_cell (upright.cell_after before)) (option_to_list (sign_of Ascii b) ++ signs) ≡ cell_after (as_cell (upright.cell_after (b ∷ before))) signs) (sym e) refl
+    subst (λ (b : ℕ). cell_after_signs (as_cell (upright.cell_after before)) (option_to_list (sign_of Ascii b) ++ signs) ≡ cell_after_signs (as_cell (upright.cell_after (b ∷ before))) signs) (sym e) refl
 cells_step before byte signs core (prints r f p) =
-    ap (λ (s : Option Sign). cell_after (as_cell (upright.cell_after before)) (option_to_list s ++ signs)) (printed_sign byte core r f p)
-    ∙ ap (λ (cell : Cell). cell_after cell signs) (printed_cell before byte r f p)
+    ap (λ (s : Option Sign). cell_after_signs (as_cell (upright.cell_after before)) (option_to_list s ++ signs)) (printed_sign byte core r f p)
+    ∙ ap (λ (cell : Cell). cell_after_signs cell signs) (printed_cell before byte r f p)
 cells_step before byte signs core (nothing r f p) =
-    ap (λ (s : Option Sign). cell_after (as_cell (upright.cell_after before)) (option_to_list s ++ signs)) (blank_sign byte core r f p)
-    ∙ ap (λ (cell : upright_cell.Cell). cell_after (as_cell cell) signs) (blank_cell before byte r f p)
+    ap (λ (s : Option Sign). cell_after_signs (as_cell (upright.cell_after before)) (option_to_list s ++ signs)) (blank_sign byte core r f p)
+    ∙ ap (λ (cell : upright_cell.Cell). cell_after_signs (as_cell cell) signs) (blank_cell before byte r f p)
 
 cells_are : (before bytes : List ℕ) → IsTrue (list_all is_core_byte bytes)
-    → cell_after (as_cell (upright.cell_after before)) (ascii_signs bytes) ≡ as_cell (upright.cell_after (reverse bytes ++ before))
+    → cell_after_signs (as_cell (upright.cell_after before)) (ascii_signs bytes) ≡ as_cell (upright.cell_after (reverse bytes ++ before))
 cells_are before [] core = refl
 cells_are before (byte ∷ bytes) core =
     let here : is_core_byte byte ≡ true = grind (arith, nat_tests) in
@@ -159,7 +159,7 @@ module _ (size : CharacterSize) (turn : Turn) where
       let y = scaled 1000000 (on_grid corner.y (pos j)) p.y size.height 18 (omega arith) (omega arith) (omega arith) (omega (arith, ints)) in
       let z = upright_is (pos 3 *ℤ pos j) size.height in
       let w : upright.share p.x size.width 12 +ℤ pos 0 ≡ upright.share p.x size.width 12 = omega (arith, ints) in
-      ap (λ (o : Spot). swung (turned turn right) o)
+      ap (λ (o : Spot). swung (vector_turned turn right) o)
       (ap₂ vector (ap₂ (λ (a b : ℤ). a +ℤ b) x z ∙ w) y)
       ∙ axes_are_exact_lem.swings turn (upright.offset size p)
 
@@ -213,16 +213,16 @@ module _ (size : CharacterSize) (turn : Turn) where
       let others : IsTrue (list_all is_core_byte bytes) = grind (arith, nat_tests) in
       goes n before byte bytes here (kind_of byte) (λ m. strokes_are m (byte ∷ before) bytes others)
 
-  end_is : (bytes : List ℕ) → IsTrue (list_all is_core_byte bytes) → label_end style (ascii_signs bytes) ≡ turned_offset size turn (upright.label_end bytes)
+  end_is : (bytes : List ℕ) → IsTrue (list_all is_core_byte bytes) → styled_label_end style (ascii_signs bytes) ≡ turned_offset size turn (upright.label_end bytes)
   end_is bytes core =
       let column : ℕ = upright.column_after (reverse bytes) in
       let line : ℕ = upright.line_after (reverse bytes) in
       let p : Spot = upright.label_end bytes in
-      let cells : cell_after first_cell (ascii_signs bytes) ≡ as_cell (upright.cell_after (reverse bytes)) = cells_are [] bytes core ∙ ap (λ (all : List ℕ). as_cell (upright.cell_after all)) (append-nil (reverse bytes)) in
+      let cells : cell_after_signs first_cell (ascii_signs bytes) ≡ as_cell (upright.cell_after (reverse bytes)) = cells_are [] bytes core ∙ ap (λ (all : List ℕ). as_cell (upright.cell_after all)) (append-nil (reverse bytes)) in
       let x = scaled 1000000000000 (pos 18 *ℤ pos 1000000 *ℤ (pos 1000000 *ℤ pos column)) p.x size.width 12 (omega arith) (omega arith) (omega arith) (omega (arith, ints)) in
       let y = scaled 1000000000000 (pos 36 *ℤ pos 1000000 *ℤ neg_ℤ (pos (1000000 * line))) p.y size.height 18 (omega arith) (omega arith) (omega arith) (omega (arith, ints)) in
       ap (λ (cell : Cell). cell_offset style (pos 1000000 *ℤ cell.column) (pos (1000000 * cell.line))) cells
-      ∙ ap (λ (o : Spot). swung (turned turn right) o) (ap₂ vector x y)
+      ∙ ap (λ (o : Spot). swung (vector_turned turn right) o) (ap₂ vector x y)
       ∙ axes_are_exact_lem.swings turn (upright.offset size p)
 
 pub usual_labels_are_turned_lem : UsualLabelsAreTurned
@@ -232,9 +232,9 @@ usual_labels_are_turned_lem size turn encoding sets text core =
     let as_ascii : signs encoding sets text ≡ ascii_signs text = unshifted_signs encoding sets text reads (plain text bytes) in
     record {
       strokes =
-          ap (λ (all : List Sign). label_strokes (usual_turned size turn) all) as_ascii
+          ap (λ (all : List Sign). styled_label_strokes (usual_turned size turn) all) as_ascii
           ∙ strokes_are size turn (section_letters (ascii_signs text)) [] text bytes;
       end =
-          ap (λ (all : List Sign). label_end (usual_turned size turn) all) as_ascii
+          ap (λ (all : List Sign). styled_label_end (usual_turned size turn) all) as_ascii
           ∙ end_is size turn text bytes;
     }

@@ -2,7 +2,7 @@
 use Rattle.std.specs.Prelude.{◌≡◌, ◌≤◌, ◌%◌, ◌^◌, nat_abs, pos}
 use Rattle.exact.specs.declared.spot.Spot.{Spot}
 use Rattle.directions.specs.Bounds.{IsWithin}
-use Rattle.directions.specs.Directions.{turned}
+use Rattle.directions.specs.Directions.{vector_turned}
 use Rattle.directions.specs.Laws.{right}
 use Rattle.directions.specs.declared.turn.Turn.{Turn}
 use Rattle.lettering.specs.declared.style.Style.{Style}
@@ -29,4 +29,4 @@ pub record IsNear (style : Style) (corner : Spot) (turn : Turn) : Type 0 where
   pub width_in : nat_abs style.width ≤ 2 ^ 24
   pub height_in : nat_abs style.height ≤ 2 ^ 24
   pub corner_in : IsWithin (2 ^ 35) corner
-  pub along : style.direction ≡ turned turn right
+  pub along : style.direction ≡ vector_turned turn right

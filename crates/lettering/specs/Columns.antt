@@ -11,34 +11,34 @@ use Rattle.lettering.specs.declared.cell.Cell.{Cell}
 abbrev pub next_stop : ℤ → ℤ
 next_stop column = pos 8 *ℤ (floor (quotient column (pos 8)) +ℤ pos 1)
 
-abbrev pub column_after : ℤ → Sign → ℤ
-column_after column (Printed _) = column +ℤ pos 1
-column_after column Back = column -ℤ pos 1
-column_after column Tab = next_stop column
-column_after column CarriageReturn = pos 0
-column_after column LineFeed = column
+abbrev pub column_after_sign : ℤ → Sign → ℤ
+column_after_sign column (Printed _) = column +ℤ pos 1
+column_after_sign column Back = column -ℤ pos 1
+column_after_sign column Tab = next_stop column
+column_after_sign column CarriageReturn = pos 0
+column_after_sign column LineFeed = column
 
-abbrev pub moved_on : Cell → Sign → Cell
-moved_on cell LineFeed = record cell { line = suc cell.line }
-moved_on cell sign = record cell { column = column_after cell.column sign }
+abbrev pub cell_moved_on : Cell → Sign → Cell
+cell_moved_on cell LineFeed = record cell { line = suc cell.line }
+cell_moved_on cell sign = record cell { column = column_after_sign cell.column sign }
 
 abbrev pub first_cell : Cell
 first_cell = record { column = pos 0; line = 0 }
 
 -- the cell after signs
-abbrev pub cell_after : Cell → List Sign → Cell
-cell_after cell [] = cell
-cell_after cell (sign ∷ signs) = cell_after (moved_on cell sign) signs
+abbrev pub cell_after_signs : Cell → List Sign → Cell
+cell_after_signs cell [] = cell
+cell_after_signs cell (sign ∷ signs) = cell_after_signs (cell_moved_on cell sign) signs
 
 -- the cell after a label
 abbrev pub last_cell : List Sign → Cell
-last_cell signs = cell_after first_cell signs
+last_cell signs = cell_after_signs first_cell signs
 
 -- the greatest column, from a column on, that is reached before the next CR
 abbrev pub reach_from : ℤ → List Sign → ℤ
 reach_from column [] = column
 reach_from column (CarriageReturn ∷ signs) = column
-reach_from column (sign ∷ signs) = int_max column (reach_from (column_after column sign) signs)
+reach_from column (sign ∷ signs) = int_max column (reach_from (column_after_sign column sign) signs)
 
 -- how many letters long the section is that begins here: the greatest column that is reached in it, and at least 1
 abbrev pub section_letters : List Sign → ℤ

@@ -5,7 +5,7 @@ use Rattle.exact.specs.declared.spot.Spot.{Spot}
 use Rattle.character_sets.specs.declared.sign.Sign.{Sign}
 use Rattle.character_sets.specs.declared.sign.Sign.TheVariants.{Printed, CarriageReturn}
 use Rattle.lettering.specs.Cells.{cell_offset}
-use Rattle.lettering.specs.Columns.{first_cell, last_cell, moved_on, section_letters}
+use Rattle.lettering.specs.Columns.{first_cell, last_cell, cell_moved_on, section_letters}
 use Rattle.lettering.specs.Letters.{letter_corner, letter_strokes, origin_column}
 use Rattle.lettering.specs.declared.cell.Cell.{Cell}
 use Rattle.lettering.specs.declared.style.Style.{Style}
@@ -24,16 +24,16 @@ sign_strokes style n cell _ = []
 abbrev pub strokes_from : Style → ℤ → Cell → List Sign → List (Spot × Spot)
 strokes_from style n cell [] = []
 strokes_from style n cell (sign ∷ signs) =
-    sign_strokes style n cell sign ++ strokes_from style (letters_after n sign signs) (moved_on cell sign) signs
+    sign_strokes style n cell sign ++ strokes_from style (letters_after n sign signs) (cell_moved_on cell sign) signs
 
 -- the strokes of a label, each as its two ends
-abbrev pub label_strokes : Style → List Sign → List (Spot × Spot)
-label_strokes style signs = strokes_from style (section_letters signs) first_cell signs
+abbrev pub styled_label_strokes : Style → List Sign → List (Spot × Spot)
+styled_label_strokes style signs = strokes_from style (section_letters signs) first_cell signs
 
 -- where the pen ends: in the next letter's cell if LO's column is 0, half as many columns on if it is 1, and in the
 -- first column if it is 2
-abbrev pub label_end : Style → List Sign → Spot
-label_end style signs =
+abbrev pub styled_label_end : Style → List Sign → Spot
+styled_label_end style signs =
     let cell = last_cell signs in
     cell_offset style
     (pos (500000 * (2 - origin_column style)) *ℤ cell.column)

@@ -6,7 +6,7 @@ use Rattle.std.specs.Prelude.{ℤ, pos, ◌+ℤ◌, ◌-ℤ◌, ◌*ℤ◌}
 use Rattle.exact.specs.declared.spot.Spot.{Spot}
 use Rattle.directions.specs.Directions.{swung}
 use Rattle.stick_font.specs.Labels.{share}
-use Rattle.full_font.specs.Glyphs.{glyph_strokes}
+use Rattle.full_font.specs.Glyphs.{code_point_strokes}
 use Rattle.full_font.specs.declared.grid.GlyphStroke.{GlyphStroke}
 use Rattle.lettering.specs.Styles.{steps_to, parts_of}
 use Rattle.lettering.specs.declared.cell.Cell.{Cell}
@@ -76,7 +76,7 @@ letter_stroke style corner s = (letter_point style corner s.ax s.ay, letter_poin
 
 -- the strokes of a letter by its corner, each as its two ends
 abbrev pub letter_strokes : Style → Spot → ℕ → List (Spot × Spot)
-letter_strokes style corner code_point = map (letter_stroke style corner) (glyph_strokes code_point)
+letter_strokes style corner code_point = map (letter_stroke style corner) (code_point_strokes code_point)
 
 -- centred whatever DV and LO say, by the path to the right and LO 5: so is a symbol (HP-GL/2 guide: SM), a label of one sign
 abbrev pub centred : Style → Style

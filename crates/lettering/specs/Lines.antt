@@ -7,7 +7,7 @@ use Rattle.character_sets.specs.declared.sign.Sign.{Sign}
 use Rattle.character_sets.specs.declared.sign.Sign.TheVariants.{Printed}
 use Rattle.labels.specs.Labels.{LineShape, line_at, place_of, with_letter}
 use Rattle.labels.specs.declared.place.Place.{Place}
-use Rattle.lettering.specs.Columns.{first_cell, moved_on, section_letters}
+use Rattle.lettering.specs.Columns.{first_cell, cell_moved_on, section_letters}
 use Rattle.lettering.specs.Labels.{letters_after}
 use Rattle.lettering.specs.Letters.{letter_corner, letter_point}
 use Rattle.lettering.specs.declared.cell.Cell.{Cell}
@@ -49,15 +49,16 @@ line_begun style start n cell (Some line) = line
 -- with a letter in this cell
 abbrev pub lined : Style → Spot → ℤ → Cell → Option LineShape → ℕ → LineShape
 lined style start n cell begun code_point =
-    with_letter (line_begun style start n cell begun) code_point (letter_start style start n (moved_on cell (Printed code_point)))
+    with_letter
+    (line_begun style start n cell begun) code_point (letter_start style start n (cell_moved_on cell (Printed code_point)))
 
 -- the line that has begun, and those of signs from a cell on and a section of n letters
 abbrev pub lines_from : Style → Spot → ℤ → Cell → Option LineShape → List Sign → List LineShape
 lines_from style start n cell begun [] = option_to_list begun
 lines_from style start n cell begun (Printed code_point ∷ signs) =
-    lines_from style start n (moved_on cell (Printed code_point)) (Some (lined style start n cell begun code_point)) signs
+    lines_from style start n (cell_moved_on cell (Printed code_point)) (Some (lined style start n cell begun code_point)) signs
 lines_from style start n cell begun (sign ∷ signs) =
-    option_to_list begun ++ lines_from style start (letters_after n sign signs) (moved_on cell sign) None signs
+    option_to_list begun ++ lines_from style start (letters_after n sign signs) (cell_moved_on cell sign) None signs
 
 -- the lines of the label that starts there
 abbrev pub label_lines : Style → Spot → List Sign → List LineShape

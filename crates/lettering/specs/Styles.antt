@@ -1,7 +1,7 @@
 -- How the letters of a label follow each other (HP-GL/2 guide: DV and ES), and the style at the start.
 use Rattle.std.specs.Prelude.{◌^◌, ℤ, pos, neg_ℤ, ◌*ℤ◌}
 use Rattle.exact.specs.declared.spot.Spot.{Spot}
-use Rattle.directions.specs.Directions.{turned}
+use Rattle.directions.specs.Directions.{vector_turned}
 use Rattle.directions.specs.Laws.{right}
 use Rattle.directions.specs.declared.turn.Turn.{Turn}
 use Rattle.directions.specs.declared.turn.Turn.TheVariants.{None, Quarter, Half, ThreeQuarters}
@@ -25,7 +25,7 @@ lines_up Reverse m = m
 
 -- n columns along the path and m lines on, as steps to the right and steps up
 abbrev pub steps_to : Style → ℤ → ℤ → Spot
-steps_to style n m = turned (turn_of style.path) (record { x = n; y = lines_up style.line_feed m })
+steps_to style n m = vector_turned (turn_of style.path) (record { x = n; y = lines_up style.line_feed m })
 
 -- steps as twelfths of a letter's width and eighteenths of its height, in millionths: a step is one and a half widths
 -- to the right or two heights up, times that of ES

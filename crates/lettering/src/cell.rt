@@ -1,6 +1,6 @@
 //! The cells of a label.
 ghost use Rattle.std.specs.Prelude.{◌≡◌, ◌+◌, ◌<◌, ◌≤◌, ◌^◌, nat_abs};
-ghost use Rattle.lettering.specs.Columns.{column_after, moved_on};
+ghost use Rattle.lettering.specs.Columns.{column_after_sign, cell_moved_on};
 
 use character_sets::Sign;
 
@@ -23,7 +23,7 @@ impl Cell {
     pub fn after(self, sign: Sign) -> Cell
         requires column_in { nat_abs self.column ≤ 2 ^ 40 }
         requires line_in { self.line ≤ 2 ^ 40 }
-        ensures value { result ≡ moved_on self sign }
+        ensures value { result ≡ cell_moved_on self sign }
         ensures column_near { nat_abs result.column ≤ nat_abs self.column + 8 }
         ensures line_near { result.line ≤ self.line + 1 }
     {
@@ -33,7 +33,7 @@ impl Cell {
                 line: self.line + 1,
             },
             _ => Cell {
-                column: column_after(self.column, sign),
+                column: column_after_sign(self.column, sign),
                 line: self.line,
             },
         }
@@ -41,9 +41,9 @@ impl Cell {
 }
 
 // The column after a sign.
-pub fn column_after(column: i64, sign: Sign) -> i64
+pub fn column_after_sign(column: i64, sign: Sign) -> i64
     requires { nat_abs column ≤ 2 ^ 40 }
-    ensures value { result ≡ column_after column sign }
+    ensures value { result ≡ column_after_sign column sign }
     ensures near { nat_abs result ≤ nat_abs column + 8 }
 {
     match sign {

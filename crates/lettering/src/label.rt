@@ -1,7 +1,7 @@
 //! Labels.
 ghost use Rattle.std.specs.Prelude.{◌≡◌, ◌≤◌, ◌*◌, ◌^◌, length, pos, nat_abs, ◌*ℤ◌};
 ghost use Rattle.directions.specs.Bounds.{IsWithin};
-ghost use Rattle.lettering.specs.Labels.{label_strokes, label_end, margin_move};
+ghost use Rattle.lettering.specs.Labels.{styled_label_strokes, styled_label_end, margin_move};
 
 use crate::checked::Lettering;
 use crate::sections::last_cell;
@@ -23,7 +23,7 @@ impl Lettering {
     /// The strokes of a label of at most 2^26 signs (HP-GL/2: LB): letter by letter, from its start on.
     pub fn strokes<'a>(&'a self, signs: Signs<'a>) -> Strokes<'a>
         requires { length signs ≤ 2 ^ 26 }
-        ensures { result ≡ label_strokes self.now.style signs.entry }
+        ensures { result ≡ styled_label_strokes self.now.style signs.entry }
     {
         Strokes::of(Written::new(self, signs))
     }
@@ -31,7 +31,7 @@ impl Lettering {
     /// Where a label ends.
     pub fn ends(&self, signs: Signs<'_>) -> LabelEnds
         requires { length signs ≤ 2 ^ 26 }
-        ensures pen { result.pen ≡ label_end self.now.style signs.entry }
+        ensures pen { result.pen ≡ styled_label_end self.now.style signs.entry }
         ensures margin { result.margin ≡ margin_move self.now.style signs.entry }
         ensures pen_within { IsWithin (2 ^ 95) result.pen }
         ensures margin_within { IsWithin (2 ^ 95) result.margin }

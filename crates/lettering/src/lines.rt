@@ -4,7 +4,7 @@ ghost use Rattle.std.specs.Option.{option_to_list};
 ghost use Rattle.character_sets.specs.declared.sign.Sign.TheVariants.{Printed};
 ghost use Rattle.directions.specs.Bounds.{IsWithin};
 ghost use Rattle.labels.specs.Labels.{IsNear, LineShape, place_of};
-ghost use Rattle.lettering.specs.Columns.{moved_on};
+ghost use Rattle.lettering.specs.Columns.{cell_moved_on};
 ghost use Rattle.lettering.specs.Labels.{letters_after};
 ghost use Rattle.lettering.specs.Lines.{grid_place, label_lines, letter_start, letter_top, lined, line_begun, start_on_grid};
 ghost use Rattle.lettering.specs.Lines.{top_on_grid};
@@ -176,7 +176,7 @@ fn position_after(at: Position, sign: Sign, rest: &Signs<'_>) -> Position
     requires line_in { at.cell.line ≤ 2 ^ 40 }
     requires letters_in { nat_abs at.letters ≤ 2 ^ 29 }
     requires few { length rest.now ≤ 2 ^ 26 }
-    ensures cell { result.cell ≡ moved_on at.cell sign }
+    ensures cell { result.cell ≡ cell_moved_on at.cell sign }
     ensures letters { result.letters ≡ letters_after at.letters sign rest.now }
     ensures column_near { nat_abs result.cell.column ≤ nat_abs at.cell.column + 8 }
     ensures line_near { result.cell.line ≤ at.cell.line + 1 }

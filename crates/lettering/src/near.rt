@@ -78,7 +78,7 @@ fn is_near_start(corner: Spot) -> bool
 
 // By which turn a direction is along an axis, if it is.
 fn turn_along(direction: Direction) -> Option<Turn>
-    ensures { IfSome result (λ turn. direction ≡ directions.turned turn right) }
+    ensures { IfSome result (λ turn. direction ≡ directions.vector_turned turn right) }
 {
     if is_along(direction, Turn::None) {
         Some(Turn::None)
@@ -95,7 +95,7 @@ fn turn_along(direction: Direction) -> Option<Turn>
 
 // Whether a direction is the one to the right after a turn.
 fn is_along(direction: Direction, turn: Turn) -> bool
-    ensures { result ≡ true → direction ≡ directions.turned turn right }
+    ensures { result ≡ true → direction ≡ directions.vector_turned turn right }
 {
     let along = Direction::RIGHT.turned(turn);
     direction.x() == along.x() && direction.y() == along.y()
@@ -106,7 +106,7 @@ fn is_along(direction: Direction, turn: Turn) -> bool
 fn turned(turn: Turn, right: i64, up: i64) -> Spot
     requires right_in { nat_abs right ≤ 2 ^ 60 }
     requires up_in { nat_abs up ≤ 2 ^ 60 }
-    ensures value { result ≡ directions.turned turn (record { x = right; y = up }) }
+    ensures value { result ≡ directions.vector_turned turn (record { x = right; y = up }) }
     ensures within { IsWithin (2 ^ 95) result }
 {
     match turn {

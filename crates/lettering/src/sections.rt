@@ -2,7 +2,7 @@
 ghost use Rattle.std.specs.Prelude.{◌≡◌, ◌≤◌, ◌^◌, length, nat_abs};
 ghost use Rattle.lettering.specs.Columns.{last_cell, section_letters};
 
-use crate::cell::{Cell, column_after};
+use crate::cell::{Cell, column_after_sign};
 use character_sets::{Sign, Signs};
 
 // How many letters long the section is that begins with these signs: the greatest column that is reached
@@ -19,7 +19,7 @@ pub fn section_letters(signs: Signs<'_>) -> i64
         if let Sign::CarriageReturn = sign {
             return most;
         }
-        column = column_after(column, sign);
+        column = column_after_sign(column, sign);
         most = most.max(column);
     }
     most

@@ -8,8 +8,8 @@ use Rattle.std.specs.List.{All, flat_map, range_with_len}
 use Rattle.std.specs.Prelude.{nat_lt, nat_le, ◌&&◌, slice_index_or, if◌then◌else◌}
 use Rattle.exact.specs.declared.spot.Spot.{Spot}
 use Rattle.line_types.specs.declared.run.Run.{Run}
-use Rattle.line_types.specs.Lines.{long_of, share, spot_at}
-use Rattle.line_types.specs.Patterns.{drawn, start_of}
+use Rattle.line_types.specs.Lines.{long_of, share_of_line, spot_at}
+use Rattle.line_types.specs.Patterns.{drawn_gaps, start_of}
 use Rattle.line_types.specs.Dashes.{Stretch, dot_at, part, dash, dashes_along, fixed_distance, fixed_dashes, repetitions, adaptive_distance, adaptive_dashes, last_dot}
 use Rattle.line_types.specs.LineTypes.{LineShape, Solid, EndDot, Fixed, Adaptive, phase_at, dashes_of}
 use Rattle.line_types.specs.Laws.{IsInBox, IsDashInBox}
@@ -17,7 +17,7 @@ use Rattle.line_types.proofs.Shares.{share_in}
 
 -- a place on the way from a to b
 between : (least a b most : ℤ) (t long : ℕ) → 0 < long → t ≤ long → least ≤ℤ a → a ≤ℤ most → least ≤ℤ b → b ≤ℤ most
-    → (least ≤ℤ (a +ℤ share (b -ℤ a) t long)) × ((a +ℤ share (b -ℤ a) t long) ≤ℤ most)
+    → (least ≤ℤ (a +ℤ share_of_line (b -ℤ a) t long)) × ((a +ℤ share_of_line (b -ℤ a) t long) ≤ℤ most)
 between least a b most t long h k p q r s =
     let e = share_in (least -ℤ a) (b -ℤ a) (most -ℤ a) t long h k (omega (arith, ints)) (omega (arith, ints)) (omega (arith, ints)) (omega (arith, ints)) in
     (omega (arith, ints, e.0), omega (arith, ints, e.1))
@@ -64,7 +64,7 @@ module _ (low high a b : Spot) (from : IsInBox low high a) (to : IsInBox low hig
     along_in : (distance : ℕ → ℕ → ℕ) (gaps : List ℕ) (n : ℕ) → Stays (dashes_along distance gaps line n)
     along_in distance gaps n =
         all_flat (IsDashInBox low high) _ (λ (r : ℕ). all_flat (IsDashInBox low high) _
-        (λ (j : ℕ). dash_in (distance r (start_of gaps j)) (distance r (start_of gaps (j + 1)))) (drawn (length gaps))) (range_with_len 0 n)
+        (λ (j : ℕ). dash_in (distance r (start_of gaps j)) (distance r (start_of gaps (j + 1)))) (drawn_gaps (length gaps))) (range_with_len 0 n)
 
   dot_of : (first : ℕ) → Stays (if nat_eq first 0 then (b, b) ∷ [] else [])
   dot_of first = elim (cases_Bool (nat_eq first 0)) [

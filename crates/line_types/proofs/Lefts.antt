@@ -2,7 +2,7 @@
 use Rattle.std.proofs.Common.{◌≡◌, ℕ, suc, ◌+◌, ◌-◌, ◌%◌, ◌<◌, ◌≤◌, List, [], ◌∷◌, ◌++◌, nat_eq, false, filter, inl, inr, refl, ◌∙◌, arith, append_assoc}
 use Rattle.std.proofs.lemmas.Bool.{lt-ltb, le-ltb, eq-eqb, ne_eqb, cases_lt}
 use Rattle.std.specs.List.{range_with_len, flat_map}
-use Rattle.line_types.specs.Patterns.{drawn}
+use Rattle.line_types.specs.Patterns.{drawn_gaps}
 use Rattle.line_types.specs.Left.{drawn_from, left_from}
 
 -- of two numbers in a row, the first of them even
@@ -25,20 +25,20 @@ drawn_more j n h e = elim (cases_lt (j + 1) n) [
   | inr l ↦ (let k : n - j ≡ 1 = omega arith in rw (k, drawn_none (j + 2) n (omega arith)) (one_even j e))
 ]
 
-drawn_first : (n : ℕ) → drawn_from 0 n ≡ drawn n
+drawn_first : (n : ℕ) → drawn_from 0 n ≡ drawn_gaps n
 drawn_first n = let e : n - 0 ≡ n = omega arith in rw e refl
 
 module _ {X : Type 0} (piece : ℕ → ℕ → List X) (n last : ℕ) where
   -- a gap of a repetition
   pub gap_more : (r j : ℕ) → r < last → j < n → j % 2 ≡ 0 → left_from piece n last r j ≡ piece r j ++ left_from piece n last r (j + 2)
   gap_more r j h k e = rw (lt-ltb r last h, drawn_more j n k e)
-      (append_assoc (piece r j) (flat_map (piece r) (drawn_from (j + 2) n)) (flat_map (λ q. flat_map (piece q) (drawn n)) (range_with_len (r + 1) (last - (r + 1)))))
+      (append_assoc (piece r j) (flat_map (piece r) (drawn_from (j + 2) n)) (flat_map (λ q. flat_map (piece q) (drawn_gaps n)) (range_with_len (r + 1) (last - (r + 1)))))
 
   pub none_left : (r j : ℕ) → last ≤ r → left_from piece n last r j ≡ []
   none_left r j h = rw (le-ltb r last h) refl
 
   -- what is left at a repetition's start
-  whole : (r : ℕ) → r < last → left_from piece n last r 0 ≡ flat_map (λ q. flat_map (piece q) (drawn n)) (range_with_len r (last - r))
+  whole : (r : ℕ) → r < last → left_from piece n last r 0 ≡ flat_map (λ q. flat_map (piece q) (drawn_gaps n)) (range_with_len r (last - r))
   whole r h = let e : last - r ≡ suc (last - (r + 1)) = omega arith in rw (lt-ltb r last h, drawn_first n, e) refl
 
   -- after the last drawn gap of a repetition comes the next repetition
@@ -48,7 +48,7 @@ module _ {X : Type 0} (piece : ℕ → ℕ → List X) (n last : ℕ) where
     | inr l ↦ (let e : last - (r + 1) ≡ 0 = omega arith in rw (none_left (r + 1) 0 l, lt-ltb r last h, drawn_none j n k, e) refl)
   ]
 
-  pub all_left : left_from piece n last 0 0 ≡ flat_map (λ q. flat_map (piece q) (drawn n)) (range_with_len 0 last)
+  pub all_left : left_from piece n last 0 0 ≡ flat_map (λ q. flat_map (piece q) (drawn_gaps n)) (range_with_len 0 last)
   all_left = elim (cases_lt 0 last) [
     | inl l ↦ (let e : last - 0 ≡ last = omega arith in rw e at (whole 0 l))
     | inr l ↦ (let e : last ≡ 0 = omega arith in none_left 0 0 l ∙ rw e refl)

@@ -6,7 +6,7 @@ use Rattle.std.specs.Prelude.{◌&&◌, if◌then◌else◌, slice_index_or}
 use Rattle.std.specs.List.{range_with_len, flat_map}
 use Rattle.exact.specs.declared.spot.Spot.{Spot}
 use Rattle.line_types.specs.Lines.{long_of, spot_at}
-use Rattle.line_types.specs.Patterns.{start_of, drawn, nearest}
+use Rattle.line_types.specs.Patterns.{start_of, drawn_gaps, nearest_quotient}
 
 -- a line that begins at the distance `start` and is `long` ticks long
 pub record Stretch : Type 0 where
@@ -38,12 +38,12 @@ dash stretch s e =
 abbrev pub dashes_along : (ℕ → ℕ → ℕ) → List ℕ → Stretch → ℕ → List (Spot × Spot)
 dashes_along distance gaps stretch n =
     flat_map (λ r. flat_map (λ j. dash stretch (distance r (start_of gaps j)) (distance r (start_of gaps (j + 1))))
-    (drawn (length gaps)))
+    (drawn_gaps (length gaps)))
     (range_with_len 0 n)
 
 -- a fixed pattern has its length in each repetition
 abbrev pub fixed_distance : ℕ → ℕ → ℕ → ℕ → ℕ
-fixed_distance pattern_length total r s = r * pattern_length + nearest (pattern_length * s) total
+fixed_distance pattern_length total r s = r * pattern_length + nearest_quotient (pattern_length * s) total
 
 -- the line begins `phase` ticks after the start of the first repetition, and ends in the last one
 abbrev pub fixed_dashes : List ℕ → ℕ → ℕ → Spot → Spot → List (Spot × Spot)
@@ -59,7 +59,7 @@ repetitions pattern_length long = (long + pattern_length - 1) / pattern_length
 
 -- an adaptive pattern is shortened, so that a whole number of repetitions fill the line
 abbrev pub adaptive_distance : ℕ → ℕ → ℕ → ℕ → ℕ → ℕ
-adaptive_distance long count total r s = nearest (long * (r * total + s)) (count * total)
+adaptive_distance long count total r s = nearest_quotient (long * (r * total + s)) (count * total)
 
 -- a line begins and ends as its pattern begins: with a dot, if the first gap is 0
 abbrev pub last_dot : List ℕ → Spot → List (Spot × Spot)

@@ -11,7 +11,7 @@ use Rattle.line_types.specs.declared.repeated.Spacing.{Spacing}
 use Rattle.line_types.specs.declared.repeated.Spacing.TheVariants.{Even, Fitted}
 use Rattle.line_types.specs.Bounds.{IsPattern}
 use Rattle.line_types.specs.Lines.{long_of}
-use Rattle.line_types.specs.Patterns.{start_of, drawn}
+use Rattle.line_types.specs.Patterns.{start_of, drawn_gaps}
 use Rattle.line_types.specs.Dashes.{Stretch, dash, dashes_along, fixed_distance, adaptive_distance}
 
 -- of n gaps those that are drawn, from gap j on
@@ -23,7 +23,7 @@ abbrev pub left_from : {X : Type 0} → (ℕ → ℕ → List X) → ℕ → ℕ
 left_from piece n last r j =
     if nat_lt r last then
     flat_map (piece r) (drawn_from j n)
-    ++ flat_map (λ q. flat_map (piece q) (drawn n)) (range_with_len (r + 1) (last - (r + 1)))
+    ++ flat_map (λ q. flat_map (piece q) (drawn_gaps n)) (range_with_len (r + 1) (last - (r + 1)))
     else []
 
 -- the line of the dashes, and where it begins

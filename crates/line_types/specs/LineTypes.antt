@@ -1,10 +1,11 @@
 -- What each line type draws of a line, and where a pattern goes on.
 use Rattle.std.specs.Prelude.{ℕ, ◌+◌, ◌%◌, List, [], ◌∷◌, nat_eq, if◌then◌else◌, Option, Some, None}
+use Rattle.exact.specs.Spots.{is_same_spot}
 use Rattle.exact.specs.declared.spot.Spot.{Spot}
 use Rattle.line_types.specs.declared.line_type.LineType.{LineType}
 use Rattle.line_types.specs.declared.line_type.LineType.TheVariants as line_type
 use Rattle.line_types.specs.declared.run.Run.{Run}
-use Rattle.line_types.specs.Lines.{long_of, is_same_spot}
+use Rattle.line_types.specs.Lines.{long_of}
 use Rattle.line_types.specs.Dashes.{fixed_dashes, adaptive_dashes}
 
 -- a line type as contracts see it: a pattern is its gaps, with its length

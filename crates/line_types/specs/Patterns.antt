@@ -44,12 +44,12 @@ abbrev pub start_of : List ℕ → ℕ → ℕ
 start_of gaps j = sum (take j gaps)
 
 -- of n gaps those that are drawn: gaps 0, 2, 4 and so on
-abbrev pub drawn : ℕ → List ℕ
-drawn n = filter (λ j. nat_eq (j % 2) 0) (range_with_len 0 n)
+abbrev pub drawn_gaps : ℕ → List ℕ
+drawn_gaps n = filter (λ j. nat_eq (j % 2) 0) (range_with_len 0 n)
 
 -- the whole number nearest to a / b
-abbrev pub nearest : ℕ → ℕ → ℕ
-nearest a b = nat_abs (round (quotient (pos a) (pos b)))
+abbrev pub nearest_quotient : ℕ → ℕ → ℕ
+nearest_quotient a b = nat_abs (round (quotient (pos a) (pos b)))
 
 -- a pattern is 1 grain to 2^32 grains long
 abbrev pub cut_length : ℕ → ℕ
@@ -61,8 +61,8 @@ diagonal_of d e = root (2 ^ 24 * (nat_abs d * nat_abs d + nat_abs e * nat_abs e)
 
 -- a length in millionths of a percent of the diagonal
 abbrev pub length_by_percent : ℕ → ℕ → ℕ
-length_by_percent diagonal percent = cut_length (nearest (diagonal * percent) (100 * 10 ^ 6))
+length_by_percent diagonal percent = cut_length (nearest_quotient (diagonal * percent) (100 * 10 ^ 6))
 
 -- a length in millionths of a millimetre, which is 40 plotter units
 abbrev pub length_by_millimetres : ℕ → ℕ
-length_by_millimetres millimetres = cut_length (nearest (163840 * millimetres) (10 ^ 6))
+length_by_millimetres millimetres = cut_length (nearest_quotient (163840 * millimetres) (10 ^ 6))

@@ -2,7 +2,7 @@
 ghost use Rattle.std.specs.Prelude.{◌≡◌, ◌<◌, ◌≤◌, ◌+◌, ◌*◌, ◌^◌};
 ghost use Rattle.line_types.specs.Dashes.{fixed_distance, adaptive_distance};
 
-use crate::nearest::nearest;
+use crate::nearest::nearest_quotient;
 
 // In repetition r of a pattern of this length.
 #[inline]
@@ -15,7 +15,7 @@ pub fn even_distance(length: u64, total: u64, r: u64, passed: u64) -> u64
     ensures value { result ≡ fixed_distance length total r passed }
     ensures most { result < 2 ^ 43 }
 {
-    let here = nearest(u128::from(length) * u128::from(passed), u128::from(total)) as u64;
+    let here = nearest_quotient(u128::from(length) * u128::from(passed), u128::from(total)) as u64;
     r * length + here
 }
 
@@ -33,5 +33,5 @@ pub fn fitted_distance(long: u64, count: u64, total: u64, r: u64, passed: u64) -
 {
     let total = u128::from(total);
     let gone = u128::from(r) * total + u128::from(passed);
-    nearest(u128::from(long) * gone, u128::from(count) * total) as u64
+    nearest_quotient(u128::from(long) * gone, u128::from(count) * total) as u64
 }

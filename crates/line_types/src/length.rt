@@ -2,7 +2,7 @@
 ghost use Rattle.std.specs.Prelude.{◌≡◌, ◌≤◌, ◌<◌, ◌^◌, nat_abs};
 ghost use Rattle.line_types.specs.Patterns.{diagonal_of, cut_length, length_by_percent, length_by_millimetres};
 
-use crate::nearest::nearest;
+use crate::nearest::nearest_quotient;
 use exact::root;
 
 /// The length of a pattern in ticks of 1/256 grain: 256 to 2^40.
@@ -19,14 +19,14 @@ impl Length {
         requires { diagonal ≤ 2 ^ 40 }
         ensures { result.ticks ≡ length_by_percent diagonal percent }
     {
-        Length::cut(nearest(u128::from(diagonal) * u128::from(percent), 100_000_000))
+        Length::cut(nearest_quotient(u128::from(diagonal) * u128::from(percent), 100_000_000))
     }
 
     /// A length in millionths of a millimetre.
     pub fn of_millimetres(millimetres: u64) -> Length
         ensures { result.ticks ≡ length_by_millimetres millimetres }
     {
-        Length::cut(nearest(163_840 * u128::from(millimetres), 1_000_000))
+        Length::cut(nearest_quotient(163_840 * u128::from(millimetres), 1_000_000))
     }
 
     // The length, cut to its range.

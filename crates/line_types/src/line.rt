@@ -1,7 +1,7 @@
 //! A line, measured.
 ghost use Rattle.std.specs.Prelude.{◌≡◌, ◌≤◌, ◌<◌, ◌^◌, nat_abs, ◌+ℤ◌, ◌-ℤ◌};
 ghost use Rattle.line_types.specs.Bounds.{IsPlace};
-ghost use Rattle.line_types.specs.Lines.{long_of, share, spot_at};
+ghost use Rattle.line_types.specs.Lines.{long_of, share_of_line, spot_at};
 
 use exact::{Spot, root, rounded};
 
@@ -60,7 +60,7 @@ fn moved(a: i128, b: i128, t: u64, long: u64) -> i128
     requires t_in { t ≤ long }
     requires above { 0 < long }
     requires long_in { long < 2 ^ 30 }
-    ensures { result ≡ a +ℤ share (b -ℤ a) t long }
+    ensures { result ≡ a +ℤ share_of_line (b -ℤ a) t long }
 {
     a + rounded((b - a) * i128::from(t), i128::from(long))
 }

@@ -5,11 +5,11 @@ use Rattle.std.proofs.Math.Seq.{take-add}
 use Rattle.std.proofs.lemmas.Grind.{flat_map-append}
 use Rattle.std.proofs.lemmas.List.{length-take-le, length-drop}
 use Rattle.picture_out.specs.declared.inks.Ink.{Ink}
-use Rattle.picture_out.specs.Inks.{colour_of, ink_at, paper, cell_colour}
+use Rattle.picture_out.specs.Inks.{colour_bytes, ink_at, paper, cell_colour}
 use Rattle.picture_out.proofs.Tables.{placed}
 
 pub colour_size : (inks : List Ink) (cell : ℕ) → length (cell_colour inks cell) ≡ 3
-colour_size inks cell = elim (nat_eq cell 0) as (λ b. length (cond b (colour_of paper) (colour_of (ink_at inks cell))) ≡ 3) [ true ↦ refl | false ↦ refl ]
+colour_size inks cell = elim (nat_eq cell 0) as (λ b. length (cond b (colour_bytes paper) (colour_bytes (ink_at inks cell))) ≡ 3) [ true ↦ refl | false ↦ refl ]
 
 pub threes : {X : Type 0} (f : X → List ℕ) (xs : List X) → ((x : X) → length (f x) ≡ 3) → length (flat_map f xs) ≡ 3 * length xs
 threes f [] h = omega arith

@@ -6,7 +6,7 @@ use Rattle.picture_out.specs.declared.inks.Ink.{Ink}
 use Rattle.bit_rows.specs.Bits.{byte_of, packed}
 use Rattle.picture_out.specs.Inks.{paper, ink_at, cell_colour}
 use Rattle.picture_out.specs.Marks.{two_digits, colour_digits, marks_from}
-use Rattle.picture_out.specs.Pcl.{escape, set_resolution, set_width, set_height, transfer_command}
+use Rattle.picture_out.specs.Pcl.{escape_byte, set_resolution, set_width, set_height, transfer_command}
 use Rattle.picture_out.specs.Forms.{head_bytes, row_bytes, foot_bytes, takes_resolution}
 use Rattle.picture_out.specs.Rooms.{room_of}
 
@@ -127,12 +127,12 @@ bitmap_foot = refl
 
 -- PCL: a picture of five by five pixels at 75 dots per inch, of which only row 2 has ink
 head_of_five : head_bytes Pcl 75 5 5
-    ≡ escape ∷ 69
-    ∷ escape ∷ 42 ∷ 116 ∷ 55 ∷ 53 ∷ 82
-    ∷ escape ∷ 42 ∷ 114 ∷ 53 ∷ 83
-    ∷ escape ∷ 42 ∷ 114 ∷ 53 ∷ 84
-    ∷ escape ∷ 42 ∷ 114 ∷ 48 ∷ 65
-    ∷ escape ∷ 42 ∷ 98 ∷ 48 ∷ 77 ∷ []
+    ≡ escape_byte ∷ 69
+    ∷ escape_byte ∷ 42 ∷ 116 ∷ 55 ∷ 53 ∷ 82
+    ∷ escape_byte ∷ 42 ∷ 114 ∷ 53 ∷ 83
+    ∷ escape_byte ∷ 42 ∷ 114 ∷ 53 ∷ 84
+    ∷ escape_byte ∷ 42 ∷ 114 ∷ 48 ∷ 65
+    ∷ escape_byte ∷ 42 ∷ 98 ∷ 48 ∷ 77 ∷ []
 unfolding digits
 head_of_five = refl
 
@@ -148,15 +148,15 @@ foot_of_five : foot_bytes Pcl ≡ 27 ∷ 42 ∷ 114 ∷ 66 ∷ 27 ∷ 69 ∷ []
 foot_of_five = refl
 
 -- the width is in pixels, the row in bytes
-nine_pixels_wide : set_width 9 ≡ escape ∷ codes "*r9S"
+nine_pixels_wide : set_width 9 ≡ escape_byte ∷ codes "*r9S"
 unfolding digits
 nine_pixels_wide = refl
 
-row_of_nine : row_bytes Pcl 7 [] (0 ∷ 1 ∷ 2 ∷ 0 ∷ 0 ∷ 255 ∷ 0 ∷ 1 ∷ 3 ∷ []) ≡ (escape ∷ codes "*b2W") ++ (101 ∷ 128 ∷ [])
+row_of_nine : row_bytes Pcl 7 [] (0 ∷ 1 ∷ 2 ∷ 0 ∷ 0 ∷ 255 ∷ 0 ∷ 1 ∷ 3 ∷ []) ≡ (escape_byte ∷ codes "*b2W") ++ (101 ∷ 128 ∷ [])
 unfolding digits
 row_of_nine = refl
 
-row_of_none : row_bytes Pcl 0 [] [] ≡ escape ∷ codes "*b0W"
+row_of_none : row_bytes Pcl 0 [] [] ≡ escape_byte ∷ codes "*b0W"
 unfolding digits
 row_of_none = refl
 
@@ -164,15 +164,15 @@ room_in_pcl : room_of Pcl 9 ≡ 2
 room_in_pcl = refl
 
 -- numbers of several digits
-fine_resolution : set_resolution 600 ≡ escape ∷ codes "*t600R"
+fine_resolution : set_resolution 600 ≡ escape_byte ∷ codes "*t600R"
 unfolding digits
 fine_resolution = refl
 
-many_rows : set_height 77405 ≡ escape ∷ codes "*r77405T"
+many_rows : set_height 77405 ≡ escape_byte ∷ codes "*r77405T"
 unfolding digits
 many_rows = refl
 
-many_bytes : transfer_command 9676 ≡ escape ∷ codes "*b9676W"
+many_bytes : transfer_command 9676 ≡ escape_byte ∷ codes "*b9676W"
 unfolding digits
 many_bytes = refl
 

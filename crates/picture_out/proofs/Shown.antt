@@ -5,7 +5,7 @@ use Rattle.std.proofs.lemmas.Bool.{cases_lt, not-true, not-false}
 use Rattle.std.proofs.lemmas.List.{get_or-drop, get_or_past, take_at, drop_at, drop-drop}
 use Rattle.std.proofs.lemmas.List.FromFn.{get_or-map-range_with_len}
 use Rattle.picture_out.specs.declared.inks.Ink.{Ink}
-use Rattle.picture_out.specs.Inks.{paper, ink_at, colour_of, cell_colour}
+use Rattle.picture_out.specs.Inks.{paper, ink_at, colour_bytes, cell_colour}
 use Rattle.picture_out.specs.Marks.{line, mark, marks_from}
 use Rattle.bit_rows.specs.Bits.{bit_of, byte_of, bytes_for, packed}
 use Rattle.picture_out.specs.Laws.{is_inked, bit_at, bytes_at, BitsShow, ColoursShow}
@@ -94,6 +94,6 @@ colours_show inks cells = record {
   size = coloured_size inks cells;
   inked = λ column h.
       three_bytes inks cells column (inked_in cells column h (cases_lt column (length cells)))
-      ∙ ap (λ (b : Bool). cond b (colour_of paper) (colour_of (ink_at inks (get_or cells column 0)))) (not-true _ h);
-  white = λ column lt h. three_bytes inks cells column lt ∙ ap (λ (b : Bool). cond b (colour_of paper) (colour_of (ink_at inks (get_or cells column 0)))) (not-false _ h);
+      ∙ ap (λ (b : Bool). cond b (colour_bytes paper) (colour_bytes (ink_at inks (get_or cells column 0)))) (not-true _ h);
+  white = λ column lt h. three_bytes inks cells column lt ∙ ap (λ (b : Bool). cond b (colour_bytes paper) (colour_bytes (ink_at inks (get_or cells column 0)))) (not-false _ h);
 }

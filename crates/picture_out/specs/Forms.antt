@@ -38,4 +38,4 @@ abbrev pub takes_resolution : Form → ℕ → Bool
 takes_resolution Marks dots = true
 takes_resolution Pbm dots = true
 takes_resolution Ppm dots = true
-takes_resolution Pcl dots = pcl.takes_resolution dots
+takes_resolution Pcl dots = pcl.is_pcl_resolution dots

@@ -11,9 +11,9 @@ abbrev pub ink_at : List Ink → ℕ → Ink
 ink_at inks n = get_or inks (n - 1) paper
 
 -- red, green and blue
-abbrev pub colour_of : Ink → List ℕ
-colour_of ink = ink.red ∷ ink.green ∷ ink.blue ∷ []
+abbrev pub colour_bytes : Ink → List ℕ
+colour_bytes ink = ink.red ∷ ink.green ∷ ink.blue ∷ []
 
 -- the colour of a cell: the paper's for 0, otherwise that of the ink at its position
 abbrev pub cell_colour : List Ink → ℕ → List ℕ
-cell_colour inks cell = if nat_eq cell 0 then colour_of paper else colour_of (ink_at inks cell)
+cell_colour inks cell = if nat_eq cell 0 then colour_bytes paper else colour_bytes (ink_at inks cell)

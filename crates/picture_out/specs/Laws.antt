@@ -4,7 +4,7 @@ use Rattle.std.specs.Prelude.{length, get_or, take, drop, filter, flat_map, deci
 use Rattle.std.specs.List.{range_with_len}
 use Rattle.picture_out.specs.declared.form.Form.TheVariants.{Marks, Pbm, Ppm, Pcl}
 use Rattle.picture_out.specs.declared.inks.Ink.{Ink}
-use Rattle.picture_out.specs.Inks.{ink_at, colour_of}
+use Rattle.picture_out.specs.Inks.{ink_at, colour_bytes}
 use Rattle.picture_out.specs.Marks.{line}
 use Rattle.bit_rows.specs.Bits.{bytes_for}
 use Rattle.picture_out.specs.Pcl.{transfer_command}
@@ -57,7 +57,7 @@ bytes_at bytes column = take 3 (drop (3 * column) bytes)
 -- the colours of a row: the ink's in the columns with ink, white in the others
 pub record ColoursShow (inks : List Ink) (cells bytes : List ℕ) : Type 0 where
   pub size : length bytes ≡ 3 * length cells
-  pub inked : (column : ℕ) → is_inked cells column ≡ true → bytes_at bytes column ≡ colour_of (ink_of inks cells column)
+  pub inked : (column : ℕ) → is_inked cells column ≡ true → bytes_at bytes column ≡ colour_bytes (ink_of inks cells column)
   pub white : (column : ℕ) → column < length cells → is_inked cells column ≡ false → bytes_at bytes column
       ≡ 255 ∷ 255 ∷ 255 ∷ []
 

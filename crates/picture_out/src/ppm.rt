@@ -4,7 +4,7 @@ ghost use Rattle.std.specs.Prelude.{IfOk, flat_map};
 ghost use Rattle.std.specs.List.{range_with_len};
 ghost use Rattle.devices.specs.Sinks.{Writes, WritesAtMost};
 ghost use Rattle.picture_out.specs.declared.form.Form.TheVariants.{Ppm};
-ghost use Rattle.picture_out.specs.Inks.{colour_of, cell_colour};
+ghost use Rattle.picture_out.specs.Inks.{colour_bytes, cell_colour};
 ghost use Rattle.picture_out.specs.Forms.{head_bytes, foot_bytes, takes_resolution};
 ghost use Rattle.picture_out.specs.Rooms.{room_of, TakesAnyRow, AreInked};
 ghost use Rattle.picture_out.specs.Spans.{IsBlankOutside};
@@ -101,7 +101,7 @@ const PAPER: Ink = Ink {
 #[inline(always)]
 fn cell_ink<I: Inks>(cell: u32, inks: &I) -> Ink
     requires { cell ≤ length (I.inks inks.now) }
-    ensures { colour_of result ≡ cell_colour (I.inks inks.now) cell }
+    ensures { colour_bytes result ≡ cell_colour (I.inks inks.now) cell }
 {
     if cell == 0 { PAPER } else { inks.ink(cell) }
 }
@@ -127,7 +127,7 @@ fn run_end(cells: &[u32], column: usize, end: usize) -> usize
 #[inline(always)]
 fn put_run(ink: Ink, out: &mut [u8])
     requires whole { length out.old % 3 ≡ 0 }
-    ensures { out.new ≡ flat_map (λ _. colour_of ink) (range_with_len 0 (length out.old / 3)) }
+    ensures { out.new ≡ flat_map (λ _. colour_bytes ink) (range_with_len 0 (length out.old / 3)) }
 {
     let count = out.len() / 3;
     for pixel in 0..count {

@@ -3,7 +3,7 @@ use Rattle.std.proofs.Common.{◌≡◌, refl, pos, neg_ℤ, true, false, [], �
 use Rattle.std.specs.Prelude.{map}
 use Rattle.plot_settings.specs.declared.setting.Rotation.TheVariants as rotation
 use Rattle.plot_settings.specs.declared.setting.Setting.TheVariants.{Start, Defaults, FirstPoint, BothPoints, Rotate, Pen, Width, WidthOfAll, PenColour, Size, Direction}
-use Rattle.plot_settings.specs.Parameters.{circled, arced, character_size, label_direction, usual_size, isotropic, moved_points, pen_colour, pen_width, rotated, user_scaling, scaling_points, ranges_of, selected_pen}
+use Rattle.plot_settings.specs.Parameters.{circled, arced, character_size, label_direction, usual_size, isotropic, moved_points, pen_colour_setting, pen_width_setting, rotated, user_scaling, scaling_points, ranges_of, selected_pen}
 use Rattle.plot_settings.specs.Colours.{rgb, default_colour}
 use Rattle.plot_settings.specs.Slants.{is_slanted}
 use Rattle.plot_settings.specs.Meanings.{sets, wrong, Set, Lower, Touch, Move, lowered_then, moves}
@@ -18,20 +18,20 @@ no_pen : selected_pen (pos 255500000 ∷ []) ≡ None
 no_pen = refl
 
 -- a width of 0.35 mm is 224 grains, and 20 mm are the greatest
-usual_width : pen_width (pos 350000 ∷ []) ≡ Some (WidthOfAll 224)
+usual_width : pen_width_setting (pos 350000 ∷ []) ≡ Some (WidthOfAll 224)
 usual_width = refl
 
-greatest_width : pen_width (pos 20000000 ∷ (pos 3000000 ∷ [])) ≡ Some (Width 3 12800)
+greatest_width : pen_width_setting (pos 20000000 ∷ (pos 3000000 ∷ [])) ≡ Some (Width 3 12800)
 greatest_width = refl
 
-large_width : pen_width (pos 20000001 ∷ []) ≡ None
+large_width : pen_width_setting (pos 20000001 ∷ []) ≡ None
 large_width = refl
 
 -- a colour has three numbers
-a_colour : pen_colour (pos 1000000 ∷ (pos 10000000 ∷ (pos 20000000 ∷ (pos 30000000 ∷ [])))) ≡ Some (PenColour 1 (rgb 10 20 30))
+a_colour : pen_colour_setting (pos 1000000 ∷ (pos 10000000 ∷ (pos 20000000 ∷ (pos 30000000 ∷ [])))) ≡ Some (PenColour 1 (rgb 10 20 30))
 a_colour = refl
 
-two_numbers : pen_colour (pos 1000000 ∷ (pos 10000000 ∷ [])) ≡ None
+two_numbers : pen_colour_setting (pos 1000000 ∷ (pos 10000000 ∷ [])) ≡ None
 two_numbers = refl
 
 -- white, black, red, green, yellow, blue, magenta, cyan, and then black

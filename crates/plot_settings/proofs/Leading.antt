@@ -2,7 +2,7 @@
 use Rattle.std.proofs.Common.{◌≡◌, refl, ap, true, false, List, [], ◌∷◌, take, ℤ}
 use Rattle.hpgl_text.specs.declared.instruction.Instruction.{Instruction}
 use Rattle.hpgl_text.specs.declared.instruction.Instruction.TheVariants.{Initialize, DefaultValues, InputPoints, Scale, Rotate, InputWindow, SelectPen, PenWidth, PenColour, PenUp, PenDown, PlotAbsolute, PlotRelative, EdgeAbsolute, EdgeRelative, Circle, ArcAbsolute, ArcRelative, CharacterSize, Direction}
-use Rattle.plot_settings.specs.Parameters.{circled, arced, character_size, label_direction, scaling_points, user_scaling, rotated, window_corners, selected_pen, pen_width, pen_colour}
+use Rattle.plot_settings.specs.Parameters.{circled, arced, character_size, label_direction, scaling_points, user_scaling, rotated, window_corners, selected_pen, pen_width_setting, pen_colour_setting}
 use Rattle.plot_settings.specs.Slants.{is_slanted}
 use Rattle.plot_settings.specs.Pairs.{plots_pairs}
 use Rattle.plot_settings.specs.Meanings.{sets, edges, asks, DrawCircle, DrawArc, meaning}
@@ -38,8 +38,8 @@ same_meaning Scale h ns = ap sets (first_four user_scaling first_seven ns)
 same_meaning Rotate h ns = ap sets (first_one rotated (λ n ms. refl) ns)
 same_meaning InputWindow h ns = ap sets (first_four window_corners (λ a b c d ms. refl) ns)
 same_meaning SelectPen h ns = ap sets (first_one selected_pen (λ n ms. refl) ns)
-same_meaning PenWidth h ns = ap sets (first_two pen_width (λ a b ms. refl) ns)
-same_meaning PenColour h ns = ap sets (first_four pen_colour (λ a b c d ms. refl) ns)
+same_meaning PenWidth h ns = ap sets (first_two pen_width_setting (λ a b ms. refl) ns)
+same_meaning PenColour h ns = ap sets (first_four pen_colour_setting (λ a b c d ms. refl) ns)
 same_meaning PenUp h ns = absurd (cc h)
 same_meaning PenDown h ns = absurd (cc h)
 same_meaning PlotAbsolute h ns = absurd (cc h)

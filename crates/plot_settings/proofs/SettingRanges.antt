@@ -14,7 +14,7 @@ use Rattle.plot_frame.specs.Bounds.{Both, IsEnds, IsRange, IsFactor, IsPoints}
 use Rattle.plot_settings.specs.declared.setting.Setting.{Setting}
 use Rattle.plot_settings.specs.declared.setting.Setting.TheVariants.{BothPoints, PenColour, Size, Direction}
 use Rattle.plot_settings.specs.Colours.{rgb, default_colour}
-use Rattle.plot_settings.specs.Parameters.{when, whole_of, ends_at, points_at, scaling_points, window_corners, rotation_set, rotated, isotropic, isotropic_by, scaling_of_type, ranges_of, user_scaling, anisotropic, factor_of, point_factor, has_empty_range, is_percent, is_byte, given_colour, pen_colour, is_size, size_grains, character_size, nearest_axis, label_direction}
+use Rattle.plot_settings.specs.Parameters.{when, whole_of, ends_at, points_at, scaling_points, window_corners, rotation_set, rotated, isotropic, isotropic_by, scaling_of_type, ranges_of, user_scaling, anisotropic, factor_of, point_factor, has_empty_range, is_percent, is_byte, given_colour, pen_colour_setting, is_size, size_grains, character_size, nearest_axis, label_direction}
 use Rattle.plot_settings.specs.Bounds.{IsSetting}
 
 pub isotropic_two : (r : Pair Range) (ns : List ℤ) (l b : ℤ) → 2 ≤ length ns → l ≡ get_or ns 0 l → b ≡ get_or ns 1 b → isotropic_by r ns ≡ isotropic r l b
@@ -37,7 +37,7 @@ pub colours_by : (p r g b p' r' g' b' : ℤ) → p ≡ p' → r ≡ r' → g ≡
 colours_by p r g b p' r' g' b' e f h i = rw (e, f, h, i) refl
 
 pub colour_four : (ns : List ℤ) (a b c d : ℤ) → 4 ≤ length ns → a ≡ get_or ns 0 a → b ≡ get_or ns 1 b → c ≡ get_or ns 2 c → d ≡ get_or ns 3 d
-    → pen_colour ns ≡ given_colour (whole_of a) (whole_of b) (whole_of c) (whole_of d)
+    → pen_colour_setting ns ≡ given_colour (whole_of a) (whole_of b) (whole_of c) (whole_of d)
 colour_four [] a b c d h p q r s = absurd (omega arith)
 colour_four (x ∷ []) a b c d h p q r s = absurd (omega arith)
 colour_four (x ∷ (y ∷ [])) a b c d h p q r s = absurd (omega arith)
@@ -149,7 +149,7 @@ colour_sound p r g b =
     under_test (is_byte p && (is_byte r && (is_byte g && is_byte b)))
     (PenColour (nat_abs p) (rgb (nat_abs r) (nat_abs g) (nat_abs b))) tt
 
-pub colour_setting_sound : (ns : List ℤ) → IfSome (pen_colour ns) IsSetting
+pub colour_setting_sound : (ns : List ℤ) → IfSome (pen_colour_setting ns) IsSetting
 colour_setting_sound [] = tt
 colour_setting_sound (p ∷ []) = default_colour_sound (whole_of p)
 colour_setting_sound (p ∷ (r ∷ [])) = tt

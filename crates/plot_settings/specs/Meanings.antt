@@ -17,7 +17,7 @@ use Rattle.hpgl_text.specs.declared.instruction.Instruction.TheVariants.{PlotRel
 use Rattle.hpgl_text.specs.declared.instruction.Instruction.TheVariants.{Circle, ArcAbsolute, ArcRelative}
 use Rattle.hpgl_text.specs.declared.instruction.Instruction.TheVariants.{CharacterSize, Direction}
 use Rattle.plot_settings.specs.Parameters.{circled, arced, scaling_points, user_scaling, rotated, window_corners}
-use Rattle.plot_settings.specs.Parameters.{selected_pen, pen_width, pen_colour, character_size, label_direction}
+use Rattle.plot_settings.specs.Parameters.{selected_pen, pen_width_setting, pen_colour_setting, character_size, label_direction}
 use Rattle.plot_settings.specs.declared.figure.Circle as circle
 
 -- something is set; the pen touches the paper where it is, goes down or up, or moves to coordinates in millionths,
@@ -91,8 +91,8 @@ meaning Scale ns = sets (user_scaling ns)
 meaning Rotate ns = sets (rotated ns)
 meaning InputWindow ns = sets (window_corners ns)
 meaning SelectPen ns = sets (selected_pen ns)
-meaning PenWidth ns = sets (pen_width ns)
-meaning PenColour ns = sets (pen_colour ns)
+meaning PenWidth ns = sets (pen_width_setting ns)
+meaning PenColour ns = sets (pen_colour_setting ns)
 meaning PenUp ns = plots (Lower false ∷ moves ns) ns
 meaning PenDown ns = plots (lowered_then (moves ns)) ns
 meaning PlotAbsolute ns = plots (Relate false ∷ moves ns) ns

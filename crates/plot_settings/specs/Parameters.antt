@@ -49,10 +49,10 @@ abbrev pub width_grains : ℤ → ℕ
 width_grains n = nat_abs (round (record { over = pos 640 *ℤ n; under = 1000000 }))
 
 -- all pens get the width if none is named, and 0.35 mm (224 grains) if no width is
-abbrev pub pen_width : List ℤ → Option Setting
-pen_width [] = Some (WidthOfAll 224)
-pen_width (n ∷ []) = when (is_width n) (WidthOfAll (width_grains n))
-pen_width (n ∷ (p ∷ ns)) = when (is_width n && is_byte (whole_of p)) (Width (nat_abs (whole_of p)) (width_grains n))
+abbrev pub pen_width_setting : List ℤ → Option Setting
+pen_width_setting [] = Some (WidthOfAll 224)
+pen_width_setting (n ∷ []) = when (is_width n) (WidthOfAll (width_grains n))
+pen_width_setting (n ∷ (p ∷ ns)) = when (is_width n && is_byte (whole_of p)) (Width (nat_abs (whole_of p)) (width_grains n))
 
 abbrev pub given_colour : ℤ → ℤ → ℤ → ℤ → Option Setting
 given_colour pen red green blue =
@@ -61,11 +61,11 @@ given_colour pen red green blue =
 
 -- PC (Pen Color Assignment) pen, red, green, blue: without a colour the pen gets its default colour, and without a pen
 -- all pens get theirs
-abbrev pub pen_colour : List ℤ → Option Setting
-pen_colour [] = Some DefaultColours
-pen_colour (p ∷ []) = let n = whole_of p in when (is_byte n) (PenColour (nat_abs n) (default_colour (nat_abs n)))
-pen_colour (p ∷ (r ∷ (g ∷ (b ∷ ns)))) = given_colour (whole_of p) (whole_of r) (whole_of g) (whole_of b)
-pen_colour _ = None
+abbrev pub pen_colour_setting : List ℤ → Option Setting
+pen_colour_setting [] = Some DefaultColours
+pen_colour_setting (p ∷ []) = let n = whole_of p in when (is_byte n) (PenColour (nat_abs n) (default_colour (nat_abs n)))
+pen_colour_setting (p ∷ (r ∷ (g ∷ (b ∷ ns)))) = given_colour (whole_of p) (whole_of r) (whole_of g) (whole_of b)
+pen_colour_setting _ = None
 
 -- RO (Rotate Coordinate System) angle: 0, 90, 180 or 270 degrees
 abbrev pub rotation_set : ℤ → Option Setting

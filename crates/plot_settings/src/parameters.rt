@@ -56,7 +56,7 @@ fn is_byte(number: i64) -> bool
 /// one pen, 0 to 255, or for all if none is named. Without a width all pens get `FIRST_WIDTH`.
 /// `None` if a number is out of range.
 pub fn width_setting(numbers: &[Number]) -> Option<Setting>
-    ensures { result ≡ parameters.pen_width numbers.now }
+    ensures { result ≡ parameters.pen_width_setting numbers.now }
 {
     match numbers {
         [] => Some(Setting::WidthOfAll(FIRST_WIDTH)),
@@ -107,7 +107,7 @@ fn grains_of_width(width: Number) -> u32
 /// Without a colour the pen gets its default colour, and without a pen all pens get theirs. `None`
 /// if a number is out of range, or if the colour has one or two numbers.
 pub fn colour_setting(numbers: &[Number]) -> Option<Setting>
-    ensures { result ≡ parameters.pen_colour numbers.now }
+    ensures { result ≡ parameters.pen_colour_setting numbers.now }
 {
     match numbers {
         [] => Some(Setting::DefaultColours),

@@ -2,7 +2,7 @@
 use Rattle.std.proofs.Common.{◌≡◌, refl, Bool, true, false, [], ◌∷◌, Some, None, pos, negsuc}
 use Rattle.exact.specs.declared.spot.Spot.{Spot}
 use Rattle.polygons.specs.declared.edge.Edge.{Edge}
-use Rattle.polygons.specs.Buffers.{Contents, empty, begun_at, reached_at, closed}
+use Rattle.polygons.specs.Buffers.{Contents, empty_buffer, begun_at, reached_at, closed}
 
 abbrev a : Spot
 a = record { x = pos 0; y = pos 0 }
@@ -18,7 +18,7 @@ edge p q drawn = record { from = p; to = q; is_drawn = drawn }
 
 -- a triangle: two edges, then the close
 abbrev triangle : Contents
-triangle = closed (reached_at (reached_at (begun_at empty a) b true) c false) true
+triangle = closed (reached_at (reached_at (begun_at empty_buffer a) b true) c false) true
 
 triangle_is : triangle ≡ record { edges = edge a b true ∷ edge b c false ∷ edge c a true ∷ []; places = 3; opened = None }
 triangle_is = refl
@@ -37,7 +37,7 @@ alone_is : closed (begun_at triangle b) true ≡ triangle
 alone_is = refl
 
 -- while one is open, another is not opened
-open_is : begun_at (begun_at empty a) b
+open_is : begun_at (begun_at empty_buffer a) b
     ≡ record { edges = []; places = 1; opened = Some (record { first = a; last = a; is_alone = true }) }
 open_is = refl
 

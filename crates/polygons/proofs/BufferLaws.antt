@@ -7,10 +7,11 @@ use Rattle.std.proofs.lemmas.List.Concat.{flat_map-append}
 use Rattle.std.proofs.lemmas.List.Elements.{All-nil, All-push}
 use Rattle.std.specs.List.{flat_map}
 use Rattle.std.specs.Ordering.{int_eq}
+use Rattle.exact.specs.Spots.{is_same_spot}
 use Rattle.exact.specs.declared.spot.Spot.{Spot}
 use Rattle.polygons.specs.declared.edge.Edge.{Edge}
 use Rattle.polygons.specs.declared.buffer.Opened.{Opened}
-use Rattle.polygons.specs.Buffers.{Contents, is_same_spot, begun, extended, ended}
+use Rattle.polygons.specs.Buffers.{Contents, begun, extended, sub_polygon_ended}
 use Rattle.polygons.specs.Laws.{IsPath, IsLoop, AreLoops, HoldsPolygons, BuffersHoldPolygons}
 
 abbrev spot : ℤ → ℤ → Spot
@@ -71,7 +72,7 @@ reached_by : (c : Contents) (p : Spot) (drawn : Bool) (o : Option Opened) → c.
 reached_by c p drawn None e h = begun_holds c p e h
 reached_by c p drawn (Some o) e h = extended_holds c o p drawn e h
 
-ended_holds : (c : Contents) (o : Opened) (drawn : Bool) → c.opened ≡ Some o → HoldsPolygons c → HoldsPolygons (ended c o drawn)
+ended_holds : (c : Contents) (o : Opened) (drawn : Bool) → c.opened ≡ Some o → HoldsPolygons c → HoldsPolygons (sub_polygon_ended c o drawn)
 ended_holds c o drawn e h =
     let n = rw e at h.opened_is in
     elim (cases_Bool o.is_alone) [
@@ -110,7 +111,7 @@ ended_holds c o drawn e h =
       ]
     ]
 
-closed_by : (c : Contents) (drawn : Bool) (o : Option Opened) → c.opened ≡ o → HoldsPolygons c → HoldsPolygons (elim o [ None ↦ c | Some o ↦ ended c o drawn ])
+closed_by : (c : Contents) (drawn : Bool) (o : Option Opened) → c.opened ≡ o → HoldsPolygons c → HoldsPolygons (elim o [ None ↦ c | Some o ↦ sub_polygon_ended c o drawn ])
 closed_by c drawn None e h = h
 closed_by c drawn (Some o) e h = ended_holds c o drawn e h
 

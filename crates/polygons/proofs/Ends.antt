@@ -9,7 +9,7 @@ use Rattle.exact.specs.declared.spot.Spot.{Spot}
 use Rattle.polygons.specs.declared.edge.Edge.{Edge}
 use Rattle.polygons.specs.declared.lines.Lines.{Lines}
 use Rattle.polygons.specs.declared.climb.Crossing as code
-use Rattle.polygons.specs.Fills.{height, step, level, rank, bottom, top, line_from, crosses, crossing}
+use Rattle.polygons.specs.Fills.{height, line_distance, level, rank, bottom, top, line_from, crosses, crossing}
 use Rattle.polygons.specs.Climbs.{IsPart, climb_by, climb_of, crossing_by, crossing_of}
 use Rattle.polygons.proofs.Tests.{lt_true, lt_false, le_from, lt_from}
 
@@ -84,17 +84,17 @@ read_height a h below e m f =
 
 pub ways : (lines : Lines) (k : ℤ) (e : Edge) (a b below above l d : ℤ) → nat_abs k ≤ 2 ^ 18 → crosses lines k e ≡ true
     → a ≡ height lines e.from → nat_abs a ≤ 10 ^ 7 * 2 ^ 30 → below ≡ s a → b ≡ height lines e.to → nat_abs b ≤ 10 ^ 7 * 2 ^ 30 → above ≡ s b
-    → l ≡ r k → d ≡ pos (step lines) → step lines ≤ 10 ^ 7 * 2 ^ 40 → AreWays lines k e below above l d
+    → l ≡ r k → d ≡ pos (line_distance lines) → line_distance lines ≤ 10 ^ 7 * 2 ^ 40 → AreWays lines k e below above l d
 ways lines k e a b below above l d hk c ea ha eb fa hb fb el ed hd =
     let p = read_height a (height lines e.from) below ea ha eb in
     let q = read_height b (height lines e.to) above fa hb fb in
     let fk : FitsSigned w32 k = fits_signed_from_abs w32 k (omega arith) in
     let gl : l ≡ k = simp to_z-of_z at el in
     let fl : FitsSigned w128 k = fits_signed_from_abs w128 k (omega arith) in
-    let fd : FitsSigned w128 (pos (step lines)) = fits_signed_from_abs w128 (pos (step lines)) (omega arith) in
+    let fd : FitsSigned w128 (pos (line_distance lines)) = fits_signed_from_abs w128 (pos (line_distance lines)) (omega arith) in
     let tl : t l ≡ k = rw gl (to_z-of_z w128 k fl) in
-    let td : t d ≡ pos (step lines) = rw ed (to_z-of_z w128 (pos (step lines)) fd) in
-    let m = product_within k (pos (step lines)) (2 ^ 18) (10 ^ 7 * 2 ^ 40) hk hd in
+    let td : t d ≡ pos (line_distance lines) = rw ed (to_z-of_z w128 (pos (line_distance lines)) fd) in
+    let m = product_within k (pos (line_distance lines)) (2 ^ 18) (10 ^ 7 * 2 ^ 40) hk hd in
     let fm : FitsSigned w128 (level lines k) = fits_signed_from_abs w128 (level lines k) (omega (arith, m)) in
     let tm : t (t l *ℤ t d) ≡ level lines k = rw (tl, td) (to_z-of_z w128 (level lines k) fm) in
     let n = difference_within (level lines k) (height lines e.from) (2 ^ 18 * (10 ^ 7 * 2 ^ 40)) (10 ^ 7 * 2 ^ 30) m p.1 in

@@ -9,7 +9,7 @@ use Rattle.polygons.proofs.Gaps.{get_or_map}
 use Rattle.polygons.specs.declared.edge.Edge.{Edge}
 use Rattle.polygons.specs.declared.lines.Lines.{Lines}
 use Rattle.polygons.specs.declared.lines.Rule.{Rule}
-use Rattle.polygons.specs.Fills.{bottom, top, step, level, line_from, crosses, lowest, highest, numbers, numbers_to, line_spans, filled_from, filled}
+use Rattle.polygons.specs.Fills.{bottom, top, line_distance, level, line_from, crosses, lowest, highest, consecutive, numbers_to, line_spans, filled_from, filled}
 use Rattle.polygons.proofs.Tests.{le_from, lt_from, lt_true}
 use Rattle.polygons.proofs.Floors.{from_height, test_below}
 
@@ -31,10 +31,10 @@ gap_step (negsuc zero) (negsuc b) h = absurd (omega (arith, ints, h))
 gap_step (negsuc (suc a)) (negsuc b) h = rw (up_one a) (omega (arith, ints, h))
 
 to_none : (k m : ℤ) → m ≤ℤ k → numbers_to k m ≡ []
-to_none k m h = ap (numbers k) (gap_none k m h)
+to_none k m h = ap (consecutive k) (gap_none k m h)
 
 to_step : (k m : ℤ) → k <ℤ m → numbers_to k m ≡ k ∷ numbers_to (k +ℤ pos 1) m
-to_step k m h = ap (numbers k) (gap_step k m h)
+to_step k m h = ap (consecutive k) (gap_step k m h)
 
 module _ (q : ℤ → Bool) where
   -- a number that fails is left out
@@ -107,8 +107,8 @@ module _ (q : ℤ → Bool) where
       let up = plus_more q a n in
       let more = has_number n (a +ℤ pos 1) m k (e ∙ sym up) l t in
       let below : a <ℤ m = omega (arith, ints, e, l) in
-      let step = ap (filter q) (to_step a m below) in
-      same_contains k (filter q (numbers_to a m)) (filter q (a ∷ numbers_to (a +ℤ pos 1) m)) step
+      let line_distance = ap (filter q) (to_step a m below) in
+      same_contains k (filter q (numbers_to a m)) (filter q (a ∷ numbers_to (a +ℤ pos 1) m)) line_distance
       (elim (cases_Bool (q a)) [
         | inl g ↦ rw g (contains_more k a (filter q (numbers_to (a +ℤ pos 1) m)) more)
         | inr g ↦ rw g more
@@ -126,7 +126,7 @@ lower_left v x y h = omega (arith, ints, clamps, h)
 lower_right : (v x y : ℤ) → y ≤ℤ v → int_min x y ≤ℤ v
 lower_right v x y h = omega (arith, ints, clamps, h)
 
-module _ (lines : Lines) (above : 0 < step lines) where
+module _ (lines : Lines) (above : 0 < line_distance lines) where
   -- the lines that an edge crosses are between the lowest and the highest height
   top_in : (edges : List Edge) (k : ℤ) → list_any (crosses lines k) edges ≡ true → level lines k <ℤ highest lines edges
   top_in [] k e = absurd (cc)

@@ -8,7 +8,7 @@ use Rattle.std.specs.List.{filter, list_any, All}
 use Rattle.polygons.specs.declared.edge.Edge.{Edge}
 use Rattle.polygons.specs.declared.lines.Lines.{Lines}
 use Rattle.polygons.specs.declared.climb.Climb.{Climb}
-use Rattle.polygons.specs.Fills.{bottom, top, step, line_from, crosses, crossing, crossings}
+use Rattle.polygons.specs.Fills.{bottom, top, line_distance, line_from, crosses, crossing, crossings}
 use Rattle.polygons.specs.Climbs.{climb_of, climbs_of, nowhere, crossing_at, bare, total, SameItems}
 use Rattle.polygons.proofs.Tests.{le_true, le_false, lt_true, le_from, lt_from}
 use Rattle.polygons.proofs.Floors.{test_from, test_below}
@@ -50,7 +50,7 @@ is_on k c = int_le c.first k && int_lt k c.end
 abbrev pub number_of : Climb → ℕ
 number_of c = c.number
 
-crosses_is : (lines : Lines) (k : ℤ) (e : Edge) → 0 < step lines
+crosses_is : (lines : Lines) (k : ℤ) (e : Edge) → 0 < line_distance lines
     → crosses lines k e ≡ (int_le (line_from lines (bottom lines e)) k && int_lt k (line_from lines (top lines e)))
 crosses_is lines k e h = ap₂ (λ (x y : Bool). x && y) (sym (test_from lines (bottom lines e) k h)) (sym (test_below lines (top lines e) k h))
 
@@ -75,14 +75,14 @@ piece_by first end k n false e =
       | inr q ↦ rw q refl
     ]
 
-piece : (lines : Lines) (k : ℤ) (n : ℕ) (e : Edge) → 0 < step lines → map number_of (filter (is_on k) (climb_of lines n e)) ≡ cond (crosses lines k e) (n ∷ []) []
+piece : (lines : Lines) (k : ℤ) (n : ℕ) (e : Edge) → 0 < line_distance lines → map number_of (filter (is_on k) (climb_of lines n e)) ≡ cond (crosses lines k e) (n ∷ []) []
 piece lines k n e h = piece_by (line_from lines (bottom lines e)) (line_from lines (top lines e)) k n (crosses lines k e) (crosses_is lines k e h)
 
 cond_append : (b : Bool) (n : ℕ) (ns : List ℕ) → cond b (n ∷ []) [] ++ ns ≡ cond b (n ∷ ns) ns
 cond_append true n ns = refl
 cond_append false n ns = refl
 
-pub climbs_on : (lines : Lines) (k : ℤ) (n : ℕ) (es : List Edge) → 0 < step lines → map number_of (filter (is_on k) (climbs_of lines n es)) ≡ numbers_on lines k n es
+pub climbs_on : (lines : Lines) (k : ℤ) (n : ℕ) (es : List Edge) → 0 < line_distance lines → map number_of (filter (is_on k) (climbs_of lines n es)) ≡ numbers_on lines k n es
 climbs_on lines k n [] h = refl
 climbs_on lines k n (e ∷ es) h =
     ap (map number_of) (filter-append (is_on k) (climb_of lines n e) (climbs_of lines (suc n) es))
@@ -121,7 +121,7 @@ any_some lines k n (x ∷ es) l =
     ]
 
 -- climbs in another order
-module _ (lines : Lines) (edges : List Edge) (climbs : List Climb) (same : SameItems (climbs_of lines 0 edges) climbs) (above : 0 < step lines) where
+module _ (lines : Lines) (edges : List Edge) (climbs : List Climb) (same : SameItems (climbs_of lines 0 edges) climbs) (above : 0 < line_distance lines) where
   pub same_numbers : (k : ℤ) → SameItems (numbers_on lines k 0 edges) (map number_of (filter (is_on k) climbs))
   same_numbers k =
       let s = same_map number_of (filter (is_on k) (climbs_of lines 0 edges)) (filter (is_on k) climbs) (same_filter (is_on k) (climbs_of lines 0 edges) climbs same) in

@@ -10,7 +10,7 @@ use Rattle.exact.proofs.Ring.{mul_assoc_z, mul_comm_z, mul_left_comm_z, mul-neg_
 use Rattle.exact.proofs.Rounding.{floor_is, le_scale, le_unscale, same_lem}
 use Rattle.exact.proofs.Between.{at_most, at_least}
 use Rattle.exact.specs.declared.spot.Spot.{Spot}
-use Rattle.polygons.specs.Fills.{place_after, share}
+use Rattle.polygons.specs.Fills.{place_after, share_of_distance}
 use Rattle.polygons.specs.Climbs.{IsPart}
 
 fall_in : (t u : ℕ) (d least : ℤ) → least ≤ℤ pos 0 → least ≤ℤ d → (pos (t + u) *ℤ least) ≤ℤ (d *ℤ pos t)
@@ -33,22 +33,22 @@ record IsIn (least most z : ℤ) : Type 0 where
   high : z ≤ℤ most
 
 -- so does a share of a distance d if both d and 0 do
-share_in : (least d most : ℤ) (t long : ℕ) → 0 < long → t ≤ long → least ≤ℤ pos 0 → pos 0 ≤ℤ most → least ≤ℤ d → d ≤ℤ most → IsIn least most (share d (pos t) (pos long))
+share_in : (least d most : ℤ) (t long : ℕ) → 0 < long → t ≤ long → least ≤ℤ pos 0 → pos 0 ≤ℤ most → least ≤ℤ d → d ≤ℤ most → IsIn least most (share_of_distance d (pos t) (pos long))
 share_in least d most t long h k a b p q =
     let e : t + (long - t) ≡ long = omega arith in
     let low = rw e at (fall_in t (long - t) d least a p) in
     let high = rw e at (rise_in t (long - t) d most b q) in
     record { low = at_least long (d *ℤ pos t) least h low; high = at_most long (d *ℤ pos t) most h high }
 
-share_up : (least d most t : ℤ) (n : ℕ) → 0 < n → pos 0 ≤ℤ t → t ≤ℤ pos n → least ≤ℤ pos 0 → pos 0 ≤ℤ most → least ≤ℤ d → d ≤ℤ most → IsIn least most (share d t (pos n))
+share_up : (least d most t : ℤ) (n : ℕ) → 0 < n → pos 0 ≤ℤ t → t ≤ℤ pos n → least ≤ℤ pos 0 → pos 0 ≤ℤ most → least ≤ℤ d → d ≤ℤ most → IsIn least most (share_of_distance d t (pos n))
 share_up least d most (pos m) n h k l a b p q = share_in least d most m n h (omega (arith, ints)) a b p q
 share_up least d most (negsuc m) n h k l a b p q = absurd (omega (arith, ints))
 
 -- both negative
-flipped : (d t : ℤ) (n : ℕ) → share d t (negsuc n) ≡ share d (neg_ℤ t) (pos (suc n))
+flipped : (d t : ℤ) (n : ℕ) → share_of_distance d t (negsuc n) ≡ share_of_distance d (neg_ℤ t) (pos (suc n))
 flipped d t n = ap (λ (z : ℤ). round (quotient z (pos (suc n)))) (sym (mul-neg_z d t))
 
-share_by : (least d most t u : ℤ) → IsPart t u → least ≤ℤ pos 0 → pos 0 ≤ℤ most → least ≤ℤ d → d ≤ℤ most → IsIn least most (share d t u)
+share_by : (least d most t u : ℤ) → IsPart t u → least ≤ℤ pos 0 → pos 0 ≤ℤ most → least ≤ℤ d → d ≤ℤ most → IsIn least most (share_of_distance d t u)
 share_by least d most t (pos n) part a b p q =
     let z = part.not_zero in
     elim (part.between) [
@@ -62,14 +62,14 @@ share_by least d most t (negsuc n) part a b p q =
     ]
 
 -- a place on the way is in the range of places
-pub moved_within : (a b t u : ℤ) (m : ℕ) → IsPart t u → nat_abs a ≤ m → nat_abs b ≤ m → nat_abs (a +ℤ share (b -ℤ a) t u) ≤ m
+pub moved_within : (a b t u : ℤ) (m : ℕ) → IsPart t u → nat_abs a ≤ m → nat_abs b ≤ m → nat_abs (a +ℤ share_of_distance (b -ℤ a) t u) ≤ m
 moved_within a b t u m part h k =
     let r = share_by (neg_ℤ (pos m) -ℤ a) (b -ℤ a) (pos m -ℤ a) t u part (omega (arith, ints)) (omega (arith, ints)) (omega (arith, ints)) (omega (arith, ints)) in
     let l = r.low in
     let g = r.high in
     omega (arith, ints, l, g)
 
-pub share_within : (a b t u : ℤ) → IsPart t u → nat_abs a ≤ 2 ^ 20 → nat_abs b ≤ 2 ^ 20 → nat_abs (share (b -ℤ a) t u) ≤ 2 ^ 21
+pub share_within : (a b t u : ℤ) → IsPart t u → nat_abs a ≤ 2 ^ 20 → nat_abs b ≤ 2 ^ 20 → nat_abs (share_of_distance (b -ℤ a) t u) ≤ 2 ^ 21
 share_within a b t u part h k =
     let r = moved_within a b t u (2 ^ 20) part h k in
     omega (arith, ints, r)
@@ -87,7 +87,7 @@ pub share_product : (a b t u : ℤ) → IsPart t u → nat_abs a ≤ 2 ^ 20 → 
 share_product a b t u part h k = product_within (b -ℤ a) t (2 ^ 21) (2 ^ 56) (omega (arith, ints)) (part_within t u part)
 
 -- a part by numbers that are k times as great
-scaled_up : (k : ℕ) (d t : ℤ) (n : ℕ) → 0 < k → 0 < n → share d (pos k *ℤ t) (pos (k * n)) ≡ share d t (pos n)
+scaled_up : (k : ℕ) (d t : ℤ) (n : ℕ) → 0 < k → 0 < n → share_of_distance d (pos k *ℤ t) (pos (k * n)) ≡ share_of_distance d t (pos n)
 scaled_up k d t n h g =
     let x = d *ℤ t in
     same_lem (quotient (d *ℤ (pos k *ℤ t)) (pos (k * n))) (quotient x (pos n)) (omega (arith, mul-le-mul_left k g)) g
@@ -115,15 +115,15 @@ shorter_part k t u p q h e f part = record {
 }
 
 -- and its shares are the same
-share_up_by : (k : ℕ) (d t u p q : ℤ) → 0 < k → pos k *ℤ p ≡ t → pos k *ℤ q ≡ u → pos 0 <ℤ q → share d p q ≡ share d t u
+share_up_by : (k : ℕ) (d t u p q : ℤ) → 0 < k → pos k *ℤ p ≡ t → pos k *ℤ q ≡ u → pos 0 <ℤ q → share_of_distance d p q ≡ share_of_distance d t u
 share_up_by k d t u p (pos n) h e f g = rw (sym e, sym f) (sym (scaled_up k d p n h (omega (arith, ints))))
 share_up_by k d t u p (negsuc n) h e f g = absurd (omega (arith, ints))
 
-below_zero : (d t u : ℤ) → u <ℤ pos 0 → share d t u ≡ share d (neg_ℤ t) (neg_ℤ u)
+below_zero : (d t u : ℤ) → u <ℤ pos 0 → share_of_distance d t u ≡ share_of_distance d (neg_ℤ t) (neg_ℤ u)
 below_zero d t (pos n) h = absurd (omega (arith, ints))
 below_zero d t (negsuc n) h = flipped d t n
 
-pub same_share : (k : ℕ) (d t u p q : ℤ) → 0 < k → pos k *ℤ p ≡ t → pos k *ℤ q ≡ u → 0 < nat_abs q → share d p q ≡ share d t u
+pub same_share : (k : ℕ) (d t u p q : ℤ) → 0 < k → pos k *ℤ p ≡ t → pos k *ℤ q ≡ u → 0 < nat_abs q → share_of_distance d p q ≡ share_of_distance d t u
 same_share k d t u p (pos n) h e f g = share_up_by k d t u p (pos n) h e f (omega (arith, ints))
 same_share k d t u p (negsuc n) h e f g =
     let b : u <ℤ pos 0 = sign u f in
@@ -174,5 +174,5 @@ part_read t u part =
     wide_back z m = to_z-of_z w128 z (fits_signed_from_abs w128 z (omega (arith, m)))
 
 -- parts with the same shares lead to the same place
-pub same_place : (a b : Spot) (t u p q : ℤ) → ((d : ℤ) → share d p q ≡ share d t u) → place_after a b p q ≡ place_after a b t u
+pub same_place : (a b : Spot) (t u p q : ℤ) → ((d : ℤ) → share_of_distance d p q ≡ share_of_distance d t u) → place_after a b p q ≡ place_after a b t u
 same_place a b t u p q same = rw (same (b.x -ℤ a.x), same (b.y -ℤ a.y)) refl

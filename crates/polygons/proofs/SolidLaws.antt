@@ -12,7 +12,7 @@ use Rattle.polygons.specs.declared.edge.Edge.{Edge}
 use Rattle.polygons.specs.declared.lines.Lines.{Lines}
 use Rattle.polygons.specs.declared.lines.Rule.{Rule}
 use Rattle.polygons.specs.declared.lines.Rule.TheVariants.{OddCounts, Winding}
-use Rattle.polygons.specs.Fills.{Crossing, height, level, crosses, crossing, crossings, rank, put_in, sorted_by, along, is_inside, is_inside_after, span_from, spans_after, line_spans}
+use Rattle.polygons.specs.Fills.{Crossing, height, level, crosses, crossing, crossings, rank, put_in, sorted_by, ordered_crossings, is_inside, is_inside_after, span_from, spans_after, line_spans}
 use Rattle.polygons.specs.Climbs.{total, SameItems}
 use Rattle.polygons.specs.Laws.{IsPath, IsLoop, AreLoops, lower, IsBetween, FillsAreSolid}
 use Rattle.polygons.proofs.Tests.{le_true, le_false, lt_true, lt_false, le_from, le_not, lt_from, lt_not}
@@ -228,11 +228,11 @@ inside_is_filled : (lines : Lines) (rule : Rule) (edges : List Edge) (k r : ℤ)
 inside_is_filled lines rule edges k r h i n =
     let found = crossings lines k edges in
     let same = same_sorted (λ c. rank lines c.place) found in
-    let lower_same = same_filter (λ c. int_lt (rank lines c.place) r) found (along lines k edges) same in
-    whole lines rule r (along lines k edges) (climbs_by (λ c. rank lines c.place) found)
+    let lower_same = same_filter (λ c. int_lt (rank lines c.place) r) found (ordered_crossings lines k edges) same in
+    whole lines rule r (ordered_crossings lines k edges) (climbs_by (λ c. rank lines c.place) found)
     (each_by (λ c. rank lines c.place) (λ d. ¬ (rank lines d.place ≡ r)) found (each_from (λ d. ¬ (rank lines d.place ≡ r)) found n))
-    (sym (same_inside rule (lower lines edges k r) (filter (λ c. int_lt (rank lines c.place) r) (along lines k edges)) lower_same) ∙ i)
-    (sym (same_inside rule found (along lines k edges) same) ∙ all_passed lines rule edges k h)
+    (sym (same_inside rule (lower lines edges k r) (filter (λ c. int_lt (rank lines c.place) r) (ordered_crossings lines k edges)) lower_same) ∙ i)
+    (sym (same_inside rule found (ordered_crossings lines k edges) same) ∙ all_passed lines rule edges k h)
 
 pub fills_are_solid_lem : FillsAreSolid
 fills_are_solid_lem = record {

@@ -9,7 +9,7 @@ use Rattle.std.specs.List.{All}
 use Rattle.polygons.specs.declared.edge.Edge.{Edge}
 use Rattle.polygons.specs.declared.lines.Lines.{Lines}
 use Rattle.polygons.specs.declared.climb.Crossing as code
-use Rattle.polygons.specs.Fills.{sorted_by, along, crosses, rank}
+use Rattle.polygons.specs.Fills.{sorted_by, ordered_crossings, crosses, rank}
 use Rattle.polygons.specs.Climbs.{bare, crossing_at, SameItems}
 use Rattle.polygons.proofs.Tests.{lt_false, lt_not}
 use Rattle.polygons.proofs.Totals.{from_permutation, same_trans, same_map, same_sym}
@@ -101,7 +101,7 @@ module _ (lines : Lines) (k : ℤ) (edges : List Edge) where
       )
 
   pub sorted_is : (ns : List ℕ) (ys : List code.Crossing) → SameItems (numbers_on lines k 0 edges) ns → IsPermutation (map (crossing_at lines k edges) ns) ys → AreSorted ys
-      → map bare ys ≡ along lines k edges
+      → map bare ys ≡ ordered_crossings lines k edges
   sorted_is ns ys same p s =
       let found = numbers_on lines k 0 edges in
       let h = All-permutation IsMade (map made ns) ys p (All-map IsMade made ns (λ i d l. refl)) in

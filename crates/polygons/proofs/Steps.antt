@@ -9,7 +9,7 @@ use Rattle.std.specs.List.{filter, list_any, All}
 use Rattle.std.specs.Global.{Vec}
 use Rattle.polygons.specs.declared.climb.Climb.{Climb}
 use Rattle.polygons.specs.declared.sweep.Sweep.{Sweep}
-use Rattle.polygons.specs.Fills.{step, crosses}
+use Rattle.polygons.specs.Fills.{line_distance, crosses}
 use Rattle.polygons.specs.Climbs.{IsClimb, SameItems, nowhere}
 use Rattle.polygons.specs.Sweeps.{IsSweep, IsReady, IsCut, these, left}
 use Rattle.polygons.proofs.Tests.{le_false, lt_true, lt_false, lt_from, lt_not}
@@ -20,7 +20,7 @@ use Rattle.polygons.proofs.Numbers.{filled_skip, filled_none, filled_one}
 abbrev pub nothing : Climb
 nothing = record { first = pos 0; end = pos 0; number = 0 }
 
-pub step_above : (s : Sweep) → 0 < step s.ruling.lines
+pub step_above : (s : Sweep) → 0 < line_distance s.ruling.lines
 step_above s = let h = s.ruling.apart_least in omega (arith, h)
 
 pub first_near : (s : Sweep) (c : Climb) → IsSweep s → s.begun < length s.climbs.items → c ≡ get_or s.climbs.items s.begun c → nat_abs c.first ≤ 2 ^ 18

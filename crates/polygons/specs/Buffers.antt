@@ -1,8 +1,8 @@
 -- The polygon buffer (HP-GL/2 guide: PM). It holds closed sub-polygons, and at most one that is open. Places are in
 -- grains.
-use Rattle.std.specs.Prelude.{ℕ, ◌+◌, ◌-◌, Bool, true, false, ◌&&◌, if◌then◌else◌, List, [], ◌∷◌, ◌++◌}
+use Rattle.std.specs.Prelude.{ℕ, ◌+◌, ◌-◌, Bool, true, false, if◌then◌else◌, List, [], ◌∷◌, ◌++◌}
 use Rattle.std.specs.Prelude.{Option, Some, None}
-use Rattle.std.specs.Ordering.{int_eq}
+use Rattle.exact.specs.Spots.{is_same_spot}
 use Rattle.exact.specs.declared.spot.Spot.{Spot}
 use Rattle.polygons.specs.declared.edge.Edge.{Edge}
 use Rattle.polygons.specs.declared.buffer.Opened.{Opened}
@@ -14,11 +14,8 @@ pub record Contents : Type 0 where
   pub places : ℕ
   pub opened : Option Opened
 
-abbrev pub empty : Contents
-empty = record { edges = []; places = 0; opened = None }
-
-abbrev pub is_same_spot : Spot → Spot → Bool
-is_same_spot a b = int_eq a.x b.x && int_eq a.y b.y
+abbrev pub empty_buffer : Contents
+empty_buffer = record { edges = []; places = 0; opened = None }
 
 -- a sub-polygon that begins at p
 abbrev pub begun : Contents → Spot → Contents
@@ -47,10 +44,10 @@ closing o drawn =
     if is_same_spot o.last o.first then [] else record { from = o.last; to = o.first; is_drawn = drawn } ∷ []
 
 -- the open sub-polygon is closed, or dropped if it has only one place
-abbrev pub ended : Contents → Opened → Bool → Contents
-ended c o drawn =
+abbrev pub sub_polygon_ended : Contents → Opened → Bool → Contents
+sub_polygon_ended c o drawn =
     if o.is_alone then record { edges = c.edges; places = c.places - 1; opened = None }
     else record { edges = c.edges ++ closing o drawn; places = c.places; opened = None }
 
 abbrev pub closed : Contents → Bool → Contents
-closed c drawn = elim (c.opened) [ None ↦ c | Some o ↦ ended c o drawn ]
+closed c drawn = elim (c.opened) [ None ↦ c | Some o ↦ sub_polygon_ended c o drawn ]

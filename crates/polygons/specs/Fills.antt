@@ -24,12 +24,12 @@ abbrev pub rank : Lines → Spot → ℤ
 rank lines p = cosine_of lines.angle *ℤ p.x +ℤ sine_of lines.angle *ℤ p.y
 
 -- from each line to the next
-abbrev pub step : Lines → ℕ
-step lines = 10 ^ 7 * lines.apart
+abbrev pub line_distance : Lines → ℕ
+line_distance lines = 10 ^ 7 * lines.apart
 
 -- the height of line k
 abbrev pub level : Lines → ℤ → ℤ
-level lines k = k *ℤ pos (step lines)
+level lines k = k *ℤ pos (line_distance lines)
 
 -- the heights of an edge's ends, the lower one first
 abbrev pub bottom : Lines → Edge → ℤ
@@ -48,12 +48,12 @@ pub record Crossing : Type 0 where
   pub is_upward : Bool
 
 -- t / u of a distance, rounded
-abbrev pub share : ℤ → ℤ → ℤ → ℤ
-share d t u = round (quotient (d *ℤ t) u)
+abbrev pub share_of_distance : ℤ → ℤ → ℤ → ℤ
+share_of_distance d t u = round (quotient (d *ℤ t) u)
 
 -- the place after t / u of the way from a to b
 abbrev pub place_after : Spot → Spot → ℤ → ℤ → Spot
-place_after a b t u = record { x = a.x +ℤ share (b.x -ℤ a.x) t u; y = a.y +ℤ share (b.y -ℤ a.y) t u }
+place_after a b t u = record { x = a.x +ℤ share_of_distance (b.x -ℤ a.x) t u; y = a.y +ℤ share_of_distance (b.y -ℤ a.y) t u }
 
 abbrev pub crossing : Lines → ℤ → Edge → Crossing
 crossing lines k e =
@@ -76,8 +76,8 @@ sorted_by key [] = []
 sorted_by key (x ∷ xs) = put_in key x (sorted_by key xs)
 
 -- the crossings of line k in the order in which they are on the line
-abbrev pub along : Lines → ℤ → List Edge → List Crossing
-along lines k edges = sorted_by (λ c. rank lines c.place) (crossings lines k edges)
+abbrev pub ordered_crossings : Lines → ℤ → List Edge → List Crossing
+ordered_crossings lines k edges = sorted_by (λ c. rank lines c.place) (crossings lines k edges)
 
 -- whether a line is inside after this many upward crossings and this many others
 abbrev pub is_inside : Rule → ℕ → ℕ → Bool
@@ -102,11 +102,11 @@ spans_after rule passed (c ∷ cs) =
 
 -- the spans of line k
 abbrev pub line_spans : Lines → Rule → List Edge → ℤ → List Span
-line_spans lines rule edges k = spans_after rule [] (along lines k edges)
+line_spans lines rule edges k = spans_after rule [] (ordered_crossings lines k edges)
 
 -- the least line that is not below a height
 abbrev pub line_from : Lines → ℤ → ℤ
-line_from lines h = neg_ℤ (floor (record { over = neg_ℤ h; under = step lines }))
+line_from lines h = neg_ℤ (floor (record { over = neg_ℤ h; under = line_distance lines }))
 
 -- the heights that all edges and the anchor are between
 abbrev pub lowest : Lines → List Edge → ℤ
@@ -118,13 +118,13 @@ highest lines [] = pos 0
 highest lines (e ∷ es) = int_max (top lines e) (highest lines es)
 
 -- n numbers from k on
-abbrev pub numbers : ℤ → ℕ → List ℤ
-numbers k zero = []
-numbers k (suc n) = k ∷ numbers (k +ℤ pos 1) n
+abbrev pub consecutive : ℤ → ℕ → List ℤ
+consecutive k zero = []
+consecutive k (suc n) = k ∷ consecutive (k +ℤ pos 1) n
 
 -- the numbers from k on below m
 abbrev pub numbers_to : ℤ → ℤ → List ℤ
-numbers_to k m = numbers k (int_gap k m)
+numbers_to k m = consecutive k (int_gap k m)
 
 -- the spans of each line that an edge crosses, from line k on, in order
 unfoldable pub filled_from : Lines → Rule → List Edge → ℤ → List (List Span)

@@ -6,7 +6,7 @@ use Rattle.polygons.specs.declared.edge.Edge.{Edge}
 use Rattle.polygons.specs.declared.span.Span.{Span}
 use Rattle.polygons.specs.declared.lines.Lines.{Lines}
 use Rattle.polygons.specs.declared.lines.Rule.{Rule}
-use Rattle.polygons.specs.Buffers.{Contents, empty, begun_at, reached_at, closed}
+use Rattle.polygons.specs.Buffers.{Contents, empty_buffer, begun_at, reached_at, closed}
 use Rattle.polygons.specs.Fills.{Crossing, rank, crosses, crossings, is_inside_after, line_spans, filled}
 
 -- edges that lead from p to q: each begins where the one before it ends
@@ -35,7 +35,7 @@ pub record HoldsPolygons (c : Contents) : Type 0 where
 
 -- each call of a buffer keeps this; if no sub-polygon is open, its edges are those of closed ones
 pub record BuffersHoldPolygons : Type 0 where
-  pub empty : HoldsPolygons empty
+  pub empty : HoldsPolygons empty_buffer
   pub begun : (c : Contents) (p : Spot) → HoldsPolygons c → HoldsPolygons (begun_at c p)
   pub reached : (c : Contents) (p : Spot) (drawn : Bool) → HoldsPolygons c → HoldsPolygons (reached_at c p drawn)
   pub closed : (c : Contents) (drawn : Bool) → HoldsPolygons c → HoldsPolygons (closed c drawn)

@@ -5,7 +5,7 @@ use Rattle.std.specs.List.{All}
 use Rattle.polygons.specs.declared.span.Span.{Span}
 use Rattle.polygons.specs.declared.climb.Climb.{Climb}
 use Rattle.polygons.specs.declared.sweep.Sweep.{Sweep}
-use Rattle.polygons.specs.Fills.{Crossing, along, line_spans, filled_from}
+use Rattle.polygons.specs.Fills.{Crossing, ordered_crossings, line_spans, filled_from}
 use Rattle.polygons.specs.Climbs.{climbs_of, IsClimb, SameItems}
 
 -- the climbs that have begun, sorted by their first line, have their first line at `line` or before; the active ones of
@@ -35,7 +35,7 @@ pub record IsCut (s : Sweep) : Type 0 where
 
 -- the crossings of this line, in their order along it
 abbrev pub crossed : Sweep → List Crossing
-crossed s = along s.ruling.lines s.line s.edges.now
+crossed s = ordered_crossings s.ruling.lines s.line s.edges.now
 
 -- the spans of this line, and those of the lines that are left
 abbrev pub these : Sweep → List Span

@@ -1,6 +1,6 @@
 //! The polygon buffer.
 ghost use Rattle.std.specs.Prelude.{◌≡◌, ◌↔◌, ◌<◌, ◌^◌, IsTrue, IsSome, OnOk, OnErr};
-ghost use Rattle.polygons.specs.Buffers.{empty, begun_at, reached_at, closed};
+ghost use Rattle.polygons.specs.Buffers.{empty_buffer, begun_at, reached_at, closed};
 
 use crate::edge::Edge;
 use crate::place::Place;
@@ -40,7 +40,7 @@ impl Model for Buffer {
 impl Buffer {
     /// An empty buffer.
     pub fn new(alloc: Global) -> Buffer
-        ensures { result ≡ empty }
+        ensures { result ≡ empty_buffer }
     {
         Buffer {
             edges: Vec::new(alloc),
@@ -51,7 +51,7 @@ impl Buffer {
 
     /// Empties the buffer.
     pub fn clear(&mut self)
-        ensures { self.new ≡ empty }
+        ensures { self.new ≡ empty_buffer }
     {
         self.edges.clear();
         self.places = 0;

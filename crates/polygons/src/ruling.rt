@@ -3,7 +3,7 @@ ghost use Rattle.std.specs.Prelude.{◌≡◌, ◌≤◌, ◌<◌, ◌*◌, ◌^
 ghost use Rattle.std.specs.Option.{option_to_list};
 ghost use Rattle.plot_arc.specs.Arcs.{sine_of, cosine_of};
 ghost use Rattle.exact.specs.Fraction.{quotient, round};
-ghost use Rattle.polygons.specs.Fills.{height, rank, step, level, line_from, crosses};
+ghost use Rattle.polygons.specs.Fills.{height, rank, line_distance, level, line_from, crosses};
 ghost use Rattle.polygons.specs.Climbs.{climb_of, IsInRange, crossing_of};
 
 use crate::climb::{Climb, Crossing};
@@ -62,10 +62,10 @@ impl Ruling {
     }
 
     // From each line to the next.
-    fn step(&self) -> i128
-        ensures value { result ≡ pos (step self.now.lines) }
-        ensures least { 10 ^ 7 * 2 ^ 12 ≤ step self.now.lines }
-        ensures most { step self.now.lines ≤ 10 ^ 7 * 2 ^ 40 }
+    fn line_distance(&self) -> i128
+        ensures value { result ≡ pos (line_distance self.now.lines) }
+        ensures least { 10 ^ 7 * 2 ^ 12 ≤ line_distance self.now.lines }
+        ensures most { line_distance self.now.lines ≤ 10 ^ 7 * 2 ^ 40 }
     {
         10_000_000 * i128::from(self.lines.apart)
     }
@@ -76,7 +76,7 @@ impl Ruling {
         ensures value { result ≡ line_from self.now.lines height }
         ensures most { nat_abs result ≤ 2 ^ 18 }
     {
-        let below = (-i128::from(height)).div_euclid(self.step());
+        let below = (-i128::from(height)).div_euclid(self.line_distance());
         -(below as i32)
     }
 
@@ -104,7 +104,7 @@ impl Ruling {
     {
         let below = i128::from(self.height(edge.from));
         let above = i128::from(self.height(edge.to));
-        let level = i128::from(line) * self.step();
+        let level = i128::from(line) * self.line_distance();
         let place = moved(edge.from, edge.to, level - below, above - below);
         Crossing {
             place,

@@ -1,7 +1,7 @@
 //! Places on the way from one place to another.
 ghost use Rattle.std.specs.Prelude.{◌≡◌, ◌≤◌, ◌<◌, ◌^◌, ℤ, nat_abs, pos, ◌+ℤ◌, ◌-ℤ◌};
 ghost use Rattle.exact.specs.Fraction.{round, quotient};
-ghost use Rattle.polygons.specs.Fills.{share, place_after};
+ghost use Rattle.polygons.specs.Fills.{share_of_distance, place_after};
 ghost use Rattle.polygons.specs.Climbs.{IsPart};
 
 use crate::place::Place;
@@ -43,7 +43,7 @@ fn place_on(from: Place, to: Place, t: i128, u: i128) -> Place
 fn shortened(t: i64, u: i64) -> Part
     requires { IsPart t u }
     ensures part { IsPart result.t result.u }
-    ensures same { (d : ℤ) → share d result.t result.u ≡ share d t u }
+    ensures same { (d : ℤ) → share_of_distance d result.t result.u ≡ share_of_distance d t u }
 {
     let ticks_t = t.div_euclid(TICK);
     let ticks_u = u.div_euclid(TICK);
@@ -65,7 +65,7 @@ fn along(a: i128, b: i128, t: i128, u: i128) -> i128
     requires part { IsPart t u }
     requires a_in { nat_abs a ≤ 2 ^ 20 }
     requires b_in { nat_abs b ≤ 2 ^ 20 }
-    ensures value { result ≡ a +ℤ share (b -ℤ a) t u }
+    ensures value { result ≡ a +ℤ share_of_distance (b -ℤ a) t u }
     ensures most { nat_abs result ≤ 2 ^ 20 }
 {
     a + divided((b - a) * t, u)

@@ -3,7 +3,7 @@ use Rattle.std.proofs.Math.Seq.{take-length}
 use Rattle.hpgl_text.specs.Cut.{cut, cut_by}
 use Rattle.hpgl_text.specs.Shapes.{ItemShape}
 use Rattle.hpgl_text.specs.declared.profile.Profile.TheVariants.{Full}
-use Rattle.full_plot.specs.Drawings.{runs, at_start, refusal_in, strokes_in, ends_in, sheet_strokes}
+use Rattle.full_plot.specs.Drawings.{full_runs, full_at_start, refusal_in, strokes_in, ends_in, sheet_strokes}
 use Rattle.full_notes.specs.Notes as full
 use Rattle.full_plot.proofs.CorePlots.{draws_as_in_core}
 use Rattle.full_plot.proofs.CoreNotes.{noted_as_in_core}
@@ -13,11 +13,11 @@ pub returns : goal.returns
 returns c = λ page plot h.
     let same : cut_by Full plot ≡ cut plot = c.core_is_in_full.ensures plot h.read_alike in
     let drawn = draws_as_in_core page (cut plot) h.are_core in
-    let strokes = strokes_in (runs (at_start page) (cut plot)) in
+    let strokes = strokes_in (full_runs (full_at_start page) (cut plot)) in
     record {
-      refusal = ap (λ (items : List ItemShape). refusal_in (runs (at_start page) items)) same ∙ drawn.0;
+      refusal = ap (λ (items : List ItemShape). refusal_in (full_runs (full_at_start page) items)) same ∙ drawn.0;
       strokes = λ accepted.
-          ap (λ (items : List ItemShape). let o = runs (at_start page) items in sheet_strokes (strokes_in o) (ends_in o) 1) same
+          ap (λ (items : List ItemShape). let o = full_runs (full_at_start page) items in sheet_strokes (strokes_in o) (ends_in o) 1) same
           ∙ ap (λ (ends : List ℕ). sheet_strokes strokes ends 1) drawn.2
           ∙ take-length strokes
           ∙ drawn.1 accepted;

@@ -4,7 +4,7 @@ use Rattle.std.proofs.lemmas.List.Elements.{All-push}
 use Rattle.std.proofs.lemmas.List.FromFn.{map-range_with_len_more}
 use Rattle.directions.specs.Bounds.{IsWithin}
 use Rattle.exact.specs.declared.spot.Spot.{Spot}
-use Rattle.curves.specs.Beziers.{place_after}
+use Rattle.curves.specs.Beziers.{curve_place}
 use Rattle.curves.proofs.beziers.bezier_places.Goals as goal
 
 one_more : (f : ℕ → Spot) (k : ℕ) (xs ys : List Spot) (s : Spot)
@@ -18,10 +18,10 @@ one_more_within P xs ys s h p e = rw e (All-push P xs s h p)
 pub loop-k-preserved : goal.loop-k-preserved
 loop-k-preserved c =
     let n = c.chords-chords.result in
-    let f : ℕ → Spot = λ j. place_after n j c.args.p0 c.args.p1 c.args.p2 c.args.p3 in
+    let f : ℕ → Spot = λ j. curve_place n j c.args.p0 c.args.p1 c.args.p2 c.args.p3 in
     record {
-      value = one_more f c.loop-k.k c.loop-k.places.items c.push.new.self.items c.place_after.result
-          c.loop-k.invariant.value c.place_after.ensures.value c.in_ok-push.ensures.items;
-      within = one_more_within (IsWithin (2 ^ 20)) c.loop-k.places.items c.push.new.self.items c.place_after.result
-          c.loop-k.invariant.within c.place_after.ensures.within c.in_ok-push.ensures.items;
+      value = one_more f c.loop-k.k c.loop-k.places.items c.push.new.self.items c.curve_place.result
+          c.loop-k.invariant.value c.curve_place.ensures.value c.in_ok-push.ensures.items;
+      within = one_more_within (IsWithin (2 ^ 20)) c.loop-k.places.items c.push.new.self.items c.curve_place.result
+          c.loop-k.invariant.within c.curve_place.ensures.within c.in_ok-push.ensures.items;
     }

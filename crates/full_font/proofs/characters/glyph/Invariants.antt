@@ -6,4 +6,4 @@ use Rattle.full_font.proofs.characters.glyph.Given as goal
 -- the strokes that are left are those of the polylines that are left
 abbrev pub invariant-loop-line : goal.invariant-loop-line
 invariant-loop-line l =
-    slice_get (glyphs.glyph_strokes l.fn.code_point) l.fn.k ≡ slice_get (flat_map glyphs.polyline_strokes (map (λ line. line.now) (drop l.line-index l.line-items))) l.left
+    slice_get (glyphs.code_point_strokes l.fn.code_point) l.fn.k ≡ slice_get (flat_map glyphs.polyline_glyph_strokes (map (λ line. line.now) (drop l.line-index l.line-items))) l.left

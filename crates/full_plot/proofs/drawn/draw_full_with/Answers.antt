@@ -4,7 +4,7 @@ use Rattle.hpgl_text.specs.Cut.{cut_by}
 use Rattle.hpgl_text.specs.declared.profile.Profile.TheVariants.{Full}
 use Rattle.hpgl_plot.specs.declared.note.NoteKind.{NoteKind}
 use Rattle.hpgl_plot.specs.Notes.{notes_with}
-use Rattle.full_plot.specs.Drawings.{runs}
+use Rattle.full_plot.specs.Drawings.{full_runs}
 use Rattle.full_plot.specs.Machine.{seen}
 use Rattle.full_notes.specs.Contexts.{Context}
 use Rattle.full_notes.specs.Notes.{body_noted, context_after, notes_from}
@@ -56,10 +56,10 @@ items-preserved c =
     let before : Context = (seen c.items.plotter).context in
     let own = body_noted before item.body in
     let noted : c.in_ok-own.own ≡ own = c.in_ok-own.ensures.noted in
-    let goes_on : (more : List ItemShape) → runs old (item ∷ more) ≡ runs new more =
+    let goes_on : (more : List ItemShape) → full_runs old (item ∷ more) ≡ full_runs new more =
     carried_out old new item c.advance.result c.in_ok-own.own c.advance.ensures.carried c.in_ok-own.was in
     record {
-      same = sym (goes_on rest) ∙ sym (ap (λ (is : List ItemShape). runs old is) c.in-Some.ensures.steps) ∙ c.items.invariant.same;
+      same = sym (goes_on rest) ∙ sym (ap (λ (is : List ItemShape). full_runs old is) c.in-Some.ensures.steps) ∙ c.items.invariant.same;
       noted = omega (
         arith,
         c.items.invariant.noted,
@@ -79,4 +79,4 @@ items-preserved c =
 pub returns-clause-limit : goal.returns-clause-limit
 returns-clause-limit c =
     few_strokes c.args.encoding c.args.carousel.now c.args.page.now (cut_by Full c.args.text.now) (seen c.items.plotter)
-    (sym c.items.invariant.same ∙ ap (λ (rest : List ItemShape). runs (seen c.items.plotter) rest) c.in_default.ensures.steps.0)
+    (sym c.items.invariant.same ∙ ap (λ (rest : List ItemShape). full_runs (seen c.items.plotter) rest) c.in_default.ensures.steps.0)

@@ -1,7 +1,7 @@
 use Rattle.std.proofs.Common.{◌≡◌, ◌+◌, ◌++◌, length}
 use Rattle.hpgl_text.specs.Cut.{cut_by}
 use Rattle.hpgl_text.specs.declared.profile.Profile.TheVariants.{Full}
-use Rattle.full_plot.specs.Drawings.{outcome_with, runs}
+use Rattle.full_plot.specs.Drawings.{outcome_with, full_runs}
 use Rattle.full_plot.specs.Labels.{labels_from, labels_kept, labels_of}
 use Rattle.full_plot.specs.Machine.{seen}
 use Rattle.full_notes.specs.Notes.{notes_from, notes}
@@ -11,7 +11,7 @@ use Rattle.full_plot.proofs.drawn.draw_full_with.Given as goal
 -- are not there yet
 abbrev pub invariant-items : goal.invariant-items
 invariant-items l = record {
-  same : runs (seen l.plotter) l.items ≡ outcome_with l.fn.encoding l.carousel l.page l.fn.text;
+  same : full_runs (seen l.plotter) l.items ≡ outcome_with l.fn.encoding l.carousel l.page l.fn.text;
   noted : l.noted + length (notes_from (seen l.plotter).context l.items) ≡ length (notes (cut_by Full l.fn.text));
   labelled : l.labels.items ++ labels_kept l.keeps_labels (labels_from (seen l.plotter) l.items)
       ≡ labels_kept l.keeps_labels (labels_of l.fn.encoding l.carousel l.page l.fn.text);

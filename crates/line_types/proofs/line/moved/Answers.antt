@@ -3,7 +3,7 @@ use mir.Syntax.{w128}
 use Rattle.std.proofs.lemmas.Int.{ints, to_z-of_z}
 use Rattle.exact.proofs.Fit.{product_within}
 use Rattle.exact.specs.Fraction.{round, quotient}
-use Rattle.line_types.specs.Lines.{share}
+use Rattle.line_types.specs.Lines.{share_of_line}
 use Rattle.line_types.proofs.Shares.{share_within}
 use Rattle.line_types.proofs.line.moved.Goals as goal
 use Rattle.line_types.proofs.line.moved.Goals.{After-rounded}
@@ -43,7 +43,7 @@ rounded-requires-clause-a_in c =
     simp to_z-of_z (omega (arith, m))
 
 -- the rounding is the share of the way
-is_share : (c : After-rounded) → c.rounded.result ≡ share (c.args.b -ℤ c.args.a) c.args.t c.args.long
+is_share : (c : After-rounded) → c.rounded.result ≡ share_of_line (c.args.b -ℤ c.args.a) c.args.t c.args.long
 is_share c =
     let k = known c.args.a c.args.b c.from.result c.args.t c.requires.a_in c.requires.b_in c.from.ensures (omega arith) in
     let a = k.a_fits in
@@ -55,7 +55,7 @@ is_share c =
     let e = simp to_z-of_z at c.rounded.ensures in
     e ∙ ap₂ (λ (x y : ℤ). round (quotient ((c.args.b -ℤ c.args.a) *ℤ x) y)) c.from.ensures c.from-2.ensures
 
-share_most : (c : After-rounded) → nat_abs (share (c.args.b -ℤ c.args.a) c.args.t c.args.long) ≤ 2 ^ 21
+share_most : (c : After-rounded) → nat_abs (share_of_line (c.args.b -ℤ c.args.a) c.args.t c.args.long) ≤ 2 ^ 21
 share_most c =
     let ha = c.requires.a_in in
     let hb = c.requires.b_in in

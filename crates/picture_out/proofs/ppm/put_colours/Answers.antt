@@ -2,7 +2,7 @@ use Rattle.std.proofs.Common.{◌≡◌, ℕ, List, ◌+◌, ◌-◌, ◌*◌, �
 use Rattle.std.specs.List.{range_with_len}
 use Rattle.std.proofs.lemmas.List.{length-take, length-take-le, length-drop, get_or-take, get_or-drop, take_all}
 use Rattle.std.proofs.lemmas.List.FromFn.{length-range_with_len}
-use Rattle.picture_out.specs.Inks.{colour_of, cell_colour}
+use Rattle.picture_out.specs.Inks.{colour_bytes, cell_colour}
 use Rattle.picture_out.proofs.Tables.{filled_to}
 use Rattle.picture_out.proofs.Spans.{before_span, after_span}
 use Rattle.picture_out.proofs.Coloured.{colour_size, white, one_colour, cells_more, filled_size}
@@ -38,7 +38,7 @@ loop-column-preserved g c =
     let kept : length out ≡ length c.args.out.now = filled_size f cells out c.args.out.now column (3 * column) (colour_size (g.I.Inks.inks c.args.inks.now)) refl (omega (arith, c.loop-column.invariant.within, c.requires.span.high)) (omega (arith, c.requires.room, c.loop-column.invariant.within, c.requires.span.high)) c.loop-column.invariant.filled in
     let room : 3 * next ≤ length out = omega (arith, kept, c.requires.room, c.run_end-next.ensures.within, c.requires.span.high) in
     let size : length part / 3 ≡ next - column = omega (arith, length-take (3 * next - 3 * column) (drop (3 * column) out), length-drop (3 * column) out, room, c.run_end-next.ensures.onward) in
-    let same : (k : ℕ) → k < length run → f (get_or run k 0) ≡ colour_of c.cell_ink.result = λ k lt.
+    let same : (k : ℕ) → k < length run → f (get_or run k 0) ≡ colour_bytes c.cell_ink.result = λ k lt.
     let in_run : k < next - column = omega (arith, lt, long) in
     ap f (get_or-take (next - column) (drop column cells) k 0 in_run ∙ get_or-drop column cells k 0 ∙ c.run_end-next.ensures.same (column + k) (omega arith) (omega arith))
     ∙ sym c.cell_ink.ensures
@@ -47,7 +47,7 @@ loop-column-preserved g c =
       low = omega (arith, c.loop-column.invariant.low, c.run_end-next.ensures.onward);
       within = c.run_end-next.ensures.within;
       filled = cells_more f cells out c.args.out.now c.put_run.new.out column next (3 * column) (3 * next) (colour_size (g.I.Inks.inks c.args.inks.now)) refl refl (omega (arith, c.run_end-next.ensures.onward)) (omega (arith, c.run_end-next.ensures.within, c.requires.span.high)) c.loop-column.invariant.filled
-          (c.put_run.ensures ∙ one_colour f (colour_of c.cell_ink.result) (range_with_len 0 (length part / 3)) run (length-range_with_len 0 (length part / 3) ∙ size ∙ sym long) same);
+          (c.put_run.ensures ∙ one_colour f (colour_bytes c.cell_ink.result) (range_with_len 0 (length part / 3)) run (length-range_with_len 0 (length part / 3) ∙ size ∙ sym long) same);
     }
 
 pub returns : goal.returns

@@ -2,7 +2,7 @@ use Rattle.std.proofs.Common.{ℕ, List, ◌≡◌, ◌∙◌, ◌++◌, drop, a
 use Rattle.std.specs.List.{range_with_len}
 use Rattle.std.proofs.lemmas.List.{length-take-le, drop_all, take_all}
 use Rattle.std.proofs.lemmas.List.FromFn.{length-range_with_len}
-use Rattle.picture_out.specs.Inks.{colour_of}
+use Rattle.picture_out.specs.Inks.{colour_bytes}
 use Rattle.picture_out.proofs.Coloured.{threes}
 use Rattle.picture_out.proofs.Tables.{piece_more}
 use Rattle.picture_out.proofs.ppm.put_run.Goals as goal
@@ -13,7 +13,7 @@ loop-pixel-preserved c =
     let count : ℕ = length c.args.out.now / 3 in
     let pixels : List ℕ = range_with_len 0 count in
     let long : length pixels ≡ count = length-range_with_len 0 count in
-    let f : ℕ → List ℕ = λ _. colour_of c.args.ink in
+    let f : ℕ → List ℕ = λ _. colour_bytes c.args.ink in
     let size : length (flat_map f (take i pixels)) ≡ 3 * i = omega (arith, threes f (take i pixels) (λ x. refl), length-take-le i pixels (omega (arith, long))) in
     piece_more f pixels c.loop-pixel.out c.args.out.now i (3 * i) (3 * (i + 1)) c.args.ink.red c.args.ink.green c.args.ink.blue (omega (arith, long)) size (omega arith) (omega arith) c.loop-pixel.invariant refl
 
@@ -23,7 +23,7 @@ returns c =
     let count : ℕ = length out / 3 in
     let pixels : List ℕ = range_with_len 0 count in
     let long : length pixels ≡ count = length-range_with_len 0 count in
-    let f : ℕ → List ℕ = λ _. colour_of c.args.ink in
+    let f : ℕ → List ℕ = λ _. colour_bytes c.args.ink in
     let whole : 3 * count ≡ length out = omega (arith, c.requires) in
     let all : c.loop-pixel.pixel ≡ count = omega arith in
     c.loop-pixel.invariant

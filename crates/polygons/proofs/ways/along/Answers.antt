@@ -2,7 +2,7 @@ use Rattle.std.proofs.Common.{◌≡◌, ℤ, ◌^◌, ◌≤◌, ap, arith, nat
 use mir.Syntax.{w128}
 use Rattle.std.proofs.lemmas.Int.{ints, to_z-of_z, fits_signed_from_abs}
 use Rattle.polygons.specs.Climbs.{IsPart}
-use Rattle.polygons.specs.Fills.{share}
+use Rattle.polygons.specs.Fills.{share_of_distance}
 use Rattle.polygons.proofs.Shares.{share_product, share_within, moved_within}
 use Rattle.polygons.proofs.ways.along.Goals as goal
 use Rattle.polygons.proofs.ways.along.Goals.{After-divided}
@@ -38,14 +38,14 @@ divided-requires-clause-a_in c =
 
 -- the rounding is the share of the way
 record IsShare (c : After-divided) : Type 0 where
-  is : c.divided.result ≡ share (c.args.b -ℤ c.args.a) c.args.t c.args.u
+  is : c.divided.result ≡ share_of_distance (c.args.b -ℤ c.args.a) c.args.t c.args.u
   fits : FitsSigned w128 c.divided.result
   sum_fits : FitsSigned w128 (c.args.a +ℤ c.divided.result)
 
 is_share : (c : After-divided) → IsShare c
 is_share c =
     let r = fits c.args.a c.args.b c.args.t c.args.u c.requires.part c.requires.a_in c.requires.b_in in
-    let e : c.divided.result ≡ share (c.args.b -ℤ c.args.a) c.args.t c.args.u =
+    let e : c.divided.result ≡ share_of_distance (c.args.b -ℤ c.args.a) c.args.t c.args.u =
     simp (to_z-of_z, r.from, r.to, r.way, r.product, c.ranges.t, c.ranges.u) at c.divided.ensures in
     let n : nat_abs c.divided.result ≤ 2 ^ 21 = rw e (share_within c.args.a c.args.b c.args.t c.args.u c.requires.part c.requires.a_in c.requires.b_in) in
     record { is = e; fits = omega (arith, ints, n); sum_fits = omega (arith, ints, n, c.requires.a_in) }

@@ -1,5 +1,5 @@
 use Rattle.std.proofs.Common.{◌≡◌, ◌∙◌, ℤ}
-use Rattle.polygons.specs.Fills.{share}
+use Rattle.polygons.specs.Fills.{share_of_distance}
 use Rattle.polygons.proofs.Shares.{part_read, same_place}
 use Rattle.polygons.proofs.ways.moved.Goals as goal
 
@@ -20,5 +20,5 @@ returns c =
     let p = c.shortened-part.result.t in
     let q = c.shortened-part.result.u in
     let shorter = part_read p q c.shortened-part.ensures.part in
-    let same : (d : ℤ) → share d p q ≡ share d c.args.t c.args.u = rw (read.first, read.second) at c.shortened-part.ensures.same in
+    let same : (d : ℤ) → share_of_distance d p q ≡ share_of_distance d c.args.t c.args.u = rw (read.first, read.second) at c.shortened-part.ensures.same in
     rw (shorter.wide_first, shorter.wide_second) at c.place_on.ensures ∙ same_place c.args.from c.args.to c.args.t c.args.u p q same

@@ -2,8 +2,9 @@ use Rattle.std.proofs.Common.{◌≡◌, Some, false, int_eq, inl, inr, ap, ap�
 use Rattle.std.proofs.lemmas.Bool.{cases_Bool}
 use Rattle.std.proofs.lemmas.Bool.Decides.{Decides-int_eq}
 use mir.Syntax.{w128}
+use Rattle.exact.specs.Spots.{is_same_spot}
 use Rattle.exact.specs.declared.spot.Spot.{Spot}
-use Rattle.curves.specs.Arcs.{circle_through, circle_by, is_same_spot}
+use Rattle.curves.specs.Arcs.{circle_through, circle_by}
 use Rattle.curves.specs.Vectors.{way, cross}
 use Rattle.curves.specs.Bounds.{IsNotZero}
 use Rattle.curves.proofs.Aboves.{above_from_test, spots_apart}

@@ -1,6 +1,6 @@
 use Rattle.std.proofs.Common.{◌≡◌, ◌^◌, false, refl, arith, ℤ, pos, ◌*ℤ◌}
 use Rattle.exact.specs.declared.spot.Spot.{Spot}
-use Rattle.directions.specs.Directions.{turned}
+use Rattle.directions.specs.Directions.{vector_turned}
 use Rattle.directions.specs.declared.turn.Turn.TheVariants.{Half}
 use Rattle.curves.specs.Arcs.{whole_circle}
 use Rattle.curves.specs.Vectors.{turned_against, unit_of}
@@ -8,7 +8,7 @@ use Rattle.curves.specs.declared.circle.Circle.{Circle}
 use Rattle.curves.proofs.Products.{multiple}
 use Rattle.curves.proofs.circle.Circle.whole.Goals as goal
 
-whole_is : (a b v f l : Spot) (x y : ℤ) → v ≡ turned_against false b → f ≡ unit_of v → l ≡ turned Half f → x ≡ pos 128 *ℤ b.x → y ≡ pos 128 *ℤ b.y
+whole_is : (a b v f l : Spot) (x y : ℤ) → v ≡ turned_against false b → f ≡ unit_of v → l ≡ vector_turned Half f → x ≡ pos 128 *ℤ b.x → y ≡ pos 128 *ℤ b.y
     → ◌≡◌ {A = Circle} (record { start = a; centre = record { x = x; y = y }; clockwise = false; first = f; last = l }) (whole_circle a b)
 unfolding whole_circle
 whole_is a b v f l x y e g h i j = rw (h, g, e, i, j) refl

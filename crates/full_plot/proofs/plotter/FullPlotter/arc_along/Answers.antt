@@ -7,7 +7,7 @@ use Rattle.hpgl_plot.specs.Paths.{along}
 use Rattle.full_plot.specs.Curves.{drawn_over}
 use Rattle.full_plot.specs.Lines.{ended_in, line_step, state_after}
 use Rattle.full_plot.specs.Machine.{seen}
-use Rattle.full_plot.specs.Worlds.{World}
+use Rattle.full_plot.specs.Worlds.{FullWorld}
 use Rattle.full_plot.proofs.Curved.{arc_end_in_range, arc_end_is_placed, ended_at}
 use Rattle.full_plot.proofs.FullRuns.{stopped}
 use Rattle.full_plot.proofs.LinesAlong.{along_in, along_keeps, line_by, solid_runs}
@@ -27,7 +27,7 @@ returns-in_err-draw_over c =
     let end = c.in_ok-outline.outline.end in
     let path = c.in_ok-outline.ensures.path ∙ ap (λ (qs : List Spot). along (s.place ∷ qs) s.is_down end) (search rules) in
     stopped ⊤ (drawn_over w places) (line_step w t) v v c.in_err-draw_over.field-0.0 c.from_residual-in_err-draw_over.result
-    (λ h. line_by w t s.is_down (s.place ∷ places) end path ∙ ap (λ (o : Option World). ended_in (state_after w t) o) h)
+    (λ h. line_by w t s.is_down (s.place ∷ places) end path ∙ ap (λ (o : Option FullWorld). ended_in (state_after w t) o) h)
     c.in_err-draw_over.ensures c.from_residual-in_err-draw_over.ensures.1
 
 pub arrive-requires-clause-place_in : goal.arrive-requires-clause-place_in

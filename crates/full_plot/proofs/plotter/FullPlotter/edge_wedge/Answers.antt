@@ -4,7 +4,7 @@ use Rattle.full_plot.specs.Lines.{drawn_along}
 use Rattle.full_plot.specs.Machine.{seen, Runs}
 use Rattle.full_plot.specs.Polygons.{only_figure, with_buffer}
 use Rattle.full_plot.specs.Wedges.{wedge_places}
-use Rattle.full_plot.specs.Worlds.{World}
+use Rattle.full_plot.specs.Worlds.{FullWorld}
 use Rattle.full_plot.proofs.Curved.{first_and_rest, wedge_is}
 use Rattle.full_plot.proofs.plotter.FullPlotter.edge_wedge.Goals as goal
 
@@ -15,5 +15,5 @@ returns c =
     let d : Spot = record { x = pos 0; y = pos 0 } in
     let same : places ≡ wedge_places w.core.page w.core.state c.args.wedge = search rules in
     let parts : (get_or places 0 d ∷ take (length places - 1) (drop 1 places)) ≡ places = first_and_rest places d (search rules) in
-    subst (λ (o : Option World). Runs o (seen c.draw_figure.new.self) c.draw_figure.result)
+    subst (λ (o : Option FullWorld). Runs o (seen c.draw_figure.new.self) c.draw_figure.result)
     (wedge_is w c.args.wedge (get_or places 0 d ∷ take (length places - 1) (drop 1 places)) (parts ∙ same)) c.draw_figure.ensures

@@ -4,7 +4,7 @@ use Rattle.full_plot.specs.Fills.{over_spans}
 use Rattle.std.proofs.Common.{◌∙◌, ap, sym, Some, List}
 use Rattle.std.specs.List.{flat_map}
 use Rattle.full_plot.specs.Machine.{seen}
-use Rattle.full_plot.specs.Worlds.{World}
+use Rattle.full_plot.specs.Worlds.{FullWorld}
 use Rattle.full_plot.proofs.Aside.{full_spans, one_line_of}
 use Rattle.full_plot.proofs.plotter.FullPlotter.fill_edges.Goals as goal
 
@@ -14,7 +14,7 @@ returns-then-self c =
     let rest = flat_map (λ line. line) c.next_spans.new.fill in
     let line = rw c.if-branch.true at c.in_ok-next_spans.ensures.line in
     let all = one_line_of c.args.ink c.next_spans.new.spans.items c.lines.fill c.next_spans.new.fill (seen c.lines.self) v _ line c.in_ok-draw_spans.ensures c.lines.invariant in
-    ap (λ (u : World). Some u) (sym all ∙ full_spans c.args.ink rest v c.if-self.true)
+    ap (λ (u : FullWorld). Some u) (sym all ∙ full_spans c.args.ink rest v c.if-self.true)
 
 pub lines-preserved : goal.lines-preserved
 lines-preserved c =

@@ -6,7 +6,7 @@ use Rattle.hpgl_plot.specs.Machine as core
 use Rattle.full_plot.specs.Curves.{drawn_over}
 use Rattle.full_plot.specs.Lines.{ended_in, line_step, state_after}
 use Rattle.full_plot.specs.Machine.{seen}
-use Rattle.full_plot.specs.Worlds.{World}
+use Rattle.full_plot.specs.Worlds.{FullWorld}
 use Rattle.full_plot.proofs.Curved.{ended_at, move_path_is}
 use Rattle.full_plot.proofs.FullRuns.{stopped}
 use Rattle.full_plot.proofs.LinesAlong.{along_keeps, line_by, solid_runs}
@@ -25,7 +25,7 @@ returns-in_err-draw_over c =
     let end = c.end_of-end.result in
     let e = move_path_is w c.args.is_relative c.args.x c.args.y end c.end_of-end.ensures in
     stopped ⊤ (drawn_over w (end.place ∷ [])) (line_step w t) v v c.in_err-draw_over.field-0.0 c.from_residual.result
-    (λ h. line_by w t s.is_down (s.place ∷ (end.place ∷ [])) end e ∙ ap (λ (o : Option World). ended_in (state_after w t) o) h)
+    (λ h. line_by w t s.is_down (s.place ∷ (end.place ∷ [])) end e ∙ ap (λ (o : Option FullWorld). ended_in (state_after w t) o) h)
     c.in_err-draw_over.ensures c.from_residual.ensures.1
 
 pub returns : goal.returns

@@ -1,5 +1,5 @@
 use Rattle.std.proofs.Common.{◌≡◌, ◌∙◌, ap, map}
-use Rattle.polygons.specs.Buffers.{Contents, empty}
+use Rattle.polygons.specs.Buffers.{Contents, empty_buffer}
 use Rattle.full_plot.specs.declared.fills.Ink.TheVariants.{Width}
 use Rattle.full_plot.specs.Fills.{edge_span}
 use Rattle.full_plot.specs.Machine.{seen}
@@ -10,7 +10,7 @@ use Rattle.full_plot.proofs.plotter.FullPlotter.ink_edges.Goals as goal
 pub returns : goal.returns
 returns c =
     let w = seen c.args.self.now in
-    let put : c.replace-buffer.new.dest ≡ empty = c.replace-buffer.ensures.after ∙ c.new.ensures in
+    let put : c.replace-buffer.new.dest ≡ empty_buffer = c.replace-buffer.ensures.after ∙ c.new.ensures in
     let same : c.edges.result.now ≡ w.buffer.edges = c.edges.ensures ∙ ap (λ (b : Contents). b.edges) c.replace-buffer.ensures.value in
     rw c.replace-buffer.ensures.value
     (runs_aside w (seen c.ink_all-drawn.new.self) (Width 0) (map edge_span w.buffer.edges) c.ink_all-drawn.result (rw (put, same) at c.ink_all-drawn.ensures))

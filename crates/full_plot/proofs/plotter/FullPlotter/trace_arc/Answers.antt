@@ -8,7 +8,7 @@ use Rattle.full_plot.specs.Curves.{traced_over}
 use Rattle.full_plot.specs.Lines.{ended_in, state_after}
 use Rattle.full_plot.specs.Machine.{seen}
 use Rattle.full_plot.specs.Polygons.{trace_step}
-use Rattle.full_plot.specs.Worlds.{World}
+use Rattle.full_plot.specs.Worlds.{FullWorld}
 use Rattle.full_plot.proofs.Curved.{arc_end_in_range, arc_end_is_placed, arc_traced, ended_at, traced_in, traced_keeps}
 use Rattle.full_plot.proofs.FullRuns.{stopped}
 use Rattle.full_plot.proofs.plotter.FullPlotter.trace_arc.Goals as goal
@@ -23,7 +23,7 @@ returns-in_err-trace_over c =
     let path = c.in_ok-outline.ensures.path ∙ ap (λ (qs : List Spot). along (w.core.state.place ∷ qs) w.core.state.is_down end) (search rules) in
     stopped ⊤ (traced_over w places) (trace_step w t) v v c.in_err-trace_over.field-0.0 c.from_residual-in_err-trace_over.result
     (λ h. arc_traced w c.args.is_relative c.args.arc places end path
-    ∙ ap (λ (o : Option World). ended_in (state_after w t) o) h)
+    ∙ ap (λ (o : Option FullWorld). ended_in (state_after w t) o) h)
     c.in_err-trace_over.ensures c.from_residual-in_err-trace_over.ensures.1
 
 pub arrive-requires-clause-place_in : goal.arrive-requires-clause-place_in

@@ -6,7 +6,7 @@ use Rattle.hpgl_plot.specs.Paths.{target}
 use Rattle.full_plot.specs.Lines.{ended_in, state_after}
 use Rattle.full_plot.specs.Machine.{seen}
 use Rattle.full_plot.specs.Polygons.{reached, trace_step}
-use Rattle.full_plot.specs.Worlds.{World}
+use Rattle.full_plot.specs.Worlds.{FullWorld}
 use Rattle.full_plot.proofs.Curved.{end_is_placed, ended_at, move_path_is, move_traced, reached_in, reached_keeps}
 use Rattle.full_plot.proofs.FullRuns.{stopped}
 use Rattle.full_plot.proofs.LinesAlong.{second_in_range}
@@ -20,7 +20,7 @@ returns-in_err-reach c =
     let end = c.end_of-end.result in
     let e = move_path_is w c.args.is_relative c.args.x c.args.y end c.end_of-end.ensures in
     stopped ⊤ (reached w (end.place ∷ [])) (trace_step w t) v v c.in_err-reach.field-0.0 c.from_residual.result
-    (λ h. move_traced w c.args.is_relative c.args.x c.args.y end e ∙ ap (λ (o : Option World). ended_in (state_after w t) o) h)
+    (λ h. move_traced w c.args.is_relative c.args.x c.args.y end e ∙ ap (λ (o : Option FullWorld). ended_in (state_after w t) o) h)
     c.in_err-reach.ensures c.from_residual.ensures.1
 
 pub arrive-requires-clause-place_in : goal.arrive-requires-clause-place_in

@@ -4,7 +4,7 @@ use Rattle.character_sets.specs.declared.encoding.Encoding.{Encoding}
 use Rattle.character_sets.specs.declared.sets.Sets.{Sets}
 use Rattle.character_sets.specs.declared.sign.Sign.{Sign}
 use Rattle.exact.specs.declared.spot.Spot.{Spot}
-use Rattle.lettering.specs.Labels.{label_strokes}
+use Rattle.lettering.specs.Labels.{styled_label_strokes}
 use Rattle.lettering.specs.Letters.{centred}
 use Rattle.lettering.specs.declared.style.Style.{Style}
 use Rattle.hpgl_plot.specs.Machine as core
@@ -22,6 +22,6 @@ returns c =
     let own : c.signs-signs.result ≡ letter =
     c.signs-signs.ensures.value
     ∙ ap₂ (λ (e : Encoding) (sets : Sets). signs e sets (c.args.symbol ∷ [])) c.reading.ensures.encoding c.reading.ensures.sets in
-    let strokes = c.strokes.ensures ∙ ap₂ (λ (s : Style) (ss : List Sign). label_strokes s ss) style own in
-    with_runs w (inked_at_pen w.core (label_strokes (centred (style_of w)) letter)) v c.ink.result
+    let strokes = c.strokes.ensures ∙ ap₂ (λ (s : Style) (ss : List Sign). styled_label_strokes s ss) style own in
+    with_runs w (inked_at_pen w.core (styled_label_strokes (centred (style_of w)) letter)) v c.ink.result
     (subst (λ (ss : List (Spot × Spot)). core.Runs (inked_at_pen w.core ss) v c.ink.result) strokes c.ink.ensures)

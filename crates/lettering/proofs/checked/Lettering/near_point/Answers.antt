@@ -3,7 +3,7 @@ use mir.Syntax.{w8, w64, w128}
 use Rattle.std.proofs.lemmas.Int.{ints, to_z-of_z}
 use Rattle.exact.specs.declared.spot.Spot.{Spot}
 use Rattle.stick_font.specs.Labels.{share}
-use Rattle.directions.specs.Directions.{swung, turned}
+use Rattle.directions.specs.Directions.{swung, vector_turned}
 use Rattle.directions.proofs.Axes.{axes_are_exact_lem}
 use Rattle.lettering.specs.Letters.{on_grid}
 use Rattle.lettering.proofs.Sizes.{upright_is}
@@ -59,6 +59,6 @@ returns-clause-value c =
     vector (share (on_grid corner.x (pos c.args.i)) style.width 12000000 +ℤ share (pos 3 *ℤ c.args.j *ℤ style.slant) style.height 18000000)
     (share (on_grid corner.y c.args.j) style.height 18000000) in
     w
-    ∙ ap (λ (o : Spot). turned c.args.turn o) (ap₂ vector x_is y_is)
+    ∙ ap (λ (o : Spot). vector_turned c.args.turn o) (ap₂ vector x_is y_is)
     ∙ sym (axes_are_exact_lem.swings c.args.turn point)
     ∙ sym (ap (λ (d : Spot). swung d point) near.along)

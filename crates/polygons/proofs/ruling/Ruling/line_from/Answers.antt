@@ -7,8 +7,8 @@ use Rattle.polygons.proofs.ruling.Ruling.line_from.Goals.{After-div_euclid-below
 
 known : (c : After-div_euclid-below) → IsBelow c.args.self.now.lines c.args.height c.div_euclid-below.result
 known c =
-    below_read c.args.self.now.lines c.args.height c.from.result c.step.result c.div_euclid-below.result c.requires
-    c.step.ensures.least c.step.ensures.most c.from.ensures c.step.ensures.value c.div_euclid-below.ensures
+    below_read c.args.self.now.lines c.args.height c.from.result c.line_distance.result c.div_euclid-below.result c.requires
+    c.line_distance.ensures.least c.line_distance.ensures.most c.from.ensures c.line_distance.ensures.value c.div_euclid-below.ensures
 
 pub overflow_cast-result : goal.overflow_cast-result
 overflow_cast-result c =

@@ -3,7 +3,7 @@ use Rattle.std.proofs.lemmas.Nat.{mul-le}
 use Rattle.exact.proofs.Between.{within}
 use Rattle.exact.proofs.Fit.{back_128}
 use Rattle.curves.proofs.Products.{t}
-use Rattle.curves.proofs.beziers.coordinate.Goals as goal
+use Rattle.curves.proofs.beziers.curve_coordinate.Goals as goal
 
 cube_above : (n : ℕ) → 0 < n → 0 < n * n * n
 cube_above n h =

@@ -3,8 +3,8 @@ use mir.Syntax.{w64, w128}
 use Rattle.std.proofs.lemmas.Int.{ints, to_z-of_z}
 use Rattle.exact.specs.Fraction.{round, quotient}
 use Rattle.full_settings.proofs.Shares.{page_part_in}
-use Rattle.full_settings.proofs.page_points.part_of.Goals as goal
-use Rattle.full_settings.proofs.page_points.part_of.Goals.{After-rounded, After-from-3}
+use Rattle.full_settings.proofs.page_points.side_part.Goals as goal
+use Rattle.full_settings.proofs.page_points.side_part.Goals.{After-rounded, After-from-3}
 
 is_part : (c : After-from-3) → c.rounded.result ≡ round (quotient (c.args.percent *ℤ pos c.args.side) (pos 100000000))
 is_part c =
