@@ -128,7 +128,7 @@ one_is_few : (n bytes : ℕ) → n ≤ 1 → 0 < bytes → n ≤ bytes
 one_is_few n bytes h k = omega arith
 
 few_by : (noted : Noting) (mnemonic : Bool) (profile : Profile) (terminator : LabelTerminator) (at : ℕ) (text : List ℕ) → begins_with_mnemonic text ≡ mnemonic → 0 < length text
-    → IsFew noted (first_item profile terminator at text).item (first_item profile terminator at text).bytes text
+    → IsFew noted (first_item (kind_of profile) terminator at text).item (first_item (kind_of profile) terminator at text).bytes text
 few_by noted true profile terminator at text e h =
     let fits = content_fits (kind_of profile (code_of text)) terminator (at + 2) (drop 2 text) in
     let two = two_bytes text e in
@@ -144,18 +144,18 @@ few_by noted false profile terminator at text e h =
     rw (e, first_item) (record { in_item = few; in_text = one_is_few _ _ few h })
 
 few_at : (noted : Noting) (profile : Profile) (terminator : LabelTerminator) (at : ℕ) (text : List ℕ) → 0 < length text
-    → IsFew noted (first_item profile terminator at text).item (first_item profile terminator at text).bytes text
+    → IsFew noted (first_item (kind_of profile) terminator at text).item (first_item (kind_of profile) terminator at text).bytes text
 few_at noted profile terminator at text h = few_by noted (begins_with_mnemonic text) profile terminator at text refl h
 
 abbrev FewNext : Noting → Profile → ℕ → Type 0
-FewNext noted profile n = (plot : List ℕ) (before : List ItemShape) (at : ℕ) → length (flat_map (notes_by noted) (items_from profile n plot before at)) ≤ length plot - at
+FewNext noted profile n = (plot : List ℕ) (before : List ItemShape) (at : ℕ) → length (flat_map (notes_by noted) (items_from (kind_of profile) n plot before at)) ≤ length plot - at
 
 few_step : (noted : Noting) (more silent : Bool) (profile : Profile) (n : ℕ) → FewNext noted profile n → (plot : List ℕ) (before : List ItemShape) (at : ℕ) → nat_lt at (length plot) ≡ more
     → length (flat_map (notes_by noted) (elim more [
       | false ↦ []
       | true ↦ elim silent [
-        | true ↦ items_from profile n plot before (at + silent_at plot at)
-        | false ↦ item_at profile plot before at ∷ items_from profile n plot (before ++ item_at profile plot before at ∷ []) (next_place profile plot before at)
+        | true ↦ items_from (kind_of profile) n plot before (at + silent_at plot at)
+        | false ↦ item_at (kind_of profile) plot before at ∷ items_from (kind_of profile) n plot (before ++ item_at (kind_of profile) plot before at ∷ []) (next_place (kind_of profile) plot before at)
       ]
     ])) ≤ length plot - at
 few_step noted false silent profile n next plot before at e = omega arith
@@ -163,9 +163,9 @@ few_step noted true true profile n next plot before at e = omega (arith, next pl
 few_step noted true false profile n next plot before at e =
     let inside : at < length plot = grind (arith, nat_tests, e) in
     let few = few_at noted profile (terminator_after before) at (drop at plot) (omega (arith, inside, length-drop at plot)) in
-    let item = item_at profile plot before at in
-    let rest = items_from profile n plot (before ++ item ∷ []) (next_place profile plot before at) in
-    omega (arith, length-append (notes_by noted item) (flat_map (notes_by noted) rest), few.in_item, few.in_text, length-drop at plot, next plot (before ++ item ∷ []) (next_place profile plot before at))
+    let item = item_at (kind_of profile) plot before at in
+    let rest = items_from (kind_of profile) n plot (before ++ item ∷ []) (next_place (kind_of profile) plot before at) in
+    omega (arith, length-append (notes_by noted item) (flat_map (notes_by noted) rest), few.in_item, few.in_text, length-drop at plot, next plot (before ++ item ∷ []) (next_place (kind_of profile) plot before at))
 
 few_from : (noted : Noting) (profile : Profile) (n : ℕ) → FewNext noted profile n
 few_from noted profile zero plot before at = omega arith

@@ -54,27 +54,27 @@ same_found : (t : Terminator) (at : ℕ) (text : List ℕ) (full core : Kind) �
 same_found t at text full core e h =
     ap (λ (c : Content). found at (code_of text) 2 c) (same_content full t (at + 2) (drop 2 text) h) ∙ ap (found_by t at text) e
 
-first_alike : (t : Terminator) (at : ℕ) (text : List ℕ) → IsReadAlike (first_item Full t at text).item → first_item Full t at text ≡ first_item Core t at text
+first_alike : (t : Terminator) (at : ℕ) (text : List ℕ) → IsReadAlike (first_item (kind_of Full) t at text).item → first_item (kind_of Full) t at text ≡ first_item (kind_of Core) t at text
 first_alike t at text h =
     alike_if (begins_with_mnemonic text) (found_by t at text (kind_of Full (code_of text))) (found_by t at text (kind_of Core (code_of text))) _
     (λ e. same_found t at text (kind_of Full (code_of text)) (kind_of Core (code_of text)) e.kind e.mode) h
 
 -- one more item
 alike_found : (n : ℕ) (plot : List ℕ) (before : List ItemShape) (at : ℕ) → at < length plot → silent_at plot at ≡ 0
-    → All IsReadAlike (items_from Full (suc n) plot before at)
-    → ((after : List ItemShape) (next : ℕ) → All IsReadAlike (items_from Full n plot after next) → items_from Full n plot after next ≡ items_from Core n plot after next)
-    → items_from Full (suc n) plot before at ≡ items_from Core (suc n) plot before at
+    → All IsReadAlike (items_from (kind_of Full) (suc n) plot before at)
+    → ((after : List ItemShape) (next : ℕ) → All IsReadAlike (items_from (kind_of Full) n plot after next) → items_from (kind_of Full) n plot after next ≡ items_from (kind_of Core) n plot after next)
+    → items_from (kind_of Full) (suc n) plot before at ≡ items_from (kind_of Core) (suc n) plot before at
 alike_found n plot before at here none h rest =
-    let item = item_at Full plot before at in
-    let next = next_place Full plot before at in
-    let all : All IsReadAlike (item ∷ items_from Full n plot (before ++ item ∷ []) next) = subst (λ (is : List ItemShape). All IsReadAlike is) (finds_item Full n plot before at here none) h in
+    let item = item_at (kind_of Full) plot before at in
+    let next = next_place (kind_of Full) plot before at in
+    let all : All IsReadAlike (item ∷ items_from (kind_of Full) n plot (before ++ item ∷ []) next) = subst (λ (is : List ItemShape). All IsReadAlike is) (finds_item Full n plot before at here none) h in
     let same = first_alike (terminator_after before) at (drop at plot) (All-head IsReadAlike item _ all) in
     finds_item Full n plot before at here none
     ∙ ap (λ (is : List ItemShape). item ∷ is) (rest (before ++ item ∷ []) next (All-tail IsReadAlike item _ all))
-    ∙ ap (λ (f : Found). f.item ∷ items_from Core n plot (before ++ f.item ∷ []) (at + f.bytes)) same
+    ∙ ap (λ (f : Found). f.item ∷ items_from (kind_of Core) n plot (before ++ f.item ∷ []) (at + f.bytes)) same
     ∙ sym (finds_item Core n plot before at here none)
 
-alike_from : (n : ℕ) (plot : List ℕ) (before : List ItemShape) (at : ℕ) → All IsReadAlike (items_from Full n plot before at) → items_from Full n plot before at ≡ items_from Core n plot before at
+alike_from : (n : ℕ) (plot : List ℕ) (before : List ItemShape) (at : ℕ) → All IsReadAlike (items_from (kind_of Full) n plot before at) → items_from (kind_of Full) n plot before at ≡ items_from (kind_of Core) n plot before at
 alike_from zero plot before at h = refl
 alike_from (suc n) plot before at h = elim (cases_lt at (length plot)) [
   | inr past ↦ none_left Full (suc n) plot before at past ∙ sym (none_left Core (suc n) plot before at past)

@@ -17,8 +17,9 @@ pub data CutFrom (profile : Profile) (plot : List ℕ) : List ItemShape → ℕ 
   silent : {before : List ItemShape} {at : ℕ} {items : List ItemShape} → at < length plot → 0 < silent_at plot at
       → CutFrom profile plot before (at + silent_at plot at) items → CutFrom profile plot before at items
   found : {before : List ItemShape} {at : ℕ} {items : List ItemShape} → at < length plot → silent_at plot at ≡ 0
-      → CutFrom profile plot (before ++ item_at profile plot before at ∷ []) (next_place profile plot before at) items
-      → CutFrom profile plot before at (item_at profile plot before at ∷ items)
+      → CutFrom profile plot (before ++ item_at (kind_of profile) plot before at ∷ [])
+      (next_place (kind_of profile) plot before at) items
+      → CutFrom profile plot before at (item_at (kind_of profile) plot before at ∷ items)
 
 -- these items are the cut of the plot in the profile
 abbrev pub IsCut : Profile → List ℕ → List ItemShape → Type 0

@@ -1,5 +1,6 @@
 use Rattle.std.proofs.Common.{arith, ◌≡◌, ◌∙◌, ◌+◌, ◌<◌, ◌∷◌, ℕ, List, length, ap, sym}
 use Rattle.hpgl_text.specs.Shapes.{ItemShape}
+use Rattle.hpgl_text.specs.Mnemonics.{kind_of}
 use Rattle.hpgl_text.specs.Items.{first_item}
 use Rattle.hpgl_text.specs.Left.{left_from}
 use Rattle.hpgl_text.proofs.Lefts.{found_next}
@@ -16,7 +17,7 @@ first c =
     let here : at < length plot = omega arith in
     sym c.self.view_is ∙ c.past_silence-at.ensures.left s.profile s.terminator
     ∙ found_next s.profile plot s.terminator c.terminator_left_by-self-inside.result at c.read_item-item.result.1 c.read_item-item.result.0 here (c.past_silence-at.ensures.loud here)
-    (c.read_item-item.ensures.item ∙ ap (λ (t : List ℕ). (first_item s.profile s.terminator at t).item) c.past.ensures) (c.read_item-item.ensures.bytes ∙ ap (λ (t : List ℕ). (first_item s.profile s.terminator at t).bytes) c.past.ensures)
+    (c.read_item-item.ensures.item ∙ ap (λ (t : List ℕ). (first_item (kind_of s.profile) s.terminator at t).item) c.past.ensures) (c.read_item-item.ensures.bytes ∙ ap (λ (t : List ℕ). (first_item (kind_of s.profile) s.terminator at t).bytes) c.past.ensures)
     c.terminator_left_by-self-inside.ensures
 
 pub returns-clause-steps : goal.returns-clause-steps
