@@ -54,14 +54,14 @@ impl Lettering {
 
 impl<'a> Written<'a> {
     ghost use Rattle.lettering.specs.Bounds.{IsStrokeWithin};
-    ghost use Rattle.lettering.specs.Labels.{label_strokes, letters_after, sign_strokes};
+    ghost use Rattle.lettering.specs.Labels.{styled_label_strokes, letters_after, sign_strokes};
     ghost use Rattle.lettering.specs.Left.{IsLetter, IsWritten, letter_left, written_left};
 
     // A label from its start on.
     pub fn new(lettering: &'a Lettering, signs: Signs<'a>) -> Written<'a>
         requires { length signs ≤ 2 ^ 26 }
         ensures sound { IsWritten result }
-        ensures all { written_left result ≡ label_strokes lettering.now.style signs.entry }
+        ensures all { written_left result ≡ styled_label_strokes lettering.now.style signs.entry }
     {
         let letters = lettering.first_letters(signs.again());
         Written {
