@@ -21,4 +21,5 @@ pub mod CoreSteps
 pub mod Stills
 pub mod CorePlots
 mod BadItems
+mod Traced
 mod Restarts

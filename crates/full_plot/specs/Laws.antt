@@ -87,6 +87,11 @@ abbrev pub BadItemsDoNothing : Type 0
 BadItemsDoNothing = (w : FullWorld) (i : ItemShape) → body_noted w.context i.body ≡ Some Bad → draws_in_part i.body ≡ false
     → taken w i.body ≡ Some w
 
+-- in polygon mode no item makes a stroke
+abbrev pub PolygonModeDrawsNothing : Type 0
+PolygonModeDrawsNothing = (w v : FullWorld) (i : ItemShape) → w.context.in_polygon ≡ true → taken w i.body ≡ Some v
+    → v.core.kept ≡ w.core.kept
+
 -- as at the start, but for the page, the carousel, the strokes, the ends of sheets and the work that counts; and for the
 -- widths in percent, which have no effect before widths are in percent again
 abbrev pub started_again : FullWorld → FullWorld

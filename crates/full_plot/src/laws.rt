@@ -1,6 +1,7 @@
 //! Laws of the profile full, over the definitions only.
 ghost use Rattle.full_plot.specs.Laws.{BadItemsDoNothing, CoreRunsAsInCore, CoreDrawsAsInCore, CoreNotedAsInCore};
 ghost use Rattle.full_plot.specs.Laws.{CoreDrawsAsInCoreWith, InitializeRestarts, NotesAreTold};
+ghost use Rattle.full_plot.specs.Laws.{PolygonModeDrawsNothing};
 
 /// Items of core leave in the profile full what they leave in core, on one sheet, with the line style
 /// of the start, or are refused as in core.
@@ -27,6 +28,11 @@ pub fn core_noted_as_in_core()
 /// An item that is noted as bad leaves the plotter as it was, but for moves and curves before the wrong number.
 pub fn bad_items_do_nothing()
     ensures { BadItemsDoNothing }
+{}
+
+/// In polygon mode no item makes a stroke.
+pub fn polygon_mode_draws_nothing()
+    ensures { PolygonModeDrawsNothing }
 {}
 
 /// IN and BP leave the plotter as at the start, with the strokes and the sheets so far.
