@@ -3,6 +3,7 @@
 use Rattle.std.specs.Prelude.{◌≡◌, ℕ, Bool, true, false, List, [], ◌∷◌, ◌++◌, length, set, nat_lt, if◌then◌else◌}
 use Rattle.std.specs.Prelude.{Option, Some, None, Result, Ok, Err, ⊤}
 use Rattle.std.specs.List.{list_all}
+use Rattle.carousel.specs.Carousels.{empty}
 use Rattle.carousel.specs.declared.carousel.Carousel.{Carousel}
 use Rattle.plot_frame.specs.declared.pair.Pair.{Pair}
 use Rattle.plot_frame.specs.declared.scaling.Ends.{Ends}
@@ -31,11 +32,32 @@ use Rattle.plot_settings.specs.Parameters.{usual_size, moved_points}
 use Rattle.plot_page.specs.Segments.{Segment}
 use Rattle.plot_settings.specs.Settings.{all_pens}
 use Rattle.plot_settings.specs.Meanings.{Step, Set, Lower, Relate, Load, steps_of}
-use Rattle.hpgl_plot.specs.Frames.{back, corner_window}
+use Rattle.hpgl_plot.specs.Frames.{back, corner_window, place}
 use Rattle.hpgl_plot.specs.Paths.{path}
-use Rattle.hpgl_plot.specs.States.{state_of}
+use Rattle.hpgl_plot.specs.States.{origin}
 use Rattle.hpgl_plot.specs.OnPage.{corners, page_window}
 use Rattle.hpgl_plot.specs.Strokes.{are_in_range, joined, path_strokes}
+
+-- at the start, and after IN, with the pens of a carousel: P1 and P2 are corners of the page, and the pen is up, at the
+-- coordinates (0, 0)
+abbrev pub start_frame : Page → Frame
+start_frame page = record { points = corners page rotation.None; scaling = Off; rotation = rotation.None }
+
+abbrev pub start_state : Carousel → Page → State
+start_state carousel page = record {
+  frame = start_frame page;
+  window = page_window page;
+  widths = all_pens 224;
+  colours = default_colours;
+  carousel = carousel;
+  size = usual_size;
+  direction = rotation.None;
+  pen = 1;
+  is_down = false;
+  is_relative = false;
+  place = place page (start_frame page) origin;
+  coordinates = origin;
+}
 
 -- another frame: the coordinates are recomputed
 abbrev pub framed : Page → State → Frame → State
@@ -45,7 +67,7 @@ abbrev pub pointed : Page → State → Pair Ends → State
 pointed page s p = framed page s (record s.frame { points = p })
 
 abbrev pub set_to : Page → State → Setting → State
-set_to page s Start = state_of page (Load s.carousel ∷ [])
+set_to page s Start = start_state s.carousel page
 set_to page s Defaults =
     record (framed page s (record s.frame { scaling = Off })) {
       is_relative = false;
@@ -156,11 +178,11 @@ seen p = record { page = p.page; state = p.state; kept = p.strokes.items; full =
 
 -- before the first item
 abbrev pub at_start : Page → World
-at_start page = record { page = page; state = state_of page []; kept = []; full = false }
+at_start page = record { page = page; state = start_state empty page; kept = []; full = false }
 
 -- with the pens of a carousel
 abbrev pub at_start_with : Carousel → Page → World
-at_start_with carousel page = record (at_start page) { state = state_of page (Load carousel ∷ []) }
+at_start_with carousel page = record (at_start page) { state = start_state carousel page }
 
 -- how an item is refused, by what items make of a world
 abbrev pub Refused : {W : Type 0} → (W → List ItemShape → Result W PlotFault) → W → ItemShape → PlotFault → Type 0
