@@ -1,5 +1,5 @@
 -- The lines that an edge crosses, and how far along the edge a line is.
-use Rattle.std.proofs.Common.{◌≡◌, ℕ, ◌*◌, ◌^◌, ◌≤◌, [], ◌∷◌, Bool, true, inl, inr, ap, ap₂, ◌∙◌, arith, ℤ, pos, nat_abs, ◌-ℤ◌, ◌*ℤ◌, ◌≤ℤ◌, ◌<ℤ◌, int_le, int_lt, to_z, of_z, FitsSigned}
+use Rattle.std.proofs.Common.{◌≡◌, ℕ, ◌*◌, ◌^◌, ◌<◌, ◌≤◌, [], ◌∷◌, Bool, true, inl, inr, ap, ap₂, ◌∙◌, arith, ℤ, pos, nat_abs, ◌-ℤ◌, ◌*ℤ◌, ◌≤ℤ◌, ◌<ℤ◌, int_le, int_lt, to_z, of_z, FitsSigned}
 use mir.Syntax.{w32, w64, w128}
 use Rattle.std.proofs.lemmas.Bool.{and_parts}
 use Rattle.std.proofs.lemmas.Int.{ints, clamps, to_z-of_z, fits_signed_from_abs, by_lt_z}
@@ -11,6 +11,7 @@ use Rattle.polygons.specs.declared.lines.Lines.{Lines}
 use Rattle.polygons.specs.declared.climb.Crossing as code
 use Rattle.polygons.specs.Fills.{height, line_distance, level, rank, bottom, top, line_from, crosses, crossing}
 use Rattle.polygons.specs.Climbs.{IsPart, climb_by, climb_of, crossing_by, crossing_of}
+use Rattle.polygons.proofs.Shares.{IsOnWay}
 use Rattle.polygons.proofs.Tests.{lt_true, lt_false, le_from, lt_from}
 
 pub max_within : (a b : ℤ) (m : ℕ) → nat_abs a ≤ m → nat_abs b ≤ m → nat_abs (int_max a b) ≤ m
@@ -34,19 +35,17 @@ module _ (lines : Lines) (e : Edge) (n : ℕ) (a b low high first end : ℤ) (a_
   pub climb_none : end ≤ℤ first → [] ≡ climb_of lines n e
   climb_none h = let t = lt_false first end h in rw t at climb_is
 
+-- a height between those of two ends
+pub on_way : (a b v : ℤ) → int_min a b ≤ℤ v → v <ℤ int_max a b → IsOnWay (v -ℤ a) (b -ℤ a) × (0 < nat_abs (b -ℤ a))
+on_way a b v p q =
+    by_lt_z a b
+    (λ l. (inl (omega (arith, ints, clamps), omega (arith, ints, clamps)), omega (arith, ints)))
+    (λ l. (inr (omega (arith, ints, clamps), omega (arith, ints, clamps)), omega (arith, ints, clamps)))
+
 part_between : (a b v : ℤ) → int_min a b ≤ℤ v → v <ℤ int_max a b → nat_abs a ≤ 10 ^ 7 * 2 ^ 30 → nat_abs b ≤ 10 ^ 7 * 2 ^ 30 → IsPart (v -ℤ a) (b -ℤ a)
 part_between a b v p q h k =
-    by_lt_z a b
-    (λ l. record {
-      between = inl (omega (arith, ints, clamps), omega (arith, ints, clamps));
-      not_zero = omega (arith, ints);
-      most = omega (arith, ints);
-    })
-    (λ l. record {
-      between = inr (omega (arith, ints, clamps), omega (arith, ints, clamps));
-      not_zero = omega (arith, ints, clamps);
-      most = omega (arith, ints);
-    })
+    let w = on_way a b v p q in
+    record { between = w.0; not_zero = w.1; most = omega (arith, ints) }
 
 part_of : (lines : Lines) (k : ℤ) (e : Edge) → crosses lines k e ≡ true → nat_abs (height lines e.from) ≤ 10 ^ 7 * 2 ^ 30 → nat_abs (height lines e.to) ≤ 10 ^ 7 * 2 ^ 30
     → IsPart (level lines k -ℤ height lines e.from) (height lines e.to -ℤ height lines e.from)

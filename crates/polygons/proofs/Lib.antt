@@ -15,5 +15,6 @@ pub mod Gaps
 pub mod Begins
 pub mod Numbers
 pub mod Steps
+mod Stays
 pub mod BufferLaws
 pub mod SolidLaws

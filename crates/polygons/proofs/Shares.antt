@@ -1,5 +1,5 @@
 -- A share of a distance is between 0 and the distance.
-use Rattle.std.proofs.Common.{◌≡◌, ℕ, ◌+◌, ◌-◌, ◌*◌, ◌^◌, ◌<◌, ◌≤◌, zero, suc, inl, inr, refl, ap, sym, ◌∙◌, arith, to_z, of_z, FitsSigned, ◌<ℤ◌, ℤ, pos, negsuc, neg_ℤ, nat_abs, ◌+ℤ◌, ◌-ℤ◌, ◌*ℤ◌, ◌≤ℤ◌}
+use Rattle.std.proofs.Common.{◌≡◌, ℕ, ◌+◌, ◌-◌, ◌*◌, ◌^◌, ◌<◌, ◌≤◌, ◌⊎◌, zero, suc, inl, inr, refl, ap, sym, ◌∙◌, arith, to_z, of_z, FitsSigned, ◌<ℤ◌, ℤ, pos, negsuc, neg_ℤ, nat_abs, ◌+ℤ◌, ◌-ℤ◌, ◌*ℤ◌, ◌≤ℤ◌}
 use mir.Syntax.{w64, w128}
 use Rattle.std.proofs.lemmas.Int.{ints, to_z-of_z, fits_signed_from_abs}
 use Rattle.std.specs.Int.{int_div_euclid}
@@ -48,25 +48,40 @@ share_up least d most (negsuc m) n h k l a b p q = absurd (omega (arith, ints))
 flipped : (d t : ℤ) (n : ℕ) → share_of_distance d t (negsuc n) ≡ share_of_distance d (neg_ℤ t) (pos (suc n))
 flipped d t n = ap (λ (z : ℤ). round (quotient z (pos (suc n)))) (sym (mul-neg_z d t))
 
-share_by : (least d most t u : ℤ) → IsPart t u → least ≤ℤ pos 0 → pos 0 ≤ℤ most → least ≤ℤ d → d ≤ℤ most → IsIn least most (share_of_distance d t u)
-share_by least d most t (pos n) part a b p q =
-    let z = part.not_zero in
-    elim (part.between) [
+-- t is between 0 and u
+abbrev pub IsOnWay : ℤ → ℤ → Type 0
+IsOnWay t u = ((pos 0 ≤ℤ t) × (t ≤ℤ u)) ⊎ ((u ≤ℤ t) × (t ≤ℤ pos 0))
+
+share_by : (least d most t u : ℤ) → IsOnWay t u → 0 < nat_abs u → least ≤ℤ pos 0 → pos 0 ≤ℤ most → least ≤ℤ d → d ≤ℤ most
+    → IsIn least most (share_of_distance d t u)
+share_by least d most t (pos n) way z a b p q =
+    elim (way) [
       | inl l ↦ share_up least d most t n (omega (arith, ints)) l.0 l.1 a b p q
       | inr r ↦ absurd (omega (arith, ints, r.0, r.1))
     ]
-share_by least d most t (negsuc n) part a b p q =
-    elim (part.between) [
+share_by least d most t (negsuc n) way z a b p q =
+    elim (way) [
       | inl l ↦ absurd (omega (arith, ints, l.0, l.1))
       | inr r ↦ rw (flipped d t n) (share_up least d most (neg_ℤ t) (suc n) (omega arith) (omega (arith, ints, r.1)) (omega (arith, ints, r.0)) a b p q)
     ]
 
--- a place on the way is in the range of places
-pub moved_within : (a b t u : ℤ) (m : ℕ) → IsPart t u → nat_abs a ≤ m → nat_abs b ≤ m → nat_abs (a +ℤ share_of_distance (b -ℤ a) t u) ≤ m
-moved_within a b t u m part h k =
-    let r = share_by (neg_ℤ (pos m) -ℤ a) (b -ℤ a) (pos m -ℤ a) t u part (omega (arith, ints)) (omega (arith, ints)) (omega (arith, ints)) (omega (arith, ints)) in
+-- a place on the way is between its ends
+pub moved_between : (a b t u least most : ℤ) → IsOnWay t u → 0 < nat_abs u → least ≤ℤ a → a ≤ℤ most → least ≤ℤ b → b ≤ℤ most
+    → (least ≤ℤ (a +ℤ share_of_distance (b -ℤ a) t u)) × ((a +ℤ share_of_distance (b -ℤ a) t u) ≤ℤ most)
+moved_between a b t u least most way z la am lb bm =
+    let r = share_by (least -ℤ a) (b -ℤ a) (most -ℤ a) t u way z
+    (omega (arith, ints)) (omega (arith, ints)) (omega (arith, ints)) (omega (arith, ints)) in
     let l = r.low in
     let g = r.high in
+    (omega (arith, ints, l), omega (arith, ints, g))
+
+-- and in the range of places
+pub moved_within : (a b t u : ℤ) (m : ℕ) → IsPart t u → nat_abs a ≤ m → nat_abs b ≤ m → nat_abs (a +ℤ share_of_distance (b -ℤ a) t u) ≤ m
+moved_within a b t u m part h k =
+    let r = moved_between a b t u (neg_ℤ (pos m)) (pos m) part.between part.not_zero
+    (omega (arith, ints)) (omega (arith, ints)) (omega (arith, ints)) (omega (arith, ints)) in
+    let l = r.0 in
+    let g = r.1 in
     omega (arith, ints, l, g)
 
 pub share_within : (a b t u : ℤ) → IsPart t u → nat_abs a ≤ 2 ^ 20 → nat_abs b ≤ 2 ^ 20 → nat_abs (share_of_distance (b -ℤ a) t u) ≤ 2 ^ 21

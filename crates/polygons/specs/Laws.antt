@@ -1,5 +1,5 @@
 -- What holds of polygons and of what fills them.
-use Rattle.std.specs.Prelude.{◌≡◌, ◌<◌, ◌<ℤ◌, ℤ, Bool, true, List, [], ◌∷◌, ◌++◌, filter, MatchOption, None, int_lt}
+use Rattle.std.specs.Prelude.{◌≡◌, ◌<◌, ◌<ℤ◌, ◌≤ℤ◌, ℤ, Bool, true, List, [], ◌∷◌, ◌++◌, filter, MatchOption, None, int_lt}
 use Rattle.std.specs.List.{All, Any, Contains, list_any, flat_map}
 use Rattle.exact.specs.declared.spot.Spot.{Spot}
 use Rattle.polygons.specs.declared.edge.Edge.{Edge}
@@ -7,7 +7,7 @@ use Rattle.polygons.specs.declared.span.Span.{Span}
 use Rattle.polygons.specs.declared.lines.Lines.{Lines}
 use Rattle.polygons.specs.declared.lines.Rule.{Rule}
 use Rattle.polygons.specs.Buffers.{Contents, empty_buffer, begun_at, reached_at, closed}
-use Rattle.polygons.specs.Fills.{Crossing, rank, crosses, crossings, is_inside_after, line_spans, filled}
+use Rattle.polygons.specs.Fills.{Crossing, rank, crosses, crossings, is_inside_after, line_spans, filled, spans}
 
 -- edges that lead from p to q: each begins where the one before it ends
 abbrev pub IsPath : Spot → List Edge → Spot → Type 0
@@ -40,6 +40,19 @@ pub record BuffersHoldPolygons : Type 0 where
   pub reached : (c : Contents) (p : Spot) (drawn : Bool) → HoldsPolygons c → HoldsPolygons (reached_at c p drawn)
   pub closed : (c : Contents) (drawn : Bool) → HoldsPolygons c → HoldsPolygons (closed c drawn)
   pub loops : (c : Contents) → HoldsPolygons c → c.opened ≡ None → AreLoops c.edges
+
+-- a place is in a box with these corners
+pub record IsInBox (low high p : Spot) : Type 0 where
+  pub left : low.x ≤ℤ p.x
+  pub right : p.x ≤ℤ high.x
+  pub below : low.y ≤ℤ p.y
+  pub above : p.y ≤ℤ high.y
+
+-- what fills polygons stays in each box that their edges are in
+abbrev pub FillsStay : Type 0
+FillsStay = (lines : Lines) (rule : Rule) (edges : List Edge) (low high : Spot)
+    → All (λ e. IsInBox low high e.from × IsInBox low high e.to) edges
+    → All (λ s. IsInBox low high s.from × IsInBox low high s.to) (spans lines rule edges)
 
 -- the crossings of line k of a lower rank than r
 abbrev pub lower : Lines → List Edge → ℤ → ℤ → List Crossing

@@ -1,5 +1,5 @@
 //! What holds of polygons and of what fills them. The functions do nothing; their contracts are laws.
-ghost use Rattle.polygons.specs.Laws.{BuffersHoldPolygons, FillsAreSolid};
+ghost use Rattle.polygons.specs.Laws.{BuffersHoldPolygons, FillsAreSolid, FillsStay};
 
 /// A buffer's edges are those of closed sub-polygons, and then those of the open one: each edge begins
 /// where the one before it ends, and the last edge of a closed sub-polygon ends where its first begins.
@@ -12,4 +12,9 @@ pub fn buffers_hold_polygons()
 /// line.
 pub fn fills_are_solid()
     ensures { FillsAreSolid }
+{}
+
+/// Nothing outside polygons is filled by far: what fills them stays in each box that their edges are in.
+pub fn fills_stay()
+    ensures { FillsStay }
 {}
