@@ -211,7 +211,7 @@ like_next d w v h n = record {
   led = subst (λ (s : Writing). IsLed d s.letters) (sym n.writing_is) h.led;
   no_extra = n.extra_is ∙ h.no_extra;
   no_ends = n.ends_are ∙ h.no_ends;
-  few = n.few h.few;
+  few = n.few.1 h.few;
   few_places = n.few_places (outside w h.first) h.few_places;
 }
 

@@ -1,7 +1,8 @@
--- What fills leave alone: how items are read, and that no more strokes are kept than a plot may have.
+-- What fills leave alone: how items are read, that no more strokes are kept than a plot may have, and where sheets end.
 use Rattle.std.proofs.Common.{◌≡◌, ◌∙◌, ◌≤◌, ◌+◌, ℕ, refl, inl, inr, Bool, true, false, List, [], ◌∷◌, length, nat_lt, nat_eq, ℤ, pos, map}
 use Rattle.std.proofs.lemmas.Bool.{cases_Bool}
 use Rattle.plot_page.specs.Segments.{Segment}
+use Rattle.hpgl_plot.specs.Machine.{kept_with}
 use Rattle.polygons.specs.Fills.{spans}
 use Rattle.polygons.specs.declared.lines.Lines.{Lines}
 use Rattle.polygons.specs.declared.lines.Rule.{Rule}
@@ -15,34 +16,49 @@ use Rattle.full_plot.specs.Lines.{drawn_in_type}
 use Rattle.full_plot.specs.Polygons.{edges_drawn}
 use Rattle.full_plot.specs.Work.{worked}
 use Rattle.full_plot.specs.Worlds.{FullWorld}
-use Rattle.full_plot.proofs.Nexts.{few_kept}
+use Rattle.full_plot.proofs.Nexts.{Grows, few_kept}
+use Rattle.full_plot.proofs.JoinedSheets.{Ascend, ascend_on}
+
+-- so many strokes are no more than a plot may have, and the ends of sheets ascend up to them
+abbrev pub InOrder : List ℕ → ℕ → Type 0
+InOrder ends count = (count ≤ 4194304) × Ascend 0 ends count
+
+abbrev pub IsInOrder : FullWorld → Type 0
+IsInOrder w = InOrder w.ends (length w.core.kept)
+
+pub in_order_on : (ends : List ℕ) (m n : ℕ) → Grows m n → InOrder ends m → InOrder ends n
+in_order_on ends m n g h = (g.1 h.0, ascend_on 0 ends m n g.0 h.1)
+
+pub kept_in_order : (ends : List ℕ) (kept : List Segment) (full : Bool) (ss : List Segment) → InOrder ends (length kept)
+    → InOrder ends (length (kept_with kept full ss))
+kept_in_order ends kept full ss = in_order_on ends (length kept) (length (kept_with kept full ss)) (few_kept kept full ss)
 
 -- a later world
 pub record IsLater (w v : FullWorld) : Type 0 where
   pub context_is : v.context ≡ w.context
-  pub few : length w.core.kept ≤ 4194304 → length v.core.kept ≤ 4194304
+  pub in_order : IsInOrder w → IsInOrder v
 
 pub later_same : (w : FullWorld) → IsLater w w
-later_same w = record { context_is = refl; few = λ h. h }
+later_same w = record { context_is = refl; in_order = λ h. h }
 
 pub later_then : (w v u : FullWorld) → IsLater w v → IsLater v u → IsLater w u
 later_then w v u h k = record {
   context_is = k.context_is ∙ h.context_is;
-  few = λ few. k.few (h.few few);
+  in_order = λ order. k.in_order (h.in_order order);
 }
 
 -- work, and a stroke
 pub filled_work : (n : ℕ) (w : FullWorld) → IsLater w (worked n w)
 filled_work n w = elim (cases_Bool (nat_lt 4194304 (length w.core.kept + w.extra + n))) [
-  | inl i ↦ rw i (record { context_is = refl; few = λ h. h })
-  | inr i ↦ rw i (record { context_is = refl; few = λ h. h })
+  | inl i ↦ rw i (record { context_is = refl; in_order = λ h. h })
+  | inr i ↦ rw i (record { context_is = refl; in_order = λ h. h })
 ]
 
 filled_stroke : (w : FullWorld) (l : Segment) → IsLater w (with_stroke w l)
-filled_stroke w l = record { context_is = refl; few = λ h. few_kept w.core.kept w.core.full (l ∷ []) h }
+filled_stroke w l = record { context_is = refl; in_order = kept_in_order w.ends w.core.kept w.core.full (l ∷ []) }
 
 filled_lines : (w : FullWorld) (ls : List Segment) → IsLater w (drawn_in_type w ls)
-filled_lines w ls = record { context_is = refl; few = λ h. few_kept w.core.kept w.core.full _ h }
+filled_lines w ls = record { context_is = refl; in_order = kept_in_order w.ends w.core.kept w.core.full _ }
 
 filled_counted : (w v : FullWorld) → IsLater w v → IsLater w (counted w v)
 filled_counted w v h = elim (cases_Bool (nat_eq (length v.core.kept) (length w.core.kept))) [

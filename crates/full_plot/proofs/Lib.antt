@@ -10,6 +10,7 @@ pub mod LinesAlong
 pub mod Curved
 pub mod FullRuns
 pub mod Nexts
+pub mod JoinedSheets
 pub mod Filled
 pub mod Aside
 pub mod Later

@@ -1,5 +1,5 @@
 -- What steps of core leave alone in the profile full: all but core, the run, the margin, and how many strokes there are.
-use Rattle.std.proofs.Common.{◌≡◌, ◌∙◌, ◌<◌, ◌≤◌, ℕ, inl, inr, refl, arith, Bool, true, false, true≢false, subst, sym, ap, max, List, [], ◌∷◌, ◌++◌, length, map, nat_eq, nat_lt, pos, neg_ℤ, Option, Some, None, length-append, ℤ}
+use Rattle.std.proofs.Common.{◌≡◌, ◌∙◌, ◌<◌, ◌≤◌, ◌+◌, ℕ, inl, inr, refl, arith, Bool, true, false, true≢false, subst, sym, ap, List, [], ◌∷◌, ◌++◌, length, map, nat_lt, pos, neg_ℤ, Option, Some, None, length-append, ℤ}
 use Rattle.std.specs.Prelude.{⊤}
 use Rattle.std.specs.List.{list_all}
 use Rattle.std.proofs.lemmas.Bool.{cases_Bool}
@@ -28,7 +28,7 @@ use Rattle.full_settings.specs.declared.points.CurvePoints.{CurvePoints}
 use Rattle.curves.specs.Arcs.{arc_places}
 use Rattle.curves.specs.Beziers.{bezier_places}
 use Rattle.full_notes.specs.Contexts.{Context}
-use Rattle.full_plot.specs.Curves.{arc_step, arrived, curve_step, drawn_over, gone_over, if_in_range, lined, lined_in, curve_pen, traced_over}
+use Rattle.full_plot.specs.Curves.{arc_step, arrived, curve_step, gone_over, if_in_range, lined, lined_in, curve_pen, traced_over}
 use Rattle.polygons.specs.Buffers.{Contents}
 use Rattle.full_plot.specs.Lines.{drawn_along, line_step, places_of}
 use Rattle.full_plot.specs.Machine.{core_step, marked, marked_in, full_moved, touched_in}
@@ -36,23 +36,35 @@ use Rattle.full_plot.specs.Polygons.{lined_by, lined_step, only_figure, trace_st
 use Rattle.full_plot.specs.Texts.{at_margin, if_short, inked_at_pen, label_by, labelled, line_at, margin_by, marked_by, moved_by, moved_by_characters, put, signs_of, style_of, then_shifted, tick_distance, tick_end, ticked, with_margin}
 use Rattle.full_plot.specs.Worlds.{FullWorld, full_followed, with_core}
 
--- core keeps no more strokes than a plot may have, if it had no more before
+-- so many strokes are no fewer than before, and no more than a plot may have, if there were no more before
+abbrev pub Grows : ℕ → ℕ → Type 0
+Grows m n = (m ≤ n) × (m ≤ 4194304 → n ≤ 4194304)
+
+grows_not : (n : ℕ) → Grows n n
+grows_not n = (omega arith, λ h. h)
+
+grows_on : (l m n : ℕ) → Grows l m → Grows m n → Grows l n
+grows_on l m n h k = (omega (arith, h.0, k.0), λ few. k.1 (h.1 few))
+
+-- the strokes that core keeps
 abbrev pub FewIn : core.World → Option core.World → Type 0
 FewIn c None = ⊤
-FewIn c (Some d) = length c.kept ≤ 4194304 → length d.kept ≤ 4194304
+FewIn c (Some d) = Grows (length c.kept) (length d.kept)
 
-pub few_kept : (kept : List Segment) (full : Bool) (ss : List Segment) → length kept ≤ 4194304 → length (core.kept_with kept full ss) ≤ 4194304
-few_kept kept full [] h = h
-few_kept kept full (s ∷ ss) h = elim (cases_Bool (nat_lt (length kept) 4194304)) [
+pub few_kept : (kept : List Segment) (full : Bool) (ss : List Segment) → Grows (length kept) (length (core.kept_with kept full ss))
+few_kept kept full [] = grows_not (length kept)
+few_kept kept full (s ∷ ss) = elim (cases_Bool (nat_lt (length kept) 4194304)) [
   | inl t ↦ (let room : length kept < 4194304 = grind (arith, nat_tests) in
-      let more : length (kept ++ (s ∷ [])) ≤ 4194304 = omega (arith, room, length-append kept (s ∷ [])) in
-      rw t (few_kept (kept ++ (s ∷ [])) full ss more))
-  | inr t ↦ rw t (few_kept kept true ss h)
+      let more : List Segment = kept ++ (s ∷ []) in
+      let long : length more ≡ length kept + 1 = length-append kept (s ∷ []) in
+      let one : Grows (length kept) (length more) = (omega (arith, long), λ few. omega (arith, room, long)) in
+      rw t (grows_on (length kept) (length more) (length (core.kept_with more full ss)) one (few_kept more full ss)))
+  | inr t ↦ rw t (few_kept kept true ss)
 ]
 
-few_past : (c d : core.World) (o : Option core.World) → (length c.kept ≤ 4194304 → length d.kept ≤ 4194304) → FewIn d o → FewIn c o
+few_past : (c d : core.World) (o : Option core.World) → Grows (length c.kept) (length d.kept) → FewIn d o → FewIn c o
 few_past c d None h k = tt
-few_past c d (Some e) h k = λ few. k (h few)
+few_past c d (Some e) h k = grows_on (length c.kept) (length d.kept) (length e.kept) h k
 
 few_then : (c : core.World) (o : Option core.World) (f : core.World → Option core.World) → FewIn c o → ((d : core.World) → FewIn d (f d))
     → FewIn c (core.followed o f)
@@ -61,12 +73,12 @@ few_then c (Some d) f h go = few_past c d (f d) h (go d)
 
 few_travelled : (c : core.World) (draws : Bool) (places : List Spot) → FewIn c (core.travelled c draws places)
 few_travelled c draws places = elim (cases_Bool (are_in_range places)) [
-  | inl i ↦ rw i (λ h. few_kept c.kept c.full _ h)
+  | inl i ↦ rw i (few_kept c.kept c.full _)
   | inr i ↦ rw i tt
 ]
 
 few_all : (ls : List (List Spot)) (c : core.World) (draws : Bool) → FewIn c (core.travelled_all c draws ls)
-few_all [] c draws = λ h. h
+few_all [] c draws = grows_not (length c.kept)
 few_all (l ∷ ls) c draws =
     few_then c (core.travelled c draws l) (λ (d : core.World). core.travelled_all d draws ls) (few_travelled c draws l)
     (λ (d : core.World). few_all ls d draws)
@@ -81,7 +93,7 @@ few_put c p = few_ends c (core.moved c.state p) (core.travelled c true (p.place 
 few_step : (c : core.World) (t : Step) → FewIn c (core.step c t)
 unfolding core.step
 few_step c t = elim (cases_Bool (list_all are_in_range (path c.page c.state t).lines)) [
-  | inl i ↦ rw i (λ h. few_kept c.kept c.full _ h)
+  | inl i ↦ rw i (few_kept c.kept c.full _)
   | inr i ↦ rw i tt
 ]
 
@@ -113,7 +125,7 @@ pub record IsNext (w v : FullWorld) : Type 0 where
   pub extra_is : v.extra ≡ w.extra
   pub ends_are : v.ends ≡ w.ends
   pub context_is : v.context ≡ w.context
-  pub few : length w.core.kept ≤ 4194304 → length v.core.kept ≤ 4194304
+  pub few : Grows (length w.core.kept) (length v.core.kept)
   pub few_places : w.context.in_polygon ≡ false → w.buffer.places ≤ 4194304 → v.buffer.places ≤ 4194304
 
 abbrev pub NextIn : FullWorld → Option FullWorld → Type 0
@@ -129,7 +141,7 @@ next_same w = record {
   extra_is = refl;
   ends_are = refl;
   context_is = refl;
-  few = λ h. h;
+  few = grows_not (length w.core.kept);
   few_places = λ a h. h;
 }
 
@@ -142,7 +154,7 @@ next_of_next w v u h k = record {
   extra_is = k.extra_is ∙ h.extra_is;
   ends_are = k.ends_are ∙ h.ends_are;
   context_is = k.context_is ∙ h.context_is;
-  few = λ few. k.few (h.few few);
+  few = grows_on (length w.core.kept) (length v.core.kept) (length u.core.kept) h.few k.few;
   few_places = λ a few. k.few_places (ap (λ (c : Context). c.in_polygon) h.context_is ∙ a) (h.few_places a few);
 }
 
@@ -154,7 +166,7 @@ next_then : (w : FullWorld) (o : Option FullWorld) (f : FullWorld → Option Ful
 next_then w None f h go = tt
 next_then w (Some v) f h go = next_past w v (f v) h (go v)
 
-next_by : (w : FullWorld) (c : core.World) (r : Option Run) (q : Spot) → (length w.core.kept ≤ 4194304 → length c.kept ≤ 4194304)
+next_by : (w : FullWorld) (c : core.World) (r : Option Run) (q : Spot) → Grows (length w.core.kept) (length c.kept)
     → IsNext w (record w { core = c; run = r; margin = q })
 next_by w c r q h = record {
   style_is = refl;
@@ -169,7 +181,7 @@ next_by w c r q h = record {
 }
 
 -- with another buffer
-next_with_buffer : (w : FullWorld) (c : core.World) (b : Contents) → (length w.core.kept ≤ 4194304 → length c.kept ≤ 4194304)
+next_with_buffer : (w : FullWorld) (c : core.World) (b : Contents) → Grows (length w.core.kept) (length c.kept)
     → (w.context.in_polygon ≡ false → w.buffer.places ≤ 4194304 → b.places ≤ 4194304) → IsNext w (record w { core = c; buffer = b })
 next_with_buffer w c b h k = record {
   style_is = refl;
@@ -193,21 +205,21 @@ next_core w t = next_with_core w (core.step w.core t) (few_step w.core t)
 next_line : (w : FullWorld) (t : Step) → NextIn w (line_step w t)
 unfolding line_step
 next_line w t = elim (cases_Bool (are_in_range (places_of w t))) [
-  | inl i ↦ rw i (next_by w _ _ w.margin (λ h. few_kept w.core.kept w.core.full _ h))
+  | inl i ↦ rw i (next_by w _ _ w.margin (few_kept w.core.kept w.core.full _))
   | inr i ↦ rw i tt
 ]
 
 next_at_margin : (w : FullWorld) → IsNext w (at_margin w)
-next_at_margin w = next_by w w.core w.run w.core.state.place (λ h. h)
+next_at_margin w = next_by w w.core w.run w.core.state.place (grows_not (length w.core.kept))
 
 next_margin : (w : FullWorld) (q : Spot) (o : Option FullWorld) → NextIn w o → NextIn w (with_margin q o)
 next_margin w q None h = tt
-next_margin w q (Some v) h = next_of_next w v (record v { margin = q }) h (next_by v v.core v.run q (λ few. few))
+next_margin w q (Some v) h = next_of_next w v (record v { margin = q }) h (next_by v v.core v.run q (grows_not (length v.core.kept)))
 
 next_traced : (w : FullWorld) (t : Step) → w.context.in_polygon ≡ true → NextIn w (trace_step w t)
 unfolding trace_step
 next_traced w t on = elim (cases_Bool (are_in_range (places_of w t))) [
-  | inl i ↦ rw i (next_with_buffer w _ _ (λ h. h) (λ off few. absurd (true≢false (sym on ∙ off))))
+  | inl i ↦ rw i (next_with_buffer w _ _ (grows_not (length w.core.kept)) (λ off few. absurd (true≢false (sym on ∙ off))))
   | inr i ↦ rw i tt
 ]
 
@@ -224,7 +236,7 @@ edge_places w relative x y = omega arith
 
 next_kept_buffer : (w : FullWorld) (b : Contents) (o : Option FullWorld) → b.places ≤ 4194304 → NextIn w o → NextIn w (with_buffer b o)
 next_kept_buffer w b None few h = tt
-next_kept_buffer w b (Some v) few h = next_of_next w v (record v { buffer = b }) h (next_with_buffer v v.core b (λ k. k) (λ a k. few))
+next_kept_buffer w b (Some v) few h = next_of_next w v (record v { buffer = b }) h (next_with_buffer v v.core b (grows_not (length v.core.kept)) (λ a k. few))
 
 next_marked : (w : FullWorld) (symbol : Option ℕ) → NextIn w (marked_by symbol w)
 next_marked w None = next_same w
@@ -304,13 +316,13 @@ next_core_step w t k = next_core w t
 -- a curve
 next_along : (w : FullWorld) (draws : Bool) (places : List Spot) → NextIn w (drawn_along w draws places)
 next_along w draws places = elim (cases_Bool (are_in_range places)) [
-  | inl i ↦ rw i (next_by w _ _ w.margin (λ h. few_kept w.core.kept w.core.full _ h))
+  | inl i ↦ rw i (next_by w _ _ w.margin (few_kept w.core.kept w.core.full _))
   | inr i ↦ rw i tt
 ]
 
 next_traced_over : (w : FullWorld) (places : List Spot) → w.context.in_polygon ≡ true → NextIn w (traced_over w places)
 next_traced_over w places on = elim (cases_Bool (are_in_range (w.core.state.place ∷ places))) [
-  | inl i ↦ rw i (next_with_buffer w w.core _ (λ h. h) (λ off few. absurd (true≢false (sym on ∙ off))))
+  | inl i ↦ rw i (next_with_buffer w w.core _ (grows_not (length w.core.kept)) (λ off few. absurd (true≢false (sym on ∙ off))))
   | inr i ↦ rw i tt
 ]
 
@@ -324,7 +336,7 @@ next_lined w places = next_lined_in w.context.in_polygon w places refl
 next_over : (w : FullWorld) (places : List Spot) (end : Position) → NextIn w (gone_over w places end)
 next_over w places end =
     next_then w (lined w places) (λ (v : FullWorld). Some (arrived end v)) (next_lined w places)
-    (λ (v : FullWorld). next_by v _ v.run _ (λ h. h))
+    (λ (v : FullWorld). next_by v _ v.run _ (grows_not (length v.core.kept)))
 
 next_if : (w : FullWorld) (places : List Spot) (o : Option FullWorld) → NextIn w o → NextIn w (if_in_range places o)
 next_if w places o h = elim (cases_Bool (are_in_range places)) [

@@ -1,6 +1,7 @@
 -- Items of core have the same effect in both profiles.
-use Rattle.std.specs.Prelude.{◌≡◌, ℕ, ℤ, ◌^◌, nat_lt, Bool, true, false, IsTrue, not, ◌&&◌, List, [], ◌∷◌, length, Option, Some, None, Result, Ok, Err}
-use Rattle.std.specs.List.{All, list_all}
+use Rattle.std.specs.Prelude.{◌≡◌, ℕ, ℤ, ◌^◌, ◌<◌, nat_lt, Bool, true, false, IsTrue, not, ◌&&◌, List, [], ◌∷◌, length}
+use Rattle.std.specs.Prelude.{Option, Some, None, Result, Ok, Err}
+use Rattle.std.specs.List.{All, list_all, flat_map, range_with_len}
 use Rattle.character_sets.specs.Ascii.{reads_ascii}
 use Rattle.character_sets.specs.declared.encoding.Encoding.{Encoding}
 use Rattle.lettering.specs.CoreTexts.{is_core_byte}
@@ -17,7 +18,8 @@ use Rattle.hpgl_plot.specs.Machine as core
 use Rattle.hpgl_plot.specs.Strokes.{strokes, strokes_with, refusal, refusal_with}
 use Rattle.hpgl_plot.specs.Notes as noting
 use Rattle.full_settings.specs.Characters.{usual_characters}
-use Rattle.full_plot.specs.Drawings.{full_at_start, full_at_start_with, full_runs, refusal_in, strokes_in, ends_in}
+use Rattle.full_plot.specs.Drawings.{full_at_start, full_at_start_with, full_runs, outcome_with, refusal_in}
+use Rattle.full_plot.specs.Drawings.{strokes_in, ends_in, sheet_count, sheet_strokes}
 use Rattle.full_plot.specs.Worlds.{FullWorld}
 use Rattle.full_notes.specs.Notes.{body_noted, context_after, notes}
 use Rattle.full_plot.specs.Items.{taken}
@@ -112,3 +114,12 @@ InitializeRestarts = (w : FullWorld) (ns : List ℤ)
 abbrev pub NotesAreTold : Type 0
 NotesAreTold = (w v : FullWorld) (i : ItemShape) → full_runs w (i ∷ []) ≡ Ok v
     → v.context ≡ context_after w.context i.body
+
+-- the strokes of the sheets of a plot, in order, are its strokes, and no later sheet has one
+pub record AreSheets (strokes : List Segment) (ends : List ℕ) : Type 0 where
+  pub joined : flat_map (sheet_strokes strokes ends) (range_with_len 1 (sheet_count ends (length strokes))) ≡ strokes
+  pub later : (sheet : ℕ) → sheet_count ends (length strokes) < sheet → sheet_strokes strokes ends sheet ≡ []
+
+abbrev pub SheetsJoin : Type 0
+SheetsJoin = (encoding : Encoding) (carousel : Carousel) (page : Page) (plot : List ℕ)
+    → AreSheets (strokes_in (outcome_with encoding carousel page plot)) (ends_in (outcome_with encoding carousel page plot))

@@ -1,7 +1,7 @@
 //! Laws of the profile full, over the definitions only.
 ghost use Rattle.full_plot.specs.Laws.{BadItemsDoNothing, CoreRunsAsInCore, CoreDrawsAsInCore, CoreNotedAsInCore};
 ghost use Rattle.full_plot.specs.Laws.{CoreDrawsAsInCoreWith, InitializeRestarts, NotesAreTold};
-ghost use Rattle.full_plot.specs.Laws.{PolygonModeDrawsNothing};
+ghost use Rattle.full_plot.specs.Laws.{PolygonModeDrawsNothing, SheetsJoin};
 
 /// Items of core leave in the profile full what they leave in core, on one sheet, with the line style
 /// of the start, or are refused as in core.
@@ -43,4 +43,9 @@ pub fn initialize_restarts()
 /// After each item that is carried out, the plotter has the context that notes have: the steps of an item do not change it.
 pub fn notes_are_told()
     ensures { NotesAreTold }
+{}
+
+/// The strokes of the sheets, in order, are those of the plot, and a later sheet has none.
+pub fn sheets_join()
+    ensures { SheetsJoin }
 {}
