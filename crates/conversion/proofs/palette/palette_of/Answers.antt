@@ -1,5 +1,5 @@
 use Rattle.std.proofs.Common.{◌≡◌, ◌+◌, ℕ, List, [], ◌∷◌, ◌++◌, take, sym, ap, subst, ◌∙◌, arith, cond}
-use Rattle.conversion.specs.Palettes.{AreNumbers, IsNumbered, colour_bytes, with_colour}
+use Rattle.conversion.specs.Palettes.{AreNumbers, IsNumbered, stroke_colour, with_colour}
 use Rattle.plot_page.specs.Pens.{has_pen}
 use Rattle.conversion.proofs.Colours.{grows, numbers_more, palette_more}
 use Rattle.conversion.proofs.palette.palette_of.Goals as goal
@@ -20,6 +20,6 @@ loop-stroke-preserved c =
     record {
       some = omega (arith, more.longer, inv.some);
       few = c.in_ok-number.ensures.few;
-      colours = one.colours ∙ ap (λ (p : List (List ℕ)). cond (has_pen pens s.pen) (with_colour p (colour_bytes s)) p) inv.colours ∙ sym (palette_more pens ss i s (omega arith) c.stroke-item.is);
+      colours = one.colours ∙ ap (λ (p : List (List ℕ)). cond (has_pen pens s.pen) (with_colour p (stroke_colour s)) p) inv.colours ∙ sym (palette_more pens ss i s (omega arith) c.stroke-item.is);
       numbers = subst (AreNumbers pens (take (i + 1) ss) new) (sym pushed) (numbers_more pens ss i s old new c.loop-stroke.numbers.items number (omega arith) c.stroke-item.is inv.numbers one);
     }
