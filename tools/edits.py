@@ -117,11 +117,18 @@ def write_test(name, test):
     path.write_text(text, encoding="utf-8")
 
 
-def apply(changes, folder):
-    """Applies an edit to the crate in this folder."""
+def edited(changes, folder):
+    """The texts of a crate's files in this folder with an edit, by file."""
+    texts = {}
     for file, old, new in changes:
-        target = Path(folder, file)
-        text = target.read_text(encoding="utf-8")
+        text = texts.get(file) or Path(folder, file).read_text(encoding="utf-8")
         if text.count(old) != 1:
             sys.exit(f"{file}: this is in it {text.count(old)} times: {old}")
-        target.write_text(text.replace(old, new), encoding="utf-8")
+        texts[file] = text.replace(old, new)
+    return texts
+
+
+def apply(changes, folder):
+    """Applies an edit to the crate in this folder."""
+    for file, text in edited(changes, folder).items():
+        Path(folder, file).write_text(text, encoding="utf-8")

@@ -213,3 +213,15 @@ fn an_upright_stroke_as_bits(rt: HostRuntime) -> Result<(), Fail> {
     }
     Ok(())
 }
+
+// Rows near the rounded ends of a slanted stroke are bounded by circles, and those between them by its sides.
+#[test]
+fn slanted_strokes_as_bits(rt: HostRuntime) -> Result<(), Fail> {
+    let falling = stroke(1, 500, WHOLE, [343, 1118, 1183, 61])?;
+    let rising = stroke(1, 500, WHOLE, [343, -94, 1183, 963])?;
+    for resolution in [600, 1200] {
+        has_bits_of_cells(&rt, rt.alloc(), &[falling], resolution)?;
+        has_bits_of_cells(&rt, rt.alloc(), &[rising], resolution)?;
+    }
+    Ok(())
+}
