@@ -12,6 +12,11 @@ use Rattle.full_plot.specs.Drawings.{outcome, refusal_in}
 use Rattle.full_plot.specs.Polygons.{trace_step}
 use Rattle.full_plot.proofs.PlotExamples.{line, page, strokes}
 
+-- what is drawn before polygon mode stays, and nothing is added in it
+nothing_added : strokes (codes "PU0,0;PD5,5;PM;PD10,0,0,10;PM1;PD3,3;PM2;") ≡ line 0 0 80 80 ∷ []
+unfolding place_along back_along all_pens default_colours empty line_step core.step trace_step
+nothing_added = refl
+
 -- the closing edge is drawn if the pen is down at the PM2
 close_not_drawn : strokes (codes "PU0,0;PM;PD10,0,10,10;PU;PM2;EP;") ≡ line 0 0 160 0 ∷ line 160 0 160 160 ∷ []
 unfolding place_along back_along all_pens default_colours empty line_step core.step trace_step

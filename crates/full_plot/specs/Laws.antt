@@ -1,4 +1,4 @@
--- Items of core have the same effect in both profiles.
+-- Items of core have the same effect in both profiles; the sheets make up the plot; polygon mode draws nothing.
 use Rattle.std.specs.Prelude.{◌≡◌, ℕ, ℤ, ◌^◌, ◌<◌, nat_lt, Bool, true, false, IsTrue, not, ◌&&◌, List, [], ◌∷◌, length}
 use Rattle.std.specs.Prelude.{Option, Some, None, Result, Ok, Err}
 use Rattle.std.specs.List.{All, list_all, flat_map, range_with_len}

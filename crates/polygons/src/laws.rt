@@ -14,7 +14,7 @@ pub fn fills_are_solid()
     ensures { FillsAreSolid }
 {}
 
-/// Nothing outside polygons is filled by far: what fills them stays in each box that their edges are in.
+/// Nothing far outside polygons is filled: what fills them stays in each box that their edges are in.
 pub fn fills_stay()
     ensures { FillsStay }
 {}
