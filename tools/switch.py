@@ -43,14 +43,16 @@ class Function:
 def end_of(lines, head):
     """The last line of the item whose text begins in this one."""
     indent = re.match(" *", lines[head])[0]
-    return next(at for at in range(head, len(lines)) if lines[at].startswith(indent + "}"))
+    if lines[head].endswith(("}", ";")):
+        return head
+    return next(at for at in range(head, len(lines)) if lines[at].startswith((indent + "}", indent + "{}")))
 
 
 def function_around(lines, at):
     """The function that this line is in, or None."""
     for head in range(at, -1, -1):
         found = HEAD.match(lines[head])
-        if not found or lines[head].endswith(("}", ";")) or end_of(lines, head) < at:
+        if not found or end_of(lines, head) == head or end_of(lines, head) < at:
             continue
         indent, end, first = found[1], end_of(lines, head), head
         body = next(it for it in range(head, end) if lines[it] == indent + "{" or is_opened(lines[it], indent))
