@@ -9,6 +9,7 @@ use Rattle.exact.proofs.Fit.{product_within}
 use Rattle.exact.proofs.Ring.{mul_assoc_z, mul_left_comm_z}
 use Rattle.exact.proofs.Rounding.{same_lem}
 use Rattle.stick_font.specs.Labels as labels
+use Rattle.lettering.specs.Bounds.{most_step}
 
 pub record IsShare (count size : ℤ) (parts : ℕ) : Type 0 where
   pub product_in : nat_abs (count *ℤ size) ≤ 2 ^ 124
@@ -30,13 +31,13 @@ pub record IsStepped (parts : ℕ) (step steps : ℤ) : Type 0 where
   pub steps_fit : FitsSigned w128 steps
   pub first_fits : FitsSigned w128 (pos parts *ℤ step)
   pub fits : FitsSigned w128 (pos parts *ℤ step *ℤ steps)
-  pub most : nat_abs (pos parts *ℤ step *ℤ steps) ≤ parts * 101000000 * nat_abs steps
+  pub most : nat_abs (pos parts *ℤ step *ℤ steps) ≤ parts * most_step * nat_abs steps
 
-pub stepped_in : (parts : ℕ) (step steps : ℤ) → parts ≤ 36 → nat_abs step ≤ 101000000 → nat_abs steps ≤ 2 ^ 52 → IsStepped parts step steps
+pub stepped_in : (parts : ℕ) (step steps : ℤ) → parts ≤ 36 → nat_abs step ≤ most_step → nat_abs steps ≤ 2 ^ 52 → IsStepped parts step steps
 stepped_in parts step steps p s t =
-    let a = product_within (pos parts) step parts 101000000 (omega arith) s in
-    let b = product_within (pos parts *ℤ step) steps (parts * 101000000) (nat_abs steps) a (omega arith) in
-    let d = product_within (pos parts *ℤ step) steps (36 * 101000000) (2 ^ 52) (omega (arith, a)) t in
+    let a = product_within (pos parts) step parts most_step (omega arith) s in
+    let b = product_within (pos parts *ℤ step) steps (parts * most_step) (nat_abs steps) a (omega arith) in
+    let d = product_within (pos parts *ℤ step) steps (36 * most_step) (2 ^ 52) (omega (arith, a)) t in
     record {
       parts_fit = omega (arith, ints);
       step_fits = omega (arith, ints);
@@ -53,12 +54,12 @@ pub record IsBeside (column : ℕ) (half : ℤ) : Type 0 where
   pub most : nat_abs (pos column *ℤ (half +ℤ pos 6000000)) ≤ 2 ^ 63
   pub fits : FitsSigned w128 (pos column *ℤ (half +ℤ pos 6000000))
 
-pub beside_in : (column : ℕ) (letters half : ℤ) → column ≤ 2 → nat_abs letters ≤ 2 ^ 31 → nat_abs half ≤ 9 * 101000000 * nat_abs (letters -ℤ pos 1) → IsBeside column half
+pub beside_in : (column : ℕ) (letters half : ℤ) → column ≤ 2 → nat_abs letters ≤ 2 ^ 31 → nat_abs half ≤ 9 * most_step * nat_abs (letters -ℤ pos 1) → IsBeside column half
 beside_in column letters half c l h =
     let n : nat_abs (letters -ℤ pos 1) ≤ 2 ^ 32 = omega (arith, ints) in
-    let k : nat_abs half ≤ 909000000 * 2 ^ 32 = omega (arith, n, h) in
-    let s : nat_abs (half +ℤ pos 6000000) ≤ 909000000 * 2 ^ 32 + 6000000 = omega (arith, ints, k) in
-    let p = product_within (pos column) (half +ℤ pos 6000000) 2 (909000000 * 2 ^ 32 + 6000000) (omega (arith, c)) s in
+    let k : nat_abs half ≤ 9 * most_step * 2 ^ 32 = omega (arith, n, h) in
+    let s : nat_abs (half +ℤ pos 6000000) ≤ 9 * most_step * 2 ^ 32 + 6000000 = omega (arith, ints, k) in
+    let p = product_within (pos column) (half +ℤ pos 6000000) 2 (9 * most_step * 2 ^ 32 + 6000000) (omega (arith, c)) s in
     record {
       half_fits = omega (arith, ints, k);
       sum_fits = omega (arith, ints, s);
@@ -69,15 +70,15 @@ beside_in column letters half c l h =
 -- steps from cell to cell, as a call gives them
 pub record IsGiven (r : ℤ) (parts : ℕ) (step steps : ℤ) : Type 0 where
   pub value : r ≡ pos parts *ℤ step *ℤ steps
-  pub most : nat_abs r ≤ 3636000000 * 2 ^ 32
+  pub most : nat_abs r ≤ 36 * most_step * 2 ^ 32
 
-pub given : (r : ℤ) (parts : ℕ) (step steps : ℤ) → parts ≤ 36 → nat_abs step ≤ 101000000 → nat_abs steps ≤ 2 ^ 32
-    → r ≡ pos parts *ℤ to_z w64 (of_z w64 step) *ℤ to_z w128 (of_z w128 steps) → nat_abs r ≤ parts * 101000000 * nat_abs (to_z w128 (of_z w128 steps)) → IsGiven r parts step steps
+pub given : (r : ℤ) (parts : ℕ) (step steps : ℤ) → parts ≤ 36 → nat_abs step ≤ most_step → nat_abs steps ≤ 2 ^ 32
+    → r ≡ pos parts *ℤ to_z w64 (of_z w64 step) *ℤ to_z w128 (of_z w128 steps) → nat_abs r ≤ parts * most_step * nat_abs (to_z w128 (of_z w128 steps)) → IsGiven r parts step steps
 given r parts step steps p s t e h =
     let f : FitsSigned w64 step = omega (arith, ints) in
     let g : FitsSigned w128 steps = omega (arith, ints) in
-    let m : parts * 101000000 * nat_abs steps ≤ 36 * 101000000 * 2 ^ 32 = mul-le (parts * 101000000) (nat_abs steps) (36 * 101000000) (2 ^ 32) (omega arith) t in
-    let k : nat_abs r ≤ parts * 101000000 * nat_abs steps = simp to_z-of_z at h in
+    let m : parts * most_step * nat_abs steps ≤ 36 * most_step * 2 ^ 32 = mul-le (parts * most_step) (nat_abs steps) (36 * most_step) (2 ^ 32) (omega arith) t in
+    let k : nat_abs r ≤ parts * most_step * nat_abs steps = simp to_z-of_z at h in
     record { value = simp to_z-of_z at e; most = omega (arith, k, m) }
 
 -- how far a slant moves

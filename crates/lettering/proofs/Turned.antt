@@ -34,6 +34,7 @@ use Rattle.lettering.specs.Cells.{cell_offset}
 use Rattle.lettering.specs.Labels.{sign_strokes, strokes_from, styled_label_strokes, styled_label_end}
 use Rattle.lettering.specs.Laws.{usual_turned, turned_offset, turned_stroke, UsualLabelsAreTurned}
 use Rattle.lettering.specs.Letters.{letter_corner, letter_point, letter_stroke, on_grid}
+use Rattle.lettering.specs.Styles.{parts_of}
 use Rattle.lettering.specs.declared.cell.Cell.{Cell}
 use Rattle.lettering.specs.declared.style.Style.{Style}
 use Rattle.lettering.proofs.Sizes.{scaled, upright_is}
@@ -219,8 +220,8 @@ module _ (size : CharacterSize) (turn : Turn) where
       let line : ℕ = upright.line_after (reverse bytes) in
       let p : Spot = upright.label_end bytes in
       let cells : cell_after_signs first_cell (ascii_signs bytes) ≡ as_cell (upright.cell_after (reverse bytes)) = cells_are [] bytes core ∙ ap (λ (all : List ℕ). as_cell (upright.cell_after all)) (append-nil (reverse bytes)) in
-      let x = scaled 1000000000000 (pos 18 *ℤ pos 1000000 *ℤ (pos 1000000 *ℤ pos column)) p.x size.width 12 (omega arith) (omega arith) (omega arith) (omega (arith, ints)) in
-      let y = scaled 1000000000000 (pos 36 *ℤ pos 1000000 *ℤ neg_ℤ (pos (1000000 * line))) p.y size.height 18 (omega arith) (omega arith) (omega arith) (omega (arith, ints)) in
+      let x = scaled 1000000000000 (parts_of style (vector (pos 1000000 *ℤ pos column) (pos 0))).x p.x size.width 12 (omega arith) (omega arith) (omega arith) (omega (arith, ints)) in
+      let y = scaled 1000000000000 (parts_of style (vector (pos 0) (neg_ℤ (pos (1000000 * line))))).y p.y size.height 18 (omega arith) (omega arith) (omega arith) (omega (arith, ints)) in
       ap (λ (cell : Cell). cell_offset style (pos 1000000 *ℤ cell.column) (pos (1000000 * cell.line))) cells
       ∙ ap (λ (o : Spot). swung (vector_turned turn right) o) (ap₂ vector x y)
       ∙ axes_are_exact_lem.swings turn (upright.offset size p)

@@ -1,5 +1,5 @@
 -- The ranges of a style, which keep the arithmetic in 128 bits, and of the offsets of strokes.
-use Rattle.std.specs.Prelude.{◌≡◌, ◌≤◌, ◌%◌, ◌^◌, nat_abs, pos}
+use Rattle.std.specs.Prelude.{ℕ, ◌≡◌, ◌≤◌, ◌%◌, ◌^◌, nat_abs, pos}
 use Rattle.exact.specs.declared.spot.Spot.{Spot}
 use Rattle.directions.specs.Bounds.{IsWithin}
 use Rattle.directions.specs.Directions.{vector_turned}
@@ -7,13 +7,17 @@ use Rattle.directions.specs.Laws.{right}
 use Rattle.directions.specs.declared.turn.Turn.{Turn}
 use Rattle.lettering.specs.declared.style.Style.{Style}
 
+-- the greatest step, 101 in millionths
+abbrev pub most_step : ℕ
+most_step = 101000000
+
 -- a slant of up to 1000 either way, steps of up to 101, and LO's numbers, 1 to 9 and 11 to 19
 pub record IsStyle (style : Style) : Type 0 where
   pub width_in : nat_abs style.width ≤ 2 ^ 40
   pub height_in : nat_abs style.height ≤ 2 ^ 40
   pub slant_in : nat_abs style.slant ≤ 1000000000
-  pub step_x_in : nat_abs style.step_x ≤ 101000000
-  pub step_y_in : nat_abs style.step_y ≤ 101000000
+  pub step_x_in : nat_abs style.step_x ≤ most_step
+  pub step_y_in : nat_abs style.step_y ≤ most_step
   pub origin_digit : 1 ≤ style.origin % 10
   pub origin_most : style.origin ≤ 19
 

@@ -2,6 +2,7 @@
 ghost use Rattle.std.specs.Prelude.{◌≡◌, ◌≤◌, ◌*◌, ◌^◌, ◌*ℤ◌, max, nat_abs, pos};
 ghost use Rattle.directions.specs.Bounds.{IsWithin};
 ghost use Rattle.stick_font.specs.Labels as labels;
+ghost use Rattle.lettering.specs.Bounds.{most_step};
 ghost use Rattle.lettering.specs.Cells.{cell_offset};
 ghost use Rattle.lettering.specs.Styles.{steps_to, lines_up};
 
@@ -28,8 +29,16 @@ impl Lettering {
         let steps = self.steps(columns, lines);
         style.direction.swung(Spot {
             x: distance(18, style.step_x, steps.x, style.width, 12),
-            y: distance(36, style.step_y, steps.y, style.height, 18),
+            y: distance(36, self.line_step(), steps.y, style.height, 18),
         })
+    }
+
+    // The step to the next line up, in millionths of two heights.
+    pub(crate) fn line_step(&self) -> i64
+        ensures value { result ≡ self.now.style.step_y }
+        ensures most { nat_abs result ≤ most_step }
+    {
+        self.style.step_y
     }
 
     // The cell that is `columns` columns and `lines` lines on, as steps to the right and steps up.
@@ -56,7 +65,7 @@ impl Lettering {
 #[inline]
 fn distance(parts: u8, step: i64, steps: i128, size: i64, whole: u64) -> i128
     requires parts_in { parts ≤ 36 }
-    requires step_in { nat_abs step ≤ 101000000 }
+    requires step_in { nat_abs step ≤ most_step }
     requires steps_in { nat_abs steps ≤ 2 ^ 52 }
     requires size_in { nat_abs size ≤ 2 ^ 40 }
     requires whole_above { 12 ≤ whole }

@@ -2,6 +2,7 @@
 //! eighteenths of its height.
 ghost use Rattle.std.specs.Prelude.{◌≡◌, ◌≤◌, ◌^◌, ◌%◌, nat_abs};
 ghost use Rattle.directions.specs.Bounds.{IsWithin};
+ghost use Rattle.lettering.specs.Bounds.{most_step};
 ghost use Rattle.lettering.specs.Letters.{origin_of, origin_column, origin_row, gap, letters_beside};
 ghost use Rattle.lettering.specs.Letters.{shift, letter_corner};
 
@@ -26,7 +27,7 @@ impl Lettering {
         let shift = self.shift(letters);
         Spot {
             x: stepped(18, self.style.step_x, steps.x) - shift.x,
-            y: stepped(36, self.style.step_y, steps.y) - shift.y,
+            y: stepped(36, self.line_step(), steps.y) - shift.y,
         }
     }
 
@@ -93,7 +94,7 @@ impl Lettering {
 // How far `letters` letters begin left of their start, by the column of the origin and their step.
 fn beside(column: u8, step: i64, letters: i64) -> i128
     requires column_in { column ≤ 2 }
-    requires step_in { nat_abs step ≤ 101000000 }
+    requires step_in { nat_abs step ≤ most_step }
     requires letters_in { nat_abs letters ≤ 2 ^ 31 }
     ensures value { result ≡ letters_beside column step letters }
     ensures most { nat_abs result ≤ 2 ^ 63 }

@@ -1,5 +1,6 @@
 //! Parts of a letter's size.
 ghost use Rattle.std.specs.Prelude.{◌≡◌, ◌<◌, ◌≤◌, ◌*◌, ◌^◌, pos, nat_abs, ◌*ℤ◌, true};
+ghost use Rattle.lettering.specs.Bounds.{most_step};
 ghost use Rattle.stick_font.specs.Labels as labels;
 
 use exact::rounded;
@@ -73,10 +74,10 @@ fn long_share(count: i128, size: i64, parts: u64) -> i128
 #[inline]
 pub fn stepped(parts: u8, step: i64, steps: i128) -> i128
     requires parts_in { parts ≤ 36 }
-    requires step_in { nat_abs step ≤ 101000000 }
+    requires step_in { nat_abs step ≤ most_step }
     requires steps_in { nat_abs steps ≤ 2 ^ 52 }
     ensures value { result ≡ pos parts *ℤ step *ℤ steps }
-    ensures most { nat_abs result ≤ parts * 101000000 * nat_abs steps }
+    ensures most { nat_abs result ≤ parts * most_step * nat_abs steps }
 {
     i128::from(parts) * i128::from(step) * steps
 }

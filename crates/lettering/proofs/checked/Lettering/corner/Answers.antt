@@ -2,6 +2,7 @@ use Rattle.std.proofs.Common.{◌≡◌, ◌*◌, ◌<◌, ◌≤◌, ◌^◌, n
 use mir.Syntax.{w64, w128}
 use Rattle.std.proofs.lemmas.Int.{ints, to_z-of_z, to_z_pos}
 use Rattle.exact.specs.declared.spot.Spot.{Spot}
+use Rattle.lettering.specs.Bounds.{most_step}
 use Rattle.lettering.specs.Styles.{steps_to}
 use Rattle.lettering.proofs.Sizes.{IsGiven, given}
 use Rattle.lettering.proofs.checked.Lettering.corner.Goals as goal
@@ -19,14 +20,14 @@ x_given c =
     let m : nat_abs c.steps-steps.result.x ≤ 2 ^ 32 = omega (arith, ints, c.steps-steps.ensures.x_in) in
     given c.stepped.result 18 c.args.self.now.style.step_x c.steps-steps.result.x (omega arith) s m c.stepped.ensures.value c.stepped.ensures.most
 
-y_given : (c : After-stepped-2) → IsGiven c.stepped-2.result 36 c.args.self.now.style.step_y c.steps-steps.result.y
+y_given : (c : After-stepped-2) → IsGiven c.stepped-2.result 36 c.line_step.result c.steps-steps.result.y
 y_given c =
-    let s = c.args.self.now.sound.step_y_in in
+    let s = c.line_step.ensures.most in
     let i = c.requires.column_in in
     let j = c.requires.line_in in
     let f : FitsSigned w64 c.args.cell.column = omega (arith, ints, i) in
     let m : nat_abs c.steps-steps.result.y ≤ 2 ^ 32 = omega (arith, ints, c.steps-steps.ensures.y_in) in
-    given c.stepped-2.result 36 c.args.self.now.style.step_y c.steps-steps.result.y (omega arith) s m c.stepped-2.ensures.value c.stepped-2.ensures.most
+    given c.stepped-2.result 36 c.line_step.result c.steps-steps.result.y (omega arith) s m c.stepped-2.ensures.value c.stepped-2.ensures.most
 
 pub overflow_sub-result : goal.overflow_sub-result
 overflow_sub-result c =
@@ -57,7 +58,7 @@ record AreNumbers (c : After-stepped-2) : Type 0 where
   dx_in : nat_abs (c.stepped.result -ℤ c.shift-shift.result.x) ≤ 2 ^ 65
   dy_in : nat_abs (c.stepped-2.result -ℤ c.shift-shift.result.y) ≤ 2 ^ 65
 
-numbers : (c : After-stepped-2) → nat_abs c.stepped.result ≤ 3636000000 * 2 ^ 32 → nat_abs c.stepped-2.result ≤ 3636000000 * 2 ^ 32 → AreNumbers c
+numbers : (c : After-stepped-2) → nat_abs c.stepped.result ≤ 36 * most_step * 2 ^ 32 → nat_abs c.stepped-2.result ≤ 36 * most_step * 2 ^ 32 → AreNumbers c
 numbers c m n =
     let p = c.shift-shift.ensures.within.x_in in
     let q = c.shift-shift.ensures.within.y_in in
@@ -96,7 +97,7 @@ returns-clause-value c =
     let shifted = simp to_z-of_z at c.shift-shift.ensures.value in
     simp to_z-of_z (ap₂ vector
     (ap₂ (λ (p q : ℤ). p -ℤ q) (k.value ∙ ap (λ (v : Spot). pos 18 *ℤ style.step_x *ℤ v.x) steps) (ap (λ (v : Spot). v.x) shifted))
-    (ap₂ (λ (p q : ℤ). p -ℤ q) (l.value ∙ ap (λ (v : Spot). pos 36 *ℤ style.step_y *ℤ v.y) steps) (ap (λ (v : Spot). v.y) shifted)))
+    (ap₂ (λ (p q : ℤ). p -ℤ q) (l.value ∙ ap₂ (λ (k : ℤ) (v : Spot). pos 36 *ℤ k *ℤ v.y) c.line_step.ensures.value steps) (ap (λ (v : Spot). v.y) shifted)))
 
 pub returns-clause-within : goal.returns-clause-within
 returns-clause-within c =
