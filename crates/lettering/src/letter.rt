@@ -28,18 +28,12 @@ impl Lettering {
     pub fn centred(&self) -> Lettering
         ensures { result.style ≡ centred self.now.style }
     {
-        let style = &self.style;
         Lettering {
             style: Style {
-                width: style.width,
-                height: style.height,
-                direction: style.direction,
-                slant: style.slant,
-                step_x: style.step_x,
-                step_y: style.step_y,
                 path: Path::Right,
                 line_feed: LineFeed::Normal,
                 origin: 5,
+                ..self.style
             },
         }
     }
