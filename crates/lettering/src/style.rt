@@ -1,7 +1,8 @@
 //! How letters are written.
-ghost use Rattle.std.specs.Prelude.{◌≡◌};
+ghost use Rattle.std.specs.Prelude.{◌≡◌, IsTrue};
 
 use directions::Direction;
+use stick_font::CharacterSize;
 
 /// Where the next letter of a label is, if the label's direction is to the right (HP-GL/2: the first
 /// number of DV, 0 to 3).
@@ -64,5 +65,45 @@ impl Style {
             line_feed: LineFeed::Normal,
             origin: 1,
         }
+    }
+
+    /// Whether this is the usual style, but for its size and its direction.
+    pub fn is_usual(&self, size: CharacterSize, direction: Direction) -> bool
+        ensures { IsTrue result
+            → self.now ≡ record usual { width = size.width; height = size.height; direction = direction } }
+    {
+        if !is_to_the_right(self) || self.origin != 1 {
+            return false;
+        }
+        if self.slant != 0 || self.step_x != ONE || self.step_y != ONE {
+            return false;
+        }
+        if self.width != i64::from(size.width) || self.height != i64::from(size.height) {
+            return false;
+        }
+        is_same(self.direction, direction)
+    }
+}
+
+// One, in millionths.
+const ONE: i64 = 1_000_000;
+
+fn is_same(a: Direction, b: Direction) -> bool
+    ensures { IsTrue result → a ≡ b }
+{
+    if a.x() != b.x() {
+        return false;
+    }
+    a.y() == b.y()
+}
+
+// Whether letters follow each other to the right, and lines downward.
+fn is_to_the_right(style: &Style) -> bool
+    ensures path { IsTrue result → style.now.path ≡ Path.Right }
+    ensures line_feed { IsTrue result → style.now.line_feed ≡ LineFeed.Normal }
+{
+    match (style.path, style.line_feed) {
+        (Path::Right, LineFeed::Normal) => true,
+        _ => false,
     }
 }

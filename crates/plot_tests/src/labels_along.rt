@@ -8,6 +8,7 @@ use exact::Spot;
 use lettering::{Lettering, LineFeed, Path, Strokes, Style, is_core_text};
 use std::alloc::{AllocError, Global};
 use std::process::Abort;
+use stick_font::CharacterSize;
 
 // A style, which is in range.
 fn checked(rt: &impl Abort, style: Style) -> Lettering {
@@ -317,6 +318,36 @@ fn ranges(rt: HostRuntime) {
     assert_eq!(rt; origins, wanted);
     let slants = [mirrored(-1_000_000_000), mirrored(-1_000_000_001)];
     assert!(rt; Lettering::new(slants[0]).is_some() && Lettering::new(slants[1]).is_none());
+}
+
+// Whether a style is the usual one for letters of the usual size to the right.
+fn is_usual(style: Style) -> bool {
+    style.is_usual(CharacterSize::DEFAULT, Direction::RIGHT)
+}
+
+#[test]
+fn usual_styles(rt: HostRuntime) {
+    assert!(rt; is_usual(Style::usual()));
+    assert!(rt; !is_usual(square(1216)) && !is_usual(square(1728)));
+    let mut slanted = Style::usual();
+    slanted.slant = 1;
+    assert!(rt; !is_usual(slanted));
+    let mut closer = Style::usual();
+    closer.step_x = 0;
+    assert!(rt; !is_usual(closer));
+    let mut lower = Style::usual();
+    lower.step_y = 0;
+    assert!(rt; !is_usual(lower));
+    let mut downward = Style::usual();
+    downward.path = Path::Down;
+    assert!(rt; !is_usual(downward));
+    let mut reverse = Style::usual();
+    reverse.line_feed = LineFeed::Reverse;
+    assert!(rt; !is_usual(reverse));
+    assert!(rt; !is_usual(with_origin(&rt, 4).style));
+    let around = turned(&rt, Turn::Half).style;
+    assert!(rt; !is_usual(around));
+    assert!(rt; around.is_usual(CharacterSize::DEFAULT, around.direction));
 }
 
 // Whether core's labels have the strokes of a text, read as the plot says, if these sets are selected.
