@@ -154,9 +154,9 @@ then_filled None = None
 then_filled (Some w) = Some (area_filled false w)
 
 -- a step of core; what LT or UL sets; what DF and what IN do besides; what WU, PT or a PW in percent sets; widths by
--- other P1 and P2; P1 and P2 by IR; what SR, SL, DI, DR, ES, LO or DV sets; what CS, CA, SS, SA, SD or AD sets; the
--- symbol of SM; the text of BL, and PB; a CP; what TL sets, and XT or YT; an AT or an RT, and a curve of BZ or BR; a PM;
--- EP, and FP by winding or not; what FT and AC set; an RA or an RR; an EW, and a WG; the end of a sheet
+-- other P1 and P2; P1 and P2 by IR; how letters are written; what CS, CA, SS, SA, SD or AD sets; the symbol of SM; the
+-- text of BL, and PB; a CP; what TL sets, and XT or YT; an AT or an RT, and a curve of BZ or BR; a PM; EP, and FP by
+-- winding or not; what FT and AC set; an RA or an RR; an EW, and a WG; the end of a sheet
 pub data FullStep : Type 0 where
   Core : Step → FullStep
   Style : LineSetting → FullStep

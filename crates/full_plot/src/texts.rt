@@ -105,7 +105,7 @@ impl FullPlotter {
         ink(&mut self.plotter, lettering.strokes(signs))
     }
 
-    /// Sets what SR, SL, DI, DR, ES, LO or DV asks for.
+    /// Sets how letters are written, as an instruction asks.
     pub fn letter(&mut self, setting: LetterSetting)
         requires { IsLetterSetting setting }
         ensures { full_step (seen self.old) (Letter setting) ≡ Some (seen self.new) }
@@ -249,9 +249,7 @@ fn sets_margin(setting: LetterSetting) -> bool
     match setting {
         LetterSetting::Direction(_) | LetterSetting::RelativeDirection(_) => true,
         LetterSetting::Path(..) | LetterSetting::Origin(_) => true,
-        LetterSetting::FontSize | LetterSetting::AbsoluteSize => false,
-        LetterSetting::RelativeSize(_) => false,
-        LetterSetting::Slant(_) | LetterSetting::Step(_) => false,
+        _ => false,
     }
 }
 

@@ -51,7 +51,7 @@ impl Writing {
         }
     }
 
-    /// Sets what SR, SL, DI, DR, ES, LO or DV asks for.
+    /// Sets how letters are written, as an instruction asks.
     pub fn set_letters(&mut self, setting: LetterSetting)
         requires { IsLetterSetting setting }
         ensures { self.new ≡ record self.old { letters = letters_with setting self.old.letters } }
