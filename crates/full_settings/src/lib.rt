@@ -44,10 +44,7 @@ pub use fill_parameters::fill_type_setting;
 pub use fill_setting::{FillKind, FillSetting, FillStyle};
 pub use font::Font;
 pub use heading::Heading;
-pub use letter_parameters::{
-    direction_setting, origin_setting, path_setting, relative_direction_setting,
-    relative_size_setting, slant_setting, space_setting,
-};
+pub use letter_parameters::direction_setting;
 pub use letter_setting::LetterSetting;
 pub use letter_size::LetterSize;
 pub use letters::{Letters, grains_of_share};

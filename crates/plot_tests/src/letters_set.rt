@@ -6,10 +6,9 @@ use crate::cases::{Asked, has_answers};
 use crate::texts::has_text;
 use directions::Turn;
 use full_settings::{
-    Font, LetterSetting, Letters, direction_setting, origin_setting, path_setting,
-    relative_direction_setting, relative_size_setting, slant_setting, space_setting,
+    Font, FurtherRequest, LetterSetting, Letters, direction_setting, further_request,
 };
-use hpgl_text::{Body, Further, Instruction, Items, Number, Profile};
+use hpgl_text::{Body, Further, Instruction, Items, Numbers, Profile};
 use lettering::Style;
 use plot_frame::{Ends, Pair};
 use std::alloc::{AllocError, Global};
@@ -29,24 +28,16 @@ pub fn setting_of(body: &Body<'_>) -> Option<LetterSetting>
             let (list, count) = numbers.leading();
             direction_setting(&list[..count])
         }
-        Body::Further(further, numbers) => {
-            let (list, count) = numbers.leading();
-            further_setting(*further, &list[..count])
-        }
+        Body::Further(further, numbers) => further_setting(*further, numbers),
         _ => None,
     }
 }
 
-fn further_setting(further: Further, numbers: &[Number]) -> Option<LetterSetting>
+fn further_setting(further: Further, numbers: &Numbers<'_>) -> Option<LetterSetting>
     ensures { IfSome result IsLetterSetting }
 {
-    match further {
-        Further::RelativeSize => relative_size_setting(numbers),
-        Further::Slant => slant_setting(numbers),
-        Further::RelativeDirection => relative_direction_setting(numbers),
-        Further::ExtraSpace => space_setting(numbers),
-        Further::LabelOrigin => origin_setting(numbers),
-        Further::TextPath => path_setting(numbers),
+    match further_request(further, numbers) {
+        FurtherRequest::Letter(setting) => Some(setting),
         _ => None,
     }
 }
