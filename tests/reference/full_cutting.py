@@ -8,12 +8,15 @@ import re
 
 from . import cutting
 from .cutting import MILLION, SKIPPED, BadFrom, Item, rounded
+from .full_settings import FullSettings
 
-FURTHER_WITH_NUMBERS = """
-    LT UL WU PT SR SL DR DV LO CP ES TL XT YT PM EP FP FT AC RA RR EW WG AT RT BZ BR CT IR CR CS CA SD AD
-""".split()
 # Instructions whose numbers are not read.
 WITHOUT_NUMBERS = "PG AF AH NR FR BP PB SS SA".split()
+# Further instructions with numbers: these, and those that set something, which are methods of FullSettings.
+FURTHER_WITH_NUMBERS = "CP XT YT PM EP FP RA RR EW WG AT RT BZ BR".split() + [
+    name for name in vars(FullSettings)
+    if re.fullmatch("[A-Z]{2}", name) and name not in (*cutting.WITH_NUMBERS, *WITHOUT_NUMBERS, "BL", "SM")
+]
 WITHOUT_EFFECT = """
     PS NP LA TR MC PP MT QL ST VS FS AS AP EC GC GM FN FI SB DS IV CM CF CC LM TD RF MG IM KY
     DC DP OA OC OD OE OF OG OH OI OK OL OO OP OS OT OW

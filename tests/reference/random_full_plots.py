@@ -17,6 +17,8 @@ NAMES = ("roman-8", "latin-1", "windows-1252", "pc-8", "ascii", "utf-8", "utf-8"
 # The most strokes.
 MOST_OF_A_REPORT, MOST_OF_A_PICTURE = 2000, 200
 SHEETS = ("0", "0", "0", "1", "2", "3")
+# What sets how letters are written, beside their size, path and origin.
+LETTERS = "DI DR SL ES"
 # Pieces in small letters are of other kinds.
 THEMES = [
     theme.split()
@@ -27,7 +29,7 @@ THEMES = [
         "CR CR PC PC SP PD DF IN BP",
         "restored restored restored PD LB RR",
         "kept kept kept kept PD LB",
-        "LB LB LB SR SI DI DR SL ES LO LO DV CP CP RO mirrored IP DF PU",
+        f"LB LB LB SR SI {LETTERS} LO LO DV CP CP RO mirrored IP DF PU",
         "lines lines LB BL PB LO DV ES CP CP SR DT SC PD",
         "SM SM PU PD PA PR PE LB LO DV SI",
         "TL XT YT RO mirrored IP PU SP",
@@ -43,7 +45,7 @@ THEMES = [
         "characters characters characters text text CS CA SD AD SS SA DT PD",
         "text text SD AD SI SR CP LO ES DV DI PD SM characters",
         "CS CA SA SS text BL PB DT LB DF IN BP SM PD IP mirrored",
-        "LT UL WU PW PT PC CR IR SR DR DI SL ES LO DV CP BL PB SM TL XT YT PM EP FP FT AC RR EW WG AT RT BZ BR CT sheet",
+        f"LT UL WU PW PT PC CR IR SR {LETTERS} LO DV CP BL PB SM TL XT YT PM EP FP FT AC RR EW WG AT RT BZ BR CT sheet",
         "LT PD LB FP PM EP FT RR SM IN DF IP SC RO IW SP PU PD PA PR PE EA ER CI AA AR LB DT SI DI",
         "PD PD PR AR ER CI IW LB units units bad",
     )
@@ -380,7 +382,7 @@ class FullWriter(Writer):
         return [] if self.chance(15) else [round(self.pick(*tangents) * MILLION)]
 
     def of_ES(self):
-        spaces = (0, 0, 1, -1, 0.5, -0.333333, 2, *((100, 100.1, -101) if self.is_wild else ()))
+        spaces = (0, 0, 1, -1, 0.5, -0.333333, 2, -2, *((100, 100.1, -101) if self.is_wild else ()))
         return [round(self.pick(*spaces) * MILLION) for _ in range(self.pick(0, 1, 2, 2))]
 
     def of_LO(self):

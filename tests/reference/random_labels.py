@@ -1,13 +1,14 @@
 """Random labels of the profile full, as documents have them: what sets how they are written, and their texts of any kind."""
 
+from .random_full_plots import LETTERS, FullWriter
+
 SIZES = (
     b"", b"", b"SI.1,.15;", b"SI.05,.3;", b"SI-.1,.1;", b"SI.1,-.15;", b"SR;", b"SR2,3;", b"SD4,9;", b"SD2,1;", b"SI.003,.002;",
 )
-# What a letter's place follows from, and what puts all back.
+# What a letter's place follows from beside LETTERS, and what puts all back.
 SETTINGS = (
-    b"DI0,1;", b"DI-1,0;", b"DI3,4;", b"DI-1,-2;", b"DI;", b"DR1,1;", b"DR0,-1;", b"DR;", b"SL.4;", b"SL-1.5;", b"SL;",
-    b"ES.5;", b"ES-.5,1;", b"ES-1;", b"ES,-2;", b"ES;", b"RO90;", b"RO180;", b"RO270;", b"RO;", b"IP0,0,900,300;",
-    b"IP600,0,0,400;", b"IP;", b"SC0,10,0,10;", b"SC;", b"CP1,-1;", b"CP;", b"DF;", b"DF;", b"DF;",
+    b"RO90;", b"RO180;", b"RO270;", b"RO;", b"IP0,0,900,300;", b"IP600,0,0,400;", b"IP;", b"SC0,10,0,10;", b"SC;", b"CP1,-1;",
+    b"CP;", b"DF;", b"DF;", b"DF;",
 )
 PATHS = tuple(b"DV%d,%d;" % (path, line) for path in range(4) for line in (0, 1))
 ORIGINS = tuple(b"LO%d;" % origin for origin in (*range(1, 10), *range(11, 20), 21))
@@ -38,7 +39,10 @@ def random_label(chance):
     if chance.random() < 0.05:
         return far_label(chance)
     plot = b";DT;" + chance.choice(SIZES)
-    for share, choices in ((0.5, SETTINGS), (0.2, PATHS), (0.3, ORIGINS), (0.3, SETS), (0.3, OTHERS)):
+    writer = FullWriter(chance.random())
+    writer.is_wild = False
+    settings = SETTINGS + tuple(writer.piece(name) for name in 4 * LETTERS.split())
+    for share, choices in ((0.5, settings), (0.2, PATHS), (0.3, ORIGINS), (0.3, SETS), (0.3, OTHERS)):
         while chance.random() < share:
             plot += chance.choice(choices)
     plot += b"PU%d,%d;" % (chance.randint(0, 800), chance.randint(0, 600)) if chance.random() < 0.7 else b""
