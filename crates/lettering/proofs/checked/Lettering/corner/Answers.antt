@@ -18,7 +18,7 @@ x_given c =
     let j = c.requires.line_in in
     let f : FitsSigned w64 c.args.cell.column = omega (arith, ints, i) in
     let m : nat_abs c.steps-steps.result.x ≤ 2 ^ 32 = omega (arith, ints, c.steps-steps.ensures.x_in) in
-    given c.stepped.result 18 c.args.self.now.style.step_x c.steps-steps.result.x (omega arith) s m c.stepped.ensures.value c.stepped.ensures.most
+    given c.stepped.result 18 c.args.self.now.style.step_x c.steps-steps.result.x (omega arith) (omega (arith, s)) m c.stepped.ensures.value c.stepped.ensures.most
 
 y_given : (c : After-stepped-2) → IsGiven c.stepped-2.result 36 c.line_step.result c.steps-steps.result.y
 y_given c =
