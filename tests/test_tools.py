@@ -2,8 +2,10 @@
 
 import os
 import sys
+from pathlib import Path
 
 sys.path.insert(0, os.path.join(os.path.dirname(os.path.abspath(__file__)), "..", "tools"))
+from edits import CRATES, all_mutants  # noqa: E402
 from holes import with_holes  # noqa: E402
 from switch import place_of, switched  # noqa: E402
 
@@ -163,3 +165,11 @@ def test_edits_that_no_copy_can_have():
 
 def test_holes():
     assert with_holes(PROOFS, {"half"}) == HOLES
+
+
+def test_functions_of_mutants():
+    for name, mutant in all_mutants().items():
+        text = Path(CRATES, name.split("/")[0], mutant.edit[0][0]).read_text(encoding="utf-8")
+        if mutant.function and len({it[0] for it in mutant.edit}) == 1:
+            place = place_of(text, [it[1:] for it in mutant.edit])
+            assert place is None or mutant.function.split("::")[-1] == place.name, name

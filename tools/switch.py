@@ -41,11 +41,11 @@ class Function:
 
 
 def end_of(lines, head):
-    """The last line of the item whose text begins in this one."""
+    """The last line of the item whose text begins in this one, or this one if it has no body."""
     indent = re.match(" *", lines[head])[0]
     if lines[head].endswith(("}", ";")):
         return head
-    return next(at for at in range(head, len(lines)) if lines[at].startswith((indent + "}", indent + "{}")))
+    return next((at for at in range(head, len(lines)) if lines[at].startswith((indent + "}", indent + "{}"))), head)
 
 
 def function_around(lines, at):
@@ -55,10 +55,12 @@ def function_around(lines, at):
         if not found or end_of(lines, head) == head or end_of(lines, head) < at:
             continue
         indent, end, first = found[1], end_of(lines, head), head
-        body = next(it for it in range(head, end) if lines[it] == indent + "{" or is_opened(lines[it], indent))
+        opened = [it for it in range(head, end) if lines[it] == indent + "{" or is_opened(lines[it], indent)]
+        if not opened:
+            return None
         while lines[first - 1].startswith(f"{indent}#["):
             first -= 1
-        return Function(first, head, body, end, indent, found[2])
+        return Function(first, head, opened[0], end, indent, found[2])
     return None
 
 
