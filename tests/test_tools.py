@@ -6,7 +6,7 @@ from pathlib import Path
 
 sys.path.insert(0, os.path.join(os.path.dirname(os.path.abspath(__file__)), "..", "tools"))
 from edits import CRATES, all_mutants  # noqa: E402
-from holes import with_holes  # noqa: E402
+from holes import functions_of, modules_of, with_holes  # noqa: E402
 from switch import place_of, switched  # noqa: E402
 
 CODE = """const STEP: u32 = 3;
@@ -168,8 +168,13 @@ def test_holes():
 
 
 def test_functions_of_mutants():
+    paths = {}
+    for crate in {name.split("/")[0] for name in all_mutants()}:
+        for module, path, function in functions_of(modules_of(os.path.join(CRATES, crate))):
+            paths[crate, "/".join(module or ("lib",)), function.head] = "::".join(path)
     for name, mutant in all_mutants().items():
-        text = Path(CRATES, name.split("/")[0], mutant.edit[0][0]).read_text(encoding="utf-8")
-        if mutant.function and len({it[0] for it in mutant.edit}) == 1:
-            place = place_of(text, [it[1:] for it in mutant.edit])
-            assert place is None or mutant.function.split("::")[-1] == place.name, name
+        crate, (file, *more) = name.split("/")[0], {it[0] for it in mutant.edit}
+        text = Path(CRATES, crate, file).read_text(encoding="utf-8")
+        place = None if more else place_of(text, [it[1:] for it in mutant.edit])
+        path = place and paths.get((crate, file[len("src/") : -len(".rt")], place.head))
+        assert path in (None, mutant.function), name
