@@ -396,7 +396,7 @@ report_single name = record {
 }
 
 single : (it : Text × Kind) → IsSingleShape (built_leaf (subcommand_app it).top)
-single (name, Draw) = draw_single name
+single (name, Draw destination) = draw_single name
 single (name, Write (Picture Marks)) = plain_single name
 single (name, Write (Picture Pbm)) = plain_single name
 single (name, Write (Picture Ppm)) = smoothed_single name

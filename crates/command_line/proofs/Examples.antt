@@ -7,6 +7,7 @@ use Rattle.clap.proofs.OnLiterals.{clap_on_literals}
 use Rattle.clap.specs.declared.error.kind.ErrorKind.TheVariants as kind
 use Rattle.picture_job.specs.declared.vector_job.VectorFormat.TheVariants as format
 use Rattle.picture_out.specs.declared.form.Form.TheVariants as form
+use Rattle.command_line.specs.declared.destination.Destination.TheVariants.{File, Folder}
 use Rattle.command_line.specs.declared.subcommands.Kind.TheVariants as kind_of
 use Rattle.command_line.specs.declared.subcommands.Output.{Output}
 use Rattle.command_line.specs.declared.subcommands.Output.TheVariants as output
@@ -32,7 +33,7 @@ no_memory = refl
 unknown_option : parse_status_of kind.UnknownArgument ≡ 2
 unknown_option = refl
 
-draw_asks_for_a_form : kind_named (codes "draw") ≡ Some kind_of.Draw
+draw_asks_for_a_form : kind_named (codes "draw") ≡ Some (kind_of.Draw File)
 draw_asks_for_a_form = refl
 
 ppm_is_a_pixmap : kind_named (codes "ppm") ≡ Some (kind_of.Write (output.Picture form.Ppm))
@@ -75,20 +76,20 @@ this_folder = refl
 a_folder : extension_of (codes "out.d/") ≡ None
 a_folder = refl
 
-smoothed_four_times : usual_smooth kind_of.Draw false 300 ≡ 4
+smoothed_four_times : usual_smooth (kind_of.Draw File) false 300 ≡ 4
 smoothed_four_times = refl
 
-as_fine_as_may_be : usual_smooth kind_of.Draw false 400 ≡ 3
+as_fine_as_may_be : usual_smooth (kind_of.Draw File) false 400 ≡ 3
 as_fine_as_may_be = refl
 
-not_smoothed : usual_smooth kind_of.Draw false 601 ≡ 1
+not_smoothed : usual_smooth (kind_of.Draw File) false 601 ≡ 1
 not_smoothed = refl
 
 only_draw_smooths : usual_smooth (kind_of.Write output.Png) false 10 ≡ 1
 only_draw_smooths = refl
 
 -- the dots per inch are not known yet
-smoothed_most_in_so_many_pixels : usual_smooth kind_of.Draw true 1200 ≡ 8
+smoothed_most_in_so_many_pixels : usual_smooth (kind_of.Draw File) true 1200 ≡ 8
 smoothed_most_in_so_many_pixels = refl
 
 b4_is_a_paper : paper_of (codes "b4") ≡ Some (14120, 10000)
@@ -341,7 +342,7 @@ output_in_short = refl
 
 -- a command line asks for a picture by a text that is no list of pens
 abbrev bad_list_on : List Text → Bool
-bad_list_on words = option_map_or names_bad_list (subcommand_of plot_app (after_name words)) false
+bad_list_on words = option_map_or (names_bad_list File) (subcommand_of plot_app (after_name words)) false
 
 falling_range : bad_list_on (codes "pbm" ∷ codes "--pens=7-5" ∷ []) ≡ true
 unfolding clap_on_literals

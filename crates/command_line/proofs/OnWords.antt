@@ -3,6 +3,7 @@ use Rattle.std.proofs.Common.{◌∷◌, List, Option, codes}
 use Rattle.std.specs.Prelude.{option_and_then, option_map}
 use Rattle.clap.specs.Words.{Kinds, Text, fault_of, subcommand_of}
 use Rattle.picture_job.specs.declared.page_choice.PageChoice.{PageChoice}
+use Rattle.command_line.specs.declared.destination.Destination.TheVariants.{File}
 use Rattle.command_line.specs.Faults.{Refusal}
 use Rattle.command_line.specs.Lines.{choice_in, fault_of_values, kind_named}
 use Rattle.command_line.specs.Options.{plot_app}
@@ -13,7 +14,7 @@ after_name words = codes "plotraster" ∷ words
 
 -- what is wrong with the values on a command line
 abbrev pub value_fault_on : List Text → Option Refusal
-value_fault_on words = option_and_then fault_of_values (subcommand_of plot_app (after_name words))
+value_fault_on words = option_and_then (fault_of_values File) (subcommand_of plot_app (after_name words))
 
 -- the kinds of fault on a command line
 abbrev pub faults_on : List Text → Kinds

@@ -16,10 +16,11 @@ use Rattle.clap.specs.declared.builder.value_parser.Reading.TheVariants as readi
 use Rattle.clap.specs.declared.builder.value_parser.ValueParser.TheVariants as vp
 use Rattle.clap.proofs.ValueTestLemmas.{accepts-Accepts}
 use Rattle.clap_parses.specs.Parses.{HasGoodMatches, IsIn, RowOf, RowsOf, first, past}
+use Rattle.command_line.specs.declared.destination.Destination.{Destination}
 use Rattle.command_line.specs.declared.subcommands.Kind.{Kind}
 use Rattle.command_line.specs.declared.subcommands.Kind.TheVariants.{Draw, Write}
 use Rattle.command_line.specs.declared.subcommands.Output.TheVariants.{Picture, Png, Report, Vector}
-use Rattle.command_line.specs.Lines.{kind_named, number_in, pens_text}
+use Rattle.command_line.specs.Lines.{kind_into, kind_named, number_in, pens_text}
 use Rattle.picture_out.specs.declared.form.Form.TheVariants.{Marks, Pbm, Ppm, Pcl}
 use Rattle.command_line.specs.Options.{draw_app, picture_app, plot_app, png_app, report_app, subcommand_app, subcommands, vector_app}
 use Rattle.command_line.proofs.Plain.{plain_app}
@@ -265,9 +266,10 @@ vector_page name rows good =
 vector_pens : (name : Text) (rows : List Row) → RowsOf (built_leaf (vector_app name).top).rules rows → is_some (pens_text rows) ≡ true
 vector_pens name rows good = text_there _ _ (codes "pens") rows refl good.each (good.defaults.1.1.1.1.1.1.1.1.1.1.1.1.1.1.0 (omega arith))
 
--- the rows of a subcommand give its options values
+-- the rows of a subcommand give its options values, whatever its output goes into
 abbrev Reads : Shape → Type 0
-Reads command = (kind : Kind) → kind_named command.name ≡ Some kind → (rows : List Row) → RowsOf command.rules rows → HasValues kind rows
+Reads command = (destination : Destination) (kind : Kind) → kind_named command.name ≡ Some kind → (rows : List Row) → RowsOf command.rules rows
+    → HasValues (kind_into destination kind) rows
 
 -- the name of a row of the table is that of this row
 abbrev IsNamed : Text × Kind → Type 0
@@ -280,9 +282,11 @@ same_kind : (k l : Kind) → Some k ≡ Some l → k ≡ l
 same_kind k l same = cc
 
 -- what a subcommand's rows give is the same whatever says which one it is
-by_name : (name : Text) (k : Kind) (rules : List Rule) → IsNamed (name, k) → ((rows : List Row) → RowsOf rules rows → HasValues k rows)
-    → (kind : Kind) → kind_named name ≡ Some kind → (rows : List Row) → RowsOf rules rows → HasValues kind rows
-by_name name k rules named values kind is rows good = subst (λ (l : Kind). HasValues l rows) (same_kind _ _ (sym named ∙ is)) (values rows good)
+by_name : (name : Text) (k : Kind) (rules : List Rule) → IsNamed (name, k)
+    → ((destination : Destination) (rows : List Row) → RowsOf rules rows → HasValues (kind_into destination k) rows)
+    → (destination : Destination) (kind : Kind) → kind_named name ≡ Some kind → (rows : List Row) → RowsOf rules rows → HasValues (kind_into destination kind) rows
+by_name name k rules named values destination kind is rows good =
+    subst (λ (l : Kind). HasValues (kind_into destination l) rows) (same_kind _ _ (sym named ∙ is)) (values destination rows good)
 
 plain_reads : (name : Text) (kind : Kind) → ((rows : List Row) → HasFormValues rows → HasTaskValues kind rows) → (rows : List Row)
     → RowsOf (built_leaf (plain_app name).top).rules rows → HasValues kind rows
@@ -295,38 +299,38 @@ plain_reads name kind task rows good = record {
 }
 
 row_reads : (it : Text × Kind) → IsNamed it → Reads (built_leaf (subcommand_app it).top)
-row_reads (name, Draw) named = by_name name Draw _ named (λ rows good. record {
+row_reads (name, Draw destination) named = by_name name (Draw destination) _ named (λ _ rows good. record {
   pens = λ _. draw_pens name rows good;
   task = draw_values name rows good;
   profile = draw_profile name rows good;
   pixels = draw_pixels name rows good;
   margin = draw_margin name rows good;
 })
-row_reads (name, Write (Picture Marks)) named = by_name name (Write (Picture Marks)) _ named (plain_reads name (Write (Picture Marks)) (λ rows has. has))
-row_reads (name, Write (Picture Pbm)) named = by_name name (Write (Picture Pbm)) _ named (plain_reads name (Write (Picture Pbm)) (λ rows has. has))
-row_reads (name, Write (Picture Ppm)) named = by_name name (Write (Picture Ppm)) _ named (λ rows good. record {
+row_reads (name, Write (Picture Marks)) named = by_name name (Write (Picture Marks)) _ named (λ _. plain_reads name (Write (Picture Marks)) (λ rows has. has))
+row_reads (name, Write (Picture Pbm)) named = by_name name (Write (Picture Pbm)) _ named (λ _. plain_reads name (Write (Picture Pbm)) (λ rows has. has))
+row_reads (name, Write (Picture Ppm)) named = by_name name (Write (Picture Ppm)) _ named (λ _ rows good. record {
   pens = λ _. smoothed_pens name rows good;
   task = smoothed_values name rows good;
   profile = smoothed_profile name rows good;
   pixels = smoothed_pixels name rows good;
   margin = smoothed_margin name rows good;
 })
-row_reads (name, Write (Picture Pcl)) named = by_name name (Write (Picture Pcl)) _ named (plain_reads name (Write (Picture Pcl)) (λ rows has. has))
-row_reads (name, Write Png) named = by_name name (Write Png) _ named (λ rows good. record {
+row_reads (name, Write (Picture Pcl)) named = by_name name (Write (Picture Pcl)) _ named (λ _. plain_reads name (Write (Picture Pcl)) (λ rows has. has))
+row_reads (name, Write Png) named = by_name name (Write Png) _ named (λ _ rows good. record {
   pens = λ _. png_pens name rows good;
   task = png_picture name rows good;
   profile = png_profile name rows good;
   pixels = png_pixels name rows good;
   margin = png_margin name rows good;
 })
-row_reads (name, Write (Vector format)) named = by_name name (Write (Vector format)) _ named (λ rows good. record {
+row_reads (name, Write (Vector format)) named = by_name name (Write (Vector format)) _ named (λ _ rows good. record {
   pens = λ _. vector_pens name rows good;
   task = vector_page name rows good;
   profile = vector_profile name rows good;
   pixels = vector_pixels name rows good;
   margin = vector_margin name rows good;
 })
-row_reads (name, Write Report) named = by_name name (Write Report) _ named (λ rows good. record {
+row_reads (name, Write Report) named = by_name name (Write Report) _ named (λ _ rows good. record {
   pens = λ is. absurd (cc);
   task = report_page name rows good;
   profile = report_profile name rows good;
@@ -346,7 +350,7 @@ abbrev HasName : Shape → Type 0
 HasName command = is_some (kind_named command.name) ≡ true
 
 row_name : (it : Text × Kind) → IsNamed it → HasName (built_leaf (subcommand_app it).top)
-row_name (name, Draw) named = ap is_some named
+row_name (name, Draw destination) named = ap is_some named
 row_name (name, Write (Picture Marks)) named = ap is_some named
 row_name (name, Write (Picture Pbm)) named = ap is_some named
 row_name (name, Write (Picture Ppm)) named = ap is_some named
@@ -369,13 +373,13 @@ in_all P x _ (past y xs at) all = in_all P x xs at all.1
 same_pair : (p q : Text × List Row) → Some p ≡ Some q → p ≡ q
 same_pair p q same = cc
 
-pub values_there : (words : List Text) (m : ArgMatches) (name : Text) (rows : List Row) (kind : Kind) → HasGoodMatches plot_app words m
-    → subcommand_rows_of m ≡ Some (name, rows) → kind_named name ≡ Some kind → HasValues kind rows
-values_there words m name rows kind good are named =
+pub values_there : (destination : Destination) (words : List Text) (m : ArgMatches) (name : Text) (rows : List Row) (kind : Kind) → HasGoodMatches plot_app words m
+    → subcommand_rows_of m ≡ Some (name, rows) → kind_named name ≡ Some kind → HasValues (kind_into destination kind) rows
+values_there destination words m name rows kind good are named =
     let to = good.to in
     let pair = same_pair _ _ (sym good.rows_are ∙ are) in
     let here = in_all Reads to.command (built plot_app).subs to.known each_reads in
-    subst (λ (p : Text × List Row). kind_named p.0 ≡ Some kind → HasValues kind p.1) pair (λ is. here kind is to.rows to.good) named
+    subst (λ (p : Text × List Row). kind_named p.0 ≡ Some kind → HasValues (kind_into destination kind) p.1) pair (λ is. here destination kind is to.rows to.good) named
 
 pub name_there : (words : List Text) (m : ArgMatches) (name : Text) (rows : List Row) → HasGoodMatches plot_app words m
     → subcommand_rows_of m ≡ Some (name, rows) → is_some (kind_named name) ≡ true

@@ -41,5 +41,5 @@ of_others = record {
 }
 
 abbrev pub defaults_of : Kind → Defaults
-defaults_of Draw = of_draw
+defaults_of (Draw destination) = of_draw
 defaults_of (Write _) = of_others

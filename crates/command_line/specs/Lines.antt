@@ -37,6 +37,8 @@ use Rattle.picture_job.specs.declared.reading.Reading.{Reading}
 use Rattle.picture_job.specs.declared.reading.Reading.TheVariants.{Core, Full}
 use Rattle.picture_job.specs.declared.smoothing.Smoothing.{Smoothing}
 use Rattle.picture_job.specs.declared.page_choice.PageChoice.{PageChoice}
+use Rattle.command_line.specs.declared.destination.Destination.{Destination}
+use Rattle.command_line.specs.declared.destination.Destination.TheVariants.{File, Folder}
 use Rattle.command_line.specs.declared.fault.LineFault.{LineFault}
 use Rattle.command_line.specs.declared.fault.LineFault.TheVariants.{Pens, Shades, Smooth, Paper, Size, Profile, Sheet}
 use Rattle.command_line.specs.declared.fault.LineFault.TheVariants.{BadCharacters, BadSheet, Characters, Form as NoForm, Margin, NoFolder, NoPicture, NoPixels, Pixels, PrinterPixels, Several}
@@ -140,21 +142,32 @@ has_no_place rows = nat_lt 1 (length (files_in rows)) && not (is_some (output_te
 abbrev pub kind_in : List (Text × Kind) → Text → Option Kind
 kind_in its name = option_map (λ it. it.1) (find (λ it. bytes_eq it.0 name) its)
 
--- what the subcommand of this name does
+-- what the subcommand of this name does, into a file
 abbrev pub kind_named : Text → Option Kind
 kind_named name = kind_in subcommands name
 
+-- the same into a file or a folder
+abbrev pub kind_into : Destination → Kind → Kind
+kind_into destination (Draw _) = Draw destination
+kind_into destination (Write output) = Write output
+
+-- the extension of the file to write; whatever the name of a folder is, it says no form
+abbrev pub extension_in : Destination → Text → Option Text
+extension_in File path = extension_of path
+extension_in Folder path = None
+
 -- the name of the form that is asked for: the one that is given, or else the extension of the file to write
-abbrev pub form_text : List Row → Option Text
-form_text rows = option_or (first_of (codes "form") rows) (option_and_then extension_of (output_text rows))
+abbrev pub form_text : Destination → List Row → Option Text
+form_text destination rows =
+    option_or (first_of (codes "form") rows) (option_and_then (extension_in destination) (output_text rows))
 
 -- the picture in the form that is asked for, or in PNG if none is
-abbrev pub asked_picture : List Row → Option Output
-asked_picture rows = option_map_or form_named (form_text rows) (Some output.Png)
+abbrev pub asked_picture : Destination → List Row → Option Output
+asked_picture destination rows = option_map_or form_named (form_text destination rows) (Some output.Png)
 
 -- what a subcommand writes
 abbrev pub written : Kind → List Row → Option Output
-written Draw rows = asked_picture rows
+written (Draw destination) rows = asked_picture destination rows
 written (Write output) rows = Some output
 
 -- a picture
@@ -346,14 +359,18 @@ pub record IsLineBy (kind : Kind) (rows : List Row) (line : Line) : Type 0 where
   pub remarks : line.remarks ≡ (line.interactive && not line.quiet)
   pub progress : line.progress ≡ ((has_flag rows (codes "progress") || line.interactive) && not line.quiet)
 
--- the line is what the matches m ask for: by the subcommand, its options and its files
-pub record IsLineOf (m : ArgMatches) (line : Line) : Type 0 where
+-- the line is what the matches m ask for: by the subcommand, where the output goes, its options and its files
+pub record IsLineOf (destination : Destination) (m : ArgMatches) (line : Line) : Type 0 where
   pub name : Text
   pub rows : List Row
   pub kind : Kind
   pub matches : subcommand_rows_of m ≡ Some (name, rows)
   pub named : kind_named name ≡ Some kind
-  pub by : IsLineBy kind rows line
+  pub by : IsLineBy (kind_into destination kind) rows line
+
+-- the file or the folder that the output goes into, if the matches name one
+abbrev pub output_in : ArgMatches → Option Text
+output_in m = option_and_then (λ it. output_text it.1) (subcommand_rows_of m)
 
 -- the matches are those of a command line in which `plotraster` finds no fault
 abbrev pub AreOfThisCommand : ArgMatches → Type 0
@@ -368,12 +385,13 @@ abbrev pub has_bad_list : Kind → List Row → Bool
 has_bad_list kind rows = option_map_or is_picture (written kind rows) false && lists_no_pens rows
 
 -- the same of the subcommand of this name
-abbrev pub names_bad_list : Text × List Row → Bool
-names_bad_list (name, rows) = option_map_or (λ kind. has_bad_list kind rows) (kind_named name) false
+abbrev pub names_bad_list : Destination → Text × List Row → Bool
+names_bad_list destination (name, rows) =
+    option_map_or (λ kind. has_bad_list (kind_into destination kind) rows) (kind_named name) false
 
 -- the matches ask for a picture by such a text
-abbrev pub asks_bad_list : ArgMatches → Bool
-asks_bad_list m = option_map_or names_bad_list (subcommand_rows_of m) false
+abbrev pub asks_bad_list : Destination → ArgMatches → Bool
+asks_bad_list destination m = option_map_or (names_bad_list destination) (subcommand_rows_of m) false
 
 -- a smoothing is given for a picture that may not be smoothed
 abbrev pub has_stray_smooth : Bool → List Row → Bool
@@ -478,9 +496,10 @@ values_fault kind rows = first_of_these (
     ∷ [])
 
 -- the same for the subcommand of this name
-abbrev pub fault_of_values : Text × List Row → Option Refusal
-fault_of_values (name, rows) = option_and_then (λ kind. values_fault kind rows) (kind_named name)
+abbrev pub fault_of_values : Destination → Text × List Row → Option Refusal
+fault_of_values destination (name, rows) =
+    option_and_then (λ kind. values_fault (kind_into destination kind) rows) (kind_named name)
 
 -- the same for the matches
-abbrev pub line_fault : ArgMatches → Option Refusal
-line_fault m = option_and_then fault_of_values (subcommand_rows_of m)
+abbrev pub line_fault : Destination → ArgMatches → Option Refusal
+line_fault destination m = option_and_then (fault_of_values destination) (subcommand_rows_of m)

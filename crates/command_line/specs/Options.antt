@@ -10,6 +10,7 @@ use Rattle.picture_job.specs.declared.vector_job.VectorFormat.TheVariants.{Pdf, 
 use Rattle.picture_out.specs.declared.form.Form.{Form}
 use Rattle.picture_out.specs.declared.form.Form.TheVariants.{Marks, Pbm, Ppm, Pcl}
 use Rattle.command_line.specs.declared.subcommands.Kind.{Kind}
+use Rattle.command_line.specs.declared.destination.Destination.TheVariants.{File}
 use Rattle.command_line.specs.declared.subcommands.Kind.TheVariants.{Draw, Write}
 use Rattle.command_line.specs.declared.subcommands.Output.{Output}
 use Rattle.command_line.specs.declared.subcommands.Output.TheVariants.{Picture, Png, Report, Vector}
@@ -148,7 +149,7 @@ top_app =
 -- the subcommands: their names, and what they do
 abbrev pub subcommands : List (Text × Kind)
 subcommands =
-    (codes "draw", Draw)
+    (codes "draw", Draw File)
     ∷ (codes "png", Write Png)
     ∷ (codes "pdf", Write (Vector Pdf))
     ∷ (codes "svg", Write (Vector Svg))
@@ -160,7 +161,7 @@ subcommands =
     ∷ []
 
 abbrev pub subcommand_app : Text × Kind → App
-subcommand_app (name, Draw) = draw_app name
+subcommand_app (name, Draw destination) = draw_app name
 subcommand_app (name, Write (Picture form)) = picture_app form name
 subcommand_app (name, Write Png) = png_app name
 subcommand_app (name, Write (Vector format)) = vector_app name

@@ -64,7 +64,7 @@ HasValuesOf Report rows = HasPageNumbers rows
 
 -- the same for what a subcommand may write
 abbrev pub HasTaskValues : Kind → List Row → Type 0
-HasTaskValues Draw rows = HasFormValues rows
+HasTaskValues (Draw destination) rows = HasFormValues rows
 HasTaskValues (Write output) rows = HasValuesOf output rows
 
 -- the option for the list of pens has a text, if a picture is written

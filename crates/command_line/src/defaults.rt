@@ -49,7 +49,7 @@ pub(crate) fn defaults_of(kind: Kind) -> Defaults<'static>
     ensures interactive { result.interactive ≡ (defaults_of kind).interactive }
 {
     match kind {
-        Kind::Draw => OF_DRAW,
+        Kind::Draw(_) => OF_DRAW,
         Kind::Write(_) => OF_OTHERS,
     }
 }

@@ -4,6 +4,7 @@
 mod carousels;
 mod characters;
 mod defaults;
+mod destination;
 mod fault;
 mod forms;
 mod help;
@@ -14,6 +15,7 @@ mod sheets;
 mod subcommands;
 mod values;
 
+pub use destination::{Destination, output_of};
 pub use fault::{BuildFault, LineFault, parse_status};
 pub use help::VERSION;
 pub use line::{Line, Task, settle};

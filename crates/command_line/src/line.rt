@@ -1,11 +1,11 @@
 //! What a command line asks for.
 ghost use Rattle.std.specs.Prelude.{◌≡◌, ◌↔◌, ◌<◌, ◌≤◌, ◌*◌, ◌^◌, ℕ, Some, Err, IfOk, IfErr, IsOk, IsOkAnd, true, false, is_some};
-ghost use Rattle.std.specs.Prelude.{codes, None, ◌≢◌, ◌||◌, ◌&&◌, IfSome, [], map, nat_lt, not, option_map};
+ghost use Rattle.std.specs.Prelude.{codes, None, ◌≢◌, ◌||◌, ◌&&◌, IfSome, [], map, nat_lt, not, option_and_then, option_map};
 ghost use Rattle.std.specs.Result.{result_err};
 ghost use Rattle.clap.specs.Words.{found_of, rows_of};
 ghost use Rattle.plot_page.specs.Pages.{has_page_size};
 ghost use Rattle.command_line.specs.Faults.{refusal_of};
-ghost use Rattle.command_line.specs.Lines.{number_in, lists_no_pens, has_bad_list, asks_bad_list, written, form_text, asked_picture};
+ghost use Rattle.command_line.specs.Lines.{extension_in, number_in, lists_no_pens, has_bad_list, asks_bad_list, written, form_text, asked_picture};
 ghost use Rattle.command_line.specs.Lines.{ArePensOf, IsPageOf, IsPictureOf, IsPngJobOf, IsTaskOf, IsVectorOf, IsLineBy, IsLineOf, AreOfThisCommand};
 ghost use Rattle.command_line.specs.Lines.{has_stray_smooth, picture_fault, smooth_or, usual_smooth, dots_in, is_picture, selection_fault};
 ghost use Rattle.command_line.specs.Lines.{IsReadingOf, line_fault, page_fault, pens_text, reading_fault, task_fault, values_fault};
@@ -18,6 +18,7 @@ ghost use Rattle.command_line.specs.Readings.{HasProfile, HasTaskValues, HasValu
 
 use crate::carousels::carousel_of;
 use crate::defaults::defaults_of;
+use crate::destination::Destination;
 use crate::fault::LineFault;
 use crate::forms::{extension_of, form_named};
 use crate::papers::{names_plot, size_named};
@@ -75,7 +76,8 @@ pub struct Line<'m, 'a> {
     pub remarks: bool,
 }
 
-/// The values of the matches of `command`'s command.
+/// The values of the matches of `command`'s command, whose output goes into a file, or into a folder if the path that
+/// `output_of` gives is that of one. The extension of a folder's name says no form.
 ///
 /// Errors, of which the first is given: `Form` if draw is asked for a form that is none, `Pens` if a picture is asked for
 /// and `--pens` is not a valid list, `Colours` or `Widths` with the first bad item of such a list, `Shades` if `--smooth` is
@@ -87,14 +89,17 @@ pub struct Line<'m, 'a> {
 /// `PrinterPixels` if it is given for PCL, `Margin` if `--margin` is given and the page is not fitted, and `Several` if
 /// several files are given without `--output`; no other one after a `parse` that succeeded. `Words` if the matches are of
 /// another command.
-pub fn settle<'m, 'a>(matches: &'m ArgMatches<'a>) -> Result<Line<'m, 'a>, LineFault<'a>>
-    ensures line { IfOk result (IsLineOf matches.now) }
-    ensures pens { (result ≡ Err LineFault.Pens) ↔ (asks_bad_list matches.now ≡ true) }
-    ensures refused { AreOfThisCommand matches.now → option_map refusal_of (result_err result) ≡ line_fault matches.now }
+pub fn settle<'m, 'a>(
+    matches: &'m ArgMatches<'a>,
+    destination: Destination,
+) -> Result<Line<'m, 'a>, LineFault<'a>>
+    ensures line { IfOk result (IsLineOf destination matches.now) }
+    ensures pens { (result ≡ Err LineFault.Pens) ↔ (asks_bad_list destination matches.now ≡ true) }
+    ensures refused { AreOfThisCommand matches.now → option_map refusal_of (result_err result) ≡ line_fault destination matches.now }
 {
     let (name, options) = matches.subcommand().ok_or(LineFault::Words)?;
     let kind = kind_of(name).ok_or(LineFault::Words)?;
-    line_of(kind, options)
+    line_of(kind.into_destination(destination), options)
 }
 
 // What a subcommand does, by its options and its files.
@@ -172,27 +177,39 @@ pub(crate) fn written(kind: Kind, options: &ArgMatches<'_>) -> Option<Output>
     ensures { result ≡ written kind (rows_of (found_of options.now)) }
 {
     match kind {
-        Kind::Draw => asked_picture(options),
+        Kind::Draw(destination) => asked_picture(destination, options),
         Kind::Write(output) => Some(output),
     }
 }
 
-fn asked_picture(options: &ArgMatches<'_>) -> Option<Output>
-    ensures { result ≡ asked_picture (rows_of (found_of options.now)) }
+fn asked_picture(destination: Destination, options: &ArgMatches<'_>) -> Option<Output>
+    ensures { result ≡ asked_picture destination (rows_of (found_of options.now)) }
 {
-    match asked_form(options) {
+    match asked_form(destination, options) {
         Some(name) => form_named(name),
         None => Some(Output::Png),
     }
 }
 
-// The name of the form that is asked for: the one that is given, or else the extension of the file to write.
-fn asked_form<'a>(options: &ArgMatches<'a>) -> Option<&'a str>
-    ensures { option_map (λ name. name.now) result ≡ form_text (rows_of (found_of options.now)) }
+// The name of the form that is asked for: the one that is given, or else the extension of the file to write. A folder asks
+// for none.
+fn asked_form<'a>(destination: Destination, options: &ArgMatches<'a>) -> Option<&'a str>
+    ensures { option_map (λ name. name.now) result ≡ form_text destination (rows_of (found_of options.now)) }
 {
     match options.get_str("form") {
         Some(name) => Some(name),
-        None => extension_of(options.get_str("output")?),
+        None => output_extension(destination, options),
+    }
+}
+
+// The extension of the file to write; none of a folder.
+fn output_extension<'a>(destination: Destination, options: &ArgMatches<'a>) -> Option<&'a str>
+    ensures { option_map (λ name. name.now) result
+        ≡ option_and_then (extension_in destination) (output_text (rows_of (found_of options.now))) }
+{
+    match destination {
+        Destination::File => extension_of(options.get_str("output")?),
+        Destination::Folder => None,
     }
 }
 

@@ -16,6 +16,7 @@ ghost use Rattle.command_line.specs.Options.{top_app, IsOf};
 ghost use Rattle.clap_parses.specs.Parses.{HasGoodMatches};
 
 use crate::defaults::defaults_of;
+use crate::destination::Destination;
 use crate::fault::BuildFault;
 use crate::help::{
     BAND, BELOW, CHARACTERS, COLOURS, FILE, FIT, FORM, FROM, HEIGHT, HelpLine, HelpPage, LEFT,
@@ -31,6 +32,9 @@ use picture_job::VectorFormat;
 use picture_out::Form;
 use std::alloc::{AllocError, Global};
 use std::convert::AsStr;
+
+// The subcommand draw, which has the same options whatever its output goes into.
+const DRAW: Kind = Kind::Draw(Destination::File);
 
 // `--name VALUE`, at most once.
 fn bare_option<'a>(
@@ -329,10 +333,10 @@ fn draw_command<'a>(
 ) -> Result<Command<'a>, AllocError>
     ensures { IfOk result (IsOf (draw_app name.entry.now)) }
 {
-    let command = add_plot(alloc, bare(alloc, name, page), Kind::Draw)?;
-    let command = add_picture(alloc, command, Kind::Draw)?;
+    let command = add_plot(alloc, bare(alloc, name, page), DRAW)?;
+    let command = add_picture(alloc, command, DRAW)?;
     let command = add_size(alloc, command)?;
-    let command = add_smoothing(alloc, command, Kind::Draw)?;
+    let command = add_smoothing(alloc, command, DRAW)?;
     let command = add_form(alloc, command)?;
     add(command, file_of(alloc))
 }
@@ -406,7 +410,7 @@ fn command_of<'a>(
     ensures { IfOk result (IsOf (subcommand_app (name.entry.now, kind))) }
 {
     match kind {
-        Kind::Draw => draw_command(alloc, name, page),
+        Kind::Draw(_) => draw_command(alloc, name, page),
         Kind::Write(Output::Picture(form)) => picture_command(alloc, name, page, form),
         Kind::Write(Output::Png) => png_command(alloc, name, page),
         Kind::Write(Output::Vector(format)) => vector_command(alloc, name, page, format),

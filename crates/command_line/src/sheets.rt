@@ -99,7 +99,7 @@ fn is_report(kind: Kind) -> bool
 {
     match kind {
         Kind::Write(Output::Report) => true,
-        Kind::Draw | Kind::Write(_) => false,
+        Kind::Draw(_) | Kind::Write(_) => false,
     }
 }
 

@@ -1,8 +1,9 @@
 //! The subcommands: their names, what they write, and what help says of them.
 ghost use Rattle.std.specs.Prelude.{◌≡◌, map};
-ghost use Rattle.command_line.specs.Lines.{kind_in, kind_named};
+ghost use Rattle.command_line.specs.Lines.{kind_in, kind_into, kind_named};
 ghost use Rattle.command_line.specs.Options.{is_smoothed};
 
+use crate::destination::Destination;
 use crate::help::{
     DOTS, DRAW_DOTS, DRAW_MARGIN, DRAW_PAGE, DRAW_PROGRESS, DRAW_SMOOTH, HelpLine, MARGIN, PAGE,
     PCL_DOTS, PROGRESS, SMOOTH,
@@ -13,8 +14,8 @@ use picture_out::Form;
 /// What a subcommand does.
 #[derive(Clone, Copy)]
 pub(crate) enum Kind {
-    /// It writes a picture in the form that its options ask for.
-    Draw,
+    /// It writes a picture in the form that its options ask for, into a file or a folder.
+    Draw(Destination),
     /// It writes what its name says.
     Write(Output),
 }
@@ -32,12 +33,24 @@ pub(crate) enum Output {
     Report,
 }
 
+impl Kind {
+    /// What a subcommand does whose output goes there.
+    pub(crate) fn into_destination(self, destination: Destination) -> Kind
+        ensures { result ≡ kind_into destination self }
+    {
+        match self {
+            Kind::Draw(_) => Kind::Draw(destination),
+            Kind::Write(_) => self,
+        }
+    }
+}
+
 /// All subcommands, in the order of the help: the name, what it does, what help says of it, and
 /// an example of its use.
 pub(crate) const SUBCOMMANDS: [(&str, Kind, &str, &str); 9] = [
     (
         "draw",
-        Kind::Draw,
+        Kind::Draw(Destination::File),
         "Draw the whole plot, smoothed, as PNG or as the extension of the output file says",
         "Unless options say otherwise, draw\n\
             - reads the plot in the profile full, and draws its first sheet;\n\
@@ -133,7 +146,7 @@ pub(crate) fn is_smoothed(form: Form) -> bool
 /// What help says of the resolution of a subcommand.
 pub(crate) fn dots_line(kind: Kind) -> HelpLine<'static> {
     match kind {
-        Kind::Draw => DRAW_DOTS,
+        Kind::Draw(_) => DRAW_DOTS,
         Kind::Write(Output::Picture(Form::Pcl)) => PCL_DOTS,
         Kind::Write(_) => DOTS,
     }
@@ -142,7 +155,7 @@ pub(crate) fn dots_line(kind: Kind) -> HelpLine<'static> {
 /// What help says of the name of its page.
 pub(crate) fn page_line(kind: Kind) -> HelpLine<'static> {
     match kind {
-        Kind::Draw => DRAW_PAGE,
+        Kind::Draw(_) => DRAW_PAGE,
         Kind::Write(_) => PAGE,
     }
 }
@@ -150,7 +163,7 @@ pub(crate) fn page_line(kind: Kind) -> HelpLine<'static> {
 /// What help says of its margin.
 pub(crate) fn margin_line(kind: Kind) -> HelpLine<'static> {
     match kind {
-        Kind::Draw => DRAW_MARGIN,
+        Kind::Draw(_) => DRAW_MARGIN,
         Kind::Write(_) => MARGIN,
     }
 }
@@ -158,7 +171,7 @@ pub(crate) fn margin_line(kind: Kind) -> HelpLine<'static> {
 /// What help says of its smoothing.
 pub(crate) fn smooth_line(kind: Kind) -> HelpLine<'static> {
     match kind {
-        Kind::Draw => DRAW_SMOOTH,
+        Kind::Draw(_) => DRAW_SMOOTH,
         Kind::Write(_) => SMOOTH,
     }
 }
@@ -166,7 +179,7 @@ pub(crate) fn smooth_line(kind: Kind) -> HelpLine<'static> {
 /// What help says of its progress.
 pub(crate) fn progress_help(kind: Kind) -> &'static str {
     match kind {
-        Kind::Draw => DRAW_PROGRESS,
+        Kind::Draw(_) => DRAW_PROGRESS,
         Kind::Write(_) => PROGRESS,
     }
 }

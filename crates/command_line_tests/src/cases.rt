@@ -1,7 +1,7 @@
 // Cases as one text: an answer in a line, the lines that have it, and an empty line before the next answer.
 use carousel::Carousel;
 use clap::ArgMatches;
-use command_line::{Line, Task, command, parse, parse_status, settle};
+use command_line::{Destination, Line, Task, command, parse, parse_status, settle};
 use pen_list::read_pens;
 use picture_job::{Job, Picture, PngJob, Smoothing, VectorFormat, VectorJob};
 use picture_out::Form;
@@ -96,7 +96,7 @@ fn matches_told(
     asked: Asked,
     matches: &ArgMatches<'_>,
 ) -> Result<String, AllocError> {
-    match settle(matches) {
+    match settle(matches, Destination::File) {
         Ok(line) => line_told(alloc, asked, &line),
         Err(fault) => format!(in alloc; "{fault:?}"),
     }

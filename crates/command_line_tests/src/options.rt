@@ -1,5 +1,5 @@
 use crate::cases::{Asked, has_answers, has_answers_for_each};
-use command_line::{BuildFault, LineFault, parse_status, settle};
+use command_line::{BuildFault, Destination, LineFault, parse_status, settle};
 use std::alloc::{AllocError, Global};
 use std::test::Fail;
 
@@ -252,7 +252,7 @@ fn fault_of_another(alloc: Global, name: &str) -> Result<String, Fail> {
     let other = clap::Command::new(alloc, "other").subcommand(below)?;
     let words = ["other", name];
     let matches = other.try_get_matches_from(&words)?;
-    let fault = settle(&matches).err();
+    let fault = settle(&matches, Destination::File).err();
     Ok(format!(in alloc; "{fault:?}")?)
 }
 
@@ -260,7 +260,7 @@ fn fault_of_another(alloc: Global, name: &str) -> Result<String, Fail> {
 fn refuses_other_matches(rt: HostRuntime) -> Result<(), Fail> {
     let bare = clap::Command::new(rt.alloc(), "bare");
     let matches = bare.try_get_matches_from(&["bare"])?;
-    assert_eq!(rt; settle(&matches).err(), Some(LineFault::Words));
+    assert_eq!(rt; settle(&matches, Destination::File).err(), Some(LineFault::Words));
     for name in ["draw", "pbm", "report", "clip"] {
         let fault = fault_of_another(rt.alloc(), name)?;
         assert_eq!(rt; fault.as_str(), "Some(Words)", "{name}");

@@ -32,7 +32,7 @@ use Rattle.conversion.specs.declared.outcome.Outcome.{Outcome}
 use Rattle.conversion.specs.declared.placement.Placement.TheVariants.{Given}
 use Rattle.plot_report.specs.declared.report_page.ReportPage.{ReportPage}
 use Rattle.conversion.specs.declared.fault.Fault.{Fault}
-use Rattle.conversion.specs.declared.fault.Fault.TheVariants.{Memory, Paint, Plot, Read, Resolution, TooLong, Unfinished, Write}
+use Rattle.conversion.specs.declared.fault.Fault.TheVariants.{Letters, Memory, Paint, Plot, Read, Resolution, TooLong, Unfinished, Write}
 use Rattle.conversion.proofs.Placements.{first_place}
 use Rattle.conversion.proofs.Refusals.{not_painted, plot_fault}
 use Rattle.devices.specs.Sinks.{SinkState}
@@ -72,6 +72,7 @@ not_painted_on rules c sm job place reaches input before after sink sink' (Write
     (placed, not_painted (placed_rules rules job.pens place) (times_on c place.page job sm) (on_page c place.page job) reaches input before after sink sink' (Write row whole bytes) read accepted h)
 not_painted_on rules c sm job place reaches input before after sink sink' Read placed read accepted h = absurd h
 not_painted_on rules c sm job place reaches input before after sink sink' Resolution placed read accepted h = absurd h
+not_painted_on rules c sm job place reaches input before after sink sink' Letters placed read accepted h = absurd h
 
 -- a plot that was not drawn
 no_such_plot : (refusal : Option PlotFault) (fault : Fault) → option_map Plot refusal ≡ Some fault → ((f : PlotFault) → Plot f ≡ fault → ⊥) → ⊥
@@ -94,6 +95,7 @@ not_drawn_on rules c sm job reaches input before after sink sink' (Paint fault) 
 not_drawn_on rules c sm job reaches input before after sink sink' (Write row whole bytes) h =
     absurd (no_such_plot (rules.refusal h.0 input) (Write row whole bytes) h.2.refused (λ f is. absurd (cc)))
 not_drawn_on rules c sm job reaches input before after sink sink' Resolution h = absurd (no_such_plot (rules.refusal h.0 input) Resolution h.2.refused (λ f is. absurd (cc)))
+not_drawn_on rules c sm job reaches input before after sink sink' Letters h = absurd (no_such_plot (rules.refusal h.0 input) Letters h.2.refused (λ f is. absurd (cc)))
 not_drawn_on rules c sm job reaches input before after sink sink' Unfinished h = absurd (no_such_plot (rules.refusal h.0 input) Unfinished h.2.refused (λ f is. absurd (cc)))
 
 -- a plot that was read, and is refused for its first page
@@ -126,6 +128,7 @@ not_read_on rules reading c pens given input before after sink sink' (Plot refus
 not_read_on rules reading c pens given input before after sink sink' (Paint fault) h = absurd h
 not_read_on rules reading c pens given input before after sink sink' (Write row whole bytes) h = absurd h
 not_read_on rules reading c pens given input before after sink sink' Resolution h = absurd h
+not_read_on rules reading c pens given input before after sink sink' Letters h = absurd h
 not_read_on rules reading c pens given input before after sink sink' Unfinished h = absurd h
 
 -- what is written of a picture on the given page
@@ -169,6 +172,7 @@ module _ (rules : Rules) (sm : Smoothing) (job : Job) (reaches : Reach) (input :
   converts_there (Err Memory) h = h
   converts_there (Err Read) h = h
   converts_there (Err Resolution) h = h
+  converts_there (Err Letters) h = h
   converts_there (Err Unfinished) h = h
 
 converted_by_it : {W : Type 0} (rules : Rules) (sm : Smoothing) (job : Job) (reaches : Reach) (before after : SourceState) (sink sink' : SinkState) (tests tests' : ℕ)
@@ -229,6 +233,7 @@ module _ (reading : Reading) (pens : PenSet) (given : Page) (input : List ℕ) (
   reports_there (Err Memory) h = h
   reports_there (Err Read) h = h
   reports_there (Err Resolution) h = h
+  reports_there (Err Letters) h = h
   reports_there (Err Unfinished) h = h
 
   -- a place on the given page, whatever the answer
@@ -264,4 +269,5 @@ png_not_drawn rules c job reaches input before after sink sink' (Plot fault) h =
 png_not_drawn rules c job reaches input before after sink sink' (Paint fault) h = absurd (no_such_plot (rules.refusal h.0 input) (Paint fault) h.2.refused (λ f is. absurd (cc)))
 png_not_drawn rules c job reaches input before after sink sink' (Write row whole bytes) h = absurd (no_such_plot (rules.refusal h.0 input) (Write row whole bytes) h.2.refused (λ f is. absurd (cc)))
 png_not_drawn rules c job reaches input before after sink sink' Resolution h = absurd (no_such_plot (rules.refusal h.0 input) Resolution h.2.refused (λ f is. absurd (cc)))
+png_not_drawn rules c job reaches input before after sink sink' Letters h = absurd (no_such_plot (rules.refusal h.0 input) Letters h.2.refused (λ f is. absurd (cc)))
 png_not_drawn rules c job reaches input before after sink sink' Unfinished h = absurd (no_such_plot (rules.refusal h.0 input) Unfinished h.2.refused (λ f is. absurd (cc)))

@@ -24,7 +24,7 @@ use Rattle.conversion.specs.Progress.{HasPainted}
 use Rattle.conversion.specs.Rules.{Rules}
 use Rattle.conversion.specs.Sheets.{TellsOf, WritesPng, WritesStrokes}
 use Rattle.conversion.specs.declared.fault.Fault.{Fault}
-use Rattle.conversion.specs.declared.fault.Fault.TheVariants.{Memory, Paint, Plot, Read, Resolution, TooLong, Unfinished, Write}
+use Rattle.conversion.specs.declared.fault.Fault.TheVariants.{Letters, Memory, Paint, Plot, Read, Resolution, TooLong, Unfinished, Write}
 use Rattle.conversion.specs.declared.outcome.Outcome.{Outcome}
 use Rattle.conversion.specs.declared.place.Drawing.{Drawing}
 use Rattle.conversion.proofs.Choices.{not_painted_on}
@@ -58,6 +58,7 @@ module _ (rules : Rules) (c : PageChoice) (reaches : Reach) (input : List ℕ) (
         h.2.sheets ∙ drawn.lines.sheets_are,
       )
   converts_drawn sm job strokes (Err Resolution) possible drawn are h = absurd (cc (possible, h))
+  converts_drawn sm job strokes (Err Letters) possible drawn are h = absurd h
   converts_drawn sm job strokes (Err TooLong) possible drawn are h = absurd h
   converts_drawn sm job strokes (Err Memory) possible drawn are h = drawn.read.sound
   converts_drawn sm job strokes (Err Read) possible drawn are h = absurd h
@@ -93,6 +94,7 @@ module _ (rules : Rules) (c : PageChoice) (reaches : Reach) (input : List ℕ) (
         h.3.sheets ∙ drawn.lines.sheets_are,
       )
   converts_png_drawn job strokes (Err Resolution) possible drawn are h = absurd (cc (possible, h))
+  converts_png_drawn job strokes (Err Letters) possible drawn are h = absurd h
   converts_png_drawn job strokes (Err TooLong) possible drawn are h = absurd h
   converts_png_drawn job strokes (Err Memory) possible drawn are h = drawn.read.sound
   converts_png_drawn job strokes (Err Read) possible drawn are h = absurd h

@@ -12,7 +12,7 @@ use Rattle.conversion.specs.Progress.{HasPainted}
 use Rattle.devices.specs.Sinks.{SinkState}
 use Rattle.devices.specs.Sources.{SourceState}
 use Rattle.conversion.specs.declared.fault.Fault.{Fault}
-use Rattle.conversion.specs.declared.fault.Fault.TheVariants.{Memory, Paint, Plot, Read, Resolution, TooLong, Unfinished, Write}
+use Rattle.conversion.specs.declared.fault.Fault.TheVariants.{Letters, Memory, Paint, Plot, Read, Resolution, TooLong, Unfinished, Write}
 
 -- of an accepted plot the job's fault is that of both
 pub job_faults : (job : Job) (refusal : Option PlotFault) (fault : Option Fault) → refusal ≡ None → job_fault job ≡ fault → refused_fault job refusal ≡ fault
@@ -36,6 +36,7 @@ not_painted rules n job reaches input before after sink sink' (Write row whole b
 }
 not_painted rules n job reaches input before after sink sink' Read read accepted h = absurd h
 not_painted rules n job reaches input before after sink sink' Resolution read accepted h = absurd h
+not_painted rules n job reaches input before after sink sink' Letters read accepted h = absurd h
 
 -- the refusal of a plot comes before the fault of a job
 pub plot_fault : (job : Job) (refusal : Option PlotFault) (fault : Fault) → option_map Plot refusal ≡ Some fault → refused_fault job refusal ≡ Some fault

@@ -1,5 +1,7 @@
 -- What is written of a vector document is one of the strokes and labels of the sheet.
-use Rattle.std.proofs.Common.{◌≡◌, ℕ, List, Ok, length, ap₂, subst, sym}
+use Rattle.std.proofs.Common.{◌≡◌, ◌+◌, ◌++◌, ◌∙◌, ◌∷◌, ℕ, List, [], Ok, length, ap, ap₂, refl, subst, sym}
+use Rattle.std.specs.Prelude.{flat_map}
+use Rattle.labels.specs.Sheets.{all_counted}
 use Rattle.labels.specs.Labels.{LabelShape}
 use Rattle.plot_page.specs.Segments.{Segment}
 use Rattle.plot_page.specs.declared.page.Page.{Page}
@@ -7,7 +9,9 @@ use Rattle.plot_page.specs.declared.pens.PenSet.{PenSet}
 use Rattle.picture_job.specs.declared.vector_job.VectorFormat.{VectorFormat}
 use Rattle.devices.specs.Sinks.{SinkState}
 use Rattle.pdf.specs.Documents.{AreStreams, pdf_bytes, pens_drawn, rows_shown, sheet_labels, sheets}
+use Rattle.pdf.specs.Texts.{letter_count, line_letters}
 use Rattle.pdf.specs.Writings.{WritesPdf}
+use Rattle.svg.specs.Titles.{label_text, text_length}
 use Rattle.conversion.specs.Vectors.{IsPdf, IsVector, PutsVector, page_ends, title_kept}
 use Rattle.conversion.specs.declared.naming.Naming.{Naming}
 
@@ -35,3 +39,15 @@ puts_same u v format f naming page pens strokes s ends e labels l sink sink' k i
     (subst (λ n. IsVector f naming page pens strokes n l document) same_ends
     (subst (λ m. IsVector f naming page pens m e l document) same_strokes puts.1))) in
     rw same_sink (document, shown, puts.2, puts.3)
+
+-- labels have the same letters wherever their strokes are counted from
+pub letters_counted : (before : ℕ) (labels : List LabelShape) → letter_count (all_counted before labels) ≡ letter_count labels
+letters_counted before [] = refl
+letters_counted before (l ∷ ls) = ap (λ n. line_letters l.lines + n) (letters_counted before ls)
+
+texts_same : (before : ℕ) (labels : List LabelShape) → flat_map label_text (all_counted before labels) ≡ flat_map label_text labels
+texts_same before [] = refl
+texts_same before (l ∷ ls) = ap (λ text. label_text l ++ text) (texts_same before ls)
+
+pub texts_counted : (before : ℕ) (labels : List LabelShape) → text_length (all_counted before labels) ≡ text_length labels
+texts_counted before labels = ap length (texts_same before labels)

@@ -2,7 +2,7 @@
 use Rattle.std.proofs.Common.{◌≡◌, ◌-◌, ◌<◌, ◌≤◌, ℕ, refl, sym, subst, arith}
 use Rattle.conversion.specs.Watching.{IsToldIn, WasTold, WasToldInPart}
 use Rattle.conversion.specs.declared.fault.Fault.{Fault}
-use Rattle.conversion.specs.declared.fault.Fault.TheVariants.{Memory, Paint, Plot, Read, Resolution, TooLong, Unfinished, Write}
+use Rattle.conversion.specs.declared.fault.Fault.TheVariants.{Letters, Memory, Paint, Plot, Read, Resolution, TooLong, Unfinished, Write}
 
 pub none_told : {W : Type 0} (hears : W → ℕ → ℕ → W → Type 0) (rows : ℕ) (watcher : W) → WasToldInPart hears rows watcher watcher
 none_told hears rows watcher = record { done = 0; told = WasTold.nothing }
@@ -17,6 +17,7 @@ not_told hears rows watcher (Write row whole bytes) = none_told hears rows watch
 not_told hears rows watcher Unfinished = none_told hears rows watcher
 not_told hears rows watcher Read = refl
 not_told hears rows watcher Resolution = refl
+not_told hears rows watcher Letters = refl
 
 -- before the first row
 pub told_nothing : {W : Type 0} (hears : W → ℕ → ℕ → W → Type 0) (rows first : ℕ) (watcher : W)

@@ -1,5 +1,5 @@
 -- Vector documents of plots: what is written for a drawing, and what a conversion to one answers.
-use Rattle.std.specs.Prelude.{◌≡◌, ◌⊎◌, ℕ, ◌+◌, min, nat_eq, nat_le, nat_lt, true, if◌then◌else◌, List, [], ◌∷◌, length, Result, Ok, Err, IfOk, ⊤}
+use Rattle.std.specs.Prelude.{◌≡◌, ◌↔◌, ◌⊎◌, Bool, ℕ, ◌+◌, min, nat_eq, nat_le, nat_lt, true, if◌then◌else◌, List, [], ◌∷◌, length, Result, Ok, Err, IfOk, ⊤}
 use Rattle.std.specs.Io.KnownBytes.{Appends}
 use Rattle.plot_page.specs.Segments.{Segment}
 use Rattle.plot_page.specs.declared.page.Page.{Page}
@@ -12,13 +12,17 @@ use Rattle.labels.specs.Labels.{LabelShape}
 use Rattle.devices.specs.Sinks.{SinkState}
 use Rattle.devices.specs.Sources.{SourceState}
 use Rattle.pdf.specs.Documents.{AreStreams, pdf_bytes, pens_drawn, rows_shown, sheet_labels, sheets}
+use Rattle.pdf.specs.Texts.{letter_count}
+use Rattle.pdf.specs.declared.counts.TheConstants.{MOST_LETTERS}
 use Rattle.pdf.specs.declared.title.TheConstants.{MOST_CHARACTERS}
 use Rattle.svg.specs.Documents.{sheets_bytes, svg_bytes}
+use Rattle.svg.specs.Titles.{text_length}
+use Rattle.svg.specs.declared.lengths.TheConstants as svg
 use Rattle.conversion.specs.Drawings.{HasDrawn}
 use Rattle.conversion.specs.Rules.{Rules, ends_of}
 use Rattle.conversion.specs.Sheets.{TellsOf, labels_on, strokes_on}
 use Rattle.conversion.specs.declared.fault.Fault.{Fault}
-use Rattle.conversion.specs.declared.fault.Fault.TheVariants.{Memory, Unfinished}
+use Rattle.conversion.specs.declared.fault.Fault.TheVariants.{Letters, Memory, Unfinished}
 use Rattle.conversion.specs.declared.naming.Naming.{Naming}
 use Rattle.conversion.specs.declared.outcome.Outcome.{Outcome}
 use Rattle.conversion.specs.declared.place.Drawing.{Drawing}
@@ -56,11 +60,17 @@ abbrev pub IsVector : VectorFormat → Naming → Page → PenSet → List Segme
 IsVector Svg naming page pens strokes ends labels document = document ≡ svg_of page pens strokes ends labels
 IsVector Pdf naming page pens strokes ends labels document = IsPdf naming page pens strokes ends labels document
 
--- a document was written after what the sink held, the sink failed, or there was no memory
+-- labels have more letters than a document of a format takes: in an SVG the line feeds between lines count, too
+abbrev pub has_too_many_letters : VectorFormat → List LabelShape → Bool
+has_too_many_letters Pdf labels = nat_lt MOST_LETTERS (letter_count labels)
+has_too_many_letters Svg labels = nat_lt svg.MOST_CHARACTERS (text_length labels)
+
+-- a document was written after what the sink held, the sink failed, there were too many letters, or there was no memory
 abbrev pub PutsVector : {U : Type 0} → (List ℕ → Type 0) → SinkState → SinkState → Result U Fault → Type 0
 PutsVector IsIt sink sink' (Ok _) =
     (document : List ℕ) × IsIt document × Appends sink.held sink'.held document × (sink'.faults ≡ sink.faults)
 PutsVector IsIt sink sink' (Err Unfinished) = sink'.faults ≡ sink.faults + 1
+PutsVector IsIt sink sink' (Err Letters) = ⊤
 PutsVector IsIt sink sink' (Err Memory) = ⊤
 PutsVector IsIt sink sink' (Err _) = ⊥
 
@@ -70,6 +80,7 @@ pub record WritesVector (job : VectorJob) (naming : Naming) (drawing : Drawing) 
     (answer : Result Outcome Fault) : Type 0 where
   pub puts : PutsVector (IsVector job.format naming drawing.page job.pens (strokes_on drawing sheet)
       (ends_of sheet drawing.lines.ends.items) (labels_on drawing sheet)) sink sink' answer
+  pub letters : (answer ≡ Err Letters) ↔ (has_too_many_letters job.format (labels_on drawing sheet) ≡ true)
   pub rows : IfOk answer (λ outcome. outcome.done.rows ≡ 0)
   pub bytes : IfOk answer (λ outcome. outcome.done.bytes ≡ 0)
   pub tells : IfOk answer (TellsOf drawing job.pens (strokes_on drawing sheet))

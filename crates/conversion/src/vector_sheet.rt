@@ -1,12 +1,12 @@
 //! The vector document of a drawing: of all that is drawn, or of one sheet.
-ghost use Rattle.std.specs.Prelude.{◌≡◌, ◌-◌, ◌^◌, ◌<◌, ◌≤◌, IfErr, false, length};
+ghost use Rattle.std.specs.Prelude.{◌≡◌, ◌-◌, ◌^◌, ◌<◌, ◌≤◌, ◌↔◌, Err, IfErr, false, true, length};
 ghost use Rattle.std.specs.Str.{chars};
 ghost use Rattle.labels.specs.Sheets.{all_counted};
 ghost use Rattle.pdf.specs.declared.title.TheConstants.{MOST_CHARACTERS};
 ghost use Rattle.plot_page.specs.declared.stroke.TheConstants.{MOST_STROKES};
 ghost use Rattle.conversion.specs.Conversions.{is_write};
 ghost use Rattle.conversion.specs.Rules.{ends_of};
-ghost use Rattle.conversion.specs.Vectors.{IsPdf, IsVector, PutsVector, WritesVector, svg_of, title_kept};
+ghost use Rattle.conversion.specs.Vectors.{IsPdf, IsVector, PutsVector, WritesVector, has_too_many_letters, svg_of, title_kept};
 
 use crate::fault::Fault;
 use crate::lines::Lines;
@@ -29,8 +29,8 @@ use svg::{ClipPaths, texts_fit, write_svg, write_svg_sheets};
 /// the drawing lies. The job's page is not used. Of all that is drawn an SVG has a group for each sheet, one above another,
 /// if sheets end, and a PDF a page for each. The drawing has the labels of the plot, if they were kept.
 ///
-/// Errors: `Unfinished` if the sink fails, and what it has taken is of no use; `Memory` if memory is refused, and then the
-/// sink is as it was.
+/// Errors: `Letters` if the labels have more letters than the format takes; `Unfinished` if the sink fails, and what it has
+/// taken is of no use; `Memory` if memory is refused. The sink is as it was after `Letters` and `Memory`.
 pub fn write_vector_sheet<K: Sink>(
     alloc: Global,
     drawing: &Drawing,
@@ -93,10 +93,11 @@ fn put_svg<K: Sink>(
     ensures puts { PutsVector (λ document. document ≡ svg_of page.now pens.now strokes.now ends.now
         (all_counted before labels.now))
         (K.state sink.old) (K.state sink.new) result }
+    ensures letters { (result ≡ Err Fault.Letters) ↔ (has_too_many_letters VectorFormat.Svg (all_counted before labels.now) ≡ true) }
     ensures untouched { IfErr result (λ fault. is_write fault ≡ false → sink.new ≡ sink.old) }
 {
     if !texts_fit(labels) {
-        return Err(Fault::Memory);
+        return Err(Fault::Letters);
     }
     let clips = ClipPaths::of(alloc, page, pens, strokes)?;
     let written = if ends.is_empty() {
@@ -126,10 +127,11 @@ fn put_pdf<K: Sink>(
     requires sinking { (K.state sink.old).faults < 2 ^ 64 - 1 }
     ensures puts { PutsVector (IsPdf naming.entry page.now pens.now strokes.now ends.now (all_counted before labels.now))
         (K.state sink.old) (K.state sink.new) result }
+    ensures letters { (result ≡ Err Fault.Letters) ↔ (has_too_many_letters VectorFormat.Pdf (all_counted before labels.now) ≡ true) }
     ensures untouched { IfErr result (λ fault. is_write fault ≡ false → sink.new ≡ sink.old) }
 {
     if !has_few_letters(labels) {
-        return Err(Fault::Memory);
+        return Err(Fault::Letters);
     }
     let pages = page_ends(alloc, strokes.len(), ends)?;
     let pages = pages.as_slice();

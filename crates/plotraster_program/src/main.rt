@@ -7,12 +7,11 @@ mod progress;
 mod several;
 mod sheets;
 
-use crate::messages::{About, refuse, refuse_open, refuse_words};
+use crate::messages::{About, refuse, refuse_words};
 use crate::output::{claims_of, deliver};
-use crate::several::{deliver_each, has_folder, title_of};
+use crate::several::{deliver_each, has_folder, is_folder, open_plot, title_of};
 use clap::ArgMatches;
-use plotraster::{Fault, LineFault, command, parse, parse_status, settle};
-use std::fs::File;
+use plotraster::{Destination, Fault, LineFault, command, output_of, parse, parse_status, settle};
 use std::io::ErrorKind;
 use std::process::ExitCode;
 
@@ -62,8 +61,16 @@ fn tell(rt: &HostRuntime, error: &clap::Error) -> u8 {
     }
 }
 
+// Whether the output goes into a folder that exists, whatever its name.
+fn destination_of(rt: &HostRuntime, matches: &ArgMatches<'_>) -> Destination {
+    match output_of(matches) {
+        Some(path) if is_folder(rt, path) => Destination::Folder,
+        _ => Destination::File,
+    }
+}
+
 fn work(rt: &HostRuntime, matches: &ArgMatches<'_>) -> u8 {
-    let line = match settle(matches) {
+    let line = match settle(matches, destination_of(rt, matches)) {
         Ok(line) => line,
         Err(fault) => return refuse_words(rt, fault),
     };
@@ -72,9 +79,9 @@ fn work(rt: &HostRuntime, matches: &ArgMatches<'_>) -> u8 {
     };
     match line.files {
         [] if !line.each_sheet => deliver(rt, &line, &claims, rt.stdin(), ""),
-        [plot] if !line.each_sheet && !has_folder(rt, &line) => match File::open(rt, plot) {
+        [plot] if !line.each_sheet && !has_folder(rt, &line) => match open_plot(rt, &line, plot) {
             Ok(file) => deliver(rt, &line, &claims, file, title_of(plot)),
-            Err(error) => refuse_open(rt, &line, plot, &error),
+            Err(status) => status,
         },
         _ => deliver_each(rt, &line, &mut claims),
     }

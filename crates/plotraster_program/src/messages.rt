@@ -76,7 +76,7 @@ impl Display for Reason<'_> {
 pub(crate) fn refuse_open(rt: &HostRuntime, line: &Line<'_, '_>, path: &str, error: &Error) -> u8 {
     let missing = "no such file or folder";
     let reason = Reason { error, missing };
-    if line.interactive || is_document(&line.task) {
+    if has_reasons(line) {
         let _ = eprintln!(rt; "plotraster: cannot open {path}: {reason}");
         return DEVICE;
     }
@@ -85,6 +85,17 @@ pub(crate) fn refuse_open(rt: &HostRuntime, line: &Line<'_, '_>, path: &str, err
         let _ = eprintln!(rt; "plotraster: {reason}");
     }
     DEVICE
+}
+
+// Says that a plot is a folder.
+pub(crate) fn refuse_folder_as_plot(rt: &HostRuntime, path: &str) -> u8 {
+    let _ = eprintln!(rt; "plotraster: cannot open {path}: it is a folder");
+    DEVICE
+}
+
+// Whether messages say why a plot cannot be opened.
+pub(crate) fn has_reasons(line: &Line<'_, '_>) -> bool {
+    line.interactive || is_document(&line.task)
 }
 
 // Whether a document is written, and no form whose messages are those of former versions.

@@ -4,7 +4,7 @@ use crate::progress::Progress;
 use crate::sheets::reading_of;
 use plotraster::{
     Claims, Drawing, Fault, FileId, Line, Naming, Outcome, OverRead, OverWrite, Part, Picture,
-    exit_status, naming_of, part_after, run_task, write_sheet,
+    exit_status, fault_of_sync, naming_of, part_after, run_task, write_sheet,
 };
 use std::alloc::AllocError;
 use std::fs::{File, OpenOptions, metadata, remove_file, rename};
@@ -26,6 +26,12 @@ pub(crate) enum Content<R, S> {
     Sheet(S),
 }
 
+impl<R, S> Content<R, S> {
+    fn is_sheet(&self) -> bool {
+        matches!(self, Content::Sheet(_))
+    }
+}
+
 // Does what the line asks of the plot that the reader gives, and writes it where the line says.
 pub(crate) fn deliver<R: Read + Drop>(
     rt: &HostRuntime,
@@ -41,9 +47,9 @@ pub(crate) fn deliver<R: Read + Drop>(
     let content: Content<R, SheetOf<'_>> = Content::Plot(plot);
     match line.output {
         None if line.interactive && rt.stdout().is_terminal() => refuse_terminal(rt),
-        None => exit_status(&perform(rt, line, about, content, rt.stdout())),
+        None => write_directly(rt, line, about, content, rt.stdout()),
         Some(path) if is_standard_output(path) => {
-            exit_status(&perform(rt, line, about, content, rt.stdout()))
+            write_directly(rt, line, about, content, rt.stdout())
         }
         Some(path) => deliver_to(rt, line, about, plots, content, path),
     }
@@ -65,6 +71,20 @@ pub(crate) fn deliver_to<R: Read + Drop>(
     }
 }
 
+// Writes to a stream or a device, which is not synced.
+fn write_directly<R: Read + Drop, W: Write + Drop>(
+    rt: &HostRuntime,
+    line: &Line<'_, '_>,
+    about: About<'_>,
+    content: Content<R, SheetOf<'_>>,
+    to: W,
+) -> u8 {
+    let is_sheet = content.is_sheet();
+    let outcome = perform(rt, line, about, content, to);
+    tell(rt, line, about, is_sheet, &outcome);
+    exit_status(&outcome)
+}
+
 // Writes without a buffer, so a fault's count of bytes is what the device or the file took.
 fn perform<R: Read + Drop, W: Write + Drop>(
     rt: &HostRuntime,
@@ -73,18 +93,39 @@ fn perform<R: Read + Drop, W: Write + Drop>(
     content: Content<R, SheetOf<'_>>,
     to: W,
 ) -> Result<Outcome, Fault> {
-    let is_sheet = matches!(&content, Content::Sheet(_));
     let mut progress = Progress::new(rt, about, line.progress);
     let naming = naming_of(about.title);
     let outcome = put(rt, line, naming, content, to, &mut progress);
     progress.end();
-    match &outcome {
+    outcome
+}
+
+// Says how the run ended.
+fn tell(
+    rt: &HostRuntime,
+    line: &Line<'_, '_>,
+    about: About<'_>,
+    is_sheet: bool,
+    outcome: &Result<Outcome, Fault>,
+) {
+    match outcome {
         Ok(outcome) => tell_outcome(rt, line, about, is_sheet, outcome),
         Err(fault) => {
             refuse(rt, about, fault);
         }
     }
-    outcome
+}
+
+// How the run ended, after the system has stored what was written, if all was. Some systems only then say that they cannot.
+fn synced(
+    line: &Line<'_, '_>,
+    file: &File,
+    outcome: Result<Outcome, Fault>,
+) -> Result<Outcome, Fault> {
+    match outcome {
+        Ok(_) if file.sync_all().is_err() => Err(fault_of_sync(&line.task)),
+        _ => outcome,
+    }
 }
 
 fn put<R: Read + Drop, W: Write + Drop>(
@@ -157,7 +198,7 @@ fn write_device<R: Read + Drop>(
     path: &str,
 ) -> u8 {
     match OpenOptions::new().write(true).open(rt, path) {
-        Ok(device) => exit_status(&perform(rt, line, about, content, device)),
+        Ok(device) => write_directly(rt, line, about, content, device),
         Err(error) => refuse_write(rt, about, path, &error),
     }
 }
@@ -182,17 +223,24 @@ fn write_file<R: Read + Drop>(
     let _ = remove_file(rt, part);
     match File::create(rt, part) {
         Ok(file) => {
-            let outcome = perform(rt, line, about, content, file);
+            let is_sheet = content.is_sheet();
+            let outcome = perform(rt, line, about, content, &file);
+            let outcome = synced(line, &file, outcome);
+            tell(rt, line, about, is_sheet, &outcome);
             settle_part(rt, about, part, path, &outcome)
         }
         Err(error) => refuse_write(rt, about, part, &error),
     }
 }
 
-// The plots of a run, and no file that is asked for yet.
+// The name of standard input, whatever it leads to.
+const INPUT: &[&str] = &["/dev/stdin"];
+
+// The plots of a run, and no file that is asked for yet. Without a file's name the plot is what standard input reads.
 pub(crate) fn claims_of(rt: &HostRuntime, files: &[&str]) -> Result<Claims, AllocError> {
+    let plots = if files.is_empty() { INPUT } else { files };
     let mut claims = Claims::new(rt.alloc());
-    for file in files {
+    for file in plots {
         if let Some(plot) = id_of(rt, file) {
             claims.add_plot(plot)?;
         }

@@ -1,5 +1,8 @@
 //! Plots whose output goes into a folder: a file of its own for each plot, or for each of its sheets.
-use crate::messages::{About, cannot_write, refuse, refuse_open, refuse_words, refuse_write};
+use crate::messages::{
+    About, cannot_write, has_reasons, refuse, refuse_folder_as_plot, refuse_open, refuse_words,
+    refuse_write,
+};
 use crate::output::{Content, SheetOf, deliver_to, id_of, refuse_plot};
 use crate::sheets::{deliver_sheets, picture_of_sheets};
 use plotraster::{
@@ -31,10 +34,20 @@ pub(crate) fn title_of(file: &str) -> &str {
 
 // The output goes into a folder, not into a file.
 pub(crate) fn has_folder(rt: &HostRuntime, line: &Line<'_, '_>) -> bool {
-    match line.output {
-        Some(path) => metadata(rt, path).is_ok_and(|found| found.is_dir()),
-        None => false,
+    line.output.is_some_and(|path| is_folder(rt, path))
+}
+
+// There is a folder at this path.
+pub(crate) fn is_folder(rt: &HostRuntime, path: &str) -> bool {
+    metadata(rt, path).is_ok_and(|found| found.is_dir())
+}
+
+// Opens a plot, or says why it cannot be opened: for draw and a document also if it is a folder, which could not be read.
+pub(crate) fn open_plot(rt: &HostRuntime, line: &Line<'_, '_>, path: &str) -> Result<File, u8> {
+    if has_reasons(line) && is_folder(rt, path) {
+        return Err(refuse_folder_as_plot(rt, path));
     }
+    File::open(rt, path).map_err(|error| refuse_open(rt, line, path, &error))
 }
 
 // Draws each plot into the folder. The exit status is the greatest of those of the plots.
@@ -81,9 +94,9 @@ fn deliver_one(
     claims: &mut Claims,
     target: Target<'_>,
 ) -> u8 {
-    let plot = match File::open(rt, target.file) {
+    let plot = match open_plot(rt, line, target.file) {
         Ok(plot) => plot,
-        Err(error) => return refuse_open(rt, line, target.file, &error),
+        Err(status) => return status,
     };
     let path = match path_of(rt, line, target, 1, 1) {
         Ok(path) => path,

@@ -13,7 +13,7 @@ resolution dots least most = grind (arith, nat_tests)
 
 -- the given or the usual dots per inch are a resolution
 within : (kind : Kind) (given : Option ℕ) → IfSome given (λ n. (10 ≤ n) × (n ≤ 1200)) → is_resolution (unwrap_or given (defaults_of kind).dots) ≡ true
-within Draw None in_range = refl
+within (Draw destination) None in_range = refl
 within (Write output) None in_range = refl
 within kind (Some n) in_range = resolution n in_range.0 in_range.1
 

@@ -4,9 +4,10 @@ use Rattle.std.specs.Result.{IsErrAnd}
 use Rattle.std.proofs.lemmas.Result.{IfOk-weaker}
 use Rattle.clap.specs.Words.{Row, Text, found_of, rows_of, subcommand_rows_of}
 use Rattle.clap.specs.declared.parser.matches.ArgMatches.{ArgMatches}
+use Rattle.command_line.specs.declared.destination.Destination.{Destination}
 use Rattle.command_line.specs.declared.fault.LineFault.{LineFault}
 use Rattle.command_line.specs.declared.subcommands.Kind.{Kind}
-use Rattle.command_line.specs.Lines.{asks_bad_list, has_bad_list, kind_named, line_fault, values_fault}
+use Rattle.command_line.specs.Lines.{asks_bad_list, has_bad_list, kind_into, kind_named, line_fault, values_fault}
 use Rattle.command_line.proofs.Given.{its_fault, not_known, was_some}
 use Rattle.command_line.proofs.ReadingLaw.{name_there, values_there}
 use Rattle.command_line.proofs.line.settle.Goals as goal
@@ -25,17 +26,17 @@ paired {X} {A} {B} f g (Some x) a b first second =
     let two : g x ≡ b = cc in
     ap Some (ap₂ (λ (l : A) (r : B). pair l r) one two)
 
-unknown_lists_no_pens : (m : ArgMatches) (name : Text) (rows : List Row) → subcommand_rows_of m ≡ Some (name, rows) → kind_named name ≡ None
-    → asks_bad_list m ≡ false
-unknown_lists_no_pens m name rows is unknown = rw (is, unknown) refl
+unknown_lists_no_pens : (into : Destination) (m : ArgMatches) (name : Text) (rows : List Row) → subcommand_rows_of m ≡ Some (name, rows) → kind_named name ≡ None
+    → asks_bad_list into m ≡ false
+unknown_lists_no_pens into m name rows is unknown = rw (is, unknown) refl
 
-known_list : (m : ArgMatches) (name : Text) (rows : List Row) (kind : Kind) → subcommand_rows_of m ≡ Some (name, rows) → kind_named name ≡ Some kind
-    → asks_bad_list m ≡ has_bad_list kind rows
-known_list m name rows kind is known = rw (is, known) refl
+known_list : (into : Destination) (m : ArgMatches) (name : Text) (rows : List Row) (kind : Kind) → subcommand_rows_of m ≡ Some (name, rows) → kind_named name ≡ Some kind
+    → asks_bad_list into m ≡ has_bad_list (kind_into into kind) rows
+known_list into m name rows kind is known = rw (is, known) refl
 
-known_fault : (m : ArgMatches) (name : Text) (rows : List Row) (kind : Kind) → subcommand_rows_of m ≡ Some (name, rows) → kind_named name ≡ Some kind
-    → line_fault m ≡ values_fault kind rows
-known_fault m name rows kind is known = rw (is, known) refl
+known_fault : (into : Destination) (m : ArgMatches) (name : Text) (rows : List Row) (kind : Kind) → subcommand_rows_of m ≡ Some (name, rows) → kind_named name ≡ Some kind
+    → line_fault into m ≡ values_fault (kind_into into kind) rows
+known_fault into m name rows kind is known = rw (is, known) refl
 
 words_are_no_pens : {X : Type 0} (r : Result X LineFault) (e : LineFault) (bad : Bool) → IsErrAnd r (λ f. f ≡ e) → e ≡ LineFault.Words → bad ≡ false
     → (r ≡ Err LineFault.Pens) ↔ (bad ≡ true)
@@ -48,7 +49,7 @@ returns-in_err-kind-clause-pens c =
     let matches = paired _ _ _ _ _ (sym c.subcommand.ensures.name ∙ ap (option_map (λ p. p.0.now)) met)
     (sym c.subcommand.ensures.rows ∙ ap (option_map (λ p. rows_of (found_of p.1.now))) met) in
     let unknown = sym c.kind_of.ensures ∙ not_known _ c.in_err-kind.ensures.variant in
-    let none = unknown_lists_no_pens c.args.matches.now _ _ matches unknown in
+    let none = unknown_lists_no_pens c.args.destination c.args.matches.now _ _ matches unknown in
     words_are_no_pens _ _ _ c.from_residual-in_err-kind.ensures.1 (its_fault c.kind_of.result LineFault.Words _ (sym c.ok_or-2.ensures.value ∙ c.in_err-kind.was)) none
 
 pub returns-in_err-kind-clause-refused : goal.returns-in_err-kind-clause-refused
@@ -81,7 +82,7 @@ returns-clause-pens c =
     let matches = paired _ _ _ _ _ (sym c.subcommand.ensures.name ∙ ap (option_map (λ p. p.0.now)) met)
     (sym c.subcommand.ensures.rows ∙ ap (option_map (λ p. rows_of (found_of p.1.now))) met) in
     let known = sym c.kind_of.ensures ∙ was_some c.kind_of.result _ _ (sym c.ok_or-2.ensures.value ∙ c.in_ok-kind.was) in
-    rw (known_list c.args.matches.now _ _ _ matches known) c.line_of.ensures.pens
+    rw (known_list c.args.destination c.args.matches.now _ _ _ matches known) c.line_of.ensures.pens
 
 pub returns-clause-refused : goal.returns-clause-refused
 returns-clause-refused c = λ of.
@@ -89,5 +90,5 @@ returns-clause-refused c = λ of.
     let matches = paired _ _ _ _ _ (sym c.subcommand.ensures.name ∙ ap (option_map (λ p. p.0.now)) met)
     (sym c.subcommand.ensures.rows ∙ ap (option_map (λ p. rows_of (found_of p.1.now))) met) in
     let known = sym c.kind_of.ensures ∙ was_some c.kind_of.result _ _ (sym c.ok_or-2.ensures.value ∙ c.in_ok-kind.was) in
-    c.line_of.ensures.refused (values_there of.0 c.args.matches.now _ _ _ of.1 matches known)
-    ∙ sym (known_fault c.args.matches.now _ _ _ matches known)
+    c.line_of.ensures.refused (values_there c.args.destination of.0 c.args.matches.now _ _ _ of.1 matches known)
+    ∙ sym (known_fault c.args.destination c.args.matches.now _ _ _ matches known)
