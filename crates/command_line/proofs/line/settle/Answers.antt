@@ -1,13 +1,15 @@
-use Rattle.std.proofs.Common.{◌≡◌, ◌∙◌, ap, ap₂, sym, ◌↔◌, Bool, true, false, List, Result, Err, Option, Some, None, Ok, refl, is_some}
+use Rattle.std.proofs.Common.{◌≡◌, ◌∙◌, ap, ap₂, subst, sym, ◌↔◌, Bool, true, false, List, Result, Err, Option, Some, None, Ok, refl, is_some}
 use Rattle.std.specs.Prelude.{option_map}
-use Rattle.std.specs.Result.{IsErrAnd}
+use Rattle.std.specs.Result.{IsErrAnd, result_err}
 use Rattle.std.proofs.lemmas.Result.{IfOk-weaker}
 use Rattle.clap.specs.Words.{Row, Text, found_of, rows_of, subcommand_rows_of}
 use Rattle.clap.specs.declared.parser.matches.ArgMatches.{ArgMatches}
 use Rattle.command_line.specs.declared.destination.Destination.{Destination}
 use Rattle.command_line.specs.declared.fault.LineFault.{LineFault}
 use Rattle.command_line.specs.declared.subcommands.Kind.{Kind}
-use Rattle.command_line.specs.Lines.{asks_bad_list, has_bad_list, kind_into, kind_named, line_fault, values_fault}
+use Rattle.command_line.specs.Faults.{refusal_of}
+use Rattle.command_line.specs.Lines.{IsLineBy, asks_bad_list, has_bad_list, kind_into, kind_named, line_fault, values_fault}
+use Rattle.command_line.specs.Readings.{HasValues}
 use Rattle.command_line.proofs.Given.{its_fault, not_known, was_some}
 use Rattle.command_line.proofs.ReadingLaw.{name_there, values_there}
 use Rattle.command_line.proofs.line.settle.Goals as goal
@@ -73,7 +75,7 @@ returns-clause-line c =
       kind = c.in_ok-kind.kind;
       matches = matches;
       named = known;
-      by = by;
+      by = subst (λ (k : Kind). IsLineBy k (rows_of (found_of c.in_ok-name.options.now)) line) c.into_destination.ensures by;
     }) c.line_of.ensures.line
 
 pub returns-clause-pens : goal.returns-clause-pens
@@ -82,7 +84,9 @@ returns-clause-pens c =
     let matches = paired _ _ _ _ _ (sym c.subcommand.ensures.name ∙ ap (option_map (λ p. p.0.now)) met)
     (sym c.subcommand.ensures.rows ∙ ap (option_map (λ p. rows_of (found_of p.1.now))) met) in
     let known = sym c.kind_of.ensures ∙ was_some c.kind_of.result _ _ (sym c.ok_or-2.ensures.value ∙ c.in_ok-kind.was) in
-    rw (known_list c.args.destination c.args.matches.now _ _ _ matches known) c.line_of.ensures.pens
+    rw (known_list c.args.destination c.args.matches.now _ _ _ matches known)
+    (subst (λ (k : Kind). (c.line_of.result ≡ Err LineFault.Pens) ↔ (has_bad_list k (rows_of (found_of c.in_ok-name.options.now)) ≡ true))
+    c.into_destination.ensures c.line_of.ensures.pens)
 
 pub returns-clause-refused : goal.returns-clause-refused
 returns-clause-refused c = λ of.
@@ -90,5 +94,8 @@ returns-clause-refused c = λ of.
     let matches = paired _ _ _ _ _ (sym c.subcommand.ensures.name ∙ ap (option_map (λ p. p.0.now)) met)
     (sym c.subcommand.ensures.rows ∙ ap (option_map (λ p. rows_of (found_of p.1.now))) met) in
     let known = sym c.kind_of.ensures ∙ was_some c.kind_of.result _ _ (sym c.ok_or-2.ensures.value ∙ c.in_ok-kind.was) in
-    c.line_of.ensures.refused (values_there c.args.destination of.0 c.args.matches.now _ _ _ of.1 matches known)
+    let rows = rows_of (found_of c.in_ok-name.options.now) in
+    let refused = subst (λ (k : Kind). HasValues k rows → option_map refusal_of (result_err c.line_of.result) ≡ values_fault k rows)
+    c.into_destination.ensures c.line_of.ensures.refused in
+    refused (values_there c.args.destination of.0 c.args.matches.now _ _ _ of.1 matches known)
     ∙ sym (known_fault c.args.destination c.args.matches.now _ _ _ matches known)

@@ -1,0 +1,76 @@
+-- Plots that stay plots, and sheets one after another.
+use Rattle.std.proofs.Common.{◌≡◌, ◌<◌, ◌≤◌, ◌+◌, ◌++◌, ◌∙◌, ◌∷◌, ◌⊎◌, ℕ, Bool, List, [], Option, None, Some, inl, inr, arith, subst, sym}
+use Rattle.std.proofs.lemmas.Bool.{cases_lt}
+use Rattle.output_files.specs.declared.claims.Claims.{Claims}
+use Rattle.output_files.specs.declared.file_id.FileId.{FileId}
+use Rattle.output_files.specs.Claims.{has_plot}
+use Rattle.delivery.specs.Deeds.{Deed}
+use Rattle.delivery.specs.Folders.{ArePlotsPut, AreSheetsPut, AreThePlots, IsOpened, IsOutputPut, IsPlotPut, IsPutAt, IsSheetPut}
+use Rattle.delivery.specs.Deliveries.{IsPut}
+use Rattle.output_files.specs.Names.{file_name}
+use Rattle.delivery.proofs.DeedLemmas.{has_left, has_right}
+use Rattle.delivery.proofs.Delivered.{put_left, put_right}
+
+pub kept_plots : (old new : Claims) (plots : Option FileId → Bool) → ((file : FileId) → has_plot new file ≡ has_plot old file)
+    → AreThePlots old plots → AreThePlots new plots
+kept_plots old new plots same are None = are None
+kept_plots old new plots same are (Some file) = same file ∙ are (Some file)
+
+put_at_left : (path : Option (List ℕ)) (xs ys : List Deed) → IsPutAt path xs → IsPutAt path (xs ++ ys)
+put_at_left None xs ys put = absurd put
+put_at_left (Some path) xs ys put = put_left path xs ys put
+
+put_at_right : (path : Option (List ℕ)) (xs ys : List Deed) → IsPutAt path ys → IsPutAt path (xs ++ ys)
+put_at_right None xs ys put = absurd put
+put_at_right (Some path) xs ys put = put_right path xs ys put
+
+last_or_before : (n to : ℕ) → n < to + 1 → (n < to) ⊎ (n ≡ to)
+last_or_before n to within = elim (cases_lt n to) [ inl less ↦ inl less | inr more ↦ inr (omega (arith, within, more)) ]
+
+-- one sheet more
+pub one_more : (folder file extension : List ℕ) (to count : ℕ) (xs ys : List Deed) → AreSheetsPut folder file extension to count xs
+    → IsSheetPut folder file extension (to + 1) count ys → AreSheetsPut folder file extension (to + 1) count (xs ++ ys)
+one_more folder file extension to count xs ys before sheet n within =
+    elim (last_or_before n to within) [
+      | inl less ↦ put_at_left _ xs ys (before n less)
+      | inr last ↦ put_at_right _ xs ys (subst (λ (k : ℕ). IsSheetPut folder file extension (k + 1) count ys) (sym last) sheet)
+    ]
+
+-- the file of a plot with one sheet
+pub only_sheet : (folder file extension path : List ℕ) (deeds : List Deed) → Some path ≡ file_name folder file 1 1 extension → IsPut path deeds
+    → IsOutputPut folder file extension deeds
+only_sheet folder file extension path deeds is put =
+    let here : IsSheetPut folder file extension (0 + 1) 1 deeds = subst (λ (it : Option (List ℕ)). IsPutAt it deeds) is put in (
+      1,
+      omega arith,
+      λ n within.
+          let none : 0 ≡ n = omega (arith, within) in
+          subst (λ (k : ℕ). IsSheetPut folder file extension (k + 1) 1 deeds) none here,
+    )
+
+pub output_right : (folder file extension : List ℕ) (xs ys : List Deed) → IsOutputPut folder file extension ys → IsOutputPut folder file extension (xs ++ ys)
+output_right folder file extension xs ys put = (put.0, put.1, λ n within. put_at_right _ xs ys (put.2 n within))
+
+pub output_left : (folder file extension : List ℕ) (xs ys : List Deed) → IsOutputPut folder file extension xs → IsOutputPut folder file extension (xs ++ ys)
+output_left folder file extension xs ys put = (put.0, put.1, λ n within. put_at_left _ xs ys (put.2 n within))
+
+-- a plot was opened, and then its output was written
+pub plot_put : (folder extension file : List ℕ) (xs ys : List Deed) → IsOpened file xs → IsOutputPut folder file extension ys → IsPlotPut folder extension file (xs ++ ys)
+plot_put folder extension file xs ys opened put = (has_left xs ys _ opened, output_right folder file extension xs ys put)
+
+plot_left : (folder extension file : List ℕ) (xs ys : List Deed) → IsPlotPut folder extension file xs → IsPlotPut folder extension file (xs ++ ys)
+plot_left folder extension file xs ys put = (has_left xs ys _ put.0, output_left folder file extension xs ys put.1)
+
+plot_right : (folder extension file : List ℕ) (xs ys : List Deed) → IsPlotPut folder extension file ys → IsPlotPut folder extension file (xs ++ ys)
+plot_right folder extension file xs ys put = (has_right xs ys _ put.0, output_right folder file extension xs ys put.1)
+
+plots_left : (folder extension : List ℕ) (files : List (List ℕ)) (xs ys : List Deed) → ArePlotsPut folder extension files xs → ArePlotsPut folder extension files (xs ++ ys)
+plots_left folder extension [] xs ys put = tt
+plots_left folder extension (file ∷ files) xs ys put = (plot_left folder extension file xs ys put.0, plots_left folder extension files xs ys put.1)
+
+-- one plot more
+pub plots_more : (folder extension file : List ℕ) (files : List (List ℕ)) (xs ys : List Deed) → ArePlotsPut folder extension files xs
+    → IsPlotPut folder extension file ys → ArePlotsPut folder extension (files ++ file ∷ []) (xs ++ ys)
+plots_more folder extension file [] xs ys before put = (plot_right folder extension file xs ys put, tt)
+plots_more folder extension file (f ∷ files) xs ys before put =
+    (plot_left folder extension f xs ys before.0, plots_more folder extension file files xs ys before.1 put)

@@ -1,0 +1,3 @@
+pub mod DeedLemmas
+pub mod Delivered
+pub mod Folders

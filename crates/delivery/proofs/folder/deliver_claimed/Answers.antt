@@ -1,0 +1,14 @@
+use Rattle.std.proofs.Common.{◌<◌, ℕ, arith}
+use Rattle.delivery.specs.Deliveries.{IsPut}
+use Rattle.delivery.proofs.Delivered.{only_refused}
+use Rattle.delivery.proofs.folder.deliver_claimed.Goals as goal
+
+pub returns-in-Taken : goal.returns-in-Taken
+returns-in-Taken g c = λ plots _.
+    only_refused g.D.Desk.does plots (IsPut c.args.claimed.path.now) c.args.desk.now c.cannot_write.new.desk c.cannot_write.result
+    c.cannot_write.ensures.says.0 c.cannot_write.ensures.says.1 (omega (arith, c.cannot_write.ensures.status))
+
+pub returns-in-Plot : goal.returns-in-Plot
+returns-in-Plot g c = λ plots _.
+    only_refused g.D.Desk.does plots (IsPut c.args.claimed.path.now) c.args.desk.now c.refuse_plot.new.desk c.refuse_plot.result
+    c.refuse_plot.ensures.says.0 c.refuse_plot.ensures.says.1 (omega (arith, c.refuse_plot.ensures.status))

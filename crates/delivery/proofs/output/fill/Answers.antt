@@ -1,0 +1,11 @@
+use Rattle.delivery.proofs.Delivered.{filled, not_filled}
+use Rattle.delivery.proofs.output.fill.Goals as goal
+
+pub returns-in-Whole : goal.returns-in-Whole
+returns-in-Whole g c = λ plots.
+    filled g.D.Desk.does plots c.args.desk.now c.store.new.desk c.args.part.now c.args.path.now c.store.result (c.store.ensures plots)
+
+pub returns : goal.returns
+returns g c = λ plots.
+    not_filled g.D.Desk.does plots c.args.desk.now c.leave.new.desk c.args.part.now c.args.path.now c.leave.result
+    (g.C.Answer.Answer.ends c.write-file.result.1) (c.leave.ensures plots)

@@ -1,0 +1,79 @@
+-- What the delivery of an output does.
+use Rattle.std.specs.Prelude.{◌≡◌, ◌⊎◌, ◌∷◌, ℕ, Bool, true, List, Option}
+use Rattle.output_files.specs.declared.file_id.FileId.{FileId}
+use Rattle.delivery.specs.declared.desk.Found.{Found}
+use Rattle.delivery.specs.declared.ending.Ending.{Ending}
+use Rattle.delivery.specs.declared.ending.Ending.TheVariants.{Whole, Kept, Lost}
+use Rattle.delivery.specs.Deeds.{AreRemarks, Deed, Has, WereDone, status_after}
+use Rattle.delivery.specs.Care.{AreAllowed, AreFollowed, HasDeviceAt, HasNoPlotAt, IsSettled, SaysNext, id_found, is_device, is_open_file, part_of}
+
+-- some deeds were done, each of which is allowed if what they need was done before, and each failure of which is said; the
+-- status is the greatest of what was said, and if it is 0, the deeds are whole
+pub record Delivers {D : Type 0} (does : D → Deed → D → Type 0) (plots : Option FileId → Bool) (before after : D)
+    (status : ℕ) (Needs Ends IsWhole : List Deed → Type 0) : Type 0 where
+  pub deeds : List Deed
+  pub done : WereDone does before deeds after
+  pub allowed : (earlier : List Deed) → Needs earlier → AreAllowed plots earlier deeds
+  pub followed : AreFollowed deeds
+  pub status_is : status ≡ status_after deeds
+  pub ends : Ends deeds
+  pub whole : status ≡ 0 → IsWhole deeds
+
+-- of any deeds
+abbrev pub Anything : List Deed → Type 0
+Anything deeds = Unit
+
+-- of no deeds
+abbrev pub Never : List Deed → Type 0
+Never deeds = ⊥
+
+-- a file got this name, after all of it was written and stored
+abbrev pub IsNamed : List ℕ → List Deed → Type 0
+IsNamed path deeds = Has deeds (Deed.renamed (part_of path) path true)
+
+-- the system was told to give a file this name
+abbrev pub IsToBeNamed : List ℕ → List ℕ → List Deed → Type 0
+IsToBeNamed part path deeds = (done : Bool) × Has deeds (Deed.renamed part path done)
+
+-- a file is stored
+abbrev pub IsStored : List ℕ → List Deed → Type 0
+IsStored part earlier = Has earlier (Deed.synced part true)
+
+-- a file was written whole, where no plot is
+abbrev pub IsWritten : (Option FileId → Bool) → List ℕ → List Deed → Type 0
+IsWritten plots part earlier = Has earlier (Deed.wrote part Whole) × HasNoPlotAt plots earlier part
+
+-- a file was made, where no plot is
+abbrev pub IsMade : (Option FileId → Bool) → List ℕ → List Deed → Type 0
+IsMade plots part earlier = Has earlier (Deed.created part true) × HasNoPlotAt plots earlier part
+
+-- why a writing failed is said, and what is of no use is removed
+abbrev pub IsLeft : Ending → List ℕ → List Deed → Type 0
+IsLeft Whole part deeds = ⊥
+IsLeft (Kept status) part deeds = SaysNext deeds
+IsLeft (Lost status) part deeds = SaysNext deeds × Has deeds (Deed.removed part)
+
+-- this status was said, and nothing else was done
+abbrev pub SaysOnce : {D : Type 0} → (D → Deed → D → Type 0) → D → ℕ → D → Type 0
+SaysOnce does before status after = (text : Option (List ℕ)) × does before (Deed.refused status text) after
+
+-- an output is under its name, or was written whole into what had it
+abbrev pub IsPut : List ℕ → List Deed → Type 0
+IsPut path deeds = IsNamed path deeds ⊎ Has deeds (Deed.wrote path Whole)
+
+-- a look at a path found this file
+abbrev pub LooksAt : {D : Type 0} → (D → Deed → D → Type 0) → D → List ℕ → Option FileId → D → Type 0
+LooksAt does before path id after = (found : Option Found) × does before (Deed.looked path found) after × (id ≡ id_found found)
+
+-- a look at a path found whether it is that of a device
+abbrev pub LooksForDevice : {D : Type 0} → (D → Deed → D → Type 0) → D → List ℕ → Bool → D → Type 0
+LooksForDevice does before path is after = (found : Option Found) × does before (Deed.looked path found) after × (is ≡ is_device found)
+
+-- what has this path may be written as it is
+abbrev pub IsReachable : List ℕ → List Deed → Type 0
+IsReachable path earlier = (is_open_file path ≡ true) ⊎ HasDeviceAt earlier path
+
+-- this status was said first, and after it there were only remarks
+abbrev pub SaysFirst : {D : Type 0} → (D → Deed → D → Type 0) → D → ℕ → D → Type 0
+SaysFirst does before status after =
+    (text : Option (List ℕ)) × (deeds : List Deed) × WereDone does before (Deed.refused status text ∷ deeds) after × AreRemarks deeds

@@ -1,0 +1,20 @@
+//! What a run does with files: which it opens, writes, names and removes, and what it says.
+#![tactic(auto)]
+
+mod about;
+mod desk;
+mod ending;
+mod folder;
+mod messages;
+mod output;
+mod plots;
+mod sheets;
+
+pub use about::About;
+pub use desk::{Desk, Found, Kind};
+pub use ending::{Answer, Content, Ending};
+pub use folder::{Order, Target, deliver_each};
+pub use messages::{NoPath, Reasons, cannot_write, refuse_memory, refuse_plot, refuse_write};
+pub use output::{Scene, deliver_to, has_folder};
+pub use plots::claims_of;
+pub use sheets::{PlotOf, Refusal, SheetOf, Sheets, Work};

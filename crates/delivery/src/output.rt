@@ -1,0 +1,247 @@
+//! An output is written under a name of its own, and gets its name when it is whole and stored.
+ghost use Rattle.std.specs.Prelude.{◌≡◌, ◌<◌, ℕ, Bool, Option};
+ghost use Rattle.output_files.specs.declared.file_id.FileId.{FileId};
+ghost use Rattle.output_files.specs.Claims.{is_plot};
+ghost use Rattle.delivery.specs.Care.{HasNoPlotAt, IsSettled, is_file, is_open_file, part_of};
+ghost use Rattle.delivery.specs.Deeds.{IsFailure, status_of};
+ghost use Rattle.delivery.specs.Folders.{LooksForFolder, is_folder};
+ghost use Rattle.delivery.specs.Deliveries.{Anything, Delivers, IsLeft, IsMade, IsNamed, IsPut, IsReachable, IsStored, IsToBeNamed, IsWritten, LooksAt, LooksForDevice, Never};
+
+use crate::desk::{Desk, Kind};
+use crate::ending::{Answer, Content, Ending};
+use crate::messages::{refuse_memory, refuse_plot, refuse_write};
+use output_files::{Claims, FileId};
+use std::alloc::Global;
+use std::fmt::Display;
+
+/// What a run knows when it writes an output: the plots that it reads, whether there are several, and what it says messages
+/// are about.
+#[derive(Clone, Copy)]
+pub struct Scene<'a, A: Display> {
+    pub plots: &'a Claims,
+    pub are_several: bool,
+    pub about: &'a A,
+}
+
+/// Writes the content into what has this path, if that is open already or no regular file. Else it is written into a new
+/// file of the name `PATH.part`, which gets its name if all was written and stored, and stays or is removed if not.
+/// No plot is written, renamed over or removed but one that has this very path.
+pub fn deliver_to<D: Desk, A: Display, C: Content>(
+    desk: &mut D,
+    alloc: Global,
+    scene: Scene<'_, A>,
+    content: C,
+    path: &str,
+) -> u8
+    ensures { Delivers D.does (is_plot scene.entry.plots.now) desk.old desk.new result Anything Anything (IsPut path.now) }
+{
+    if is_open_file(path) {
+        return write_device(desk, scene.about, content, path);
+    }
+    if has_device(desk, path) {
+        return write_device(desk, scene.about, content, path);
+    }
+    write_file(desk, alloc, scene, content, path)
+}
+
+// Whether there is something of this name that is no regular file.
+fn has_device<D: Desk>(desk: &mut D, path: &str) -> bool
+    ensures { LooksForDevice D.does desk.old path.now result desk.new }
+{
+    match desk.look(path) {
+        Ok(found) => !is_file(found.kind),
+        Err(_) => false,
+    }
+}
+
+/// Whether there is a folder of this name.
+pub fn has_folder<D: Desk>(desk: &mut D, path: &str) -> bool
+    ensures { LooksForFolder D.does desk.old path.now result desk.new }
+{
+    match desk.look(path) {
+        Ok(found) => is_folder(found.kind),
+        Err(_) => false,
+    }
+}
+
+fn is_folder(kind: Kind) -> bool
+    ensures { result ≡ is_folder kind }
+{
+    match kind {
+        Kind::Folder => true,
+        Kind::File | Kind::Device => false,
+    }
+}
+
+fn is_file(kind: Kind) -> bool
+    ensures { result ≡ is_file kind }
+{
+    match kind {
+        Kind::File => true,
+        Kind::Folder | Kind::Device => false,
+    }
+}
+
+// Whether this is a name of the system for what is open already.
+fn is_open_file(path: &str) -> bool
+    ensures { result ≡ is_open_file path.now }
+{
+    let bytes = path.as_bytes();
+    path == "/dev/stderr" || bytes.starts_with(b"/dev/fd/") || bytes.starts_with(b"/proc/self/fd/")
+}
+
+// Writes the content into what has this path.
+fn write_device<D: Desk, A: Display, C: Content>(
+    desk: &mut D,
+    about: &A,
+    content: C,
+    path: &str,
+) -> u8
+    ensures { (plots : Option FileId → Bool) → Delivers D.does plots desk.old desk.new result
+        (IsReachable path.now) Anything (IsPut path.now) }
+{
+    match desk.reach(path) {
+        Ok(device) => {
+            let (_, answer) = content.write(device);
+            answer.tell(desk);
+            status_of(answer.ending())
+        }
+        Err(error) => refuse_write(desk, about, path, &error),
+    }
+}
+
+// The exit status.
+fn status_of(ending: Ending) -> u8
+    ensures { result ≡ status_of ending }
+{
+    match ending {
+        Ending::Whole => 0,
+        Ending::Kept(status) | Ending::Lost(status) => status,
+    }
+}
+
+// Writes the content into a file of another name beside the one that is asked for.
+fn write_file<D: Desk, A: Display, C: Content>(
+    desk: &mut D,
+    alloc: Global,
+    scene: Scene<'_, A>,
+    content: C,
+    path: &str,
+) -> u8
+    ensures { Delivers D.does (is_plot scene.entry.plots.now) desk.old desk.new result Anything Anything (IsNamed path.now) }
+{
+    let Ok(part) = format!(in alloc; "{path}.part") else {
+        return refuse_memory(desk, scene.about);
+    };
+    let part = part.as_str();
+    if scene.plots.is_plot(id_at(desk, part)) {
+        return refuse_plot(desk, scene.about, scene.are_several, part);
+    }
+    make(desk, scene.about, content, part, path)
+}
+
+// The file that has this path, if there is one.
+pub(crate) fn id_at<D: Desk>(desk: &mut D, path: &str) -> Option<FileId>
+    ensures { LooksAt D.does desk.old path.now result desk.new }
+{
+    match desk.look(path) {
+        Ok(found) => Some(found.id),
+        Err(_) => None,
+    }
+}
+
+// Makes the file, which may replace an older one, and fills it.
+fn make<D: Desk, A: Display, C: Content>(
+    desk: &mut D,
+    about: &A,
+    content: C,
+    part: &str,
+    path: &str,
+) -> u8
+    requires { part.now ≡ part_of path.now }
+    ensures { (plots : Option FileId → Bool) → Delivers D.does plots desk.old desk.new result
+        (λ earlier. HasNoPlotAt plots earlier part.now) Anything (IsNamed path.now) }
+{
+    // An older one may be a link to another file, which must not be written.
+    desk.remove(part);
+    match desk.create(part) {
+        Ok(file) => fill(desk, about, content, file, part, path),
+        Err(error) => refuse_write(desk, about, part, &error),
+    }
+}
+
+// Gives a file that is stored its name. The exit status is 0 only if it has it.
+fn give_name<D: Desk, A: Display>(desk: &mut D, about: &A, part: &str, path: &str) -> u8
+    requires { part.now ≡ part_of path.now }
+    ensures { (plots : Option FileId → Bool) → Delivers D.does plots desk.old desk.new result
+        (IsStored part.now) (IsToBeNamed part.now path.now) (IsNamed path.now) }
+{
+    match desk.rename(part, path) {
+        Ok(()) => 0,
+        Err(error) => refuse_write(desk, about, path, &error),
+    }
+}
+
+// Says why a writing failed, and removes what is of no use.
+fn leave<D: Desk, A: Answer>(desk: &mut D, answer: &A, part: &str) -> u8
+    requires { IsFailure (A.ends answer.now) }
+    ensures { (plots : Option FileId → Bool) → Delivers D.does plots desk.old desk.new result
+        (λ earlier. HasNoPlotAt plots earlier part.now) (IsLeft (A.ends answer.now) part.now) Never }
+{
+    let ending = answer.ending();
+    answer.tell(desk);
+    match ending {
+        Ending::Whole => 0,
+        Ending::Kept(status) => status,
+        Ending::Lost(status) => {
+            desk.remove(part);
+            status
+        }
+    }
+}
+
+// Has the system store what was written whole, and gives it its name.
+fn store<D: Desk, A: Display, B: Answer + Drop>(
+    desk: &mut D,
+    about: &A,
+    answer: B,
+    file: &D::File,
+    part: &str,
+    path: &str,
+) -> u8
+    requires part { part.now ≡ part_of path.now }
+    requires whole { B.ends answer ≡ Ending.Whole }
+    ensures { (plots : Option FileId → Bool) → Delivers D.does plots desk.old desk.new result
+        (IsWritten plots part.now) (IsSettled part.now) (IsNamed path.now) }
+{
+    match desk.sync(part, file) {
+        Ok(()) => {
+            answer.tell(desk);
+            give_name(desk, about, part, path)
+        }
+        Err(_) => {
+            let answer = answer.unstored();
+            leave(desk, &answer, part)
+        }
+    }
+}
+
+// Writes the content into its file, which then gets its name, stays or is removed.
+fn fill<D: Desk, A: Display, C: Content>(
+    desk: &mut D,
+    about: &A,
+    content: C,
+    file: D::File,
+    part: &str,
+    path: &str,
+) -> u8
+    requires { part.now ≡ part_of path.now }
+    ensures { (plots : Option FileId → Bool) → Delivers D.does plots desk.old desk.new result
+        (IsMade plots part.now) (IsSettled part.now) (IsNamed path.now) }
+{
+    let (file, answer) = content.write(file);
+    match answer.ending() {
+        Ending::Whole => store(desk, about, answer, &file, part, path),
+        Ending::Kept(_) | Ending::Lost(_) => leave(desk, &answer, part),
+    }
+}

@@ -1,0 +1,94 @@
+//! Plots that are drawn once, and written sheet by sheet.
+ghost use Rattle.std.specs.Prelude.{◌≡◌, ◌<◌, ℕ};
+
+use crate::about::About;
+use crate::ending::{Answer, Content};
+use std::fmt::Display;
+use std::io::{Read, Write};
+
+/// Why a plot is not drawn.
+pub trait Refusal: Display {
+    /// The exit status.
+    fn status(&self) -> u8
+        ensures { 0 < result };
+}
+
+/// The sheets of a plot that is drawn.
+pub trait Sheets {
+    /// What writing a sheet answers.
+    type Answer: Answer + Drop;
+
+    /// How many sheets there are.
+    ghost sheet_count: { Self → ℕ };
+
+    /// How many sheets there are.
+    fn count(&self) -> u32
+        ensures { result ≡ sheet_count self.now };
+
+    /// Writes a sheet, counted from 1, about which messages say this.
+    fn write<W: Write + Drop>(&self, about: About<'_>, number: u32, to: W) -> (W, Self::Answer);
+}
+
+/// What is to be done with a plot.
+pub trait Work {
+    /// What writing the output of a plot answers.
+    type Answer: Answer + Drop;
+
+    /// The sheets of a plot that is drawn.
+    type Sheets: Sheets + Drop;
+
+    /// Why a plot is not drawn.
+    type Refusal: Refusal + Drop;
+
+    /// Whether each sheet is to have a file of its own.
+    fn has_sheets_apart(&self) -> bool;
+
+    /// Reads a plot and writes its output, about which messages say this.
+    fn write<R: Read + Drop, W: Write + Drop>(
+        &self,
+        about: About<'_>,
+        plot: R,
+        to: W,
+    ) -> (W, Self::Answer);
+
+    /// Reads a plot and draws its sheets.
+    fn draw<R: Read + Drop>(&self, plot: R) -> Result<Self::Sheets, Self::Refusal>;
+}
+
+/// The output of a plot.
+#[derive(Drop)]
+pub struct PlotOf<'a, W: Work, R: Read> {
+    pub work: &'a W,
+    pub about: About<'a>,
+    pub plot: R,
+}
+
+impl<W: Work, R: Read + Drop> Content for PlotOf<'_, W, R> {
+    type Answer = W::Answer;
+
+    fn write<T: Write + Drop>(self, to: T) -> (T, W::Answer) {
+        let PlotOf { work, about, plot } = self;
+        work.write(about, plot, to)
+    }
+}
+
+/// The output of a sheet, counted from 1.
+#[derive(Drop)]
+pub struct SheetOf<'a, S: Sheets> {
+    pub sheets: &'a S,
+    pub about: About<'a>,
+    pub number: u32,
+}
+
+impl<S: Sheets> Content for SheetOf<'_, S> {
+    type Answer = S::Answer;
+
+    fn write<T: Write + Drop>(self, to: T) -> (T, S::Answer) {
+        let SheetOf {
+            sheets,
+            about,
+            number,
+        } = self;
+        sheets.write(about, number, to)
+    }
+}
