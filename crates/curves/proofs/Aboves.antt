@@ -18,10 +18,10 @@ use Rattle.curves.proofs.VectorLemmas.{sum_above, way_above, turned_above}
 unit_of_above : (v : Spot) → IsNotZero v → IsNotZero (unit_of v)
 unit_of_above v h = unit_above v.x v.y h
 
-le_from_test : (z : ℤ) → int_le (pos 0) z ≡ true → pos 0 ≤ℤ z
+pub le_from_test : (z : ℤ) → int_le (pos 0) z ≡ true → pos 0 ≤ℤ z
 le_from_test z e = omega (arith, ints)
 
-lt_from_test : (z : ℤ) → int_le (pos 0) z ≡ false → z <ℤ pos 0
+pub lt_from_test : (z : ℤ) → int_le (pos 0) z ≡ false → z <ℤ pos 0
 lt_from_test z e = omega (arith, ints)
 
 middle_above : (clockwise : Bool) (p q : Spot) → IsNotZero p → IsNotZero (middle clockwise p q)

@@ -80,6 +80,15 @@ below_middle : nth below 32 ≡ at (pos 1600) (pos 0)
 unfolding circle_by between middle place_at root_by surplus
 below_middle = refl
 
+-- from (3200, 1600) to (1600, 0): three quarters of a circle over (0, 1600), and the other quarter over (2560, 320)
+abbrev around : Spot → List Spot
+around b = arc_places (at (pos 3200) (pos 1600)) b (at (pos 1600) (pos 0))
+
+around_middles : nth (around (at (pos 0) (pos 1600))) 32 ∷ nth (around (at (pos 2560) (pos 320))) 32 ∷ []
+    ≡ at (pos 469) (pos 2731) ∷ at (pos 2731) (pos 469) ∷ []
+unfolding circle_by between middle place_at root_by surplus
+around_middles = refl
+
 -- the whole circle from (1600, 1600) over (3200, 1600)
 abbrev whole : List Spot
 whole = arc_places (at (pos 1600) (pos 1600)) (at (pos 3200) (pos 1600)) (at (pos 1600) (pos 1600))

@@ -5,6 +5,9 @@ pub mod Centres
 pub mod Places
 pub mod Betweens
 pub mod Aboves
+pub mod Alongs
+pub mod Sides
+pub mod Passing
 pub mod ArcLaws
 pub mod BezierLaws
 mod ArcExamples

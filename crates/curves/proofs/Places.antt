@@ -9,7 +9,7 @@ use Rattle.directions.specs.Bounds.{IsWithin}
 use Rattle.directions.specs.Directions.{square_of}
 use Rattle.curves.specs.Vectors.{dot}
 
-product_below : (p q : ℕ) → p * q ≤ p * p + q * q
+pub product_below : (p q : ℕ) → p * q ≤ p * p + q * q
 product_below p q = elim (cases_lt p q) [
   | inl l ↦ (let m : p * q ≤ q * q = mul-le p q q q (omega arith) (omega arith) in omega (arith, m))
   | inr l ↦ (let m : p * q ≤ p * p = mul-le p q p p (omega arith) (omega arith) in omega (arith, m))

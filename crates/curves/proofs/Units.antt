@@ -20,7 +20,7 @@ size_above square a h k l =
       | inr b ↦ (let e : s ≡ 0 = omega arith in let m = rw e at n.most in absurd (omega arith))
     ]
 
-part_size : (square : ℕ) (a : ℤ) → nat_abs (part_in square a) ≡ size_in square (nat_abs a)
+pub part_size : (square : ℕ) (a : ℤ) → nat_abs (part_in square a) ≡ size_in square (nat_abs a)
 part_size square (pos n) = refl
 part_size square (negsuc n) = let s : ℕ = size_in square (suc n) in let e : nat_abs (neg_ℤ (pos s)) ≡ s = omega (arith, ints) in e
 
@@ -38,7 +38,7 @@ direction_above v h = elim (cases_lt (nat_abs v.x) (nat_abs v.y)) [
 ]
 
 -- the larger number of a vector has a digit that is kept
-short_above : (u v : ℤ) (h n : ℕ) → n ≡ max (nat_abs u) (nat_abs v) → 2 ^ h ≤ n → 0 < nat_abs (shortened h u) + nat_abs (shortened h v)
+pub short_above : (u v : ℤ) (h n : ℕ) → n ≡ max (nat_abs u) (nat_abs v) → 2 ^ h ≤ n → 0 < nat_abs (shortened h u) + nat_abs (shortened h v)
 short_above u v h n e l = elim (cases_lt (nat_abs u) (nat_abs v)) [
   | inl m ↦ (let p = not_zero (2 ^ h) v (pow_pos h) (omega arith) in omega (arith, p))
   | inr m ↦ (let p = not_zero (2 ^ h) u (pow_pos h) (omega arith) in omega (arith, p))

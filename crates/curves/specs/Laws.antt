@@ -1,11 +1,11 @@
 -- What holds of the places on arcs and on Bezier curves.
-use Rattle.std.specs.Prelude.{◌≡◌, ◌⊎◌, ℕ, ◌-◌, ◌*◌, ◌<◌, List, [], ◌∷◌, ◌++◌, length, IfSome, ℤ, pos, ◌+ℤ◌, ◌-ℤ◌, ◌*ℤ◌}
+use Rattle.std.specs.Prelude.{◌≡◌, ◌⊎◌, ℕ, ◌-◌, ◌*◌, ◌^◌, ◌<◌, ◌≤◌, List, [], ◌∷◌, ◌++◌, length, IfSome, ℤ, pos, ◌+ℤ◌, ◌-ℤ◌, ◌*ℤ◌, ◌<ℤ◌}
 use Rattle.std.specs.List.{All}
 use Rattle.exact.specs.Fraction.{Fraction}
 use Rattle.exact.specs.Rounding.{IsRounded}
 use Rattle.exact.specs.declared.spot.Spot.{Spot}
 use Rattle.directions.specs.Directions.{square_of}
-use Rattle.curves.specs.Vectors.{dot}
+use Rattle.curves.specs.Vectors.{cross, dot, way}
 use Rattle.curves.specs.Arcs.{between, place_at, circle_through, arc_places}
 use Rattle.curves.specs.Beziers.{weighed, curve_place, bezier_places}
 use Rattle.curves.specs.Bounds.{IsNotZero}
@@ -35,6 +35,26 @@ pub record ArcPlacesAreOnCircle : Type 0 where
   pub each : (circle : Circle) (d : Spot) → IsNotZero d → IsPlaceOn circle d
   pub all : (a b c : Spot) → IfSome (circle_through a b c)
       (λ circle. All (IsPlaceOn circle) (between circle.clockwise 6 circle.first circle.last))
+
+-- the vector from a circle's start to its point in the direction d, from which a place is rounded, multiplied by 256 * |d|^2
+abbrev pub reach_vector : Circle → Spot → Spot
+reach_vector circle d = record { x = (reach_x circle d).over; y = (reach_y circle d).over }
+
+-- the centre is at most 2^15 times as far from the start as the place at c after the start: any other arc is nearly a line, or
+-- nearly a whole circle
+abbrev pub IsBent : Circle → Spot → Type 0
+IsBent circle c = square_of circle.centre ≤ 2 ^ 46 * square_of c
+
+-- the point of the circle in the direction d is on the side of the line along c on which b is
+abbrev pub IsBeside : Spot → Spot → Circle → Spot → Type 0
+IsBeside b c circle d = pos 0 <ℤ (cross b c *ℤ cross (reach_vector circle d) c)
+
+-- all points of the circle from which the places of an arc are rounded are on the side of the line from a to c on which b is:
+-- the arc goes round by b, and not the other way round
+abbrev pub ArcsPassTheirMiddle : Type 0
+ArcsPassTheirMiddle = (a b c : Spot) → IfSome (circle_through a b c)
+    (λ circle. IsBent circle (way a c)
+    → All (IsBeside (way a b) (way a c) circle) (between circle.clockwise 6 circle.first circle.last))
 
 -- the last of these places
 pub record EndsAt (places : List Spot) (last : Spot) : Type 0 where
