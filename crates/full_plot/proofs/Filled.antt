@@ -1,5 +1,5 @@
 -- What fills leave alone: how items are read, that no more strokes are kept than a plot may have, and where sheets end.
-use Rattle.std.proofs.Common.{◌≡◌, ◌∙◌, ◌≤◌, ◌+◌, ℕ, refl, inl, inr, Bool, true, false, List, [], ◌∷◌, length, nat_lt, nat_eq, ℤ, pos, map}
+use Rattle.std.proofs.Common.{◌≡◌, ◌∙◌, ◌≤◌, ◌+◌, ℕ, refl, inl, inr, arith, Bool, true, false, List, [], ◌∷◌, length, nat_lt, nat_eq, ℤ, pos, map}
 use Rattle.std.proofs.lemmas.Bool.{cases_Bool}
 use Rattle.plot_page.specs.Segments.{Segment}
 use Rattle.hpgl_plot.specs.Machine.{kept_with}
@@ -33,32 +33,45 @@ pub kept_in_order : (ends : List ℕ) (kept : List Segment) (full : Bool) (ss : 
     → InOrder ends (length (kept_with kept full ss))
 kept_in_order ends kept full ss = in_order_on ends (length kept) (length (kept_with kept full ss)) (few_kept kept full ss)
 
+pub no_fewer_kept : (kept : List Segment) (full : Bool) (ss : List Segment) → length kept ≤ length (kept_with kept full ss)
+no_fewer_kept kept full ss = (few_kept kept full ss).0
+
 -- a later world
 pub record IsLater (w v : FullWorld) : Type 0 where
   pub context_is : v.context ≡ w.context
   pub in_order : IsInOrder w → IsInOrder v
+  pub grows : length w.core.kept ≤ length v.core.kept
 
 pub later_same : (w : FullWorld) → IsLater w w
-later_same w = record { context_is = refl; in_order = λ h. h }
+later_same w = record { context_is = refl; in_order = λ h. h; grows = omega arith }
 
 pub later_then : (w v u : FullWorld) → IsLater w v → IsLater v u → IsLater w u
 later_then w v u h k = record {
   context_is = k.context_is ∙ h.context_is;
   in_order = λ order. k.in_order (h.in_order order);
+  grows = omega (arith, h.grows, k.grows);
 }
 
 -- work, and a stroke
 pub filled_work : (n : ℕ) (w : FullWorld) → IsLater w (worked n w)
 filled_work n w = elim (cases_Bool (nat_lt 4194304 (length w.core.kept + w.extra + n))) [
-  | inl i ↦ rw i (record { context_is = refl; in_order = λ h. h })
-  | inr i ↦ rw i (record { context_is = refl; in_order = λ h. h })
+  | inl i ↦ rw i (record { context_is = refl; in_order = λ h. h; grows = omega arith })
+  | inr i ↦ rw i (record { context_is = refl; in_order = λ h. h; grows = omega arith })
 ]
 
 filled_stroke : (w : FullWorld) (l : Segment) → IsLater w (with_stroke w l)
-filled_stroke w l = record { context_is = refl; in_order = kept_in_order w.ends w.core.kept w.core.full (l ∷ []) }
+filled_stroke w l = record {
+  context_is = refl;
+  in_order = kept_in_order w.ends w.core.kept w.core.full (l ∷ []);
+  grows = no_fewer_kept w.core.kept w.core.full (l ∷ []);
+}
 
 filled_lines : (w : FullWorld) (ls : List Segment) → IsLater w (drawn_in_type w ls)
-filled_lines w ls = record { context_is = refl; in_order = kept_in_order w.ends w.core.kept w.core.full _ }
+filled_lines w ls = record {
+  context_is = refl;
+  in_order = kept_in_order w.ends w.core.kept w.core.full _;
+  grows = no_fewer_kept w.core.kept w.core.full _;
+}
 
 filled_counted : (w v : FullWorld) → IsLater w v → IsLater w (counted w v)
 filled_counted w v h = elim (cases_Bool (nat_eq (length v.core.kept) (length w.core.kept))) [

@@ -34,7 +34,7 @@ use Rattle.full_plot.specs.Texts.{labelled, lettered, sets_margin, then_shifted,
 use Rattle.full_plot.specs.Wedges.{wedge_edged, wedge_kept, wedge_places}
 use Rattle.full_plot.specs.Work.{then_worked}
 use Rattle.full_plot.specs.Worlds.{FullWorld, full_followed, with_core}
-use Rattle.full_plot.proofs.Filled.{InOrder, IsInOrder, IsLater, edges_are_filled, filled_work, in_order_on, is_filled, kept_in_order, later_same, later_then}
+use Rattle.full_plot.proofs.Filled.{InOrder, IsInOrder, IsLater, edges_are_filled, filled_work, in_order_on, is_filled, kept_in_order, later_same, later_then, no_fewer_kept}
 use Rattle.full_plot.proofs.Nexts.{NextIn, next_arc, next_core, next_core_step, next_curve, next_labelled, next_moved_on, next_ticked}
 use Rattle.full_plot.proofs.JoinedSheets.{are_sheets, ascend_with}
 
@@ -48,6 +48,7 @@ by_next w (Some v) n = record {
   context_is = n.context_is;
   in_order = λ h. subst (λ (ends : List ℕ). InOrder ends (length v.core.kept)) (sym n.ends_are)
       (in_order_on w.ends (length w.core.kept) (length v.core.kept) n.few h);
+  grows = n.few.0;
 }
 
 later_past : (w v : FullWorld) (o : Option FullWorld) → IsLater w v → LaterIn v o → LaterIn w o
@@ -61,7 +62,7 @@ later_next w (Some v) f h go = later_past w v (f v) h (go v)
 -- with other widths, after work, and filled
 by_points : (w : FullWorld) (o : Option FullWorld) → LaterIn w o → LaterIn w (then_rewidened o)
 by_points w None h = tt
-by_points w (Some v) h = record { context_is = h.context_is; in_order = h.in_order }
+by_points w (Some v) h = record { context_is = h.context_is; in_order = h.in_order; grows = h.grows }
 
 by_work : (n : ℕ) (w : FullWorld) (o : Option FullWorld) → LaterIn w o → LaterIn w (then_worked n o)
 by_work n w None h = tt
@@ -73,38 +74,42 @@ by_fill w (Some v) h = later_then w v _ h (is_filled false v)
 
 by_letters : (w : FullWorld) (s : LetterSetting) → IsLater w (lettered s w)
 by_letters w s = elim (cases_Bool (sets_margin s)) [
-  | inl i ↦ rw i (record { context_is = refl; in_order = λ h. h })
-  | inr i ↦ rw i (record { context_is = refl; in_order = λ h. h })
+  | inl i ↦ rw i (record { context_is = refl; in_order = λ h. h; grows = omega arith })
+  | inr i ↦ rw i (record { context_is = refl; in_order = λ h. h; grows = omega arith })
 ]
 
 by_anchor : (w : FullWorld) (a : Anchor) → LaterIn w (anchored w a)
-by_anchor w PageOrigin = record { context_is = refl; in_order = λ h. h }
+by_anchor w PageOrigin = record { context_is = refl; in_order = λ h. h; grows = omega arith }
 by_anchor w (At p) = elim (cases_Bool (are_in_range ((curve_pen w false p).place ∷ []))) [
-  | inl i ↦ rw i (record { context_is = refl; in_order = λ h. h })
+  | inl i ↦ rw i (record { context_is = refl; in_order = λ h. h; grows = omega arith })
   | inr i ↦ rw i tt
 ]
 
 by_rectangle : (w : FullWorld) (t : Step) → LaterIn w (kept_step w t)
 by_rectangle w t = elim (cases_Bool (are_in_range (places_of w t))) [
-  | inl i ↦ rw i (record { context_is = refl; in_order = λ h. h })
+  | inl i ↦ rw i (record { context_is = refl; in_order = λ h. h; grows = omega arith })
   | inr i ↦ rw i tt
 ]
 
 by_wedge : (w : FullWorld) (wedge : Wedge) → LaterIn w (wedge_kept w wedge)
 by_wedge w wedge = elim (cases_Bool (are_in_range (wedge_places w.core.page w.core.state wedge))) [
-  | inl i ↦ rw i (record { context_is = refl; in_order = λ h. h })
+  | inl i ↦ rw i (record { context_is = refl; in_order = λ h. h; grows = omega arith })
   | inr i ↦ rw i tt
 ]
 
 by_edge : (w : FullWorld) (wedge : Wedge) → LaterIn w (wedge_edged w wedge)
 by_edge w wedge = elim (cases_Bool (are_in_range (wedge_places w.core.page w.core.state wedge))) [
-  | inl i ↦ rw i (record { context_is = refl; in_order = kept_in_order w.ends w.core.kept w.core.full _ })
+  | inl i ↦ rw i (record {
+    context_is = refl;
+    in_order = kept_in_order w.ends w.core.kept w.core.full _;
+    grows = no_fewer_kept w.core.kept w.core.full _;
+  })
   | inr i ↦ rw i tt
 ]
 
 by_shift : (text : List ℕ) (w : FullWorld) (o : Option FullWorld) → LaterIn w o → LaterIn w (then_shifted text o)
 by_shift text w None h = tt
-by_shift text w (Some v) h = record { context_is = h.context_is; in_order = h.in_order }
+by_shift text w (Some v) h = record { context_is = h.context_is; in_order = h.in_order; grows = h.grows }
 
 by_label : (w : FullWorld) (text : List ℕ) → LaterIn w (written w text)
 by_label w text = by_shift text w (labelled w text) (by_next w (labelled w text) (next_labelled w text))
@@ -124,17 +129,21 @@ later_step w (Place m) = by_next w (full_step w (Place m)) (next_moved_on w m)
 later_step w (Tick is_upright) = by_next w (full_step w (Tick is_upright)) (next_ticked w is_upright)
 later_step w (ArcThrough relative points) = by_next w (full_step w (ArcThrough relative points)) (next_arc w relative points)
 later_step w (Curve relative points) = by_next w (full_step w (Curve relative points)) (next_curve w relative points)
-later_step w (PolygonBy Begin) = record { context_is = refl; in_order = λ h. h }
-later_step w (PolygonBy Close) = record { context_is = refl; in_order = λ h. h }
-later_step w (PolygonBy End) = record { context_is = refl; in_order = λ h. h }
+later_step w (PolygonBy Begin) = record { context_is = refl; in_order = λ h. h; grows = omega arith }
+later_step w (PolygonBy Close) = record { context_is = refl; in_order = λ h. h; grows = omega arith }
+later_step w (PolygonBy End) = record { context_is = refl; in_order = λ h. h; grows = omega arith }
 later_step w EdgeBuffer = edges_are_filled w
 later_step w (FillBuffer by_winding) = is_filled by_winding w
 later_step w (AnchorBy a) = by_anchor w a
 later_step w (Rectangle relative c) = by_fill w (kept_step w (Edge relative c.x c.y)) (by_rectangle w (Edge relative c.x c.y))
 later_step w (WedgeEdge wedge) = by_edge w wedge
 later_step w (WedgeFill wedge) = by_fill w (wedge_kept w wedge) (by_wedge w wedge)
-later_step w EndSheet = record { context_is = refl; in_order = λ h. (h.0, ascend_with w.ends (length w.core.kept) h.1) }
-later_step w s = record { context_is = refl; in_order = λ h. h }
+later_step w EndSheet = record {
+  context_is = refl;
+  in_order = λ h. (h.0, ascend_with w.ends (length w.core.kept) h.1);
+  grows = omega arith;
+}
+later_step w s = record { context_is = refl; in_order = λ h. h; grows = omega arith }
 
 later_run : (ss : List FullStep) (w : FullWorld) → LaterIn w (run w ss)
 later_run [] w = later_same w
@@ -144,6 +153,7 @@ later_run (s ∷ ss) w = later_next w (full_step w s) (λ (v : FullWorld). run v
 record IsAfter (w : FullWorld) (b : BodyShape) (v : FullWorld) : Type 0 where
   context_is : v.context ≡ context_after w.context b
   in_order : IsInOrder w → IsInOrder v
+  grows : length w.core.kept ≤ length v.core.kept
 
 abbrev AfterIn : FullWorld → BodyShape → Option FullWorld → Type 0
 AfterIn w b None = ⊤
@@ -152,7 +162,7 @@ AfterIn w b (Some v) = IsAfter w b v
 -- what an item leaves, once it is in the context after it
 in_context : (w : FullWorld) (b : BodyShape) (o : Option FullWorld) → LaterIn (record w { context = context_after w.context b }) o → AfterIn w b o
 in_context w b None h = tt
-in_context w b (Some v) h = record { context_is = h.context_is; in_order = h.in_order }
+in_context w b (Some v) h = record { context_is = h.context_is; in_order = h.in_order; grows = h.grows }
 
 after_item : (w : FullWorld) (b : BodyShape) → AfterIn w b (taken w b)
 after_item w b =
@@ -212,3 +222,15 @@ pub sheets_joined : SheetsJoin
 sheets_joined encoding carousel page plot =
     sheets_in_order (outcome_with encoding carousel page plot)
     (order_by_items (cut_by Full plot) (full_at_start_with encoding carousel page) (omega arith, omega arith))
+
+-- an item that is carried out makes no stroke fewer
+abbrev NoFewerIn : FullWorld → Option FullWorld → Type 0
+NoFewerIn w None = ⊤
+NoFewerIn w (Some v) = length w.core.kept ≤ length v.core.kept
+
+no_fewer_in : (w : FullWorld) (b : BodyShape) (o : Option FullWorld) → AfterIn w b o → NoFewerIn w o
+no_fewer_in w b None h = tt
+no_fewer_in w b (Some v) h = h.grows
+
+pub no_fewer : (w v : FullWorld) (b : BodyShape) → taken w b ≡ Some v → length w.core.kept ≤ length v.core.kept
+no_fewer w v b e = subst (NoFewerIn w) e (no_fewer_in w b (taken w b) (after_item w b))

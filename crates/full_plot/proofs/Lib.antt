@@ -14,6 +14,7 @@ pub mod JoinedSheets
 pub mod Filled
 pub mod Aside
 pub mod Later
+pub mod OrderedLabels
 pub mod LabelsOver
 pub mod CoreNotes
 pub mod CoreLabels

@@ -6,6 +6,7 @@ use Rattle.character_sets.specs.Ascii.{reads_ascii}
 use Rattle.character_sets.specs.declared.encoding.Encoding.{Encoding}
 use Rattle.lettering.specs.CoreTexts.{is_core_byte}
 use Rattle.carousel.specs.declared.carousel.Carousel.{Carousel}
+use Rattle.labels.specs.Labels.{AreInOrder}
 use Rattle.plot_page.specs.Segments.{Segment}
 use Rattle.plot_page.specs.declared.page.Page.{Page}
 use Rattle.hpgl_text.specs.Shapes.{ItemShape, BodyShape, Params, Further, Label, Terminator, Kept, Symbol, Known}
@@ -23,6 +24,7 @@ use Rattle.full_plot.specs.Drawings.{strokes_in, ends_in, sheet_count, sheet_str
 use Rattle.full_plot.specs.Worlds.{FullWorld}
 use Rattle.full_notes.specs.Notes.{body_noted, context_after, notes}
 use Rattle.full_plot.specs.Items.{taken}
+use Rattle.full_plot.specs.Labels.{labels_of}
 
 -- what only the profile full reads is not of core, nor is a DI along no axis, or a terminator that is printed; nor is a
 -- label with a small letter, a byte over 127, BS, HT, SO or SI; nor one of more than 2^26 bytes, which only the profile
@@ -123,3 +125,8 @@ pub record AreSheets (strokes : List Segment) (ends : List ℕ) : Type 0 where
 abbrev pub SheetsJoin : Type 0
 SheetsJoin = (encoding : Encoding) (carousel : Carousel) (page : Page) (plot : List ℕ)
     → AreSheets (strokes_in (outcome_with encoding carousel page plot)) (ends_in (outcome_with encoding carousel page plot))
+
+-- each label of a plot begins after the one before it has ended
+abbrev pub LabelsAreInOrder : Type 0
+LabelsAreInOrder = (encoding : Encoding) (carousel : Carousel) (page : Page) (plot : List ℕ)
+    → AreInOrder 0 (labels_of encoding carousel page plot)

@@ -1,6 +1,6 @@
 //! Laws of the profile full, over the definitions only.
 ghost use Rattle.full_plot.specs.Laws.{BadItemsDoNothing, CoreRunsAsInCore, CoreDrawsAsInCore, CoreNotedAsInCore};
-ghost use Rattle.full_plot.specs.Laws.{CoreDrawsAsInCoreWith, InitializeRestarts, NotesAreTold};
+ghost use Rattle.full_plot.specs.Laws.{CoreDrawsAsInCoreWith, InitializeRestarts, LabelsAreInOrder, NotesAreTold};
 ghost use Rattle.full_plot.specs.Laws.{PolygonModeDrawsNothing, SheetsJoin};
 
 /// Items of core leave in the profile full what they leave in core, on one sheet, with the line style
@@ -48,4 +48,9 @@ pub fn notes_are_told()
 /// The strokes of the sheets, in order, are those of the plot, and a later sheet has none.
 pub fn sheets_join()
     ensures { SheetsJoin }
+{}
+
+/// The labels of a plot are in order, and no two of them have the same stroke.
+pub fn labels_are_in_order()
+    ensures { LabelsAreInOrder }
 {}

@@ -43,3 +43,8 @@ line_at start top = record { text = []; start = start; end = start; top = top }
 -- with a letter more, after which the next one would begin there
 abbrev pub with_letter : LineShape → ℕ → Place → LineShape
 with_letter l code_point end = record l { text = l.text ++ code_point ∷ []; end = end }
+
+-- each label begins after the one before it has ended, and the first one after the first `at` strokes
+abbrev pub AreInOrder : ℕ → List LabelShape → Type 0
+AreInOrder at [] = Unit {0}
+AreInOrder at (l ∷ ls) = (at ≤ l.first) × (l.first ≤ l.after) × AreInOrder l.after ls

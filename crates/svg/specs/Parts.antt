@@ -1,6 +1,7 @@
 -- The parts of a sheet: paths, and groups of the strokes of labels. SVG 1.1, 5.2 and 5.4.
-use Rattle.std.specs.Prelude.{ℕ, ◌≤◌, max, List, [], ◌∷◌, ◌++◌, drop, flat_map, if◌then◌else◌, codes}
+use Rattle.std.specs.Prelude.{ℕ, max, List, [], ◌∷◌, ◌++◌, drop, flat_map, if◌then◌else◌, codes}
 use Rattle.labels.specs.Labels.{LabelShape}
+pub use Rattle.labels.specs.Labels.{AreInOrder}
 use Rattle.plot_page.specs.Segments.{Segment}
 use Rattle.plot_page.specs.declared.page.Page.{Page}
 use Rattle.plot_page.specs.declared.pens.PenSet.{PenSet}
@@ -26,11 +27,6 @@ cut_label at l = record l { first = max at l.first; after = max (max at l.first)
 abbrev pub cut_labels : ℕ → List LabelShape → List LabelShape
 cut_labels at [] = []
 cut_labels at (l ∷ ls) = cut_label at l ∷ cut_labels (cut_label at l).after ls
-
--- each label begins after the one before it has ended, and the first one after the first `at` strokes
-abbrev pub AreInOrder : ℕ → List LabelShape → Type 0
-AreInOrder at [] = Unit {0}
-AreInOrder at (l ∷ ls) = (at ≤ l.first) × (l.first ≤ l.after) × AreInOrder l.after ls
 
 -- a label that is shown is a group
 abbrev pub label_parts : Page → PenSet → List Segment → LabelShape → List Part
