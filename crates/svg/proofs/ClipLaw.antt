@@ -1,23 +1,24 @@
 -- What the paths are clipped to are clip paths of the document.
-use Rattle.std.proofs.Common.{◌≡◌, ℕ, zero, suc, ◌<◌, ℤ, ◌<ℤ◌, List, [], ◌∷◌, ◌++◌, length, get_or, Option, Some, None, refl, ap, sym, subst, arith}
+use Rattle.std.proofs.Common.{◌≡◌, ℕ, zero, suc, ◌<◌, ℤ, ◌<ℤ◌, List, [], ◌∷◌, length, get_or, Option, Some, None, refl, ap, sym, subst, arith}
 use Rattle.std.proofs.lemmas.Bool.{false≢true}
 use Rattle.std.proofs.lemmas.Cmp.{int_ranked}
-use Rattle.std.proofs.lemmas.List.Elements.{All-nil, All-cons}
 use Rattle.std.specs.BTreeSet.{insert_key}
 use Rattle.std.specs.List.{All, Contains}
 use Rattle.std.specs.Ordering.{MatchOrdering, int_cmp, is_eq, match_ordering, ordering_then}
 use Rattle.std.specs.declared.cmp.Ordering.{Ordering}
 use Rattle.std.specs.declared.cmp.Ordering.TheVariants.{Less, Equal, Greater}
+use Rattle.labels.specs.Labels.{LabelShape}
 use Rattle.plot_page.specs.Segments.{Segment}
 use Rattle.plot_page.specs.declared.page.Page.{Page}
 use Rattle.plot_page.specs.declared.pens.PenSet.{PenSet}
-use Rattle.stroke_runs.proofs.RunLaws.{all_of}
 use Rattle.stroke_runs.specs.Drawn.{drawn}
-use Rattle.stroke_runs.specs.Laws.{joined}
-use Rattle.stroke_runs.specs.Runs.{runs_of}
 use Rattle.svg.specs.declared.places.Rectangle.{Rectangle}
 use Rattle.svg.specs.Clips.{IsAmong, clips_of, rectangle_cmp, with_clip, with_clips}
-use Rattle.svg.specs.Paths.{Path, clip_of, path_of, paths, paths_of}
+use Rattle.svg.specs.Parts.{parts}
+use Rattle.svg.specs.Paths.{Path, clip_of}
+use Rattle.svg.specs.Readings.{parts_of_sheets, paths_in}
+use Rattle.svg.specs.Sheets.{labelled_sheets}
+use Rattle.svg.proofs.EachPath.{Each, EachDrawn, FromRun, each_drawn, each_of_parts, each_of_sheets}
 
 equal_int : (a b : ℤ) → int_cmp a b ≡ Equal → a ≡ b
 equal_int a b h =
@@ -92,28 +93,31 @@ clip_added rs None = tt
 clip_added rs (Some r) = added rs r
 
 -- what each of these strokes is clipped to is there
-abbrev EachAmong : Page → List Rectangle → List Segment → Type 0
-EachAmong page rs [] = Unit {0}
-EachAmong page rs (s ∷ ss) = IsAmong rs (clip_of page s.window) × EachAmong page rs ss
-
-each_among : (page : Page) (rs : List Rectangle) (ss : List Segment) → EachAmong page (with_clips page rs ss) ss
+each_among : (page : Page) (rs : List Rectangle) (ss : List Segment) → Each (λ s. IsAmong (with_clips page rs ss) (clip_of page s.window)) ss
 each_among page rs [] = tt
 each_among page rs (s ∷ ss) =
     let o = clip_of page s.window in
     (among_more (with_clip rs o) (with_clips page (with_clip rs o) ss) o (clips_kept page (with_clip rs o) ss) (clip_added rs o), each_among page (with_clip rs o) ss)
 
-after_run : (page : Page) (rs : List Rectangle) (ss ts : List Segment) → EachAmong page rs (ss ++ ts) → EachAmong page rs ts
-after_run page rs [] ts h = h
-after_run page rs (s ∷ ss) ts h = after_run page rs ss ts h.1
+-- a path is clipped to the window of its strokes
+abbrev HasClip : Page → List Rectangle → Segment → Type 0
+HasClip page rs s = IsAmong rs (clip_of page s.window)
 
-paths_among : (page : Page) (rs : List Rectangle) (runs : List (List Segment)) → EachAmong page rs (joined runs) → All (λ (p : Path). IsAmong rs p.clip) (paths_of page runs)
-paths_among page rs [] h = All-nil (λ (p : Path). IsAmong rs p.clip)
-paths_among page rs ([] ∷ runs) h = paths_among page rs runs h
-paths_among page rs ((s ∷ ss) ∷ runs) h =
-    All-cons (λ (p : Path). IsAmong rs p.clip) (path_of page s ss) (paths_of page runs) h.0 (paths_among page rs runs (after_run page rs ss (joined runs) h.1))
+abbrev IsClipped : List Rectangle → Path → Type 0
+IsClipped rs p = IsAmong rs p.clip
 
-pub all_clipped : (page : Page) (pens : PenSet) (strokes : List Segment) → All (λ (p : Path). IsAmong (clips_of page pens strokes) p.clip) (paths page pens strokes)
-all_clipped page pens strokes =
-    let ss = drawn pens strokes in
-    let P : List Segment → Type 0 = λ ts. EachAmong page (clips_of page pens strokes) ts in
-    paths_among page (clips_of page pens strokes) (runs_of ss) (subst P (sym (all_of ss)) (each_among page [] ss))
+clipped_runs : (page : Page) (rs : List Rectangle) → FromRun page (HasClip page rs) (IsClipped rs)
+clipped_runs page rs s ss h k = h
+
+strokes_clipped : (page : Page) (pens : PenSet) (strokes : List Segment) → EachDrawn pens (HasClip page (clips_of page pens strokes)) strokes
+strokes_clipped page pens strokes = each_drawn pens (HasClip page (clips_of page pens strokes)) strokes (each_among page [] (drawn pens strokes))
+
+pub parts_clipped : (page : Page) (pens : PenSet) (strokes : List Segment) (labels : List LabelShape) → All (λ (p : Path). IsAmong (clips_of page pens strokes) p.clip) (paths_in (parts page pens strokes labels))
+parts_clipped page pens strokes labels =
+    let rs = clips_of page pens strokes in
+    each_of_parts page pens (HasClip page rs) (IsClipped rs) (clipped_runs page rs) strokes (strokes_clipped page pens strokes) labels
+
+pub sheets_clipped : (page : Page) (pens : PenSet) (strokes : List Segment) (ends : List ℕ) (labels : List LabelShape) → All (λ (p : Path). IsAmong (clips_of page pens strokes) p.clip) (paths_in (parts_of_sheets page pens (labelled_sheets strokes ends labels)))
+sheets_clipped page pens strokes ends labels =
+    let rs = clips_of page pens strokes in
+    each_of_sheets page pens (HasClip page rs) (IsClipped rs) (clipped_runs page rs) strokes (strokes_clipped page pens strokes) ends labels

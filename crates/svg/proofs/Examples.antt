@@ -12,7 +12,7 @@ use Rattle.svg.specs.Documents.{foot_text, head_text, page_text, sheets_bytes, s
 use Rattle.svg.specs.Numbers.{colour_digits, millimetres}
 use Rattle.svg.specs.Paths.{clipped_text, path_of, path_text, paths, pen_text, run_commands}
 use Rattle.svg.specs.Places.{rectangle_of}
-use Rattle.svg.specs.Readings.{lines_from, read_paths}
+use Rattle.svg.specs.Readings.{lines_from, read_paths, size_of}
 use Rattle.svg.specs.declared.places.Place.{Place}
 
 -- 64 by 66 plotter units
@@ -157,7 +157,7 @@ lines_of_commands : lines_from (at (pos 0) (pos 0)) (MoveTo (at (pos 5) (pos 6))
 lines_of_commands = refl
 
 -- the strokes are read as they were, but for a width below 24
-strokes_read : read_paths page (paths page all_pens (across ∷ clipped ∷ [])) ≡ across ∷ record clipped { width = 24 } ∷ []
+strokes_read : read_paths (size_of page) (paths page all_pens (across ∷ clipped ∷ [])) ≡ across ∷ record clipped { width = 24 } ∷ []
 unfolding digits
 strokes_read = refl
 

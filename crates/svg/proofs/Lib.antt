@@ -1,8 +1,17 @@
+pub mod BytesLaw
 pub mod ClipLaw
+pub mod ClipReads
 pub mod Counts
+pub mod DocumentReads
+pub mod EachPath
 pub mod PartLaws
+pub mod PartReads
 pub mod Passing
+pub mod PathReads
 pub mod ReadLaw
+pub mod Scans
 pub mod Texts
+pub mod TitleTexts
 mod Examples
 mod LabelExamples
+mod ReaderExamples

@@ -14,7 +14,7 @@ use Rattle.stroke_runs.specs.Shown.{is_shown, widened}
 use Rattle.svg.specs.Documents.{foot_text, start_text, svg_bytes}
 use Rattle.svg.specs.Parts.{AreInOrder, Part, Group, cut_label, cut_labels, label_parts, parts, parts_after}
 use Rattle.svg.specs.Paths.{Path, paths, paths_text}
-use Rattle.svg.specs.Readings.{part_paths, read_parts, read_paths, read_sheets, strokes_of, titles}
+use Rattle.svg.specs.Readings.{part_paths, read_parts, read_paths, read_sheets, size_of, strokes_of, titles}
 use Rattle.svg.specs.Sheets.{Sheet, labelled_after, labelled_sheets, sheet_between}
 use Rattle.svg.specs.Titles.{label_text}
 use Rattle.svg.proofs.ReadLaw.{all_read, drawn_append, sheets_read}
@@ -47,21 +47,21 @@ seen pens ss = map widened (drawn pens ss)
 seen_append : (pens : PenSet) (ss ts : List Segment) → seen pens ss ++ seen pens ts ≡ seen pens (ss ++ ts)
 seen_append pens ss ts = sym (map-append widened (drawn pens ss) (drawn pens ts)) ∙ ap (λ (zs : List Segment). map widened zs) (drawn_append pens ss ts)
 
-read_append : (page : Page) (ps qs : List Path) → read_paths page (ps ++ qs) ≡ read_paths page ps ++ read_paths page qs
-read_append page ps qs = flat_map-append (strokes_of page) ps qs
+read_append : (page : Page) (ps qs : List Path) → read_paths (size_of page) (ps ++ qs) ≡ read_paths (size_of page) ps ++ read_paths (size_of page) qs
+read_append page ps qs = flat_map-append (strokes_of (size_of page)) ps qs
 
-parts_append : (page : Page) (ps qs : List Part) → read_parts page (ps ++ qs) ≡ read_parts page ps ++ read_parts page qs
+parts_append : (page : Page) (ps qs : List Part) → read_parts (size_of page) (ps ++ qs) ≡ read_parts (size_of page) ps ++ read_parts (size_of page) qs
 parts_append page ps qs =
-    ap (λ (z : List Path). read_paths page z) (flat_map-append part_paths ps qs) ∙ read_append page (flat_map part_paths ps) (flat_map part_paths qs)
+    ap (λ (z : List Path). read_paths (size_of page) z) (flat_map-append part_paths ps qs) ∙ read_append page (flat_map part_paths ps) (flat_map part_paths qs)
 
-last_read : (page : Page) (pens : PenSet) (ss : List Segment) → read_paths page (paths page pens ss ++ []) ≡ seen pens ss
-last_read page pens ss = ap (λ (z : List Path). read_paths page z) (append-nil (paths page pens ss)) ∙ all_read page pens ss
+last_read : (page : Page) (pens : PenSet) (ss : List Segment) → read_paths (size_of page) (paths page pens ss ++ []) ≡ seen pens ss
+last_read page pens ss = ap (λ (z : List Path). read_paths (size_of page) z) (append-nil (paths page pens ss)) ∙ all_read page pens ss
 
-label_read : (b : Bool) (page : Page) (pens : PenSet) (ss : List Segment) (text : List ℕ) → list_any (is_drawn pens) ss ≡ b → read_parts page (cond b (Group text (paths page pens ss) ∷ []) []) ≡ seen pens ss
+label_read : (b : Bool) (page : Page) (pens : PenSet) (ss : List Segment) (text : List ℕ) → list_any (is_drawn pens) ss ≡ b → read_parts (size_of page) (cond b (Group text (paths page pens ss) ∷ []) []) ≡ seen pens ss
 label_read true page pens ss text e = last_read page pens ss
 label_read false page pens ss text e = sym (ap (λ (z : List Segment). map widened z) (none_drawn pens ss e))
 
-after_read : (page : Page) (pens : PenSet) (strokes : List Segment) (at : ℕ) (labels : List LabelShape) → read_parts page (parts_after page pens strokes at (cut_labels at labels)) ≡ seen pens (drop at strokes)
+after_read : (page : Page) (pens : PenSet) (strokes : List Segment) (at : ℕ) (labels : List LabelShape) → read_parts (size_of page) (parts_after page pens strokes at (cut_labels at labels)) ≡ seen pens (drop at strokes)
 after_read page pens strokes at [] = last_read page pens (drop at strokes)
 after_read page pens strokes at (l ∷ ls) =
     let c = cut_label at l in
@@ -73,10 +73,10 @@ after_read page pens strokes at (l ∷ ls) =
     let low : at ≤ c.first = omega arith in
     let high : c.first ≤ c.after = omega arith in
     read_append page (paths page pens front) (flat_map part_paths (group ++ rest))
-    ∙ ap (λ (z : List Segment). z ++ read_parts page (group ++ rest)) (all_read page pens front)
+    ∙ ap (λ (z : List Segment). z ++ read_parts (size_of page) (group ++ rest)) (all_read page pens front)
     ∙ ap (λ (z : List Segment). seen pens front ++ z) (
     parts_append page group rest
-    ∙ ap (λ (z : List Segment). z ++ read_parts page rest) (label_read (list_any (is_drawn pens) own) page pens own (label_text c) refl)
+    ∙ ap (λ (z : List Segment). z ++ read_parts (size_of page) rest) (label_read (list_any (is_drawn pens) own) page pens own (label_text c) refl)
     ∙ ap (λ (z : List Segment). seen pens own ++ z) (after_read page pens strokes c.after ls)
     ∙ seen_append pens own others
     ∙ ap (λ (z : List Segment). seen pens z) (cut_at strokes c.first c.after high)
@@ -84,15 +84,15 @@ after_read page pens strokes at (l ∷ ls) =
     ∙ seen_append pens front (drop c.first strokes)
     ∙ ap (λ (z : List Segment). seen pens z) (cut_at strokes at c.first low)
 
-pub parts_read : (page : Page) (pens : PenSet) (strokes : List Segment) (labels : List LabelShape) → read_parts page (parts page pens strokes labels) ≡ map widened (drawn pens strokes)
+pub parts_read : (page : Page) (pens : PenSet) (strokes : List Segment) (labels : List LabelShape) → read_parts (size_of page) (parts page pens strokes labels) ≡ map widened (drawn pens strokes)
 parts_read page pens strokes labels = after_read page pens strokes 0 labels
 
-sheet_read : (page : Page) (pens : PenSet) (s : Sheet) → read_parts page (parts page pens s.strokes s.labels) ≡ read_paths page (paths page pens s.strokes)
+sheet_read : (page : Page) (pens : PenSet) (s : Sheet) → read_parts (size_of page) (parts page pens s.strokes s.labels) ≡ read_paths (size_of page) (paths page pens s.strokes)
 sheet_read page pens s = parts_read page pens s.strokes s.labels ∙ sym (all_read page pens s.strokes)
 
 -- what a sheet shows without its labels
 abbrev plain : Page → PenSet → List Segment → List Segment
-plain page pens sheet = read_paths page (paths page pens sheet)
+plain page pens sheet = read_paths (size_of page) (paths page pens sheet)
 
 sheet_step : (b : Bool) (page : Page) (pens : PenSet) (s : Sheet) (xs ys : List Sheet) (xss yss : List (List Segment)) → read_sheets page pens xs ≡ flat_map (plain page pens) xss → read_sheets page pens ys ≡ flat_map (plain page pens) yss
     → read_sheets page pens (cond b xs (s ∷ ys)) ≡ flat_map (plain page pens) (cond b xss (s.strokes ∷ yss))

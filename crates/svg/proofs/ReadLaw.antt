@@ -20,7 +20,7 @@ use Rattle.svg.specs.Commands.{Command, MoveTo, LineTo, MoveBy, LineBy, line, mo
 use Rattle.svg.specs.Paths.{Path, line_of, path_of, paths, paths_of, rest_commands}
 use Rattle.stroke_runs.specs.Shown.{is_whole_page, whole_page, widened}
 use Rattle.svg.specs.Places.{end_of, moved, offset, place_of, rectangle_of, start_of}
-use Rattle.svg.specs.Readings.{lines_from, read_paths, seen_in, stroke_of, strokes_of, window_of}
+use Rattle.svg.specs.Readings.{lines_from, read_paths, seen_in, size_of, stroke_of, strokes_of, window_of}
 
 there : (a b : ℤ) → a +ℤ (b -ℤ a) ≡ b
 there a b = omega (arith, ints)
@@ -77,7 +77,7 @@ rest_read page last (s ∷ ss) =
 
 -- a path shows this stroke as it is drawn
 abbrev Draws : Page → Path → Segment → Type 0
-Draws page p s = (p.pen ≡ s.pen) × (p.colour ≡ s.colour) × (p.width ≡ max 24 s.width) × (seen_in page p.clip ≡ s.window)
+Draws page p s = (p.pen ≡ s.pen) × (p.colour ≡ s.colour) × (p.width ≡ max 24 s.width) × (seen_in (size_of page) p.clip ≡ s.window)
 
 same_window : (v w : Window) → is_same_window v w ≡ true → v ≡ w
 same_window v w h =
@@ -90,12 +90,12 @@ same_window v w h =
     let y1 = same_int v.y1 w.y1 a.1 in
     λ i. record { x0 = x0 i; y0 = y0 i; x1 = x1 i; y1 = y1 i }
 
-read_window : (page : Page) (w : Window) → window_of page (rectangle_of page w) ≡ w
+read_window : (page : Page) (w : Window) → window_of (size_of page) (rectangle_of page w) ≡ w
 read_window page w =
     let h = pos (16 * page.height) in
     λ i. record { x0 = w.x0; y0 = lower h w.y0 w.y1 i; x1 = there w.x0 w.x1 i; y1 = back h w.y1 i }
 
-either_window : (t : Bool) (page : Page) (w : Window) → is_whole_page page w ≡ t → seen_in page (cond t None (Some (rectangle_of page w))) ≡ w
+either_window : (t : Bool) (page : Page) (w : Window) → is_whole_page page w ≡ t → seen_in (size_of page) (cond t None (Some (rectangle_of page w))) ≡ w
 either_window true page w h = sym (same_window w (whole_page page) h)
 either_window false page w h = read_window page w
 
@@ -118,32 +118,32 @@ goes_right page p last s h d =
       d.3 ∙ same_window last.window s.window a.1,
     )
 
-stroke_read : (page : Page) (p : Path) (s : Segment) → Draws page p s → stroke_of page p (ends page s) ≡ widened s
+stroke_read : (page : Page) (p : Path) (s : Segment) → Draws page p s → stroke_of (size_of page) p (ends page s) ≡ widened s
 stroke_read page p s d =
     let h = pos (16 * page.height) in
     λ i. record { pen = d.0 i; colour = d.1 i; width = d.2 i; window = d.3 i; ax = s.ax; ay = back h s.ay i; bx = s.bx; by = back h s.by i }
 
-strokes_read : (page : Page) (p : Path) (last : Segment) (ss : List Segment) → Draws page p last → AreAlike last ss → map (stroke_of page p) (map (ends page) ss) ≡ map widened ss
+strokes_read : (page : Page) (p : Path) (last : Segment) (ss : List Segment) → Draws page p last → AreAlike last ss → map (stroke_of (size_of page) p) (map (ends page) ss) ≡ map widened ss
 strokes_read page p last [] d h = refl
 strokes_read page p last (s ∷ ss) d h =
     let e = goes_right page p last s h.0 d in
     (λ i. stroke_read page p s e i ∷ strokes_read page p s ss e h.1 i)
 
-path_read : (page : Page) (s : Segment) (ss : List Segment) → AreAlike s ss → strokes_of page (path_of page s ss) ≡ map widened (s ∷ ss)
+path_read : (page : Page) (s : Segment) (ss : List Segment) → AreAlike s ss → strokes_of (size_of page) (path_of page s ss) ≡ map widened (s ∷ ss)
 path_read page s ss h =
     let p = path_of page s ss in
     let lines : lines_from (start_of page s) (line_of page s ∷ rest_commands page s ss) ≡ map (ends page) (s ∷ ss) =
     line_read (start_of page s) (end_of page s) (rest_commands page s ss) ∙ ap (λ (ls : List (Place × Place)). ends page s ∷ ls) (rest_read page s ss) in
     let d = begins_right page s ss in
-    ap (λ (ls : List (Place × Place)). map (stroke_of page p) ls) lines ∙ (λ i. stroke_read page p s d i ∷ strokes_read page p s ss d h i)
+    ap (λ (ls : List (Place × Place)). map (stroke_of (size_of page) p) ls) lines ∙ (λ i. stroke_read page p s d i ∷ strokes_read page p s ss d h i)
 
-runs_read : (page : Page) (rs : List (List Segment)) → AreRuns rs → read_paths page (paths_of page rs) ≡ map widened (joined rs)
+runs_read : (page : Page) (rs : List (List Segment)) → AreRuns rs → read_paths (size_of page) (paths_of page rs) ≡ map widened (joined rs)
 runs_read page [] h = refl
 runs_read page ([] ∷ rs) h = absurd h.0
 runs_read page ((s ∷ ss) ∷ rs) h =
     (λ i. path_read page s ss h.0.1 i ++ runs_read page rs h.1 i) ∙ sym (map-append widened (s ∷ ss) (joined rs))
 
-pub all_read : (page : Page) (pens : PenSet) (strokes : List Segment) → read_paths page (paths page pens strokes) ≡ map widened (drawn pens strokes)
+pub all_read : (page : Page) (pens : PenSet) (strokes : List Segment) → read_paths (size_of page) (paths page pens strokes) ≡ map widened (drawn pens strokes)
 all_read page pens strokes = runs_read page (runs_of (drawn pens strokes)) (alike_of (drawn pens strokes)) ∙ ap (λ (ss : List Segment). map widened ss) (all_of (drawn pens strokes))
 
 drawn_both : (b : Bool) (s : Segment) (us vs ws : List Segment) → us ++ vs ≡ ws → cond b (s ∷ us) us ++ vs ≡ cond b (s ∷ ws) ws
@@ -155,10 +155,10 @@ pub drawn_append : (pens : PenSet) (ss ts : List Segment) → drawn pens ss ++ d
 drawn_append pens [] ts = refl
 drawn_append pens (s ∷ ss) ts = drawn_both (is_drawn pens s) s (drawn pens ss) (drawn pens ts) (drawn pens (ss ++ ts)) (drawn_append pens ss ts)
 
-each_read : (page : Page) (pens : PenSet) (sheets : List (List Segment)) → flat_map (λ (sheet : List Segment). read_paths page (paths page pens sheet)) sheets ≡ map widened (drawn pens (joined sheets))
+each_read : (page : Page) (pens : PenSet) (sheets : List (List Segment)) → flat_map (λ (sheet : List Segment). read_paths (size_of page) (paths page pens sheet)) sheets ≡ map widened (drawn pens (joined sheets))
 each_read page pens [] = refl
 each_read page pens (sheet ∷ sheets) =
     (λ i. all_read page pens sheet i ++ each_read page pens sheets i) ∙ sym (map-append widened (drawn pens sheet) (drawn pens (joined sheets))) ∙ ap (λ (zs : List Segment). map widened zs) (drawn_append pens sheet (joined sheets))
 
-pub sheets_read : (page : Page) (pens : PenSet) (strokes : List Segment) (ends : List ℕ) → flat_map (λ (sheet : List Segment). read_paths page (paths page pens sheet)) (sheets_of strokes ends) ≡ map widened (drawn pens strokes)
+pub sheets_read : (page : Page) (pens : PenSet) (strokes : List Segment) (ends : List ℕ) → flat_map (λ (sheet : List Segment). read_paths (size_of page) (paths page pens sheet)) (sheets_of strokes ends) ≡ map widened (drawn pens strokes)
 sheets_read page pens strokes ends = each_read page pens (sheets_of strokes ends) ∙ ap (λ (ss : List Segment). map widened (drawn pens ss)) (all_sheets strokes ends)

@@ -9,5 +9,7 @@ pub mod Places
 pub mod Clips
 pub mod Numbers
 pub mod Readings
+pub mod Reader
 -- What contracts of private functions need.
 pub mod Steps
+pub mod Ranges

@@ -1,16 +1,15 @@
 -- What the paths of a document show, by the rules of SVG 1.1, 8.3.
-use Rattle.std.specs.Prelude.{ℕ, pos, ◌+ℤ◌, List, [], ◌∷◌, flat_map, map, Option, Some, None}
+use Rattle.std.specs.Prelude.{ℕ, ℤ, pos, ◌*◌, ◌+ℤ◌, ◌-ℤ◌, List, [], ◌∷◌, flat_map, map, Option, Some, None}
 use Rattle.plot_page.specs.Segments.{Segment}
 use Rattle.plot_page.specs.declared.page.Page.{Page}
 use Rattle.plot_page.specs.declared.pens.PenSet.{PenSet}
 use Rattle.plot_page.specs.declared.window.Window.{Window}
-use Rattle.stroke_runs.specs.Shown.{whole_page}
 use Rattle.svg.specs.declared.places.Place.{Place}
 use Rattle.svg.specs.declared.places.Rectangle.{Rectangle}
 use Rattle.svg.specs.Commands.{Command, MoveTo, LineTo, MoveBy, LineBy}
 use Rattle.svg.specs.Parts.{Part, Plain, Group, parts}
 use Rattle.svg.specs.Paths.{Path}
-use Rattle.svg.specs.Places.{moved, turned}
+use Rattle.svg.specs.Places.{moved}
 use Rattle.svg.specs.Sheets.{Sheet}
 
 -- the lines that commands draw, each from a place to a place, from where the commands begin
@@ -21,35 +20,47 @@ lines_from at (MoveBy p ∷ cs) = lines_from (moved at p) cs
 lines_from at (LineTo p ∷ cs) = (at, p) ∷ lines_from p cs
 lines_from at (LineBy p ∷ cs) = (at, moved at p) ∷ lines_from (moved at p) cs
 
--- the window of the page that a rectangle is
-abbrev pub window_of : Page → Rectangle → Window
-window_of page r =
-    record { x0 = r.x; y0 = turned page (r.y +ℤ r.height); x1 = r.x +ℤ r.width; y1 = turned page r.y }
+-- the size of a drawing in grains
+pub record Size : Type 0 where
+  pub width : ℕ
+  pub height : ℕ
 
--- the window of a path: the whole page, if it is not clipped
-abbrev pub seen_in : Page → Option Rectangle → Window
-seen_in page None = whole_page page
-seen_in page (Some r) = window_of page r
+abbrev pub size_of : Page → Size
+size_of page = record { width = 16 * page.width; height = 16 * page.height }
 
--- a line of a path as a stroke on the page
-abbrev pub stroke_of : Page → Path → Place × Place → Segment
-stroke_of page p l = record {
+-- a y of a document, which grows downward, from the lower edge upward
+abbrev pub upward : Size → ℤ → ℤ
+upward size y = pos size.height -ℤ y
+
+-- the window that a rectangle is
+abbrev pub window_of : Size → Rectangle → Window
+window_of size r =
+    record { x0 = r.x; y0 = upward size (r.y +ℤ r.height); x1 = r.x +ℤ r.width; y1 = upward size r.y }
+
+-- the window of a path: the whole drawing, if it is not clipped
+abbrev pub seen_in : Size → Option Rectangle → Window
+seen_in size None = record { x0 = pos 0; y0 = pos 0; x1 = pos size.width; y1 = pos size.height }
+seen_in size (Some r) = window_of size r
+
+-- a line of a path as a stroke
+abbrev pub stroke_of : Size → Path → Place × Place → Segment
+stroke_of size p l = record {
   pen = p.pen;
   colour = p.colour;
   width = p.width;
-  window = seen_in page p.clip;
+  window = seen_in size p.clip;
   ax = l.0.x;
-  ay = turned page l.0.y;
+  ay = upward size l.0.y;
   bx = l.1.x;
-  by = turned page l.1.y;
+  by = upward size l.1.y;
 }
 
--- the strokes of a path; its first command goes to a place from the corner of the page
-abbrev pub strokes_of : Page → Path → List Segment
-strokes_of page p = map (stroke_of page p) (lines_from (record { x = pos 0; y = pos 0 }) p.commands)
+-- the strokes of a path; its first command goes to a place from the corner of the drawing
+abbrev pub strokes_of : Size → Path → List Segment
+strokes_of size p = map (stroke_of size p) (lines_from (record { x = pos 0; y = pos 0 }) p.commands)
 
-abbrev pub read_paths : Page → List Path → List Segment
-read_paths page paths = flat_map (strokes_of page) paths
+abbrev pub read_paths : Size → List Path → List Segment
+read_paths size paths = flat_map (strokes_of size) paths
 
 -- the paths of a part, and its titles
 abbrev pub part_paths : Part → List Path
@@ -60,13 +71,21 @@ abbrev pub part_titles : Part → List (List ℕ)
 part_titles (Plain paths) = []
 part_titles (Group text paths) = text ∷ []
 
+-- the paths of parts
+abbrev pub paths_in : List Part → List Path
+paths_in parts = flat_map part_paths parts
+
 -- the strokes of parts, and their titles
-abbrev pub read_parts : Page → List Part → List Segment
-read_parts page parts = read_paths page (flat_map part_paths parts)
+abbrev pub read_parts : Size → List Part → List Segment
+read_parts size parts = read_paths size (paths_in parts)
 
 abbrev pub titles : List Part → List (List ℕ)
 titles parts = flat_map part_titles parts
 
+-- the parts of sheets, one sheet after another
+abbrev pub parts_of_sheets : Page → PenSet → List Sheet → List Part
+parts_of_sheets page pens sheets = flat_map (λ sheet. parts page pens sheet.strokes sheet.labels) sheets
+
 -- the strokes of sheets
 abbrev pub read_sheets : Page → PenSet → List Sheet → List Segment
-read_sheets page pens sheets = flat_map (λ sheet. read_parts page (parts page pens sheet.strokes sheet.labels)) sheets
+read_sheets page pens sheets = flat_map (λ sheet. read_parts (size_of page) (parts page pens sheet.strokes sheet.labels)) sheets

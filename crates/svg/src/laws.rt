@@ -1,13 +1,15 @@
 //! Laws of documents.
-ghost use Rattle.std.specs.Prelude.{◌≡◌, [], ◌++◌, filter, map};
+ghost use Rattle.std.specs.Prelude.{◌≡◌, Some, [], ◌++◌, filter, map};
 ghost use Rattle.std.specs.List.{All};
 ghost use Rattle.stroke_runs.specs.Drawn.{drawn};
 ghost use Rattle.stroke_runs.specs.Shown.{is_shown, widened};
 ghost use Rattle.svg.specs.Clips.{IsAmong, clips_of};
-ghost use Rattle.svg.specs.Documents.{foot_text, start_text, svg_bytes};
+ghost use Rattle.svg.specs.Documents.{foot_text, sheets_bytes, start_text, svg_bytes};
 ghost use Rattle.svg.specs.Parts.{AreInOrder, cut_labels, parts};
-ghost use Rattle.svg.specs.Paths.{paths, paths_text};
-ghost use Rattle.svg.specs.Readings.{read_parts, read_sheets, titles};
+ghost use Rattle.svg.specs.Paths.{paths_text};
+ghost use Rattle.svg.specs.Readings.{parts_of_sheets, paths_in, read_parts, read_sheets, size_of, titles};
+ghost use Rattle.svg.specs.Reader.{read_svg};
+ghost use Rattle.svg.specs.Ranges.{IsInRange};
 ghost use Rattle.svg.specs.Sheets.{labelled_sheets};
 ghost use Rattle.svg.specs.Titles.{label_text};
 
@@ -17,7 +19,7 @@ use plot_page::{Page, PenSet, Stroke};
 /// The paths of strokes, in their groups and outside of them, show those that are drawn, in their order, each once: with its
 /// pen, its colour, its window, and its width, which is at least 24 grains. It does not matter what the labels say.
 pub fn paths_show_strokes(page: &Page, pens: &PenSet, strokes: &[Stroke], labels: &[Label])
-    ensures { read_parts page.now (parts page.now pens.now strokes.now labels.now)
+    ensures { read_parts (size_of page.now) (parts page.now pens.now strokes.now labels.now)
         ≡ map widened (drawn pens.now strokes.now) }
 {}
 
@@ -52,7 +54,61 @@ pub fn paths_without_labels(page: &Page, pens: &PenSet, strokes: &[Stroke])
         ≡ start_text page.now pens.now strokes.now ++ paths_text page.now pens.now strokes.now ++ foot_text }
 {}
 
-/// What a path is clipped to is a clip path of the document.
-pub fn clips_are_there(page: &Page, pens: &PenSet, strokes: &[Stroke])
-    ensures { All (λ p. IsAmong (clips_of page.now pens.now strokes.now) p.clip) (paths page.now pens.now strokes.now) }
+/// The bytes of a document, read back, have the strokes that are drawn, in order, each once: with its pen, its colour, its
+/// window, and its width, which is at least 24 grains.
+pub fn svg_reads_back(page: &Page, pens: &PenSet, strokes: &[Stroke], labels: &[Label])
+    ensures { read_svg (svg_bytes page.now pens.now strokes.now labels.now)
+        ≡ Some (map widened (drawn pens.now strokes.now)) }
+{
+    read_strokes(strokes);
+}
+
+/// So have the bytes of a document of sheets.
+pub fn sheets_read_back(
+    page: &Page,
+    pens: &PenSet,
+    strokes: &[Stroke],
+    ends: &[usize],
+    labels: &[Label],
+)
+    ensures { read_svg (sheets_bytes page.now pens.now strokes.now ends.now labels.now)
+        ≡ Some (map widened (drawn pens.now strokes.now)) }
+{
+    read_strokes(strokes);
+}
+
+/// What a path is clipped to, also one of a label, is a clip path of the document.
+pub fn clips_are_there(page: &Page, pens: &PenSet, strokes: &[Stroke], labels: &[Label])
+    ensures { All (λ p. IsAmong (clips_of page.now pens.now strokes.now) p.clip)
+        (paths_in (parts page.now pens.now strokes.now labels.now)) }
 {}
+
+/// The same in a document of sheets, which has one list of clip paths.
+pub fn sheet_clips_are_there(
+    page: &Page,
+    pens: &PenSet,
+    strokes: &[Stroke],
+    ends: &[usize],
+    labels: &[Label],
+)
+    ensures { All (λ p. IsAmong (clips_of page.now pens.now strokes.now) p.clip)
+        (paths_in (parts_of_sheets page.now pens.now (labelled_sheets strokes.now ends.now labels.now))) }
+{}
+
+// The numbers of strokes are what the numbers of a stroke may be.
+fn read_strokes(strokes: &[Stroke])
+    ensures { All IsInRange strokes.now }
+{
+    for stroke in strokes {
+        read_stroke(stroke);
+    }
+}
+
+fn read_stroke(stroke: &Stroke)
+    ensures { IsInRange stroke.now }
+{
+    let _pen = stroke.pen;
+    let _red = stroke.colour.red;
+    let _green = stroke.colour.green;
+    let _blue = stroke.colour.blue;
+}

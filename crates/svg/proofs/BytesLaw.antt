@@ -1,0 +1,183 @@
+-- The bytes of a document, read back, are the strokes that are drawn.
+use Rattle.std.proofs.Common.{◌≡◌, ◌∙◌, ℕ, ◌+◌, ◌*◌, ◌≤◌, ℤ, pos, ◌-ℤ◌, nat_abs, Bool, true, false, cond, List, [], ◌∷◌, ◌++◌, map, Some, None, refl, ap, subst, arith, append_assoc, append-nil}
+use Rattle.std.proofs.lemmas.Int.{ints}
+use Rattle.std.proofs.lemmas.List.Concat.{flat_map-append}
+use Rattle.std.proofs.lemmas.List.Elements.{All-head, All-tail}
+use Rattle.std.specs.BTreeSet.{insert_key}
+use Rattle.std.specs.List.{All}
+use Rattle.std.specs.Ordering.{match_ordering}
+use Rattle.std.specs.declared.cmp.Ordering.{Ordering}
+use Rattle.std.specs.declared.cmp.Ordering.TheVariants.{Less, Equal, Greater}
+use Rattle.labels.specs.Labels.{LabelShape}
+use Rattle.plot_page.specs.Segments.{Segment}
+use Rattle.plot_page.specs.declared.page.Page.{Page}
+use Rattle.plot_page.specs.declared.pens.PenSet.{PenSet}
+use Rattle.stroke_runs.specs.Drawn.{drawn, is_drawn, is_joined}
+use Rattle.stroke_runs.specs.Shown.{is_whole_page, widened}
+use Rattle.svg.specs.declared.places.Place.{Place}
+use Rattle.svg.specs.declared.places.Rectangle.{Rectangle}
+use Rattle.svg.specs.Clips.{IsAmong, clips_of, rectangle_cmp, with_clip, with_clips}
+use Rattle.svg.specs.Commands.{Command, LineBy, LineTo, MoveBy, MoveTo, line, move}
+use Rattle.svg.specs.Documents.{foot_text, sheets_bytes, sheets_text, start_text, svg_bytes}
+use Rattle.svg.specs.Parts.{parts, parts_text}
+use Rattle.svg.specs.Paths.{Path, clip_of, line_of, rest_commands}
+use Rattle.svg.specs.Places.{end_of, offset, rectangle_of, start_of, turned}
+use Rattle.svg.specs.Ranges.{IsInRange}
+use Rattle.svg.specs.Reader.{read_svg}
+use Rattle.svg.specs.Readings.{part_paths, parts_of_sheets, paths_in, read_paths, read_sheets, size_of, strokes_of}
+use Rattle.svg.specs.Sheets.{Sheet, labelled_sheets}
+use Rattle.svg.proofs.ClipLaw.{parts_clipped, sheets_clipped}
+use Rattle.svg.proofs.ClipReads.{AreSmallRectangles, IsSmallRectangle}
+use Rattle.svg.proofs.DocumentReads.{AreClipped, document_read}
+use Rattle.svg.proofs.EachPath.{Each, EachDrawn, FromRun, each_of_parts, each_of_sheets}
+use Rattle.svg.proofs.PartLaws.{all_sheets_read, parts_read}
+use Rattle.svg.proofs.PartReads.{AreSmallPaths, Shows, shows_both, shows_foot, shows_parts, shows_sheets}
+use Rattle.svg.proofs.PathReads.{AreSmall, IsSmall, IsSmallCommand, IsSmallPath}
+
+less : (a b : ℤ) (n m : ℕ) → nat_abs a ≤ n → nat_abs b ≤ m → nat_abs (a -ℤ b) ≤ n + m
+less a b n m h k = omega (arith, ints, h, k)
+
+-- a place on a page, or within it by twice its size
+abbrev IsNear : Place → Type 0
+IsNear p = (nat_abs p.x ≤ 2097152) × (nat_abs p.y ≤ 2097152)
+
+turned_near : (page : Page) (y : ℤ) → nat_abs y ≤ 1048576 → nat_abs (turned page y) ≤ 2097152
+turned_near page y h =
+    let high = page.height_in.1 in
+    less (pos (16 * page.height)) y 1048576 1048576 (omega (arith, ints, high)) h
+
+start_near : (page : Page) (s : Segment) → IsInRange s → IsNear (start_of page s)
+start_near page s h = (omega (arith, h.ax), turned_near page s.ay h.ay)
+
+end_near : (page : Page) (s : Segment) → IsInRange s → IsNear (end_of page s)
+end_near page s h = (omega (arith, h.bx), turned_near page s.by h.by)
+
+small_place : (p : Place) → IsNear p → IsSmall p
+small_place p h = record { x = omega (arith, h.0); y = omega (arith, h.1) }
+
+small_offset : (p q : Place) → IsNear p → IsNear q → IsSmall (offset p q)
+small_offset p q h k =
+    let x = less q.x p.x 2097152 2097152 k.0 h.0 in
+    let y = less q.y p.y 2097152 2097152 k.1 h.1 in
+    record { x = omega (arith, x); y = omega (arith, y) }
+
+either_small : (b : Bool) (c d : Command) → IsSmallCommand c → IsSmallCommand d → IsSmallCommand (cond b c d)
+either_small true c d h k = h
+either_small false c d h k = k
+
+small_line : (p q : Place) → IsNear p → IsNear q → IsSmallCommand (line p q)
+small_line p q h k = either_small _ (LineBy (offset p q)) (LineTo q) (small_offset p q h k) (small_place q k)
+
+small_move : (p q : Place) → IsNear p → IsNear q → IsSmallCommand (move p q)
+small_move p q h k = either_small _ (MoveBy (offset p q)) (MoveTo q) (small_offset p q h k) (small_place q k)
+
+stroke_line : (page : Page) (s : Segment) → IsInRange s → IsSmallCommand (line_of page s)
+stroke_line page s h = small_line (start_of page s) (end_of page s) (start_near page s h) (end_near page s h)
+
+next_small : (b : Bool) (a c : Command) (cs : List Command) → IsSmallCommand a → IsSmallCommand c → AreSmall cs → AreSmall (cond b (c ∷ []) (a ∷ c ∷ []) ++ cs)
+next_small true a c cs h k m = (k, m)
+next_small false a c cs h k m = (h, (k, m))
+
+rest_small : (page : Page) (last : Segment) (ss : List Segment) → IsInRange last → Each IsInRange ss → AreSmall (rest_commands page last ss)
+rest_small page last [] h k = tt
+rest_small page last (s ∷ ss) h k =
+    next_small (is_joined last s) (move (end_of page last) (start_of page s)) (line_of page s) (rest_commands page s ss)
+    (small_move (end_of page last) (start_of page s) (end_near page last h) (start_near page s k.0)) (stroke_line page s k.0) (rest_small page s ss k.0 k.1)
+
+small_run : (page : Page) → FromRun page IsInRange IsSmallPath
+small_run page s ss h k = record {
+  pen = omega (arith, h.pen);
+  colour = record { red = h.red; green = h.green; blue = h.blue };
+  width = omega (arith, h.width);
+  commands = (small_place (start_of page s) (start_near page s h), (stroke_line page s h, rest_small page s ss h k));
+}
+
+-- clip paths
+small_rectangle : (page : Page) (s : Segment) → IsInRange s → IsSmallRectangle (rectangle_of page s.window)
+small_rectangle page s h =
+    let y = turned_near page s.window.y1 h.y1 in
+    let width = less s.window.x1 s.window.x0 1048576 1048576 h.x1 h.x0 in
+    let height = less s.window.y1 s.window.y0 1048576 1048576 h.y1 h.y0 in
+    record { x = omega (arith, h.x0); y = omega (arith, y); width = omega (arith, width); height = omega (arith, height) }
+
+insert_step : (o : Ordering) (r x : Rectangle) (rs ts : List Rectangle) → IsSmallRectangle r → AreSmallRectangles (x ∷ rs) → AreSmallRectangles ts → AreSmallRectangles (match_ordering o (r ∷ x ∷ rs) (x ∷ rs) (x ∷ ts))
+insert_step Less r x rs ts h k m = (h, k)
+insert_step Equal r x rs ts h k m = k
+insert_step Greater r x rs ts h k m = (k.0, m)
+
+insert_small : (rs : List Rectangle) (r : Rectangle) → AreSmallRectangles rs → IsSmallRectangle r → AreSmallRectangles (insert_key rectangle_cmp rs r)
+insert_small [] r h k = (k, tt)
+insert_small (x ∷ rs) r h k = insert_step (rectangle_cmp r x) r x rs (insert_key rectangle_cmp rs r) k h (insert_small rs r h.1 k)
+
+clip_step : (b : Bool) (rs : List Rectangle) (r : Rectangle) → AreSmallRectangles rs → IsSmallRectangle r → AreSmallRectangles (with_clip rs (cond b None (Some r)))
+clip_step true rs r h k = h
+clip_step false rs r h k = insert_small rs r h k
+
+clips_small : (page : Page) (pens : PenSet) (rs : List Rectangle) (ss : List Segment) → AreSmallRectangles rs → Each IsInRange ss → AreSmallRectangles (with_clips page rs ss)
+clips_small page pens rs [] h k = h
+clips_small page pens rs (s ∷ ss) h k =
+    clips_small page pens (with_clip rs (clip_of page s.window)) ss (clip_step (is_whole_page page s.window) rs (rectangle_of page s.window) h (small_rectangle page s k.0)) k.1
+
+each_of_all : (P : Segment → Type 0) (ss : List Segment) → All P ss → Each P ss
+each_of_all P [] h = tt
+each_of_all P (s ∷ ss) h = (All-head P s ss h, each_of_all P ss (All-tail P s ss h))
+
+small_of_all : (ps : List Path) → All IsSmallPath ps → AreSmallPaths ps
+small_of_all [] h = tt
+small_of_all (p ∷ ps) h = (All-head IsSmallPath p ps h, small_of_all ps (All-tail IsSmallPath p ps h))
+
+clipped_of_all : (rs : List Rectangle) (ps : List Path) → All (λ (p : Path). IsAmong rs p.clip) ps → AreClipped rs ps
+clipped_of_all rs [] h = tt
+clipped_of_all rs (p ∷ ps) h =
+    let P : Path → Type 0 = λ q. IsAmong rs q.clip in
+    (All-head P p ps h, clipped_of_all rs ps (All-tail P p ps h))
+
+drawn_in_range : (pens : PenSet) (ss : List Segment) → Each IsInRange ss → EachDrawn pens IsInRange ss
+drawn_in_range pens [] h = tt
+drawn_in_range pens (s ∷ ss) h = ((λ e. h.0), drawn_in_range pens ss h.1)
+
+taken_step : (b : Bool) (s : Segment) (ss : List Segment) → IsInRange s → Each IsInRange ss → Each IsInRange (cond b (s ∷ ss) ss)
+taken_step true s ss h k = (h, k)
+taken_step false s ss h k = k
+
+taken : (pens : PenSet) (ss : List Segment) → Each IsInRange ss → Each IsInRange (drawn pens ss)
+taken pens [] h = tt
+taken pens (s ∷ ss) h = taken_step (is_drawn pens s) s (drawn pens ss) h.0 (taken pens ss h.1)
+
+with_foot : (text : List ℕ) (ps : List Path) → Shows text ps → Shows (text ++ foot_text) ps
+with_foot text ps h =
+    let P : List Path → Type 0 = λ qs. Shows (text ++ foot_text) qs in
+    subst P (append-nil ps) (shows_both text foot_text ps [] h shows_foot)
+
+pub bytes_read : (page : Page) (pens : PenSet) (strokes : List Segment) (labels : List LabelShape) → All IsInRange strokes → read_svg (svg_bytes page pens strokes labels) ≡ Some (map widened (drawn pens strokes))
+bytes_read page pens strokes labels h =
+    let in_range = each_of_all IsInRange strokes h in
+    let rs = clips_of page pens strokes in
+    let ps = paths_in (parts page pens strokes labels) in
+    let text = parts_text page pens strokes labels in
+    let small = small_of_all ps (each_of_parts page pens IsInRange IsSmallPath (small_run page) strokes (drawn_in_range pens strokes in_range) labels) in
+    ap (λ (z : List ℕ). read_svg z) (append_assoc (start_text page pens strokes) text foot_text)
+    ∙ document_read page rs (text ++ foot_text) ps (with_foot text ps (shows_parts (parts page pens strokes labels) small)) (clips_small page pens [] (drawn pens strokes) tt (taken pens strokes in_range)) small (clipped_of_all rs ps (parts_clipped page pens strokes labels))
+    ∙ ap (λ (ss : List Segment). Some ss) (parts_read page pens strokes labels)
+
+-- the strokes of sheets are those of their paths
+sheets_paths : (page : Page) (pens : PenSet) (sheets : List Sheet) → read_paths (size_of page) (paths_in (parts_of_sheets page pens sheets)) ≡ read_sheets page pens sheets
+sheets_paths page pens [] = refl
+sheets_paths page pens (sheet ∷ sheets) =
+    let first = parts page pens sheet.strokes sheet.labels in
+    let others = parts_of_sheets page pens sheets in
+    ap (λ (ps : List Path). read_paths (size_of page) ps) (flat_map-append part_paths first others)
+    ∙ flat_map-append (strokes_of (size_of page)) (paths_in first) (paths_in others)
+    ∙ ap (λ (ss : List Segment). read_paths (size_of page) (paths_in first) ++ ss) (sheets_paths page pens sheets)
+
+pub sheet_bytes_read : (page : Page) (pens : PenSet) (strokes : List Segment) (ends : List ℕ) (labels : List LabelShape) → All IsInRange strokes → read_svg (sheets_bytes page pens strokes ends labels) ≡ Some (map widened (drawn pens strokes))
+sheet_bytes_read page pens strokes ends labels h =
+    let in_range = each_of_all IsInRange strokes h in
+    let rs = clips_of page pens strokes in
+    let sheets = labelled_sheets strokes ends labels in
+    let ps = paths_in (parts_of_sheets page pens sheets) in
+    let text = sheets_text page pens 0 sheets in
+    let small = small_of_all ps (each_of_sheets page pens IsInRange IsSmallPath (small_run page) strokes (drawn_in_range pens strokes in_range) ends labels) in
+    ap (λ (z : List ℕ). read_svg z) (append_assoc (start_text page pens strokes) text foot_text)
+    ∙ document_read page rs (text ++ foot_text) ps (with_foot text ps (shows_sheets page pens 0 sheets small)) (clips_small page pens [] (drawn pens strokes) tt (taken pens strokes in_range)) small (clipped_of_all rs ps (sheets_clipped page pens strokes ends labels))
+    ∙ ap (λ (ss : List Segment). Some ss) (sheets_paths page pens sheets ∙ all_sheets_read page pens strokes ends labels)

@@ -1,0 +1,5 @@
+use Rattle.svg.proofs.BytesLaw.{bytes_read}
+use Rattle.svg.proofs.laws.svg_reads_back.Goals as goal
+
+pub returns : goal.returns
+returns c = bytes_read c.args.page.now c.args.pens.now c.args.strokes.now c.args.labels.now c.read_strokes.ensures
