@@ -144,6 +144,9 @@ taken : (pens : PenSet) (ss : List Segment) → Each IsInRange ss → Each IsInR
 taken pens [] h = tt
 taken pens (s ∷ ss) h = taken_step (is_drawn pens s) s (drawn pens ss) h.0 (taken pens ss h.1)
 
+pub all_small : (page : Page) (pens : PenSet) (strokes : List Segment) → All IsInRange strokes → AreSmallRectangles (clips_of page pens strokes)
+all_small page pens strokes h = clips_small page pens [] (drawn pens strokes) tt (taken pens strokes (each_of_all IsInRange strokes h))
+
 with_foot : (text : List ℕ) (ps : List Path) → Shows text ps → Shows (text ++ foot_text) ps
 with_foot text ps h =
     let P : List Path → Type 0 = λ qs. Shows (text ++ foot_text) qs in
@@ -157,7 +160,7 @@ bytes_read page pens strokes labels h =
     let text = parts_text page pens strokes labels in
     let small = small_of_all ps (each_of_parts page pens IsInRange IsSmallPath (small_run page) strokes (drawn_in_range pens strokes in_range) labels) in
     ap (λ (z : List ℕ). read_svg z) (append_assoc (start_text page pens strokes) text foot_text)
-    ∙ document_read page rs (text ++ foot_text) ps (with_foot text ps (shows_parts (parts page pens strokes labels) small)) (clips_small page pens [] (drawn pens strokes) tt (taken pens strokes in_range)) small (clipped_of_all rs ps (parts_clipped page pens strokes labels))
+    ∙ document_read page rs (text ++ foot_text) ps (with_foot text ps (shows_parts (parts page pens strokes labels) small)) (all_small page pens strokes h) small (clipped_of_all rs ps (parts_clipped page pens strokes labels))
     ∙ ap (λ (ss : List Segment). Some ss) (parts_read page pens strokes labels)
 
 -- the strokes of sheets are those of their paths
@@ -179,5 +182,5 @@ sheet_bytes_read page pens strokes ends labels h =
     let text = sheets_text page pens 0 sheets in
     let small = small_of_all ps (each_of_sheets page pens IsInRange IsSmallPath (small_run page) strokes (drawn_in_range pens strokes in_range) ends labels) in
     ap (λ (z : List ℕ). read_svg z) (append_assoc (start_text page pens strokes) text foot_text)
-    ∙ document_read page rs (text ++ foot_text) ps (with_foot text ps (shows_sheets page pens 0 sheets small)) (clips_small page pens [] (drawn pens strokes) tt (taken pens strokes in_range)) small (clipped_of_all rs ps (sheets_clipped page pens strokes ends labels))
+    ∙ document_read page rs (text ++ foot_text) ps (with_foot text ps (shows_sheets page pens 0 sheets small)) (all_small page pens strokes h) small (clipped_of_all rs ps (sheets_clipped page pens strokes ends labels))
     ∙ ap (λ (ss : List Segment). Some ss) (sheets_paths page pens sheets ∙ all_sheets_read page pens strokes ends labels)

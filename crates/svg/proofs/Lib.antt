@@ -1,5 +1,6 @@
 pub mod BytesLaw
 pub mod ClipLaw
+pub mod ClipNames
 pub mod ClipReads
 pub mod Counts
 pub mod DocumentReads
@@ -10,6 +11,7 @@ pub mod Passing
 pub mod PathReads
 pub mod ReadLaw
 pub mod Scans
+pub mod SheetTitles
 pub mod Texts
 pub mod TitleTexts
 mod Examples

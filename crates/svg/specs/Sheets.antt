@@ -1,5 +1,5 @@
 -- The sheets of a document, with their labels.
-use Rattle.std.specs.Prelude.{ℕ, nat_eq, List, [], ◌∷◌, ◌++◌, length, drop, if◌then◌else◌}
+use Rattle.std.specs.Prelude.{ℕ, ◌<◌, ◌≤◌, nat_eq, List, [], ◌∷◌, ◌++◌, length, drop, if◌then◌else◌}
 use Rattle.labels.specs.Labels.{LabelShape}
 use Rattle.labels.specs.Sheets.{all_counted, count_to, labels_to}
 use Rattle.plot_page.specs.Segments.{Segment}
@@ -25,3 +25,7 @@ labelled_after strokes at (end ∷ ends) labels =
 -- all sheets: the end of the plot ends a sheet, too
 abbrev pub labelled_sheets : List Segment → List ℕ → List LabelShape → List Sheet
 labelled_sheets strokes ends labels = labelled_after strokes 0 (ends ++ length strokes ∷ []) labels
+
+-- a label that begins before this stroke ends before it, too
+abbrev pub EndsAfter : ℕ → LabelShape → Type 0
+EndsAfter end l = l.first < end → l.after ≤ end

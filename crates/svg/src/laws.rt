@@ -1,16 +1,16 @@
 //! Laws of documents.
-ghost use Rattle.std.specs.Prelude.{◌≡◌, Some, [], ◌++◌, filter, map};
-ghost use Rattle.std.specs.List.{All};
+ghost use Rattle.std.specs.Prelude.{◌≡◌, ◌≢◌, Some, [], ◌++◌, filter, flat_map, map};
+ghost use Rattle.std.specs.List.{All, AllPairs};
 ghost use Rattle.stroke_runs.specs.Drawn.{drawn};
 ghost use Rattle.stroke_runs.specs.Shown.{is_shown, widened};
 ghost use Rattle.svg.specs.Clips.{IsAmong, clips_of};
 ghost use Rattle.svg.specs.Documents.{foot_text, sheets_bytes, start_text, svg_bytes};
 ghost use Rattle.svg.specs.Parts.{AreInOrder, cut_labels, parts};
-ghost use Rattle.svg.specs.Paths.{paths_text};
+ghost use Rattle.svg.specs.Paths.{clip_name, paths_text};
 ghost use Rattle.svg.specs.Readings.{parts_of_sheets, paths_in, read_parts, read_sheets, size_of, titles};
 ghost use Rattle.svg.specs.Reader.{read_svg};
 ghost use Rattle.svg.specs.Ranges.{IsInRange};
-ghost use Rattle.svg.specs.Sheets.{labelled_sheets};
+ghost use Rattle.svg.specs.Sheets.{EndsAfter, labelled_sheets};
 ghost use Rattle.svg.specs.Titles.{label_text};
 
 use labels::Label;
@@ -40,6 +40,34 @@ pub fn sheets_show_strokes(
 pub fn titles_are_labels(page: &Page, pens: &PenSet, strokes: &[Stroke], labels: &[Label])
     ensures { titles (parts page.now pens.now strokes.now labels.now)
         ≡ map label_text (filter (is_shown pens.now strokes.now) (cut_labels 0 labels.now)) }
+{}
+
+/// The titles of sheets are, one sheet after another, the texts of its labels of which a stroke is drawn on it, in order.
+pub fn sheet_titles_are_labels(
+    page: &Page,
+    pens: &PenSet,
+    strokes: &[Stroke],
+    ends: &[usize],
+    labels: &[Label],
+)
+    ensures { titles (parts_of_sheets page.now pens.now (labelled_sheets strokes.now ends.now labels.now))
+        ≡ flat_map (λ s. map label_text (filter (is_shown pens.now s.strokes) (cut_labels 0 s.labels)))
+        (labelled_sheets strokes.now ends.now labels.now) }
+{}
+
+/// If labels are in order and none goes on after the end of a sheet, the titles of all sheets are the texts of the labels of
+/// which a stroke is drawn, in order, each once.
+pub fn all_titles_are_labels(
+    page: &Page,
+    pens: &PenSet,
+    strokes: &[Stroke],
+    ends: &[usize],
+    labels: &[Label],
+)
+    requires order { AreInOrder 0 labels.now }
+    requires ends { All (λ end. All (EndsAfter end) labels.now) ends.now }
+    ensures { titles (parts_of_sheets page.now pens.now (labelled_sheets strokes.now ends.now labels.now))
+        ≡ map label_text (filter (is_shown pens.now strokes.now) labels.now) }
 {}
 
 /// Labels in order, of which no two have the same stroke, keep all their strokes.
@@ -94,6 +122,13 @@ pub fn sheet_clips_are_there(
     ensures { All (λ p. IsAmong (clips_of page.now pens.now strokes.now) p.clip)
         (paths_in (parts_of_sheets page.now pens.now (labelled_sheets strokes.now ends.now labels.now))) }
 {}
+
+/// No two clip paths of a document have the same name.
+pub fn clips_are_once(page: &Page, pens: &PenSet, strokes: &[Stroke])
+    ensures { AllPairs (λ a b. clip_name a ≢ clip_name b) (clips_of page.now pens.now strokes.now) }
+{
+    read_strokes(strokes);
+}
 
 // The numbers of strokes are what the numbers of a stroke may be.
 fn read_strokes(strokes: &[Stroke])
