@@ -1,2 +1,3 @@
--- What a reader must believe: thousandths as text.
+-- What a reader must believe: thousandths as text, and how numbers are read.
 pub mod Fractions
+pub mod Readings

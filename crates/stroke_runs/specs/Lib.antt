@@ -7,3 +7,4 @@ pub mod Shown
 pub mod Links
 -- What the laws say of runs.
 pub mod Laws
+pub mod Ranges

@@ -1,7 +1,9 @@
 //! Laws of runs.
 ghost use Rattle.std.specs.Prelude.{◌≡◌};
+ghost use Rattle.std.specs.List.{All};
 ghost use Rattle.stroke_runs.specs.Drawn.{drawn};
 ghost use Rattle.stroke_runs.specs.Laws.{AreGreatest, AreRuns, joined};
+ghost use Rattle.stroke_runs.specs.Ranges.{IsInRange};
 ghost use Rattle.stroke_runs.specs.Runs.{runs};
 ghost use Rattle.stroke_runs.specs.Sheets.{sheets_of};
 
@@ -26,3 +28,21 @@ pub fn runs_are_greatest(pens: &PenSet, strokes: &[Stroke])
 pub fn sheets_are_all(strokes: &[Stroke], ends: &[usize])
     ensures { joined (sheets_of strokes.now ends.now) ≡ strokes.now }
 {}
+
+/// The numbers of strokes are in their ranges: laws of texts need it, since each number is to be read back.
+pub fn strokes_are_in_range(strokes: &[Stroke])
+    ensures { All IsInRange strokes.now }
+{
+    for stroke in strokes {
+        is_in_range(stroke);
+    }
+}
+
+fn is_in_range(stroke: &Stroke)
+    ensures { IsInRange stroke.now }
+{
+    let _pen = stroke.pen;
+    let _red = stroke.colour.red;
+    let _green = stroke.colour.green;
+    let _blue = stroke.colour.blue;
+}

@@ -22,7 +22,7 @@ use Rattle.svg.specs.Documents.{foot_text, sheets_bytes, sheets_text, start_text
 use Rattle.svg.specs.Parts.{parts, parts_text}
 use Rattle.svg.specs.Paths.{Path, clip_of, line_of, rest_commands}
 use Rattle.svg.specs.Places.{end_of, offset, rectangle_of, start_of, turned}
-use Rattle.svg.specs.Ranges.{IsInRange}
+use Rattle.stroke_runs.specs.Ranges.{IsInRange}
 use Rattle.svg.specs.Reader.{read_svg}
 use Rattle.svg.specs.Readings.{part_paths, parts_of_sheets, paths_in, read_paths, read_sheets, size_of, strokes_of}
 use Rattle.svg.specs.Sheets.{Sheet, labelled_sheets}

@@ -17,7 +17,7 @@ use Rattle.svg.specs.declared.places.Rectangle.{Rectangle}
 use Rattle.svg.specs.Clips.{clips_of, rectangle_cmp, with_clip, with_clips}
 use Rattle.svg.specs.Paths.{clip_name, clip_of}
 use Rattle.svg.specs.Places.{rectangle_of}
-use Rattle.svg.specs.Ranges.{IsInRange}
+use Rattle.stroke_runs.specs.Ranges.{IsInRange}
 use Rattle.svg.proofs.BytesLaw.{all_small}
 use Rattle.svg.proofs.ClipReads.{AreSmallRectangles, IsSmallRectangle, one_name}
 

@@ -7,9 +7,10 @@ use Rattle.std.specs.List.{Contains, join_with_byte}
 use Rattle.svg.specs.declared.places.Rectangle.{Rectangle}
 use Rattle.svg.specs.Clips.{clip_text, rectangle_text}
 use Rattle.svg.specs.Paths.{clip_name}
-use Rattle.svg.specs.Reader.{attributes, clip_named, integer, is_text, names, rectangle, rectangle_in, split, value, ◌>>=◌}
+use Rattle.number_text.specs.Readings.{integer, is_text, split, ◌>>=◌}
+use Rattle.svg.specs.Reader.{attributes, clip_named, names, rectangle, rectangle_in, value}
 use Rattle.svg.proofs.PathReads.{is_less, name_lacks, name_plain, no_less, no_quote, reference, signed_plain}
-use Rattle.svg.proofs.Scans.{AreWords, Cuts, Lacks, integer_read, lacks_both, more_parts, one_part, signed_lacks, split_more, split_words}
+use Rattle.number_text.proofs.Scans.{AreWords, Cuts, Lacks, integer_read, lacks_both, more_parts, one_part, signed_lacks, split_more, split_words}
 
 pub text_same : (a : List ℕ) → is_text a a ≡ true
 text_same [] = refl

@@ -1,49 +1,27 @@
 -- The reader reads a document as it was written.
-use Rattle.std.proofs.Common.{◌≡◌, ◌∙◌, ◌⊎◌, inl, inr, ℕ, zero, suc, ◌+◌, ◌*◌, ◌/◌, ◌%◌, ◌^◌, ◌<◌, ◌==◌, Bool, true, false, cond, List, [], ◌∷◌, ◌++◌, drop, take, filter, map, flat_map, Option, Some, None, codes, decimal, refl, ap, subst, arith, append_assoc}
-use Rattle.std.proofs.lemmas.Bool.{or_parts}
+use Rattle.std.proofs.Common.{◌≡◌, ◌∙◌, ◌⊎◌, inl, inr, ℕ, ◌*◌, ◌/◌, ◌%◌, ◌^◌, ◌<◌, ◌==◌, List, [], ◌∷◌, ◌++◌, drop, filter, map, flat_map, Option, Some, None, codes, decimal, refl, ap, subst, arith, append_assoc}
 use Rattle.std.proofs.lemmas.Bool.Decides.{nat_tests}
 use Rattle.std.proofs.lemmas.List.Elements.{filter-append}
-use Rattle.std.specs.List.{Contains, join_with_byte, list_any}
+use Rattle.std.specs.List.{Contains, join_with_byte}
 use Rattle.std.specs.Option.{option_map}
-use Rattle.number_text.specs.Fractions.{decimals, fraction}
+use Rattle.number_text.specs.Fractions.{fraction}
 use Rattle.plot_page.specs.declared.page.Page.{Page}
 use Rattle.svg.specs.declared.places.Rectangle.{Rectangle}
 use Rattle.svg.specs.Clips.{IsAmong, clip_text, clips_text}
 use Rattle.svg.specs.Documents.{head_text, page_text}
 use Rattle.svg.specs.Numbers.{millimetres}
 use Rattle.svg.specs.Paths.{Path, clip_name, path_text}
-use Rattle.svg.specs.Reader.{Cut, attributes, clip_in, clip_named, each, number, path, paths_in_parts, read_elements, read_svg, size, size_in, split, value, ◌>>=◌}
+use Rattle.number_text.specs.Readings.{Cut, each, number, split, ◌>>=◌}
+use Rattle.svg.specs.Reader.{attributes, clip_in, clip_named, path, paths_in_parts, read_elements, read_svg, size, size_in, value}
 use Rattle.svg.specs.Readings.{Size, read_paths, size_of}
 use Rattle.svg.proofs.ClipReads.{AreSmallRectangles, IsSmallRectangle, clip_cut, clip_parts, first_or_later, named}
 use Rattle.svg.proofs.PartReads.{AreSmallPaths, Shows, is_path}
 use Rattle.svg.proofs.PathReads.{decimal_plain, digit_plain, is_less, is_markup, is_quote, no_less, no_quote, path_read, reference}
-use Rattle.svg.proofs.Scans.{AreWords, Cuts, Lacks, all_parts, decimal_lacks, lacks_both, more_parts, no_parts, number_read, one_part, split_words}
+use Rattle.number_text.proofs.Scans.{AreWords, Cuts, Lacks, all_parts, decimal_lacks, fraction_lacks, lacks_both, more_parts, no_parts, number_read, one_part, split_words}
 
 -- a length has no markup
-either_plain : (b : Bool) (xs ys : List ℕ) → Lacks is_markup xs → Lacks is_markup ys → Lacks is_markup (cond b xs ys)
-either_plain true xs ys h k = h
-either_plain false xs ys h k = k
-
-front_plain : (n : ℕ) (xs : List ℕ) → Lacks is_markup xs → Lacks is_markup (take n xs)
-front_plain zero xs h = refl
-front_plain (suc n) [] h = refl
-front_plain (suc n) (x ∷ xs) h =
-    let both = or_parts (is_markup x) (list_any is_markup xs) h in
-    let rest = front_plain n xs both.1 in
-    cc
-
-point_plain : (n : ℕ) → n < 1000 → Lacks is_markup (fraction n)
-point_plain n h =
-    let a = digit_plain (48 + n / 100) (omega arith) (omega (arith, h)) in
-    let b = digit_plain (48 + n / 10 % 10) (omega arith) (omega arith) in
-    let c = digit_plain (48 + n % 10) (omega arith) (omega arith) in
-    let digits = (48 + n / 100) ∷ (48 + n / 10 % 10) ∷ (48 + n % 10) ∷ [] in
-    let plain : Lacks is_markup digits = cc in
-    let front = take (decimals n) digits in
-    either_plain (n == 0) [] (codes "." ++ front) refl (lacks_both is_markup (codes ".") front refl (front_plain (decimals n) digits plain))
-
 length_plain : (n : ℕ) → Lacks is_markup (millimetres n)
-length_plain n = lacks_both is_markup (decimal (n / 40)) (fraction (25 * (n % 40))) (decimal_plain (n / 40)) (point_plain (25 * (n % 40)) (omega arith))
+length_plain n = lacks_both is_markup (decimal (n / 40)) (fraction (25 * (n % 40))) (decimal_plain (n / 40)) (fraction_lacks is_markup digit_plain refl (25 * (n % 40)) (omega arith))
 
 -- the start of a document: two elements, and a group
 abbrev xml_text : List ℕ

@@ -10,7 +10,6 @@ pub mod PartReads
 pub mod Passing
 pub mod PathReads
 pub mod ReadLaw
-pub mod Scans
 pub mod SheetTitles
 pub mod Texts
 pub mod TitleTexts

@@ -17,7 +17,7 @@ use Rattle.svg.specs.Readings.{part_paths, parts_of_sheets, paths_in}
 use Rattle.svg.specs.Sheets.{Sheet}
 use Rattle.svg.specs.Titles.{text_bytes}
 use Rattle.svg.proofs.PathReads.{IsColour, IsSmallPath, colour_plain, commands_plain, decimal_plain, is_less, name_plain, no_less}
-use Rattle.svg.proofs.Scans.{Cuts, Lacks, lacks_both, more_parts, no_parts, one_part}
+use Rattle.number_text.proofs.Scans.{Cuts, Lacks, lacks_both, more_parts, no_parts, one_part}
 use Rattle.svg.proofs.TitleTexts.{text_lacks}
 
 abbrev pub is_path : List ℕ → Bool

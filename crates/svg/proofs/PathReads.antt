@@ -2,7 +2,6 @@
 use Rattle.std.proofs.Common.{◌≡◌, ◌∙◌, ℕ, ◌/◌, ◌%◌, ◌^◌, ◌<◌, ◌≤◌, ℤ, nat_abs, ◌==◌, ◌&&◌, ◌||◌, nat_eq, Bool, true, false, List, [], ◌∷◌, ◌++◌, length, drop, map, flat_map, Option, Some, None, codes, decimal, refl, ap, sym, arith, append_assoc}
 use Rattle.std.proofs.lemmas.Bool.{or_parts}
 use Rattle.std.proofs.lemmas.Bool.Decides.{nat_tests}
-use Rattle.std.specs.Char.{digit_value, is_digit}
 use Rattle.std.specs.Fmt.{digit_glyph, signed_decimal}
 use Rattle.std.specs.List.{join_with_byte, list_any}
 use Rattle.std.specs.Option.{option_map}
@@ -12,8 +11,9 @@ use Rattle.svg.specs.declared.places.Rectangle.{Rectangle}
 use Rattle.svg.specs.Commands.{Command, MoveTo, LineTo, MoveBy, LineBy, command_text, pair_text}
 use Rattle.svg.specs.Numbers.{colour_digits, two_digits}
 use Rattle.svg.specs.Paths.{Path, clip_name, clipped_text, path_text}
-use Rattle.svg.specs.Reader.{Cut, byte, clip_in, colour, command, command_of, commands, each, given, integer, is_letter, path, path_in, place, place_in, ◌>>=◌}
-use Rattle.svg.proofs.Scans.{AreWords, Cuts, Lacks, PassesDigits, all_parts, decimal_lacks, integer_read, lacks_both, more_parts, no_parts, number_read, one_part, signed_lacks, split_last, split_more, split_words}
+use Rattle.number_text.specs.Readings.{Cut, each, given, integer, ◌>>=◌}
+use Rattle.svg.specs.Reader.{clip_in, colour, command, command_of, commands, is_letter, path, path_in, place, place_in}
+use Rattle.number_text.proofs.Scans.{AreWords, Cuts, Lacks, PassesDigits, all_parts, byte_value, decimal_lacks, hex_digit, integer_read, lacks_both, more_parts, no_parts, number_read, one_part, signed_lacks, split_last, split_more, split_words}
 
 -- quotation marks and the starts of tags
 abbrev pub is_markup : ℕ → Bool
@@ -125,20 +125,8 @@ commands_plain [] = refl
 commands_plain (c ∷ cs) = lacks_both is_markup (command_text c) (flat_map command_text cs) (command_plain c) (commands_plain cs)
 
 -- hexadecimal digits
-hex_digit : (d : ℕ) → d < 16 → is_digit (digit_glyph false d) 16 ≡ true
-hex_digit d h = grind (arith, nat_tests)
-
-hex_value : (d : ℕ) → d < 16 → digit_value (digit_glyph false d) ≡ d
-hex_value d h = grind (arith, nat_tests)
-
 hex_plain : (d : ℕ) → d < 16 → is_markup (digit_glyph false d) ≡ false
 hex_plain d h = grind (arith, nat_tests)
-
-byte_value : (n : ℕ) → n < 256 → byte (digit_glyph false (n / 16)) (digit_glyph false (n % 16)) ≡ n
-byte_value n h =
-    let high = hex_value (n / 16) (omega (arith, h)) in
-    let low = hex_value (n % 16) (omega arith) in
-    omega (arith, high, low)
 
 -- the bytes of a colour
 pub record IsColour (c : Colour) : Type 0 where

@@ -1,7 +1,8 @@
 -- Small documents, read.
 use Rattle.std.proofs.Common.{◌≡◌, ℕ, pos, negsuc, List, [], ◌∷◌, ◌++◌, Some, None, codes, map, refl}
 use Rattle.svg.specs.Commands.{LineBy, LineTo, MoveBy, MoveTo}
-use Rattle.svg.specs.Reader.{colour, commands, elements, integer, number, place, read_svg, split, value}
+use Rattle.number_text.specs.Readings.{integer, number, split}
+use Rattle.svg.specs.Reader.{colour, commands, elements, place, read_svg, value}
 
 -- what lies between quotation marks, and outside of them
 words : split 0x22 (codes " x=\"1\" y=\"\"/>") ≡ codes " x=" ∷ codes "1" ∷ codes " y=" ∷ [] ∷ codes "/>" ∷ []

@@ -12,4 +12,3 @@ pub mod Readings
 pub mod Reader
 -- What contracts of private functions need.
 pub mod Steps
-pub mod Ranges

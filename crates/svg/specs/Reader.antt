@@ -1,12 +1,12 @@
 -- A reader of SVG documents: from bytes to strokes. It knows the elements svg, clipPath, rect and path, and passes over others.
 -- XML 1.0, 2.4 and 3.1; SVG 1.1, 7.7, 8.3 and 14.3.
-use Rattle.std.specs.Prelude.{ℕ, ℤ, pos, neg_ℤ, ◌+◌, ◌*◌, ◌==◌, ◌&&◌, ◌||◌, nat_lt, Bool, true, false, List, [], ◌∷◌, ◌++◌, length, drop, filter, map, Option, Some, None, if◌then◌else◌, codes}
-use Rattle.std.specs.Char.{digit_value, is_digit}
+use Rattle.std.specs.Prelude.{ℕ, ◌==◌, ◌&&◌, ◌||◌, Bool, false, List, [], ◌∷◌, ◌++◌, length, filter, Option, Some, None, if◌then◌else◌, codes}
+use Rattle.std.specs.Char.{is_digit}
 use Rattle.std.specs.Int.{is_in_range}
 use Rattle.std.specs.List.{find, list_all, starts_with}
 use Rattle.std.specs.Option.{option_map}
-use Rattle.std.specs.Str.Parse.{digits_value}
 use Rattle.std.specs.Prelude.{nat_eq}
+use Rattle.number_text.specs.Readings.{after, byte, cut, each, given, integer, is_text, number, split, ◌>>=◌}
 use Rattle.plot_page.specs.Segments.{Segment}
 use Rattle.plot_page.specs.declared.colour.Colour.{Colour}
 use Rattle.svg.specs.declared.places.Place.{Place}
@@ -14,62 +14,6 @@ use Rattle.svg.specs.declared.places.Rectangle.{Rectangle}
 use Rattle.svg.specs.Commands.{Command, MoveTo, LineTo, MoveBy, LineBy}
 use Rattle.svg.specs.Paths.{Path}
 use Rattle.svg.specs.Readings.{Size, read_paths}
-
--- a reading gives a value or nothing; the next reading goes on with the value
-infixl 10 ◌>>=◌
-abbrev pub ◌>>=◌ : {A B : Type 0} → Option A → (A → Option B) → Option B
-(Some x) >>= f = f x
-None >>= f = None
-
--- a value, if a test passes
-abbrev pub given : {A : Type 0} → Bool → Option A → Option A
-given true value = value
-given false value = None
-
--- each of these read, if each can be
-abbrev pub each : {A B : Type 0} → (A → Option B) → List A → Option (List B)
-each read [] = Some []
-each read (x ∷ xs) = do
-  y ← read x
-  ys ← each read xs
-  Some (y ∷ ys)
-
-abbrev pub is_text : List ℕ → List ℕ → Bool
-is_text [] [] = true
-is_text (a ∷ as') (b ∷ bs) = (a == b) && is_text as' bs
-is_text _ _ = false
-
--- the rest of a text that begins with a word
-abbrev pub after : List ℕ → List ℕ → Option (List ℕ)
-after [] text = Some text
-after (w ∷ ws) [] = None
-after (w ∷ ws) (c ∷ cs) = given (w == c) (after ws cs)
-
--- a text cut before each mark: what comes before the first mark, and the parts, each of which begins with a mark
-pub record Cut : Type 0 where
-  pub front : List ℕ
-  pub parts : List (List ℕ)
-
-abbrev pub with_byte : Bool → ℕ → Cut → Cut
-with_byte true c t = record { front = []; parts = (c ∷ t.front) ∷ t.parts }
-with_byte false c t = record { front = c ∷ t.front; parts = t.parts }
-
-abbrev pub cut : (ℕ → Bool) → List ℕ → Cut
-cut is_mark [] = record { front = []; parts = [] }
-cut is_mark (c ∷ cs) = with_byte (is_mark c) c (cut is_mark cs)
-
--- what lies between bytes of one kind
-abbrev pub split : ℕ → List ℕ → List (List ℕ)
-split byte text = (cut (λ c. c == byte) text).front ∷ map (drop 1) (cut (λ c. c == byte) text).parts
-
--- one digit or more as a number
-abbrev pub number : List ℕ → Option ℕ
-number text = given (nat_lt 0 (length text) && list_all (λ c. is_digit c 10) text) (Some (digits_value 10 text))
-
--- a number that may have a minus sign
-abbrev pub integer : List ℕ → Option ℤ
-integer [] = None
-integer (c ∷ cs) = if c == 0x2D then option_map (λ n. neg_ℤ (pos n)) (number cs) else option_map pos (number (c ∷ cs))
 
 -- x and y
 abbrev pub place_in : List (List ℕ) → Option Place
@@ -106,10 +50,6 @@ is_letter c = is_in_range 0x41 0x5A c || is_in_range 0x61 0x7A c
 -- the data of a path: each letter begins a command
 abbrev pub commands : List ℕ → Option (List Command)
 commands text = given (nat_eq (length (cut is_letter text).front) 0) (each command (cut is_letter text).parts)
-
--- two hexadecimal digits
-abbrev pub byte : ℕ → ℕ → ℕ
-byte high low = 16 * digit_value high + digit_value low
 
 -- a number sign and six hexadecimal digits
 abbrev pub colour : List ℕ → Option Colour

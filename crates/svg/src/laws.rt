@@ -9,12 +9,12 @@ ghost use Rattle.svg.specs.Parts.{AreInOrder, cut_labels, parts};
 ghost use Rattle.svg.specs.Paths.{clip_name, paths_text};
 ghost use Rattle.svg.specs.Readings.{parts_of_sheets, paths_in, read_parts, read_sheets, size_of, titles};
 ghost use Rattle.svg.specs.Reader.{read_svg};
-ghost use Rattle.svg.specs.Ranges.{IsInRange};
 ghost use Rattle.svg.specs.Sheets.{EndsAfter, labelled_sheets};
 ghost use Rattle.svg.specs.Titles.{label_text};
 
 use labels::Label;
 use plot_page::{Page, PenSet, Stroke};
+use stroke_runs::laws::strokes_are_in_range;
 
 /// The paths of strokes, in their groups and outside of them, show those that are drawn, in their order, each once: with its
 /// pen, its colour, its window, and its width, which is at least 24 grains. It does not matter what the labels say.
@@ -88,7 +88,7 @@ pub fn svg_reads_back(page: &Page, pens: &PenSet, strokes: &[Stroke], labels: &[
     ensures { read_svg (svg_bytes page.now pens.now strokes.now labels.now)
         ≡ Some (map widened (drawn pens.now strokes.now)) }
 {
-    read_strokes(strokes);
+    strokes_are_in_range(strokes);
 }
 
 /// So have the bytes of a document of sheets.
@@ -102,7 +102,7 @@ pub fn sheets_read_back(
     ensures { read_svg (sheets_bytes page.now pens.now strokes.now ends.now labels.now)
         ≡ Some (map widened (drawn pens.now strokes.now)) }
 {
-    read_strokes(strokes);
+    strokes_are_in_range(strokes);
 }
 
 /// What a path is clipped to, also one of a label, is a clip path of the document.
@@ -127,23 +127,5 @@ pub fn sheet_clips_are_there(
 pub fn clips_are_once(page: &Page, pens: &PenSet, strokes: &[Stroke])
     ensures { AllPairs (λ a b. clip_name a ≢ clip_name b) (clips_of page.now pens.now strokes.now) }
 {
-    read_strokes(strokes);
-}
-
-// The numbers of strokes are what the numbers of a stroke may be.
-fn read_strokes(strokes: &[Stroke])
-    ensures { All IsInRange strokes.now }
-{
-    for stroke in strokes {
-        read_stroke(stroke);
-    }
-}
-
-fn read_stroke(stroke: &Stroke)
-    ensures { IsInRange stroke.now }
-{
-    let _pen = stroke.pen;
-    let _red = stroke.colour.red;
-    let _green = stroke.colour.green;
-    let _blue = stroke.colour.blue;
+    strokes_are_in_range(strokes);
 }

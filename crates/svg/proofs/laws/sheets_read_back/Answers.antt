@@ -2,4 +2,4 @@ use Rattle.svg.proofs.BytesLaw.{sheet_bytes_read}
 use Rattle.svg.proofs.laws.sheets_read_back.Goals as goal
 
 pub returns : goal.returns
-returns c = sheet_bytes_read c.args.page.now c.args.pens.now c.args.strokes.now c.args.ends.now c.args.labels.now c.read_strokes.ensures
+returns c = sheet_bytes_read c.args.page.now c.args.pens.now c.args.strokes.now c.args.ends.now c.args.labels.now c.strokes_are_in_range.ensures

@@ -1,15 +1,16 @@
 -- What the reader finds in texts that are written: parts between marks, numbers and places.
-use Rattle.std.proofs.Common.{◌≡◌, ◌∙◌, ℕ, zero, suc, ◌+◌, ◌/◌, ◌%◌, ◌^◌, ◌<◌, ◌≤◌, ℤ, pos, negsuc, neg_ℤ, nat_abs, ◌==◌, ◌&&◌, ◌||◌, nat_lt, Bool, true, false, cond, List, [], ◌∷◌, ◌++◌, length, map, drop, Option, Some, decimal, refl, ap, sym, arith, append-nil, append_assoc}
+use Rattle.std.proofs.Common.{◌≡◌, ◌∙◌, ℕ, zero, suc, ◌+◌, ◌/◌, ◌%◌, ◌^◌, ◌<◌, ◌≤◌, ℤ, pos, negsuc, neg_ℤ, nat_abs, ◌==◌, ◌&&◌, ◌||◌, nat_lt, Bool, true, false, cond, List, [], ◌∷◌, ◌++◌, length, map, drop, take, Option, Some, decimal, refl, ap, sym, arith, append-nil, append_assoc}
 use Rattle.std.proofs.lemmas.Bool.{or_parts}
 use Rattle.std.proofs.lemmas.Bool.Decides.{nat_tests}
 use Rattle.std.proofs.lemmas.Fmt.{decimal_is_IsNumeral}
 use Rattle.std.proofs.lemmas.List.Folds.{list_any-append}
-use Rattle.std.specs.Char.{is_digit}
+use Rattle.std.specs.Char.{digit_value, is_digit}
 use Rattle.std.specs.Fmt.{digit_glyph, digits, digits_onto, signed_decimal}
 use Rattle.std.specs.List.{join_with_byte, list_all, list_any}
 use Rattle.std.specs.Option.{option_map}
 use Rattle.std.specs.Str.Parse.{AllDigits, digits_value}
-use Rattle.svg.specs.Reader.{Cut, cut, given, integer, number, split, with_byte}
+use Rattle.number_text.specs.Fractions.{decimals, fraction}
+use Rattle.number_text.specs.Readings.{Cut, byte, cut, given, integer, number, split, with_byte}
 
 -- a text without a mark
 abbrev pub Lacks : (ℕ → Bool) → List ℕ → Type 0
@@ -148,3 +149,44 @@ unsigned (d ∷ ds) n h e =
 pub integer_read : (z : ℤ) → nat_abs z < 2 ^ 63 → integer (signed_decimal z) ≡ Some z
 integer_read (pos n) h = unsigned (decimal n) n (decimal_lacks (λ c. c == 45) (λ c low high. grind (arith, nat_tests)) n) (number_read n (omega (arith, h)))
 integer_read (negsuc n) h = ap minus_of (number_read (suc n) (omega (arith, h)))
+
+-- hexadecimal digits
+pub hex_digit : (d : ℕ) → d < 16 → is_digit (digit_glyph false d) 16 ≡ true
+hex_digit d h = grind (arith, nat_tests)
+
+pub hex_value : (d : ℕ) → d < 16 → digit_value (digit_glyph false d) ≡ d
+hex_value d h = grind (arith, nat_tests)
+
+pub byte_value : (n : ℕ) → n < 256 → byte (digit_glyph false (n / 16)) (digit_glyph false (n % 16)) ≡ n
+byte_value n h =
+    let high = hex_value (n / 16) (omega (arith, h)) in
+    let low = hex_value (n % 16) (omega arith) in
+    omega (arith, high, low)
+
+-- thousandths without a mark
+either_lacks : (b : Bool) (is_mark : ℕ → Bool) (xs ys : List ℕ) → Lacks is_mark xs → Lacks is_mark ys → Lacks is_mark (cond b xs ys)
+either_lacks true is_mark xs ys h k = h
+either_lacks false is_mark xs ys h k = k
+
+front_lacks : (is_mark : ℕ → Bool) (n : ℕ) (xs : List ℕ) → Lacks is_mark xs → Lacks is_mark (take n xs)
+front_lacks is_mark zero xs h = refl
+front_lacks is_mark (suc n) [] h = refl
+front_lacks is_mark (suc n) (x ∷ xs) h =
+    let both = or_parts (is_mark x) (list_any is_mark xs) h in
+    or_false (is_mark x) (list_any is_mark (take n xs)) both.0 (front_lacks is_mark n xs both.1)
+
+-- the first digits of some thousandths
+pub digits_lack : (is_mark : ℕ → Bool) → PassesDigits is_mark → (k n : ℕ) → n < 1000 → Lacks is_mark (take k ((48 + n / 100) ∷ (48 + n / 10 % 10) ∷ (48 + n % 10) ∷ []))
+digits_lack is_mark free k n h =
+    let a = free (48 + n / 100) (omega arith) (omega (arith, h)) in
+    let b = free (48 + n / 10 % 10) (omega arith) (omega arith) in
+    let c = free (48 + n % 10) (omega arith) (omega arith) in
+    let ds = (48 + n / 100) ∷ (48 + n / 10 % 10) ∷ (48 + n % 10) ∷ [] in
+    let last = or_false (is_mark (48 + n % 10)) false c refl in
+    let two = or_false (is_mark (48 + n / 10 % 10)) (is_mark (48 + n % 10) || false) b last in
+    front_lacks is_mark k ds (or_false (is_mark (48 + n / 100)) (is_mark (48 + n / 10 % 10) || (is_mark (48 + n % 10) || false)) a two)
+
+pub fraction_lacks : (is_mark : ℕ → Bool) → PassesDigits is_mark → is_mark 46 ≡ false → (n : ℕ) → n < 1000 → Lacks is_mark (fraction n)
+fraction_lacks is_mark free point n h =
+    let front = take (decimals n) ((48 + n / 100) ∷ (48 + n / 10 % 10) ∷ (48 + n % 10) ∷ []) in
+    either_lacks (n == 0) is_mark [] (46 ∷ front) refl (or_false (is_mark 46) (list_any is_mark front) point (digits_lack is_mark free (decimals n) n h))
