@@ -4,6 +4,8 @@ pub mod AddedPages
 pub mod Lists
 pub mod DrawnPens
 pub mod Contents
+pub mod ContentLaw
+pub mod ContentReads
 pub mod OperatorTexts
 pub mod ReadRuns
 pub mod Offsets
@@ -13,3 +15,4 @@ pub mod LabelLists
 pub mod FontLists
 pub mod Marks
 mod Examples
+mod ReaderExamples

@@ -9,8 +9,10 @@ pub mod Numbers
 pub mod Laws
 pub mod Readings
 pub mod TextReadings
+pub mod ContentReader
 -- What contracts of private functions need.
 pub mod RunTexts
 pub mod Steps
 pub mod TextSteps
 pub mod Writings
+pub mod Ranges
