@@ -1,3 +1,4 @@
 pub mod Appended
 pub mod Scans
 mod Examples
+mod ReadExamples

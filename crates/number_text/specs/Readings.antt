@@ -56,10 +56,13 @@ split byte text = (cut (λ c. c == byte) text).front ∷ map (drop 1) (cut (λ c
 abbrev pub number : List ℕ → Option ℕ
 number text = given (nat_lt 0 (length text) && list_all (λ c. is_digit c 10) text) (Some (digits_value 10 text))
 
+abbrev pub minus : ℕ
+minus = 0x2D
+
 -- a number that may have a minus sign
 abbrev pub integer : List ℕ → Option ℤ
 integer [] = None
-integer (c ∷ cs) = if c == 0x2D then option_map (λ n. neg_ℤ (pos n)) (number cs) else option_map pos (number (c ∷ cs))
+integer (c ∷ cs) = if c == minus then option_map (λ n. neg_ℤ (pos n)) (number cs) else option_map pos (number (c ∷ cs))
 
 -- two hexadecimal digits
 abbrev pub byte : ℕ → ℕ → ℕ

@@ -3,7 +3,7 @@
 use Rattle.std.specs.Prelude.{ℕ, ℤ, pos, neg_ℤ, ◌+ℤ◌, ◌+◌, ◌-◌, ◌*◌, ◌/◌, ◌^◌, ◌==◌, ◌&&◌, nat_le, List, [], ◌∷◌, length, Option, Some, None, if◌then◌else◌, codes}
 use Rattle.std.specs.Char.{is_digit}
 use Rattle.std.specs.Option.{option_map}
-use Rattle.number_text.specs.Readings.{after, byte, given, integer, is_text, number, split, ◌>>=◌}
+use Rattle.number_text.specs.Readings.{after, byte, given, integer, is_text, minus, number, split, ◌>>=◌}
 use Rattle.pdf.specs.Operators.{Operator, Scale, Layer, EndLayer, Save, Restore, Rectangle, Clip, NoPaint, StrokeColour}
 use Rattle.pdf.specs.Operators.{LineWidth, LineEnds, LineJoins, MoveTo, LineTo, StrokePath, BeginText, Invisible}
 use Rattle.pdf.specs.Operators.{TextMatrix, Font, ShowText, EndText}
@@ -13,9 +13,6 @@ line_feed = 0x0A
 
 abbrev pub space : ℕ
 space = 0x20
-
-abbrev pub minus : ℕ
-minus = 0x2D
 
 abbrev pub point : ℕ
 point = 0x2E

@@ -1,14 +1,14 @@
 -- The reader finds the rectangle of a clip path by its name.
-use Rattle.std.proofs.Common.{◌≡◌, ◌∙◌, ℕ, zero, suc, ◌^◌, ◌<◌, ◌⊎◌, inl, inr, ℤ, nat_abs, ◌==◌, ◌&&◌, Bool, true, false, cond, List, [], ◌∷◌, ◌++◌, length, get_or, drop, map, flat_map, Option, Some, codes, refl, ap, sym, arith, append_assoc}
+use Rattle.std.proofs.Common.{◌≡◌, ◌∙◌, ℕ, zero, suc, ◌^◌, ◌<◌, ◌⊎◌, inl, inr, ℤ, nat_abs, ◌==◌, ◌&&◌, ◌||◌, Bool, true, false, cond, List, [], ◌∷◌, ◌++◌, length, get_or, drop, map, flat_map, Option, Some, codes, refl, ap, sym, arith, append_assoc}
 use Rattle.std.proofs.lemmas.Bool.{and_parts, false≢true}
 use Rattle.std.proofs.lemmas.Bool.Decides.{nat_tests}
 use Rattle.std.specs.Fmt.{signed_decimal}
-use Rattle.std.specs.List.{Contains, join_with_byte}
+use Rattle.std.specs.List.{Contains, join_with_byte, list_all}
 use Rattle.svg.specs.declared.places.Rectangle.{Rectangle}
 use Rattle.svg.specs.Clips.{clip_text, rectangle_text}
 use Rattle.svg.specs.Paths.{clip_name}
 use Rattle.number_text.specs.Readings.{integer, is_text, split, ◌>>=◌}
-use Rattle.svg.specs.Reader.{attributes, clip_named, names, rectangle, rectangle_in, value}
+use Rattle.svg.specs.Reader.{attributes, clip_named, is_allowed, is_known, names, rectangle, rectangle_in, value}
 use Rattle.svg.proofs.PathReads.{is_less, name_lacks, name_plain, no_less, no_quote, reference, signed_plain}
 use Rattle.number_text.proofs.Scans.{AreWords, Cuts, Lacks, integer_read, lacks_both, more_parts, one_part, signed_lacks, split_more, split_words}
 
@@ -92,19 +92,33 @@ rectangle_words r =
 abbrev built : Option ℤ → Option ℤ → Option ℤ → Option ℤ → Option Rectangle
 built x y width height = x >>= (λ a. y >>= (λ b. width >>= (λ c. height >>= (λ d. Some (record { x = a; y = b; width = c; height = d })))))
 
-rectangle_read : (r : Rectangle) (parts : List (List ℕ)) → IsSmallRectangle r → rectangle (rectangle_text r ∷ parts) ≡ Some r
-rectangle_read r parts h =
+rectangle_attributes : (r : Rectangle) → attributes (codes "<rect") (rectangle_text r) ≡ Some (rectangle_words r)
+rectangle_attributes r =
     let lacks = λ (z : ℤ). no_quote (signed_decimal z) (signed_plain z) in
     let are : AreWords 34 (rectangle_words r) = (refl, (lacks r.x, (refl, (lacks r.y, (refl, (lacks r.width, (refl, (lacks r.height, (refl, tt))))))))) in
-    ap (λ (z : List ℕ). rectangle (z ∷ parts)) (rectangle_written (signed_decimal r.x) (signed_decimal r.y) (signed_decimal r.width) (signed_decimal r.height))
-    ∙ ap (λ (ws : List (List ℕ)). rectangle_in ws) (split_words 34 (codes " x=") (drop 1 (rectangle_words r)) are)
+    ap (λ (z : List ℕ). attributes (codes "<rect") z) (rectangle_written (signed_decimal r.x) (signed_decimal r.y) (signed_decimal r.width) (signed_decimal r.height))
+    ∙ ap (λ (ws : List (List ℕ)). Some ws) (split_words 34 (codes " x=") (drop 1 (rectangle_words r)) are)
+
+rectangle_read : (r : Rectangle) (parts : List (List ℕ)) → IsSmallRectangle r → rectangle (rectangle_text r ∷ parts) ≡ Some r
+rectangle_read r parts h =
+    ap (λ (o : Option (List (List ℕ))). o >>= rectangle_in) (rectangle_attributes r)
     ∙ (λ i. built (integer_read r.x h.x i) (integer_read r.y h.y i) (integer_read r.width h.width i) (integer_read r.height h.height i))
 
-start_read : (r : Rectangle) → (attributes (codes "<clipPath") (clip_start (clip_name r)) >>= value (codes "id")) ≡ Some (clip_name r)
-start_read r =
+start_attributes : (r : Rectangle) → attributes (codes "<clipPath") (clip_start (clip_name r)) ≡ Some (codes " id=" ∷ clip_name r ∷ codes ">" ∷ [])
+start_attributes r =
     let n = clip_name r in
     let are : AreWords 34 (codes " id=" ∷ n ∷ codes ">" ∷ []) = (refl, (no_quote n (name_plain r), (refl, tt))) in
-    ap (λ (ws : List (List ℕ)). value (codes "id") ws) (split_words 34 (codes " id=") (n ∷ codes ">" ∷ []) are)
+    ap (λ (ws : List (List ℕ)). Some ws) (split_words 34 (codes " id=") (n ∷ codes ">" ∷ []) are)
+
+start_read : (r : Rectangle) → (attributes (codes "<clipPath") (clip_start (clip_name r)) >>= value (codes "id")) ≡ Some (clip_name r)
+start_read r = ap (λ (o : Option (List (List ℕ))). o >>= value (codes "id")) (start_attributes r)
+
+-- the reader knows the elements of a clip path
+pub clip_known : (r : Rectangle) → list_all is_known (clip_parts r) ≡ true
+clip_known r =
+    let start : is_known (clip_start (clip_name r)) ≡ true = ap (λ (o : Option (List (List ℕ))). (is_allowed (codes "id" ∷ []) o || false) || false) (start_attributes r) in
+    let inner : is_known (rectangle_text r) ≡ true = ap (λ (o : Option (List (List ℕ))). (is_allowed (codes "x" ∷ codes "y" ∷ codes "width" ∷ codes "height" ∷ []) o || false) || false) (rectangle_attributes r) in
+    λ i. start i && (inner i && true)
 
 -- each of these rectangles is read
 abbrev pub AreSmallRectangles : List Rectangle → Type 0

@@ -1,8 +1,8 @@
 -- The reader reads a document as it was written.
-use Rattle.std.proofs.Common.{◌≡◌, ◌∙◌, ◌⊎◌, inl, inr, ℕ, ◌*◌, ◌/◌, ◌%◌, ◌^◌, ◌<◌, ◌==◌, List, [], ◌∷◌, ◌++◌, drop, filter, map, flat_map, Option, Some, None, codes, decimal, refl, ap, subst, arith, append_assoc}
+use Rattle.std.proofs.Common.{◌≡◌, ◌∙◌, ◌⊎◌, inl, inr, ℕ, ◌*◌, ◌/◌, ◌%◌, ◌^◌, ◌<◌, ◌==◌, ◌&&◌, ◌||◌, Bool, true, false, List, [], ◌∷◌, ◌++◌, drop, filter, map, flat_map, Option, Some, None, codes, decimal, refl, ap, subst, arith, append_assoc}
 use Rattle.std.proofs.lemmas.Bool.Decides.{nat_tests}
 use Rattle.std.proofs.lemmas.List.Elements.{filter-append}
-use Rattle.std.specs.List.{Contains, join_with_byte}
+use Rattle.std.specs.List.{Contains, join_with_byte, list_all}
 use Rattle.std.specs.Option.{option_map}
 use Rattle.number_text.specs.Fractions.{fraction}
 use Rattle.plot_page.specs.declared.page.Page.{Page}
@@ -11,11 +11,11 @@ use Rattle.svg.specs.Clips.{IsAmong, clip_text, clips_text}
 use Rattle.svg.specs.Documents.{head_text, page_text}
 use Rattle.svg.specs.Numbers.{millimetres}
 use Rattle.svg.specs.Paths.{Path, clip_name, path_text}
-use Rattle.number_text.specs.Readings.{Cut, each, number, split, ◌>>=◌}
-use Rattle.svg.specs.Reader.{attributes, clip_in, clip_named, path, paths_in_parts, read_elements, read_svg, size, size_in, value}
+use Rattle.number_text.specs.Readings.{Cut, each, given, number, split, ◌>>=◌}
+use Rattle.svg.specs.Reader.{attributes, clip_in, clip_named, is_allowed, is_known, path, paths_in_parts, read_elements, read_known, read_svg, size, size_in, value}
 use Rattle.svg.specs.Readings.{Size, read_paths, size_of}
-use Rattle.svg.proofs.ClipReads.{AreSmallRectangles, IsSmallRectangle, clip_cut, clip_parts, first_or_later, named}
-use Rattle.svg.proofs.PartReads.{AreSmallPaths, Shows, is_path}
+use Rattle.svg.proofs.ClipReads.{AreSmallRectangles, IsSmallRectangle, clip_cut, clip_known, clip_parts, first_or_later, named}
+use Rattle.svg.proofs.PartReads.{AreSmallPaths, Shows, all_both, is_path}
 use Rattle.svg.proofs.PathReads.{decimal_plain, digit_plain, is_less, is_markup, is_quote, no_less, no_quote, path_read, reference}
 use Rattle.number_text.proofs.Scans.{AreWords, Cuts, Lacks, all_parts, decimal_lacks, fraction_lacks, lacks_both, more_parts, no_parts, number_read, one_part, split_words}
 
@@ -54,8 +54,8 @@ box_read w h a b =
     ∙ ap (λ (o : Option ℕ). o >>= (λ x. number (decimal h) >>= (λ y. Some (record { width = x; height = y })))) (number_read w a)
     ∙ ap (λ (o : Option ℕ). o >>= (λ y. Some (record { width = w; height = y }))) (number_read h b)
 
-size_read : (page : Page) (parts : List (List ℕ)) → size (xml_text ∷ svg_text page ∷ parts) ≡ Some (size_of page)
-size_read page parts =
+size_attributes : (page : Page) → attributes (codes "<svg") (svg_text page) ≡ Some (size_words (millimetres page.width) (millimetres page.height) (decimal (16 * page.width)) (decimal (16 * page.height)))
+size_attributes page =
     let add = λ (xs ys : List ℕ) (h : Lacks is_quote xs) (k : Lacks is_quote ys). lacks_both is_quote xs ys h k in
     let mw = millimetres page.width in
     let mh = millimetres page.height in
@@ -65,9 +65,19 @@ size_read page parts =
     let mh_in = add mh (codes "mm") (no_quote mh (length_plain page.height)) refl in
     let box_in = add (codes "0 0 ") (w ++ (codes " " ++ h)) refl (add w (codes " " ++ h) (no_quote w (decimal_plain (16 * page.width))) (add (codes " ") h refl (no_quote h (decimal_plain (16 * page.height))))) in
     let are : AreWords 34 (size_words mw mh w h) = (refl, (refl, (refl, (mw_in, (refl, (mh_in, (refl, (box_in, (refl, tt))))))))) in
-    ap (λ (z : List ℕ). attributes (codes "<svg") z >>= (λ words. value (codes "viewBox") words >>= (λ box. size_in (split 32 box)))) (size_written mw mh w h)
-    ∙ ap (λ (ws : List (List ℕ)). value (codes "viewBox") ws >>= (λ box. size_in (split 32 box))) (split_words 34 (codes " xmlns=") (drop 1 (size_words mw mh w h)) are)
+    ap (λ (z : List ℕ). attributes (codes "<svg") z) (size_written mw mh w h)
+    ∙ ap (λ (ws : List (List ℕ)). Some ws) (split_words 34 (codes " xmlns=") (drop 1 (size_words mw mh w h)) are)
+
+size_read : (page : Page) (parts : List (List ℕ)) → size (xml_text ∷ svg_text page ∷ parts) ≡ Some (size_of page)
+size_read page parts =
+    ap (λ (o : Option (List (List ℕ))). o >>= (λ words. value (codes "viewBox") words >>= (λ box. size_in (split 32 box)))) (size_attributes page)
     ∙ box_read (16 * page.width) (16 * page.height) (omega (arith, page.width_in.1)) (omega (arith, page.height_in.1))
+
+-- the reader knows them
+head_known : (page : Page) → list_all is_known (head_parts page) ≡ true
+head_known page =
+    let svg : is_known (svg_text page) ≡ true = ap (λ (o : Option (List (List ℕ))). (is_allowed (codes "xmlns" ∷ codes "width" ∷ codes "height" ∷ codes "viewBox" ∷ []) o || false) || false) (size_attributes page) in
+    ap (λ (b : Bool). b && true) svg
 
 -- the head of a document has these parts
 head_cut : (page : Page) → Cuts is_less (head_text page) (head_parts page)
@@ -118,6 +128,15 @@ no_clip_paths : (rs : List Rectangle) → filter is_path (all_clips rs) ≡ []
 no_clip_paths [] = refl
 no_clip_paths (r ∷ rs) = filter-append is_path (flat_map clip_parts (r ∷ rs)) (codes "</defs>\n" ∷ []) ∙ ap (λ (z : List (List ℕ)). z ++ []) (no_paths (r ∷ rs))
 
+-- the reader knows them
+each_clip_known : (rs : List Rectangle) → list_all is_known (flat_map clip_parts rs) ≡ true
+each_clip_known [] = refl
+each_clip_known (r ∷ rs) = all_both (clip_parts r) (flat_map clip_parts rs) (clip_known r) (each_clip_known rs)
+
+clips_known : (rs : List Rectangle) → list_all is_known (all_clips rs) ≡ true
+clips_known [] = refl
+clips_known (r ∷ rs) = all_both (flat_map clip_parts (r ∷ rs)) (codes "</defs>\n" ∷ []) (each_clip_known (r ∷ rs)) refl
+
 -- the parts of a document, of whose body these are the parts
 abbrev document_parts : Page → List Rectangle → List (List ℕ) → List (List ℕ)
 document_parts page rs body = head_parts page ++ all_clips rs ++ body
@@ -164,7 +183,9 @@ document_read page rs body ps shown h k m =
     let none : filter is_path (head_parts page ++ all_clips rs) ≡ [] = no_clip_paths rs in
     let found : filter is_path all ≡ map path_text ps =
     filter-append is_path (head_parts page ++ all_clips rs) shown.parts ∙ (λ i. none i ++ shown.paths_are i) in
+    let known = all_both (head_parts page ++ all_clips rs) shown.parts (all_both (head_parts page) (all_clips rs) (head_known page) (clips_known rs)) shown.known in
     ap (λ (t : Cut). read_elements t.parts) (all_parts is_less (front ++ body) all cuts)
+    ∙ ap (λ (b : Bool). given b (read_known all)) known
     ∙ ap (λ (o : Option Size). o >>= (λ s. paths_in_parts all >>= (λ qs. Some (read_paths s qs)))) (size_read page (drop 2 all))
     ∙ ap (λ (zs : List (List ℕ)). each (path all) zs >>= (λ qs. Some (read_paths (size_of page) qs))) found
     ∙ ap (λ (o : Option (List Path)). o >>= (λ qs. Some (read_paths (size_of page) qs))) (paths_each page rs shown.parts ps h k m)

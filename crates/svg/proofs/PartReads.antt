@@ -1,8 +1,10 @@
 -- The reader finds the paths of a document in its bytes.
-use Rattle.std.proofs.Common.{◌≡◌, ◌∙◌, ℕ, ◌+◌, Bool, false, cond, List, [], ◌∷◌, ◌++◌, filter, map, flat_map, Option, Some, None, codes, decimal, refl, ap, sym, subst, append-nil}
+use Rattle.std.proofs.Common.{◌≡◌, ◌∙◌, ℕ, ◌+◌, ◌&&◌, ◌||◌, Bool, true, false, cond, List, [], ◌∷◌, ◌++◌, filter, map, flat_map, Option, Some, None, codes, decimal, refl, ap, sym, subst, append-nil}
+use Rattle.std.proofs.lemmas.Bool.{and_parts}
 use Rattle.std.proofs.lemmas.List.{map-append}
 use Rattle.std.proofs.lemmas.List.Concat.{flat_map-append}
 use Rattle.std.proofs.lemmas.List.Elements.{filter-append}
+use Rattle.std.specs.List.{list_all}
 use Rattle.plot_page.specs.declared.colour.Colour.{Colour}
 use Rattle.plot_page.specs.declared.page.Page.{Page}
 use Rattle.plot_page.specs.declared.pens.PenSet.{PenSet}
@@ -12,12 +14,12 @@ use Rattle.svg.specs.Documents.{foot_text, open_text, sheet_text, sheets_text}
 use Rattle.svg.specs.Numbers.{colour_digits}
 use Rattle.svg.specs.Parts.{Part, Plain, Group, part_text, parts}
 use Rattle.svg.specs.Paths.{Path, clip_name, clipped_text, path_text}
-use Rattle.svg.specs.Reader.{is_element}
+use Rattle.svg.specs.Reader.{has_only, is_element, is_known}
 use Rattle.svg.specs.Readings.{part_paths, parts_of_sheets, paths_in}
 use Rattle.svg.specs.Sheets.{Sheet}
 use Rattle.svg.specs.Titles.{text_bytes}
-use Rattle.svg.proofs.PathReads.{IsColour, IsSmallPath, colour_plain, commands_plain, decimal_plain, is_less, name_plain, no_less}
-use Rattle.number_text.proofs.Scans.{Cuts, Lacks, lacks_both, more_parts, no_parts, one_part}
+use Rattle.svg.proofs.PathReads.{IsColour, IsSmallPath, colour_plain, commands_plain, decimal_plain, is_less, is_quote, name_plain, no_less, no_quote, path_known}
+use Rattle.number_text.proofs.Scans.{AreWords, Cuts, Lacks, lacks_both, more_parts, no_parts, one_part, split_words}
 use Rattle.svg.proofs.TitleTexts.{text_lacks}
 
 abbrev pub is_path : List ℕ → Bool
@@ -28,23 +30,36 @@ pub record Shows (text : List ℕ) (paths : List Path) : Type 0 where
   pub parts : List (List ℕ)
   pub cuts : Cuts is_less text parts
   pub paths_are : filter is_path parts ≡ map path_text paths
+  pub known : list_all is_known parts ≡ true
+
+both_true : (a b : Bool) → a ≡ true → b ≡ true → (a && b) ≡ true
+both_true a b h k = cc
+
+-- the reader knows these parts and others
+pub all_both : (ps qs : List (List ℕ)) → list_all is_known ps ≡ true → list_all is_known qs ≡ true → list_all is_known (ps ++ qs) ≡ true
+all_both [] qs h k = k
+all_both (p ∷ ps) qs h k =
+    let both = and_parts (is_known p) (list_all is_known ps) h in
+    both_true (is_known p) (list_all is_known (ps ++ qs)) both.0 (all_both ps qs both.1 k)
 
 pub shows_none : Shows [] []
-shows_none = record { parts = []; cuts = no_parts is_less; paths_are = refl }
+shows_none = record { parts = []; cuts = no_parts is_less; paths_are = refl; known = refl }
 
 pub shows_both : (a b : List ℕ) (ps qs : List Path) → Shows a ps → Shows b qs → Shows (a ++ b) (ps ++ qs)
 shows_both a b ps qs h k = record {
   parts = h.parts ++ k.parts;
   cuts = more_parts is_less a b h.parts k.parts h.cuts k.cuts;
   paths_are = filter-append is_path h.parts k.parts ∙ (λ i. h.paths_are i ++ k.paths_are i) ∙ sym (map-append path_text ps qs);
+  known = all_both h.parts k.parts h.known k.known;
 }
 
 -- an element that is no path
-pub shows_other : (text : List ℕ) → Lacks is_less text → is_path (60 ∷ text) ≡ false → Shows (60 ∷ text) []
-shows_other text h e = record {
+pub shows_other : (text : List ℕ) → Lacks is_less text → is_path (60 ∷ text) ≡ false → is_known (60 ∷ text) ≡ true → Shows (60 ∷ text) []
+shows_other text h e k = record {
   parts = (60 ∷ text) ∷ [];
   cuts = one_part is_less 60 text refl h;
   paths_are = ap (λ (b : Bool). cond b ((60 ∷ text) ∷ []) []) e;
+  known = ap (λ (b : Bool). b && true) k;
 }
 
 -- the bytes of a path after its first one
@@ -75,6 +90,7 @@ shows_path p h = record {
   parts = path_text p ∷ [];
   cuts = one_part is_less 60 _ refl (path_lacks p.pen p.colour p.width p.clip p.commands h);
   paths_are = refl;
+  known = ap (λ (b : Bool). b && true) (path_known p h);
 }
 
 -- each of these paths is read
@@ -97,7 +113,7 @@ shows_paths (p ∷ ps) h = shows_both (path_text p) (flat_map path_text ps) (p �
 shows_title : (text : List ℕ) → Shows (codes "<title>" ++ text_bytes text ++ codes "</title>\n") []
 shows_title text =
     let t = text_bytes text in
-    shows_both (codes "<title>" ++ t) (codes "</title>\n") [] [] (shows_other (codes "title>" ++ t) (lacks_both is_less (codes "title>") t refl (text_lacks text)) refl) (shows_other (codes "/title>\n") refl refl)
+    shows_both (codes "<title>" ++ t) (codes "</title>\n") [] [] (shows_other (codes "title>" ++ t) (lacks_both is_less (codes "title>") t refl (text_lacks text)) refl refl) (shows_other (codes "/title>\n") refl refl refl)
 
 shows_part : (part : Part) → AreSmallPaths (part_paths part) → Shows (part_text part) (part_paths part)
 shows_part (Plain ps) h = shows_paths ps h
@@ -106,7 +122,7 @@ shows_part (Group text ps) h =
     let lines = flat_map path_text ps in
     let P : List Path → Type 0 = λ qs. Shows (part_text (Group text ps)) qs in
     subst P (append-nil ps) (shows_both (codes "<g>" ++ title ++ lines) (codes "</g>\n") ps []
-    (shows_both (codes "<g>" ++ title) lines [] ps (shows_both (codes "<g>") title [] [] (shows_other (codes "g>") refl refl) (shows_title text)) (shows_paths ps h)) (shows_other (codes "/g>\n") refl refl))
+    (shows_both (codes "<g>" ++ title) lines [] ps (shows_both (codes "<g>") title [] [] (shows_other (codes "g>") refl refl refl) (shows_title text)) (shows_paths ps h)) (shows_other (codes "/g>\n") refl refl refl))
 
 pub shows_parts : (ps : List Part) → AreSmallPaths (paths_in ps) → Shows (flat_map part_text ps) (paths_in ps)
 shows_parts [] h = shows_none
@@ -114,7 +130,16 @@ shows_parts (p ∷ ps) h =
     shows_both (part_text p) (flat_map part_text ps) (part_paths p) (paths_in ps) (shows_part p (small_first (part_paths p) (paths_in ps) h)) (shows_parts ps (small_rest (part_paths p) (paths_in ps) h))
 
 pub shows_foot : Shows foot_text []
-shows_foot = shows_both (codes "</g>") (codes "</svg>\n") [] [] (shows_other (codes "/g>") refl refl) (shows_other (codes "/svg>\n") refl refl)
+shows_foot = shows_both (codes "</g>") (codes "</svg>\n") [] [] (shows_other (codes "/g>") refl refl refl) (shows_other (codes "/svg>\n") refl refl refl)
+
+-- the reader knows the start of a sheet
+open_known : (number : ℕ) → is_known (open_text number) ≡ true
+open_known number =
+    let n = decimal number in
+    let name = codes "sheet-" ++ n in
+    let name_in = lacks_both is_quote (codes "sheet-") n refl (no_quote n (decimal_plain number)) in
+    let are : AreWords 34 (codes " id=" ∷ name ∷ codes ">\n" ∷ []) = (refl, (name_in, (refl, tt))) in
+    ap (λ (ws : List (List ℕ)). (has_only (codes "id" ∷ codes "fill" ∷ codes "stroke-linecap" ∷ codes "stroke-linejoin" ∷ []) ws || false) || false) (split_words 34 (codes " id=") (name ∷ codes ">\n" ∷ []) are)
 
 shows_sheet : (page : Page) (pens : PenSet) (number : ℕ) (sheet : Sheet) → AreSmallPaths (paths_in (parts page pens sheet.strokes sheet.labels)) → Shows (sheet_text page pens number sheet) (paths_in (parts page pens sheet.strokes sheet.labels))
 shows_sheet page pens number sheet h =
@@ -124,7 +149,7 @@ shows_sheet page pens number sheet h =
     let open_in = lacks_both is_less (codes "g id=\"sheet-" ++ n) (codes "\">\n") (lacks_both is_less (codes "g id=\"sheet-") n refl (no_less n (decimal_plain number))) refl in
     let P : List Path → Type 0 = λ qs. Shows (sheet_text page pens number sheet) qs in
     subst P (append-nil (paths_in ps)) (shows_both (open_text number ++ lines) (codes "</g>\n") (paths_in ps) []
-    (shows_both (open_text number) lines [] (paths_in ps) (shows_other (codes "g id=\"sheet-" ++ n ++ codes "\">\n") open_in refl) (shows_parts ps h)) (shows_other (codes "/g>\n") refl refl))
+    (shows_both (open_text number) lines [] (paths_in ps) (shows_other (codes "g id=\"sheet-" ++ n ++ codes "\">\n") open_in refl (open_known number)) (shows_parts ps h)) (shows_other (codes "/g>\n") refl refl refl))
 
 pub shows_sheets : (page : Page) (pens : PenSet) (before : ℕ) (sheets : List Sheet) → AreSmallPaths (paths_in (parts_of_sheets page pens sheets)) → Shows (sheets_text page pens before sheets) (paths_in (parts_of_sheets page pens sheets))
 shows_sheets page pens before [] h = shows_none

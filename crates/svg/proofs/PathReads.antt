@@ -12,7 +12,7 @@ use Rattle.svg.specs.Commands.{Command, MoveTo, LineTo, MoveBy, LineBy, command_
 use Rattle.svg.specs.Numbers.{colour_digits, two_digits}
 use Rattle.svg.specs.Paths.{Path, clip_name, clipped_text, path_text}
 use Rattle.number_text.specs.Readings.{Cut, each, given, integer, ◌>>=◌}
-use Rattle.svg.specs.Reader.{clip_in, colour, command, command_of, commands, is_letter, path, path_in, place, place_in}
+use Rattle.svg.specs.Reader.{attributes, clip_in, colour, command, command_of, commands, is_allowed, is_known, is_letter, path, path_in, place, place_in}
 use Rattle.number_text.proofs.Scans.{AreWords, Cuts, Lacks, PassesDigits, all_parts, byte_value, decimal_lacks, hex_digit, integer_read, lacks_both, more_parts, no_parts, number_read, one_part, signed_lacks, split_last, split_more, split_words}
 
 -- quotation marks and the starts of tags
@@ -224,9 +224,10 @@ name_plain r = name_lacks is_markup digit_plain refl refl refl r
 add_plain : (xs ys : List ℕ) → Lacks is_quote xs → Lacks is_quote ys → Lacks is_quote (xs ++ ys)
 add_plain xs ys h k = lacks_both is_quote xs ys h k
 
-path_with : (parts : List (List ℕ)) (pen : ℕ) (paint : Colour) (width : ℕ) (clip : Option Rectangle) (lines : List Command) → pen < 2 ^ 64 → IsColour paint → width < 2 ^ 64 → AreSmall lines → clip_in parts (option_map (λ r. reference (clip_name r)) clip) ≡ Some clip
-    → path parts (written (decimal pen) (colour_digits paint) (decimal width) (clipped_text clip) (flat_map command_text lines)) ≡ Some (record { pen = pen; colour = paint; width = width; clip = clip; commands = lines })
-path_with parts pen paint width None lines a b c d e =
+-- the attributes of a path that is not clipped, and of one that is
+plain_attributes : (pen : ℕ) (paint : Colour) (width : ℕ) (lines : List Command) → IsColour paint
+    → attributes (codes "<path") (written (decimal pen) (colour_digits paint) (decimal width) [] (flat_map command_text lines)) ≡ Some (plain_words (decimal pen) (colour_digits paint) (decimal width) (flat_map command_text lines))
+plain_attributes pen paint width lines b =
     let p = decimal pen in
     let k = colour_digits paint in
     let w = decimal width in
@@ -235,10 +236,12 @@ path_with parts pen paint width None lines a b c d e =
     let paint_in = add_plain (codes "#") k refl (no_quote k (colour_plain paint b)) in
     let ws = plain_words p k w x in
     let are : AreWords 34 ws = (refl, (pen_in, (refl, (paint_in, (refl, (no_quote w (decimal_plain width), (refl, (no_quote x (commands_plain lines), (refl, tt))))))))) in
-    ap (λ (z : List ℕ). path parts z) (plain_written p k w x)
-    ∙ ap (λ (zs : List (List ℕ)). path_in parts zs) (split_words 34 (codes " class=") (drop 1 ws) are)
-    ∙ (λ i. built (number_read pen a i) (colour_read paint b i) (number_read width c i) (e i) (commands_read lines d i))
-path_with parts pen paint width (Some r) lines a b c d e =
+    ap (λ (z : List ℕ). attributes (codes "<path") z) (plain_written p k w x)
+    ∙ ap (λ (zs : List (List ℕ)). Some zs) (split_words 34 (codes " class=") (drop 1 ws) are)
+
+clipped_attributes : (pen : ℕ) (paint : Colour) (width : ℕ) (r : Rectangle) (lines : List Command) → IsColour paint
+    → attributes (codes "<path") (written (decimal pen) (colour_digits paint) (decimal width) (clipped_to (clip_name r)) (flat_map command_text lines)) ≡ Some (clipped_words (decimal pen) (colour_digits paint) (decimal width) (clip_name r) (flat_map command_text lines))
+clipped_attributes pen paint width r lines b =
     let p = decimal pen in
     let k = colour_digits paint in
     let w = decimal width in
@@ -249,9 +252,28 @@ path_with parts pen paint width (Some r) lines a b c d e =
     let clip_in = add_plain (codes "url(#" ++ n) (codes ")") (add_plain (codes "url(#") n refl (no_quote n (name_plain r))) refl in
     let ws = clipped_words p k w n x in
     let are : AreWords 34 ws = (refl, (pen_in, (refl, (paint_in, (refl, (no_quote w (decimal_plain width), (refl, (clip_in, (refl, (no_quote x (commands_plain lines), (refl, tt))))))))))) in
-    ap (λ (z : List ℕ). path parts z) (clipped_written p k w n x)
-    ∙ ap (λ (zs : List (List ℕ)). path_in parts zs) (split_words 34 (codes " class=") (drop 1 ws) are)
+    ap (λ (z : List ℕ). attributes (codes "<path") z) (clipped_written p k w n x)
+    ∙ ap (λ (zs : List (List ℕ)). Some zs) (split_words 34 (codes " class=") (drop 1 ws) are)
+
+path_with : (parts : List (List ℕ)) (pen : ℕ) (paint : Colour) (width : ℕ) (clip : Option Rectangle) (lines : List Command) → pen < 2 ^ 64 → IsColour paint → width < 2 ^ 64 → AreSmall lines → clip_in parts (option_map (λ r. reference (clip_name r)) clip) ≡ Some clip
+    → path parts (written (decimal pen) (colour_digits paint) (decimal width) (clipped_text clip) (flat_map command_text lines)) ≡ Some (record { pen = pen; colour = paint; width = width; clip = clip; commands = lines })
+path_with parts pen paint width None lines a b c d e =
+    ap (λ (o : Option (List (List ℕ))). o >>= path_in parts) (plain_attributes pen paint width lines b)
     ∙ (λ i. built (number_read pen a i) (colour_read paint b i) (number_read width c i) (e i) (commands_read lines d i))
+path_with parts pen paint width (Some r) lines a b c d e =
+    ap (λ (o : Option (List (List ℕ))). o >>= path_in parts) (clipped_attributes pen paint width r lines b)
+    ∙ (λ i. built (number_read pen a i) (colour_read paint b i) (number_read width c i) (e i) (commands_read lines d i))
+
+-- the attributes of a path that the reader knows
+abbrev path_names : List (List ℕ)
+path_names = codes "class" ∷ codes "stroke" ∷ codes "stroke-width" ∷ codes "clip-path" ∷ codes "d" ∷ []
+
+known_with : (pen : ℕ) (paint : Colour) (width : ℕ) (clip : Option Rectangle) (lines : List Command) → IsColour paint → is_known (written (decimal pen) (colour_digits paint) (decimal width) (clipped_text clip) (flat_map command_text lines)) ≡ true
+known_with pen paint width None lines b = ap (λ (o : Option (List (List ℕ))). (is_allowed path_names o || false) || false) (plain_attributes pen paint width lines b)
+known_with pen paint width (Some r) lines b = ap (λ (o : Option (List (List ℕ))). (is_allowed path_names o || false) || false) (clipped_attributes pen paint width r lines b)
+
+pub path_known : (p : Path) → IsColour p.colour → is_known (path_text p) ≡ true
+path_known p h = known_with p.pen p.colour p.width p.clip p.commands h
 
 -- a path is read from its bytes
 pub path_read : (parts : List (List ℕ)) (p : Path) → IsSmallPath p → clip_in parts (option_map (λ r. reference (clip_name r)) p.clip) ≡ Some p.clip → path parts (path_text p) ≡ Some p

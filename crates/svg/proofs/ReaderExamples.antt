@@ -1,7 +1,7 @@
 -- Small documents, read.
 use Rattle.std.proofs.Common.{◌≡◌, ℕ, pos, negsuc, List, [], ◌∷◌, ◌++◌, Some, None, codes, map, refl}
 use Rattle.svg.specs.Commands.{LineBy, LineTo, MoveBy, MoveTo}
-use Rattle.number_text.specs.Readings.{integer, number, split}
+use Rattle.number_text.specs.Readings.{split}
 use Rattle.svg.specs.Reader.{colour, commands, elements, place, read_svg, value}
 
 -- what lies between quotation marks, and outside of them
@@ -11,12 +11,6 @@ words = refl
 -- each element with the text after it: a title is no element, whatever it says
 tags : elements (codes "<a>\n<title>&lt;path d=\"M0 0\"/&gt;</title>") ≡ codes "<a>\n" ∷ codes "<title>&lt;path d=\"M0 0\"/&gt;" ∷ codes "</title>" ∷ []
 tags = refl
-
-numbers : map number (codes "0" ∷ codes "1024" ∷ codes "007" ∷ [] ∷ codes "-1" ∷ codes "1.5" ∷ codes " 1" ∷ []) ≡ Some 0 ∷ Some 1024 ∷ Some 7 ∷ None ∷ None ∷ None ∷ None ∷ []
-numbers = refl
-
-signed_numbers : map integer (codes "12" ∷ codes "-12" ∷ codes "-0" ∷ codes "-" ∷ codes "--1" ∷ codes "+1" ∷ []) ≡ Some (pos 12) ∷ Some (negsuc 11) ∷ Some (pos 0) ∷ None ∷ None ∷ None ∷ []
-signed_numbers = refl
 
 places : map place (codes "3 -4" ∷ codes "3  4" ∷ codes "3,4" ∷ codes "3" ∷ codes "3 4 5" ∷ []) ≡ Some (record { x = pos 3; y = negsuc 3 }) ∷ None ∷ None ∷ None ∷ None ∷ []
 places = refl
@@ -34,9 +28,9 @@ colours = refl
 attribute : map (λ name. value name (codes " x=" ∷ codes "1" ∷ codes " width=" ∷ codes "2" ∷ codes "/>" ∷ [])) (codes "width" ∷ codes "x" ∷ codes "y" ∷ codes "1" ∷ []) ≡ Some (codes "2") ∷ Some (codes "1") ∷ None ∷ None ∷ []
 attribute = refl
 
--- 32 by 16 grains, an element that is not known, and a title with a path in it
+-- 32 by 16 grains, a clip path, and a title with a path in it
 abbrev head : List ℕ
-head = codes "<svg viewBox=\"0 0 32 16\">\n<clipPath id=\"a\"><rect y=\"4\" x=\"3\" height=\"2\" width=\"1\"/></clipPath><b/><title>&lt;path/></title>"
+head = codes "<svg viewBox=\"0 0 32 16\">\n<clipPath id=\"a\"><rect y=\"4\" x=\"3\" height=\"2\" width=\"1\"/></clipPath><title>&lt;path/></title>"
 
 -- y grows upward from the lower edge
 one_stroke : read_svg (head ++ codes "<path d=\"M1 2l3 0\" stroke=\"#000000\" class=\"pen7\" stroke-width=\"56\"/></svg>")
@@ -50,11 +44,23 @@ clipped_stroke : read_svg (head ++ codes "<path d=\"M1 2L3 0\" clip-path=\"url(#
 unfolding read_svg
 clipped_stroke = refl
 
--- a clip path that is not there, a path without a width, a drawing without a size
+-- a clip path that is not there, a path without a width, a drawing without a size; and what might change how paths are drawn
+abbrev line : List ℕ
+line = codes "<path d=\"M1 2L3 0\" stroke=\"#0000ff\" class=\"pen1\" stroke-width=\"56\"/>"
+
 not_read : map read_svg (
     (head ++ codes "<path d=\"M1 2L3 0\" clip-path=\"url(#b)\" stroke=\"#0000ff\" class=\"pen1\" stroke-width=\"56\"/></svg>") ∷
     (head ++ codes "<path d=\"M1 2L3 0\" stroke=\"#0000ff\" class=\"pen1\"/></svg>") ∷
-    codes "<svg width=\"1\"></svg>" ∷ [])
-    ≡ None ∷ None ∷ None ∷ []
+    (codes "<svg width=\"1\">" ++ line ++ codes "</svg>") ∷
+    (head ++ codes "<g transform=\"scale(2)\">" ++ line ++ codes "</g></svg>") ∷
+    (head ++ codes "<style>" ++ line ++ codes "</style></svg>") ∷
+    (head ++ codes "<path d=\"M1 2L3 0\" stroke=\"#0000ff\" class=\"pen1\" stroke-width=\"56\" opacity=\"0\"/></svg>") ∷ [])
+    ≡ None ∷ None ∷ None ∷ None ∷ None ∷ None ∷ []
 unfolding read_svg
 not_read = refl
+
+-- a group with a name is no hindrance
+in_a_group : read_svg (head ++ codes "<g id=\"a\">" ++ line ++ codes "</g></svg>")
+    ≡ Some (record { pen = 1; colour = record { red = 0; green = 0; blue = 255 }; width = 56; window = record { x0 = pos 0; y0 = pos 0; x1 = pos 32; y1 = pos 16 }; ax = pos 1; ay = pos 14; bx = pos 3; by = pos 16 } ∷ [])
+unfolding read_svg
+in_a_group = refl

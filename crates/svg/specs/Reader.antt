@@ -1,9 +1,9 @@
--- A reader of SVG documents: from bytes to strokes. It knows the elements svg, clipPath, rect and path, and passes over others.
+-- A reader of SVG documents: from bytes to strokes. It refuses elements and attributes that it does not know.
 -- XML 1.0, 2.4 and 3.1; SVG 1.1, 7.7, 8.3 and 14.3.
 use Rattle.std.specs.Prelude.{ℕ, ◌==◌, ◌&&◌, ◌||◌, Bool, false, List, [], ◌∷◌, ◌++◌, length, filter, Option, Some, None, if◌then◌else◌, codes}
 use Rattle.std.specs.Char.{is_digit}
 use Rattle.std.specs.Int.{is_in_range}
-use Rattle.std.specs.List.{find, list_all, starts_with}
+use Rattle.std.specs.List.{find, list_all, list_any, starts_with}
 use Rattle.std.specs.Option.{option_map}
 use Rattle.std.specs.Prelude.{nat_eq}
 use Rattle.number_text.specs.Readings.{after, byte, cut, each, given, integer, is_text, number, split, ◌>>=◌}
@@ -14,6 +14,7 @@ use Rattle.svg.specs.declared.places.Rectangle.{Rectangle}
 use Rattle.svg.specs.Commands.{Command, MoveTo, LineTo, MoveBy, LineBy}
 use Rattle.svg.specs.Paths.{Path}
 use Rattle.svg.specs.Readings.{Size, read_paths}
+use Rattle.svg.specs.Titles.{less_than}
 
 -- x and y
 abbrev pub place_in : List (List ℕ) → Option Place
@@ -32,13 +33,25 @@ quote = 0x22
 abbrev pub place : List ℕ → Option Place
 place text = place_in (split space text)
 
--- the command of a letter: M, L, m or l
+-- the letters of commands: M, L, m and l
+abbrev pub absolute_move : ℕ
+absolute_move = 0x4D
+
+abbrev pub absolute_line : ℕ
+absolute_line = 0x4C
+
+abbrev pub relative_move : ℕ
+relative_move = 0x6D
+
+abbrev pub relative_line : ℕ
+relative_line = 0x6C
+
 abbrev pub command_of : ℕ → Place → Option Command
 command_of letter p =
-    if letter == 0x4D then Some (MoveTo p) else
-    if letter == 0x4C then Some (LineTo p) else
-    if letter == 0x6D then Some (MoveBy p) else
-    if letter == 0x6C then Some (LineBy p) else None
+    if letter == absolute_move then Some (MoveTo p) else
+    if letter == absolute_line then Some (LineTo p) else
+    if letter == relative_move then Some (MoveBy p) else
+    if letter == relative_line then Some (LineBy p) else None
 
 abbrev pub command : List ℕ → Option Command
 command [] = None
@@ -51,10 +64,13 @@ is_letter c = is_in_range 0x41 0x5A c || is_in_range 0x61 0x7A c
 abbrev pub commands : List ℕ → Option (List Command)
 commands text = given (nat_eq (length (cut is_letter text).front) 0) (each command (cut is_letter text).parts)
 
+abbrev pub number_sign : ℕ
+number_sign = 0x23
+
 -- a number sign and six hexadecimal digits
 abbrev pub colour : List ℕ → Option Colour
 colour (sign ∷ a ∷ b ∷ c ∷ d ∷ e ∷ f ∷ []) =
-    given ((sign == 0x23) && list_all (λ c. is_digit c 16) (a ∷ b ∷ c ∷ d ∷ e ∷ f ∷ []))
+    given ((sign == number_sign) && list_all (λ c. is_digit c 16) (a ∷ b ∷ c ∷ d ∷ e ∷ f ∷ []))
     (Some (record { red = byte a b; green = byte c d; blue = byte e f }))
 colour _ = None
 
@@ -69,10 +85,39 @@ attributes element part = option_map (split quote) (after element part)
 
 -- the elements of a document, each with the text that follows it
 abbrev pub elements : List ℕ → List (List ℕ)
-elements document = (cut (λ c. c == 0x3C) document).parts
+elements document = (cut (λ c. c == less_than) document).parts
+
+abbrev pub begins : List ℕ → List ℕ → Bool
+begins text word = starts_with (λ a b. a == b) text word
 
 abbrev pub is_element : List ℕ → List ℕ → Bool
-is_element element part = starts_with (λ a b. a == b) part (element ++ codes " ")
+is_element element part = begins part (element ++ codes " ")
+
+-- the words of a tag are these attributes, and its end
+abbrev pub has_only : List (List ℕ) → List (List ℕ) → Bool
+has_only known [] = false
+has_only known (end ∷ []) = begins end (codes ">") || begins end (codes "/>")
+has_only known (n ∷ v ∷ rest) = list_any (λ name. is_text n (codes " " ++ name ++ codes "=")) known && has_only known rest
+
+abbrev pub is_allowed : List (List ℕ) → Option (List (List ℕ)) → Bool
+is_allowed known None = false
+is_allowed known (Some words) = has_only known words
+
+-- the elements of a document and their attributes: those that are not read change neither which lines are drawn nor where
+abbrev pub kinds : List (List ℕ × List (List ℕ))
+kinds =
+    (codes "<svg", codes "xmlns" ∷ codes "width" ∷ codes "height" ∷ codes "viewBox" ∷ [])
+    ∷ (codes "<g", codes "id" ∷ codes "fill" ∷ codes "stroke-linecap" ∷ codes "stroke-linejoin" ∷ [])
+    ∷ (codes "<defs", [])
+    ∷ (codes "<clipPath", codes "id" ∷ [])
+    ∷ (codes "<rect", codes "x" ∷ codes "y" ∷ codes "width" ∷ codes "height" ∷ [])
+    ∷ (codes "<path", codes "class" ∷ codes "stroke" ∷ codes "stroke-width" ∷ codes "clip-path" ∷ codes "d" ∷ []) ∷ []
+
+-- one of these, a title, the end of an element, or the declaration
+abbrev pub is_known : List ℕ → Bool
+is_known part =
+    list_any (λ kind. is_allowed kind.1 (attributes kind.0 part)) kinds
+    || list_any (begins part) (codes "<title>" ∷ codes "</" ∷ codes "<?xml " ∷ [])
 
 -- the size of a drawing, by its viewBox
 abbrev pub size_in : List (List ℕ) → Option Size
@@ -138,11 +183,14 @@ abbrev pub paths_in_parts : List (List ℕ) → Option (List Path)
 paths_in_parts parts = each (path parts) (filter (is_element (codes "<path")) parts)
 
 -- the strokes of a document of these elements
-abbrev pub read_elements : List (List ℕ) → Option (List Segment)
-read_elements parts = do
+abbrev pub read_known : List (List ℕ) → Option (List Segment)
+read_known parts = do
   drawing ← size parts
   paths ← paths_in_parts parts
   Some (read_paths drawing paths)
+
+abbrev pub read_elements : List (List ℕ) → Option (List Segment)
+read_elements parts = given (list_all is_known parts) (read_known parts)
 
 -- the strokes of a document, by its bytes
 unfoldable pub read_svg : List ℕ → Option (List Segment)
