@@ -23,12 +23,13 @@ use Rattle.svg.specs.Parts.{parts, parts_text}
 use Rattle.svg.specs.Paths.{Path, clip_of, line_of, rest_commands}
 use Rattle.svg.specs.Places.{end_of, offset, rectangle_of, start_of, turned}
 use Rattle.stroke_runs.specs.Ranges.{IsInRange}
-use Rattle.svg.specs.Reader.{read_svg}
-use Rattle.svg.specs.Readings.{part_paths, parts_of_sheets, paths_in, read_paths, read_sheets, size_of, strokes_of}
+use Rattle.svg.specs.Reader.{read_svg, read_titles}
+use Rattle.svg.specs.Readings.{part_paths, parts_of_sheets, paths_in, read_paths, read_sheets, size_of, strokes_of, titles}
 use Rattle.svg.specs.Sheets.{Sheet, labelled_sheets}
+use Rattle.svg.specs.Titles.{utf_8}
 use Rattle.svg.proofs.ClipLaw.{parts_clipped, sheets_clipped}
 use Rattle.svg.proofs.ClipReads.{AreSmallRectangles, IsSmallRectangle}
-use Rattle.svg.proofs.DocumentReads.{AreClipped, document_read}
+use Rattle.svg.proofs.DocumentReads.{AreClipped, document_read, document_titles}
 use Rattle.svg.proofs.EachPath.{Each, EachDrawn, FromRun, each_of_parts, each_of_sheets}
 use Rattle.svg.proofs.PartLaws.{all_sheets_read, parts_read}
 use Rattle.svg.proofs.PartReads.{AreSmallPaths, Shows, shows_both, shows_foot, shows_parts, shows_sheets}
@@ -147,21 +148,38 @@ taken pens (s ∷ ss) h = taken_step (is_drawn pens s) s (drawn pens ss) h.0 (ta
 pub all_small : (page : Page) (pens : PenSet) (strokes : List Segment) → All IsInRange strokes → AreSmallRectangles (clips_of page pens strokes)
 all_small page pens strokes h = clips_small page pens [] (drawn pens strokes) tt (taken pens strokes (each_of_all IsInRange strokes h))
 
-with_foot : (text : List ℕ) (ps : List Path) → Shows text ps → Shows (text ++ foot_text) ps
-with_foot text ps h =
-    let P : List Path → Type 0 = λ qs. Shows (text ++ foot_text) qs in
-    subst P (append-nil ps) (shows_both text foot_text ps [] h shows_foot)
+with_foot : (text : List ℕ) (ps : List Path) (ts : List (List ℕ)) → Shows text ps ts → Shows (text ++ foot_text) ps ts
+with_foot text ps ts h =
+    let P : List Path → Type 0 = λ qs. Shows (text ++ foot_text) qs ts in
+    let T : List (List ℕ) → Type 0 = λ us. Shows (text ++ foot_text) (ps ++ []) us in
+    subst P (append-nil ps) (subst T (append-nil ts) (shows_both text foot_text ps [] h shows_foot))
+
+-- the paths of strokes with their labels can be read
+parts_small : (page : Page) (pens : PenSet) (strokes : List Segment) (labels : List LabelShape) → All IsInRange strokes → AreSmallPaths (paths_in (parts page pens strokes labels))
+parts_small page pens strokes labels h =
+    small_of_all (paths_in (parts page pens strokes labels)) (each_of_parts page pens IsInRange IsSmallPath (small_run page) strokes (drawn_in_range pens strokes (each_of_all IsInRange strokes h)) labels)
+
+parts_shown : (page : Page) (pens : PenSet) (strokes : List Segment) (labels : List LabelShape) → All IsInRange strokes → Shows (parts_text page pens strokes labels ++ foot_text) (paths_in (parts page pens strokes labels)) (titles (parts page pens strokes labels))
+parts_shown page pens strokes labels h =
+    let all = parts page pens strokes labels in
+    with_foot (parts_text page pens strokes labels) (paths_in all) (titles all) (shows_parts all (parts_small page pens strokes labels h))
 
 pub bytes_read : (page : Page) (pens : PenSet) (strokes : List Segment) (labels : List LabelShape) → All IsInRange strokes → read_svg (svg_bytes page pens strokes labels) ≡ Some (map widened (drawn pens strokes))
 bytes_read page pens strokes labels h =
-    let in_range = each_of_all IsInRange strokes h in
     let rs = clips_of page pens strokes in
-    let ps = paths_in (parts page pens strokes labels) in
+    let all = parts page pens strokes labels in
+    let ps = paths_in all in
     let text = parts_text page pens strokes labels in
-    let small = small_of_all ps (each_of_parts page pens IsInRange IsSmallPath (small_run page) strokes (drawn_in_range pens strokes in_range) labels) in
     ap (λ (z : List ℕ). read_svg z) (append_assoc (start_text page pens strokes) text foot_text)
-    ∙ document_read page rs (text ++ foot_text) ps (with_foot text ps (shows_parts (parts page pens strokes labels) small)) (all_small page pens strokes h) small (clipped_of_all rs ps (parts_clipped page pens strokes labels))
+    ∙ document_read page rs (text ++ foot_text) ps (titles all) (parts_shown page pens strokes labels h) (all_small page pens strokes h) (parts_small page pens strokes labels h) (clipped_of_all rs ps (parts_clipped page pens strokes labels))
     ∙ ap (λ (ss : List Segment). Some ss) (parts_read page pens strokes labels)
+
+pub titles_read : (page : Page) (pens : PenSet) (strokes : List Segment) (labels : List LabelShape) → All IsInRange strokes → read_titles (svg_bytes page pens strokes labels) ≡ Some (map utf_8 (titles (parts page pens strokes labels)))
+titles_read page pens strokes labels h =
+    let all = parts page pens strokes labels in
+    let text = parts_text page pens strokes labels in
+    ap (λ (z : List ℕ). read_titles z) (append_assoc (start_text page pens strokes) text foot_text)
+    ∙ document_titles page (clips_of page pens strokes) (text ++ foot_text) (paths_in all) (titles all) (parts_shown page pens strokes labels h)
 
 -- the strokes of sheets are those of their paths
 sheets_paths : (page : Page) (pens : PenSet) (sheets : List Sheet) → read_paths (size_of page) (paths_in (parts_of_sheets page pens sheets)) ≡ read_sheets page pens sheets
@@ -173,14 +191,32 @@ sheets_paths page pens (sheet ∷ sheets) =
     ∙ flat_map-append (strokes_of (size_of page)) (paths_in first) (paths_in others)
     ∙ ap (λ (ss : List Segment). read_paths (size_of page) (paths_in first) ++ ss) (sheets_paths page pens sheets)
 
+sheets_small : (page : Page) (pens : PenSet) (strokes : List Segment) (ends : List ℕ) (labels : List LabelShape) → All IsInRange strokes → AreSmallPaths (paths_in (parts_of_sheets page pens (labelled_sheets strokes ends labels)))
+sheets_small page pens strokes ends labels h =
+    small_of_all (paths_in (parts_of_sheets page pens (labelled_sheets strokes ends labels))) (each_of_sheets page pens IsInRange IsSmallPath (small_run page) strokes (drawn_in_range pens strokes (each_of_all IsInRange strokes h)) ends labels)
+
+sheets_shown : (page : Page) (pens : PenSet) (strokes : List Segment) (ends : List ℕ) (labels : List LabelShape) → All IsInRange strokes
+    → Shows (sheets_text page pens 0 (labelled_sheets strokes ends labels) ++ foot_text) (paths_in (parts_of_sheets page pens (labelled_sheets strokes ends labels))) (titles (parts_of_sheets page pens (labelled_sheets strokes ends labels)))
+sheets_shown page pens strokes ends labels h =
+    let sheets = labelled_sheets strokes ends labels in
+    let all = parts_of_sheets page pens sheets in
+    with_foot (sheets_text page pens 0 sheets) (paths_in all) (titles all) (shows_sheets page pens 0 sheets (sheets_small page pens strokes ends labels h))
+
 pub sheet_bytes_read : (page : Page) (pens : PenSet) (strokes : List Segment) (ends : List ℕ) (labels : List LabelShape) → All IsInRange strokes → read_svg (sheets_bytes page pens strokes ends labels) ≡ Some (map widened (drawn pens strokes))
 sheet_bytes_read page pens strokes ends labels h =
-    let in_range = each_of_all IsInRange strokes h in
     let rs = clips_of page pens strokes in
     let sheets = labelled_sheets strokes ends labels in
-    let ps = paths_in (parts_of_sheets page pens sheets) in
+    let all = parts_of_sheets page pens sheets in
+    let ps = paths_in all in
     let text = sheets_text page pens 0 sheets in
-    let small = small_of_all ps (each_of_sheets page pens IsInRange IsSmallPath (small_run page) strokes (drawn_in_range pens strokes in_range) ends labels) in
     ap (λ (z : List ℕ). read_svg z) (append_assoc (start_text page pens strokes) text foot_text)
-    ∙ document_read page rs (text ++ foot_text) ps (with_foot text ps (shows_sheets page pens 0 sheets small)) (all_small page pens strokes h) small (clipped_of_all rs ps (sheets_clipped page pens strokes ends labels))
+    ∙ document_read page rs (text ++ foot_text) ps (titles all) (sheets_shown page pens strokes ends labels h) (all_small page pens strokes h) (sheets_small page pens strokes ends labels h) (clipped_of_all rs ps (sheets_clipped page pens strokes ends labels))
     ∙ ap (λ (ss : List Segment). Some ss) (sheets_paths page pens sheets ∙ all_sheets_read page pens strokes ends labels)
+
+pub sheet_titles_read : (page : Page) (pens : PenSet) (strokes : List Segment) (ends : List ℕ) (labels : List LabelShape) → All IsInRange strokes → read_titles (sheets_bytes page pens strokes ends labels) ≡ Some (map utf_8 (titles (parts_of_sheets page pens (labelled_sheets strokes ends labels))))
+sheet_titles_read page pens strokes ends labels h =
+    let sheets = labelled_sheets strokes ends labels in
+    let all = parts_of_sheets page pens sheets in
+    let text = sheets_text page pens 0 sheets in
+    ap (λ (z : List ℕ). read_titles z) (append_assoc (start_text page pens strokes) text foot_text)
+    ∙ document_titles page (clips_of page pens strokes) (text ++ foot_text) (paths_in all) (titles all) (sheets_shown page pens strokes ends labels h)

@@ -11,11 +11,13 @@ use Rattle.svg.specs.Clips.{IsAmong, clip_text, clips_text}
 use Rattle.svg.specs.Documents.{head_text, page_text}
 use Rattle.svg.specs.Numbers.{millimetres}
 use Rattle.svg.specs.Paths.{Path, clip_name, path_text}
-use Rattle.number_text.specs.Readings.{Cut, each, given, number, split, ◌>>=◌}
-use Rattle.svg.specs.Reader.{attributes, clip_in, clip_named, is_allowed, is_known, path, paths_in_parts, read_elements, read_known, read_svg, size, size_in, value}
+use Rattle.number_text.specs.Readings.{Cut, after, each, given, number, split, ◌>>=◌}
+use Rattle.svg.specs.Reader.{attributes, clip_in, clip_named, elements, is_title, read_titles, resolved_text, is_allowed, is_known, path, paths_in_parts, read_elements, read_known, read_svg, size, size_in, value}
 use Rattle.svg.specs.Readings.{Size, read_paths, size_of}
 use Rattle.svg.proofs.ClipReads.{AreSmallRectangles, IsSmallRectangle, clip_cut, clip_known, clip_parts, first_or_later, named}
-use Rattle.svg.proofs.PartReads.{AreSmallPaths, Shows, all_both, is_path}
+use Rattle.svg.proofs.PartReads.{AreSmallPaths, Shows, all_both, is_path, title_part}
+use Rattle.svg.proofs.TitleReads.{title_read}
+use Rattle.svg.specs.Titles.{utf_8}
 use Rattle.svg.proofs.PathReads.{decimal_plain, digit_plain, is_less, is_markup, is_quote, no_less, no_quote, path_read, reference}
 use Rattle.number_text.proofs.Scans.{AreWords, Cuts, Lacks, all_parts, decimal_lacks, fraction_lacks, lacks_both, more_parts, no_parts, number_read, one_part, split_words}
 
@@ -173,10 +175,42 @@ paths_each page rs body (p ∷ ps) h k m =
     ap (λ (o : Option Path). o >>= (λ y. each (path all) (map path_text ps) >>= (λ ys. Some (y ∷ ys)))) (path_read all p k.0 (clip_read page rs body p.clip h m.0))
     ∙ ap (λ (o : Option (List Path)). o >>= (λ ys. Some (p ∷ ys))) (paths_each page rs body ps h k.1 m.1)
 
+no_clip_titles : (rs : List Rectangle) → filter is_title (flat_map clip_parts rs) ≡ []
+no_clip_titles [] = refl
+no_clip_titles (r ∷ rs) = no_clip_titles rs
+
+no_titles : (rs : List Rectangle) → filter is_title (all_clips rs) ≡ []
+no_titles [] = refl
+no_titles (r ∷ rs) = filter-append is_title (flat_map clip_parts (r ∷ rs)) (codes "</defs>\n" ∷ []) ∙ ap (λ (z : List (List ℕ)). z ++ []) (no_clip_titles (r ∷ rs))
+
+-- all elements of a document
+document_cut : (page : Page) (rs : List Rectangle) (body : List ℕ) (ps : List Path) (ts : List (List ℕ)) → (shown : Shows body ps ts) → elements (head_text page ++ clips_text rs ++ body) ≡ document_parts page rs shown.parts
+document_cut page rs body ps ts shown =
+    let front = head_text page ++ clips_text rs in
+    let cuts = more_parts is_less front body (head_parts page ++ all_clips rs) shown.parts (more_parts is_less (head_text page) (clips_text rs) (head_parts page) (all_clips rs) (head_cut page) (clips_cut rs)) shown.cuts in
+    ap (λ (t : Cut). t.parts) (all_parts is_less (front ++ body) (document_parts page rs shown.parts) cuts)
+
+titles_each : (ts : List (List ℕ)) → each (λ part. after (codes "<title>") part >>= resolved_text) (map title_part ts) ≡ Some (map utf_8 ts)
+titles_each [] = refl
+titles_each (t ∷ ts) =
+    let rest = each (λ part. after (codes "<title>") part >>= resolved_text) (map title_part ts) in
+    ap (λ (o : Option (List ℕ)). o >>= (λ y. rest >>= (λ ys. Some (y ∷ ys)))) (title_read t)
+    ∙ ap (λ (o : Option (List (List ℕ))). o >>= (λ ys. Some (utf_8 t ∷ ys))) (titles_each ts)
+
+-- the titles of a document whose body has just these
+pub document_titles : (page : Page) (rs : List Rectangle) (body : List ℕ) (ps : List Path) (ts : List (List ℕ)) → Shows body ps ts → read_titles (head_text page ++ clips_text rs ++ body) ≡ Some (map utf_8 ts)
+unfolding read_titles
+document_titles page rs body ps ts shown =
+    let none : filter is_title (head_parts page ++ all_clips rs) ≡ [] = no_titles rs in
+    let found = filter-append is_title (head_parts page ++ all_clips rs) shown.parts ∙ (λ i. none i ++ shown.titles_are i) in
+    ap (λ (zs : List (List ℕ)). each (λ part. after (codes "<title>") part >>= resolved_text) (filter is_title zs)) (document_cut page rs body ps ts shown)
+    ∙ ap (λ (zs : List (List ℕ)). each (λ part. after (codes "<title>") part >>= resolved_text) zs) found
+    ∙ titles_each ts
+
 -- a document of this page, these clip paths and a body that has just these paths
-pub document_read : (page : Page) (rs : List Rectangle) (body : List ℕ) (ps : List Path) → Shows body ps → AreSmallRectangles rs → AreSmallPaths ps → AreClipped rs ps → read_svg (head_text page ++ clips_text rs ++ body) ≡ Some (read_paths (size_of page) ps)
+pub document_read : (page : Page) (rs : List Rectangle) (body : List ℕ) (ps : List Path) (ts : List (List ℕ)) → Shows body ps ts → AreSmallRectangles rs → AreSmallPaths ps → AreClipped rs ps → read_svg (head_text page ++ clips_text rs ++ body) ≡ Some (read_paths (size_of page) ps)
 unfolding read_svg
-document_read page rs body ps shown h k m =
+document_read page rs body ps ts shown h k m =
     let front = head_text page ++ clips_text rs in
     let all = document_parts page rs shown.parts in
     let cuts = more_parts is_less front body (head_parts page ++ all_clips rs) shown.parts (more_parts is_less (head_text page) (clips_text rs) (head_parts page) (all_clips rs) (head_cut page) (clips_cut rs)) shown.cuts in

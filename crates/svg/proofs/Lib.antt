@@ -12,6 +12,7 @@ pub mod PathReads
 pub mod ReadLaw
 pub mod SheetTitles
 pub mod Texts
+pub mod TitleReads
 pub mod TitleTexts
 mod Examples
 mod LabelExamples

@@ -14,8 +14,8 @@ use Rattle.svg.specs.Documents.{foot_text, open_text, sheet_text, sheets_text}
 use Rattle.svg.specs.Numbers.{colour_digits}
 use Rattle.svg.specs.Parts.{Part, Plain, Group, part_text, parts}
 use Rattle.svg.specs.Paths.{Path, clip_name, clipped_text, path_text}
-use Rattle.svg.specs.Reader.{has_only, is_element, is_known}
-use Rattle.svg.specs.Readings.{part_paths, parts_of_sheets, paths_in}
+use Rattle.svg.specs.Reader.{has_only, is_element, is_known, is_title}
+use Rattle.svg.specs.Readings.{part_paths, part_titles, parts_of_sheets, paths_in, titles}
 use Rattle.svg.specs.Sheets.{Sheet}
 use Rattle.svg.specs.Titles.{text_bytes}
 use Rattle.svg.proofs.PathReads.{IsColour, IsSmallPath, colour_plain, commands_plain, decimal_plain, is_less, is_quote, name_plain, no_less, no_quote, path_known}
@@ -25,11 +25,16 @@ use Rattle.svg.proofs.TitleTexts.{text_lacks}
 abbrev pub is_path : List ℕ → Bool
 is_path part = is_element (codes "<path") part
 
--- a text of elements has just these paths
-pub record Shows (text : List ℕ) (paths : List Path) : Type 0 where
+-- the start of a title, and its text
+abbrev pub title_part : List ℕ → List ℕ
+title_part text = codes "<title>" ++ text_bytes text
+
+-- a text of elements has just these paths and titles
+pub record Shows (text : List ℕ) (paths : List Path) (titles : List (List ℕ)) : Type 0 where
   pub parts : List (List ℕ)
   pub cuts : Cuts is_less text parts
   pub paths_are : filter is_path parts ≡ map path_text paths
+  pub titles_are : filter is_title parts ≡ map title_part titles
   pub known : list_all is_known parts ≡ true
 
 both_true : (a b : Bool) → a ≡ true → b ≡ true → (a && b) ≡ true
@@ -42,23 +47,25 @@ all_both (p ∷ ps) qs h k =
     let both = and_parts (is_known p) (list_all is_known ps) h in
     both_true (is_known p) (list_all is_known (ps ++ qs)) both.0 (all_both ps qs both.1 k)
 
-pub shows_none : Shows [] []
-shows_none = record { parts = []; cuts = no_parts is_less; paths_are = refl; known = refl }
+pub shows_none : Shows [] [] []
+shows_none = record { parts = []; cuts = no_parts is_less; paths_are = refl; titles_are = refl; known = refl }
 
-pub shows_both : (a b : List ℕ) (ps qs : List Path) → Shows a ps → Shows b qs → Shows (a ++ b) (ps ++ qs)
-shows_both a b ps qs h k = record {
+pub shows_both : {ts us : List (List ℕ)} (a b : List ℕ) (ps qs : List Path) → Shows a ps ts → Shows b qs us → Shows (a ++ b) (ps ++ qs) (ts ++ us)
+shows_both {ts} {us} a b ps qs h k = record {
   parts = h.parts ++ k.parts;
   cuts = more_parts is_less a b h.parts k.parts h.cuts k.cuts;
   paths_are = filter-append is_path h.parts k.parts ∙ (λ i. h.paths_are i ++ k.paths_are i) ∙ sym (map-append path_text ps qs);
+  titles_are = filter-append is_title h.parts k.parts ∙ (λ i. h.titles_are i ++ k.titles_are i) ∙ sym (map-append title_part ts us);
   known = all_both h.parts k.parts h.known k.known;
 }
 
--- an element that is no path
-pub shows_other : (text : List ℕ) → Lacks is_less text → is_path (60 ∷ text) ≡ false → is_known (60 ∷ text) ≡ true → Shows (60 ∷ text) []
-shows_other text h e k = record {
+-- an element that is no path and no title
+pub shows_other : (text : List ℕ) → Lacks is_less text → is_path (60 ∷ text) ≡ false → is_title (60 ∷ text) ≡ false → is_known (60 ∷ text) ≡ true → Shows (60 ∷ text) [] []
+shows_other text h e f k = record {
   parts = (60 ∷ text) ∷ [];
   cuts = one_part is_less 60 text refl h;
   paths_are = ap (λ (b : Bool). cond b ((60 ∷ text) ∷ []) []) e;
+  titles_are = ap (λ (b : Bool). cond b ((60 ∷ text) ∷ []) []) f;
   known = ap (λ (b : Bool). b && true) k;
 }
 
@@ -85,11 +92,12 @@ path_lacks pen paint width clip lines h =
     let x_in = add (k ++ codes " d=\"") (flat_map command_text lines) (add k (codes " d=\"") k_in refl) (no_less (flat_map command_text lines) (commands_plain lines)) in
     add x (codes "\"/>\n") x_in refl
 
-shows_path : (p : Path) → IsColour p.colour → Shows (path_text p) (p ∷ [])
+shows_path : (p : Path) → IsColour p.colour → Shows (path_text p) (p ∷ []) []
 shows_path p h = record {
   parts = path_text p ∷ [];
   cuts = one_part is_less 60 _ refl (path_lacks p.pen p.colour p.width p.clip p.commands h);
   paths_are = refl;
+  titles_are = refl;
   known = ap (λ (b : Bool). b && true) (path_known p h);
 }
 
@@ -106,31 +114,40 @@ small_rest : (ps qs : List Path) → AreSmallPaths (ps ++ qs) → AreSmallPaths 
 small_rest [] qs h = h
 small_rest (p ∷ ps) qs h = small_rest ps qs h.1
 
-shows_paths : (ps : List Path) → AreSmallPaths ps → Shows (flat_map path_text ps) ps
+shows_paths : (ps : List Path) → AreSmallPaths ps → Shows (flat_map path_text ps) ps []
 shows_paths [] h = shows_none
 shows_paths (p ∷ ps) h = shows_both (path_text p) (flat_map path_text ps) (p ∷ []) ps (shows_path p h.0.colour) (shows_paths ps h.1)
 
-shows_title : (text : List ℕ) → Shows (codes "<title>" ++ text_bytes text ++ codes "</title>\n") []
-shows_title text =
+title_start : (text : List ℕ) → Shows (title_part text) [] (text ∷ [])
+title_start text =
     let t = text_bytes text in
-    shows_both (codes "<title>" ++ t) (codes "</title>\n") [] [] (shows_other (codes "title>" ++ t) (lacks_both is_less (codes "title>") t refl (text_lacks text)) refl refl) (shows_other (codes "/title>\n") refl refl refl)
+    record {
+      parts = title_part text ∷ [];
+      cuts = one_part is_less 60 (codes "title>" ++ t) refl (lacks_both is_less (codes "title>") t refl (text_lacks text));
+      paths_are = refl;
+      titles_are = refl;
+      known = refl;
+    }
 
-shows_part : (part : Part) → AreSmallPaths (part_paths part) → Shows (part_text part) (part_paths part)
+shows_title : (text : List ℕ) → Shows (title_part text ++ codes "</title>\n") [] (text ∷ [])
+shows_title text = shows_both (title_part text) (codes "</title>\n") [] [] (title_start text) (shows_other (codes "/title>\n") refl refl refl refl)
+
+shows_part : (part : Part) → AreSmallPaths (part_paths part) → Shows (part_text part) (part_paths part) (part_titles part)
 shows_part (Plain ps) h = shows_paths ps h
 shows_part (Group text ps) h =
     let title = codes "<title>" ++ text_bytes text ++ codes "</title>\n" in
     let lines = flat_map path_text ps in
-    let P : List Path → Type 0 = λ qs. Shows (part_text (Group text ps)) qs in
+    let P : List Path → Type 0 = λ qs. Shows (part_text (Group text ps)) qs (text ∷ []) in
     subst P (append-nil ps) (shows_both (codes "<g>" ++ title ++ lines) (codes "</g>\n") ps []
-    (shows_both (codes "<g>" ++ title) lines [] ps (shows_both (codes "<g>") title [] [] (shows_other (codes "g>") refl refl refl) (shows_title text)) (shows_paths ps h)) (shows_other (codes "/g>\n") refl refl refl))
+    (shows_both (codes "<g>" ++ title) lines [] ps (shows_both (codes "<g>") title [] [] (shows_other (codes "g>") refl refl refl refl) (shows_title text)) (shows_paths ps h)) (shows_other (codes "/g>\n") refl refl refl refl))
 
-pub shows_parts : (ps : List Part) → AreSmallPaths (paths_in ps) → Shows (flat_map part_text ps) (paths_in ps)
+pub shows_parts : (ps : List Part) → AreSmallPaths (paths_in ps) → Shows (flat_map part_text ps) (paths_in ps) (titles ps)
 shows_parts [] h = shows_none
 shows_parts (p ∷ ps) h =
     shows_both (part_text p) (flat_map part_text ps) (part_paths p) (paths_in ps) (shows_part p (small_first (part_paths p) (paths_in ps) h)) (shows_parts ps (small_rest (part_paths p) (paths_in ps) h))
 
-pub shows_foot : Shows foot_text []
-shows_foot = shows_both (codes "</g>") (codes "</svg>\n") [] [] (shows_other (codes "/g>") refl refl refl) (shows_other (codes "/svg>\n") refl refl refl)
+pub shows_foot : Shows foot_text [] []
+shows_foot = shows_both (codes "</g>") (codes "</svg>\n") [] [] (shows_other (codes "/g>") refl refl refl refl) (shows_other (codes "/svg>\n") refl refl refl refl)
 
 -- the reader knows the start of a sheet
 open_known : (number : ℕ) → is_known (open_text number) ≡ true
@@ -141,24 +158,27 @@ open_known number =
     let are : AreWords 34 (codes " id=" ∷ name ∷ codes ">\n" ∷ []) = (refl, (name_in, (refl, tt))) in
     ap (λ (ws : List (List ℕ)). (has_only (codes "id" ∷ codes "fill" ∷ codes "stroke-linecap" ∷ codes "stroke-linejoin" ∷ []) ws || false) || false) (split_words 34 (codes " id=") (name ∷ codes ">\n" ∷ []) are)
 
-shows_sheet : (page : Page) (pens : PenSet) (number : ℕ) (sheet : Sheet) → AreSmallPaths (paths_in (parts page pens sheet.strokes sheet.labels)) → Shows (sheet_text page pens number sheet) (paths_in (parts page pens sheet.strokes sheet.labels))
+shows_sheet : (page : Page) (pens : PenSet) (number : ℕ) (sheet : Sheet) → AreSmallPaths (paths_in (parts page pens sheet.strokes sheet.labels)) → Shows (sheet_text page pens number sheet) (paths_in (parts page pens sheet.strokes sheet.labels)) (titles (parts page pens sheet.strokes sheet.labels))
 shows_sheet page pens number sheet h =
     let n = decimal number in
     let ps = parts page pens sheet.strokes sheet.labels in
     let lines = flat_map part_text ps in
     let open_in = lacks_both is_less (codes "g id=\"sheet-" ++ n) (codes "\">\n") (lacks_both is_less (codes "g id=\"sheet-") n refl (no_less n (decimal_plain number))) refl in
-    let P : List Path → Type 0 = λ qs. Shows (sheet_text page pens number sheet) qs in
-    subst P (append-nil (paths_in ps)) (shows_both (open_text number ++ lines) (codes "</g>\n") (paths_in ps) []
-    (shows_both (open_text number) lines [] (paths_in ps) (shows_other (codes "g id=\"sheet-" ++ n ++ codes "\">\n") open_in refl (open_known number)) (shows_parts ps h)) (shows_other (codes "/g>\n") refl refl refl))
+    let P : List Path → Type 0 = λ qs. Shows (sheet_text page pens number sheet) qs (titles ps) in
+    let T : List (List ℕ) → Type 0 = λ ts. Shows (sheet_text page pens number sheet) (paths_in ps ++ []) ts in
+    subst P (append-nil (paths_in ps)) (subst T (append-nil (titles ps)) (shows_both (open_text number ++ lines) (codes "</g>\n") (paths_in ps) []
+    (shows_both (open_text number) lines [] (paths_in ps) (shows_other (codes "g id=\"sheet-" ++ n ++ codes "\">\n") open_in refl refl (open_known number)) (shows_parts ps h)) (shows_other (codes "/g>\n") refl refl refl refl)))
 
-pub shows_sheets : (page : Page) (pens : PenSet) (before : ℕ) (sheets : List Sheet) → AreSmallPaths (paths_in (parts_of_sheets page pens sheets)) → Shows (sheets_text page pens before sheets) (paths_in (parts_of_sheets page pens sheets))
+pub shows_sheets : (page : Page) (pens : PenSet) (before : ℕ) (sheets : List Sheet) → AreSmallPaths (paths_in (parts_of_sheets page pens sheets)) → Shows (sheets_text page pens before sheets) (paths_in (parts_of_sheets page pens sheets)) (titles (parts_of_sheets page pens sheets))
 shows_sheets page pens before [] h = shows_none
 shows_sheets page pens before (sheet ∷ sheets) h =
     let first = parts page pens sheet.strokes sheet.labels in
     let others = parts_of_sheets page pens sheets in
     let same : paths_in (first ++ others) ≡ paths_in first ++ paths_in others = flat_map-append part_paths first others in
     let S : List Path → Type 0 = λ qs. AreSmallPaths qs in
-    let P : List Path → Type 0 = λ qs. Shows (sheets_text page pens before (sheet ∷ sheets)) qs in
+    let named : titles (first ++ others) ≡ titles first ++ titles others = flat_map-append part_titles first others in
+    let P : List Path → Type 0 = λ qs. Shows (sheets_text page pens before (sheet ∷ sheets)) qs (titles (first ++ others)) in
+    let T : List (List ℕ) → Type 0 = λ ts. Shows (sheets_text page pens before (sheet ∷ sheets)) (paths_in first ++ paths_in others) ts in
     let small = subst S same h in
-    subst P (sym same) (shows_both (sheet_text page pens (before + 1) sheet) (sheets_text page pens (before + 1) sheets) (paths_in first) (paths_in others)
-    (shows_sheet page pens (before + 1) sheet (small_first (paths_in first) (paths_in others) small)) (shows_sheets page pens (before + 1) sheets (small_rest (paths_in first) (paths_in others) small)))
+    subst P (sym same) (subst T (sym named) (shows_both (sheet_text page pens (before + 1) sheet) (sheets_text page pens (before + 1) sheets) (paths_in first) (paths_in others)
+    (shows_sheet page pens (before + 1) sheet (small_first (paths_in first) (paths_in others) small)) (shows_sheets page pens (before + 1) sheets (small_rest (paths_in first) (paths_in others) small))))

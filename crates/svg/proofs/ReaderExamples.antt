@@ -2,7 +2,7 @@
 use Rattle.std.proofs.Common.{◌≡◌, ℕ, pos, negsuc, List, [], ◌∷◌, ◌++◌, Some, None, codes, map, refl}
 use Rattle.svg.specs.Commands.{LineBy, LineTo, MoveBy, MoveTo}
 use Rattle.number_text.specs.Readings.{split}
-use Rattle.svg.specs.Reader.{colour, commands, elements, place, read_svg, value}
+use Rattle.svg.specs.Reader.{colour, commands, elements, place, read_svg, read_titles, value}
 
 -- what lies between quotation marks, and outside of them
 words : split 0x22 (codes " x=\"1\" y=\"\"/>") ≡ codes " x=" ∷ codes "1" ∷ codes " y=" ∷ [] ∷ codes "/>" ∷ []
@@ -64,3 +64,14 @@ in_a_group : read_svg (head ++ codes "<g id=\"a\">" ++ line ++ codes "</g></svg>
     ≡ Some (record { pen = 1; colour = record { red = 0; green = 0; blue = 255 }; width = 56; window = record { x0 = pos 0; y0 = pos 0; x1 = pos 32; y1 = pos 16 }; ax = pos 1; ay = pos 14; bx = pos 3; by = pos 16 } ∷ [])
 unfolding read_svg
 in_a_group = refl
+
+-- references are resolved, and other bytes are as they are
+titles_read : read_titles (head ++ codes "<g><title>A&amp;B&lt;\"C\"&gt;&amp;amp;</title>" ++ line ++ codes "</g><g><title></title></g></svg>")
+    ≡ Some (codes "<path/>" ∷ codes "A&B<\"C\">&amp;" ∷ [] ∷ [])
+unfolding read_titles
+titles_read = refl
+
+-- another reference is not known
+no_reference : read_titles (codes "<title>A&quot;</title>") ≡ None
+unfolding read_titles
+no_reference = refl

@@ -3,8 +3,8 @@
 use Rattle.std.specs.Prelude.{ℕ, ◌==◌, ◌&&◌, ◌||◌, Bool, false, List, [], ◌∷◌, ◌++◌, length, filter, Option, Some, None, if◌then◌else◌, codes}
 use Rattle.std.specs.Char.{is_digit}
 use Rattle.std.specs.Int.{is_in_range}
-use Rattle.std.specs.List.{find, list_all, list_any, starts_with}
-use Rattle.std.specs.Option.{option_map}
+use Rattle.std.specs.List.{concat, find, list_all, list_any, starts_with}
+use Rattle.std.specs.Option.{option_map, option_or}
 use Rattle.std.specs.Prelude.{nat_eq}
 use Rattle.number_text.specs.Readings.{after, byte, cut, each, given, integer, is_text, number, split, ◌>>=◌}
 use Rattle.plot_page.specs.Segments.{Segment}
@@ -14,7 +14,7 @@ use Rattle.svg.specs.declared.places.Rectangle.{Rectangle}
 use Rattle.svg.specs.Commands.{Command, MoveTo, LineTo, MoveBy, LineBy}
 use Rattle.svg.specs.Paths.{Path}
 use Rattle.svg.specs.Readings.{Size, read_paths}
-use Rattle.svg.specs.Titles.{less_than}
+use Rattle.svg.specs.Titles.{ampersand, greater_than, less_than}
 
 -- x and y
 abbrev pub place_in : List (List ℕ) → Option Place
@@ -195,3 +195,23 @@ read_elements parts = given (list_all is_known parts) (read_known parts)
 -- the strokes of a document, by its bytes
 unfoldable pub read_svg : List ℕ → Option (List Segment)
 read_svg document = read_elements (elements document)
+
+-- a reference, and the text after it
+abbrev pub resolved : List ℕ → Option (List ℕ)
+resolved text =
+    option_or (option_map (λ rest. ampersand ∷ rest) (after (codes "&amp;") text))
+    (option_or (option_map (λ rest. less_than ∷ rest) (after (codes "&lt;") text))
+    (option_map (λ rest. greater_than ∷ rest) (after (codes "&gt;") text)))
+
+-- a text whose references are resolved
+abbrev pub resolved_text : List ℕ → Option (List ℕ)
+resolved_text text = do
+  rest ← each resolved (cut (λ c. c == ampersand) text).parts
+  Some ((cut (λ c. c == ampersand) text).front ++ concat rest)
+
+abbrev pub is_title : List ℕ → Bool
+is_title part = begins part (codes "<title>")
+
+-- the texts of the titles of a document, in UTF-8, by its bytes
+unfoldable pub read_titles : List ℕ → Option (List (List ℕ))
+read_titles document = each (λ part. after (codes "<title>") part >>= resolved_text) (filter is_title (elements document))

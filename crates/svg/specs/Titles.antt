@@ -56,5 +56,9 @@ character_text c =
 abbrev pub text_bytes : List ℕ → List ℕ
 text_bytes text = flat_map (λ c. character_text (character c)) text
 
+-- the same without references
+abbrev pub utf_8 : List ℕ → List ℕ
+utf_8 text = flat_map (λ c. encode_utf8 (character c)) text
+
 abbrev pub title_text : List ℕ → List ℕ
 title_text text = codes "<title>" ++ text_bytes text ++ codes "</title>\n"

@@ -8,9 +8,9 @@ ghost use Rattle.svg.specs.Documents.{foot_text, sheets_bytes, start_text, svg_b
 ghost use Rattle.svg.specs.Parts.{AreInOrder, cut_labels, parts};
 ghost use Rattle.svg.specs.Paths.{clip_name, paths_text};
 ghost use Rattle.svg.specs.Readings.{parts_of_sheets, paths_in, read_parts, read_sheets, size_of, titles};
-ghost use Rattle.svg.specs.Reader.{read_svg};
+ghost use Rattle.svg.specs.Reader.{read_svg, read_titles};
 ghost use Rattle.svg.specs.Sheets.{EndsAfter, labelled_sheets};
-ghost use Rattle.svg.specs.Titles.{label_text};
+ghost use Rattle.svg.specs.Titles.{label_text, utf_8};
 
 use labels::Label;
 use plot_page::{Page, PenSet, Stroke};
@@ -101,6 +101,29 @@ pub fn sheets_read_back(
 )
     ensures { read_svg (sheets_bytes page.now pens.now strokes.now ends.now labels.now)
         ≡ Some (map widened (drawn pens.now strokes.now)) }
+{
+    strokes_are_in_range(strokes);
+}
+
+/// They have the titles of the document, too: in UTF-8, in which U+FFFD replaces what XML does not have.
+pub fn titles_read_back(page: &Page, pens: &PenSet, strokes: &[Stroke], labels: &[Label])
+    ensures { read_titles (svg_bytes page.now pens.now strokes.now labels.now)
+        ≡ Some (map utf_8 (titles (parts page.now pens.now strokes.now labels.now))) }
+{
+    strokes_are_in_range(strokes);
+}
+
+/// So have the bytes of a document of sheets.
+pub fn sheet_titles_read_back(
+    page: &Page,
+    pens: &PenSet,
+    strokes: &[Stroke],
+    ends: &[usize],
+    labels: &[Label],
+)
+    ensures { read_titles (sheets_bytes page.now pens.now strokes.now ends.now labels.now)
+        ≡ Some (map utf_8
+        (titles (parts_of_sheets page.now pens.now (labelled_sheets strokes.now ends.now labels.now)))) }
 {
     strokes_are_in_range(strokes);
 }

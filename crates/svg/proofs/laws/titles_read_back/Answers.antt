@@ -1,0 +1,5 @@
+use Rattle.svg.proofs.BytesLaw.{titles_read}
+use Rattle.svg.proofs.laws.titles_read_back.Goals as goal
+
+pub returns : goal.returns
+returns c = titles_read c.args.page.now c.args.pens.now c.args.strokes.now c.args.labels.now c.strokes_are_in_range.ensures
