@@ -23,6 +23,9 @@ alone status = grind arith
 both_status : (s t x y z : ℕ) → s ≡ x → t ≡ y → z ≡ max x y → max s t ≡ z
 both_status s t x y z first next is = grind (arith, first, next, is)
 
+zero_max : (t : ℕ) → max 0 t ≡ t
+zero_max t = grind arith
+
 left_zero : (s t : ℕ) → max s t ≡ 0 → s ≡ 0
 left_zero s t zero = grind (arith, zero)
 
@@ -305,6 +308,25 @@ module _ {D : Type 0} (does : D → Deed → D → Type 0) (plots : Option FileI
     status_is = both_status s t (status_after first.deeds) (status_after next.deeds) _ first.status_is next.status_is (status_append first.deeds next.deeds);
     ends = tt;
     whole = λ zero. whole first.deeds next.deeds (first.whole (left_zero s t zero)) (next.whole (right_zero s t zero));
+  }
+
+  -- the same after what went well
+  pub after_success : (W V IsWhole : List Deed → Type 0) (a m b : D) (t : ℕ) → Delivers does plots a m 0 Anything Anything W → Delivers does plots m b t Anything Anything V
+      → ((xs ys : List Deed) → W xs → V ys → IsWhole (xs ++ ys)) → Delivers does plots a b t Anything Anything IsWhole
+  after_success W V IsWhole a m b t first next whole =
+      subst (λ (s : ℕ). Delivers does plots a b s Anything Anything IsWhole) (zero_max t) (both W V IsWhole a m b 0 t first next whole)
+
+  -- what went wrong
+  pub gone_wrong : (W IsWhole : List Deed → Type 0) (a b : D) (s : ℕ) → Delivers does plots a b s Anything Anything W → 0 < s
+      → Delivers does plots a b s Anything Anything IsWhole
+  gone_wrong W IsWhole a b s wrong some = record {
+    deeds = wrong.deeds;
+    done = wrong.done;
+    allowed = wrong.allowed;
+    followed = wrong.followed;
+    status_is = wrong.status_is;
+    ends = tt;
+    whole = λ zero. absurd (positive s some zero);
   }
 
   -- nothing yet

@@ -1,6 +1,7 @@
 -- Plots that stay plots, and sheets one after another.
-use Rattle.std.proofs.Common.{◌≡◌, ◌<◌, ◌≤◌, ◌+◌, ◌++◌, ◌∙◌, ◌∷◌, ◌⊎◌, ℕ, Bool, List, [], Option, None, Some, inl, inr, arith, subst, sym}
+use Rattle.std.proofs.Common.{◌≡◌, ◌<◌, ◌≤◌, ◌+◌, ◌++◌, ◌∙◌, ◌∷◌, ◌⊎◌, ℕ, Bool, List, [], Option, None, Some, inl, inr, arith, subst, sym, Bor, ap, get_or, length, map, take}
 use Rattle.std.proofs.lemmas.Bool.{cases_lt}
+use Rattle.std.proofs.lemmas.List.{map-append, take_all, take_more}
 use Rattle.output_files.specs.declared.claims.Claims.{Claims}
 use Rattle.output_files.specs.declared.file_id.FileId.{FileId}
 use Rattle.output_files.specs.Claims.{has_plot}
@@ -74,3 +75,14 @@ pub plots_more : (folder extension file : List ℕ) (files : List (List ℕ)) (x
 plots_more folder extension file [] xs ys before put = (plot_right folder extension file xs ys put, tt)
 plots_more folder extension file (f ∷ files) xs ys before put =
     (plot_left folder extension f xs ys before.0, plots_more folder extension file files xs ys before.1 put)
+
+-- the texts of files up to one more
+pub texts_more : (files : List (Bor (List ℕ))) (i : ℕ) (other : Bor (List ℕ)) → i < length files
+    → map (λ (file : Bor (List ℕ)). file.now) (take (i + 1) files) ≡ map (λ (file : Bor (List ℕ)). file.now) (take i files) ++ (get_or files i other).now ∷ []
+texts_more files i other within =
+    ap (map (λ (file : Bor (List ℕ)). file.now)) (take_more files i other within)
+    ∙ map-append (λ (file : Bor (List ℕ)). file.now) (take i files) (get_or files i other ∷ [])
+
+-- all of them
+pub texts_all : (files : List (Bor (List ℕ))) (i : ℕ) → length files ≤ i → take i files ≡ files
+texts_all files i past = take_all i files past

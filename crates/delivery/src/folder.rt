@@ -1,5 +1,5 @@
 //! Plots whose output goes into a folder: a file of its own for each plot, or for each of its sheets.
-ghost use Rattle.std.specs.Prelude.{◌≡◌, ℕ, Bool, Option, Some, IfOk, map, string_bytes};
+ghost use Rattle.std.specs.Prelude.{◌≡◌, ◌<◌, ℕ, Bool, Option, Some, IfErr, IfOk, map, string_bytes};
 ghost use Rattle.output_files.specs.Names.{file_name};
 ghost use Rattle.output_files.specs.declared.file_id.FileId.{FileId};
 ghost use Rattle.delivery.specs.Deliveries.{Anything, Delivers, IsPut};
@@ -196,8 +196,9 @@ fn deliver_all<D: Desk, S: Sheets>(
 
 // Opens a plot, or says why it cannot be opened.
 fn open_plot<D: Desk>(desk: &mut D, reasons: Reasons, path: &str) -> Result<D::Plot, u8>
-    ensures { (plots : Option FileId → Bool) →
+    ensures opens { (plots : Option FileId → Bool) →
         Delivers D.does plots desk.old desk.new (refused_status result) Anything Anything (IsOpened path.now) }
+    ensures failed { IfErr result (λ status. 0 < status) }
 {
     match reasons {
         Reasons::InMessage => open_file(desk, path),
@@ -207,8 +208,9 @@ fn open_plot<D: Desk>(desk: &mut D, reasons: Reasons, path: &str) -> Result<D::P
 
 // Opens a plot that is no folder.
 fn open_file<D: Desk>(desk: &mut D, path: &str) -> Result<D::Plot, u8>
-    ensures { (plots : Option FileId → Bool) →
+    ensures opens { (plots : Option FileId → Bool) →
         Delivers D.does plots desk.old desk.new (refused_status result) Anything Anything (IsOpened path.now) }
+    ensures failed { IfErr result (λ status. 0 < status) }
 {
     if has_folder(desk, path) {
         return Err(refuse_folder(desk, path));
@@ -218,8 +220,9 @@ fn open_file<D: Desk>(desk: &mut D, path: &str) -> Result<D::Plot, u8>
 
 // Opens a plot, which may be a folder.
 fn open_any<D: Desk>(desk: &mut D, reasons: Reasons, path: &str) -> Result<D::Plot, u8>
-    ensures { (plots : Option FileId → Bool) →
+    ensures opens { (plots : Option FileId → Bool) →
         Delivers D.does plots desk.old desk.new (refused_status result) Anything Anything (IsOpened path.now) }
+    ensures failed { IfErr result (λ status. 0 < status) }
 {
     match desk.open(path) {
         Ok(plot) => Ok(plot),
