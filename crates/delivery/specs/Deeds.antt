@@ -61,3 +61,11 @@ abbrev pub status_of : Ending → ℕ
 status_of Whole = 0
 status_of (Kept status) = status
 status_of (Lost status) = status
+
+-- how a writing ended was said, and this is its exit status
+abbrev pub HasSaid : {D : Type 0} → (D → Deed → D → Type 0) → D → ℕ → D → Type 0
+HasSaid does before status after = (ending : Ending) × Says does before ending after × (status ≡ status_of ending)
+
+-- some remarks were made, and nothing else
+abbrev pub Remarks : {D : Type 0} → (D → Deed → D → Type 0) → D → D → Type 0
+Remarks does before after = Says does before Whole after

@@ -52,8 +52,8 @@ pub trait Desk {
     fn reach(&mut self, path: &str) -> Result<Self::File, Error>
         ensures { does self.old (Deed.reached path.now (is_ok result)) self.new };
 
-    /// Has the system store all of a file that has this path.
-    fn sync(&mut self, path: &str, file: &Self::File) -> Result<(), Error>
+    /// Has the system store all of a file that has this path, and closes it.
+    fn sync(&mut self, path: &str, file: Self::File) -> Result<(), Error>
         ensures { does self.old (Deed.synced path.now (is_ok result)) self.new };
 
     /// Gives a file another path, and removes what had it.

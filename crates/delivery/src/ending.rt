@@ -3,6 +3,7 @@ ghost use Rattle.delivery.specs.Deeds.{IsFailure, Says};
 ghost use Rattle.std.specs.Prelude.{◌≡◌};
 ghost use Rattle.delivery.specs.declared.ending.Ending.{Ending};
 
+use crate::about::About;
 use crate::desk::Desk;
 use std::io::Write;
 
@@ -39,7 +40,7 @@ pub trait Answer {
     fn unstored(&self) -> Self
         ensures { IsFailure (ends result) };
 
-    /// Says why the writing failed, or what a user should know of what was written.
-    fn tell<D: Desk>(&self, desk: &mut D)
+    /// Says why the writing failed, or what a user should know of what was written; messages are about this.
+    fn tell<D: Desk>(&self, desk: &mut D, about: About<'_>)
         ensures { Says D.does desk.old (ends self.now) desk.new };
 }

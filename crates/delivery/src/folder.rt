@@ -47,7 +47,7 @@ fn deliver_claimed<D: Desk, C: Content>(
         Delivers D.does plots desk.old desk.new result Anything Anything (IsPut claimed.entry.path.now) }
 {
     let path = claimed.path;
-    let about = &target.about;
+    let about = target.about;
     match claimed.claim {
         Claim::Free => {
             let scene = Scene {
@@ -57,8 +57,8 @@ fn deliver_claimed<D: Desk, C: Content>(
             };
             deliver_to(desk, alloc, scene, content, path)
         }
-        Claim::Taken => cannot_write(desk, about, path, &"it is written for another plot"),
-        Claim::Plot => refuse_plot(desk, about, target.are_several, path),
+        Claim::Taken => cannot_write(desk, &about, path, &"it is written for another plot"),
+        Claim::Plot => refuse_plot(desk, &about, target.are_several, path),
     }
 }
 
@@ -194,8 +194,8 @@ fn deliver_all<D: Desk, S: Sheets>(
     status
 }
 
-// Opens a plot, or says why it cannot be opened.
-fn open_plot<D: Desk>(desk: &mut D, reasons: Reasons, path: &str) -> Result<D::Plot, u8>
+/// Opens a plot, or says why it cannot be opened, and ends with that exit status.
+pub fn open_plot<D: Desk>(desk: &mut D, reasons: Reasons, path: &str) -> Result<D::Plot, u8>
     ensures opens { (plots : Option FileId → Bool) →
         Delivers D.does plots desk.old desk.new (refused_status result) Anything Anything (IsOpened path.now) }
     ensures failed { IfErr result (λ status. 0 < status) }
@@ -261,6 +261,7 @@ fn deliver_opened<D: Desk, W: Work>(
     let content = PlotOf {
         work,
         about: target.about,
+        file: target.file,
         plot,
     };
     deliver_claimed(desk, alloc, claims, target, content, claimed)

@@ -3,33 +3,34 @@ ghost use Rattle.std.specs.Prelude.{◌≡◌, ◌<◌, ℕ, Bool, Option};
 ghost use Rattle.output_files.specs.declared.file_id.FileId.{FileId};
 ghost use Rattle.output_files.specs.Claims.{is_plot};
 ghost use Rattle.delivery.specs.Care.{HasNoPlotAt, IsSettled, is_file, is_open_file, part_of};
-ghost use Rattle.delivery.specs.Deeds.{IsFailure, status_of};
+ghost use Rattle.delivery.specs.Deeds.{HasSaid, IsFailure, status_of};
 ghost use Rattle.delivery.specs.Folders.{LooksForFolder, is_folder};
 ghost use Rattle.delivery.specs.Deliveries.{Anything, Delivers, IsLeft, IsMade, IsNamed, IsPut, IsReachable, IsStored, IsToBeNamed, IsWritten, LooksAt, LooksForDevice, Never};
 
+use crate::about::About;
 use crate::desk::{Desk, Kind};
 use crate::ending::{Answer, Content, Ending};
 use crate::messages::{refuse_memory, refuse_plot, refuse_write};
 use output_files::{Claims, FileId};
 use std::alloc::Global;
-use std::fmt::Display;
+use std::io::Write;
 
 /// What a run knows when it writes an output: the plots that it reads, whether there are several, and what it says messages
 /// are about.
 #[derive(Clone, Copy)]
-pub struct Scene<'a, A: Display> {
+pub struct Scene<'a> {
     pub plots: &'a Claims,
     pub are_several: bool,
-    pub about: &'a A,
+    pub about: About<'a>,
 }
 
 /// Writes the content into what has this path, if that is open already or no regular file. Else it is written into a new
 /// file of the name `PATH.part`, which gets its name if all was written and stored, and stays or is removed if not.
 /// No plot is written, renamed over or removed but one that has this very path.
-pub fn deliver_to<D: Desk, A: Display, C: Content>(
+pub fn deliver_to<D: Desk, C: Content>(
     desk: &mut D,
     alloc: Global,
-    scene: Scene<'_, A>,
+    scene: Scene<'_>,
     content: C,
     path: &str,
 ) -> u8
@@ -91,23 +92,32 @@ fn is_open_file(path: &str) -> bool
 }
 
 // Writes the content into what has this path.
-fn write_device<D: Desk, A: Display, C: Content>(
-    desk: &mut D,
-    about: &A,
-    content: C,
-    path: &str,
-) -> u8
+fn write_device<D: Desk, C: Content>(desk: &mut D, about: About<'_>, content: C, path: &str) -> u8
     ensures { (plots : Option FileId → Bool) → Delivers D.does plots desk.old desk.new result
         (IsReachable path.now) Anything (IsPut path.now) }
 {
     match desk.reach(path) {
         Ok(device) => {
             let (_, answer) = content.write(device);
-            answer.tell(desk);
+            answer.tell(desk, about);
             status_of(answer.ending())
         }
-        Err(error) => refuse_write(desk, about, path, &error),
+        Err(error) => refuse_write(desk, &about, path, &error),
     }
+}
+
+/// Writes the content to a stream, such as standard output, which is not synced.
+pub fn write_stream<D: Desk, C: Content, W: Write + Drop>(
+    desk: &mut D,
+    about: About<'_>,
+    content: C,
+    to: W,
+) -> u8
+    ensures { HasSaid D.does desk.old result desk.new }
+{
+    let (_, answer) = content.write(to);
+    answer.tell(desk, about);
+    status_of(answer.ending())
 }
 
 // The exit status.
@@ -121,21 +131,21 @@ fn status_of(ending: Ending) -> u8
 }
 
 // Writes the content into a file of another name beside the one that is asked for.
-fn write_file<D: Desk, A: Display, C: Content>(
+fn write_file<D: Desk, C: Content>(
     desk: &mut D,
     alloc: Global,
-    scene: Scene<'_, A>,
+    scene: Scene<'_>,
     content: C,
     path: &str,
 ) -> u8
     ensures { Delivers D.does (is_plot scene.entry.plots.now) desk.old desk.new result Anything Anything (IsNamed path.now) }
 {
     let Ok(part) = format!(in alloc; "{path}.part") else {
-        return refuse_memory(desk, scene.about);
+        return refuse_memory(desk, &scene.about);
     };
     let part = part.as_str();
     if scene.plots.is_plot(id_at(desk, part)) {
-        return refuse_plot(desk, scene.about, scene.are_several, part);
+        return refuse_plot(desk, &scene.about, scene.are_several, part);
     }
     make(desk, scene.about, content, part, path)
 }
@@ -151,9 +161,9 @@ pub(crate) fn id_at<D: Desk>(desk: &mut D, path: &str) -> Option<FileId>
 }
 
 // Makes the file, which may replace an older one, and fills it.
-fn make<D: Desk, A: Display, C: Content>(
+fn make<D: Desk, C: Content>(
     desk: &mut D,
-    about: &A,
+    about: About<'_>,
     content: C,
     part: &str,
     path: &str,
@@ -166,30 +176,30 @@ fn make<D: Desk, A: Display, C: Content>(
     desk.remove(part);
     match desk.create(part) {
         Ok(file) => fill(desk, about, content, file, part, path),
-        Err(error) => refuse_write(desk, about, part, &error),
+        Err(error) => refuse_write(desk, &about, part, &error),
     }
 }
 
 // Gives a file that is stored its name. The exit status is 0 only if it has it.
-fn give_name<D: Desk, A: Display>(desk: &mut D, about: &A, part: &str, path: &str) -> u8
+fn give_name<D: Desk>(desk: &mut D, about: About<'_>, part: &str, path: &str) -> u8
     requires { part.now ≡ part_of path.now }
     ensures { (plots : Option FileId → Bool) → Delivers D.does plots desk.old desk.new result
         (IsStored part.now) (IsToBeNamed part.now path.now) (IsNamed path.now) }
 {
     match desk.rename(part, path) {
         Ok(()) => 0,
-        Err(error) => refuse_write(desk, about, path, &error),
+        Err(error) => refuse_write(desk, &about, path, &error),
     }
 }
 
 // Says why a writing failed, and removes what is of no use.
-fn leave<D: Desk, A: Answer>(desk: &mut D, answer: &A, part: &str) -> u8
+fn leave<D: Desk, A: Answer>(desk: &mut D, about: About<'_>, answer: &A, part: &str) -> u8
     requires { IsFailure (A.ends answer.now) }
     ensures { (plots : Option FileId → Bool) → Delivers D.does plots desk.old desk.new result
         (λ earlier. HasNoPlotAt plots earlier part.now) (IsLeft (A.ends answer.now) part.now) Never }
 {
     let ending = answer.ending();
-    answer.tell(desk);
+    answer.tell(desk, about);
     match ending {
         Ending::Whole => 0,
         Ending::Kept(status) => status,
@@ -201,11 +211,11 @@ fn leave<D: Desk, A: Answer>(desk: &mut D, answer: &A, part: &str) -> u8
 }
 
 // Has the system store what was written whole, and gives it its name.
-fn store<D: Desk, A: Display, B: Answer + Drop>(
+fn store<D: Desk, B: Answer + Drop>(
     desk: &mut D,
-    about: &A,
+    about: About<'_>,
     answer: B,
-    file: &D::File,
+    file: D::File,
     part: &str,
     path: &str,
 ) -> u8
@@ -216,20 +226,20 @@ fn store<D: Desk, A: Display, B: Answer + Drop>(
 {
     match desk.sync(part, file) {
         Ok(()) => {
-            answer.tell(desk);
+            answer.tell(desk, about);
             give_name(desk, about, part, path)
         }
         Err(_) => {
             let answer = answer.unstored();
-            leave(desk, &answer, part)
+            leave(desk, about, &answer, part)
         }
     }
 }
 
 // Writes the content into its file, which then gets its name, stays or is removed.
-fn fill<D: Desk, A: Display, C: Content>(
+fn fill<D: Desk, C: Content>(
     desk: &mut D,
-    about: &A,
+    about: About<'_>,
     content: C,
     file: D::File,
     part: &str,
@@ -241,7 +251,11 @@ fn fill<D: Desk, A: Display, C: Content>(
 {
     let (file, answer) = content.write(file);
     match answer.ending() {
-        Ending::Whole => store(desk, about, answer, &file, part, path),
-        Ending::Kept(_) | Ending::Lost(_) => leave(desk, &answer, part),
+        Ending::Whole => store(desk, about, answer, file, part, path),
+        Ending::Kept(_) | Ending::Lost(_) => {
+            // It is closed first, since what is said could go into it, if standard error was closed.
+            drop(file);
+            leave(desk, about, &answer, part)
+        }
     }
 }

@@ -43,10 +43,11 @@ pub trait Work {
     /// Whether each sheet is to have a file of its own.
     fn has_sheets_apart(&self) -> bool;
 
-    /// Reads a plot and writes its output, about which messages say this.
+    /// Reads a plot, whose file has this path, and writes its output, about which messages say this.
     fn write<R: Read + Drop, W: Write + Drop>(
         &self,
         about: About<'_>,
+        file: &str,
         plot: R,
         to: W,
     ) -> (W, Self::Answer);
@@ -60,6 +61,7 @@ pub trait Work {
 pub struct PlotOf<'a, W: Work, R: Read> {
     pub work: &'a W,
     pub about: About<'a>,
+    pub file: &'a str,
     pub plot: R,
 }
 
@@ -67,8 +69,13 @@ impl<W: Work, R: Read + Drop> Content for PlotOf<'_, W, R> {
     type Answer = W::Answer;
 
     fn write<T: Write + Drop>(self, to: T) -> (T, W::Answer) {
-        let PlotOf { work, about, plot } = self;
-        work.write(about, plot, to)
+        let PlotOf {
+            work,
+            about,
+            file,
+            plot,
+        } = self;
+        work.write(about, file, plot, to)
     }
 }
 

@@ -1,4 +1,4 @@
--- What becomes of an output that is written under a name of its own until it is whole.
+-- How a run ends, for its output, which is written under a name of its own until it is whole.
 use Rattle.std.specs.Prelude.{ℕ, Result, Ok, Err}
 use Rattle.command_line.specs.declared.line.Task.{Task}
 use Rattle.command_line.specs.declared.line.Task.TheVariants.{Report}
@@ -7,15 +7,18 @@ use Rattle.picture_job.specs.declared.picture.Picture.TheVariants.{Rows, Png, Ve
 use Rattle.conversion.specs.declared.outcome.Outcome.{Outcome}
 use Rattle.conversion.specs.declared.fault.Fault.{Fault}
 use Rattle.conversion.specs.declared.fault.Fault.TheVariants.{Unfinished, Write}
-use Rattle.plotraster.specs.declared.endings.Part.{Part}
-use Rattle.plotraster.specs.declared.endings.Part.TheVariants.{Named, Kept, Removed}
+use Rattle.conversion.specs.Faults.{status_of}
+use Rattle.delivery.specs.declared.ending.Ending.{Ending}
+use Rattle.delivery.specs.declared.ending.Ending.TheVariants.{Whole, Kept, Lost}
 
--- it gets its name if all was written, it stays if a later run can go on from the row where the write failed, and is
--- removed otherwise
-abbrev pub part_after : Result Outcome Fault → Part
-part_after (Ok _) = Named
-part_after (Err (Write row whole bytes)) = Kept
-part_after (Err _) = Removed
+-- of use to a later run is a form of which some rows are there; a document that is not whole is of no use
+abbrev pub ending_after : Fault → Ending
+ending_after (Write row whole bytes) = Kept (status_of (Write row whole bytes))
+ending_after fault = Lost (status_of fault)
+
+abbrev pub ending_of : Result Outcome Fault → Ending
+ending_of (Ok _) = Whole
+ending_of (Err fault) = ending_after fault
 
 -- a failed write before this row, the first one of a run
 abbrev pub nothing_written : ℕ → Fault

@@ -1,31 +1,28 @@
 //! What becomes of an output that is written under a name of its own until it is whole.
 ghost use Rattle.std.specs.Prelude.{◌≡◌};
-ghost use Rattle.plotraster.specs.Endings.{fault_of_sync, nothing_written, part_after};
+ghost use Rattle.plotraster.specs.Endings.{ending_after, ending_of, fault_of_sync, nothing_written};
 
 use command_line::Task;
-use conversion::{Fault, Outcome};
+use conversion::{Fault, Outcome, status};
+use delivery::Ending;
 use picture_job::Picture;
 
-/// What becomes of a file `PATH.part`, which a run writes instead of `PATH`.
-#[derive(Clone, Copy, Debug, PartialEq, Eq)]
-pub enum Part {
-    /// It gets its name, `PATH`.
-    Named,
-    /// It stays, since a later run can go on after it.
-    Kept,
-    /// It is removed.
-    Removed,
-}
-
-/// What becomes of the file after a run: it gets its name if all was written, it stays after a failed write of a form, and
-/// else it is removed.
-pub fn part_after(outcome: &Result<Outcome, Fault>) -> Part
-    ensures { result ≡ part_after outcome.now }
+/// How a run ended, for its output: whole; of use to a later run, after a failed write of a form; or of no use.
+pub fn ending_of(outcome: &Result<Outcome, Fault>) -> Ending
+    ensures { result ≡ ending_of outcome.now }
 {
     match outcome {
-        Ok(_) => Part::Named,
-        Err(Fault::Write { .. }) => Part::Kept,
-        Err(_) => Part::Removed,
+        Ok(_) => Ending::Whole,
+        Err(fault) => ending_after(fault),
+    }
+}
+
+fn ending_after(fault: &Fault) -> Ending
+    ensures { result ≡ ending_after fault.now }
+{
+    match fault {
+        Fault::Write { .. } => Ending::Kept(status(fault)),
+        _ => Ending::Lost(status(fault)),
     }
 }
 

@@ -5,7 +5,7 @@ pub returns-in-Whole : goal.returns-in-Whole
 returns-in-Whole g c = λ plots.
     filled g.D.Desk.does plots c.args.desk.now c.store.new.desk c.args.part.now c.args.path.now c.store.result (c.store.ensures plots)
 
-pub returns : goal.returns
-returns g c = λ plots.
+pub returns-in-Kept : goal.returns-in-Kept
+returns-in-Kept g c = λ plots.
     not_filled g.D.Desk.does plots c.args.desk.now c.leave.new.desk c.args.part.now c.args.path.now c.leave.result
     (g.C.Answer.Answer.ends c.write-file.result.1) (c.leave.ensures plots)
