@@ -28,11 +28,22 @@ def program(pytestconfig):
     return path
 
 
-@pytest.fixture(scope="session")
-def refuse(pytestconfig, tmp_path_factory):
-    """The library that makes a read, a write or an allocation of the program fail."""
+def built(pytestconfig, tmp_path_factory, name):
+    """A library of a C file of this folder, to be preloaded before the program."""
     need(pytestconfig, "cc")
-    library = tmp_path_factory.mktemp("refuse") / "refuse.so"
-    source = os.path.join(HERE, "refuse.c")
+    library = tmp_path_factory.mktemp(name) / f"{name}.so"
+    source = os.path.join(HERE, f"{name}.c")
     subprocess.run(["cc", "-O1", "-shared", "-fPIC", "-o", library, source, "-ldl"], check=True)
     return str(library)
+
+
+@pytest.fixture(scope="session")
+def refuse(pytestconfig, tmp_path_factory):
+    """The library that makes a read, a write, a sync or an allocation of the program fail."""
+    return built(pytestconfig, tmp_path_factory, "refuse")
+
+
+@pytest.fixture(scope="session")
+def one_number(pytestconfig, tmp_path_factory):
+    """The library that gives all files one number, on two devices."""
+    return built(pytestconfig, tmp_path_factory, "one_number")

@@ -1,8 +1,9 @@
 /* A machine that refuses. Preloaded before the program, it lets one call fail: the read of standard
-   input whose number is READ_FAILS, the write to standard output whose number is WRITE_FAILS, or the
-   allocation whose number is MEMORY_FAILS, each counted from 1. From the allocation MEMORY_ENDS on
-   all fail. With SHORT, each read and write moves at most a byte, but not to standard error. All other
-   calls go through. tests/conftest.py and tests/campaign have it built. */
+   input whose number is READ_FAILS, the write to standard output whose number is WRITE_FAILS, the sync
+   of any file whose number is SYNC_FAILS, or the allocation whose number is MEMORY_FAILS, each counted
+   from 1. From the allocation MEMORY_ENDS on all fail. With SHORT, each read and write moves at most a
+   byte, but not to standard error. All other calls go through. tests/conftest.py and tests/campaign
+   have it built. */
 #define _GNU_SOURCE
 #include <dlfcn.h>
 #include <errno.h>
@@ -14,7 +15,7 @@ extern void *__libc_calloc(size_t count, size_t size);
 extern void *__libc_realloc(void *old, size_t size);
 extern void *__libc_memalign(size_t alignment, size_t size);
 
-static long reads, writes, allocations;
+static long reads, writes, syncs, allocations;
 
 static int fails(const char *name, long *calls, int error)
 {
@@ -54,6 +55,14 @@ ssize_t write(int file, const void *bytes, size_t size)
         return -1;
     ssize_t (*next)(int, const void *, size_t) = dlsym(RTLD_NEXT, "write");
     return next(file, bytes, moved(file, size));
+}
+
+int fsync(int file)
+{
+    if (fails("SYNC_FAILS", &syncs, EIO))
+        return -1;
+    int (*next)(int) = dlsym(RTLD_NEXT, "fsync");
+    return next(file);
 }
 
 void *malloc(size_t size)

@@ -27,7 +27,7 @@ NAMES = ["palette", "truecolour", "pdf", "pdf of sheets", "svg", "svg of sheets"
     ([], b"PD99999,0;", (1, b"plotraster: place off range at byte 0\n")),
     (["--pens=0"], LINE, (2, b"plotraster: bad pen list\n")),
     (["missing.plt"], LINE, (3, b"plotraster: cannot open missing.plt: no such file or folder\n")),
-    (["folder"], LINE, (3, b"plotraster: read failed\n")),
+    (["folder"], LINE, (3, b"plotraster: cannot open folder: it is a folder\n")),
 ])
 def test_refusals(program, tmp_path, command, words, plot, ends):
     """Nothing is written, and an old file stays."""

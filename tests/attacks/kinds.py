@@ -261,7 +261,8 @@ def devices_that_fail(bench, dice, plots):
     hows = [How(to="/dev/full"), How(closed=(1,)), *(How(leaves=it) for it in sizes[:2]), How(refused={"WRITE_FAILS": "1"})]
     for how in [*hows, *(How(limit=min(it, most - 1)) for it in sizes)]:
         check_unfinished(bench.run(words, plot, how), how, plain.output)
-    file_on_a_full_disk(bench, command, options, plot, plain.output, dice)
+    for how in (How(limit=dice.randrange(most)), How(refused={"SYNC_FAILS": "1"})):
+        check_not_stored(bench, command, options, plot, how, plain.output, dice)
 
 
 def check_read(bench, words, plot, plain, dice):
@@ -300,10 +301,9 @@ def check_unfinished(ran, how, whole):
     must(how.limit is None or len(ran.output) <= how.limit, f"more than {how}")
 
 
-def file_on_a_full_disk(bench, command, options, plot, whole, dice):
-    """A file of a disk that is full."""
+def check_not_stored(bench, command, options, plot, how, whole, dice):
+    """A file of a disk that is full, or that fails when all is written."""
     write("out", OLD)
-    how = How(limit=dice.randrange(len(whole)))
     ran = bench.run(words_of(command, {**options, "output": "out"}, [], dice), plot, how)
     must(ran.status == DEVICE and read("out") == OLD, f"{ends(ran)}, {how}")
     found = re.search(rb"write failed: go on from row ([0-9]+) after byte ([0-9]+)\n", ran.errors)
@@ -311,7 +311,9 @@ def file_on_a_full_disk(bench, command, options, plot, whole, dice):
     if not found:
         return
     part, (row, after) = read("out.part"), map(int, found.groups())
-    must(whole.startswith(part) and after <= len(part) <= how.limit, f"out.part, {how}")
+    must(whole.startswith(part) and after <= len(part) <= (how.limit or len(whole)), f"out.part, {how}")
+    must(how.limit is not None or part == whole, f"out.part, {how}")
+    os.remove("out.part")
     if command == "report" or command == "draw" or int(options.get("from", 0)):
         return
     rest = bench.run(words_of(command, {**options, "from": str(row)}, [], dice), plot)
