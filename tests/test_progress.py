@@ -18,6 +18,7 @@ ROWS = 827
 MOST_ROWS = {"marks": 112, "pbm": 827, "ppm": 112, "pcl": 827}
 # A page of 63 rows.
 SMALL = ["--width=640", "--height=640"]
+A4 = ["--page=a4"]
 # Pages of many rows.
 HIGH = ["--width=64", "--height=65536", "--dots=1200"]
 ROWS_OF_HIGH = 77405
@@ -106,6 +107,23 @@ def test_several_plots_are_named(program, tmp_path):
     assert (status, text) == (0, b"".join(wanted))
 
 
+@pytest.mark.parametrize("words", [
+    ["pbm", "--profile=full", "--sheet=each", "--band=400", "--progress"], ["draw", *A4], ["draw", "--form=ppm", *A4, "--size=900"],
+])
+def test_sheets_are_named(program, tmp_path, words):
+    """Each is shown as it is by itself. draw shows it unless it is to be quiet."""
+    write(str(tmp_path / "two.plt"), PLOT + b"PG;" + PLOT)
+    write(str(tmp_path / "one.plt"), PLOT)
+    alone = on_terminal(program, [it for it in [*words, "--sheet=1"] if it != "--sheet=each"])[2]
+    assert alone.startswith(b"\rplotraster: ") and alone.endswith(b"\n")
+    for plots, abouts in [(["two.plt"], ["sheet 1: ", "sheet 2: "]),
+                          (["two.plt", "one.plt"], ["two.plt: sheet 1: ", "two.plt: sheet 2: ", "one.plt: "])]:
+        wanted = b"".join(alone.replace(b"plotraster: ", b"plotraster: " + about.encode()) for about in abouts)
+        assert on_terminal(program, [*words, "-o", ".", *plots], cwd=tmp_path)[::2] == (0, wanted)
+        if words[0] == "draw":
+            assert on_terminal(program, [*words, "--quiet", "-o", ".", *plots], cwd=tmp_path)[::2] == (0, b"")
+
+
 def test_nothing_without_the_option(program):
     assert on_terminal(program, ["pbm", "--band=1"])[::2] == (0, b"")
 
@@ -152,6 +170,13 @@ def test_failed_write(program, tmp_path):
         status, _, text = on_terminal(program, ["pbm", "--band=50", "--progress"], stdout=to, preexec_fn=limit)
     # A header of 12 bytes, and 147 bytes a row.
     assert (status, text) == (3, shown(ROWS, 50, 100) + b"plotraster: write failed: go on from row 135 after byte 19857\n")
+
+
+def test_failed_sync(program, tmp_path, refuse):
+    """The line is ended before the message. It has all rows."""
+    how = {"env": dict(os.environ, LD_PRELOAD=refuse, SYNC_FAILS="1")}
+    status, _, text = on_terminal(program, ["pbm", "-o", "picture", "--band=50", "--progress"], cwd=tmp_path, **how)
+    assert (status, text) == (3, shown(ROWS, 50) + b"plotraster: write failed: go on from row 0 after byte 0\n")
 
 
 def test_file_of_the_output(program, tmp_path):

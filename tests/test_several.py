@@ -188,6 +188,23 @@ def test_plots_are_not_overwritten(program, folder):
     assert files_in(folder / "out") == ["a.pbm", "b.pbm", "c.pbm.part", "c.pbm.pbm", "link.pbm"]
 
 
+def test_last_of_many_plots_is_not_overwritten(program, folder):
+    """Each plot of a run is a plot, however many there are."""
+    names = [f"many/{number}.plt" for number in range(300)]
+    for name in names:
+        write(str(folder / name), LINE)
+    for last in ("0.pbm", "7.pbm.part"):
+        write(str(folder / "out" / last), DOWN)
+    plots = [*names, "out/0.pbm", "out/7.pbm.part"]
+    status, lines = ends_of(program, folder, ["pbm", "--dots=10", "-o", "out", *plots])
+    assert status == 3 and lines == [
+        "plotraster: many/0.plt: cannot write out/0.pbm: it is one of the plots",
+        "plotraster: many/7.plt: cannot write out/7.pbm.part: it is one of the plots",
+        "plotraster: out/0.pbm: cannot write out/0.pbm: it is written for another plot",
+    ]
+    assert read_bytes(folder / "out" / "0.pbm") == read_bytes(folder / "out" / "7.pbm.part") == DOWN
+
+
 def test_the_only_plot_is_not_overwritten(program, folder):
     write(str(folder / "a.pbm"), LINE)
     lines = ["plotraster: cannot write ./a.pbm: it is the plot"]

@@ -87,6 +87,35 @@ def test_draw_into_a_folder(program, folder):
             os.remove(folder / "out" / name)
 
 
+def test_sheets_of_a_size(program, folder):
+    """Each picture has at most so many pixels, as that of its sheet by itself has."""
+    for form in ("png", "pbm", "ppm", "marks"):
+        words = ["draw", f"--form={form}", *PAGE[:2], "--size=40"]
+        assert ends_of(program, folder, [*words, "-o", "out", "two.plt"]) == (0, [])
+        wanted = {f"two-{sheet}.{form}": sheet_of(program, words, sheet, plot_of(2)) for sheet in (1, 2)}
+        assert files_in(folder) == wanted
+        assert form != "png" or all(it[16:24] == bytes([0, 0, 0, 40] * 2) for it in wanted.values())
+        for name in wanted:
+            os.remove(folder / "out" / name)
+    # Also on the page around all sheets.
+    assert ends_of(program, folder, ["draw", "--size=40", "-o", "out", "two.plt"]) == (0, [])
+    whole = sheet_of(program, ["draw", "--size=40"], 0, plot_of(2))
+    assert [it[16:24] for it in files_in(folder).values()] == [whole[16:24]] * 2 and max(whole[16:24]) == 40
+
+
+def test_quiet(program, folder):
+    """All sheets are written."""
+    assert ends_of(program, folder, ["draw", "--quiet", *PAGE, "-o", "out", "two.plt", "one.plt"]) == (0, [])
+    wanted = {f"two-{sheet}.png": sheet_of(program, ["draw", *PAGE], sheet, plot_of(2)) for sheet in (1, 2)}
+    assert files_in(folder) == {**wanted, "one.png": sheet_of(program, ["draw", *PAGE], 1, plot_of(1))}
+
+
+def test_many_sheets(program, folder):
+    write(str(folder / "many.plt"), b"PU0,0;PD900,900;PG;" * 120)
+    assert ends_of(program, folder, ["pbm", *EACH, "many.plt"]) == (0, [])
+    assert sorted(files_in(folder)) == [f"many-{sheet:03}.pbm" for sheet in range(1, 121)]
+
+
 def test_plot_is_read_once(program, folder):
     """A pipe can be read only once."""
     os.mkfifo(folder / "pipe.plt")
@@ -166,7 +195,8 @@ def test_only_plot(program, folder):
     assert ends_of(program, folder, [*words, "far.plt"]) == (1, ["plotraster: place off range at byte 19"])
     write(str(folder / "one.png"), plot_of(1))
     assert ends_of(program, folder, [*words, "one.png"]) == (3, ["plotraster: cannot write ./one.png: it is the plot"])
-    assert ends_of(program, folder, [*words, ".."]) == (3, ["plotraster: read failed"])
+    assert ends_of(program, folder, [*words, ".."]) == (3, ["plotraster: cannot open ..: it is a folder"])
+    assert ends_of(program, folder, ["ppm", *words[1:], ".."]) == (3, ["plotraster: read failed"])
     assert ends_of(program, folder, [*words, "none.plt"])[0] == 3
 
 
