@@ -56,6 +56,7 @@ class Request(NamedTuple):
     first: int = 0
     folder: str = None
     is_draw: bool = False
+    is_quiet: bool = False
 
 
 class Mistake(Exception):
@@ -77,7 +78,7 @@ def request_of(command, options):
     """What a command line asks for."""
     numbers = numbers_of(command, options)
     texts = (*TEXTS, "output") if command == "report" else (*TEXTS, "output", "pens")
-    texts = (*texts, "form") if command == "draw" else texts
+    texts = (*texts, "form", "quiet") if command == "draw" else texts
     if any(name not in (*numbers, *texts) for name in options) or {"colours", "colors"} <= set(options):
         raise Mistake
     form = form_of(command, options)
@@ -86,7 +87,8 @@ def request_of(command, options):
         raise Mistake("bad pen list")
     assigned = carousel_of(options)
     request = Request(form, Page(*(numbers[name] for name in PAGE_OPTIONS)), pens=pens, carousel=assigned)
-    request = request._replace(folder=options.get("output"), first=numbers.get("from", 0), is_draw=command == "draw")
+    request = request._replace(folder=options.get("output"), first=numbers.get("from", 0))
+    request = request._replace(is_draw=command == "draw", is_quiet="quiet" in options)
     if form in VECTORS and {"dots", "size", "smooth"} & set(options):
         raise Mistake("--dots, --size and --smooth may not be given with the forms pdf and svg")
     if form != "report" and form not in VECTORS:

@@ -137,7 +137,9 @@ def said_of(request, shown, strokes, about=""):
     report = "plotraster report" + ("" if request.sheet is None else " --profile full")
     is_blank = shown.why == f"not fitted: {BLANK}" or all(is_off(it, shown.page) for it in strokes)
     if request.is_draw and is_blank and shown.why != f"not fitted: {TOO_LARGE}":
-        said = f"plotraster: {about}nothing is drawn on the page: see {report}\n"
+        said = "" if request.is_quiet else f"plotraster: {about}nothing is drawn on the page: see {report}\n"
+    if request.is_quiet:
+        return said
     sheets, notes = shown.drawing.sheets or 0, len(shown.drawing.notes)
     if request.is_draw and not is_blank and (sheets < 2 or request.sheet == 0) and notes > shown.lines:
         lines = "1 line" if shown.lines == 1 else f"{shown.lines} lines"

@@ -80,23 +80,48 @@ def with_characters(case, chance):
 
 
 def random_apart_case(seed):
-    """A case of the profile full whose sheets have files of their own in a folder."""
+    """A case of the profile full whose sheets have files of their own in a folder, two of five by `draw`."""
     chance = random.Random(seed)
     case = random_full_case(2 * seed + 1)
+    case = case._replace(plot=with_ends_of_sheets(case.plot, chance))
+    is_drawn = chance.random() < 0.4
+    case = drawn_apart(case, chance) if is_drawn else written_apart(case)
+    if chance.random() < 0.3:
+        case = with_pens(case, chance)
+    if not is_drawn and chance.random() < 0.3:
+        case = fitted_case(case, chance)
+    if chance.random() < 0.02:
+        name, text = chance.choice(("sheet", "profile")), chance.choice(("core", "0", "EACH", "2"))
+        case = case._replace(options={**case.options, name: text})
+    case = with_characters(case, chance)
+    return small_case(case, chance) if is_drawn else case
+
+
+def written_apart(case):
+    """The case with all sheets, each in a file of its own."""
     kept = {name: case.options[name] for name in case.options if name not in ("profile", "sheet", "from")}
     form = case.form if case.form in PICTURES else "marks"
     options = {**kept, "profile": "full", "sheet": "each", "output": "pictures"}
     if form == "marks" and case.form != form:
         options.update({"width": "300", "height": "200", "dots": "50"})
-    case = case._replace(form=form, options=options, plot=with_ends_of_sheets(case.plot, chance))
-    if chance.random() < 0.3:
-        case = with_pens(case, chance)
-    if chance.random() < 0.3:
-        case = fitted_case(case, chance)
-    if chance.random() < 0.02:
-        name, text = chance.choice(("sheet", "profile")), chance.choice(("core", "0", "EACH", "2"))
-        case = case._replace(options={**case.options, name: text})
-    return with_characters(case, chance)
+    return case._replace(form=form, options=options)
+
+
+def drawn_apart(case, chance):
+    """The same by `draw`, which need not be told of the sheets, of a size in pixels or on a small page."""
+    options = {name: case.options[name] for name in case.options if name in ("left", "below", "pens")}
+    options.update(profile="full", output="pictures", form=chance.choice(("png", "png", "ppm", "pbm", "marks", "svg")))
+    if chance.random() < 0.8 or options["form"] == "svg":
+        options.update(page_options(chance))
+    else:
+        options.update(width="300", height="200", dots="50")
+    if options["form"] != "svg" and "dots" not in options:
+        options["size"] = size(chance)
+    if chance.random() < 0.5:
+        options["sheet"] = "each"
+    if chance.random() < 0.5:
+        options["quiet"] = None
+    return case._replace(form="draw", options=options)
 
 
 def with_ends_of_sheets(plot, chance):
@@ -151,6 +176,8 @@ def small_case(case, chance):
     """The case, smoothed as much as it may be: the reference tests each stroke at each pixel of the finer picture."""
     try:
         request = request_of("draw", case.options)
+        if request.form not in WITH_SHADES:
+            return case
         shown = shown_by(request, case.plot)
     except (Mistake, Refused):
         return case
@@ -159,6 +186,6 @@ def small_case(case, chance):
         times for times in range(1, 9) if times * shown.dots <= MOST_DOTS
         and strokes * count(shown.page.width, times * shown.dots) * count(shown.page.height, times * shown.dots) <= MOST_TESTS
     ]
-    if request.form not in WITH_SHADES or shown.smooth in allowed and chance.random() < 0.5:
+    if shown.smooth in allowed and chance.random() < 0.5:
         return case
     return case._replace(options={**case.options, "smooth": str(chance.choice(allowed or [1]))})
