@@ -1,16 +1,21 @@
 """Compares the built program with tests/reference on labels in each byte of each set of characters, and on fonts and texts at
 their limits; and runs it on the longest texts."""
 
+import os
+from concurrent.futures import ThreadPoolExecutor
+
 import pytest
 
 from comparing import difference, differs
 from reference.characters import BY_HP_NUMBER, BY_SYMBOL_SET
 from reference.random_full_plots import NAMES
 from reference.random_plots import Case
-from shared import assert_nothing, run
+from shared import assert_nothing, run, write
 
 SECONDS = 60
 LONGEST_PLOT = 67_108_864
+# How many letters the labels of a PDF have at most.
+MOST_LETTERS = 67_108_864
 PAGE = {"profile": "full", "sheet": "0"}
 # Each byte of a text, in labels of 16 in a line; those that would end a label or select a set are left out.
 BYTES = [bytes(byte for byte in range(first, first + 16) if byte not in (3, 14, 15)) for first in range(0, 256, 16)]
@@ -76,3 +81,17 @@ def test_longest_texts(program, text, told):
     wanted = (1, b"plotraster: " + told + b"\n") if told else (0, b"")
     assert (done.returncode, done.stderr) == wanted
     assert told or done.stdout.count(b"\npen ") == 1
+
+
+def test_letters_of_a_pdf(program, tmp_path):
+    """A letter too many, of a label and of four that repeat a text. Other outputs have no such limit."""
+    kept = b" " * 999_999 + b"."
+    label = b"LB" + b" " * (MOST_LETTERS - 4_000_000) + b".\x03"
+    write(str(tmp_path / "plan.plt"), b"SI.01,.01;ES-1;PU2000,2000;BL" + kept + b"\x03" + label + b"PB;" * 4)
+    lines = [["pdf", "-o", "plan.pdf"], ["report"]]
+    with ThreadPoolExecutor() as pool:
+        runs = [pool.submit(run, program, [*words, "--profile=full", "plan.plt"], 2 * SECONDS, cwd=tmp_path) for words in lines]
+        pdf, report = [it.result() for it in runs]
+    said = b"plotraster: labels have more than 67108864 letters, too many for a PDF\n"
+    assert (pdf.returncode, pdf.stdout, pdf.stderr) == (2, b"", said) and os.listdir(tmp_path) == ["plan.plt"]
+    assert (report.returncode, report.stderr) == (0, b"") and b"\nstrokes 5\n" in report.stdout
