@@ -397,7 +397,7 @@ def files():
             yield [command, name], not_opened(name, reason if command in DOCUMENTS else None, command)
             yield [command, name, "--verbose"], not_opened(name, reason, command)
         for name in ["folder", ".", "..", "/"]:
-            yield [command, name], NOT_READ
+            yield [command, name], not_opened(name, "it is a folder", command) if command in DOCUMENTS else NOT_READ
         for name in ["./line.plt", " line.plt", "line.plt "]:
             yield [command, name], DONE
         yield [command, "line.plt", "line.plt"], NO_FOLDER
