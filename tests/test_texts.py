@@ -24,7 +24,8 @@ SOURCES = (
     "stroke_raster/src/painter.rt",
     "conversion/src/fault.rt",
     "command_line/src/fault.rt",
-    "plotraster_program/src/messages.rt",
+    "delivery/src/messages.rt",
+    "plotraster_program/src/usage.rt",
 )
 # A word that the manual page must have where it describes an exit status.
 STATUSES = {0: "was written", 1: "refused", 2: "command line", 3: "failed", 4: "Memory"}
@@ -43,7 +44,7 @@ def messages_of_sources():
     for source in SOURCES:
         text = read("crates", source)
         yield from re.findall(r'#\[error\("(.+)"\)\]', text)
-        yield from re.findall(r'"plotraster: (?:{about})?((?:cannot|a picture is not) .+)"', text)
+        yield from re.findall(r'"(?:plotraster: )?(?:{about})?((?:cannot|a picture is not) .+)"', text)
 
 
 def messages_of_the_page():

@@ -76,14 +76,29 @@ fn answer_of(alloc: Global, asked: Asked, line: &str) -> Result<String, Fail> {
     }
 }
 
-// What a command line comes to: if it has no matches, the kind of error and the exit status.
+/// What a command line comes to whose output goes into a folder.
+pub fn told_of_folder(alloc: Global, line: &str) -> Result<String, Fail> {
+    told_into(alloc, Asked::Line, line, Destination::Folder)
+}
+
+// What a command line comes to whose output goes into a file.
 fn told(alloc: Global, asked: Asked, line: &str) -> Result<String, Fail> {
+    told_into(alloc, asked, line, Destination::File)
+}
+
+// What a command line comes to: if it has no matches, the kind of error and the exit status.
+fn told_into(
+    alloc: Global,
+    asked: Asked,
+    line: &str,
+    destination: Destination,
+) -> Result<String, Fail> {
     let mut words = Vec::new(alloc);
     for word in line.split("|") {
         words.push(word)?;
     }
     match parse(command(alloc)?, words.as_slice()) {
-        Ok(matches) => Ok(matches_told(alloc, asked, &matches)?),
+        Ok(matches) => Ok(matches_told(alloc, asked, &matches, destination)?),
         Err(error) => {
             let (kind, status) = (error.kind(), parse_status(&error));
             Ok(format!(in alloc; "{kind:?} {status}")?)
@@ -95,8 +110,9 @@ fn matches_told(
     alloc: Global,
     asked: Asked,
     matches: &ArgMatches<'_>,
+    destination: Destination,
 ) -> Result<String, AllocError> {
-    match settle(matches, Destination::File) {
+    match settle(matches, destination) {
         Ok(line) => line_told(alloc, asked, &line),
         Err(fault) => format!(in alloc; "{fault:?}"),
     }

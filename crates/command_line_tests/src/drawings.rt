@@ -1,4 +1,4 @@
-use crate::cases::{Asked, has_answers};
+use crate::cases::{Asked, has_answers, told_of_folder};
 use std::test::Fail;
 
 const PICTURES: &str = "\
@@ -292,4 +292,20 @@ plotraster|draw|a.plt|b.plt|-o|out.d
 #[test]
 fn files(rt: HostRuntime) -> Result<(), Fail> {
     has_answers(&rt, rt.alloc(), Asked::Files, "", FILES, 7)
+}
+
+// A folder says no form, whatever its name.
+#[test]
+fn forms_of_folders(rt: HostRuntime) -> Result<(), Fail> {
+    let into_folder = "png 11880 8400 0 0 150 4 pens 1-255 of None";
+    for line in [
+        "plotraster|draw|-o|pictures.2026",
+        "plotraster|draw|-o|out.pdf",
+    ] {
+        let told = told_of_folder(rt.alloc(), line)?;
+        assert_eq!(rt; told.as_str(), into_folder, "{line}");
+    }
+    let named = told_of_folder(rt.alloc(), "plotraster|draw|-o|out.pdf|--form=png")?;
+    assert_eq!(rt; named.as_str(), into_folder);
+    Ok(())
 }

@@ -260,7 +260,10 @@ fn fault_of_another(alloc: Global, name: &str) -> Result<String, Fail> {
 fn refuses_other_matches(rt: HostRuntime) -> Result<(), Fail> {
     let bare = clap::Command::new(rt.alloc(), "bare");
     let matches = bare.try_get_matches_from(&["bare"])?;
-    assert_eq!(rt; settle(&matches, Destination::File).err(), Some(LineFault::Words));
+    assert_eq!(rt;
+        settle(&matches, Destination::File).err(),
+        Some(LineFault::Words)
+    );
     for name in ["draw", "pbm", "report", "clip"] {
         let fault = fault_of_another(rt.alloc(), name)?;
         assert_eq!(rt; fault.as_str(), "Some(Words)", "{name}");

@@ -1,5 +1,6 @@
 -- What is written of a vector document is one of the strokes and labels of the sheet.
-use Rattle.std.proofs.Common.{◌≡◌, ◌+◌, ◌++◌, ◌∙◌, ◌∷◌, ℕ, List, [], Ok, length, ap, ap₂, refl, subst, sym}
+use Rattle.std.proofs.Common.{◌≡◌, ◌≤◌, ◌↔◌, ◌+◌, ◌++◌, ◌∙◌, ◌∷◌, ℕ, Bool, true, false, List, [], Result, Ok, Err, IfErr, IsErrAnd, inl, inr, length, ap, ap₂, arith, nat_le, nat_lt, refl, subst, sym}
+use Rattle.std.proofs.lemmas.Bool.{cases_lt, le-leb, leb-true, lt-ltb, ltb-true}
 use Rattle.std.specs.Prelude.{flat_map}
 use Rattle.labels.specs.Sheets.{all_counted}
 use Rattle.labels.specs.Labels.{LabelShape}
@@ -12,7 +13,9 @@ use Rattle.pdf.specs.Documents.{AreStreams, pdf_bytes, pens_drawn, rows_shown, s
 use Rattle.pdf.specs.Texts.{letter_count, line_letters}
 use Rattle.pdf.specs.Writings.{WritesPdf}
 use Rattle.svg.specs.Titles.{label_text, text_length}
-use Rattle.conversion.specs.Vectors.{IsPdf, IsVector, PutsVector, page_ends, title_kept}
+use Rattle.conversion.specs.declared.fault.Fault.{Fault}
+use Rattle.conversion.specs.declared.fault.Fault.TheVariants.{Letters}
+use Rattle.conversion.specs.Vectors.{IsPdf, IsVector, PutsVector, has_too_many_letters, is_letters, page_ends, title_kept}
 use Rattle.conversion.specs.declared.naming.Naming.{Naming}
 
 pub puts_pdf : {U : Type 0} (u : U) (naming : Naming) (page : Page) (pens : PenSet) (strokes : List Segment) (ends pages title : List ℕ) (labels : List LabelShape)
@@ -51,3 +54,46 @@ texts_same before (l ∷ ls) = ap (λ text. label_text l ++ text) (texts_same be
 
 pub texts_counted : (before : ℕ) (labels : List LabelShape) → text_length (all_counted before labels) ≡ text_length labels
 texts_counted before labels = ap length (texts_same before labels)
+
+-- too many letters are answered as such
+pub too_many : {U : Type 0} (fits : Bool) (count counted most : ℕ) → (fits ≡ true) ↔ (count ≤ most) → counted ≡ count → fits ≡ false
+    → (◌≡◌ {A = Result U Fault} (Err Letters) (Err Letters)) ↔ (nat_lt most counted ≡ true)
+too_many fits count counted most is same none = elim (cases_lt most count) [
+  | inl more ↦ (λ _. lt-ltb most counted (omega (arith, more, same)), λ _. refl)
+  | inr few ↦ absurd (let all : fits ≡ true = is.1 few in cc)
+]
+
+-- and nothing else is
+pub few_enough : {U : Type 0} (answer : Result U Fault) (fits : Bool) (count counted most : ℕ) → (fits ≡ true) ↔ (count ≤ most) → counted ≡ count
+    → fits ≡ true → IfErr answer (λ fault. is_letters fault ≡ false) → (answer ≡ Err Letters) ↔ (nat_lt most counted ≡ true)
+few_enough (Ok u) fits count counted most is same fit other =
+    (λ h. absurd (cc), λ h. absurd (let few = is.0 fit in let more = ltb-true most counted h in omega arith))
+few_enough (Err fault) fits count counted most is same fit other = (
+  λ h. let letters : fault ≡ Letters = cc in let wrong : is_letters fault ≡ true = ap is_letters letters in absurd (cc),
+  λ h. absurd (let few = is.0 fit in let more = ltb-true most counted h in omega arith),
+)
+
+-- the test of a PDF is a comparison
+pub by_test : (b : Bool) (count most : ℕ) → b ≡ nat_le count most → (b ≡ true) ↔ (count ≤ most)
+by_test b count most is = (λ fit. leb-true count most (sym is ∙ fit), λ few. is ∙ le-leb count most few)
+
+-- answers that are too many letters in the same cases say the same of the same labels in the same format
+pub same_letters : {U V : Type 0} (r : Result U Fault) (s : Result V Fault) (format f : VectorFormat) (labels l : List LabelShape) → format ≡ f → l ≡ labels
+    → (s ≡ Err Letters → r ≡ Err Letters) → (r ≡ Err Letters → s ≡ Err Letters) → (r ≡ Err Letters) ↔ (has_too_many_letters f l ≡ true)
+    → (s ≡ Err Letters) ↔ (has_too_many_letters format labels ≡ true)
+same_letters r s format f labels l is same to back letters =
+    let there : has_too_many_letters format labels ≡ has_too_many_letters f l = ap₂ has_too_many_letters is (sym same) in
+    (λ h. there ∙ letters.0 (to h), λ h. back (letters.1 (sym there ∙ h)))
+
+-- an answer that is not a fault
+pub no_fault : {U V : Type 0} (u : U) (v : V) → ◌≡◌ {A = Result U Fault} (Ok u) (Err Letters) → ◌≡◌ {A = Result V Fault} (Ok v) (Err Letters)
+no_fault u v h = absurd (cc)
+
+-- a fault that is passed on
+pub same_fault : {U V : Type 0} (r : Result U Fault) (e : Fault) → IsErrAnd r (λ f. f ≡ e) → r ≡ Err Letters → ◌≡◌ {A = Result V Fault} (Err e) (Err Letters)
+same_fault (Ok u) e is h = absurd is
+same_fault (Err f) e is h = let fault : f ≡ Letters = cc in ap Err (sym is ∙ fault)
+
+pub fault_again : {U V : Type 0} (r : Result U Fault) (e : Fault) → IsErrAnd r (λ f. f ≡ e) → ◌≡◌ {A = Result V Fault} (Err e) (Err Letters) → r ≡ Err Letters
+fault_again (Ok u) e is h = absurd is
+fault_again (Err f) e is h = let fault : e ≡ Letters = cc in ap Err (is ∙ fault)

@@ -1,5 +1,5 @@
 -- Vector documents of plots: what is written for a drawing, and what a conversion to one answers.
-use Rattle.std.specs.Prelude.{◌≡◌, ◌↔◌, ◌⊎◌, Bool, ℕ, ◌+◌, min, nat_eq, nat_le, nat_lt, true, if◌then◌else◌, List, [], ◌∷◌, length, Result, Ok, Err, IfOk, ⊤}
+use Rattle.std.specs.Prelude.{◌≡◌, ◌↔◌, ◌⊎◌, Bool, ℕ, ◌+◌, min, nat_eq, nat_le, nat_lt, true, false, if◌then◌else◌, List, [], ◌∷◌, length, Result, Ok, Err, IfOk, ⊤}
 use Rattle.std.specs.Io.KnownBytes.{Appends}
 use Rattle.plot_page.specs.Segments.{Segment}
 use Rattle.plot_page.specs.declared.page.Page.{Page}
@@ -59,6 +59,11 @@ IsPdf naming page pens strokes ends labels document =
 abbrev pub IsVector : VectorFormat → Naming → Page → PenSet → List Segment → List ℕ → List LabelShape → List ℕ → Type 0
 IsVector Svg naming page pens strokes ends labels document = document ≡ svg_of page pens strokes ends labels
 IsVector Pdf naming page pens strokes ends labels document = IsPdf naming page pens strokes ends labels document
+
+-- the fault that says so
+abbrev pub is_letters : Fault → Bool
+is_letters Letters = true
+is_letters _ = false
 
 -- labels have more letters than a document of a format takes: in an SVG the line feeds between lines count, too
 abbrev pub has_too_many_letters : VectorFormat → List LabelShape → Bool

@@ -2,11 +2,15 @@
 ghost use Rattle.std.specs.Prelude.{◌≡◌, ◌-◌, ◌^◌, ◌<◌, ◌≤◌, ◌↔◌, Err, IfErr, false, true, length};
 ghost use Rattle.std.specs.Str.{chars};
 ghost use Rattle.labels.specs.Sheets.{all_counted};
+ghost use Rattle.pdf.specs.Texts.{letter_count};
+ghost use Rattle.pdf.specs.declared.counts.TheConstants.{MOST_LETTERS};
+ghost use Rattle.svg.specs.Titles.{text_length};
+ghost use Rattle.svg.specs.declared.lengths.TheConstants as svg_limits;
 ghost use Rattle.pdf.specs.declared.title.TheConstants.{MOST_CHARACTERS};
 ghost use Rattle.plot_page.specs.declared.stroke.TheConstants.{MOST_STROKES};
 ghost use Rattle.conversion.specs.Conversions.{is_write};
 ghost use Rattle.conversion.specs.Rules.{ends_of};
-ghost use Rattle.conversion.specs.Vectors.{IsPdf, IsVector, PutsVector, WritesVector, has_too_many_letters, svg_of, title_kept};
+ghost use Rattle.conversion.specs.Vectors.{IsPdf, IsVector, PutsVector, WritesVector, has_too_many_letters, is_letters, svg_of, title_kept};
 
 use crate::fault::Fault;
 use crate::lines::Lines;
@@ -99,6 +103,29 @@ fn put_svg<K: Sink>(
     if !texts_fit(labels) {
         return Err(Fault::Letters);
     }
+    put_fitting_svg(alloc, page, pens, strokes, ends, labels, before, sink)
+}
+
+// The same of labels that have few enough letters.
+fn put_fitting_svg<K: Sink>(
+    alloc: Global,
+    page: &Page,
+    pens: &PenSet,
+    strokes: &[Stroke],
+    ends: &[usize],
+    labels: &[Label],
+    before: usize,
+    sink: &mut K,
+) -> Result<(), Fault>
+    requires few { length strokes.now ≤ MOST_STROKES }
+    requires texts { text_length labels.now ≤ svg_limits.MOST_CHARACTERS }
+    requires sinking { (K.state sink.old).faults < 2 ^ 64 - 1 }
+    ensures puts { PutsVector (λ document. document ≡ svg_of page.now pens.now strokes.now ends.now
+        (all_counted before labels.now))
+        (K.state sink.old) (K.state sink.new) result }
+    ensures letters { IfErr result (λ fault. is_letters fault ≡ false) }
+    ensures untouched { IfErr result (λ fault. is_write fault ≡ false → sink.new ≡ sink.old) }
+{
     let clips = ClipPaths::of(alloc, page, pens, strokes)?;
     let written = if ends.is_empty() {
         write_svg(page, pens, strokes, labels, before, &clips, sink)
@@ -133,6 +160,31 @@ fn put_pdf<K: Sink>(
     if !has_few_letters(labels) {
         return Err(Fault::Letters);
     }
+    put_fitting_pdf(
+        alloc, naming, page, pens, strokes, ends, labels, before, sink,
+    )
+}
+
+// The same of labels that have few enough letters.
+fn put_fitting_pdf<K: Sink>(
+    alloc: Global,
+    naming: Naming<'_>,
+    page: &Page,
+    pens: &PenSet,
+    strokes: &[Stroke],
+    ends: &[usize],
+    labels: &[Label],
+    before: usize,
+    sink: &mut K,
+) -> Result<(), Fault>
+    requires few { length strokes.now ≤ MOST_STROKES }
+    requires texts { letter_count labels.now ≤ MOST_LETTERS }
+    requires sinking { (K.state sink.old).faults < 2 ^ 64 - 1 }
+    ensures puts { PutsVector (IsPdf naming.entry page.now pens.now strokes.now ends.now (all_counted before labels.now))
+        (K.state sink.old) (K.state sink.new) result }
+    ensures letters { IfErr result (λ fault. is_letters fault ≡ false) }
+    ensures untouched { IfErr result (λ fault. is_write fault ≡ false → sink.new ≡ sink.old) }
+{
     let pages = page_ends(alloc, strokes.len(), ends)?;
     let pages = pages.as_slice();
     let mut offsets = vec![in alloc; 0u64; room_for(pages.len())]?;

@@ -1,7 +1,8 @@
 //! What a command line chooses by several of its values.
-ghost use Rattle.std.specs.Prelude.{◌≡◌, option_copied};
+ghost use Rattle.std.specs.Prelude.{◌≡◌};
 ghost use Rattle.std.specs.Option.{option_copied};
-ghost use Rattle.plotraster.specs.Choices.{draws_all, extension_of, form_extension, has_all_pages, has_reasons, is_pdf, of_all_sheets, picture_apart, reading_for};
+ghost use Rattle.plotraster.specs.Choices.{draws_all, extension_of, form_extension, format_extension, has_all_pages, has_pages, has_reasons, is_core, is_document, is_pdf, is_standard_output};
+ghost use Rattle.plotraster.specs.Choices.{of_all_sheets, picture_apart, reading_for};
 
 use command_line::{Line, Task};
 use picture_job::{Picture, Reading, VectorFormat};

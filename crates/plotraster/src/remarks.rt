@@ -1,7 +1,8 @@
 //! What a user should know of a picture or a report that is written.
-ghost use Rattle.std.specs.Prelude.{◌≡◌, ◌++◌, Some, codes, decimal, option_map};
+ghost use Rattle.std.specs.Prelude.{◌≡◌, Some, option_map};
 ghost use Rattle.delivery.specs.Deeds.{Remarks};
-ghost use Rattle.plotraster.specs.Remarks.{cut_text, has_all_sheets, has_more_sheets, is_blank, is_hardly_understood, lines_text, reason_of, report_of};
+ghost use Rattle.plotraster.specs.Remarks.{cut_text, has_all_sheets, has_more_sheets, is_blank, is_empty, is_hardly_understood, is_report, is_too_large};
+ghost use Rattle.plotraster.specs.Remarks.{lines_text, reason_of, report_of};
 
 use crate::choices::{has_all_pages, reading_for};
 use command_line::{Line, Task};
@@ -27,19 +28,32 @@ pub fn tell_outcome<D: Desk>(
     tell_drawn(desk, line, about, outcome);
 }
 
-// Says that nothing is drawn, or why the page is not the one that was asked for. draw says nothing of an empty page if it is
-// to be quiet.
+// Says that nothing is drawn, or why the page is not the one that was asked for.
 fn tell_page<D: Desk>(desk: &mut D, line: &Line<'_, '_>, about: About<'_>, outcome: &Outcome)
     ensures { Remarks D.does desk.old desk.new }
 {
     if line.interactive && !is_too_large(outcome.placement) && is_blank(outcome) {
-        if line.remarks {
-            let report = report_of(line);
-            desk.remark(&NothingDrawn { about, report });
-        }
-        return;
+        tell_nothing(desk, line, about);
+    } else {
+        tell_placement(desk, about, outcome.placement);
     }
-    if let Some(reason) = reason_of(outcome.placement) {
+}
+
+// Says that nothing is drawn, unless draw is to be quiet.
+fn tell_nothing<D: Desk>(desk: &mut D, line: &Line<'_, '_>, about: About<'_>)
+    ensures { Remarks D.does desk.old desk.new }
+{
+    if line.remarks {
+        let report = report_of(line);
+        desk.remark(&NothingDrawn { about, report });
+    }
+}
+
+// Says why the page is not the one that was asked for, if it is another.
+fn tell_placement<D: Desk>(desk: &mut D, about: About<'_>, placement: Placement)
+    ensures { Remarks D.does desk.old desk.new }
+{
+    if let Some(reason) = reason_of(placement) {
         desk.remark(&OtherPage { about, reason });
     }
 }

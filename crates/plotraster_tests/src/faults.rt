@@ -7,7 +7,7 @@ use plotraster::{
 use std::test::Fail;
 use stroke_raster::PaintFault;
 
-const FAULTS: [Fault; 9] = [
+const FAULTS: [Fault; 10] = [
     Fault::TooLong,
     Fault::Memory,
     Fault::Plot(PlotFault::OffRange { at: 7 }),
@@ -21,6 +21,7 @@ const FAULTS: [Fault; 9] = [
     },
     Fault::Read,
     Fault::Resolution,
+    Fault::Letters,
 ];
 
 // The number of each fault, its status, that of a run that stops for it, and its text.
@@ -34,6 +35,7 @@ const NUMBERS_AND_TEXTS: &str = "\
 7 3 3 write failed: go on from row 5 after byte 131
 8 3 3 read failed
 9 2 2 resolution is not one of PCL's
+10 2 2 labels have more than 67108864 letters, too many for a PDF
 ";
 
 #[test]

@@ -8,6 +8,8 @@ mod carousels;
 #[cfg(test)]
 mod cases;
 #[cfg(test)]
+mod choices;
+#[cfg(test)]
 mod colours;
 #[cfg(test)]
 mod cut_off;

@@ -1,8 +1,13 @@
-use Rattle.std.proofs.Common.{◌∙◌}
-use Rattle.conversion.proofs.Vectors.{puts_pdf}
+use Rattle.pdf.specs.Texts.{letter_count}
+use Rattle.conversion.proofs.Vectors.{by_test, few_enough, letters_counted, too_many}
 use Rattle.conversion.proofs.vector_sheet.put_pdf.Goals as goal
 
-pub returns-in-Ok-clause-puts : goal.returns-in-Ok-clause-puts
-returns-in-Ok-clause-puts g c =
-    puts_pdf {U = Unit {0}} tt c.args.naming c.args.page.now c.args.pens.now c.args.strokes.now c.args.ends.now c.as_slice-pages.result.now c.title_kept.result.now _ _ _ _
-    (c.as_slice-pages.ensures.value ∙ c.in_ok-pages.ensures.pages) c.title_kept.ensures.title c.in-Ok.ensures.writes
+pub returns-then-not-has_few_letters-clause-letters : goal.returns-then-not-has_few_letters-clause-letters
+returns-then-not-has_few_letters-clause-letters g c =
+    too_many c.has_few_letters.result (letter_count c.args.labels.now) _ _ (by_test _ _ _ c.has_few_letters.ensures)
+    (letters_counted c.args.before c.args.labels.now) c.if-not-has_few_letters.true
+
+pub returns-clause-letters : goal.returns-clause-letters
+returns-clause-letters g c =
+    few_enough c.put_fitting_pdf.result c.has_few_letters.result (letter_count c.args.labels.now) _ _ (by_test _ _ _ c.has_few_letters.ensures)
+    (letters_counted c.args.before c.args.labels.now) c.if-not-has_few_letters.false c.put_fitting_pdf.ensures.letters

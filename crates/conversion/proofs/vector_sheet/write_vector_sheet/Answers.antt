@@ -1,10 +1,10 @@
-use Rattle.std.proofs.Common.{◌≡◌, List, length, ap, ap₂, subst, ◌∙◌}
+use Rattle.std.proofs.Common.{◌≡◌, List, length, ap, ap₂, rules, subst, ◌∙◌}
 use Rattle.full_plot.specs.Drawings.{sheet_strokes}
 use Rattle.plot_page.specs.Segments.{Segment}
 use Rattle.full_plot.specs.Labels.{labels_of_sheet}
 use Rattle.labels.specs.Sheets.{all_counted}
 use Rattle.conversion.specs.Sheets.{TellsOf, labels_on, strokes_on}
-use Rattle.conversion.proofs.Vectors.{puts_same}
+use Rattle.conversion.proofs.Vectors.{fault_again, no_fault, puts_same, same_fault, same_letters}
 use Rattle.conversion.proofs.vector_sheet.write_vector_sheet.Goals as goal
 use Rattle.conversion.proofs.vector_sheet.write_vector_sheet.Goals.{in-Svg+in_ok-put_svg-in-Svg, in-Pdf+in_ok-put_pdf-in-Pdf}
 
@@ -27,7 +27,49 @@ returns-clause-writes g c =
             puts_same c.outcome_of.result w.in_ok-put_pdf-in-Pdf.field-0 c.args.job.now.format _ c.args.naming drawing.page c.args.job.now.pens _ _ _ _ _ _ _ _ _
             w.in-Pdf.is strokes c.ends_in-ends.ensures labels (ap g.K.Sink.state w.sink-is) w.in_ok-put_pdf-in-Pdf.ensures.puts
       ];
+      letters = elim c.match-job.branch [
+        | in-Svg+in_ok-put_svg-in-Svg w ↦
+            same_letters _ _ c.args.job.now.format _ _ _ w.in-Svg.is labels (no_fault _ _) (no_fault _ _) w.in_ok-put_svg-in-Svg.ensures.letters
+        | in-Pdf+in_ok-put_pdf-in-Pdf w ↦
+            same_letters _ _ c.args.job.now.format _ _ _ w.in-Pdf.is labels (no_fault _ _) (no_fault _ _) w.in_ok-put_pdf-in-Pdf.ensures.letters
+      ];
       rows = c.outcome_of.ensures.rows;
       bytes = c.outcome_of.ensures.bytes;
       tells = subst (λ (s : List Segment). TellsOf drawing c.args.job.now.pens s c.outcome_of.result) strokes c.outcome_of.ensures.tells;
+    }
+
+pub returns-in_err-put_svg-in-Svg-clause-writes : goal.returns-in_err-put_svg-in-Svg-clause-writes
+returns-in_err-put_svg-in-Svg-clause-writes g c =
+    let drawing = c.args.drawing.now in
+    let all = c.as_slice-all.ensures.value in
+    let labels : all_counted c.labels_on-before.result.1 c.labels_on-before.result.0.now ≡ labels_on drawing c.args.sheet =
+    c.labels_on-before.ensures
+    ∙ ap (λ s. labels_of_sheet c.as_slice-2.result.now c.as_slice-3.result.now (length s) c.args.sheet) all
+    ∙ ap₂ (λ l e. labels_of_sheet l e (length drawing.lines.strokes.items) c.args.sheet) c.as_slice-2.ensures.value c.as_slice-3.ensures.value in
+    let e = c.in_err-put_svg-in-Svg.field-0.0 in
+    record {
+      puts = search rules;
+      letters = same_letters _ c.from_residual.result c.args.job.now.format _ _ _ c.in-Svg.is labels (same_fault _ e c.from_residual.ensures.1) (fault_again _ e c.from_residual.ensures.1)
+          c.in_err-put_svg-in-Svg.ensures.letters;
+      rows = search rules;
+      bytes = search rules;
+      tells = search rules;
+    }
+
+pub returns-in_err-put_pdf-in-Pdf-clause-writes : goal.returns-in_err-put_pdf-in-Pdf-clause-writes
+returns-in_err-put_pdf-in-Pdf-clause-writes g c =
+    let drawing = c.args.drawing.now in
+    let all = c.as_slice-all.ensures.value in
+    let labels : all_counted c.labels_on-before.result.1 c.labels_on-before.result.0.now ≡ labels_on drawing c.args.sheet =
+    c.labels_on-before.ensures
+    ∙ ap (λ s. labels_of_sheet c.as_slice-2.result.now c.as_slice-3.result.now (length s) c.args.sheet) all
+    ∙ ap₂ (λ l e. labels_of_sheet l e (length drawing.lines.strokes.items) c.args.sheet) c.as_slice-2.ensures.value c.as_slice-3.ensures.value in
+    let e = c.in_err-put_pdf-in-Pdf.field-0.0 in
+    record {
+      puts = search rules;
+      letters = same_letters _ c.from_residual-in_err-put_pdf-in-Pdf.result c.args.job.now.format _ _ _ c.in-Pdf.is labels (same_fault _ e c.from_residual-in_err-put_pdf-in-Pdf.ensures.1) (fault_again _ e c.from_residual-in_err-put_pdf-in-Pdf.ensures.1)
+          c.in_err-put_pdf-in-Pdf.ensures.letters;
+      rows = search rules;
+      bytes = search rules;
+      tells = search rules;
     }

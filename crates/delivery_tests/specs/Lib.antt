@@ -1,0 +1,2 @@
+-- How the contents of the tests end.
+pub mod Endings

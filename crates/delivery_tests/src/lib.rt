@@ -1,0 +1,11 @@
+//! Tests of deliveries, at a desk that writes down what is done.
+#![tactic(auto)]
+
+#[cfg(test)]
+mod desk;
+#[cfg(test)]
+mod folders;
+#[cfg(test)]
+mod outputs;
+#[cfg(test)]
+mod work;
