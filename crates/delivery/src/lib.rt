@@ -9,6 +9,7 @@ mod messages;
 mod output;
 mod plots;
 mod sheets;
+mod single;
 
 pub use about::About;
 pub use desk::{Desk, Found, Kind};
@@ -18,3 +19,4 @@ pub use messages::{NoPath, Reasons, cannot_write, refuse_memory, refuse_plot, re
 pub use output::{Scene, deliver_to, has_folder, write_stream};
 pub use plots::claims_of;
 pub use sheets::{PlotOf, Refusal, SheetOf, Sheets, Work};
+pub use single::{deliver_plot_to, write_plot_to};

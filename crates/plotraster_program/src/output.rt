@@ -3,9 +3,9 @@ use crate::host::Host;
 use crate::usage::{refuse_run, refuse_terminal, refuse_words};
 use clap::ArgMatches;
 use plotraster::{
-    About, Claims, Destination, Fault, Line, LineFault, LineWork, Order, PlotOf, Reasons, Scene,
-    cannot_write, claims_of, deliver_each, deliver_to, extension_of, has_folder, has_reasons,
-    is_standard_output, open_plot, output_of, refuse_write, write_stream,
+    About, Claims, Destination, Fault, Line, LineFault, LineWork, Order, Reasons, Scene,
+    cannot_write, claims_of, deliver_each, deliver_plot_to, extension_of, has_folder, has_reasons,
+    is_standard_output, open_plot, output_of, refuse_write, write_plot_to,
 };
 use std::fs::metadata;
 use std::io::{IsTerminal, Read};
@@ -71,17 +71,11 @@ fn deliver_one<R: Read + Drop>(
         terminal: &terminal,
         alloc,
     };
-    let content = PlotOf {
-        work: &work,
-        about,
-        file,
-        plot,
-    };
     match line.output {
         None if line.interactive && rt.stdout().is_terminal() => refuse_terminal(rt),
-        None => write_stream(&mut host, about, content, rt.stdout()),
+        None => write_plot_to(&mut host, about, &work, file, plot, rt.stdout()),
         Some(path) if is_standard_output(path) => {
-            write_stream(&mut host, about, content, rt.stdout())
+            write_plot_to(&mut host, about, &work, file, plot, rt.stdout())
         }
         Some(path) => {
             let scene = Scene {
@@ -89,7 +83,7 @@ fn deliver_one<R: Read + Drop>(
                 are_several: false,
                 about,
             };
-            deliver_to(&mut host, alloc, scene, content, path)
+            deliver_plot_to(&mut host, alloc, scene, &work, file, plot, path)
         }
     }
 }
