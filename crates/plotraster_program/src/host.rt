@@ -1,7 +1,8 @@
 //! The files, the streams and the terminal of the system.
 ghost use Rattle.std.specs.Prelude.{⊤};
 
-use plotraster::{Desk, FileId, Found, Kind, Terminal};
+use delivery::{Desk, Found, Kind};
+use plotraster::{FileId, Terminal};
 use std::fmt::Display;
 use std::fs::{File, OpenOptions, metadata, remove_file, rename};
 use std::io::{Error, IsTerminal};

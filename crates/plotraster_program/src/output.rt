@@ -2,10 +2,13 @@
 use crate::host::Host;
 use crate::usage::{refuse_run, refuse_terminal, refuse_words};
 use clap::ArgMatches;
+use delivery::{
+    About, Order, Reasons, Scene, cannot_write, claims_of, deliver_each, deliver_plot_to,
+    has_folder, open_plot, refuse_write, write_plot_to,
+};
 use plotraster::{
-    About, Claims, Destination, Fault, Line, LineFault, LineWork, Order, Reasons, Scene,
-    cannot_write, claims_of, deliver_each, deliver_plot_to, extension_of, has_folder, has_reasons,
-    is_standard_output, open_plot, output_of, refuse_write, write_plot_to,
+    Claims, Destination, Fault, Line, LineFault, LineWork, extension_of, has_reasons,
+    is_standard_output, output_of,
 };
 use std::fs::metadata;
 use std::io::{IsTerminal, Read};

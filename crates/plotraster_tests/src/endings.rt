@@ -1,6 +1,7 @@
 //! How a run ends, for its output.
+use delivery::Ending;
 use plotraster::{
-    Dots, Ending, Fault, Form, Job, Page, PenSet, Picture, PngJob, Smoothing, Task, ending_of,
+    Dots, Fault, Form, Job, Page, PenSet, Picture, PngJob, Smoothing, Task, ending_of,
     fault_of_sync,
 };
 use std::test::Fail;
