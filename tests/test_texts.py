@@ -44,7 +44,7 @@ def messages_of_sources():
     for source in SOURCES:
         text = read("crates", source)
         yield from re.findall(r'#\[error\("(.+)"\)\]', text)
-        yield from re.findall(r'"(?:plotraster: )?(?:{about})?((?:cannot|a picture is not) .+)"', text)
+        yield from re.findall(r'(?:f, |rt; )"(?:plotraster: )?(?:{about})?((?:cannot|a picture is not) [^"]+)"', text)
 
 
 def messages_of_the_page():

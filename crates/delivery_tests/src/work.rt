@@ -1,5 +1,6 @@
 //! Contents that end as is said, and plots with so many sheets.
-ghost use Rattle.delivery_tests.specs.Endings.{ending_of};
+ghost use Rattle.delivery.specs.declared.ending.Ending.TheVariants as ended;
+ghost use Rattle.delivery_tests.specs.declared.work.Told.TheVariants as told;
 
 use delivery::{About, Answer, Content, Desk, Ending, Refusal, Sheets, Work};
 use std::fmt::{Display, Formatter, Result as Written};
@@ -22,7 +23,7 @@ impl Content for Told {
 }
 
 impl Answer for Told {
-    ghost ends = { λ told. ending_of told };
+    ghost ends = { elim [ told.Whole ↦ ended.Whole | told.Kept ↦ ended.Kept 3 | told.Lost ↦ ended.Lost 3 ] };
 
     fn ending(&self) -> Ending {
         match self {

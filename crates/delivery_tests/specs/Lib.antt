@@ -1,2 +1,0 @@
--- How the contents of the tests end.
-pub mod Endings
