@@ -1,10 +1,10 @@
 -- Deeds after deeds.
-use Rattle.std.proofs.Common.{◌≡◌, ◌⊎◌, ◌++◌, ◌∷◌, ◌<◌, ◌∙◌, ℕ, Bool, true, false, List, [], Option, inl, inr, refl, sym, subst, max, ap, append_assoc, arith}
+use Rattle.std.proofs.Common.{◌≡◌, ◌++◌, ◌∷◌, ℕ, Bool, true, false, List, [], Option, inl, inr, refl, sym, subst, max, append_assoc, arith}
 use Rattle.std.proofs.lemmas.List.{append-nil}
 use Rattle.output_files.specs.declared.file_id.FileId.{FileId}
-use Rattle.delivery.specs.declared.ending.Ending.TheVariants.{Whole, Kept, Lost}
+use Rattle.delivery.specs.declared.ending.Ending.TheVariants.{Kept, Lost}
 use Rattle.delivery.specs.Deeds.{AreRemarks, Deed, Has, WereDone, status_after}
-use Rattle.delivery.specs.Care.{AreAllowed, AreFollowed, HasNoPlotAt, IsFollowed, IsSettled, SaysNext}
+use Rattle.delivery.specs.Care.{AreAllowed, AreFollowed, HasNoPlotAt, IsFollowed, IsSettled, MayReplace, SaysNext}
 
 pub has_left : (xs ys : List Deed) (deed : Deed) → Has xs deed → Has (xs ++ ys) deed
 has_left [] ys deed has = absurd has
@@ -21,6 +21,11 @@ has_last xs deed = has_right xs (deed ∷ []) deed (inl refl)
 
 pub no_plot_longer : (plots : Option FileId → Bool) (xs ys : List Deed) (path : List ℕ) → HasNoPlotAt plots xs path → HasNoPlotAt plots (xs ++ ys) path
 no_plot_longer plots xs ys path h = record { found = h.found; looked = has_left xs ys (Deed.looked path h.found) h.looked; apart = h.apart }
+
+pub replace_longer : (plots : Option FileId → Bool) (own : Option (List ℕ)) (xs ys : List Deed) (name : List ℕ) → MayReplace plots own name xs
+    → MayReplace plots own name (xs ++ ys)
+replace_longer plots own xs ys name (inl is) = inl is
+replace_longer plots own xs ys name (inr apart) = inr (no_plot_longer plots xs ys name apart)
 
 says_longer : (xs ys : List Deed) → SaysNext xs → SaysNext (xs ++ ys)
 says_longer [] ys says = absurd says
@@ -54,11 +59,11 @@ pub followed_append : (xs ys : List Deed) → AreFollowed xs → AreFollowed ys 
 followed_append [] ys first next = next
 followed_append (x ∷ xs) ys first next = (followed_longer x xs ys first.0, followed_append xs ys first.1 next)
 
-pub allowed_append : (plots : Option FileId → Bool) (earlier xs ys : List Deed) → AreAllowed plots earlier xs → AreAllowed plots (earlier ++ xs) ys
-    → AreAllowed plots earlier (xs ++ ys)
-allowed_append plots earlier [] ys first next = subst (λ e. AreAllowed plots e ys) (append-nil earlier) next
-allowed_append plots earlier (x ∷ xs) ys first next =
-    (first.0, allowed_append plots (earlier ++ x ∷ []) xs ys first.1 (subst (λ e. AreAllowed plots e ys) (sym (append_assoc earlier (x ∷ []) xs)) next))
+pub allowed_append : (plots : Option FileId → Bool) (own : Option (List ℕ)) (earlier xs ys : List Deed) → AreAllowed plots own earlier xs → AreAllowed plots own (earlier ++ xs) ys
+    → AreAllowed plots own earlier (xs ++ ys)
+allowed_append plots own earlier [] ys first next = subst (λ e. AreAllowed plots own e ys) (append-nil earlier) next
+allowed_append plots own earlier (x ∷ xs) ys first next =
+    (first.0, allowed_append plots own (earlier ++ x ∷ []) xs ys first.1 (subst (λ e. AreAllowed plots own e ys) (sym (append_assoc earlier (x ∷ []) xs)) next))
 
 greatest : (a b c d : ℕ) → d ≡ max b c → max a d ≡ max (max a b) c
 greatest a b c d is = grind (arith, is)
@@ -74,10 +79,10 @@ done_append does (Deed.wrote path ending ∷ xs) ys a m b first next = done_appe
 done_append does (x ∷ xs) ys a m b first next = (first.0, first.1, done_append does xs ys first.0 m b first.2 next)
 
 -- remarks are always allowed, and nothing goes wrong by them
-pub remarks_allowed : (plots : Option FileId → Bool) (earlier xs : List Deed) → AreRemarks xs → AreAllowed plots earlier xs
-remarks_allowed plots earlier [] are = tt
-remarks_allowed plots earlier (Deed.remarked text ∷ xs) are = (tt, remarks_allowed plots (earlier ++ Deed.remarked text ∷ []) xs are)
-remarks_allowed plots earlier (x ∷ xs) are = absurd are
+pub remarks_allowed : (plots : Option FileId → Bool) (own : Option (List ℕ)) (earlier xs : List Deed) → AreRemarks xs → AreAllowed plots own earlier xs
+remarks_allowed plots own earlier [] are = tt
+remarks_allowed plots own earlier (Deed.remarked text ∷ xs) are = (tt, remarks_allowed plots own (earlier ++ Deed.remarked text ∷ []) xs are)
+remarks_allowed plots own earlier (x ∷ xs) are = absurd are
 
 pub remarks_followed : (xs : List Deed) → AreRemarks xs → AreFollowed xs
 remarks_followed [] are = tt

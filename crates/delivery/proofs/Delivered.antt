@@ -4,20 +4,20 @@ use Rattle.output_files.specs.declared.file_id.FileId.{FileId}
 use Rattle.delivery.specs.declared.desk.Found.{Found}
 use Rattle.delivery.specs.declared.ending.Ending.{Ending}
 use Rattle.delivery.specs.declared.ending.Ending.TheVariants.{Whole, Kept, Lost}
-use Rattle.delivery.specs.Deeds.{AreRemarks, Deed, Has, IsSaidOf, Says, WereDone, status_after, status_of}
+use Rattle.delivery.specs.Deeds.{Deed, Has, HasSaid, IsSaidOf, Says, WereDone, status_after, status_of}
 use Rattle.delivery.specs.Care.{AreAllowed, AreFollowed, HasNoPlotAt, IsFollowed, IsSettled, SaysNext, part_of}
 use Rattle.delivery.specs.Folders.{IsOpened}
-use Rattle.delivery.specs.Deliveries.{Delivers, Anything, IsLeft, IsMade, IsNamed, IsPut, IsReachable, IsStored, IsToBeNamed, IsWritten, Never, SaysFirst}
-use Rattle.delivery.proofs.DeedLemmas.{allowed_append, done_append, followed_append, has_last, has_left, has_right, no_plot_longer}
+use Rattle.delivery.specs.Deliveries.{Delivers, Anything, IsLeft, IsMade, IsNamed, IsPut, IsReachable, IsStored, IsToBeNamed, IsWritten, MayBeMade, Never, SaysFirst}
+use Rattle.delivery.proofs.DeedLemmas.{allowed_append, done_append, followed_append, has_last, has_left, has_right, no_plot_longer, replace_longer}
 use Rattle.delivery.proofs.DeedLemmas.{remarks_allowed, remarks_followed, remarks_status, settled_later, status_append}
 
 not_zero : (status : ℕ) → status ≡ 3 → status ≡ 0 → ⊥
 not_zero status three zero = omega arith
 
-positive : (status : ℕ) → 0 < status → status ≡ 0 → ⊥
+pub positive : (status : ℕ) → 0 < status → status ≡ 0 → ⊥
 positive status some zero = omega arith
 
-alone : (status : ℕ) → status ≡ max status 0
+pub alone : (status : ℕ) → status ≡ max status 0
 alone status = grind arith
 
 both_status : (s t x y z : ℕ) → s ≡ x → t ≡ y → z ≡ max x y → max s t ≡ z
@@ -32,13 +32,13 @@ left_zero s t zero = grind (arith, zero)
 right_zero : (s t : ℕ) → max s t ≡ 0 → t ≡ 0
 right_zero s t zero = grind (arith, zero)
 
-module _ {D : Type 0} (does : D → Deed → D → Type 0) (plots : Option FileId → Bool) where
+module _ {D : Type 0} (does : D → Deed → D → Type 0) (plots : Option FileId → Bool) (own : Option (List ℕ)) where
   pub named : (a b : D) (part path : List ℕ) → part ≡ part_of path → does a (Deed.renamed part path true) b
-      → Delivers does plots a b 0 (IsStored part) (IsToBeNamed part path) (IsNamed path)
+      → Delivers does plots own a b 0 (IsStored plots own part path) (IsToBeNamed part path) (IsNamed path)
   named a b part path is step = record {
     deeds = Deed.renamed part path true ∷ [];
     done = (b, step, refl);
-    allowed = λ earlier has. ((has, is), tt);
+    allowed = λ earlier has. ((has.0, is, has.1), tt);
     followed = (tt, tt);
     status_is = refl;
     ends = (true, inl refl);
@@ -46,11 +46,11 @@ module _ {D : Type 0} (does : D → Deed → D → Type 0) (plots : Option FileI
   }
 
   pub not_named : (a m b : D) (part path : List ℕ) (status : ℕ) (text : Option (List ℕ)) → part ≡ part_of path → does a (Deed.renamed part path false) m
-      → does m (Deed.refused status text) b → status ≡ 3 → Delivers does plots a b status (IsStored part) (IsToBeNamed part path) (IsNamed path)
+      → does m (Deed.refused status text) b → status ≡ 3 → Delivers does plots own a b status (IsStored plots own part path) (IsToBeNamed part path) (IsNamed path)
   not_named a m b part path status text is step say three = record {
     deeds = Deed.renamed part path false ∷ Deed.refused status text ∷ [];
     done = (m, step, (b, say, refl));
-    allowed = λ earlier has. ((has, is), (tt, tt));
+    allowed = λ earlier has. ((has.0, is, has.1), (tt, tt));
     followed = (omega arith, (tt, tt));
     status_is = alone status;
     ends = (false, inl refl);
@@ -59,7 +59,7 @@ module _ {D : Type 0} (does : D → Deed → D → Type 0) (plots : Option FileI
 
   -- what is of no use is removed
   pub lost : (a m b : D) (part : List ℕ) (ending : Ending) (status : ℕ) → ending ≡ Lost status → Says does a ending m → does m (Deed.removed part) b
-      → Delivers does plots a b status (λ earlier. HasNoPlotAt plots earlier part) (IsLeft ending part) Never
+      → Delivers does plots own a b status (λ earlier. HasNoPlotAt plots earlier part) (IsLeft ending part) Never
   lost a m b part ending status is says step =
       let said : Says does a (Lost status) m = subst (λ (e : Ending). Says does a e m) is says in
       let text = said.2.1 in
@@ -76,8 +76,8 @@ module _ {D : Type 0} (does : D → Deed → D → Type 0) (plots : Option FileI
 
   -- after it is stored, remarks are made, and it gets its name
   pub stored : (a m n b : D) (part path : List ℕ) (status : ℕ) → does a (Deed.synced part true) m → Says does m Whole n
-      → Delivers does plots n b status (IsStored part) (IsToBeNamed part path) (IsNamed path)
-      → Delivers does plots a b status (IsWritten plots part) (IsSettled part) (IsNamed path)
+      → Delivers does plots own n b status (IsStored plots own part path) (IsToBeNamed part path) (IsNamed path)
+      → Delivers does plots own a b status (IsWritten plots own part path) (IsSettled part) (IsNamed path)
   stored a m n b part path status step says rest =
       let remarks : List Deed = says.0 in
       let zero = remarks_status remarks says.2 in
@@ -86,9 +86,12 @@ module _ {D : Type 0} (does : D → Deed → D → Type 0) (plots : Option FileI
         done = (m, step, done_append does remarks rest.deeds m n b says.1 rest.done);
         allowed = λ earlier has. (
           has.0,
-          allowed_append plots (earlier ++ Deed.synced part true ∷ []) remarks rest.deeds
-              (remarks_allowed plots (earlier ++ Deed.synced part true ∷ []) remarks says.2)
-              (rest.allowed _ (has_left (earlier ++ Deed.synced part true ∷ []) remarks (Deed.synced part true) (has_last earlier (Deed.synced part true)))),
+          allowed_append plots own (earlier ++ Deed.synced part true ∷ []) remarks rest.deeds
+              (remarks_allowed plots own (earlier ++ Deed.synced part true ∷ []) remarks says.2)
+              (rest.allowed _ (
+                has_left (earlier ++ Deed.synced part true ∷ []) remarks (Deed.synced part true) (has_last earlier (Deed.synced part true)),
+                replace_longer plots own (earlier ++ Deed.synced part true ∷ []) remarks path (replace_longer plots own earlier (Deed.synced part true ∷ []) path has.1.1),
+              )),
         );
         followed = (tt, followed_append remarks rest.deeds (remarks_followed remarks says.2) rest.followed);
         status_is = rest.status_is ∙ sym (status_append remarks rest.deeds ∙ grind (arith, zero));
@@ -103,25 +106,28 @@ module _ {D : Type 0} (does : D → Deed → D → Type 0) (plots : Option FileI
 
   -- the system could not store it
   pub not_stored : (a m b : D) (part path : List ℕ) (status : ℕ) (ending : Ending) → does a (Deed.synced part false) m
-      → Delivers does plots m b status (λ earlier. HasNoPlotAt plots earlier part) (IsLeft ending part) Never
-      → Delivers does plots a b status (IsWritten plots part) (IsSettled part) (IsNamed path)
+      → Delivers does plots own m b status (λ earlier. HasNoPlotAt plots earlier part) (IsLeft ending part) Never
+      → Delivers does plots own a b status (IsWritten plots own part path) (IsSettled part) (IsNamed path)
   not_stored a m b part path status ending step rest = record {
     deeds = Deed.synced part false ∷ rest.deeds;
     done = (m, step, rest.done);
-    allowed = λ earlier has. (has.0, rest.allowed _ (no_plot_longer plots earlier (Deed.synced part false ∷ []) part has.1));
+    allowed = λ earlier has. (has.0, rest.allowed _ (no_plot_longer plots earlier (Deed.synced part false ∷ []) part has.1.0));
     followed = (says_first part ending rest.deeds rest.ends, rest.followed);
     status_is = rest.status_is;
     ends = IsSettled.unstored (inl refl);
     whole = λ zero. absurd (rest.whole zero);
   }
 
+  may_longer : (part path : List ℕ) (earlier : List Deed) (deed : Deed) → MayBeMade plots own part path earlier → MayBeMade plots own part path (earlier ++ deed ∷ [])
+  may_longer part path earlier deed may = (no_plot_longer plots earlier (deed ∷ []) part may.0, replace_longer plots own earlier (deed ∷ []) path may.1)
+
   -- it was written whole
-  pub filled : (a b : D) (part path : List ℕ) (status : ℕ) → Delivers does plots a b status (IsWritten plots part) (IsSettled part) (IsNamed path)
-      → Delivers does plots a b status (IsMade plots part) (IsSettled part) (IsNamed path)
+  pub filled : (a b : D) (part path : List ℕ) (status : ℕ) → Delivers does plots own a b status (IsWritten plots own part path) (IsSettled part) (IsNamed path)
+      → Delivers does plots own a b status (IsMade plots own part path) (IsSettled part) (IsNamed path)
   filled a b part path status rest = record {
     deeds = Deed.wrote part Whole ∷ rest.deeds;
     done = rest.done;
-    allowed = λ earlier has. (inl has.0, rest.allowed _ (has_last earlier (Deed.wrote part Whole), no_plot_longer plots earlier (Deed.wrote part Whole ∷ []) part has.1));
+    allowed = λ earlier has. (inl has.0, rest.allowed _ (has_last earlier (Deed.wrote part Whole), may_longer part path earlier (Deed.wrote part Whole) has.1));
     followed = (tt, rest.followed);
     status_is = rest.status_is;
     ends = settled_later part (Deed.wrote part Whole) rest.deeds rest.ends;
@@ -140,12 +146,12 @@ module _ {D : Type 0} (does : D → Deed → D → Type 0) (plots : Option FileI
 
   -- it was not
   pub not_filled : (a b : D) (part path : List ℕ) (status : ℕ) (ending : Ending)
-      → Delivers does plots a b status (λ earlier. HasNoPlotAt plots earlier part) (IsLeft ending part) Never
-      → Delivers does plots a b status (IsMade plots part) (IsSettled part) (IsNamed path)
+      → Delivers does plots own a b status (λ earlier. HasNoPlotAt plots earlier part) (IsLeft ending part) Never
+      → Delivers does plots own a b status (IsMade plots own part path) (IsSettled part) (IsNamed path)
   not_filled a b part path status ending rest = record {
     deeds = Deed.wrote part ending ∷ rest.deeds;
     done = rest.done;
-    allowed = λ earlier has. (inl has.0, rest.allowed _ (no_plot_longer plots earlier (Deed.wrote part ending ∷ []) part has.1));
+    allowed = λ earlier has. (inl has.0, rest.allowed _ (no_plot_longer plots earlier (Deed.wrote part ending ∷ []) part has.1.0));
     followed = (says_why part ending rest.deeds rest.ends, rest.followed);
     status_is = rest.status_is;
     ends = left_settled part ending rest.deeds rest.ends;
@@ -154,15 +160,15 @@ module _ {D : Type 0} (does : D → Deed → D → Type 0) (plots : Option FileI
 
   -- a file is made and filled
   pub made : (a m n b : D) (part path : List ℕ) (status : ℕ) → does a (Deed.removed part) m → does m (Deed.created part true) n
-      → Delivers does plots n b status (IsMade plots part) (IsSettled part) (IsNamed path)
-      → Delivers does plots a b status (λ earlier. HasNoPlotAt plots earlier part) Anything (IsNamed path)
+      → Delivers does plots own n b status (IsMade plots own part path) (IsSettled part) (IsNamed path)
+      → Delivers does plots own a b status (MayBeMade plots own part path) Anything (IsNamed path)
   made a m n b part path status remove create rest = record {
     deeds = Deed.removed part ∷ Deed.created part true ∷ rest.deeds;
     done = (m, remove, (n, create, rest.done));
     allowed = λ earlier has.
         let here = earlier ++ Deed.removed part ∷ [] in
-        let apart = no_plot_longer plots earlier (Deed.removed part ∷ []) part has in
-        (has, (apart, rest.allowed _ (has_last here (Deed.created part true), no_plot_longer plots here (Deed.created part true ∷ []) part apart)));
+        let may = may_longer part path earlier (Deed.removed part) has in
+        (has.0, (may.0, rest.allowed _ (has_last here (Deed.created part true), may_longer part path here (Deed.created part true) may)));
     followed = (tt, (rest.ends, rest.followed));
     status_is = rest.status_is;
     ends = tt;
@@ -170,11 +176,11 @@ module _ {D : Type 0} (does : D → Deed → D → Type 0) (plots : Option FileI
   }
 
   pub not_made : (a m n b : D) (part path : List ℕ) (status : ℕ) (text : Option (List ℕ)) → does a (Deed.removed part) m → does m (Deed.created part false) n
-      → does n (Deed.refused status text) b → status ≡ 3 → Delivers does plots a b status (λ earlier. HasNoPlotAt plots earlier part) Anything (IsNamed path)
+      → does n (Deed.refused status text) b → status ≡ 3 → Delivers does plots own a b status (MayBeMade plots own part path) Anything (IsNamed path)
   not_made a m n b part path status text remove create say three = record {
     deeds = Deed.removed part ∷ Deed.created part false ∷ Deed.refused status text ∷ [];
     done = (m, remove, (n, create, (b, say, refl)));
-    allowed = λ earlier has. (has, (no_plot_longer plots earlier (Deed.removed part ∷ []) part has, (tt, tt)));
+    allowed = λ earlier has. (has.0, (no_plot_longer plots earlier (Deed.removed part ∷ []) part has.0, (tt, tt)));
     followed = (tt, (omega arith, (tt, tt)));
     status_is = alone status;
     ends = tt;
@@ -182,9 +188,9 @@ module _ {D : Type 0} (does : D → Deed → D → Type 0) (plots : Option FileI
   }
 
   -- a refusal, and nothing else
-  pub only_refused : (IsWhole : List Deed → Type 0) (a b : D) (status : ℕ) (text : Option (List ℕ)) → does a (Deed.refused status text) b → 0 < status
-      → Delivers does plots a b status Anything Anything IsWhole
-  only_refused IsWhole a b status text say some = record {
+  pub only_refused : (Needs IsWhole : List Deed → Type 0) (a b : D) (status : ℕ) (text : Option (List ℕ)) → does a (Deed.refused status text) b → 0 < status
+      → Delivers does plots own a b status Needs Anything IsWhole
+  only_refused Needs IsWhole a b status text say some = record {
     deeds = Deed.refused status text ∷ [];
     done = (b, say, refl);
     allowed = λ earlier _. (tt, tt);
@@ -195,21 +201,21 @@ module _ {D : Type 0} (does : D → Deed → D → Type 0) (plots : Option FileI
   }
 
   -- a look, after which something is delivered
-  pub after_look : (Needs IsWhole : List Deed → Type 0) (a m b : D) (path : List ℕ) (found : Option Found) (status : ℕ) → does a (Deed.looked path found) m
-      → Delivers does plots m b status Needs Anything IsWhole → ((earlier : List Deed) → Needs (earlier ++ Deed.looked path found ∷ []))
-      → ((deeds : List Deed) → IsWhole deeds → IsWhole (Deed.looked path found ∷ deeds)) → Delivers does plots a b status Anything Anything IsWhole
-  after_look Needs IsWhole a m b path found status look rest needs longer = record {
+  pub after_look : (Needs' Needs IsWhole : List Deed → Type 0) (a m b : D) (path : List ℕ) (found : Option Found) (status : ℕ) → does a (Deed.looked path found) m
+      → Delivers does plots own m b status Needs Anything IsWhole → ((earlier : List Deed) → Needs' earlier → Needs (earlier ++ Deed.looked path found ∷ []))
+      → ((deeds : List Deed) → IsWhole deeds → IsWhole (Deed.looked path found ∷ deeds)) → Delivers does plots own a b status Needs' Anything IsWhole
+  after_look Needs' Needs IsWhole a m b path found status look rest needs longer = record {
     deeds = Deed.looked path found ∷ rest.deeds;
     done = (m, look, rest.done);
-    allowed = λ earlier _. (tt, rest.allowed (earlier ++ Deed.looked path found ∷ []) (needs earlier));
+    allowed = λ earlier has. (tt, rest.allowed (earlier ++ Deed.looked path found ∷ []) (needs earlier has));
     followed = (tt, rest.followed);
     status_is = rest.status_is;
     ends = tt;
     whole = λ zero. longer rest.deeds (rest.whole zero);
   }
 
-  said_allowed : (earlier : List Deed) (ending : Ending) (deeds : List Deed) → IsSaidOf ending deeds → AreAllowed plots earlier deeds
-  said_allowed earlier Whole deeds said = remarks_allowed plots earlier deeds said
+  said_allowed : (earlier : List Deed) (ending : Ending) (deeds : List Deed) → IsSaidOf ending deeds → AreAllowed plots own earlier deeds
+  said_allowed earlier Whole deeds said = remarks_allowed plots own earlier deeds said
   said_allowed earlier (Kept status) deeds said = rw said.2 (tt, tt)
   said_allowed earlier (Lost status) deeds said = rw said.2 (tt, tt)
 
@@ -233,9 +239,22 @@ module _ {D : Type 0} (does : D → Deed → D → Type 0) (plots : Option FileI
   wrote_whole path (Kept status) deeds said zero = absurd (positive status said.0 zero)
   wrote_whole path (Lost status) deeds said zero = absurd (positive status said.0 zero)
 
+  -- what became of a writing was said, and nothing else was done
+  pub only_said : (IsWhole : List Deed → Type 0) (a b : D) (status : ℕ) → HasSaid does a status b → ((deeds : List Deed) → IsWhole deeds)
+      → Delivers does plots own a b status Anything Anything IsWhole
+  only_said IsWhole a b status said whole = record {
+    deeds = said.1.0;
+    done = said.1.1;
+    allowed = λ earlier _. said_allowed earlier said.0 said.1.0 said.1.2;
+    followed = said_followed said.0 said.1.0 said.1.2;
+    status_is = said.2 ∙ said_status said.0 said.1.0 said.1.2;
+    ends = tt;
+    whole = λ _. whole said.1.0;
+  }
+
   -- what has a path is written as it is
   pub written : (a m b : D) (path : List ℕ) (ending : Ending) (status : ℕ) → does a (Deed.reached path true) m → Says does m ending b → status ≡ status_of ending
-      → Delivers does plots a b status (IsReachable path) Anything (IsPut path)
+      → Delivers does plots own a b status (IsReachable path) Anything (IsPut path)
   written a m b path ending status reach says is = record {
     deeds = Deed.reached path true ∷ Deed.wrote path ending ∷ says.0;
     done = (m, reach, says.1);
@@ -247,7 +266,7 @@ module _ {D : Type 0} (does : D → Deed → D → Type 0) (plots : Option FileI
   }
 
   pub not_reached : (a m b : D) (path : List ℕ) (status : ℕ) (text : Option (List ℕ)) → does a (Deed.reached path false) m → does m (Deed.refused status text) b
-      → status ≡ 3 → Delivers does plots a b status (IsReachable path) Anything (IsPut path)
+      → status ≡ 3 → Delivers does plots own a b status (IsReachable path) Anything (IsPut path)
   not_reached a m b path status text reach say three = record {
     deeds = Deed.reached path false ∷ Deed.refused status text ∷ [];
     done = (m, reach, (b, say, refl));
@@ -258,13 +277,14 @@ module _ {D : Type 0} (does : D → Deed → D → Type 0) (plots : Option FileI
     whole = λ zero. absurd (not_zero status three zero);
   }
 
-  -- what is delivered if something is needed, and it is there
-  pub no_needs : (Needs IsWhole IsWhole' : List Deed → Type 0) (a b : D) (status : ℕ) → Delivers does plots a b status Needs Anything IsWhole
-      → ((earlier : List Deed) → Needs earlier) → ((deeds : List Deed) → IsWhole deeds → IsWhole' deeds) → Delivers does plots a b status Anything Anything IsWhole'
-  no_needs Needs IsWhole IsWhole' a b status rest needs whole = record {
+  -- the same by other words
+  pub adapted : (Needs' Needs IsWhole IsWhole' : List Deed → Type 0) (a b : D) (status : ℕ) → Delivers does plots own a b status Needs Anything IsWhole
+      → ((earlier : List Deed) → Needs' earlier → Needs earlier) → ((deeds : List Deed) → IsWhole deeds → IsWhole' deeds)
+      → Delivers does plots own a b status Needs' Anything IsWhole'
+  adapted Needs' Needs IsWhole IsWhole' a b status rest needs whole = record {
     deeds = rest.deeds;
     done = rest.done;
-    allowed = λ earlier _. rest.allowed earlier (needs earlier);
+    allowed = λ earlier has. rest.allowed earlier (needs earlier has);
     followed = rest.followed;
     status_is = rest.status_is;
     ends = tt;
@@ -272,7 +292,7 @@ module _ {D : Type 0} (does : D → Deed → D → Type 0) (plots : Option FileI
   }
 
   -- a plot is opened
-  pub opened : (a b : D) (path : List ℕ) → does a (Deed.opened path true) b → Delivers does plots a b 0 Anything Anything (IsOpened path)
+  pub opened : (a b : D) (path : List ℕ) → does a (Deed.opened path true) b → Delivers does plots own a b 0 Anything Anything (IsOpened path)
   opened a b path opens = record {
     deeds = Deed.opened path true ∷ [];
     done = (b, opens, refl);
@@ -284,13 +304,13 @@ module _ {D : Type 0} (does : D → Deed → D → Type 0) (plots : Option FileI
   }
 
   pub not_opened : (a m b : D) (path : List ℕ) (status : ℕ) → does a (Deed.opened path false) m → SaysFirst does m status b → status ≡ 3
-      → Delivers does plots a b status Anything Anything (IsOpened path)
+      → Delivers does plots own a b status Anything Anything (IsOpened path)
   not_opened a m b path status opens says three =
       let say = Deed.refused status says.0 in
       record {
         deeds = Deed.opened path false ∷ say ∷ says.1;
         done = (m, opens, says.2);
-        allowed = λ earlier _. (tt, (tt, remarks_allowed plots ((earlier ++ Deed.opened path false ∷ []) ++ say ∷ []) says.1 says.3));
+        allowed = λ earlier _. (tt, (tt, remarks_allowed plots own ((earlier ++ Deed.opened path false ∷ []) ++ say ∷ []) says.1 says.3));
         followed = (omega arith, (tt, remarks_followed says.1 says.3));
         status_is = grind (arith, remarks_status says.1 says.3);
         ends = tt;
@@ -298,12 +318,12 @@ module _ {D : Type 0} (does : D → Deed → D → Type 0) (plots : Option FileI
       }
 
   -- one after another
-  pub both : (W V IsWhole : List Deed → Type 0) (a m b : D) (s t : ℕ) → Delivers does plots a m s Anything Anything W → Delivers does plots m b t Anything Anything V
-      → ((xs ys : List Deed) → W xs → V ys → IsWhole (xs ++ ys)) → Delivers does plots a b (max s t) Anything Anything IsWhole
+  pub both : (W V IsWhole : List Deed → Type 0) (a m b : D) (s t : ℕ) → Delivers does plots own a m s Anything Anything W → Delivers does plots own m b t Anything Anything V
+      → ((xs ys : List Deed) → W xs → V ys → IsWhole (xs ++ ys)) → Delivers does plots own a b (max s t) Anything Anything IsWhole
   both W V IsWhole a m b s t first next whole = record {
     deeds = first.deeds ++ next.deeds;
     done = done_append does first.deeds next.deeds a m b first.done next.done;
-    allowed = λ earlier _. allowed_append plots earlier first.deeds next.deeds (first.allowed earlier tt) (next.allowed (earlier ++ first.deeds) tt);
+    allowed = λ earlier _. allowed_append plots own earlier first.deeds next.deeds (first.allowed earlier tt) (next.allowed (earlier ++ first.deeds) tt);
     followed = followed_append first.deeds next.deeds first.followed next.followed;
     status_is = both_status s t (status_after first.deeds) (status_after next.deeds) _ first.status_is next.status_is (status_append first.deeds next.deeds);
     ends = tt;
@@ -311,14 +331,14 @@ module _ {D : Type 0} (does : D → Deed → D → Type 0) (plots : Option FileI
   }
 
   -- the same after what went well
-  pub after_success : (W V IsWhole : List Deed → Type 0) (a m b : D) (t : ℕ) → Delivers does plots a m 0 Anything Anything W → Delivers does plots m b t Anything Anything V
-      → ((xs ys : List Deed) → W xs → V ys → IsWhole (xs ++ ys)) → Delivers does plots a b t Anything Anything IsWhole
+  pub after_success : (W V IsWhole : List Deed → Type 0) (a m b : D) (t : ℕ) → Delivers does plots own a m 0 Anything Anything W → Delivers does plots own m b t Anything Anything V
+      → ((xs ys : List Deed) → W xs → V ys → IsWhole (xs ++ ys)) → Delivers does plots own a b t Anything Anything IsWhole
   after_success W V IsWhole a m b t first next whole =
-      subst (λ (s : ℕ). Delivers does plots a b s Anything Anything IsWhole) (zero_max t) (both W V IsWhole a m b 0 t first next whole)
+      subst (λ (s : ℕ). Delivers does plots own a b s Anything Anything IsWhole) (zero_max t) (both W V IsWhole a m b 0 t first next whole)
 
   -- what went wrong
-  pub gone_wrong : (W IsWhole : List Deed → Type 0) (a b : D) (s : ℕ) → Delivers does plots a b s Anything Anything W → 0 < s
-      → Delivers does plots a b s Anything Anything IsWhole
+  pub gone_wrong : (W IsWhole : List Deed → Type 0) (a b : D) (s : ℕ) → Delivers does plots own a b s Anything Anything W → 0 < s
+      → Delivers does plots own a b s Anything Anything IsWhole
   gone_wrong W IsWhole a b s wrong some = record {
     deeds = wrong.deeds;
     done = wrong.done;
@@ -330,7 +350,7 @@ module _ {D : Type 0} (does : D → Deed → D → Type 0) (plots : Option FileI
   }
 
   -- nothing yet
-  pub nothing_yet : (IsWhole : List Deed → Type 0) (a b : D) → b ≡ a → ((deeds : List Deed) → IsWhole deeds) → Delivers does plots a b 0 Anything Anything IsWhole
+  pub nothing_yet : (IsWhole : List Deed → Type 0) (a b : D) → b ≡ a → ((deeds : List Deed) → IsWhole deeds) → Delivers does plots own a b 0 Anything Anything IsWhole
   nothing_yet IsWhole a b same whole = record {
     deeds = [];
     done = same;

@@ -1,16 +1,45 @@
 -- Plots that stay plots, and sheets one after another.
-use Rattle.std.proofs.Common.{◌≡◌, ◌<◌, ◌≤◌, ◌+◌, ◌++◌, ◌∙◌, ◌∷◌, ◌⊎◌, ℕ, Bool, List, [], Option, None, Some, inl, inr, arith, subst, sym, Bor, ap, get_or, length, map, take}
+use Rattle.std.proofs.Common.{◌≡◌, ◌<◌, ◌≤◌, ◌+◌, ◌++◌, ◌∙◌, ◌∷◌, ◌⊎◌, ℕ, Bool, true, false, List, [], Option, None, Some, inl, inr, arith, refl, subst, sym, Bor, ap, get_or, length, map, take}
+use mathlib.Core.Path.{fun_ext}
 use Rattle.std.proofs.lemmas.Bool.{cases_lt}
 use Rattle.std.proofs.lemmas.List.{map-append, take_all, take_more}
 use Rattle.output_files.specs.declared.claims.Claims.{Claims}
 use Rattle.output_files.specs.declared.file_id.FileId.{FileId}
-use Rattle.output_files.specs.Claims.{has_plot}
+use Rattle.output_files.specs.declared.claims.Claim.{Claim}
+use Rattle.output_files.specs.declared.claims.Claim.TheVariants.{Free}
+use Rattle.output_files.specs.Claims.{claim_of, has_plot, is_plot}
+use Rattle.delivery.specs.declared.desk.Found.{Found}
+use Rattle.delivery.specs.Care.{MayReplace, id_found}
 use Rattle.delivery.specs.Deeds.{Deed}
-use Rattle.delivery.specs.Folders.{ArePlotsPut, AreSheetsPut, AreThePlots, IsOpened, IsOutputPut, IsPlotPut, IsPutAt, IsSheetPut}
-use Rattle.delivery.specs.Deliveries.{IsPut}
+use Rattle.delivery.specs.Folders.{ArePlotsPut, AreSheetsPut, AreThePlots, IsClear, IsOpened, IsOutputPut, IsPlotPut, IsPutAt, IsSheetPut}
+use Rattle.delivery.specs.Deliveries.{Anything, Delivers, IsPut}
 use Rattle.output_files.specs.Names.{file_name}
-use Rattle.delivery.proofs.DeedLemmas.{has_left, has_right}
-use Rattle.delivery.proofs.Delivered.{put_left, put_right}
+use Rattle.delivery.proofs.DeedLemmas.{has_last, has_left, has_right}
+use Rattle.delivery.proofs.Delivered.{adapted, put_left, put_right}
+
+not_plot : (claimed plot : Bool) → claim_of claimed plot ≡ Free → plot ≡ false
+not_plot true plot is = grind (arith, is)
+not_plot false true is = grind (arith, is)
+not_plot false false is = refl
+
+-- after a look, a claim that is free has no plot
+pub clear_after : (claims : Claims) (plots : Option FileId → Bool) (claimed : Bool) (claim : Claim) (path : List ℕ) (found : Option Found) (id : Option FileId) (earlier : List Deed)
+    → AreThePlots claims plots → id ≡ id_found found → claim ≡ claim_of claimed (is_plot claims id) → IsClear plots claim path (earlier ++ Deed.looked path found ∷ [])
+clear_after claims plots claimed claim path found id earlier are looked is free = record {
+  found = found;
+  looked = has_last earlier (Deed.looked path found);
+  apart = ap plots (sym looked) ∙ sym (are id) ∙ not_plot claimed (is_plot claims id) (sym is ∙ free);
+}
+
+-- what is delivered by these claims, of which this one is free
+pub by_claims : {D : Type 0} (does : D → Deed → D → Type 0) (claims : Claims) (plots : Option FileId → Bool) (claim : Claim) (a b : D) (path : List ℕ) (status : ℕ)
+    → AreThePlots claims plots → claim ≡ Free
+    → Delivers does (is_plot claims) None a b status (MayReplace (is_plot claims) None path) Anything (IsPut path)
+    → Delivers does plots None a b status (IsClear plots claim path) Anything (IsPut path)
+by_claims does claims plots claim a b path status are free rest =
+    adapted does plots None (IsClear plots claim path) (MayReplace plots None path) (IsPut path) (IsPut path) a b status
+    (subst (λ (p : Option FileId → Bool). Delivers does p None a b status (MayReplace p None path) Anything (IsPut path)) (fun_ext are) rest)
+    (λ _ clear. inr (clear free)) (λ _ put. put)
 
 pub kept_plots : (old new : Claims) (plots : Option FileId → Bool) → ((file : FileId) → has_plot new file ≡ has_plot old file)
     → AreThePlots old plots → AreThePlots new plots
@@ -68,6 +97,13 @@ plot_right folder extension file xs ys put = (has_right xs ys _ put.0, output_ri
 plots_left : (folder extension : List ℕ) (files : List (List ℕ)) (xs ys : List Deed) → ArePlotsPut folder extension files xs → ArePlotsPut folder extension files (xs ++ ys)
 plots_left folder extension [] xs ys put = tt
 plots_left folder extension (file ∷ files) xs ys put = (plot_left folder extension file xs ys put.0, plots_left folder extension files xs ys put.1)
+
+pub plots_right : (folder extension : List ℕ) (files : List (List ℕ)) (xs ys : List Deed) → ArePlotsPut folder extension files ys → ArePlotsPut folder extension files (xs ++ ys)
+plots_right folder extension [] xs ys put = tt
+plots_right folder extension (file ∷ files) xs ys put = (plot_right folder extension file xs ys put.0, plots_right folder extension files xs ys put.1)
+
+pub opened_left : (file : List ℕ) (xs ys : List Deed) → IsOpened file xs → IsOpened file (xs ++ ys)
+opened_left file xs ys opened = has_left xs ys _ opened
 
 -- one plot more
 pub plots_more : (folder extension file : List ℕ) (files : List (List ℕ)) (xs ys : List Deed) → ArePlotsPut folder extension files xs

@@ -1,3 +1,5 @@
 pub mod DeedLemmas
 pub mod Delivered
 pub mod Folders
+pub mod Looking
+pub mod Examples

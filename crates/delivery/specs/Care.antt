@@ -6,7 +6,6 @@ use Rattle.output_files.specs.declared.file_id.FileId.{FileId}
 use Rattle.delivery.specs.declared.desk.Found.{Found}
 use Rattle.delivery.specs.declared.desk.Kind.{Kind}
 use Rattle.delivery.specs.declared.desk.Kind.TheVariants.{File}
-use Rattle.delivery.specs.declared.ending.Ending.{Ending}
 use Rattle.delivery.specs.declared.ending.Ending.TheVariants.{Whole, Kept, Lost}
 use Rattle.delivery.specs.Deeds.{Deed, Has}
 
@@ -44,22 +43,26 @@ pub record HasDeviceAt (before : List Deed) (path : List ℕ) : Type 0 where
   pub looked : Has before (Deed.looked path found)
   pub no_file : is_device found ≡ true
 
+-- what has this name may be replaced: a look found no plot there, or it is the name that the user gave the output
+abbrev pub MayReplace : (Option FileId → Bool) → Option (List ℕ) → List ℕ → List Deed → Type 0
+MayReplace plots own name before = (own ≡ Some name) ⊎ HasNoPlotAt plots before name
+
 -- a file is made or removed only if a look found no plot there; it is written only if it was made, stored only if it was
--- written whole, and named only if it was stored, by the name that it was made for; what was there is written as it is only if
--- it is open already, or no regular file
-abbrev pub IsAllowed : (Option FileId → Bool) → List Deed → Deed → Type 0
-IsAllowed plots before (Deed.removed path) = HasNoPlotAt plots before path
-IsAllowed plots before (Deed.created path done) = HasNoPlotAt plots before path
-IsAllowed plots before (Deed.wrote path ending) = Has before (Deed.created path true) ⊎ Has before (Deed.reached path true)
-IsAllowed plots before (Deed.synced path done) = Has before (Deed.wrote path Whole)
-IsAllowed plots before (Deed.renamed path name done) = Has before (Deed.synced path true) × (path ≡ part_of name)
-IsAllowed plots before (Deed.reached path done) = (is_open_file path ≡ true) ⊎ HasDeviceAt before path
-IsAllowed plots before deed = Unit
+-- written whole, and named only if it was stored, by the name that it was made for, if what has that may be replaced; what was
+-- there is written as it is only if it is open already, or no regular file
+abbrev pub IsAllowed : (Option FileId → Bool) → Option (List ℕ) → List Deed → Deed → Type 0
+IsAllowed plots own before (Deed.removed path) = HasNoPlotAt plots before path
+IsAllowed plots own before (Deed.created path done) = HasNoPlotAt plots before path
+IsAllowed plots own before (Deed.wrote path ending) = Has before (Deed.created path true) ⊎ Has before (Deed.reached path true)
+IsAllowed plots own before (Deed.synced path done) = Has before (Deed.wrote path Whole)
+IsAllowed plots own before (Deed.renamed path name done) = Has before (Deed.synced path true) × (path ≡ part_of name) × MayReplace plots own name before
+IsAllowed plots own before (Deed.reached path done) = (is_open_file path ≡ true) ⊎ HasDeviceAt before path
+IsAllowed plots own before deed = Unit
 
 -- each deed is allowed after those before it
-abbrev pub AreAllowed : (Option FileId → Bool) → List Deed → List Deed → Type 0
-AreAllowed plots before [] = Unit
-AreAllowed plots before (deed ∷ deeds) = IsAllowed plots before deed × AreAllowed plots (before ++ deed ∷ []) deeds
+abbrev pub AreAllowed : (Option FileId → Bool) → Option (List ℕ) → List Deed → List Deed → Type 0
+AreAllowed plots own before [] = Unit
+AreAllowed plots own before (deed ∷ deeds) = IsAllowed plots own before deed × AreAllowed plots own (before ++ deed ∷ []) deeds
 
 -- what went wrong is said next
 abbrev pub SaysNext : List Deed → Type 0

@@ -5,15 +5,15 @@ use Rattle.delivery.specs.declared.desk.Found.{Found}
 use Rattle.delivery.specs.declared.ending.Ending.{Ending}
 use Rattle.delivery.specs.declared.ending.Ending.TheVariants.{Whole, Kept, Lost}
 use Rattle.delivery.specs.Deeds.{AreRemarks, Deed, Has, WereDone, status_after}
-use Rattle.delivery.specs.Care.{AreAllowed, AreFollowed, HasDeviceAt, HasNoPlotAt, IsSettled, SaysNext, id_found, is_device, is_open_file, part_of}
+use Rattle.delivery.specs.Care.{AreAllowed, AreFollowed, HasDeviceAt, HasNoPlotAt, MayReplace, SaysNext, id_found, is_device, is_open_file, part_of}
 
 -- some deeds were done, each of which is allowed if what they need was done before, and each failure of which is said; the
 -- status is the greatest of what was said, and if it is 0, the deeds are whole
-pub record Delivers {D : Type 0} (does : D → Deed → D → Type 0) (plots : Option FileId → Bool) (before after : D)
-    (status : ℕ) (Needs Ends IsWhole : List Deed → Type 0) : Type 0 where
+pub record Delivers {D : Type 0} (does : D → Deed → D → Type 0) (plots : Option FileId → Bool) (own : Option (List ℕ))
+    (before after : D) (status : ℕ) (Needs Ends IsWhole : List Deed → Type 0) : Type 0 where
   pub deeds : List Deed
   pub done : WereDone does before deeds after
-  pub allowed : (earlier : List Deed) → Needs earlier → AreAllowed plots earlier deeds
+  pub allowed : (earlier : List Deed) → Needs earlier → AreAllowed plots own earlier deeds
   pub followed : AreFollowed deeds
   pub status_is : status ≡ status_after deeds
   pub ends : Ends deeds
@@ -35,17 +35,21 @@ IsNamed path deeds = Has deeds (Deed.renamed (part_of path) path true)
 abbrev pub IsToBeNamed : List ℕ → List ℕ → List Deed → Type 0
 IsToBeNamed part path deeds = (done : Bool) × Has deeds (Deed.renamed part path done)
 
--- a file is stored
-abbrev pub IsStored : List ℕ → List Deed → Type 0
-IsStored part earlier = Has earlier (Deed.synced part true)
+-- a file may be made here, and get this name
+abbrev pub MayBeMade : (Option FileId → Bool) → Option (List ℕ) → List ℕ → List ℕ → List Deed → Type 0
+MayBeMade plots own part path earlier = HasNoPlotAt plots earlier part × MayReplace plots own path earlier
 
--- a file was written whole, where no plot is
-abbrev pub IsWritten : (Option FileId → Bool) → List ℕ → List Deed → Type 0
-IsWritten plots part earlier = Has earlier (Deed.wrote part Whole) × HasNoPlotAt plots earlier part
+-- a file was made, which may get this name
+abbrev pub IsMade : (Option FileId → Bool) → Option (List ℕ) → List ℕ → List ℕ → List Deed → Type 0
+IsMade plots own part path earlier = Has earlier (Deed.created part true) × MayBeMade plots own part path earlier
 
--- a file was made, where no plot is
-abbrev pub IsMade : (Option FileId → Bool) → List ℕ → List Deed → Type 0
-IsMade plots part earlier = Has earlier (Deed.created part true) × HasNoPlotAt plots earlier part
+-- it was written whole
+abbrev pub IsWritten : (Option FileId → Bool) → Option (List ℕ) → List ℕ → List ℕ → List Deed → Type 0
+IsWritten plots own part path earlier = Has earlier (Deed.wrote part Whole) × MayBeMade plots own part path earlier
+
+-- it is stored
+abbrev pub IsStored : (Option FileId → Bool) → Option (List ℕ) → List ℕ → List ℕ → List Deed → Type 0
+IsStored plots own part path earlier = Has earlier (Deed.synced part true) × MayReplace plots own path earlier
 
 -- why a writing failed is said, and what is of no use is removed
 abbrev pub IsLeft : Ending → List ℕ → List Deed → Type 0

@@ -4,17 +4,24 @@ use Rattle.std.specs.List.{AllByRecursion}
 use Rattle.std.specs.Option.{option_map_or}
 use Rattle.output_files.specs.declared.file_id.FileId.{FileId}
 use Rattle.output_files.specs.declared.claims.Claims.{Claims}
+use Rattle.output_files.specs.declared.claims.Claim.{Claim}
+use Rattle.output_files.specs.declared.claims.Claim.TheVariants.{Free}
 use Rattle.output_files.specs.Claims.{is_plot}
 use Rattle.output_files.specs.Names.{file_name}
 use Rattle.delivery.specs.declared.desk.Found.{Found}
 use Rattle.delivery.specs.declared.desk.Kind.{Kind}
 use Rattle.delivery.specs.declared.desk.Kind.TheVariants.{Folder}
 use Rattle.delivery.specs.Deeds.{Deed, Has}
+use Rattle.delivery.specs.Care.{HasNoPlotAt}
 use Rattle.delivery.specs.Deliveries.{IsPut}
 
 -- these are the plots that are claimed
 abbrev pub AreThePlots : Claims → (Option FileId → Bool) → Type 0
 AreThePlots claims plots = (found : Option FileId) → is_plot claims found ≡ plots found
+
+-- a file that was asked for has no plot, if the claim is free
+abbrev pub IsClear : (Option FileId → Bool) → Claim → List ℕ → List Deed → Type 0
+IsClear plots claim path earlier = claim ≡ Free → HasNoPlotAt plots earlier path
 
 -- an output has its file, if it has a path
 abbrev pub IsPutAt : Option (List ℕ) → List Deed → Type 0

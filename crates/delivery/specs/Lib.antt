@@ -4,3 +4,5 @@ pub mod Care
 pub mod Deliveries
 pub mod Folders
 pub mod Messages
+pub mod Looks
+pub mod Runs

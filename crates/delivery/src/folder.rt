@@ -1,9 +1,9 @@
 //! Plots whose output goes into a folder: a file of its own for each plot, or for each of its sheets.
-ghost use Rattle.std.specs.Prelude.{◌≡◌, ◌<◌, ℕ, Bool, Option, Some, IfErr, IfOk, map, string_bytes};
+ghost use Rattle.std.specs.Prelude.{◌≡◌, ◌<◌, ℕ, Bool, List, Option, None, Some, IfErr, IfOk, map, string_bytes};
 ghost use Rattle.output_files.specs.Names.{file_name};
 ghost use Rattle.output_files.specs.declared.file_id.FileId.{FileId};
 ghost use Rattle.delivery.specs.Deliveries.{Anything, Delivers, IsPut};
-ghost use Rattle.delivery.specs.Folders.{ArePlotsPut, AreSheetsPut, AreThePlots, IsOpened, IsOutputPut, IsPlotPut, IsSheetPut, refused_status};
+ghost use Rattle.delivery.specs.Folders.{ArePlotsPut, AreSheetsPut, AreThePlots, IsClear, IsOpened, IsOutputPut, IsPlotPut, IsSheetPut, refused_status};
 
 use crate::about::About;
 use crate::desk::Desk;
@@ -44,7 +44,8 @@ fn deliver_claimed<D: Desk, C: Content>(
     claimed: Claimed<'_>,
 ) -> u8
     ensures { (plots : Option FileId → Bool) → AreThePlots claims.now plots →
-        Delivers D.does plots desk.old desk.new result Anything Anything (IsPut claimed.entry.path.now) }
+        Delivers D.does plots None desk.old desk.new result (IsClear plots claimed.entry.claim claimed.entry.path.now)
+        Anything (IsPut claimed.entry.path.now) }
 {
     let path = claimed.path;
     let about = target.about;
@@ -91,7 +92,7 @@ fn deliver_at<D: Desk, C: Content>(
     path: &str,
 ) -> u8
     ensures delivers { (plots : Option FileId → Bool) → AreThePlots claims.old plots →
-        Delivers D.does plots desk.old desk.new result Anything Anything (IsPut path.now) }
+        Delivers D.does plots None desk.old desk.new result Anything Anything (IsPut path.now) }
     ensures plots { (plots : Option FileId → Bool) → AreThePlots claims.old plots → AreThePlots claims.new plots }
 {
     let found = id_at(desk, path);
@@ -119,7 +120,7 @@ fn deliver_sheet<D: Desk, S: Sheets>(
     count: u32,
 ) -> u8
     ensures delivers { (plots : Option FileId → Bool) → AreThePlots claims.old plots →
-        Delivers D.does plots desk.old desk.new result Anything Anything
+        Delivers D.does plots None desk.old desk.new result Anything Anything
         (IsSheetPut target.entry.folder.now target.entry.file.now target.entry.extension.now number count) }
     ensures plots { (plots : Option FileId → Bool) → AreThePlots claims.old plots → AreThePlots claims.new plots }
 {
@@ -152,7 +153,7 @@ fn deliver_sheets<D: Desk, W: Work>(
 ) -> u8
     requires { Some only.path.now ≡ file_name target.folder.now target.file.now 1 1 target.extension.now }
     ensures delivers { (plots : Option FileId → Bool) → AreThePlots claims.old plots →
-        Delivers D.does plots desk.old desk.new result Anything Anything
+        Delivers D.does plots None desk.old desk.new result (IsClear plots only.entry.claim only.entry.path.now) Anything
         (IsOutputPut target.entry.folder.now target.entry.file.now target.entry.extension.now) }
     ensures plots { (plots : Option FileId → Bool) → AreThePlots claims.old plots → AreThePlots claims.new plots }
 {
@@ -182,7 +183,7 @@ fn deliver_all<D: Desk, S: Sheets>(
     count: u32,
 ) -> u8
     ensures delivers { (plots : Option FileId → Bool) → AreThePlots claims.old plots →
-        Delivers D.does plots desk.old desk.new result Anything Anything
+        Delivers D.does plots None desk.old desk.new result Anything Anything
         (AreSheetsPut target.entry.folder.now target.entry.file.now target.entry.extension.now count count) }
     ensures plots { (plots : Option FileId → Bool) → AreThePlots claims.old plots → AreThePlots claims.new plots }
 {
@@ -196,8 +197,8 @@ fn deliver_all<D: Desk, S: Sheets>(
 
 /// Opens a plot, or says why it cannot be opened, and ends with that exit status.
 pub fn open_plot<D: Desk>(desk: &mut D, reasons: Reasons, path: &str) -> Result<D::Plot, u8>
-    ensures opens { (plots : Option FileId → Bool) →
-        Delivers D.does plots desk.old desk.new (refused_status result) Anything Anything (IsOpened path.now) }
+    ensures opens { (plots : Option FileId → Bool) → (own : Option (List ℕ)) →
+        Delivers D.does plots own desk.old desk.new (refused_status result) Anything Anything (IsOpened path.now) }
     ensures failed { IfErr result (λ status. 0 < status) }
 {
     match reasons {
@@ -208,8 +209,8 @@ pub fn open_plot<D: Desk>(desk: &mut D, reasons: Reasons, path: &str) -> Result<
 
 // Opens a plot that is no folder.
 fn open_file<D: Desk>(desk: &mut D, path: &str) -> Result<D::Plot, u8>
-    ensures opens { (plots : Option FileId → Bool) →
-        Delivers D.does plots desk.old desk.new (refused_status result) Anything Anything (IsOpened path.now) }
+    ensures opens { (plots : Option FileId → Bool) → (own : Option (List ℕ)) →
+        Delivers D.does plots own desk.old desk.new (refused_status result) Anything Anything (IsOpened path.now) }
     ensures failed { IfErr result (λ status. 0 < status) }
 {
     if has_folder(desk, path) {
@@ -220,8 +221,8 @@ fn open_file<D: Desk>(desk: &mut D, path: &str) -> Result<D::Plot, u8>
 
 // Opens a plot, which may be a folder.
 fn open_any<D: Desk>(desk: &mut D, reasons: Reasons, path: &str) -> Result<D::Plot, u8>
-    ensures opens { (plots : Option FileId → Bool) →
-        Delivers D.does plots desk.old desk.new (refused_status result) Anything Anything (IsOpened path.now) }
+    ensures opens { (plots : Option FileId → Bool) → (own : Option (List ℕ)) →
+        Delivers D.does plots own desk.old desk.new (refused_status result) Anything Anything (IsOpened path.now) }
     ensures failed { IfErr result (λ status. 0 < status) }
 {
     match desk.open(path) {
@@ -241,7 +242,7 @@ fn deliver_opened<D: Desk, W: Work>(
     plot: D::Plot,
 ) -> u8
     ensures delivers { (plots : Option FileId → Bool) → AreThePlots claims.old plots →
-        Delivers D.does plots desk.old desk.new result Anything Anything
+        Delivers D.does plots None desk.old desk.new result Anything Anything
         (IsOutputPut target.entry.folder.now target.entry.file.now target.entry.extension.now) }
     ensures plots { (plots : Option FileId → Bool) → AreThePlots claims.old plots → AreThePlots claims.new plots }
 {
@@ -285,7 +286,7 @@ fn deliver_plot<D: Desk, W: Work>(
     work: &W,
 ) -> u8
     ensures delivers { (plots : Option FileId → Bool) → AreThePlots claims.old plots →
-        Delivers D.does plots desk.old desk.new result Anything Anything
+        Delivers D.does plots None desk.old desk.new result Anything Anything
         (IsPlotPut target.entry.folder.now target.entry.extension.now target.entry.file.now) }
     ensures plots { (plots : Option FileId → Bool) → AreThePlots claims.old plots → AreThePlots claims.new plots }
 {
@@ -314,7 +315,7 @@ pub fn deliver_each<D: Desk, W: Work>(
     work: &W,
 ) -> u8
     ensures { (plots : Option FileId → Bool) → AreThePlots claims.old plots →
-        Delivers D.does plots desk.old desk.new result Anything Anything
+        Delivers D.does plots None desk.old desk.new result Anything Anything
         (ArePlotsPut order.entry.folder.now order.entry.extension.now (map (λ file. file.now) order.entry.files.now)) }
 {
     let are_several = order.files.len() > 1;

@@ -8,6 +8,7 @@ mod folder;
 mod messages;
 mod output;
 mod plots;
+mod run;
 mod sheets;
 mod single;
 
@@ -18,5 +19,6 @@ pub use folder::{Order, Target, deliver_each, open_plot};
 pub use messages::{NoPath, Reasons, cannot_write, refuse_memory, refuse_plot, refuse_write};
 pub use output::{Scene, deliver_to, has_folder, write_stream};
 pub use plots::claims_of;
+pub use run::{Single, Streams, USAGE, deliver_all, deliver_single};
 pub use sheets::{PlotOf, Refusal, SheetOf, Sheets, Work};
 pub use single::{deliver_plot_to, write_plot_to};

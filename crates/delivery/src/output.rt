@@ -1,11 +1,11 @@
 //! An output is written under a name of its own, and gets its name when it is whole and stored.
-ghost use Rattle.std.specs.Prelude.{◌≡◌, ◌<◌, ℕ, Bool, Option};
+ghost use Rattle.std.specs.Prelude.{◌≡◌, ◌<◌, ℕ, Bool, List, Option};
 ghost use Rattle.output_files.specs.declared.file_id.FileId.{FileId};
 ghost use Rattle.output_files.specs.Claims.{is_plot};
-ghost use Rattle.delivery.specs.Care.{HasNoPlotAt, IsSettled, is_file, is_open_file, part_of};
+ghost use Rattle.delivery.specs.Care.{HasNoPlotAt, IsSettled, MayReplace, is_file, is_open_file, part_of};
 ghost use Rattle.delivery.specs.Deeds.{HasSaid, IsFailure, status_of};
 ghost use Rattle.delivery.specs.Folders.{LooksForFolder, is_folder};
-ghost use Rattle.delivery.specs.Deliveries.{Anything, Delivers, IsLeft, IsMade, IsNamed, IsPut, IsReachable, IsStored, IsToBeNamed, IsWritten, LooksAt, LooksForDevice, Never};
+ghost use Rattle.delivery.specs.Deliveries.{Anything, Delivers, IsLeft, IsMade, IsNamed, IsPut, IsReachable, IsStored, IsToBeNamed, IsWritten, LooksAt, MayBeMade, LooksForDevice, Never};
 
 use crate::about::About;
 use crate::desk::{Desk, Kind};
@@ -26,7 +26,7 @@ pub struct Scene<'a> {
 
 /// Writes the content into what has this path, if that is open already or no regular file. Else it is written into a new
 /// file of the name `PATH.part`, which gets its name if all was written and stored, and stays or is removed if not.
-/// No plot is written, renamed over or removed but one that has this very path.
+/// No plot is written, renamed over or removed; one that has this very path is replaced only if that may be.
 pub fn deliver_to<D: Desk, C: Content>(
     desk: &mut D,
     alloc: Global,
@@ -34,7 +34,8 @@ pub fn deliver_to<D: Desk, C: Content>(
     content: C,
     path: &str,
 ) -> u8
-    ensures { Delivers D.does (is_plot scene.entry.plots.now) desk.old desk.new result Anything Anything (IsPut path.now) }
+    ensures { (own : Option (List ℕ)) → Delivers D.does (is_plot scene.entry.plots.now) own desk.old desk.new result
+        (MayReplace (is_plot scene.entry.plots.now) own path.now) Anything (IsPut path.now) }
 {
     if is_open_file(path) {
         return write_device(desk, scene.about, content, path);
@@ -93,7 +94,7 @@ fn is_open_file(path: &str) -> bool
 
 // Writes the content into what has this path.
 fn write_device<D: Desk, C: Content>(desk: &mut D, about: About<'_>, content: C, path: &str) -> u8
-    ensures { (plots : Option FileId → Bool) → Delivers D.does plots desk.old desk.new result
+    ensures { (plots : Option FileId → Bool) → (own : Option (List ℕ)) → Delivers D.does plots own desk.old desk.new result
         (IsReachable path.now) Anything (IsPut path.now) }
 {
     match desk.reach(path) {
@@ -138,7 +139,8 @@ fn write_file<D: Desk, C: Content>(
     content: C,
     path: &str,
 ) -> u8
-    ensures { Delivers D.does (is_plot scene.entry.plots.now) desk.old desk.new result Anything Anything (IsNamed path.now) }
+    ensures { (own : Option (List ℕ)) → Delivers D.does (is_plot scene.entry.plots.now) own desk.old desk.new result
+        (MayReplace (is_plot scene.entry.plots.now) own path.now) Anything (IsNamed path.now) }
 {
     let Ok(part) = format!(in alloc; "{path}.part") else {
         return refuse_memory(desk, &scene.about);
@@ -169,8 +171,8 @@ fn make<D: Desk, C: Content>(
     path: &str,
 ) -> u8
     requires { part.now ≡ part_of path.now }
-    ensures { (plots : Option FileId → Bool) → Delivers D.does plots desk.old desk.new result
-        (λ earlier. HasNoPlotAt plots earlier part.now) Anything (IsNamed path.now) }
+    ensures { (plots : Option FileId → Bool) → (own : Option (List ℕ)) → Delivers D.does plots own desk.old desk.new result
+        (MayBeMade plots own part.now path.now) Anything (IsNamed path.now) }
 {
     // An older one may be a link to another file, which must not be written.
     desk.remove(part);
@@ -183,8 +185,8 @@ fn make<D: Desk, C: Content>(
 // Gives a file that is stored its name. The exit status is 0 only if it has it.
 fn give_name<D: Desk>(desk: &mut D, about: About<'_>, part: &str, path: &str) -> u8
     requires { part.now ≡ part_of path.now }
-    ensures { (plots : Option FileId → Bool) → Delivers D.does plots desk.old desk.new result
-        (IsStored part.now) (IsToBeNamed part.now path.now) (IsNamed path.now) }
+    ensures { (plots : Option FileId → Bool) → (own : Option (List ℕ)) → Delivers D.does plots own desk.old desk.new result
+        (IsStored plots own part.now path.now) (IsToBeNamed part.now path.now) (IsNamed path.now) }
 {
     match desk.rename(part, path) {
         Ok(()) => 0,
@@ -195,7 +197,7 @@ fn give_name<D: Desk>(desk: &mut D, about: About<'_>, part: &str, path: &str) ->
 // Says why a writing failed, and removes what is of no use.
 fn leave<D: Desk, A: Answer>(desk: &mut D, about: About<'_>, answer: &A, part: &str) -> u8
     requires { IsFailure (A.ends answer.now) }
-    ensures { (plots : Option FileId → Bool) → Delivers D.does plots desk.old desk.new result
+    ensures { (plots : Option FileId → Bool) → (own : Option (List ℕ)) → Delivers D.does plots own desk.old desk.new result
         (λ earlier. HasNoPlotAt plots earlier part.now) (IsLeft (A.ends answer.now) part.now) Never }
 {
     let ending = answer.ending();
@@ -221,8 +223,8 @@ fn store<D: Desk, B: Answer + Drop>(
 ) -> u8
     requires part { part.now ≡ part_of path.now }
     requires whole { B.ends answer ≡ Ending.Whole }
-    ensures { (plots : Option FileId → Bool) → Delivers D.does plots desk.old desk.new result
-        (IsWritten plots part.now) (IsSettled part.now) (IsNamed path.now) }
+    ensures { (plots : Option FileId → Bool) → (own : Option (List ℕ)) → Delivers D.does plots own desk.old desk.new result
+        (IsWritten plots own part.now path.now) (IsSettled part.now) (IsNamed path.now) }
 {
     match desk.sync(part, file) {
         Ok(()) => {
@@ -246,8 +248,8 @@ fn fill<D: Desk, C: Content>(
     path: &str,
 ) -> u8
     requires { part.now ≡ part_of path.now }
-    ensures { (plots : Option FileId → Bool) → Delivers D.does plots desk.old desk.new result
-        (IsMade plots part.now) (IsSettled part.now) (IsNamed path.now) }
+    ensures { (plots : Option FileId → Bool) → (own : Option (List ℕ)) → Delivers D.does plots own desk.old desk.new result
+        (IsMade plots own part.now path.now) (IsSettled part.now) (IsNamed path.now) }
 {
     let (file, answer) = content.write(file);
     match answer.ending() {

@@ -1,4 +1,5 @@
 //! One plot, whose output goes to one place.
+ghost use Rattle.std.specs.Prelude.{Some};
 ghost use Rattle.output_files.specs.Claims.{is_plot};
 ghost use Rattle.delivery.specs.Deeds.{HasSaid};
 ghost use Rattle.delivery.specs.Deliveries.{Anything, Delivers, IsPut};
@@ -10,7 +11,8 @@ use crate::sheets::{PlotOf, Work};
 use std::alloc::Global;
 use std::io::{Read, Write};
 
-/// Reads a plot, whose file has this name, and writes its output where `deliver_to` writes it.
+/// Reads a plot, whose file has this name, and writes its output where `deliver_to` writes it. A plot that has the very path of
+/// the output may be replaced.
 pub fn deliver_plot_to<D: Desk, W: Work, R: Read + Drop>(
     desk: &mut D,
     alloc: Global,
@@ -20,7 +22,7 @@ pub fn deliver_plot_to<D: Desk, W: Work, R: Read + Drop>(
     plot: R,
     path: &str,
 ) -> u8
-    ensures { Delivers D.does (is_plot scene.entry.plots.now) desk.old desk.new result Anything Anything (IsPut path.now) }
+    ensures { Delivers D.does (is_plot scene.entry.plots.now) (Some path.now) desk.old desk.new result Anything Anything (IsPut path.now) }
 {
     let content = PlotOf {
         work,

@@ -1,10 +1,10 @@
 //! Plots and their sheets, into a folder.
-use crate::desk::Recorder;
 use crate::work::{Plot, Told};
 use delivery::{Order, Reasons, deliver_each};
 use output_files::Claims;
 use std::alloc::Global;
 use std::test::Fail;
+use test_tools::Recorder;
 
 // What is done for plots of so many sheets, if deeds of this name fail.
 fn done(

@@ -2,10 +2,10 @@
 #![tactic(auto)]
 
 #[cfg(test)]
-mod desk;
-#[cfg(test)]
 mod folders;
 #[cfg(test)]
 mod outputs;
+#[cfg(test)]
+mod runs;
 #[cfg(test)]
 mod work;

@@ -1,10 +1,10 @@
 //! One output, written under a name of its own until it is whole and stored.
-use crate::desk::Recorder;
 use crate::work::Told;
 use delivery::{About, Kind, Scene, deliver_to};
 use output_files::{Claims, FileId};
 use std::alloc::Global;
 use std::test::Fail;
+use test_tools::Recorder;
 
 // What is done for an output `out` whose writing ends so, if deeds of this name fail, and this path has the plot.
 fn done(

@@ -14,6 +14,8 @@ mod colours;
 #[cfg(test)]
 mod cut_off;
 #[cfg(test)]
+mod delivered;
+#[cfg(test)]
 mod endings;
 #[cfg(test)]
 mod faults;

@@ -1,35 +1,38 @@
-use Rattle.std.proofs.Common.{◌≡◌, ◌∙◌, List, ℕ, ap, inl, inr, sym}
+use Rattle.std.proofs.Common.{◌∙◌, ◌∷◌, [], inl, inr, sym}
 use Rattle.output_files.specs.Claims.{is_plot}
+use Rattle.delivery.specs.Care.{MayReplace}
 use Rattle.delivery.specs.Deeds.{Deed}
-use Rattle.delivery.specs.Deliveries.{Anything, IsNamed, IsPut, IsReachable}
-use Rattle.delivery.proofs.DeedLemmas.{has_last}
-use Rattle.delivery.proofs.Delivered.{after_look, no_needs, put_later}
+use Rattle.delivery.specs.Deliveries.{IsNamed, IsPut, IsReachable}
+use Rattle.delivery.proofs.DeedLemmas.{has_last, replace_longer}
+use Rattle.delivery.proofs.Delivered.{adapted, after_look, put_later}
 use Rattle.delivery.proofs.output.deliver_to.Goals as goal
 
 pub returns-then-is_open_file : goal.returns-then-is_open_file
-returns-then-is_open_file g c =
+returns-then-is_open_file g c = λ own.
+    let plots = is_plot c.args.scene.plots.now in
     let path = c.args.path.now in
-    no_needs g.D.Desk.does (is_plot c.args.scene.plots.now) (IsReachable path) (IsPut path) (IsPut path) c.args.desk.now c.write_device.new.desk
-    c.write_device.result (c.write_device.ensures (is_plot c.args.scene.plots.now))
-    (λ _. inl (sym c.is_open_file.ensures ∙ c.if-is_open_file.true)) (λ _ put. put)
+    adapted g.D.Desk.does plots own (MayReplace plots own path) (IsReachable path) (IsPut path) (IsPut path) c.args.desk.now c.write_device.new.desk
+    c.write_device.result (c.write_device.ensures plots own)
+    (λ _ _. inl (sym c.is_open_file.ensures ∙ c.if-is_open_file.true)) (λ _ put. put)
 
 pub returns-then-has_device : goal.returns-then-has_device
-returns-then-has_device g c =
-    let path = c.args.path.now in
-    let found = c.has_device.ensures.0 in
-    after_look g.D.Desk.does (is_plot c.args.scene.plots.now) (IsReachable path) (IsPut path) c.args.desk.now c.has_device.new.desk
-    c.write_device-then-has_device.new.desk path found c.write_device-then-has_device.result c.has_device.ensures.1
-    (c.write_device-then-has_device.ensures (is_plot c.args.scene.plots.now))
-    (λ earlier. inr (record { found = found; looked = has_last earlier (Deed.looked path found); no_file = sym c.has_device.ensures.2 ∙ c.if-has_device.true }))
-    (λ deeds put. put_later path (Deed.looked path found) deeds put)
-
-pub returns : goal.returns
-returns g c =
+returns-then-has_device g c = λ own.
     let plots = is_plot c.args.scene.plots.now in
     let path = c.args.path.now in
     let found = c.has_device.ensures.0 in
-    after_look g.D.Desk.does plots Anything (IsPut path) c.args.desk.now c.has_device.new.desk c.write_file.new.desk path found c.write_file.result
+    after_look g.D.Desk.does plots own (MayReplace plots own path) (IsReachable path) (IsPut path) c.args.desk.now c.has_device.new.desk
+    c.write_device-then-has_device.new.desk path found c.write_device-then-has_device.result c.has_device.ensures.1
+    (c.write_device-then-has_device.ensures plots own)
+    (λ earlier _. inr (record { found = found; looked = has_last earlier (Deed.looked path found); no_file = sym c.has_device.ensures.2 ∙ c.if-has_device.true }))
+    (λ deeds put. put_later path (Deed.looked path found) deeds put)
+
+pub returns : goal.returns
+returns g c = λ own.
+    let plots = is_plot c.args.scene.plots.now in
+    let path = c.args.path.now in
+    let found = c.has_device.ensures.0 in
+    after_look g.D.Desk.does plots own (MayReplace plots own path) (MayReplace plots own path) (IsPut path) c.args.desk.now c.has_device.new.desk c.write_file.new.desk path found c.write_file.result
     c.has_device.ensures.1
-    (no_needs g.D.Desk.does plots Anything (IsNamed path) (IsPut path) c.has_device.new.desk c.write_file.new.desk c.write_file.result c.write_file.ensures
-    (λ _. tt) (λ _ has. inl has))
-    (λ _. tt) (λ deeds put. put_later path (Deed.looked path found) deeds put)
+    (adapted g.D.Desk.does plots own (MayReplace plots own path) (MayReplace plots own path) (IsNamed path) (IsPut path) c.has_device.new.desk
+    c.write_file.new.desk c.write_file.result (c.write_file.ensures own) (λ _ may. may) (λ _ has. inl has))
+    (λ earlier may. replace_longer plots own earlier (Deed.looked path found ∷ []) path may) (λ deeds put. put_later path (Deed.looked path found) deeds put)

@@ -2,10 +2,10 @@ use Rattle.delivery.proofs.Delivered.{filled, not_filled}
 use Rattle.delivery.proofs.output.fill.Goals as goal
 
 pub returns-in-Whole : goal.returns-in-Whole
-returns-in-Whole g c = λ plots.
-    filled g.D.Desk.does plots c.args.desk.now c.store.new.desk c.args.part.now c.args.path.now c.store.result (c.store.ensures plots)
+returns-in-Whole g c = λ plots own.
+    filled g.D.Desk.does plots own c.args.desk.now c.store.new.desk c.args.part.now c.args.path.now c.store.result (c.store.ensures plots own)
 
 pub returns-in-Kept : goal.returns-in-Kept
-returns-in-Kept g c = λ plots.
-    not_filled g.D.Desk.does plots c.args.desk.now c.leave.new.desk c.args.part.now c.args.path.now c.leave.result
-    (g.C.Answer.Answer.ends c.write-file.result.1) (c.leave.ensures plots)
+returns-in-Kept g c = λ plots own.
+    not_filled g.D.Desk.does plots own c.args.desk.now c.leave.new.desk c.args.part.now c.args.path.now c.leave.result
+    (g.C.Answer.Answer.ends c.write-file.result.1) (c.leave.ensures plots own)

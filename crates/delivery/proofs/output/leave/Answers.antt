@@ -3,6 +3,6 @@ use Rattle.delivery.proofs.Delivered.{lost}
 use Rattle.delivery.proofs.output.leave.Goals as goal
 
 pub returns-in-Lost : goal.returns-in-Lost
-returns-in-Lost g c = λ plots.
-    lost g.D.Desk.does plots c.args.desk.now c.tell.new.desk c.remove.new.self c.args.part.now (g.A.Answer.ends c.args.answer.now) c.in-Lost.status
+returns-in-Lost g c = λ plots own.
+    lost g.D.Desk.does plots own c.args.desk.now c.tell.new.desk c.remove.new.self c.args.part.now (g.A.Answer.ends c.args.answer.now) c.in-Lost.status
     (sym c.ending-ending.ensures ∙ c.in-Lost.is) c.tell.ensures c.remove.ensures

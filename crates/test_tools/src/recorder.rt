@@ -9,26 +9,36 @@ use std::io::{Error, ErrorKind};
 
 /// The desk.
 #[derive(Drop)]
-pub(crate) struct Recorder {
-    pub(crate) alloc: Global,
+pub struct Recorder {
+    pub alloc: Global,
     /// What was done, a line each.
-    pub(crate) log: String,
+    pub log: String,
     /// The name of the deeds that fail.
-    pub(crate) fails: &'static str,
+    pub fails: &'static str,
+    /// The only path that has a folder.
+    pub folder: &'static str,
     /// The only path that has a file: file 7 of device 1.
-    pub(crate) file: &'static str,
+    pub file: &'static str,
+    /// Another path of that file.
+    pub link: &'static str,
     /// What that file is.
-    pub(crate) kind: Kind,
+    pub kind: Kind,
+    /// What each plot reads.
+    pub plot: &'static [u8],
 }
 
 impl Recorder {
-    pub(crate) fn new(alloc: Global, fails: &'static str) -> Recorder {
+    /// A desk where deeds of this name fail, and with a folder `d`.
+    pub fn new(alloc: Global, fails: &'static str) -> Recorder {
         Recorder {
             alloc,
             log: String::new(alloc),
             fails,
+            folder: "d",
             file: "",
+            link: "",
             kind: Kind::File,
+            plot: b"plot",
         }
     }
 
@@ -60,20 +70,20 @@ impl Desk for Recorder {
     ghost does = { λ _ _ _. ⊤ };
 
     fn look(&mut self, path: &str) -> Result<Found, Error> {
-        if path != self.file {
+        let (kind, number) = if path == self.file || path == self.link {
+            (self.kind, 7)
+        } else if path == self.folder {
+            (Kind::Folder, 2)
+        } else {
             return Err(Error::from(ErrorKind::NotFound));
-        }
-        let id = FileId {
-            device: 1,
-            number: 7,
         };
-        let kind = self.kind;
+        let id = FileId { device: 1, number };
         Ok(Found { id, kind })
     }
 
     fn open(&mut self, path: &str) -> Result<&'static [u8], Error> {
         self.note("open", path)?;
-        Ok(b"plot")
+        Ok(self.plot)
     }
 
     fn create(&mut self, path: &str) -> Result<Vec<u8>, Error> {

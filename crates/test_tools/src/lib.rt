@@ -1,0 +1,6 @@
+//! What several test crates use.
+#![tactic(auto)]
+
+mod recorder;
+
+pub use recorder::Recorder;
