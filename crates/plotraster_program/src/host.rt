@@ -1,11 +1,11 @@
 //! The files, the streams and the terminal of the system.
 ghost use Rattle.std.specs.Prelude.{⊤};
 
-use delivery::{Desk, Found, Kind};
+use delivery::{Desk, Found, Kind, Streams};
 use plotraster::{FileId, Terminal};
 use std::fmt::Display;
 use std::fs::{File, OpenOptions, metadata, remove_file, rename};
-use std::io::{Error, IsTerminal};
+use std::io::{Error, IsTerminal, Stdin, Stdout};
 use std::os::unix::fs::MetadataExt;
 
 /// The system.
@@ -67,6 +67,24 @@ impl Desk for Host<'_> {
 
     fn remark<M: Display>(&mut self, message: &M) {
         let _ = eprintln!(self.rt; "plotraster: {message}");
+    }
+}
+
+impl Streams for Host<'_> {
+    type Input = Stdin;
+
+    type Output = Stdout;
+
+    fn input(&self) -> Stdin {
+        self.rt.stdin()
+    }
+
+    fn output(&self) -> Stdout {
+        self.rt.stdout()
+    }
+
+    fn has_screen(&self) -> bool {
+        self.rt.stdout().is_terminal()
     }
 }
 

@@ -2,13 +2,15 @@
 #![tactic(auto)]
 
 mod host;
-mod output;
-mod usage;
 
-use crate::output::{deliver, destination_of};
-use crate::usage::{refuse_run, refuse_words};
+use crate::host::Host;
 use clap::ArgMatches;
-use plotraster::{Fault, LineFault, command, parse, parse_status, settle};
+use delivery::USAGE;
+use plotraster::{
+    Fault, LineFault, command, deliver_line, destination_of, output_of, parse, parse_status,
+    settle, status,
+};
+use std::fmt::Display;
 use std::io::ErrorKind;
 use std::process::ExitCode;
 
@@ -27,7 +29,7 @@ fn words_of(rt: &HostRuntime) -> Result<Vec<String>, u8> {
             .collect(rt.alloc())
             .map_err(|_| refuse_run(rt, Fault::Memory)),
         Err(error) if error.kind() == ErrorKind::OutOfMemory => Err(refuse_run(rt, Fault::Memory)),
-        Err(_) => Err(refuse_words(rt, LineFault::Words)),
+        Err(_) => Err(refuse(rt, USAGE, &LineFault::Words)),
     }
 }
 
@@ -55,9 +57,20 @@ fn tell(rt: &HostRuntime, error: &clap::Error) -> u8 {
 }
 
 fn work(rt: &HostRuntime, matches: &ArgMatches<'_>) -> u8 {
-    let destination = destination_of(rt, matches);
+    let (mut desk, console) = (Host { rt }, Host { rt });
+    let destination = destination_of(&mut desk, output_of(matches));
     match settle(matches, destination) {
-        Ok(line) => deliver(rt, &line, destination),
-        Err(fault) => refuse_words(rt, fault),
+        Ok(line) => deliver_line(&mut desk, &console, rt.alloc(), &line, destination),
+        Err(fault) => refuse(rt, USAGE, &fault),
     }
+}
+
+fn refuse_run(rt: &HostRuntime, fault: Fault) -> u8 {
+    refuse(rt, status(&fault), &fault)
+}
+
+// Says what went wrong. Gives the exit status.
+fn refuse<M: Display>(rt: &HostRuntime, status: u8, message: &M) -> u8 {
+    let _ = eprintln!(rt; "plotraster: {message}");
+    status
 }
