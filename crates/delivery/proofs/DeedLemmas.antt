@@ -35,13 +35,13 @@ says_longer (x ∷ xs) ys says = absurd says
 settled_longer : (path : List ℕ) (xs ys : List Deed) → IsSettled path xs → IsSettled path (xs ++ ys)
 settled_longer path xs ys (IsSettled.named name done has) = IsSettled.named name done (has_left xs ys _ has)
 settled_longer path xs ys (IsSettled.gone has) = IsSettled.gone (has_left xs ys _ has)
-settled_longer path xs ys (IsSettled.kept status has) = IsSettled.kept status (has_left xs ys _ has)
+settled_longer path xs ys (IsSettled.kept item status has) = IsSettled.kept item status (has_left xs ys _ has)
 settled_longer path xs ys (IsSettled.unstored has) = IsSettled.unstored (has_left xs ys _ has)
 
 pub settled_later : (path : List ℕ) (x : Deed) (xs : List Deed) → IsSettled path xs → IsSettled path (x ∷ xs)
 settled_later path x xs (IsSettled.named name done has) = IsSettled.named name done (inr has)
 settled_later path x xs (IsSettled.gone has) = IsSettled.gone (inr has)
-settled_later path x xs (IsSettled.kept status has) = IsSettled.kept status (inr has)
+settled_later path x xs (IsSettled.kept item status has) = IsSettled.kept item status (inr has)
 settled_later path x xs (IsSettled.unstored has) = IsSettled.unstored (inr has)
 
 followed_longer : (x : Deed) (xs ys : List Deed) → IsFollowed x xs → IsFollowed x (xs ++ ys)
@@ -49,8 +49,8 @@ followed_longer (Deed.opened path false) xs ys h = says_longer xs ys h
 followed_longer (Deed.created path false) xs ys h = says_longer xs ys h
 followed_longer (Deed.created path true) xs ys h = settled_longer path xs ys h
 followed_longer (Deed.reached path false) xs ys h = says_longer xs ys h
-followed_longer (Deed.wrote path (Kept status)) xs ys h = says_longer xs ys h
-followed_longer (Deed.wrote path (Lost status)) xs ys h = says_longer xs ys h
+followed_longer (Deed.wrote path item (Kept status)) xs ys h = says_longer xs ys h
+followed_longer (Deed.wrote path item (Lost status)) xs ys h = says_longer xs ys h
 followed_longer (Deed.synced path false) xs ys h = says_longer xs ys h
 followed_longer (Deed.renamed path name false) xs ys h = says_longer xs ys h
 followed_longer x xs ys h = tt
@@ -75,7 +75,7 @@ status_append (x ∷ xs) ys = status_append xs ys
 
 pub done_append : {D : Type 0} (does : D → Deed → D → Type 0) (xs ys : List Deed) (a m b : D) → WereDone does a xs m → WereDone does m ys b → WereDone does a (xs ++ ys) b
 done_append does [] ys a m b first next = subst (λ x. WereDone does x ys b) first next
-done_append does (Deed.wrote path ending ∷ xs) ys a m b first next = done_append does xs ys a m b first next
+done_append does (Deed.wrote path item ending ∷ xs) ys a m b first next = done_append does xs ys a m b first next
 done_append does (x ∷ xs) ys a m b first next = (first.0, first.1, done_append does xs ys first.0 m b first.2 next)
 
 -- remarks are always allowed, and nothing goes wrong by them

@@ -4,10 +4,10 @@ use Rattle.output_files.specs.declared.file_id.FileId.{FileId}
 use Rattle.delivery.specs.declared.desk.Found.{Found}
 use Rattle.delivery.specs.declared.ending.Ending.{Ending}
 use Rattle.delivery.specs.declared.ending.Ending.TheVariants.{Whole, Kept, Lost}
-use Rattle.delivery.specs.Deeds.{Deed, Has, HasSaid, IsSaidOf, Says, WereDone, status_after, status_of}
+use Rattle.delivery.specs.Deeds.{Deed, Has, HasSaid, IsSaidOf, Item, Says, WereDone, status_after, status_of}
 use Rattle.delivery.specs.Care.{AreAllowed, AreFollowed, HasNoPlotAt, IsFollowed, IsSettled, SaysNext, part_of}
 use Rattle.delivery.specs.Folders.{IsOpened}
-use Rattle.delivery.specs.Deliveries.{Delivers, Anything, IsLeft, IsMade, IsNamed, IsPut, IsReachable, IsStored, IsToBeNamed, IsWritten, MayBeMade, Never, SaysFirst}
+use Rattle.delivery.specs.Deliveries.{Delivers, Anything, IsLeft, HasName, IsMade, IsNamed, IsPut, IsReachable, IsStored, IsToBeNamed, IsWritten, MayBeMade, Never, SaysFirst}
 use Rattle.delivery.proofs.DeedLemmas.{allowed_append, done_append, followed_append, has_last, has_left, has_right, no_plot_longer, replace_longer}
 use Rattle.delivery.proofs.DeedLemmas.{remarks_allowed, remarks_followed, remarks_status, settled_later, status_append}
 
@@ -34,7 +34,7 @@ right_zero s t zero = grind (arith, zero)
 
 module _ {D : Type 0} (does : D → Deed → D → Type 0) (plots : Option FileId → Bool) (own : Option (List ℕ)) where
   pub named : (a b : D) (part path : List ℕ) → part ≡ part_of path → does a (Deed.renamed part path true) b
-      → Delivers does plots own a b 0 (IsStored plots own part path) (IsToBeNamed part path) (IsNamed path)
+      → Delivers does plots own a b 0 (IsStored plots own part path) (IsToBeNamed part path) (HasName path)
   named a b part path is step = record {
     deeds = Deed.renamed part path true ∷ [];
     done = (b, step, refl);
@@ -46,7 +46,7 @@ module _ {D : Type 0} (does : D → Deed → D → Type 0) (plots : Option FileI
   }
 
   pub not_named : (a m b : D) (part path : List ℕ) (status : ℕ) (text : Option (List ℕ)) → part ≡ part_of path → does a (Deed.renamed part path false) m
-      → does m (Deed.refused status text) b → status ≡ 3 → Delivers does plots own a b status (IsStored plots own part path) (IsToBeNamed part path) (IsNamed path)
+      → does m (Deed.refused status text) b → status ≡ 3 → Delivers does plots own a b status (IsStored plots own part path) (IsToBeNamed part path) (HasName path)
   not_named a m b part path status text is step say three = record {
     deeds = Deed.renamed part path false ∷ Deed.refused status text ∷ [];
     done = (m, step, (b, say, refl));
@@ -76,8 +76,8 @@ module _ {D : Type 0} (does : D → Deed → D → Type 0) (plots : Option FileI
 
   -- after it is stored, remarks are made, and it gets its name
   pub stored : (a m n b : D) (part path : List ℕ) (status : ℕ) → does a (Deed.synced part true) m → Says does m Whole n
-      → Delivers does plots own n b status (IsStored plots own part path) (IsToBeNamed part path) (IsNamed path)
-      → Delivers does plots own a b status (IsWritten plots own part path) (IsSettled part) (IsNamed path)
+      → Delivers does plots own n b status (IsStored plots own part path) (IsToBeNamed part path) (HasName path)
+      → Delivers does plots own a b status (IsWritten plots own part path) (IsSettled part) (HasName path)
   stored a m n b part path status step says rest =
       let remarks : List Deed = says.0 in
       let zero = remarks_status remarks says.2 in
@@ -107,7 +107,7 @@ module _ {D : Type 0} (does : D → Deed → D → Type 0) (plots : Option FileI
   -- the system could not store it
   pub not_stored : (a m b : D) (part path : List ℕ) (status : ℕ) (ending : Ending) → does a (Deed.synced part false) m
       → Delivers does plots own m b status (λ earlier. HasNoPlotAt plots earlier part) (IsLeft ending part) Never
-      → Delivers does plots own a b status (IsWritten plots own part path) (IsSettled part) (IsNamed path)
+      → Delivers does plots own a b status (IsWritten plots own part path) (IsSettled part) (HasName path)
   not_stored a m b part path status ending step rest = record {
     deeds = Deed.synced part false ∷ rest.deeds;
     done = (m, step, rest.done);
@@ -122,47 +122,48 @@ module _ {D : Type 0} (does : D → Deed → D → Type 0) (plots : Option FileI
   may_longer part path earlier deed may = (no_plot_longer plots earlier (deed ∷ []) part may.0, replace_longer plots own earlier (deed ∷ []) path may.1)
 
   -- it was written whole
-  pub filled : (a b : D) (part path : List ℕ) (status : ℕ) → Delivers does plots own a b status (IsWritten plots own part path) (IsSettled part) (IsNamed path)
-      → Delivers does plots own a b status (IsMade plots own part path) (IsSettled part) (IsNamed path)
-  filled a b part path status rest = record {
-    deeds = Deed.wrote part Whole ∷ rest.deeds;
+  pub filled : (a b : D) (part path : List ℕ) (item : Item) (status : ℕ) → part ≡ part_of path
+      → Delivers does plots own a b status (IsWritten plots own part path) (IsSettled part) (HasName path)
+      → Delivers does plots own a b status (IsMade plots own part path) (IsSettled part) (IsNamed item path)
+  filled a b part path item status is rest = record {
+    deeds = Deed.wrote part item Whole ∷ rest.deeds;
     done = rest.done;
-    allowed = λ earlier has. (inl has.0, rest.allowed _ (has_last earlier (Deed.wrote part Whole), may_longer part path earlier (Deed.wrote part Whole) has.1));
+    allowed = λ earlier has. (inl has.0, rest.allowed _ ((item, has_last earlier (Deed.wrote part item Whole)), may_longer part path earlier (Deed.wrote part item Whole) has.1));
     followed = (tt, rest.followed);
     status_is = rest.status_is;
-    ends = settled_later part (Deed.wrote part Whole) rest.deeds rest.ends;
-    whole = λ zero. inr (rest.whole zero);
+    ends = settled_later part (Deed.wrote part item Whole) rest.deeds rest.ends;
+    whole = λ zero. (inr (rest.whole zero), inl (ap (λ (p : List ℕ). Deed.wrote p item Whole) is));
   }
 
-  says_why : (part : List ℕ) (ending : Ending) (deeds : List Deed) → IsLeft ending part deeds → IsFollowed (Deed.wrote part ending) deeds
-  says_why part Whole deeds left = absurd left
-  says_why part (Kept status) deeds left = left
-  says_why part (Lost status) deeds left = left.0
+  says_why : (part : List ℕ) (item : Item) (ending : Ending) (deeds : List Deed) → IsLeft ending part deeds → IsFollowed (Deed.wrote part item ending) deeds
+  says_why part item Whole deeds left = absurd left
+  says_why part item (Kept status) deeds left = left
+  says_why part item (Lost status) deeds left = left.0
 
-  left_settled : (part : List ℕ) (ending : Ending) (deeds : List Deed) → IsLeft ending part deeds → IsSettled part (Deed.wrote part ending ∷ deeds)
-  left_settled part Whole deeds left = absurd left
-  left_settled part (Kept status) deeds left = IsSettled.kept status (inl refl)
-  left_settled part (Lost status) deeds left = IsSettled.gone (inr left.1)
+  left_settled : (part : List ℕ) (item : Item) (ending : Ending) (deeds : List Deed) → IsLeft ending part deeds → IsSettled part (Deed.wrote part item ending ∷ deeds)
+  left_settled part item Whole deeds left = absurd left
+  left_settled part item (Kept status) deeds left = IsSettled.kept item status (inl refl)
+  left_settled part item (Lost status) deeds left = IsSettled.gone (inr left.1)
 
   -- it was not
-  pub not_filled : (a b : D) (part path : List ℕ) (status : ℕ) (ending : Ending)
+  pub not_filled : (a b : D) (part path : List ℕ) (item : Item) (status : ℕ) (ending : Ending)
       → Delivers does plots own a b status (λ earlier. HasNoPlotAt plots earlier part) (IsLeft ending part) Never
-      → Delivers does plots own a b status (IsMade plots own part path) (IsSettled part) (IsNamed path)
-  not_filled a b part path status ending rest = record {
-    deeds = Deed.wrote part ending ∷ rest.deeds;
+      → Delivers does plots own a b status (IsMade plots own part path) (IsSettled part) (IsNamed item path)
+  not_filled a b part path item status ending rest = record {
+    deeds = Deed.wrote part item ending ∷ rest.deeds;
     done = rest.done;
-    allowed = λ earlier has. (inl has.0, rest.allowed _ (no_plot_longer plots earlier (Deed.wrote part ending ∷ []) part has.1.0));
-    followed = (says_why part ending rest.deeds rest.ends, rest.followed);
+    allowed = λ earlier has. (inl has.0, rest.allowed _ (no_plot_longer plots earlier (Deed.wrote part item ending ∷ []) part has.1.0));
+    followed = (says_why part item ending rest.deeds rest.ends, rest.followed);
     status_is = rest.status_is;
-    ends = left_settled part ending rest.deeds rest.ends;
+    ends = left_settled part item ending rest.deeds rest.ends;
     whole = λ zero. absurd (rest.whole zero);
   }
 
   -- a file is made and filled
-  pub made : (a m n b : D) (part path : List ℕ) (status : ℕ) → does a (Deed.removed part) m → does m (Deed.created part true) n
-      → Delivers does plots own n b status (IsMade plots own part path) (IsSettled part) (IsNamed path)
-      → Delivers does plots own a b status (MayBeMade plots own part path) Anything (IsNamed path)
-  made a m n b part path status remove create rest = record {
+  pub made : (a m n b : D) (part path : List ℕ) (item : Item) (status : ℕ) → does a (Deed.removed part) m → does m (Deed.created part true) n
+      → Delivers does plots own n b status (IsMade plots own part path) (IsSettled part) (IsNamed item path)
+      → Delivers does plots own a b status (MayBeMade plots own part path) Anything (IsNamed item path)
+  made a m n b part path item status remove create rest = record {
     deeds = Deed.removed part ∷ Deed.created part true ∷ rest.deeds;
     done = (m, remove, (n, create, rest.done));
     allowed = λ earlier has.
@@ -172,12 +173,12 @@ module _ {D : Type 0} (does : D → Deed → D → Type 0) (plots : Option FileI
     followed = (tt, (rest.ends, rest.followed));
     status_is = rest.status_is;
     ends = tt;
-    whole = λ zero. inr (inr (rest.whole zero));
+    whole = λ zero. (inr (inr (rest.whole zero).0), inr (inr (rest.whole zero).1));
   }
 
-  pub not_made : (a m n b : D) (part path : List ℕ) (status : ℕ) (text : Option (List ℕ)) → does a (Deed.removed part) m → does m (Deed.created part false) n
-      → does n (Deed.refused status text) b → status ≡ 3 → Delivers does plots own a b status (MayBeMade plots own part path) Anything (IsNamed path)
-  not_made a m n b part path status text remove create say three = record {
+  pub not_made : (a m n b : D) (part path : List ℕ) (item : Item) (status : ℕ) (text : Option (List ℕ)) → does a (Deed.removed part) m → does m (Deed.created part false) n
+      → does n (Deed.refused status text) b → status ≡ 3 → Delivers does plots own a b status (MayBeMade plots own part path) Anything (IsNamed item path)
+  not_made a m n b part path item status text remove create say three = record {
     deeds = Deed.removed part ∷ Deed.created part false ∷ Deed.refused status text ∷ [];
     done = (m, remove, (n, create, (b, say, refl)));
     allowed = λ earlier has. (has.0, (no_plot_longer plots earlier (Deed.removed part ∷ []) part has.0, (tt, tt)));
@@ -224,20 +225,21 @@ module _ {D : Type 0} (does : D → Deed → D → Type 0) (plots : Option FileI
   said_followed (Kept status) deeds said = rw said.2 (tt, tt)
   said_followed (Lost status) deeds said = rw said.2 (tt, tt)
 
-  said_next : (path : List ℕ) (ending : Ending) (deeds : List Deed) → IsSaidOf ending deeds → IsFollowed (Deed.wrote path ending) deeds
-  said_next path Whole deeds said = tt
-  said_next path (Kept status) deeds said = rw said.2 said.0
-  said_next path (Lost status) deeds said = rw said.2 said.0
+  said_next : (path : List ℕ) (item : Item) (ending : Ending) (deeds : List Deed) → IsSaidOf ending deeds → IsFollowed (Deed.wrote path item ending) deeds
+  said_next path item Whole deeds said = tt
+  said_next path item (Kept status) deeds said = rw said.2 said.0
+  said_next path item (Lost status) deeds said = rw said.2 said.0
 
   said_status : (ending : Ending) (deeds : List Deed) → IsSaidOf ending deeds → status_of ending ≡ status_after deeds
   said_status Whole deeds said = sym (remarks_status deeds said)
   said_status (Kept status) deeds said = rw said.2 (alone status)
   said_status (Lost status) deeds said = rw said.2 (alone status)
 
-  wrote_whole : (path : List ℕ) (ending : Ending) (deeds : List Deed) → IsSaidOf ending deeds → status_of ending ≡ 0 → Has (Deed.wrote path ending ∷ deeds) (Deed.wrote path Whole)
-  wrote_whole path Whole deeds said zero = inl refl
-  wrote_whole path (Kept status) deeds said zero = absurd (positive status said.0 zero)
-  wrote_whole path (Lost status) deeds said zero = absurd (positive status said.0 zero)
+  wrote_whole : (path : List ℕ) (item : Item) (ending : Ending) (deeds : List Deed) → IsSaidOf ending deeds → status_of ending ≡ 0
+      → Has (Deed.wrote path item ending ∷ deeds) (Deed.wrote path item Whole)
+  wrote_whole path item Whole deeds said zero = inl refl
+  wrote_whole path item (Kept status) deeds said zero = absurd (positive status said.0 zero)
+  wrote_whole path item (Lost status) deeds said zero = absurd (positive status said.0 zero)
 
   -- what became of a writing was said, and nothing else was done
   pub only_said : (IsWhole : List Deed → Type 0) (a b : D) (status : ℕ) → HasSaid does a status b → ((deeds : List Deed) → IsWhole deeds)
@@ -253,21 +255,21 @@ module _ {D : Type 0} (does : D → Deed → D → Type 0) (plots : Option FileI
   }
 
   -- what has a path is written as it is
-  pub written : (a m b : D) (path : List ℕ) (ending : Ending) (status : ℕ) → does a (Deed.reached path true) m → Says does m ending b → status ≡ status_of ending
-      → Delivers does plots own a b status (IsReachable path) Anything (IsPut path)
-  written a m b path ending status reach says is = record {
-    deeds = Deed.reached path true ∷ Deed.wrote path ending ∷ says.0;
+  pub written : (a m b : D) (path : List ℕ) (item : Item) (ending : Ending) (status : ℕ) → does a (Deed.reached path true) m → Says does m ending b → status ≡ status_of ending
+      → Delivers does plots own a b status (IsReachable path) Anything (IsPut item path)
+  written a m b path item ending status reach says is = record {
+    deeds = Deed.reached path true ∷ Deed.wrote path item ending ∷ says.0;
     done = (m, reach, says.1);
     allowed = λ earlier has. (has, (inr (has_last earlier (Deed.reached path true)), said_allowed _ ending says.0 says.2));
-    followed = (tt, (said_next path ending says.0 says.2, said_followed ending says.0 says.2));
+    followed = (tt, (said_next path item ending says.0 says.2, said_followed ending says.0 says.2));
     status_is = is ∙ said_status ending says.0 says.2;
     ends = tt;
-    whole = λ zero. inr (inr (wrote_whole path ending says.0 says.2 (sym is ∙ zero)));
+    whole = λ zero. inr (inr (wrote_whole path item ending says.0 says.2 (sym is ∙ zero)));
   }
 
-  pub not_reached : (a m b : D) (path : List ℕ) (status : ℕ) (text : Option (List ℕ)) → does a (Deed.reached path false) m → does m (Deed.refused status text) b
-      → status ≡ 3 → Delivers does plots own a b status (IsReachable path) Anything (IsPut path)
-  not_reached a m b path status text reach say three = record {
+  pub not_reached : (a m b : D) (path : List ℕ) (item : Item) (status : ℕ) (text : Option (List ℕ)) → does a (Deed.reached path false) m → does m (Deed.refused status text) b
+      → status ≡ 3 → Delivers does plots own a b status (IsReachable path) Anything (IsPut item path)
+  not_reached a m b path item status text reach say three = record {
     deeds = Deed.reached path false ∷ Deed.refused status text ∷ [];
     done = (m, reach, (b, say, refl));
     allowed = λ earlier has. (has, (tt, tt));
@@ -361,14 +363,14 @@ module _ {D : Type 0} (does : D → Deed → D → Type 0) (plots : Option FileI
     whole = λ _. whole [];
   }
 
-pub put_later : (path : List ℕ) (x : Deed) (deeds : List Deed) → IsPut path deeds → IsPut path (x ∷ deeds)
-put_later path x deeds (inl has) = inl (inr has)
-put_later path x deeds (inr has) = inr (inr has)
+pub put_later : (item : Item) (path : List ℕ) (x : Deed) (deeds : List Deed) → IsPut item path deeds → IsPut item path (x ∷ deeds)
+put_later item path x deeds (inl has) = inl (inr has.0, inr has.1)
+put_later item path x deeds (inr has) = inr (inr has)
 
-pub put_left : (path : List ℕ) (xs ys : List Deed) → IsPut path xs → IsPut path (xs ++ ys)
-put_left path xs ys (inl has) = inl (has_left xs ys _ has)
-put_left path xs ys (inr has) = inr (has_left xs ys _ has)
+pub put_left : (item : Item) (path : List ℕ) (xs ys : List Deed) → IsPut item path xs → IsPut item path (xs ++ ys)
+put_left item path xs ys (inl has) = inl (has_left xs ys _ has.0, has_left xs ys _ has.1)
+put_left item path xs ys (inr has) = inr (has_left xs ys _ has)
 
-pub put_right : (path : List ℕ) (xs ys : List Deed) → IsPut path ys → IsPut path (xs ++ ys)
-put_right path xs ys (inl has) = inl (has_right xs ys _ has)
-put_right path xs ys (inr has) = inr (has_right xs ys _ has)
+pub put_right : (item : Item) (path : List ℕ) (xs ys : List Deed) → IsPut item path ys → IsPut item path (xs ++ ys)
+put_right item path xs ys (inl has) = inl (has_right xs ys _ has.0, has_right xs ys _ has.1)
+put_right item path xs ys (inr has) = inr (has_right xs ys _ has)

@@ -3,9 +3,9 @@ use Rattle.std.proofs.Common.{◌≡◌, ◌∷◌, Bool, true, false, List, [],
 use Rattle.output_files.specs.declared.file_id.FileId.{FileId}
 use Rattle.delivery.specs.declared.desk.Found.{Found}
 use Rattle.delivery.specs.declared.desk.Kind.TheVariants.{File, Device}
-use Rattle.delivery.specs.declared.ending.Ending.TheVariants.{Whole, Kept, Lost}
+use Rattle.delivery.specs.declared.ending.Ending.TheVariants.{Whole}
 use Rattle.delivery.specs.Care.{AreAllowed, AreFollowed, is_device, is_open_file, part_of}
-use Rattle.delivery.specs.Deeds.{Deed, status_after}
+use Rattle.delivery.specs.Deeds.{Deed, Item, status_after}
 use Rattle.delivery.specs.Looks.{ArePlotsAt, AreHarmless}
 use Rattle.delivery.specs.Runs.{plots_of}
 
@@ -58,10 +58,13 @@ abbrev a_plot : Option FileId → Bool
 a_plot None = false
 a_plot (Some file) = true
 
+abbrev all : Item
+all = record { file = codes "a.plt"; sheet = 0 }
+
 -- an output that is written whole and stored
 abbrev whole_output : List Deed
 whole_output =
-    Deed.looked part None ∷ Deed.removed part ∷ Deed.created part true ∷ Deed.wrote part Whole ∷ Deed.synced part true ∷ Deed.renamed part a true ∷ []
+    Deed.looked part None ∷ Deed.removed part ∷ Deed.created part true ∷ Deed.wrote part all Whole ∷ Deed.synced part true ∷ Deed.renamed part a true ∷ []
 
 is_allowed : AreAllowed no_plots (Some a) [] whole_output
 is_allowed = (
@@ -70,7 +73,7 @@ is_allowed = (
     record { found = None; looked = inl refl; apart = refl },
     (
       record { found = None; looked = inl refl; apart = refl },
-      (inl (inr (inr (inl refl))), (inr (inr (inr (inl refl))), ((inr (inr (inr (inr (inl refl)))), refl, inl refl), tt))),
+      (inl (inr (inr (inl refl))), ((all, inr (inr (inr (inl refl)))), ((inr (inr (inr (inr (inl refl)))), refl, inl refl), tt))),
     ),
   ),
 )

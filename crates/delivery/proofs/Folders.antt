@@ -10,8 +10,8 @@ use Rattle.output_files.specs.declared.claims.Claim.TheVariants.{Free}
 use Rattle.output_files.specs.Claims.{claim_of, has_plot, is_plot}
 use Rattle.delivery.specs.declared.desk.Found.{Found}
 use Rattle.delivery.specs.Care.{MayReplace, id_found}
-use Rattle.delivery.specs.Deeds.{Deed}
-use Rattle.delivery.specs.Folders.{ArePlotsPut, AreSheetsPut, AreThePlots, IsClear, IsOpened, IsOutputPut, IsPlotPut, IsPutAt, IsSheetPut}
+use Rattle.delivery.specs.Deeds.{Deed, Item}
+use Rattle.delivery.specs.Folders.{ArePlotsPut, AreSheetsPut, AreThePlots, IsClear, IsOpened, IsOutputPut, IsPlotPut, IsPutAt, IsSheet, IsSheetPut}
 use Rattle.delivery.specs.Deliveries.{Anything, Delivers, IsPut}
 use Rattle.output_files.specs.Names.{file_name}
 use Rattle.delivery.proofs.DeedLemmas.{has_last, has_left, has_right}
@@ -32,13 +32,13 @@ clear_after claims plots claimed claim path found id earlier are looked is free 
 }
 
 -- what is delivered by these claims, of which this one is free
-pub by_claims : {D : Type 0} (does : D → Deed → D → Type 0) (claims : Claims) (plots : Option FileId → Bool) (claim : Claim) (a b : D) (path : List ℕ) (status : ℕ)
+pub by_claims : {D : Type 0} (does : D → Deed → D → Type 0) (claims : Claims) (plots : Option FileId → Bool) (claim : Claim) (a b : D) (item : Item) (path : List ℕ) (status : ℕ)
     → AreThePlots claims plots → claim ≡ Free
-    → Delivers does (is_plot claims) None a b status (MayReplace (is_plot claims) None path) Anything (IsPut path)
-    → Delivers does plots None a b status (IsClear plots claim path) Anything (IsPut path)
-by_claims does claims plots claim a b path status are free rest =
-    adapted does plots None (IsClear plots claim path) (MayReplace plots None path) (IsPut path) (IsPut path) a b status
-    (subst (λ (p : Option FileId → Bool). Delivers does p None a b status (MayReplace p None path) Anything (IsPut path)) (fun_ext are) rest)
+    → Delivers does (is_plot claims) None a b status (MayReplace (is_plot claims) None path) Anything (IsPut item path)
+    → Delivers does plots None a b status (IsClear plots claim path) Anything (IsPut item path)
+by_claims does claims plots claim a b item path status are free rest =
+    adapted does plots None (IsClear plots claim path) (MayReplace plots None path) (IsPut item path) (IsPut item path) a b status
+    (subst (λ (p : Option FileId → Bool). Delivers does p None a b status (MayReplace p None path) Anything (IsPut item path)) (fun_ext are) rest)
     (λ _ clear. inr (clear free)) (λ _ put. put)
 
 pub kept_plots : (old new : Claims) (plots : Option FileId → Bool) → ((file : FileId) → has_plot new file ≡ has_plot old file)
@@ -46,13 +46,21 @@ pub kept_plots : (old new : Claims) (plots : Option FileId → Bool) → ((file 
 kept_plots old new plots same are None = are None
 kept_plots old new plots same are (Some file) = same file ∙ are (Some file)
 
-put_at_left : (path : Option (List ℕ)) (xs ys : List Deed) → IsPutAt path xs → IsPutAt path (xs ++ ys)
-put_at_left None xs ys put = absurd put
-put_at_left (Some path) xs ys put = put_left path xs ys put
+put_at_left : (item : Item) (path : Option (List ℕ)) (xs ys : List Deed) → IsPutAt item path xs → IsPutAt item path (xs ++ ys)
+put_at_left item None xs ys put = absurd put
+put_at_left item (Some path) xs ys put = put_left item path xs ys put
 
-put_at_right : (path : Option (List ℕ)) (xs ys : List Deed) → IsPutAt path ys → IsPutAt path (xs ++ ys)
-put_at_right None xs ys put = absurd put
-put_at_right (Some path) xs ys put = put_right path xs ys put
+put_at_right : (item : Item) (path : Option (List ℕ)) (xs ys : List Deed) → IsPutAt item path ys → IsPutAt item path (xs ++ ys)
+put_at_right item None xs ys put = absurd put
+put_at_right item (Some path) xs ys put = put_right item path xs ys put
+
+sheet_left : (folder file extension : List ℕ) (number count : ℕ) (xs ys : List Deed) → IsSheetPut folder file extension number count xs
+    → IsSheetPut folder file extension number count (xs ++ ys)
+sheet_left folder file extension number count xs ys put = (put.0, put.1, put_at_left put.0 _ xs ys put.2)
+
+sheet_right : (folder file extension : List ℕ) (number count : ℕ) (xs ys : List Deed) → IsSheetPut folder file extension number count ys
+    → IsSheetPut folder file extension number count (xs ++ ys)
+sheet_right folder file extension number count xs ys put = (put.0, put.1, put_at_right put.0 _ xs ys put.2)
 
 last_or_before : (n to : ℕ) → n < to + 1 → (n < to) ⊎ (n ≡ to)
 last_or_before n to within = elim (cases_lt n to) [ inl less ↦ inl less | inr more ↦ inr (omega (arith, within, more)) ]
@@ -62,15 +70,15 @@ pub one_more : (folder file extension : List ℕ) (to count : ℕ) (xs ys : List
     → IsSheetPut folder file extension (to + 1) count ys → AreSheetsPut folder file extension (to + 1) count (xs ++ ys)
 one_more folder file extension to count xs ys before sheet n within =
     elim (last_or_before n to within) [
-      | inl less ↦ put_at_left _ xs ys (before n less)
-      | inr last ↦ put_at_right _ xs ys (subst (λ (k : ℕ). IsSheetPut folder file extension (k + 1) count ys) (sym last) sheet)
+      | inl less ↦ sheet_left folder file extension (n + 1) count xs ys (before n less)
+      | inr last ↦ sheet_right folder file extension (n + 1) count xs ys (subst (λ (k : ℕ). IsSheetPut folder file extension (k + 1) count ys) (sym last) sheet)
     ]
 
 -- the file of a plot with one sheet
-pub only_sheet : (folder file extension path : List ℕ) (deeds : List Deed) → Some path ≡ file_name folder file 1 1 extension → IsPut path deeds
+pub only_sheet : (folder file extension path : List ℕ) (item : Item) (deeds : List Deed) → IsSheet file 1 1 item → Some path ≡ file_name folder file 1 1 extension → IsPut item path deeds
     → IsOutputPut folder file extension deeds
-only_sheet folder file extension path deeds is put =
-    let here : IsSheetPut folder file extension (0 + 1) 1 deeds = subst (λ (it : Option (List ℕ)). IsPutAt it deeds) is put in (
+only_sheet folder file extension path item deeds that is put =
+    let here : IsSheetPut folder file extension (0 + 1) 1 deeds = (item, that, subst (λ (it : Option (List ℕ)). IsPutAt item it deeds) is put) in (
       1,
       omega arith,
       λ n within.
@@ -79,10 +87,10 @@ only_sheet folder file extension path deeds is put =
     )
 
 pub output_right : (folder file extension : List ℕ) (xs ys : List Deed) → IsOutputPut folder file extension ys → IsOutputPut folder file extension (xs ++ ys)
-output_right folder file extension xs ys put = (put.0, put.1, λ n within. put_at_right _ xs ys (put.2 n within))
+output_right folder file extension xs ys put = (put.0, put.1, λ n within. sheet_right folder file extension (n + 1) put.0 xs ys (put.2 n within))
 
 pub output_left : (folder file extension : List ℕ) (xs ys : List Deed) → IsOutputPut folder file extension xs → IsOutputPut folder file extension (xs ++ ys)
-output_left folder file extension xs ys put = (put.0, put.1, λ n within. put_at_left _ xs ys (put.2 n within))
+output_left folder file extension xs ys put = (put.0, put.1, λ n within. sheet_left folder file extension (n + 1) put.0 xs ys (put.2 n within))
 
 -- a plot was opened, and then its output was written
 pub plot_put : (folder extension file : List ℕ) (xs ys : List Deed) → IsOpened file xs → IsOutputPut folder file extension ys → IsPlotPut folder extension file (xs ++ ys)

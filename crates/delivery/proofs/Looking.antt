@@ -5,10 +5,10 @@ use Rattle.std.specs.Result.{IfErr}
 use Rattle.output_files.specs.declared.file_id.FileId.{FileId}
 use Rattle.delivery.specs.declared.desk.Found.{Found}
 use Rattle.delivery.specs.Care.{AreAllowed, AreFollowed, id_found}
-use Rattle.delivery.specs.Deeds.{Deed, status_after}
+use Rattle.delivery.specs.Deeds.{Deed, Item, status_after}
 use Rattle.delivery.specs.Deliveries.{Anything, Delivers}
 use Rattle.delivery.specs.Looks.{AreHarmless, AreLooks, ArePlotsAt, IsCareful, IsPlot, Looks, LooksForPlots}
-use Rattle.delivery.specs.Runs.{IsInputOpened, IsOutputNamed, IsSingleDone}
+use Rattle.delivery.specs.Runs.{IsInputOpened, IsOutputNamed, IsSingleDone, plot_item}
 use Rattle.delivery.proofs.Delivered.{alone, positive, put_right}
 use Rattle.delivery.proofs.DeedLemmas.{allowed_append, done_append, followed_append, has_right, status_append}
 
@@ -64,16 +64,16 @@ refused_harmless [] status text are = tt
 refused_harmless (Deed.looked p f ∷ deeds) status text are = refused_harmless deeds status text are
 refused_harmless (x ∷ deeds) status text are = absurd are
 
-pub output_right : (path : Option (List ℕ)) (xs ys : List Deed) → IsOutputNamed path ys → IsOutputNamed path (xs ++ ys)
-output_right None xs ys put = tt
-output_right (Some path) xs ys put = put_right path xs ys put
+pub output_right : (item : Item) (path : Option (List ℕ)) (xs ys : List Deed) → IsOutputNamed item path ys → IsOutputNamed item path (xs ++ ys)
+output_right item None xs ys put = tt
+output_right item (Some path) xs ys put = put_right item path xs ys put
 
 input_right : (file : Option (List ℕ)) (xs ys : List Deed) → IsInputOpened file ys → IsInputOpened file (xs ++ ys)
 input_right None xs ys opened = tt
 input_right (Some file) xs ys opened = has_right xs ys _ opened
 
 pub single_right : (file path : Option (List ℕ)) (xs ys : List Deed) → IsSingleDone file path ys → IsSingleDone file path (xs ++ ys)
-single_right file path xs ys done = (input_right file xs ys done.0, output_right path xs ys done.1)
+single_right file path xs ys done = (input_right file xs ys done.0, output_right (plot_item file) path xs ys done.1)
 
 same_status : (status first rest : ℕ) → first ≡ 0 → status ≡ rest → status ≡ max first rest
 same_status status first rest zero is = grind (arith, zero, is)

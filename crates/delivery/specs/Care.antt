@@ -7,7 +7,7 @@ use Rattle.delivery.specs.declared.desk.Found.{Found}
 use Rattle.delivery.specs.declared.desk.Kind.{Kind}
 use Rattle.delivery.specs.declared.desk.Kind.TheVariants.{File}
 use Rattle.delivery.specs.declared.ending.Ending.TheVariants.{Whole, Kept, Lost}
-use Rattle.delivery.specs.Deeds.{Deed, Has}
+use Rattle.delivery.specs.Deeds.{Deed, Has, Item}
 
 -- the name of a file until it is whole
 abbrev pub part_of : List ℕ → List ℕ
@@ -53,8 +53,8 @@ MayReplace plots own name before = (own ≡ Some name) ⊎ HasNoPlotAt plots bef
 abbrev pub IsAllowed : (Option FileId → Bool) → Option (List ℕ) → List Deed → Deed → Type 0
 IsAllowed plots own before (Deed.removed path) = HasNoPlotAt plots before path
 IsAllowed plots own before (Deed.created path done) = HasNoPlotAt plots before path
-IsAllowed plots own before (Deed.wrote path ending) = Has before (Deed.created path true) ⊎ Has before (Deed.reached path true)
-IsAllowed plots own before (Deed.synced path done) = Has before (Deed.wrote path Whole)
+IsAllowed plots own before (Deed.wrote path item ending) = Has before (Deed.created path true) ⊎ Has before (Deed.reached path true)
+IsAllowed plots own before (Deed.synced path done) = (item : Item) × Has before (Deed.wrote path item Whole)
 IsAllowed plots own before (Deed.renamed path name done) = Has before (Deed.synced path true) × (path ≡ part_of name) × MayReplace plots own name before
 IsAllowed plots own before (Deed.reached path done) = (is_open_file path ≡ true) ⊎ HasDeviceAt before path
 IsAllowed plots own before deed = Unit
@@ -74,7 +74,7 @@ SaysNext deeds = ⊥
 pub data IsSettled (path : List ℕ) (after : List Deed) : Type 0 where
   named : (name : List ℕ) (done : Bool) → Has after (Deed.renamed path name done) → IsSettled path after
   gone : Has after (Deed.removed path) → IsSettled path after
-  kept : (status : ℕ) → Has after (Deed.wrote path (Kept status)) → IsSettled path after
+  kept : (item : Item) (status : ℕ) → Has after (Deed.wrote path item (Kept status)) → IsSettled path after
   unstored : Has after (Deed.synced path false) → IsSettled path after
 
 -- what must follow a deed: of a failure that it is said, and of a file that was made that it has an end
@@ -83,8 +83,8 @@ IsFollowed (Deed.opened path false) after = SaysNext after
 IsFollowed (Deed.created path false) after = SaysNext after
 IsFollowed (Deed.created path true) after = IsSettled path after
 IsFollowed (Deed.reached path false) after = SaysNext after
-IsFollowed (Deed.wrote path (Kept status)) after = SaysNext after
-IsFollowed (Deed.wrote path (Lost status)) after = SaysNext after
+IsFollowed (Deed.wrote path item (Kept status)) after = SaysNext after
+IsFollowed (Deed.wrote path item (Lost status)) after = SaysNext after
 IsFollowed (Deed.synced path false) after = SaysNext after
 IsFollowed (Deed.renamed path name false) after = SaysNext after
 IsFollowed deed after = Unit

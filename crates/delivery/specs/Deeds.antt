@@ -4,13 +4,18 @@ use Rattle.delivery.specs.declared.desk.Found.{Found}
 use Rattle.delivery.specs.declared.ending.Ending.{Ending}
 use Rattle.delivery.specs.declared.ending.Ending.TheVariants.{Whole, Kept, Lost}
 
+-- what is written: what is drawn of the plot of this file, or one of its sheets, which count from 1
+pub record Item : Type 0 where
+  pub file : List ℕ
+  pub sheet : ℕ
+
 -- a deed, and what came of it: whether it was done, what was found, how a writing ended, and what was said
 pub data Deed : Type 0 where
   looked : (path : List ℕ) → Option Found → Deed
   opened : (path : List ℕ) → Bool → Deed
   created : (path : List ℕ) → Bool → Deed
   reached : (path : List ℕ) → Bool → Deed
-  wrote : (path : List ℕ) → Ending → Deed
+  wrote : (path : List ℕ) → Item → Ending → Deed
   synced : (path : List ℕ) → Bool → Deed
   renamed : (path name : List ℕ) → Bool → Deed
   removed : (path : List ℕ) → Deed
@@ -20,7 +25,7 @@ pub data Deed : Type 0 where
 -- these deeds were done, one after another, and made the desk what it is; a desk takes no part in writing
 abbrev pub WereDone : {D : Type 0} → (D → Deed → D → Type 0) → D → List Deed → D → Type 0
 WereDone does before [] after = after ≡ before
-WereDone does before (Deed.wrote path ending ∷ deeds) after = WereDone does before deeds after
+WereDone does before (Deed.wrote path item ending ∷ deeds) after = WereDone does before deeds after
 WereDone {D} does before (deed ∷ deeds) after = (between : D) × does before deed between × WereDone does between deeds after
 
 -- this deed is among them

@@ -4,7 +4,7 @@ use Rattle.output_files.specs.declared.file_id.FileId.{FileId}
 use Rattle.delivery.specs.declared.desk.Found.{Found}
 use Rattle.delivery.specs.declared.ending.Ending.{Ending}
 use Rattle.delivery.specs.declared.ending.Ending.TheVariants.{Whole, Kept, Lost}
-use Rattle.delivery.specs.Deeds.{AreRemarks, Deed, Has, WereDone, status_after}
+use Rattle.delivery.specs.Deeds.{AreRemarks, Deed, Has, Item, WereDone, status_after}
 use Rattle.delivery.specs.Care.{AreAllowed, AreFollowed, HasDeviceAt, HasNoPlotAt, MayReplace, SaysNext, id_found, is_device, is_open_file, part_of}
 
 -- some deeds were done, each of which is allowed if what they need was done before, and each failure of which is said; the
@@ -27,9 +27,13 @@ Anything deeds = Unit
 abbrev pub Never : List Deed → Type 0
 Never deeds = ⊥
 
--- a file got this name, after all of it was written and stored
-abbrev pub IsNamed : List ℕ → List Deed → Type 0
-IsNamed path deeds = Has deeds (Deed.renamed (part_of path) path true)
+-- a file got this name
+abbrev pub HasName : List ℕ → List Deed → Type 0
+HasName path deeds = Has deeds (Deed.renamed (part_of path) path true)
+
+-- all of this was written, and the file got this name
+abbrev pub IsNamed : Item → List ℕ → List Deed → Type 0
+IsNamed item path deeds = HasName path deeds × Has deeds (Deed.wrote (part_of path) item Whole)
 
 -- the system was told to give a file this name
 abbrev pub IsToBeNamed : List ℕ → List ℕ → List Deed → Type 0
@@ -45,7 +49,7 @@ IsMade plots own part path earlier = Has earlier (Deed.created part true) × May
 
 -- it was written whole
 abbrev pub IsWritten : (Option FileId → Bool) → Option (List ℕ) → List ℕ → List ℕ → List Deed → Type 0
-IsWritten plots own part path earlier = Has earlier (Deed.wrote part Whole) × MayBeMade plots own part path earlier
+IsWritten plots own part path earlier = ((item : Item) × Has earlier (Deed.wrote part item Whole)) × MayBeMade plots own part path earlier
 
 -- it is stored
 abbrev pub IsStored : (Option FileId → Bool) → Option (List ℕ) → List ℕ → List ℕ → List Deed → Type 0
@@ -61,9 +65,9 @@ IsLeft (Lost status) part deeds = SaysNext deeds × Has deeds (Deed.removed part
 abbrev pub SaysOnce : {D : Type 0} → (D → Deed → D → Type 0) → D → ℕ → D → Type 0
 SaysOnce does before status after = (text : Option (List ℕ)) × does before (Deed.refused status text) after
 
--- an output is under its name, or was written whole into what had it
-abbrev pub IsPut : List ℕ → List Deed → Type 0
-IsPut path deeds = IsNamed path deeds ⊎ Has deeds (Deed.wrote path Whole)
+-- all of this is under its name, or was written into what had it
+abbrev pub IsPut : Item → List ℕ → List Deed → Type 0
+IsPut item path deeds = IsNamed item path deeds ⊎ Has deeds (Deed.wrote path item Whole)
 
 -- a look at a path found this file
 abbrev pub LooksAt : {D : Type 0} → (D → Deed → D → Type 0) → D → List ℕ → Option FileId → D → Type 0

@@ -1,5 +1,5 @@
 -- What is delivered into a folder.
-use Rattle.std.specs.Prelude.{◌≡◌, ◌<◌, ◌+◌, ℕ, Bool, true, false, List, Option, None, Some, Result, Ok, Err}
+use Rattle.std.specs.Prelude.{◌≡◌, ◌⊎◌, ◌<◌, ◌+◌, ℕ, Bool, true, false, List, Option, None, Some, Result, Ok, Err}
 use Rattle.std.specs.List.{AllByRecursion}
 use Rattle.std.specs.Option.{option_map_or}
 use Rattle.output_files.specs.declared.file_id.FileId.{FileId}
@@ -11,7 +11,7 @@ use Rattle.output_files.specs.Names.{file_name}
 use Rattle.delivery.specs.declared.desk.Found.{Found}
 use Rattle.delivery.specs.declared.desk.Kind.{Kind}
 use Rattle.delivery.specs.declared.desk.Kind.TheVariants.{Folder}
-use Rattle.delivery.specs.Deeds.{Deed, Has}
+use Rattle.delivery.specs.Deeds.{Deed, Has, Item}
 use Rattle.delivery.specs.Care.{HasNoPlotAt}
 use Rattle.delivery.specs.Deliveries.{IsPut}
 
@@ -24,13 +24,18 @@ abbrev pub IsClear : (Option FileId → Bool) → Claim → List ℕ → List De
 IsClear plots claim path earlier = claim ≡ Free → HasNoPlotAt plots earlier path
 
 -- an output has its file, if it has a path
-abbrev pub IsPutAt : Option (List ℕ) → List Deed → Type 0
-IsPutAt None deeds = ⊥
-IsPutAt (Some path) deeds = IsPut path deeds
+abbrev pub IsPutAt : Item → Option (List ℕ) → List Deed → Type 0
+IsPutAt item None deeds = ⊥
+IsPutAt item (Some path) deeds = IsPut item path deeds
+
+-- this is that sheet of the plot of this file, or all of the plot, if it has only one sheet
+abbrev pub IsSheet : List ℕ → ℕ → ℕ → Item → Type 0
+IsSheet file number count item = (item ≡ record { file = file; sheet = number }) ⊎ ((count ≡ 1) × (item ≡ record { file = file; sheet = 0 }))
 
 -- a sheet of so many has its file
 abbrev pub IsSheetPut : List ℕ → List ℕ → List ℕ → ℕ → ℕ → List Deed → Type 0
-IsSheetPut folder file extension number count deeds = IsPutAt (file_name folder file number count extension) deeds
+IsSheetPut folder file extension number count deeds =
+    (item : Item) × IsSheet file number count item × IsPutAt item (file_name folder file number count extension) deeds
 
 -- the sheets up to this one have theirs
 abbrev pub AreSheetsPut : List ℕ → List ℕ → List ℕ → ℕ → ℕ → List Deed → Type 0

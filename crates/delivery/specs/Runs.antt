@@ -3,7 +3,7 @@ use Rattle.std.specs.Prelude.{◌∷◌, ℕ, Bool, true, false, List, [], Optio
 use Rattle.output_files.specs.declared.file_id.FileId.{FileId}
 use Rattle.delivery.specs.declared.desk.Kind.{Kind}
 use Rattle.delivery.specs.declared.desk.Kind.TheVariants.{Folder}
-use Rattle.delivery.specs.Deeds.{Deed}
+use Rattle.delivery.specs.Deeds.{Deed, Item}
 use Rattle.delivery.specs.Deliveries.{Anything, Delivers, IsPut}
 use Rattle.delivery.specs.Folders.{ArePlotsPut, IsOpened}
 use Rattle.delivery.specs.Looks.{IsCareful}
@@ -28,13 +28,17 @@ abbrev pub IsInputOpened : Option (List ℕ) → List Deed → Type 0
 IsInputOpened None deeds = Unit
 IsInputOpened (Some file) deeds = IsOpened file deeds
 
+-- all of the plot of this file
+abbrev pub plot_item : Option (List ℕ) → Item
+plot_item file = record { file = unwrap_or file []; sheet = 0 }
+
 -- the output has its name, if there is one
-abbrev pub IsOutputNamed : Option (List ℕ) → List Deed → Type 0
-IsOutputNamed None deeds = Unit
-IsOutputNamed (Some path) deeds = IsPut path deeds
+abbrev pub IsOutputNamed : Item → Option (List ℕ) → List Deed → Type 0
+IsOutputNamed item None deeds = Unit
+IsOutputNamed item (Some path) deeds = IsPut item path deeds
 
 abbrev pub IsSingleDone : Option (List ℕ) → Option (List ℕ) → List Deed → Type 0
-IsSingleDone file path deeds = IsInputOpened file deeds × IsOutputNamed path deeds
+IsSingleDone file path deeds = IsInputOpened file deeds × IsOutputNamed (plot_item file) path deeds
 
 -- the plot was looked for first; after that each deed was allowed, and each failure was said; the status is the greatest of
 -- what was said, and 0 only if the plot was opened and its output has its name

@@ -1,5 +1,5 @@
 //! How the writing of an output ends.
-ghost use Rattle.delivery.specs.Deeds.{IsFailure, Says};
+ghost use Rattle.delivery.specs.Deeds.{IsFailure, Item, Says};
 ghost use Rattle.std.specs.Prelude.{◌≡◌};
 ghost use Rattle.delivery.specs.declared.ending.Ending.{Ending};
 
@@ -22,6 +22,9 @@ pub enum Ending {
 pub trait Content: Drop {
     /// What writing it answers.
     type Answer: Answer + Drop;
+
+    /// What it is.
+    ghost item: { Self → Item };
 
     /// Writes it, and gives the writer back.
     fn write<W: Write + Drop>(self, to: W) -> (W, Self::Answer);

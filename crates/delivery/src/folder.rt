@@ -45,7 +45,7 @@ fn deliver_claimed<D: Desk, C: Content>(
 ) -> u8
     ensures { (plots : Option FileId → Bool) → AreThePlots claims.now plots →
         Delivers D.does plots None desk.old desk.new result (IsClear plots claimed.entry.claim claimed.entry.path.now)
-        Anything (IsPut claimed.entry.path.now) }
+        Anything (IsPut (C.item content) claimed.entry.path.now) }
 {
     let path = claimed.path;
     let about = target.about;
@@ -92,7 +92,7 @@ fn deliver_at<D: Desk, C: Content>(
     path: &str,
 ) -> u8
     ensures delivers { (plots : Option FileId → Bool) → AreThePlots claims.old plots →
-        Delivers D.does plots None desk.old desk.new result Anything Anything (IsPut path.now) }
+        Delivers D.does plots None desk.old desk.new result Anything Anything (IsPut (C.item content) path.now) }
     ensures plots { (plots : Option FileId → Bool) → AreThePlots claims.old plots → AreThePlots claims.new plots }
 {
     let found = id_at(desk, path);
@@ -135,6 +135,7 @@ fn deliver_sheet<D: Desk, S: Sheets>(
     let content = SheetOf {
         sheets,
         about,
+        file: target.file,
         number,
     };
     let target = Target { about, ..target };
@@ -166,6 +167,7 @@ fn deliver_sheets<D: Desk, W: Work>(
         let content = SheetOf {
             sheets: &sheets,
             about: target.about,
+            file: target.file,
             number: 1,
         };
         return deliver_claimed(desk, alloc, claims, target, content, only);

@@ -5,7 +5,7 @@ ghost use Rattle.output_files.specs.Claims.{is_plot};
 ghost use Rattle.delivery.specs.Care.{HasNoPlotAt, IsSettled, MayReplace, is_file, is_open_file, part_of};
 ghost use Rattle.delivery.specs.Deeds.{HasSaid, IsFailure, status_of};
 ghost use Rattle.delivery.specs.Folders.{LooksForFolder, is_folder};
-ghost use Rattle.delivery.specs.Deliveries.{Anything, Delivers, IsLeft, IsMade, IsNamed, IsPut, IsReachable, IsStored, IsToBeNamed, IsWritten, LooksAt, MayBeMade, LooksForDevice, Never};
+ghost use Rattle.delivery.specs.Deliveries.{Anything, Delivers, HasName, IsLeft, IsMade, IsNamed, IsPut, IsReachable, IsStored, IsToBeNamed, IsWritten, LooksAt, MayBeMade, LooksForDevice, Never};
 
 use crate::about::About;
 use crate::desk::{Desk, Kind};
@@ -35,7 +35,7 @@ pub fn deliver_to<D: Desk, C: Content>(
     path: &str,
 ) -> u8
     ensures { (own : Option (List ℕ)) → Delivers D.does (is_plot scene.entry.plots.now) own desk.old desk.new result
-        (MayReplace (is_plot scene.entry.plots.now) own path.now) Anything (IsPut path.now) }
+        (MayReplace (is_plot scene.entry.plots.now) own path.now) Anything (IsPut (C.item content) path.now) }
 {
     if is_open_file(path) {
         return write_device(desk, scene.about, content, path);
@@ -95,7 +95,7 @@ fn is_open_file(path: &str) -> bool
 // Writes the content into what has this path.
 fn write_device<D: Desk, C: Content>(desk: &mut D, about: About<'_>, content: C, path: &str) -> u8
     ensures { (plots : Option FileId → Bool) → (own : Option (List ℕ)) → Delivers D.does plots own desk.old desk.new result
-        (IsReachable path.now) Anything (IsPut path.now) }
+        (IsReachable path.now) Anything (IsPut (C.item content) path.now) }
 {
     match desk.reach(path) {
         Ok(device) => {
@@ -140,7 +140,7 @@ fn write_file<D: Desk, C: Content>(
     path: &str,
 ) -> u8
     ensures { (own : Option (List ℕ)) → Delivers D.does (is_plot scene.entry.plots.now) own desk.old desk.new result
-        (MayReplace (is_plot scene.entry.plots.now) own path.now) Anything (IsNamed path.now) }
+        (MayReplace (is_plot scene.entry.plots.now) own path.now) Anything (IsNamed (C.item content) path.now) }
 {
     let Ok(part) = format!(in alloc; "{path}.part") else {
         return refuse_memory(desk, &scene.about);
@@ -172,7 +172,7 @@ fn make<D: Desk, C: Content>(
 ) -> u8
     requires { part.now ≡ part_of path.now }
     ensures { (plots : Option FileId → Bool) → (own : Option (List ℕ)) → Delivers D.does plots own desk.old desk.new result
-        (MayBeMade plots own part.now path.now) Anything (IsNamed path.now) }
+        (MayBeMade plots own part.now path.now) Anything (IsNamed (C.item content) path.now) }
 {
     // An older one may be a link to another file, which must not be written.
     desk.remove(part);
@@ -186,7 +186,7 @@ fn make<D: Desk, C: Content>(
 fn give_name<D: Desk>(desk: &mut D, about: About<'_>, part: &str, path: &str) -> u8
     requires { part.now ≡ part_of path.now }
     ensures { (plots : Option FileId → Bool) → (own : Option (List ℕ)) → Delivers D.does plots own desk.old desk.new result
-        (IsStored plots own part.now path.now) (IsToBeNamed part.now path.now) (IsNamed path.now) }
+        (IsStored plots own part.now path.now) (IsToBeNamed part.now path.now) (HasName path.now) }
 {
     match desk.rename(part, path) {
         Ok(()) => 0,
@@ -224,7 +224,7 @@ fn store<D: Desk, B: Answer + Drop>(
     requires part { part.now ≡ part_of path.now }
     requires whole { B.ends answer ≡ Ending.Whole }
     ensures { (plots : Option FileId → Bool) → (own : Option (List ℕ)) → Delivers D.does plots own desk.old desk.new result
-        (IsWritten plots own part.now path.now) (IsSettled part.now) (IsNamed path.now) }
+        (IsWritten plots own part.now path.now) (IsSettled part.now) (HasName path.now) }
 {
     match desk.sync(part, file) {
         Ok(()) => {
@@ -249,7 +249,7 @@ fn fill<D: Desk, C: Content>(
 ) -> u8
     requires { part.now ≡ part_of path.now }
     ensures { (plots : Option FileId → Bool) → (own : Option (List ℕ)) → Delivers D.does plots own desk.old desk.new result
-        (IsMade plots own part.now path.now) (IsSettled part.now) (IsNamed path.now) }
+        (IsMade plots own part.now path.now) (IsSettled part.now) (IsNamed (C.item content) path.now) }
 {
     let (file, answer) = content.write(file);
     match answer.ending() {

@@ -68,6 +68,8 @@ pub struct PlotOf<'a, W: Work, R: Read> {
 impl<W: Work, R: Read + Drop> Content for PlotOf<'_, W, R> {
     type Answer = W::Answer;
 
+    ghost item = { λ it. record { file = it.file.now; sheet = 0 } };
+
     fn write<T: Write + Drop>(self, to: T) -> (T, W::Answer) {
         let PlotOf {
             work,
@@ -79,22 +81,26 @@ impl<W: Work, R: Read + Drop> Content for PlotOf<'_, W, R> {
     }
 }
 
-/// The output of a sheet, counted from 1.
+/// A sheet, counted from 1, of the plot of this file.
 #[derive(Drop)]
 pub struct SheetOf<'a, S: Sheets> {
     pub sheets: &'a S,
     pub about: About<'a>,
+    pub file: &'a str,
     pub number: u32,
 }
 
 impl<S: Sheets> Content for SheetOf<'_, S> {
     type Answer = S::Answer;
 
+    ghost item = { λ it. record { file = it.file.now; sheet = it.number } };
+
     fn write<T: Write + Drop>(self, to: T) -> (T, S::Answer) {
         let SheetOf {
             sheets,
             about,
             number,
+            ..
         } = self;
         sheets.write(about, number, to)
     }

@@ -22,7 +22,7 @@ pub fn deliver_plot_to<D: Desk, W: Work, R: Read + Drop>(
     plot: R,
     path: &str,
 ) -> u8
-    ensures { Delivers D.does (is_plot scene.entry.plots.now) (Some path.now) desk.old desk.new result Anything Anything (IsPut path.now) }
+    ensures { Delivers D.does (is_plot scene.entry.plots.now) (Some path.now) desk.old desk.new result Anything Anything (IsPut (record { file = file.now; sheet = 0 }) path.now) }
 {
     let content = PlotOf {
         work,

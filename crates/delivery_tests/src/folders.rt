@@ -2,7 +2,7 @@
 use crate::work::{Plot, Told};
 use delivery::{Order, Reasons, deliver_each};
 use output_files::Claims;
-use std::alloc::Global;
+use std::alloc::{AllocError, Global};
 use std::test::Fail;
 use test_tools::Recorder;
 
@@ -12,17 +12,30 @@ fn done(
     files: &[&str],
     sheets: u32,
     fails: &'static str,
-) -> Result<String, std::alloc::AllocError> {
+) -> Result<String, AllocError> {
+    let plot = Plot {
+        sheets,
+        told: Told::Whole,
+        lost: 0,
+    };
+    log_of(alloc, files, plot, fails)
+}
+
+fn log_of(
+    alloc: Global,
+    files: &[&str],
+    plot: Plot,
+    fails: &'static str,
+) -> Result<String, AllocError> {
     let mut desk = Recorder::new(alloc, fails);
     let mut claims = Claims::new(alloc);
-    let told = Told::Whole;
     let order = Order {
         files,
         folder: "d",
         extension: "png",
         reasons: Reasons::InMessage,
     };
-    let status = deliver_each(&mut desk, alloc, &mut claims, order, &Plot { sheets, told });
+    let status = deliver_each(&mut desk, alloc, &mut claims, order, &plot);
     let log = desk.log.as_str();
     format!(in alloc; "{log}{status}")
 }
@@ -66,6 +79,24 @@ fn each_sheet(rt: HostRuntime) -> Result<(), Fail> {
         log.ends_with("remark sheet 3: \nrename d/a-3.png\n0"),
         "{log}"
     );
+    Ok(())
+}
+
+#[test]
+fn lost_sheet(rt: HostRuntime) -> Result<(), Fail> {
+    let plot = Plot {
+        sheets: 3,
+        told: Told::Whole,
+        lost: 2,
+    };
+    let log = log_of(rt.alloc(), &["a.plt"], plot, "")?;
+    let log = log.as_str();
+    assert!(rt;
+        log.contains("refuse sheet 2: \nremove d/a-2.png.part\n"),
+        "{log}"
+    );
+    assert!(rt; log.contains("rename d/a-1.png\n"), "{log}");
+    assert!(rt; log.ends_with("rename d/a-3.png\n3"), "{log}");
     Ok(())
 }
 

@@ -33,6 +33,7 @@ impl Streams for Console {
 const ONE: Plot = Plot {
     sheets: 1,
     told: Told::Whole,
+    lost: 0,
 };
 
 fn log_of(alloc: Global, desk: &Recorder, status: u8) -> Result<String, AllocError> {

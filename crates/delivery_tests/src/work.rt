@@ -1,4 +1,5 @@
 //! Contents that end as is said, and plots with so many sheets.
+ghost use Rattle.std.specs.Prelude.{[]};
 ghost use Rattle.delivery.specs.declared.ending.Ending.TheVariants as ended;
 ghost use Rattle.delivery_tests.specs.declared.work.Told.TheVariants as told;
 
@@ -16,6 +17,8 @@ pub(crate) enum Told {
 
 impl Content for Told {
     type Answer = Told;
+
+    ghost item = { λ _. record { file = []; sheet = 0 } };
 
     fn write<W: Write + Drop>(self, to: W) -> (W, Told) {
         (to, self)
@@ -48,11 +51,12 @@ impl Answer for Told {
     }
 }
 
-/// A plot with so many sheets, of which each writing ends so.
+/// A plot with so many sheets, of which each writing ends so, but that of one sheet is lost.
 #[derive(Clone, Copy)]
 pub(crate) struct Plot {
     pub(crate) sheets: u32,
     pub(crate) told: Told,
+    pub(crate) lost: u32,
 }
 
 /// Why a plot without sheets is not drawn.
@@ -80,8 +84,12 @@ impl Sheets for Plot {
         self.sheets
     }
 
-    fn write<W: Write + Drop>(&self, _about: About<'_>, _number: u32, to: W) -> (W, Told) {
-        (to, self.told)
+    fn write<W: Write + Drop>(&self, _about: About<'_>, number: u32, to: W) -> (W, Told) {
+        if number == self.lost {
+            (to, Told::Lost)
+        } else {
+            (to, self.told)
+        }
     }
 }
 

@@ -1,6 +1,6 @@
-use Rattle.std.proofs.Common.{None, ◌∙◌, ◌∷◌, [], Some, ap, arith}
+use Rattle.std.proofs.Common.{None, ◌∙◌, ◌∷◌, [], Some, ap, arith, inr, refl}
 use Rattle.output_files.specs.Claims.{is_claimed}
-use Rattle.delivery.specs.Deeds.{Deed}
+use Rattle.delivery.specs.Deeds.{Deed, Item}
 use Rattle.delivery.specs.Deliveries.{Anything, IsPut}
 use Rattle.delivery.specs.Folders.{IsClear, IsOutputPut}
 use Rattle.delivery.proofs.Delivered.{after_look, adapted, only_refused}
@@ -51,12 +51,13 @@ returns-clause-delivers g c = λ plots are.
     let extension = c.args.target.extension.now in
     let path = c.as_str-path.result.now in
     let output = IsOutputPut folder file extension in
+    let item : Item = record { file = file; sheet = 0 } in
     let look = Deed.looked path c.id_at-found.ensures.0 in
     after_look g.D.Desk.does plots None Anything (IsClear plots c.in-Ok-claim.claim path) output c.args.desk.now c.id_at-found.new.desk c.deliver_claimed.new.desk path
     c.id_at-found.ensures.0 c.deliver_claimed.result c.id_at-found.ensures.1
-    (adapted g.D.Desk.does plots None (IsClear plots c.in-Ok-claim.claim path) (IsClear plots c.in-Ok-claim.claim path) (IsPut path) output c.id_at-found.new.desk c.deliver_claimed.new.desk c.deliver_claimed.result
+    (adapted g.D.Desk.does plots None (IsClear plots c.in-Ok-claim.claim path) (IsClear plots c.in-Ok-claim.claim path) (IsPut item path) output c.id_at-found.new.desk c.deliver_claimed.new.desk c.deliver_claimed.result
     (c.deliver_claimed.ensures plots (kept_plots c.args.claims.now c.claim.new.self plots c.claim.ensures.plots are)) (λ _ clear. clear)
-    (λ deeds put. only_sheet folder file extension path deeds (ap Some c.as_str-path.ensures.value ∙ c.in-Ok.ensures) put))
+    (λ deeds put. only_sheet folder file extension path item deeds (inr (refl, refl)) (ap Some c.as_str-path.ensures.value ∙ c.in-Ok.ensures) put))
     (λ earlier _. clear_after c.args.claims.now plots (is_claimed c.args.claims.now c.as_str-path.result.now) c.in-Ok-claim.claim c.as_str-path.result.now
     c.id_at-found.ensures.0 c.id_at-found.result earlier are c.id_at-found.ensures.2 c.in-Ok-claim.ensures.answer)
     (λ deeds put. output_right folder file extension (look ∷ []) deeds put)

@@ -1,4 +1,5 @@
-use Rattle.std.proofs.Common.{None, ℕ, List, Option, subst}
+use Rattle.std.proofs.Common.{None, ℕ, List, Option, inl, refl, subst}
+use Rattle.delivery.specs.Deeds.{Item}
 use Rattle.delivery.specs.Deliveries.{Anything, IsPut}
 use Rattle.delivery.specs.Folders.{IsPutAt, IsSheetPut}
 use Rattle.delivery.proofs.Delivered.{adapted, only_refused}
@@ -13,6 +14,7 @@ returns-in-Err-clause-delivers g c = λ plots _.
 pub returns-clause-delivers : goal.returns-clause-delivers
 returns-clause-delivers g c = λ plots are.
     let sheet = IsSheetPut c.args.target.folder.now c.args.target.file.now c.args.target.extension.now c.args.number c.args.count in
-    adapted g.D.Desk.does plots None Anything Anything (IsPut c.as_str.result.now) sheet c.args.desk.now c.deliver_at.new.desk c.deliver_at.result
+    let item : Item = record { file = c.args.target.file.now; sheet = c.args.number } in
+    adapted g.D.Desk.does plots None Anything Anything (IsPut item c.as_str.result.now) sheet c.args.desk.now c.deliver_at.new.desk c.deliver_at.result
     (c.deliver_at.ensures.delivers plots are) (λ _ _. tt)
-    (λ deeds put. subst (λ (path : Option (List ℕ)). IsPutAt path deeds) c.in-Ok.ensures (subst (λ (path : List ℕ). IsPut path deeds) c.as_str.ensures.value put))
+    (λ deeds put. (item, inl refl, subst (λ (path : Option (List ℕ)). IsPutAt item path deeds) c.in-Ok.ensures (subst (λ (path : List ℕ). IsPut item path deeds) c.as_str.ensures.value put)))

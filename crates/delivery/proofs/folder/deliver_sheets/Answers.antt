@@ -1,4 +1,5 @@
-use Rattle.std.proofs.Common.{None, arith}
+use Rattle.std.proofs.Common.{None, arith, inl, refl}
+use Rattle.delivery.specs.Deeds.{Item}
 use Rattle.delivery.specs.Deliveries.{Anything, IsPut}
 use Rattle.delivery.specs.Folders.{AreSheetsPut, IsClear, IsOutputPut}
 use Rattle.delivery.proofs.Delivered.{adapted, only_refused}
@@ -13,9 +14,10 @@ returns-in-Err-clause-delivers g c = λ plots _.
 pub returns-then-count-lt2-clause-delivers : goal.returns-then-count-lt2-clause-delivers
 returns-then-count-lt2-clause-delivers g c = λ plots are.
     let output = IsOutputPut c.args.target.folder.now c.args.target.file.now c.args.target.extension.now in
-    adapted g.D.Desk.does plots None (IsClear plots c.args.only.claim c.args.only.path.now) (IsClear plots c.args.only.claim c.args.only.path.now) (IsPut c.args.only.path.now) output c.args.desk.now c.deliver_claimed.new.desk c.deliver_claimed.result
+    let item : Item = record { file = c.args.target.file.now; sheet = 1 } in
+    adapted g.D.Desk.does plots None (IsClear plots c.args.only.claim c.args.only.path.now) (IsClear plots c.args.only.claim c.args.only.path.now) (IsPut item c.args.only.path.now) output c.args.desk.now c.deliver_claimed.new.desk c.deliver_claimed.result
     (c.deliver_claimed.ensures plots are) (λ _ clear. clear)
-    (λ deeds put. only_sheet c.args.target.folder.now c.args.target.file.now c.args.target.extension.now c.args.only.path.now deeds c.requires put)
+    (λ deeds put. only_sheet c.args.target.folder.now c.args.target.file.now c.args.target.extension.now c.args.only.path.now item deeds (inl refl) c.requires put)
 
 pub returns-clause-delivers : goal.returns-clause-delivers
 returns-clause-delivers g c = λ plots are.
