@@ -7,7 +7,7 @@ use Rattle.clap.proofs.OnLiterals.{clap_on_literals}
 use Rattle.clap.specs.declared.error.kind.ErrorKind.TheVariants as kind
 use Rattle.picture_job.specs.declared.vector_job.VectorFormat.TheVariants as format
 use Rattle.picture_out.specs.declared.form.Form.TheVariants as form
-use Rattle.command_line.specs.declared.destination.Destination.TheVariants.{File, Folder}
+use Rattle.command_line.specs.declared.destination.Destination.TheVariants.{File}
 use Rattle.command_line.specs.declared.subcommands.Kind.TheVariants as kind_of
 use Rattle.command_line.specs.declared.subcommands.Output.{Output}
 use Rattle.command_line.specs.declared.subcommands.Output.TheVariants as output

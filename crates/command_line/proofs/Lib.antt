@@ -1,8 +1,10 @@
 pub mod PaperSizes
+pub mod Lists
+pub mod Rules
+pub mod Tables
 pub mod CommandLaw
 pub mod ReadingLaw
 pub mod Given
 mod Examples
 mod MoreExamples
 mod OnWords
-pub mod Plain

@@ -1,7 +1,8 @@
 -- A faultless parse leaves a value for each option of this command.
-use Rattle.std.proofs.Common.{◌≡◌, ◌∙◌, ◌≤◌, ℕ, Bool, List, [], ◌∷◌, Option, Some, None, true, false, length, refl, ap, sym, subst, map, arith, codes, rules}
-use Rattle.std.specs.Prelude.{find, is_some, pos, ◌&&◌, ◌||◌}
+use Rattle.std.proofs.Common.{◌≡◌, ◌∙◌, ◌≤◌, ◌<◌, ℕ, Bool, List, [], ◌∷◌, Option, Some, None, true, false, length, refl, ap, sym, subst, map, arith, codes, rules}
+use Rattle.std.specs.Prelude.{find, is_some, option_map, pos, ◌||◌}
 use Rattle.std.specs.List.{AllByRecursion}
+use Rattle.std.specs.Option.{option_map_or}
 use Rattle.std.specs.Str.{bytes_eq}
 use Rattle.std.proofs.lemmas.Slice.Eq.{bytes_eq-Decides}
 use Rattle.clap.specs.Simple.{Shape, built, built_leaf, subcommand_rows_of}
@@ -19,13 +20,14 @@ use Rattle.clap_parses.specs.Parses.{HasGoodMatches, IsIn, RowOf, RowsOf, first,
 use Rattle.command_line.specs.declared.destination.Destination.{Destination}
 use Rattle.command_line.specs.declared.subcommands.Kind.{Kind}
 use Rattle.command_line.specs.declared.subcommands.Kind.TheVariants.{Draw, Write}
-use Rattle.command_line.specs.declared.subcommands.Output.TheVariants.{Picture, Png, Report, Vector}
-use Rattle.command_line.specs.Lines.{kind_into, kind_named, number_in, pens_text}
-use Rattle.picture_out.specs.declared.form.Form.TheVariants.{Marks, Pbm, Ppm, Pcl}
-use Rattle.command_line.specs.Options.{draw_app, picture_app, plot_app, png_app, report_app, subcommand_app, subcommands, vector_app}
-use Rattle.command_line.proofs.Plain.{plain_app}
-use Rattle.command_line.specs.Readings.{HasFormValues, HasMargin, HasNumber, HasPageNumbers, HasPictureValues, HasProfile, HasTaskValues, HasValues}
-use Rattle.command_line.specs.Readings.{MayHaveNumber}
+use Rattle.command_line.specs.declared.table.Group.TheVariants as group
+use Rattle.command_line.specs.declared.table.Value.{Value}
+use Rattle.command_line.specs.declared.table.Value.TheVariants.{Flag, Number, Word}
+use Rattle.command_line.specs.Lines.{kind_into, kind_named, number_in, written}
+use Rattle.command_line.specs.Options.{OptionRow, has, is_picture, option_named, plot_app, profile, subcommand_app, subcommands}
+use Rattle.command_line.specs.Readings.{HasNumber, HasNumbers, HasValues, IsInRange, MayHaveNumber}
+use Rattle.command_line.proofs.Lists.{left_true}
+use Rattle.command_line.proofs.Rules.{built_rules, filled_option, has_no_option, has_option, no_other, others}
 
 -- a row of an argument: its first value passes, and is read as the argument's parser says
 record IsRowOf (a : Rule) (r : Row) : Type 0 where
@@ -34,10 +36,6 @@ record IsRowOf (a : Rule) (r : Row) : Type 0 where
   values : r.values ≡ text ∷ more
   passes : value_passes a text ≡ true
   reading : r.reading ≡ reading_by a
-
-left_true : (b c : Bool) → (b && c) ≡ true → b ≡ true
-left_true true c passes = refl
-left_true false c passes = absurd (cc)
 
 first_value : (a : Rule) (r : Row) (vs : List Text) → r.values ≡ vs → 1 ≤ length vs → values_pass a vs ≡ true → r.reading ≡ reading_by a → IsRowOf a r
 first_value a r [] is some passes reading = absurd (omega arith)
@@ -105,17 +103,6 @@ number_if_there : (c : List Rule) (a : Rule) (name : Text) (rows : List Row) (lo
     → AllByRecursion (RowOf c) rows → MayHaveNumber rows name low high
 number_if_there c a name rows low high found parser all = λ given. number_there c a name rows low high found parser all (row_there name rows given)
 
-numbers_of_page : (c : List Rule) (w h l b : Rule) (rows : List Row) → arg_by_id c (codes "width") ≡ Some w → w.parser ≡ Some (vp.Signed (pos 64) (pos 65536))
-    → arg_by_id c (codes "height") ≡ Some h → h.parser ≡ Some (vp.Signed (pos 64) (pos 65536)) → arg_by_id c (codes "left") ≡ Some l → l.parser ≡ Some (vp.Signed (pos 0) (pos 65536))
-    → arg_by_id c (codes "below") ≡ Some b → b.parser ≡ Some (vp.Signed (pos 0) (pos 65536)) → AllByRecursion (RowOf c) rows → has_row (codes "left") rows ≡ true
-    → has_row (codes "below") rows ≡ true → HasPageNumbers rows
-numbers_of_page c w h l b rows width width_parser height height_parser left left_parser below below_parser all has_left has_below = record {
-  width = number_if_there c w (codes "width") rows 64 65536 width width_parser all;
-  height = number_if_there c h (codes "height") rows 64 65536 height height_parser all;
-  left = number_there c l (codes "left") rows 0 65536 left left_parser all has_left;
-  below = number_there c b (codes "below") rows 0 65536 below below_parser all has_below;
-}
-
 -- a row is none of an option that a subcommand does not have
 no_row : (c : List Rule) (name : Text) (rows : List Row) → arg_by_id c name ≡ None → AllByRecursion (RowOf c) rows → has_row name rows ≡ true → ⊥
 no_row c name [] unknown all has = absurd (cc)
@@ -132,139 +119,80 @@ no_row c name (r ∷ rest) unknown all has = branch (bytes_eq r.id name) refl ha
 no_number : (c : List Rule) (name : Text) (rows : List Row) (low high : ℕ) → arg_by_id c name ≡ None → AllByRecursion (RowOf c) rows → MayHaveNumber rows name low high
 no_number c name rows low high unknown all = λ given. absurd (no_row c name rows unknown all (row_there name rows given))
 
-picture_values : (c : List Rule) (d : Rule) (rows : List Row) → HasPageNumbers rows → arg_by_id c (codes "dots") ≡ Some d
-    → d.parser ≡ Some (vp.Signed (pos 10) (pos 1200)) → MayHaveNumber rows (codes "smooth") 1 8 → AllByRecursion (RowOf c) rows → HasPictureValues rows
-picture_values c d rows page dots parser smoothing all = record {
-  page = page;
-  dots = number_if_there c d (codes "dots") rows 10 1200 dots parser all;
-  smoothing = smoothing;
+-- an option with a default has a row
+row_by_default : (c : List Rule) (a : Rule) (name : Text) (rows : List Row) → arg_by_id c name ≡ Some a → 0 < length a.defaults
+    → AllByRecursion (λ (b : Rule). 0 < length b.defaults → has_row b.id rows ≡ true) c → has_row name rows ≡ true
+row_by_default [] a name rows found some all = absurd (cc)
+row_by_default (b ∷ bs) a name rows found some all = branch (bytes_eq b.id name) refl (λ more. row_by_default bs a name rows more some all.1)
+  where
+    branch : (t : Bool) → bytes_eq b.id name ≡ t → (arg_by_id bs name ≡ Some a → has_row name rows ≡ true) → has_row name rows ≡ true
+    branch true same later =
+        let here = rw same at found in
+        let is : a ≡ b = cc in
+        let named : b.id ≡ name = (bytes_eq-Decides b.id name).0 same in
+        subst (λ (n : Text). has_row n rows ≡ true) named (all.0 (subst (λ (x : Rule). 0 < length x.defaults) is some))
+    branch false other later = later (rw other at found)
+
+-- an option of the table with a number has one in its range, if it has one at all
+number_in_range : (it : Text × Kind) (rows : List Row) → RowsOf (built_rules it) rows → (name : Text) (o : OptionRow) (low high : ℕ) → option_named name ≡ Some o
+    → o.value ≡ Number low high → arg_by_id others name ≡ None → MayHaveNumber rows name low high
+number_in_range it rows good name o low high found takes alone = branch (has o.group it.1) refl
+  where
+    branch : (b : Bool) → has o.group it.1 ≡ b → MayHaveNumber rows name low high
+    branch true kept = number_if_there (built_rules it) (filled_option it.1 o) name rows low high (has_option it name o found kept) (rw takes refl) good.each
+    branch false left = no_number (built_rules it) name rows low high (has_no_option it name o found left ∙ alone) good.each
+
+-- an option of the subcommand with a default has a row
+default_there : (it : Text × Kind) (rows : List Row) → RowsOf (built_rules it) rows → (name : Text) (o : OptionRow) → option_named name ≡ Some o
+    → has o.group it.1 ≡ true → 0 < length (filled_option it.1 o).defaults → has_row name rows ≡ true
+default_there it rows good name o found kept some =
+    row_by_default (built_rules it) (filled_option it.1 o) name rows (has_option it name o found kept) some good.defaults
+
+number_by_default : (it : Text × Kind) (rows : List Row) → RowsOf (built_rules it) rows → (name : Text) (o : OptionRow) (low high : ℕ) → option_named name ≡ Some o
+    → has o.group it.1 ≡ true → 0 < length (filled_option it.1 o).defaults → o.value ≡ Number low high → HasNumber rows name low high
+number_by_default it rows good name o low high found kept some takes =
+    number_there (built_rules it) (filled_option it.1 o) name rows low high (has_option it name o found kept) (rw takes refl) good.each
+    (default_there it rows good name o found kept some)
+
+text_by_default : (it : Text × Kind) (rows : List Row) → RowsOf (built_rules it) rows → (name : Text) (o : OptionRow) → option_named name ≡ Some o
+    → has o.group it.1 ≡ true → 0 < length (filled_option it.1 o).defaults → is_some (first_of name rows) ≡ true
+text_by_default it rows good name o found kept some =
+    text_there (built_rules it) (filled_option it.1 o) name rows (has_option it name o found kept) good.each
+    (default_there it rows good name o found kept some)
+
+-- the profile has a default, whichever the subcommand is
+profile_default : (kind : Kind) → 0 < length (filled_option kind profile).defaults
+profile_default (Draw destination) = omega arith
+profile_default (Write output) = omega arith
+
+numbers_there : (it : Text × Kind) (rows : List Row) → RowsOf (built_rules it) rows → HasNumbers rows
+numbers_there it rows good = record {
+  within = λ name. within name (option_named name) refl;
+  left = number_by_default it rows good (codes "left") _ 0 65536 refl refl (omega arith) refl;
+  below = number_by_default it rows good (codes "below") _ 0 65536 refl refl (omega arith) refl;
 }
+  where
+    by_value : (name : Text) (o : OptionRow) (v : Value) → option_named name ≡ Some o → o.value ≡ v → IsInRange (Some v) name rows
+    by_value name o (Number low high) found takes = number_in_range it rows good name o low high found takes (no_other name o found)
+    by_value name o Word found takes = tt
+    by_value name o Flag found takes = tt
 
-report_profile : (name : Text) (rows : List Row) → RowsOf (built_leaf (report_app name).top).rules rows → HasProfile rows
-report_profile name rows good = text_there _ _ (codes "profile") rows refl good.each (good.defaults.1.1.1.1.1.1.1.0 (omega arith))
+    within : (name : Text) (o : Option OptionRow) → option_named name ≡ o → IsInRange (option_map (λ p. p.value) o) name rows
+    within name None none = tt
+    within name (Some o) found = by_value name o o.value found refl
 
-report_margin : (name : Text) (rows : List Row) → RowsOf (built_leaf (report_app name).top).rules rows → HasMargin rows
-report_margin name rows good = number_if_there _ _ (codes "margin") rows 0 100 refl refl good.each
+-- what writes a picture has pens
+has_pens : (destination : Destination) (kind : Kind) (rows : List Row) → option_map_or is_picture (written (kind_into destination kind) rows) false ≡ true
+    → has group.Pictures kind ≡ true
+has_pens destination (Draw _) rows is = refl
+has_pens destination (Write output) rows is = is
 
-report_pixels : (name : Text) (rows : List Row) → RowsOf (built_leaf (report_app name).top).rules rows → MayHaveNumber rows (codes "size") 16 20000
-report_pixels name rows good = no_number _ (codes "size") rows 16 20000 refl good.each
-
-report_page : (name : Text) (rows : List Row) → RowsOf (built_leaf (report_app name).top).rules rows → HasPageNumbers rows
-report_page name rows good =
-    numbers_of_page _ _ _ _ _ rows refl refl refl refl refl refl refl refl good.each (good.defaults.1.1.1.0 (omega arith)) (good.defaults.1.1.1.1.0 (omega arith))
-
-draw_profile : (name : Text) (rows : List Row) → RowsOf (built_leaf (draw_app name).top).rules rows → HasProfile rows
-draw_profile name rows good = text_there _ _ (codes "profile") rows refl good.each (good.defaults.1.1.1.1.1.1.1.0 (omega arith))
-
-draw_margin : (name : Text) (rows : List Row) → RowsOf (built_leaf (draw_app name).top).rules rows → HasMargin rows
-draw_margin name rows good = number_if_there _ _ (codes "margin") rows 0 100 refl refl good.each
-
-draw_pixels : (name : Text) (rows : List Row) → RowsOf (built_leaf (draw_app name).top).rules rows → MayHaveNumber rows (codes "size") 16 20000
-draw_pixels name rows good = number_if_there _ _ (codes "size") rows 16 20000 refl refl good.each
-
-draw_page : (name : Text) (rows : List Row) → RowsOf (built_leaf (draw_app name).top).rules rows → HasPageNumbers rows
-draw_page name rows good =
-    numbers_of_page _ _ _ _ _ rows refl refl refl refl refl refl refl refl good.each (good.defaults.1.1.1.0 (omega arith)) (good.defaults.1.1.1.1.0 (omega arith))
-
-draw_pens : (name : Text) (rows : List Row) → RowsOf (built_leaf (draw_app name).top).rules rows → is_some (pens_text rows) ≡ true
-draw_pens name rows good = text_there _ _ (codes "pens") rows refl good.each (good.defaults.1.1.1.1.1.1.1.1.1.1.1.1.1.1.1.0 (omega arith))
-
-draw_picture : (name : Text) (rows : List Row) → RowsOf (built_leaf (draw_app name).top).rules rows → HasPictureValues rows
-draw_picture name rows good = picture_values _ _ rows (draw_page name rows good) refl refl (number_if_there _ _ (codes "smooth") rows 1 8 refl refl good.each) good.each
-
-draw_values : (name : Text) (rows : List Row) → RowsOf (built_leaf (draw_app name).top).rules rows → HasFormValues rows
-draw_values name rows good = record {
-  picture = draw_picture name rows good;
-  band = no_number _ (codes "band") rows 1 4096 refl good.each;
-  first_row = no_number _ (codes "from") rows 0 99999 refl good.each;
+values_of : (destination : Destination) (it : Text × Kind) (rows : List Row) → RowsOf (built_rules it) rows → HasValues (kind_into destination it.1) rows
+values_of destination it rows good = record {
+  pens = λ is. text_by_default it rows good (codes "pens") _ refl (has_pens destination it.1 rows is) (omega arith);
+  numbers = numbers_there it rows good;
+  profile = text_by_default it rows good (codes "profile") _ refl refl (profile_default it.1);
 }
-
-plain_profile : (name : Text) (rows : List Row) → RowsOf (built_leaf (plain_app name).top).rules rows → HasProfile rows
-plain_profile name rows good = text_there _ _ (codes "profile") rows refl good.each (good.defaults.1.1.1.1.1.1.1.0 (omega arith))
-
-plain_margin : (name : Text) (rows : List Row) → RowsOf (built_leaf (plain_app name).top).rules rows → HasMargin rows
-plain_margin name rows good = number_if_there _ _ (codes "margin") rows 0 100 refl refl good.each
-
-plain_pixels : (name : Text) (rows : List Row) → RowsOf (built_leaf (plain_app name).top).rules rows → MayHaveNumber rows (codes "size") 16 20000
-plain_pixels name rows good = no_number _ (codes "size") rows 16 20000 refl good.each
-
-plain_page : (name : Text) (rows : List Row) → RowsOf (built_leaf (plain_app name).top).rules rows → HasPageNumbers rows
-plain_page name rows good =
-    numbers_of_page _ _ _ _ _ rows refl refl refl refl refl refl refl refl good.each (good.defaults.1.1.1.0 (omega arith)) (good.defaults.1.1.1.1.0 (omega arith))
-
-plain_pens : (name : Text) (rows : List Row) → RowsOf (built_leaf (plain_app name).top).rules rows → is_some (pens_text rows) ≡ true
-plain_pens name rows good = text_there _ _ (codes "pens") rows refl good.each (good.defaults.1.1.1.1.1.1.1.1.1.1.1.1.1.1.1.0 (omega arith))
-
-plain_picture : (name : Text) (rows : List Row) → RowsOf (built_leaf (plain_app name).top).rules rows → HasPictureValues rows
-plain_picture name rows good = picture_values _ _ rows (plain_page name rows good) refl refl (no_number _ (codes "smooth") rows 1 8 refl good.each) good.each
-
-plain_values : (name : Text) (rows : List Row) → RowsOf (built_leaf (plain_app name).top).rules rows → HasFormValues rows
-plain_values name rows good = record {
-  picture = plain_picture name rows good;
-  band = number_if_there _ _ (codes "band") rows 1 4096 refl refl good.each;
-  first_row = number_if_there _ _ (codes "from") rows 0 99999 refl refl good.each;
-}
-
-smoothed_profile : (name : Text) (rows : List Row) → RowsOf (built_leaf (picture_app Ppm name).top).rules rows → HasProfile rows
-smoothed_profile name rows good = text_there _ _ (codes "profile") rows refl good.each (good.defaults.1.1.1.1.1.1.1.0 (omega arith))
-
-smoothed_margin : (name : Text) (rows : List Row) → RowsOf (built_leaf (picture_app Ppm name).top).rules rows → HasMargin rows
-smoothed_margin name rows good = number_if_there _ _ (codes "margin") rows 0 100 refl refl good.each
-
-smoothed_pixels : (name : Text) (rows : List Row) → RowsOf (built_leaf (picture_app Ppm name).top).rules rows → MayHaveNumber rows (codes "size") 16 20000
-smoothed_pixels name rows good = no_number _ (codes "size") rows 16 20000 refl good.each
-
-smoothed_page : (name : Text) (rows : List Row) → RowsOf (built_leaf (picture_app Ppm name).top).rules rows → HasPageNumbers rows
-smoothed_page name rows good =
-    numbers_of_page _ _ _ _ _ rows refl refl refl refl refl refl refl refl good.each (good.defaults.1.1.1.0 (omega arith)) (good.defaults.1.1.1.1.0 (omega arith))
-
-smoothed_pens : (name : Text) (rows : List Row) → RowsOf (built_leaf (picture_app Ppm name).top).rules rows → is_some (pens_text rows) ≡ true
-smoothed_pens name rows good = text_there _ _ (codes "pens") rows refl good.each (good.defaults.1.1.1.1.1.1.1.1.1.1.1.1.1.1.1.0 (omega arith))
-
-smoothed_picture : (name : Text) (rows : List Row) → RowsOf (built_leaf (picture_app Ppm name).top).rules rows → HasPictureValues rows
-smoothed_picture name rows good = picture_values _ _ rows (smoothed_page name rows good) refl refl (number_if_there _ _ (codes "smooth") rows 1 8 refl refl good.each) good.each
-
-smoothed_values : (name : Text) (rows : List Row) → RowsOf (built_leaf (picture_app Ppm name).top).rules rows → HasFormValues rows
-smoothed_values name rows good = record {
-  picture = smoothed_picture name rows good;
-  band = number_if_there _ _ (codes "band") rows 1 4096 refl refl good.each;
-  first_row = number_if_there _ _ (codes "from") rows 0 99999 refl refl good.each;
-}
-
-png_profile : (name : Text) (rows : List Row) → RowsOf (built_leaf (png_app name).top).rules rows → HasProfile rows
-png_profile name rows good = text_there _ _ (codes "profile") rows refl good.each (good.defaults.1.1.1.1.1.1.1.0 (omega arith))
-
-png_margin : (name : Text) (rows : List Row) → RowsOf (built_leaf (png_app name).top).rules rows → HasMargin rows
-png_margin name rows good = number_if_there _ _ (codes "margin") rows 0 100 refl refl good.each
-
-png_pixels : (name : Text) (rows : List Row) → RowsOf (built_leaf (png_app name).top).rules rows → MayHaveNumber rows (codes "size") 16 20000
-png_pixels name rows good = no_number _ (codes "size") rows 16 20000 refl good.each
-
-png_page : (name : Text) (rows : List Row) → RowsOf (built_leaf (png_app name).top).rules rows → HasPageNumbers rows
-png_page name rows good =
-    numbers_of_page _ _ _ _ _ rows refl refl refl refl refl refl refl refl good.each (good.defaults.1.1.1.0 (omega arith)) (good.defaults.1.1.1.1.0 (omega arith))
-
-png_pens : (name : Text) (rows : List Row) → RowsOf (built_leaf (png_app name).top).rules rows → is_some (pens_text rows) ≡ true
-png_pens name rows good = text_there _ _ (codes "pens") rows refl good.each (good.defaults.1.1.1.1.1.1.1.1.1.1.1.1.1.1.1.0 (omega arith))
-
-png_picture : (name : Text) (rows : List Row) → RowsOf (built_leaf (png_app name).top).rules rows → HasPictureValues rows
-png_picture name rows good = picture_values _ _ rows (png_page name rows good) refl refl (number_if_there _ _ (codes "smooth") rows 1 8 refl refl good.each) good.each
-
-vector_profile : (name : Text) (rows : List Row) → RowsOf (built_leaf (vector_app name).top).rules rows → HasProfile rows
-vector_profile name rows good = text_there _ _ (codes "profile") rows refl good.each (good.defaults.1.1.1.1.1.1.1.0 (omega arith))
-
-vector_margin : (name : Text) (rows : List Row) → RowsOf (built_leaf (vector_app name).top).rules rows → HasMargin rows
-vector_margin name rows good = number_if_there _ _ (codes "margin") rows 0 100 refl refl good.each
-
-vector_pixels : (name : Text) (rows : List Row) → RowsOf (built_leaf (vector_app name).top).rules rows → MayHaveNumber rows (codes "size") 16 20000
-vector_pixels name rows good = no_number _ (codes "size") rows 16 20000 refl good.each
-
-vector_page : (name : Text) (rows : List Row) → RowsOf (built_leaf (vector_app name).top).rules rows → HasPageNumbers rows
-vector_page name rows good =
-    numbers_of_page _ _ _ _ _ rows refl refl refl refl refl refl refl refl good.each (good.defaults.1.1.1.0 (omega arith)) (good.defaults.1.1.1.1.0 (omega arith))
-
-vector_pens : (name : Text) (rows : List Row) → RowsOf (built_leaf (vector_app name).top).rules rows → is_some (pens_text rows) ≡ true
-vector_pens name rows good = text_there _ _ (codes "pens") rows refl good.each (good.defaults.1.1.1.1.1.1.1.1.1.1.1.1.1.1.0 (omega arith))
 
 -- the rows of a subcommand give its options values, whatever its output goes into
 abbrev Reads : Shape → Type 0
@@ -282,61 +210,9 @@ same_kind : (k l : Kind) → Some k ≡ Some l → k ≡ l
 same_kind k l same = cc
 
 -- what a subcommand's rows give is the same whatever says which one it is
-by_name : (name : Text) (k : Kind) (rules : List Rule) → IsNamed (name, k)
-    → ((destination : Destination) (rows : List Row) → RowsOf rules rows → HasValues (kind_into destination k) rows)
-    → (destination : Destination) (kind : Kind) → kind_named name ≡ Some kind → (rows : List Row) → RowsOf rules rows → HasValues (kind_into destination kind) rows
-by_name name k rules named values destination kind is rows good =
-    subst (λ (l : Kind). HasValues (kind_into destination l) rows) (same_kind _ _ (sym named ∙ is)) (values destination rows good)
-
-plain_reads : (name : Text) (kind : Kind) → ((rows : List Row) → HasFormValues rows → HasTaskValues kind rows) → (rows : List Row)
-    → RowsOf (built_leaf (plain_app name).top).rules rows → HasValues kind rows
-plain_reads name kind task rows good = record {
-  pens = λ _. plain_pens name rows good;
-  task = task rows (plain_values name rows good);
-  profile = plain_profile name rows good;
-  pixels = plain_pixels name rows good;
-  margin = plain_margin name rows good;
-}
-
 row_reads : (it : Text × Kind) → IsNamed it → Reads (built_leaf (subcommand_app it).top)
-row_reads (name, Draw destination) named = by_name name (Draw destination) _ named (λ _ rows good. record {
-  pens = λ _. draw_pens name rows good;
-  task = draw_values name rows good;
-  profile = draw_profile name rows good;
-  pixels = draw_pixels name rows good;
-  margin = draw_margin name rows good;
-})
-row_reads (name, Write (Picture Marks)) named = by_name name (Write (Picture Marks)) _ named (λ _. plain_reads name (Write (Picture Marks)) (λ rows has. has))
-row_reads (name, Write (Picture Pbm)) named = by_name name (Write (Picture Pbm)) _ named (λ _. plain_reads name (Write (Picture Pbm)) (λ rows has. has))
-row_reads (name, Write (Picture Ppm)) named = by_name name (Write (Picture Ppm)) _ named (λ _ rows good. record {
-  pens = λ _. smoothed_pens name rows good;
-  task = smoothed_values name rows good;
-  profile = smoothed_profile name rows good;
-  pixels = smoothed_pixels name rows good;
-  margin = smoothed_margin name rows good;
-})
-row_reads (name, Write (Picture Pcl)) named = by_name name (Write (Picture Pcl)) _ named (λ _. plain_reads name (Write (Picture Pcl)) (λ rows has. has))
-row_reads (name, Write Png) named = by_name name (Write Png) _ named (λ _ rows good. record {
-  pens = λ _. png_pens name rows good;
-  task = png_picture name rows good;
-  profile = png_profile name rows good;
-  pixels = png_pixels name rows good;
-  margin = png_margin name rows good;
-})
-row_reads (name, Write (Vector format)) named = by_name name (Write (Vector format)) _ named (λ _ rows good. record {
-  pens = λ _. vector_pens name rows good;
-  task = vector_page name rows good;
-  profile = vector_profile name rows good;
-  pixels = vector_pixels name rows good;
-  margin = vector_margin name rows good;
-})
-row_reads (name, Write Report) named = by_name name (Write Report) _ named (λ _ rows good. record {
-  pens = λ is. absurd (cc);
-  task = report_page name rows good;
-  profile = report_profile name rows good;
-  pixels = report_pixels name rows good;
-  margin = report_margin name rows good;
-})
+row_reads (name, k) named destination kind is rows good =
+    subst (λ (l : Kind). HasValues (kind_into destination l) rows) (same_kind _ _ (sym named ∙ is)) (values_of destination (name, k) rows good)
 
 reads : (its : List (Text × Kind)) → AllByRecursion IsNamed its → AllByRecursion Reads (map (λ (it : Text × Kind). built_leaf (subcommand_app it).top) its)
 reads [] named = tt
@@ -350,14 +226,7 @@ abbrev HasName : Shape → Type 0
 HasName command = is_some (kind_named command.name) ≡ true
 
 row_name : (it : Text × Kind) → IsNamed it → HasName (built_leaf (subcommand_app it).top)
-row_name (name, Draw destination) named = ap is_some named
-row_name (name, Write (Picture Marks)) named = ap is_some named
-row_name (name, Write (Picture Pbm)) named = ap is_some named
-row_name (name, Write (Picture Ppm)) named = ap is_some named
-row_name (name, Write (Picture Pcl)) named = ap is_some named
-row_name (name, Write Png) named = ap is_some named
-row_name (name, Write (Vector format)) named = ap is_some named
-row_name (name, Write Report) named = ap is_some named
+row_name (name, kind) named = ap is_some named
 
 names : (its : List (Text × Kind)) → AllByRecursion IsNamed its → AllByRecursion HasName (map (λ (it : Text × Kind). built_leaf (subcommand_app it).top) its)
 names [] named = tt

@@ -1,12 +1,9 @@
--- What a subcommand does unless its options say otherwise.
-use Rattle.std.specs.Prelude.{ℕ, Bool, true, false, codes}
-use Rattle.clap.specs.Words.{Text}
+-- What a subcommand does unless its options say otherwise, beside the defaults of its options.
+use Rattle.std.specs.Prelude.{ℕ, Bool, true, false}
 use Rattle.command_line.specs.declared.subcommands.Kind.{Kind}
 use Rattle.command_line.specs.declared.subcommands.Kind.TheVariants.{Draw, Write}
 
 pub record Defaults : Type 0 where
-  -- the name of the profile
-  pub profile : Text
   -- dots per inch
   pub dots : ℕ
   -- how much finer a picture that may be smoothed is painted, at most
@@ -21,7 +18,6 @@ pub record Defaults : Type 0 where
 -- those of draw
 abbrev pub of_draw : Defaults
 of_draw = record {
-  profile = codes "full";
   dots = 150;
   smoothing = 4;
   margin = 5;
@@ -32,7 +28,6 @@ of_draw = record {
 -- those of the other subcommands
 abbrev pub of_others : Defaults
 of_others = record {
-  profile = codes "core";
   dots = 100;
   smoothing = 1;
   margin = 1;

@@ -9,5 +9,6 @@ pub mod Characters
 pub mod Faults
 pub mod Lines
 pub mod Statuses
--- What only contracts of private functions need: what a faultless parse leaves to be read.
+-- What only contracts of private functions need: what a faultless parse leaves to be read, and the code's table.
 pub mod Readings
+pub mod Tables

@@ -18,6 +18,7 @@ use Rattle.command_line.specs.Characters.{encoding_named}
 use Rattle.command_line.specs.Defaults.{defaults_of}
 use Rattle.command_line.specs.Faults.{Refusal, BadColours, BadWidths, first_of_these, refusal_of}
 use Rattle.command_line.specs.Forms.{extension_of, form_named}
+pub use Rattle.command_line.specs.Options.{is_picture, is_pcl}
 use Rattle.command_line.specs.Options.{is_smoothed, subcommands, plot_app}
 use Rattle.command_line.specs.Papers.{names_plot, size_named}
 use Rattle.command_line.specs.Sheets.{is_each, sheet_named}
@@ -26,7 +27,6 @@ use Rattle.pen_list.specs.Colours.{colour_written}
 use Rattle.pen_list.specs.Lists.{is_listed, is_pen_list}
 use Rattle.pen_list.specs.Widths.{width_written}
 use Rattle.picture_out.specs.declared.form.Form.{Form}
-use Rattle.picture_out.specs.declared.form.Form.TheVariants.{Pcl}
 use Rattle.picture_job.specs.declared.job.Job.{Job}
 use Rattle.picture_job.specs.declared.picture.Picture.TheVariants.{Png, Rows, Vector}
 use Rattle.picture_job.specs.declared.png_job.PngJob.{PngJob}
@@ -169,13 +169,6 @@ asked_picture destination rows = option_map_or form_named (form_text destination
 abbrev pub written : Kind → List Row → Option Output
 written (Draw destination) rows = asked_picture destination rows
 written (Write output) rows = Some output
-
--- a picture
-abbrev pub is_picture : Output → Bool
-is_picture (output.Picture form) = true
-is_picture output.Png = true
-is_picture (output.Vector format) = true
-is_picture output.Report = false
 
 -- the dots per inch: as the option says, or else as the subcommand does
 abbrev pub dots_in : Kind → List Row → ℕ
@@ -326,10 +319,6 @@ each_fault kind rows =
     if not (is_given rows (codes "output") || has_pages kind rows) then Some NoFolder else None
 
 -- PCL is written
-abbrev pub is_pcl : Output → Bool
-is_pcl (output.Picture Pcl) = true
-is_pcl _ = false
-
 abbrev pub is_for_printers : Kind → List Row → Bool
 is_for_printers kind rows = option_map_or is_pcl (written kind rows) false
 

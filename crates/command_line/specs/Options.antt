@@ -1,114 +1,40 @@
 -- The subcommands and options of `plotraster`, as `clap` sees them.
-use Rattle.std.specs.Prelude.{◌≡◌, ℕ, Bool, List, [], ◌∷◌, Some, codes, pos, true, false, fold, if◌then◌else◌}
-use Rattle.clap.specs.Words.{App, Rule, Text, app_of, new_app, new_rule, with_rule, with_subcommand}
+use Rattle.std.specs.Prelude.{◌≡◌, ◌++◌, ℕ, Bool, List, [], ◌∷◌, Option, Some, None, codes, pos, true, false, filter, find, fold, map, option_map, option_to_list}
+use Rattle.std.specs.Str.{bytes_eq}
+use Rattle.clap.specs.Words.{App, Rule, Text, app_of, new_app, new_rule, with_subcommand}
 use Rattle.clap.specs.declared.builder.command.Command.{Command}
 use Rattle.clap.specs.declared.builder.command.Command.TheViews.{out-Command}
+use Rattle.clap.specs.declared.builder.action.ArgAction.{ArgAction}
 use Rattle.clap.specs.declared.builder.action.ArgAction.TheVariants.{Set, SetTrue, Append}
 use Rattle.clap.specs.declared.builder.value_parser.ValueParser.{ValueParser}
 use Rattle.clap.specs.declared.builder.value_parser.ValueParser.TheVariants as vp
 use Rattle.picture_job.specs.declared.vector_job.VectorFormat.TheVariants.{Pdf, Svg}
-use Rattle.picture_out.specs.declared.form.Form.{Form}
 use Rattle.picture_out.specs.declared.form.Form.TheVariants.{Marks, Pbm, Ppm, Pcl}
 use Rattle.command_line.specs.declared.subcommands.Kind.{Kind}
 use Rattle.command_line.specs.declared.destination.Destination.TheVariants.{File}
 use Rattle.command_line.specs.declared.subcommands.Kind.TheVariants.{Draw, Write}
 use Rattle.command_line.specs.declared.subcommands.Output.{Output}
 use Rattle.command_line.specs.declared.subcommands.Output.TheVariants.{Picture, Png, Report, Vector}
-use Rattle.command_line.specs.Defaults.{Defaults, of_draw, of_others}
+use Rattle.command_line.specs.declared.table.Group.{Group}
+use Rattle.command_line.specs.declared.table.Group.TheVariants as group
+use Rattle.command_line.specs.declared.table.Value.{Value}
+use Rattle.command_line.specs.declared.table.Value.TheVariants.{Flag, Number, Word}
 
--- `--NAME VALUE`, at most once, with a parser
-abbrev pub bare_rule : Text → ValueParser → Rule
-bare_rule name parser = record (new_rule name) {
-  long = Some name;
-  action = Some Set;
-  value_names = 1;
-  parser = Some parser;
-}
+-- ---- groups of subcommands
 
--- the same, with a default
-abbrev pub option_rule : Text → ValueParser → Text → Rule
-option_rule name parser given = record (bare_rule name parser) { defaults = given ∷ [] }
+-- a picture
+abbrev pub is_picture : Output → Bool
+is_picture (Picture form) = true
+is_picture Png = true
+is_picture (Vector format) = true
+is_picture Report = false
 
--- a whole number from low to high
-abbrev pub whole_number : ℕ → ℕ → ValueParser
-whole_number low high = vp.Signed (pos low) (pos high)
-
--- `--NAME N`, a whole number from low to high, at most once, with a default
-abbrev pub number_rule : Text → ℕ → ℕ → Text → Rule
-number_rule name low high given = option_rule name (whole_number low high) given
-
--- `--NAME`, at most once
-abbrev pub flag_rule : Text → Rule
-flag_rule name = record (new_rule name) { long = Some name; action = Some SetTrue }
-
--- FILE, each word that is neither an option nor a subcommand
-abbrev pub file_rule : Rule
-file_rule = record (new_rule (codes "FILE")) { action = Some Append }
-
--- the page: its sides in plotter units or the name of a paper, which have no defaults, and its corner
-abbrev pub with_page : App → App
-with_page a = with_rule (with_rule (with_rule (with_rule (with_rule a
-    (bare_rule (codes "width") (whole_number 64 65536)))
-    (bare_rule (codes "height") (whole_number 64 65536)))
-    (bare_rule (codes "page") vp.String))
-    (number_rule (codes "left") 0 65536 (codes "0")))
-    (number_rule (codes "below") 0 65536 (codes "0"))
-
--- whether the page is fitted to the drawing, and the margin in millimetres, which has no default
-abbrev pub with_fit : App → App
-with_fit a = with_rule (with_rule a (flag_rule (codes "fit"))) (bare_rule (codes "margin") (whole_number 0 100))
-
--- how the plot is read: the profile, and the sheet and the characters, which have no defaults
-abbrev pub with_reading : Defaults → App → App
-with_reading d a = with_rule (with_rule (with_rule a
-    (option_rule (codes "profile") vp.String d.profile))
-    (bare_rule (codes "sheet") vp.String))
-    (bare_rule (codes "characters") vp.String)
-
--- `--output PATH` or `-o PATH`, without a default: the file that is written, or the folder of the files
-abbrev pub output_rule : Rule
-output_rule = record (bare_rule (codes "output") vp.String) { short = Some 111 }
-
--- `--colours LIST` or `--colors LIST`, without a default
-abbrev pub colours_rule : Rule
-colours_rule = record (bare_rule (codes "colours") vp.String) { aliases = codes "colors" ∷ [] }
-
--- the colours and the widths of pens, which have no defaults
-abbrev pub with_carousel : App → App
-with_carousel a = with_rule (with_rule a colours_rule) (bare_rule (codes "widths") vp.String)
-
--- what each subcommand takes: the page, how the plot is read, where the output goes, whether to say what was drawn, and the
--- colours and the widths of pens
-abbrev pub with_plot : Defaults → App → App
-with_plot d a =
-    with_carousel (with_rule (with_rule (with_reading d (with_fit (with_page a))) output_rule) (flag_rule (codes "verbose")))
-
--- the pens whose strokes are drawn
-abbrev pub with_pens : App → App
-with_pens a = with_rule a (option_rule (codes "pens") vp.String (codes "all"))
-
--- how a picture is made: dots per inch, which have no default, pens, and whether to show how far the picture is
-abbrev pub with_picture : App → App
-with_picture a =
-    with_rule (with_pens (with_rule a (bare_rule (codes "dots") (whole_number 10 1200)))) (flag_rule (codes "progress"))
-
--- the most pixels of a picture's longer side, which have no default
-abbrev pub with_size : App → App
-with_size a = with_rule a (bare_rule (codes "size") (whole_number 16 20000))
-
--- how often finer a picture is painted, which has no default
-abbrev pub with_smoothing : App → App
-with_smoothing a = with_rule a (bare_rule (codes "smooth") (whole_number 1 8))
-
--- the form of the picture, which has no default, and whether to say nothing of progress and of an empty picture
-abbrev pub with_form : App → App
-with_form a = with_rule (with_rule a (bare_rule (codes "form") vp.String)) (flag_rule (codes "quiet"))
-
--- which rows are written: so many in a band, from the first row on
-abbrev pub with_rows : App → App
-with_rows a = with_rule (with_rule a
-    (number_rule (codes "band") 1 4096 (codes "64")))
-    (number_rule (codes "from") 0 99999 (codes "0"))
+-- a picture of pixels
+abbrev pub is_raster : Output → Bool
+is_raster (Picture form) = true
+is_raster Png = true
+is_raster (Vector format) = false
+is_raster Report = false
 
 -- what may be smoothed
 abbrev pub is_smoothed : Output → Bool
@@ -116,29 +42,149 @@ is_smoothed (Picture Ppm) = true
 is_smoothed Png = true
 is_smoothed _ = false
 
-abbrev pub with_smoothing_of : Output → App → App
-with_smoothing_of output a = if is_smoothed output then with_smoothing a else a
+-- a picture whose rows are independent
+abbrev pub has_rows : Output → Bool
+has_rows (Picture form) = true
+has_rows _ = false
 
--- the subcommand that writes a picture in the form that its options ask for
-abbrev pub draw_app : Text → App
-draw_app name = with_rule (with_form (with_smoothing (with_size (with_picture (with_plot of_draw (new_app name)))))) file_rule
+-- a picture for printers
+abbrev pub is_pcl : Output → Bool
+is_pcl (Picture Pcl) = true
+is_pcl _ = false
 
--- a subcommand that writes a picture in a form
-abbrev pub picture_app : Form → Text → App
-picture_app form name = with_rule
-    (with_rows (with_smoothing_of (Picture form) (with_picture (with_plot of_others (new_app name))))) file_rule
+-- draw is in the group
+abbrev pub has_draw : Group → Bool
+has_draw group.Rows = false
+has_draw group.Pcl = false
+has_draw _ = true
 
--- a subcommand that writes a PNG picture
-abbrev pub png_app : Text → App
-png_app name = with_rule (with_smoothing (with_picture (with_plot of_others (new_app name)))) file_rule
+-- what writes this is in the group
+abbrev pub has_output : Group → Output → Bool
+has_output group.All output = true
+has_output group.Draw output = false
+has_output group.Pictures output = is_picture output
+has_output group.Rasters output = is_raster output
+has_output group.Smoothed output = is_smoothed output
+has_output group.Rows output = has_rows output
+has_output group.Pcl output = is_pcl output
 
--- a subcommand that writes a vector document
-abbrev pub vector_app : Text → App
-vector_app name = with_rule (with_pens (with_plot of_others (new_app name))) file_rule
+-- a subcommand is in the group
+abbrev pub has : Group → Kind → Bool
+has group.All kind = true
+has it (Draw destination) = has_draw it
+has it (Write output) = has_output it output
 
--- a subcommand that describes a plot
-abbrev pub report_app : Text → App
-report_app name = with_rule (with_plot of_others (new_app name)) file_rule
+-- ---- the table
+
+-- an option: its name, the subcommands that have it, what it takes, what it has if it is not given, its short name, and
+-- other spellings
+pub record OptionRow : Type 0 where
+  pub name : Text
+  pub group : Group
+  pub value : Value
+  -- each for a group, of which the first that has the subcommand decides
+  pub defaults : List (Group × Text)
+  pub short : Option ℕ
+  pub aliases : List Text
+
+-- an option without a default
+abbrev pub option : Text → Group → Value → OptionRow
+option name who value =
+    record { name = name; group = who; value = value; defaults = []; short = None; aliases = [] }
+
+-- an option with this default
+abbrev pub option_or : Text → Text → Group → Value → OptionRow
+option_or default name who value = record (option name who value) { defaults = (group.All, default) ∷ [] }
+
+-- the option for how the plot is read
+abbrev pub profile : OptionRow
+profile = record (option (codes "profile") group.All Word) {
+  defaults = (group.Draw, codes "full") ∷ (group.All, codes "core") ∷ [];
+}
+
+-- all options, in the order of the help
+abbrev pub options : List OptionRow
+options =
+    option (codes "width") group.All (Number 64 65536)
+    ∷ option (codes "height") group.All (Number 64 65536)
+    ∷ option (codes "page") group.All Word
+    ∷ option_or (codes "0") (codes "left") group.All (Number 0 65536)
+    ∷ option_or (codes "0") (codes "below") group.All (Number 0 65536)
+    ∷ option (codes "fit") group.All Flag
+    ∷ option (codes "margin") group.All (Number 0 100)
+    ∷ profile
+    ∷ option (codes "sheet") group.All Word
+    ∷ option (codes "characters") group.All Word
+    ∷ record (option (codes "output") group.All Word) { short = Some 111 }
+    ∷ option (codes "verbose") group.All Flag
+    ∷ record (option (codes "colours") group.All Word) { aliases = codes "colors" ∷ [] }
+    ∷ option (codes "widths") group.All Word
+    ∷ option (codes "dots") group.Rasters (Number 10 1200)
+    ∷ option_or (codes "all") (codes "pens") group.Pictures Word
+    ∷ option (codes "progress") group.Rasters Flag
+    ∷ option (codes "size") group.Draw (Number 16 20000)
+    ∷ option (codes "smooth") group.Smoothed (Number 1 8)
+    ∷ option (codes "form") group.Draw Word
+    ∷ option (codes "quiet") group.Draw Flag
+    ∷ option_or (codes "64") (codes "band") group.Rows (Number 1 4096)
+    ∷ option_or (codes "0") (codes "from") group.Rows (Number 0 99999)
+    ∷ []
+
+-- what the option of this name takes
+abbrev pub option_named : Text → Option OptionRow
+option_named name = find (λ o. bytes_eq o.name name) options
+
+abbrev pub value_named : Text → Option Value
+value_named name = option_map (λ o. o.value) (option_named name)
+
+-- ---- what `clap` sees
+
+-- the default of a subcommand
+abbrev pub default_of : Kind → List (Group × Text) → Option Text
+default_of kind defaults = option_map (λ it. it.1) (find (λ it. has it.0 kind) defaults)
+
+-- what `clap` does with a use, how many values it has, and how they are read
+abbrev pub action_of : Value → ArgAction
+action_of Flag = SetTrue
+action_of _ = Set
+
+abbrev pub values_of : Value → ℕ
+values_of Flag = 0
+values_of _ = 1
+
+abbrev pub parser_of : Value → Option ValueParser
+parser_of Word = Some vp.String
+parser_of (Number low high) = Some (vp.Signed (pos low) (pos high))
+parser_of Flag = None
+
+-- an option of a subcommand: `--NAME VALUE` or `--NAME`, at most once
+abbrev pub option_rule : Kind → OptionRow → Rule
+option_rule kind o = record (new_rule o.name) {
+  long = Some o.name;
+  aliases = o.aliases;
+  short = o.short;
+  action = Some (action_of o.value);
+  value_names = values_of o.value;
+  defaults = option_to_list (default_of kind o.defaults);
+  parser = parser_of o.value;
+}
+
+-- FILE, each word that is neither an option nor a subcommand
+abbrev pub file_rule : Rule
+file_rule = record (new_rule (codes "FILE")) { action = Some Append }
+
+-- the options of a subcommand
+abbrev pub options_of : Kind → List OptionRow
+options_of kind = filter (λ o. has o.group kind) options
+
+-- a subcommand takes its options, and the names of files
+abbrev pub rules_of : Kind → List Rule
+rules_of kind = map (option_rule kind) (options_of kind) ++ file_rule ∷ []
+
+abbrev pub subcommand_app : Text × Kind → App
+subcommand_app (name, kind) =
+    let a = new_app name in
+    record a { top = record a.top { rules = rules_of kind } }
 
 -- `plotraster` itself: it has a version, a subcommand has to be named, and `help` is none
 abbrev pub top_app : App
@@ -159,13 +205,6 @@ subcommands =
     ∷ (codes "pcl", Write (Picture Pcl))
     ∷ (codes "report", Write Report)
     ∷ []
-
-abbrev pub subcommand_app : Text × Kind → App
-subcommand_app (name, Draw destination) = draw_app name
-subcommand_app (name, Write (Picture form)) = picture_app form name
-subcommand_app (name, Write Png) = png_app name
-subcommand_app (name, Write (Vector format)) = vector_app name
-subcommand_app (name, Write Report) = report_app name
 
 abbrev pub add_subcommand : App → Text × Kind → App
 add_subcommand app it = with_subcommand app (subcommand_app it).top

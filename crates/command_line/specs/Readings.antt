@@ -1,14 +1,14 @@
 -- What a faultless parse of this command leaves for `settle` to read.
-use Rattle.std.specs.Prelude.{◌≡◌, ℕ, Bool, true, false, List, Option, Some, None, Result, Ok, Err, is_some, codes, pos, if◌then◌else◌}
+use Rattle.std.specs.Prelude.{◌≡◌, ℕ, Bool, true, false, List, Option, Some, None, Result, Ok, Err, is_some, codes, pos, ⊤, if◌then◌else◌}
 use Rattle.clap.specs.Lexer.{without_minus}
 use Rattle.clap.specs.Values.{IsSignedIn}
 use Rattle.clap.specs.Words.{Row, Text, one_of}
 use Rattle.command_line.specs.declared.subcommands.Kind.{Kind}
-use Rattle.command_line.specs.declared.subcommands.Kind.TheVariants.{Draw, Write}
-use Rattle.command_line.specs.declared.subcommands.Output.{Output}
-use Rattle.command_line.specs.declared.subcommands.Output.TheVariants.{Picture, Png, Report, Vector}
+use Rattle.command_line.specs.declared.table.Value.{Value}
+use Rattle.command_line.specs.declared.table.Value.TheVariants.{Number}
 use Rattle.command_line.specs.declared.fault.LineFault.{LineFault}
 use Rattle.command_line.specs.declared.fault.LineFault.TheVariants.{Paper, Shades, Size}
+use Rattle.command_line.specs.Options.{value_named}
 use Rattle.command_line.specs.Papers.{size_named}
 use Rattle.command_line.specs.Lines.{has_stray_smooth, is_picture, number_in, pens_text, profile_text, written}
 use Rattle.std.specs.Option.{option_map_or}
@@ -23,23 +23,16 @@ pub record HasNumber (rows : List Row) (name : Text) (low high : ℕ) : Type 0 w
 abbrev pub MayHaveNumber : List Row → Text → ℕ → ℕ → Type 0
 MayHaveNumber rows name low high = is_some (number_in rows name) ≡ true → HasNumber rows name low high
 
-pub record HasPageNumbers (rows : List Row) : Type 0 where
-  pub width : MayHaveNumber rows (codes "width") 64 65536
-  pub height : MayHaveNumber rows (codes "height") 64 65536
+-- what is known of the value of an option: its number, if it has one, is in range
+abbrev pub IsInRange : Option Value → Text → List Row → Type 0
+IsInRange (Some (Number low high)) name rows = MayHaveNumber rows name low high
+IsInRange _ name rows = ⊤
+
+-- each number of an option is in range, and those with a default are there
+pub record HasNumbers (rows : List Row) : Type 0 where
+  pub within : (name : Text) → IsInRange (value_named name) name rows
   pub left : HasNumber rows (codes "left") 0 65536
   pub below : HasNumber rows (codes "below") 0 65536
-
--- each option that all pictures have has a value, and the resolution and the smoothing, if they are given, are numbers
-pub record HasPictureValues (rows : List Row) : Type 0 where
-  pub page : HasPageNumbers rows
-  pub dots : MayHaveNumber rows (codes "dots") 10 1200
-  pub smoothing : MayHaveNumber rows (codes "smooth") 1 8
-
--- the same of a picture in a form, of whose rows the numbers, if they are given, are numbers
-pub record HasFormValues (rows : List Row) : Type 0 where
-  pub picture : HasPictureValues rows
-  pub band : MayHaveNumber rows (codes "band") 1 4096
-  pub first_row : MayHaveNumber rows (codes "from") 0 99999
 
 -- the size that a name gives, unless it names nothing, or a side is given too
 abbrev pub size_or_fault : Option (ℕ × ℕ) → Bool → Result (ℕ × ℕ) LineFault
@@ -55,18 +48,6 @@ paper_or_fault name has_side = size_or_fault (size_named name) has_side
 abbrev pub stray_smooth_fault : Bool → List Row → Option LineFault
 stray_smooth_fault is_smoothed rows = if has_stray_smooth is_smoothed rows then Some Shades else None
 
--- each option for what is written has a value
-abbrev pub HasValuesOf : Output → List Row → Type 0
-HasValuesOf (Picture form) rows = HasFormValues rows
-HasValuesOf Png rows = HasPictureValues rows
-HasValuesOf (Vector format) rows = HasPageNumbers rows
-HasValuesOf Report rows = HasPageNumbers rows
-
--- the same for what a subcommand may write
-abbrev pub HasTaskValues : Kind → List Row → Type 0
-HasTaskValues (Draw destination) rows = HasFormValues rows
-HasTaskValues (Write output) rows = HasValuesOf output rows
-
 -- the option for the list of pens has a text, if a picture is written
 abbrev pub HasPens : Kind → List Row → Type 0
 HasPens kind rows = option_map_or is_picture (written kind rows) false ≡ true → is_some (pens_text rows) ≡ true
@@ -75,14 +56,8 @@ HasPens kind rows = option_map_or is_picture (written kind rows) false ≡ true 
 abbrev pub HasProfile : List Row → Type 0
 HasProfile rows = is_some (profile_text rows) ≡ true
 
--- the margin, if one is given, is a number
-abbrev pub HasMargin : List Row → Type 0
-HasMargin rows = MayHaveNumber rows (codes "margin") 0 100
-
 -- each option that a subcommand needs has a value
 pub record HasValues (kind : Kind) (rows : List Row) : Type 0 where
   pub pens : HasPens kind rows
-  pub task : HasTaskValues kind rows
+  pub numbers : HasNumbers rows
   pub profile : HasProfile rows
-  pub pixels : MayHaveNumber rows (codes "size") 16 20000
-  pub margin : HasMargin rows

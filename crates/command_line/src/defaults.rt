@@ -1,4 +1,4 @@
-//! What each subcommand does unless its options say otherwise.
+//! What each subcommand does unless its options say otherwise, beside the defaults of its options.
 ghost use Rattle.std.specs.Prelude.{◌≡◌};
 ghost use Rattle.command_line.specs.Defaults.{defaults_of};
 
@@ -6,9 +6,7 @@ use crate::subcommands::Kind;
 
 /// What a subcommand does unless its options say otherwise.
 #[derive(Clone, Copy)]
-pub(crate) struct Defaults<'a> {
-    /// The name of the profile.
-    pub(crate) profile: &'a str,
+pub(crate) struct Defaults {
     /// Dots per inch.
     pub(crate) dots: u32,
     /// How much finer a picture that may be smoothed is painted, at most.
@@ -21,8 +19,7 @@ pub(crate) struct Defaults<'a> {
     pub(crate) interactive: bool,
 }
 
-const OF_DRAW: Defaults<'static> = Defaults {
-    profile: "full",
+const OF_DRAW: Defaults = Defaults {
     dots: 150,
     smoothing: 4,
     margin: 5,
@@ -30,8 +27,7 @@ const OF_DRAW: Defaults<'static> = Defaults {
     interactive: true,
 };
 
-const OF_OTHERS: Defaults<'static> = Defaults {
-    profile: "core",
+const OF_OTHERS: Defaults = Defaults {
     dots: 100,
     smoothing: 1,
     margin: 1,
@@ -40,8 +36,7 @@ const OF_OTHERS: Defaults<'static> = Defaults {
 };
 
 /// The defaults of a subcommand.
-pub(crate) fn defaults_of(kind: Kind) -> Defaults<'static>
-    ensures profile { result.profile.now ≡ (defaults_of kind).profile }
+pub(crate) fn defaults_of(kind: Kind) -> Defaults
     ensures dots { result.dots ≡ (defaults_of kind).dots }
     ensures smoothing { result.smoothing ≡ (defaults_of kind).smoothing }
     ensures margin { result.margin ≡ (defaults_of kind).margin }

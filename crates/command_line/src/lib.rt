@@ -13,6 +13,7 @@ mod options;
 mod papers;
 mod sheets;
 mod subcommands;
+mod table;
 mod values;
 
 pub use destination::{Destination, output_of};

@@ -13,8 +13,7 @@ ghost use Rattle.command_line.specs.Lines.{IsChoiceOf, choice_fault, gives_page,
 ghost use Rattle.command_line.specs.Lines.{asks_each, each_fault, is_for_printers, is_report, pixels_fault, sheet_in};
 ghost use Rattle.command_line.specs.Lines.{files_in, has_no_place, has_pixels, output_fault, output_text, vector_fault};
 ghost use Rattle.command_line.specs.Options.{is_smoothed};
-ghost use Rattle.command_line.specs.Readings.{HasFormValues, HasMargin, HasNumber, HasPageNumbers, HasPens, HasPictureValues};
-ghost use Rattle.command_line.specs.Readings.{HasProfile, HasTaskValues, HasValues, MayHaveNumber, paper_or_fault, stray_smooth_fault};
+ghost use Rattle.command_line.specs.Readings.{HasNumbers, HasPens, HasValues, MayHaveNumber, paper_or_fault, stray_smooth_fault};
 
 use crate::carousels::carousel_of;
 use crate::defaults::defaults_of;
@@ -23,7 +22,8 @@ use crate::fault::LineFault;
 use crate::forms::{extension_of, form_named};
 use crate::papers::{names_plot, size_named};
 use crate::sheets::{each_of, reading_of};
-use crate::subcommands::{Kind, Output, is_smoothed, kind_of};
+use crate::subcommands::{Kind, Output, kind_of};
+use crate::table::{is_pcl, is_smoothed};
 use crate::values::{has_flag, is_given, number_if_given, number_of};
 use carousel::Carousel;
 use clap::ArgMatches;
@@ -161,7 +161,7 @@ fn task_of<'a>(
     requires selected { is_picture output ≡ true → ArePensOf (rows_of (found_of options.now)) pens }
     ensures task { IfOk result (IsTaskOf kind (rows_of (found_of options.now))) }
     ensures pens { result ≢ Err LineFault.Pens }
-    ensures refused { HasTaskValues kind (rows_of (found_of options.now)) →
+    ensures refused { HasNumbers (rows_of (found_of options.now)) →
         result_err result ≡ task_fault kind (rows_of (found_of options.now)) }
 {
     match output {
@@ -222,10 +222,10 @@ fn picture_of<'a>(
     requires { ArePensOf (rows_of (found_of options.now)) pens }
     ensures picture { IfOk result (IsPictureOf kind form (rows_of (found_of options.now))) }
     ensures pens { result ≢ Err LineFault.Pens }
-    ensures refused { HasFormValues (rows_of (found_of options.now)) →
+    ensures refused { HasNumbers (rows_of (found_of options.now)) →
         result_err result ≡ picture_fault kind (is_smoothed (Output.Picture form)) (rows_of (found_of options.now)) }
 {
-    let common = png_job_of(kind, options, is_smoothed(form), pens)?;
+    let common = png_job_of(kind, options, is_smoothed(Output::Picture(form)), pens)?;
     let band = number_if_given(options, "band")?;
     let first_row = number_if_given(options, "from")?;
     let job = Job {
@@ -252,7 +252,7 @@ fn png_job_of<'a>(
     requires { ArePensOf (rows_of (found_of options.now)) pens }
     ensures job { IfOk result (IsPngJobOf kind is_smoothed (rows_of (found_of options.now))) }
     ensures pens { result ≢ Err LineFault.Pens }
-    ensures refused { HasPictureValues (rows_of (found_of options.now)) →
+    ensures refused { HasNumbers (rows_of (found_of options.now)) →
         result_err result ≡ picture_fault kind is_smoothed (rows_of (found_of options.now)) }
 {
     let dots = dots_of(kind, options)?;
@@ -279,7 +279,7 @@ fn vector_of<'a>(
     requires { ArePensOf (rows_of (found_of options.now)) pens }
     ensures vector { IfOk result (IsVectorOf format (rows_of (found_of options.now))) }
     ensures pens { result ≢ Err LineFault.Pens }
-    ensures refused { HasPageNumbers (rows_of (found_of options.now)) →
+    ensures refused { HasNumbers (rows_of (found_of options.now)) →
         result_err result ≡ vector_fault (rows_of (found_of options.now)) }
 {
     if has_pixels(options) {
@@ -366,7 +366,7 @@ fn pens_of<'a>(options: &ArgMatches<'a>) -> Result<PenSet, LineFault<'a>>
 fn page_of<'a>(options: &ArgMatches<'a>) -> Result<Page, LineFault<'a>>
     ensures page { IfOk result (IsPageOf (rows_of (found_of options.now))) }
     ensures pens { result ≢ Err LineFault.Pens }
-    ensures refused { HasPageNumbers (rows_of (found_of options.now)) →
+    ensures refused { HasNumbers (rows_of (found_of options.now)) →
         result_err result ≡ page_fault (rows_of (found_of options.now)) }
 {
     let (width, height) = size_of(options)?;
@@ -380,9 +380,9 @@ fn size_of<'a>(options: &ArgMatches<'a>) -> Result<(u32, u32), LineFault<'a>>
     ensures size { IfOk result (λ size. page_size (rows_of (found_of options.now)) ≡ Some size) }
     ensures one_way { IfOk result (λ _. has_paper_and_side (rows_of (found_of options.now)) ≡ false) }
     ensures pens { result ≢ Err LineFault.Pens }
-    ensures within { HasPageNumbers (rows_of (found_of options.now)) →
+    ensures within { HasNumbers (rows_of (found_of options.now)) →
         IfOk result (λ size. has_page_size size.0 size.1 ≡ true) }
-    ensures refused { HasPageNumbers (rows_of (found_of options.now)) →
+    ensures refused { HasNumbers (rows_of (found_of options.now)) →
         result_err result ≡ page_fault (rows_of (found_of options.now)) }
 {
     let width = number_if_given(options, "width")?;
@@ -434,8 +434,8 @@ fn is_for_printers(kind: Kind, options: &ArgMatches<'_>) -> bool
     ensures { result ≡ is_for_printers kind (rows_of (found_of options.now)) }
 {
     match written(kind, options) {
-        Some(Output::Picture(Form::Pcl)) => true,
-        Some(_) | None => false,
+        Some(output) => is_pcl(output),
+        None => false,
     }
 }
 
@@ -447,7 +447,7 @@ fn choice_of<'a>(
     requires { number_in (rows_of (found_of options.now)) (codes "size") ≡ pixels }
     ensures choice { IfOk result (IsChoiceOf kind (rows_of (found_of options.now))) }
     ensures pens { result ≢ Err LineFault.Pens }
-    ensures refused { HasMargin (rows_of (found_of options.now)) →
+    ensures refused { MayHaveNumber (rows_of (found_of options.now)) (codes "margin") 0 100 →
         result_err result ≡ choice_fault kind (rows_of (found_of options.now)) }
 {
     let defaults = defaults_of(kind);

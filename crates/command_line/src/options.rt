@@ -1,47 +1,29 @@
 //! The command line, as it is declared to `clap`.
-ghost use Rattle.std.specs.Prelude.{◌≡◌, IfOk, true, false, codes};
-ghost use Rattle.std.specs.Prelude.{List, [], map, fold};
+ghost use Rattle.std.specs.Prelude.{◌≡◌, ◌++◌, IfOk, List, [], true, false, codes, map, fold, option_map, option_to_list, None};
 ghost use Rattle.clap.specs.Words.{Text, FailsBy, fault_of, HasMatchesOf};
 ghost use Rattle.clap.specs.declared.parser.matches.ArgMatches.{ArgMatches};
 ghost use Rattle.clap.specs.Words.{app_of, rule_of, is_simple_and_free, new_app, with_rule, with_subcommand};
 ghost use Rattle.clap.specs.declared.builder.command.Command.TheViews.{out-Command as fields_of};
-ghost use Rattle.clap.specs.declared.builder.value_parser.ValueParser.TheVariants as ValueParser;
-ghost use Rattle.command_line.specs.Options.{bare_rule, option_rule, whole_number, number_rule, flag_rule, file_rule};
-ghost use Rattle.command_line.specs.Options.{colours_rule, with_carousel, with_size};
-ghost use Rattle.command_line.specs.Options.{output_rule, with_fit, with_page, with_reading, with_plot, with_picture};
-ghost use Rattle.command_line.specs.Defaults.{defaults_of};
-ghost use Rattle.command_line.specs.Options.{draw_app, png_app, vector_app, with_form, with_pens, with_rows, with_smoothing};
-ghost use Rattle.command_line.specs.Options.{picture_app, report_app, subcommand_app, add_subcommand, plot_app};
-ghost use Rattle.command_line.specs.Options.{top_app, IsOf};
+ghost use Rattle.command_line.specs.Options.{file_rule, option_rule};
+ghost use Rattle.command_line.specs.Options.{subcommand_app, add_subcommand, plot_app, top_app, IsOf};
+ghost use Rattle.command_line.specs.Tables.{add_option, bare_rule, flag_rule, row_of, value_rule};
 ghost use Rattle.clap_parses.specs.Parses.{HasGoodMatches};
 
-use crate::defaults::defaults_of;
-use crate::destination::Destination;
 use crate::fault::BuildFault;
-use crate::help::{
-    BAND, BELOW, CHARACTERS, COLOURS, FILE, FIT, FORM, FROM, HEIGHT, HelpLine, HelpPage, LEFT,
-    OUTPUT, PENS, PROFILE, QUIET, SHEET, SIZE, TOP, VERBOSE, VERSION, WIDTH, WIDTHS,
-};
-use crate::subcommands::{
-    Kind, Output, SUBCOMMANDS, dots_line, is_smoothed, margin_line, page_line, progress_help,
-    smooth_line,
-};
+use crate::help::{FILE, HelpPage, TOP, VERSION};
+use crate::subcommands::{Kind, SUBCOMMANDS};
+use crate::table::{OptionRow, Value, default_of, help_of, options};
 use clap::builder::ValueParser;
 use clap::{Arg, ArgAction, ArgMatches, Command};
-use picture_job::VectorFormat;
-use picture_out::Form;
 use std::alloc::{AllocError, Global};
 use std::convert::AsStr;
-
-// The subcommand draw, which has the same options whatever its output goes into.
-const DRAW: Kind = Kind::Draw(Destination::File);
 
 // `--name VALUE`, at most once.
 fn bare_option<'a>(
     alloc: Global,
     name: &'a str,
     parser: ValueParser<'a>,
-    line: HelpLine<'a>,
+    value_name: &'a str,
 ) -> Arg<'a>
     ensures rule { rule_of result ≡ bare_rule name.entry.now parser.entry }
     ensures local { result.global ≡ false }
@@ -50,136 +32,74 @@ fn bare_option<'a>(
         .long(name)
         .action(ArgAction::Set)
         .value_parser(parser)
-        .value_name(line.value)
-        .help(line.help)
-}
-
-// The same, with a default.
-fn option_of<'a>(
-    alloc: Global,
-    name: &'a str,
-    parser: ValueParser<'a>,
-    given: &'a str,
-    line: HelpLine<'a>,
-) -> Arg<'a>
-    ensures rule { rule_of result ≡ option_rule name.entry.now parser.entry given.entry.now }
-    ensures local { result.global ≡ false }
-{
-    bare_option(alloc, name, parser, line).default_value(given)
-}
-
-// `--name N` with a whole number from low to high, at most once.
-fn number_of<'a>(
-    alloc: Global,
-    name: &'a str,
-    low: u32,
-    high: u32,
-    given: &'a str,
-    line: HelpLine<'a>,
-) -> Arg<'a>
-    ensures rule { rule_of result ≡ number_rule name.entry.now low high given.entry.now }
-    ensures local { result.global ≡ false }
-{
-    let parser = ValueParser::signed(i64::from(low), i64::from(high));
-    option_of(alloc, name, parser, given, line)
-}
-
-// The same, without a default, so that it is known whether it is given.
-fn bare_number_of<'a>(
-    alloc: Global,
-    name: &'a str,
-    low: u32,
-    high: u32,
-    line: HelpLine<'a>,
-) -> Arg<'a>
-    ensures rule { rule_of result ≡ bare_rule name.entry.now (whole_number low high) }
-    ensures local { result.global ≡ false }
-{
-    let parser = ValueParser::signed(i64::from(low), i64::from(high));
-    bare_option(alloc, name, parser, line)
-}
-
-// `--pens LIST`
-fn pens_of<'a>(alloc: Global) -> Arg<'a>
-    ensures rule { rule_of result ≡ option_rule (codes "pens") ValueParser.String (codes "all") }
-    ensures local { result.global ≡ false }
-{
-    option_of(alloc, "pens", ValueParser::string(), "all", PENS)
-}
-
-// `--colours LIST`, or `--colors LIST`
-fn colours_of<'a>(alloc: Global) -> Result<Arg<'a>, AllocError>
-    ensures rule { IfOk result (λ arg. rule_of arg ≡ colours_rule) }
-    ensures local { IfOk result (λ arg. arg.global ≡ false) }
-{
-    bare_option(alloc, "colours", ValueParser::string(), COLOURS).alias("colors")
-}
-
-// `--widths LIST`
-fn widths_of<'a>(alloc: Global) -> Arg<'a>
-    ensures rule { rule_of result ≡ bare_rule (codes "widths") ValueParser.String }
-    ensures local { result.global ≡ false }
-{
-    bare_option(alloc, "widths", ValueParser::string(), WIDTHS)
-}
-
-// `--sheet SHEET`, without a default, so that it is known whether it is given.
-fn sheet_of<'a>(alloc: Global) -> Arg<'a>
-    ensures rule { rule_of result ≡ bare_rule (codes "sheet") ValueParser.String }
-    ensures local { result.global ≡ false }
-{
-    bare_option(alloc, "sheet", ValueParser::string(), SHEET)
-}
-
-// `--characters NAME`, without a default, so that it is known whether it is given.
-fn characters_of<'a>(alloc: Global) -> Arg<'a>
-    ensures rule { rule_of result ≡ bare_rule (codes "characters") ValueParser.String }
-    ensures local { result.global ≡ false }
-{
-    bare_option(alloc, "characters", ValueParser::string(), CHARACTERS)
-}
-
-// `--profile core|full`
-fn profile_of<'a>(alloc: Global, given: &'a str) -> Arg<'a>
-    ensures rule { rule_of result ≡ option_rule (codes "profile") ValueParser.String given.entry.now }
-    ensures local { result.global ≡ false }
-{
-    option_of(alloc, "profile", ValueParser::string(), given, PROFILE)
-}
-
-// `--page NAME`, without a default, so that it is known whether it is given.
-fn page_of<'a>(alloc: Global, line: HelpLine<'a>) -> Arg<'a>
-    ensures rule { rule_of result ≡ bare_rule (codes "page") ValueParser.String }
-    ensures local { result.global ≡ false }
-{
-    bare_option(alloc, "page", ValueParser::string(), line)
-}
-
-// `--output PATH` or `-o PATH`
-fn output_of<'a>(alloc: Global) -> Arg<'a>
-    ensures rule { rule_of result ≡ output_rule }
-    ensures local { result.global ≡ false }
-{
-    bare_option(alloc, "output", ValueParser::string(), OUTPUT).short('o')
-}
-
-// `--form NAME`
-fn form_of<'a>(alloc: Global) -> Arg<'a>
-    ensures rule { rule_of result ≡ bare_rule (codes "form") ValueParser.String }
-    ensures local { result.global ≡ false }
-{
-    bare_option(alloc, "form", ValueParser::string(), FORM)
+        .value_name(value_name)
 }
 
 // `--name`, at most once.
-fn flag_of<'a>(alloc: Global, name: &'a str, help: &'a str) -> Arg<'a>
+fn flag_of<'a>(alloc: Global, name: &'a str) -> Arg<'a>
     ensures rule { rule_of result ≡ flag_rule name.entry.now }
     ensures local { result.global ≡ false }
 {
-    Arg::new(alloc, name)
-        .long(name)
-        .action(ArgAction::SetTrue)
-        .help(help)
+    Arg::new(alloc, name).long(name).action(ArgAction::SetTrue)
+}
+
+// An option that takes this value, without a default and by one name.
+fn plain_option<'a>(alloc: Global, name: &'a str, value: Value, value_name: &'a str) -> Arg<'a>
+    ensures rule { rule_of result ≡ value_rule name.entry.now value }
+    ensures local { result.global ≡ false }
+{
+    match value {
+        Value::Word => bare_option(alloc, name, ValueParser::string(), value_name),
+        Value::Number(low, high) => {
+            let parser = ValueParser::signed(i64::from(low), i64::from(high));
+            bare_option(alloc, name, parser, value_name)
+        }
+        Value::Flag => flag_of(alloc, name),
+    }
+}
+
+// The argument with this default, if there is one.
+fn with_default<'a>(arg: Arg<'a>, default: Option<&'a str>) -> Arg<'a>
+    requires { (rule_of arg).defaults ≡ [] }
+    ensures rule { rule_of result ≡ record (rule_of arg.entry) { defaults = option_to_list (option_map (λ text. text.now) default.entry) } }
+    ensures local { result.global ≡ arg.entry.global }
+{
+    match default {
+        Some(text) => arg.default_value(text),
+        None => arg,
+    }
+}
+
+// The argument with this short name, if there is one.
+fn with_short<'a>(arg: Arg<'a>, short: Option<char>) -> Arg<'a>
+    requires { (rule_of arg).short ≡ None }
+    ensures rule { rule_of result ≡ record (rule_of arg.entry) { short = short } }
+    ensures local { result.global ≡ arg.entry.global }
+{
+    match short {
+        Some(letter) => arg.short(letter),
+        None => arg,
+    }
+}
+
+// The argument with these long names too.
+fn with_aliases<'a>(arg: Arg<'a>, aliases: &[&'a str]) -> Result<Arg<'a>, AllocError>
+    ensures rule { IfOk result (λ it. rule_of it
+        ≡ record (rule_of arg.entry) { aliases = (rule_of arg.entry).aliases ++ map (λ name. name.now) aliases.now }) }
+    ensures local { IfOk result (λ it. it.global ≡ arg.entry.global) }
+{
+    arg.aliases(aliases)
+}
+
+// An option of a subcommand.
+fn option_of<'a>(alloc: Global, kind: Kind, row: &OptionRow<'a>) -> Result<Arg<'a>, AllocError>
+    ensures rule { IfOk result (λ arg. rule_of arg ≡ option_rule kind (row_of row.now)) }
+    ensures local { IfOk result (λ arg. arg.global ≡ false) }
+{
+    let arg = plain_option(alloc, row.name, row.value, row.value_name);
+    let arg = with_default(arg, default_of(kind, row.defaults));
+    let arg = with_short(arg, row.short).help(help_of(kind, row.help));
+    with_aliases(arg, row.aliases)
 }
 
 // `FILE`, any number of times.
@@ -206,199 +126,37 @@ fn add<'a>(command: Command<'a>, arg: Arg<'a>) -> Result<Command<'a>, AllocError
     command.arg(arg)
 }
 
-fn add_page<'a>(alloc: Global, command: Command<'a>, kind: Kind) -> Result<Command<'a>, AllocError>
-    requires { (fields_of command).has_globals ≡ false }
-    ensures { IfOk result (IsOf (with_page (app_of command.entry))) }
-{
-    let width = bare_number_of(alloc, "width", 64, 65536, WIDTH);
-    let height = bare_number_of(alloc, "height", 64, 65536, HEIGHT);
-    let page = page_of(alloc, page_line(kind));
-    let left = number_of(alloc, "left", 0, 65536, "0", LEFT);
-    let below = number_of(alloc, "below", 0, 65536, "0", BELOW);
-    let command = add(command, width)?;
-    let command = add(command, height)?;
-    let command = add(command, page)?;
-    let command = add(command, left)?;
-    add(command, below)
-}
-
-fn add_fit<'a>(alloc: Global, command: Command<'a>, kind: Kind) -> Result<Command<'a>, AllocError>
-    requires { (fields_of command).has_globals ≡ false }
-    ensures { IfOk result (IsOf (with_fit (app_of command.entry))) }
-{
-    let fit = flag_of(alloc, "fit", FIT);
-    let margin = bare_number_of(alloc, "margin", 0, 100, margin_line(kind));
-    add(add(command, fit)?, margin)
-}
-
-fn add_reading<'a>(
+// Adds an option, if the subcommand has it.
+fn add_option<'a>(
     alloc: Global,
     command: Command<'a>,
     kind: Kind,
+    row: &OptionRow<'a>,
 ) -> Result<Command<'a>, AllocError>
     requires { (fields_of command).has_globals ≡ false }
-    ensures { IfOk result (IsOf (with_reading (defaults_of kind) (app_of command.entry))) }
+    ensures { IfOk result (IsOf (add_option kind (app_of command.entry) (row_of row.now))) }
 {
-    let given: &'a str = defaults_of(kind).profile;
-    let profile = profile_of(alloc, given);
-    let command = add(command, profile)?;
-    let command = add(command, sheet_of(alloc))?;
-    add(command, characters_of(alloc))
+    if row.group.has(kind) {
+        return add(command, option_of(alloc, kind, row)?);
+    }
+    Ok(command)
 }
 
-fn add_carousel<'a>(alloc: Global, command: Command<'a>) -> Result<Command<'a>, AllocError>
-    requires { (fields_of command).has_globals ≡ false }
-    ensures { IfOk result (IsOf (with_carousel (app_of command.entry))) }
-{
-    let colours = colours_of(alloc)?;
-    add(add(command, colours)?, widths_of(alloc))
-}
-
-fn add_plot<'a>(alloc: Global, command: Command<'a>, kind: Kind) -> Result<Command<'a>, AllocError>
-    requires { (fields_of command).has_globals ≡ false }
-    ensures { IfOk result (IsOf (with_plot (defaults_of kind) (app_of command.entry))) }
-{
-    let command = add_fit(alloc, add_page(alloc, command, kind)?, kind)?;
-    let command = add_reading(alloc, command, kind)?;
-    let command = add(command, output_of(alloc))?;
-    let command = add(command, flag_of(alloc, "verbose", VERBOSE))?;
-    add_carousel(alloc, command)
-}
-
-fn add_pens<'a>(alloc: Global, command: Command<'a>) -> Result<Command<'a>, AllocError>
-    requires { (fields_of command).has_globals ≡ false }
-    ensures { IfOk result (IsOf (with_pens (app_of command.entry))) }
-{
-    add(command, pens_of(alloc))
-}
-
-fn add_picture<'a>(
+// Adds those of these options that the subcommand has.
+fn add_options<'a>(
     alloc: Global,
-    command: Command<'a>,
+    mut command: Command<'a>,
     kind: Kind,
+    rows: &[OptionRow<'a>],
 ) -> Result<Command<'a>, AllocError>
     requires { (fields_of command).has_globals ≡ false }
-    ensures { IfOk result (IsOf (with_picture (app_of command.entry))) }
+    ensures { IfOk result (IsOf
+        (fold (λ app row. add_option kind app (row_of row)) (app_of command.entry) rows.now)) }
 {
-    let dots = bare_number_of(alloc, "dots", 10, 1200, dots_line(kind));
-    let help: &'a str = progress_help(kind);
-    let progress = flag_of(alloc, "progress", help);
-    let command = add(command, dots)?;
-    let command = add_pens(alloc, command)?;
-    add(command, progress)
-}
-
-fn add_size<'a>(alloc: Global, command: Command<'a>) -> Result<Command<'a>, AllocError>
-    requires { (fields_of command).has_globals ≡ false }
-    ensures { IfOk result (IsOf (with_size (app_of command.entry))) }
-{
-    add(command, bare_number_of(alloc, "size", 16, 20000, SIZE))
-}
-
-fn add_smoothing<'a>(
-    alloc: Global,
-    command: Command<'a>,
-    kind: Kind,
-) -> Result<Command<'a>, AllocError>
-    requires { (fields_of command).has_globals ≡ false }
-    ensures { IfOk result (IsOf (with_smoothing (app_of command.entry))) }
-{
-    add(
-        command,
-        bare_number_of(alloc, "smooth", 1, 8, smooth_line(kind)),
-    )
-}
-
-fn add_form<'a>(alloc: Global, command: Command<'a>) -> Result<Command<'a>, AllocError>
-    requires { (fields_of command).has_globals ≡ false }
-    ensures { IfOk result (IsOf (with_form (app_of command.entry))) }
-{
-    let quiet = flag_of(alloc, "quiet", QUIET);
-    add(add(command, form_of(alloc))?, quiet)
-}
-
-fn add_rows<'a>(alloc: Global, command: Command<'a>) -> Result<Command<'a>, AllocError>
-    requires { (fields_of command).has_globals ≡ false }
-    ensures { IfOk result (IsOf (with_rows (app_of command.entry))) }
-{
-    let band = number_of(alloc, "band", 1, 4096, "64", BAND);
-    let from = number_of(alloc, "from", 0, 99999, "0", FROM);
-    add(add(command, band)?, from)
-}
-
-fn draw_command<'a>(
-    alloc: Global,
-    name: &'a str,
-    page: HelpPage<'a>,
-) -> Result<Command<'a>, AllocError>
-    ensures { IfOk result (IsOf (draw_app name.entry.now)) }
-{
-    let command = add_plot(alloc, bare(alloc, name, page), DRAW)?;
-    let command = add_picture(alloc, command, DRAW)?;
-    let command = add_size(alloc, command)?;
-    let command = add_smoothing(alloc, command, DRAW)?;
-    let command = add_form(alloc, command)?;
-    add(command, file_of(alloc))
-}
-
-fn picture_command<'a>(
-    alloc: Global,
-    name: &'a str,
-    page: HelpPage<'a>,
-    form: Form,
-) -> Result<Command<'a>, AllocError>
-    ensures { IfOk result (IsOf (picture_app form name.entry.now)) }
-{
-    let kind = Kind::Write(Output::Picture(form));
-    let command = add_plot(alloc, bare(alloc, name, page), kind)?;
-    let command = add_picture(alloc, command, kind)?;
-    let command = if is_smoothed(form) {
-        add_smoothing(alloc, command, kind)?
-    } else {
-        command
-    };
-    let command = add_rows(alloc, command)?;
-    add(command, file_of(alloc))
-}
-
-fn png_command<'a>(
-    alloc: Global,
-    name: &'a str,
-    page: HelpPage<'a>,
-) -> Result<Command<'a>, AllocError>
-    ensures { IfOk result (IsOf (png_app name.entry.now)) }
-{
-    let kind = Kind::Write(Output::Png);
-    let command = add_plot(alloc, bare(alloc, name, page), kind)?;
-    let command = add_picture(alloc, command, kind)?;
-    let command = add_smoothing(alloc, command, kind)?;
-    add(command, file_of(alloc))
-}
-
-fn vector_command<'a>(
-    alloc: Global,
-    name: &'a str,
-    page: HelpPage<'a>,
-    format: VectorFormat,
-) -> Result<Command<'a>, AllocError>
-    ensures { IfOk result (IsOf (vector_app name.entry.now)) }
-{
-    let kind = Kind::Write(Output::Vector(format));
-    let command = add_plot(alloc, bare(alloc, name, page), kind)?;
-    let command = add_pens(alloc, command)?;
-    add(command, file_of(alloc))
-}
-
-fn report_command<'a>(
-    alloc: Global,
-    name: &'a str,
-    page: HelpPage<'a>,
-) -> Result<Command<'a>, AllocError>
-    ensures { IfOk result (IsOf (report_app name.entry.now)) }
-{
-    let kind = Kind::Write(Output::Report);
-    let command = add_plot(alloc, bare(alloc, name, page), kind)?;
-    add(command, file_of(alloc))
+    for row in rows {
+        command = add_option(alloc, command, kind, row)?;
+    }
+    Ok(command)
 }
 
 fn command_of<'a>(
@@ -409,13 +167,8 @@ fn command_of<'a>(
 ) -> Result<Command<'a>, AllocError>
     ensures { IfOk result (IsOf (subcommand_app (name.entry.now, kind))) }
 {
-    match kind {
-        Kind::Draw(_) => draw_command(alloc, name, page),
-        Kind::Write(Output::Picture(form)) => picture_command(alloc, name, page, form),
-        Kind::Write(Output::Png) => png_command(alloc, name, page),
-        Kind::Write(Output::Vector(format)) => vector_command(alloc, name, page, format),
-        Kind::Write(Output::Report) => report_command(alloc, name, page),
-    }
+    let command = add_options(alloc, bare(alloc, name, page), kind, options())?;
+    add(command, file_of(alloc))
 }
 
 fn top_command<'a>(alloc: Global) -> Command<'a>

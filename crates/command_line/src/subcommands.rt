@@ -1,13 +1,8 @@
 //! The subcommands: their names, what they write, and what help says of them.
 ghost use Rattle.std.specs.Prelude.{◌≡◌, map};
 ghost use Rattle.command_line.specs.Lines.{kind_in, kind_into, kind_named};
-ghost use Rattle.command_line.specs.Options.{is_smoothed};
 
 use crate::destination::Destination;
-use crate::help::{
-    DOTS, DRAW_DOTS, DRAW_MARGIN, DRAW_PAGE, DRAW_PROGRESS, DRAW_SMOOTH, HelpLine, MARGIN, PAGE,
-    PCL_DOTS, PROGRESS, SMOOTH,
-};
 use picture_job::VectorFormat;
 use picture_out::Form;
 
@@ -131,55 +126,4 @@ fn kind_in(rows: &[(&str, Kind, &str, &str)], name: &str) -> Option<Kind>
         }
     }
     None
-}
-
-/// Whether a form may be smoothed.
-pub(crate) fn is_smoothed(form: Form) -> bool
-    ensures { result ≡ is_smoothed (Output.Picture form) }
-{
-    match form {
-        Form::Ppm => true,
-        Form::Marks | Form::Pbm | Form::Pcl => false,
-    }
-}
-
-/// What help says of the resolution of a subcommand.
-pub(crate) fn dots_line(kind: Kind) -> HelpLine<'static> {
-    match kind {
-        Kind::Draw(_) => DRAW_DOTS,
-        Kind::Write(Output::Picture(Form::Pcl)) => PCL_DOTS,
-        Kind::Write(_) => DOTS,
-    }
-}
-
-/// What help says of the name of its page.
-pub(crate) fn page_line(kind: Kind) -> HelpLine<'static> {
-    match kind {
-        Kind::Draw(_) => DRAW_PAGE,
-        Kind::Write(_) => PAGE,
-    }
-}
-
-/// What help says of its margin.
-pub(crate) fn margin_line(kind: Kind) -> HelpLine<'static> {
-    match kind {
-        Kind::Draw(_) => DRAW_MARGIN,
-        Kind::Write(_) => MARGIN,
-    }
-}
-
-/// What help says of its smoothing.
-pub(crate) fn smooth_line(kind: Kind) -> HelpLine<'static> {
-    match kind {
-        Kind::Draw(_) => DRAW_SMOOTH,
-        Kind::Write(_) => SMOOTH,
-    }
-}
-
-/// What help says of its progress.
-pub(crate) fn progress_help(kind: Kind) -> &'static str {
-    match kind {
-        Kind::Draw(_) => DRAW_PROGRESS,
-        Kind::Write(_) => PROGRESS,
-    }
 }

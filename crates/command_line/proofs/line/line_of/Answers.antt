@@ -1,4 +1,4 @@
-use Rattle.std.proofs.Common.{◌≡◌, ◌∙◌, ap, sym, ◌↔◌, Bool, true, List, [], ◌∷◌, Result, Err, Option, Some, None, Ok}
+use Rattle.std.proofs.Common.{◌≡◌, ◌∙◌, ap, sym, codes, ◌↔◌, Bool, true, List, [], ◌∷◌, Result, Err, Option, Some, None, Ok}
 use Rattle.std.specs.Option.{option_or}
 use Rattle.std.specs.Prelude.{option_map}
 use Rattle.std.specs.Result.{IsErrAnd, result_err}
@@ -137,7 +137,7 @@ returns-in_err-task-clause-pens c =
 pub returns-in_err-task-clause-refused : goal.returns-in_err-task-clause-refused
 returns-in_err-task-clause-refused c = λ has.
     passed_on _ _ c.from_residual-in_err-task.ensures.1
-    ∙ sym (bad_2 c.args.kind (rows_of (found_of c.args.options.now)) (c.in_ok-output.ensures.refused has.pens) c.in_ok-carousel.ensures.refused _ (c.in_err-task.ensures.refused has.task))
+    ∙ sym (bad_2 c.args.kind (rows_of (found_of c.args.options.now)) (c.in_ok-output.ensures.refused has.pens) c.in_ok-carousel.ensures.refused _ (c.in_err-task.ensures.refused has.numbers))
 
 pub returns-in_err-reading-clause-pens : goal.returns-in_err-reading-clause-pens
 returns-in_err-reading-clause-pens c =
@@ -147,7 +147,7 @@ returns-in_err-reading-clause-pens c =
 pub returns-in_err-reading-clause-refused : goal.returns-in_err-reading-clause-refused
 returns-in_err-reading-clause-refused c = λ has.
     passed_on _ _ c.from_residual-in_err-reading.ensures.1
-    ∙ sym (bad_3 c.args.kind (rows_of (found_of c.args.options.now)) (c.in_ok-output.ensures.refused has.pens) c.in_ok-carousel.ensures.refused (c.in_ok-task.ensures.refused has.task) _ (c.in_err-reading.ensures.refused has.profile))
+    ∙ sym (bad_3 c.args.kind (rows_of (found_of c.args.options.now)) (c.in_ok-output.ensures.refused has.pens) c.in_ok-carousel.ensures.refused (c.in_ok-task.ensures.refused has.numbers) _ (c.in_err-reading.ensures.refused has.profile))
 
 pub returns-in_err-each_sheet-clause-pens : goal.returns-in_err-each_sheet-clause-pens
 returns-in_err-each_sheet-clause-pens c =
@@ -157,7 +157,7 @@ returns-in_err-each_sheet-clause-pens c =
 pub returns-in_err-each_sheet-clause-refused : goal.returns-in_err-each_sheet-clause-refused
 returns-in_err-each_sheet-clause-refused c = λ has.
     passed_on _ _ c.from_residual-in_err-each_sheet.ensures.1
-    ∙ sym (bad_4 c.args.kind (rows_of (found_of c.args.options.now)) (c.in_ok-output.ensures.refused has.pens) c.in_ok-carousel.ensures.refused (c.in_ok-task.ensures.refused has.task) (c.in_ok-reading.ensures.refused has.profile) _ c.in_err-each_sheet.ensures.refused)
+    ∙ sym (bad_4 c.args.kind (rows_of (found_of c.args.options.now)) (c.in_ok-output.ensures.refused has.pens) c.in_ok-carousel.ensures.refused (c.in_ok-task.ensures.refused has.numbers) (c.in_ok-reading.ensures.refused has.profile) _ c.in_err-each_sheet.ensures.refused)
 
 pub returns-in_err-pixels-clause-pens : goal.returns-in_err-pixels-clause-pens
 returns-in_err-pixels-clause-pens c =
@@ -167,7 +167,7 @@ returns-in_err-pixels-clause-pens c =
 pub returns-in_err-pixels-clause-refused : goal.returns-in_err-pixels-clause-refused
 returns-in_err-pixels-clause-refused c = λ has.
     passed_on _ _ c.from_residual-in_err-pixels.ensures.1
-    ∙ sym (bad_5 c.args.kind (rows_of (found_of c.args.options.now)) (c.in_ok-output.ensures.refused has.pens) c.in_ok-carousel.ensures.refused (c.in_ok-task.ensures.refused has.task) (c.in_ok-reading.ensures.refused has.profile) c.in_ok-each_sheet.ensures.refused _ (c.in_err-pixels.ensures.refused has.pixels))
+    ∙ sym (bad_5 c.args.kind (rows_of (found_of c.args.options.now)) (c.in_ok-output.ensures.refused has.pens) c.in_ok-carousel.ensures.refused (c.in_ok-task.ensures.refused has.numbers) (c.in_ok-reading.ensures.refused has.profile) c.in_ok-each_sheet.ensures.refused _ (c.in_err-pixels.ensures.refused (has.numbers.within (codes "size"))))
 
 pub returns-in_err-choice-clause-pens : goal.returns-in_err-choice-clause-pens
 returns-in_err-choice-clause-pens c =
@@ -177,7 +177,7 @@ returns-in_err-choice-clause-pens c =
 pub returns-in_err-choice-clause-refused : goal.returns-in_err-choice-clause-refused
 returns-in_err-choice-clause-refused c = λ has.
     passed_on _ _ c.from_residual-in_err-choice.ensures.1
-    ∙ sym (bad_6 c.args.kind (rows_of (found_of c.args.options.now)) (c.in_ok-output.ensures.refused has.pens) c.in_ok-carousel.ensures.refused (c.in_ok-task.ensures.refused has.task) (c.in_ok-reading.ensures.refused has.profile) c.in_ok-each_sheet.ensures.refused (c.in_ok-pixels.ensures.refused has.pixels) _ (c.in_err-choice.ensures.refused has.margin))
+    ∙ sym (bad_6 c.args.kind (rows_of (found_of c.args.options.now)) (c.in_ok-output.ensures.refused has.pens) c.in_ok-carousel.ensures.refused (c.in_ok-task.ensures.refused has.numbers) (c.in_ok-reading.ensures.refused has.profile) c.in_ok-each_sheet.ensures.refused (c.in_ok-pixels.ensures.refused (has.numbers.within (codes "size"))) _ (c.in_err-choice.ensures.refused (has.numbers.within (codes "margin"))))
 
 pub returns-in_err-place-clause-pens : goal.returns-in_err-place-clause-pens
 returns-in_err-place-clause-pens c =
@@ -187,11 +187,11 @@ returns-in_err-place-clause-pens c =
 pub returns-in_err-place-clause-refused : goal.returns-in_err-place-clause-refused
 returns-in_err-place-clause-refused c = λ has.
     passed_on _ _ c.from_residual-in_err-place.ensures.1
-    ∙ sym (bad_7 c.args.kind (rows_of (found_of c.args.options.now)) (c.in_ok-output.ensures.refused has.pens) c.in_ok-carousel.ensures.refused (c.in_ok-task.ensures.refused has.task) (c.in_ok-reading.ensures.refused has.profile) c.in_ok-each_sheet.ensures.refused (c.in_ok-pixels.ensures.refused has.pixels) (c.in_ok-choice.ensures.refused has.margin) _ c.in_err-place.ensures.refused)
+    ∙ sym (bad_7 c.args.kind (rows_of (found_of c.args.options.now)) (c.in_ok-output.ensures.refused has.pens) c.in_ok-carousel.ensures.refused (c.in_ok-task.ensures.refused has.numbers) (c.in_ok-reading.ensures.refused has.profile) c.in_ok-each_sheet.ensures.refused (c.in_ok-pixels.ensures.refused (has.numbers.within (codes "size"))) (c.in_ok-choice.ensures.refused (has.numbers.within (codes "margin"))) _ c.in_err-place.ensures.refused)
 
 pub returns-clause-pens : goal.returns-clause-pens
 returns-clause-pens c = (λ h. absurd (cc), λ bad. absurd (no_bad_list _ _ c.in_ok-output.ensures.pens bad))
 
 pub returns-clause-refused : goal.returns-clause-refused
 returns-clause-refused c = λ has.
-    sym (good_7 c.args.kind (rows_of (found_of c.args.options.now)) (c.in_ok-output.ensures.refused has.pens) c.in_ok-carousel.ensures.refused (c.in_ok-task.ensures.refused has.task) (c.in_ok-reading.ensures.refused has.profile) c.in_ok-each_sheet.ensures.refused (c.in_ok-pixels.ensures.refused has.pixels) (c.in_ok-choice.ensures.refused has.margin) c.in_ok-place.ensures.refused)
+    sym (good_7 c.args.kind (rows_of (found_of c.args.options.now)) (c.in_ok-output.ensures.refused has.pens) c.in_ok-carousel.ensures.refused (c.in_ok-task.ensures.refused has.numbers) (c.in_ok-reading.ensures.refused has.profile) c.in_ok-each_sheet.ensures.refused (c.in_ok-pixels.ensures.refused (has.numbers.within (codes "size"))) (c.in_ok-choice.ensures.refused (has.numbers.within (codes "margin"))) c.in_ok-place.ensures.refused)

@@ -1,4 +1,4 @@
-use Rattle.std.proofs.Common.{◌≡◌, ◌∙◌, ap, sym, Bool, true, false, Option, Some, None, Result, Ok, Err, if◌then◌else◌}
+use Rattle.std.proofs.Common.{◌≡◌, ◌∙◌, ap, sym, codes, Bool, true, false, Option, Some, None, Result, Ok, Err, if◌then◌else◌}
 use Rattle.std.specs.Result.{IsErrAnd, result_err}
 use Rattle.command_line.specs.declared.fault.LineFault.{LineFault}
 use Rattle.command_line.proofs.line.png_job_of.Goals as goal
@@ -14,8 +14,8 @@ passed_on (Ok x) e is = absurd is
 passed_on (Err f) e is = ap Some is
 
 pub returns-in_err-dots-clause-refused : goal.returns-in_err-dots-clause-refused
-returns-in_err-dots-clause-refused c = λ has. let good = c.in_err-dots.ensures.understood has.dots in absurd (cc)
+returns-in_err-dots-clause-refused c = λ has. let good = c.in_err-dots.ensures.understood (has.within (codes "dots")) in absurd (cc)
 
 pub returns-in_err-smoothing-clause-refused : goal.returns-in_err-smoothing-clause-refused
 returns-in_err-smoothing-clause-refused c = λ has.
-    passed_on _ _ c.from_residual-in_err-smoothing.ensures.1 ∙ sym (first_fault _ _ _ _ (c.in_err-smoothing.ensures.refused has.smoothing))
+    passed_on _ _ c.from_residual-in_err-smoothing.ensures.1 ∙ sym (first_fault _ _ _ _ (c.in_err-smoothing.ensures.refused (has.within (codes "smooth"))))

@@ -1,7 +1,8 @@
-use Rattle.std.proofs.Common.{◌≡◌, ◌≢◌, ◌∙◌, ◌||◌, ℕ, Bool, List, Option, Some, None, Result, Err, IfOk, true, false, is_some, refl, sym, subst, codes}
+use Rattle.std.proofs.Common.{◌≡◌, ◌≢◌, ◌∙◌, ◌||◌, ◌≤◌, ℕ, Bool, List, Option, Some, None, Result, Err, IfOk, true, false, is_some, refl, sym, subst, codes, arith}
 use Rattle.std.specs.Prelude.{IfSome}
 use Rattle.std.specs.Option.{unwrap_or}
 use Rattle.std.specs.Result.{result_err}
+use Rattle.std.proofs.lemmas.Bool.Decides.{nat_tests}
 use Rattle.clap.specs.Words.{Row, Text, found_of, rows_of}
 use Rattle.clap.proofs.WalkLemmas.{first_value-rows}
 use Rattle.plot_page.specs.Pages.{has_page_size}
@@ -100,3 +101,23 @@ returns-in-Some-clause-refused c = λ has.
     let some = sym (c.in-Some.ensures ∙ first_value-rows F (codes "page")) in
     let with = with_paper (rows_of F) _ _ _ some c.in_ok-width.ensures.number c.in_ok-height.ensures.number in
     (subst (WithPaper (rows_of F)) (sym c.paper_size.ensures) with).fault
+
+pub returns-in_err-width-clause-refused : goal.returns-in_err-width-clause-refused
+returns-in_err-width-clause-refused c = λ has. absurd (c.in_err-width.ensures.understood 64 65536 (omega arith) (has.within (codes "width")))
+
+pub returns-in_err-height-clause-refused : goal.returns-in_err-height-clause-refused
+returns-in_err-height-clause-refused c = λ has. absurd (c.in_err-height.ensures.understood 64 65536 (omega arith) (has.within (codes "height")))
+
+-- the sides that are given, or those of A4, are those of a page
+sides : (width height : Option ℕ) → IfSome width (λ n. (64 ≤ n) × (n ≤ 65536)) → IfSome height (λ n. (64 ≤ n) × (n ≤ 65536))
+    → has_page_size (unwrap_or width 11880) (unwrap_or height 8400) ≡ true
+sides None None wide high = refl
+sides None (Some h) wide high = grind (arith, nat_tests)
+sides (Some w) None wide high = grind (arith, nat_tests)
+sides (Some w) (Some h) wide high = grind (arith, nat_tests)
+
+pub returns-in-None-clause-within : goal.returns-in-None-clause-within
+returns-in-None-clause-within c = λ has.
+    let wide = c.in_ok-width.ensures.understood 64 65536 (omega arith) (has.within (codes "width")) in
+    let high = c.in_ok-height.ensures.understood 64 65536 (omega arith) (has.within (codes "height")) in
+    rw (c.unwrap_or.ensures, c.unwrap_or-in-None.ensures) (sides _ _ wide high)
