@@ -1,14 +1,16 @@
-"""Compares what the program and its manual page say of commands and options.
+"""Compares what the program and its manual page say of commands and options with the table of the options.
 
 The program says it by `--help`, and the page man/plotraster.1 in its sections COMMANDS and OPTIONS. Each
-must name the same commands and, for each command, the same options, in the same order. They must give an
-option the same name of its value, the same range and the same default, and the program must take the ends
-of each range and nothing beyond them. tests/test_completions.py compares the completions with the help.
+must name the same commands and, for each command, the options of the table, in its order, and no others.
+They must give an option the name of its value, its range and its default of the table, and the program must
+take the ends of each range and nothing beyond them. tests/test_completions.py compares the completions with
+the help.
 """
 
 import os
 import re
 
+from option_table import OPTIONS, options_of
 from recipe_checks import units_of
 from reference.command_line import DOCUMENTS
 from reference.outputs import FORMS
@@ -17,10 +19,8 @@ from shared import TOP, assert_nothing, read, run
 PAGE = os.path.join(TOP, "man", "plotraster.1")
 SECONDS = 10
 # Options that take no value.
-FLAGS = ("--fit", "--verbose", "--progress", "--quiet")
-ONLY_OF_DRAW = ("--size", "--form", "--quiet")
-# Options with a value that have no default.
-WITHOUT_DEFAULT = ("--characters", "--output", "--colours", "--widths", "--size")
+FLAGS = tuple(it.name for it in OPTIONS if it.takes == "flag")
+ONLY_OF_DRAW = tuple(it.name for it in OPTIONS if it.commands == ("draw",))
 HELP = "--help"
 VERSION = "--version"
 EVERY_COMMAND = "All commands"
@@ -69,7 +69,6 @@ def options_in_help(program, command):
             continue
         says = re.fullmatch(r" +(?:-\w, )?--[a-z]+ <([A-Z]+)> +(.*?)(?: \[default: ([^]]*)\])?", line)
         assert says is not None, f"{command} {HELP}: no value: {line}"
-        assert (says[3] is None) == (name[1] in WITHOUT_DEFAULT), f"{command} {HELP}: no default: {line}"
         found[name[1]] = (says[1], range_in(says[2]), says[3])
     return found
 
@@ -223,6 +222,40 @@ def test_commands(program):
     assert_nothing(wrong_commands(program, commands))
 
 
+def lines_of_table(command):
+    """What help has for the options of a command: the names, the name of the value, and the text."""
+    for option in options_of(command):
+        short = f"-{option.short}, " if option.short else ""
+        value = f" <{option.value_name}>" if option.takes != "flag" else ""
+        yield f"{short}{option.name}{value}", option.says(command)
+
+
+def wrong_numbers(command):
+    """The ranges in the texts of the table that are not those that it has. The printers of pcl know only some numbers."""
+    for option in options_of(command):
+        values = range_in(option.says(command))
+        if " to " in option.takes and values != option.takes and (command, option.name) != ("pcl", "--dots"):
+            yield f"{command} {option.name} takes {option.takes}, and the text says {values}"
+
+
+def test_help_is_the_table(program):
+    """Help has the options of the table, in its order, with their names, values, texts and defaults, and no others."""
+    for command in commands_in_help(program):
+        lines = help_of(program, [command])
+        shown = [re.fullmatch(r" +((?:-\w, )?--[a-z]+(?: <[A-Z]+>)?) +(.*)", line) for line in lines]
+        shown = [it.groups() for it in shown if it and HELP not in it[1]]
+        wanted = list(lines_of_table(command))
+        assert [names for names, _ in shown] == [names for names, _ in wanted], command
+        assert_nothing(f"{command}: help has {one}, the table {other}" for one, other in zip(shown, wanted) if one != other)
+        assert_nothing(wrong_numbers(command))
+
+
+def test_other_spellings(program):
+    """The program takes the other spellings of the table, which help leaves out."""
+    for option in OPTIONS:
+        assert all(takes(program, option.commands[0], f"{it}=all=black") for it in option.aliases), option.name
+
+
 def test_options(program):
     commands = commands_in_help(program)
     for command in commands:
@@ -252,7 +285,8 @@ def test_page_begins_with_the_sentences_of_help(program):
     page = {(name, name_of(head)): text for name in ("COMMANDS", "OPTIONS")
             for _, head, text in entries(section(name))}
     sentences = list(sentences_of_help(program, commands))
-    assert len(sentences) == len(commands) + 20 + 14 + len(ONLY_OF_DRAW)
+    shown = len(options_of("ppm")) + len(options_of("report")) + len(ONLY_OF_DRAW)
+    assert len(sentences) == len(commands) + shown
     assert_nothing(f"{name}: the page has {page[part, name]!r}, the help {says!r}"
                    for part, name, says in sentences if not page[part, name].startswith(says + ". "))
 
