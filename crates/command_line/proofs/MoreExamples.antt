@@ -1,5 +1,5 @@
 -- What the command asks for of pens, sheets, characters and pixels, at some words.
-use Rattle.std.proofs.Common.{◌≡◌, ◌∷◌, [], List, Option, Some, None, ℕ, false, codes, refl}
+use Rattle.std.proofs.Common.{◌∷◌, [], Option, Some, None, ℕ, false, codes, refl}
 use Rattle.std.specs.Prelude.{option_and_then}
 use Rattle.clap.specs.Words.{Text, subcommand_of}
 use Rattle.clap.proofs.OnLiterals.{clap_on_literals}
@@ -16,162 +16,115 @@ use Rattle.command_line.specs.Characters.{encoding_named}
 use Rattle.command_line.specs.Lines.{colours_text, encoding_of, sheet_in}
 use Rattle.command_line.specs.Options.{plot_app}
 use Rattle.command_line.specs.Sheets.{sheet_named}
-use Rattle.command_line.proofs.OnWords.{after_name, choice_on, faults_on, value_fault_on}
+use Rattle.command_line.proofs.OnWords.{Table, words_of, choice_on, faults_on, value_fault_on}
 
-each_is_all_sheets : sheet_named (codes "each") ≡ Some 0
-each_is_all_sheets = refl
-
-sheet_with_signs : sheet_named (codes "+03") ≡ Some 3
-sheet_with_signs = refl
-
-sheet_below_0 : sheet_named (codes "-1") ≡ None
-sheet_below_0 = refl
-
-last_sheet : sheet_named (codes "4194304") ≡ Some 4194304
-last_sheet = refl
-
-past_the_last_sheet : sheet_named (codes "4194305") ≡ None
-past_the_last_sheet = refl
-
-no_capital_each : sheet_named (codes "Each") ≡ None
-no_capital_each = refl
+-- the sheet that a text asks for
+sheets_by_text : Table sheet_named (
+    (codes "each", Some 0)  -- each is all sheets
+    ∷ (codes "+03", Some 3)  -- sheet with signs
+    ∷ (codes "-1", None)  -- sheet below 0
+    ∷ (codes "4194304", Some 4194304)  -- last sheet
+    ∷ (codes "4194305", None)  -- past the last sheet
+    ∷ (codes "Each", None)  -- no capital each
+    ∷ []
+    )
+sheets_by_text = refl
 
 -- the sheet that is asked for on a command line
-abbrev sheet_on : List Text → Option ℕ
-sheet_on words = option_and_then (λ p. sheet_in p.1) (subcommand_of plot_app (after_name words))
+abbrev sheet_on : Text → Option ℕ
+sheet_on line = option_and_then (λ p. sheet_in p.1) (subcommand_of plot_app (words_of line))
 
-sheet_left_out : sheet_on (codes "ppm" ∷ codes "--profile" ∷ codes "full" ∷ []) ≡ Some 1
+-- the sheet that is asked for
+sheets : Table sheet_on (
+    (codes "ppm --profile full", Some 1)  -- sheet left out
+    ∷ (codes "ppm --sheet 2 --profile full", Some 2)  -- sheet given
+    ∷ (codes "report --sheet=0 --profile=full", Some 0)  -- all sheets
+    ∷ []
+    )
 unfolding clap_on_literals
-sheet_left_out = refl
+sheets = refl
 
-sheet_given : sheet_on (codes "ppm" ∷ codes "--sheet" ∷ codes "2" ∷ codes "--profile" ∷ codes "full" ∷ []) ≡ Some 2
+-- what is wrong with the values
+faults_of_values_1 : Table value_fault_on (
+    (codes "marks --sheet=4194305 --profile=none", Some (Plain fault.BadSheet))  -- sheet past the last
+    ∷ (codes "png --sheet=each", Some (Plain fault.Sheet))  -- each in core
+    ∷ (codes "report --sheet=each --profile=full", Some (Plain fault.NoPicture))  -- each report
+    ∷ (codes "pdf --sheet=each --profile=full", None)  -- each page
+    ∷ (codes "draw --form=pdf --dots=150 --page=none", Some (Plain fault.NoPixels))  -- dots of a document
+    ∷ (codes "draw --sheet=each", Some (Plain fault.NoFolder))  -- each without a folder
+    ∷ (codes "pbm --profile=full --sheet=each --output=out", None)  -- each in a folder
+    ∷ (codes "draw --characters=ascii", None)  -- good characters
+    ∷ (codes "pbm --characters=german --profile=none", Some (Plain fault.BadCharacters))  -- bad characters
+    ∷ (codes "pbm --characters=german --sheet=none", Some (Plain fault.BadSheet))  -- sheet before characters
+    ∷ (codes "png --characters=utf-8", Some (Plain fault.Characters))  -- characters in core
+    ∷ (codes "draw --characters=utf-8 --sheet=1 --profile=core", Some (Plain fault.Sheet))  -- sheet and characters in core
+    ∷ (codes "ppm --colours=1=red,2=bleu --widths=3=fat", Some (BadColours (codes "2=bleu")))  -- bad colour
+    ∷ []
+    )
 unfolding clap_on_literals
-sheet_given = refl
+faults_of_values_1 = refl
 
-all_sheets : sheet_on (codes "report" ∷ codes "--sheet=0" ∷ codes "--profile=full" ∷ []) ≡ Some 0
+faults_of_values_2 : Table value_fault_on (
+    (codes "report --widths=3=fat --page=none", Some (BadWidths (codes "3=fat")))  -- bad width
+    ∷ (codes "pcl --colours=x --pens=0", Some (Plain fault.Pens))  -- pens before colours
+    ∷ (codes "draw --size=800 --dots=150", Some (Plain fault.Pixels))  -- pixels and dots
+    ∷ (codes "draw --size=800 --form=pcl", Some (Plain fault.PrinterPixels))  -- pixels of a printer
+    ∷ (codes "draw --size=20000 --smooth=8", None)  -- pixels of any smoothing
+    ∷ []
+    )
 unfolding clap_on_literals
-all_sheets = refl
+faults_of_values_2 = refl
 
-sheet_past_the_last : value_fault_on (codes "marks" ∷ codes "--sheet=4194305" ∷ codes "--profile=none" ∷ []) ≡ Some (Plain fault.BadSheet)
-unfolding clap_on_literals
-sheet_past_the_last = refl
-
-each_in_core : value_fault_on (codes "png" ∷ codes "--sheet=each" ∷ []) ≡ Some (Plain fault.Sheet)
-unfolding clap_on_literals
-each_in_core = refl
-
-each_report : value_fault_on (codes "report" ∷ codes "--sheet=each" ∷ codes "--profile=full" ∷ []) ≡ Some (Plain fault.NoPicture)
-unfolding clap_on_literals
-each_report = refl
-
-each_page : value_fault_on (codes "pdf" ∷ codes "--sheet=each" ∷ codes "--profile=full" ∷ []) ≡ None
-unfolding clap_on_literals
-each_page = refl
-
-dots_of_a_document : value_fault_on (codes "draw" ∷ codes "--form=pdf" ∷ codes "--dots=150" ∷ codes "--page=none" ∷ []) ≡ Some (Plain fault.NoPixels)
-unfolding clap_on_literals
-dots_of_a_document = refl
-
-each_without_a_folder : value_fault_on (codes "draw" ∷ codes "--sheet=each" ∷ []) ≡ Some (Plain fault.NoFolder)
-unfolding clap_on_literals
-each_without_a_folder = refl
-
-each_in_a_folder : value_fault_on (codes "pbm" ∷ codes "--profile=full" ∷ codes "--sheet=each" ∷ codes "--output=out" ∷ []) ≡ None
-unfolding clap_on_literals
-each_in_a_folder = refl
-
-latin_1_is_a_set : encoding_named (codes "latin-1") ≡ Some (Always Latin1)
-latin_1_is_a_set = refl
-
-utf_8_is_no_set : encoding_named (codes "utf-8") ≡ Some Utf8
-utf_8_is_no_set = refl
-
-no_capital_ascii : encoding_named (codes "ASCII") ≡ None
-no_capital_ascii = refl
-
-no_such_characters : encoding_named (codes "latin-2") ≡ None
-no_such_characters = refl
+-- the characters of a name
+encodings_by_name : Table encoding_named (
+    (codes "latin-1", Some (Always Latin1))  -- latin 1 is a set
+    ∷ (codes "utf-8", Some Utf8)  -- utf 8 is no set
+    ∷ (codes "ASCII", None)  -- no capital ascii
+    ∷ (codes "latin-2", None)  -- no such characters
+    ∷ []
+    )
+encodings_by_name = refl
 
 -- how a command line has the bytes of labels read
-abbrev encoding_on : List Text → Option Encoding
-encoding_on words = option_and_then (λ p. encoding_of p.1) (subcommand_of plot_app (after_name words))
+abbrev encoding_on : Text → Option Encoding
+encoding_on line = option_and_then (λ p. encoding_of p.1) (subcommand_of plot_app (words_of line))
 
-characters_left_out : encoding_on (codes "draw" ∷ []) ≡ Some ByPlot
+-- how the bytes of labels are read
+encodings : Table encoding_on (
+    (codes "draw", Some ByPlot)  -- characters left out
+    ∷ (codes "report --characters pc-8 --profile=full", Some (Always Pc8))  -- characters given
+    ∷ []
+    )
 unfolding clap_on_literals
-characters_left_out = refl
+encodings = refl
 
-characters_given : encoding_on (codes "report" ∷ codes "--characters" ∷ codes "pc-8" ∷ codes "--profile=full" ∷ []) ≡ Some (Always Pc8)
+-- the kinds of fault
+faults_of_words : Table faults_on (
+    (codes "pbm --characters=ascii --characters=ascii", kind.ArgumentConflict ∷ [])  -- characters twice
+    ∷ (codes "pbm --colours=1=red --colors=1=red", kind.ArgumentConflict ∷ [])  -- colours in both spellings
+    ∷ []
+    )
 unfolding clap_on_literals
-characters_given = refl
-
-good_characters : value_fault_on (codes "draw" ∷ codes "--characters=ascii" ∷ []) ≡ None
-unfolding clap_on_literals
-good_characters = refl
-
-bad_characters : value_fault_on (codes "pbm" ∷ codes "--characters=german" ∷ codes "--profile=none" ∷ []) ≡ Some (Plain fault.BadCharacters)
-unfolding clap_on_literals
-bad_characters = refl
-
-sheet_before_characters : value_fault_on (codes "pbm" ∷ codes "--characters=german" ∷ codes "--sheet=none" ∷ []) ≡ Some (Plain fault.BadSheet)
-unfolding clap_on_literals
-sheet_before_characters = refl
-
-characters_in_core : value_fault_on (codes "png" ∷ codes "--characters=utf-8" ∷ []) ≡ Some (Plain fault.Characters)
-unfolding clap_on_literals
-characters_in_core = refl
-
-sheet_and_characters_in_core : value_fault_on (codes "draw" ∷ codes "--characters=utf-8" ∷ codes "--sheet=1" ∷ codes "--profile=core" ∷ []) ≡ Some (Plain fault.Sheet)
-unfolding clap_on_literals
-sheet_and_characters_in_core = refl
-
-characters_twice : faults_on (codes "pbm" ∷ codes "--characters=ascii" ∷ codes "--characters=ascii" ∷ []) ≡ kind.ArgumentConflict ∷ []
-unfolding clap_on_literals
-characters_twice = refl
+faults_of_words = refl
 
 -- the colour that the options give a pen on a command line
-abbrev colour_on : List Text → ℕ → Option Colour
-colour_on words pen = option_and_then (λ p. option_and_then (λ list. given colour_written list pen) (colours_text p.1)) (subcommand_of plot_app (after_name words))
+abbrev colour_on : Text → ℕ → Option Colour
+colour_on line pen = option_and_then (λ p. option_and_then (λ list. given colour_written list pen) (colours_text p.1)) (subcommand_of plot_app (words_of line))
 
-orange_pen : colour_on (codes "report" ∷ codes "--colours" ∷ codes "all=black,2=#f80" ∷ []) 2 ≡ Some (record { red = 255; green = 136; blue = 0 })
+-- the colour that the options give a pen
+colours : Table (λ (it : Text × ℕ). colour_on it.0 it.1) (
+    ((codes "report --colours all=black,2=#f80", 2), Some (record { red = 255; green = 136; blue = 0 }))  -- orange pen
+    ∷ ((codes "draw --colors=2=red", 2), Some (record { red = 255; green = 0; blue = 0 }))  -- other spelling
+    ∷ ((codes "draw --widths=2=1", 2), None)  -- no colour said
+    ∷ []
+    )
 unfolding clap_on_literals
-orange_pen = refl
+colours = refl
 
-other_spelling : colour_on (codes "draw" ∷ codes "--colors=2=red" ∷ []) 2 ≡ Some (record { red = 255; green = 0; blue = 0 })
+-- the choice of the page
+choices : Table choice_on (
+    (codes "draw --size=800 --page=a4", Some (record { asked = false; margin = None; pixels = Some 800 }))  -- so many pixels
+    ∷ []
+    )
 unfolding clap_on_literals
-other_spelling = refl
-
-no_colour_said : colour_on (codes "draw" ∷ codes "--widths=2=1" ∷ []) 2 ≡ None
-unfolding clap_on_literals
-no_colour_said = refl
-
-colours_in_both_spellings : faults_on (codes "pbm" ∷ codes "--colours=1=red" ∷ codes "--colors=1=red" ∷ []) ≡ kind.ArgumentConflict ∷ []
-unfolding clap_on_literals
-colours_in_both_spellings = refl
-
-bad_colour : value_fault_on (codes "ppm" ∷ codes "--colours=1=red,2=bleu" ∷ codes "--widths=3=fat" ∷ []) ≡ Some (BadColours (codes "2=bleu"))
-unfolding clap_on_literals
-bad_colour = refl
-
-bad_width : value_fault_on (codes "report" ∷ codes "--widths=3=fat" ∷ codes "--page=none" ∷ []) ≡ Some (BadWidths (codes "3=fat"))
-unfolding clap_on_literals
-bad_width = refl
-
-pens_before_colours : value_fault_on (codes "pcl" ∷ codes "--colours=x" ∷ codes "--pens=0" ∷ []) ≡ Some (Plain fault.Pens)
-unfolding clap_on_literals
-pens_before_colours = refl
-
-so_many_pixels : choice_on (codes "draw" ∷ codes "--size=800" ∷ codes "--page=a4" ∷ []) ≡ Some (record { asked = false; margin = None; pixels = Some 800 })
-unfolding clap_on_literals
-so_many_pixels = refl
-
-pixels_and_dots : value_fault_on (codes "draw" ∷ codes "--size=800" ∷ codes "--dots=150" ∷ []) ≡ Some (Plain fault.Pixels)
-unfolding clap_on_literals
-pixels_and_dots = refl
-
-pixels_of_a_printer : value_fault_on (codes "draw" ∷ codes "--size=800" ∷ codes "--form=pcl" ∷ []) ≡ Some (Plain fault.PrinterPixels)
-unfolding clap_on_literals
-pixels_of_a_printer = refl
-
-pixels_of_any_smoothing : value_fault_on (codes "draw" ∷ codes "--size=20000" ∷ codes "--smooth=8" ∷ []) ≡ None
-unfolding clap_on_literals
-pixels_of_any_smoothing = refl
+choices = refl
