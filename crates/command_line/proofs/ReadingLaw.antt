@@ -20,7 +20,7 @@ use Rattle.clap_parses.specs.Parses.{HasGoodMatches, IsIn, RowOf, RowsOf, first,
 use Rattle.command_line.specs.declared.destination.Destination.{Destination}
 use Rattle.command_line.specs.declared.subcommands.Kind.{Kind}
 use Rattle.command_line.specs.declared.subcommands.Kind.TheVariants.{Draw, Write}
-use Rattle.command_line.specs.declared.table.Group.TheVariants as group
+use Rattle.command_line.specs.declared.groups.Group.TheVariants as group
 use Rattle.command_line.specs.declared.table.Value.{Value}
 use Rattle.command_line.specs.declared.table.Value.TheVariants.{Flag, Number, Word}
 use Rattle.command_line.specs.Lines.{kind_into, kind_named, number_in, written}

@@ -20,7 +20,7 @@ use Rattle.command_line.specs.Faults.{Refusal, BadColours, BadWidths, first_of_t
 use Rattle.command_line.specs.Forms.{extension_of, form_named}
 pub use Rattle.command_line.specs.Options.{is_picture, is_pcl}
 use Rattle.command_line.specs.Options.{is_smoothed, subcommands, plot_app}
-use Rattle.command_line.specs.Papers.{names_plot, size_named}
+use Rattle.command_line.specs.Papers.{a4, names_plot, size_named}
 use Rattle.command_line.specs.Sheets.{is_each, sheet_named}
 use Rattle.pen_list.specs.Assignments.{first_bad, given}
 use Rattle.pen_list.specs.Colours.{colour_written}
@@ -195,9 +195,9 @@ smooth_or is_smoothed rows usual = if is_smoothed then unwrap_or (number_in rows
 abbrev pub smooth_in : Kind → Bool → List Row → ℕ → ℕ
 smooth_in kind is_smoothed rows dots = smooth_or is_smoothed rows (usual_smooth kind (is_sized rows) dots)
 
--- the width and the height that are given, or 11880 and 8400, those of A4 in landscape
+-- the width and the height that are given, or those of A4 in landscape
 abbrev pub given_size : List Row → ℕ × ℕ
-given_size rows = (unwrap_or (number_in rows (codes "width")) 11880, unwrap_or (number_in rows (codes "height")) 8400)
+given_size rows = (unwrap_or (number_in rows (codes "width")) a4.0, unwrap_or (number_in rows (codes "height")) a4.1)
 
 -- the width and the height of the page: those of what `--page` names, if it names something
 abbrev pub page_size : List Row → Option (ℕ × ℕ)

@@ -15,8 +15,8 @@ use Rattle.command_line.specs.declared.destination.Destination.TheVariants.{File
 use Rattle.command_line.specs.declared.subcommands.Kind.TheVariants.{Draw, Write}
 use Rattle.command_line.specs.declared.subcommands.Output.{Output}
 use Rattle.command_line.specs.declared.subcommands.Output.TheVariants.{Picture, Png, Report, Vector}
-use Rattle.command_line.specs.declared.table.Group.{Group}
-use Rattle.command_line.specs.declared.table.Group.TheVariants as group
+use Rattle.command_line.specs.declared.groups.Group.{Group}
+use Rattle.command_line.specs.declared.groups.Group.TheVariants as group
 use Rattle.command_line.specs.declared.table.Value.{Value}
 use Rattle.command_line.specs.declared.table.Value.TheVariants.{Flag, Number, Word}
 

@@ -4,6 +4,10 @@ use Rattle.std.specs.Prelude.{ℕ, Bool, List, [], ◌∷◌, ◌++◌, map, Opt
 use Rattle.std.specs.Str.{bytes_eq}
 use Rattle.clap.specs.Words.{Text}
 
+-- the width and the height of A4 in landscape
+abbrev pub a4 : ℕ × ℕ
+a4 = (11880, 8400)
+
 -- the papers in landscape: the name of each, and its width and height
 abbrev pub papers : List (Text × (ℕ × ℕ))
 papers =
@@ -11,7 +15,7 @@ papers =
     ∷ (codes "a1", (33640, 23760))
     ∷ (codes "a2", (23760, 16800))
     ∷ (codes "a3", (16800, 11880))
-    ∷ (codes "a4", (11880, 8400))
+    ∷ (codes "a4", a4)
     ∷ (codes "a5", (8400, 5920))
     ∷ (codes "b4", (14120, 10000))
     ∷ (codes "letter", (11176, 8636))
@@ -48,4 +52,4 @@ names_plot name = bytes_eq name (codes "plot")
 
 -- the size of the page that is given by a name: that of the paper, or for the plot the default one
 abbrev pub size_named : Text → Option (ℕ × ℕ)
-size_named name = if names_plot name then Some (11880, 8400) else paper_of name
+size_named name = if names_plot name then Some a4 else paper_of name

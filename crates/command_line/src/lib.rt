@@ -7,6 +7,7 @@ mod defaults;
 mod destination;
 mod fault;
 mod forms;
+mod groups;
 mod help;
 mod line;
 mod options;

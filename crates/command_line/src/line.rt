@@ -20,10 +20,10 @@ use crate::defaults::defaults_of;
 use crate::destination::Destination;
 use crate::fault::LineFault;
 use crate::forms::{extension_of, form_named};
-use crate::papers::{names_plot, size_named};
+use crate::groups::{is_pcl, is_smoothed};
+use crate::papers::{A4, names_plot, size_named};
 use crate::sheets::{each_of, reading_of};
 use crate::subcommands::{Kind, Output, kind_of};
-use crate::table::{is_pcl, is_smoothed};
 use crate::values::{has_flag, is_given, number_if_given, number_of};
 use carousel::Carousel;
 use clap::ArgMatches;
@@ -388,7 +388,7 @@ fn size_of<'a>(options: &ArgMatches<'a>) -> Result<(u32, u32), LineFault<'a>>
     let width = number_if_given(options, "width")?;
     let height = number_if_given(options, "height")?;
     match options.get_str("page") {
-        None => Ok((width.unwrap_or(11880), height.unwrap_or(8400))),
+        None => Ok((width.unwrap_or(A4.0), height.unwrap_or(A4.1))),
         Some(name) => paper_size(name, width, height),
     }
 }

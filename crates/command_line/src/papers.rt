@@ -2,13 +2,16 @@
 ghost use Rattle.std.specs.Prelude.{◌≡◌, map};
 ghost use Rattle.command_line.specs.Papers.{landscape_of, names_plot, paper_of, size_in, size_named};
 
+/// The width and the height of A4 in landscape.
+pub(crate) const A4: (u32, u32) = (11880, 8400);
+
 // The name of each paper, and its width and height in landscape, in plotter units.
 const PAPERS: [(&str, (u32, u32)); 17] = [
     ("a0", (47560, 33640)),
     ("a1", (33640, 23760)),
     ("a2", (23760, 16800)),
     ("a3", (16800, 11880)),
-    ("a4", (11880, 8400)),
+    ("a4", A4),
     ("a5", (8400, 5920)),
     ("b4", (14120, 10000)),
     ("letter", (11176, 8636)),
@@ -22,9 +25,6 @@ const PAPERS: [(&str, (u32, u32)); 17] = [
     ("arch-d", (36576, 24384)),
     ("arch-e", (48768, 36576)),
 ];
-
-// The width and the height of A4 in landscape.
-const A4: (u32, u32) = (11880, 8400);
 
 /// Whether the plot is named, whose size is to be that which it asks for.
 pub(crate) fn names_plot(name: &str) -> bool
