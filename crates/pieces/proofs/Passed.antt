@@ -1,5 +1,5 @@
 -- A text that is handed on in parts.
-use Rattle.std.proofs.Common.{◌≡◌, ℕ, ◌+◌, ◌-◌, ◌<◌, ◌≤◌, List, [], ◌++◌, length, take, drop, Result, Ok, Err, refl, arith, sym, ◌∙◌, ap, subst, append_assoc, length-drop, length-append, append-nil, IfOk}
+use Rattle.std.proofs.Common.{◌≡◌, ℕ, ◌+◌, ◌-◌, ◌≤◌, List, [], ◌++◌, length, take, drop, Result, Ok, Err, refl, arith, sym, ◌∙◌, ap, subst, append_assoc, length-drop, length-append, append-nil, IfOk}
 use Rattle.std.proofs.lemmas.List.{take-append-drop, take-append-le, drop-append-le, length-take-le}
 use Rattle.std.specs.Io.KnownBytes.{Appends}
 use Rattle.devices.specs.declared.fault.WriteFault.{WriteFault}

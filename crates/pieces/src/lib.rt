@@ -2,5 +2,7 @@
 #![tactic(auto)]
 
 mod pieces;
+mod text;
 
 pub use pieces::{Waiting, make_room, put_piece};
+pub use text::Text;
