@@ -1,5 +1,5 @@
 pub mod Summaries
 pub mod Table
 pub mod PenLines
-pub mod NoteLines
+pub mod Lengths
 mod ReportExamples

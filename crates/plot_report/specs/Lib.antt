@@ -2,4 +2,3 @@
 pub mod Report
 -- What contracts of private functions need.
 pub mod Summaries
-pub mod PlotLines

@@ -1,34 +1,21 @@
 //! The whole report.
-ghost use Rattle.std.specs.Prelude.{◌≡◌, ◌+◌, ◌-◌, ◌^◌, ◌<◌, ◌≤◌, ◌++◌, ◌*◌, length, take, flat_map, IfOk};
+ghost use Rattle.std.specs.Prelude.{◌≡◌, ◌+◌, ◌-◌, ◌^◌, ◌<◌, ◌≤◌, ◌*◌, ◌++◌, length, flat_map, IfOk};
 ghost use Rattle.plot_page.specs.declared.stroke.TheConstants.{MOST_STROKES};
 ghost use Rattle.devices.specs.Sinks.{Writes};
+ghost use Rattle.pieces.specs.Texts.{IsNew, IsSound, Puts};
 ghost use Rattle.plot_report.specs.Report.{report_of, full_report_of, strokes_line, pen_lines, note_line};
-ghost use Rattle.plot_report.specs.PlotLines.{with_plot_lines};
 ghost use Rattle.plot_report.specs.Summaries.{summary_lines};
 
-use crate::lines::{
-    LONGEST_NOTE_LINE, LONGEST_PAGE_LINE, LONGEST_PEN_LINE, LONGEST_SHEETS_LINE,
-    LONGEST_STROKES_LINE, append_note_line, append_page_line, append_pen_line, append_sheets_line,
-    append_strokes_line,
-};
+use crate::lines::{put_note_line, put_page_line, put_pen_line, put_sheets_line, put_strokes_line};
 use crate::report_page::ReportPage;
 use crate::summary::{PENS, PenSummary, summarise};
 use devices::{Sink, WriteFault};
 use hpgl_plot::NoteSource;
-use pieces::put_piece;
+use pieces::Text;
 use plot_page::Stroke;
 
 /// The most notes of a report: as many as the longest plot has bytes.
 pub const MOST_NOTES: usize = 67_108_864;
-
-// The longest lines of the page and of the sheets together.
-const LONGEST_START: usize = LONGEST_PAGE_LINE + LONGEST_SHEETS_LINE;
-
-// The longest lines of the strokes and of the pens together.
-const LONGEST_STROKES: usize = LONGEST_STROKES_LINE + (PENS - 1) * LONGEST_PEN_LINE;
-
-// The length of a piece, in bytes. It takes all lines but those of the notes, and one of these.
-const PIECE: usize = 32_768;
 
 /// Writes the report on a plot, as lines of text: the page, how many strokes there are, a line for
 /// each pen that has some, and a line for each note.
@@ -49,9 +36,8 @@ pub fn write_report<N: NoteSource + Drop, K: Sink>(
         (report_of page strokes.now (N.notes notes)) result }
     ensures count { IfOk result (λ n. n ≡ length (report_of page strokes.now (N.notes notes))) }
 {
-    let mut piece = [0; PIECE];
-    let used = append_page_line(&mut piece, 0, page);
-    put_lines(strokes, notes, &mut piece, used, sink)
+    let mut text = Text::new(sink);
+    put_report(&mut text, page, strokes, notes)
 }
 
 /// The same in the profile full: the line after that of the page says how many sheets there are.
@@ -71,87 +57,87 @@ pub fn write_full_report<N: NoteSource + Drop, K: Sink>(
         (full_report_of page sheets strokes.now (N.notes notes)) result }
     ensures count { IfOk result (λ n. n ≡ length (full_report_of page sheets strokes.now (N.notes notes))) }
 {
-    let mut piece = [0; PIECE];
-    let used = append_page_line(&mut piece, 0, page);
-    let used = append_sheets_line(&mut piece, used, sheets);
-    put_lines(strokes, notes, &mut piece, used, sink)
+    let mut text = Text::new(sink);
+    put_full_report(&mut text, page, sheets, strokes, notes)
 }
 
-// Writes the first `used` bytes of a piece and then the lines of the strokes, of the pens and of the notes.
-fn put_lines<N: NoteSource + Drop, K: Sink>(
+// Writes the report as a new text.
+fn put_report<N: NoteSource + Drop, K: Sink>(
+    text: &mut Text<'_, K>,
+    page: ReportPage,
     strokes: &[Stroke],
     notes: N,
-    piece: &mut [u8],
-    used: usize,
-    sink: &mut K,
 ) -> Result<u64, WriteFault>
-    requires sound { (K.state sink.old).faults < 2 ^ 64 - 1 }
+    requires sound { IsSound K.state text.old }
+    requires new { IsNew text.old }
     requires strokes { length strokes.now ≤ MOST_STROKES }
     requires notes { length (N.notes notes) ≤ MOST_NOTES }
-    requires used { used ≤ LONGEST_START }
-    requires room { length piece.old ≡ PIECE }
-    ensures writes { Writes (K.state sink.old) (K.state sink.new)
-        (with_plot_lines (take used piece.old) strokes.now (N.notes notes)) result }
-    ensures count { IfOk result (λ n. n ≡ length (with_plot_lines (take used piece.old) strokes.now (N.notes notes))) }
+    ensures same { text.new.sink.ghost_name ≡ text.old.sink.ghost_name }
+    ensures writes { Writes (K.state text.old.sink.now) (K.state text.new.sink.now)
+        (report_of page strokes.now (N.notes notes)) result }
+    ensures count { IfOk result (λ n. n ≡ length (report_of page strokes.now (N.notes notes))) }
 {
-    let used = append_strokes(piece, used, strokes);
-    put_notes(notes, piece, used, sink)
+    put_page_line(text, page);
+    put_strokes(text, strokes);
+    put_notes(text, notes);
+    text.finish()
 }
 
-// Appends the lines of the strokes and of the pens.
-fn append_strokes(piece: &mut [u8], used: usize, strokes: &[Stroke]) -> usize
+// Writes the report in the profile full as a new text.
+fn put_full_report<N: NoteSource + Drop, K: Sink>(
+    text: &mut Text<'_, K>,
+    page: ReportPage,
+    sheets: usize,
+    strokes: &[Stroke],
+    notes: N,
+) -> Result<u64, WriteFault>
+    requires sound { IsSound K.state text.old }
+    requires new { IsNew text.old }
     requires strokes { length strokes.now ≤ MOST_STROKES }
-    requires room { used + LONGEST_STROKES ≤ length piece.old }
-    ensures lines { take result piece.new ≡ take used piece.old ++ strokes_line strokes.now ++ pen_lines strokes.now }
-    ensures most { result ≤ used + LONGEST_STROKES }
-    ensures size { length piece.new ≡ length piece.old }
+    requires notes { length (N.notes notes) ≤ MOST_NOTES }
+    ensures same { text.new.sink.ghost_name ≡ text.old.sink.ghost_name }
+    ensures writes { Writes (K.state text.old.sink.now) (K.state text.new.sink.now)
+        (full_report_of page sheets strokes.now (N.notes notes)) result }
+    ensures count { IfOk result (λ n. n ≡ length (full_report_of page sheets strokes.now (N.notes notes))) }
 {
-    let used = append_strokes_line(piece, used, strokes.len());
-    append_pen_lines(piece, used, &summarise(strokes))
+    put_page_line(text, page);
+    put_sheets_line(text, sheets);
+    put_strokes(text, strokes);
+    put_notes(text, notes);
+    text.finish()
 }
 
-// Appends a line for each pen that has strokes, from pen 1 on.
-fn append_pen_lines(piece: &mut [u8], used: usize, pens: &[PenSummary; PENS]) -> usize
-    requires { used + 255 * LONGEST_PEN_LINE ≤ length piece.old }
-    ensures lines { take result piece.new ≡ take used piece.old ++ summary_lines pens.now 255 }
-    ensures most { result ≤ used + 255 * LONGEST_PEN_LINE }
-    ensures size { length piece.new ≡ length piece.old }
+// Puts the lines of the strokes and of the pens.
+fn put_strokes<K: Sink>(text: &mut Text<'_, K>, strokes: &[Stroke])
+    requires sound { IsSound K.state text.old }
+    requires strokes { length strokes.now ≤ MOST_STROKES }
+    ensures puts { Puts K.state text.old text.new (strokes_line strokes.now ++ pen_lines strokes.now) }
 {
-    let mut used = used;
+    put_strokes_line(text, strokes.len());
+    put_pen_lines(text, &summarise(strokes));
+}
+
+// Puts a line for each pen that has strokes, from pen 1 on.
+fn put_pen_lines<K: Sink>(text: &mut Text<'_, K>, pens: &[PenSummary; PENS])
+    requires sound { IsSound K.state text.old }
+    ensures puts { Puts K.state text.old text.new (summary_lines pens.now 255) }
+{
     for pen in 1..PENS {
         let summary = pens[pen];
         if summary.strokes > 0 {
-            used = append_pen_line(piece, used, pen as u8, summary);
+            put_pen_line(text, pen as u8, summary);
         }
     }
-    used
 }
 
-// Writes the first `used` bytes of a piece and then the lines of the notes, as many at a time as
-// the piece is sure to take.
-fn put_notes<N: NoteSource + Drop, K: Sink>(
-    notes: N,
-    piece: &mut [u8],
-    used: usize,
-    sink: &mut K,
-) -> Result<u64, WriteFault>
-    requires sound { (K.state sink.old).faults < 2 ^ 64 - 1 }
-    requires notes { length (N.notes notes) ≤ MOST_NOTES }
-    requires used { used ≤ LONGEST_START + LONGEST_STROKES }
-    requires room { length piece.old ≡ PIECE }
-    ensures writes { Writes (K.state sink.old) (K.state sink.new)
-        (take used piece.old ++ flat_map note_line (N.notes notes)) result }
-    ensures count { IfOk result (λ n. n ≡ length (take used piece.old ++ flat_map note_line (N.notes notes))) }
+// Puts the lines of the notes.
+fn put_notes<N: NoteSource + Drop, K: Sink>(text: &mut Text<'_, K>, notes: N)
+    requires sound { IsSound K.state text.old }
+    ensures puts { Puts K.state text.old text.new (flat_map note_line (N.notes notes)) }
+    ensures few { length (flat_map note_line (N.notes notes)) ≤ 1000 * length (N.notes notes) }
 {
     let mut rest = notes;
-    let mut used = used;
-    let mut done = 0;
     'notes: while let Some(note) = rest.next_note() {
-        if used + LONGEST_NOTE_LINE > piece.len() {
-            done = put_piece(sink, &piece[..used], done)?;
-            used = 0;
-        }
-        used = append_note_line(piece, used, &note);
+        put_note_line(text, &note);
     }
-    put_piece(sink, &piece[..used], done)
 }

@@ -1,28 +1,26 @@
-//! Words appended to a piece of a report.
-ghost use Rattle.std.specs.Prelude.{◌≡◌, ◌+◌, ◌≤◌, ◌++◌, ◌∷◌, length, take};
+//! Words of a report.
+ghost use Rattle.std.specs.Prelude.{◌≡◌, ◌∷◌};
+ghost use Rattle.pieces.specs.Texts.{IsSound, Puts};
 ghost use Rattle.plot_report.specs.Report.{space};
 
-use devices::append;
-use itoa::{Buffer, Integer};
+use devices::Sink;
+use itoa::Integer;
+use pieces::Text;
 
-// Appends a space and a word.
-pub(crate) fn append_word(piece: &mut [u8], used: usize, word: &[u8]) -> usize
-    requires { used + 1 + length word.now ≤ length piece.old }
-    ensures used { result ≡ used + 1 + length word.now }
-    ensures piece { take result piece.new ≡ take used piece.old ++ (space ∷ word.now) }
-    ensures size { length piece.new ≡ length piece.old }
+// Puts a space and a word.
+pub(crate) fn put_word<K: Sink>(text: &mut Text<'_, K>, word: &[u8])
+    requires sound { IsSound K.state text.old }
+    ensures puts { Puts K.state text.old text.new (space ∷ word.now) }
 {
-    let used = append(piece, used, b" ");
-    append(piece, used, word)
+    text.put(b" ");
+    text.put(word);
 }
 
-// Appends a space and a number in decimal.
-pub(crate) fn append_number<I: Integer>(piece: &mut [u8], used: usize, number: I) -> usize
-    requires { used + 1 + I.MAX_STR_LEN ≤ length piece.old }
-    ensures most { result ≤ used + 1 + I.MAX_STR_LEN }
-    ensures piece { take result piece.new ≡ take used piece.old ++ (space ∷ I.text number) }
-    ensures size { length piece.new ≡ length piece.old }
+// Puts a space and a number in decimal.
+pub(crate) fn put_number<K: Sink, I: Integer>(text: &mut Text<'_, K>, number: I)
+    requires sound { IsSound K.state text.old }
+    ensures puts { Puts K.state text.old text.new (space ∷ I.text number) }
 {
-    let mut digits = Buffer::new();
-    append_word(piece, used, digits.format(number).as_bytes())
+    text.put(b" ");
+    text.put_number(number);
 }

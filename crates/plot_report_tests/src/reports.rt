@@ -386,7 +386,7 @@ fn long_report(alloc: Global) -> Result<String, Fail> {
     Ok(text)
 }
 
-// The pieces are of whole lines, and no line is lost where they meet.
+// No line is lost where pieces meet.
 #[test]
 fn more_than_a_piece(rt: HostRuntime) -> Result<(), Fail> {
     let text = long_report(rt.alloc())?;
