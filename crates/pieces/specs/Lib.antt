@@ -1,3 +1,2 @@
--- What the answers of writing a text in pieces mean.
-pub mod Pieces
+-- What was put into a text, and what the sink has of it in the end.
 pub mod Texts

@@ -1,8 +1,6 @@
-//! A text written in pieces.
+//! A text on its way to a sink.
 #![tactic(auto)]
 
-mod pieces;
 mod text;
 
-pub use pieces::{Waiting, make_room, put_piece};
 pub use text::Text;

@@ -7,7 +7,6 @@ pub mod DocumentReads
 pub mod EachPath
 pub mod PartLaws
 pub mod PartReads
-pub mod Passing
 pub mod PathReads
 pub mod ReadLaw
 pub mod SheetTitles

@@ -1,26 +1,20 @@
 //! The whole document.
-ghost use Rattle.std.specs.Prelude.{◌≡◌, ◌+◌, ◌-◌, ◌*◌, ◌^◌, ◌<◌, ◌≤◌, ◌++◌, length, take, IfOk};
+ghost use Rattle.std.specs.Prelude.{◌≡◌, ◌-◌, ◌^◌, ◌<◌, ◌≤◌, ◌++◌, length};
 ghost use Rattle.labels.specs.Sheets.{all_counted};
-ghost use Rattle.devices.specs.Sinks.{Writes};
-ghost use Rattle.pieces.specs.Pieces.{Passes, WritesAfter};
+ghost use Rattle.pieces.specs.Texts.{IsNew, IsSound, Puts, WritesText};
 ghost use Rattle.plot_page.specs.declared.stroke.TheConstants.{MOST_STROKES};
 ghost use Rattle.svg.specs.Clips.{clips_of, clips_text, collected};
-ghost use Rattle.svg.specs.Titles.{text_length};
-ghost use Rattle.svg.specs.Documents.{foot_text, head_text, sheets_bytes, svg_bytes};
+ghost use Rattle.svg.specs.Documents.{head_text, sheets_bytes, svg_bytes};
 
 use crate::clip_paths::ClipPaths;
 use crate::clips::put_clips;
-use crate::head::append_head;
-use crate::lengths::MOST_CHARACTERS;
+use crate::head::put_head;
 use crate::parts::put_parts;
-use crate::sheets::{FOOT, KEPT, put_sheets};
-use devices::{Sink, WriteFault, append};
+use crate::sheets::put_sheets;
+use devices::{Sink, WriteFault};
 use labels::Label;
-use pieces::{Waiting, put_piece};
+use pieces::Text;
 use plot_page::{Page, PenSet, Stroke};
-
-/// The length of a piece, in bytes.
-pub(crate) const PIECE: usize = 32_768;
 
 /// Writes the strokes of the selected pens on a page as an SVG 1.1 document. Its size is that of the page, its unit the
 /// grain (1/16 plotter unit).
@@ -31,12 +25,12 @@ pub(crate) const PIECE: usize = 32_768;
 ///
 /// The strokes of a label are a group, with the text of the label as its title: its lines, separated by a line feed. U+FFFD
 /// replaces control characters, and code points that XML does not have. A label of which no stroke is drawn is left out. A
-/// stroke of two labels belongs to the first one. The labels count their strokes from `before` strokes before these on, and
-/// their texts have at most `MOST_CHARACTERS` code points, as `texts_fit` tells.
+/// stroke of two labels belongs to the first one. The labels count their strokes from `before` strokes before these on.
 ///
 /// Returns how many bytes the document has. It asks for no memory.
 ///
-/// Errors: a `WriteFault` if and only if the sink fails; it has then taken the first `bytes` bytes.
+/// Errors: a `WriteFault` if and only if the sink fails; it has then taken the first `bytes` bytes. Both counts stop at
+/// 2^64 - 1.
 pub fn write_svg<K: Sink>(
     page: &Page,
     pens: &PenSet,
@@ -48,19 +42,12 @@ pub fn write_svg<K: Sink>(
 ) -> Result<u64, WriteFault>
     requires sound { (K.state sink.old).faults < 2 ^ 64 - 1 }
     requires strokes { length strokes.now ≤ MOST_STROKES }
-    requires labels { text_length labels.now ≤ MOST_CHARACTERS }
     requires clips { collected clips.now ≡ clips_of page.now pens.now strokes.now }
-    ensures writes { Writes (K.state sink.old) (K.state sink.new)
+    ensures writes { WritesText (K.state sink.old) (K.state sink.new)
         (svg_bytes page.now pens.now strokes.now (all_counted before labels.now)) result }
-    ensures count { IfOk result (λ n. n
-        ≡ length (svg_bytes page.now pens.now strokes.now (all_counted before labels.now))) }
 {
-    let mut piece = [0; PIECE];
-    let waiting = put_start(page, clips, &mut piece, sink)?;
-    let waiting = put_parts(
-        page, pens, strokes, labels, before, 0, &mut piece, waiting, sink,
-    )?;
-    put_foot(&mut piece, waiting, sink)
+    let mut text = Text::new(sink);
+    put_document(&mut text, page, pens, strokes, labels, before, clips)
 }
 
 /// Writes all sheets of a plot as one document, one above another: each one is a group, `sheet-1`, `sheet-2` and so on.
@@ -78,49 +65,67 @@ pub fn write_svg_sheets<K: Sink>(
 ) -> Result<u64, WriteFault>
     requires sound { (K.state sink.old).faults < 2 ^ 64 - 1 }
     requires strokes { length strokes.now ≤ MOST_STROKES }
-    requires labels { text_length labels.now ≤ MOST_CHARACTERS }
     requires clips { collected clips.now ≡ clips_of page.now pens.now strokes.now }
-    ensures writes { Writes (K.state sink.old) (K.state sink.new)
+    ensures writes { WritesText (K.state sink.old) (K.state sink.new)
         (sheets_bytes page.now pens.now strokes.now ends.now (all_counted before labels.now)) result }
-    ensures count { IfOk result (λ n. n
-        ≡ length (sheets_bytes page.now pens.now strokes.now ends.now (all_counted before labels.now))) }
 {
-    let mut piece = [0; PIECE];
-    let waiting = put_start(page, clips, &mut piece, sink)?;
-    let waiting = put_sheets(
-        page, pens, strokes, ends, labels, before, &mut piece, waiting, sink,
-    )?;
-    put_foot(&mut piece, waiting, sink)
+    let mut text = Text::new(sink);
+    put_all_sheets(&mut text, page, pens, strokes, ends, labels, before, clips)
 }
 
-// Hands on what comes before the paths.
-fn put_start<K: Sink>(
+// Writes the document of strokes as a new text.
+fn put_document<K: Sink>(
+    text: &mut Text<'_, K>,
     page: &Page,
+    pens: &PenSet,
+    strokes: &[Stroke],
+    labels: &[Label],
+    before: usize,
     clips: &ClipPaths,
-    piece: &mut [u8],
-    sink: &mut K,
-) -> Result<Waiting, WriteFault>
-    requires sound { (K.state sink.old).faults < 2 ^ 64 - 1 }
-    requires room { length piece.old ≡ PIECE }
-    ensures passes { Passes (K.state sink.old) (K.state sink.new) 0
-        (head_text page.now ++ clips_text (collected clips.now)) piece.new result }
-    ensures used { IfOk result (λ w. w.used + KEPT ≤ PIECE) }
-    ensures done { IfOk result (λ w. w.done + w.used ≤ 2 ^ 32) }
-    ensures size { length piece.new ≡ length piece.old }
+) -> Result<u64, WriteFault>
+    requires sound { IsSound K.state text.old }
+    requires new { IsNew text.old }
+    requires clips { collected clips.now ≡ clips_of page.now pens.now strokes.now }
+    ensures same { text.new.sink.ghost_name ≡ text.old.sink.ghost_name }
+    ensures writes { WritesText (K.state text.old.sink.now) (K.state text.new.sink.now)
+        (svg_bytes page.now pens.now strokes.now (all_counted before labels.now)) result }
 {
-    let used = append_head(piece, 0, page);
-    put_clips(clips, piece, Waiting { used, done: 0 }, sink)
+    put_start(text, page, clips);
+    put_parts(text, page, pens, strokes, labels, before, 0);
+    text.put(b"</g></svg>\n");
+    text.finish()
 }
 
-// Writes what waits, and the end of the document.
-fn put_foot<K: Sink>(piece: &mut [u8], waiting: Waiting, sink: &mut K) -> Result<u64, WriteFault>
-    requires sound { (K.state sink.old).faults < 2 ^ 64 - 1 }
-    requires room { waiting.used + FOOT ≤ length piece.old }
-    requires size { length piece.old ≡ PIECE }
-    requires count { waiting.done + waiting.used < 2 ^ 63 }
-    ensures writes { WritesAfter (K.state sink.old) (K.state sink.new) waiting.done
-        (take waiting.used piece.old ++ foot_text) result }
+// Writes the document of all sheets as a new text.
+fn put_all_sheets<K: Sink>(
+    text: &mut Text<'_, K>,
+    page: &Page,
+    pens: &PenSet,
+    strokes: &[Stroke],
+    ends: &[usize],
+    labels: &[Label],
+    before: usize,
+    clips: &ClipPaths,
+) -> Result<u64, WriteFault>
+    requires sound { IsSound K.state text.old }
+    requires new { IsNew text.old }
+    requires strokes { length strokes.now ≤ MOST_STROKES }
+    requires clips { collected clips.now ≡ clips_of page.now pens.now strokes.now }
+    ensures same { text.new.sink.ghost_name ≡ text.old.sink.ghost_name }
+    ensures writes { WritesText (K.state text.old.sink.now) (K.state text.new.sink.now)
+        (sheets_bytes page.now pens.now strokes.now ends.now (all_counted before labels.now)) result }
 {
-    let used = append(piece, waiting.used, b"</g></svg>\n");
-    put_piece(sink, &piece[..used], waiting.done)
+    put_start(text, page, clips);
+    put_sheets(text, page, pens, strokes, ends, labels, before);
+    text.put(b"</g></svg>\n");
+    text.finish()
+}
+
+// Puts what comes before the paths.
+fn put_start<K: Sink>(text: &mut Text<'_, K>, page: &Page, clips: &ClipPaths)
+    requires sound { IsSound K.state text.old }
+    ensures puts { Puts K.state text.old text.new (head_text page.now ++ clips_text (collected clips.now)) }
+{
+    put_head(text, page);
+    put_clips(text, clips);
 }

@@ -4,10 +4,10 @@ ghost use Rattle.svg.specs.Titles.{lines_text, text_length};
 
 use labels::{Label, Line};
 
-/// The most code points that the texts of all labels of a document may have.
+/// As many code points as the texts of all labels of a document have at most, if it is to be counted in 64 bits.
 pub const MOST_CHARACTERS: u64 = 1_152_921_504_606_846_976;
 
-/// Whether the texts of labels have no more code points than a document may have.
+/// Whether the texts of labels have no more code points than that.
 pub fn texts_fit(labels: &[Label]) -> bool
     ensures { IsTrue result ↔ (text_length labels.now ≤ MOST_CHARACTERS) }
 {

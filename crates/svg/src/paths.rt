@@ -1,59 +1,50 @@
 //! Paths: how the strokes of a run are drawn.
-ghost use Rattle.std.specs.Prelude.{◌≡◌, ◌+◌, ◌-◌, ◌<◌, ◌≤◌, ◌++◌, length, take, max, false};
+ghost use Rattle.std.specs.Prelude.{◌≡◌, max};
+ghost use Rattle.pieces.specs.Texts.{IsSound, Puts};
 ghost use Rattle.stroke_runs.specs.declared.shown.TheConstants.{LEAST_WIDTH};
 ghost use Rattle.svg.specs.Numbers.{colour_digits};
 ghost use Rattle.svg.specs.Paths.{clip_of, pen_text, start_text};
 
-use crate::clips::{LONGEST_CLIPPED, append_clipped};
-use devices::append;
-use number_text::{append_count, hex_digit};
+use crate::clips::put_clipped;
+use devices::Sink;
+use number_text::hex_digit;
+use pieces::Text;
 use plot_page::{Colour, Page, Stroke};
 use stroke_runs::shown_width;
 
-/// The longest start of a path: the pen, a reference, and four bytes.
-pub(crate) const LONGEST_START: usize = LONGEST_PEN + LONGEST_CLIPPED + 4;
-
-/// The longest pen: 44 bytes, two numbers of ten digits, and six digits of a colour.
-const LONGEST_PEN: usize = 70;
-
-// Appends what comes before the commands of a run that begins with this stroke.
-pub(crate) fn append_start(piece: &mut [u8], used: usize, page: &Page, stroke: &Stroke) -> usize
-    requires { used + LONGEST_START ≤ length piece.old }
-    ensures text { take result piece.new ≡ take used piece.old
-        ++ start_text stroke.now.pen stroke.now.colour (max LEAST_WIDTH stroke.now.width)
-        (clip_of page.now stroke.now.window) }
-    ensures most { result ≤ used + LONGEST_START }
-    ensures size { length piece.new ≡ length piece.old }
+// Puts what comes before the commands of a run that begins with this stroke.
+pub(crate) fn put_start<K: Sink>(text: &mut Text<'_, K>, page: &Page, stroke: &Stroke)
+    requires sound { IsSound K.state text.old }
+    ensures puts { Puts K.state text.old text.new (start_text stroke.now.pen stroke.now.colour
+        (max LEAST_WIDTH stroke.now.width) (clip_of page.now stroke.now.window)) }
 {
-    let used = append_pen_of(piece, used, stroke);
-    let used = append_clipped(piece, used, page, stroke);
-    append(piece, used, b" d=\"")
+    put_pen_of(text, stroke);
+    put_clipped(text, page, stroke);
+    text.put(b" d=\"");
 }
 
-// Appends how the strokes of a path are drawn that begins with this stroke.
-fn append_pen_of(piece: &mut [u8], used: usize, stroke: &Stroke) -> usize
-    requires { used + LONGEST_PEN ≤ length piece.old }
-    ensures text { take result piece.new
-        ≡ take used piece.old ++ pen_text stroke.now.pen stroke.now.colour (max LEAST_WIDTH stroke.now.width) }
-    ensures most { result ≤ used + LONGEST_PEN }
-    ensures size { length piece.new ≡ length piece.old }
+// Puts how the strokes of a path are drawn that begins with this stroke.
+fn put_pen_of<K: Sink>(text: &mut Text<'_, K>, stroke: &Stroke)
+    requires sound { IsSound K.state text.old }
+    ensures puts { Puts K.state text.old text.new
+        (pen_text stroke.now.pen stroke.now.colour (max LEAST_WIDTH stroke.now.width)) }
 {
     let pen = u32::from(stroke.pen);
-    append_pen(piece, used, pen, stroke.colour, shown_width(stroke))
+    put_pen(text, pen, stroke.colour, shown_width(stroke));
 }
 
-// Appends how the strokes of a path are drawn.
-fn append_pen(piece: &mut [u8], used: usize, pen: u32, colour: Colour, width: u32) -> usize
-    requires { used + LONGEST_PEN ≤ length piece.old }
-    ensures text { take result piece.new ≡ take used piece.old ++ pen_text pen colour width }
-    ensures most { result ≤ used + LONGEST_PEN }
-    ensures size { length piece.new ≡ length piece.old }
+// Puts how the strokes of a path are drawn.
+fn put_pen<K: Sink>(text: &mut Text<'_, K>, pen: u32, colour: Colour, width: u32)
+    requires sound { IsSound K.state text.old }
+    ensures puts { Puts K.state text.old text.new (pen_text pen colour width) }
 {
-    let used = append_count(piece, used, b"<path class=\"pen", pen);
-    let used = append(piece, used, b"\" stroke=\"#");
-    let used = append(piece, used, &colour_digits(colour));
-    let used = append_count(piece, used, b"\" stroke-width=\"", width);
-    append(piece, used, b"\"")
+    text.put(b"<path class=\"pen");
+    text.put_number(pen);
+    text.put(b"\" stroke=\"#");
+    text.put(&colour_digits(colour));
+    text.put(b"\" stroke-width=\"");
+    text.put_number(width);
+    text.put(b"\"");
 }
 
 // A colour in six hexadecimal digits.

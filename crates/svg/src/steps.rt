@@ -1,95 +1,75 @@
 //! What is written for each stroke, one at a time.
-ghost use Rattle.std.specs.Prelude.{◌≡◌, ◌+◌, ◌*◌, ◌≤◌, ◌++◌, length, take};
+ghost use Rattle.std.specs.Prelude.{◌≡◌};
+ghost use Rattle.pieces.specs.Texts.{IsSound, Puts};
 ghost use Rattle.svg.specs.Commands.{command_text};
 ghost use Rattle.svg.specs.Paths.{line_of};
 ghost use Rattle.svg.specs.Places.{IsNear};
 ghost use Rattle.svg.specs.Steps.{after_step, apart_text, begun_text, last_place, link_text, open_end, step_text};
 ghost use Rattle.stroke_runs.specs.Links.{link_of, runs_after};
 
-use crate::commands::{LONGEST_COMMAND, append_first, append_line, append_move};
-use crate::paths::{LONGEST_START, append_start};
+use crate::commands::{put_first, put_line, put_move};
+use crate::paths::put_start;
 use crate::places::{Place, end_of, start_of};
-use devices::append;
+use devices::Sink;
+use pieces::Text;
 use plot_page::{Page, PenSet, Stroke};
 use stroke_runs::{Link, Runs, is_drawn};
 
-/// The longest text of a stroke: the end of a path, the start of another one, and two commands.
-pub(crate) const LONGEST_STEP: usize = LONGEST_END + LONGEST_START + 2 * LONGEST_COMMAND;
-
-/// The end of a path.
-pub(crate) const LONGEST_END: usize = 4;
-
-// Appends what is written for a stroke, if it is drawn.
-pub(crate) fn append_step(
-    piece: &mut [u8],
-    used: usize,
+// Puts what is written for a stroke, if it is drawn.
+pub(crate) fn put_step<K: Sink>(
+    text: &mut Text<'_, K>,
     page: &Page,
     pens: &PenSet,
     runs: &mut Runs,
     stroke: &Stroke,
-) -> usize
-    requires { used + LONGEST_STEP ≤ length piece.old }
-    ensures text { take result piece.new ≡ take used piece.old ++ step_text page.now pens.now runs.old stroke.now }
-    ensures most { result ≤ used + LONGEST_STEP }
-    ensures size { length piece.new ≡ length piece.old }
+)
+    requires sound { IsSound K.state text.old }
+    ensures puts { Puts K.state text.old text.new (step_text page.now pens.now runs.old stroke.now) }
     ensures after { runs.new ≡ after_step pens.now runs.old stroke.now }
 {
     if !is_drawn(pens, stroke) {
-        return used;
+        return;
     }
-    append_drawn(piece, used, page, runs, stroke)
+    put_drawn(text, page, runs, stroke);
 }
 
-// Appends what is written for a stroke that is drawn.
-fn append_drawn(
-    piece: &mut [u8],
-    used: usize,
-    page: &Page,
-    runs: &mut Runs,
-    stroke: &Stroke,
-) -> usize
-    requires { used + LONGEST_STEP ≤ length piece.old }
-    ensures text { take result piece.new
-        ≡ take used piece.old ++ link_text page.now runs.old (link_of runs.old stroke.now) stroke.now }
-    ensures most { result ≤ used + LONGEST_STEP }
-    ensures size { length piece.new ≡ length piece.old }
+// Puts what is written for a stroke that is drawn.
+fn put_drawn<K: Sink>(text: &mut Text<'_, K>, page: &Page, runs: &mut Runs, stroke: &Stroke)
+    requires sound { IsSound K.state text.old }
+    ensures puts { Puts K.state text.old text.new
+        (link_text page.now runs.old (link_of runs.old stroke.now) stroke.now) }
     ensures after { runs.new ≡ runs_after runs.old stroke.now }
 {
     let before = *runs;
     match runs.next(stroke) {
         Link::Begins => {
-            let used = append_end(piece, used, &before);
-            append_begun(piece, used, page, stroke)
+            put_end(text, &before);
+            put_begun(text, page, stroke);
         }
-        Link::Apart => append_apart(piece, used, page, last_place(page, &before), stroke),
-        Link::Joined => append_line_of(piece, used, page, stroke),
+        Link::Apart => put_apart(text, page, last_place(page, &before), stroke),
+        Link::Joined => put_line_of(text, page, stroke),
     }
 }
 
-// Appends the end of the path that has begun, if there is one.
-pub(crate) fn append_end(piece: &mut [u8], used: usize, runs: &Runs) -> usize
-    requires { used + LONGEST_END ≤ length piece.old }
-    ensures text { take result piece.new ≡ take used piece.old ++ open_end runs.now }
-    ensures most { result ≤ used + LONGEST_END }
-    ensures used { result ≡ used + length (open_end runs.now) }
-    ensures size { length piece.new ≡ length piece.old }
+// Puts the end of the path that has begun, if there is one.
+pub(crate) fn put_end<K: Sink>(text: &mut Text<'_, K>, runs: &Runs)
+    requires sound { IsSound K.state text.old }
+    ensures puts { Puts K.state text.old text.new (open_end runs.now) }
 {
     if !runs.has_begun() {
-        return used;
+        return;
     }
-    append(piece, used, b"\"/>\n")
+    text.put(b"\"/>\n");
 }
 
-// Appends a stroke that begins a path.
-fn append_begun(piece: &mut [u8], used: usize, page: &Page, stroke: &Stroke) -> usize
-    requires { used + LONGEST_START + 2 * LONGEST_COMMAND ≤ length piece.old }
-    ensures text { take result piece.new ≡ take used piece.old ++ begun_text page.now stroke.now }
-    ensures most { result ≤ used + LONGEST_START + 2 * LONGEST_COMMAND }
-    ensures size { length piece.new ≡ length piece.old }
+// Puts a stroke that begins a path.
+fn put_begun<K: Sink>(text: &mut Text<'_, K>, page: &Page, stroke: &Stroke)
+    requires sound { IsSound K.state text.old }
+    ensures puts { Puts K.state text.old text.new (begun_text page.now stroke.now) }
 {
-    let used = append_start(piece, used, page, stroke);
-    let used = append_first(piece, used, start_of(page, stroke));
-    append_line_of(piece, used, page, stroke)
+    put_start(text, page, stroke);
+    put_first(text, start_of(page, stroke));
+    put_line_of(text, page, stroke);
 }
 
 // Where the last stroke ended, or the corner of the page before the first one.
@@ -103,25 +83,21 @@ fn last_place(page: &Page, runs: &Runs) -> Place
     }
 }
 
-// Appends a stroke that goes on a path at another place than this one.
-fn append_apart(piece: &mut [u8], used: usize, page: &Page, from: Place, stroke: &Stroke) -> usize
+// Puts a stroke that goes on a path at another place than this one.
+fn put_apart<K: Sink>(text: &mut Text<'_, K>, page: &Page, from: Place, stroke: &Stroke)
+    requires sound { IsSound K.state text.old }
     requires from { IsNear from }
-    requires room { used + 2 * LONGEST_COMMAND ≤ length piece.old }
-    ensures text { take result piece.new ≡ take used piece.old ++ apart_text page.now from stroke.now }
-    ensures most { result ≤ used + 2 * LONGEST_COMMAND }
-    ensures size { length piece.new ≡ length piece.old }
+    ensures puts { Puts K.state text.old text.new (apart_text page.now from stroke.now) }
 {
-    let used = append_move(piece, used, from, start_of(page, stroke));
-    append_line_of(piece, used, page, stroke)
+    put_move(text, from, start_of(page, stroke));
+    put_line_of(text, page, stroke);
 }
 
-// Appends the line of a stroke.
-fn append_line_of(piece: &mut [u8], used: usize, page: &Page, stroke: &Stroke) -> usize
-    requires { used + LONGEST_COMMAND ≤ length piece.old }
-    ensures text { take result piece.new ≡ take used piece.old ++ command_text (line_of page.now stroke.now) }
-    ensures most { result ≤ used + LONGEST_COMMAND }
-    ensures size { length piece.new ≡ length piece.old }
+// Puts the line of a stroke.
+fn put_line_of<K: Sink>(text: &mut Text<'_, K>, page: &Page, stroke: &Stroke)
+    requires sound { IsSound K.state text.old }
+    ensures puts { Puts K.state text.old text.new (command_text (line_of page.now stroke.now)) }
 {
     let from = start_of(page, stroke);
-    append_line(piece, used, from, end_of(page, stroke))
+    put_line(text, from, end_of(page, stroke));
 }

@@ -1,4 +1,5 @@
+use Rattle.pieces.proofs.Texts.{◌then◌}
 use Rattle.svg.proofs.document.put_start.Goals as goal
 
-pub returns-clause-passes : goal.returns-clause-passes
-returns-clause-passes g c = rw c.append_head-used.ensures.text at c.put_clips.ensures.passes
+pub returns : goal.returns
+returns g c = record { puts = c.put_head.ensures.puts then c.put_clips.ensures.puts }

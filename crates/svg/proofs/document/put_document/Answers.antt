@@ -1,0 +1,23 @@
+use Rattle.std.proofs.Common.{◌++◌, ◌∙◌, List, ap}
+use Rattle.labels.specs.Labels.{LabelShape}
+use Rattle.labels.specs.Sheets.{all_counted}
+use Rattle.pieces.proofs.Texts.{◌then◌, puts_as, written}
+use Rattle.svg.specs.Clips.{clips_text}
+use Rattle.svg.specs.Documents.{head_text}
+use Rattle.svg.specs.Parts.{parts_text}
+use Rattle.svg.specs.declared.places.Rectangle.{Rectangle}
+use Rattle.svg.proofs.Counts.{counted_none}
+use Rattle.svg.proofs.document.put_document.Goals as goal
+
+pub returns : goal.returns
+returns g c =
+    let page = c.args.page.now in
+    let pens = c.args.pens.now in
+    let strokes = c.args.strokes.now in
+    let start = puts_as c.put_start.ensures.puts (ap (λ (rs : List Rectangle). head_text page ++ clips_text rs) c.requires.clips) in
+    let shown = puts_as c.put_parts.ensures.puts (ap (λ (ls : List LabelShape). parts_text page pens strokes ls) (counted_none (all_counted c.args.before c.args.labels.now))) in
+    let puts = start then shown then c.put.ensures.puts in
+    record {
+      same = c.finish.ensures.same ∙ puts.same;
+      writes = written g.K.Sink.state c.args.text.now c.put.new.self _ _ c.finish.result c.requires.new puts c.finish.ensures.finishes;
+    }

@@ -1,0 +1,5 @@
+use Rattle.pieces.proofs.Texts.{◌then◌}
+use Rattle.svg.proofs.head.put_head.Goals as goal
+
+pub returns : goal.returns
+returns g c = record { puts = c.put.ensures.puts then c.put_page.ensures.puts then c.put-2.ensures.puts }
