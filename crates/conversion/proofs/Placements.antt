@@ -10,8 +10,8 @@ use Rattle.page_fit.specs.Extents.{extent_of}
 use Rattle.page_fit.specs.declared.around.Corner.{Corner}
 use Rattle.page_fit.specs.declared.extent.Extent.{Extent}
 use Rattle.picture_job.specs.declared.page_choice.PageChoice.{PageChoice}
-use Rattle.conversion.specs.Placements.{HasNoPage, IsAround, IsAsked, IsDrawnOn, IsFirstPage, IsFitted, IsGivenPlace, IsPlaced, IsPlacedBy}
-use Rattle.conversion.specs.Placements.{Place, no_corner, place_on}
+use Rattle.conversion.specs.Placements.{HasNoPage, IsAround, IsAsked, IsDrawnOn, IsFirstPage, IsFitted, IsPlaced, IsPlacedBy}
+use Rattle.conversion.specs.Placements.{Place, no_corner}
 use Rattle.conversion.specs.Rules.{Rules}
 use Rattle.conversion.specs.declared.placement.Placement.{Placement}
 use Rattle.conversion.specs.declared.placement.Placement.TheVariants.{Given, Asked, Unasked, Fitted, Blank, TooLarge}
@@ -135,7 +135,7 @@ pub placed_alike : (c : PageChoice) (rules : Rules) (pens : PenSet) (given : Pag
 placed_alike c rules pens given plot p q a b = placed_by c.margin c rules pens given plot p q a b
 
 -- if no page is asked for, a plot is drawn on the given one
-pub first_place : (c : PageChoice) (rules : Rules) (given : Page) (plot : List ℕ) (page : Page) → IsFirstPage c rules given plot page → IsGivenPlace c given (place_on Given page)
-first_place c rules given plot page first not_asked none =
+pub first_page : (c : PageChoice) (rules : Rules) (given : Page) (plot : List ℕ) (page : Page) → IsFirstPage c rules given plot page → c.asked ≡ false → page ≡ given
+first_page c rules given plot page first not_asked =
     let on = subst (λ (b : Bool). IsDrawnOn b rules given plot first.0 page) not_asked first.1 in
-    ap (place_on Given) on.1
+    on.1

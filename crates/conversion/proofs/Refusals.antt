@@ -1,7 +1,6 @@
 -- When a plot that was read whole has a picture of a job, and why not if it has none.
 use Rattle.std.proofs.Common.{◌≡◌, ℕ, List, Option, Some, None, Result, Ok, Err, refl, ap}
 use Rattle.std.specs.Result.{IsErrAnd}
-use Rattle.std.specs.Prelude.{option_map}
 use Rattle.picture_job.specs.declared.job.Job.{Job}
 use Rattle.conversion.specs.Rules.{Rules}
 use Rattle.conversion.specs.Pictures.{Reach, refused_fault, job_fault}
@@ -39,7 +38,7 @@ not_painted rules n job reaches input before after sink sink' Resolution read ac
 not_painted rules n job reaches input before after sink sink' Letters read accepted h = absurd h
 
 -- the refusal of a plot comes before the fault of a job
-pub plot_fault : (job : Job) (refusal : Option PlotFault) (fault : Fault) → option_map Plot refusal ≡ Some fault → refused_fault job refusal ≡ Some fault
+pub plot_fault : (job : Job) (refusal : Option PlotFault) (fault : PlotFault) → refusal ≡ Some fault → refused_fault job refusal ≡ Some (Plot fault)
 plot_fault job refusal fault refused = rw refused refl
 
 -- the fault that a `?` passes on

@@ -1,5 +1,10 @@
 -- Watchers that are told of nothing, of one number more, and of all rows.
-use Rattle.std.proofs.Common.{◌≡◌, ◌-◌, ◌<◌, ◌≤◌, ℕ, refl, sym, subst, arith}
+use Rattle.std.proofs.Common.{◌≡◌, ◌-◌, ◌<◌, ◌≤◌, ℕ, Err, refl, sym, subst, arith}
+use Rattle.plot_page.specs.declared.page.Page.{Page}
+use Rattle.picture_job.specs.declared.page_choice.PageChoice.{PageChoice}
+use Rattle.picture_job.specs.declared.picture.Picture.{Picture}
+use Rattle.picture_job.specs.declared.picture.Picture.TheVariants.{Rows, Png, Vector}
+use Rattle.conversion.specs.Kinds.{IsToldOfPicture}
 use Rattle.conversion.specs.Watching.{IsToldIn, WasTold, WasToldInPart}
 use Rattle.conversion.specs.declared.fault.Fault.{Fault}
 use Rattle.conversion.specs.declared.fault.Fault.TheVariants.{Letters, Memory, Paint, Plot, Read, Resolution, TooLong, Unfinished, Write}
@@ -18,6 +23,13 @@ not_told hears rows watcher Unfinished = none_told hears rows watcher
 not_told hears rows watcher Read = refl
 not_told hears rows watcher Resolution = refl
 not_told hears rows watcher Letters = refl
+
+-- of any picture that is not possible
+pub picture_not_told : {W : Type 0} (hears : W → ℕ → ℕ → W → Type 0) (c : PageChoice) (picture : Picture) (page : Page) (watcher : W)
+    → IsToldOfPicture hears c picture page watcher watcher (Err Resolution)
+picture_not_told hears c (Rows job smoothing) page watcher = refl
+picture_not_told hears c (Png job) page watcher = refl
+picture_not_told hears c (Vector job) page watcher = refl
 
 -- before the first row
 pub told_nothing : {W : Type 0} (hears : W → ℕ → ℕ → W → Type 0) (rows first : ℕ) (watcher : W)

@@ -12,16 +12,12 @@ use Rattle.devices.specs.Sinks.{SinkState}
 use Rattle.devices.specs.Sources.{SourceState}
 use Rattle.conversion.specs.declared.done.Done.{Done}
 use Rattle.conversion.specs.declared.fault.Fault.{Fault}
-use Rattle.conversion.specs.declared.fault.Fault.TheVariants.{TooLong, Memory, Paint, Plot, Write, Unfinished, Read, Resolution}
+use Rattle.conversion.specs.declared.fault.Fault.TheVariants.{TooLong, Memory, Write, Unfinished, Read, Resolution}
 use Rattle.conversion.specs.Boxes.{strokes_boxes}
 use Rattle.plot_page.specs.declared.page.Page.{Page}
 use Rattle.picture_job.specs.declared.page_choice.PageChoice.{PageChoice}
 use Rattle.picture_job.specs.declared.smoothing.Smoothing.{Smoothing}
 use Rattle.picture_job.specs.Sizes.{dots_in, smoothing_in}
-use Rattle.conversion.specs.Placements.{IsFirstPage, IsGivenPlace, IsPlaced, Place, placed_rules}
-use Rattle.conversion.specs.Watching.{IsToldOf}
-use Rattle.page_fit.specs.Census.{census_of}
-use Rattle.conversion.specs.declared.outcome.Outcome.{Outcome}
 
 -- the whole picture was written
 pub record IsWritten (rules : Rules) (n : ℕ) (job : Job) (reaches : Reach) (input : List ℕ) (before after : SourceState)
@@ -96,41 +92,6 @@ times_on choice page job smoothing = (smoothing_in choice.pixels (dots_in choice
 abbrev pub is_possible_in : Option ℕ → ℕ → Job → Bool
 is_possible_in None n job = is_possible n job
 is_possible_in (Some pixels) n job = has_any_resolution job.form
-
--- what each answer says where the page was chosen: that of the job where its picture lies
-abbrev pub ConvertsOn : Rules → PageChoice → Smoothing → Job → Place → Reach → List ℕ → SourceState → SourceState → SinkState →
-    SinkState → Result Outcome Fault → Type 0
-ConvertsOn rules choice smoothing job place reaches input before after sink sink' (Ok outcome) =
-    IsPlaced choice rules job.pens job.page input place × (outcome.placement ≡ place.placement)
-    × IsWritten (placed_rules rules job.pens place) (times_on choice place.page job smoothing) (on_page choice place.page job) reaches input before after sink sink'
-    outcome.done
-    × (outcome.census ≡ census_of job.pens place.page ((placed_rules rules job.pens place).strokes place.page input))
-    × (outcome.sheets ≡ rules.sheets place.drawn_on input)
-ConvertsOn rules choice smoothing job place reaches input before after sink sink' (Err (Write row whole bytes)) =
-    IsPlaced choice rules job.pens job.page input place
-    × IsCutShort (placed_rules rules job.pens place) (times_on choice place.page job smoothing) (on_page choice place.page job) reaches input before after sink sink'
-    row whole bytes
-ConvertsOn rules choice smoothing job place reaches input before after sink sink' (Err (Paint fault)) =
-    IsPlaced choice rules job.pens job.page input place
-    × IsRefused (placed_rules rules job.pens place) (on_page choice place.page job) input before after (Paint fault)
-ConvertsOn rules choice smoothing job place reaches input before after sink sink' (Err (Plot fault)) =
-    IsFirstPage choice rules job.page input place.drawn_on
-    × IsRefused rules (on_page choice place.drawn_on job) input before after (Plot fault)
-ConvertsOn rules choice smoothing job place reaches input before after sink sink' (Err fault) =
-    Converts rules smoothing.times job reaches input before after sink sink' (Err fault)
-
--- a conversion by these rules where the page was chosen, as HasConvertedBy, and what the watcher was told of its rows
-pub record HasConvertedOn {W : Type 0} (rules : Rules) (choice : PageChoice) (smoothing : Smoothing) (job : Job) (reaches : Reach)
-    (before after : SourceState) (sink sink' : SinkState) (tests tests' : ℕ) (hears : W → ℕ → ℕ → W → Type 0)
-    (watcher watcher' : W) (answer : Result Outcome Fault) : Type 0 where
-  pub input : List ℕ
-  pub taken : Consumes before.left after.left input
-  pub place : Place
-  pub given : IsGivenPlace choice job.page place
-  pub converts : ConvertsOn rules choice smoothing job place reaches input before after sink sink' answer
-  pub tested : tests' ≤ tests
-      + strokes_boxes (times_on choice place.page job smoothing) (on_page choice place.page job) ((placed_rules rules job.pens place).strokes place.page input)
-  pub told : IsToldOf hears (rows_on choice place.page job) watcher watcher' answer
 
 -- the sink failed
 abbrev pub is_write : Fault → Bool

@@ -1,5 +1,5 @@
 -- What reading a plot and drawing it on the page that was chosen answers.
-use Rattle.std.specs.Prelude.{◌≡◌, ℕ, ◌+◌, List, Result, Ok, Err, Option, None, Some, option_map, ⊤}
+use Rattle.std.specs.Prelude.{◌≡◌, ℕ, ◌+◌, List, Result, Ok, Err, Option, None, Some, IfOk, ⊤}
 use Rattle.std.specs.Io.KnownBytes.{Consumes}
 use Rattle.hpgl_plot.specs.declared.fault.PlotFault.{PlotFault}
 use Rattle.hpgl_plot.specs.declared.fault.PlotFault.TheVariants as plot
@@ -10,6 +10,7 @@ use Rattle.picture_job.specs.declared.page_choice.PageChoice.{PageChoice}
 use Rattle.full_plot.specs.Labels.{labels_kept}
 use Rattle.conversion.specs.Placements.{IsFirstPage, IsPlaced, Place, labels_at, page_reported, placed_rules, strokes_at}
 use Rattle.conversion.specs.declared.lines.Lines.{Lines}
+use Rattle.conversion.specs.declared.drawing.ReadPlot.{ReadPlot}
 use Rattle.conversion.specs.declared.place.Drawing.{Drawing}
 use Rattle.conversion.specs.Readings.{WasRead, WasTooLong}
 use Rattle.devices.specs.Sources.{SourceState}
@@ -65,9 +66,9 @@ pub record IsDrawn (rules : Rules) (choice : PageChoice) (pens : PenSet) (given 
 
 -- the plot was read whole and is refused for the page
 pub record IsNotDrawn (rules : Rules) (page : Page) (input : List ℕ) (before after : SourceState)
-    (fault : Fault) : Type 0 where
+    (fault : PlotFault) : Type 0 where
   pub read : WasRead input before after
-  pub refused : option_map Plot (rules.refusal page input) ≡ Some fault
+  pub refused : rules.refusal page input ≡ Some fault
 
 -- what each answer says of what was read; want of memory says only that the source did not fail
 abbrev pub Draws : Rules → PageChoice → PenSet → Page → List ℕ → SourceState → SourceState → Result Drawing Fault → Type 0
@@ -75,8 +76,9 @@ Draws rules choice pens given input before after (Ok drawn) = IsDrawn rules choi
 Draws rules choice pens given input before after (Err TooLong) = WasTooLong input before after
 Draws rules choice pens given input before after (Err Read) = after.faults ≡ before.faults + 1
 Draws rules choice pens given input before after (Err Memory) = after.faults ≡ before.faults
-Draws rules choice pens given input before after (Err fault) =
+Draws rules choice pens given input before after (Err (Plot fault)) =
     (page : Page) × IsFirstPage choice rules given input page × IsNotDrawn rules page input before after fault
+Draws rules choice pens given input before after (Err _) = ⊥
 
 -- a drawing: what it took from the source, and its answer
 pub record HasDrawn (rules : Rules) (choice : PageChoice) (pens : PenSet) (given : Page) (before after : SourceState)
@@ -84,3 +86,13 @@ pub record HasDrawn (rules : Rules) (choice : PageChoice) (pens : PenSet) (given
   pub input : List ℕ
   pub taken : Consumes before.left after.left input
   pub draws : Draws rules choice pens given input before after answer
+
+-- the same of a plot whose text is kept
+abbrev pub drawing_of : Result ReadPlot Fault → Result Drawing Fault
+drawing_of (Ok read) = Ok read.drawing
+drawing_of (Err fault) = Err fault
+
+pub record HasReadAndDrawn (rules : Rules) (choice : PageChoice) (pens : PenSet) (given : Page) (before after : SourceState)
+    (answer : Result ReadPlot Fault) : Type 0 where
+  pub drawn : HasDrawn rules choice pens given before after (drawing_of answer)
+  pub text : IfOk answer (λ read. read.text.items ≡ drawn.input)

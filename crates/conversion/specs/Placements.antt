@@ -84,10 +84,6 @@ IsPlacedBy None choice rules pens given plot place =
 abbrev pub IsPlaced : PageChoice → Rules → PenSet → Page → List ℕ → Place → Type 0
 IsPlaced choice rules pens given plot place = IsPlacedBy choice.margin choice rules pens given plot place
 
--- if nothing else is chosen, it is the given page
-abbrev pub IsGivenPlace : PageChoice → Page → Place → Type 0
-IsGivenPlace choice given place = choice.asked ≡ false → choice.margin ≡ None → place ≡ place_on Given given
-
 -- the strokes of a picture: moved, if it shows the page around them
 abbrev pub strokes_at : Placement → PenSet → Page → Corner → Page → List Segment → List Segment
 strokes_at Fitted pens drawn_on corner page strokes = moved_strokes pens drawn_on corner page strokes

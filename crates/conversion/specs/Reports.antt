@@ -1,9 +1,11 @@
 -- The report on a plot, and what a report answers, from what it read.
-use Rattle.std.specs.Prelude.{◌≡◌, ℕ, ◌+◌, ◌<◌, List, length, take, Result, Ok, Err, None, nat_le}
+use Rattle.std.specs.Prelude.{◌≡◌, ◌⊎◌, ℕ, ◌+◌, ◌<◌, List, length, take, Result, Ok, Err, None, nat_le}
 use Rattle.std.specs.Io.KnownBytes.{Consumes, Appends}
 use Rattle.plot_page.specs.declared.page.Page.{Page}
 use Rattle.devices.specs.Sinks.{SinkState}
-use Rattle.conversion.specs.Drawings.{IsNotDrawn}
+use Rattle.conversion.specs.Drawings.{HasDrawn, IsNotDrawn}
+use Rattle.conversion.specs.Sheets.{TellsOf}
+use Rattle.conversion.specs.declared.place.Drawing.{Drawing}
 use Rattle.plot_page.specs.Segments.{Segment}
 use Rattle.plot_report.specs.Report.{report_of, full_report_of, report_page}
 use Rattle.plot_report.specs.declared.report_page.ReportPage.{ReportPage}
@@ -13,8 +15,6 @@ use Rattle.conversion.specs.Rules.{Rules, core_notes, full_notes, rules_of}
 use Rattle.plot_page.specs.Pens.{has_pen}
 use Rattle.plot_page.specs.declared.pens.PenSet.{PenSet}
 use Rattle.picture_job.specs.declared.page_choice.PageChoice.{PageChoice}
-use Rattle.conversion.specs.Placements.{IsFirstPage, IsGivenPlace, IsPlaced, Place, page_reported, placed_rules}
-use Rattle.page_fit.specs.Census.{census_of}
 use Rattle.conversion.specs.declared.outcome.Outcome.{Outcome}
 use Rattle.conversion.specs.Readings.{WasRead, WasTooLong}
 use Rattle.devices.specs.Sources.{SourceState}
@@ -26,6 +26,11 @@ use Rattle.conversion.specs.declared.fault.Fault.TheVariants.{TooLong, Memory, P
 abbrev pub report_on : Reading → ReportPage → List Segment → ℕ → List ℕ → List ℕ
 report_on Core page strokes sheets plot = report_of page strokes (core_notes plot)
 report_on (Full sheet encoding) page strokes sheets plot = full_report_of page sheets strokes (full_notes plot)
+
+-- that on a drawing of a plot
+abbrev pub report_drawn : Reading → Drawing → List ℕ → List ℕ
+report_drawn reading drawing plot =
+    report_on reading drawing.named drawing.lines.strokes.items drawing.lines.sheets plot
 
 -- that on a plot that is drawn by these rules
 abbrev pub report_by : Reading → Rules → ReportPage → Page → List ℕ → List ℕ
@@ -66,7 +71,9 @@ Reports reading page input before after sink sink' (Err TooLong) = WasTooLong in
 Reports reading page input before after sink sink' (Err Memory) = after.faults ≡ before.faults
 Reports reading page input before after sink sink' (Err (Write row whole bytes)) =
     IsReportCutShort reading (rules_of reading) (report_page page) page input before after sink sink' row whole bytes
-Reports reading page input before after sink sink' (Err fault) = IsNotDrawn (rules_of reading) page input before after fault
+Reports reading page input before after sink sink' (Err (Plot fault)) =
+    IsNotDrawn (rules_of reading) page input before after fault
+Reports reading page input before after sink sink' (Err _) = ⊥
 
 -- a report on a plot that is read so: what it took from the source, and its answer
 pub record HasReportedAs (reading : Reading) (page : Page) (before after : SourceState) (sink sink' : SinkState)
@@ -83,32 +90,27 @@ HasReported = HasReportedAs Core
 abbrev pub AreAllPens : PenSet → Type 0
 AreAllPens pens = (pen : ℕ) → pen < 256 → has_pen pens pen ≡ nat_le 1 pen
 
--- what each answer says where the page was chosen, by what all pens draw: that of the place where their picture lies
-abbrev pub ReportsOn : Rules → Reading → PageChoice → PenSet → Page → Place → List ℕ → SourceState → SourceState → SinkState →
-    SinkState → Result Outcome Fault → Type 0
-ReportsOn rules reading choice pens given place input before after sink sink' (Ok outcome) =
-    let there = placed_rules rules pens place in
-    IsPlaced choice rules pens given input place × (outcome.placement ≡ place.placement)
-    × IsReported reading there (page_reported place) place.page input before after sink sink' outcome.done
-    × (outcome.census ≡ census_of pens place.page (there.strokes place.page input))
-    × (outcome.sheets ≡ there.sheets place.page input)
-ReportsOn rules reading choice pens given place input before after sink sink' (Err (Write row whole bytes)) =
-    IsPlaced choice rules pens given input place
-    × IsReportCutShort reading (placed_rules rules pens place) (page_reported place) place.page input
-    before after sink sink' row whole bytes
-ReportsOn rules reading choice pens given place input before after sink sink' (Err (Plot fault)) =
-    IsFirstPage choice rules given input place.drawn_on
-    × IsNotDrawn rules place.drawn_on input before after (Plot fault)
-ReportsOn rules reading choice pens given place input before after sink sink' (Err fault) =
-    Reports reading given input before after sink sink' (Err fault)
+-- what each answer says of a report on a drawing of a plot that is read so: it was written whole, or the sink failed after the
+-- first bytes of it, which has no rows to go on from. The strokes of these pens are counted
+abbrev pub WritesReport : Reading → PenSet → Drawing → List ℕ → SinkState → SinkState → Result Outcome Fault → Type 0
+WritesReport reading pens drawing plot sink sink' (Ok outcome) =
+    let text = report_drawn reading drawing plot in
+    Appends sink.held sink'.held text × (sink'.faults ≡ sink.faults)
+    × (outcome.done.rows ≡ 0) × (outcome.done.bytes ≡ length text)
+    × TellsOf drawing pens drawing.lines.strokes.items outcome
+WritesReport reading pens drawing plot sink sink' (Err (Write row whole bytes)) =
+    let text = report_drawn reading drawing plot in
+    Appends sink.held sink'.held (take bytes text) × (bytes < length text) × (sink'.faults ≡ sink.faults + 1)
+    × (row ≡ 0) × (whole ≡ 0)
+WritesReport reading pens drawing plot sink sink' (Err _) = ⊥
 
--- a report where the page was chosen, as HasReportedAs
+-- a plot was read, drawn with all pens on the page that was chosen, and reported; or it was not drawn, for the reason that is
+-- answered
 pub record HasReportedOn (rules : Rules) (reading : Reading) (choice : PageChoice) (page : Page) (before after : SourceState)
     (sink sink' : SinkState) (answer : Result Outcome Fault) : Type 0 where
-  pub input : List ℕ
-  pub taken : Consumes before.left after.left input
   pub pens : PenSet
   pub all : AreAllPens pens
-  pub place : Place
-  pub given : IsGivenPlace choice page place
-  pub reports : ReportsOn rules reading choice pens page place input before after sink sink' answer
+  pub reports :
+      ((drawing : Drawing) × (drawn : HasDrawn rules choice pens page before after (Ok drawing))
+      × WritesReport reading pens drawing drawn.input sink sink' answer)
+      ⊎ ((fault : Fault) × HasDrawn rules choice pens page before after (Err fault) × (answer ≡ Err fault))

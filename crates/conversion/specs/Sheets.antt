@@ -1,5 +1,5 @@
 -- The picture of strokes of a drawing: of all of them, or of those of one sheet.
-use Rattle.std.specs.Prelude.{◌≡◌, ℕ, false, List, length, Result, Ok, Err}
+use Rattle.std.specs.Prelude.{◌≡◌, ℕ, List, length, Result, Ok, Err}
 use Rattle.full_plot.specs.Drawings.{sheet_strokes}
 use Rattle.full_plot.specs.Labels.{labels_of_sheet}
 use Rattle.labels.specs.Labels.{LabelShape}
@@ -11,12 +11,11 @@ use Rattle.picture_job.specs.declared.png_job.PngJob.{PngJob}
 use Rattle.picture_job.specs.declared.page_choice.PageChoice.{PageChoice}
 use Rattle.picture_job.specs.declared.smoothing.Smoothing.{Smoothing}
 use Rattle.devices.specs.Sinks.{SinkState}
-use Rattle.conversion.specs.Conversions.{is_possible_in, on_page, rows_on, times_on}
-use Rattle.conversion.specs.Documents.{HasPaintedPng, is_png_possible_in, picture_shown, png_on_page, png_rows_on}
+use Rattle.conversion.specs.Conversions.{on_page, rows_on, times_on}
+use Rattle.conversion.specs.Documents.{HasPaintedPng, picture_shown, png_on_page, png_rows_on}
 use Rattle.conversion.specs.Pictures.{Reach}
 use Rattle.conversion.specs.Progress.{HasPainted}
 use Rattle.conversion.specs.declared.fault.Fault.{Fault}
-use Rattle.conversion.specs.declared.fault.Fault.TheVariants.{Resolution}
 use Rattle.conversion.specs.declared.outcome.Outcome.{Outcome}
 use Rattle.conversion.specs.declared.place.Drawing.{Drawing}
 
@@ -38,8 +37,8 @@ pub record TellsOf (drawing : Drawing) (pens : PenSet) (strokes : List Segment) 
   pub sheets : outcome.sheets ≡ drawing.lines.sheets
   pub census : outcome.census ≡ census_of pens drawing.page strokes
 
--- what each answer says of a picture of these strokes on the page where the drawing lies: it was written whole, or the sink
--- failed, or the job cannot be done there
+-- what each answer says of a picture of these strokes on the page where the drawing lies, which is possible: it was written
+-- whole, or the sink failed, or the job cannot be done there
 abbrev pub WritesStrokes : PageChoice → Smoothing → Job → Drawing → List Segment → Reach → SinkState → SinkState →
     Result Outcome Fault → Type 0
 WritesStrokes choice smoothing job drawing strokes reaches sink sink' (Ok outcome) =
@@ -47,8 +46,6 @@ WritesStrokes choice smoothing job drawing strokes reaches sink sink' (Ok outcom
     (Ok outcome.done.bytes)
     × (outcome.done.rows ≡ rows_on choice drawing.page job)
     × TellsOf drawing job.pens strokes outcome
-WritesStrokes choice smoothing job drawing strokes reaches sink sink' (Err Resolution) =
-    is_possible_in choice.pixels smoothing.times job ≡ false
 WritesStrokes choice smoothing job drawing strokes reaches sink sink' (Err fault) =
     HasPainted (times_on choice drawing.page job smoothing) (on_page choice drawing.page job) reaches strokes sink sink'
     (Err fault)
@@ -61,6 +58,5 @@ WritesPng choice job drawing strokes reaches sink sink' (Ok outcome) =
     × (outcome.done.rows ≡ png_rows_on choice drawing.page job)
     × (outcome.done.bytes ≡ 0)
     × TellsOf drawing job.pens strokes outcome
-WritesPng choice job drawing strokes reaches sink sink' (Err Resolution) = is_png_possible_in choice.pixels job ≡ false
 WritesPng choice job drawing strokes reaches sink sink' (Err fault) =
     HasPaintedPng {U = Outcome} (picture_shown (png_on_page choice drawing.page job) reaches strokes) sink sink' (Err fault)

@@ -1,16 +1,14 @@
--- Vector documents of plots: what is written for a drawing, and what a conversion to one answers.
-use Rattle.std.specs.Prelude.{◌≡◌, ◌↔◌, ◌⊎◌, Bool, ℕ, ◌+◌, min, nat_eq, nat_le, nat_lt, true, false, if◌then◌else◌, List, [], ◌∷◌, length, Result, Ok, Err, IfOk, ⊤}
+-- Vector documents of plots: what is written for a drawing.
+use Rattle.std.specs.Prelude.{◌≡◌, ◌↔◌, Bool, ℕ, ◌+◌, min, nat_eq, nat_le, nat_lt, true, false, if◌then◌else◌, List, [], ◌∷◌, length, Result, Ok, Err, IfOk, ⊤}
 use Rattle.std.specs.Io.KnownBytes.{Appends}
 use Rattle.plot_page.specs.Segments.{Segment}
 use Rattle.plot_page.specs.declared.page.Page.{Page}
 use Rattle.plot_page.specs.declared.pens.PenSet.{PenSet}
-use Rattle.picture_job.specs.declared.page_choice.PageChoice.{PageChoice}
 use Rattle.picture_job.specs.declared.vector_job.VectorFormat.{VectorFormat}
 use Rattle.picture_job.specs.declared.vector_job.VectorFormat.TheVariants.{Pdf, Svg}
 use Rattle.picture_job.specs.declared.vector_job.VectorJob.{VectorJob}
 use Rattle.labels.specs.Labels.{LabelShape}
 use Rattle.devices.specs.Sinks.{SinkState}
-use Rattle.devices.specs.Sources.{SourceState}
 use Rattle.pdf.specs.Documents.{AreStreams, pdf_bytes, pens_drawn, rows_shown, sheet_labels, sheets}
 use Rattle.pdf.specs.Texts.{letter_count}
 use Rattle.pdf.specs.declared.counts.TheConstants.{MOST_LETTERS}
@@ -18,8 +16,7 @@ use Rattle.pdf.specs.declared.title.TheConstants.{MOST_CHARACTERS}
 use Rattle.svg.specs.Documents.{sheets_bytes, svg_bytes}
 use Rattle.svg.specs.Titles.{text_length}
 use Rattle.svg.specs.declared.lengths.TheConstants as svg
-use Rattle.conversion.specs.Drawings.{HasDrawn}
-use Rattle.conversion.specs.Rules.{Rules, ends_of}
+use Rattle.conversion.specs.Rules.{ends_of}
 use Rattle.conversion.specs.Sheets.{TellsOf, labels_on, strokes_on}
 use Rattle.conversion.specs.declared.fault.Fault.{Fault}
 use Rattle.conversion.specs.declared.fault.Fault.TheVariants.{Letters, Memory, Unfinished}
@@ -89,11 +86,3 @@ pub record WritesVector (job : VectorJob) (naming : Naming) (drawing : Drawing) 
   pub rows : IfOk answer (λ outcome. outcome.done.rows ≡ 0)
   pub bytes : IfOk answer (λ outcome. outcome.done.bytes ≡ 0)
   pub tells : IfOk answer (TellsOf drawing job.pens (strokes_on drawing sheet))
-
--- a plot was drawn, with its labels, and the document of all that is drawn was written, or it was not drawn, for the reason that is answered
-abbrev pub HasConvertedToVector : Rules → PageChoice → VectorJob → Naming → SourceState → SourceState → SinkState →
-    SinkState → Result Outcome Fault → Type 0
-HasConvertedToVector rules choice job naming before after sink sink' answer =
-    ((drawing : Drawing) × HasDrawn rules choice job.pens job.page before after (Ok drawing)
-    × (drawing.lines.labelled ≡ true) × WritesVector job naming drawing 0 sink sink' answer)
-    ⊎ ((fault : Fault) × HasDrawn rules choice job.pens job.page before after (Err fault) × (answer ≡ Err fault))

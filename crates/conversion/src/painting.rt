@@ -12,7 +12,7 @@ use crate::bands::Bands;
 use crate::cell_bands::CellBands;
 use crate::fault::Fault;
 use crate::pcl_bands::PclBands;
-use crate::sheet::is_smoothed;
+use crate::possible::is_smoothed;
 use crate::smooth_bands::{SmoothBands, Smoothed};
 use crate::watcher::Watcher;
 use crate::writing::write_picture;

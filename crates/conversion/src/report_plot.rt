@@ -1,23 +1,23 @@
-//! The report: read, cut, draw, describe.
+//! The report: a plot is read, drawn and described.
 ghost use Rattle.std.specs.Prelude.{◌≡◌, ◌-◌, ◌+◌, ◌^◌, ◌<◌, ◌≤◌, IfOk, IfErr, false, length};
 ghost use Rattle.std.specs.Io.KnownBytes.{IsAtEnd};
 ghost use Rattle.plot_page.specs.declared.stroke.TheConstants.{MOST_STROKES};
 ghost use Rattle.hpgl_text.specs.declared.program.TheConstants.{LONGEST_PLOT};
 ghost use Rattle.devices.specs.Sinks.{Writes};
 ghost use Rattle.conversion.specs.Conversions.{is_write};
-ghost use Rattle.conversion.specs.Reports.{HasReported, HasReportedOn, report_on};
+ghost use Rattle.conversion.specs.Reports.{HasReported, HasReportedOn, WritesReport, report_on};
 ghost use Rattle.conversion.specs.Rules.{rules_with};
 
 use crate::done::Done;
+use crate::drawing::read_and_draw;
 use crate::fault::Fault;
 use crate::outcome::Outcome;
-use crate::place::draw_placed;
-use crate::reading::read_plot;
+use crate::place::Drawing;
+use crate::sheet::outcome_of;
 use carousel::Carousel;
 use devices::{Sink, Source, WriteFault};
 use full_notes::FullNotes;
 use hpgl_plot::Notes;
-use page_fit::census_of;
 use picture_job::{PageChoice, Reading};
 use plot_page::{Page, PenSet, Stroke};
 use plot_report::{ReportPage, write_full_report, write_report};
@@ -82,40 +82,35 @@ pub fn report_on<S: Source, K: Sink>(
     ensures untouched { IfErr result (λ fault. is_write fault ≡ false → sink.new ≡ sink.old) }
 {
     let pens = PenSet::all();
-    let plot = read_plot(alloc, source)?;
-    let drawn = draw_placed(
-        alloc,
-        reading,
-        carousel,
-        choice,
-        pens,
-        page,
-        plot.as_slice(),
-        false,
-    )?;
-    let strokes = drawn.lines.strokes.as_slice();
+    match read_and_draw(alloc, reading, carousel, choice, pens, page, false, source) {
+        Ok(read) => report_drawing(reading, pens, &read.drawing, read.text.as_slice(), sink),
+        Err(fault) => Err(fault),
+    }
+}
+
+// Writes the report on a drawing of a plot that is read so. The strokes of these pens are counted.
+fn report_drawing<K: Sink>(
+    reading: Reading,
+    pens: PenSet,
+    drawing: &Drawing,
+    plot: &[u8],
+    sink: &mut K,
+) -> Result<Outcome, Fault>
+    requires plot { length plot.now ≤ LONGEST_PLOT }
+    requires sinking { (K.state sink.old).faults < 2 ^ 64 - 1 }
+    ensures writes { WritesReport reading pens drawing.now plot.now (K.state sink.old) (K.state sink.new) result }
+    ensures untouched { IfErr result (λ fault. is_write fault ≡ false → sink.new ≡ sink.old) }
+{
+    let strokes = drawing.lines.strokes.as_slice();
     match write_as(
         reading,
-        drawn.named,
+        drawing.named,
         strokes,
-        drawn.lines.sheets,
-        plot.as_slice(),
+        drawing.lines.sheets,
+        plot,
         sink,
     ) {
-        Ok(bytes) => {
-            let done = Done {
-                rows: 0,
-                bytes,
-                strokes: strokes.len(),
-                notes: drawn.lines.notes,
-            };
-            Ok(Outcome {
-                done,
-                placement: drawn.placement,
-                sheets: drawn.lines.sheets,
-                census: census_of(strokes, pens, &drawn.page),
-            })
-        }
+        Ok(bytes) => Ok(outcome_of(drawing, pens, strokes, 0, bytes)),
         Err(fault) => Err(Fault::Write {
             row: 0,
             whole: 0,

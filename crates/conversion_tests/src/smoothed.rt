@@ -1,10 +1,10 @@
 //! Smoothed pictures. The sums of their bytes are those of pictures whose pixels were compared with the means of pixels of the
 //! finer ones.
 use carousel::Carousel;
-use conversion::{Fault, Unwatched, convert_on, convert_png};
+use conversion::{Fault, Naming, Unwatched, draw, write};
 use crc32::crc_of;
 use devices::{OverRead, OverWrite};
-use picture_job::{Job, PageChoice, PngJob, Reading, Smoothing};
+use picture_job::{Job, PageChoice, Picture, PngJob, Reading, Smoothing};
 use picture_out::Form;
 use plot_page::{Dots, Page, PenSet};
 use std::alloc::Global;
@@ -14,6 +14,12 @@ use stroke_raster::Exact;
 // Upright and slanted lines of four pens, of which two upright ones are a few finer pixels apart.
 const LINES: &[u8] =
     b"SP2;PW.1,2;PU2,0;PD2,64;PU20,0;PD20,64;SP3;PU40,0;PD40,64;SP5;PU0,50;PD64,10;SP4;PU60,0;PD60,64;SP2;PU0,30;PD64,34;";
+
+// What a document would be named; none is written here.
+const UNNAMED: Naming<'_> = Naming {
+    version: "",
+    title: "",
+};
 
 // The CRC-32 of the lines' pixmap, at so many dots per inch, smoothed so many times.
 fn pixmap_sum(alloc: Global, per_inch: u32, times: u32) -> Result<u32, Fail> {
@@ -26,38 +32,29 @@ fn pixmap_sum(alloc: Global, per_inch: u32, times: u32) -> Result<u32, Fail> {
         form: Form::Ppm,
     };
     let smoothing = Smoothing::new(times).ok_or("a smoothing")?;
-    Ok(sum_of_rows(alloc, &job, smoothing).ok().ok_or("a picture")?)
+    let picture = Picture::Rows { job, smoothing };
+    Ok(sum_of(alloc, &picture).ok().ok_or("a picture")?)
 }
 
-// The contracts of this function and of the next one promise nothing, so no proof of a test reads what conversions are
-// proved to do: a test looks at the sums.
-fn sum_of_rows(alloc: Global, job: &Job, smoothing: Smoothing) -> Result<u32, Fault> {
-    let mut sink = OverWrite::new(Vec::new(alloc));
-    convert_on(
+// The contract of this function promises nothing, so no proof of a test reads what conversions are proved to do: a test looks
+// at the sums.
+fn sum_of(alloc: Global, picture: &Picture) -> Result<u32, Fault> {
+    let drawing = draw(
         alloc,
         Reading::Core,
         &Carousel::empty(),
         PageChoice::GIVEN,
-        job,
-        smoothing,
-        &mut Exact::new(),
+        picture,
         &mut OverRead::new(LINES),
-        &mut sink,
-        &mut Unwatched,
     )?;
-    let bytes = sink.into_inner();
-    Ok(crc_of(&bytes))
-}
-
-fn sum_of_png(alloc: Global, job: &PngJob) -> Result<u32, Fault> {
-    let (sink, answer) = convert_png(
+    let (sink, answer) = write(
         alloc,
-        Reading::Core,
-        &Carousel::empty(),
+        &drawing,
+        0,
         PageChoice::GIVEN,
-        job,
+        picture,
+        UNNAMED,
         &mut Exact::new(),
-        &mut OverRead::new(LINES),
         OverWrite::new(Vec::new(alloc)),
         &mut Unwatched,
     );
@@ -89,7 +86,9 @@ fn shades_of_colours(rt: HostRuntime) -> Result<(), Fail> {
         pens: PenSet::all(),
         smoothing: Smoothing::new(2).ok_or("a smoothing")?,
     };
-    let sum = sum_of_png(rt.alloc(), &job).ok().ok_or("a picture")?;
+    let sum = sum_of(rt.alloc(), &Picture::Png(job))
+        .ok()
+        .ok_or("a picture")?;
     assert_eq!(rt; sum, 0x0b7f85b5);
     Ok(())
 }

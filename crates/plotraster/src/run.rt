@@ -5,20 +5,18 @@ ghost use Rattle.command_line.specs.declared.help.TheConstants.{VERSION};
 ghost use Rattle.conversion.specs.Conversions.{is_write};
 ghost use Rattle.plotraster.specs.Runs.{HasRun, exit_status_of, is_task_possible};
 
+use crate::sheets::{draw_sheets, write_sheet};
 use carousel::Carousel;
 use command_line::{Task, VERSION};
-use conversion::{
-    Fault, Naming, Outcome, Watcher, convert_on, convert_png, convert_vector, report_on, status,
-};
+use conversion::{Fault, Naming, Outcome, Watcher, report_on, status};
 use devices::{Sink, Source};
-use picture_job::{PageChoice, Picture, Reading};
+use picture_job::{PageChoice, Reading};
 use std::alloc::Global;
-use stroke_raster::Exact;
 
 /// Does what the task says with the plot that the source gives, which is read so and drawn with the pens of the carousel, on
-/// the page that is chosen: writes its picture, by the gauge `Exact`, or the report on it. Gives the sink back. The watcher
-/// is told how far a picture is, and nothing of a vector document, which is named so, or of a report. The errors are those of
-/// `convert_on`, `convert_png`, `convert_vector` and `report_on`.
+/// the page that is chosen: draws it, and writes the picture of all that is drawn, or writes the report on it. Gives the sink
+/// back. A vector document is named so; the watcher is told how far a picture in pixels is. The errors are those of
+/// `draw_sheets` and `write_sheet`, or of `conversion::report_on`.
 pub fn run_task<S: Source, K: Sink, W: Watcher>(
     alloc: Global,
     reading: Reading,
@@ -39,28 +37,17 @@ pub fn run_task<S: Source, K: Sink, W: Watcher>(
     ensures end { (S.state source.new).ends ≡ (S.state source.old).ends + 1 → IsAtEnd (S.state source.new).left }
     ensures untouched { IfErr result.1 (λ fault. is_write fault ≡ false → result.0 ≡ sink) }
 {
-    let mut gauge = Exact::new();
-    let mut sink = sink;
     match task {
-        Task::Picture(Picture::Rows { job, smoothing }) => {
-            let outcome = convert_on(
-                alloc, reading, carousel, choice, job, *smoothing, &mut gauge, source, &mut sink,
-                watcher,
-            );
-            (sink, outcome)
-        }
-        Task::Picture(Picture::Png(job)) => {
-            convert_png(
-                alloc, reading, carousel, choice, job, &mut gauge, source, sink, watcher,
-            )
-        }
-        Task::Picture(Picture::Vector(job)) => {
-            let outcome = convert_vector(
-                alloc, reading, carousel, choice, job, naming, source, &mut sink,
-            );
-            (sink, outcome)
+        Task::Picture(picture) => {
+            match draw_sheets(alloc, reading, carousel, choice, picture, source) {
+                Ok(drawing) => {
+                    write_sheet(alloc, &drawing, 0, choice, picture, naming, sink, watcher)
+                }
+                Err(fault) => (sink, Err(fault)),
+            }
         }
         Task::Report(page) => {
+            let mut sink = sink;
             let outcome = report_on(alloc, reading, carousel, choice, page, source, &mut sink);
             (sink, outcome)
         }

@@ -2,8 +2,8 @@
 use crate::cases::text_of;
 use crate::pages::eight_by_eight;
 use plotraster::{
-    Carousel, Encoding, Exact, Form, OverRead, OverWrite, PageChoice, Reading, Smoothing,
-    Unwatched, convert_on, read_colours, read_widths,
+    Carousel, Encoding, Form, OverRead, OverWrite, PageChoice, Picture, Reading, Smoothing, Task,
+    Unwatched, naming_of, read_colours, read_widths, run_task,
 };
 use std::alloc::Global;
 use std::test::Fail;
@@ -27,19 +27,22 @@ fn drawn(
         Ok(carousel) => carousel,
         Err(_) => return Err("bad widths".into()),
     };
-    let mut sink = OverWrite::new(Vec::new(alloc));
-    convert_on(
+    let picture = Picture::Rows {
+        job: eight_by_eight(Form::Marks)?,
+        smoothing: Smoothing::NONE,
+    };
+    let (sink, answer) = run_task(
         alloc,
         reading,
         &carousel,
         PageChoice::GIVEN,
-        &eight_by_eight(Form::Marks)?,
-        Smoothing::NONE,
-        &mut Exact::new(),
+        &Task::Picture(picture),
+        naming_of(""),
         &mut OverRead::new(plot),
-        &mut sink,
+        OverWrite::new(Vec::new(alloc)),
         &mut Unwatched,
-    )?;
+    );
+    answer?;
     let written = sink.into_inner();
     Ok(format!(in alloc; "{}", text_of(written.as_slice())?)?)
 }

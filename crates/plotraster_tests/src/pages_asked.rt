@@ -3,8 +3,8 @@ use crate::cases::text_of;
 use crate::pages::placed_on;
 use crate::placements::fitted;
 use plotraster::{
-    Carousel, Dots, Encoding, Exact, Fault, Form, Job, OverRead, OverWrite, Page, PageChoice,
-    PenSet, PlotFault, Reading, Smoothing, Unwatched, convert_on, report_on,
+    Carousel, Dots, Encoding, Fault, Form, Job, OverRead, OverWrite, Page, PageChoice, PenSet,
+    Picture, PlotFault, Reading, Smoothing, Task, Unwatched, naming_of, report_on, run_task,
 };
 use std::alloc::Global;
 use std::test::Fail;
@@ -108,19 +108,21 @@ fn drawn(alloc: Global, choice: PageChoice, plot: &[u8]) -> Result<String, Fail>
         first_row: 0,
         form: Form::Marks,
     };
-    let mut sink = OverWrite::new(Vec::new(alloc));
-    let outcome = convert_on(
+    let (sink, answer) = run_task(
         alloc,
         Reading::Core,
         &Carousel::empty(),
         choice,
-        &job,
-        Smoothing::NONE,
-        &mut Exact::new(),
+        &Task::Picture(Picture::Rows {
+            job,
+            smoothing: Smoothing::NONE,
+        }),
+        naming_of(""),
         &mut OverRead::new(plot),
-        &mut sink,
+        OverWrite::new(Vec::new(alloc)),
         &mut Unwatched,
-    )?;
+    );
+    let outcome = answer?;
     let written = sink.into_inner();
     let marks = text_of(written.as_slice())?;
     let (rows, placement) = (outcome.done.rows, outcome.placement);

@@ -2,8 +2,8 @@
 use crate::cases::text_of;
 use crate::pages::{eight_by_eight, placed_on};
 use plotraster::{
-    Carousel, Exact, Form, Job, OverRead, OverWrite, PageChoice, PenSet, Reading, Smoothing,
-    Unwatched, convert_on,
+    Carousel, Form, Job, OverRead, OverWrite, PageChoice, PenSet, Picture, Reading, Smoothing,
+    Task, Unwatched, naming_of, run_task,
 };
 use std::alloc::Global;
 use std::test::Fail;
@@ -147,20 +147,22 @@ fn drawn(alloc: Global, pens: PenSet, plot: &[u8]) -> Result<String, Fail> {
         pens,
         ..eight_by_eight(Form::Marks)?
     };
-    let mut sink = OverWrite::new(Vec::new(alloc));
     let choice = fitted(0);
-    let outcome = convert_on(
+    let (sink, answer) = run_task(
         alloc,
         Reading::Core,
         &Carousel::empty(),
         choice,
-        &job,
-        Smoothing::NONE,
-        &mut Exact::new(),
+        &Task::Picture(Picture::Rows {
+            job,
+            smoothing: Smoothing::NONE,
+        }),
+        naming_of(""),
         &mut OverRead::new(plot),
-        &mut sink,
+        OverWrite::new(Vec::new(alloc)),
         &mut Unwatched,
-    )?;
+    );
+    let outcome = answer?;
     let written = sink.into_inner();
     let marks = text_of(written.as_slice())?;
     let (rows, placement, census) = (outcome.done.rows, outcome.placement, outcome.census);

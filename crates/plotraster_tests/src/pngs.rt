@@ -1,8 +1,8 @@
 //! Pictures as PNG. The bytes are those that libpng and PIL read as the picture's PPM.
 use crate::streams::{Reader, Writer};
 use plotraster::{
-    Carousel, Dots, Exact, Fault, Outcome, OverRead, OverWrite, Page, PageChoice, PenSet, PngJob,
-    Reading, Smoothing, Unwatched, convert_png, number, status,
+    Carousel, Dots, Fault, Outcome, OverRead, OverWrite, Page, PageChoice, PenSet, Picture, PngJob,
+    Reading, Smoothing, Task, Unwatched, naming_of, number, run_task, status,
 };
 use std::alloc::Global;
 use std::test::Fail;
@@ -63,13 +63,13 @@ fn job_of(per_inch: u32, pens: PenSet) -> Result<PngJob, Fail> {
 }
 
 fn run(alloc: Global, job: &PngJob, plot: &[u8], writer: Writer) -> Answered {
-    let (sink, answer) = convert_png(
+    let (sink, answer) = run_task(
         alloc,
         Reading::Core,
         &Carousel::empty(),
         PageChoice::GIVEN,
-        job,
-        &mut Exact::new(),
+        &Task::Picture(Picture::Png(*job)),
+        naming_of(""),
         &mut OverRead::new(Reader::new(plot)),
         OverWrite::new(writer),
         &mut Unwatched,

@@ -2,8 +2,8 @@
 use crate::streams::{Reader, Writer};
 use plotraster::{
     Carousel, Encoding, Fault, Naming, Outcome, OverRead, OverWrite, Page, PageChoice, PenSet,
-    Picture, Reading, Task, Unwatched, VectorFormat, VectorJob, convert_vector, draw_sheets,
-    naming_of, number, run_task, status, write_sheet,
+    Picture, Reading, Task, Unwatched, VectorFormat, VectorJob, draw_sheets, naming_of, number,
+    run_task, status, write_sheet,
 };
 use std::alloc::Global;
 use std::test::Fail;
@@ -225,17 +225,17 @@ fn fitted_documents(rt: HostRuntime) -> Result<(), Fail> {
             ["/MediaBox[0 0 8.079 4.535]", "/Producer(plotraster "],
         ),
     ] {
-        let mut sink = OverWrite::new(Writer::new(alloc));
         let mut source = OverRead::new(Reader::new(b"SP1;PU30,30;PD130,30;"));
-        let answer = convert_vector(
+        let (sink, answer) = run_task(
             alloc,
             Reading::Core,
             &Carousel::empty(),
             choice,
-            &job_of(format, PenSet::all())?,
+            &Task::Picture(Picture::Vector(job_of(format, PenSet::all())?)),
             naming_of(""),
             &mut source,
-            &mut sink,
+            OverWrite::new(Writer::new(alloc)),
+            &mut Unwatched,
         );
         assert_eq!(rt; answer?.done.bytes, 0);
         let written = sink.into_inner();
@@ -314,17 +314,17 @@ fn refused_plots(rt: HostRuntime) -> Result<(), Fail> {
     };
     for format in [VectorFormat::Svg, VectorFormat::Pdf] {
         let job = job_of(format, PenSet::all())?;
-        let mut sink = OverWrite::new(Writer::new(alloc));
         let mut source = OverRead::new(Reader::new(b"SP1;PD8388607,8388607;"));
-        let answer = convert_vector(
+        let (sink, answer) = run_task(
             alloc,
             Reading::Core,
             &Carousel::empty(),
             choice,
-            &job,
+            &Task::Picture(Picture::Vector(job)),
             naming_of(""),
             &mut source,
-            &mut sink,
+            OverWrite::new(Writer::new(alloc)),
+            &mut Unwatched,
         );
         assert!(rt; matches!(answer, Err(Fault::Plot(_))));
         assert!(rt; sink.into_inner().bytes.is_empty());

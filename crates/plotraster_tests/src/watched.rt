@@ -5,8 +5,8 @@ use crate::pages::{CROSSING, eight_by_eight, job_at};
 use crate::runs::drawn;
 use crate::streams::Writer;
 use plotraster::{
-    Carousel, Exact, Form, Job, OverRead, OverWrite, PageChoice, PngJob, Reading, Smoothing,
-    Watcher, convert_on, convert_png,
+    Carousel, Fault, Form, Job, OverRead, OverWrite, PageChoice, Picture, PngJob, Reading,
+    Smoothing, Task, Watcher, draw_sheets, naming_of, run_task, write_sheet,
 };
 use std::alloc::Global;
 use std::process::Abort;
@@ -29,6 +29,14 @@ impl Watcher for Diary {
     }
 }
 
+// A picture in a form, without smoothing.
+fn rows_of(job: &Job) -> Picture {
+    Picture::Rows {
+        job: *job,
+        smoothing: Smoothing::NONE,
+    }
+}
+
 // Fails unless this is told of a picture of which so many bytes are written.
 fn is_told(
     rt: &impl Abort,
@@ -39,20 +47,18 @@ fn is_told(
 ) -> Result<(), Fail> {
     let mut writer = Writer::new(alloc);
     writer.room = room;
-    let mut sink = OverWrite::new(writer);
     let mut diary = Diary {
         told: String::new(alloc),
     };
-    let answer = convert_on(
+    let (sink, answer) = run_task(
         alloc,
         Reading::Core,
         &Carousel::empty(),
         PageChoice::GIVEN,
-        job,
-        Smoothing::NONE,
-        &mut Exact::new(),
+        &Task::Picture(rows_of(job)),
+        naming_of(""),
         &mut OverRead::new(CROSSING),
-        &mut sink,
+        OverWrite::new(writer),
         &mut diary,
     );
     assert_eq!(rt; diary.told.as_str(), wanted);
@@ -91,20 +97,19 @@ fn watchers_of_other_forms(rt: HostRuntime) -> Result<(), Fail> {
 }
 
 // Fails unless a picture is refused, and its watcher is told of nothing.
-fn is_not_told(rt: &impl Abort, alloc: Global, job: &Job, plot: &[u8]) -> Result<(), Fail> {
+fn is_not_told(rt: &impl Abort, alloc: Global, picture: Picture, plot: &[u8]) -> Result<(), Fail> {
     let mut diary = Diary {
         told: String::new(alloc),
     };
-    let answer = convert_on(
+    let (_, answer) = run_task(
         alloc,
         Reading::Core,
         &Carousel::empty(),
         PageChoice::GIVEN,
-        job,
-        Smoothing::NONE,
-        &mut Exact::new(),
+        &Task::Picture(picture),
+        naming_of(""),
         &mut OverRead::new(plot),
-        &mut OverWrite::new(Writer::new(alloc)),
+        OverWrite::new(Writer::new(alloc)),
         &mut diary,
     );
     assert!(rt; answer.is_err());
@@ -115,11 +120,11 @@ fn is_not_told(rt: &impl Abort, alloc: Global, job: &Job, plot: &[u8]) -> Result
 #[test]
 fn watchers_of_refused_pictures(rt: HostRuntime) -> Result<(), Fail> {
     let alloc = rt.alloc();
-    is_not_told(&rt, alloc, &job_at(Form::Pcl, 127)?, CROSSING)?;
+    is_not_told(&rt, alloc, rows_of(&job_at(Form::Pcl, 127)?), CROSSING)?;
     let mut job = eight_by_eight(Form::Ppm)?;
-    is_not_told(&rt, alloc, &job, OFF_RANGE)?;
+    is_not_told(&rt, alloc, rows_of(&job), OFF_RANGE)?;
     job.first_row = 9;
-    is_not_told(&rt, alloc, &job, CROSSING)
+    is_not_told(&rt, alloc, rows_of(&job), CROSSING)
 }
 
 #[test]
@@ -132,21 +137,36 @@ fn watchers_of_refused_pngs(rt: HostRuntime) -> Result<(), Fail> {
         pens: common.pens,
         smoothing: Smoothing::NONE,
     };
+    is_not_told(&rt, alloc, Picture::Png(job), OFF_RANGE)
+}
+
+// Sheets of a drawing are written at resolutions that PCL does not have.
+#[test]
+fn watchers_of_sheets_that_are_not_possible(rt: HostRuntime) -> Result<(), Fail> {
+    let (alloc, choice) = (rt.alloc(), PageChoice::GIVEN);
     let mut diary = Diary {
         told: String::new(alloc),
     };
-    let (_, answer) = convert_png(
+    let drawing = draw_sheets(
         alloc,
         Reading::Core,
         &Carousel::empty(),
-        PageChoice::GIVEN,
-        &job,
-        &mut Exact::new(),
-        &mut OverRead::new(OFF_RANGE),
+        choice,
+        &rows_of(&job_at(Form::Pcl, 75)?),
+        &mut OverRead::new(CROSSING),
+    )?;
+    let (sink, answer) = write_sheet(
+        alloc,
+        &drawing,
+        0,
+        choice,
+        &rows_of(&job_at(Form::Pcl, 127)?),
+        naming_of(""),
         OverWrite::new(Writer::new(alloc)),
         &mut diary,
     );
-    assert!(rt; answer.is_err());
+    assert_eq!(rt; answer, Err(Fault::Resolution));
     assert_eq!(rt; diary.told.as_str(), "");
+    assert!(rt; sink.into_inner().bytes.is_empty());
     Ok(())
 }

@@ -1,0 +1,91 @@
+-- Pictures of all kinds, in a form, as a PNG or as a vector document: a plot is drawn for one, and then it is written.
+use Rattle.std.specs.Prelude.{◌≡◌, ◌⊎◌, ℕ, Bool, true, false, Result, Ok, Err, IfOk}
+use Rattle.plot_page.specs.declared.page.Page.{Page}
+use Rattle.plot_page.specs.declared.pens.PenSet.{PenSet}
+use Rattle.picture_job.specs.declared.page_choice.PageChoice.{PageChoice}
+use Rattle.picture_job.specs.declared.picture.Picture.{Picture}
+use Rattle.picture_job.specs.declared.picture.Picture.TheVariants.{Rows, Png, Vector}
+use Rattle.devices.specs.Sinks.{SinkState}
+use Rattle.devices.specs.Sources.{SourceState}
+use Rattle.conversion.specs.Boxes.{strokes_boxes}
+use Rattle.conversion.specs.Conversions.{is_possible_in, on_page, rows_on, times_on}
+use Rattle.conversion.specs.Documents.{is_png_possible_in, png_boxes, png_on_page, png_rows_on}
+use Rattle.conversion.specs.Drawings.{HasDrawn}
+use Rattle.conversion.specs.Pictures.{Reach}
+use Rattle.conversion.specs.Rules.{Rules}
+use Rattle.conversion.specs.Sheets.{WritesPng, WritesStrokes, strokes_on}
+use Rattle.conversion.specs.Vectors.{WritesVector}
+use Rattle.conversion.specs.Watching.{IsToldOf}
+use Rattle.conversion.specs.declared.fault.Fault.{Fault}
+use Rattle.conversion.specs.declared.fault.Fault.TheVariants.{Resolution}
+use Rattle.conversion.specs.declared.naming.Naming.{Naming}
+use Rattle.conversion.specs.declared.outcome.Outcome.{Outcome}
+use Rattle.conversion.specs.declared.place.Drawing.{Drawing}
+
+-- the page and the pens of a picture
+abbrev pub page_of : Picture → Page
+page_of (Rows job smoothing) = job.page
+page_of (Png job) = job.page
+page_of (Vector job) = job.page
+
+abbrev pub pens_of : Picture → PenSet
+pens_of (Rows job smoothing) = job.pens
+pens_of (Png job) = job.pens
+pens_of (Vector job) = job.pens
+
+-- a vector document has the labels of the plot
+abbrev pub has_labels : Picture → Bool
+has_labels (Vector job) = true
+has_labels _ = false
+
+-- the form of a picture has its resolution, or has any if pixels are chosen, and a picture that is smoothed is not too fine
+abbrev pub is_picture_possible : PageChoice → Picture → Bool
+is_picture_possible choice (Rows job smoothing) = is_possible_in choice.pixels smoothing.times job
+is_picture_possible choice (Png job) = is_png_possible_in choice.pixels job
+is_picture_possible choice (Vector job) = true
+
+-- the picture of a sheet of a drawing, or of all that is drawn for 0, which is possible, was written by what a gauge reaches,
+-- or was not, for the reason that is answered; a vector document is named so
+abbrev pub WritesSheet : PageChoice → Picture → Naming → Reach → Drawing → ℕ → SinkState → SinkState → Result Outcome Fault →
+    Type 0
+WritesSheet choice (Rows job smoothing) naming reaches drawing sheet sink sink' answer =
+    WritesStrokes choice smoothing job drawing (strokes_on drawing sheet) reaches sink sink' answer
+WritesSheet choice (Png job) naming reaches drawing sheet sink sink' answer =
+    WritesPng choice job drawing (strokes_on drawing sheet) reaches sink sink' answer
+WritesSheet choice (Vector job) naming reaches drawing sheet sink sink' answer =
+    WritesVector job naming drawing sheet sink sink' answer
+
+-- how many tests that takes at most
+abbrev pub most_tests : PageChoice → Picture → Drawing → ℕ → ℕ
+most_tests choice (Rows job smoothing) drawing sheet =
+    strokes_boxes (times_on choice drawing.page job smoothing) (on_page choice drawing.page job) (strokes_on drawing sheet)
+most_tests choice (Png job) drawing sheet = png_boxes (png_on_page choice drawing.page job) (strokes_on drawing sheet)
+most_tests choice (Vector job) drawing sheet = 0
+
+-- a watcher is told of the rows that are written of a picture in pixels, on the page that it shows, and of nothing else
+abbrev pub IsToldOfPicture : {W : Type 0} → (W → ℕ → ℕ → W → Type 0) → PageChoice → Picture → Page → W → W →
+    Result Outcome Fault → Type 0
+IsToldOfPicture hears choice (Rows job smoothing) page before after answer =
+    IsToldOf hears (rows_on choice page job) before after answer
+IsToldOfPicture hears choice (Png job) page before after answer =
+    IsToldOf hears (png_rows_on choice page job) before after answer
+IsToldOfPicture hears choice (Vector job) page before after answer = after ≡ before
+
+-- a plot was drawn for a picture, with its labels if the picture has them; if the picture is not possible, nothing was read
+pub record HasDrawnFor (rules : Rules) (choice : PageChoice) (picture : Picture) (before after : SourceState)
+    (answer : Result Drawing Fault) : Type 0 where
+  pub unread : is_picture_possible choice picture ≡ false → (answer ≡ Err Resolution) × (after ≡ before)
+  pub draws : is_picture_possible choice picture ≡ true →
+      HasDrawn rules choice (pens_of picture) (page_of picture) before after answer
+  pub labelled : IfOk answer (λ drawing. drawing.lines.labelled ≡ has_labels picture)
+
+-- a plot was drawn for a picture, and then the picture of all that is drawn was written; or it was not drawn, for the reason
+-- that is answered, and a watcher is told of nothing
+abbrev pub HasConvertedTo : {W : Type 0} → Rules → PageChoice → Picture → Naming → Reach → SourceState → SourceState →
+    SinkState → SinkState → (W → ℕ → ℕ → W → Type 0) → W → W → Result Outcome Fault → Type 0
+HasConvertedTo rules choice picture naming reaches before after sink sink' hears watcher watcher' answer =
+    ((drawing : Drawing) × HasDrawnFor rules choice picture before after (Ok drawing)
+    × WritesSheet choice picture naming reaches drawing 0 sink sink' answer
+    × IsToldOfPicture hears choice picture drawing.page watcher watcher' answer)
+    ⊎ ((fault : Fault) × HasDrawnFor rules choice picture before after (Err fault) × (answer ≡ Err fault)
+    × (watcher' ≡ watcher))
