@@ -1,5 +1,6 @@
 //! What a run does, as a command line asks.
 ghost use Rattle.std.specs.Prelude.{◌≡◌, not, option_map};
+ghost use Rattle.plotraster.specs.Choices.{extension_of};
 ghost use Rattle.plotraster.specs.LineDeeds.{DeliversInto, DeliversLine, LooksForDestination, first_file, is_file, is_single, output_text, reasons_of, unless_standard};
 
 use crate::choices::{extension_of, has_reasons, is_standard_output};
@@ -13,7 +14,7 @@ use std::alloc::Global;
 
 /// Whether the output, if it has a name, goes into a folder that exists, whatever its name.
 pub fn destination_of<D: Desk>(desk: &mut D, output: Option<&str>) -> Destination
-    ensures { LooksForDestination D.does desk.old (option_map (λ path. path.now) output) result desk.new }
+    ensures { LooksForDestination D.does desk.old (option_map (λ path. path.now) output.entry) result desk.new }
 {
     match output {
         Some(path) => folder_or_file(has_folder(desk, path)),
@@ -91,7 +92,7 @@ fn single_of<'r>(line: &'r Line<'_, '_>) -> Single<'r>
 
 // The name of the output, but of standard output.
 fn unless_standard(path: Option<&str>) -> Option<&str>
-    ensures { option_map (λ path. path.now) result ≡ unless_standard (option_map (λ path. path.now) path) }
+    ensures { option_map (λ path. path.now) result ≡ unless_standard (option_map (λ path. path.now) path.entry) }
 {
     match path {
         Some(path) if !is_standard_output(path) => Some(path),
