@@ -25,7 +25,7 @@ SOURCES = (
     "conversion/src/fault.rt",
     "command_line/src/fault.rt",
     "delivery/src/messages.rt",
-    "plotraster_program/src/usage.rt",
+    "delivery/src/run.rt",
 )
 # A word that the manual page must have where it describes an exit status.
 STATUSES = {0: "was written", 1: "refused", 2: "command line", 3: "failed", 4: "Memory"}
@@ -44,7 +44,7 @@ def messages_of_sources():
     for source in SOURCES:
         text = read("crates", source)
         yield from re.findall(r'#\[error\("(.+)"\)\]', text)
-        yield from re.findall(r'(?:f, |rt; )"(?:plotraster: )?(?:{about})?((?:cannot|a picture is not) [^"]+)"', text)
+        yield from re.findall(r'(?:f, |write_str\()"(?:{about})?((?:cannot|a picture is not) [^"]+)"', text)
 
 
 def messages_of_the_page():
