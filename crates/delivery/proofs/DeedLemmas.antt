@@ -75,7 +75,6 @@ status_append (x ∷ xs) ys = status_append xs ys
 
 pub done_append : {D : Type 0} (does : D → Deed → D → Type 0) (xs ys : List Deed) (a m b : D) → WereDone does a xs m → WereDone does m ys b → WereDone does a (xs ++ ys) b
 done_append does [] ys a m b first next = subst (λ x. WereDone does x ys b) first next
-done_append does (Deed.wrote path item ending ∷ xs) ys a m b first next = done_append does xs ys a m b first next
 done_append does (x ∷ xs) ys a m b first next = (first.0, first.1, done_append does xs ys first.0 m b first.2 next)
 
 -- remarks are always allowed, and nothing goes wrong by them

@@ -4,10 +4,10 @@ use Rattle.output_files.specs.declared.file_id.FileId.{FileId}
 use Rattle.delivery.specs.declared.desk.Found.{Found}
 use Rattle.delivery.specs.declared.ending.Ending.{Ending}
 use Rattle.delivery.specs.declared.ending.Ending.TheVariants.{Whole, Kept, Lost}
-use Rattle.delivery.specs.Deeds.{Deed, Has, HasSaid, IsSaidOf, Item, Says, WereDone, status_after, status_of}
-use Rattle.delivery.specs.Care.{AreAllowed, AreFollowed, HasNoPlotAt, IsFollowed, IsSettled, SaysNext, part_of}
+use Rattle.delivery.specs.Deeds.{Deed, Has, IsSaidOf, Item, Says, WereDone, status_after, status_of}
+use Rattle.delivery.specs.Care.{AreAllowed, AreFollowed, HasNoPlotAt, IsFollowed, IsSettled, SaysNext, output_name, part_of}
 use Rattle.delivery.specs.Folders.{IsOpened}
-use Rattle.delivery.specs.Deliveries.{Delivers, Anything, IsLeft, HasName, IsMade, IsNamed, IsPut, IsReachable, IsStored, IsToBeNamed, IsWritten, MayBeMade, Never, SaysFirst}
+use Rattle.delivery.specs.Deliveries.{Delivers, Anything, IsLeft, HasName, IsMade, IsNamed, IsPut, IsReachable, IsShown, IsStored, IsToBeNamed, IsWritten, MayBeMade, Never, SaysFirst}
 use Rattle.delivery.proofs.DeedLemmas.{allowed_append, done_append, followed_append, has_last, has_left, has_right, no_plot_longer, replace_longer}
 use Rattle.delivery.proofs.DeedLemmas.{remarks_allowed, remarks_followed, remarks_status, settled_later, status_append}
 
@@ -122,13 +122,13 @@ module _ {D : Type 0} (does : D → Deed → D → Type 0) (plots : Option FileI
   may_longer part path earlier deed may = (no_plot_longer plots earlier (deed ∷ []) part may.0, replace_longer plots own earlier (deed ∷ []) path may.1)
 
   -- it was written whole
-  pub filled : (a b : D) (part path : List ℕ) (item : Item) (status : ℕ) → part ≡ part_of path
-      → Delivers does plots own a b status (IsWritten plots own part path) (IsSettled part) (HasName path)
+  pub filled : (a m b : D) (part path : List ℕ) (item : Item) (status : ℕ) → part ≡ part_of path → does a (Deed.wrote part item Whole) m
+      → Delivers does plots own m b status (IsWritten plots own part path) (IsSettled part) (HasName path)
       → Delivers does plots own a b status (IsMade plots own part path) (IsSettled part) (IsNamed item path)
-  filled a b part path item status is rest = record {
+  filled a m b part path item status is write rest = record {
     deeds = Deed.wrote part item Whole ∷ rest.deeds;
-    done = rest.done;
-    allowed = λ earlier has. (inl has.0, rest.allowed _ ((item, has_last earlier (Deed.wrote part item Whole)), may_longer part path earlier (Deed.wrote part item Whole) has.1));
+    done = (m, write, rest.done);
+    allowed = λ earlier has. (inr (inl has.0), rest.allowed _ ((item, has_last earlier (Deed.wrote part item Whole)), may_longer part path earlier (Deed.wrote part item Whole) has.1));
     followed = (tt, rest.followed);
     status_is = rest.status_is;
     ends = settled_later part (Deed.wrote part item Whole) rest.deeds rest.ends;
@@ -146,13 +146,13 @@ module _ {D : Type 0} (does : D → Deed → D → Type 0) (plots : Option FileI
   left_settled part item (Lost status) deeds left = IsSettled.gone (inr left.1)
 
   -- it was not
-  pub not_filled : (a b : D) (part path : List ℕ) (item : Item) (status : ℕ) (ending : Ending)
-      → Delivers does plots own a b status (λ earlier. HasNoPlotAt plots earlier part) (IsLeft ending part) Never
+  pub not_filled : (a m b : D) (part path : List ℕ) (item : Item) (status : ℕ) (ending : Ending) → does a (Deed.wrote part item ending) m
+      → Delivers does plots own m b status (λ earlier. HasNoPlotAt plots earlier part) (IsLeft ending part) Never
       → Delivers does plots own a b status (IsMade plots own part path) (IsSettled part) (IsNamed item path)
-  not_filled a b part path item status ending rest = record {
+  not_filled a m b part path item status ending write rest = record {
     deeds = Deed.wrote part item ending ∷ rest.deeds;
-    done = rest.done;
-    allowed = λ earlier has. (inl has.0, rest.allowed _ (no_plot_longer plots earlier (Deed.wrote part item ending ∷ []) part has.1.0));
+    done = (m, write, rest.done);
+    allowed = λ earlier has. (inr (inl has.0), rest.allowed _ (no_plot_longer plots earlier (Deed.wrote part item ending ∷ []) part has.1.0));
     followed = (says_why part item ending rest.deeds rest.ends, rest.followed);
     status_is = rest.status_is;
     ends = left_settled part item ending rest.deeds rest.ends;
@@ -241,26 +241,27 @@ module _ {D : Type 0} (does : D → Deed → D → Type 0) (plots : Option FileI
   wrote_whole path item (Kept status) deeds said zero = absurd (positive status said.0 zero)
   wrote_whole path item (Lost status) deeds said zero = absurd (positive status said.0 zero)
 
-  -- what became of a writing was said, and nothing else was done
-  pub only_said : (IsWhole : List Deed → Type 0) (a b : D) (status : ℕ) → HasSaid does a status b → ((deeds : List Deed) → IsWhole deeds)
-      → Delivers does plots own a b status Anything Anything IsWhole
-  only_said IsWhole a b status said whole = record {
-    deeds = said.1.0;
-    done = said.1.1;
-    allowed = λ earlier _. said_allowed earlier said.0 said.1.0 said.1.2;
-    followed = said_followed said.0 said.1.0 said.1.2;
-    status_is = said.2 ∙ said_status said.0 said.1.0 said.1.2;
+  -- what goes to standard output
+  pub shown : (a m b : D) (item : Item) (ending : Ending) (status : ℕ) → does a (Deed.wrote output_name item ending) m → Says does m ending b → status ≡ status_of ending
+      → Delivers does plots own a b status Anything Anything (IsShown item)
+  shown a m b item ending status write says is = record {
+    deeds = Deed.wrote output_name item ending ∷ says.0;
+    done = (m, write, says.1);
+    allowed = λ earlier _. (inl refl, said_allowed _ ending says.0 says.2);
+    followed = (said_next output_name item ending says.0 says.2, said_followed ending says.0 says.2);
+    status_is = is ∙ said_status ending says.0 says.2;
     ends = tt;
-    whole = λ _. whole said.1.0;
+    whole = λ zero. wrote_whole output_name item ending says.0 says.2 (sym is ∙ zero);
   }
 
   -- what has a path is written as it is
-  pub written : (a m b : D) (path : List ℕ) (item : Item) (ending : Ending) (status : ℕ) → does a (Deed.reached path true) m → Says does m ending b → status ≡ status_of ending
+  pub written : (a m n b : D) (path : List ℕ) (item : Item) (ending : Ending) (status : ℕ) → does a (Deed.reached path true) m → does m (Deed.wrote path item ending) n
+      → Says does n ending b → status ≡ status_of ending
       → Delivers does plots own a b status (IsReachable path) Anything (IsPut item path)
-  written a m b path item ending status reach says is = record {
+  written a m n b path item ending status reach write says is = record {
     deeds = Deed.reached path true ∷ Deed.wrote path item ending ∷ says.0;
-    done = (m, reach, says.1);
-    allowed = λ earlier has. (has, (inr (has_last earlier (Deed.reached path true)), said_allowed _ ending says.0 says.2));
+    done = (m, reach, (n, write, says.1));
+    allowed = λ earlier has. (has, (inr (inr (has_last earlier (Deed.reached path true))), said_allowed _ ending says.0 says.2));
     followed = (tt, (said_next path item ending says.0 says.2, said_followed ending says.0 says.2));
     status_is = is ∙ said_status ending says.0 says.2;
     ends = tt;

@@ -73,7 +73,7 @@ is_allowed = (
     record { found = None; looked = inl refl; apart = refl },
     (
       record { found = None; looked = inl refl; apart = refl },
-      (inl (inr (inr (inl refl))), ((all, inr (inr (inr (inl refl)))), ((inr (inr (inr (inr (inl refl)))), refl, inl refl), tt))),
+      (inr (inl (inr (inr (inl refl)))), ((all, inr (inr (inr (inl refl)))), ((inr (inr (inr (inr (inl refl)))), refl, inl refl), tt))),
     ),
   ),
 )

@@ -65,7 +65,7 @@ refused_harmless (Deed.looked p f ∷ deeds) status text are = refused_harmless 
 refused_harmless (x ∷ deeds) status text are = absurd are
 
 pub output_right : (item : Item) (path : Option (List ℕ)) (xs ys : List Deed) → IsOutputNamed item path ys → IsOutputNamed item path (xs ++ ys)
-output_right item None xs ys put = tt
+output_right item None xs ys put = has_right xs ys _ put
 output_right item (Some path) xs ys put = put_right item path xs ys put
 
 input_right : (file : Option (List ℕ)) (xs ys : List Deed) → IsInputOpened file ys → IsInputOpened file (xs ++ ys)

@@ -13,6 +13,10 @@ use Rattle.delivery.specs.Deeds.{Deed, Has, Item}
 abbrev pub part_of : List ℕ → List ℕ
 part_of path = path ++ codes ".part"
 
+-- the name of standard output, whatever it leads to
+abbrev pub output_name : List ℕ
+output_name = codes "/dev/stdout"
+
 -- the file that a look found
 abbrev pub id_found : Option Found → Option FileId
 id_found found = option_map (λ f. f.id) found
@@ -47,13 +51,17 @@ pub record HasDeviceAt (before : List Deed) (path : List ℕ) : Type 0 where
 abbrev pub MayReplace : (Option FileId → Bool) → Option (List ℕ) → List ℕ → List Deed → Type 0
 MayReplace plots own name before = (own ≡ Some name) ⊎ HasNoPlotAt plots before name
 
+-- what has this path can be written: it was made or reached, or it is standard output
+abbrev pub IsOpenAt : List ℕ → List Deed → Type 0
+IsOpenAt path before = (path ≡ output_name) ⊎ (Has before (Deed.created path true) ⊎ Has before (Deed.reached path true))
+
 -- a file is made or removed only if a look found no plot there; it is written only if it was made, stored only if it was
 -- written whole, and named only if it was stored, by the name that it was made for, if what has that may be replaced; what was
 -- there is written as it is only if it is open already, or no regular file
 abbrev pub IsAllowed : (Option FileId → Bool) → Option (List ℕ) → List Deed → Deed → Type 0
 IsAllowed plots own before (Deed.removed path) = HasNoPlotAt plots before path
 IsAllowed plots own before (Deed.created path done) = HasNoPlotAt plots before path
-IsAllowed plots own before (Deed.wrote path item ending) = Has before (Deed.created path true) ⊎ Has before (Deed.reached path true)
+IsAllowed plots own before (Deed.wrote path item ending) = IsOpenAt path before
 IsAllowed plots own before (Deed.synced path done) = (item : Item) × Has before (Deed.wrote path item Whole)
 IsAllowed plots own before (Deed.renamed path name done) = Has before (Deed.synced path true) × (path ≡ part_of name) × MayReplace plots own name before
 IsAllowed plots own before (Deed.reached path done) = (is_open_file path ≡ true) ⊎ HasDeviceAt before path

@@ -22,10 +22,9 @@ pub data Deed : Type 0 where
   refused : (status : ℕ) → Option (List ℕ) → Deed
   remarked : Option (List ℕ) → Deed
 
--- these deeds were done, one after another, and made the desk what it is; a desk takes no part in writing
+-- these deeds were done, one after another, and made the desk what it is
 abbrev pub WereDone : {D : Type 0} → (D → Deed → D → Type 0) → D → List Deed → D → Type 0
 WereDone does before [] after = after ≡ before
-WereDone does before (Deed.wrote path item ending ∷ deeds) after = WereDone does before deeds after
 WereDone {D} does before (deed ∷ deeds) after = (between : D) × does before deed between × WereDone does between deeds after
 
 -- this deed is among them
@@ -66,10 +65,6 @@ abbrev pub status_of : Ending → ℕ
 status_of Whole = 0
 status_of (Kept status) = status
 status_of (Lost status) = status
-
--- how a writing ended was said, and this is its exit status
-abbrev pub HasSaid : {D : Type 0} → (D → Deed → D → Type 0) → D → ℕ → D → Type 0
-HasSaid does before status after = (ending : Ending) × Says does before ending after × (status ≡ status_of ending)
 
 -- some remarks were made, and nothing else
 abbrev pub Remarks : {D : Type 0} → (D → Deed → D → Type 0) → D → D → Type 0

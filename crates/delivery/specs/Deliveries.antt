@@ -5,7 +5,7 @@ use Rattle.delivery.specs.declared.desk.Found.{Found}
 use Rattle.delivery.specs.declared.ending.Ending.{Ending}
 use Rattle.delivery.specs.declared.ending.Ending.TheVariants.{Whole, Kept, Lost}
 use Rattle.delivery.specs.Deeds.{AreRemarks, Deed, Has, Item, WereDone, status_after}
-use Rattle.delivery.specs.Care.{AreAllowed, AreFollowed, HasDeviceAt, HasNoPlotAt, MayReplace, SaysNext, id_found, is_device, is_open_file, part_of}
+use Rattle.delivery.specs.Care.{AreAllowed, AreFollowed, HasDeviceAt, HasNoPlotAt, MayReplace, SaysNext, id_found, is_device, is_open_file, output_name, part_of}
 
 -- some deeds were done, each of which is allowed if what they need was done before, and each failure of which is said; the
 -- status is the greatest of what was said, and if it is 0, the deeds are whole
@@ -68,6 +68,10 @@ SaysOnce does before status after = (text : Option (List ℕ)) × does before (D
 -- all of this is under its name, or was written into what had it
 abbrev pub IsPut : Item → List ℕ → List Deed → Type 0
 IsPut item path deeds = IsNamed item path deeds ⊎ Has deeds (Deed.wrote path item Whole)
+
+-- all of this was written to standard output
+abbrev pub IsShown : Item → List Deed → Type 0
+IsShown item deeds = Has deeds (Deed.wrote output_name item Whole)
 
 -- a look at a path found this file
 abbrev pub LooksAt : {D : Type 0} → (D → Deed → D → Type 0) → D → List ℕ → Option FileId → D → Type 0

@@ -4,7 +4,7 @@ use Rattle.output_files.specs.declared.file_id.FileId.{FileId}
 use Rattle.delivery.specs.declared.desk.Kind.{Kind}
 use Rattle.delivery.specs.declared.desk.Kind.TheVariants.{Folder}
 use Rattle.delivery.specs.Deeds.{Deed, Item}
-use Rattle.delivery.specs.Deliveries.{Anything, Delivers, IsPut}
+use Rattle.delivery.specs.Deliveries.{Anything, Delivers, IsPut, IsShown}
 use Rattle.delivery.specs.Folders.{ArePlotsPut, IsOpened}
 use Rattle.delivery.specs.Looks.{IsCareful}
 
@@ -32,16 +32,16 @@ IsInputOpened (Some file) deeds = IsOpened file deeds
 abbrev pub plot_item : Option (List ℕ) → Item
 plot_item file = record { file = unwrap_or file []; sheet = 0 }
 
--- the output has its name, if there is one
+-- the output has its name, or is on standard output
 abbrev pub IsOutputNamed : Item → Option (List ℕ) → List Deed → Type 0
-IsOutputNamed item None deeds = Unit
+IsOutputNamed item None deeds = IsShown item deeds
 IsOutputNamed item (Some path) deeds = IsPut item path deeds
 
 abbrev pub IsSingleDone : Option (List ℕ) → Option (List ℕ) → List Deed → Type 0
 IsSingleDone file path deeds = IsInputOpened file deeds × IsOutputNamed (plot_item file) path deeds
 
 -- the plot was looked for first; after that each deed was allowed, and each failure was said; the status is the greatest of
--- what was said, and 0 only if the plot was opened and its output has its name
+-- what was said, and 0 only if the plot was opened and its output has its name, or is on standard output
 abbrev pub DeliversSingle : {D : Type 0} → (D → Deed → D → Type 0) → Option (List ℕ) → Option (List ℕ) → D → D → ℕ → Type 0
 DeliversSingle does file path before after status =
     (plots : Option FileId → Bool) × Delivers does plots path before after status Anything (IsCareful plots (unwrap_or file input_name ∷ []))

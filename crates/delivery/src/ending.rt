@@ -4,7 +4,7 @@ ghost use Rattle.std.specs.Prelude.{◌≡◌};
 ghost use Rattle.delivery.specs.declared.ending.Ending.{Ending};
 
 use crate::about::About;
-use crate::desk::Desk;
+use crate::voice::Voice;
 use std::io::Write;
 
 /// How the writing of an output ended.
@@ -26,8 +26,12 @@ pub trait Content: Drop {
     /// What it is.
     ghost item: { Self → Item };
 
+    /// That it was written, and how that ended.
+    ghost wrote: { Self → Ending → Type 0 };
+
     /// Writes it, and gives the writer back.
-    fn write<W: Write + Drop>(self, to: W) -> (W, Self::Answer);
+    fn write<W: Write + Drop>(self, to: W) -> (W, Self::Answer)
+        ensures { wrote self (Self.Answer.ends result.1) };
 }
 
 /// What writing answered, and what a user should know of it.
@@ -44,6 +48,6 @@ pub trait Answer {
         ensures { IsFailure (ends result) };
 
     /// Says why the writing failed, or what a user should know of what was written; messages are about this.
-    fn tell<D: Desk>(&self, desk: &mut D, about: About<'_>)
-        ensures { Says D.does desk.old (ends self.now) desk.new };
+    fn tell<V: Voice>(&self, voice: &mut V, about: About<'_>)
+        ensures { Says V.does voice.old (ends self.now) voice.new };
 }

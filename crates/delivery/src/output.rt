@@ -3,9 +3,9 @@ ghost use Rattle.std.specs.Prelude.{◌≡◌, ◌<◌, ℕ, Bool, List, Option}
 ghost use Rattle.output_files.specs.declared.file_id.FileId.{FileId};
 ghost use Rattle.output_files.specs.Claims.{is_plot};
 ghost use Rattle.delivery.specs.Care.{HasNoPlotAt, IsSettled, MayReplace, is_file, is_open_file, part_of};
-ghost use Rattle.delivery.specs.Deeds.{HasSaid, IsFailure, status_of};
+ghost use Rattle.delivery.specs.Deeds.{IsFailure, status_of};
 ghost use Rattle.delivery.specs.Folders.{LooksForFolder, is_folder};
-ghost use Rattle.delivery.specs.Deliveries.{Anything, Delivers, HasName, IsLeft, IsMade, IsNamed, IsPut, IsReachable, IsStored, IsToBeNamed, IsWritten, LooksAt, MayBeMade, LooksForDevice, Never};
+ghost use Rattle.delivery.specs.Deliveries.{Anything, Delivers, HasName, IsLeft, IsMade, IsNamed, IsPut, IsReachable, IsShown, IsStored, IsToBeNamed, IsWritten, LooksAt, MayBeMade, LooksForDevice, Never};
 
 use crate::about::About;
 use crate::desk::{Desk, Kind};
@@ -99,7 +99,7 @@ fn write_device<D: Desk, C: Content>(desk: &mut D, about: About<'_>, content: C,
 {
     match desk.reach(path) {
         Ok(device) => {
-            let (_, answer) = content.write(device);
+            let (_, answer) = desk.write(path, content, device);
             answer.tell(desk, about);
             status_of(answer.ending())
         }
@@ -107,16 +107,20 @@ fn write_device<D: Desk, C: Content>(desk: &mut D, about: About<'_>, content: C,
     }
 }
 
-/// Writes the content to a stream, such as standard output, which is not synced.
-pub fn write_stream<D: Desk, C: Content, W: Write + Drop>(
+/// The name of standard output, whatever it leads to.
+const OUTPUT: &str = "/dev/stdout";
+
+/// Writes the content to standard output, which is not synced.
+pub fn write_stdout<D: Desk, C: Content, W: Write + Drop>(
     desk: &mut D,
     about: About<'_>,
     content: C,
     to: W,
 ) -> u8
-    ensures { HasSaid D.does desk.old result desk.new }
+    ensures { (plots : Option FileId → Bool) → (own : Option (List ℕ)) → Delivers D.does plots own desk.old desk.new result
+        Anything Anything (IsShown (C.item content)) }
 {
-    let (_, answer) = content.write(to);
+    let (_, answer) = desk.write(OUTPUT, content, to);
     answer.tell(desk, about);
     status_of(answer.ending())
 }
@@ -251,7 +255,7 @@ fn fill<D: Desk, C: Content>(
     ensures { (plots : Option FileId → Bool) → (own : Option (List ℕ)) → Delivers D.does plots own desk.old desk.new result
         (IsMade plots own part.now path.now) (IsSettled part.now) (IsNamed (C.item content) path.now) }
 {
-    let (file, answer) = content.write(file);
+    let (file, answer) = desk.write(part, content, file);
     match answer.ending() {
         Ending::Whole => store(desk, about, answer, file, part, path),
         Ending::Kept(_) | Ending::Lost(_) => {

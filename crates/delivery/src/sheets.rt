@@ -1,5 +1,6 @@
 //! Plots that are drawn once, and written sheet by sheet.
-ghost use Rattle.std.specs.Prelude.{◌≡◌, ◌<◌, ℕ};
+ghost use Rattle.std.specs.Prelude.{◌≡◌, ◌<◌, ℕ, List};
+ghost use Rattle.delivery.specs.declared.ending.Ending.{Ending};
 
 use crate::about::About;
 use crate::ending::{Answer, Content};
@@ -25,8 +26,12 @@ pub trait Sheets {
     fn count(&self) -> u32
         ensures { result ≡ sheet_count self.now };
 
+    /// That the sheet of this number was written, and how that ended.
+    ghost wrote: { Self → ℕ → Ending → Type 0 };
+
     /// Writes a sheet, counted from 1, about which messages say this.
-    fn write<W: Write + Drop>(&self, about: About<'_>, number: u32, to: W) -> (W, Self::Answer);
+    fn write<W: Write + Drop>(&self, about: About<'_>, number: u32, to: W) -> (W, Self::Answer)
+        ensures { wrote self.now number (Self.Answer.ends result.1) };
 }
 
 /// What is to be done with a plot.
@@ -43,6 +48,9 @@ pub trait Work {
     /// Whether each sheet is to have a file of its own.
     fn has_sheets_apart(&self) -> bool;
 
+    /// That the output of the plot of this file was written, and how that ended.
+    ghost wrote: { Self → List ℕ → Ending → Type 0 };
+
     /// Reads a plot, whose file has this path, and writes its output, about which messages say this.
     fn write<R: Read + Drop, W: Write + Drop>(
         &self,
@@ -50,7 +58,8 @@ pub trait Work {
         file: &str,
         plot: R,
         to: W,
-    ) -> (W, Self::Answer);
+    ) -> (W, Self::Answer)
+        ensures { wrote self.now file.now (Self.Answer.ends result.1) };
 
     /// Reads a plot and draws its sheets.
     fn draw<R: Read + Drop>(&self, plot: R) -> Result<Self::Sheets, Self::Refusal>;
@@ -69,6 +78,8 @@ impl<W: Work, R: Read + Drop> Content for PlotOf<'_, W, R> {
     type Answer = W::Answer;
 
     ghost item = { λ it. record { file = it.file.now; sheet = 0 } };
+
+    ghost wrote = { λ it ending. W.wrote it.work.now it.file.now ending };
 
     fn write<T: Write + Drop>(self, to: T) -> (T, W::Answer) {
         let PlotOf {
@@ -94,6 +105,8 @@ impl<S: Sheets> Content for SheetOf<'_, S> {
     type Answer = S::Answer;
 
     ghost item = { λ it. record { file = it.file.now; sheet = it.number } };
+
+    ghost wrote = { λ it ending. S.wrote it.sheets.now it.number ending };
 
     fn write<T: Write + Drop>(self, to: T) -> (T, S::Answer) {
         let SheetOf {

@@ -1,12 +1,12 @@
 //! One plot, whose output goes to one place.
-ghost use Rattle.std.specs.Prelude.{Some};
+ghost use Rattle.std.specs.Prelude.{Bool, List, Option, Some, ℕ};
+ghost use Rattle.output_files.specs.declared.file_id.FileId.{FileId};
 ghost use Rattle.output_files.specs.Claims.{is_plot};
-ghost use Rattle.delivery.specs.Deeds.{HasSaid};
-ghost use Rattle.delivery.specs.Deliveries.{Anything, Delivers, IsPut};
+ghost use Rattle.delivery.specs.Deliveries.{Anything, Delivers, IsPut, IsShown};
 
 use crate::about::About;
 use crate::desk::Desk;
-use crate::output::{Scene, deliver_to, write_stream};
+use crate::output::{Scene, deliver_to, write_stdout};
 use crate::sheets::{PlotOf, Work};
 use std::alloc::Global;
 use std::io::{Read, Write};
@@ -33,7 +33,7 @@ pub fn deliver_plot_to<D: Desk, W: Work, R: Read + Drop>(
     deliver_to(desk, alloc, scene, content, path)
 }
 
-/// Reads a plot, whose file has this name, and writes its output to a stream, such as standard output.
+/// Reads a plot, whose file has this name, and writes its output to standard output.
 pub fn write_plot_to<D: Desk, W: Work, R: Read + Drop, T: Write + Drop>(
     desk: &mut D,
     about: About<'_>,
@@ -42,7 +42,8 @@ pub fn write_plot_to<D: Desk, W: Work, R: Read + Drop, T: Write + Drop>(
     plot: R,
     to: T,
 ) -> u8
-    ensures { HasSaid D.does desk.old result desk.new }
+    ensures { (plots : Option FileId → Bool) → (own : Option (List ℕ)) → Delivers D.does plots own desk.old desk.new result
+        Anything Anything (IsShown (record { file = file.now; sheet = 0 })) }
 {
     let content = PlotOf {
         work,
@@ -50,5 +51,5 @@ pub fn write_plot_to<D: Desk, W: Work, R: Read + Drop, T: Write + Drop>(
         file,
         plot,
     };
-    write_stream(desk, about, content, to)
+    write_stdout(desk, about, content, to)
 }

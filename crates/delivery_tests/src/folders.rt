@@ -48,12 +48,14 @@ fn each_plot(rt: HostRuntime) -> Result<(), Fail> {
         "open a.plt
 remove d/a.png.part
 create d/a.png.part
+write d/a.png.part
 sync d/a.png.part
 remark a.plt: 
 rename d/a.png
 open b.plt
 remove d/b.png.part
 create d/b.png.part
+write d/b.png.part
 sync d/b.png.part
 remark b.plt: 
 rename d/b.png

@@ -43,7 +43,8 @@ fn told_of(
 #[test]
 fn whole_and_stored(rt: HostRuntime) -> Result<(), Fail> {
     let log = done(rt.alloc(), Told::Whole, "", "")?;
-    let wanted = "remove out.part\ncreate out.part\nsync out.part\nremark \nrename out\n0";
+    let wanted =
+        "remove out.part\ncreate out.part\nwrite out.part\nsync out.part\nremark \nrename out\n0";
     assert_eq!(rt; log.as_str(), wanted);
     Ok(())
 }
@@ -53,7 +54,7 @@ fn not_stored(rt: HostRuntime) -> Result<(), Fail> {
     let log = done(rt.alloc(), Told::Whole, "sync", "")?;
     assert_eq!(rt;
         log.as_str(),
-        "remove out.part\ncreate out.part\nsync out.part\nrefuse \n3"
+        "remove out.part\ncreate out.part\nwrite out.part\nsync out.part\nrefuse \n3"
     );
     Ok(())
 }
@@ -71,12 +72,12 @@ fn not_written(rt: HostRuntime) -> Result<(), Fail> {
     let kept = done(rt.alloc(), Told::Kept, "", "")?;
     assert_eq!(rt;
         kept.as_str(),
-        "remove out.part\ncreate out.part\nrefuse \n3"
+        "remove out.part\ncreate out.part\nwrite out.part\nrefuse \n3"
     );
     let lost = done(rt.alloc(), Told::Lost, "", "")?;
     assert_eq!(rt;
         lost.as_str(),
-        "remove out.part\ncreate out.part\nrefuse \nremove out.part\n3"
+        "remove out.part\ncreate out.part\nwrite out.part\nrefuse \nremove out.part\n3"
     );
     Ok(())
 }
@@ -97,7 +98,7 @@ fn part_is_the_plot(rt: HostRuntime) -> Result<(), Fail> {
 fn devices(rt: HostRuntime) -> Result<(), Fail> {
     let claims = Claims::new(rt.alloc());
     for (fails, wanted) in [
-        ("", "reach out\nremark \n0"),
+        ("", "reach out\nwrite out\nremark \n0"),
         (
             "reach",
             "reach out\nrefuse cannot write out: permission denied\n3",

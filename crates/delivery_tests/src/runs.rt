@@ -88,7 +88,7 @@ fn folder_log(
 #[test]
 fn one_plot(rt: HostRuntime) -> Result<(), Fail> {
     let wanted =
-        "open a.plt\nremove out.part\ncreate out.part\nsync out.part\nremark \nrename out\n0";
+        "open a.plt\nremove out.part\ncreate out.part\nwrite out.part\nsync out.part\nremark \nrename out\n0";
     let named = single_log(rt.alloc(), Some("a.plt"), Some("out"), "")?;
     assert_eq!(rt; named.as_str(), wanted);
     let read = single_log(rt.alloc(), None, Some("out"), "")?;

@@ -1,9 +1,9 @@
 //! Contents that end as is said, and plots with so many sheets.
-ghost use Rattle.std.specs.Prelude.{[]};
+ghost use Rattle.std.specs.Prelude.{[], ⊤};
 ghost use Rattle.delivery.specs.declared.ending.Ending.TheVariants as ended;
 ghost use Rattle.delivery_tests.specs.declared.work.Told.TheVariants as told;
 
-use delivery::{About, Answer, Content, Desk, Ending, Refusal, Sheets, Work};
+use delivery::{About, Answer, Content, Ending, Refusal, Sheets, Voice, Work};
 use std::fmt::{Display, Formatter, Result as Written};
 use std::io::{Read, Write};
 
@@ -19,6 +19,8 @@ impl Content for Told {
     type Answer = Told;
 
     ghost item = { λ _. record { file = []; sheet = 0 } };
+
+    ghost wrote = { λ _ _. ⊤ };
 
     fn write<W: Write + Drop>(self, to: W) -> (W, Told) {
         (to, self)
@@ -43,10 +45,10 @@ impl Answer for Told {
         }
     }
 
-    fn tell<D: Desk>(&self, desk: &mut D, about: About<'_>) {
+    fn tell<V: Voice>(&self, voice: &mut V, about: About<'_>) {
         match self {
-            Told::Whole => desk.remark(&about),
-            Told::Kept | Told::Lost => desk.refuse(3, &about),
+            Told::Whole => voice.remark(&about),
+            Told::Kept | Told::Lost => voice.refuse(3, &about),
         }
     }
 }
@@ -80,6 +82,8 @@ impl Sheets for Plot {
 
     ghost sheet_count = { λ plot. plot.sheets };
 
+    ghost wrote = { λ _ _ _. ⊤ };
+
     fn count(&self) -> u32 {
         self.sheets
     }
@@ -99,6 +103,8 @@ impl Work for Plot {
     type Sheets = Plot;
 
     type Refusal = NoSheets;
+
+    ghost wrote = { λ _ _ _. ⊤ };
 
     fn has_sheets_apart(&self) -> bool {
         self.sheets != 1

@@ -7,66 +7,66 @@ ghost use Rattle.plotraster.specs.Remarks.{lines_text, reason_of, report_of};
 use crate::choices::{has_all_pages, reading_for};
 use command_line::{Line, Task};
 use conversion::{Outcome, Placement};
-use delivery::{About, Desk};
+use delivery::{About, Voice};
 use picture_job::Reading;
 use std::fmt::{Display, Formatter, Result, Write};
 
 /// Says what a user should know of a picture or a report that is written, and what was drawn, if more is to be said. If each
 /// sheet has a picture of its own, there is nothing to say of their number.
-pub fn tell_outcome<D: Desk>(
-    desk: &mut D,
+pub fn tell_outcome<V: Voice>(
+    voice: &mut V,
     line: &Line<'_, '_>,
     about: About<'_>,
     is_sheet: bool,
     outcome: &Outcome,
 )
-    ensures { Remarks D.does desk.old desk.new }
+    ensures { Remarks V.does voice.old voice.new }
 {
-    tell_page(desk, line, about, outcome);
-    tell_notes(desk, line, about, is_sheet, outcome);
-    tell_sheets(desk, line, about, is_sheet, outcome);
-    tell_drawn(desk, line, about, outcome);
+    tell_page(voice, line, about, outcome);
+    tell_notes(voice, line, about, is_sheet, outcome);
+    tell_sheets(voice, line, about, is_sheet, outcome);
+    tell_drawn(voice, line, about, outcome);
 }
 
 // Says that nothing is drawn, or why the page is not the one that was asked for.
-fn tell_page<D: Desk>(desk: &mut D, line: &Line<'_, '_>, about: About<'_>, outcome: &Outcome)
-    ensures { Remarks D.does desk.old desk.new }
+fn tell_page<V: Voice>(voice: &mut V, line: &Line<'_, '_>, about: About<'_>, outcome: &Outcome)
+    ensures { Remarks V.does voice.old voice.new }
 {
     if line.interactive && !is_too_large(outcome.placement) && is_blank(outcome) {
-        tell_nothing(desk, line, about);
+        tell_nothing(voice, line, about);
     } else {
-        tell_placement(desk, about, outcome.placement);
+        tell_placement(voice, about, outcome.placement);
     }
 }
 
 // Says that nothing is drawn, unless draw is to be quiet.
-fn tell_nothing<D: Desk>(desk: &mut D, line: &Line<'_, '_>, about: About<'_>)
-    ensures { Remarks D.does desk.old desk.new }
+fn tell_nothing<V: Voice>(voice: &mut V, line: &Line<'_, '_>, about: About<'_>)
+    ensures { Remarks V.does voice.old voice.new }
 {
     if line.remarks {
         let report = report_of(line);
-        desk.remark(&NothingDrawn { about, report });
+        voice.remark(&NothingDrawn { about, report });
     }
 }
 
 // Says why the page is not the one that was asked for, if it is another.
-fn tell_placement<D: Desk>(desk: &mut D, about: About<'_>, placement: Placement)
-    ensures { Remarks D.does desk.old desk.new }
+fn tell_placement<V: Voice>(voice: &mut V, about: About<'_>, placement: Placement)
+    ensures { Remarks V.does voice.old voice.new }
 {
     if let Some(reason) = reason_of(placement) {
-        desk.remark(&OtherPage { about, reason });
+        voice.remark(&OtherPage { about, reason });
     }
 }
 
 // Says that there are more notes than lines, of which there is one at least.
-fn tell_notes<D: Desk>(
-    desk: &mut D,
+fn tell_notes<V: Voice>(
+    voice: &mut V,
     line: &Line<'_, '_>,
     about: About<'_>,
     is_sheet: bool,
     outcome: &Outcome,
 )
-    ensures { Remarks D.does desk.old desk.new }
+    ensures { Remarks V.does voice.old voice.new }
 {
     if is_hardly_understood(line, is_sheet, outcome) {
         let message = ManyNotes {
@@ -75,30 +75,30 @@ fn tell_notes<D: Desk>(
             lines: Lines(outcome.done.strokes),
             report: report_of(line),
         };
-        desk.remark(&message);
+        voice.remark(&message);
     }
 }
 
 // Says that the plot has more sheets than the one that is drawn.
-fn tell_sheets<D: Desk>(
-    desk: &mut D,
+fn tell_sheets<V: Voice>(
+    voice: &mut V,
     line: &Line<'_, '_>,
     about: About<'_>,
     is_sheet: bool,
     outcome: &Outcome,
 )
-    ensures { Remarks D.does desk.old desk.new }
+    ensures { Remarks V.does voice.old voice.new }
 {
     if !is_sheet && has_more_sheets(line, outcome) {
         let sheets = outcome.sheets;
-        desk.remark(&MoreSheets { about, sheets });
+        voice.remark(&MoreSheets { about, sheets });
     }
 }
 
 // Says how many lines the selected pens drew, how many of them lie off the page, how many others are cut at its edge if any are,
 // and how many notes there are, if that is asked for.
-fn tell_drawn<D: Desk>(desk: &mut D, line: &Line<'_, '_>, about: About<'_>, outcome: &Outcome)
-    ensures { Remarks D.does desk.old desk.new }
+fn tell_drawn<V: Voice>(voice: &mut V, line: &Line<'_, '_>, about: About<'_>, outcome: &Outcome)
+    ensures { Remarks V.does voice.old voice.new }
 {
     if line.verbose {
         let message = Drawn {
@@ -110,7 +110,7 @@ fn tell_drawn<D: Desk>(desk: &mut D, line: &Line<'_, '_>, about: About<'_>, outc
             notes: outcome.done.notes,
             report: report_of(line),
         };
-        desk.remark(&message);
+        voice.remark(&message);
     }
 }
 

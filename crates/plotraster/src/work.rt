@@ -1,5 +1,5 @@
 //! What a command line asks for, as work on plots.
-ghost use Rattle.std.specs.Prelude.{◌≡◌};
+ghost use Rattle.std.specs.Prelude.{◌≡◌, ⊤};
 ghost use Rattle.plotraster.specs.Choices.{sheet_count, title_of};
 ghost use Rattle.plotraster.specs.Endings.{ending_of};
 
@@ -11,7 +11,7 @@ use crate::run::{naming_of, run_task};
 use crate::sheets::{draw_sheets, write_sheet};
 use command_line::Line;
 use conversion::{Drawing, Fault, Outcome, status};
-use delivery::{About, Answer, Desk, Ending, Refusal, Sheets, Work};
+use delivery::{About, Answer, Ending, Refusal, Sheets, Voice, Work};
 use devices::{OverRead, OverWrite};
 use picture_job::Picture;
 use std::alloc::Global;
@@ -68,6 +68,8 @@ impl<'r, 'm, 'a, T: Terminal> Work for LineWork<'r, 'm, 'a, T> {
     type Sheets = DrawnSheets<'r, 'm, 'a, T>;
 
     type Refusal = Undrawn;
+
+    ghost wrote = { λ _ _ _. ⊤ };
 
     fn has_sheets_apart(&self) -> bool {
         picture_apart(self.line).is_some()
@@ -136,6 +138,8 @@ impl<'r, 'm, 'a, T: Terminal> Sheets for DrawnSheets<'r, 'm, 'a, T> {
 
     ghost sheet_count = { λ it. sheet_count it.drawing.lines.sheets };
 
+    ghost wrote = { λ _ _ _. ⊤ };
+
     fn count(&self) -> u32 {
         sheet_count(self.drawing.sheets())
     }
@@ -190,12 +194,12 @@ impl<'r, 'm, 'a> Answer for Written<'r, 'm, 'a> {
         }
     }
 
-    fn tell<D: Desk>(&self, desk: &mut D, about: About<'_>) {
+    fn tell<V: Voice>(&self, voice: &mut V, about: About<'_>) {
         match &self.outcome {
-            Ok(outcome) => tell_outcome(desk, self.line, about, self.is_sheet, outcome),
+            Ok(outcome) => tell_outcome(voice, self.line, about, self.is_sheet, outcome),
             Err(fault) => {
                 let fault = *fault;
-                desk.refuse(status(&fault), &Failed { about, fault });
+                voice.refuse(status(&fault), &Failed { about, fault });
             }
         }
     }

@@ -1,11 +1,11 @@
 //! The files, the streams and the terminal of the system.
 ghost use Rattle.std.specs.Prelude.{⊤};
 
-use delivery::{Desk, Found, Kind, Streams};
+use delivery::{Content, Desk, Found, Kind, Streams, Voice};
 use plotraster::{FileId, Terminal};
 use std::fmt::Display;
 use std::fs::{File, OpenOptions, metadata, remove_file, rename};
-use std::io::{Error, IsTerminal, Stdin, Stdout};
+use std::io::{Error, IsTerminal, Stdin, Stdout, Write};
 use std::os::unix::fs::MetadataExt;
 
 /// The system.
@@ -18,8 +18,6 @@ impl Desk for Host<'_> {
     type Plot = File;
 
     type File = File;
-
-    ghost does = { λ _ _ _. ⊤ };
 
     fn look(&mut self, path: &str) -> Result<Found, Error> {
         let found = metadata(self.rt, path)?;
@@ -49,6 +47,15 @@ impl Desk for Host<'_> {
         OpenOptions::new().write(true).open(self.rt, path)
     }
 
+    fn write<C: Content, W: Write + Drop>(
+        &mut self,
+        _path: &str,
+        content: C,
+        to: W,
+    ) -> (W, C::Answer) {
+        content.write(to)
+    }
+
     fn sync(&mut self, _path: &str, file: File) -> Result<(), Error> {
         file.sync_all()
     }
@@ -60,6 +67,10 @@ impl Desk for Host<'_> {
     fn remove(&mut self, path: &str) {
         let _ = remove_file(self.rt, path);
     }
+}
+
+impl Voice for Host<'_> {
+    ghost does = { λ _ _ _. ⊤ };
 
     fn refuse<M: Display>(&mut self, _status: u8, message: &M) {
         let _ = eprintln!(self.rt; "plotraster: {message}");

@@ -63,16 +63,19 @@ fn log_of(alloc: Global, line: &str) -> Result<String, Fail> {
 #[test]
 fn one_place(rt: HostRuntime) -> Result<(), Fail> {
     for (line, wanted) in [
-        ("plotraster pbm a.plt", "open a.plt\n0"),
-        ("plotraster pbm", "0"),
-        ("plotraster pbm a.plt -o /dev/stdout", "open a.plt\n0"),
+        ("plotraster pbm a.plt", "open a.plt\nwrite /dev/stdout\n0"),
+        ("plotraster pbm", "write /dev/stdout\n0"),
+        (
+            "plotraster pbm a.plt -o /dev/stdout",
+            "open a.plt\nwrite /dev/stdout\n0",
+        ),
         (
             "plotraster pbm a.plt -o out",
-            "open a.plt\nremove out.part\ncreate out.part\nsync out.part\nrename out\n0",
+            "open a.plt\nremove out.part\ncreate out.part\nwrite out.part\nsync out.part\nrename out\n0",
         ),
         (
             "plotraster pbm -o out",
-            "remove out.part\ncreate out.part\nsync out.part\nrename out\n0",
+            "remove out.part\ncreate out.part\nwrite out.part\nsync out.part\nrename out\n0",
         ),
     ] {
         let log = log_of(rt.alloc(), line)?;
@@ -86,7 +89,7 @@ fn in_a_folder(rt: HostRuntime) -> Result<(), Fail> {
     for (line, wanted) in [
         (
             "plotraster pcl a.plt -o d",
-            "open a.plt\nremove d/a.pcl.part\ncreate d/a.pcl.part\nsync d/a.pcl.part\nrename d/a.pcl\n0",
+            "open a.plt\nremove d/a.pcl.part\ncreate d/a.pcl.part\nwrite d/a.pcl.part\nsync d/a.pcl.part\nrename d/a.pcl\n0",
         ),
         (
             "plotraster pcl a.plt b.plt -o f",

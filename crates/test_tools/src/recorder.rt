@@ -1,11 +1,11 @@
 //! A desk that writes down what is done, and at which one kind of deed fails.
 ghost use Rattle.std.specs.Prelude.{⊤};
 
-use delivery::{Desk, Found, Kind};
+use delivery::{Content, Desk, Found, Kind, Voice};
 use output_files::FileId;
 use std::alloc::Global;
 use std::fmt::Display;
-use std::io::{Error, ErrorKind};
+use std::io::{Error, ErrorKind, Write};
 
 /// The desk.
 #[derive(Drop)]
@@ -67,8 +67,6 @@ impl Desk for Recorder {
 
     type File = Vec<u8>;
 
-    ghost does = { λ _ _ _. ⊤ };
-
     fn look(&mut self, path: &str) -> Result<Found, Error> {
         let (kind, number) = if path == self.file || path == self.link {
             (self.kind, 7)
@@ -96,6 +94,16 @@ impl Desk for Recorder {
         Ok(Vec::new(self.alloc))
     }
 
+    fn write<C: Content, W: Write + Drop>(
+        &mut self,
+        path: &str,
+        content: C,
+        to: W,
+    ) -> (W, C::Answer) {
+        let _ = self.note("write", path);
+        content.write(to)
+    }
+
     fn sync(&mut self, path: &str, _file: Vec<u8>) -> Result<(), Error> {
         self.note("sync", path)
     }
@@ -107,6 +115,10 @@ impl Desk for Recorder {
     fn remove(&mut self, path: &str) {
         let _ = self.note("remove", path);
     }
+}
+
+impl Voice for Recorder {
+    ghost does = { λ _ _ _. ⊤ };
 
     fn refuse<M: Display>(&mut self, _status: u8, message: &M) {
         self.note_said("refuse", message);

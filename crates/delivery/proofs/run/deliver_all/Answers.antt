@@ -15,7 +15,7 @@ pub returns-in_default : goal.returns-in_default
 returns-in_default g c =
     let none : Option FileId → Bool = λ _. false in (
       none,
-      refused_after_looks g.D.Desk.does none None (plots_of (texts c.args.order.files.now))
+      refused_after_looks g.D.Voice.does none None (plots_of (texts c.args.order.files.now))
           (ArePlotsPut c.args.order.folder.now c.args.order.extension.now (texts c.args.order.files.now)) c.args.desk.now c.claims_of.new.desk c.refuse_memory.new.desk
           c.refuse_memory.result c.refuse_memory.ensures.says.0 c.in_default.ensures.looks c.refuse_memory.ensures.says.1 (omega (arith, c.refuse_memory.ensures.status)),
     )
@@ -26,7 +26,7 @@ returns g c =
     let files = texts c.args.order.files.now in
     let put = ArePlotsPut c.args.order.folder.now c.args.order.extension.now files in (
       plots,
-      careful g.D.Desk.does plots None (plots_of files) put put c.args.desk.now c.claims_of.new.desk c.deliver_into.new.desk c.deliver_into.result
-          (subst (λ (all : List (List ℕ)). LooksForPlots g.D.Desk.does c.args.desk.now plots all c.claims_of.new.desk) c.plots_of.ensures c.in-Ok.ensures.plots)
+      careful g.D.Voice.does plots None (plots_of files) put put c.args.desk.now c.claims_of.new.desk c.deliver_into.new.desk c.deliver_into.result
+          (subst (λ (all : List (List ℕ)). LooksForPlots g.D.Voice.does c.args.desk.now plots all c.claims_of.new.desk) c.plots_of.ensures c.in-Ok.ensures.plots)
           c.deliver_into.ensures (λ looks deeds are. plots_right c.args.order.folder.now c.args.order.extension.now files looks deeds are),
     )

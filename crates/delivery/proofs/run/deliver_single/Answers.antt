@@ -13,7 +13,7 @@ returns-in_default g c =
     let file = option_map (λ file. file.now) c.args.single.file in
     let path = option_map (λ path. path.now) c.args.single.path in (
       none,
-      refused_after_looks g.D.Desk.does none path (unwrap_or file input_name ∷ []) (IsSingleDone file path) c.args.desk.now
+      refused_after_looks g.D.Voice.does none path (unwrap_or file input_name ∷ []) (IsSingleDone file path) c.args.desk.now
           c.claims_of.new.desk c.refuse_memory.new.desk c.refuse_memory.result c.refuse_memory.ensures.says.0 c.in_default.ensures.looks
           c.refuse_memory.ensures.says.1 (omega (arith, c.refuse_memory.ensures.status)),
     )
@@ -24,9 +24,9 @@ returns g c =
     let file = option_map (λ file. file.now) c.args.single.file in
     let path = option_map (λ path. path.now) c.args.single.path in (
       plots,
-      careful g.D.Desk.does plots path (unwrap_or file input_name ∷ []) (IsSingleDone file path) (IsSingleDone file path) c.args.desk.now
+      careful g.D.Voice.does plots path (unwrap_or file input_name ∷ []) (IsSingleDone file path) (IsSingleDone file path) c.args.desk.now
           c.claims_of.new.desk c.deliver_found.new.desk c.deliver_found.result
-          (subst (λ (name : List ℕ). LooksForPlots g.D.Desk.does c.args.desk.now plots (name ∷ []) c.claims_of.new.desk)
+          (subst (λ (name : List ℕ). LooksForPlots g.D.Voice.does c.args.desk.now plots (name ∷ []) c.claims_of.new.desk)
           (ap (λ (name : Bor (List ℕ)). name.now) c.unwrap_or.ensures ∙ text_or c.args.single.file _) c.in-Ok.ensures.plots)
           c.deliver_found.ensures (λ looks deeds done. single_right file path looks deeds done),
     )

@@ -11,5 +11,5 @@ returns g c =
     let path = c.args.path.now in
     let plots = is_plot c.args.scene.plots.now in
     let item : Item = record { file = c.args.file.now; sheet = 0 } in
-    adapted g.D.Desk.does plots (Some path) Anything (MayReplace plots (Some path) path) (IsPut item path) (IsPut item path) c.args.desk.now c.deliver_to.new.desk
+    adapted g.D.Voice.does plots (Some path) Anything (MayReplace plots (Some path) path) (IsPut item path) (IsPut item path) c.args.desk.now c.deliver_to.new.desk
     c.deliver_to.result (c.deliver_to.ensures (Some path)) (λ _ _. inl refl) (λ _ put. put)

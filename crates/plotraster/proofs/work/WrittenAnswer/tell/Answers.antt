@@ -8,6 +8,6 @@ use Rattle.plotraster.proofs.work.WrittenAnswer.tell.Goals as goal
 
 pub returns-in-Err : goal.returns-in-Err
 returns-in-Err g c =
-    let does = g.D.Desk.does in
-    let said = fault_said does c.args.desk.now c.refuse.new.self _ c.in-Err.fault (rw c.status.ensures at c.refuse.ensures) in
-    subst (λ (outcome : Result Outcome Fault). Says does c.args.desk.now (ending_of outcome) c.refuse.new.self) (sym c.in-Err.is) said
+    let does = g.V.Voice.does in
+    let said = fault_said does c.args.voice.now c.refuse.new.self _ c.in-Err.fault (rw c.status.ensures at c.refuse.ensures) in
+    subst (λ (outcome : Result Outcome Fault). Says does c.args.voice.now (ending_of outcome) c.refuse.new.self) (sym c.in-Err.is) said
