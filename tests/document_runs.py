@@ -4,6 +4,7 @@ import resource
 import signal
 import subprocess
 
+from reference import messages
 from shared import run
 
 SECONDS = 60
@@ -11,7 +12,7 @@ SMALL = ["--width=4000", "--height=3000"]
 LINE = b"SP1;PU0,0;PD3000,2000;"
 WHITE = b"\xff\xff\xff"
 OLD = b"an older picture\n"
-NOT_WRITTEN = (3, b"plotraster: write failed\n")
+NOT_WRITTEN = messages.refused("write")
 
 
 def drawn(program, words, plot):

@@ -10,6 +10,7 @@ import signal
 import struct
 import subprocess
 
+from reference import messages
 from reference.pdf import read_pdf
 from reference.svg import read_svg
 from shared import ink, pixels, read_bitmap, write
@@ -43,8 +44,8 @@ ARCHIVE = {
     "plots/no plot.plt": NO_PLOT,
 }
 REFUSED = {
-    "plots/off range.plt": "plotraster: place off range at byte 9",
-    "plots/a folder/-off\\new.plt": "plotraster: place off range at byte 0",
+    "plots/off range.plt": f"plotraster: {messages.text('off-range', 9)}",
+    "plots/a folder/-off\\new.plt": f"plotraster: {messages.text('off-range', 0)}",
 }
 
 
@@ -399,7 +400,7 @@ def continued(made):
     for form, room in (("ppm", 1000000), ("pcl", 100000), ("marks", 123456), ("pcl", 10)):
         whole = made.run(form, "plan.plt")
         said = cut_off(made.program, made.folder, [form], "cut", room)
-        row, good = re.fullmatch(r"plotraster: write failed: go on from row (\d+) after byte (\d+)\n",
+        row, good = re.fullmatch(messages.said("broken-off", r"(\d+)", r"(\d+)").decode(),
                                  said).groups()
         if made.read("cut")[:int(good)] + made.run(form, "--from", row, "plan.plt") != whole:
             yield f"{form}: the continued picture is not the whole one"

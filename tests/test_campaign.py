@@ -6,6 +6,7 @@ import subprocess
 
 import pytest
 
+from reference import messages
 from shared import HERE, need, write
 
 SECONDS = 120
@@ -14,7 +15,7 @@ KINDS = ("mutilated_plots", "wrong_words", "plots_into_a_folder", "plots_into_fi
 BROKEN = {
     "a signal": "kill -SEGV $$", "an unknown status": "exit 5", "no output": "exit 0", "no message": "exit 1",
     "an unknown message": "echo plotraster: oh >&2; exit 1",
-    "a message of another status": "echo plotraster: out of memory >&2; exit 1",
+    "a message of another status": f"echo plotraster: {messages.text('memory')} >&2; exit 1",
 }
 
 

@@ -25,6 +25,8 @@ starts with `#` is a comment. The keys:
     output          what standard output must be: a text, each line with its line feed
     output hex      the same, as bytes in hexadecimal; blanks and line ends are ignored
     output begins   how standard output must begin
+    message         the name of a message of tests/reference/messages.py and its values: what standard error
+                    must be, and its exit status
     error           what standard error must be: one line
     error begins    how standard error must begin
     then            a command that reads the output and must accept it
@@ -46,6 +48,7 @@ import tempfile
 
 import pytest
 
+from reference import messages
 from shared import HERE, assert_nothing, need
 
 CASES = os.path.join(HERE, "cases")
@@ -74,6 +77,9 @@ def read_case(path):
             if value.strip() == "":
                 open_key, value = key, ""
             case.setdefault(key, []).append(value[1:] if value.startswith(" ") else value)
+    if "message" in case:
+        status, said = messages.refused(*shlex.split(one(case, "message")))
+        case.update(status=[str(status)], error=[said.decode().rstrip("\n")])
     return case
 
 
@@ -223,7 +229,7 @@ def read_on(case, output):
         yield f"{command[0]}: {shown(ran.stdout)}"
 
 
-OUT_OF_MEMORY = (4, b"", b"plotraster: out of memory\n")
+OUT_OF_MEMORY = (4, b"", messages.said("memory"))
 
 
 def answers(program, words, case, folder, refuse):

@@ -7,6 +7,7 @@ from concurrent.futures import ThreadPoolExecutor
 import pytest
 
 from comparing import difference, differs
+from reference import messages
 from reference.characters import BY_HP_NUMBER, BY_SYMBOL_SET
 from reference.random_full_plots import NAMES
 from reference.random_plots import Case
@@ -67,10 +68,10 @@ def test_fonts(program):
 
 
 @pytest.mark.parametrize("text, told", [
-    (b"\t", b"place off range at byte 0"),
-    (b"\b", b"place off range at byte 0"),
+    (b"\t", messages.text("off-range", 0).encode()),
+    (b"\b", messages.text("off-range", 0).encode()),
     (b"\t\b", None),
-    (b"\n\r", b"place off range at byte 0"),
+    (b"\n\r", messages.text("off-range", 0).encode()),
     (b"\x0e\x0f", None),
     (b"\xff", None),
 ], ids=["tabs", "backs", "both", "lines", "shifts", "open"])

@@ -9,6 +9,7 @@ import time
 
 import pytest
 
+from reference import messages
 from shared import TOP, read, run
 
 SECONDS = 60
@@ -72,7 +73,7 @@ def test_words_of_a_job(queue):
 def test_errors(queue):
     """A message that CUPS shows, another status than 0, and nothing printed."""
     job = ("1", "user", "title", "1", "")
-    assert queue.send(BAD, *job) == (1, b"", [("ERROR", "plotraster: place off range at byte 9")])
+    assert queue.send(BAD, *job) == (1, b"", [("ERROR", f"plotraster: {messages.text('off-range', 9)}")])
     assert queue.send(None, *job, "none.plt") == (1, b"", [("ERROR", "the plot cannot be read")])
     assert queue.send(None, *job, str(queue.folder)) == (1, b"", [("ERROR", "the plot cannot be read")])
     for words in (job[:4], (*job, "file", "more")):
@@ -84,9 +85,9 @@ def test_warnings(queue):
     """A plot that draws nothing is printed as an empty page, one that is hardly understood as what it draws, and one that is
     larger than a page is cut off, with a message."""
     large = b"SP1;PU-32000,-32000;PD-32000,32767,32767,32767;PU65000,65000;PD0,0;"
-    for plot, message in ((b"IN;PU;", "nothing is drawn on the page: see plotraster report --profile full"),
+    for plot, message in ((b"IN;PU;", messages.text("blank", "plotraster report --profile full")),
                           (b"PU0,0;PD300,200;XX;XX;", "2 notes on 1 line: see plotraster report --profile full"),
-                          (large, "the page is not fitted: the drawing is larger than a page can be")):
+                          (large, messages.text("too-large-to-fit"))):
         status, output, said = queue.send(plot, "1", "user", "title", "1", "")
         assert (status, output[:5], said) == (0, b"%PDF-", [("WARNING", f"plotraster: {message}")])
 
@@ -97,7 +98,7 @@ def test_failures(queue):
     os.close(reading)
     status, _, said = queue.send(PLOT, "1", "user", "title", "1", "", stdout=writing)
     os.close(writing)
-    assert (status, said) == (3, [("ERROR", "plotraster: write failed")])
+    assert (status, said) == (3, [("ERROR", f"plotraster: {messages.text('write')}")])
     os.remove(queue.folder / "bin" / "plotraster")
     queue.surroundings["PATH"] = f"{queue.folder}/bin:{os.path.dirname(shutil.which('sed'))}"
     if not shutil.which("plotraster", path=queue.surroundings["PATH"]):

@@ -7,6 +7,7 @@ import subprocess
 import pytest
 
 from document_runs import LINE, NOT_WRITTEN, OLD, SECONDS, SMALL, colours, drawn, ends_of, limit, plot_in
+from reference import messages
 from reference.command_line import DOCUMENTS
 from shared import EXAMPLES, read_bytes, run, write
 
@@ -24,10 +25,10 @@ NAMES = ["palette", "truecolour", "pdf", "pdf of sheets", "svg", "svg of sheets"
 
 @pytest.mark.parametrize("command", DOCUMENTS)
 @pytest.mark.parametrize("words, plot, ends", [
-    ([], b"PD99999,0;", (1, b"plotraster: place off range at byte 0\n")),
-    (["--pens=0"], LINE, (2, b"plotraster: bad pen list\n")),
-    (["missing.plt"], LINE, (3, b"plotraster: cannot open missing.plt: no such file or folder\n")),
-    (["folder"], LINE, (3, b"plotraster: cannot open folder: it is a folder\n")),
+    ([], b"PD99999,0;", messages.refused("off-range", 0)),
+    (["--pens=0"], LINE, messages.refused("pens")),
+    (["missing.plt"], LINE, messages.refused("not-opened", "missing.plt", "no-such-file")),
+    (["folder"], LINE, messages.refused("not-opened", "folder", "a-folder")),
 ])
 def test_refusals(program, tmp_path, command, words, plot, ends):
     """Nothing is written, and an old file stays."""
@@ -76,7 +77,7 @@ def test_full_disk_of_sheets(program, tmp_path, words, about):
     os.mkdir(tmp_path / "out")
     words = [*words, *SMALL, "-o", "out", "two.plt"]
     status, message = ends_of(program, words, b"", cwd=tmp_path, preexec_fn=functools.partial(limit, 100))
-    assert (status, message.decode().splitlines()) == (3, [f"plotraster: {it}write failed" for it in about])
+    assert (status, message.decode().splitlines()) == (3, [f"plotraster: {it}{messages.text('write')}" for it in about])
     assert os.listdir(tmp_path / "out") == []
 
 
@@ -107,6 +108,6 @@ def test_refused_allocations(program, refuse, command, plot, more):
         surroundings = dict(os.environ, LD_PRELOAD=refuse, MEMORY_FAILS=str(number))
         done = run(program, words, SECONDS, input=plot, env=surroundings)
         ended = (done.returncode, done.stdout, done.stderr)
-        assert ended in ((0, whole, b""), (4, b"", b"plotraster: out of memory\n"))
+        assert ended in ((0, whole, b""), (4, b"", messages.said("memory")))
         without_effect = 0 if done.returncode else without_effect + 1
     assert number > 11

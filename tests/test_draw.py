@@ -3,6 +3,7 @@
 import os
 
 import pytest
+from reference import messages
 from reference.command_line import DOCUMENTS, VECTORS
 from reference.outputs import FORMS
 from shared import EXAMPLES, read_bytes, run
@@ -78,9 +79,8 @@ BLANK = b"IN;"
 OFF_PAGE = b"PU3000,3000;PD4000,4000;"
 TOO_LARGE = b"PU-60000,0;PD60000,0;"
 SKIPPED = b"XX;"
-NOT_FITTED = "the page is not fitted: "
 REPORT = "see plotraster report --profile full"
-NOTHING = f"nothing is drawn on the page: {REPORT}"
+NOTHING = messages.text("blank", "plotraster report --profile full")
 # A command line, a plot, and what is said of the picture.
 REMARKS = [
     (["draw"], LINE, []),
@@ -91,13 +91,13 @@ REMARKS = [
     (["draw", "--width=800"], BLANK, [NOTHING]),
     (["draw", "--width=800", "--quiet"], BLANK, []),
     (["draw", "--pens=3"], LINE, [NOTHING]),
-    (["draw", "--profile=core"], BLANK, ["nothing is drawn on the page: see plotraster report"]),
+    (["draw", "--profile=core"], BLANK, [messages.text("blank", "plotraster report")]),
     (["draw", "--width=800", "--height=800"], OFF_PAGE, [NOTHING]),
     (["draw", "--width=800", "--height=800", "--quiet"], OFF_PAGE, []),
     (["draw", "--form=pdf"], BLANK, [NOTHING]),
     (["draw", "--form=svg", "--width=800", "--height=800"], OFF_PAGE, [NOTHING]),
-    (["draw", "--dots=10"], TOO_LARGE, [f"{NOT_FITTED}the drawing is larger than a page can be"]),
-    (["draw", "--dots=10", "--quiet"], TOO_LARGE, [f"{NOT_FITTED}the drawing is larger than a page can be"]),
+    (["draw", "--dots=10"], TOO_LARGE, [messages.text("too-large-to-fit")]),
+    (["draw", "--dots=10", "--quiet"], TOO_LARGE, [messages.text("too-large-to-fit")]),
     (["draw"], LINE + 1 * SKIPPED, []),
     (["draw"], LINE + 2 * SKIPPED, [f"2 notes on 1 line: {REPORT}"]),
     (["draw", "--profile=core"], LINE + 2 * SKIPPED, ["2 notes on 1 line: see plotraster report"]),
@@ -107,20 +107,20 @@ REMARKS = [
     (["draw", "--verbose"], LINE + 2 * SKIPPED, [f"1 line, 0 off the page; 2 notes, {REPORT}"]),
     (["draw"], 2 * SKIPPED, [NOTHING]),
     (["png", "--profile=full"], LINE + 2 * SKIPPED, []),
-    (["draw"], PLOTS["of two sheets"] + 9 * SKIPPED, ["the plot has 2 sheets; this is the first"]),
+    (["draw"], PLOTS["of two sheets"] + 9 * SKIPPED, [messages.text("first-sheet", 2)]),
     (["draw", "--form=pdf"], PLOTS["of two sheets"] + 9 * SKIPPED, [f"9 notes on 2 lines: {REPORT}"]),
-    (["draw"], PLOTS["of two sheets"], ["the plot has 2 sheets; this is the first"]),
+    (["draw"], PLOTS["of two sheets"], [messages.text("first-sheet", 2)]),
     (["draw", "--quiet"], PLOTS["of two sheets"], []),
     (["draw", "--sheet=1"], PLOTS["of two sheets"], []),
-    (["draw", "--form=svg"], PLOTS["of two sheets"], ["the plot has 2 sheets; this is the first"]),
+    (["draw", "--form=svg"], PLOTS["of two sheets"], [messages.text("first-sheet", 2)]),
     (["draw", "--form=pdf"], PLOTS["of two sheets"], []),
     (["draw", "--profile=core"], PLOTS["of two sheets"], []),
-    (["png", "--profile=full"], PLOTS["of two sheets"], ["the plot has 2 sheets; this is the first"]),
-    (["pdf", "--profile=full"], PLOTS["of two sheets"], ["the plot has 2 sheets; this is the first"]),
-    (["png", "--fit"], BLANK, [f"{NOT_FITTED}nothing is drawn"]),
+    (["png", "--profile=full"], PLOTS["of two sheets"], [messages.text("first-sheet", 2)]),
+    (["pdf", "--profile=full"], PLOTS["of two sheets"], [messages.text("first-sheet", 2)]),
+    (["png", "--fit"], BLANK, [messages.text("blank-to-fit")]),
     (["png"], BLANK, []),
-    (["pbm", "--page=plot"], LINE, ["the page is the default one: the plot asks for no size"]),
-    (["report", "--fit"], BLANK, [f"{NOT_FITTED}nothing is drawn"]),
+    (["pbm", "--page=plot"], LINE, [messages.text("no-size")]),
+    (["report", "--fit"], BLANK, [messages.text("blank-to-fit")]),
     (["report", "--profile=full"], PLOTS["of two sheets"], []),
 ]
 

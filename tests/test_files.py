@@ -5,6 +5,7 @@ import subprocess
 
 import pytest
 
+from reference import messages
 from reference.command_line import DOCUMENTS, NO_SUCH_FORM
 from reference.outputs import FORMS
 from shared import read_bytes, run, write
@@ -16,8 +17,8 @@ TWO = b"SP2;PU0,0;PD3000,2000;PG;SP1;PU0,900;PD3000,9;"
 OFF_RANGE = b"PD99999,0;"
 OLD = b"an older picture\n"
 COMMANDS = [*DOCUMENTS, *FORMS, "report"]
-NOT_WRITTEN = "write failed"
-GO_ON = "write failed: go on from row 0 after byte 0"
+NOT_WRITTEN = messages.text("write")
+GO_ON = messages.text("broken-off", 0, 0)
 # Words of a shell that close standard files.
 CLOSED = {"error": "2>&-", "output and error": "1>&- 2>&-", "input and error": "0<&- 2>&-", "all": "0<&- 1>&- 2>&-"}
 
@@ -94,7 +95,7 @@ def test_failed_sync_of_draw(program, tmp_path, refuse, form):
 def test_failed_sync_of_later_rows(program, tmp_path, refuse):
     """Nothing after the first row of the run is safe."""
     ends = ends_of(program, tmp_path, ["pbm", *SMALL, "--from=200", "-o", "out"], input=LINE, **with_failing_sync(refuse))
-    assert ends == (3, ["write failed: go on from row 200 after byte 0"])
+    assert ends == (3, [messages.text("broken-off", 200, 0)])
     assert drawn(program, ["pbm", *SMALL]).endswith(read_bytes(tmp_path / "out.part"))
 
 
@@ -144,7 +145,7 @@ def test_remarks_on_the_other_files(program, folder, refuse):
 def test_failed_sync_of_a_refused_plot(program, tmp_path, refuse, command):
     """Of a plot that is not written only the refusal is said."""
     ends = ends_of(program, tmp_path, [command, "-o", "new"], input=OFF_RANGE, **with_failing_sync(refuse))
-    assert (ends, files_in(tmp_path)) == ((1, ["place off range at byte 0"]), [])
+    assert (ends, files_in(tmp_path)) == ((1, [messages.text("off-range", 0)]), [])
 
 
 @pytest.mark.parametrize("command", COMMANDS)
@@ -199,7 +200,7 @@ def test_closed_standard_input(program, tmp_path, command):
     """What is written is not read as the plot."""
     words = ["sh", "-c", 'exec "$@" 0<&-', "sh", program, command, "-o", "new"]
     done = subprocess.run(words, cwd=tmp_path, capture_output=True, timeout=SECONDS)
-    assert (done.returncode, done.stdout, done.stderr) == (3, b"", b"plotraster: read failed\n")
+    assert (done.returncode, done.stdout, done.stderr) == (3, b"", messages.said("read"))
     assert files_in(tmp_path) == []
 
 
@@ -220,7 +221,7 @@ def test_plot_on_standard_input_is_not_overwritten(program, tmp_path, command):
     os.link(tmp_path / "out.part", tmp_path / "hard")
     for name in ("out.part", "link", "hard"):
         ends = ends_with_plot(program, tmp_path, name, [command, "-o", "out"])
-        assert ends == (3, ["cannot write out.part: it is the plot"])
+        assert ends == (3, [messages.text("output", "out.part", "the-plot")])
     assert files_in(tmp_path) == ["hard", "link", "out.part"] and read_bytes(tmp_path / "out.part") == LINE
 
 
@@ -229,7 +230,7 @@ def test_part_that_is_a_link_to_the_plot_on_standard_input(program, tmp_path):
     for make in (os.symlink, os.link):
         make("plot" if make is os.symlink else tmp_path / "plot", tmp_path / "out.part")
         ends = ends_with_plot(program, tmp_path, "plot", ["pbm", "-o", "out"])
-        assert ends == (3, ["cannot write out.part: it is the plot"])
+        assert ends == (3, [messages.text("output", "out.part", "the-plot")])
         os.remove(tmp_path / "out.part")
     assert files_in(tmp_path) == ["plot"] and read_bytes(tmp_path / "plot") == LINE
 
@@ -271,10 +272,10 @@ def test_numbers_on_two_devices(program, tmp_path, one_number):
     assert files_in(tmp_path) == ["a.pbm", "b.pbm", "c", "d", "other"]
     assert {read_bytes(tmp_path / name) for name in ("a.pbm", "b.pbm", "c", "d")} == {drawn(program, ["pbm"])}
     write(str(tmp_path / "other" / "c.part"), OLD)
-    said = ["cannot write other/c.part: it is the plot"]
+    said = [messages.text("output", "other/c.part", "the-plot")]
     assert ends_of(program, tmp_path, ["pbm", "-o", "other/c", "other/a.plt"], **how) == (3, said)
     assert ends_of(program, tmp_path, ["pbm", "-o", "other", "other/a.plt"], **how) == (0, [])
-    said = ["cannot write other/a.pbm: it is the plot"]
+    said = [messages.text("output", "other/a.pbm", "the-plot")]
     assert ends_of(program, tmp_path, ["pbm", "-o", "other", "other/a.plt"], **how) == (3, said)
 
 
@@ -325,13 +326,13 @@ def test_no_name_in_a_folder_of_any_name(program, folder):
     """The plot on standard input has none."""
     os.mkdir(folder / "pictures.2026")
     status, (line,) = ends_of(program, folder, ["draw", *SMALL, "-o", "pictures.2026"], input=LINE)
-    assert status == 3 and line.startswith("cannot write pictures.2026: ") and files_in(folder / "pictures.2026") == []
+    assert status == 3 and line == messages.text("output", "pictures.2026", "no-name") and files_in(folder / "pictures.2026") == []
 
 
 @pytest.mark.parametrize("words, said", [
-    *(([command], "cannot open {}: it is a folder") for command in ("draw", *DOCUMENTS)),
-    *((["draw", f"--form={form}"], "cannot open {}: it is a folder") for form in FORMS),
-    *(([command], "read failed") for command in (*FORMS, "report")),
+    *(([command], messages.text("not-opened", "{}", "a-folder")) for command in ("draw", *DOCUMENTS)),
+    *((["draw", f"--form={form}"], messages.text("not-opened", "{}", "a-folder")) for form in FORMS),
+    *(([command], messages.text("read")) for command in (*FORMS, "report")),
 ])
 def test_folder_as_a_plot(program, folder, words, said):
     """Also if it is empty, a link, or one of several plots. The others are drawn."""
@@ -342,7 +343,7 @@ def test_folder_as_a_plot(program, folder, words, said):
         assert ends_of(program, folder, [*words, *SMALL, name]) == (3, [said.format(name)])
         assert ends_of(program, folder, [*words, *SMALL, "-o", "new", name]) == (3, [said.format(name)])
     assert "new" not in files_in(folder) and "new.part" not in files_in(folder)
-    about = "{}: " if said == "read failed" else ""
+    about = "{}: " if said == messages.text("read") else ""
     lines = [(about + said).format(name, name) for name in ("deep", "..")]
     assert ends_of(program, folder, [*words, *SMALL, "-o", "out", "deep", "a.plt", "..", "b.plt"]) == (3, lines)
     assert files_in(folder / "out") == [f"a.{form}", f"b.{form}"]

@@ -5,6 +5,7 @@ import os
 import re
 
 import pytest
+from reference import messages
 from reference.command_line import DOCUMENTS, VECTORS
 from reference.outputs import FORMS
 from shared import EXAMPLES, assert_nothing, ink, read_bitmap, read_bytes, run
@@ -31,11 +32,11 @@ EXAMPLES_FITTED = ("centred", "figures", "rose", "line")
 OF_THE_PAGE = ("scale", "corners", "turned", "far away", "at the end of the range")
 # Plots whose page is kept, and why.
 KEPT = {
-    "nothing": (b"PU5,5;", "nothing is drawn"),
-    "of no plot": (b"%!\n", "nothing is drawn"),
-    "beside its window": (b"IW0,0,10,10;PU100,100;PD2000,2000;", "nothing is drawn"),
-    "too wide": (b"PU-60000,0;PD60000,0;", "the drawing is larger than a page can be"),
-    "too far": (b"IW0,0,30,30;PU10,10;PD65530,10;", "the drawing is larger than a page can be"),
+    "nothing": (b"PU5,5;", "blank-to-fit"),
+    "of no plot": (b"%!\n", "blank-to-fit"),
+    "beside its window": (b"IW0,0,10,10;PU100,100;PD2000,2000;", "blank-to-fit"),
+    "too wide": (b"PU-60000,0;PD60000,0;", "too-large-to-fit"),
+    "too far": (b"IW0,0,30,30;PU10,10;PD65530,10;", "too-large-to-fit"),
 }
 
 
@@ -56,10 +57,6 @@ def drawn(program, words, plot, errors=b""):
     done = run(program, words, SECONDS, input=plot)
     assert (done.returncode, done.stderr) == (0, errors), words
     return done.stdout
-
-
-def kept(why):
-    return f"plotraster: the page is not fitted: {why}\n".encode()
 
 
 def margins(bitmap):
@@ -136,8 +133,8 @@ def test_page_that_is_kept(program):
     """The page is kept, and a line says why. The picture is that of the page."""
     for name, (plot, why) in KEPT.items():
         for words in ([], ["--page=a5", "--below=100"]):
-            assert page_of(program, [*words, "--fit"], plot, kept(why)) == page_of(program, words, plot), name
-            assert drawn(program, ["pbm", "--fit", *words], plot, kept(why)) == drawn(program, ["pbm", *words], plot)
+            assert page_of(program, [*words, "--fit"], plot, messages.said(why)) == page_of(program, words, plot), name
+            assert drawn(program, ["pbm", "--fit", *words], plot, messages.said(why)) == drawn(program, ["pbm", *words], plot)
 
 
 def test_drawing_that_follows_the_page_may_fit(program):
@@ -155,7 +152,7 @@ def test_pens_choose_the_page(program):
         words = ["ppm", f"--pens={pens}"]
         assert drawn(program, [*words, "--fit"], plot) == drawn(program, ["ppm", "--fit"], same), pens
     words = ["pbm", "--pens=3", "--fit"]
-    assert drawn(program, words, plot, kept("nothing is drawn")) == drawn(program, words[:2], plot)
+    assert drawn(program, words, plot, messages.said("blank-to-fit")) == drawn(program, words[:2], plot)
 
 
 def test_sheets_choose_the_page(program):
@@ -164,7 +161,7 @@ def test_sheets_choose_the_page(program):
         words = ["ppm", "--fit", "--profile=full"]
         assert drawn(program, [*words, f"--sheet={sheet}"], first + b"PG;" + second) == drawn(program, words, same)
     words = ["--fit", "--profile=full", "--sheet=9"]
-    assert page_of(program, words, first + b"PG;" + second, kept("nothing is drawn"))[0] == "--width=11880"
+    assert page_of(program, words, first + b"PG;" + second, messages.said("blank-to-fit"))[0] == "--width=11880"
 
 
 def test_page_that_the_plot_asks_for(program):
@@ -179,7 +176,7 @@ def test_refused_plots(program):
     """A plot that is refused on the page that is given is refused, and nothing is written."""
     for words in (["pbm"], ["report"], ["marks", "--margin=0"]):
         done = run(program, [*words, "--fit"], SECONDS, input=b"IN;PU0,0;PD70000,0;")
-        assert (done.returncode, done.stdout, done.stderr) == (1, b"", b"plotraster: place off range at byte 9\n")
+        assert (done.returncode, done.stdout, done.stderr) == (1, b"", messages.said("off-range", 9))
 
 
 def test_rows_and_bands_of_a_fitted_page(program):
@@ -190,7 +187,7 @@ def test_rows_and_bands_of_a_fitted_page(program):
     late = b"".join(it for it in whole.splitlines(True) if int(it.split()[0]) >= 40)
     assert drawn(program, ["marks", "--fit", "--from=40"], plot) == late
     done = run(program, ["pbm", "--fit", "--from=99999"], SECONDS, input=plot)
-    assert (done.returncode, done.stderr) == (2, b"plotraster: first row is past the last row\n")
+    assert (done.returncode, done.stderr) == messages.refused("first-row")
 
 
 # Plots, the words, and what --verbose says of them.
@@ -230,7 +227,7 @@ def test_verbose_and_fitted(program):
     plot = b"SP1;PU20000,0;PD20000,500;"
     errors = b"plotraster: 1 line, 0 off the page; 0 notes, see plotraster report\n"
     drawn(program, ["pbm", "--fit", "--verbose"], plot, errors)
-    errors = kept("nothing is drawn")
+    errors = messages.said("blank-to-fit")
     errors += b"plotraster: nothing is drawn: 0 lines, 0 off the page; 0 notes, see plotraster report\n"
     drawn(program, ["pbm", "--fit", "--verbose"], b"", errors)
 
@@ -238,7 +235,7 @@ def test_verbose_and_fitted(program):
 def test_verbose_and_refused(program):
     """Of a plot that is refused only the refusal is said."""
     done = run(program, ["pbm", "--verbose"], SECONDS, input=b"PD70000,0;")
-    assert (done.returncode, done.stdout, done.stderr) == (1, b"", b"plotraster: place off range at byte 0\n")
+    assert (done.returncode, done.stdout, done.stderr) == (1, b"", messages.said("off-range", 0))
 
 
 def test_verbose_counts_what_the_report_counts(program):

@@ -6,6 +6,7 @@ import re
 
 import pytest
 
+from reference import messages
 from reference.geometry import Page
 from reference.outputs import Drawing, answer, draw
 from reference.plotter import BLACK, COLOURS, Refused
@@ -13,7 +14,7 @@ from shared import HERE, assert_nothing, read_bytes
 
 ROWS = os.path.join(HERE, "full_examples.txt")
 USUAL = {"profile": "full", "width": "1000", "height": "1000"}
-REFUSALS = {"3": "place off range at byte {}", "4": "too many strokes at byte {}"}
+REFUSALS = {"3": "off-range", "4": "too-many-strokes"}
 PLACE = r"\((-?\d+),(-?\d+)\)"
 STROKE = re.compile(rf"{PLACE}(?:-{PLACE})?((?: [pwc]\w+)*)")
 
@@ -76,7 +77,7 @@ def differences(keys):
     got = drawn(plot, options)
     if "refused" in keys or isinstance(got, str):
         rule, _, at = keys.get("refused", [""])[0].partition(" at ")
-        wanted = {"refusal": REFUSALS.get(rule, "nothing is refused").format(at)}
+        wanted = {"refusal": messages.text(REFUSALS[rule], at) if rule in REFUSALS else "nothing is refused"}
         found = {"refusal": got if isinstance(got, str) else "nothing is refused"}
     else:
         wanted, found = wanted_of(keys, options), found_of(keys, got, answer("report", options, plot))

@@ -10,6 +10,7 @@ import subprocess
 import tempfile
 
 import pytest
+from reference import messages
 from reference.command_line import DOCUMENTS
 from reference.outputs import FORMS
 from shared import read_bytes, run, write
@@ -28,7 +29,7 @@ def write_to(program, folder, words, plot=LINE, **how):
 
 
 def cannot_write(name, reason):
-    return 3, f"plotraster: cannot write {name}: {reason}\n".encode()
+    return messages.refused("output", name, reason)
 
 
 def wanted(program, command, plot=LINE):
@@ -58,7 +59,7 @@ def test_old_file_is_replaced(program, tmp_path):
     assert os.listdir(tmp_path) == ["out"]
 
 
-@pytest.mark.parametrize("plot, ends", [(LINE, (0, b"")), (b"PD99999,0;", (1, b"plotraster: place off range at byte 0\n"))])
+@pytest.mark.parametrize("plot, ends", [(LINE, (0, b"")), (b"PD99999,0;", messages.refused("off-range", 0))])
 @pytest.mark.parametrize("make", [os.symlink, os.link, lambda _, part: os.mkfifo(part)], ids=["link", "hard link", "pipe"])
 def test_older_part_is_replaced(program, tmp_path, make, plot, ends):
     """Not what it leads to, also if it is no file of its own; a refused plot leaves that, too."""
@@ -70,12 +71,12 @@ def test_older_part_is_replaced(program, tmp_path, make, plot, ends):
 
 
 @pytest.mark.parametrize("words, plot, ends", [
-    ([], b"PD99999,0;", (1, b"plotraster: place off range at byte 0\n")),
-    (["--dots=10", "--from=999"], LINE, (2, b"plotraster: first row is past the last row\n")),
-    (["folder"], LINE, (3, b"plotraster: read failed\n")),
-    (["missing.plt"], LINE, (3, b"plotraster: cannot open missing.plt\n")),
-    (["missing.plt", "--verbose"], LINE, (3, b"plotraster: cannot open missing.plt\nplotraster: no such file or folder\n")),
-    (["--pens=0"], LINE, (2, b"plotraster: bad pen list\n")),
+    ([], b"PD99999,0;", messages.refused("off-range", 0)),
+    (["--dots=10", "--from=999"], LINE, messages.refused("first-row")),
+    (["folder"], LINE, messages.refused("read")),
+    (["missing.plt"], LINE, messages.refused("open", "missing.plt")),
+    (["missing.plt", "--verbose"], LINE, (3, messages.said("open", "missing.plt") + messages.said("no-such-file"))),
+    (["--pens=0"], LINE, messages.refused("pens")),
 ])
 def test_refused_plot_leaves_the_old_file(program, tmp_path, words, plot, ends):
     os.mkdir(tmp_path / "folder")
@@ -87,7 +88,7 @@ def test_refused_plot_leaves_the_old_file(program, tmp_path, words, plot, ends):
 
 def test_plot_too_long_leaves_the_old_file(program, tmp_path):
     write(str(tmp_path / "out"), OLD)
-    ends = (1, b"plotraster: plot is longer than 67108864 bytes\n")
+    ends = messages.refused("too-long")
     assert write_to(program, tmp_path, ["pbm", "-o", "out"], b" " * 67108865) == ends
     assert (os.listdir(tmp_path), read_bytes(tmp_path / "out")) == (["out"], OLD)
 
@@ -95,7 +96,7 @@ def test_plot_too_long_leaves_the_old_file(program, tmp_path):
 def test_files_that_cannot_be_written(program, tmp_path):
     os.mkdir(tmp_path / "folder")
     for name, refused, reason in [
-        ("missing/out", "missing/out.part", "no such folder"),
+        ("missing/out", "missing/out.part", "no-such-folder"),
         ("folder", "folder", "Is a directory (os error 21)"),
         ("n" * 255, "n" * 255 + ".part", "File name too long (os error 36)"),
     ]:
@@ -105,15 +106,15 @@ def test_files_that_cannot_be_written(program, tmp_path):
 
 def test_file_that_cannot_be_renamed(program, tmp_path):
     """The output stays in FILE.part."""
-    assert write_to(program, tmp_path, ["ppm", "--output="]) == cannot_write("", "no such folder")
+    assert write_to(program, tmp_path, ["ppm", "--output="]) == cannot_write("", "no-such-folder")
     assert os.listdir(tmp_path) == [".part"]
     assert read_bytes(tmp_path / ".part") == wanted(program, "ppm")
 
 
 def test_refusal_of_the_plot_file_comes_first(program, tmp_path):
-    ends = (3, b"plotraster: cannot open missing.plt\n")
+    ends = messages.refused("open", "missing.plt")
     assert write_to(program, tmp_path, ["pbm", "missing.plt", "-o", "missing/out"]) == ends
-    ends = cannot_write("missing/out.part", "no such folder")
+    ends = cannot_write("missing/out.part", "no-such-folder")
     assert write_to(program, tmp_path, ["pbm", "-o", "missing/out"], b"PD99999,0;") == ends
 
 
@@ -133,7 +134,7 @@ def test_folder_that_may_not_be_written(program):
         copy = shutil.copy(program, folder)
         os.chmod(copy, 0o755)
         os.mkdir(os.path.join(folder, "locked"), 0o555)
-        ends = cannot_write("locked/out.part", "permission denied")
+        ends = cannot_write("locked/out.part", "denied")
         assert write_to(copy, folder, ["pbm", "-o", "locked/out"], **another) == ends
         assert os.listdir(os.path.join(folder, "locked")) == []
 
@@ -142,7 +143,7 @@ def test_devices_stay_what_they_are(program, tmp_path):
     assert write_to(program, tmp_path, ["pbm", "-o", "/dev/null"]) == (0, b"")
     assert stat.S_ISCHR(os.stat("/dev/null").st_mode) and not os.path.exists("/dev/null.part")
     status, message = write_to(program, tmp_path, ["pbm", "-o", "/dev/full"])
-    assert (status, message) == (3, b"plotraster: write failed: go on from row 0 after byte 0\n")
+    assert (status, message) == messages.refused("broken-off", 0, 0)
     os.mkfifo(tmp_path / "pipe")
     with open(tmp_path / "read", "wb") as to, subprocess.Popen(["cat", "pipe"], stdout=to, cwd=tmp_path) as reader:
         assert write_to(program, tmp_path, ["ppm", "--output", "pipe"]) == (0, b"")
@@ -180,7 +181,7 @@ def test_full_disk(program, tmp_path):
         resource.setrlimit(resource.RLIMIT_FSIZE, (20000, 20000))
     write(str(tmp_path / "out"), OLD)
     status, message = write_to(program, tmp_path, ["ppm", "-o", "out"], preexec_fn=limit)
-    found = re.fullmatch(rb"plotraster: write failed: go on from row (\d+) after byte (\d+)\n", message)
+    found = re.fullmatch(messages.said("broken-off", r"(\d+)", r"(\d+)"), message)
     row, whole = map(int, found.groups())
     assert status == 3 and 0 < whole <= 20000 and read_bytes(tmp_path / "out") == OLD
     picture, part = wanted(program, "ppm"), read_bytes(tmp_path / "out.part")

@@ -1,6 +1,7 @@
 """What `--page plot` does: the page of the size that the plot asks for by `PS`."""
 
 import pytest
+from reference import messages
 from reference.command_line import DOCUMENTS, VECTORS
 from reference.outputs import FORMS
 from shared import run
@@ -30,7 +31,7 @@ NONE = [
     b"", b"PS;", b"PS", b"PS,;", b"PS0,0;", b"PS63.4,300;", b"PS400,63;", b"PS65537;", b"PS-400,-300;", b"PS400,300:;",
     b"PS99999999999999999999,300;", b"PS.;", b"PS+;", b"P S400,300;", b"LBPS400,300;\3", b"NPS400,300;", b"PS\"400,300\";",
 ]
-NO_SIZE = b"plotraster: the page is the default one: the plot asks for no size\n"
+NO_SIZE = messages.said("no-size")
 
 
 def page_of(program, words, plot, errors=b""):
@@ -93,7 +94,7 @@ def test_refused_on_the_page(program):
     for command in ("pbm", "report"):
         refused = run(program, [command, *ASKED], SECONDS, input=narrow)
         assert (refused.returncode, refused.stdout) == (1, b"")
-        assert refused.stderr == b"plotraster: place off range at byte 13\n"
+        assert refused.stderr == messages.said("off-range", 13)
         assert run(program, [command], SECONDS, input=narrow).returncode == 0
         assert run(program, [command, *ASKED, "--dots=10"][:2 if command == "report" else 3], SECONDS, input=wide).returncode == 0
         assert run(program, [command], SECONDS, input=wide).returncode == 1
@@ -110,9 +111,9 @@ def test_verbose(program):
 def test_conflicts(program):
     """With --page plot no side is given, and no margin without --fit."""
     for words, message in [
-        (["--width=400"], "--page may not be given with --width or --height"),
-        (["--fit", "--height=400"], "--page may not be given with --width or --height"),
-        (["--margin=3"], "--margin needs --fit"),
+        (["--width=400"], messages.text("page-and-sides")),
+        (["--fit", "--height=400"], messages.text("page-and-sides")),
+        (["--margin=3"], messages.text("margin-without-fit")),
     ]:
         for command in ("draw", *DOCUMENTS, *FORMS, "report"):
             done = run(program, [command, *ASKED, *words], SECONDS, input=b"PS400,300;")

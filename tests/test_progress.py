@@ -7,6 +7,7 @@ import signal
 import subprocess
 
 import pytest
+from reference import messages
 from reference.outputs import FORMS
 from shared import EXAMPLES, read_bytes, run, write
 from terminals import with_terminal
@@ -144,21 +145,21 @@ def test_messages_follow_on_a_line_of_their_own(program):
     words = ["pbm", "--band=200", "--verbose", "--progress"]
     said = b"plotraster: 1 line, 0 off the page; 1 note, see plotraster report\n"
     assert on_terminal(program, words)[2] == shown(ROWS, 200) + said
-    kept = b"plotraster: the page is not fitted: nothing is drawn\n"
+    kept = messages.said("blank-to-fit")
     assert on_terminal(program, ["pbm", "--band=200", "--fit", "--progress"], b"PU5,5;")[2] == shown(ROWS, 200) + kept
 
 
 def test_refused_plots(program):
     """Of a plot that is refused only the refusal is said."""
     words = ["pbm", "--band=1", "--progress"]
-    assert on_terminal(program, words, b"PD70000,0;") == (1, b"", b"plotraster: place off range at byte 0\n")
+    assert on_terminal(program, words, b"PD70000,0;") == (1, b"", messages.said("off-range", 0))
 
 
 def test_full_device(program):
     """A picture that fails in its header has shown nothing."""
     with open("/dev/full", "wb") as full:
         status, _, text = on_terminal(program, ["pbm", "--band=1", "--progress"], stdout=full)
-    assert (status, text) == (3, b"plotraster: write failed: go on from row 0 after byte 0\n")
+    assert (status, text) == messages.refused("broken-off", 0, 0)
 
 
 def test_failed_write(program, tmp_path):
@@ -169,14 +170,14 @@ def test_failed_write(program, tmp_path):
     with open(tmp_path / "picture", "wb") as to:
         status, _, text = on_terminal(program, ["pbm", "--band=50", "--progress"], stdout=to, preexec_fn=limit)
     # A header of 12 bytes, and 147 bytes a row.
-    assert (status, text) == (3, shown(ROWS, 50, 100) + b"plotraster: write failed: go on from row 135 after byte 19857\n")
+    assert (status, text) == (3, shown(ROWS, 50, 100) + messages.said("broken-off", 135, 19857))
 
 
 def test_failed_sync(program, tmp_path, refuse):
     """The line is ended before the message. It has all rows."""
     how = {"env": dict(os.environ, LD_PRELOAD=refuse, SYNC_FAILS="1")}
     status, _, text = on_terminal(program, ["pbm", "-o", "picture", "--band=50", "--progress"], cwd=tmp_path, **how)
-    assert (status, text) == (3, shown(ROWS, 50) + b"plotraster: write failed: go on from row 0 after byte 0\n")
+    assert (status, text) == (3, shown(ROWS, 50) + messages.said("broken-off", 0, 0))
 
 
 def test_file_of_the_output(program, tmp_path):

@@ -4,6 +4,7 @@ import random
 
 import pytest
 
+from reference import messages
 from reference import raster
 from reference.fitting import BLANK, TOO_LARGE, fitted
 from reference.geometry import NO_WINDOW, Page, whole_page
@@ -166,8 +167,8 @@ def test_pages_that_are_kept():
     for plot, why in ((b"PU5,5;", BLANK), (b"PW0;PU-60000,0;PD60000,0;", TOO_LARGE)):
         for form, options in (("report", {}), ("pbm", {"dots": "10", "width": "200", "height": "200"})):
             wanted = answer(form, options, plot).output
-            assert answered(form, plot, **options) == (wanted, f"plotraster: the page is not fitted: {why}\n")
-    assert answer("report", {"margin": "1"}, b"") == (2, b"", "plotraster: --margin needs --fit\n")
+            assert answered(form, plot, **options) == (wanted, messages.said(why).decode())
+    assert answer("report", {"margin": "1"}, b"") == (2, b"", f"plotraster: {messages.text('margin-without-fit')}\n")
 
 
 def test_pens_choose_the_page():
@@ -178,7 +179,7 @@ def test_pens_choose_the_page():
         output, error = answered("pbm", plot, pens=pens, dots="127")
         assert output.split(b"\n")[1] == size and not error, (pens, output[:20])
     wanted = answer("pbm", {"pens": "3", "dots": "10"}, plot).output
-    assert answered("pbm", plot, pens="3", dots="10") == (wanted, f"plotraster: the page is not fitted: {BLANK}\n")
+    assert answered("pbm", plot, pens="3", dots="10") == (wanted, messages.said(BLANK).decode())
 
 
 def wrong_points(seed):

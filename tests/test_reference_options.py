@@ -6,6 +6,7 @@ import re
 import pytest
 
 from reference import full_plotter, plotter
+from reference import messages
 from reference.carousel import EMPTY, BadItem, Carousel, colours_of, widths_of
 from reference.command_line import request_of
 from reference.geometry import Page
@@ -115,17 +116,17 @@ def test_pictures_in_other_colours():
 
 
 @pytest.mark.parametrize("options, text", [
-    ({"colours": "2=bleu", "widths": "3=fat"}, "bad colours: 2=bleu"),
-    ({"colours": "2=blue", "widths": "3=fat"}, "bad widths: 3=fat"),
-    ({"colors": "x", "pens": "0"}, "bad pen list"), ({"widths": "", "profile": "no"}, "bad widths: "),
+    ({"colours": "2=bleu", "widths": "3=fat"}, messages.text("colours", "2=bleu")),
+    ({"colours": "2=blue", "widths": "3=fat"}, messages.text("widths", "3=fat")),
+    ({"colors": "x", "pens": "0"}, messages.text("pens")), ({"widths": "", "profile": "no"}, messages.text("widths", "")),
 ])
 def test_order_of_mistakes(options, text):
     assert answer("pbm", options, b"") == (2, b"", f"plotraster: {text}\n")
 
 
 @pytest.mark.parametrize("options, text", [
-    ({"form": "pbm", "smooth": "2", "sheet": "x"}, "--smooth needs the form png or ppm"),
-    ({"profile": "x", "sheet": "x"}, "bad sheet"), ({"profile": "x", "sheet": "each"}, "bad profile"),
+    ({"form": "pbm", "smooth": "2", "sheet": "x"}, messages.text("smooth-without-shades")),
+    ({"profile": "x", "sheet": "x"}, "bad sheet"), ({"profile": "x", "sheet": "each"}, messages.text("profile")),
     ({"characters": "x", "sheet": "x"}, "bad sheet"), ({"characters": "x", "profile": "x"}, "bad characters: use roman-8, "),
     ({"profile": "core", "sheet": "each", "size": "20", "dots": "20"}, "--sheet needs --profile full"),
     ({"profile": "core", "sheet": "1", "characters": "ascii"}, "--sheet needs --profile full"),
@@ -179,7 +180,7 @@ def test_sheets_have_one_page():
 
 @pytest.mark.parametrize("command, options, text", [
     ("pbm", {"sheet": "each"}, "--sheet needs --profile full"),
-    ("pbm", {"sheet": "each", "profile": "full"}, "--sheet each needs --output FOLDER"),
+    ("pbm", {"sheet": "each", "profile": "full"}, messages.text("each-without-folder")),
     ("report", {**APART}, "--sheet each needs a picture"),
     ("pbm", {**APART, "sheet": "Each"}, "bad sheet: use a number from 0 to 4194304, or each"),
     ("pbm", {**APART, "sheet": "4194305"}, "bad sheet: use a number from 0 to 4194304, or each"),
@@ -191,7 +192,7 @@ def test_mistakes_about_sheets(command, options, text):
 def test_messages_about_sheets():
     """Each sheet has its own; of a plot of one sheet they name none."""
     plot = b"PU0,0;PD900,0;PG;SP2;PD900,900;"
-    blank, kept = "nothing is drawn on the page: see plotraster report --profile full", "the page is not fitted: nothing is drawn"
+    blank, kept = messages.text("blank", "plotraster report --profile full"), messages.text("blank-to-fit")
     options = {"size": "16", "form": "marks", "output": "pictures"}
     assert answer("draw", {**options, "pens": "2"}, plot).error == f"plotraster: sheet 1: {blank}\n"
     assert answer("draw", options, b"").error == f"plotraster: {blank}\n"
@@ -204,7 +205,7 @@ def test_draw_says_that_nothing_is_on_the_page(x, is_blank):
     """A line 14 units wide beside a page of 1,000 units, or at its edge."""
     for plot in (b"PU%d,5;PD%d,900;" % (x, x), b"PU5,%d;PD900,%d;" % (x, x)):
         error = answer("draw", {"width": "1000", "height": "1000", "form": "marks", "dots": "10"}, plot).error
-        said = "plotraster: nothing is drawn on the page: see plotraster report --profile full\n"
+        said = messages.said("blank", "plotraster report --profile full").decode()
         assert error == (said if is_blank else ""), plot
 
 
@@ -217,7 +218,7 @@ def test_draw_has_sheets_apart_in_a_folder():
     core = answer("draw", {**options, "profile": "core"}, plot)
     assert core.error == "" and core.output.startswith(b"plot.marks ")
     first = answer("draw", {"size": "16", "form": "marks"}, plot)
-    assert first.error == "plotraster: the plot has 2 sheets; this is the first\n"
+    assert first.error == f"plotraster: {messages.text('first-sheet', 2)}\n"
 
 
 # Sizes
@@ -265,7 +266,7 @@ def test_pictures_of_a_size():
 @pytest.mark.parametrize("options, text", [
     ({"size": "100", "dots": "100"}, "--size may not be given with --dots"),
     ({"size": "100", "form": "pcl"}, "--size may not be given with the form pcl"),
-    ({"size": "100", "form": "pbm", "smooth": "2"}, "--smooth needs the form png or ppm"),
+    ({"size": "100", "form": "pbm", "smooth": "2"}, messages.text("smooth-without-shades")),
 ])
 def test_mistakes_about_sizes(options, text):
     assert answer("draw", options, b"") == (2, b"", f"plotraster: {text}\n")

@@ -6,6 +6,7 @@ import zlib
 
 import pytest
 
+from reference import messages
 from reference.outputs import answer
 from reference.pdf import HEADER, read_pdf
 from reference.reading import Wrong
@@ -225,8 +226,8 @@ def test_files_of_documents():
 
 @pytest.mark.parametrize("options, text", [
     ({"form": "pdf", "dots": "100", "page": "plot", "width": "64"},
-     "--dots, --size and --smooth may not be given with the forms pdf and svg"),
-    ({"form": "SVG", "size": "16", "widths": "x"}, "bad widths: x"),
+     messages.text("no-pixels")),
+    ({"form": "SVG", "size": "16", "widths": "x"}, messages.text("widths", "x")),
     ({"form": "eps"}, "no such form of picture: use png, pdf, svg, ppm, pbm, pcl or marks, after --form or as the extension of the "
                       "output file"),
 ])

@@ -8,6 +8,7 @@ import stat
 
 import pytest
 
+from reference import messages
 from reference.command_line import DOCUMENTS
 from reference.outputs import FORMS
 from shared import read_bytes, run, write
@@ -82,7 +83,7 @@ def test_one_plot_into_a_folder(program, folder):
     """The messages are those of one plot."""
     assert ends_of(program, folder, ["pbm", "a.plt", "-o", "out"]) == (0, [])
     assert read_bytes(folder / "out" / "a.pbm") == drawn(program, "pbm", LINE)
-    assert ends_of(program, folder, ["pbm", "far.plt", "-o", "out"]) == (1, ["plotraster: place off range at byte 0"])
+    assert ends_of(program, folder, ["pbm", "far.plt", "-o", "out"]) == (1, [f"plotraster: {messages.text('off-range', 0)}"])
     status, (line,) = ends_of(program, folder, ["pbm", "--verbose", "a.plt", "-o", "out"])
     assert (status, line) == (0, "plotraster: 1 line, 0 off the page; 0 notes, see plotraster report")
     assert files_in(folder / "out") == ["a.pbm"]
@@ -91,10 +92,10 @@ def test_one_plot_into_a_folder(program, folder):
 def test_refused_plots(program, folder):
     """Each has one line, and the others are drawn. The exit status is the greatest."""
     lines = [
-        "plotraster: far.plt: place off range at byte 0",
-        "plotraster: cannot open none.plt",
-        "plotraster: deep: read failed",
-        "plotraster: ..: read failed",
+        f"plotraster: far.plt: {messages.text('off-range', 0)}",
+        "plotraster: " + messages.text("open", "none.plt"),
+        f"plotraster: deep: {messages.text('read')}",
+        f"plotraster: ..: {messages.text('read')}",
     ]
     plots = ["a.plt", "far.plt", "none.plt", "deep", "..", "b.plt"]
     assert ends_of(program, folder, ["pbm", "-o", "out", *plots]) == (3, lines)
@@ -112,9 +113,9 @@ def test_exit_status_is_the_greatest(program, folder, plots, status):
 
 def test_refused_for_the_options(program, folder):
     """Each plot has its line: a resolution that PCL lacks, and a first row past the last row."""
-    lines = [f"plotraster: {name}: resolution is not one of PCL's" for name in ("a.plt", "b.plt")]
+    lines = [f"plotraster: {name}: {messages.text('resolution')}" for name in ("a.plt", "b.plt")]
     assert ends_of(program, folder, ["pcl", "--dots=127", "-o", "out", "a.plt", "b.plt"]) == (2, lines)
-    lines = [f"plotraster: {name}: first row is past the last row" for name in ("a.plt", "b.plt")]
+    lines = [f"plotraster: {name}: {messages.text('first-row')}" for name in ("a.plt", "b.plt")]
     assert ends_of(program, folder, ["pbm", "--from=9999", "-o", "out", "a.plt", "b.plt"]) == (2, lines)
     assert files_in(folder / "out") == []
 
@@ -140,7 +141,7 @@ def test_plots_of_one_name(program, folder):
     """Only the first of them is drawn."""
     write(str(folder / "a.hpgl"), DOWN)
     plots = ["a.plt", "deep/a.plt", "b.plt", "a.hpgl", "./a.plt"]
-    lines = [f"plotraster: {name}: cannot write out/a.pbm: it is written for another plot"
+    lines = [f"plotraster: {name}: " + messages.text("output", "out/a.pbm", "taken")
              for name in ("deep/a.plt", "a.hpgl", "./a.plt")]
     assert ends_of(program, folder, ["pbm", "-o", "out", *plots]) == (3, lines)
     assert files_in(folder / "out") == ["a.pbm", "b.pbm"]
@@ -153,18 +154,18 @@ def test_refused_plots_take_their_names(program, folder):
     write(str(folder / "out" / "a.pbm"), LINE)
     plots = ["far.plt", "deep/far.plt", "a.plt", "deep/a.plt", "out/a.pbm"]
     assert ends_of(program, folder, ["pbm", "-o", "out", *plots]) == (3, [
-        "plotraster: far.plt: place off range at byte 0",
-        "plotraster: deep/far.plt: cannot write out/far.pbm: it is written for another plot",
-        "plotraster: a.plt: cannot write out/a.pbm: it is one of the plots",
-        "plotraster: deep/a.plt: cannot write out/a.pbm: it is written for another plot",
-        "plotraster: out/a.pbm: cannot write out/a.pbm: it is written for another plot",
+        f"plotraster: far.plt: {messages.text('off-range', 0)}",
+        "plotraster: deep/far.plt: " + messages.text("output", "out/far.pbm", "taken"),
+        "plotraster: a.plt: " + messages.text("output", "out/a.pbm", "a-plot"),
+        "plotraster: deep/a.plt: " + messages.text("output", "out/a.pbm", "taken"),
+        "plotraster: out/a.pbm: " + messages.text("output", "out/a.pbm", "taken"),
     ])
     assert files_in(folder / "out") == ["a.pbm"]
     assert read_bytes(folder / "out" / "a.pbm") == LINE
 
 
 def test_plot_that_is_missing_takes_no_name(program, folder):
-    lines = ["plotraster: cannot open none/a.plt"]
+    lines = ["plotraster: " + messages.text("open", "none/a.plt")]
     assert ends_of(program, folder, ["pbm", "-o", "out", "none/a.plt", "a.plt"]) == (3, lines)
     assert files_in(folder / "out") == ["a.pbm"]
 
@@ -179,9 +180,9 @@ def test_plots_are_not_overwritten(program, folder):
     plots = ["a.plt", "b.plt", "link.plt", "c.plt", "out/c.pbm.part"]
     status, lines = ends_of(program, folder, ["pbm", "-o", "out", *plots])
     assert status == 3 and lines == [
-        "plotraster: a.plt: cannot write out/a.pbm: it is one of the plots",
-        "plotraster: b.plt: cannot write out/b.pbm: it is one of the plots",
-        "plotraster: c.plt: cannot write out/c.pbm.part: it is one of the plots",
+        "plotraster: a.plt: " + messages.text("output", "out/a.pbm", "a-plot"),
+        "plotraster: b.plt: " + messages.text("output", "out/b.pbm", "a-plot"),
+        "plotraster: c.plt: " + messages.text("output", "out/c.pbm.part", "a-plot"),
     ]
     assert read_bytes(folder / "out" / "a.pbm") == read_bytes(folder / "out" / "c.pbm.part") == LINE
     assert read_bytes(folder / "out" / "b.pbm") == DOWN
@@ -198,35 +199,35 @@ def test_last_of_many_plots_is_not_overwritten(program, folder):
     plots = [*names, "out/0.pbm", "out/7.pbm.part"]
     status, lines = ends_of(program, folder, ["pbm", "--dots=10", "-o", "out", *plots])
     assert status == 3 and lines == [
-        "plotraster: many/0.plt: cannot write out/0.pbm: it is one of the plots",
-        "plotraster: many/7.plt: cannot write out/7.pbm.part: it is one of the plots",
-        "plotraster: out/0.pbm: cannot write out/0.pbm: it is written for another plot",
+        "plotraster: many/0.plt: " + messages.text("output", "out/0.pbm", "a-plot"),
+        "plotraster: many/7.plt: " + messages.text("output", "out/7.pbm.part", "a-plot"),
+        "plotraster: out/0.pbm: " + messages.text("output", "out/0.pbm", "taken"),
     ]
     assert read_bytes(folder / "out" / "0.pbm") == read_bytes(folder / "out" / "7.pbm.part") == DOWN
 
 
 def test_the_only_plot_is_not_overwritten(program, folder):
     write(str(folder / "a.pbm"), LINE)
-    lines = ["plotraster: cannot write ./a.pbm: it is the plot"]
+    lines = ["plotraster: " + messages.text("output", "./a.pbm", "the-plot")]
     assert ends_of(program, folder, ["pbm", "-o", ".", "a.pbm"]) == (3, lines)
     assert read_bytes(folder / "a.pbm") == LINE
 
 
 def test_no_folder(program, folder):
     """Nothing is read or written if the plots have no folder to go to."""
-    needs = (2, ["plotraster: several plots need --output FOLDER"])
+    needs = (2, [f"plotraster: {messages.text('no-folder')}"])
     for command in COMMANDS:
         assert ends_of(program, folder, [command, "a.plt", "none.plt"]) == needs
-    for name, reason in [("none", "no such folder"), ("none/out", "no such folder"), ("", "no such folder"),
-                         ("b.plt", "it is not a folder"), ("b.plt/out", "Not a directory (os error 20)"),
-                         ("/dev/null", "it is not a folder")]:
-        lines = [f"plotraster: cannot write {name}: {reason}"]
+    for name, reason in [("none", "no-such-folder"), ("none/out", "no-such-folder"), ("", "no-such-folder"),
+                         ("b.plt", "not-a-folder"), ("b.plt/out", "Not a directory (os error 20)"),
+                         ("/dev/null", "not-a-folder")]:
+        lines = ["plotraster: " + messages.text("output", name, reason)]
         assert ends_of(program, folder, ["ppm", f"--output={name}", "a.plt", "none.plt"]) == (3, lines)
     assert files_in(folder) == ["a.plt", "b.plt", "deep", "far.plt", "out"]
 
 
 def test_standard_input_has_no_name(program, folder):
-    lines = ["plotraster: cannot write out: Is a directory (os error 21)"]
+    lines = ["plotraster: " + messages.text("output", "out", "Is a directory (os error 21)")]
     assert ends_of(program, folder, ["pbm", "-o", "out"], input=LINE) == (3, lines)
 
 
@@ -237,11 +238,11 @@ def test_what_is_said_of_each_plot(program, folder):
     status, lines = ends_of(program, folder, ["pbm", "--fit", "--verbose", "-o", "out", *plots])
     assert status == 3 and lines == [
         "plotraster: a.plt: 1 line, 0 off the page; 0 notes, see plotraster report",
-        "plotraster: cannot open none.plt",
-        "plotraster: no such file or folder",
-        "plotraster: blank.plt: the page is not fitted: nothing is drawn",
+        "plotraster: " + messages.text("open", "none.plt"),
+        f"plotraster: {messages.text('no-such-file')}",
+        f"plotraster: blank.plt: {messages.text('blank-to-fit')}",
         "plotraster: blank.plt: nothing is drawn: 0 lines, 0 off the page; 0 notes, see plotraster report",
-        "plotraster: far.plt: place off range at byte 0",
+        f"plotraster: far.plt: {messages.text('off-range', 0)}",
     ]
 
 
@@ -253,8 +254,8 @@ def test_files_that_cannot_be_written(program, folder):
     write(str(folder / "deep.plt"), LINE)
     status, lines = ends_of(program, folder, ["pbm", "-o", "out", "a.plt", "n" * 251, "deep.plt", "b.plt"])
     assert status == 3 and lines == [
-        "plotraster: a.plt: cannot write out/a.pbm.part: Is a directory (os error 21)",
-        f"plotraster: {'n' * 251}: cannot write out/{'n' * 251}.pbm.part: File name too long (os error 36)",
+        "plotraster: a.plt: " + messages.text("output", "out/a.pbm.part", "Is a directory (os error 21)"),
+        f"plotraster: {'n' * 251}: " + messages.text("output", f"out/{'n' * 251}.pbm.part", "File name too long (os error 36)"),
     ]
     assert files_in(folder / "out") == ["a.pbm.part", "b.pbm", "deep.pbm"]
     assert stat.S_ISCHR(os.stat(folder / "out" / "deep.pbm").st_mode)
@@ -266,7 +267,7 @@ def test_limit_on_files(program, folder):
         signal.signal(signal.SIGXFSZ, signal.SIG_IGN)
         resource.setrlimit(resource.RLIMIT_FSIZE, (20000, 20000))
     status, lines = ends_of(program, folder, ["ppm", "-o", "out", "a.plt", "b.plt"], preexec_fn=limit)
-    found = [re.fullmatch(r"plotraster: (.)\.plt: write failed: go on from row \d+ after byte \d+", it)[1] for it in lines]
+    found = [re.fullmatch(r"plotraster: (.)\.plt: " + messages.text("broken-off", r"\d+", r"\d+"), it)[1] for it in lines]
     assert (status, found) == (3, ["a", "b"])
     assert files_in(folder / "out") == ["a.ppm.part", "b.ppm.part"]
     assert drawn(program, "ppm", LINE).startswith(read_bytes(folder / "out" / "a.ppm.part"))
@@ -296,7 +297,7 @@ def test_refused_allocations(program, folder, refuse):
         lost = [name for name in names if name not in drawn_names]
         about = "" if len(lost) == 3 else "".join(f"{name}.plt: " for name in lost)
         assert len(lost) in (0, 1, 3)
-        assert (status, lines) == ((4, [f"plotraster: {about}out of memory"]) if lost else (0, []))
+        assert (status, lines) == ((4, [f"plotraster: {about}{messages.text('memory')}"]) if lost else (0, []))
         found.add((status, about))
         without_effect = 0 if lost else without_effect + 1
     assert found == {(0, ""), (4, ""), *((4, f"{name}.plt: ") for name in names)}

@@ -6,6 +6,7 @@ import signal
 import threading
 
 import pytest
+from reference import messages
 from reference.outputs import FORMS
 from shared import read_bytes, run, write
 
@@ -145,11 +146,11 @@ def test_names_that_are_taken(program, folder):
     """A plot's own name may be that of another plot's sheet."""
     write(str(folder / "two-1.plt"), plot_of(1))
     plots = ["two.plt", "two-1.plt"]
-    lines = ["plotraster: two-1.plt: cannot write out/two-1.png: it is written for another plot"]
+    lines = ["plotraster: two-1.plt: " + messages.text("output", "out/two-1.png", "taken")]
     assert ends_of(program, folder, ["png", *EACH, *plots]) == (3, lines)
     assert sorted(files_in(folder)) == ["two-1.png", "two-2.png"]
     assert files_in(folder)["two-1.png"] == sheet_of(program, ["png", *FULL], 1, plot_of(2))
-    lines = ["plotraster: two.plt: sheet 1: cannot write out/two-1.png: it is written for another plot"]
+    lines = ["plotraster: two.plt: sheet 1: " + messages.text("output", "out/two-1.png", "taken")]
     assert ends_of(program, folder, ["png", *EACH, *plots[::-1]]) == (3, lines)
     assert files_in(folder) == {
         "two-1.png": sheet_of(program, ["png", *FULL], 1, plot_of(1)),
@@ -161,9 +162,9 @@ def test_plots_of_one_name(program, folder):
     """Only the first of them is drawn, whatever numbers of sheets they have and whether it is good."""
     write(str(folder / "deep/far.plt"), plot_of(2))
     lines = [
-        "plotraster: deep/two.plt: cannot write out/two.png: it is written for another plot",
-        "plotraster: far.plt: place off range at byte 19",
-        "plotraster: deep/far.plt: cannot write out/far.png: it is written for another plot",
+        "plotraster: deep/two.plt: " + messages.text("output", "out/two.png", "taken"),
+        f"plotraster: far.plt: {messages.text('off-range', 19)}",
+        "plotraster: deep/far.plt: " + messages.text("output", "out/far.png", "taken"),
     ]
     assert ends_of(program, folder, ["png", *EACH, "two.plt", "deep/two.plt", "far.plt", "deep/far.plt"]) == (3, lines)
     assert sorted(files_in(folder)) == ["two-1.png", "two-2.png"]
@@ -176,10 +177,10 @@ def test_plots_are_not_overwritten(program, folder):
     plots = ["two.plt", "out/two-2.png", "twelve.plt", "out/twelve-03.png.part", "out/pair.png", "out/single.png"]
     status, lines = ends_of(program, folder, ["png", *EACH, *plots])
     assert status == 3 and lines == [
-        "plotraster: two.plt: sheet 2: cannot write out/two-2.png: it is one of the plots",
-        "plotraster: out/two-2.png: cannot write out/two-2.png: it is written for another plot",
-        "plotraster: twelve.plt: sheet 3: cannot write out/twelve-03.png.part: it is one of the plots",
-        "plotraster: out/single.png: cannot write out/single.png: it is one of the plots",
+        "plotraster: two.plt: sheet 2: " + messages.text("output", "out/two-2.png", "a-plot"),
+        "plotraster: out/two-2.png: " + messages.text("output", "out/two-2.png", "taken"),
+        "plotraster: twelve.plt: sheet 3: " + messages.text("output", "out/twelve-03.png.part", "a-plot"),
+        "plotraster: out/single.png: " + messages.text("output", "out/single.png", "a-plot"),
     ]
     files = files_in(folder)
     assert files["two-2.png"] == files["twelve-03.png.part"] == files["single.png"] == plot_of(1)
@@ -192,11 +193,11 @@ def test_only_plot(program, folder):
     """The messages of one plot do not name it."""
     write(str(folder / "two-2.png"), plot_of(1))
     words = ["png", *FULL, "--sheet=each", "-o", "."]
-    assert ends_of(program, folder, [*words, "far.plt"]) == (1, ["plotraster: place off range at byte 19"])
+    assert ends_of(program, folder, [*words, "far.plt"]) == (1, [f"plotraster: {messages.text('off-range', 19)}"])
     write(str(folder / "one.png"), plot_of(1))
-    assert ends_of(program, folder, [*words, "one.png"]) == (3, ["plotraster: cannot write ./one.png: it is the plot"])
-    assert ends_of(program, folder, [*words, ".."]) == (3, ["plotraster: cannot open ..: it is a folder"])
-    assert ends_of(program, folder, ["ppm", *words[1:], ".."]) == (3, ["plotraster: read failed"])
+    assert ends_of(program, folder, [*words, "one.png"]) == (3, ["plotraster: " + messages.text("output", "./one.png", "the-plot")])
+    assert ends_of(program, folder, [*words, ".."]) == (3, ["plotraster: " + messages.text("not-opened", "..", "a-folder")])
+    assert ends_of(program, folder, ["ppm", *words[1:], ".."]) == (3, [f"plotraster: {messages.text('read')}"])
     assert ends_of(program, folder, [*words, "none.plt"])[0] == 3
 
 
@@ -204,7 +205,7 @@ def test_what_is_said_of_a_sheet(program, folder):
     """A line names the sheet if there are several."""
     write(str(folder / "off.plt"), b"PU5,5;PD500,500;PG;PU3000,3000;PD4000,4000;")
     words = ["draw", *PAGE, "-o", "out"]
-    blank = "nothing is drawn on the page: see plotraster report --profile full"
+    blank = messages.text("blank", "plotraster report --profile full")
     assert ends_of(program, folder, [*words, "off.plt"]) == (0, [f"plotraster: sheet 2: {blank}"])
     lines = [f"plotraster: off.plt: sheet 2: {blank}", f"plotraster: blank.plt: {blank}"]
     assert ends_of(program, folder, [*words, "off.plt", "blank.plt"]) == (0, lines)
@@ -224,12 +225,12 @@ def test_old_files(program, folder):
 def test_device_that_is_full(program, folder):
     """One sheet cannot be written; the others are."""
     os.symlink("/dev/full", folder / "out" / "two-1.ppm")
-    lines = ["plotraster: sheet 1: write failed: go on from row 0 after byte 0"]
+    lines = [f"plotraster: sheet 1: {messages.text('broken-off', 0, 0)}"]
     assert ends_of(program, folder, ["ppm", *EACH, "two.plt"]) == (3, lines)
     assert os.path.islink(folder / "out" / "two-1.ppm")
     assert read_bytes(folder / "out" / "two-2.ppm") == sheet_of(program, ["ppm", *FULL], 2, plot_of(2))
     os.symlink("/dev/full", folder / "out" / "two-2.png")
-    assert ends_of(program, folder, ["png", *EACH, "two.plt"]) == (3, ["plotraster: sheet 2: write failed"])
+    assert ends_of(program, folder, ["png", *EACH, "two.plt"]) == (3, [f"plotraster: sheet 2: {messages.text('write')}"])
 
 
 def test_limit_on_files(program, folder):
@@ -240,7 +241,7 @@ def test_limit_on_files(program, folder):
     for command, left in [("ppm", ["two-1.ppm.part", "two-2.ppm.part"]), ("png", [])]:
         status, lines = ends_of(program, folder, [command, *EACH, "two.plt"], preexec_fn=limit)
         assert (status, len(lines)) == (3, 2)
-        assert all(f"sheet {number}: write failed" in line for number, line in enumerate(lines, 1))
+        assert all(f"sheet {number}: {messages.text('write')}" in line for number, line in enumerate(lines, 1))
         assert sorted(files_in(folder)) == left
         for name in left:
             os.remove(folder / "out" / name)
@@ -248,11 +249,11 @@ def test_limit_on_files(program, folder):
 
 def test_no_folder(program, folder):
     """Nothing is read or written if the sheets have no folder to go to, or the plot has no name."""
-    for name, reason in [("none", "no such folder"), ("one.plt", "it is not a folder"), ("/dev/null", "it is not a folder")]:
+    for name, reason in [("none", "no-such-folder"), ("one.plt", "not-a-folder"), ("/dev/null", "not-a-folder")]:
         for plots in (["two.plt"], ["two.plt", "one.plt"], []):
-            lines = [f"plotraster: cannot write {name}: {reason}"]
+            lines = ["plotraster: " + messages.text("output", name, reason)]
             assert ends_of(program, folder, ["png", *FULL, "--sheet=each", "-o", name, *plots]) == (3, lines)
-    lines = ["plotraster: cannot write out: the plot on standard input has no name"]
+    lines = ["plotraster: " + messages.text("output", "out", "no-name")]
     assert ends_of(program, folder, ["png", *EACH], input=plot_of(2)) == (3, lines)
     assert files_in(folder) == {}
     assert read_bytes(folder / "one.plt") == plot_of(1)
@@ -268,7 +269,7 @@ def test_refused_allocations(program, folder, refuse):
         found = set(files_in(folder))
         assert found <= whole
         about = "" if not found else f"sheet {3 - int(min(found)[4])}: "
-        assert (status, lines) == ((0, []) if found == whole else (4, [f"plotraster: {about}out of memory"]))
+        assert (status, lines) == ((0, []) if found == whole else (4, [f"plotraster: {about}{messages.text('memory')}"]))
         seen.add(len(found))
         without_effect = without_effect + 1 if found == whole else 0
         for name in found:

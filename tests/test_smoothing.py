@@ -9,13 +9,14 @@ import subprocess
 import pytest
 
 from document_runs import NOT_WRITTEN, OLD, SECONDS, WHITE, drawn, ends_of, limit
+from reference import messages
 from reference.png import GREY, PALETTE, TRUECOLOUR, chunks, read_png
 from shared import EXAMPLES, need, pixels, read_bytes, run, with_sheet, write
 from test_full_reference import options_of, plot_of, rows
 from test_pictures import cases, words_of
 from test_png import NAMES, depth_of, has_same_pixels
 
-TOO_FINE = (2, b"plotraster: --dots times --smooth is over 1200\n")
+TOO_FINE = messages.refused("too-fine")
 SMALL = ["--width=1000", "--height=800"]
 # Lines by pens of several colours, along the edges of the small page and across it.
 COLOURED = b"SP2;PU5,5;PD900,20;SP3;PU0,800;PD1000,800;SP5;PU450,350;CI200;SP6;PW3;PU0,0;PD0,800;SP1;PW1;PU1000,0;PD1000,790;"
@@ -224,7 +225,7 @@ def test_first_rows(program, times):
             assert drawn(program, [*words, f"--from={row}"], plot) == whole[len(whole) - 3 * columns * (count - row):]
         assert drawn(program, [*words, "--from=0"], plot) == whole
     past = run(program, [*words, f"--from={count + 1}"], SECONDS, input=BLACK)
-    assert (past.returncode, past.stdout, past.stderr) == (2, b"", b"plotraster: first row is past the last row\n")
+    assert (past.returncode, past.stdout, past.stderr) == (2, b"", messages.said("first-row"))
 
 
 @pytest.mark.parametrize("times", TIMES)
@@ -367,10 +368,10 @@ def test_refusals(program, tmp_path):
                 words = [command, f"--dots={dots}", f"--smooth={times}", *where]
                 assert refused(words) == TOO_FINE
                 assert refused([*words, "missing.plt"]) == TOO_FINE
-                assert refused([*words, "--pens=0"]) == (2, b"plotraster: bad pen list\n")
+                assert refused([*words, "--pens=0"]) == messages.refused("pens")
             for dots, times in ((600, 2), (400, 3), (300, 4), (240, 5), (200, 6), (171, 7), (150, 8), (1200, 1)):
                 words = [command, f"--dots={dots}", f"--smooth={times}", *where]
-                assert refused(words) == (1, b"plotraster: place off range at byte 0\n")
+                assert refused(words) == messages.refused("off-range", 0)
             for text in ("0", "9", "-1", "1.5", "x", ""):
                 status, message = refused([command, f"--smooth={text}", *where])
                 assert status == 2 and message.startswith(b"error: ")
@@ -386,7 +387,7 @@ def test_forms_without_shades(program):
 
 def test_full_device(program):
     """A pixmap says where to go on from, a PNG does not."""
-    ends = {"png": NOT_WRITTEN, "ppm": (3, b"plotraster: write failed: go on from row 0 after byte 0\n")}
+    ends = {"png": NOT_WRITTEN, "ppm": messages.refused("broken-off", 0, 0)}
     for command, wanted in ends.items():
         with open("/dev/full", "wb") as full:
             done = subprocess.run(["plotraster", command, *SMALL, "--smooth=3"], executable=program, input=COLOURED, stdout=full,
@@ -416,7 +417,7 @@ def test_going_on(program, tmp_path):
         row = max(0, size - header) // (3 * columns)
         kept = header + 3 * columns * row if row else 0
         assert (done.returncode, done.stdout) == (3, b"")
-        assert done.stderr == b"plotraster: write failed: go on from row %d after byte %d\n" % (row, kept)
+        assert done.stderr == messages.said("broken-off", row, kept)
         assert whole[:kept] + drawn(program, [*words, f"--from={row}"], plot) == whole
 
 
@@ -433,7 +434,7 @@ def test_each_write_fails(program, refuse, command, plot):
         assert whole.startswith(done.stdout)
         if done.returncode == 0:
             break
-        assert done.returncode == 3 and done.stdout != whole and done.stderr.startswith(b"plotraster: write failed")
+        assert done.returncode == 3 and done.stdout != whole and done.stderr.startswith(messages.said("write")[:-1])
     assert number > 1 and done.stdout == whole
 
 
@@ -448,7 +449,7 @@ def test_refused_allocations(program, refuse, command, plot):
         surroundings = dict(os.environ, LD_PRELOAD=refuse, MEMORY_FAILS=str(number))
         done = run(program, words, SECONDS, input=plot, env=surroundings)
         ended = (done.returncode, done.stdout, done.stderr)
-        assert ended in ((0, whole, b""), (4, b"", b"plotraster: out of memory\n"))
+        assert ended in ((0, whole, b""), (4, b"", messages.said("memory")))
         without_effect = 0 if done.returncode else without_effect + 1
     assert number > 11
 

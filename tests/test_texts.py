@@ -10,6 +10,7 @@ import subprocess
 
 import pytest
 
+from reference import messages
 from reference.command_line import DOCUMENTS
 from shared import assert_nothing, ink, read, read_bitmap, run
 
@@ -58,6 +59,13 @@ def test_messages():
     names = {"path": "FILE", "0": "ITEM"}
     wanted = {re.sub(r"\{(\w+)\}", lambda it: names.get(it[1], it[1].upper()), it) for it in messages_of_sources()}
     assert wanted - OF_THE_LIBRARY == set(messages_of_the_page())
+
+
+def test_table_of_messages():
+    """The program has each message that the tests know."""
+    sources = "".join(read("crates", it) for it in (*SOURCES, "delivery/src/folder.rt", "plotraster/src/remarks.rt"))
+    texts = [text.removeprefix("the page is ") for _, text in messages.MESSAGES.values()]
+    assert_nothing(text for text in texts if not re.search(re.escape(text).replace(r"\{\}", "[^\"]*"), sources))
 
 
 def test_statuses():

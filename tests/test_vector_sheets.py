@@ -9,6 +9,7 @@ import subprocess
 import pytest
 
 from document_runs import LINE, OLD, SECONDS, SMALL, drawn, ends_of
+from reference import messages
 from reference.command_line import VECTORS
 from reference.pdf import read_pdf
 from reference.svg import read_svg
@@ -20,7 +21,7 @@ ALL = [*FULL, "--sheet=0"]
 # Sheets of one, two and no lines of pens 1 and 2, of which the third has only pen 3.
 TWO = b"PU0,0;PD100,0;PG;SP2;PU0,50;PD100,50;SP1;PD100,90;"
 THREE = TWO + b"PG;SP3;PD5,5;"
-FIRST_OF_TWO = b"plotraster: the plot has 2 sheets; this is the first\n"
+FIRST_OF_TWO = messages.said("first-sheet", 2)
 # How much memory a line may take beside the plot, in bytes, and how much a run does without one.
 MEMORY_OF_A_LINE = 200
 MEMORY_OF_A_RUN = 60_000_000
@@ -99,7 +100,7 @@ def test_each_sheet(program, tmp_path):
     write(str(tmp_path / "two.plt"), TWO)
     os.mkdir(tmp_path / "out")
     assert drawn(program, ["pdf", *FULL, "--sheet=each"], TWO) == drawn(program, ["pdf", *ALL], TWO)
-    needs = (2, b"plotraster: --sheet each needs --output FOLDER\n")
+    needs = messages.refused("each-without-folder")
     for words in (["svg", *FULL], ["draw", "--form=svg"]):
         assert ends_of(program, [*words, "--sheet=each"], TWO) == needs
     for words in (["pdf", *FULL, "--sheet=each"], ["svg", *FULL, "--sheet=each"], ["draw", "--form=pdf", *FULL]):
@@ -181,8 +182,8 @@ def test_layers(program, tmp_path, pytestconfig):
 @pytest.mark.parametrize("command", VECTORS)
 @pytest.mark.parametrize("words, plot, errors", [
     ([], b"", b""), ([], b"IW90000,90000,90001,90001;PD5,5;", b""), (["--pens=2"], LINE, b""),
-    (["--fit"], b"", b"plotraster: the page is not fitted: nothing is drawn\n"),
-    (["--fit", "--pens=9"], LINE, b"plotraster: the page is not fitted: nothing is drawn\n"),
+    (["--fit"], b"", messages.said("blank-to-fit")),
+    (["--fit", "--pens=9"], LINE, messages.said("blank-to-fit")),
 ])
 def test_nothing_drawn(program, command, words, plot, errors):
     """An empty page, without layers and clip paths."""
@@ -226,12 +227,12 @@ def test_pixels_are_not_asked_for(program, command):
     for option in ("--dots=100", "--smooth=1", "--size=100", "--progress"):
         status, message = ends_of(program, [command, option], LINE)
         assert status == 2 and message.startswith(b"error: ")
-    wrong = (2, b"plotraster: --dots, --size and --smooth may not be given with the forms pdf and svg\n")
+    wrong = messages.refused("no-pixels")
     for option in ("--dots=100", "--smooth=1", "--size=100"):
         for words in ([f"--form={command}"], ["-o", f"new.{command}"], [f"--form={command}", "--page=none", "--profile=no"]):
             assert ends_of(program, ["draw", option, *words], LINE) == wrong
-        for word, said in (("--colours=x", b"bad colours: x"), ("--widths=x", b"bad widths: x"), ("--pens=0", b"bad pen list")):
-            assert ends_of(program, ["draw", option, f"--form={command}", word], LINE) == (2, b"plotraster: %s\n" % said)
+        for word, said in (("--colours=x", ("colours", "x")), ("--widths=x", ("widths", "x")), ("--pens=0", ("pens",))):
+            assert ends_of(program, ["draw", option, f"--form={command}", word], LINE) == messages.refused(*said)
     assert not os.path.exists(f"new.{command}")
 
 
@@ -247,7 +248,7 @@ def test_no_overwriting(program, tmp_path):
     for command in VECTORS:
         write(str(tmp_path / f"out.{command}"), OLD)
         words = ["draw", "-o", f"out.{command}"]
-        assert run_in(program, tmp_path, [*words, "far.plt"]) == (1, b"plotraster: place off range at byte 0\n")
+        assert run_in(program, tmp_path, [*words, "far.plt"]) == messages.refused("off-range", 0)
         assert read_bytes(tmp_path / f"out.{command}") == OLD
         assert run_in(program, tmp_path, [*words, "a.plt"]) == (0, b"")
         assert read_bytes(tmp_path / f"out.{command}") != OLD

@@ -16,6 +16,7 @@ import tempfile
 
 import pytest
 
+from reference import messages
 from reference.command_line import DOCUMENTS, VECTORS
 from reference.outputs import FORMS
 from shared import assert_nothing, read, run, write
@@ -26,32 +27,32 @@ FILES = {"line.plt": LINE, "--left": LINE, " line.plt": LINE, "line.plt ": LINE,
 
 # What a run must end with: the exit status, and how standard error begins.
 DONE = (0, b"")
-OFF_RANGE = (1, b"plotraster: place off range at byte 0\n")
+OFF_RANGE = messages.refused("off-range", 0)
 USAGE = (2, b"error: ")
 NO_TEXT = (2, b"plotraster: words not understood\n")
-BAD_LIST = (2, b"plotraster: bad pen list\n")
-TOO_FINE = (2, b"plotraster: --dots times --smooth is over 1200\n")
+BAD_LIST = messages.refused("pens")
+TOO_FINE = messages.refused("too-fine")
 BAD_PAGE = (2, b"plotraster: bad page: use a0 to a5, b4, letter, legal, tabloid, ansi-a to ansi-e, arch-d or arch-e, ")
-PAGE_AND_SIDE = (2, b"plotraster: --page may not be given with --width or --height\n")
-BAD_PROFILE = (2, b"plotraster: bad profile\n")
+PAGE_AND_SIDE = messages.refused("page-and-sides")
+BAD_PROFILE = messages.refused("profile")
 NO_FORM = (2, b"plotraster: no such form of picture: ")
-NO_SHADES = (2, b"plotraster: --smooth needs the form png or ppm\n")
-NO_PIXELS = (2, b"plotraster: --dots, --size and --smooth may not be given with the forms pdf and svg\n")
-NO_FIT = (2, b"plotraster: --margin needs --fit\n")
-NO_FOLDER = (2, b"plotraster: several plots need --output FOLDER\n")
+NO_SHADES = messages.refused("smooth-without-shades")
+NO_PIXELS = messages.refused("no-pixels")
+NO_FIT = messages.refused("margin-without-fit")
+NO_FOLDER = messages.refused("no-folder")
 BAD_SHEET = (2, b"plotraster: bad sheet: use a number from 0 to 4194304, or each\n")
 EACH_OF_A_REPORT = (2, b"plotraster: --sheet each needs a picture\n")
-EACH_WITHOUT_A_FOLDER = (2, b"plotraster: --sheet each needs --output FOLDER\n")
+EACH_WITHOUT_A_FOLDER = messages.refused("each-without-folder")
 SIZE_AND_DOTS = (2, b"plotraster: --size may not be given with --dots\n")
 SIZE_OF_PCL = (2, b"plotraster: --size may not be given with the form pcl\n")
 NO_SHEETS = (2, b"plotraster: --sheet needs --profile full\n")
 BAD_CHARACTERS = (2, b"plotraster: bad characters: use roman-8, latin-1, windows-1252, pc-8, ascii or utf-8\n")
 NO_CHARACTERS = (2, b"plotraster: --characters needs --profile full\n")
-NOT_OF_PCL = (2, b"plotraster: resolution is not one of PCL's\n")
-PAST_THE_END = (2, b"plotraster: first row is past the last row\n")
-NOT_READ = (3, b"plotraster: read failed\n")
-NOT_A_FOLDER = (3, b"plotraster: cannot write line.plt: it is not a folder\n")
-NOT_WRITTEN = (3, b"plotraster: cannot write folder: Is a directory (os error 21)\n")
+NOT_OF_PCL = messages.refused("resolution")
+PAST_THE_END = messages.refused("first-row")
+NOT_READ = messages.refused("read")
+NOT_A_FOLDER = messages.refused("output", "line.plt", "not-a-folder")
+NOT_WRITTEN = messages.refused("output", "folder", "Is a directory (os error 21)")
 
 COMMANDS = [*DOCUMENTS, *FORMS, "report"]
 # A page of 64 by 64 units: 6 rows at the default resolution.
@@ -75,9 +76,9 @@ def not_opened(name, reason=None, command="pbm"):
     """What a run must end with if a file cannot be opened. With --verbose the reason is in a second line; of a document it
     is always in the first."""
     if command in DOCUMENTS:
-        return 3, f"plotraster: cannot open {name}: {reason or 'no such file or folder'}\n".encode()
-    why = f"plotraster: {reason}\n" if reason else ""
-    return 3, f"plotraster: cannot open {name}\n{why}".encode()
+        return messages.refused("not-opened", name, reason or "no-such-file")
+    why = f"plotraster: {messages.known(reason)}\n" if reason else ""
+    return 3, messages.said("open", name) + why.encode()
 
 
 def plain():
@@ -351,11 +352,11 @@ def pens_by_option():
             for colours in ["2=#f80", "all=black", "1-3=ff8000,2=#FF8000", "1=teal,255=grey"]:
                 yield [command, word, colours, "line.plt", *end], DONE
             for colours in ["2=bleu", "=red", "2=", "256=red", "2=#ff", "2:red", ""]:
-                yield [command, f"{word}=1=red,{colours}", "line.plt"], (2, f"plotraster: bad colours: {colours}\n".encode())
+                yield [command, f"{word}=1=red,{colours}", "line.plt"], messages.refused("colours", colours)
         for widths in ["2=0.7", "all=0", "1-3=20,2=.35"]:
             yield [command, "--widths", widths, "line.plt", *end], DONE
         for widths in ["2=fat", "2=20.1", "2=-1", "9-1=1", ""]:
-            yield [command, f"--widths=1=1,{widths}", "line.plt"], (2, f"plotraster: bad widths: {widths}\n".encode())
+            yield [command, f"--widths=1=1,{widths}", "line.plt"], messages.refused("widths", widths)
 
 
 def sizes():
@@ -391,7 +392,7 @@ def files():
         ]:
             yield [command, name], not_opened(name, None, command)
         for name, reason in [
-            ("missing.plt", "no such file or folder"), ("line.plt/", "Not a directory (os error 20)"),
+            ("missing.plt", "no-such-file"), ("line.plt/", "Not a directory (os error 20)"),
             ("n" * LONG, "File name too long (os error 36)"),
         ]:
             yield [command, name], not_opened(name, reason if command in DOCUMENTS else None, command)
@@ -463,13 +464,13 @@ def orders_of_refusal():
     yield ["draw", "--characters=ascii", "--profile=core", "--margin=1", "missing.plt"], NO_CHARACTERS
     yield ["draw", "--characters=none", "--sheet=each"], BAD_CHARACTERS
     yield ["pbm", "--colours=1=bleu", "--pens=0"], BAD_LIST
-    yield ["pbm", "--widths=1=fat", "--colours=1=bleu"], (2, b"plotraster: bad colours: 1=bleu\n")
-    yield ["png", "--widths=1=fat", "--dots=1200", "--smooth=2"], (2, b"plotraster: bad widths: 1=fat\n")
+    yield ["pbm", "--widths=1=fat", "--colours=1=bleu"], messages.refused("colours", "1=bleu")
+    yield ["png", "--widths=1=fat", "--dots=1200", "--smooth=2"], messages.refused("widths", "1=fat")
     yield ["pdf", "--sheet=each"], NO_SHEETS
     yield ["pdf", "--profile=full", "--sheet=each", "--margin=1"], NO_FIT
     yield ["svg", "--profile=full", "--sheet=each", "--margin=1"], EACH_WITHOUT_A_FOLDER
     yield ["draw", "--form=svg", "--dots=100", "--size=100", "--sheet=each"], NO_PIXELS
-    yield ["draw", "--form=pdf", "--widths=1=fat", "--smooth=2"], (2, b"plotraster: bad widths: 1=fat\n")
+    yield ["draw", "--form=pdf", "--widths=1=fat", "--smooth=2"], messages.refused("widths", "1=fat")
     yield ["report", "--sheet=each", "--profile=none"], BAD_PROFILE
     yield ["draw", "--sheet=each", "--size=100", "--dots=10", "line.plt"], EACH_WITHOUT_A_FOLDER
     yield ["draw", "--size=100", "--dots=10", "line.plt", "far.plt"], SIZE_AND_DOTS
@@ -570,7 +571,7 @@ def test_unreadable_file(program):
         copy = shutil.copy(program, folder)
         write(os.path.join(folder, "locked.plt"), LINE, 0)
         for command in COMMANDS:
-            for more, reason in [([], "permission denied" if command in DOCUMENTS else None), (["--verbose"], "permission denied")]:
+            for more, reason in [([], "denied" if command in DOCUMENTS else None), (["--verbose"], "denied")]:
                 done = run(copy, [command, "locked.plt", *more], SECONDS, cwd=folder, **another)
                 assert (done.returncode, done.stderr) == not_opened("locked.plt", reason, command)
                 assert done.stdout == b""

@@ -4,24 +4,25 @@ import os
 import re
 import shlex
 
+from reference import messages
+
 MANUAL = os.path.join(os.path.dirname(__file__), "..", "..", "man", "plotraster.1")
 # What is said of an output that is written.
 LINES = rb"[0-9]+ lines?, [0-9]+ off the page(, [0-9]+ cut at its edge)?"
 REPORT = b"see plotraster report( --profile full)?"
 REMARKS = (
-    b"nothing is drawn on the page: " + REPORT,
+    messages.text("blank", REPORT.decode()).encode(),
     rb"[0-9]+ notes on [0-9]+ lines?: " + REPORT,
-    b"the page is the default one: the plot asks for no size",
-    b"the page is not fitted: (nothing is drawn|the drawing is larger than a page can be)",
-    rb"the plot has [0-9]+ sheets; this is the first",
+    messages.text("no-size").encode(),
+    messages.text("blank-to-fit").encode(),
+    messages.text("too-large-to-fit").encode(),
+    messages.text("first-sheet", "[0-9]+").encode(),
     b"(nothing is drawn: )?" + LINES + rb"; [0-9]+ notes?, " + REPORT,
 )
 # Why a file cannot be opened, which --verbose says in a line of its own.
-REASONS = rb"no such file or folder|permission denied|[A-Z][a-z ]+ \(os error [0-9]+\)"
+REASONS = f"{messages.text('no-such-file')}|{messages.text('denied')}|".encode() + rb"[A-Z][a-z ]+ \(os error [0-9]+\)"
 # The exit statuses of the messages that begin so; of all others it is 2.
-STATUSES = {
-    "place off range": 1, "too many": 1, "plot is longer": 1, "write failed": 3, "cannot": 3, "read failed": 3, "out of memory": 4,
-}
+STATUSES = {message.partition("{")[0]: status for status, message in messages.MESSAGES.values() if message[0] != "{"}
 REFUSED, USAGE, DEVICE, MEMORY = 1, 2, 3, 4
 
 
@@ -29,7 +30,7 @@ class Broken(Exception):
     """What a run broke."""
 
 
-def messages():
+def of_the_manual():
     """The pattern of each message of the manual page, with its exit status; the name of a plot, and a sheet, may come first."""
     with open(MANUAL, encoding="utf-8") as manual:
         heads = re.findall(r'^\.(?:B|BI) "plotraster: (.*)', manual.read().replace("\\-", "-"), re.M)
@@ -41,7 +42,7 @@ def messages():
 
 
 MESSAGES = [
-    *((re.compile(b"plotraster: (.*: )?(" + remark + b")", re.S), 0) for remark in REMARKS), *messages(),
+    *((re.compile(b"plotraster: (.*: )?(" + remark + b")", re.S), 0) for remark in REMARKS), *of_the_manual(),
     (re.compile(b"plotraster: (" + REASONS + b")"), DEVICE),
 ]
 
@@ -69,7 +70,7 @@ def keep_promises(ran):
         found = [said(line) for line in ran.errors.splitlines()]
         must(max(found, default=0) == ran.status, f"status {ran.status}, says {ran.errors[:200]!r}")
         must(ran.errors.endswith(b"\n") or not ran.errors, "an end of line is missing")
-    if ran.status != 0 and b"write failed" not in ran.errors:
+    if ran.status != 0 and messages.text("write").encode() not in ran.errors:
         must(not ran.output, f"status {ran.status}, writes {ran.output[:100]!r}")
 
 

@@ -5,6 +5,7 @@ import re
 import shutil
 import subprocess
 
+from reference import messages
 from reference.command_line import EACH
 
 from .answers import DEVICE, MEMORY, REFUSED, USAGE, must, refusals
@@ -15,8 +16,8 @@ from .words import COMMANDS, FOLDER, form_of, mistake_in, right_options, soup, w
 
 LINE = b"SP1;PU0,28;PD64,28;"
 OLD = b"an older picture\n"
-PAST_THE_END = b"plotraster: first row is past the last row\n"
-TOO_LONG = b"plotraster: plot is longer than 67108864 bytes\n"
+PAST_THE_END = messages.said("first-row")
+TOO_LONG = messages.said("too-long")
 # The most bytes of an output that is written byte by byte.
 MOST_SHORT = 3000
 # Plots of one name and of several, and names that need care.
@@ -275,7 +276,7 @@ def check_read(bench, words, plot, plain, dice):
         return
     for how in (How(closed=(0,)), How(given="."), How(refused={"READ_FAILS": "1"})):
         ran = bench.run(words, plot, how)
-        must((ran.status, ran.errors) == (DEVICE, b"plotraster: read failed\n"), f"{ends(ran)}, {how}")
+        must((ran.status, ran.errors) == (DEVICE, messages.said("read")), f"{ends(ran)}, {how}")
     if dice.random() < 0.1:
         ran = bench.run(words, plot, How(given="/dev/zero"))
         must((ran.status, ran.errors) == (REFUSED, TOO_LONG), ends(ran))
@@ -296,7 +297,7 @@ def check_unfinished(ran, how, whole):
         # What is in the pipe is lost without a failure.
         must(how.leaves is not None, f"status 0, {how}")
     else:
-        must(ran.status == DEVICE and b"write failed" in refusals(ran)[0], f"{ends(ran)}, {how}")
+        must(ran.status == DEVICE and messages.text("write").encode() in refusals(ran)[0], f"{ends(ran)}, {how}")
     must(whole.startswith(ran.output), f"no beginning of the output, {how}")
     must(how.limit is None or len(ran.output) <= how.limit, f"more than {how}")
 
@@ -306,7 +307,7 @@ def check_not_stored(bench, command, options, plot, how, whole, dice):
     write("out", OLD)
     ran = bench.run(words_of(command, {**options, "output": "out"}, [], dice), plot, how)
     must(ran.status == DEVICE and read("out") == OLD, f"{ends(ran)}, {how}")
-    found = re.search(rb"write failed: go on from row ([0-9]+) after byte ([0-9]+)\n", ran.errors)
+    found = re.search(messages.text("broken-off", "([0-9]+)", "([0-9]+)").encode() + b"\n", ran.errors)
     must(bool(found) == os.path.exists("out.part"), f"out.part, {how}")
     if not found:
         return

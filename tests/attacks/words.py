@@ -1,5 +1,6 @@
 """Random command lines: right ones that draw small pictures, and wrong ones with what the program must say."""
 
+from reference import messages
 from reference.command_line import (
     CHARACTERS, DOTS_OF_PCL, MOST_DOTS, PICTURES, VECTORS, WITH_SHADES, Mistake, ranges_of, request_of)
 from reference.random_options import (
@@ -127,7 +128,7 @@ def mistake_in(command, options):
         return f"plotraster: {mistake}" if mistake.args else "error: "
     except ValueError:
         return "plotraster: bad page: "
-    return "plotraster: resolution is not one of PCL's" if request.form == "pcl" and request.dots not in DOTS_OF_PCL else None
+    return f"plotraster: {messages.text('resolution')}" if request.form == "pcl" and request.dots not in DOTS_OF_PCL else None
 
 
 def with_wrong_value(command, options, dice):
@@ -159,7 +160,7 @@ def with_wrong_word(command, options, files, dice):
         return words, "plotraster: words not understood\n"
     if kind == 4:
         return [dice.choice(("--width=64", "pb", "", "PNG", "-", "p" * LONG, "--")), *words], "error: "
-    return [*words, "a.plt", "b.plt"], "plotraster: several plots need --output FOLDER\n"
+    return [*words, "a.plt", "b.plt"], f"plotraster: {messages.text('no-folder')}\n"
 
 
 def soup(dice):

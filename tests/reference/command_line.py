@@ -6,7 +6,7 @@ Options are texts by their names; that of one that takes no value is None.
 import re
 from typing import NamedTuple
 
-from . import carousel
+from . import carousel, messages
 from .carousel import Carousel
 from .geometry import Page
 from .pen_lists import pens_of
@@ -84,13 +84,13 @@ def request_of(command, options):
     form = form_of(command, options)
     pens = pens_of(options.get("pens", "all"))
     if pens is None:
-        raise Mistake("bad pen list")
+        raise Mistake(messages.text("pens"))
     assigned = carousel_of(options)
     request = Request(form, Page(*(numbers[name] for name in PAGE_OPTIONS)), pens=pens, carousel=assigned)
     request = request._replace(folder=options.get("output"), first=numbers.get("from", 0))
     request = request._replace(is_draw=command == "draw", is_quiet="quiet" in options)
     if form in VECTORS and {"dots", "size", "smooth"} & set(options):
-        raise Mistake("--dots, --size and --smooth may not be given with the forms pdf and svg")
+        raise Mistake(messages.text("no-pixels"))
     if form != "report" and form not in VECTORS:
         request = with_resolution(request, options, numbers)
     request = with_sheet(with_page(request, options), options)
@@ -138,7 +138,7 @@ def with_resolution(request, options, numbers):
     smooth, dots = numbers.get("smooth", 1), numbers["dots"]
     if request.form not in WITH_SHADES:
         if "smooth" in options:
-            raise Mistake("--smooth needs the form png or ppm")
+            raise Mistake(messages.text("smooth-without-shades"))
         smooth = 1
     elif "size" in options:
         smooth = smooth if "smooth" in options else MOST_SMOOTHING
@@ -147,7 +147,7 @@ def with_resolution(request, options, numbers):
     if "size" in options:
         return request._replace(pixels=numbers["size"], smooth=smooth)
     if dots * smooth > MOST_DOTS:
-        raise Mistake("--dots times --smooth is over 1200")
+        raise Mistake(messages.text("too-fine"))
     return request._replace(dots=dots, smooth=smooth)
 
 
@@ -157,7 +157,7 @@ def with_page(request, options):
     if page not in (None, "plot"):
         raise ValueError(page)
     if page and is_size_given:
-        raise Mistake("--page may not be given with --width or --height")
+        raise Mistake(messages.text("page-and-sides"))
     return request._replace(is_page_asked=page == "plot" or request.is_draw and not is_size_given)
 
 
@@ -170,7 +170,7 @@ def with_sheet(request, options):
     if characters not in (None, *CHARACTERS):
         raise Mistake(f"bad characters: use {', '.join(CHARACTERS[:-1])} or {CHARACTERS[-1]}")
     if profile not in ("core", "full"):
-        raise Mistake("bad profile")
+        raise Mistake(messages.text("profile"))
     if profile == "core":
         for name in ("sheet", "characters"):
             if name in options:
@@ -184,7 +184,7 @@ def with_sheet(request, options):
         # All are pages of one file.
         text = "0"
     if text == EACH and not request.folder:
-        raise Mistake("--sheet each needs --output FOLDER")
+        raise Mistake(messages.text("each-without-folder"))
     sheet = text if text == EACH else int(text)
     return request._replace(sheet=sheet, is_sheet_named="sheet" in options, characters=characters)
 
@@ -193,5 +193,5 @@ def margin_of(command, options, numbers):
     """The margin of the page that is fitted, or None if it is not."""
     is_fitted = "fit" in options or command == "draw" and not {"page", "width", "height"} & set(options)
     if "margin" in options and not is_fitted:
-        raise Mistake("--margin needs --fit")
+        raise Mistake(messages.text("margin-without-fit"))
     return numbers["margin"] if is_fitted else None

@@ -12,12 +12,12 @@ from .plotter import FARTHEST
 UNIT = 16
 MILLIMETRE = 640
 SHORTEST, LONGEST = 64, 65_536
-BLANK = "nothing is drawn"
-TOO_LARGE = "the drawing is larger than a page can be"
+BLANK = "blank-to-fit"
+TOO_LARGE = "too-large-to-fit"
 
 
 class Fitted(NamedTuple):
-    """A page, the strokes on it, and why it is the page that was given, or None."""
+    """A page, the strokes on it, and by which message it is the page that was given, or None."""
 
     page: Page
     strokes: list

@@ -8,7 +8,7 @@ from fractions import Fraction
 from itertools import chain
 from typing import NamedTuple
 
-from . import curves, fills, line_types
+from . import curves, fills, line_types, messages
 from .carousel import EMPTY
 from .characters import LINE_FEED, selected_after
 from .cutting import MILLION, rounded
@@ -38,13 +38,13 @@ def draw(plot, page, carousel=EMPTY, most=MOST_STROKES, characters=None):
 def after(plot, page, carousel=EMPTY, most=MOST_STROKES, characters=None):
     """The plotter after a plot."""
     if len(plot) > LONGEST_PLOT:
-        raise Refused(f"plot is longer than {LONGEST_PLOT} bytes")
+        raise Refused(messages.text("too-long"))
     plotter = FullPlotter(page, carousel, most)
     plotter.characters = characters
     for item in items(plot):
         plotter.obey(item)
         if plotter.has_too_much():
-            raise Refused(f"too many strokes at byte {item.at}")
+            raise Refused(messages.text("too-many-strokes", item.at))
     return plotter
 
 

@@ -5,7 +5,7 @@ docs/FORMATS.md. Of a PNG, a PDF and an SVG it is what a reader is to find in it
 
 from typing import NamedTuple
 
-from . import cutting, full_cutting, full_plotter, plotter, raster
+from . import cutting, full_cutting, full_plotter, messages, plotter, raster
 from .carousel import EMPTY
 from .command_line import DOTS_OF_PCL, EACH, MOST_DOTS, PAGE_OPTIONS, VECTORS, Mistake, request_of
 from .fitting import BLANK, TOO_LARGE, UNIT, fitted, is_off
@@ -42,7 +42,7 @@ def answer(command, options, plot):
     except Mistake as mistake:
         return fault(2, mistake) if mistake.args else USAGE
     if request.form == "pcl" and request.dots not in DOTS_OF_PCL:
-        return fault(2, "resolution is not one of PCL's")
+        return fault(2, messages.text("resolution"))
     try:
         shown = shown_by(request, plot)
     except Refused as refusal:
@@ -75,8 +75,8 @@ def draw(plot, page, sheet, carousel=EMPTY, characters=None):
 
 
 class Shown(NamedTuple):
-    """A page, what is drawn on it, how finely, why it is another page than was asked for, or None, and of how many lines of
-    all pens."""
+    """A page, what is drawn on it, how finely, by which message it is another page than was asked for, or None, and of how many
+    lines of all pens."""
 
     page: Page
     drawing: Drawing
@@ -91,17 +91,16 @@ def shown_by(request, plot):
     page, why = request.page, None
     if request.is_page_asked:
         asked = asked_page(plot, request)
-        page, why = asked or page, None if asked else "the default one: the plot asks for no size"
+        page, why = asked or page, None if asked else "no-size"
     drawing = draw(plot, page, request.sheet, request.carousel, request.characters)
     strokes, lines = drawing.strokes, len(drawing.strokes)
     if request.form != "report":
         strokes = [stroke for stroke in strokes if stroke.pen in request.pens]
     if request.margin is not None:
         given = page
-        page, strokes, reason = fitted(strokes, given, request.margin)
+        page, strokes, why = fitted(strokes, given, request.margin)
         by = UNIT * (page.left - given.left), UNIT * (page.below - given.below)
         drawing = drawing._replace(labels=[rows_moved(rows, *by) for rows in drawing.labels])
-        why = f"not fitted: {reason}" if reason else None
     dots, smooth = request.dots, request.smooth
     if request.pixels:
         dots = dots_of_size(page, request.pixels)
@@ -133,11 +132,11 @@ def dots_of_size(page, pixels):
 
 def said_of(request, shown, strokes, about=""):
     """What is said of strokes that are shown, beside their picture, with what it is about."""
-    said = f"plotraster: {about}the page is {shown.why}\n" if shown.why else ""
+    said = f"plotraster: {about}{messages.text(shown.why)}\n" if shown.why else ""
     report = "plotraster report" + ("" if request.sheet is None else " --profile full")
-    is_blank = shown.why == f"not fitted: {BLANK}" or all(is_off(it, shown.page) for it in strokes)
-    if request.is_draw and is_blank and shown.why != f"not fitted: {TOO_LARGE}":
-        said = "" if request.is_quiet else f"plotraster: {about}nothing is drawn on the page: see {report}\n"
+    is_blank = shown.why == BLANK or all(is_off(it, shown.page) for it in strokes)
+    if request.is_draw and is_blank and shown.why != TOO_LARGE:
+        said = "" if request.is_quiet else f"plotraster: {about}{messages.text('blank', report)}\n"
     if request.is_quiet:
         return said
     sheets, notes = shown.drawing.sheets or 0, len(shown.drawing.notes)
@@ -145,14 +144,14 @@ def said_of(request, shown, strokes, about=""):
         lines = "1 line" if shown.lines == 1 else f"{shown.lines} lines"
         said += f"plotraster: {notes} notes on {lines}: see {report}\n"
     if sheets > 1 and not request.is_sheet_named and request.sheet not in (0, EACH) and request.form != "report":
-        said += f"plotraster: the plot has {sheets} sheets; this is the first\n"
+        said += f"plotraster: {messages.text('first-sheet', sheets)}\n"
     return said
 
 
 def pictured(request, shown):
     """The picture of what is shown, or in a folder those of all sheets."""
     if request.first and request.first > raster.count(shown.page.height, shown.dots):
-        return fault(2, "first row is past the last row")
+        return fault(2, messages.text("first-row"))
     strokes = shown.drawing.strokes
     if not request.folder:
         return Answer(0, picture_of(request, shown, strokes), said_of(request, shown, strokes))

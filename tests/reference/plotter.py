@@ -7,7 +7,7 @@ name. Coordinates and numbers are in millionths, places on the page in grains.
 from fractions import Fraction
 from typing import NamedTuple
 
-from . import lettering
+from . import lettering, messages
 from .carousel import EMPTY
 from .cutting import MILLION, items, rounded
 from .geometry import (
@@ -59,12 +59,12 @@ class Bad(Exception):
 def draw(plot, page, carousel=EMPTY):
     """The strokes and the notes of a plot."""
     if len(plot) > LONGEST_PLOT:
-        raise Refused(f"plot is longer than {LONGEST_PLOT} bytes")
+        raise Refused(messages.text("too-long"))
     plotter = Plotter(page, carousel)
     for item in items(plot):
         plotter.obey(item)
         if len(plotter.strokes) > MOST_STROKES:
-            raise Refused(f"too many strokes at byte {item.at}")
+            raise Refused(messages.text("too-many-strokes", item.at))
     return plotter.strokes, plotter.notes
 
 
@@ -278,7 +278,7 @@ class Plotter:
 
     def in_range(self, place):
         if max(abs(place[0]), abs(place[1])) > FARTHEST:
-            raise Refused(f"place off range at byte {self.at}")
+            raise Refused(messages.text("off-range", self.at))
         return place
 
     def ink(self, a, b):

@@ -85,7 +85,7 @@ fn answer_of(alloc: Global, asked: Asked, plot: &[u8]) -> Result<String, Fail> {
 fn drawing_told(alloc: Global, asked: Asked, plot: &[u8]) -> Result<String, Fail> {
     match drawn(alloc, asked, plot)? {
         Ok(drawn) => Ok(drawn_told(alloc, asked, &drawn)?),
-        Err(fault) => Ok(format!(in alloc; "{fault}")?),
+        Err(fault) => Ok(format!(in alloc; "{fault:?}")?),
     }
 }
 

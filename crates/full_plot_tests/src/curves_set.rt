@@ -64,22 +64,22 @@ fn arcs_through_points(rt: HostRuntime) -> Result<(), Fail> {
 // Each point has to be in range, even if the pen does not come to it.
 const CURVES_OFF_RANGE: &str = "\
 PD;AT65537,0,65536,0;
-place off range at byte 3
+OffRange { at: 3 }
 
 PD;AT100,100,65536,65537;
-place off range at byte 3
+OffRange { at: 3 }
 
 BZ65537,0,8,4,8,0;
-place off range at byte 0
+OffRange { at: 0 }
 
 BZ0,4,65537,4,8,0;
-place off range at byte 0
+OffRange { at: 0 }
 
 BZ0,4,8,4,0,-65537;
-place off range at byte 0
+OffRange { at: 0 }
 
 AT0,1,65535,65535;AT65536,0,0,0;
-place off range at byte 18";
+OffRange { at: 18 }";
 
 #[test]
 fn curves_off_range(rt: HostRuntime) -> Result<(), Fail> {

@@ -79,15 +79,15 @@ fn texts_too_long(alloc: Global) -> Result<Vec<u8>, Fail> {
 
 const TEXTS_OFF_RANGE: &str = "\
 DI1,1;PU65000,65000;LBLLLLLLLLLL\x03
-place off range at byte 20
+OffRange { at: 20 }
 
 // a symbol of pen 0, too
 SP0;SI10,10;SM*;PU65536,0;
-place off range at byte 16
+OffRange { at: 16 }
 
 // the next line
 PU0,-65400;CP;
-place off range at byte 11";
+OffRange { at: 11 }";
 
 #[test]
 fn texts_off_range(rt: HostRuntime) -> Result<(), Fail> {

@@ -174,22 +174,22 @@ fn fills_and_wedges(rt: HostRuntime) -> Result<(), Fail> {
 // Plots, and what they are refused for: a place out of range, or too many strokes with the work that counts.
 const REFUSALS: &str = "\
 RA65537,0;
-place off range at byte 0
+OffRange { at: 0 }
 
 PU1,1;WG65536,0,90;
-place off range at byte 6
+OffRange { at: 6 }
 
 EW65537,0,90;
-place off range at byte 0
+OffRange { at: 0 }
 
 AC0,65537;
-place off range at byte 0
+OffRange { at: 0 }
 
 PM0;PD65537,0;
-place off range at byte 4
+OffRange { at: 4 }
 
 PM0;CI65536,1;PU1,0;CI65536;
-place off range at byte 20";
+OffRange { at: 20 }";
 
 #[test]
 fn refusals_of_polygons(rt: HostRuntime) -> Result<(), Fail> {
