@@ -1,31 +1,18 @@
 -- Bezier curves: theorems that compute.
-use Rattle.std.proofs.Common.{◌≡◌, ◌^◌, [], ◌∷◌, refl, ℤ, pos, negsuc}
-use Rattle.exact.specs.declared.spot.Spot.{Spot}
+use Rattle.std.proofs.Common.{◌≡◌, ◌^◌, [], ◌∷◌, refl, pos, negsuc}
+use Rattle.exact.proofs.Tables.{Table, at}
 use Rattle.curves.specs.Beziers.{chords_of_bend, greatest_bend, curve_place, bezier_places}
 
-abbrev at : ℤ → ℤ → Spot
-at x y = record { x = x; y = y }
-
 -- bends on both sides of a change of the number of chords
-up_to_256 : chords_of_bend 256 ≡ 4
+numbers_of_chords : Table chords_of_bend (
+    (256, 4)
+    ∷ (257, 8)
+    ∷ (262144, 128)
+    ∷ (262145, 256)
+    ∷ (2 ^ 22, 256)  -- the greatest bend
+    ∷ [])
 unfolding chords_of_bend
-up_to_256 = refl
-
-above_256 : chords_of_bend 257 ≡ 8
-unfolding chords_of_bend
-above_256 = refl
-
-up_to_262144 : chords_of_bend 262144 ≡ 128
-unfolding chords_of_bend
-up_to_262144 = refl
-
-above_262144 : chords_of_bend 262145 ≡ 256
-unfolding chords_of_bend
-above_262144 = refl
-
-the_greatest : chords_of_bend (2 ^ 22) ≡ 256
-unfolding chords_of_bend
-the_greatest = refl
+numbers_of_chords = refl
 
 -- a bow: its bend is 128 at both control points, in x
 bow_bend : greatest_bend (at (pos 0) (pos 0)) (at (pos 0) (pos 64)) (at (pos 128) (pos 64)) (at (pos 128) (pos 0)) ≡ 128

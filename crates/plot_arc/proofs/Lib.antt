@@ -4,5 +4,4 @@ pub mod Nearest
 pub mod Reach
 pub mod Short
 pub mod SineLaw
-mod SineExamples
 mod ArcExamples

@@ -1,14 +1,12 @@
 -- The spans that fill some polygons.
-use Rattle.std.proofs.Common.{◌≡◌, refl, true, List, [], ◌∷◌, ℤ, pos}
+use Rattle.std.proofs.Common.{refl, true, List, [], ◌∷◌, ℤ, pos}
 use Rattle.exact.specs.declared.spot.Spot.{Spot}
+use Rattle.exact.proofs.Tables.{Agree, at}
 use Rattle.polygons.specs.declared.edge.Edge.{Edge}
 use Rattle.polygons.specs.declared.span.Span.{Span}
 use Rattle.polygons.specs.declared.lines.Lines.{Lines}
 use Rattle.polygons.specs.declared.lines.Rule.TheVariants.{OddCounts, Winding}
 use Rattle.polygons.specs.Fills.{filled_from, filled, spans}
-
-abbrev at : ℤ → ℤ → Spot
-at x y = record { x = x; y = y }
 
 abbrev edge : Spot → Spot → Edge
 edge a b = record { from = a; to = b; is_drawn = true }
@@ -25,19 +23,18 @@ abbrev rectangle : ℤ → ℤ → ℤ → ℤ → List Edge
 rectangle l b r t =
     edge (at l b) (at r b) ∷ edge (at r b) (at r t) ∷ edge (at r t) (at l t) ∷ edge (at l t) (at l b) ∷ []
 
-nothing_to_fill : filled solid OddCounts [] ≡ []
+-- what is filled, line by line
+fills : Agree (
+    (filled solid OddCounts [], [])  -- nothing to fill
+    -- a rectangle
+    ∷ (filled solid OddCounts (rectangle (pos 0) (pos 0) (pos 64) (pos 48)), (span (pos 0) (pos 8) (pos 64) (pos 8) ∷ []) ∷ (span (pos 0) (pos 24) (pos 64) (pos 24) ∷ []) ∷ (span (pos 0) (pos 40) (pos 64) (pos 40) ∷ []) ∷ [])
+    -- the line through the lower edge crosses the sides at its ends, and the one through the upper edge crosses nothing
+    ∷ (filled (record solid { anchor = at (pos 0) (pos 0) }) OddCounts (rectangle (pos 0) (pos 0) (pos 64) (pos 32)), (span (pos 0) (pos 0) (pos 64) (pos 0) ∷ []) ∷ (span (pos 0) (pos 16) (pos 64) (pos 16) ∷ []) ∷ [])
+    ∷ [])
 unfolding filled_from filled spans
-nothing_to_fill = refl
+fills = refl
 
-rectangle_is_filled : filled solid OddCounts (rectangle (pos 0) (pos 0) (pos 64) (pos 48))
-    ≡ (span (pos 0) (pos 8) (pos 64) (pos 8) ∷ [])
-    ∷ (span (pos 0) (pos 24) (pos 64) (pos 24) ∷ [])
-    ∷ (span (pos 0) (pos 40) (pos 64) (pos 40) ∷ [])
-    ∷ []
-unfolding filled_from filled spans
-rectangle_is_filled = refl
-
--- a square with another inside, in the same direction: by odd counts the inner one is a hole, by winding it is filled
+-- a square with another inside, in the same direction
 abbrev nested : List Edge
 nested =
     edge (at (pos 0) (pos 0)) (at (pos 48) (pos 0))
@@ -46,46 +43,18 @@ nested =
     ∷ edge (at (pos 0) (pos 48)) (at (pos 0) (pos 0))
     ∷ rectangle (pos 16) (pos 16) (pos 32) (pos 32)
 
-two_parts : spans solid OddCounts nested
-    ≡ span (pos 0) (pos 8) (pos 48) (pos 8)
-    ∷ span (pos 0) (pos 24) (pos 16) (pos 24)
-    ∷ span (pos 32) (pos 24) (pos 48) (pos 24)
-    ∷ span (pos 0) (pos 40) (pos 48) (pos 40)
-    ∷ []
+-- the spans that fill, from the first to the last
+fill_spans : Agree (
+    -- by odd counts the inner square is a hole
+    (spans solid OddCounts nested, span (pos 0) (pos 8) (pos 48) (pos 8) ∷ span (pos 0) (pos 24) (pos 16) (pos 24) ∷ span (pos 32) (pos 24) (pos 48) (pos 24) ∷ span (pos 0) (pos 40) (pos 48) (pos 40) ∷ [])
+    -- by winding it is filled
+    ∷ (spans solid Winding nested, span (pos 0) (pos 8) (pos 48) (pos 8) ∷ span (pos 0) (pos 24) (pos 16) (pos 24) ∷ span (pos 16) (pos 24) (pos 32) (pos 24) ∷ span (pos 32) (pos 24) (pos 48) (pos 24) ∷ span (pos 0) (pos 40) (pos 48) (pos 40) ∷ [])
+    -- upwards, from right to left, two units apart
+    ∷ (spans (record { angle = pos 90000; apart = 8192; anchor = at (pos 16) (pos 0) }) OddCounts (rectangle (pos 0) (pos 0) (pos 64) (pos 48)), span (pos 48) (pos 0) (pos 48) (pos 48) ∷ span (pos 16) (pos 0) (pos 16) (pos 48) ∷ [])
+    -- a triangle by lines at 45 degrees, 32 grains apart
+    ∷ (spans (record { angle = pos 45000; apart = 8192; anchor = at (pos 0) (pos 0) }) OddCounts (edge (at (pos 0) (pos 0)) (at (pos 100) (pos 0)) ∷ edge (at (pos 100) (pos 0)) (at (pos 0) (pos 100)) ∷ edge (at (pos 0) (pos 100)) (at (pos 0) (pos 0)) ∷ []), span (pos 91) (pos 0) (pos 95) (pos 5) ∷ span (pos 45) (pos 0) (pos 73) (pos 27) ∷ span (pos 0) (pos 0) (pos 50) (pos 50) ∷ span (pos 0) (pos 45) (pos 27) (pos 73) ∷ span (pos 0) (pos 91) (pos 5) (pos 95) ∷ [])
+    -- half a grain is rounded up, on the way up and on the way down
+    ∷ (spans solid OddCounts (edge (at (pos 0) (pos 0)) (at (pos 1) (pos 16)) ∷ edge (at (pos 1) (pos 16)) (at (pos 31) (pos 16)) ∷ edge (at (pos 31) (pos 16)) (at (pos 0) (pos 0)) ∷ []), span (pos 1) (pos 8) (pos 16) (pos 8) ∷ [])
+    ∷ [])
 unfolding filled_from filled spans
-two_parts = refl
-
-by_winding : spans solid Winding nested
-    ≡ span (pos 0) (pos 8) (pos 48) (pos 8)
-    ∷ span (pos 0) (pos 24) (pos 16) (pos 24)
-    ∷ span (pos 16) (pos 24) (pos 32) (pos 24)
-    ∷ span (pos 32) (pos 24) (pos 48) (pos 24)
-    ∷ span (pos 0) (pos 40) (pos 48) (pos 40)
-    ∷ []
-unfolding filled_from filled spans
-by_winding = refl
-
--- the line through the lower edge crosses the sides at its ends, and the one through the upper edge crosses nothing
-along_a_line : filled (record solid { anchor = at (pos 0) (pos 0) }) OddCounts (rectangle (pos 0) (pos 0) (pos 64) (pos 32))
-    ≡ (span (pos 0) (pos 0) (pos 64) (pos 0) ∷ []) ∷ (span (pos 0) (pos 16) (pos 64) (pos 16) ∷ []) ∷ []
-unfolding filled_from filled spans
-along_a_line = refl
-
--- upwards, from right to left, two units apart
-upright : spans (record { angle = pos 90000; apart = 8192; anchor = at (pos 16) (pos 0) }) OddCounts (rectangle (pos 0) (pos 0) (pos 64) (pos 48))
-    ≡ span (pos 48) (pos 0) (pos 48) (pos 48) ∷ span (pos 16) (pos 0) (pos 16) (pos 48) ∷ []
-unfolding filled_from filled spans
-upright = refl
-
--- a triangle by lines at 45 degrees, 32 grains apart
-aslant : spans (record { angle = pos 45000; apart = 8192; anchor = at (pos 0) (pos 0) }) OddCounts
-    (edge (at (pos 0) (pos 0)) (at (pos 100) (pos 0)) ∷ edge (at (pos 100) (pos 0)) (at (pos 0) (pos 100)) ∷ edge (at (pos 0) (pos 100)) (at (pos 0) (pos 0)) ∷ [])
-    ≡ span (pos 91) (pos 0) (pos 95) (pos 5) ∷ span (pos 45) (pos 0) (pos 73) (pos 27) ∷ span (pos 0) (pos 0) (pos 50) (pos 50) ∷ span (pos 0) (pos 45) (pos 27) (pos 73) ∷ span (pos 0) (pos 91) (pos 5) (pos 95) ∷ []
-unfolding filled_from filled spans
-aslant = refl
-
--- half a grain is rounded up, on the way up and on the way down
-between_grains : spans solid OddCounts (edge (at (pos 0) (pos 0)) (at (pos 1) (pos 16)) ∷ edge (at (pos 1) (pos 16)) (at (pos 31) (pos 16)) ∷ edge (at (pos 31) (pos 16)) (at (pos 0) (pos 0)) ∷ [])
-    ≡ span (pos 1) (pos 8) (pos 16) (pos 8) ∷ []
-unfolding filled_from filled spans
-between_grains = refl
+fill_spans = refl
