@@ -1,5 +1,6 @@
 -- Labels of sheets, and labels that are moved.
 use Rattle.std.proofs.Common.{◌≡◌, ℕ, List, [], ◌∷◌, refl, ℤ, pos, negsuc}
+use Rattle.exact.proofs.Tables.{Agree}
 use Rattle.page_fit.specs.declared.around.Corner.{Corner}
 use Rattle.labels.specs.declared.place.Place.{Place}
 use Rattle.labels.specs.Labels.{LabelShape}
@@ -14,19 +15,14 @@ label first after = record { first = first; after = after; lines = [] }
 abbrev three : List LabelShape
 three = label 0 2 ∷ (label 2 5 ∷ (label 5 6 ∷ []))
 
-first_sheet : labels_between 0 2 three ≡ label 0 2 ∷ []
-first_sheet = refl
-
-second_sheet : all_counted 2 (labels_between 2 6 three) ≡ label 0 3 ∷ (label 3 4 ∷ [])
-second_sheet = refl
-
--- a sheet without strokes
-no_sheet : labels_between 2 2 three ≡ []
-no_sheet = refl
-
--- a label is on the sheet on which it begins
-begun_before : all_counted 1 (labels_between 1 3 three) ≡ label 1 4 ∷ []
-begun_before = refl
+-- the labels of sheets
+labels_of_sheets : Agree (
+    (labels_between 0 2 three, label 0 2 ∷ [])  -- first sheet
+    ∷ (all_counted 2 (labels_between 2 6 three), label 0 3 ∷ (label 3 4 ∷ []))  -- second sheet
+    ∷ (labels_between 2 2 three, [])  -- a sheet without strokes
+    ∷ (all_counted 1 (labels_between 1 3 three), label 1 4 ∷ [])  -- a label is on the sheet on which it begins
+    ∷ [])
+labels_of_sheets = refl
 
 abbrev at : ℤ → ℤ → Place
 at x y = record { x = x; y = y }
