@@ -2,7 +2,6 @@ mod LineExamples
 mod LetterExamples
 mod CharacterExamples
 mod SettingExamples
-mod PolygonExamples
 pub mod Gaps
 pub mod WidthTables
 pub mod Shares

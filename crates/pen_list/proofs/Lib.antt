@@ -5,5 +5,4 @@ pub mod Numbers
 pub mod ColourDigits
 pub mod ColourNames
 pub mod Given
-mod AssignmentExamples
 mod ListExamples

@@ -1,6 +1,11 @@
--- Which texts are lists of pens, and which pens they list.
-use Rattle.std.proofs.Common.{◌≡◌, refl, true, false, codes, ◌∷◌, []}
+-- Which texts are lists of pens, which pens they list, which colours and widths texts write, and what lists of them give the pens.
+use Rattle.std.proofs.Common.{◌≡◌, refl, true, false, codes, ◌∷◌, [], Some, None}
+use Rattle.exact.proofs.Tables.{Agree, Table}
 use Rattle.pen_list.specs.Lists.{bounds, is_listed, is_pen_list, ranges, number}
+use Rattle.plot_settings.specs.Colours.{rgb}
+use Rattle.pen_list.specs.Assignments.{first_bad, given}
+use Rattle.pen_list.specs.Colours.{colour_written}
+use Rattle.pen_list.specs.Widths.{width_written}
 
 three_ranges : ranges (codes "1,3,5-7") ≡ codes "1" ∷ codes "3" ∷ codes "5-7" ∷ []
 three_ranges = refl
@@ -11,98 +16,109 @@ two_bounds = refl
 number_of_digits : number (codes "207") ≡ 207
 number_of_digits = refl
 
-good : is_pen_list (codes "1,3,5-7") ≡ true
-good = refl
+-- which texts are lists of pens
+lists : Table is_pen_list (
+    (codes "1,3,5-7", true)
+    ∷ (codes "1,1", true)  -- a pen may be listed twice
+    ∷ (codes "001", true)  -- a number may begin with zeros
+    ∷ (codes "9-9", true)  -- a range of one pen
+    ∷ (codes "255", true)  -- greatest
+    ∷ (codes "256", false)  -- too great
+    ∷ (codes "0", false)  -- no pen 0
+    ∷ ([], false)  -- nothing
+    ∷ (codes "7-5", false)  -- falling
+    ∷ (codes "1,", false)  -- trailing comma
+    ∷ (codes ",1", false)  -- leading comma
+    ∷ (codes "1,,2", false)  -- two commas
+    ∷ (codes " 1", false)  -- space
+    ∷ (codes "1-", false)  -- no end
+    ∷ (codes "-1", false)  -- no beginning
+    ∷ (codes "1--2", false)  -- two hyphens
+    ∷ (codes "1-2-3", false)  -- three bounds
+    ∷ (codes "0001", false)  -- four digits
+    ∷ (codes "ALL", false)  -- letters
+    ∷ (codes "all,1", false)  -- all and one
+    ∷ (codes "all", true)  -- `all` is the pens 1 to 255
+    ∷ [])
+lists = refl
 
-lists_one : is_listed (codes "1,3,5-7") 1 ≡ true
-lists_one = refl
+-- which pens they list
+pens : Agree (
+    (is_listed (codes "1,3,5-7") 1, true)
+    ∷ (is_listed (codes "1,3,5-7") 2, false)
+    ∷ (is_listed (codes "1,3,5-7") 4, false)
+    ∷ (is_listed (codes "1,3,5-7") 5, true)
+    ∷ (is_listed (codes "1,3,5-7") 6, true)
+    ∷ (is_listed (codes "1,3,5-7") 7, true)
+    ∷ (is_listed (codes "1,3,5-7") 8, false)
+    ∷ (is_listed (codes "001") 1, true)
+    ∷ (is_listed (codes "all") 255, true)
+    ∷ (is_listed (codes "all") 0, false)
+    ∷ [])
+pens = refl
 
-lists_no_two : is_listed (codes "1,3,5-7") 2 ≡ false
-lists_no_two = refl
+-- which colours texts write
+colours : Table colour_written (
+    (codes "ff8000", Some (rgb 255 128 0))  -- six digits
+    ∷ (codes "#FF8000", Some (rgb 255 128 0))  -- six after hash
+    ∷ (codes "#f80", Some (rgb 255 136 0))  -- each of three digits counts twice
+    ∷ (codes "f80", None)  -- three digits
+    ∷ (codes "#f8", None)  -- two after hash
+    ∷ (codes "ff80000", None)  -- seven digits
+    ∷ (codes "#ff800g", None)  -- no digit
+    ∷ (codes "green", Some (rgb 0 128 0))  -- green is half as bright as lime
+    ∷ (codes "Lime", Some (rgb 0 255 0))  -- lime
+    ∷ (codes "GREY", Some (rgb 128 128 128))  -- grey
+    ∷ (codes "bleu", None)  -- no name
+    ∷ (codes "#red", None)  -- name after hash
+    ∷ ([], None)  -- no colour
+    ∷ [])
+colours = refl
 
-lists_no_four : is_listed (codes "1,3,5-7") 4 ≡ false
-lists_no_four = refl
+-- which widths texts write, in grains
+widths : Table width_written (
+    (codes "0.35", Some 224)  -- a grain is 1/640 mm
+    ∷ (codes "0", Some 0)  -- none at all
+    ∷ (codes "0.3515625", Some 225)  -- 225 grains
+    ∷ (codes "0.000781", Some 0)  -- the seventh decimal does not count: less than half
+    ∷ (codes "0.000782", Some 1)  -- more than half
+    ∷ (codes "20.0000009", Some 12800)  -- greatest
+    ∷ (codes "20.000001", None)  -- too great
+    ∷ (codes ".5", Some 320)  -- no integer part
+    ∷ (codes "5.", Some 3200)  -- no decimals
+    ∷ (codes ".", None)  -- only a point
+    ∷ (codes "+1", None)  -- with plus
+    ∷ (codes "-0", None)  -- with minus
+    ∷ (codes "1mm", None)  -- with unit
+    ∷ (codes "1.2.3", None)  -- two numbers
+    ∷ ([], None)  -- no width
+    ∷ [])
+widths = refl
 
-lists_five : is_listed (codes "1,3,5-7") 5 ≡ true
-lists_five = refl
+-- the first assignment that is bad
+bad : Agree (
+    (first_bad colour_written (codes "2=red,3-7=#0f0"), None)  -- good list
+    ∷ (first_bad colour_written (codes "2=red,3=bleu,0=red"), Some (codes "3=bleu"))  -- first of two bad
+    ∷ (first_bad colour_written (codes "7-3=red"), Some (codes "7-3=red"))  -- bad pens
+    ∷ (first_bad width_written (codes "1,2=1"), Some (codes "1"))  -- no equals
+    ∷ (first_bad width_written (codes "1=2=1"), Some (codes "1=2=1"))  -- two equals
+    ∷ (first_bad width_written (codes "1=1, 2=1"), Some (codes " 2=1"))  -- a space
+    ∷ (first_bad width_written (codes ",1=1"), Some [])  -- nothing is before a comma
+    ∷ (first_bad width_written [], Some [])  -- no list
+    ∷ [])
+bad = refl
 
-lists_six : is_listed (codes "1,3,5-7") 6 ≡ true
-lists_six = refl
+pen_of_range : given colour_written (codes "2=red,3-7=#0f0") 5 ≡ Some (rgb 0 255 0)
+pen_of_range = refl
 
-lists_seven : is_listed (codes "1,3,5-7") 7 ≡ true
-lists_seven = refl
+pen_of_none : given colour_written (codes "2=red,3-7=#0f0") 1 ≡ None
+pen_of_none = refl
 
-lists_no_eight : is_listed (codes "1,3,5-7") 8 ≡ false
-lists_no_eight = refl
-
--- a pen may be listed twice, and a number may begin with zeros
-twice : is_pen_list (codes "1,1") ≡ true
-twice = refl
-
-zeros : is_pen_list (codes "001") ≡ true
-zeros = refl
-
-zeros_list_one : is_listed (codes "001") 1 ≡ true
-zeros_list_one = refl
-
--- a range of one pen
-short_range : is_pen_list (codes "9-9") ≡ true
-short_range = refl
-
-greatest : is_pen_list (codes "255") ≡ true
-greatest = refl
-
-too_great : is_pen_list (codes "256") ≡ false
-too_great = refl
-
-no_pen_0 : is_pen_list (codes "0") ≡ false
-no_pen_0 = refl
-
-nothing : is_pen_list [] ≡ false
-nothing = refl
-
-falling : is_pen_list (codes "7-5") ≡ false
-falling = refl
-
-trailing_comma : is_pen_list (codes "1,") ≡ false
-trailing_comma = refl
-
-leading_comma : is_pen_list (codes ",1") ≡ false
-leading_comma = refl
-
-two_commas : is_pen_list (codes "1,,2") ≡ false
-two_commas = refl
-
-space : is_pen_list (codes " 1") ≡ false
-space = refl
-
-no_end : is_pen_list (codes "1-") ≡ false
-no_end = refl
-
-no_beginning : is_pen_list (codes "-1") ≡ false
-no_beginning = refl
-
-two_hyphens : is_pen_list (codes "1--2") ≡ false
-two_hyphens = refl
-
-three_bounds : is_pen_list (codes "1-2-3") ≡ false
-three_bounds = refl
-
-four_digits : is_pen_list (codes "0001") ≡ false
-four_digits = refl
-
-letters : is_pen_list (codes "ALL") ≡ false
-letters = refl
-
-all_and_one : is_pen_list (codes "all,1") ≡ false
-all_and_one = refl
-
--- `all` is the pens 1 to 255
-every_pen : is_pen_list (codes "all") ≡ true
-every_pen = refl
-
-all_lists_255 : is_listed (codes "all") 255 ≡ true
-all_lists_255 = refl
-
-all_lists_no_0 : is_listed (codes "all") 0 ≡ false
-all_lists_no_0 = refl
+-- the last one that names a pen decides
+widths_given : Agree (
+    (given width_written (codes "all=1,2=0.5") 2, Some 320)  -- one after all
+    ∷ (given width_written (codes "all=1,2=0.5") 255, Some 640)  -- others of all
+    ∷ (given width_written (codes "2=0.5,all=1") 2, Some 640)  -- all after one
+    ∷ (given width_written (codes "all=1") 0, None)  -- `all` has no pen 0
+    ∷ [])
+widths_given = refl
