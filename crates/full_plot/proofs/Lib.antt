@@ -1,6 +1,4 @@
-mod Examples
 pub mod PlotExamples
-mod PolygonPlotExamples
 mod PenExamples
 pub mod WidthTables
 pub mod Kept

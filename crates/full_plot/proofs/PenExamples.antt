@@ -1,7 +1,8 @@
 -- What small plots draw with a carousel in which pen 2 is 64 grains wide and pen 3 orange, by their text.
-use Rattle.std.proofs.Common.{◌≡◌, ℕ, List, [], ◌∷◌, refl}
+use Rattle.std.proofs.Common.{ℕ, List, [], ◌∷◌, refl}
 use Rattle.std.specs.Prelude.{codes}
 use Rattle.exact.specs.Roots.{root_by}
+use Rattle.exact.proofs.Tables.{Table}
 use Rattle.character_sets.specs.declared.encoding.Encoding.TheVariants.{ByPlot}
 use Rattle.carousel.specs.Carousels.{empty}
 use Rattle.carousel.proofs.Examples.{fine_and_orange}
@@ -25,18 +26,12 @@ fine ax ay bx by = record (line ax ay bx by) { pen = 2; colour = rgb 255 0 0; wi
 abbrev orange_line : ℕ → ℕ → ℕ → ℕ → Segment
 orange_line ax ay bx by = record (line ax ay bx by) { pen = 3; colour = rgb 255 165 0 }
 
--- neither PT nor BP changes its width
-width_stays : strokes (codes "SP2;PT0.5;PU0,0;PD10,0;BP;SP2;PD20,0;") ≡ fine 0 0 160 0 ∷ fine 0 0 320 0 ∷ []
-unfolding place_along back_along all_pens default_colours empty line_step core.step
-width_stays = refl
-
--- nor a PC in the ranges of CR its colour, and dashes have it
-colour_stays : strokes (codes "CR0,63,0,63,0,63;PC3,63,0,0;IP0,0,300,400;LT2,10;SP3;PU0,100;PD60,100;")
-    ≡ orange_line 0 1600 400 1600 ∷ orange_line 800 1600 960 1600 ∷ []
-unfolding place_along back_along all_pens default_colours empty root_by line_step core.step
-colour_stays = refl
-
--- the edges of polygons are lines of the pen
-edges_of_the_pen : strokes (codes "SP2;PU0,0;PM;PD10,0,10,10;PU;PM2;EP;") ≡ fine 0 0 160 0 ∷ fine 160 0 160 160 ∷ []
-unfolding place_along back_along all_pens default_colours empty line_step core.step trace_step
-edges_of_the_pen = refl
+-- what they draw
+pens : Table strokes (
+    (codes "SP2;PT0.5;PU0,0;PD10,0;BP;SP2;PD20,0;", fine 0 0 160 0 ∷ fine 0 0 320 0 ∷ [])  -- neither PT nor BP changes its width
+    -- nor a PC in the ranges of CR its colour, and dashes have it
+    ∷ (codes "CR0,63,0,63,0,63;PC3,63,0,0;IP0,0,300,400;LT2,10;SP3;PU0,100;PD60,100;", orange_line 0 1600 400 1600 ∷ orange_line 800 1600 960 1600 ∷ [])
+    ∷ (codes "SP2;PU0,0;PM;PD10,0,10,10;PU;PM2;EP;", fine 0 0 160 0 ∷ fine 160 0 160 160 ∷ [])  -- the edges of polygons are lines of the pen
+    ∷ [])
+unfolding place_along back_along all_pens default_colours empty line_step core.step root_by trace_step
+pens = refl
