@@ -1,21 +1,17 @@
 -- Some thousandths as text.
-use Rattle.std.proofs.Common.{◌≡◌, [], codes, refl}
+use Rattle.std.proofs.Common.{◌≡◌, [], ◌∷◌, codes, refl, List, map}
 use Rattle.number_text.specs.Fractions.{fraction}
 
-none : fraction 0 ≡ []
-none = refl
+-- a table of examples: each input has its output
+abbrev Table : {X Y : Type 0} → (X → Y) → List (X × Y) → Type 0
+Table f rows = map (λ it. f it.0) rows ≡ map (λ it. it.1) rows
 
-one_digit : fraction 600 ≡ codes ".6"
-one_digit = refl
-
-two_digits : fraction 650 ≡ codes ".65"
-two_digits = refl
-
-three_digits : fraction 625 ≡ codes ".625"
-three_digits = refl
-
-zeros_after_the_point : fraction 25 ≡ codes ".025"
-zeros_after_the_point = refl
-
-one_thousandth : fraction 1 ≡ codes ".001"
-one_thousandth = refl
+fractions : Table fraction (
+    (0, [])  -- none
+    ∷ (600, codes ".6")  -- one digit
+    ∷ (650, codes ".65")  -- two digits
+    ∷ (625, codes ".625")  -- three digits
+    ∷ (25, codes ".025")  -- zeros after the point
+    ∷ (1, codes ".001")  -- one thousandth
+    ∷ [])
+fractions = refl

@@ -1,5 +1,5 @@
 -- Some strokes, and their runs.
-use Rattle.std.proofs.Common.{◌≡◌, ℕ, ℤ, pos, negsuc, [], ◌∷◌, refl, replicate, set, true, false}
+use Rattle.std.proofs.Common.{◌≡◌, ℕ, ℤ, pos, negsuc, [], ◌∷◌, refl, replicate, set, true, false, List, map}
 use Rattle.plot_page.specs.Segments.{Segment}
 use Rattle.plot_page.specs.declared.colour.Colour.{Colour}
 use Rattle.plot_page.specs.declared.pens.PenSet.{PenSet}
@@ -9,6 +9,10 @@ use Rattle.stroke_runs.specs.Drawn.{is_drawn, is_alike, is_joined}
 use Rattle.stroke_runs.specs.Runs.{following, runs_of, runs}
 use Rattle.stroke_runs.specs.Links.{link_after}
 use Rattle.stroke_runs.specs.Sheets.{sheets_of}
+
+-- a table of examples: each value agrees with the one beside it
+abbrev Agree : {X : Type 0} → List (X × X) → Type 0
+Agree rows = map (λ it. it.0) rows ≡ map (λ it. it.1) rows
 
 abbrev black : Colour
 black = record { red = 0; green = 0; blue = 0 }
@@ -62,79 +66,44 @@ all_pens = record { chosen = replicate 256 true }
 abbrev pen_1 : PenSet
 pen_1 = record { chosen = set (replicate 256 false) 1 true }
 
-drawn_by_selected_pen : is_drawn pen_1 first ≡ true
-drawn_by_selected_pen = refl
+-- which strokes are drawn, are alike and follow one another
+answers : Agree (
+    (is_drawn pen_1 first, true)  -- a pen that is selected
+    ∷ (is_drawn pen_1 other_pen, false)  -- a pen that is not
+    ∷ (is_drawn all_pens (stroke 1 black 56 point (pos 0) (pos 0)), true)  -- a window of one place
+    ∷ (is_drawn all_pens (stroke 1 black 56 nowhere (pos 0) (pos 0)), false)  -- an empty window
+    ∷ (is_drawn all_pens (stroke 1 black 56 low (pos 0) (pos 0)), false)  -- one that is empty upright
+    ∷ (is_alike first next, true)  -- places do not matter
+    ∷ (is_joined first next, true)  -- it begins where the first one ends
+    ∷ (is_joined next first, false)  -- does not follow
+    ∷ (is_joined first (stroke 1 black 56 page (pos 100) (negsuc 6)), false)  -- follows below
+    ∷ [])
+answers = refl
 
-pen_not_selected : is_drawn pen_1 other_pen ≡ false
-pen_not_selected = refl
-
-window_of_one_place : is_drawn all_pens (stroke 1 black 56 point (pos 0) (pos 0)) ≡ true
-window_of_one_place = refl
-
-empty_window : is_drawn all_pens (stroke 1 black 56 nowhere (pos 0) (pos 0)) ≡ false
-empty_window = refl
-
-empty_upright : is_drawn all_pens (stroke 1 black 56 low (pos 0) (pos 0)) ≡ false
-empty_upright = refl
-
-places_do_not_matter : is_alike first next ≡ true
-places_do_not_matter = refl
-
-follows : is_joined first next ≡ true
-follows = refl
-
-does_not_follow : is_joined next first ≡ false
-does_not_follow = refl
-
-follows_below : is_joined first (stroke 1 black 56 page (pos 100) (negsuc 6)) ≡ false
-follows_below = refl
-
-no_runs : runs all_pens [] ≡ []
-no_runs = refl
-
-one_run : runs all_pens (first ∷ next ∷ first ∷ []) ≡ (first ∷ next ∷ first ∷ []) ∷ []
-one_run = refl
-
-pen_breaks : runs_of (first ∷ other_pen ∷ first ∷ []) ≡ (first ∷ []) ∷ (other_pen ∷ []) ∷ (first ∷ []) ∷ []
-pen_breaks = refl
-
-colour_breaks : runs_of (first ∷ other_colour ∷ other_colour ∷ []) ≡ (first ∷ []) ∷ (other_colour ∷ other_colour ∷ []) ∷ []
-colour_breaks = refl
-
-width_breaks : runs_of (first ∷ next ∷ other_width ∷ []) ≡ (first ∷ next ∷ []) ∷ (other_width ∷ []) ∷ []
-width_breaks = refl
-
-window_breaks : runs_of (first ∷ other_window ∷ []) ≡ (first ∷ []) ∷ (other_window ∷ []) ∷ []
-window_breaks = refl
-
--- a stroke that is not drawn breaks nothing
-skipped : runs pen_1 (first ∷ other_pen ∷ next ∷ []) ≡ (first ∷ next ∷ []) ∷ []
-skipped = refl
+-- runs of strokes, and the strokes of sheets
+runs_of_strokes : Agree (
+    (runs all_pens [], [])  -- no runs
+    ∷ (runs all_pens (first ∷ next ∷ first ∷ []), (first ∷ next ∷ first ∷ []) ∷ [])  -- one run
+    ∷ (runs_of (first ∷ other_pen ∷ first ∷ []), (first ∷ []) ∷ (other_pen ∷ []) ∷ (first ∷ []) ∷ [])  -- another pen
+    ∷ (runs_of (first ∷ other_colour ∷ other_colour ∷ []), (first ∷ []) ∷ (other_colour ∷ other_colour ∷ []) ∷ [])  -- another colour
+    ∷ (runs_of (first ∷ next ∷ other_width ∷ []), (first ∷ next ∷ []) ∷ (other_width ∷ []) ∷ [])  -- another width
+    ∷ (runs_of (first ∷ other_window ∷ []), (first ∷ []) ∷ (other_window ∷ []) ∷ [])  -- another window
+    ∷ (runs pen_1 (first ∷ other_pen ∷ next ∷ []), (first ∷ next ∷ []) ∷ [])  -- a stroke that is not drawn breaks nothing
+    ∷ (sheets_of (first ∷ next ∷ first ∷ []) (1 ∷ []), (first ∷ []) ∷ (next ∷ first ∷ []) ∷ [])  -- the end of the plot ends a sheet, too
+    ∷ (sheets_of (first ∷ next ∷ first ∷ []) (1 ∷ 3 ∷ []), (first ∷ []) ∷ (next ∷ first ∷ []) ∷ [])  -- no stroke follows the last end
+    ∷ (sheets_of (first ∷ next ∷ []) (0 ∷ 1 ∷ 1 ∷ []), (first ∷ []) ∷ (next ∷ []) ∷ [])  -- sheets without strokes do not count
+    ∷ (sheets_of [] [], [])  -- no sheets
+    ∷ [])
+runs_of_strokes = refl
 
 -- if two more fit, the third begins another run
 full : following first 2 (next ∷ next ∷ next ∷ []) ≡ record { rest = next ∷ next ∷ []; runs = (next ∷ []) ∷ [] }
 full = refl
 
-goes_on_there : link_after first 999 next ≡ Joined
-goes_on_there = refl
-
-goes_on_elsewhere : link_after first 1 first ≡ Apart
-goes_on_elsewhere = refl
-
-no_room : link_after first 0 next ≡ Begins
-no_room = refl
-
--- the end of the plot ends a sheet, too
-two_sheets : sheets_of (first ∷ next ∷ first ∷ []) (1 ∷ []) ≡ (first ∷ []) ∷ (next ∷ first ∷ []) ∷ []
-two_sheets = refl
-
--- no stroke follows the last end
-ended_sheets : sheets_of (first ∷ next ∷ first ∷ []) (1 ∷ 3 ∷ []) ≡ (first ∷ []) ∷ (next ∷ first ∷ []) ∷ []
-ended_sheets = refl
-
--- sheets without strokes do not count
-empty_sheets : sheets_of (first ∷ next ∷ []) (0 ∷ 1 ∷ 1 ∷ []) ≡ (first ∷ []) ∷ (next ∷ []) ∷ []
-empty_sheets = refl
-
-no_sheets : sheets_of [] [] ≡ []
-no_sheets = refl
+-- how a stroke goes on after another
+links : Agree (
+    (link_after first 999 next, Joined)  -- it goes on there
+    ∷ (link_after first 1 first, Apart)  -- it goes on elsewhere
+    ∷ (link_after first 0 next, Begins)  -- no more strokes fit
+    ∷ [])
+links = refl
