@@ -1,5 +1,5 @@
 -- The bytes of small documents.
-use Rattle.std.proofs.Common.{◌≡◌, ℕ, ℤ, pos, negsuc, [], ◌∷◌, ◌++◌, flat_map, Some, None, codes, refl, replicate, true, arith}
+use Rattle.std.proofs.Common.{◌≡◌, ℕ, ℤ, pos, negsuc, [], ◌∷◌, ◌++◌, flat_map, Some, None, codes, refl, replicate, true, arith, List, map}
 use Rattle.std.specs.Fmt.{digits}
 use Rattle.plot_page.specs.Segments.{Segment}
 use Rattle.plot_page.specs.declared.colour.Colour.{Colour}
@@ -14,6 +14,14 @@ use Rattle.svg.specs.Paths.{clipped_text, path_of, path_text, paths, pen_text, r
 use Rattle.svg.specs.Places.{rectangle_of}
 use Rattle.svg.specs.Readings.{lines_from, read_paths, size_of}
 use Rattle.svg.specs.declared.places.Place.{Place}
+
+-- a table of examples: each input has its output
+abbrev pub Table : {X Y : Type 0} → (X → Y) → List (X × Y) → Type 0
+Table f rows = map (λ it. f it.0) rows ≡ map (λ it. it.1) rows
+
+-- a table of examples: each value agrees with the one beside it
+abbrev pub Agree : {X : Type 0} → List (X × X) → Type 0
+Agree rows = map (λ it. it.0) rows ≡ map (λ it. it.1) rows
 
 -- 64 by 66 plotter units
 abbrev pub page : Page
@@ -72,85 +80,50 @@ empty = stroke 1 black 56 (record { x0 = pos 1; y0 = pos 0; x1 = pos 0; y1 = pos
 abbrev pub all_pens : PenSet
 all_pens = record { chosen = replicate 256 true }
 
-a4_width : millimetres 11880 ≡ codes "297"
+-- lengths in millimetres
+lengths : Table millimetres (
+    (11880, codes "297")  -- the width of A4
+    ∷ (64, codes "1.6")  -- one decimal
+    ∷ (66, codes "1.65")  -- two decimals
+    ∷ (65, codes "1.625")  -- three decimals
+    ∷ [])
 unfolding digits
-a4_width = refl
+lengths = refl
 
-one_decimal : millimetres 64 ≡ codes "1.6"
+-- the texts of parts
+texts : Agree (
+    (colour_digits orange, codes "ff8801")  -- a colour
+    ∷ (page_text page, codes " width=\"1.6mm\" height=\"1.65mm\" viewBox=\"0 0 1024 1056\">\n")  -- the page
+    ∷ (flat_map command_text (run_commands page across []), codes "M0 608l1024 0")  -- y grows downward from the upper edge
+    ∷ (flat_map command_text (run_commands page (stroke 1 black 56 whole (negsuc 15) (negsuc 0) (pos 2000) (pos 2000)) []), codes "M-16 1057L2000 -944")  -- off the page
+    ∷ (pen_text 255 orange 12800, codes "<path class=\"pen255\" stroke=\"#ff8801\" stroke-width=\"12800\"")  -- the pen
+    ∷ (clip_text (rectangle_of page corner), codes "<clipPath id=\"w0_736_160_320\"><rect x=\"0\" y=\"736\" width=\"160\" height=\"320\"/></clipPath>\n")  -- a clip path
+    ∷ (clipped_text (Some (rectangle_of page corner)), codes " clip-path=\"url(#w0_736_160_320)\"")  -- a reference
+    ∷ (clipped_text None, [])  -- not clipped
+    ∷ (clips_text (clips_of page all_pens (across ∷ [])), [])  -- no clip paths
+    -- two strokes that follow one another, and a dot
+    ∷ (path_text (path_of page across (up ∷ dot ∷ [])), codes "<path class=\"pen1\" stroke=\"#000000\" stroke-width=\"56\" d=\"M0 608l1024 0L1024 0M16 1024l0 0\"/>\n")
+    ∷ [])
 unfolding digits
-one_decimal = refl
-
-two_decimals : millimetres 66 ≡ codes "1.65"
-unfolding digits
-two_decimals = refl
-
-three_decimals : millimetres 65 ≡ codes "1.625"
-unfolding digits
-three_decimals = refl
-
-a_colour : colour_digits orange ≡ codes "ff8801"
-a_colour = refl
-
-the_page : page_text page ≡ codes " width=\"1.6mm\" height=\"1.65mm\" viewBox=\"0 0 1024 1056\">\n"
-unfolding digits
-the_page = refl
+texts = refl
 
 -- a place of the document
 abbrev at : ℤ → ℤ → Place
 at x y = record { x = x; y = y }
 
-absolute_line : line (at (pos 0) (pos 1056)) (at (pos 1024) (pos 0)) ≡ LineTo (at (pos 1024) (pos 0))
+-- lines and moves have absolute or relative numbers, whichever are shorter
+commands : Agree (
+    (line (at (pos 0) (pos 1056)) (at (pos 1024) (pos 0)), LineTo (at (pos 1024) (pos 0)))  -- absolute
+    ∷ (line (at (pos 1000) (pos 608)) (at (pos 1024) (pos 608)), LineBy (at (pos 24) (pos 0)))  -- relative
+    ∷ (line (at (pos 1024) (pos 608)) (at (pos 1024) (pos 0)), LineTo (at (pos 1024) (pos 0)))  -- both have six characters
+    ∷ (move (at (pos 1000) (negsuc 999)) (at (pos 1000) (negsuc 1000)), MoveBy (at (pos 0) (negsuc 0)))  -- a relative move
+    ∷ [])
 unfolding digits
-absolute_line = refl
-
-relative_line : line (at (pos 1000) (pos 608)) (at (pos 1024) (pos 608)) ≡ LineBy (at (pos 24) (pos 0))
-unfolding digits
-relative_line = refl
-
--- both have six characters
-absolute_if_equal : line (at (pos 1024) (pos 608)) (at (pos 1024) (pos 0)) ≡ LineTo (at (pos 1024) (pos 0))
-unfolding digits
-absolute_if_equal = refl
-
-relative_move : move (at (pos 1000) (negsuc 999)) (at (pos 1000) (negsuc 1000)) ≡ MoveBy (at (pos 0) (negsuc 0))
-unfolding digits
-relative_move = refl
-
--- y grows downward from the upper edge
-a_stroke : flat_map command_text (run_commands page across []) ≡ codes "M0 608l1024 0"
-unfolding digits
-a_stroke = refl
-
-off_the_page : flat_map command_text (run_commands page (stroke 1 black 56 whole (negsuc 15) (negsuc 0) (pos 2000) (pos 2000)) []) ≡ codes "M-16 1057L2000 -944"
-unfolding digits
-off_the_page = refl
-
-the_pen : pen_text 255 orange 12800 ≡ codes "<path class=\"pen255\" stroke=\"#ff8801\" stroke-width=\"12800\""
-unfolding digits
-the_pen = refl
-
-a_clip_path : clip_text (rectangle_of page corner) ≡ codes "<clipPath id=\"w0_736_160_320\"><rect x=\"0\" y=\"736\" width=\"160\" height=\"320\"/></clipPath>\n"
-unfolding digits
-a_clip_path = refl
-
-a_reference : clipped_text (Some (rectangle_of page corner)) ≡ codes " clip-path=\"url(#w0_736_160_320)\""
-unfolding digits
-a_reference = refl
-
-not_clipped : clipped_text None ≡ []
-not_clipped = refl
+commands = refl
 
 -- in order, each once, without the page
 two_clip_paths : clips_of page all_pens (clipped_right ∷ across ∷ clipped ∷ clipped_right ∷ []) ≡ rectangle_of page corner ∷ rectangle_of page right ∷ []
 two_clip_paths = refl
-
-no_clip_paths : clips_text (clips_of page all_pens (across ∷ [])) ≡ []
-no_clip_paths = refl
-
--- two strokes that follow one another, and a dot
-one_path : path_text (path_of page across (up ∷ dot ∷ [])) ≡ codes "<path class=\"pen1\" stroke=\"#000000\" stroke-width=\"56\" d=\"M0 608l1024 0L1024 0M16 1024l0 0\"/>\n"
-unfolding digits
-one_path = refl
 
 -- where relative commands lead
 lines_of_commands : lines_from (at (pos 0) (pos 0)) (MoveTo (at (pos 5) (pos 6)) ∷ LineBy (at (pos 1) (negsuc 0)) ∷ MoveBy (at (pos 4) (pos 0)) ∷ LineTo (at (pos 2) (pos 2)) ∷ []) ≡ (at (pos 5) (pos 6), at (pos 6) (pos 5)) ∷ (at (pos 10) (pos 5), at (pos 2) (pos 2)) ∷ []
@@ -161,16 +134,13 @@ strokes_read : read_paths (size_of page) (paths page all_pens (across ∷ clippe
 unfolding digits
 strokes_read = refl
 
--- the width is 24 grains at least
-a_document : svg_bytes page all_pens (across ∷ clipped ∷ []) [] ≡ codes "<?xml version=\"1.0\" encoding=\"UTF-8\"?>\n<svg xmlns=\"http://www.w3.org/2000/svg\" width=\"1.6mm\" height=\"1.65mm\" viewBox=\"0 0 1024 1056\">\n<g fill=\"none\" stroke-linecap=\"round\" stroke-linejoin=\"round\">\n<defs>\n<clipPath id=\"w0_736_160_320\"><rect x=\"0\" y=\"736\" width=\"160\" height=\"320\"/></clipPath>\n</defs>\n<path class=\"pen1\" stroke=\"#000000\" stroke-width=\"56\" d=\"M0 608l1024 0\"/>\n<path class=\"pen2\" stroke=\"#ff8801\" stroke-width=\"24\" clip-path=\"url(#w0_736_160_320)\" d=\"M0 1056L1024 0\"/>\n</g></svg>\n"
+-- documents
+documents : Agree (
+    -- the width is 24 grains at least
+    (svg_bytes page all_pens (across ∷ clipped ∷ []) [], codes "<?xml version=\"1.0\" encoding=\"UTF-8\"?>\n<svg xmlns=\"http://www.w3.org/2000/svg\" width=\"1.6mm\" height=\"1.65mm\" viewBox=\"0 0 1024 1056\">\n<g fill=\"none\" stroke-linecap=\"round\" stroke-linejoin=\"round\">\n<defs>\n<clipPath id=\"w0_736_160_320\"><rect x=\"0\" y=\"736\" width=\"160\" height=\"320\"/></clipPath>\n</defs>\n<path class=\"pen1\" stroke=\"#000000\" stroke-width=\"56\" d=\"M0 608l1024 0\"/>\n<path class=\"pen2\" stroke=\"#ff8801\" stroke-width=\"24\" clip-path=\"url(#w0_736_160_320)\" d=\"M0 1056L1024 0\"/>\n</g></svg>\n")
+    -- two sheets, of which the second one ends with the plot
+    ∷ (sheets_bytes page all_pens (across ∷ up ∷ []) (1 ∷ []) [], head_text page ++ codes "<g id=\"sheet-1\">\n<path class=\"pen1\" stroke=\"#000000\" stroke-width=\"56\" d=\"M0 608l1024 0\"/>\n</g>\n<g id=\"sheet-2\">\n<path class=\"pen1\" stroke=\"#000000\" stroke-width=\"56\" d=\"M1024 608L1024 0\"/>\n</g>\n" ++ foot_text)
+    ∷ (svg_bytes page all_pens [] [], head_text page ++ foot_text)  -- empty document
+    ∷ [])
 unfolding digits
-a_document = refl
-
--- two sheets, of which the second one ends with the plot
-two_sheets : sheets_bytes page all_pens (across ∷ up ∷ []) (1 ∷ []) [] ≡ head_text page ++ codes "<g id=\"sheet-1\">\n<path class=\"pen1\" stroke=\"#000000\" stroke-width=\"56\" d=\"M0 608l1024 0\"/>\n</g>\n<g id=\"sheet-2\">\n<path class=\"pen1\" stroke=\"#000000\" stroke-width=\"56\" d=\"M1024 608L1024 0\"/>\n</g>\n" ++ foot_text
-unfolding digits
-two_sheets = refl
-
-empty_document : svg_bytes page all_pens [] [] ≡ head_text page ++ foot_text
-unfolding digits
-empty_document = refl
+documents = refl
