@@ -1,5 +1,6 @@
 //! Plots whose output goes into a folder: a file of its own for each plot, or for each of its sheets.
-ghost use Rattle.std.specs.Prelude.{◌≡◌, ◌<◌, ℕ, Bool, List, Option, None, Some, IfErr, IfOk, map, string_bytes};
+ghost use Rattle.std.specs.Prelude.{◌≡◌, ◌<◌, ℕ, Bool, List, Option, None, Some, Err, IfErr, IfOk, map, string_bytes};
+ghost use Rattle.delivery.specs.declared.messages.NoPath.TheVariants.{NoName};
 ghost use Rattle.output_files.specs.Names.{file_name};
 ghost use Rattle.output_files.specs.declared.file_id.FileId.{FileId};
 ghost use Rattle.delivery.specs.Deliveries.{Anything, Delivers, IsPut};
@@ -65,8 +66,10 @@ fn deliver_claimed<D: Desk, C: Content>(
 
 // The path of the file of a sheet of so many.
 fn path_of(alloc: Global, target: Target<'_>, number: u32, count: u32) -> Result<String, NoPath>
-    ensures { IfOk result (λ path. Some (string_bytes path)
+    ensures path { IfOk result (λ path. Some (string_bytes path)
         ≡ file_name target.entry.folder.now target.entry.file.now number count target.entry.extension.now) }
+    ensures no_name { result ≡ Err NoName
+        → file_name target.entry.folder.now target.entry.file.now number count target.entry.extension.now ≡ None }
 {
     match file_name(
         alloc,

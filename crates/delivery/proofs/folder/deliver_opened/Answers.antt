@@ -57,7 +57,7 @@ returns-clause-delivers g c = λ plots are.
     c.id_at-found.ensures.0 c.deliver_claimed.result c.id_at-found.ensures.1
     (adapted g.D.Voice.does plots None (IsClear plots c.in-Ok-claim.claim path) (IsClear plots c.in-Ok-claim.claim path) (IsPut item path) output c.id_at-found.new.desk c.deliver_claimed.new.desk c.deliver_claimed.result
     (c.deliver_claimed.ensures plots (kept_plots c.args.claims.now c.claim.new.self plots c.claim.ensures.plots are)) (λ _ clear. clear)
-    (λ deeds put. only_sheet folder file extension path item deeds (inr (refl, refl)) (ap Some c.as_str-path.ensures.value ∙ c.in-Ok.ensures) put))
+    (λ deeds put. only_sheet folder file extension path item deeds (inr (refl, refl)) (ap Some c.as_str-path.ensures.value ∙ c.in-Ok.ensures.path) put))
     (λ earlier _. clear_after c.args.claims.now plots (is_claimed c.args.claims.now c.as_str-path.result.now) c.in-Ok-claim.claim c.as_str-path.result.now
     c.id_at-found.ensures.0 c.id_at-found.result earlier are c.id_at-found.ensures.2 c.in-Ok-claim.ensures.answer)
     (λ deeds put. output_right folder file extension (look ∷ []) deeds put)

@@ -17,4 +17,4 @@ returns-clause-delivers g c = λ plots are.
     let item : Item = record { file = c.args.target.file.now; sheet = c.args.number } in
     adapted g.D.Voice.does plots None Anything Anything (IsPut item c.as_str.result.now) sheet c.args.desk.now c.deliver_at.new.desk c.deliver_at.result
     (c.deliver_at.ensures.delivers plots are) (λ _ _. tt)
-    (λ deeds put. (item, inl refl, subst (λ (path : Option (List ℕ)). IsPutAt item path deeds) c.in-Ok.ensures (subst (λ (path : List ℕ). IsPut item path deeds) c.as_str.ensures.value put)))
+    (λ deeds put. (item, inl refl, subst (λ (path : Option (List ℕ)). IsPutAt item path deeds) c.in-Ok.ensures.path (subst (λ (path : List ℕ). IsPut item path deeds) c.as_str.ensures.value put)))
