@@ -11,8 +11,8 @@ use Rattle.clap.specs.Kinds.{FailsBy}
 use Rattle.clap.specs.declared.builder.action.ArgAction.TheVariants.{Help}
 use Rattle.clap.specs.declared.error.Error.{Error}
 use Rattle.clap.specs.declared.parser.matches.ArgMatches.{ArgMatches}
-use Rattle.clap_parses.specs.Parses.{HasGoodMatches, IsFlag, IsSingle, IsSingleShape, TakesMore, TakesOne}
-use Rattle.clap_parses.proofs.ParseLaw.{parse_good}
+use Rattle.command_line.specs.Parses.{HasGoodMatches, IsFlag, IsSingle, IsSingleShape, TakesMore, TakesOne}
+use Rattle.command_line.proofs.ParseLaw.{parse_good}
 use Rattle.command_line.specs.declared.subcommands.Kind.{Kind}
 use Rattle.command_line.specs.declared.table.Value.{Value}
 use Rattle.command_line.specs.declared.table.Value.TheVariants.{Flag, Number, Word}

@@ -9,6 +9,8 @@ pub mod Characters
 pub mod Faults
 pub mod Lines
 pub mod Statuses
+-- What a parse gives.
+pub mod Parses
 -- What only contracts of private functions need: what a faultless parse leaves to be read, and the code's table.
 pub mod Readings
 pub mod Tables

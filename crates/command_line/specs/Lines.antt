@@ -9,7 +9,7 @@ use Rattle.clap.specs.declared.parser.matches.ArgMatches.{ArgMatches}
 use Rattle.plot_page.specs.declared.page.Page.{Page}
 use Rattle.plot_page.specs.declared.pens.PenSet.{PenSet}
 use Rattle.plot_page.specs.Pens.{has_pen}
-use Rattle.clap_parses.specs.Parses.{HasGoodMatches}
+use Rattle.command_line.specs.Parses.{HasGoodMatches}
 use Rattle.character_sets.specs.declared.encoding.Encoding.{Encoding}
 use Rattle.character_sets.specs.declared.encoding.Encoding.TheVariants.{ByPlot}
 use Rattle.carousel.specs.Carousels.{colour_of, width_of}

@@ -12,6 +12,7 @@ mod help;
 mod line;
 mod options;
 mod papers;
+pub mod parses;
 mod sheets;
 mod subcommands;
 mod table;

@@ -7,7 +7,7 @@ ghost use Rattle.clap.specs.declared.builder.command.Command.TheViews.{out-Comma
 ghost use Rattle.command_line.specs.Options.{file_rule, option_rule};
 ghost use Rattle.command_line.specs.Options.{subcommand_app, add_subcommand, plot_app, top_app, IsOf};
 ghost use Rattle.command_line.specs.Tables.{add_option, bare_rule, flag_rule, row_of, value_rule};
-ghost use Rattle.clap_parses.specs.Parses.{HasGoodMatches};
+ghost use Rattle.command_line.specs.Parses.{HasGoodMatches};
 
 use crate::fault::BuildFault;
 use crate::help::{FILE, HelpPage, TOP, VERSION};

@@ -3,7 +3,7 @@ use Rattle.std.proofs.lemmas.Result.{IfOk-weaker}
 use Rattle.clap.specs.Words.{App, app_of, fault_of, is_simple_and_free, HasMatchesOf}
 use Rattle.clap.specs.declared.builder.command.Command.{Command}
 use Rattle.command_line.specs.Options.{plot_app}
-use Rattle.clap_parses.specs.Parses.{HasGoodMatches}
+use Rattle.command_line.specs.Parses.{HasGoodMatches}
 use Rattle.command_line.proofs.CommandLaw.{plot_parses}
 use Rattle.command_line.proofs.options.command.Goals as goal
 

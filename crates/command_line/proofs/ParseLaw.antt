@@ -20,8 +20,8 @@ use Rattle.clap.specs.Faults.{use_fault, settle_fault, react_fault, values_fault
 use Rattle.clap.specs.declared.builder.action.ArgAction.TheVariants.{Set, SetTrue, Append, Help}
 use Rattle.clap.specs.declared.error.kind.ErrorKind.TheVariants.{TooManyValues}
 use Rattle.clap.specs.declared.parser.matches.ValueSource.TheVariants.{DefaultValue, CommandLine}
-use Rattle.clap_parses.specs.Parses.{RowOf, RowsOf, ParsesTo, IsFlag, IsIn, first, past, IsSingle, IsSingleShape, TakesMore, TakesOne}
-use Rattle.clap_parses.proofs.Uses.{or_none, find_has, all_append, values_taken, same_text_is, no_at_row, SetsOne, set_parts, flag_parts, set_row, Sets, used_is, more_parts, append_used, both_pass, given_now}
+use Rattle.command_line.specs.Parses.{RowOf, RowsOf, ParsesTo, IsFlag, IsIn, first, past, IsSingle, IsSingleShape, TakesMore, TakesOne}
+use Rattle.command_line.proofs.Uses.{or_none, find_has, all_append, values_taken, same_text_is, no_at_row, SetsOne, set_parts, flag_parts, set_row, Sets, used_is, more_parts, append_used, both_pass, given_now}
 
 module _ (c : List Rule) (single : AllByRecursion (IsSingle c) c) where
   abbrev Good : List Row → Type 0

@@ -1,2 +1,0 @@
--- What a reader must believe: what a parse gives.
-pub mod Parses
