@@ -6,7 +6,7 @@ use Rattle.devices.specs.declared.fault.WriteFault.{WriteFault}
 use Rattle.devices.specs.Sinks.{SinkState, Writes, taken_of}
 use Rattle.devices.proofs.KnownBytes.{Appends-more, Appends-none}
 use Rattle.pieces.specs.declared.text.Text.{Text}
-use Rattle.pieces.specs.Texts.{Fails, Finishes, FinishesBy, Goes, GoesBy, IsNew, IsSound, Progress, Puts, Took, Waits, WritesText, counted, progress}
+use Rattle.pieces.specs.Texts.{Fails, Finishes, FinishesBy, Goes, GoesBy, IsNew, IsSound, Progress, Puts, Took, Waits, WritesText, count_of, counted, progress}
 
 -- the sink took the first bytes, and then some of the others
 took_more : (a b c : SinkState) (f n m : ℕ) (bytes : List ℕ) → Took a b 0 n bytes → Took b c f m (drop n bytes) → Took a c f (n + m) bytes
@@ -26,6 +26,10 @@ took_of a b f n bytes other e h = subst (λ (z : List ℕ). Took a b f n z) e h
 
 counted_more : (d d' n m : ℕ) → counted d' ≡ counted (d + n) → counted (d' + m) ≡ counted (d + (n + m))
 counted_more d d' n m e = omega (arith, e)
+
+-- what was counted, with what was put after it
+counted_on : (a b m n : ℕ) → b ≡ counted (a + m) → counted (b + n) ≡ counted (a + (m + n))
+counted_on a b m n e = omega (arith, e)
 
 -- what waits with more, where the first bytes were taken
 rest_of : (waits xs ys left : List ℕ) (n : ℕ) → n ≤ length (waits ++ xs) → drop n (waits ++ xs) ≡ left → drop n (waits ++ (xs ++ ys)) ≡ left ++ ys
@@ -96,19 +100,19 @@ kept a b bytes fault same done waits =
     subst (λ (o : Option WriteFault). GoesBy a.fault o a b bytes) (sym fault) (kept_by a.fault a b bytes same done waits)
 
 -- what waited was written, so nothing waits
-all_taken : (a b : Progress) (n : ℕ) → Waits a b [] → b.waits ≡ [] → b.done ≡ n → n < 2 ^ 64 → Took a.sink b.sink 0 (length a.waits) a.waits × (n ≡ counted (a.done + length a.waits))
-all_taken a b n h none count small =
+all_taken : (a b : Progress) (n : ℕ) → Waits a b [] → b.waits ≡ [] → n ≡ counted b.done → Took a.sink b.sink 0 (length a.waits) a.waits × (n ≡ counted (a.done + length a.waits))
+all_taken a b n h none count =
     let size : h.taken ≡ length a.waits = omega (arith, h.within, ap length h.left, ap length none, length-drop h.taken (a.waits ++ []), length-append a.waits []) in
     let whole = took_of _ _ 0 h.taken _ _ (append-nil a.waits) h.took in
-    (subst (λ (k : ℕ). Took a.sink b.sink 0 k a.waits) size whole, omega (arith, size, h.count, count, small))
+    (subst (λ (k : ℕ). Took a.sink b.sink 0 k a.waits) size whole, omega (arith, size, h.count, count))
 
-finished_by : (f g : Option WriteFault) (a b : Progress) (n : ℕ) → GoesBy f g a b [] → b.waits ≡ [] → b.done ≡ n → n < 2 ^ 64 → g ≡ None → FinishesBy f a b.sink (Ok n)
-finished_by None None a b n h none count small e = all_taken a b n h none count small
-finished_by None (Some fault) a b n h none count small e = cc
-finished_by (Some fault) g a b n h none count small e = cc
+finished_by : (f g : Option WriteFault) (a b : Progress) (n : ℕ) → GoesBy f g a b [] → b.waits ≡ [] → n ≡ counted b.done → g ≡ None → FinishesBy f a b.sink (Ok n)
+finished_by None None a b n h none count e = all_taken a b n h none count
+finished_by None (Some fault) a b n h none count e = cc
+finished_by (Some fault) g a b n h none count e = cc
 
-pub finished : (a b : Progress) (n : ℕ) → Goes a b [] → b.waits ≡ [] → b.done ≡ n → n < 2 ^ 64 → b.fault ≡ None → FinishesBy a.fault a b.sink (Ok n)
-finished a b n h none count small e = finished_by a.fault b.fault a b n h none count small e
+pub finished : (a b : Progress) (n : ℕ) → Goes a b [] → b.waits ≡ [] → n ≡ counted b.done → b.fault ≡ None → FinishesBy a.fault a b.sink (Ok n)
+finished a b n h none count e = finished_by a.fault b.fault a b n h none count e
 
 -- a text was put from its beginning, and finished
 from_begin : (a b : Progress) (new : SinkState) (text : List ℕ) (f m : ℕ) → a.waits ≡ [] → (h : Waits a b text) → Took b.sink new f m b.waits → Took a.sink new f (h.taken + m) text × (length text ≡ h.taken + length b.waits)
@@ -169,7 +173,7 @@ puts_as {state = state} {a = a} {b = b} h e = subst (λ (z : List ℕ). Puts sta
 -- no bytes were put
 pub none_put : {K : Type 0} {state : K → SinkState} {a : Text K} → IsSound state a → Puts state a a []
 none_put {state = state} {a = a} sound =
-    record { same = refl; sound = sound; goes = kept (progress state a) (progress state a) [] refl refl refl (sym (append-nil _)) }
+    record { same = refl; sound = sound; goes = kept (progress state a) (progress state a) [] refl refl refl (sym (append-nil _)); count = omega arith }
 
 -- of all bytes, these are still to be put
 pub record Left {K : Type 0} (state : K → SinkState) (old new : Text K) (rest all : List ℕ) : Type 0 where
@@ -180,10 +184,11 @@ pub record Left {K : Type 0} (state : K → SinkState) (old new : Text K) (rest 
 -- bytes were put, and then others
 infixl 9 ◌then◌
 pub ◌then◌ : {K : Type 0} {state : K → SinkState} {a b c : Text K} {xs ys : List ℕ} → Puts state a b xs → Puts state b c ys → Puts state a c (xs ++ ys)
-h then k = record {
+◌then◌ {a = a} {xs = xs} {ys = ys} h k = record {
   same = k.same ∙ h.same;
   sound = k.sound;
   goes = goes_by _ _ _ _ _ _ _ _ h.goes k.goes;
+  count = k.count ∙ counted_on _ _ (length xs) (length ys) h.count ∙ ap (λ (n : ℕ). counted (count_of a + n)) (sym (length-append xs ys));
 }
 
 -- at first all are

@@ -23,7 +23,7 @@ pub record Took (old new : SinkState) (failures taken : ℕ) (bytes : List ℕ) 
   pub held : Appends old.held new.held (take taken bytes)
   pub faults : new.faults ≡ old.faults + failures
 
--- how far a text came: the sink, how many bytes it took, which bytes wait, and the fault, if there was one
+-- how far a text came: the sink, how many bytes it was handed, which bytes wait, and the fault, if there was one
 pub record Progress : Type 0 where
   pub sink : SinkState
   pub done : ℕ
@@ -66,11 +66,16 @@ CanTake sink (Some fault) = ⊤
 abbrev pub IsSound : {K : Type 0} → (K → SinkState) → Text K → Type 0
 IsSound state t = (t.used ≤ ROOM) × CanTake (state t.sink.now) t.fault
 
+-- how many bytes were put, also after a fault
+abbrev pub count_of : {K : Type 0} → Text K → ℕ
+count_of t = counted (t.done + t.used)
+
 -- these bytes were put
 pub record Puts {K : Type 0} (state : K → SinkState) (old new : Text K) (bytes : List ℕ) : Type 0 where
   pub same : new.sink.ghost_name ≡ old.sink.ghost_name
   pub sound : IsSound state new
   pub goes : Goes (progress state old) (progress state new) bytes
+  pub count : count_of new ≡ counted (count_of old + length bytes)
 
 -- a text of no bytes
 abbrev pub IsNew : {K : Type 0} → Text K → Type 0

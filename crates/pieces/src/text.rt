@@ -1,7 +1,7 @@
 //! A text on its way to a sink.
 ghost use Rattle.std.specs.Prelude.{◌≡◌, ◌+◌, ◌-◌, ◌^◌, ◌<◌, ◌≤◌, [], length};
 ghost use Rattle.devices.specs.Sinks.{taken_of};
-ghost use Rattle.pieces.specs.Texts.{Finishes, IsNew, IsSound, Puts, counted};
+ghost use Rattle.pieces.specs.Texts.{Finishes, IsNew, IsSound, Puts, count_of, counted};
 
 use devices::{Sink, WriteFault, append, put_all};
 use itoa::{Buffer, Integer};
@@ -10,7 +10,7 @@ use itoa::{Buffer, Integer};
 const ROOM: usize = 32_768;
 
 /// A text on its way to a sink: what is put waits until there is enough of it. After a fault of the sink what is put is
-/// forgotten, and `finish` tells of the fault.
+/// counted and forgotten, and `finish` tells of the fault.
 #[derive(Drop)]
 pub struct Text<'a, K: Sink> {
     sink: &'a mut K,
@@ -61,6 +61,13 @@ impl<'a, K: Sink> Text<'a, K> {
         self.put(digits.format(number).as_bytes());
     }
 
+    /// How many bytes were put, a count that stops at its greatest.
+    pub fn count(&self) -> u64
+        ensures { result ≡ count_of self.now }
+    {
+        self.done.saturating_add(self.used as u64)
+    }
+
     /// Writes what waits, and returns how many bytes were put, a count that stops at its greatest.
     ///
     /// Errors: the fault of the sink, if there was one. It counts the bytes that the sink took, likewise.
@@ -75,13 +82,6 @@ impl<'a, K: Sink> Text<'a, K> {
             None => Ok(count),
             Some(fault) => Err(fault),
         }
-    }
-
-    // How many bytes were written.
-    fn count(&self) -> u64
-        ensures { result ≡ self.now.done }
-    {
-        self.done
     }
 
     // Puts bytes for which there is room.
@@ -116,10 +116,11 @@ impl<'a, K: Sink> Text<'a, K> {
     {
         if self.fault.is_none() {
             match put_all(self.sink, &self.piece[..self.used]) {
-                Ok(()) => self.done = self.done.saturating_add(self.used as u64),
+                Ok(()) => {}
                 Err(fault) => self.fault = Some(later(fault, self.done)),
             }
         }
+        self.done = self.done.saturating_add(self.used as u64);
         self.used = 0;
     }
 
@@ -131,10 +132,11 @@ impl<'a, K: Sink> Text<'a, K> {
     {
         if self.fault.is_none() {
             match put_all(self.sink, bytes) {
-                Ok(()) => self.done = self.done.saturating_add(bytes.len() as u64),
+                Ok(()) => {}
                 Err(fault) => self.fault = Some(later(fault, self.done)),
             }
         }
+        self.done = self.done.saturating_add(bytes.len() as u64);
     }
 }
 

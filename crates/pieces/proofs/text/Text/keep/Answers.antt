@@ -8,5 +8,6 @@ returns g c = record {
     same = refl;
     sound = (omega (arith, c.requires.room, c.append-self.ensures.used), c.requires.sound.1);
     goes = kept _ _ c.args.bytes.now refl refl refl c.append-self.ensures.piece;
+    count = omega (arith, c.append-self.ensures.used);
   };
 }
