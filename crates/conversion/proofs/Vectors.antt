@@ -24,11 +24,11 @@ pub puts_pdf : {U : Type 0} (u : U) (naming : Naming) (page : Page) (pens : PenS
     → WritesPdf sink sink' naming.version.now title page pens strokes pages labels (Ok n)
     → PutsVector (IsPdf naming page pens strokes ends labels) sink sink' (Ok u)
 puts_pdf u naming page pens strokes ends pages title labels sink sink' n pages_are title_is wrote =
-    let streams = wrote.0 in
+    let streams = wrote.streams in
     let document : List ℕ → List ℕ → List ℕ =
     λ t p. pdf_bytes naming.version.now t page (pens_drawn pens strokes) (rows_shown pens strokes labels) p streams in
-    let are = subst (λ p. AreStreams page pens (sheets strokes 0 p) (sheet_labels labels 0 p) streams) pages_are wrote.1 in
-    (document title pages, (streams, are, ap₂ document title_is pages_are), wrote.2.0, wrote.2.1)
+    let are = subst (λ p. AreStreams page pens (sheets strokes 0 p) (sheet_labels labels 0 p) streams) pages_are wrote.are in
+    (document title pages, (streams, are, ap₂ document title_is pages_are), wrote.writes.0, wrote.writes.1)
 
 -- the same document by the same format, strokes, ends and labels, and the same sink
 pub puts_same : {U V : Type 0} (u : U) (v : V) (format f : VectorFormat) (naming : Naming) (page : Page) (pens : PenSet) (strokes s : List Segment) (ends e : List ℕ)

@@ -12,7 +12,6 @@ use Rattle.devices.specs.Sinks.{SinkState}
 use Rattle.pdf.specs.Documents.{AreStreams, pdf_bytes, pens_drawn, rows_shown, sheet_labels, sheets}
 use Rattle.pdf.specs.Texts.{letter_count}
 use Rattle.pdf.specs.declared.counts.TheConstants.{MOST_LETTERS}
-use Rattle.pdf.specs.declared.title.TheConstants.{MOST_CHARACTERS}
 use Rattle.svg.specs.Documents.{sheets_bytes, svg_bytes}
 use Rattle.svg.specs.Titles.{text_length}
 use Rattle.svg.specs.declared.lengths.TheConstants as svg
@@ -21,6 +20,7 @@ use Rattle.conversion.specs.Sheets.{TellsOf, labels_on, strokes_on}
 use Rattle.conversion.specs.declared.fault.Fault.{Fault}
 use Rattle.conversion.specs.declared.fault.Fault.TheVariants.{Letters, Memory, Unfinished}
 use Rattle.conversion.specs.declared.naming.Naming.{Naming}
+use Rattle.conversion.specs.declared.naming.TheConstants.{MOST_CHARACTERS}
 use Rattle.conversion.specs.declared.outcome.Outcome.{Outcome}
 use Rattle.conversion.specs.declared.place.Drawing.{Drawing}
 

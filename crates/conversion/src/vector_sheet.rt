@@ -1,12 +1,10 @@
 //! The vector document of a drawing: of all that is drawn, or of one sheet.
 ghost use Rattle.std.specs.Prelude.{◌≡◌, ◌-◌, ◌^◌, ◌<◌, ◌≤◌, ◌↔◌, Err, IfErr, false, true, length};
-ghost use Rattle.std.specs.Str.{chars};
 ghost use Rattle.labels.specs.Sheets.{all_counted};
 ghost use Rattle.pdf.specs.Texts.{letter_count};
 ghost use Rattle.pdf.specs.declared.counts.TheConstants.{MOST_LETTERS};
 ghost use Rattle.svg.specs.Titles.{text_length};
 ghost use Rattle.svg.specs.declared.lengths.TheConstants as svg_limits;
-ghost use Rattle.pdf.specs.declared.title.TheConstants.{MOST_CHARACTERS};
 ghost use Rattle.plot_page.specs.declared.stroke.TheConstants.{MOST_STROKES};
 ghost use Rattle.conversion.specs.Conversions.{is_write};
 ghost use Rattle.conversion.specs.Rules.{ends_of};
@@ -14,7 +12,7 @@ ghost use Rattle.conversion.specs.Vectors.{IsPdf, IsVector, PutsVector, WritesVe
 
 use crate::fault::Fault;
 use crate::lines::Lines;
-use crate::naming::Naming;
+use crate::naming::{MOST_CHARACTERS, Naming};
 use crate::outcome::Outcome;
 use crate::page_ends::page_ends;
 use crate::place::Drawing;
@@ -23,10 +21,11 @@ use deflate::TextEncoder;
 use devices::Sink;
 use full_plot::{labels_on, sheet_of};
 use labels::Label;
-use pdf::{MOST_CHARACTERS, has_few_letters, room_for, write_pdf};
+use pdf::{has_few_letters, room_for, write_pdf};
 use picture_job::{VectorFormat, VectorJob};
 use plot_page::{Page, PenSet, Stroke};
 use std::alloc::Global;
+use stroke_runs::SheetView;
 use svg::{ClipPaths, texts_fit, write_svg, write_svg_sheets};
 
 /// Writes the vector document of a sheet of a drawing, which counts from 1, or of all that is drawn for 0, on the page where
@@ -189,15 +188,18 @@ fn put_fitting_pdf<K: Sink>(
     let pages = pages.as_slice();
     let mut offsets = vec![in alloc; 0u64; room_for(pages.len())]?;
     let mut encoder = TextEncoder::new(alloc)?;
-    let written = write_pdf(
-        naming.version,
-        title_kept(naming.title),
+    let view = SheetView {
         page,
         pens,
         strokes,
-        pages,
         labels,
         before,
+    };
+    let written = write_pdf(
+        naming.version,
+        title_kept(naming.title),
+        &view,
+        pages,
         offsets.as_mut_slice(),
         &mut encoder,
         sink,
@@ -210,8 +212,7 @@ fn put_fitting_pdf<K: Sink>(
 
 // The title, unless it is too long.
 fn title_kept(title: &str) -> &str
-    ensures title { result.now ≡ title_kept title.now }
-    ensures few { length (chars result.now) ≤ MOST_CHARACTERS }
+    ensures { result.now ≡ title_kept title.now }
 {
     if title.len() <= MOST_CHARACTERS {
         title

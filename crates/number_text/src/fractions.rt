@@ -1,32 +1,10 @@
 //! Thousandths after a point.
-ghost use Rattle.std.specs.Prelude.{◌≡◌, ◌+◌, ◌/◌, ◌%◌, ◌<◌, ◌≤◌, [], ◌∷◌, ◌++◌, length, take};
+ghost use Rattle.std.specs.Prelude.{◌≡◌, ◌+◌, ◌/◌, ◌%◌, ◌<◌, ◌≤◌, [], ◌∷◌};
 ghost use Rattle.pieces.specs.Texts.{IsSound, Puts};
 ghost use Rattle.number_text.specs.Fractions.{decimals, digit, fraction};
 
-use devices::{Sink, append};
+use devices::Sink;
 use pieces::Text;
-
-/// The longest fraction: a point and three digits.
-pub const LONGEST_FRACTION: usize = 4;
-
-/// Appends a point and some thousandths, without zeros at the end; nothing if there are none.
-pub fn append_fraction(piece: &mut [u8], used: usize, thousandths: u32) -> usize
-    requires small { thousandths < 1000 }
-    requires room { used + LONGEST_FRACTION ≤ length piece.old }
-    ensures text { take result piece.new ≡ take used piece.old ++ fraction thousandths }
-    ensures most { result ≤ used + LONGEST_FRACTION }
-    ensures size { length piece.new ≡ length piece.old }
-{
-    if thousandths == 0 {
-        return used;
-    }
-    let used = append(piece, used, b".");
-    append(
-        piece,
-        used,
-        &digits_of(thousandths)[..decimals(thousandths)],
-    )
-}
 
 /// Puts a point and some thousandths, without zeros at the end; nothing if there are none.
 pub fn put_fraction<K: Sink>(text: &mut Text<'_, K>, thousandths: u32)
@@ -41,8 +19,8 @@ pub fn put_fraction<K: Sink>(text: &mut Text<'_, K>, thousandths: u32)
     text.put(&digits_of(thousandths)[..decimals(thousandths)]);
 }
 
-// How many digits of some thousandths are not zeros at the end.
-fn decimals(thousandths: u32) -> usize
+/// How many digits of some thousandths are not zeros at the end.
+pub fn decimals(thousandths: u32) -> usize
     ensures value { result ≡ decimals thousandths }
     ensures most { result ≤ 3 }
 {
@@ -55,8 +33,8 @@ fn decimals(thousandths: u32) -> usize
     }
 }
 
-// The three digits of some thousandths.
-fn digits_of(thousandths: u32) -> [u8; 3]
+/// The three digits of some thousandths.
+pub fn digits_of(thousandths: u32) -> [u8; 3]
     requires { thousandths < 1000 }
     ensures { result ≡ digit (thousandths / 100) ∷ digit (thousandths / 10 % 10) ∷ digit (thousandths % 10) ∷ [] }
 {

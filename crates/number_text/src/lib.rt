@@ -1,12 +1,8 @@
-//! Numbers as text, appended to a piece of a document.
+//! Numbers as text.
 #![tactic(auto)]
 
 mod digits;
 mod fractions;
-mod numbers;
 
 pub use digits::hex_digit;
-pub use fractions::{LONGEST_FRACTION, append_fraction, put_fraction};
-pub use numbers::{
-    LONGEST_COUNT, LONGEST_LARGE, LONGEST_SIGNED, append_count, append_large, append_signed,
-};
+pub use fractions::{decimals, digits_of, put_fraction};

@@ -10,7 +10,7 @@ use Rattle.stroke_runs.specs.Drawn.{is_drawn, is_joined, drawn}
 use Rattle.stroke_runs.specs.Links.{after_stroke, at_start, link_of, room_after, runs_after}
 use Rattle.stroke_runs.specs.Runs.{Following, going_on, beginning, goes_on, following, runs_of}
 use Rattle.pdf.specs.RunTexts.{end_text, head_text, line_text, rest_text, runs_text, start_text, stroke_text, strokes_text}
-use Rattle.pdf.specs.Steps.{after_step, link_text, open_end, step_text, steps_text}
+use Rattle.pdf.specs.Steps.{link_text, open_end, steps_text}
 
 -- what is written for strokes that are all drawn
 abbrev drawn_text : Page → Runs → List Segment → List ℕ
@@ -90,19 +90,3 @@ whole page pens ss = ap (λ (z : List ℕ). head_text ++ z) (only_drawn page pen
 pub next_of : {A : Type 0} (xs : List A) (i : ℕ) (x : A) → i < length xs → x ≡ get_or xs i x → drop i xs ≡ x ∷ drop (i + 1) xs
 next_of {A} xs i x lt is =
     drop-cons xs i x lt ∙ ap (λ (t : A). t ∷ drop (suc i) xs) (sym is) ∙ ap (λ (n : ℕ). x ∷ drop n xs) (sym (add-one i))
-
--- the text of the next stroke was encoded
-pub step_encoded : (all before piece : List ℕ) (page : Page) (pens : PenSet) (r after : Runs) (s : Segment) (ss rest : List Segment)
-    → before ++ steps_text page pens r ss ≡ all → ss ≡ s ∷ rest → piece ≡ step_text page pens r s → after ≡ after_step pens r s
-    → (before ++ piece) ++ steps_text page pens after rest ≡ all
-step_encoded all before piece page pens r after s ss rest left next text then =
-    append_assoc before piece (steps_text page pens after rest)
-    ∙ ap (λ (z : List ℕ). before ++ (z ++ steps_text page pens after rest)) text
-    ∙ ap (λ (q : Runs). before ++ (step_text page pens r s ++ steps_text page pens q rest)) then
-    ∙ ap (λ (zs : List Segment). before ++ steps_text page pens r zs) (sym next) ∙ left
-
--- what follows the last stroke was encoded
-pub last_encoded : (all before piece : List ℕ) (page : Page) (pens : PenSet) (r : Runs) (ss : List Segment)
-    → before ++ steps_text page pens r ss ≡ all → ss ≡ [] → piece ≡ open_end r → before ++ piece ≡ all
-last_encoded all before piece page pens r ss left none text =
-    ap (λ (z : List ℕ). before ++ z) text ∙ ap (λ (zs : List Segment). before ++ steps_text page pens r zs) (sym none) ∙ left

@@ -2,7 +2,7 @@
 use Rattle.std.proofs.Common.{◌≡◌, ℕ, zero, suc, false, nat_eq, ◌+◌, ◌*◌, ◌<◌, ◌≤◌, List, [], ◌∷◌, ◌++◌, length, take, get_or, refl, ap, sym, ◌∙◌, append_assoc, codes, decimal, arith}
 use Rattle.std.proofs.lemmas.List.{length-take-le, take_more}
 use Rattle.std.specs.Fmt.{digits}
-use Rattle.pdf.specs.Documents.{encoding_text, font_count, font_object, font_objects, fonts_text, names_text, row_objects, unicode_object}
+use Rattle.pdf.specs.Documents.{encoding_text, font_count, font_object, font_objects, fonts_text, names_text, resources_text, row_objects, unicode_object}
 use Rattle.pdf.specs.Numbers.{two_digits}
 use Rattle.pdf.specs.Objects.{reference_text}
 
@@ -76,3 +76,7 @@ fonts_most (x ∷ xs) h = omega (arith, h)
 pub some_rows : (xs : List ℕ) → false ≡ nat_eq (length xs) 0 → 1 ≤ length xs
 some_rows [] h = absurd (cc)
 some_rows (x ∷ xs) h = omega arith
+
+pub resources_whole : (encoding : ℕ) (xs : List ℕ) → 1 ≤ length xs → (codes "/Font<<" ++ fonts_text (encoding + 1) xs) ++ codes ">>" ≡ resources_text encoding xs
+resources_whole encoding [] h = absurd (omega (arith, h))
+resources_whole encoding (x ∷ xs) h = refl

@@ -1,11 +1,11 @@
 -- What is written letter by letter is the text of the pieces of a line.
-use Rattle.std.proofs.Common.{◌≡◌, ℕ, ℤ, ◌≤◌, ◌==◌, nat_lt, length, arith, List, [], ◌∷◌, ◌++◌, Bool, true, false, cond, Option, Some, None, codes, refl, ap, sym, ◌∙◌, append_assoc}
+use Rattle.std.proofs.Common.{◌≡◌, ℕ, ℤ, ◌≤◌, ◌==◌, nat_lt, length, arith, List, [], ◌∷◌, ◌++◌, Bool, true, false, cond, Option, Some, None, codes, decimal, refl, ap, sym, ◌∙◌, append_assoc}
 use Rattle.std.proofs.lemmas.Bool.Decides.{nat_tests}
 use Rattle.labels.specs.Labels.{LineShape}
 use Rattle.pdf.specs.Contents.{pieces_operators, text_operators}
-use Rattle.pdf.specs.Numbers.{digits_text, signed_thousandths, two_digits}
+use Rattle.pdf.specs.Numbers.{digits_text, two_digits}
 use Rattle.pdf.specs.Operators.{Font, TextMatrix, matrix_text, operator_text, operators_text}
-use Rattle.pdf.specs.TextSteps.{letter_text, letters_text, piece_end, row_text}
+use Rattle.pdf.specs.TextSteps.{letters_text, piece_end, piece_start, row_text}
 use Rattle.pdf.specs.Texts.{Piece, above, along, byte_of, matrix_of, pieces, row_of, with_byte}
 
 abbrev pieces_text : List Piece → List ℕ
@@ -85,20 +85,6 @@ line_text l matrix is =
     ap (λ (z : List ℕ). z ++ letters_text None l.text) is
     ∙ ap (λ (z : List ℕ). operator_text (TextMatrix (matrix_of l) l.start.x l.start.y) ++ z) (all_letters l.text)
 
--- the text of the next letter was encoded
-pub letter_encoded : (all before piece : List ℕ) (row : Option ℕ) (point next : ℕ) (left rest : List ℕ) → before ++ letters_text row left ≡ all → left ≡ point ∷ rest
-    → piece ≡ letter_text row point → next ≡ row_of point → (before ++ piece) ++ letters_text (Some next) rest ≡ all
-letter_encoded all before piece row point next left rest so_far is text then =
-    append_assoc before piece (letters_text (Some next) rest)
-    ∙ ap (λ (z : List ℕ). before ++ (z ++ letters_text (Some next) rest)) text
-    ∙ ap (λ (k : ℕ). before ++ (letter_text row point ++ letters_text (Some k) rest)) then
-    ∙ ap (λ (zs : List ℕ). before ++ letters_text row zs) (sym is) ∙ so_far
-
--- what follows the last letter was encoded
-pub end_encoded : (all before piece : List ℕ) (row : Option ℕ) (left : List ℕ) → before ++ letters_text row left ≡ all → left ≡ [] → piece ≡ piece_end row → before ++ piece ≡ all
-end_encoded all before piece row left so_far none text =
-    ap (λ (z : List ℕ). before ++ z) text ∙ ap (λ (zs : List ℕ). before ++ letters_text row zs) (sym none) ∙ so_far
-
 some : (text : List ℕ) → 1 ≤ length text → nat_lt 0 (length text) ≡ true
 some text h = grind (arith, nat_tests, h)
 
@@ -108,6 +94,13 @@ of_text l all h is =
     is ∙ ap (λ (b : Bool). operators_text (cond b (TextMatrix (matrix_of l) l.start.x l.start.y ∷ pieces_operators (pieces l.text)) [])) (sym (some l.text h))
 
 -- the numbers of a matrix
-pub numbers_text : (l : LineShape) (a b c d : ℤ) → a ≡ along l.start.x l.end.x (length l.text) → b ≡ along l.start.y l.end.y (length l.text) → c ≡ above l.start.x l.top.x → d ≡ above l.start.y l.top.y
-    → signed_thousandths a ++ codes " " ++ signed_thousandths b ++ codes " " ++ signed_thousandths c ++ codes " " ++ signed_thousandths d ≡ matrix_text (matrix_of l)
-numbers_text l a b c d p q r s = rw (p, q, r, s) refl
+pub matrix_as : (l : LineShape) (a b c d : ℤ) → a ≡ along l.start.x l.end.x (length l.text) → b ≡ along l.start.y l.end.y (length l.text) → c ≡ above l.start.x l.top.x → d ≡ above l.start.y l.top.y
+    → matrix_text (record { a = a; b = b; c = c; d = d }) ≡ matrix_text (matrix_of l)
+matrix_as l a b c d p q r s = rw (p, q, r, s) refl
+
+-- the start of a piece, whose last bytes are put at once
+fused : (e a t k : List ℕ) → e ++ (a ++ (t ++ k)) ≡ (e ++ (a ++ t)) ++ k
+fused e a t k = simp append_assoc
+
+pub piece_begun : (before : Option ℕ) (row : ℕ) → piece_end before ++ ((codes "/F" ++ decimal row) ++ codes " 1 Tf\n<") ≡ piece_start before row
+piece_begun before row = fused (piece_end before) (codes "/F" ++ decimal row) (codes " 1 Tf\n") (codes "<")

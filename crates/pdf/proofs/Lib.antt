@@ -1,4 +1,4 @@
-pub mod Puts
+pub mod Contained
 pub mod AddedObjects
 pub mod AddedPages
 pub mod Lists

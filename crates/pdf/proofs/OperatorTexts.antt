@@ -89,8 +89,3 @@ of_label false lines = refl
 -- the whole text, if a label is shown
 pub of_texts : (os : List Operator) → operators_text ((BeginText ∷ Invisible ∷ []) ++ os ++ (EndText ∷ [])) ≡ (codes "BT\n3 Tr\n" ++ operators_text os) ++ codes "ET\n"
 of_texts os = both ((BeginText ∷ Invisible ∷ []) ++ os) (EndText ∷ []) (codes "BT\n3 Tr\n" ++ operators_text os) (codes "ET\n") refl refl
-
--- the text of the next line, or of the next label, was encoded
-pub part_encoded : (all before piece whole part rest : List ℕ) → before ++ whole ≡ all → whole ≡ part ++ rest → piece ≡ part → (before ++ piece) ++ rest ≡ all
-part_encoded all before piece whole part rest so_far split is =
-    append_assoc before piece rest ∙ ap (λ (z : List ℕ). before ++ (z ++ rest)) is ∙ ap (λ (z : List ℕ). before ++ z) (sym split) ∙ so_far

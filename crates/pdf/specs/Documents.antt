@@ -10,6 +10,7 @@ use Rattle.plot_page.specs.Segments.{Segment}
 use Rattle.plot_page.specs.declared.page.Page.{Page}
 use Rattle.plot_page.specs.declared.pens.PenSet.{PenSet}
 use Rattle.stroke_runs.specs.Drawn.{is_drawn}
+use Rattle.pieces.specs.Texts.{counted}
 use Rattle.pdf.specs.Contents.{content_text}
 use Rattle.pdf.specs.Numbers.{points, two_digits, utf_16_text}
 use Rattle.pdf.specs.Objects.{objects_text, offsets_of, reference_text, table_text, trailer_text}
@@ -160,10 +161,10 @@ abbrev pub stream_object : ℕ → List ℕ → List ℕ
 stream_object size stream =
     codes "<</Filter/FlateDecode/Length" ++ reference_text size ++ codes ">>stream\n" ++ stream ++ codes "\nendstream"
 
--- a page after so many objects: the page, its content, and how long that is
+-- a page after so many objects: the page, its content, and how long that is, a count that stops at its greatest
 abbrev pub page_objects : ℕ → List ℕ → List (List ℕ)
 page_objects before stream =
-    page_object (before + 2) ∷ stream_object (before + 3) stream ∷ decimal (length stream) ∷ []
+    page_object (before + 2) ∷ stream_object (before + 3) stream ∷ decimal (counted (length stream)) ∷ []
 
 abbrev pub pages_objects : ℕ → List (List ℕ) → List (List ℕ)
 pages_objects before [] = []

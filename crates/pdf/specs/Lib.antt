@@ -14,5 +14,6 @@ pub mod ContentReader
 pub mod RunTexts
 pub mod Steps
 pub mod TextSteps
+pub mod Contained
 pub mod Writings
 pub mod Ranges

@@ -1,5 +1,6 @@
 -- Objects of a PDF document, each after so many others: the first one has the number 1.
 use Rattle.std.specs.Prelude.{ℕ, ◌+◌, List, [], ◌∷◌, ◌++◌, length, codes, decimal}
+use Rattle.pieces.specs.Texts.{counted}
 use Rattle.pdf.specs.Numbers.{ten_digits}
 
 -- the object after so many others
@@ -16,9 +17,9 @@ abbrev pub offsets_of : ℕ → ℕ → List (List ℕ) → List ℕ
 offsets_of at before [] = []
 offsets_of at before (body ∷ bodies) = at ∷ offsets_of (at + length (object_text before body)) (before + 1) bodies
 
--- a line of the table: where an object begins
+-- a line of the table: where an object begins, a count that stops at its greatest
 abbrev pub entry_text : ℕ → List ℕ
-entry_text offset = ten_digits offset ++ codes " 00000 n \n"
+entry_text offset = ten_digits (counted offset) ++ codes " 00000 n \n"
 
 abbrev pub entries_text : List ℕ → List ℕ
 entries_text [] = []
@@ -29,11 +30,11 @@ abbrev pub table_text : List ℕ → List ℕ
 table_text offsets =
     codes "xref\n0 " ++ decimal (length offsets + 1) ++ codes "\n0000000000 65535 f \n" ++ entries_text offsets
 
--- how many objects there are, which is the first, and where the table begins
+-- how many objects there are, which is the first, and where the table begins, a count that stops at its greatest
 abbrev pub trailer_text : ℕ → ℕ → List ℕ
 trailer_text count at =
-    codes "trailer\n<</Size " ++ decimal (count + 1) ++ codes "/Root 1 0 R/Info 2 0 R>>\nstartxref\n" ++ decimal at
-    ++ codes "\n%%EOF\n"
+    codes "trailer\n<</Size " ++ decimal (count + 1) ++ codes "/Root 1 0 R/Info 2 0 R>>\nstartxref\n"
+    ++ decimal (counted at) ++ codes "\n%%EOF\n"
 
 -- the number of an object that is referred to
 abbrev pub reference_text : ℕ → List ℕ

@@ -1,100 +1,70 @@
--- What was written so far, and what answers say of it.
-use Rattle.std.specs.Prelude.{◌≡◌, ℕ, ◌+◌, List, ◌++◌, length, take, Result, Ok, Err, Some}
-use Rattle.std.specs.Io.KnownBytes.{Appends}
-use Rattle.deflate.specs.Buffers.{bytes_in}
-use Rattle.deflate.specs.Histories.{EncodesText}
+-- What was put into a document.
+use Rattle.std.specs.Prelude.{◌≡◌, ℕ, ◌+◌, List, [], ◌∷◌, ◌++◌, length, take, map, codes, decimal, Result, Some}
 use Rattle.deflate.specs.Zlib.{unzlib}
-use Rattle.deflate.specs.declared.text_encoder.TextEncoder.{TextEncoder}
 use Rattle.devices.specs.declared.fault.WriteFault.{WriteFault}
-use Rattle.devices.specs.Sinks.{SinkState, taken_of}
+use Rattle.devices.specs.Sinks.{SinkState}
 use Rattle.labels.specs.Labels.{LabelShape}
+use Rattle.pieces.specs.Texts.{Puts, WritesText, count_of, counted}
+use Rattle.pieces.specs.declared.text.Text.{Text}
 use Rattle.plot_page.specs.Segments.{Segment}
 use Rattle.plot_page.specs.declared.page.Page.{Page}
 use Rattle.plot_page.specs.declared.pens.PenSet.{PenSet}
 use Rattle.pdf.specs.Documents.{AreStreams, page_objects, pages_objects, pdf_bytes, pens_drawn, rows_shown, sheet_labels}
-use Rattle.pdf.specs.Documents.{sheets}
-use Rattle.pdf.specs.Objects.{objects_text, offsets_of}
+use Rattle.pdf.specs.Documents.{sheets, stream_object}
+use Rattle.pdf.specs.Objects.{objects_text, offsets_of, reference_text}
 
--- after so many bytes these were written
-abbrev pub HasPut : SinkState → SinkState → ℕ → ℕ → List ℕ → Type 0
-HasPut old new done now bytes =
-    Appends old.held new.held bytes × (new.faults ≡ old.faults) × (now ≡ done + length bytes)
+-- what comes before the body of an object, and after it
+abbrev pub object_start : ℕ → List ℕ
+object_start before = decimal (before + 1) ++ codes " 0 obj\n"
 
--- after so many bytes some more were written, and then the sink failed
-abbrev pub HasFailed : SinkState → SinkState → ℕ → WriteFault → Type 0
-HasFailed old new done fault =
-    (written : List ℕ) × Appends old.held new.held written × (taken_of fault ≡ done + length written)
-    × (new.faults ≡ old.faults + 1)
+abbrev pub object_end : List ℕ
+object_end = codes "\nendobj\n"
 
--- after `done` bytes these were written, and all are so many then; or the sink failed
-abbrev pub Puts : SinkState → SinkState → ℕ → List ℕ → Result ℕ WriteFault → Type 0
-Puts old new done bytes (Ok now) = HasPut old new done now bytes
-Puts old new done bytes (Err fault) = HasFailed old new done fault
+-- what comes before a stream, whose length is the object of this number
+abbrev pub stream_start : ℕ → List ℕ
+stream_start size = codes "<</Filter/FlateDecode/Length" ++ reference_text size ++ codes ">>stream\n"
 
--- after so many objects these were written, and where they begin is noted
-abbrev pub HasAdded : SinkState → SinkState → List ℕ → List ℕ → ℕ → ℕ → ℕ → List (List ℕ) → Type 0
-HasAdded old new offsets noted before done now bodies =
-    HasPut old new done now (objects_text before bodies)
-    × (take (before + length bodies) noted ≡ take before offsets ++ offsets_of done before bodies)
-    × (length noted ≡ length offsets)
+-- where objects begin, as counts say
+abbrev pub places : ℕ → ℕ → List (List ℕ) → List ℕ
+places at before bodies = map counted (offsets_of at before bodies)
 
-abbrev pub Adds : SinkState → SinkState → List ℕ → List ℕ → ℕ → ℕ → List (List ℕ) → Result ℕ WriteFault → Type 0
-Adds old new offsets noted before done bodies (Ok now) = HasAdded old new offsets noted before done now bodies
-Adds old new offsets noted before done bodies (Err fault) = HasFailed old new done fault
+-- objects were put after so many others, and where they begin is noted
+pub record Adds {K : Type 0} (state : K → SinkState) (old new : Text K) (offsets after : List ℕ) (before : ℕ) (bodies : List (List ℕ)) : Type 0 where
+  pub puts : Puts state old new (objects_text before bodies)
+  pub noted : take (before + length bodies) after ≡ take before offsets ++ places (count_of old) before bodies
+  pub size : length after ≡ length offsets
 
--- the first bytes of a stream were written, which with the encoder's are those of a text
-abbrev pub HasEncoded : SinkState → SinkState → ℕ → ℕ → TextEncoder → List ℕ → Type 0
-HasEncoded old new done now encoder text =
-    (sent : List ℕ) × HasPut old new done now sent × EncodesText sent encoder text
+-- a zlib stream of a text was put, of so many bytes
+pub record PutsStream {K : Type 0} (state : K → SinkState) (old new : Text K) (text : List ℕ) (size : ℕ) : Type 0 where
+  pub stream : List ℕ
+  pub reads : unzlib stream ≡ Some text
+  pub puts : Puts state old new stream
+  pub counts : size ≡ counted (length stream)
 
-abbrev pub Encoding : SinkState → SinkState → ℕ → TextEncoder → List ℕ → Result ℕ WriteFault → Type 0
-Encoding old new done encoder text (Ok now) = HasEncoded old new done now encoder text
-Encoding old new done encoder text (Err fault) = HasFailed old new done fault
+-- the same as an object
+pub record AddsStream {K : Type 0} (state : K → SinkState) (old new : Text K) (offsets after : List ℕ) (before : ℕ) (text : List ℕ) (size : ℕ) : Type 0 where
+  pub stream : List ℕ
+  pub reads : unzlib stream ≡ Some text
+  pub adds : Adds state old new offsets after before (stream_object (before + 2) stream ∷ [])
+  pub counts : size ≡ counted (length stream)
 
--- whatever was encoded before, more bytes were encoded, of which some were written
-abbrev pub HasContinued : SinkState → SinkState → ℕ → ℕ → TextEncoder → TextEncoder → List ℕ → Type 0
-HasContinued old new done now encoder after bytes =
-    (sent : List ℕ) × HasPut old new done now sent
-    × ((before text : List ℕ) → EncodesText before encoder text → EncodesText (before ++ sent) after (text ++ bytes))
+-- a page was put, whose content is in a stream of a text
+pub record AddsPage {K : Type 0} (state : K → SinkState) (old new : Text K) (offsets after : List ℕ) (before : ℕ) (text : List ℕ) : Type 0 where
+  pub stream : List ℕ
+  pub reads : unzlib stream ≡ Some text
+  pub adds : Adds state old new offsets after before (page_objects before stream)
 
-abbrev pub Continues : SinkState → SinkState → ℕ → TextEncoder → TextEncoder → List ℕ → Result ℕ WriteFault → Type 0
-Continues old new done encoder after bytes (Ok now) = HasContinued old new done now encoder after bytes
-Continues old new done encoder after bytes (Err fault) = HasFailed old new done fault
+-- pages were put, whose contents are in streams
+pub record AddsPages {K : Type 0} (state : K → SinkState) (old new : Text K) (offsets after : List ℕ) (before : ℕ) (page : Page) (pens : PenSet)
+    (pages : List (List Segment)) (labels : List (List LabelShape)) : Type 0 where
+  pub streams : List (List ℕ)
+  pub are : AreStreams page pens pages labels streams
+  pub adds : Adds state old new offsets after before (pages_objects before streams)
 
--- whatever was encoded before, the encoder's whole bytes were written
-abbrev pub Flushes : SinkState → SinkState → ℕ → TextEncoder → TextEncoder → Result ℕ WriteFault → Type 0
-Flushes old new done encoder after (Ok now) =
-    HasPut old new done now (bytes_in encoder.block.buffer)
-    × ((sent text : List ℕ) → EncodesText sent encoder text
-    → EncodesText (sent ++ bytes_in encoder.block.buffer) after text)
-Flushes old new done encoder after (Err fault) = HasFailed old new done fault
-
--- a whole stream of a text was written
-abbrev pub PutsStream : SinkState → SinkState → ℕ → List ℕ → Result ℕ WriteFault → Type 0
-PutsStream old new done text (Ok now) =
-    (stream : List ℕ) × HasPut old new done now stream × (unzlib stream ≡ Some text)
-PutsStream old new done text (Err fault) = HasFailed old new done fault
-
--- a page was written, whose content is in a stream of a text
-abbrev pub AddsPage : SinkState → SinkState → List ℕ → List ℕ → ℕ → ℕ → List ℕ → Result ℕ WriteFault → Type 0
-AddsPage old new offsets noted before done text (Ok now) =
-    (stream : List ℕ) × (unzlib stream ≡ Some text)
-    × HasAdded old new offsets noted before done now (page_objects before stream)
-AddsPage old new offsets noted before done text (Err fault) = HasFailed old new done fault
-
--- pages were written, whose contents are in streams
-abbrev pub AddsPages : SinkState → SinkState → List ℕ → List ℕ → ℕ → ℕ → Page → PenSet → List (List Segment)
-    → List (List LabelShape) → Result ℕ WriteFault → Type 0
-AddsPages old new offsets noted before done page pens pages labels (Ok now) =
-    (streams : List (List ℕ)) × AreStreams page pens pages labels streams
-    × HasAdded old new offsets noted before done now (pages_objects before streams)
-AddsPages old new offsets noted before done page pens pages labels (Err fault) = HasFailed old new done fault
-
--- a document was written whose contents are in streams
-abbrev pub WritesPdf : SinkState → SinkState → List ℕ → List ℕ → Page → PenSet → List Segment → List ℕ
-    → List LabelShape → Result ℕ WriteFault → Type 0
-WritesPdf old new version title page pens strokes ends labels (Ok now) =
-    (streams : List (List ℕ)) × AreStreams page pens (sheets strokes 0 ends) (sheet_labels labels 0 ends) streams
-    × HasPut old new 0 now
-    (pdf_bytes version title page (pens_drawn pens strokes) (rows_shown pens strokes labels) ends streams)
-WritesPdf old new version title page pens strokes ends labels (Err fault) = HasFailed old new 0 fault
+-- a document was written whose contents are in streams, or the sink failed after a first part of it
+pub record WritesPdf (old new : SinkState) (version title : List ℕ) (page : Page) (pens : PenSet) (strokes : List Segment) (ends : List ℕ)
+    (labels : List LabelShape) (result : Result ℕ WriteFault) : Type 0 where
+  pub streams : List (List ℕ)
+  pub are : AreStreams page pens (sheets strokes 0 ends) (sheet_labels labels 0 ends) streams
+  pub writes : WritesText old new
+      (pdf_bytes version title page (pens_drawn pens strokes) (rows_shown pens strokes labels) ends streams) result

@@ -1,6 +1,7 @@
 //! PDF 1.5: the strokes of sheets as a document of pages, with a layer for each pen, and the texts of labels.
 #![tactic(auto)]
 
+mod content;
 mod counts;
 mod document;
 mod fonts;
@@ -15,6 +16,7 @@ mod pages;
 mod paths;
 mod pens;
 mod rows;
+mod sheet;
 mod steps;
 mod stream;
 mod table;
@@ -23,5 +25,3 @@ mod title;
 
 pub use counts::{MOST_LETTERS, has_few_letters};
 pub use document::{room_for, write_pdf};
-pub use front::LONGEST_VERSION;
-pub use title::MOST_CHARACTERS;

@@ -1,81 +1,66 @@
-//! Decimal numbers, appended to a piece of a document.
-ghost use Rattle.std.specs.Prelude.{◌≡◌, ◌+◌, ◌*◌, ◌^◌, ◌≤◌, ◌++◌, [], if◌then◌else◌, nat_abs, length, take, codes};
-ghost use Rattle.pdf.specs.Numbers.{nearest, part, points, rounded, signed_thousandths, thousandths, two_digits};
+//! Decimal numbers in the content of a page.
+ghost use Rattle.std.specs.Prelude.{◌≡◌, ◌+◌, ◌*◌, ◌^◌, ◌<◌, ◌≤◌, [], if◌then◌else◌, nat_abs, codes};
+ghost use Rattle.number_text.specs.Fractions.{fraction};
+ghost use Rattle.pdf.specs.Contained.{Fills, IsOpen};
+ghost use Rattle.pdf.specs.Numbers.{nearest, part, rounded, signed_thousandths, thousandths, two_digits};
 
-use devices::append;
-use number_text::{
-    LONGEST_COUNT, LONGEST_FRACTION, LONGEST_LARGE, append_count, append_fraction, append_large,
-    hex_digit,
-};
+use crate::content::Content;
+use devices::Sink;
+use number_text::{decimals, digits_of, hex_digit};
+use pieces::Text;
 
-/// The longest number of thousandths: ten digits, a point and three digits.
-pub(crate) const LONGEST_THOUSANDTHS: usize = LONGEST_COUNT + LONGEST_FRACTION;
-
-/// The longest number of thousandths with a sign.
-pub(crate) const LONGEST_SIGNED_THOUSANDTHS: usize = 1 + LONGEST_LARGE + LONGEST_FRACTION;
-
-// Appends some text and some thousandths as a decimal number.
-fn append_thousandths(piece: &mut [u8], used: usize, text: &[u8], number: u32) -> usize
-    requires { used + length text.now + LONGEST_THOUSANDTHS ≤ length piece.old }
-    ensures text { take result piece.new ≡ take used piece.old ++ text.now ++ thousandths number }
-    ensures most { result ≤ used + length text.now + LONGEST_THOUSANDTHS }
-    ensures size { length piece.new ≡ length piece.old }
+// Puts a point and some thousandths, without zeros at the end; nothing if there are none.
+fn put_fraction<K: Sink>(document: &mut Text<'_, K>, content: &mut Content<'_>, thousandths: u32)
+    requires open { IsOpen K.state document.old content.old }
+    requires small { thousandths < 1000 }
+    ensures fills { Fills K.state document.old document.new content.old content.new (fraction thousandths) }
 {
-    let used = append_count(piece, used, text, number / 1000);
-    append_fraction(piece, used, number % 1000)
+    if thousandths == 0 {
+        return;
+    }
+    content.put(document, b".");
+    content.put(document, &digits_of(thousandths)[..decimals(thousandths)]);
 }
 
-// Appends some text and a length of so many plotter units in points.
-pub(crate) fn append_points(piece: &mut [u8], used: usize, text: &[u8], units: u32) -> usize
-    requires small { units ≤ 65536 }
-    requires room { used + length text.now + LONGEST_THOUSANDTHS ≤ length piece.old }
-    ensures text { take result piece.new ≡ take used piece.old ++ text.now ++ points units }
-    ensures most { result ≤ used + length text.now + LONGEST_THOUSANDTHS }
-    ensures size { length piece.new ≡ length piece.old }
+// Puts some thousandths as a decimal number.
+fn put_thousandths<K: Sink>(document: &mut Text<'_, K>, content: &mut Content<'_>, number: u32)
+    requires open { IsOpen K.state document.old content.old }
+    ensures fills { Fills K.state document.old document.new content.old content.new (thousandths number) }
 {
-    append_thousandths(piece, used, text, (18_000 * units + 127) / 254)
+    content.put_number(document, number / 1000);
+    put_fraction(document, content, number % 1000);
 }
 
-// Appends some text and a part of a colour.
-pub(crate) fn append_part(piece: &mut [u8], used: usize, text: &[u8], byte: u8) -> usize
-    requires room { used + length text.now + LONGEST_THOUSANDTHS ≤ length piece.old }
-    ensures text { take result piece.new ≡ take used piece.old ++ text.now ++ part byte }
-    ensures most { result ≤ used + length text.now + LONGEST_THOUSANDTHS }
-    ensures size { length piece.new ≡ length piece.old }
+// Puts a part of a colour.
+pub(crate) fn put_part<K: Sink>(document: &mut Text<'_, K>, content: &mut Content<'_>, byte: u8)
+    requires open { IsOpen K.state document.old content.old }
+    ensures fills { Fills K.state document.old document.new content.old content.new (part byte) }
 {
-    append_thousandths(piece, used, text, (2000 * u32::from(byte) + 255) / 510)
+    put_thousandths(document, content, (2000 * u32::from(byte) + 255) / 510);
 }
 
-// Appends some text and some thousandths as a decimal number, which may be below 0.
-pub(crate) fn append_signed_thousandths(
-    piece: &mut [u8],
-    used: usize,
-    text: &[u8],
+// Puts some thousandths as a decimal number, which may be below 0.
+pub(crate) fn put_signed_thousandths<K: Sink>(
+    document: &mut Text<'_, K>,
+    content: &mut Content<'_>,
     number: i64,
-) -> usize
-    requires { used + length text.now + LONGEST_SIGNED_THOUSANDTHS ≤ length piece.old }
-    ensures text { take result piece.new ≡ take used piece.old ++ text.now ++ signed_thousandths number }
-    ensures most { result ≤ used + length text.now + LONGEST_SIGNED_THOUSANDTHS }
-    ensures size { length piece.new ≡ length piece.old }
+)
+    requires open { IsOpen K.state document.old content.old }
+    ensures fills { Fills K.state document.old document.new content.old content.new (signed_thousandths number) }
 {
-    let used = append(piece, used, text);
-    let used = append_sign(piece, used, number < 0);
+    put_sign(document, content, number < 0);
     let size = number.unsigned_abs();
-    let used = append_large(piece, used, b"", size / 1000);
-    append_fraction(piece, used, (size % 1000) as u32)
+    content.put_number(document, size / 1000);
+    put_fraction(document, content, (size % 1000) as u32);
 }
 
-// Appends a sign, or not.
-fn append_sign(piece: &mut [u8], used: usize, is_below: bool) -> usize
-    requires { used + 1 ≤ length piece.old }
-    ensures text { take result piece.new ≡ take used piece.old ++ (if is_below then codes "-" else []) }
-    ensures most { result ≤ used + 1 }
-    ensures size { length piece.new ≡ length piece.old }
+// Puts a sign, or not.
+fn put_sign<K: Sink>(document: &mut Text<'_, K>, content: &mut Content<'_>, is_below: bool)
+    requires open { IsOpen K.state document.old content.old }
+    ensures fills { Fills K.state document.old document.new content.old content.new (if is_below then codes "-" else []) }
 {
     if is_below {
-        append(piece, used, b"-")
-    } else {
-        used
+        content.put(document, b"-");
     }
 }
 

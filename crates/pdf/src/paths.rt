@@ -1,122 +1,90 @@
 //! Paths: the strokes of a run in the content of a page.
-ghost use Rattle.std.specs.Prelude.{◌≡◌, ◌+◌, ◌-◌, ◌^◌, ◌<◌, ◌≤◌, ◌++◌, ◌-ℤ◌, nat_abs, length, take, max, codes};
+ghost use Rattle.std.specs.Prelude.{◌≡◌, ◌≤◌, ◌++◌, ◌-ℤ◌, nat_abs, max, codes};
+ghost use Rattle.pdf.specs.Contained.{Fills, IsOpen};
 ghost use Rattle.pdf.specs.Operators.{colour_text, place_text, rectangle_text, width_text};
 ghost use Rattle.pdf.specs.RunTexts.{clip_text, layer_text, line_text, start_text, stroke_text, window_text};
 ghost use Rattle.stroke_runs.specs.declared.shown.TheConstants.{LEAST_WIDTH};
 
-use crate::numbers::{LONGEST_THOUSANDTHS, append_part};
-use devices::append;
-use number_text::{LONGEST_COUNT, LONGEST_SIGNED, append_count, append_signed};
+use crate::content::Content;
+use crate::numbers::put_part;
+use devices::Sink;
+use pieces::Text;
 use plot_page::{Colour, Page, Stroke, Window};
 use stroke_runs::{is_whole_page, shown_width};
 
-/// The longest start of a run: its layer, its window, its colour and its width.
-pub(crate) const LONGEST_START: usize = LONGEST_LAYER
-    + LONGEST_WINDOW
-    + LONGEST_COLOUR
-    + LONGEST_WIDTH;
-
-/// The longest stroke: two places, each with an operator of three bytes.
-pub(crate) const LONGEST_STROKE: usize = 2 * LONGEST_PLACE + 6;
-
-/// The longest place: two numbers and a space.
-pub(crate) const LONGEST_PLACE: usize = 2 * LONGEST_SIGNED + 1;
-
-/// The longest layer: 13 bytes and a number.
-const LONGEST_LAYER: usize = 13 + LONGEST_COUNT;
-
-/// The longest window: a rectangle and four bytes.
-const LONGEST_WINDOW: usize = LONGEST_RECTANGLE + 4;
-
-/// The longest rectangle: five bytes and two places.
-const LONGEST_RECTANGLE: usize = 5 + 2 * LONGEST_PLACE;
-
-/// The longest colour: six bytes and three parts.
-const LONGEST_COLOUR: usize = 6 + 3 * LONGEST_THOUSANDTHS;
-
-/// The longest width: three bytes and a number.
-const LONGEST_WIDTH: usize = 3 + LONGEST_COUNT;
-
-// Appends what comes before the places of a run that begins with this stroke.
-pub(crate) fn append_start(piece: &mut [u8], used: usize, page: &Page, stroke: &Stroke) -> usize
-    requires room { used + LONGEST_START ≤ length piece.old }
-    ensures text { take result piece.new ≡ take used piece.old ++ start_text page.now stroke.now }
-    ensures most { result ≤ used + LONGEST_START }
-    ensures size { length piece.new ≡ length piece.old }
+// Puts what comes before the places of a run that begins with this stroke.
+pub(crate) fn put_start<K: Sink>(
+    document: &mut Text<'_, K>,
+    content: &mut Content<'_>,
+    page: &Page,
+    stroke: &Stroke,
+)
+    requires open { IsOpen K.state document.old content.old }
+    ensures fills { Fills K.state document.old document.new content.old content.new (start_text page.now stroke.now) }
 {
-    let used = append_layer(piece, used, stroke);
-    let used = append_clip(piece, used, page, stroke);
-    let used = append_colour(piece, used, stroke.colour);
-    append_width(piece, used, stroke)
+    put_layer(document, content, stroke.pen);
+    put_clip(document, content, page, stroke);
+    put_colour(document, content, stroke.colour);
+    put_width(document, content, stroke);
 }
 
-// Appends the layer of a stroke.
-fn append_layer(piece: &mut [u8], used: usize, stroke: &Stroke) -> usize
-    requires room { used + LONGEST_LAYER ≤ length piece.old }
-    ensures text { take result piece.new ≡ take used piece.old ++ layer_text stroke.now.pen }
-    ensures most { result ≤ used + LONGEST_LAYER }
-    ensures size { length piece.new ≡ length piece.old }
+// Puts the layer of a pen.
+fn put_layer<K: Sink>(document: &mut Text<'_, K>, content: &mut Content<'_>, pen: u8)
+    requires open { IsOpen K.state document.old content.old }
+    ensures fills { Fills K.state document.old document.new content.old content.new (layer_text pen) }
 {
-    let used = append_count(piece, used, b"/OC /P", u32::from(stroke.pen));
-    append(piece, used, b" BDC\nq\n")
+    content.put(document, b"/OC /P");
+    content.put_number(document, pen);
+    content.put(document, b" BDC\nq\n");
 }
 
-// Appends the window of a stroke, if it is not the whole page.
-fn append_clip(piece: &mut [u8], used: usize, page: &Page, stroke: &Stroke) -> usize
-    requires room { used + LONGEST_WINDOW ≤ length piece.old }
-    ensures text { take result piece.new ≡ take used piece.old ++ clip_text page.now stroke.now.window }
-    ensures most { result ≤ used + LONGEST_WINDOW }
-    ensures size { length piece.new ≡ length piece.old }
+// Puts the window of a stroke, if it is not the whole page.
+fn put_clip<K: Sink>(
+    document: &mut Text<'_, K>,
+    content: &mut Content<'_>,
+    page: &Page,
+    stroke: &Stroke,
+)
+    requires open { IsOpen K.state document.old content.old }
+    ensures fills { Fills K.state document.old document.new content.old content.new (clip_text page.now stroke.now.window) }
 {
-    if is_whole_page(page, stroke.window) {
-        used
-    } else {
-        append_window(piece, used, stroke.window)
+    if !is_whole_page(page, stroke.window) {
+        put_window(document, content, stroke.window);
     }
 }
 
-// Appends a window as what is drawn alone.
-fn append_window(piece: &mut [u8], used: usize, window: Window) -> usize
+// Puts a window as what is drawn alone.
+fn put_window<K: Sink>(document: &mut Text<'_, K>, content: &mut Content<'_>, window: Window)
+    requires open { IsOpen K.state document.old content.old }
     requires x0 { nat_abs window.x0 ≤ 1048576 }
     requires y0 { nat_abs window.y0 ≤ 1048576 }
     requires x1 { nat_abs window.x1 ≤ 1048576 }
     requires y1 { nat_abs window.y1 ≤ 1048576 }
-    requires room { used + LONGEST_WINDOW ≤ length piece.old }
-    ensures text { take result piece.new ≡ take used piece.old ++ window_text window }
-    ensures most { result ≤ used + LONGEST_WINDOW }
-    ensures size { length piece.new ≡ length piece.old }
-{
-    let used = append_corners(piece, used, window);
-    append(piece, used, b"W\nn\n")
-}
-
-// Appends a window as a rectangle.
-fn append_corners(piece: &mut [u8], used: usize, window: Window) -> usize
-    requires x0 { nat_abs window.x0 ≤ 1048576 }
-    requires y0 { nat_abs window.y0 ≤ 1048576 }
-    requires x1 { nat_abs window.x1 ≤ 1048576 }
-    requires y1 { nat_abs window.y1 ≤ 1048576 }
-    requires room { used + LONGEST_RECTANGLE ≤ length piece.old }
-    ensures text { take result piece.new ≡ take used piece.old ++ rectangle_text window }
-    ensures most { result ≤ used + LONGEST_RECTANGLE }
-    ensures size { length piece.new ≡ length piece.old }
+    ensures fills { Fills K.state document.old document.new content.old content.new (window_text window) }
 {
     let width = distance(window.x0, window.x1);
     let height = distance(window.y0, window.y1);
-    append_rectangle(piece, used, window.x0, window.y0, width, height)
+    put_rectangle(document, content, window.x0, window.y0, width, height);
+    content.put(document, b"W\nn\n");
 }
 
-// Appends a rectangle, from its lower left corner.
-fn append_rectangle(piece: &mut [u8], used: usize, x: i32, y: i32, width: i32, height: i32) -> usize
-    requires room { used + LONGEST_RECTANGLE ≤ length piece.old }
-    ensures text { take result piece.new
-        ≡ take used piece.old ++ (place_text x y ++ codes " " ++ place_text width height ++ codes " re\n") }
-    ensures most { result ≤ used + LONGEST_RECTANGLE }
-    ensures size { length piece.new ≡ length piece.old }
+// Puts a rectangle, from its lower left corner.
+fn put_rectangle<K: Sink>(
+    document: &mut Text<'_, K>,
+    content: &mut Content<'_>,
+    x: i32,
+    y: i32,
+    width: i32,
+    height: i32,
+)
+    requires open { IsOpen K.state document.old content.old }
+    ensures fills { Fills K.state document.old document.new content.old content.new
+        (place_text x y ++ codes " " ++ place_text width height ++ codes " re\n") }
 {
-    let used = append_place(piece, used, b"", x, y);
-    let used = append_place(piece, used, b" ", width, height);
-    append(piece, used, b" re\n")
+    put_place(document, content, x, y);
+    content.put(document, b" ");
+    put_place(document, content, width, height);
+    content.put(document, b" re\n");
 }
 
 // How far one place is from another.
@@ -129,60 +97,66 @@ pub(crate) fn distance(from: i32, to: i32) -> i32
     to - from
 }
 
-// Appends the colour of lines.
-fn append_colour(piece: &mut [u8], used: usize, colour: Colour) -> usize
-    requires room { used + LONGEST_COLOUR ≤ length piece.old }
-    ensures text { take result piece.new ≡ take used piece.old ++ colour_text colour }
-    ensures most { result ≤ used + LONGEST_COLOUR }
-    ensures size { length piece.new ≡ length piece.old }
+// Puts the colour of lines.
+fn put_colour<K: Sink>(document: &mut Text<'_, K>, content: &mut Content<'_>, colour: Colour)
+    requires open { IsOpen K.state document.old content.old }
+    ensures fills { Fills K.state document.old document.new content.old content.new (colour_text colour) }
 {
-    let used = append_part(piece, used, b"", colour.red);
-    let used = append_part(piece, used, b" ", colour.green);
-    let used = append_part(piece, used, b" ", colour.blue);
-    append(piece, used, b" RG\n")
+    put_part(document, content, colour.red);
+    content.put(document, b" ");
+    put_part(document, content, colour.green);
+    content.put(document, b" ");
+    put_part(document, content, colour.blue);
+    content.put(document, b" RG\n");
 }
 
-// Appends the width of a stroke, or the least one.
-fn append_width(piece: &mut [u8], used: usize, stroke: &Stroke) -> usize
-    requires room { used + LONGEST_WIDTH ≤ length piece.old }
-    ensures text { take result piece.new ≡ take used piece.old ++ width_text (max LEAST_WIDTH stroke.now.width) }
-    ensures most { result ≤ used + LONGEST_WIDTH }
-    ensures size { length piece.new ≡ length piece.old }
+// Puts the width of a stroke, or the least one.
+fn put_width<K: Sink>(document: &mut Text<'_, K>, content: &mut Content<'_>, stroke: &Stroke)
+    requires open { IsOpen K.state document.old content.old }
+    ensures fills { Fills K.state document.old document.new content.old content.new (width_text (max LEAST_WIDTH stroke.now.width)) }
 {
-    let used = append_count(piece, used, b"", shown_width(stroke));
-    append(piece, used, b" w\n")
+    content.put_number(document, shown_width(stroke));
+    content.put(document, b" w\n");
 }
 
-// Appends a stroke that begins elsewhere than where the last one ended.
-pub(crate) fn append_stroke(piece: &mut [u8], used: usize, stroke: &Stroke) -> usize
-    requires room { used + LONGEST_STROKE ≤ length piece.old }
-    ensures text { take result piece.new ≡ take used piece.old ++ stroke_text stroke.now }
-    ensures most { result ≤ used + LONGEST_STROKE }
-    ensures size { length piece.new ≡ length piece.old }
+// Puts a stroke that begins elsewhere than where the last one ended.
+pub(crate) fn put_stroke<K: Sink>(
+    document: &mut Text<'_, K>,
+    content: &mut Content<'_>,
+    stroke: &Stroke,
+)
+    requires open { IsOpen K.state document.old content.old }
+    ensures fills { Fills K.state document.old document.new content.old content.new (stroke_text stroke.now) }
 {
-    let used = append_place(piece, used, b"", stroke.ax, stroke.ay);
-    let used = append(piece, used, b" m\n");
-    append_line(piece, used, stroke)
+    put_place(document, content, stroke.ax, stroke.ay);
+    content.put(document, b" m\n");
+    put_line(document, content, stroke);
 }
 
-// Appends a stroke that begins where the last one ended.
-pub(crate) fn append_line(piece: &mut [u8], used: usize, stroke: &Stroke) -> usize
-    requires room { used + LONGEST_PLACE + 3 ≤ length piece.old }
-    ensures text { take result piece.new ≡ take used piece.old ++ line_text stroke.now }
-    ensures most { result ≤ used + LONGEST_PLACE + 3 }
-    ensures size { length piece.new ≡ length piece.old }
+// Puts a stroke that begins where the last one ended.
+pub(crate) fn put_line<K: Sink>(
+    document: &mut Text<'_, K>,
+    content: &mut Content<'_>,
+    stroke: &Stroke,
+)
+    requires open { IsOpen K.state document.old content.old }
+    ensures fills { Fills K.state document.old document.new content.old content.new (line_text stroke.now) }
 {
-    let used = append_place(piece, used, b"", stroke.bx, stroke.by);
-    append(piece, used, b" l\n")
+    put_place(document, content, stroke.bx, stroke.by);
+    content.put(document, b" l\n");
 }
 
-// Appends some text and a place.
-pub(crate) fn append_place(piece: &mut [u8], used: usize, text: &[u8], x: i32, y: i32) -> usize
-    requires room { used + length text.now + LONGEST_PLACE ≤ length piece.old }
-    ensures text { take result piece.new ≡ take used piece.old ++ text.now ++ place_text x y }
-    ensures most { result ≤ used + length text.now + LONGEST_PLACE }
-    ensures size { length piece.new ≡ length piece.old }
+// Puts a place.
+pub(crate) fn put_place<K: Sink>(
+    document: &mut Text<'_, K>,
+    content: &mut Content<'_>,
+    x: i32,
+    y: i32,
+)
+    requires open { IsOpen K.state document.old content.old }
+    ensures fills { Fills K.state document.old document.new content.old content.new (place_text x y) }
 {
-    let used = append_signed(piece, used, text, x);
-    append_signed(piece, used, b" ", y)
+    content.put_number(document, x);
+    content.put(document, b" ");
+    content.put_number(document, y);
 }

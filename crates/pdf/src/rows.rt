@@ -9,25 +9,25 @@ use crate::letters::row_of;
 use crate::pens::append_if;
 use labels::{Label, Line};
 use plot_page::{PenSet, Stroke};
-use stroke_runs::is_shown;
+use stroke_runs::{SheetView, is_shown};
 
 /// How many rows there are.
 pub(crate) const ROWS: usize = 256;
 
-// Lists the rows of labels that are shown, by their numbers, and returns how many they are. There are `before` strokes
-// before these.
-pub(crate) fn list_rows(
-    pens: &PenSet,
-    strokes: &[Stroke],
-    labels: &[Label],
-    before: usize,
-    list: &mut [u8; ROWS],
-) -> usize
-    ensures list { take result list.new ≡ rows_shown pens.now strokes.now (all_counted before labels.now) }
+// Lists the rows of labels that are shown, by their numbers, and returns how many they are.
+pub(crate) fn list_rows(view: &SheetView<'_>, list: &mut [u8; ROWS]) -> usize
+    ensures list { take result list.new
+        ≡ rows_shown view.now.pens.now view.now.strokes.now (all_counted view.now.before view.now.labels.now) }
     ensures few { result ≤ ROWS }
 {
     let mut marked = [false; ROWS];
-    mark_labels(&mut marked, pens, strokes, labels, before);
+    mark_labels(
+        &mut marked,
+        view.pens,
+        view.strokes,
+        view.labels,
+        view.before,
+    );
     list_marked(&marked, list)
 }
 

@@ -1,86 +1,81 @@
 //! What is written for each stroke, one at a time.
-ghost use Rattle.std.specs.Prelude.{◌≡◌, ◌+◌, ◌≤◌, ◌++◌, length, take};
+ghost use Rattle.std.specs.Prelude.{◌≡◌, ◌++◌};
+ghost use Rattle.pdf.specs.Contained.{Fills, IsOpen};
 ghost use Rattle.pdf.specs.RunTexts.{start_text, stroke_text};
 ghost use Rattle.pdf.specs.Steps.{after_step, link_text, open_end, step_text};
 ghost use Rattle.stroke_runs.specs.Links.{link_of, runs_after};
 
-use crate::paths::{LONGEST_START, LONGEST_STROKE, append_line, append_start, append_stroke};
-use devices::append;
+use crate::content::Content;
+use crate::paths::{put_line, put_start, put_stroke};
+use devices::Sink;
+use pieces::Text;
 use plot_page::{Page, PenSet, Stroke};
 use stroke_runs::{Link, Runs, is_drawn};
 
-/// The longest text of a stroke: the end of a run, the start of another one, and a stroke.
-pub(crate) const LONGEST_STEP: usize = LONGEST_END + LONGEST_START + LONGEST_STROKE;
-
-/// The end of a run.
-const LONGEST_END: usize = 8;
-
-// Appends what is written for a stroke, if it is drawn.
-pub(crate) fn append_step(
-    piece: &mut [u8],
-    used: usize,
+// Puts what is written for a stroke, if it is drawn.
+pub(crate) fn put_step<K: Sink>(
+    document: &mut Text<'_, K>,
+    content: &mut Content<'_>,
     page: &Page,
     pens: &PenSet,
     runs: &mut Runs,
     stroke: &Stroke,
-) -> usize
-    requires room { used + LONGEST_STEP ≤ length piece.old }
-    ensures text { take result piece.new ≡ take used piece.old ++ step_text page.now pens.now runs.old stroke.now }
-    ensures most { result ≤ used + LONGEST_STEP }
-    ensures size { length piece.new ≡ length piece.old }
+)
+    requires open { IsOpen K.state document.old content.old }
+    ensures fills { Fills K.state document.old document.new content.old content.new (step_text page.now pens.now runs.old stroke.now) }
     ensures after { runs.new ≡ after_step pens.now runs.old stroke.now }
 {
     if !is_drawn(pens, stroke) {
-        return used;
+        return;
     }
-    append_drawn(piece, used, page, runs, stroke)
+    put_drawn(document, content, page, runs, stroke);
 }
 
-// Appends what is written for a stroke that is drawn.
-fn append_drawn(
-    piece: &mut [u8],
-    used: usize,
+// Puts what is written for a stroke that is drawn.
+fn put_drawn<K: Sink>(
+    document: &mut Text<'_, K>,
+    content: &mut Content<'_>,
     page: &Page,
     runs: &mut Runs,
     stroke: &Stroke,
-) -> usize
-    requires room { used + LONGEST_STEP ≤ length piece.old }
-    ensures text { take result piece.new
-        ≡ take used piece.old ++ link_text page.now runs.old (link_of runs.old stroke.now) stroke.now }
-    ensures most { result ≤ used + LONGEST_STEP }
-    ensures size { length piece.new ≡ length piece.old }
+)
+    requires open { IsOpen K.state document.old content.old }
+    ensures fills { Fills K.state document.old document.new content.old content.new
+        (link_text page.now runs.old (link_of runs.old stroke.now) stroke.now) }
     ensures after { runs.new ≡ runs_after runs.old stroke.now }
 {
     let before = *runs;
     match runs.next(stroke) {
-        Link::Begins => append_begun(piece, used, page, &before, stroke),
-        Link::Apart => append_stroke(piece, used, stroke),
-        Link::Joined => append_line(piece, used, stroke),
+        Link::Begins => {
+            put_end(document, content, &before);
+            put_begun(document, content, page, stroke);
+        }
+        Link::Apart => put_stroke(document, content, stroke),
+        Link::Joined => put_line(document, content, stroke),
     }
 }
 
-// Appends the end of the run before this stroke, if there is one, and the stroke in a run of its own.
-fn append_begun(piece: &mut [u8], used: usize, page: &Page, before: &Runs, stroke: &Stroke) -> usize
-    requires room { used + LONGEST_STEP ≤ length piece.old }
-    ensures text { take result piece.new
-        ≡ take used piece.old ++ (open_end before.now ++ start_text page.now stroke.now ++ stroke_text stroke.now) }
-    ensures most { result ≤ used + LONGEST_STEP }
-    ensures size { length piece.new ≡ length piece.old }
+// Puts a stroke that begins a run.
+fn put_begun<K: Sink>(
+    document: &mut Text<'_, K>,
+    content: &mut Content<'_>,
+    page: &Page,
+    stroke: &Stroke,
+)
+    requires open { IsOpen K.state document.old content.old }
+    ensures fills { Fills K.state document.old document.new content.old content.new (start_text page.now stroke.now ++ stroke_text stroke.now) }
 {
-    let used = append_end(piece, used, before);
-    let used = append_start(piece, used, page, stroke);
-    append_stroke(piece, used, stroke)
+    put_start(document, content, page, stroke);
+    put_stroke(document, content, stroke);
 }
 
-// Appends the end of the run that has begun, if there is one.
-pub(crate) fn append_end(piece: &mut [u8], used: usize, runs: &Runs) -> usize
-    requires { used + LONGEST_END ≤ length piece.old }
-    ensures text { take result piece.new ≡ take used piece.old ++ open_end runs.now }
-    ensures most { result ≤ used + LONGEST_END }
-    ensures size { length piece.new ≡ length piece.old }
+// Puts the end of the run that has begun, if there is one.
+pub(crate) fn put_end<K: Sink>(document: &mut Text<'_, K>, content: &mut Content<'_>, runs: &Runs)
+    requires open { IsOpen K.state document.old content.old }
+    ensures fills { Fills K.state document.old document.new content.old content.new (open_end runs.now) }
 {
     if !runs.has_begun() {
-        return used;
+        return;
     }
-    append(piece, used, b"S\nQ\nEMC\n")
+    content.put(document, b"S\nQ\nEMC\n");
 }

@@ -1,65 +1,50 @@
 //! Texts of labels: invisible letters over those of the strokes, which a reader finds.
-ghost use Rattle.std.specs.Prelude.{◌≡◌, ◌+◌, ◌-◌, ◌*◌, ◌^◌, ◌<◌, ◌≤◌, ◌++◌, [], ◌∷◌, length, IfOk, None};
+ghost use Rattle.std.specs.Prelude.{◌≡◌, ◌≤◌, [], ◌∷◌, length, None};
 ghost use Rattle.std.specs.List.{list_any};
-ghost use Rattle.deflate.specs.declared.sizes.TheConstants.{SIZE};
 ghost use Rattle.labels.specs.Sheets.{all_counted, counted};
+ghost use Rattle.pdf.specs.Contained.{Fills, IsOpen};
 ghost use Rattle.pdf.specs.Contents.{labels_operators, lines_operators, text_operators, texts_operators};
 ghost use Rattle.pdf.specs.Operators.{operators_text};
 ghost use Rattle.pdf.specs.TextSteps.{letters_text};
 ghost use Rattle.pdf.specs.Texts.{has_letters, has_text, letter_count, line_letters};
-ghost use Rattle.pdf.specs.Writings.{Continues};
+ghost use Rattle.pdf.specs.declared.counts.TheConstants.{MOST_LETTERS};
 ghost use Rattle.stroke_runs.specs.Shown.{is_shown};
 
-use crate::counts::MOST_LETTERS;
-use crate::letters::{LONGEST_LETTER, append_end, append_letter, row_of};
-use crate::matrices::{LONGEST_MATRIX, append_matrix};
-use crate::stream::encode;
-use deflate::TextEncoder;
-use devices::{Sink, WriteFault};
+use crate::content::Content;
+use crate::letters::{put_end, put_letter, row_of};
+use crate::matrices::put_matrix;
+use crate::sheet::Sheet;
+use devices::Sink;
 use labels::{Label, Line};
-use plot_page::{PenSet, Stroke};
+use pieces::Text;
 use stroke_runs::is_shown;
 
-// Encodes the texts of the labels of a sheet that are shown, if there is one.
+// Puts the texts of the labels of a sheet that are shown, if there is one.
 pub(crate) fn put_texts<K: Sink>(
-    sink: &mut K,
-    done: u64,
-    encoder: &mut TextEncoder,
-    pens: &PenSet,
-    strokes: &[Stroke],
-    labels: &[Label],
-    earlier: usize,
-    from: usize,
-) -> Result<u64, WriteFault>
-    requires sound { (K.state sink.old).faults < 2 ^ 64 - 1 }
-    requires letters { letter_count labels.now ≤ MOST_LETTERS }
-    requires count { done ≤ 2 ^ 62 }
-    ensures continues { Continues (K.state sink.old) (K.state sink.new) done encoder.old encoder.new
-        (operators_text (texts_operators pens.now strokes.now (all_counted from (all_counted earlier labels.now))))
-        result }
-    ensures near { IfOk result (λ now. now ≤ done + SIZE * (3 * letter_count labels.now + 2)) }
+    document: &mut Text<'_, K>,
+    content: &mut Content<'_>,
+    sheet: &Sheet<'_>,
+)
+    requires open { IsOpen K.state document.old content.old }
+    requires letters { letter_count sheet.now.labels.now ≤ MOST_LETTERS }
+    ensures fills { Fills K.state document.old document.new content.old content.new (operators_text (texts_operators sheet.now.pens.now
+        sheet.now.strokes.now (all_counted sheet.now.from (all_counted sheet.now.earlier sheet.now.labels.now)))) }
 {
-    if !has_texts(pens, strokes, labels, earlier, from) {
-        return Ok(done);
+    if !has_texts(sheet) {
+        return;
     }
-    let now = encode(sink, done, encoder, b"BT\n3 Tr\n")?;
-    let now = put_labels(sink, now, encoder, pens, strokes, labels, earlier, from)?;
-    encode(sink, now, encoder, b"ET\n")
+    content.put(document, b"BT\n3 Tr\n");
+    put_labels(document, content, sheet);
+    content.put(document, b"ET\n");
 }
 
 // Whether a label is shown that has a letter.
-fn has_texts(
-    pens: &PenSet,
-    strokes: &[Stroke],
-    labels: &[Label],
-    earlier: usize,
-    from: usize,
-) -> bool
-    ensures { result
-        ≡ list_any (has_text pens.now strokes.now) (all_counted from (all_counted earlier labels.now)) }
+fn has_texts(sheet: &Sheet<'_>) -> bool
+    ensures { result ≡ list_any (has_text sheet.now.pens.now sheet.now.strokes.now)
+        (all_counted sheet.now.from (all_counted sheet.now.earlier sheet.now.labels.now)) }
 {
-    for label in labels {
-        if has_text(pens, strokes, label, earlier, from) {
+    for label in sheet.labels {
+        if has_text(sheet, label) {
             return true;
         }
     }
@@ -67,20 +52,23 @@ fn has_texts(
 }
 
 // Whether a label is shown, and has a letter.
-fn has_text(pens: &PenSet, strokes: &[Stroke], label: &Label, earlier: usize, from: usize) -> bool
-    ensures { result ≡ has_text pens.now strokes.now (counted from (counted earlier label.now)) }
+fn has_text(sheet: &Sheet<'_>, label: &Label) -> bool
+    ensures { result ≡ has_text sheet.now.pens.now sheet.now.strokes.now
+        (counted sheet.now.from (counted sheet.now.earlier label.now)) }
 {
-    is_on(pens, strokes, label, earlier, from) && have_letters(&label.lines)
+    is_on(sheet, label) && have_letters(&label.lines)
 }
 
-// Whether a label is shown on a sheet, before which there are `from` strokes after `earlier` ones.
-fn is_on(pens: &PenSet, strokes: &[Stroke], label: &Label, earlier: usize, from: usize) -> bool
-    ensures { result ≡ is_shown pens.now strokes.now (counted from (counted earlier label.now)) }
+// Whether a label is shown on a sheet.
+fn is_on(sheet: &Sheet<'_>, label: &Label) -> bool
+    ensures { result ≡ is_shown sheet.now.pens.now sheet.now.strokes.now
+        (counted sheet.now.from (counted sheet.now.earlier label.now)) }
 {
     // once they are read, the prover knows their range
     let _first = label.first;
     let _after = label.after;
-    is_shown(pens, strokes, earlier.saturating_add(from), label)
+    let before = sheet.earlier.saturating_add(sheet.from);
+    is_shown(sheet.pens, sheet.strokes, before, label)
 }
 
 // Whether one of these lines has a letter.
@@ -95,123 +83,69 @@ fn have_letters(lines: &[Line]) -> bool
     false
 }
 
-// Encodes the labels that are shown.
-fn put_labels<K: Sink>(
-    sink: &mut K,
-    done: u64,
-    encoder: &mut TextEncoder,
-    pens: &PenSet,
-    strokes: &[Stroke],
-    labels: &[Label],
-    earlier: usize,
-    from: usize,
-) -> Result<u64, WriteFault>
-    requires sound { (K.state sink.old).faults < 2 ^ 64 - 1 }
-    requires letters { letter_count labels.now ≤ MOST_LETTERS }
-    requires count { done ≤ 2 ^ 62 + SIZE }
-    ensures continues { Continues (K.state sink.old) (K.state sink.new) done encoder.old encoder.new
-        (operators_text (labels_operators pens.now strokes.now (all_counted from (all_counted earlier labels.now))))
-        result }
-    ensures near { IfOk result (λ now. now ≤ done + SIZE * (3 * letter_count labels.now)) }
+// Puts the labels that are shown.
+fn put_labels<K: Sink>(document: &mut Text<'_, K>, content: &mut Content<'_>, sheet: &Sheet<'_>)
+    requires open { IsOpen K.state document.old content.old }
+    requires letters { letter_count sheet.now.labels.now ≤ MOST_LETTERS }
+    ensures fills { Fills K.state document.old document.new content.old content.new (operators_text (labels_operators sheet.now.pens.now
+        sheet.now.strokes.now (all_counted sheet.now.from (all_counted sheet.now.earlier sheet.now.labels.now)))) }
 {
-    let mut now = done;
-    for label in labels {
-        now = put_label(sink, now, encoder, pens, strokes, label, earlier, from)?;
+    for label in sheet.labels {
+        put_label(document, content, sheet, label);
     }
-    Ok(now)
 }
 
-// Encodes the lines of a label, if it is shown.
+// Puts the lines of a label, if it is shown.
 fn put_label<K: Sink>(
-    sink: &mut K,
-    done: u64,
-    encoder: &mut TextEncoder,
-    pens: &PenSet,
-    strokes: &[Stroke],
+    document: &mut Text<'_, K>,
+    content: &mut Content<'_>,
+    sheet: &Sheet<'_>,
     label: &Label,
-    earlier: usize,
-    from: usize,
-) -> Result<u64, WriteFault>
-    requires sound { (K.state sink.old).faults < 2 ^ 64 - 1 }
+)
+    requires open { IsOpen K.state document.old content.old }
     requires letters { line_letters label.now.lines ≤ MOST_LETTERS }
-    requires count { done ≤ 2 ^ 62 + 2 ^ 42 }
-    ensures continues { Continues (K.state sink.old) (K.state sink.new) done encoder.old encoder.new
-        (operators_text (labels_operators pens.now strokes.now (counted from (counted earlier label.now) ∷ [])))
-        result }
-    ensures near { IfOk result (λ now. now ≤ done + SIZE * (3 * line_letters label.now.lines)) }
+    ensures fills { Fills K.state document.old document.new content.old content.new (operators_text (labels_operators sheet.now.pens.now
+        sheet.now.strokes.now (counted sheet.now.from (counted sheet.now.earlier label.now) ∷ []))) }
 {
-    if !is_on(pens, strokes, label, earlier, from) {
-        return Ok(done);
+    if !is_on(sheet, label) {
+        return;
     }
-    put_lines(sink, done, encoder, &label.lines)
+    put_lines(document, content, &label.lines);
 }
 
-// Encodes lines.
-fn put_lines<K: Sink>(
-    sink: &mut K,
-    done: u64,
-    encoder: &mut TextEncoder,
-    lines: &[Line],
-) -> Result<u64, WriteFault>
-    requires sound { (K.state sink.old).faults < 2 ^ 64 - 1 }
+// Puts lines.
+fn put_lines<K: Sink>(document: &mut Text<'_, K>, content: &mut Content<'_>, lines: &[Line])
+    requires open { IsOpen K.state document.old content.old }
     requires letters { line_letters lines.now ≤ MOST_LETTERS }
-    requires count { done ≤ 2 ^ 62 + 2 ^ 42 }
-    ensures continues { Continues (K.state sink.old) (K.state sink.new) done encoder.old encoder.new
-        (operators_text (lines_operators lines.now)) result }
-    ensures near { IfOk result (λ now. now ≤ done + SIZE * (3 * line_letters lines.now)) }
+    ensures fills { Fills K.state document.old document.new content.old content.new (operators_text (lines_operators lines.now)) }
 {
-    let mut now = done;
     for line in lines {
-        now = put_line(sink, now, encoder, line)?;
+        put_line(document, content, line);
     }
-    Ok(now)
 }
 
-// Encodes a line, if it has a letter.
-fn put_line<K: Sink>(
-    sink: &mut K,
-    done: u64,
-    encoder: &mut TextEncoder,
-    line: &Line,
-) -> Result<u64, WriteFault>
-    requires sound { (K.state sink.old).faults < 2 ^ 64 - 1 }
+// Puts a line, if it has a letter.
+fn put_line<K: Sink>(document: &mut Text<'_, K>, content: &mut Content<'_>, line: &Line)
+    requires open { IsOpen K.state document.old content.old }
     requires letters { length line.now.text ≤ MOST_LETTERS }
-    requires count { done ≤ 2 ^ 62 + 2 ^ 43 }
-    ensures continues { Continues (K.state sink.old) (K.state sink.new) done encoder.old encoder.new
-        (operators_text (text_operators line.now)) result }
-    ensures near { IfOk result (λ now. now ≤ done + SIZE * (3 * length line.now.text)) }
+    ensures fills { Fills K.state document.old document.new content.old content.new (operators_text (text_operators line.now)) }
 {
     if line.text.is_empty() {
-        return Ok(done);
+        return;
     }
-    let mut piece = [0; LONGEST_MATRIX];
-    let used = append_matrix(&mut piece, line);
-    let now = encode(sink, done, encoder, &piece[..used])?;
-    put_letters(sink, now, encoder, &line.text)
+    put_matrix(document, content, line);
+    put_letters(document, content, &line.text);
 }
 
-// Encodes letters.
-fn put_letters<K: Sink>(
-    sink: &mut K,
-    done: u64,
-    encoder: &mut TextEncoder,
-    text: &[u32],
-) -> Result<u64, WriteFault>
-    requires sound { (K.state sink.old).faults < 2 ^ 64 - 1 }
-    requires letters { length text.now ≤ MOST_LETTERS }
-    requires count { done ≤ 2 ^ 62 + 2 ^ 44 }
-    ensures continues { Continues (K.state sink.old) (K.state sink.new) done encoder.old encoder.new
-        (letters_text None text.now) result }
-    ensures near { IfOk result (λ now. now ≤ done + SIZE * (length text.now + 1)) }
+// Puts letters.
+fn put_letters<K: Sink>(document: &mut Text<'_, K>, content: &mut Content<'_>, text: &[u32])
+    requires open { IsOpen K.state document.old content.old }
+    ensures fills { Fills K.state document.old document.new content.old content.new (letters_text None text.now) }
 {
-    let mut piece = [0; LONGEST_LETTER];
     let mut row = None;
-    let mut now = done;
     for point in text {
-        let used = append_letter(&mut piece, row, *point);
-        now = encode(sink, now, encoder, &piece[..used])?;
+        put_letter(document, content, row, *point);
         row = Some(row_of(*point));
     }
-    let used = append_end(&mut piece, row);
-    encode(sink, now, encoder, &piece[..used])
+    put_end(document, content, row);
 }

@@ -1,9 +1,5 @@
 //! What the tests draw. No contract here promises anything, so that no proof of a test reads what is proved of the
 //! document.
-ghost use Rattle.std.specs.Prelude.{◌≤◌, length};
-ghost use Rattle.std.specs.Str.{chars};
-ghost use Rattle.pdf.specs.declared.title.TheConstants.{MOST_CHARACTERS};
-
 use deflate::TextEncoder;
 use devices::Sink;
 use labels::Label;
@@ -11,6 +7,7 @@ use pdf::{has_few_letters, room_for, write_pdf};
 use plot_page::{Colour, MOST_STROKES, Page, PenSet, Stroke, Window};
 use std::alloc::Global;
 use std::test::Fail;
+use stroke_runs::SheetView;
 
 /// How a stroke is drawn.
 #[derive(Clone, Copy)]
@@ -66,11 +63,9 @@ pub fn write_titled<K: Sink>(
     labels: &[Label],
     before: usize,
     sink: &mut K,
-) -> Result<u64, Fail>
-    requires { length (chars title.now) ≤ MOST_CHARACTERS }
-{
-    if strokes.len() > MOST_STROKES || ends.len() > MOST_STROKES || sink.failures() > 0 {
-        return Err("too many strokes or sheets".into());
+) -> Result<u64, Fail> {
+    if ends.len() > MOST_STROKES || sink.failures() > 0 {
+        return Err("too many sheets".into());
     }
     if !has_few_letters(labels) {
         return Err("too many letters".into());
@@ -82,9 +77,14 @@ pub fn write_titled<K: Sink>(
     }
     let mut offsets = vec![in alloc; 0u64; room_for(ends.len())]?;
     let offsets = offsets.as_mut_slice();
-    match write_pdf(
-        "0.2.0", title, &page, &pens, strokes, ends, labels, before, offsets, encoder, sink,
-    ) {
+    let view = SheetView {
+        page: &page,
+        pens: &pens,
+        strokes,
+        labels,
+        before,
+    };
+    match write_pdf("0.2.0", title, &view, ends, offsets, encoder, sink) {
         Ok(bytes) => Ok(bytes),
         Err(fault) => Ok(fault.bytes()),
     }

@@ -8,8 +8,9 @@ use Rattle.pdf.proofs.rows.list_rows.Goals as goal
 
 pub returns-clause-list : goal.returns-clause-list
 returns-clause-list c =
-    let labels = all_counted c.args.before c.args.labels.now in
-    let shown : ℕ → Bool = λ row. list_any (shows_row c.args.pens.now c.args.strokes.now row) labels in
+    let view = c.args.view.now in
+    let labels = all_counted view.before view.labels.now in
+    let shown : ℕ → Bool = λ row. list_any (shows_row view.pens.now view.strokes.now row) labels in
     c.list_marked.ensures.list
     ∙ filter_below (is_marked c.mark_labels.new.marked) shown 256 0 256
     (λ row lt. c.mark_labels.ensures row lt ∙ ap (λ (b : Bool). b || shown row) (get_or-replicate 256 row false false lt)) (omega arith)

@@ -1,11 +1,8 @@
-use Rattle.std.proofs.Common.{◌+◌, ◌*◌, ◌≤◌, take}
+use Rattle.std.proofs.Common.{drop}
 use Rattle.pdf.specs.Objects.{entries_text}
-use Rattle.pdf.specs.Writings.{HasPut}
+use Rattle.pieces.proofs.Texts.{Left}
 use Rattle.pdf.proofs.table.put_entries.Given as goal
 
--- the lines so far
+-- the lines that are left
 abbrev pub invariant-loop-offset : goal.invariant-loop-offset
-invariant-loop-offset g l = record {
-  put : HasPut (g.K.Sink.state l.fn.sink) (g.K.Sink.state l.sink) l.done l.now (entries_text (take l.offset-index l.offsets));
-  near : l.now ≤ l.done + 20 * l.offset-index;
-}
+invariant-loop-offset g l = Left g.K.Sink.state l.fn.text l.text (entries_text (drop l.offset-index l.offsets)) (entries_text l.offsets)

@@ -8,8 +8,9 @@ use Rattle.pdf.proofs.texts.has_texts.Goals as goal
 
 pub returns-then-has_text : goal.returns-then-has_text
 returns-then-has_text c =
-    let test = has_text c.args.pens.now c.args.strokes.now in
-    let here : LabelShape → Bool = λ l. test (counted c.args.from (counted c.args.earlier l)) in
-    sym (any_counted test c.args.from c.args.earlier c.args.labels.now
-    ∙ list_any_at here c.args.labels.now c.loop-label.label-index c.label-item.result c.loop-label-test.true
+    let sheet = c.args.sheet.now in
+    let test = has_text sheet.pens.now sheet.strokes.now in
+    let here : LabelShape → Bool = λ l. test (counted sheet.from (counted sheet.earlier l)) in
+    sym (any_counted test sheet.from sheet.earlier sheet.labels.now
+    ∙ list_any_at here sheet.labels.now c.loop-label.label-index c.label-item.result c.loop-label-test.true
     (ap here (sym c.label-item.is) ∙ sym (c.if-has_text.ensures {u = tt})))

@@ -5,4 +5,6 @@ use Rattle.pdf.specs.Texts.{has_text}
 use Rattle.pdf.proofs.texts.has_texts.Given as goal
 
 abbrev pub invariant-loop-label : goal.invariant-loop-label
-invariant-loop-label l = list_any (has_text l.pens l.strokes) (all_counted l.from (all_counted l.earlier (take l.label-index l.labels))) ≡ false
+invariant-loop-label l =
+    let sheet = l.fn.sheet in
+    list_any (has_text sheet.pens.now sheet.strokes.now) (all_counted sheet.from (all_counted sheet.earlier (take l.label-index sheet.labels.now))) ≡ false

@@ -1,0 +1,8 @@
+use Rattle.pieces.proofs.Texts.{◌then◌}
+use Rattle.pdf.proofs.AddedObjects.{object_added}
+use Rattle.pdf.proofs.fonts.put_encoding.Goals as goal
+
+pub returns : goal.returns
+returns g c =
+    let begin = c.begin_object.ensures in
+    record { adds = object_added begin.puts begin.noted begin.size (c.put.ensures.puts then c.put_glyphs.ensures.puts then c.put-2.ensures.puts) c.end_object.ensures.puts }

@@ -1,0 +1,23 @@
+use Rattle.std.proofs.Common.{◌≡◌, ◌+◌, ℕ, ap, arith, drop, get_or}
+use Rattle.std.proofs.lemmas.List.{drop_all}
+use Rattle.pieces.proofs.Texts.{all_left, all_put, next_put}
+use Rattle.pdf.specs.Documents.{properties_text}
+use Rattle.pdf.proofs.Lists.{next_at, properties_next}
+use Rattle.pdf.proofs.layers.put_properties.Goals as goal
+
+pub loop-index-init : goal.loop-index-init
+loop-index-init g c =
+    let same : c.args.number + 0 ≡ c.args.number = omega arith in
+    all_left c.requires.sound (ap (λ (k : ℕ). properties_text k c.args.pens.now) same)
+
+pub loop-index-preserved : goal.loop-index-preserved
+loop-index-preserved g c =
+    let l = c.loop-index in
+    let xs = c.args.pens.now in
+    next_put l.invariant c.put_property.ensures.puts
+    (properties_next (c.args.number + l.index) (c.args.number + (l.index + 1)) (drop l.index xs) (drop (l.index + 1) xs) (get_or xs l.index 0) (next_at xs l.index c.loop-index-test.true) (omega arith))
+
+pub returns : goal.returns
+returns g c =
+    let l = c.loop-index in
+    record { puts = all_put l.invariant (ap (λ xs. properties_text (c.args.number + l.index) xs) (drop_all l.index c.args.pens.now c.loop-index-test.false)) }

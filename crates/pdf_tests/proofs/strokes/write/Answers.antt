@@ -1,7 +1,0 @@
-use Rattle.std.proofs.Common.{arith}
-use Rattle.std.specs.Str.{chars}
-use Rattle.pdf_tests.proofs.strokes.write.Goals as goal
-
-pub write_titled-requires : goal.write_titled-requires
-unfolding chars
-write_titled-requires c = omega arith
