@@ -1,5 +1,5 @@
 -- The bytes of small documents.
-use Rattle.std.proofs.Common.{◌≡◌, ℕ, ℤ, pos, negsuc, [], ◌∷◌, ◌++◌, codes, length, refl, replicate, true, arith}
+use Rattle.std.proofs.Common.{◌≡◌, ◌^◌, ℕ, ℤ, pos, negsuc, List, [], ◌∷◌, ◌++◌, codes, length, map, refl, replicate, true, arith}
 use Rattle.std.specs.Fmt.{digits}
 use Rattle.plot_page.specs.Segments.{Segment}
 use Rattle.plot_page.specs.declared.colour.Colour.{Colour}
@@ -14,6 +14,10 @@ use Rattle.pdf.specs.Numbers.{part, points, rounded, signed_thousandths, utf_16_
 use Rattle.pdf.specs.TextReadings.{placed, texts_of}
 use Rattle.pdf.specs.Texts.{above, along, pieces}
 use Rattle.pdf.specs.Objects.{entry_text, objects_text, offsets_of}
+
+-- worked examples of a definition: what it is given, and what it says
+abbrev Table : {X Y : Type 0} → (X → Y) → List (X × Y) → Type 0
+Table f rows = map (λ it. f it.0) rows ≡ map (λ it. it.1) rows
 
 -- one inch by two
 abbrev page : Page
@@ -61,47 +65,53 @@ clipped = stroke 2 orange 0 corner (pos 0) (pos 0) (pos 16256) (pos 32512)
 abbrev all_pens : PenSet
 all_pens = record { chosen = replicate 256 true }
 
-a4_width : points 11880 ≡ codes "841.89"
+-- lengths in points
+lengths : Table points (
+    (11880, codes "841.89")  -- height of A4
+    ∷ (1016, codes "72")  -- an inch
+    ∷ []
+    )
 unfolding digits
-a4_width = refl
+lengths = refl
 
-an_inch : points 1016 ≡ codes "72"
+-- parts of a colour
+parts : Table part (
+    (0, codes "0")  -- none
+    ∷ (128, codes "0.502")  -- half
+    ∷ (255, codes "1")  -- all
+    ∷ []
+    )
 unfolding digits
-an_inch = refl
-
-no_colour : part 0 ≡ codes "0"
-unfolding digits
-no_colour = refl
-
-half_a_colour : part 128 ≡ codes "0.502"
-unfolding digits
-half_a_colour = refl
-
-all_of_a_colour : part 255 ≡ codes "1"
-unfolding digits
-all_of_a_colour = refl
+parts = refl
 
 a_colour : colour_text orange ≡ codes "1 0.533 0.004 RG\n"
 unfolding digits
 a_colour = refl
 
-an_entry : entry_text 12034 ≡ codes "0000012034 00000 n \n"
-an_entry = refl
+-- lines of the table
+entries : Table entry_text (
+    (12034, codes "0000012034 00000 n \n")  -- zeros before a number
+    ∷ (98765432109, codes "8765432109 00000 n \n")  -- the last ten digits
+    ∷ (2 ^ 64, codes "3709551615 00000 n \n")  -- counts stop at 2^64 - 1
+    ∷ []
+    )
+entries = refl
 
 -- y grows upward
 a_stroke : operators_text (stroke_operators up) ≡ codes "16256 448 m\n16256 -1 l\n"
 unfolding digits
 a_stroke = refl
 
--- two strokes that follow one another, and a dot
-one_path : operators_text (runs_operators page ((across ∷ up ∷ dot ∷ []) ∷ [])) ≡ codes "/OC /P1 BDC\nq\n0 0 0 RG\n56 w\n0 448 m\n16256 448 l\n16256 -1 l\n16 32 m\n16 32 l\nS\nQ\nEMC\n"
+-- a path
+paths : Table (λ (run : List Segment). operators_text (runs_operators page (run ∷ []))) (
+    -- two strokes that follow one another, and a dot
+    (across ∷ up ∷ dot ∷ [], codes "/OC /P1 BDC\nq\n0 0 0 RG\n56 w\n0 448 m\n16256 448 l\n16256 -1 l\n16 32 m\n16 32 l\nS\nQ\nEMC\n")
+    -- in a window; the width is at least 24 grains
+    ∷ (clipped ∷ [], codes "/OC /P2 BDC\nq\n160 320 7840 8680 re\nW\nn\n1 0.533 0.004 RG\n24 w\n0 0 m\n16256 32512 l\nS\nQ\nEMC\n")
+    ∷ []
+    )
 unfolding digits
-one_path = refl
-
--- the width is at least 24 grains
-in_a_window : operators_text (runs_operators page ((clipped ∷ []) ∷ [])) ≡ codes "/OC /P2 BDC\nq\n160 320 7840 8680 re\nW\nn\n1 0.533 0.004 RG\n24 w\n0 0 m\n16256 32512 l\nS\nQ\nEMC\n"
-unfolding digits
-in_a_window = refl
+paths = refl
 
 empty_content : content_text page all_pens [] [] ≡ codes "0.004429133858 0 0 0.004429133858 0 0 cm\n1 J\n1 j\n"
 empty_content = refl
@@ -129,29 +139,27 @@ no_pages = refl
 a_title : utf_16_text (65 ∷ 228 ∷ 128516 ∷ []) ≡ codes "004100e4d83dde04"
 a_title = refl
 
--- half away from zero
-half_up : rounded 1 (pos 5) 2 ≡ pos 3
-half_up = refl
-
-half_down : rounded 1 (negsuc 4) 2 ≡ negsuc 2
-half_down = refl
-
-nearly_half : rounded 2 (negsuc 1) 3 ≡ negsuc 0
-nearly_half = refl
-
-rounds_to_zero : rounded 1 (negsuc 0) 3 ≡ pos 0
-rounds_to_zero = refl
+-- so many times a number of parts
+roundings : Table (λ (it : ℕ × ℤ × ℕ). rounded it.0 it.1 it.2) (
+    ((1, pos 5, 2), pos 3)  -- half away from zero
+    ∷ ((1, negsuc 4, 2), negsuc 2)  -- the same below zero
+    ∷ ((2, negsuc 1, 3), negsuc 0)  -- nearly a half
+    ∷ ((1, negsuc 0, 3), pos 0)  -- to zero
+    ∷ []
+    )
+roundings = refl
 
 below_zero : signed_thousandths (negsuc 1499) ≡ codes "-1.5"
 unfolding digits
 below_zero = refl
 
--- 16 letters, and one
-across_letters : along (pos 100) (pos 10084) 16 ≡ pos 1040000
-across_letters = refl
-
-backward_letter : along (pos 100) (pos 0) 1 ≡ negsuc 166666
-backward_letter = refl
+-- how wide letters are
+widths : Table (λ (it : ℤ × ℤ × ℕ). along it.0 it.1 it.2) (
+    ((pos 100, pos 10084, 16), pos 1040000)  -- 16 letters
+    ∷ ((pos 100, pos 0, 1), negsuc 166666)  -- a letter that runs backward
+    ∷ []
+    )
+widths = refl
 
 a_capital : above (pos 0) (pos 360) ≡ pos 640000
 a_capital = refl
@@ -171,14 +179,14 @@ a_line = refl
 abbrev label : LabelShape
 label = record { first = 1; after = 2; lines = ab ∷ [] }
 
-a_text : operators_text (texts_operators all_pens (across ∷ up ∷ []) (label ∷ []))
-    ≡ codes "BT\n3 Tr\n100 0 0 80 -1 20 Tm\n/F0 1 Tf\n<41> Tj\n/F3 1 Tf\n<b1> Tj\nET\n"
+-- the texts of a label on a sheet of strokes
+texts : Table (λ (strokes : List Segment). operators_text (texts_operators all_pens strokes (label ∷ []))) (
+    (across ∷ up ∷ [], codes "BT\n3 Tr\n100 0 0 80 -1 20 Tm\n/F0 1 Tf\n<41> Tj\n/F3 1 Tf\n<b1> Tj\nET\n")  -- of its second stroke
+    ∷ (across ∷ [], [])  -- its strokes are not among these
+    ∷ []
+    )
 unfolding digits
-a_text = refl
-
--- its strokes are not among these
-no_text : texts_operators all_pens (across ∷ []) (label ∷ []) ≡ []
-no_text = refl
+texts = refl
 
 a_reading : texts_of (texts_operators all_pens (across ∷ up ∷ []) (label ∷ [])) ≡ placed ab ∷ []
 a_reading = refl
