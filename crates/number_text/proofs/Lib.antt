@@ -1,4 +1,3 @@
-pub mod Appended
 pub mod Scans
 mod Examples
 mod ReadExamples
