@@ -1,5 +1,0 @@
-//! Tests of smoothed pictures, by public calls.
-#![tactic(auto)]
-
-#[cfg(test)]
-mod smoothed;

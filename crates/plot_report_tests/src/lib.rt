@@ -1,5 +1,0 @@
-//! Tests of reports, by public calls.
-#![tactic(auto)]
-
-#[cfg(test)]
-mod reports;

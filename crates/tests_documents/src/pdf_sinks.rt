@@ -1,0 +1,140 @@
+//! Long documents, and sinks that take little or fail.
+ghost use Rattle.std.specs.Prelude.{◌≡◌, ◌-◌, ◌^◌, ◌<◌, Some};
+
+use crate::pdf_documents::{bytes_of, two_sheets};
+use crate::pdf_strokes::{BLACK, write, write_titled};
+use crate::pdf_texts::{TWO_PAGES, labels_of};
+use crc32::crc_of;
+use deflate::TextEncoder;
+use devices::{Sink, SinkFault};
+use plot_page::Stroke;
+use std::alloc::Global;
+use std::test::Fail;
+
+// A sink that takes at most three bytes a call, and fails once, after `limit` bytes.
+#[derive(Drop)]
+struct Failing {
+    bytes: Vec<u8>,
+    limit: usize,
+    failures: u64,
+}
+
+impl Sink for Failing {
+    ghost state = { λ s. record { held = Some s.bytes.items; faults = s.failures } };
+
+    fn put(&mut self, piece: &[u8]) -> Result<usize, SinkFault> {
+        let fails = self.bytes.len() >= self.limit && self.failures == 0;
+        let taken = piece.len().min(3);
+        if fails || self.bytes.extend_from_slice(&piece[..taken]).is_err() {
+            self.failures += 1;
+            return Err(SinkFault);
+        }
+        Ok(taken)
+    }
+
+    fn failures(&self) -> u64 {
+        self.failures
+    }
+}
+
+// A sink fails after each number of bytes: it has taken as many as the fault says, and nothing is written after it. The
+// encoder begins anew after each.
+#[test]
+fn failing_once(rt: HostRuntime) -> Result<(), Fail> {
+    let strokes = two_sheets(rt.alloc())?;
+    let whole = bytes_of(&rt, rt.alloc(), &strokes, &[6, 8])?;
+    let mut encoder = TextEncoder::new(rt.alloc())?;
+    for limit in 0..=whole.len() {
+        let mut sink = Failing {
+            bytes: Vec::new(rt.alloc()),
+            limit,
+            failures: 0,
+        };
+        let bytes = write(rt.alloc(), &mut encoder, &strokes, &[6, 8], &mut sink)?;
+        let failures = if sink.bytes.len() < whole.len() { 1 } else { 0 };
+        assert_eq!(&rt; (bytes, sink.failures), (sink.bytes.len() as u64, failures));
+        assert!(&rt; whole.as_slice().starts_with(&sink.bytes));
+    }
+    Ok(())
+}
+
+// The same with labels, after some numbers of bytes.
+#[test]
+fn failing_with_labels(rt: HostRuntime) -> Result<(), Fail> {
+    let strokes = two_sheets(rt.alloc())?;
+    let labels = labels_of(rt.alloc(), 0)?;
+    let mut encoder = TextEncoder::new(rt.alloc())?;
+    let mut last = 0;
+    for part in 0..=100 {
+        let limit = TWO_PAGES.0 * part / 100;
+        let mut sink = Failing {
+            bytes: Vec::new(rt.alloc()),
+            limit,
+            failures: 0,
+        };
+        let bytes = write_titled(
+            rt.alloc(),
+            &mut encoder,
+            "",
+            &strokes,
+            &[6, 8],
+            &labels,
+            0,
+            &mut sink,
+        )?;
+        let failures = if sink.bytes.len() < TWO_PAGES.0 { 1 } else { 0 };
+        assert_eq!(&rt; (bytes, sink.failures), (sink.bytes.len() as u64, failures));
+        last = crc_of(&sink.bytes);
+    }
+    assert_eq!(&rt; last, TWO_PAGES.1);
+    Ok(())
+}
+
+// Where the sheets of a long document end.
+const LONG_ENDS: [usize; 5] = [0, 3000, 2000, 4500, 9000];
+
+// A place of its own for each number.
+fn place(number: u16) -> (i32, i32) {
+    let number = i32::from(number);
+    (number * 7 % 16_000, number * 11 % 32_000)
+}
+
+// Strokes that follow one another.
+fn long_strokes(alloc: Global) -> Result<Vec<Stroke>, Fail> {
+    let mut strokes = Vec::new(alloc);
+    let mut from = place(0);
+    for number in 1..4_501u16 {
+        let to = place(number);
+        strokes.push(BLACK.stroke([from.0, from.1, to.0, to.1])?)?;
+        from = to;
+    }
+    Ok(strokes)
+}
+
+// A path ends after 1,000 strokes, and the encoder is emptied many times. The writer in Python says how long this document
+// is, and its CRC-32.
+#[test]
+fn many_strokes(rt: HostRuntime) -> Result<(), Fail> {
+    let strokes = long_strokes(rt.alloc())?;
+    let document = bytes_of(&rt, rt.alloc(), &strokes, &LONG_ENDS)?;
+    assert_eq!(&rt; (document.len(), crc_of(&document)), (35_394, 0x5a97_752c));
+    Ok(())
+}
+
+// A sink fails within the first 32,768 bytes, after them, and within the last four.
+#[test]
+fn failing_within_long_documents(rt: HostRuntime) -> Result<(), Fail> {
+    let strokes = long_strokes(rt.alloc())?;
+    let mut encoder = TextEncoder::new(rt.alloc())?;
+    for limit in [30_000, 32_768, 35_390] {
+        let mut sink = Failing {
+            bytes: Vec::new(rt.alloc()),
+            limit,
+            failures: 0,
+        };
+        let bytes = write(rt.alloc(), &mut encoder, &strokes, &LONG_ENDS, &mut sink)?;
+        assert_eq!(&rt; (bytes, sink.failures), (sink.bytes.len() as u64, 1));
+        assert!(&rt; sink.bytes.len() >= limit && sink.bytes.len() < limit + 3);
+    }
+    Ok(())
+}

@@ -1,0 +1,108 @@
+//! The texts of labels in vector documents, by the calls that the program makes.
+use crate::vectors::{ALL, count_of, job_of, run};
+use plotraster::{
+    Carousel, Encoding, OverRead, OverWrite, PageChoice, PenSet, Picture, Reading, Unwatched,
+    VectorFormat, draw_sheets, naming_of, write_sheet,
+};
+use std::test::Fail;
+use test_tools::streams::{Reader, Writer};
+
+// Labels of two pens on the first sheet, the second one of two lines, and one on the second sheet.
+const LABELLED: &[u8] = b"DT*;SP1;PU0,0;LBA&B*;SP2;LBI\r\nL*;PG;SP1;PU0,0;LBI*;PD9,9;";
+
+const SECOND: Reading = Reading::Full {
+    sheet: 2,
+    encoding: Encoding::ByPlot,
+};
+
+const TITLES: [&str; 3] = [
+    "<g><title>A&amp;B</title>\n<path class=\"pen1\"",
+    "<g><title>I\nL</title>\n<path class=\"pen2\"",
+    "<g><title>I</title>\n<path class=\"pen1\"",
+];
+
+#[test]
+fn titles_of_groups(rt: HostRuntime) -> Result<(), Fail> {
+    let alloc = rt.alloc();
+    for (reading, pens, counts) in [
+        (ALL, PenSet::all(), [1, 1, 1]),
+        (SECOND, PenSet::all(), [0, 0, 1]),
+        (ALL, PenSet::none().with(2), [0, 1, 0]),
+        (Reading::Core, PenSet::all(), [0, 0, 0]),
+    ] {
+        let job = job_of(VectorFormat::Svg, pens)?;
+        let run = run(
+            alloc,
+            reading,
+            job,
+            naming_of(""),
+            LABELLED,
+            Writer::new(alloc),
+        );
+        run.answer?;
+        for (title, count) in TITLES.into_iter().zip(counts) {
+            let found = count_of(run.writer.bytes.as_slice(), title.as_bytes());
+            assert_eq!(rt; found, count, "{title}");
+        }
+    }
+    Ok(())
+}
+
+// A document of a sheet of a drawing has the labels of the sheet.
+#[test]
+fn labels_of_one_sheet(rt: HostRuntime) -> Result<(), Fail> {
+    let alloc = rt.alloc();
+    let picture = Picture::Vector(job_of(VectorFormat::Svg, PenSet::all())?);
+    let drawing = draw_sheets(
+        alloc,
+        ALL,
+        &Carousel::empty(),
+        PageChoice::GIVEN,
+        &picture,
+        &mut OverRead::new(Reader::new(LABELLED)),
+    )?;
+    for (sheet, counts) in [(1, [1, 1, 0]), (2, [0, 0, 1]), (3, [0, 0, 0])] {
+        let (sink, outcome) = write_sheet(
+            alloc,
+            &drawing,
+            sheet,
+            PageChoice::GIVEN,
+            &picture,
+            naming_of(""),
+            OverWrite::new(Writer::new(alloc)),
+            &mut Unwatched,
+        );
+        outcome?;
+        let written = sink.into_inner();
+        for (title, count) in TITLES.into_iter().zip(counts) {
+            let found = count_of(written.bytes.as_slice(), title.as_bytes());
+            assert_eq!(rt; found, count, "{sheet} {title}");
+        }
+    }
+    Ok(())
+}
+
+// A PDF has a font for its texts, if a label is shown.
+#[test]
+fn fonts_of_texts(rt: HostRuntime) -> Result<(), Fail> {
+    let alloc = rt.alloc();
+    for (reading, pens, count) in [
+        (ALL, PenSet::all(), 1),
+        (ALL, PenSet::none().with(3), 0),
+        (Reading::Core, PenSet::all(), 0),
+    ] {
+        let job = job_of(VectorFormat::Pdf, pens)?;
+        let run = run(
+            alloc,
+            reading,
+            job,
+            naming_of(""),
+            LABELLED,
+            Writer::new(alloc),
+        );
+        run.answer?;
+        let found = count_of(run.writer.bytes.as_slice(), b"/BaseFont/Courier");
+        assert_eq!(rt; found, count);
+    }
+    Ok(())
+}

@@ -1,0 +1,49 @@
+//! Tests of command lines, and of what a run does with files, by public calls.
+#![tactic(auto)]
+
+#[cfg(test)]
+mod carousels;
+#[cfg(test)]
+mod characters;
+#[cfg(test)]
+mod choices;
+#[cfg(test)]
+mod claims;
+#[cfg(test)]
+mod delivered_folders;
+#[cfg(test)]
+mod delivered_lines;
+#[cfg(test)]
+mod delivered_outputs;
+#[cfg(test)]
+mod delivered_runs;
+#[cfg(test)]
+mod delivered_work;
+#[cfg(test)]
+mod drawings;
+#[cfg(test)]
+mod endings;
+#[cfg(test)]
+mod file_names;
+#[cfg(test)]
+mod line_cases;
+#[cfg(test)]
+mod messages;
+#[cfg(test)]
+mod options;
+#[cfg(test)]
+mod outputs;
+#[cfg(test)]
+mod papers;
+#[cfg(test)]
+mod pens;
+#[cfg(test)]
+mod readings;
+#[cfg(test)]
+mod sizes;
+#[cfg(test)]
+mod smoothing;
+#[cfg(test)]
+mod vectors;
+#[cfg(test)]
+mod work_choices;
