@@ -1,11 +1,11 @@
 //! Pictures and reports that are broken off after each number of their bytes.
+use crate::pages::{CROSSING, LINE, eight_by_eight, job_at};
+use crate::runs::{Asked, drawn, has_picture, run};
+use crate::streams::{Reader, Writer};
 use plotraster::{Fault, Form, Job};
 use std::alloc::Global;
 use std::process::Abort;
 use std::test::Fail;
-use test_tools::pages::{CROSSING, LINE, eight_by_eight, job_at};
-use test_tools::runs::{Asked, drawn, has_picture, run};
-use test_tools::streams::{Reader, Writer};
 
 // A plot, what is asked of it, and all the bytes that it answers.
 #[derive(Drop)]

@@ -1,8 +1,8 @@
 //! The colours of strokes.
+use crate::pages::eight_by_eight;
+use crate::runs::has_picture;
 use plotraster::Form;
 use std::test::Fail;
-use test_tools::pages::eight_by_eight;
-use test_tools::runs::has_picture;
 
 const TWO_COLOURS: &[u8] = b"PC2,10,20,30;SP2;PU0,28;PD64,28;PC2;PU0,12;PD64,12;";
 

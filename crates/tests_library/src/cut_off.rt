@@ -1,11 +1,11 @@
 //! Plots that end anywhere.
+use crate::pages::eight_by_eight;
+use crate::runs::{Asked, drawn, run};
+use crate::streams::{Reader, Writer};
 use plotraster::Form;
 use std::alloc::Global;
 use std::process::Abort;
 use std::test::Fail;
-use test_tools::pages::eight_by_eight;
-use test_tools::runs::{Asked, drawn, run};
-use test_tools::streams::{Reader, Writer};
 
 const PLOTS: &str = "\
 SP1;PU0,28;PD64,28;SP2;PU28,0;PD28,64;SP1;PU0,12;PD64,12;

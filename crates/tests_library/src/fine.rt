@@ -1,10 +1,10 @@
 //! Pictures at 1200 dots per inch, and of the largest page.
+use crate::pages::{LINE, job_at};
+use crate::runs::{drawn, drawn_by};
 use plotraster::{Exact, Form, Gauge, Page};
 use std::alloc::Global;
 use std::process::Abort;
 use std::test::Fail;
-use test_tools::pages::{LINE, job_at};
-use test_tools::runs::{drawn, drawn_by};
 
 // 76 by 76 pixels, of which the line covers the rows 34 to 50.
 #[test]

@@ -2,14 +2,14 @@
 ghost use Rattle.std.specs.Prelude.{◌≡◌, ◌+◌, ◌%◌, ◌&&◌, nat_eq};
 ghost use Rattle.stroke_raster.specs.Covers.{covers};
 
+use crate::pages::{CROSSING, LINE, eight_by_eight};
+use crate::runs::drawn_by;
 use plot_page::{Page, Stroke};
 use plotraster::{Dots, Exact, Form, Gauge};
 use std::alloc::Global;
 use std::process::Abort;
 use std::test::Fail;
 use stroke_raster::{laws, near};
-use test_tools::pages::{CROSSING, LINE, eight_by_eight};
-use test_tools::runs::drawn_by;
 
 // The picture's bytes as a gauge makes them, from a row on, in bands of so many rows.
 fn picture_by<G: Gauge>(

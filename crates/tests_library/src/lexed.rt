@@ -1,7 +1,7 @@
 //! Plots as they are found: small letters, decimals, escapes, what is not known.
+use crate::cases::has_answers;
+use crate::runs::Asked;
 use std::test::Fail;
-use test_tools::cases::has_answers;
-use test_tools::runs::Asked;
 
 const ONE_LINE_IN_MANY_SPELLINGS: &str = "\
 pu0,28pd64,28

@@ -1,8 +1,12 @@
-//! Tests of the library's calls of the first profile, from a plot's bytes to its picture's.
+//! Tests of the library's public calls, from a plot's bytes to its picture's.
 #![tactic(auto)]
 
 #[cfg(test)]
 mod broken_off;
+#[cfg(test)]
+mod carousels;
+#[cfg(test)]
+mod cases;
 #[cfg(test)]
 mod colours;
 #[cfg(test)]
@@ -16,9 +20,17 @@ mod gauges;
 #[cfg(test)]
 mod lexed;
 #[cfg(test)]
+mod pages;
+#[cfg(test)]
+mod pages_asked;
+#[cfg(test)]
 mod parts;
 #[cfg(test)]
 mod pictures;
+#[cfg(test)]
+mod placements;
+#[cfg(test)]
+mod pngs;
 #[cfg(test)]
 mod printer;
 #[cfg(test)]
@@ -29,3 +41,19 @@ mod readings;
 mod refusals;
 #[cfg(test)]
 mod reports;
+#[cfg(test)]
+mod runs;
+#[cfg(test)]
+mod sheets;
+#[cfg(test)]
+mod smoothed;
+#[cfg(test)]
+mod smoothed_rows;
+#[cfg(test)]
+mod streams;
+#[cfg(test)]
+mod vector_labels;
+#[cfg(test)]
+mod vectors;
+#[cfg(test)]
+mod watched;

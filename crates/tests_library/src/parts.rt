@@ -1,12 +1,12 @@
 //! Readers and writers that give or take a part a call, how often they are called, and what is left if one fails.
+use crate::pages::{CROSSING, LINE, eight_by_eight, job_at};
+use crate::runs::{Asked, drawn, run, told};
+use crate::streams::{Reader, Writer};
 use plotraster::{Form, Job};
 use std::alloc::Global;
 use std::io::ErrorKind;
 use std::process::Abort;
 use std::test::Fail;
-use test_tools::pages::{CROSSING, LINE, eight_by_eight, job_at};
-use test_tools::runs::{Asked, drawn, run, told};
-use test_tools::streams::{Reader, Writer};
 
 // A band of a PBM is one write.
 const WRITES_IN_BANDS: &str = "\

@@ -1,8 +1,8 @@
 //! Pictures in bands of any height.
+use crate::pages::{CROSSING, job_at};
+use crate::runs::{drawn, has_picture};
 use plotraster::{Form, Job};
 use std::test::Fail;
-use test_tools::pages::{CROSSING, job_at};
-use test_tools::runs::{drawn, has_picture};
 
 #[test]
 fn bands_change_nothing(rt: HostRuntime) -> Result<(), Fail> {

@@ -1,9 +1,9 @@
 //! The resolutions of pictures in PCL.
+use crate::pages::{CROSSING, eight_by_eight, job_at};
+use crate::runs::{Asked, drawn, told};
+use crate::streams::{Reader, Writer};
 use plotraster::{Fault, Form};
 use std::test::Fail;
-use test_tools::pages::{CROSSING, eight_by_eight, job_at};
-use test_tools::runs::{Asked, drawn, told};
-use test_tools::streams::{Reader, Writer};
 
 #[test]
 fn resolutions_of_pcl(rt: HostRuntime) -> Result<(), Fail> {

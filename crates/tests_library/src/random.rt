@@ -2,13 +2,13 @@
 ghost use Rattle.std.specs.Prelude.{◌<◌};
 ghost use Rattle.plot_page.specs.Resolutions.{columns_of, rows_of};
 
+use crate::pages::job_at;
+use crate::runs::drawn;
 use hpgl_plot::{Stroke, draw_plot};
 use plotraster::{Dots, Fault, Form, Job, Page};
 use std::alloc::Global;
 use std::test::Fail;
 use stroke_raster::near;
-use test_tools::pages::job_at;
-use test_tools::runs::drawn;
 
 const SIGNS: [u8; 32] = *b"PUDASCIRWELBTO0123456789,;.-:<=\"";
 

@@ -1,4 +1,7 @@
 //! Plots that are read in the profile full.
+use crate::cases::text_of;
+use crate::pages::eight_by_eight;
+use crate::runs::drawn_as;
 use plotraster::{
     Carousel, CharacterSet, Encoding, Form, OverRead, OverWrite, Page, PageChoice, Reading,
     report_on,
@@ -6,9 +9,6 @@ use plotraster::{
 use std::alloc::Global;
 use std::process::Abort;
 use std::test::Fail;
-use test_tools::cases::text_of;
-use test_tools::pages::eight_by_eight;
-use test_tools::runs::drawn_as;
 
 // A line in the middle of row 4 and, on a second sheet, one in the middle of column 3.
 const SHEETS: &[u8] = b"SP1;PU0,28;PD64,28;PG;PU28,0;PD28,64;";

@@ -1,12 +1,12 @@
 //! Plots and jobs that are refused, and what that leaves.
+use crate::cases::has_answers;
+use crate::pages::{CROSSING, LINE, eight_by_eight};
+use crate::runs::{Asked, drawn, drawn_by, told};
+use crate::streams::{Reader, Writer};
 use plotraster::{Exact, Form, Gauge, Job, Page};
 use std::alloc::Global;
 use std::process::Abort;
 use std::test::Fail;
-use test_tools::cases::has_answers;
-use test_tools::pages::{CROSSING, LINE, eight_by_eight};
-use test_tools::runs::{Asked, drawn, drawn_by, told};
-use test_tools::streams::{Reader, Writer};
 
 const DONE: &str = "\
 Ok(Done { rows: 8, bytes: 104, strokes: 1, notes: 0 })

@@ -1,7 +1,7 @@
 //! Reports on plots.
+use crate::cases::has_answers;
+use crate::runs::Asked;
 use std::test::Fail;
-use test_tools::cases::has_answers;
-use test_tools::runs::Asked;
 
 // If a plot is refused, nothing is written.
 const REPORTS: &str = "\

@@ -1,4 +1,5 @@
 //! Vector documents, by the call that the program makes.
+use crate::streams::{Reader, Writer};
 use plotraster::{
     Carousel, Encoding, Fault, Naming, Outcome, OverRead, OverWrite, Page, PageChoice, PenSet,
     Picture, Reading, Task, Unwatched, VectorFormat, VectorJob, draw_sheets, naming_of, number,
@@ -6,7 +7,6 @@ use plotraster::{
 };
 use std::alloc::Global;
 use std::test::Fail;
-use test_tools::streams::{Reader, Writer};
 
 // Three sheets: lines of two pens on the first one, of which the second pen's is off the page in part, one line on the second,
 // and a sheet without lines before the last one.

@@ -1,12 +1,12 @@
 //! Plots that are drawn once, and of which each sheet is a picture.
+use crate::pages::eight_by_eight;
+use crate::runs::drawn_as;
 use plotraster::{
     Carousel, Dots, Drawing, Encoding, Fault, Form, Job, OverRead, OverWrite, PageChoice, Picture,
     PngJob, Reading, Smoothing, Unwatched, draw_sheets, naming_of, write_sheet,
 };
 use std::alloc::Global;
 use std::test::Fail;
-use test_tools::pages::eight_by_eight;
-use test_tools::runs::drawn_as;
 
 // Three sheets: a line in row 4, one in column 3, and one in row 1. The third one ends with the plot.
 const SHEETS: &[u8] = b"SP1;PU0,28;PD64,28;PG;PU28,0;PD28,64;PG;PU0,52;PD64,52;";

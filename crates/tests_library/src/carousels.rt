@@ -1,12 +1,12 @@
 //! Pictures with the pens of a carousel.
+use crate::cases::text_of;
+use crate::pages::eight_by_eight;
 use plotraster::{
     Carousel, Encoding, Form, OverRead, OverWrite, PageChoice, Picture, Reading, Smoothing, Task,
     Unwatched, naming_of, read_colours, read_widths, run_task,
 };
 use std::alloc::Global;
 use std::test::Fail;
-use test_tools::cases::text_of;
-use test_tools::pages::eight_by_eight;
 
 // A dot of pen 1 and one of pen 2, whose width and colour the plot sets.
 const PLOT: &[u8] = b"SP1;PW0.1;PU4,4;PD;PU;SP2;PC2,0,0,9;PU28,28;PD;";

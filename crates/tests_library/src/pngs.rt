@@ -1,11 +1,11 @@
 //! Pictures as PNG. The bytes are those that libpng and PIL read as the picture's PPM.
+use crate::streams::{Reader, Writer};
 use plotraster::{
     Carousel, Dots, Fault, Outcome, OverRead, OverWrite, Page, PageChoice, PenSet, Picture, PngJob,
     Reading, Smoothing, Task, Unwatched, naming_of, number, run_task, status,
 };
 use std::alloc::Global;
 use std::test::Fail;
-use test_tools::streams::{Reader, Writer};
 
 // Lines of three pens, which cross. The first pen draws twice.
 const LINES: &[u8] =

@@ -1,11 +1,11 @@
 //! The texts of labels in vector documents, by the calls that the program makes.
+use crate::streams::{Reader, Writer};
 use crate::vectors::{ALL, count_of, job_of, run};
 use plotraster::{
     Carousel, Encoding, OverRead, OverWrite, PageChoice, PenSet, Picture, Reading, Unwatched,
     VectorFormat, draw_sheets, naming_of, write_sheet,
 };
 use std::test::Fail;
-use test_tools::streams::{Reader, Writer};
 
 // Labels of two pens on the first sheet, the second one of two lines, and one on the second sheet.
 const LABELLED: &[u8] = b"DT*;SP1;PU0,0;LBA&B*;SP2;LBI\r\nL*;PG;SP1;PU0,0;LBI*;PD9,9;";

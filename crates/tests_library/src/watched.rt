@@ -1,6 +1,9 @@
 //! Pictures that are watched while they are written.
 ghost use Rattle.std.specs.Prelude.{⊤};
 
+use crate::pages::{CROSSING, eight_by_eight, job_at};
+use crate::runs::drawn;
+use crate::streams::Writer;
 use plotraster::{
     Carousel, Fault, Form, Job, OverRead, OverWrite, PageChoice, Picture, PngJob, Reading,
     Smoothing, Task, Watcher, draw_sheets, naming_of, run_task, write_sheet,
@@ -8,9 +11,6 @@ use plotraster::{
 use std::alloc::Global;
 use std::process::Abort;
 use std::test::Fail;
-use test_tools::pages::{CROSSING, eight_by_eight, job_at};
-use test_tools::runs::drawn;
-use test_tools::streams::Writer;
 
 // A plot that is refused.
 const OFF_RANGE: &[u8] = b"PA70000,0;";

@@ -1,4 +1,6 @@
 //! Plots that are drawn on the page that they ask for.
+use crate::cases::text_of;
+use crate::pages::placed_on;
 use crate::placements::fitted;
 use plotraster::{
     Carousel, Dots, Encoding, Fault, Form, Job, OverRead, OverWrite, Page, PageChoice, PenSet,
@@ -6,8 +8,6 @@ use plotraster::{
 };
 use std::alloc::Global;
 use std::test::Fail;
-use test_tools::cases::text_of;
-use test_tools::pages::placed_on;
 
 // Plots on a line each, and on the next what becomes of them in both profiles: the placement, the strokes, how many of
 // them lie off the page and how many others reach over its edge, and the page of the report. The page that is given is 800 by 600 units, its corner at (-10,-20).

@@ -1,12 +1,12 @@
 //! Smoothed pictures, by the call that the program makes. The colours are those of tests/reference.
+use crate::pages::{LINE, job_at};
+use crate::streams::{Reader, Writer};
 use plotraster::{
     Carousel, Dots, Fault, Form, Job, Outcome, OverRead, OverWrite, Page, PageChoice, PenSet,
     Picture, PngJob, Reading, Smoothing, Task, Unwatched, naming_of, run_task,
 };
 use std::alloc::Global;
 use std::test::Fail;
-use test_tools::pages::{LINE, job_at};
-use test_tools::streams::{Reader, Writer};
 
 // Lines of three pens. At 60 dots per inch the page has 5 by 4 pixels, and at 120 it has 9 by 9.
 const LINES: &[u8] = b"SP2;PU0,20;PD77,20;SP3;PU60,0;PD60,72;SP1;PU77,60;PD0,60;";

@@ -1,12 +1,12 @@
 //! Plots that are drawn on the page around their drawing.
+use crate::cases::text_of;
+use crate::pages::{eight_by_eight, placed_on};
 use plotraster::{
     Carousel, Form, Job, OverRead, OverWrite, PageChoice, PenSet, Picture, Reading, Smoothing,
     Task, Unwatched, naming_of, run_task,
 };
 use std::alloc::Global;
 use std::test::Fail;
-use test_tools::cases::text_of;
-use test_tools::pages::{eight_by_eight, placed_on};
 
 // A plot on a line, and on the next what becomes of it: the placement, the strokes, how many of them lie off the page and how
 // many others reach over its edge, and the page of the report. The margin is 1 mm.
