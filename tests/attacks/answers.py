@@ -11,7 +11,7 @@ MANUAL = os.path.join(os.path.dirname(__file__), "..", "..", "man", "plotraster.
 LINES = rb"[0-9]+ lines?, [0-9]+ off the page(, [0-9]+ cut at its edge)?"
 REPORT = b"see plotraster report( --profile full)?"
 REMARKS = (
-    messages.text("blank", REPORT.decode()).encode(),
+    messages.text("blank", REPORT.decode().removeprefix("see ")).encode(),
     rb"[0-9]+ notes on [0-9]+ lines?: " + REPORT,
     messages.text("no-size").encode(),
     messages.text("blank-to-fit").encode(),
