@@ -28,6 +28,8 @@ mod file_names;
 #[cfg(test)]
 mod line_cases;
 #[cfg(test)]
+mod line_smoothing;
+#[cfg(test)]
 mod messages;
 #[cfg(test)]
 mod options;
@@ -41,8 +43,6 @@ mod pens;
 mod readings;
 #[cfg(test)]
 mod sizes;
-#[cfg(test)]
-mod smoothing;
 #[cfg(test)]
 mod vectors;
 #[cfg(test)]
