@@ -75,7 +75,7 @@ def test_older_part_is_replaced(program, tmp_path, make, plot, ends):
     (["--dots=10", "--from=999"], LINE, messages.refused("first-row")),
     (["folder"], LINE, messages.refused("read")),
     (["missing.plt"], LINE, messages.refused("open", "missing.plt")),
-    (["missing.plt", "--verbose"], LINE, (3, messages.said("open", "missing.plt") + messages.said("no-such-file"))),
+    (["missing.plt", "--verbose"], LINE, (3, messages.said("open", "missing.plt") + messages.said_why("no-such-file"))),
     (["--pens=0"], LINE, messages.refused("pens")),
 ])
 def test_refused_plot_leaves_the_old_file(program, tmp_path, words, plot, ends):

@@ -239,7 +239,7 @@ def test_what_is_said_of_each_plot(program, folder):
     assert status == 3 and lines == [
         "plotraster: a.plt: 1 line, 0 off the page; 0 notes, see plotraster report",
         "plotraster: " + messages.text("open", "none.plt"),
-        f"plotraster: {messages.text('no-such-file')}",
+        f"plotraster: {messages.reason('no-such-file')}",
         f"plotraster: blank.plt: {messages.text('blank-to-fit')}",
         "plotraster: blank.plt: nothing is drawn: 0 lines, 0 off the page; 0 notes, see plotraster report",
         f"plotraster: far.plt: {messages.text('off-range', 0)}",

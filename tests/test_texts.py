@@ -64,7 +64,7 @@ def test_messages():
 def test_table_of_messages():
     """The program has each message that the tests know."""
     sources = "".join(read("crates", it) for it in (*SOURCES, "delivery/src/folder.rt", "plotraster/src/remarks.rt"))
-    texts = [text.removeprefix("the page is ") for _, text in messages.MESSAGES.values()]
+    texts = [*(text.removeprefix("the page is ") for _, text in messages.MESSAGES.values()), *messages.REASONS.values()]
     assert_nothing(text for text in texts if not re.search(re.escape(text).replace(r"\{\}", "[^\"]*"), sources))
 
 

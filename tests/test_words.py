@@ -77,8 +77,7 @@ def not_opened(name, reason=None, command="pbm"):
     is always in the first."""
     if command in DOCUMENTS:
         return messages.refused("not-opened", name, reason or "no-such-file")
-    why = f"plotraster: {messages.known(reason)}\n" if reason else ""
-    return 3, messages.said("open", name) + why.encode()
+    return 3, messages.said("open", name) + (messages.said_why(reason) if reason else b"")
 
 
 def plain():

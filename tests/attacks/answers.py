@@ -9,20 +9,20 @@ from reference import messages
 MANUAL = os.path.join(os.path.dirname(__file__), "..", "..", "man", "plotraster.1")
 # What is said of an output that is written.
 LINES = rb"[0-9]+ lines?, [0-9]+ off the page(, [0-9]+ cut at its edge)?"
-REPORT = b"see plotraster report( --profile full)?"
+REPORT = b"plotraster report( --profile full)?"
 REMARKS = (
-    messages.text("blank", REPORT.decode().removeprefix("see ")).encode(),
-    rb"[0-9]+ notes on [0-9]+ lines?: " + REPORT,
+    messages.text("blank", REPORT.decode()).encode(),
+    rb"[0-9]+ notes on [0-9]+ lines?: see " + REPORT,
     messages.text("no-size").encode(),
     messages.text("blank-to-fit").encode(),
     messages.text("too-large-to-fit").encode(),
     messages.text("first-sheet", "[0-9]+").encode(),
-    b"(nothing is drawn: )?" + LINES + rb"; [0-9]+ notes?, " + REPORT,
+    b"(nothing is drawn: )?" + LINES + rb"; [0-9]+ notes?, see " + REPORT,
 )
 # Why a file cannot be opened, which --verbose says in a line of its own.
-REASONS = f"{messages.text('no-such-file')}|{messages.text('denied')}|".encode() + rb"[A-Z][a-z ]+ \(os error [0-9]+\)"
+REASONS = f"{messages.reason('no-such-file')}|{messages.reason('denied')}|".encode() + rb"[A-Z][a-z ]+ \(os error [0-9]+\)"
 # The exit statuses of the messages that begin so; of all others it is 2.
-STATUSES = {message.partition("{")[0]: status for status, message in messages.MESSAGES.values() if message[0] != "{"}
+STATUSES = {message.partition("{")[0]: status for status, message in messages.MESSAGES.values() if status}
 REFUSED, USAGE, DEVICE, MEMORY = 1, 2, 3, 4
 
 

@@ -27,16 +27,6 @@ MESSAGES = {
     "write": (3, "write failed"),
     "broken-off": (3, "write failed: go on from row {} after byte {}"),
     "memory": (4, "out of memory"),
-    # reasons
-    "no-such-file": (3, "no such file or folder"),
-    "no-such-folder": (3, "no such folder"),
-    "denied": (3, "permission denied"),
-    "not-a-folder": (3, "it is not a folder"),
-    "a-folder": (3, "it is a folder"),
-    "taken": (3, "it is written for another plot"),
-    "the-plot": (3, "it is the plot"),
-    "a-plot": (3, "it is one of the plots"),
-    "no-name": (3, "the plot on standard input has no name"),
     # remarks on what was written
     "blank": (0, "nothing is drawn on the page: see {}"),
     "blank-to-fit": (0, "the page is not fitted: nothing is drawn"),
@@ -44,16 +34,31 @@ MESSAGES = {
     "no-size": (0, "the page is the default one: the plot asks for no size"),
     "first-sheet": (0, "the plot has {} sheets; this is the first"),
 }
+# Why a file is not opened or written.
+REASONS = {
+    "no-such-file": "no such file or folder",
+    "no-such-folder": "no such folder",
+    "denied": "permission denied",
+    "not-a-folder": "it is not a folder",
+    "a-folder": "it is a folder",
+    "taken": "it is written for another plot",
+    "the-plot": "it is the plot",
+    "a-plot": "it is one of the plots",
+    "no-name": "the plot on standard input has no name",
+}
 
 
-def known(value):
-    """What the message of this name says, or the value if it is no such name."""
-    return MESSAGES[value][1] if value in MESSAGES else value
+def reason(name):
+    """The reason of this name, or what was given, if it is a reason of the system."""
+    return REASONS.get(name, name)
 
 
 def text(name, *values):
-    """What a message says of these values, which may be reasons by name."""
-    return MESSAGES[name][1].format(*map(known, values))
+    """What a message says of these values. Why a file is not opened or written may be a reason by its name."""
+    if name in ("not-opened", "output"):
+        file, why = values
+        values = file, reason(why)
+    return MESSAGES[name][1].format(*values)
 
 
 def said(name, *values):
@@ -64,3 +69,8 @@ def said(name, *values):
 def refused(name, *values):
     """The exit status and standard error of a run that ends with this message."""
     return MESSAGES[name][0], said(name, *values)
+
+
+def said_why(name):
+    """The line of a reason by itself on standard error."""
+    return f"plotraster: {reason(name)}\n".encode()
