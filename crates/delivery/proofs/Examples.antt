@@ -4,7 +4,7 @@ use Rattle.output_files.specs.declared.file_id.FileId.{FileId}
 use Rattle.delivery.specs.declared.desk.Found.{Found}
 use Rattle.delivery.specs.declared.desk.Kind.TheVariants.{File, Device}
 use Rattle.delivery.specs.declared.ending.Ending.TheVariants.{Whole}
-use Rattle.delivery.specs.Care.{AreAllowed, AreFollowed, is_device, is_open_file, part_of}
+use Rattle.delivery.specs.Care.{AreAllowed, AreFollowed, is_device, is_open_file, output_name, part_of}
 use Rattle.delivery.specs.Deeds.{Deed, Item, status_after}
 use Rattle.delivery.specs.Looks.{ArePlotsAt, AreHarmless}
 use Rattle.delivery.specs.Runs.{plots_of}
@@ -85,6 +85,15 @@ no_look allowed = allowed.0.looked
 -- a file is not named before it is stored
 not_stored : AreAllowed no_plots (Some a) [] (Deed.renamed part a true ∷ []) → ⊥
 not_stored allowed = allowed.0.0
+
+-- standard output is open, and a file that was neither made nor reached is not
+output_is_open : AreAllowed no_plots None [] (Deed.wrote output_name all Whole ∷ [])
+output_is_open = (inl refl, tt)
+
+never_made : AreAllowed no_plots None [] (Deed.wrote a all Whole ∷ []) → ⊥
+never_made (inl same, rest) = absurd (cc)
+never_made (inr (inl made), rest) = made
+never_made (inr (inr reached), rest) = reached
 
 -- a file that is made must have an end, and a failure must be said next
 no_end : AreFollowed (Deed.created part false ∷ Deed.remarked None ∷ []) → ⊥

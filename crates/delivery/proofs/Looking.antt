@@ -8,7 +8,7 @@ use Rattle.delivery.specs.Care.{AreAllowed, AreFollowed, id_found}
 use Rattle.delivery.specs.Deeds.{Deed, Item, status_after}
 use Rattle.delivery.specs.Deliveries.{Anything, Delivers}
 use Rattle.delivery.specs.Looks.{AreHarmless, AreLooks, ArePlotsAt, IsCareful, IsPlot, Looks, LooksForPlots}
-use Rattle.delivery.specs.Runs.{IsInputOpened, IsOutputNamed, IsSingleDone, plot_item}
+use Rattle.delivery.specs.Runs.{IsInputOpened, IsOutputDone, IsSingleDone, plot_item}
 use Rattle.delivery.proofs.Delivered.{alone, positive, put_right}
 use Rattle.delivery.proofs.DeedLemmas.{allowed_append, done_append, followed_append, has_right, status_append}
 
@@ -64,7 +64,7 @@ refused_harmless [] status text are = tt
 refused_harmless (Deed.looked p f ∷ deeds) status text are = refused_harmless deeds status text are
 refused_harmless (x ∷ deeds) status text are = absurd are
 
-pub output_right : (item : Item) (path : Option (List ℕ)) (xs ys : List Deed) → IsOutputNamed item path ys → IsOutputNamed item path (xs ++ ys)
+pub output_right : (item : Item) (path : Option (List ℕ)) (xs ys : List Deed) → IsOutputDone item path ys → IsOutputDone item path (xs ++ ys)
 output_right item None xs ys put = has_right xs ys _ put
 output_right item (Some path) xs ys put = put_right item path xs ys put
 

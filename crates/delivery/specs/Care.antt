@@ -32,11 +32,12 @@ abbrev pub is_open_file : List ℕ → Bool
 is_open_file path =
     bytes_eq path (codes "/dev/stderr") || (starts_with nat_eq path (codes "/dev/fd/") || starts_with nat_eq path (codes "/proc/self/fd/"))
 
--- what was found is no regular file
+-- a regular file
 abbrev pub is_file : Kind → Bool
 is_file File = true
 is_file _ = false
 
+-- what was found is no regular file
 abbrev pub is_device : Option Found → Bool
 is_device None = false
 is_device (Some found) = not (is_file found.kind)

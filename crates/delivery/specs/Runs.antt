@@ -33,12 +33,12 @@ abbrev pub plot_item : Option (List ℕ) → Item
 plot_item file = record { file = unwrap_or file []; sheet = 0 }
 
 -- the output has its name, or is on standard output
-abbrev pub IsOutputNamed : Item → Option (List ℕ) → List Deed → Type 0
-IsOutputNamed item None deeds = IsShown item deeds
-IsOutputNamed item (Some path) deeds = IsPut item path deeds
+abbrev pub IsOutputDone : Item → Option (List ℕ) → List Deed → Type 0
+IsOutputDone item None deeds = IsShown item deeds
+IsOutputDone item (Some path) deeds = IsPut item path deeds
 
 abbrev pub IsSingleDone : Option (List ℕ) → Option (List ℕ) → List Deed → Type 0
-IsSingleDone file path deeds = IsInputOpened file deeds × IsOutputNamed (plot_item file) path deeds
+IsSingleDone file path deeds = IsInputOpened file deeds × IsOutputDone (plot_item file) path deeds
 
 -- the plot was looked for first; after that each deed was allowed, and each failure was said; the status is the greatest of
 -- what was said, and 0 only if the plot was opened and its output has its name, or is on standard output

@@ -4,7 +4,7 @@ ghost use Rattle.output_files.specs.declared.file_id.FileId.{FileId};
 ghost use Rattle.output_files.specs.Claims.{is_plot};
 ghost use Rattle.delivery.specs.Deliveries.{Anything, Delivers, SaysOnce};
 ghost use Rattle.delivery.specs.Folders.{ArePlotsPut, refused_status};
-ghost use Rattle.delivery.specs.Runs.{DeliversAll, DeliversSingle, IsOutputNamed, IsSingleDone, plot_item, plots_of, why_not};
+ghost use Rattle.delivery.specs.Runs.{DeliversAll, DeliversSingle, IsOutputDone, IsSingleDone, plot_item, plots_of, why_not};
 
 use crate::about::About;
 use crate::desk::{Desk, Kind};
@@ -105,7 +105,7 @@ fn deliver_read<D: Desk, S: Streams, W: Work, R: Read + Drop>(
     plot: R,
 ) -> u8
     ensures { Delivers D.does (is_plot claims.now) (option_map (λ path. path.now) single.entry.path) desk.old desk.new result Anything Anything
-        (IsOutputNamed (plot_item (option_map (λ file. file.now) single.entry.file)) (option_map (λ path. path.now) single.entry.path)) }
+        (IsOutputDone (plot_item (option_map (λ file. file.now) single.entry.file)) (option_map (λ path. path.now) single.entry.path)) }
 {
     let about = About::RUN;
     let file = single.file.unwrap_or("");

@@ -2,7 +2,7 @@ use Rattle.std.proofs.Common.{◌≡◌, ◌∙◌, Bor, List, [], None, Some, a
 use Rattle.std.specs.Option.{option_map, unwrap_or}
 use Rattle.output_files.specs.Claims.{is_plot}
 use Rattle.delivery.specs.Deliveries.{Anything, Delivers, IsPut, IsShown}
-use Rattle.delivery.specs.Runs.{IsOutputNamed, plot_item}
+use Rattle.delivery.specs.Runs.{IsOutputDone, plot_item}
 use Rattle.delivery.proofs.Delivered.{only_refused}
 use Rattle.delivery.proofs.Looking.{text_or}
 use Rattle.delivery.proofs.run.deliver_read.Goals as goal
@@ -20,7 +20,7 @@ pub returns-in-None : goal.returns-in-None
 returns-in-None g c =
     let path = option_map (λ path. path.now) c.args.single.path in
     let item = plot_item (option_map (λ file. file.now) c.args.single.file) in
-    only_refused g.D.Voice.does (is_plot c.args.claims.now) path Anything (IsOutputNamed item path) c.args.desk.now c.refuse_screen.new.desk c.refuse_screen.result
+    only_refused g.D.Voice.does (is_plot c.args.claims.now) path Anything (IsOutputDone item path) c.args.desk.now c.refuse_screen.new.desk c.refuse_screen.result
     c.refuse_screen.ensures.says.0 c.refuse_screen.ensures.says.1 (omega (arith, c.refuse_screen.ensures.status))
 
 pub returns-in-None-2 : goal.returns-in-None-2
