@@ -20,17 +20,17 @@ use Rattle.polygons.proofs.Totals.{total_filter, total_map, same_filter}
 use Rattle.polygons.proofs.Numbers.{has_line}
 use Rattle.polygons.proofs.Orders.{Each, each_weaker, same_sorted}
 
-abbrev one : Bool → ℕ
+abbrev pub one : Bool → ℕ
 one b = cond b 1 0
 
-count_is : {X : Type 0} (p : X → Bool) (xs : List X) → total (λ x. one (p x)) xs ≡ count_by p xs
+pub count_is : {X : Type 0} (p : X → Bool) (xs : List X) → total (λ x. one (p x)) xs ≡ count_by p xs
 count_is p xs = is_count_by (total (λ x. one (p x))) p refl
     (λ x ys. elim (cases_Bool (p x)) [
       | inl e ↦ rw e refl
       | inr e ↦ rw e (omega arith)
     ]) xs
 
-same_count : {X : Type 0} (p : X → Bool) (xs ys : List X) → SameItems xs ys → count_by p xs ≡ count_by p ys
+pub same_count : {X : Type 0} (p : X → Bool) (xs ys : List X) → SameItems xs ys → count_by p xs ≡ count_by p ys
 same_count p xs ys s = sym (count_is p xs) ∙ s.sums (λ x. one (p x)) ∙ count_is p ys
 
 -- crossings in another order
@@ -41,7 +41,7 @@ same_inside rule xs ys s = ap₂ (is_inside rule) (same_count (λ c. c.is_upward
 even : (n : ℕ) → nat_eq ((n + n) % 2) 1 ≡ false
 even n = let e : (n + n) % 2 ≡ 0 = omega arith in rw e refl
 
-outside : (rule : Rule) (n m : ℕ) → n ≡ m → is_inside rule n m ≡ false
+pub outside : (rule : Rule) (n m : ℕ) → n ≡ m → is_inside rule n m ≡ false
 outside OddCounts n m e = rw (← e) (even n)
 outside Winding n m e = let f = eq-eqb n m e in rw f refl
 
@@ -91,7 +91,7 @@ path_turns lines k p (e ∷ es) q h =
     let f = ap (reach lines k) h.0 in
     omega (arith, here, more, f)
 
-total-append : {X : Type 0} (f : X → ℕ) (xs ys : List X) → total f (xs ++ ys) ≡ total f xs + total f ys
+pub total-append : {X : Type 0} (f : X → ℕ) (xs ys : List X) → total f (xs ++ ys) ≡ total f xs + total f ys
 total-append f [] ys = omega arith
 total-append f (x ∷ xs) ys = let more = total-append f xs ys in omega (arith, more)
 

@@ -25,8 +25,8 @@ pub enum Rule {
 }
 
 impl Rule {
-    // Whether a line is inside after this many upward crossings and this many others.
-    pub(crate) fn is_inside(self, upward: usize, others: usize) -> bool
+    /// Whether a line is inside after this many upward crossings and this many others.
+    pub fn is_inside(self, upward: usize, others: usize) -> bool
         requires { upward + others < 2 ^ 64 }
         ensures { result ≡ is_inside self upward others }
     {

@@ -1,6 +1,8 @@
-//! Tests of strokes as rows of pixels, and of the forms and PNG pictures that are made of them, by public calls.
+//! Tests of strokes and areas as rows of pixels, and of the forms and PNG pictures that are made of them, by public calls.
 #![tactic(auto)]
 
+#[cfg(test)]
+mod areas_inside;
 #[cfg(test)]
 mod checksums;
 #[cfg(test)]
