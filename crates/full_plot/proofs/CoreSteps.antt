@@ -41,7 +41,8 @@ use Rattle.full_plot.specs.Worlds.{FullWorld, Writing, full_followed, with_core}
 use Rattle.full_plot.proofs.CoreLabels.{label_as_in_core, style_is, turn_in}
 use Rattle.full_plot.proofs.LinesAlong.{IsLine, solid_line}
 use Rattle.full_plot.proofs.Solid.{shape_solid}
-use Rattle.full_plot.proofs.Nexts.{IsNext, IsUnshifted, KeepsSets, NextIn, next_core_step}
+use Rattle.full_plot.proofs.Changes.{In}
+use Rattle.full_plot.proofs.Nexts.{IsNext, IsUnshifted, KeepsSets, next_core_step}
 
 -- what core sets for labels
 pub record Labelling : Type 0 where
@@ -239,7 +240,7 @@ pub record IsAsInCore (d r : Labelling) (o : Option FullWorld) (p : Option core.
   pub like : LikeIn d r o
 
 like_after : (d r : Labelling) (w : FullWorld) (t : Step) (o : Option FullWorld) → Leads d r t → IsLikeCore d w → labelling w.core.state ≡ d
-    → NextIn w o → core_of o ≡ core.step w.core t → LikeIn d r o
+    → In (IsNext w) o → core_of o ≡ core.step w.core t → LikeIn d r o
 like_after d r w t None l h k n e = tt
 like_after d r w t (Some v) l h k n e = (like_next d w v h n, led_by w.core v.core d r t l k (sym e))
 

@@ -210,17 +210,6 @@ one_round page s w k before items e =
     ∙ append_assoc before (map (wedge_place page s w) (range_with_len 0 k)) (wedge_place page s w k ∷ [])
     ∙ ap (λ (is : List Spot). before ++ is) (sym (map-range_with_len_more (wedge_place page s w) 0 k k (omega arith)))
 
--- a wedge has places
-has_places_in : (is_whole : Bool) (page : Page) (s : State) (w : Wedge)
-    → (if is_whole then round_places page s w else s.place ∷ (round_places page s w ++ s.place ∷ [])) ≡ [] → ⊥
-has_places_in true page s w h =
-    let n = ap (λ (qs : List Spot). length qs) h in
-    omega (arith, n, length-map-range_with_len (wedge_place page s w) 0 (1 + chords_of w.chord w.sweep))
-has_places_in false page s w h = let n = ap (λ (qs : List Spot). length qs) h in omega (arith, n)
-
-pub has_places : (page : Page) (s : State) (w : Wedge) → wedge_places page s w ≡ [] → ⊥
-has_places page s w h = has_places_in (nat_eq (nat_abs w.sweep) 360000) page s w h
-
 -- the first place, and the rest
 pub first_and_rest : (places : List Spot) (d : Spot) → 1 ≤ length places → (get_or places 0 d ∷ take (length places - 1) (drop 1 places)) ≡ places
 first_and_rest [] d h = absurd (omega arith)

@@ -74,14 +74,6 @@ more_drawn w l ls =
     (ap (λ (c : core.World). record w { core = c; run = run_through shape w.run (l ∷ ls) })
     (ap (λ (ss : List Segment). with_strokes w.core s ss) (inked-append s first rest) ∙ with_more w.core (inked s first) (inked s rest)))
 
-pub one_drawn : (w v o : FullWorld) (ls : List Segment) (i : ℕ) (l : Segment) → i < length ls → l ≡ get_or ls i l → Some (drawn_in_type w (l ∷ [])) ≡ Some v
-    → drawn_in_type w (drop i ls) ≡ o → drawn_in_type v (drop (i + 1) ls) ≡ o
-one_drawn w v o ls i l h e k m =
-    let next : suc i ≡ i + 1 = omega arith in
-    let cons : drop i ls ≡ l ∷ drop (i + 1) ls = (rw next at (drop-cons ls i l h)) ∙ ap (λ (x : Segment). x ∷ drop (i + 1) ls) (sym e) in
-    let first = same_Some _ _ k in
-    sym (ap (λ (u : FullWorld). drawn_in_type u (drop (i + 1) ls)) first) ∙ sym (more_drawn w l (drop (i + 1) ls)) ∙ sym (ap (λ (xs : List Segment). drawn_in_type w xs) cons) ∙ m
-
 pub same_shape : (w v : FullWorld) (ls : List Segment) → Some (drawn_in_type w ls) ≡ Some v → shape_in v ≡ shape_in w
 same_shape w v ls k = sym (ap (λ (u : FullWorld). shape_in u) (same_Some _ _ k))
 

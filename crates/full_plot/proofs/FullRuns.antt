@@ -1,15 +1,9 @@
 -- Steps of core, one after another, in the profile full.
-use Rattle.std.proofs.Common.{◌≡◌, ◌∙◌, ◌<◌, ◌≤◌, ap, sym, refl, arith, inl, inr, Bool, true, ℕ, false, true≢false, slice_index_or, Result, Ok, Err, List, [], ◌∷◌, ◌++◌, length, Option, Some, None, ℤ}
+use Rattle.std.proofs.Common.{◌≡◌, ◌∙◌, ◌<◌, ◌≤◌, ap, sym, refl, arith, Bool, true, ℕ, false, true≢false, slice_index_or, Result, Ok, Err, List, [], ◌∷◌, ◌++◌, length, Option, Some, None, ℤ}
 use Rattle.std.specs.Prelude.{if◌then◌else◌}
 use Rattle.std.proofs.lemmas.List.{map-append}
-use Rattle.std.proofs.lemmas.Bool.{cases_Bool}
-use Rattle.std.specs.List.{list_all}
 use Rattle.hpgl_text.specs.EntryShapes.{EntryShape}
-use Rattle.plot_settings.specs.Meanings.{Step, Touch, Lower, meaning, moves, lowered_then, part_steps, entry_steps}
-use Rattle.line_types.specs.LineTypes.{Solid}
-use Rattle.hpgl_plot.specs.Paths.{path}
-use Rattle.hpgl_plot.specs.Strokes.{are_in_range}
-use Rattle.hpgl_plot.specs.Machine as core
+use Rattle.plot_settings.specs.Meanings.{Touch, Lower, meaning, moves, lowered_then, part_steps, entry_steps}
 use Rattle.hpgl_text.specs.declared.instruction.Instruction.{Instruction}
 use Rattle.hpgl_text.specs.declared.instruction.Instruction.TheVariants.{PenWidth, PenColour}
 use Rattle.std.specs.Result.{IsErrAnd}
@@ -22,12 +16,8 @@ use Rattle.full_notes.specs.Notes.{request_after}
 use Rattle.full_plot.specs.Items.{as_core, more_steps, params_steps, request_steps}
 use Rattle.full_plot.specs.ContextsAfter.{after_request}
 use Rattle.full_notes.proofs.Noted.{is_own}
-use Rattle.full_settings.specs.LineStyles.{is_solid, shape_by}
-use Rattle.full_settings.specs.declared.line_setting.LineKind.TheVariants as kind
-use Rattle.full_settings.specs.declared.line_setting.LineKind.{LineKind}
-use Rattle.full_plot.specs.Worlds.{FullWorld, full_followed, with_core}
+use Rattle.full_plot.specs.Worlds.{FullWorld, full_followed}
 use Rattle.full_plot.specs.Machine.{last_end, FullStep, Core, full_step, run, core_step, Runs}
-use Rattle.full_plot.specs.Lines.{line_step, shape_in}
 
 full_followed-followed : (o : Option FullWorld) (f g : FullWorld → Option FullWorld) → full_followed (full_followed o f) g ≡ full_followed o (λ (v : FullWorld). full_followed (f v) g)
 full_followed-followed None f g = refl

@@ -7,9 +7,10 @@ pub mod Solid
 pub mod LinesAlong
 pub mod Curved
 pub mod FullRuns
+pub mod Changes
+pub mod FullChanges
 pub mod Nexts
 pub mod JoinedSheets
-pub mod Filled
 pub mod Aside
 pub mod Later
 pub mod OrderedLabels

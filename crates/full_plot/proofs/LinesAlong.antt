@@ -1,24 +1,22 @@
 -- Lines along places: those in solid lines are core's, and the others are dashed one after another.
-use Rattle.std.proofs.Common.{◌≡◌, ◌∙◌, ◌<◌, ◌+◌, ◌&&◌, drop, drop-cons, Bool, true, false, true≢false, slice_index_or, ℕ, zero, suc, List, [], ◌∷◌, ◌++◌, length, append-nil, refl, sym, ap, subst, inl, inr, arith, Option, Some, None, Result, Ok, Err}
-use Rattle.std.specs.Prelude.{if◌then◌else◌, max, nat_eq}
+use Rattle.std.proofs.Common.{◌≡◌, ◌∙◌, ◌<◌, ◌+◌, ◌&&◌, drop, drop-cons, Bool, true, false, true≢false, slice_index_or, ℕ, zero, suc, List, [], ◌∷◌, length, append-nil, refl, sym, ap, subst, inl, inr, arith, Option, Some, None, Result, Ok, Err}
+use Rattle.std.specs.Prelude.{if◌then◌else◌}
 use Rattle.std.specs.Result.{IsErrAnd}
 use Rattle.std.proofs.lemmas.Bool.{cases_Bool}
 use Rattle.std.proofs.lemmas.Bool.Decides.{nat_tests}
 use Rattle.std.proofs.lemmas.Option.{none-some, same_Some}
 use Rattle.exact.specs.declared.spot.Spot.{Spot}
 use Rattle.line_types.specs.LineTypes.{Solid}
-use Rattle.plot_page.specs.Segments.{Segment}
 use Rattle.plot_settings.specs.Meanings.{Step}
 use Rattle.hpgl_plot.specs.declared.plotter.Stop.{Stop}
 use Rattle.hpgl_plot.specs.declared.plotter.Stop.TheVariants.{Memory, OffRange}
 use Rattle.hpgl_plot.specs.declared.state.Position.{Position}
 use Rattle.hpgl_plot.specs.declared.state.State.{State}
 use Rattle.hpgl_plot.specs.Bounds.{IsInRange}
-use Rattle.hpgl_plot.specs.Paths.{Path, along}
+use Rattle.hpgl_plot.specs.Paths.{along}
 use Rattle.hpgl_plot.specs.Strokes.{are_in_range, by_a_pen, is_in_range, joined, stroke}
 use Rattle.hpgl_plot.specs.Strokes as strokes
 use Rattle.hpgl_plot.specs.Machine as core
-use Rattle.hpgl_plot.proofs.Fed.{within}
 use Rattle.hpgl_plot.proofs.Travels.{Line, step_along}
 use Rattle.full_settings.specs.LineStyles.{is_solid}
 use Rattle.full_plot.specs.Lines.{drawn_in_type, drawn_along, with_state, ended_in, line_step, lines_along, places_of, shape_in, state_after, step_path}
@@ -99,11 +97,6 @@ pub traced_by : (w : FullWorld) (t : Step) (draws : Bool) (places : List Spot) (
 unfolding trace_step
 traced_by w t draws places end e = rw e refl
 
--- one place
-pub along_one : (w : FullWorld) (draws : Bool) (a : Spot) → IsInRange a → drawn_along w draws (a ∷ []) ≡ Some w
-along_one w true a h = rw (within a h) (ap (λ (u : FullWorld). Some u) (none_drawn w))
-along_one w false a h = rw (within a h) (ap (λ (u : FullWorld). Some u) (none_drawn w))
-
 -- a place that core finds out of range
 out_is : (c : core.World) (draws : Bool) (a : Spot) → core.travelled c draws (a ∷ []) ≡ None → is_in_range a ≡ false
 out_is c draws a k = elim (cases_Bool (is_in_range a)) [
@@ -113,15 +106,6 @@ out_is c draws a k = elim (cases_Bool (is_in_range a)) [
 
 pub along_out : (w : FullWorld) (draws : Bool) (a : Spot) (rest : List Spot) → core.travelled w.core draws (a ∷ []) ≡ None → drawn_along w draws (a ∷ rest) ≡ None
 along_out w draws a rest k = rw (out_is w.core draws a k) refl
-
--- two places: one line, if it is drawn
-has_a_pen : (s : State) → nat_eq (by_a_pen s).pen 0 ≡ false
-has_a_pen s = grind (arith, nat_tests)
-
-pub along_two : (w : FullWorld) (draws : Bool) (a b : Spot) → IsInRange a → IsInRange b
-    → drawn_along w draws (a ∷ (b ∷ [])) ≡ Some (drawn_in_type w (if draws then stroke (by_a_pen w.core.state) a b ∷ [] else []))
-along_two w true a b h k = rw (within a h, within b k, has_a_pen w.core.state) refl
-along_two w false a b h k = rw (within a h, within b k) refl
 
 pub along_two_out : (w : FullWorld) (draws : Bool) (a b : Spot) → core.travelled w.core draws (b ∷ []) ≡ None → drawn_along w draws (a ∷ (b ∷ [])) ≡ None
 along_two_out w draws a b k = elim (cases_Bool (is_in_range a)) [
@@ -147,16 +131,6 @@ along_more w v draws a b rest h = elim (cases_Bool (is_in_range a)) [
     | inl t ↦ (let e = same_Some _ _ (rw (s, t) at h) in
         subst (λ (u : FullWorld). drawn_along w draws (a ∷ (b ∷ rest)) ≡ drawn_along u draws (b ∷ rest)) e
         (rw (s, t) (ap (λ (u : FullWorld). if are_in_range rest then Some u else None) (more_lines w draws a b rest))))
-  ]
-]
-
-pub along_never : (w : FullWorld) (draws : Bool) (a b : Spot) (rest : List Spot) → drawn_along w draws (a ∷ (b ∷ [])) ≡ None
-    → drawn_along w draws (a ∷ (b ∷ rest)) ≡ None
-along_never w draws a b rest h = elim (cases_Bool (is_in_range a)) [
-  | inr s ↦ rw s refl
-  | inl s ↦ elim (cases_Bool (is_in_range b)) [
-    | inr t ↦ rw (s, t) refl
-    | inl t ↦ absurd (none-some _ (sym (rw (s, t) at h)))
   ]
 ]
 

@@ -1,9 +1,8 @@
 -- Solid lines are those of core.
-use Rattle.std.proofs.Common.{◌≡◌, ◌∙◌, ◌≤◌, ℕ, max, List, [], ◌∷◌, ◌++◌, refl, ap, ap₂, sym, inl, inr, nat_eq, arith, Option, Bool, true, false, true≢false}
+use Rattle.std.proofs.Common.{◌≡◌, ◌∙◌, ◌≤◌, ℕ, max, List, [], ◌∷◌, refl, ap, sym, inl, inr, nat_eq, arith, Option, Bool, true, false, true≢false}
 use Rattle.std.specs.Prelude.{if◌then◌else◌}
 use Rattle.std.proofs.lemmas.Bool.{cases_Bool, eqb-true}
 use Rattle.std.proofs.lemmas.Bool.Decides.{nat_tests}
-use Rattle.std.specs.List.{flat_map}
 use Rattle.exact.specs.declared.spot.Spot.{Spot}
 use Rattle.plot_page.specs.Segments.{Segment}
 use Rattle.line_types.specs.declared.run.Run.{Run}
@@ -12,8 +11,7 @@ use Rattle.full_settings.specs.LineStyles.{is_solid, shape_by}
 use Rattle.full_settings.specs.declared.line_setting.LineKind.TheVariants as kind
 use Rattle.full_settings.specs.declared.line_setting.LineKind.{LineKind}
 use Rattle.hpgl_plot.specs.declared.state.State.{State}
-use Rattle.hpgl_plot.specs.Paths.{Path}
-use Rattle.hpgl_plot.specs.Strokes.{by_a_pen, joined, path_strokes}
+use Rattle.hpgl_plot.specs.Strokes.{by_a_pen, joined}
 use Rattle.full_plot.specs.Dashing.{dashed, run_through}
 use Rattle.full_plot.specs.Lines.{inked}
 
