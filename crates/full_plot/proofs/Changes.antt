@@ -42,14 +42,20 @@ pub in_if : {W : Type 0} (P : W → Type 0) (b : Bool) (o : Option W) → In P o
 in_if P true o h = h
 in_if P false o h = tt
 
+pub made_if : {W : Type 0} (b : Bool) (o : Option W) (v : W) → (if b then o else None) ≡ Some v → b ≡ true
+made_if true o v h = refl
+made_if false o v h = absurd (cc)
+
 pub in_else : {W : Type 0} (P : W → Type 0) (b : Bool) (o : Option W) → In P o → In P (if b then None else o)
 in_else P true o h = tt
 in_else P false o h = h
 
+-- what holds of both branches
 pub either : {W : Type 0} (P : W → Type 0) (b : Bool) (v w : W) → P v → P w → P (if b then v else w)
 either P true v w h k = h
 either P false v w h k = k
 
+-- core.followed and full_followed compute as this does
 abbrev then_do : {V W : Type 0} → Option V → (V → Option W) → Option W
 then_do None f = None
 then_do (Some v) f = f v
@@ -58,6 +64,7 @@ in_then : {V W : Type 0} (P : V → Type 0) (Q : W → Type 0) (o : Option V) (f
 in_then P Q None f h go = tt
 in_then P Q (Some v) f h go = go v h
 
+-- and with_core, with_margin and the like as this does
 abbrev mapped : {V W : Type 0} → (V → W) → Option V → Option W
 mapped g None = None
 mapped g (Some v) = Some (g v)

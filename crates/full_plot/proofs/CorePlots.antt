@@ -8,6 +8,7 @@ use Rattle.std.proofs.lemmas.List.Elements.{All-head, All-tail}
 use Rattle.carousel.specs.Carousels.{empty}
 use Rattle.carousel.specs.declared.carousel.Carousel.{Carousel}
 use Rattle.directions.specs.Directions.{vector_turned, unit}
+use Rattle.exact.specs.declared.spot.Spot.{Spot}
 use Rattle.directions.specs.Laws.{right}
 use Rattle.directions.proofs.Axes.{axes_are_exact_lem}
 use Rattle.stick_font.specs.declared.size.CharacterSize.{CharacterSize as Size}
@@ -43,7 +44,7 @@ use Rattle.full_settings.specs.declared.heading.Heading.TheVariants.{Absolute}
 use Rattle.full_settings.specs.declared.letter_setting.LetterSetting.TheVariants as letter
 use Rattle.full_plot.specs.Items.{as_core, letters_steps, more_steps, params_steps, full_steps, taken}
 use Rattle.full_plot.specs.Worlds.{FullWorld, full_followed, with_core}
-use Rattle.full_plot.specs.Machine.{FullStep, Core, Letter, Restart, Restyle, Rewiden, rewidened, run, widths_in, with_widths}
+use Rattle.full_plot.specs.Machine.{FullStep, Core, Letter, Restart, Restyle, Rewiden, restarted, restyled, rewidened, run, widths_in, with_widths}
 use Rattle.full_plot.specs.Drawings.{full_at_start, full_at_start_with, full_ended, is_too_much, full_runs, refusal_in, strokes_in, ends_in}
 use Rattle.full_plot.specs.Laws.{core_part, is_core_body, IsCoreItem, Draws}
 use Rattle.full_notes.specs.Contexts.{Context, first_context, read_in}
@@ -126,42 +127,40 @@ plain_again : (w : FullWorld) → IsTrue (reads_ascii w.encoding w.characters.se
     → IsTrue (reads_ascii w.encoding usual_characters.sets)
 plain_again w h k = subst (λ (c : Characters). IsTrue (reads_ascii w.encoding c.sets)) k h
 
-after_restart : (d : Labelling) (v : FullWorld) → IsLikeCore d v → labelling v.core.state ≡ usual_labelling → IsCores (run v (Restart ∷ [])) (Some v.core)
-after_restart d v h k = record {
-  same = refl;
-  like = like_now usual_labelling _
-      (record {
-        solid = refl;
-        first = h.first;
-        plain = plain_again v h.plain h.usual;
-        usual = refl;
-        no_symbol = refl;
-        led = usual_led;
-        no_extra = h.no_extra;
-        no_ends = h.no_ends;
-        few = h.few;
-        few_places = omega arith;
-      })
-      k;
+like_again : (d : Labelling) (v : FullWorld) (q : Spot) → IsLikeCore d v → IsLikeCore usual_labelling (record (restyled v) { margin = q })
+like_again d v q h = record {
+  solid = refl;
+  first = h.first;
+  plain = plain_again v h.plain h.usual;
+  usual = refl;
+  no_symbol = refl;
+  led = usual_led;
+  no_extra = h.no_extra;
+  no_ends = h.no_ends;
+  few = h.few;
+  few_places = omega arith;
 }
 
+after_restart : (d : Labelling) (v : FullWorld) → IsLikeCore d v → labelling v.core.state ≡ usual_labelling → IsCores (run v (Restart ∷ [])) (Some v.core)
+after_restart d v h k = record { same = refl; like = like_now usual_labelling (restarted v) (like_again d v v.core.state.place h) k }
+
 after_restyle : (d : Labelling) (v : FullWorld) → IsLikeCore d v → labelling v.core.state ≡ usual_labelling → IsCores (run v (Restyle ∷ [])) (Some v.core)
-after_restyle d v h k = record {
-  same = refl;
-  like = like_now usual_labelling _
-      (record {
-        solid = refl;
-        first = h.first;
-        plain = plain_again v h.plain h.usual;
-        usual = refl;
-        no_symbol = refl;
-        led = usual_led;
-        no_extra = h.no_extra;
-        no_ends = h.no_ends;
-        few = h.few;
-        few_places = omega arith;
-      })
-      k;
+after_restyle d v h k = record { same = refl; like = like_now usual_labelling (restyled v) (like_again d v v.margin h) k }
+
+-- with other letters
+with_letters : (d r : Labelling) (v : FullWorld) (l : LetterStyle) (q : Spot) → IsLed r l → IsLikeCore d v
+    → IsLikeCore r (record v { writing = record v.writing { letters = l }; margin = q })
+with_letters d r v l q led h = record {
+  solid = h.solid;
+  first = h.first;
+  plain = h.plain;
+  usual = h.usual;
+  no_symbol = h.no_symbol;
+  led = led;
+  no_extra = h.no_extra;
+  no_ends = h.no_ends;
+  few = h.few;
+  few_places = h.few_places;
 }
 
 -- DI
@@ -170,29 +169,16 @@ directed r p = Core (Set (setting.Direction r)) ∷ (Letter (letter.Direction p)
 
 after_direction : (d : Labelling) (r : Rotation) (p : Pair ℤ) (v : FullWorld) → unit p.x p.y ≡ vector_turned (turn_by r) right
     → IsLikeCore d v → labelling v.core.state ≡ record d { direction = r } → IsCores (run v (Letter (letter.Direction p) ∷ [])) (Some v.core)
-after_direction d r p v u h k = record {
-  same = refl;
-  like = like_now (record d { direction = r }) _
-      (record {
-        solid = h.solid;
-        first = h.first;
-        plain = h.plain;
-        usual = h.usual;
-        no_symbol = h.no_symbol;
-        led = record {
-          heading = p;
-          size = h.led.size;
-          letters_are = ap (λ (m : LetterStyle). record m { heading = Absolute p }) h.led.letters_are;
-          leads = u;
-          sized = h.led.sized;
-        };
-        no_extra = h.no_extra;
-        no_ends = h.no_ends;
-        few = h.few;
-        few_places = h.few_places;
-      })
-      k;
-}
+after_direction d r p v u h k =
+    let l : LetterStyle = record v.writing.letters { heading = Absolute p } in
+    let led : IsLed (record d { direction = r }) l = record {
+      heading = p;
+      size = h.led.size;
+      letters_are = ap (λ (m : LetterStyle). record m { heading = Absolute p }) h.led.letters_are;
+      leads = u;
+      sized = h.led.sized;
+    } in
+    record { same = refl; like = like_now (record d { direction = r }) _ (with_letters d (record d { direction = r }) v l v.core.state.place led h) k }
 
 -- SI
 abbrev sized : Size → LetterSetting → List FullStep
@@ -203,30 +189,17 @@ after_size : (d : Labelling) (z : Size) (s : LetterSetting) (by : LetterSize) (v
     → ((points : Pair Ends) → letter_size_in by usual_font z points ≡ pair_of z.width z.height)
     → IsLikeCore d v → labelling v.core.state ≡ record d { size = z } → IsCores (run v (Letter s ∷ [])) (Some v.core)
 after_size d z s by v set fits h k =
-    let u : FullWorld = record v { writing = record v.writing { letters = record v.writing.letters { size = by } } } in
-    let is : IsCores (Some u) (Some v.core) = record {
-      same = refl;
-      like = like_now (record d { size = z }) u
-          (record {
-            solid = h.solid;
-            first = h.first;
-            plain = h.plain;
-            usual = h.usual;
-            no_symbol = h.no_symbol;
-            led = record {
-              heading = h.led.heading;
-              size = by;
-              letters_are = ap (λ (m : LetterStyle). record m { size = by }) h.led.letters_are;
-              leads = h.led.leads;
-              sized = fits;
-            };
-            no_extra = h.no_extra;
-            no_ends = h.no_ends;
-            few = h.few;
-            few_places = h.few_places;
-          })
-          k;
+    let l : LetterStyle = record v.writing.letters { size = by } in
+    let u : FullWorld = record v { writing = record v.writing { letters = l } } in
+    let led : IsLed (record d { size = z }) l = record {
+      heading = h.led.heading;
+      size = by;
+      letters_are = ap (λ (m : LetterStyle). record m { size = by }) h.led.letters_are;
+      leads = h.led.leads;
+      sized = fits;
     } in
+    let is : IsCores (Some u) (Some v.core) =
+    record { same = refl; like = like_now (record d { size = z }) u (with_letters d (record d { size = z }) v l v.margin led h) k } in
     subst (λ (x : FullWorld). IsCores (Some x) (Some v.core)) (sym set) is
 
 -- one setting

@@ -2,7 +2,7 @@
 use Rattle.std.proofs.Common.{◌≡◌, ◌∙◌, ◌≤◌, ap, sym, subst, refl, inl, inr, Bool, true, false, true≢false, IsTrue, not, ◌&&◌, ◌||◌, if◌then◌else◌, ap₂, ℕ, ℤ, List, [], ◌∷◌, length, nat_eq, nat_lt, Option, Some, None}
 use Rattle.std.specs.Prelude.{⊤}
 use Rattle.std.specs.List.{list_all}
-use Rattle.std.proofs.lemmas.Bool.{cases_Bool}
+use Rattle.std.proofs.lemmas.Bool.{and_from, and_parts, cases_Bool}
 use Rattle.std.proofs.lemmas.Option.{none-some, same_Some}
 use Rattle.exact.specs.declared.spot.Spot.{Spot}
 use Rattle.directions.specs.Directions.{vector_turned, unit}
@@ -137,18 +137,6 @@ core_shifted : (text : List ℕ) (o : Option FullWorld) → core_of (then_shifte
 core_shifted text None = refl
 core_shifted text (Some v) = refl
 
-both : (a b : Bool) → IsTrue a → IsTrue b → IsTrue (a && b)
-both true b h k = k
-both false b h k = absurd (true≢false (sym h))
-
-first : (a b : Bool) → IsTrue (a && b) → IsTrue a
-first true b h = refl
-first false b h = h
-
-second : (a b : Bool) → IsTrue (a && b) → IsTrue b
-second true b h = h
-second false b h = absurd (true≢false (sym h))
-
 core_written : (w : FullWorld) (text : List ℕ) → IsLikeCore (labelling w.core.state) w → IsCoreLabel text
     → core_of (written w text) ≡ core.step w.core (Write text)
 core_written w text h k =
@@ -164,7 +152,7 @@ core_written w text h k =
     ∙ core_margin w (if_short text label) _
     ∙ rw k.short refl
     ∙ label_as_in_core w.core (style_of w) w.encoding w.characters.sets text style
-    (both (reads_ascii w.encoding w.characters.sets) (list_all is_core_byte text) h.plain k.plain)
+    (and_from (reads_ascii w.encoding w.characters.sets) (list_all is_core_byte text) h.plain k.plain)
 
 -- bytes of core select no set
 no_shift : (low out inward more : Bool) (a b s : Sets) → IsTrue ((low && not (out || inward)) && more)
@@ -180,8 +168,8 @@ unshifted_byte byte sets h = no_shift (nat_lt byte 128) (nat_eq byte 14) (nat_eq
 unshifted : (text : List ℕ) → IsTrue (list_all is_core_byte text) → IsUnshifted text
 unshifted [] h sets = refl
 unshifted (byte ∷ text) h sets =
-    ap (λ (s : Sets). sets_after s text) (unshifted_byte byte sets (first (is_core_byte byte) (list_all is_core_byte text) h))
-    ∙ unshifted text (second (is_core_byte byte) (list_all is_core_byte text) h) sets
+    let both = and_parts (is_core_byte byte) (list_all is_core_byte text) h in
+    ap (λ (s : Sets). sets_after s text) (unshifted_byte byte sets both.0) ∙ unshifted text both.1 sets
 
 keeps_sets : (t : Step) → IsShort t → KeepsSets t
 keeps_sets (Write text) h = unshifted text h.plain

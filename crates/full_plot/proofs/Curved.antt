@@ -1,8 +1,8 @@
 -- Moves, curves and wedges: what follows for them from the lines along their places.
-use Rattle.std.proofs.Common.{◌≡◌, ◌∙◌, ◌<◌, ◌≤◌, ◌+◌, ◌-◌, ℕ, ℤ, Bool, true, false, List, [], ◌∷◌, ◌++◌, length, drop, get_or, take, take_all, map, append_assoc, refl, sym, ap, ap₂, subst, inl, inr, arith, Option, Some, None, nat_abs, Result}
-use Rattle.std.specs.Prelude.{nat_eq, if◌then◌else◌}
+use Rattle.std.proofs.Common.{◌≡◌, ◌∙◌, ◌<◌, ◌≤◌, ◌+◌, ◌-◌, ℕ, ℤ, Bool, true, false, List, [], ◌∷◌, ◌++◌, length, drop, get_or, take, take_all, map, append_assoc, refl, sym, ap, ap₂, subst, inl, inr, arith, Option, Some, None, Result}
+use Rattle.std.specs.Prelude.{if◌then◌else◌}
 use Rattle.std.specs.List.{range_with_len}
-use Rattle.std.proofs.lemmas.Bool.{cases_Bool}
+use Rattle.std.proofs.lemmas.Bool.{and_parts, cases_Bool}
 use Rattle.std.proofs.lemmas.List.FromFn.{get_or-map-range_with_len, length-map-range_with_len, map-range_with_len_more}
 use Rattle.std.proofs.lemmas.Option.{none-some, same_Some}
 use Rattle.exact.specs.declared.spot.Spot.{Spot}
@@ -31,24 +31,18 @@ use Rattle.full_plot.specs.Machine.{Runs, core_step, marked}
 use Rattle.full_plot.specs.Polygons.{edge_step, figure_in, lined_by, only_figure, reached, trace_step, with_buffer}
 use Rattle.polygons.specs.Buffers.{Contents, begun_at, closed}
 use Rattle.full_plot.specs.Texts.{at_margin}
-use Rattle.full_plot.specs.Wedges.{round_places, wedge_edged, wedge_place, wedge_places}
-use Rattle.plot_arc.specs.Arcs.{chords_of}
+use Rattle.full_plot.specs.Wedges.{wedge_edged, wedge_place, wedge_places}
 use Rattle.full_plot.specs.Worlds.{FullWorld, full_followed}
-use Rattle.full_plot.proofs.LinesAlong.{Keeps, along_keeps, both_of, not_passed, places_in_range, still_by, traced_by}
+use Rattle.full_plot.proofs.Changes.{In, in_if, made_if}
+use Rattle.full_plot.proofs.LinesAlong.{Keeps, along_keeps, not_passed, places_in_range, still_by, traced_by}
 
 -- places that are reached
 pub reached_keeps : (w v : FullWorld) (places : List Spot) → reached w places ≡ Some v → Keeps w v
-reached_keeps w v places k = elim (cases_Bool (are_in_range (w.core.state.place ∷ places))) [
-  | inl i ↦ (let same = same_Some _ _ (rw i at k) in
-      record { page_is = sym (ap (λ (x : FullWorld). x.core.page) same); state_is = sym (ap (λ (x : FullWorld). x.core.state) same) })
-  | inr i ↦ absurd (none-some v (rw i at k))
-]
+reached_keeps w v places k =
+    subst (In (Keeps w)) k (in_if (Keeps w) (are_in_range (w.core.state.place ∷ places)) _ (record { page_is = refl; state_is = refl }))
 
 pub reached_in : (w v : FullWorld) (places : List Spot) → reached w places ≡ Some v → are_in_range (w.core.state.place ∷ places) ≡ true
-reached_in w v places k = elim (cases_Bool (are_in_range (w.core.state.place ∷ places))) [
-  | inl i ↦ i
-  | inr i ↦ absurd (none-some v (rw i at k))
-]
+reached_in w v places k = made_if (are_in_range (w.core.state.place ∷ places)) _ v k
 
 pub reached_out : (w : FullWorld) (places : List Spot) → core.travelled w.core false (w.core.state.place ∷ places) ≡ None → reached w places ≡ None
 reached_out w places k = rw (not_passed w.core false (w.core.state.place ∷ places) k) refl
@@ -120,7 +114,7 @@ arc_end_in_range w relative a places end e k =
     let all : are_in_range (s.place ∷ chords) ≡ true = ap (λ (q : Path). are_in_range (first_line q.lines)) e ∙ k in
     subst (λ (q : Path). IsInRange q.ends.place) e
     (last_in_range (λ (i : ℕ). place w.core.page s.frame (curve_point curve i)) (chord_count curve) (has_chord curve)
-    (both_of (is_in_range s.place) (are_in_range chords) all).1)
+    (and_parts (is_in_range s.place) (are_in_range chords) all).1)
 
 pub arc_end_is_placed : (w u : FullWorld) (relative : Bool) (a : Arc) (places : List Spot) (end : Position)
     → step_path w (DrawArc relative a) ≡ along (w.core.state.place ∷ places) w.core.state.is_down end → Keeps w u

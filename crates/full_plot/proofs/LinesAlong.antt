@@ -1,8 +1,8 @@
 -- Lines along places: those in solid lines are core's, and the others are dashed one after another.
-use Rattle.std.proofs.Common.{◌≡◌, ◌∙◌, ◌<◌, ◌+◌, ◌&&◌, drop, drop-cons, Bool, true, false, true≢false, slice_index_or, ℕ, zero, suc, List, [], ◌∷◌, length, append-nil, refl, sym, ap, subst, inl, inr, arith, Option, Some, None, Result, Ok, Err}
+use Rattle.std.proofs.Common.{◌≡◌, ◌∙◌, ◌<◌, ◌+◌, drop, drop-cons, Bool, true, false, slice_index_or, ℕ, zero, suc, List, [], ◌∷◌, length, append-nil, refl, sym, ap, subst, inl, inr, arith, Option, Some, None, Result, Ok, Err}
 use Rattle.std.specs.Prelude.{if◌then◌else◌}
 use Rattle.std.specs.Result.{IsErrAnd}
-use Rattle.std.proofs.lemmas.Bool.{cases_Bool}
+use Rattle.std.proofs.lemmas.Bool.{and_parts, cases_Bool}
 use Rattle.std.proofs.lemmas.Bool.Decides.{nat_tests}
 use Rattle.std.proofs.lemmas.Option.{none-some, same_Some}
 use Rattle.exact.specs.declared.spot.Spot.{Spot}
@@ -25,6 +25,7 @@ use Rattle.full_plot.specs.Polygons.{trace_step, traced}
 use Rattle.full_plot.specs.Worlds.{FullWorld, with_core}
 use Rattle.full_plot.proofs.DrawnLines.{drawn_in_type-append, none_drawn}
 use Rattle.full_plot.proofs.Solid.{run_solid, shape_solid, solid_joined}
+use Rattle.full_plot.proofs.Changes.{In, in_if, made_if}
 
 -- what stops core stops a step, if it goes out of range with core
 pub core_stopped : {U : Type 0} (T : Type 0) (o : Option core.World) (p : Option FullWorld) (u : core.World) (v : FullWorld) (e : Stop) (r : Result U Stop) → (o ≡ None → p ≡ None)
@@ -140,51 +141,35 @@ pub record Keeps (w v : FullWorld) : Type 0 where
   pub state_is : v.core.state ≡ w.core.state
 
 pub along_keeps : (w v : FullWorld) (draws : Bool) (places : List Spot) → drawn_along w draws places ≡ Some v → Keeps w v
-along_keeps w v draws places k = elim (cases_Bool (are_in_range places)) [
-  | inl i ↦ (let same = same_Some _ _ (rw i at k) in
-      record { page_is = sym (ap (λ (x : FullWorld). x.core.page) same); state_is = sym (ap (λ (x : FullWorld). x.core.state) same) })
-  | inr i ↦ absurd (none-some v (rw i at k))
-]
+along_keeps w v draws places k = subst (In (Keeps w)) k (in_if (Keeps w) (are_in_range places) _ (record { page_is = refl; state_is = refl }))
 
 pub along_shape : (w v : FullWorld) (draws : Bool) (places : List Spot) → drawn_along w draws places ≡ Some v → shape_in v ≡ shape_in w
-along_shape w v draws places k = elim (cases_Bool (are_in_range places)) [
-  | inl i ↦ sym (ap (λ (x : FullWorld). shape_in x) (same_Some _ _ (rw i at k)))
-  | inr i ↦ absurd (none-some v (rw i at k))
-]
+along_shape w v draws places k =
+    let P : FullWorld → Type 0 = λ x. shape_in x ≡ shape_in w in subst (In P) k (in_if P (are_in_range places) _ refl)
 
 -- where the pen comes to
 in_range_of : (q : Spot) → is_in_range q ≡ true → IsInRange q
 in_range_of q h = record { x_in = grind (arith, nat_tests); y_in = grind (arith, nat_tests) }
 
-pub both_of : (a b : Bool) → (a && b) ≡ true → (a ≡ true) × (b ≡ true)
-both_of true b h = (refl, h)
-both_of false b h = absurd (true≢false (sym h))
-
 pub places_in_range : (ps : List Spot) → are_in_range ps ≡ true → (k : ℕ) (d : Spot) → k < length ps → IsInRange (slice_index_or ps k d)
 places_in_range [] h k d l = absurd (omega arith)
-places_in_range (q ∷ qs) h zero d l = in_range_of q (both_of (is_in_range q) (are_in_range qs) h).0
-places_in_range (q ∷ qs) h (suc k) d l = places_in_range qs (both_of (is_in_range q) (are_in_range qs) h).1 k d (omega arith)
+places_in_range (q ∷ qs) h zero d l = in_range_of q (and_parts (is_in_range q) (are_in_range qs) h).0
+places_in_range (q ∷ qs) h (suc k) d l = places_in_range qs (and_parts (is_in_range q) (are_in_range qs) h).1 k d (omega arith)
 
 pub first_in_range : (q : Spot) (qs : List Spot) → are_in_range (q ∷ qs) ≡ true → IsInRange q
-first_in_range q qs h = in_range_of q (both_of (is_in_range q) (are_in_range qs) h).0
+first_in_range q qs h = in_range_of q (and_parts (is_in_range q) (are_in_range qs) h).0
 
 pub second_in_range : (a q : Spot) (qs : List Spot) → are_in_range (a ∷ (q ∷ qs)) ≡ true → IsInRange q
-second_in_range a q qs h = first_in_range q qs (both_of (is_in_range a) (are_in_range (q ∷ qs)) h).1
+second_in_range a q qs h = first_in_range q qs (and_parts (is_in_range a) (are_in_range (q ∷ qs)) h).1
 
 pub rest_in_range : (q : Spot) (qs : List Spot) → are_in_range (q ∷ qs) ≡ true → (k : ℕ) (d : Spot) → k < length qs → IsInRange (slice_index_or qs k d)
-rest_in_range q qs h = places_in_range qs (both_of (is_in_range q) (are_in_range qs) h).1
+rest_in_range q qs h = places_in_range qs (and_parts (is_in_range q) (are_in_range qs) h).1
 
 pub travelled_in : (c d : core.World) (draws : Bool) (places : List Spot) → core.travelled c draws places ≡ Some d → are_in_range places ≡ true
-travelled_in c d draws places k = elim (cases_Bool (are_in_range places)) [
-  | inl i ↦ i
-  | inr i ↦ absurd (none-some d (rw i at k))
-]
+travelled_in c d draws places k = made_if (are_in_range places) _ d k
 
 pub along_in : (w v : FullWorld) (draws : Bool) (places : List Spot) → drawn_along w draws places ≡ Some v → are_in_range places ≡ true
-along_in w v draws places k = elim (cases_Bool (are_in_range places)) [
-  | inl i ↦ i
-  | inr i ↦ absurd (none-some v (rw i at k))
-]
+along_in w v draws places k = made_if (are_in_range places) _ v k
 
 -- core passes places without lines: nothing is drawn
 pub not_drawn : (c d : core.World) (places : List Spot) → core.travelled c false places ≡ Some d → d ≡ c

@@ -1,8 +1,6 @@
-use Rattle.std.proofs.Common.{◌≡◌, ◌∙◌, ◌∷◌, ◌≤◌, ◌-◌, List, Option, pos, get_or, take, drop, length, true, subst, rules}
+use Rattle.std.proofs.Common.{◌≡◌, ◌∙◌, ◌∷◌, ◌-◌, List, Option, pos, get_or, take, drop, length, subst, rules}
 use Rattle.exact.specs.declared.spot.Spot.{Spot}
-use Rattle.full_plot.specs.Lines.{drawn_along}
 use Rattle.full_plot.specs.Machine.{seen, Runs}
-use Rattle.full_plot.specs.Polygons.{only_figure, with_buffer}
 use Rattle.full_plot.specs.Wedges.{wedge_places}
 use Rattle.full_plot.specs.Worlds.{FullWorld}
 use Rattle.full_plot.proofs.Curved.{first_and_rest, wedge_is}
