@@ -1,4 +1,4 @@
-use Rattle.std.proofs.Common.{◌≡◌, ◌∙◌, ap, sym, arith, length, length-append, List, [], ◌∷◌, ◌++◌, Option}
+use Rattle.std.proofs.Common.{◌+◌, ◌≡◌, ◌∙◌, ap, sym, arith, length, length-append, List, [], ◌∷◌, ◌++◌, Option}
 use Rattle.hpgl_text.specs.Shapes.{ItemShape}
 use Rattle.hpgl_text.specs.Cut.{cut_by}
 use Rattle.hpgl_text.specs.declared.profile.Profile.TheVariants.{Full}
@@ -14,37 +14,24 @@ use Rattle.full_plot.proofs.LabelsOver.{kept_past}
 use Rattle.full_plot.proofs.Later.{carried_out, few_strokes, told_as_set}
 use Rattle.full_plot.proofs.drawn.draw_full_with.Goals as goal
 
+-- the notes on these items, where the note on the first is known
+split : (before : Context) (item : ItemShape) (rest items : List ItemShape) (own : Option NoteKind) → items ≡ item ∷ rest → own ≡ body_noted before item.body
+    → length (notes_from before items) ≡ length (notes_with own item) + length (notes_from (context_after before item.body) rest)
+split before item rest items own is noted =
+    ap (λ (is : List ItemShape). length (notes_from before is)) is
+    ∙ length-append (notes_with (body_noted before item.body) item) (notes_from (context_after before item.body) rest)
+    ∙ ap (λ (k : Option NoteKind). length (notes_with k item) + length (notes_from (context_after before item.body) rest)) (sym noted)
+
 -- the notes so far and those on this item are some of those on the plot, which has fewer than 2^63 bytes
 pub count_notes-noted-requires : goal.count_notes-noted-requires
 count_notes-noted-requires c =
-    let item = c.in-Some.item in
-    let before : Context = (seen c.items.plotter).context in
-    let own = body_noted before item.body in
-    let noted : c.in_ok-own.own ≡ own = c.in_ok-own.ensures.noted in
-    omega (
-      arith,
-      c.items.invariant.noted,
-      ap (λ is. length (notes_from before is)) c.in-Some.ensures.steps,
-      length-append (notes_with own item) (notes_from (context_after before item.body) c.next.new.self),
-      ap (λ (k : Option NoteKind). length (notes_with k item)) noted,
-      few_notes c.args.text.now,
-    )
+    let notes = split (seen c.items.plotter).context c.in-Some.item c.next.new.self _ c.in_ok-own.own c.in-Some.ensures.steps c.in_ok-own.ensures.noted in
+    omega (arith, c.items.invariant.noted, notes, few_notes c.args.text.now)
 
 pub overflow_add-noted : goal.overflow_add-noted
 overflow_add-noted c =
-    let item = c.in-Some.item in
-    let before : Context = (seen c.items.plotter).context in
-    let own = body_noted before item.body in
-    let noted : c.in_ok-own.own ≡ own = c.in_ok-own.ensures.noted in
-    omega (
-      arith,
-      c.items.invariant.noted,
-      ap (λ is. length (notes_from before is)) c.in-Some.ensures.steps,
-      length-append (notes_with own item) (notes_from (context_after before item.body) c.next.new.self),
-      ap (λ (k : Option NoteKind). length (notes_with k item)) noted,
-      c.count_notes-noted.ensures,
-      few_notes c.args.text.now,
-    )
+    let notes = split (seen c.items.plotter).context c.in-Some.item c.next.new.self _ c.in_ok-own.own c.in-Some.ensures.steps c.in_ok-own.ensures.noted in
+    omega (arith, c.items.invariant.noted, notes, c.count_notes-noted.ensures, few_notes c.args.text.now)
 
 -- the plotter that carried out this item has the context that notes have after it
 pub items-preserved : goal.items-preserved
@@ -53,9 +40,7 @@ items-preserved c =
     let rest = c.next.new.self in
     let old = seen c.items.plotter in
     let new = seen c.advance.new.self in
-    let before : Context = (seen c.items.plotter).context in
-    let own = body_noted before item.body in
-    let noted : c.in_ok-own.own ≡ own = c.in_ok-own.ensures.noted in
+    let notes = split old.context item rest _ c.in_ok-own.own c.in-Some.ensures.steps c.in_ok-own.ensures.noted in
     let goes_on : (more : List ItemShape) → full_runs old (item ∷ more) ≡ full_runs new more =
     carried_out old new item c.advance.result c.in_ok-own.own c.advance.ensures.carried c.in_ok-own.was in
     record {
@@ -63,9 +48,7 @@ items-preserved c =
       noted = omega (
         arith,
         c.items.invariant.noted,
-        ap (λ is. length (notes_from before is)) c.in-Some.ensures.steps,
-        length-append (notes_with own item) (notes_from (context_after before item.body) rest),
-        ap (λ (k : Option NoteKind). length (notes_with k item)) noted,
+        notes,
         ap (λ (b : Context). length (notes_from b rest)) (told_as_set old new item (goes_on [])),
         c.count_notes-noted.ensures,
       );
