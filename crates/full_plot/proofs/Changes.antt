@@ -55,6 +55,10 @@ pub either : {W : Type 0} (P : W → Type 0) (b : Bool) (v w : W) → P v → P 
 either P true v w h k = h
 either P false v w h k = k
 
+pub either_by : {W : Type 0} (P : W → Type 0) (b : Bool) (v w : W) → (b ≡ true → P v) → (b ≡ false → P w) → P (if b then v else w)
+either_by P true v w h k = h refl
+either_by P false v w h k = k refl
+
 -- core.followed and full_followed compute as this does
 abbrev then_do : {V W : Type 0} → Option V → (V → Option W) → Option W
 then_do None f = None

@@ -1,9 +1,8 @@
 -- Steps of core in the profile full, while all that it has besides is as core has it.
-use Rattle.std.proofs.Common.{◌≡◌, ◌∙◌, ◌≤◌, ap, sym, subst, refl, inl, inr, Bool, true, false, true≢false, IsTrue, not, ◌&&◌, ◌||◌, if◌then◌else◌, ap₂, ℕ, ℤ, List, [], ◌∷◌, length, nat_eq, nat_lt, Option, Some, None}
+use Rattle.std.proofs.Common.{◌≡◌, ◌∙◌, ◌≤◌, ap, sym, subst, refl, Bool, true, false, true≢false, IsTrue, not, ◌&&◌, ◌||◌, if◌then◌else◌, ap₂, ℕ, ℤ, List, [], ◌∷◌, length, nat_eq, nat_lt, Option, Some, None}
 use Rattle.std.specs.Prelude.{⊤}
 use Rattle.std.specs.List.{list_all}
-use Rattle.std.proofs.lemmas.Bool.{and_from, and_parts, cases_Bool}
-use Rattle.std.proofs.lemmas.Option.{none-some, same_Some}
+use Rattle.std.proofs.lemmas.Bool.{and_from, and_parts}
 use Rattle.exact.specs.declared.spot.Spot.{Spot}
 use Rattle.directions.specs.Directions.{vector_turned, unit}
 use Rattle.directions.specs.Laws.{right}
@@ -21,7 +20,7 @@ use Rattle.plot_settings.specs.Meanings.{Step, Touch, Move, Go, Edge, DrawCircle
 use Rattle.plot_settings.specs.declared.setting.Rotation.{Rotation}
 use Rattle.hpgl_plot.specs.declared.state.State.{State}
 use Rattle.hpgl_plot.specs.Paths.{path}
-use Rattle.hpgl_plot.specs.Strokes.{are_in_range, path_strokes}
+use Rattle.hpgl_plot.specs.Strokes.{are_in_range}
 use Rattle.hpgl_plot.specs.Machine as core
 use Rattle.full_settings.specs.LineStyles.{Style, is_solid}
 use Rattle.full_settings.specs.Characters.{Characters, selected_font, usual_characters, usual_font}
@@ -41,7 +40,7 @@ use Rattle.full_plot.specs.Worlds.{FullWorld, Writing, full_followed, with_core}
 use Rattle.full_plot.proofs.CoreLabels.{label_as_in_core, style_is, turn_in}
 use Rattle.full_plot.proofs.LinesAlong.{IsLine, solid_line}
 use Rattle.full_plot.proofs.Solid.{shape_solid}
-use Rattle.full_plot.proofs.Changes.{In}
+use Rattle.full_plot.proofs.Changes.{In, in_if}
 use Rattle.full_plot.proofs.Nexts.{IsNext, IsUnshifted, KeepsSets, next_core_step}
 
 -- what core sets for labels
@@ -211,12 +210,8 @@ Leads d r t = (page : Page) (s : State) → labelling s ≡ d → labelling (cor
 led_by : (c e : core.World) (d r : Labelling) (t : Step) → Leads d r t → labelling c.state ≡ d → core.step c t ≡ Some e → labelling e.state ≡ r
 unfolding core.step
 led_by c e d r t l k h =
-    let p = path c.page c.state t in
-    let new : core.World = core.with_strokes c (core.after c.page c.state t) (path_strokes c.state p) in
-    elim (cases_Bool (list_all are_in_range p.lines)) [
-      | inl i ↦ ap (λ (u : core.World). labelling u.state) (sym (same_Some new e (rw i at h))) ∙ l c.page c.state k
-      | inr i ↦ absurd (none-some e (rw i at h))
-    ]
+    let P : core.World → Type 0 = λ u. labelling u.state ≡ r in
+    subst (In P) h (in_if P (list_all are_in_range (path c.page c.state t).lines) _ (l c.page c.state k))
 
 -- what steps leave: core sets r for labels then, and labels are by d as before
 abbrev pub LikeIn : Labelling → Labelling → Option FullWorld → Type 0

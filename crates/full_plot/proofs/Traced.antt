@@ -1,8 +1,8 @@
 -- In polygon mode no item makes a stroke.
-use Rattle.std.proofs.Common.{◌≡◌, ◌∙◌, ap, sym, refl, inl, inr, ℤ, Bool, true, false, true≢false, subst, List, [], ◌∷◌, ◌++◌, map, Option, Some, None}
+use Rattle.std.proofs.Common.{◌≡◌, ◌∙◌, ap, sym, refl, ℤ, Bool, true, false, true≢false, subst, List, [], ◌∷◌, ◌++◌, map, Option, Some, None}
 use Rattle.std.specs.Prelude.{if◌then◌else◌}
 use Rattle.std.specs.List.{list_all}
-use Rattle.std.proofs.lemmas.Bool.{cases_Bool, and_parts, and_from}
+use Rattle.std.proofs.lemmas.Bool.{and_parts, and_from}
 use Rattle.std.proofs.lemmas.List.Folds.{list_all-append}
 use Rattle.hpgl_text.specs.Shapes.{ItemShape, BodyShape, Params, Further, Label, Coded}
 use Rattle.hpgl_text.specs.Shapes as shape
@@ -23,12 +23,12 @@ use Rattle.full_settings.specs.ColourRanges.{pen_colour_in}
 use Rattle.full_settings.specs.CurveParameters.{curve_points}
 use Rattle.full_settings.specs.LetterParameters.{letter_direction}
 use Rattle.full_settings.specs.WidthParameters.{percent_width}
-use Rattle.full_notes.specs.Contexts.{Context, body_read, is_bad_further, is_bad_in_polygons, is_edge, numbers_read, read_in, request_in}
+use Rattle.full_notes.specs.Contexts.{Context, body_read, is_bad_further, is_bad_in_polygons, is_edge, is_misplaced, numbers_read, read_in, request_in}
 use Rattle.full_notes.specs.Notes.{after_body, context_after, params_after, request_after}
 use Rattle.full_plot.specs.Items.{as_core, full_steps, letters_steps, more_steps, params_steps, request_steps, size_by, taken, width_steps, widths_steps}
 use Rattle.full_plot.specs.Machine.{FullStep, Core, Rewiden, Letter, Curve, run}
 use Rattle.full_plot.specs.Worlds.{FullWorld}
-use Rattle.full_plot.proofs.Changes.{In, is_silent}
+use Rattle.full_plot.proofs.Changes.{In, either_by, is_silent}
 use Rattle.full_plot.proofs.FullChanges.{Changes, are_silent, run_holds}
 use Rattle.full_plot.proofs.Stills.{ArePlain, entries_plain, is_plain, params_plain}
 
@@ -178,12 +178,6 @@ body_silent c (Coded entries) on h = when_on c.in_polygon (as_core (entry_steps 
 body_silent c (Label text) on h = absurd (true≢false h)
 body_silent c b on h = refl
 
-read_bad : (c : Context) (b : BodyShape) → c.in_polygon ≡ true → is_bad_in_polygons b ≡ true → read_in c b ≡ shape.Bad
-read_bad c b on h = rw (on, h) refl
-
-read_good : (c : Context) (b : BodyShape) → c.in_polygon ≡ true → is_bad_in_polygons b ≡ false → read_in c b ≡ body_read c.usual_chords b
-read_good c b on h = rw (on, h) refl
-
 read_is_good : (usual : Bool) (b : BodyShape) → is_bad_in_polygons b ≡ false → is_bad_in_polygons (body_read usual b) ≡ false
 read_is_good usual (Params i ns) h = h
 read_is_good usual b h = h
@@ -192,11 +186,9 @@ abbrev ReadSilent : Context → BodyShape → Type 0
 ReadSilent c b = are_silent (after_body c b).in_polygon (full_steps c b) ≡ true
 
 read_silent : (c : Context) (b : BodyShape) → c.in_polygon ≡ true → ReadSilent c (read_in c b)
-read_silent c b on = elim (cases_Bool (is_bad_in_polygons b)) [
-  | inl h ↦ subst (ReadSilent c) (sym (read_bad c b on h)) refl
-  | inr h ↦ subst (ReadSilent c) (sym (read_good c b on h))
-      (body_silent c (body_read c.usual_chords b) on (read_is_good c.usual_chords b h))
-]
+read_silent c b on =
+    either_by (ReadSilent c) (is_misplaced c.in_polygon b) shape.Bad (body_read c.usual_chords b) (λ e. refl)
+    (λ e. body_silent c (body_read c.usual_chords b) on (read_is_good c.usual_chords b (rw on at e)))
 
 pub polygon_mode_is_silent : (w v : FullWorld) (i : ItemShape) → w.context.in_polygon ≡ true → taken w i.body ≡ Some v → v.core.kept ≡ w.core.kept
 polygon_mode_is_silent w v i on e =
