@@ -102,10 +102,6 @@ plot_left folder extension file xs ys put = (has_left xs ys _ put.0, output_left
 plot_right : (folder extension file : List ℕ) (xs ys : List Deed) → IsPlotPut folder extension file ys → IsPlotPut folder extension file (xs ++ ys)
 plot_right folder extension file xs ys put = (has_right xs ys _ put.0, output_right folder file extension xs ys put.1)
 
-plots_left : (folder extension : List ℕ) (files : List (List ℕ)) (xs ys : List Deed) → ArePlotsPut folder extension files xs → ArePlotsPut folder extension files (xs ++ ys)
-plots_left folder extension [] xs ys put = tt
-plots_left folder extension (file ∷ files) xs ys put = (plot_left folder extension file xs ys put.0, plots_left folder extension files xs ys put.1)
-
 pub plots_right : (folder extension : List ℕ) (files : List (List ℕ)) (xs ys : List Deed) → ArePlotsPut folder extension files ys → ArePlotsPut folder extension files (xs ++ ys)
 plots_right folder extension [] xs ys put = tt
 plots_right folder extension (file ∷ files) xs ys put = (plot_right folder extension file xs ys put.0, plots_right folder extension files xs ys put.1)
