@@ -2,7 +2,7 @@
 ghost use Rattle.std.specs.Prelude.{◌≡◌, ◌+◌, ◌≤◌, [], length};
 ghost use Rattle.deflate.specs.declared.sizes.TheConstants.{FULL, PIECE};
 ghost use Rattle.pieces.specs.Texts.{IsSound};
-ghost use Rattle.pdf.specs.Contained.{Ends, Fills, Holds, IsOpen};
+ghost use Rattle.pdf.specs.Contained.{Ends, Fills, Holds, IsOpen, Keeps};
 
 use deflate::{PIECE, TextEncoder};
 use devices::{Sink, append};
@@ -11,14 +11,14 @@ use pieces::Text;
 
 /// The content of a page as a zlib stream in a document: what is put waits until there is enough of it for the encoder.
 #[derive(Drop)]
-pub(crate) struct Content<'a> {
+pub(crate) struct PageContent<'a> {
     encoder: &'a mut TextEncoder,
     piece: [u8; PIECE],
     used: usize,
     size: u64,
 }
 
-impl<'a> Content<'a> {
+impl<'a> PageContent<'a> {
     // The start of a stream, of no bytes.
     pub fn new(encoder: &'a mut TextEncoder) -> Self
         ensures encoder { result.encoder.ghost_name ≡ encoder.entry.ghost_name }
@@ -27,7 +27,7 @@ impl<'a> Content<'a> {
         ensures fresh { Holds [] result [] }
     {
         encoder.begin();
-        Content {
+        PageContent {
             encoder,
             piece: [0; PIECE],
             used: 0,
@@ -44,7 +44,7 @@ impl<'a> Content<'a> {
         if bytes.len() > PIECE - self.used {
             self.put_on(document, bytes);
         } else {
-            self.keep(document, bytes);
+            self.keep(bytes);
         }
     }
 
@@ -73,10 +73,9 @@ impl<'a> Content<'a> {
 
     // Puts bytes for which there is room.
     #[inline(always)]
-    fn keep<K: Sink>(&mut self, document: &mut Text<'_, K>, bytes: &[u8])
-        requires open { IsOpen K.state document.old self.old }
+    fn keep(&mut self, bytes: &[u8])
         requires room { self.old.used + length bytes.now ≤ PIECE }
-        ensures fills { Fills K.state document.old document.new self.old self.new bytes.now }
+        ensures keeps { Keeps self.old self.new bytes.now }
     {
         self.used = append(&mut self.piece, self.used, bytes);
     }
@@ -89,7 +88,7 @@ impl<'a> Content<'a> {
     {
         for byte in bytes {
             self.make_place(document);
-            self.keep(document, &[*byte]);
+            self.keep(&[*byte]);
         }
     }
 
@@ -111,7 +110,7 @@ impl<'a> Content<'a> {
         ensures empty { self.new.used ≡ 0 }
     {
         self.make_room(document);
-        self.take(document);
+        self.take();
     }
 
     // Makes room in the encoder.
@@ -126,10 +125,10 @@ impl<'a> Content<'a> {
     }
 
     // Encodes what waits, for which the encoder has room.
-    fn take<K: Sink>(&mut self, document: &mut Text<'_, K>)
-        requires open { IsOpen K.state document.old self.old }
+    fn take(&mut self)
+        requires within { self.old.used ≤ PIECE }
         requires room { self.old.encoder.now.block.buffer.used ≤ FULL }
-        ensures fills { Fills K.state document.old document.new self.old self.new [] }
+        ensures keeps { Keeps self.old self.new [] }
         ensures empty { self.new.used ≡ 0 }
     {
         self.encoder.take(&self.piece[..self.used]);

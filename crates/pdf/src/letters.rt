@@ -4,7 +4,7 @@ ghost use Rattle.pdf.specs.Contained.{Fills, IsOpen};
 ghost use Rattle.pdf.specs.TextSteps.{letter_text, piece_end, piece_start, row_text};
 ghost use Rattle.pdf.specs.Texts.{byte_of, row_of, written};
 
-use crate::content::Content;
+use crate::content::PageContent;
 use crate::numbers::two_digits;
 use devices::Sink;
 use pieces::Text;
@@ -34,7 +34,7 @@ fn byte_of(point: u32) -> u8
 // Puts a letter, after one of another row, of the same one, or after none.
 pub(crate) fn put_letter<K: Sink>(
     document: &mut Text<'_, K>,
-    content: &mut Content<'_>,
+    content: &mut PageContent<'_>,
     before: Option<u8>,
     point: u32,
 )
@@ -48,7 +48,7 @@ pub(crate) fn put_letter<K: Sink>(
 // Puts what comes before a letter of a row.
 fn put_row<K: Sink>(
     document: &mut Text<'_, K>,
-    content: &mut Content<'_>,
+    content: &mut PageContent<'_>,
     before: Option<u8>,
     row: u8,
 )
@@ -64,7 +64,7 @@ fn put_row<K: Sink>(
 // Puts the start of a piece of letters.
 fn put_start<K: Sink>(
     document: &mut Text<'_, K>,
-    content: &mut Content<'_>,
+    content: &mut PageContent<'_>,
     before: Option<u8>,
     row: u8,
 )
@@ -80,7 +80,7 @@ fn put_start<K: Sink>(
 // Puts the end of a piece of letters, if there is one.
 pub(crate) fn put_end<K: Sink>(
     document: &mut Text<'_, K>,
-    content: &mut Content<'_>,
+    content: &mut PageContent<'_>,
     before: Option<u8>,
 )
     requires open { IsOpen K.state document.old content.old }

@@ -6,7 +6,7 @@ ghost use Rattle.pdf.specs.Texts.{above, along, matrix_of};
 ghost use Rattle.pdf.specs.declared.counts.TheConstants.{MOST_LETTERS};
 ghost use Rattle.plot_page.specs.declared.stroke.TheConstants.{FARTHEST_PLACE};
 
-use crate::content::Content;
+use crate::content::PageContent;
 use crate::numbers::{put_signed_thousandths, rounded};
 use crate::paths::{distance, put_place};
 use devices::Sink;
@@ -16,7 +16,7 @@ use pieces::Text;
 // Puts the place of a line that has letters.
 pub(crate) fn put_matrix<K: Sink>(
     document: &mut Text<'_, K>,
-    content: &mut Content<'_>,
+    content: &mut PageContent<'_>,
     line: &Line,
 )
     requires open { IsOpen K.state document.old content.old }
@@ -32,7 +32,7 @@ pub(crate) fn put_matrix<K: Sink>(
 }
 
 // Puts the four numbers.
-fn put_numbers<K: Sink>(document: &mut Text<'_, K>, content: &mut Content<'_>, line: &Line)
+fn put_numbers<K: Sink>(document: &mut Text<'_, K>, content: &mut PageContent<'_>, line: &Line)
     requires open { IsOpen K.state document.old content.old }
     requires some { 1 ≤ length line.now.text }
     requires few { length line.now.text ≤ MOST_LETTERS }
@@ -49,7 +49,7 @@ fn put_numbers<K: Sink>(document: &mut Text<'_, K>, content: &mut Content<'_>, l
 // Puts four numbers, in thousandths.
 fn put_four<K: Sink>(
     document: &mut Text<'_, K>,
-    content: &mut Content<'_>,
+    content: &mut PageContent<'_>,
     a: i64,
     b: i64,
     c: i64,

@@ -4,13 +4,13 @@ ghost use Rattle.number_text.specs.Fractions.{fraction};
 ghost use Rattle.pdf.specs.Contained.{Fills, IsOpen};
 ghost use Rattle.pdf.specs.Numbers.{nearest, part, rounded, signed_thousandths, thousandths, two_digits};
 
-use crate::content::Content;
+use crate::content::PageContent;
 use devices::Sink;
 use number_text::{decimals, digits_of, hex_digit};
 use pieces::Text;
 
 // Puts a point and some thousandths, without zeros at the end; nothing if there are none.
-fn put_fraction<K: Sink>(document: &mut Text<'_, K>, content: &mut Content<'_>, thousandths: u32)
+fn put_fraction<K: Sink>(document: &mut Text<'_, K>, content: &mut PageContent<'_>, thousandths: u32)
     requires open { IsOpen K.state document.old content.old }
     requires small { thousandths < 1000 }
     ensures fills { Fills K.state document.old document.new content.old content.new (fraction thousandths) }
@@ -23,7 +23,7 @@ fn put_fraction<K: Sink>(document: &mut Text<'_, K>, content: &mut Content<'_>, 
 }
 
 // Puts some thousandths as a decimal number.
-fn put_thousandths<K: Sink>(document: &mut Text<'_, K>, content: &mut Content<'_>, number: u32)
+fn put_thousandths<K: Sink>(document: &mut Text<'_, K>, content: &mut PageContent<'_>, number: u32)
     requires open { IsOpen K.state document.old content.old }
     ensures fills { Fills K.state document.old document.new content.old content.new (thousandths number) }
 {
@@ -32,7 +32,7 @@ fn put_thousandths<K: Sink>(document: &mut Text<'_, K>, content: &mut Content<'_
 }
 
 // Puts a part of a colour.
-pub(crate) fn put_part<K: Sink>(document: &mut Text<'_, K>, content: &mut Content<'_>, byte: u8)
+pub(crate) fn put_part<K: Sink>(document: &mut Text<'_, K>, content: &mut PageContent<'_>, byte: u8)
     requires open { IsOpen K.state document.old content.old }
     ensures fills { Fills K.state document.old document.new content.old content.new (part byte) }
 {
@@ -42,7 +42,7 @@ pub(crate) fn put_part<K: Sink>(document: &mut Text<'_, K>, content: &mut Conten
 // Puts some thousandths as a decimal number, which may be below 0.
 pub(crate) fn put_signed_thousandths<K: Sink>(
     document: &mut Text<'_, K>,
-    content: &mut Content<'_>,
+    content: &mut PageContent<'_>,
     number: i64,
 )
     requires open { IsOpen K.state document.old content.old }
@@ -55,7 +55,7 @@ pub(crate) fn put_signed_thousandths<K: Sink>(
 }
 
 // Puts a sign, or not.
-fn put_sign<K: Sink>(document: &mut Text<'_, K>, content: &mut Content<'_>, is_below: bool)
+fn put_sign<K: Sink>(document: &mut Text<'_, K>, content: &mut PageContent<'_>, is_below: bool)
     requires open { IsOpen K.state document.old content.old }
     ensures fills { Fills K.state document.old document.new content.old content.new (if is_below then codes "-" else []) }
 {

@@ -1,5 +1,5 @@
 //! Pages: three objects for each sheet.
-ghost use Rattle.std.specs.Prelude.{◌≡◌, ◌+◌, ◌-◌, ◌*◌, ◌^◌, ◌<◌, ◌≤◌, ◌++◌, [], ◌∷◌, length, take, drop, decimal};
+ghost use Rattle.std.specs.Prelude.{◌≡◌, ◌+◌, ◌-◌, ◌*◌, ◌^◌, ◌<◌, ◌≤◌, ◌++◌, [], ◌∷◌, length, decimal};
 ghost use Rattle.labels.specs.Sheets.{all_counted, count_to};
 ghost use Rattle.pieces.specs.Texts.{IsSound, Puts};
 ghost use Rattle.plot_page.specs.declared.stroke.TheConstants.{MOST_STROKES};
@@ -16,8 +16,7 @@ use deflate::TextEncoder;
 use devices::Sink;
 use labels::Label;
 use pieces::Text;
-use plot_page::Stroke;
-use stroke_runs::SheetView;
+use stroke_runs::{SheetView, between};
 
 // Puts the pages of sheets after `before` objects. A sheet has the strokes after those of the one before it, up to so many of
 // all as its end says, and the labels before whose strokes it ends.
@@ -154,13 +153,4 @@ fn count_to(labels: &[Label], earlier: usize, end: usize) -> usize
         rest = others;
     }
     count
-}
-
-// The strokes after the first `from` of the first `end`; none if there are no more.
-fn between(strokes: &[Stroke], from: usize, end: usize) -> &[Stroke]
-    ensures strokes { result.now ≡ drop from (take end strokes.now) }
-    ensures few { length result.now ≤ length strokes.now }
-{
-    let kept = &strokes[..end.min(strokes.len())];
-    &kept[from.min(kept.len())..]
 }

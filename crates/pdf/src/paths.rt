@@ -5,7 +5,7 @@ ghost use Rattle.pdf.specs.Operators.{colour_text, place_text, rectangle_text, w
 ghost use Rattle.pdf.specs.RunTexts.{clip_text, layer_text, line_text, start_text, stroke_text, window_text};
 ghost use Rattle.stroke_runs.specs.declared.shown.TheConstants.{LEAST_WIDTH};
 
-use crate::content::Content;
+use crate::content::PageContent;
 use crate::numbers::put_part;
 use devices::Sink;
 use pieces::Text;
@@ -15,7 +15,7 @@ use stroke_runs::{is_whole_page, shown_width};
 // Puts what comes before the places of a run that begins with this stroke.
 pub(crate) fn put_start<K: Sink>(
     document: &mut Text<'_, K>,
-    content: &mut Content<'_>,
+    content: &mut PageContent<'_>,
     page: &Page,
     stroke: &Stroke,
 )
@@ -29,7 +29,7 @@ pub(crate) fn put_start<K: Sink>(
 }
 
 // Puts the layer of a pen.
-fn put_layer<K: Sink>(document: &mut Text<'_, K>, content: &mut Content<'_>, pen: u8)
+fn put_layer<K: Sink>(document: &mut Text<'_, K>, content: &mut PageContent<'_>, pen: u8)
     requires open { IsOpen K.state document.old content.old }
     ensures fills { Fills K.state document.old document.new content.old content.new (layer_text pen) }
 {
@@ -41,7 +41,7 @@ fn put_layer<K: Sink>(document: &mut Text<'_, K>, content: &mut Content<'_>, pen
 // Puts the window of a stroke, if it is not the whole page.
 fn put_clip<K: Sink>(
     document: &mut Text<'_, K>,
-    content: &mut Content<'_>,
+    content: &mut PageContent<'_>,
     page: &Page,
     stroke: &Stroke,
 )
@@ -54,7 +54,7 @@ fn put_clip<K: Sink>(
 }
 
 // Puts a window as what is drawn alone.
-fn put_window<K: Sink>(document: &mut Text<'_, K>, content: &mut Content<'_>, window: Window)
+fn put_window<K: Sink>(document: &mut Text<'_, K>, content: &mut PageContent<'_>, window: Window)
     requires open { IsOpen K.state document.old content.old }
     requires x0 { nat_abs window.x0 ≤ 1048576 }
     requires y0 { nat_abs window.y0 ≤ 1048576 }
@@ -71,7 +71,7 @@ fn put_window<K: Sink>(document: &mut Text<'_, K>, content: &mut Content<'_>, wi
 // Puts a rectangle, from its lower left corner.
 fn put_rectangle<K: Sink>(
     document: &mut Text<'_, K>,
-    content: &mut Content<'_>,
+    content: &mut PageContent<'_>,
     x: i32,
     y: i32,
     width: i32,
@@ -98,7 +98,7 @@ pub(crate) fn distance(from: i32, to: i32) -> i32
 }
 
 // Puts the colour of lines.
-fn put_colour<K: Sink>(document: &mut Text<'_, K>, content: &mut Content<'_>, colour: Colour)
+fn put_colour<K: Sink>(document: &mut Text<'_, K>, content: &mut PageContent<'_>, colour: Colour)
     requires open { IsOpen K.state document.old content.old }
     ensures fills { Fills K.state document.old document.new content.old content.new (colour_text colour) }
 {
@@ -111,7 +111,7 @@ fn put_colour<K: Sink>(document: &mut Text<'_, K>, content: &mut Content<'_>, co
 }
 
 // Puts the width of a stroke, or the least one.
-fn put_width<K: Sink>(document: &mut Text<'_, K>, content: &mut Content<'_>, stroke: &Stroke)
+fn put_width<K: Sink>(document: &mut Text<'_, K>, content: &mut PageContent<'_>, stroke: &Stroke)
     requires open { IsOpen K.state document.old content.old }
     ensures fills { Fills K.state document.old document.new content.old content.new (width_text (max LEAST_WIDTH stroke.now.width)) }
 {
@@ -122,7 +122,7 @@ fn put_width<K: Sink>(document: &mut Text<'_, K>, content: &mut Content<'_>, str
 // Puts a stroke that begins elsewhere than where the last one ended.
 pub(crate) fn put_stroke<K: Sink>(
     document: &mut Text<'_, K>,
-    content: &mut Content<'_>,
+    content: &mut PageContent<'_>,
     stroke: &Stroke,
 )
     requires open { IsOpen K.state document.old content.old }
@@ -136,7 +136,7 @@ pub(crate) fn put_stroke<K: Sink>(
 // Puts a stroke that begins where the last one ended.
 pub(crate) fn put_line<K: Sink>(
     document: &mut Text<'_, K>,
-    content: &mut Content<'_>,
+    content: &mut PageContent<'_>,
     stroke: &Stroke,
 )
     requires open { IsOpen K.state document.old content.old }
@@ -149,7 +149,7 @@ pub(crate) fn put_line<K: Sink>(
 // Puts a place.
 pub(crate) fn put_place<K: Sink>(
     document: &mut Text<'_, K>,
-    content: &mut Content<'_>,
+    content: &mut PageContent<'_>,
     x: i32,
     y: i32,
 )

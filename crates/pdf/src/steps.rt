@@ -5,7 +5,7 @@ ghost use Rattle.pdf.specs.RunTexts.{start_text, stroke_text};
 ghost use Rattle.pdf.specs.Steps.{after_step, link_text, open_end, step_text};
 ghost use Rattle.stroke_runs.specs.Links.{link_of, runs_after};
 
-use crate::content::Content;
+use crate::content::PageContent;
 use crate::paths::{put_line, put_start, put_stroke};
 use devices::Sink;
 use pieces::Text;
@@ -15,7 +15,7 @@ use stroke_runs::{Link, Runs, is_drawn};
 // Puts what is written for a stroke, if it is drawn.
 pub(crate) fn put_step<K: Sink>(
     document: &mut Text<'_, K>,
-    content: &mut Content<'_>,
+    content: &mut PageContent<'_>,
     page: &Page,
     pens: &PenSet,
     runs: &mut Runs,
@@ -34,7 +34,7 @@ pub(crate) fn put_step<K: Sink>(
 // Puts what is written for a stroke that is drawn.
 fn put_drawn<K: Sink>(
     document: &mut Text<'_, K>,
-    content: &mut Content<'_>,
+    content: &mut PageContent<'_>,
     page: &Page,
     runs: &mut Runs,
     stroke: &Stroke,
@@ -58,7 +58,7 @@ fn put_drawn<K: Sink>(
 // Puts a stroke that begins a run.
 fn put_begun<K: Sink>(
     document: &mut Text<'_, K>,
-    content: &mut Content<'_>,
+    content: &mut PageContent<'_>,
     page: &Page,
     stroke: &Stroke,
 )
@@ -70,7 +70,7 @@ fn put_begun<K: Sink>(
 }
 
 // Puts the end of the run that has begun, if there is one.
-pub(crate) fn put_end<K: Sink>(document: &mut Text<'_, K>, content: &mut Content<'_>, runs: &Runs)
+pub(crate) fn put_end<K: Sink>(document: &mut Text<'_, K>, content: &mut PageContent<'_>, runs: &Runs)
     requires open { IsOpen K.state document.old content.old }
     ensures fills { Fills K.state document.old document.new content.old content.new (open_end runs.now) }
 {

@@ -9,7 +9,7 @@ ghost use Rattle.pdf.specs.Texts.{letter_count};
 ghost use Rattle.pdf.specs.Writings.{PutsStream};
 ghost use Rattle.pdf.specs.declared.counts.TheConstants.{MOST_LETTERS};
 
-use crate::content::Content;
+use crate::content::PageContent;
 use crate::sheet::Sheet;
 use crate::steps::{put_end, put_step};
 use crate::texts::put_texts;
@@ -29,13 +29,13 @@ pub(crate) fn put_stream<K: Sink>(
     ensures puts { PutsStream K.state document.old document.new (content_text sheet.now.page.now sheet.now.pens.now
         sheet.now.strokes.now (all_counted sheet.now.from (all_counted sheet.now.earlier sheet.now.labels.now))) result }
 {
-    let mut content = Content::new(encoder);
+    let mut content = PageContent::new(encoder);
     put_content(document, &mut content, sheet);
     content.finish(document)
 }
 
 // Puts the content of a page.
-fn put_content<K: Sink>(document: &mut Text<'_, K>, content: &mut Content<'_>, sheet: &Sheet<'_>)
+fn put_content<K: Sink>(document: &mut Text<'_, K>, content: &mut PageContent<'_>, sheet: &Sheet<'_>)
     requires open { IsOpen K.state document.old content.old }
     requires letters { letter_count sheet.now.labels.now ≤ MOST_LETTERS }
     ensures fills { Fills K.state document.old document.new content.old content.new (content_text sheet.now.page.now sheet.now.pens.now
@@ -46,7 +46,7 @@ fn put_content<K: Sink>(document: &mut Text<'_, K>, content: &mut Content<'_>, s
 }
 
 // Puts the drawn strokes of a page.
-fn put_strokes<K: Sink>(document: &mut Text<'_, K>, content: &mut Content<'_>, sheet: &Sheet<'_>)
+fn put_strokes<K: Sink>(document: &mut Text<'_, K>, content: &mut PageContent<'_>, sheet: &Sheet<'_>)
     requires open { IsOpen K.state document.old content.old }
     ensures fills { Fills K.state document.old document.new content.old content.new
         (strokes_text sheet.now.page.now sheet.now.pens.now sheet.now.strokes.now) }

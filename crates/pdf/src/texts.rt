@@ -10,7 +10,7 @@ ghost use Rattle.pdf.specs.Texts.{has_letters, has_text, letter_count, line_lett
 ghost use Rattle.pdf.specs.declared.counts.TheConstants.{MOST_LETTERS};
 ghost use Rattle.stroke_runs.specs.Shown.{is_shown};
 
-use crate::content::Content;
+use crate::content::PageContent;
 use crate::letters::{put_end, put_letter, row_of};
 use crate::matrices::put_matrix;
 use crate::sheet::Sheet;
@@ -22,7 +22,7 @@ use stroke_runs::is_shown;
 // Puts the texts of the labels of a sheet that are shown, if there is one.
 pub(crate) fn put_texts<K: Sink>(
     document: &mut Text<'_, K>,
-    content: &mut Content<'_>,
+    content: &mut PageContent<'_>,
     sheet: &Sheet<'_>,
 )
     requires open { IsOpen K.state document.old content.old }
@@ -84,7 +84,7 @@ fn have_letters(lines: &[Line]) -> bool
 }
 
 // Puts the labels that are shown.
-fn put_labels<K: Sink>(document: &mut Text<'_, K>, content: &mut Content<'_>, sheet: &Sheet<'_>)
+fn put_labels<K: Sink>(document: &mut Text<'_, K>, content: &mut PageContent<'_>, sheet: &Sheet<'_>)
     requires open { IsOpen K.state document.old content.old }
     requires letters { letter_count sheet.now.labels.now ≤ MOST_LETTERS }
     ensures fills { Fills K.state document.old document.new content.old content.new (operators_text (labels_operators sheet.now.pens.now
@@ -98,7 +98,7 @@ fn put_labels<K: Sink>(document: &mut Text<'_, K>, content: &mut Content<'_>, sh
 // Puts the lines of a label, if it is shown.
 fn put_label<K: Sink>(
     document: &mut Text<'_, K>,
-    content: &mut Content<'_>,
+    content: &mut PageContent<'_>,
     sheet: &Sheet<'_>,
     label: &Label,
 )
@@ -114,7 +114,7 @@ fn put_label<K: Sink>(
 }
 
 // Puts lines.
-fn put_lines<K: Sink>(document: &mut Text<'_, K>, content: &mut Content<'_>, lines: &[Line])
+fn put_lines<K: Sink>(document: &mut Text<'_, K>, content: &mut PageContent<'_>, lines: &[Line])
     requires open { IsOpen K.state document.old content.old }
     requires letters { line_letters lines.now ≤ MOST_LETTERS }
     ensures fills { Fills K.state document.old document.new content.old content.new (operators_text (lines_operators lines.now)) }
@@ -125,7 +125,7 @@ fn put_lines<K: Sink>(document: &mut Text<'_, K>, content: &mut Content<'_>, lin
 }
 
 // Puts a line, if it has a letter.
-fn put_line<K: Sink>(document: &mut Text<'_, K>, content: &mut Content<'_>, line: &Line)
+fn put_line<K: Sink>(document: &mut Text<'_, K>, content: &mut PageContent<'_>, line: &Line)
     requires open { IsOpen K.state document.old content.old }
     requires letters { length line.now.text ≤ MOST_LETTERS }
     ensures fills { Fills K.state document.old document.new content.old content.new (operators_text (text_operators line.now)) }
@@ -138,7 +138,7 @@ fn put_line<K: Sink>(document: &mut Text<'_, K>, content: &mut Content<'_>, line
 }
 
 // Puts letters.
-fn put_letters<K: Sink>(document: &mut Text<'_, K>, content: &mut Content<'_>, text: &[u32])
+fn put_letters<K: Sink>(document: &mut Text<'_, K>, content: &mut PageContent<'_>, text: &[u32])
     requires open { IsOpen K.state document.old content.old }
     ensures fills { Fills K.state document.old document.new content.old content.new (letters_text None text.now) }
 {

@@ -41,7 +41,7 @@ loop-index-preserved g c =
       streams = streams ++ page.stream ∷ [];
       follows = next_follows view.page.now view.pens.now (sheets strokes 0 ends) (sheet_labels (all_counted before view.labels.now) 0 ends) strokes c.between.result.now left
           (all_counted l.from (all_counted before here)) (all_counted before others) l.from end (drop i ends) (drop (i + 1) ends) streams page.stream
-          l.invariant.follows (next_at ends i c.loop-index-test.true) c.between.ensures.strokes shown after page.reads;
+          l.invariant.follows (next_at ends i c.loop-index-test.true) c.between.ensures shown after page.reads;
       added = page_more streams page.stream l.invariant.added page.adds (ap (λ (k : ℕ). c.args.before + 3 * k) (sym l.invariant.count));
       count = omega (arith, length-append streams (page.stream ∷ []), l.invariant.count);
       letters = omega (arith, letters_parts count l.rest.now here others front back, l.invariant.letters);

@@ -1,6 +1,6 @@
 use Rattle.std.proofs.Common.{drop}
 use Rattle.pdf.proofs.Contained.{Remains}
-use Rattle.pdf.proofs.content.Content.put_on.Given as goal
+use Rattle.pdf.proofs.content.PageContent.put_on.Given as goal
 
 -- the bytes that are left
 abbrev pub invariant-loop-byte : goal.invariant-loop-byte

@@ -2,7 +2,7 @@ use Rattle.std.proofs.Common.{◌≡◌, ◌++◌, ◌∙◌, List, ℕ, Some, a
 use Rattle.deflate.specs.Zlib.{unzlib}
 use Rattle.pieces.proofs.Texts.{◌then◌}
 use Rattle.pdf.proofs.Contained.{◌next◌}
-use Rattle.pdf.proofs.content.Content.finish.Goals as goal
+use Rattle.pdf.proofs.content.PageContent.finish.Goals as goal
 
 pub returns : goal.returns
 returns g c =

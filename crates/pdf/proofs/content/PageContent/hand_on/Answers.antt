@@ -1,6 +1,6 @@
 use Rattle.std.proofs.Common.{◌++◌, ◌∙◌, List, ℕ, refl, sym, append-nil, arith, subst}
 use Rattle.deflate.specs.Histories.{EncodesText}
-use Rattle.pdf.proofs.content.Content.hand_on.Goals as goal
+use Rattle.pdf.proofs.content.PageContent.hand_on.Goals as goal
 
 pub returns : goal.returns
 returns g c = record {
