@@ -12,9 +12,9 @@ use crate::head::put_head;
 use crate::parts::put_parts;
 use crate::sheets::put_sheets;
 use devices::{Sink, WriteFault};
-use labels::Label;
 use pieces::Text;
-use plot_page::{Page, PenSet, Stroke};
+use plot_page::Page;
+use stroke_runs::SheetView;
 
 /// Writes the strokes of the selected pens on a page as an SVG 1.1 document. Its size is that of the page, its unit the
 /// grain (1/16 plotter unit).
@@ -25,73 +25,64 @@ use plot_page::{Page, PenSet, Stroke};
 ///
 /// The strokes of a label are a group, with the text of the label as its title: its lines, separated by a line feed. U+FFFD
 /// replaces control characters, and code points that XML does not have. A label of which no stroke is drawn is left out. A
-/// stroke of two labels belongs to the first one. The labels count their strokes from `before` strokes before these on.
+/// stroke of two labels belongs to the first one.
 ///
 /// Returns how many bytes the document has. It asks for no memory.
 ///
 /// Errors: a `WriteFault` if and only if the sink fails; it has then taken the first `bytes` bytes. Both counts stop at
 /// 2^64 - 1.
 pub fn write_svg<K: Sink>(
-    page: &Page,
-    pens: &PenSet,
-    strokes: &[Stroke],
-    labels: &[Label],
-    before: usize,
+    view: &SheetView<'_>,
     clips: &ClipPaths,
     sink: &mut K,
 ) -> Result<u64, WriteFault>
     requires sound { (K.state sink.old).faults < 2 ^ 64 - 1 }
-    requires strokes { length strokes.now ≤ MOST_STROKES }
-    requires clips { collected clips.now ≡ clips_of page.now pens.now strokes.now }
+    requires strokes { length view.now.strokes.now ≤ MOST_STROKES }
+    requires clips { collected clips.now ≡ clips_of view.now.page.now view.now.pens.now view.now.strokes.now }
     ensures writes { WritesText (K.state sink.old) (K.state sink.new)
-        (svg_bytes page.now pens.now strokes.now (all_counted before labels.now)) result }
+        (svg_bytes view.now.page.now view.now.pens.now view.now.strokes.now
+        (all_counted view.now.before view.now.labels.now)) result }
 {
     let mut text = Text::new(sink);
-    put_document(&mut text, page, pens, strokes, labels, before, clips)
+    put_document(&mut text, view, clips)
 }
 
 /// Writes all sheets of a plot as one document, one above another: each one is a group, `sheet-1`, `sheet-2` and so on.
 /// `ends` tells how many strokes there were when each sheet ended; the end of the strokes ends one, too, and a sheet without
 /// strokes does not count. A label is on the sheet of its first stroke. All else is as `write_svg` has it.
 pub fn write_svg_sheets<K: Sink>(
-    page: &Page,
-    pens: &PenSet,
-    strokes: &[Stroke],
+    view: &SheetView<'_>,
     ends: &[usize],
-    labels: &[Label],
-    before: usize,
     clips: &ClipPaths,
     sink: &mut K,
 ) -> Result<u64, WriteFault>
     requires sound { (K.state sink.old).faults < 2 ^ 64 - 1 }
-    requires strokes { length strokes.now ≤ MOST_STROKES }
-    requires clips { collected clips.now ≡ clips_of page.now pens.now strokes.now }
+    requires strokes { length view.now.strokes.now ≤ MOST_STROKES }
+    requires clips { collected clips.now ≡ clips_of view.now.page.now view.now.pens.now view.now.strokes.now }
     ensures writes { WritesText (K.state sink.old) (K.state sink.new)
-        (sheets_bytes page.now pens.now strokes.now ends.now (all_counted before labels.now)) result }
+        (sheets_bytes view.now.page.now view.now.pens.now view.now.strokes.now ends.now
+        (all_counted view.now.before view.now.labels.now)) result }
 {
     let mut text = Text::new(sink);
-    put_all_sheets(&mut text, page, pens, strokes, ends, labels, before, clips)
+    put_all_sheets(&mut text, view, ends, clips)
 }
 
 // Writes the document of strokes as a new text.
 fn put_document<K: Sink>(
     text: &mut Text<'_, K>,
-    page: &Page,
-    pens: &PenSet,
-    strokes: &[Stroke],
-    labels: &[Label],
-    before: usize,
+    view: &SheetView<'_>,
     clips: &ClipPaths,
 ) -> Result<u64, WriteFault>
     requires sound { IsSound K.state text.old }
     requires new { IsNew text.old }
-    requires clips { collected clips.now ≡ clips_of page.now pens.now strokes.now }
+    requires clips { collected clips.now ≡ clips_of view.now.page.now view.now.pens.now view.now.strokes.now }
     ensures same { text.new.sink.ghost_name ≡ text.old.sink.ghost_name }
     ensures writes { WritesText (K.state text.old.sink.now) (K.state text.new.sink.now)
-        (svg_bytes page.now pens.now strokes.now (all_counted before labels.now)) result }
+        (svg_bytes view.now.page.now view.now.pens.now view.now.strokes.now
+        (all_counted view.now.before view.now.labels.now)) result }
 {
-    put_start(text, page, clips);
-    put_parts(text, page, pens, strokes, labels, before, 0);
+    put_start(text, view.page, clips);
+    put_parts(text, view, 0);
     text.put(b"</g></svg>\n");
     text.finish()
 }
@@ -99,24 +90,21 @@ fn put_document<K: Sink>(
 // Writes the document of all sheets as a new text.
 fn put_all_sheets<K: Sink>(
     text: &mut Text<'_, K>,
-    page: &Page,
-    pens: &PenSet,
-    strokes: &[Stroke],
+    view: &SheetView<'_>,
     ends: &[usize],
-    labels: &[Label],
-    before: usize,
     clips: &ClipPaths,
 ) -> Result<u64, WriteFault>
     requires sound { IsSound K.state text.old }
     requires new { IsNew text.old }
-    requires strokes { length strokes.now ≤ MOST_STROKES }
-    requires clips { collected clips.now ≡ clips_of page.now pens.now strokes.now }
+    requires strokes { length view.now.strokes.now ≤ MOST_STROKES }
+    requires clips { collected clips.now ≡ clips_of view.now.page.now view.now.pens.now view.now.strokes.now }
     ensures same { text.new.sink.ghost_name ≡ text.old.sink.ghost_name }
     ensures writes { WritesText (K.state text.old.sink.now) (K.state text.new.sink.now)
-        (sheets_bytes page.now pens.now strokes.now ends.now (all_counted before labels.now)) result }
+        (sheets_bytes view.now.page.now view.now.pens.now view.now.strokes.now ends.now
+        (all_counted view.now.before view.now.labels.now)) result }
 {
-    put_start(text, page, clips);
-    put_sheets(text, page, pens, strokes, ends, labels, before);
+    put_start(text, view.page, clips);
+    put_sheets(text, view, ends);
     text.put(b"</g></svg>\n");
     text.finish()
 }

@@ -14,26 +14,20 @@ use devices::Sink;
 use labels::Label;
 use pieces::Text;
 use plot_page::{Page, PenSet, Stroke};
-use stroke_runs::{between, is_drawn};
+use stroke_runs::{SheetView, between, is_drawn};
 
-// Puts strokes with their labels, whose strokes are counted from `before` and `at` strokes before these.
-pub(crate) fn put_parts<K: Sink>(
-    text: &mut Text<'_, K>,
-    page: &Page,
-    pens: &PenSet,
-    strokes: &[Stroke],
-    labels: &[Label],
-    before: usize,
-    at: usize,
-)
+// Puts the strokes of a sheet with their labels, before whose strokes there are `at` others.
+pub(crate) fn put_parts<K: Sink>(text: &mut Text<'_, K>, view: &SheetView<'_>, at: usize)
     requires sound { IsSound K.state text.old }
     ensures puts { Puts K.state text.old text.new
-        (parts_text page.now pens.now strokes.now (all_counted at (all_counted before labels.now))) }
+        (parts_text view.now.page.now view.now.pens.now view.now.strokes.now
+        (all_counted at (all_counted view.now.before view.now.labels.now))) }
 {
+    let (page, pens, strokes) = (view.page, view.pens, view.strokes);
     let mut end = 0;
-    for label in labels {
-        let first = counted(label.first, before, at).max(end);
-        let after = counted(label.after, before, at).max(first);
+    for label in view.labels {
+        let first = counted(label.first, view.before, at).max(end);
+        let after = counted(label.after, view.before, at).max(first);
         put_strokes(text, page, pens, between(strokes, end, first));
         put_label(text, page, pens, between(strokes, first, after), label);
         end = after;

@@ -10,8 +10,7 @@ use crate::parts::put_parts;
 use devices::Sink;
 use labels::Label;
 use pieces::Text;
-use plot_page::{Page, PenSet, Stroke};
-use stroke_runs::{between, end_of};
+use stroke_runs::{SheetView, between, end_of};
 
 // Puts the start of the group of a sheet.
 fn put_open<K: Sink>(text: &mut Text<'_, K>, number: u32)
@@ -40,32 +39,33 @@ fn count_to(labels: &[Label], before: usize, end: usize) -> usize
     count
 }
 
-// Puts all sheets, with the labels, whose strokes are counted from `before` strokes before these.
+// Puts all sheets, with their labels.
 pub(crate) fn put_sheets<K: Sink>(
     text: &mut Text<'_, K>,
-    page: &Page,
-    pens: &PenSet,
-    strokes: &[Stroke],
+    view: &SheetView<'_>,
     ends: &[usize],
-    labels: &[Label],
-    before: usize,
 )
     requires sound { IsSound K.state text.old }
-    requires strokes { length strokes.now ≤ MOST_STROKES }
-    ensures puts { Puts K.state text.old text.new (sheets_text page.now pens.now 0
-        (labelled_sheets strokes.now ends.now (all_counted before labels.now))) }
+    requires strokes { length view.now.strokes.now ≤ MOST_STROKES }
+    ensures puts { Puts K.state text.old text.new (sheets_text view.now.page.now view.now.pens.now 0
+        (labelled_sheets view.now.strokes.now ends.now (all_counted view.now.before view.now.labels.now))) }
 {
-    let mut rest = labels;
+    let mut rest = view.labels;
     let mut at = 0;
     let mut number = 0;
     for ended in 0..ends.len() + 1 {
-        let end = end_of(strokes, ends, ended);
-        let sheet = between(strokes, at, end);
+        let end = end_of(view.strokes, ends, ended);
+        let sheet = between(view.strokes, at, end);
         if !sheet.is_empty() {
-            let (here, later) = rest.split_at(count_to(rest, before, end));
+            let (here, later) = rest.split_at(count_to(rest, view.before, end));
+            let shown = SheetView {
+                strokes: sheet,
+                labels: here,
+                ..*view
+            };
             number += 1;
             put_open(text, number);
-            put_parts(text, page, pens, sheet, here, before, at);
+            put_parts(text, &shown, at);
             text.put(b"</g>\n");
             at = end;
             rest = later;

@@ -9,6 +9,7 @@ use plot_page::{MOST_STROKES, Stroke};
 use std::alloc::Global;
 use std::process::Abort;
 use std::test::Fail;
+use stroke_runs::SheetView;
 use svg::{ClipPaths, texts_fit, write_svg, write_svg_sheets};
 
 // Four strokes that would be one path.
@@ -39,13 +40,16 @@ fn document(
     let mut sink = OverWrite::new(Vec::new(alloc));
     let (page, pens) = (page()?, three_pens());
     let clips = ClipPaths::of(alloc, &page, &pens, strokes)?;
+    let view = SheetView {
+        page: &page,
+        pens: &pens,
+        strokes,
+        labels,
+        before,
+    };
     match ends {
-        Some(ends) => {
-            write_svg_sheets(
-                &page, &pens, strokes, ends, labels, before, &clips, &mut sink,
-            )?
-        }
-        None => write_svg(&page, &pens, strokes, labels, before, &clips, &mut sink)?,
+        Some(ends) => write_svg_sheets(&view, ends, &clips, &mut sink)?,
+        None => write_svg(&view, &clips, &mut sink)?,
     };
     Ok(sink.into_inner())
 }

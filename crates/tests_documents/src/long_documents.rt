@@ -9,6 +9,7 @@ use plot_page::{Colour, MOST_STROKES, Stroke, Window};
 use std::alloc::Global;
 use std::process::Abort;
 use std::test::Fail;
+use stroke_runs::SheetView;
 use svg::{ClipPaths, texts_fit, write_svg, write_svg_sheets};
 
 // A sink that takes at most `step` bytes a call, and fails after `limit` bytes.
@@ -80,9 +81,16 @@ fn bytes_written(
     }
     let (page, pens) = (page()?, three_pens());
     let clips = ClipPaths::of(alloc, &page, &pens, strokes)?;
+    let view = SheetView {
+        page: &page,
+        pens: &pens,
+        strokes,
+        labels,
+        before: 0,
+    };
     let written = match ends {
-        Some(ends) => write_svg_sheets(&page, &pens, strokes, ends, labels, 0, &clips, sink),
-        None => write_svg(&page, &pens, strokes, labels, 0, &clips, sink),
+        Some(ends) => write_svg_sheets(&view, ends, &clips, sink),
+        None => write_svg(&view, &clips, sink),
     };
     match written {
         Ok(bytes) => Ok(bytes),

@@ -6,6 +6,7 @@ use plot_page::MOST_STROKES;
 use std::alloc::Global;
 use std::process::Abort;
 use std::test::Fail;
+use stroke_runs::SheetView;
 use svg::{ClipPaths, write_svg_sheets};
 
 // Fails unless these are the groups of the strokes of three pens, whose sheets end after so many of them.
@@ -25,7 +26,14 @@ fn has_groups(
     let mut sink = OverWrite::new(Vec::new(alloc));
     let (page, pens) = (page()?, three_pens());
     let clips = ClipPaths::of(alloc, &page, &pens, &strokes)?;
-    let bytes = write_svg_sheets(&page, &pens, &strokes, ends, &[], 0, &clips, &mut sink)?;
+    let view = SheetView {
+        page: &page,
+        pens: &pens,
+        strokes: &strokes,
+        labels: &[],
+        before: 0,
+    };
+    let bytes = write_svg_sheets(&view, ends, &clips, &mut sink)?;
     assert_eq!(rt; sink.failures(), 0);
     assert_eq!(rt;
         str::from_utf8(sink.into_inner().as_slice())?,

@@ -5,6 +5,7 @@ use plot_page::{MOST_STROKES, Page};
 use std::alloc::Global;
 use std::process::Abort;
 use std::test::Fail;
+use stroke_runs::SheetView;
 use svg::{ClipPaths, write_svg};
 
 // What comes before the paths on the page of 64 by 66 units.
@@ -34,7 +35,14 @@ fn is_document(
     let mut sink = OverWrite::new(Vec::new(alloc));
     let pens = three_pens();
     let clips = ClipPaths::of(alloc, page, &pens, &strokes)?;
-    let bytes = write_svg(page, &pens, &strokes, &[], 0, &clips, &mut sink)?;
+    let view = SheetView {
+        page,
+        pens: &pens,
+        strokes: &strokes,
+        labels: &[],
+        before: 0,
+    };
+    let bytes = write_svg(&view, &clips, &mut sink)?;
     assert_eq!(rt; sink.failures(), 0);
     assert_eq!(rt;
         str::from_utf8(sink.into_inner().as_slice())?,

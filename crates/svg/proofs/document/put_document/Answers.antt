@@ -11,11 +11,12 @@ use Rattle.svg.proofs.document.put_document.Goals as goal
 
 pub returns : goal.returns
 returns g c =
-    let page = c.args.page.now in
-    let pens = c.args.pens.now in
-    let strokes = c.args.strokes.now in
+    let view = c.args.view.now in
+    let page = view.page.now in
+    let pens = view.pens.now in
+    let strokes = view.strokes.now in
     let start = puts_as c.put_start.ensures.puts (ap (λ (rs : List Rectangle). head_text page ++ clips_text rs) c.requires.clips) in
-    let shown = puts_as c.put_parts.ensures.puts (ap (λ (ls : List LabelShape). parts_text page pens strokes ls) (counted_none (all_counted c.args.before c.args.labels.now))) in
+    let shown = puts_as c.put_parts.ensures.puts (ap (λ (ls : List LabelShape). parts_text page pens strokes ls) (counted_none (all_counted view.before view.labels.now))) in
     let puts = start then shown then c.put.ensures.puts in
     record {
       same = c.finish.ensures.same ∙ puts.same;

@@ -45,8 +45,9 @@ next_label page pens strokes before at end first after front own left l ls next 
 
 pub loop-label-preserved : goal.loop-label-preserved
 loop-label-preserved g c =
-    let labels = c.args.labels.now in
-    let begin = c.args.before in
+    let view = c.args.view.now in
+    let labels = view.labels.now in
+    let begin = view.before in
     let at = c.args.at in
     let l = c.loop-label in
     let i = l.label-index in
@@ -55,17 +56,18 @@ loop-label-preserved g c =
     let begins : c.max-first.result ≡ k.first = omega (arith, c.max-first.ensures, c.counted.ensures, ap (λ (x : LabelShape). x.first) c.label.view_is) in
     let ends : c.max-after.result ≡ k.after = omega (arith, begins, c.max-after.ensures, c.counted-in-loop-label.ensures, ap (λ (x : LabelShape). x.after) c.label.view_is) in
     let next = next_item labels i label c.loop-label-test.true c.label-item.is in
-    let split = next_label c.args.page.now c.args.pens.now c.args.strokes.now begin at l.end c.max-first.result c.max-after.result c.between.result.now c.between-in-loop-label.result.now (drop i labels) label (drop (i + 1) labels) next begins ends c.between.ensures c.between-in-loop-label.ensures in
+    let split = next_label view.page.now view.pens.now view.strokes.now begin at l.end c.max-first.result c.max-after.result c.between.result.now c.between-in-loop-label.result.now (drop i labels) label (drop (i + 1) labels) next begins ends c.between.ensures c.between-in-loop-label.ensures in
     next_put (next_put l.invariant c.put_strokes.ensures.puts split) c.put_label.ensures.puts refl
 
 pub returns : goal.returns
 returns g c =
-    let page = c.args.page.now in
-    let pens = c.args.pens.now in
-    let strokes = c.args.strokes.now in
+    let view = c.args.view.now in
+    let page = view.page.now in
+    let pens = view.pens.now in
+    let strokes = view.strokes.now in
     let l = c.loop-label in
     let same : drop l.end strokes ≡ c.between-2.result.now = sym (c.between-2.ensures ∙ whole strokes l.end) in
     let none =
-    ap (λ (z : List LabelShape). left_text page pens strokes l.end (by_strokes c.args.before c.args.at z)) (drop_all l.label-index c.args.labels.now c.loop-label-test.false)
+    ap (λ (z : List LabelShape). left_text page pens strokes l.end (by_strokes view.before c.args.at z)) (drop_all l.label-index view.labels.now c.loop-label-test.false)
     ∙ append-nil (paths_text page pens (drop l.end strokes)) ∙ ap (λ (ss : List Segment). paths_text page pens ss) same in
     record { puts = last_put l.invariant c.put_strokes-2.ensures.puts none }

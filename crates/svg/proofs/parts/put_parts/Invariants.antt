@@ -7,5 +7,9 @@ use Rattle.svg.proofs.parts.put_parts.Given as goal
 -- the parts that are left
 abbrev pub invariant-loop-label : goal.invariant-loop-label
 invariant-loop-label g l =
-    let left = cut_labels l.end (all_counted l.at (all_counted l.before (drop l.label-index l.labels))) in
-    Left g.K.Sink.state l.fn.text l.text (flat_map part_text (parts_after l.page l.pens l.strokes l.end left)) (parts_text l.fn.page l.fn.pens l.fn.strokes (all_counted l.fn.at (all_counted l.fn.before l.fn.labels)))
+    let view = l.fn.view in
+    let page = view.page.now in
+    let pens = view.pens.now in
+    let strokes = view.strokes.now in
+    let left = cut_labels l.end (all_counted l.at (all_counted view.before (drop l.label-index view.labels.now))) in
+    Left g.K.Sink.state l.fn.text l.text (flat_map part_text (parts_after page pens strokes l.end left)) (parts_text page pens strokes (all_counted l.at (all_counted view.before view.labels.now)))

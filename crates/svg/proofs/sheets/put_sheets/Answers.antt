@@ -51,10 +51,11 @@ loop-ended-init g c = record { left = all_left c.requires.sound refl; few = omeg
 
 pub loop-ended-preserved : goal.loop-ended-preserved
 loop-ended-preserved g c =
-    let page = c.args.page.now in
-    let pens = c.args.pens.now in
-    let strokes = c.args.strokes.now in
-    let begin = c.args.before in
+    let view = c.args.view.now in
+    let page = view.page.now in
+    let pens = view.pens.now in
+    let strokes = view.strokes.now in
+    let begin = view.before in
     let ends = c.args.ends.now ++ length strokes ∷ [] in
     let l = c.loop-ended in
     let end = c.end_of-end.result in

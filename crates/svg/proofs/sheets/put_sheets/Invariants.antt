@@ -8,10 +8,14 @@ use Rattle.svg.proofs.sheets.put_sheets.Given as goal
 -- the sheets that are left
 abbrev pub invariant-loop-ended : goal.invariant-loop-ended
 invariant-loop-ended g l =
-    let all = sheets_text l.fn.page l.fn.pens 0 (labelled_sheets l.fn.strokes l.fn.ends (all_counted l.fn.before l.fn.labels)) in
-    let left = labelled_after l.strokes l.at (drop l.ended (l.ends ++ length l.strokes ∷ [])) (all_counted l.before l.rest) in
+    let view = l.fn.view in
+    let page = view.page.now in
+    let pens = view.pens.now in
+    let strokes = view.strokes.now in
+    let all = sheets_text page pens 0 (labelled_sheets strokes l.ends (all_counted view.before view.labels.now)) in
+    let left = labelled_after strokes l.at (drop l.ended (l.ends ++ length strokes ∷ [])) (all_counted view.before l.rest) in
     record {
-      left : Left g.K.Sink.state l.fn.text l.text (sheets_text l.page l.pens l.number left) all;
+      left : Left g.K.Sink.state l.fn.text l.text (sheets_text page pens l.number left) all;
       few : l.number ≤ l.at;
-      fewer : l.number ≤ length l.strokes;
+      fewer : l.number ≤ length strokes;
     }
