@@ -9,7 +9,7 @@ use Rattle.svg.specs.Documents.{foot_text, head_text, sheets_bytes, svg_bytes}
 use Rattle.svg.specs.Parts.{cut_labels, parts, parts_text}
 use Rattle.svg.specs.Readings.{titles}
 use Rattle.svg.specs.Sheets.{labelled_sheets}
-use Rattle.svg.specs.Titles.{character, label_text, text_bytes, text_length, title_text}
+use Rattle.svg.specs.Titles.{character, label_text, text_bytes, title_text}
 use Rattle.svg.proofs.Examples.{Agree, across, all_pens, dot, empty, page, up}
 
 -- the corner of the page
@@ -40,9 +40,6 @@ not_characters = refl
 
 characters : map character (10 ∷ 32 ∷ 0xD7FF ∷ 0xE000 ∷ 0xFFFD ∷ 0x1_0000 ∷ 0x10_FFFF ∷ []) ≡ 10 ∷ 32 ∷ 0xD7FF ∷ 0xE000 ∷ 0xFFFD ∷ 0x1_0000 ∷ 0x10_FFFF ∷ []
 characters = refl
-
-seven_characters : text_length (label 0 1 (codes "A&B" ∷ codes "C" ∷ []) ∷ label 1 2 (codes "DE" ∷ []) ∷ []) ≡ 7
-seven_characters = refl
 
 -- labels that overlap, of which the last one ends before it begins
 abbrev mixed : List LabelShape

@@ -1,5 +1,5 @@
 -- The titles of an SVG document: the texts of labels. XML 1.0, 2.2 and 2.4.
-use Rattle.std.specs.Prelude.{ℕ, ◌==◌, ◌||◌, Bool, List, [], ◌∷◌, ◌++◌, flat_map, length, if◌then◌else◌, codes}
+use Rattle.std.specs.Prelude.{ℕ, ◌==◌, ◌||◌, Bool, List, [], ◌∷◌, ◌++◌, flat_map, if◌then◌else◌, codes}
 use Rattle.std.specs.Char.{encode_utf8}
 use Rattle.std.specs.Int.{is_in_range}
 use Rattle.labels.specs.Labels.{LabelShape, LineShape}
@@ -31,10 +31,6 @@ lines_text (l ∷ ls) = l.text ++ next_lines ls
 
 abbrev pub label_text : LabelShape → List ℕ
 label_text l = lines_text l.lines
-
--- how many code points the texts of labels have
-abbrev pub text_length : List LabelShape → ℕ
-text_length labels = length (flat_map label_text labels)
 
 -- a character of XML, other than a tab and a carriage return
 abbrev pub is_character : ℕ → Bool

@@ -7,7 +7,6 @@ mod commands;
 mod document;
 mod head;
 pub mod laws;
-mod lengths;
 mod parts;
 mod paths;
 mod places;
@@ -18,4 +17,3 @@ mod titles;
 
 pub use clip_paths::ClipPaths;
 pub use document::{write_svg, write_svg_sheets};
-pub use lengths::{MOST_CHARACTERS, texts_fit};

@@ -10,7 +10,7 @@ use std::alloc::Global;
 use std::process::Abort;
 use std::test::Fail;
 use stroke_runs::SheetView;
-use svg::{ClipPaths, texts_fit, write_svg, write_svg_sheets};
+use svg::{ClipPaths, write_svg, write_svg_sheets};
 
 // Four strokes that would be one path.
 const STROKES: &str =
@@ -34,8 +34,8 @@ fn document(
     labels: &[Label],
     before: usize,
 ) -> Result<Vec<u8>, Fail> {
-    if strokes.len() > MOST_STROKES || !texts_fit(labels) {
-        return Err("too many strokes, or too long a text".into());
+    if strokes.len() > MOST_STROKES {
+        return Err("too many strokes".into());
     }
     let mut sink = OverWrite::new(Vec::new(alloc));
     let (page, pens) = (page()?, three_pens());

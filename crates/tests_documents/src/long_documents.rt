@@ -10,7 +10,7 @@ use std::alloc::Global;
 use std::process::Abort;
 use std::test::Fail;
 use stroke_runs::SheetView;
-use svg::{ClipPaths, texts_fit, write_svg, write_svg_sheets};
+use svg::{ClipPaths, write_svg, write_svg_sheets};
 
 // A sink that takes at most `step` bytes a call, and fails after `limit` bytes.
 #[derive(Drop)]
@@ -75,9 +75,6 @@ fn bytes_written(
 {
     if strokes.len() > MOST_STROKES {
         return Err("too many strokes".into());
-    }
-    if !texts_fit(labels) {
-        return Err("too long a text".into());
     }
     let (page, pens) = (page()?, three_pens());
     let clips = ClipPaths::of(alloc, &page, &pens, strokes)?;
