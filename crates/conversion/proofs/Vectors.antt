@@ -1,7 +1,6 @@
 -- What is written of a vector document is one of the strokes and labels of the sheet.
 use Rattle.std.proofs.Common.{◌≡◌, ◌≤◌, ◌↔◌, ◌+◌, ◌++◌, ◌∙◌, ◌∷◌, ℕ, Bool, true, false, List, [], Result, Ok, Err, IfErr, IsErrAnd, inl, inr, length, ap, ap₂, arith, nat_le, nat_lt, refl, subst, sym}
 use Rattle.std.proofs.lemmas.Bool.{cases_lt, le-leb, leb-true, lt-ltb, ltb-true}
-use Rattle.std.specs.Prelude.{flat_map}
 use Rattle.labels.specs.Sheets.{all_counted}
 use Rattle.labels.specs.Labels.{LabelShape}
 use Rattle.plot_page.specs.Segments.{Segment}
@@ -12,7 +11,6 @@ use Rattle.devices.specs.Sinks.{SinkState}
 use Rattle.pdf.specs.Documents.{AreStreams, pdf_bytes, pens_drawn, rows_shown, sheet_labels, sheets}
 use Rattle.pdf.specs.Texts.{letter_count, line_letters}
 use Rattle.pdf.specs.Writings.{WritesPdf}
-use Rattle.svg.specs.Titles.{label_text, text_length}
 use Rattle.conversion.specs.declared.fault.Fault.{Fault}
 use Rattle.conversion.specs.declared.fault.Fault.TheVariants.{Letters}
 use Rattle.conversion.specs.Vectors.{IsPdf, IsVector, PutsVector, has_too_many_letters, is_letters, page_ends, title_kept}
@@ -48,13 +46,6 @@ pub letters_counted : (before : ℕ) (labels : List LabelShape) → letter_count
 letters_counted before [] = refl
 letters_counted before (l ∷ ls) = ap (λ n. line_letters l.lines + n) (letters_counted before ls)
 
-texts_same : (before : ℕ) (labels : List LabelShape) → flat_map label_text (all_counted before labels) ≡ flat_map label_text labels
-texts_same before [] = refl
-texts_same before (l ∷ ls) = ap (λ text. label_text l ++ text) (texts_same before ls)
-
-pub texts_counted : (before : ℕ) (labels : List LabelShape) → text_length (all_counted before labels) ≡ text_length labels
-texts_counted before labels = ap length (texts_same before labels)
-
 -- too many letters are answered as such
 pub too_many : {U : Type 0} (fits : Bool) (count counted most : ℕ) → (fits ≡ true) ↔ (count ≤ most) → counted ≡ count → fits ≡ false
     → (◌≡◌ {A = Result U Fault} (Err Letters) (Err Letters)) ↔ (nat_lt most counted ≡ true)
@@ -71,6 +62,14 @@ few_enough (Ok u) fits count counted most is same fit other =
 few_enough (Err fault) fits count counted most is same fit other = (
   λ h. let letters : fault ≡ Letters = cc in let wrong : is_letters fault ≡ true = ap is_letters letters in absurd (cc),
   λ h. absurd (let few = is.0 fit in let more = ltb-true most counted h in omega arith),
+)
+
+-- an SVG takes any
+pub never_letters : {U : Type 0} (answer : Result U Fault) → IfErr answer (λ fault. is_letters fault ≡ false) → (answer ≡ Err Letters) ↔ (false ≡ true)
+never_letters (Ok u) other = (λ h. absurd (cc), λ h. absurd (cc))
+never_letters (Err fault) other = (
+  λ h. let letters : fault ≡ Letters = cc in let wrong : is_letters fault ≡ true = ap is_letters letters in absurd (cc),
+  λ h. absurd (cc),
 )
 
 -- the test of a PDF is a comparison

@@ -13,8 +13,6 @@ use Rattle.pdf.specs.Documents.{AreStreams, pdf_bytes, pens_drawn, rows_shown, s
 use Rattle.pdf.specs.Texts.{letter_count}
 use Rattle.pdf.specs.declared.counts.TheConstants.{MOST_LETTERS}
 use Rattle.svg.specs.Documents.{sheets_bytes, svg_bytes}
-use Rattle.svg.specs.Titles.{text_length}
-use Rattle.svg.specs.declared.lengths.TheConstants as svg
 use Rattle.conversion.specs.Rules.{ends_of}
 use Rattle.conversion.specs.Sheets.{TellsOf, labels_on, strokes_on}
 use Rattle.conversion.specs.declared.fault.Fault.{Fault}
@@ -62,10 +60,10 @@ abbrev pub is_letters : Fault → Bool
 is_letters Letters = true
 is_letters _ = false
 
--- labels have more letters than a document of a format takes: in an SVG the line feeds between lines count, too
+-- labels have more letters than a document of a format takes: an SVG takes any
 abbrev pub has_too_many_letters : VectorFormat → List LabelShape → Bool
 has_too_many_letters Pdf labels = nat_lt MOST_LETTERS (letter_count labels)
-has_too_many_letters Svg labels = nat_lt svg.MOST_CHARACTERS (text_length labels)
+has_too_many_letters Svg labels = false
 
 -- a document was written after what the sink held, the sink failed, there were too many letters, or there was no memory
 abbrev pub PutsVector : {U : Type 0} → (List ℕ → Type 0) → SinkState → SinkState → Result U Fault → Type 0

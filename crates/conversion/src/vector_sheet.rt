@@ -3,8 +3,6 @@ ghost use Rattle.std.specs.Prelude.{◌≡◌, ◌-◌, ◌^◌, ◌<◌, ◌≤
 ghost use Rattle.labels.specs.Sheets.{all_counted};
 ghost use Rattle.pdf.specs.Texts.{letter_count};
 ghost use Rattle.pdf.specs.declared.counts.TheConstants.{MOST_LETTERS};
-ghost use Rattle.svg.specs.Titles.{text_length};
-ghost use Rattle.svg.specs.declared.lengths.TheConstants as svg_limits;
 ghost use Rattle.plot_page.specs.declared.stroke.TheConstants.{MOST_STROKES};
 ghost use Rattle.conversion.specs.Conversions.{is_write};
 ghost use Rattle.conversion.specs.Rules.{ends_of};
@@ -20,19 +18,17 @@ use crate::sheet::outcome_of;
 use deflate::TextEncoder;
 use devices::Sink;
 use full_plot::{labels_on, sheet_of};
-use labels::Label;
 use pdf::{has_few_letters, room_for, write_pdf};
 use picture_job::{VectorFormat, VectorJob};
-use plot_page::{Page, PenSet, Stroke};
 use std::alloc::Global;
 use stroke_runs::SheetView;
-use svg::{ClipPaths, texts_fit, write_svg, write_svg_sheets};
+use svg::{ClipPaths, write_svg, write_svg_sheets};
 
 /// Writes the vector document of a sheet of a drawing, which counts from 1, or of all that is drawn for 0, on the page where
 /// the drawing lies. The job's page is not used. Of all that is drawn an SVG has a group for each sheet, one above another,
 /// if sheets end, and a PDF a page for each. The drawing has the labels of the plot, if they were kept.
 ///
-/// Errors: `Letters` if the labels have more letters than the format takes; `Unfinished` if the sink fails, and what it has
+/// Errors: `Letters` if the labels have more letters than a PDF takes, and it is one; `Unfinished` if the sink fails, and what it has
 /// taken is of no use; `Memory` if memory is refused. The sink is as it was after `Letters` and `Memory`.
 pub fn write_vector_sheet<K: Sink>(
     alloc: Global,
@@ -56,14 +52,16 @@ pub fn write_vector_sheet<K: Sink>(
         all.len(),
         sheet,
     );
-    let (page, pens) = (&drawing.page, &job.pens);
+    let view = SheetView {
+        page: &drawing.page,
+        pens: &job.pens,
+        strokes,
+        labels,
+        before,
+    };
     match job.format {
-        VectorFormat::Svg => put_svg(alloc, page, pens, strokes, ends, labels, before, sink)?,
-        VectorFormat::Pdf => {
-            put_pdf(
-                alloc, naming, page, pens, strokes, ends, labels, before, sink,
-            )?;
-        }
+        VectorFormat::Svg => put_svg(alloc, &view, ends, sink)?,
+        VectorFormat::Pdf => put_pdf(alloc, naming, &view, ends, sink)?,
     }
     Ok(outcome_of(drawing, job.pens, strokes, 0, 0))
 }
@@ -79,57 +77,26 @@ fn ends_in(lines: &Lines, sheet: u32) -> &[usize]
     }
 }
 
-// Writes the SVG of strokes among which sheets end there, with labels whose strokes are counted from `before` strokes before
-// these.
+// Writes the SVG of what is shown, among whose strokes sheets end there.
 fn put_svg<K: Sink>(
     alloc: Global,
-    page: &Page,
-    pens: &PenSet,
-    strokes: &[Stroke],
+    view: &SheetView<'_>,
     ends: &[usize],
-    labels: &[Label],
-    before: usize,
     sink: &mut K,
 ) -> Result<(), Fault>
-    requires few { length strokes.now ≤ MOST_STROKES }
+    requires few { length view.now.strokes.now ≤ MOST_STROKES }
     requires sinking { (K.state sink.old).faults < 2 ^ 64 - 1 }
-    ensures puts { PutsVector (λ document. document ≡ svg_of page.now pens.now strokes.now ends.now
-        (all_counted before labels.now))
-        (K.state sink.old) (K.state sink.new) result }
-    ensures letters { (result ≡ Err Fault.Letters) ↔ (has_too_many_letters VectorFormat.Svg (all_counted before labels.now) ≡ true) }
-    ensures untouched { IfErr result (λ fault. is_write fault ≡ false → sink.new ≡ sink.old) }
-{
-    if !texts_fit(labels) {
-        return Err(Fault::Letters);
-    }
-    put_fitting_svg(alloc, page, pens, strokes, ends, labels, before, sink)
-}
-
-// The same of labels that have few enough letters.
-fn put_fitting_svg<K: Sink>(
-    alloc: Global,
-    page: &Page,
-    pens: &PenSet,
-    strokes: &[Stroke],
-    ends: &[usize],
-    labels: &[Label],
-    before: usize,
-    sink: &mut K,
-) -> Result<(), Fault>
-    requires few { length strokes.now ≤ MOST_STROKES }
-    requires texts { text_length labels.now ≤ svg_limits.MOST_CHARACTERS }
-    requires sinking { (K.state sink.old).faults < 2 ^ 64 - 1 }
-    ensures puts { PutsVector (λ document. document ≡ svg_of page.now pens.now strokes.now ends.now
-        (all_counted before labels.now))
+    ensures puts { PutsVector (λ document. document ≡ svg_of view.now.page.now view.now.pens.now view.now.strokes.now ends.now
+        (all_counted view.now.before view.now.labels.now))
         (K.state sink.old) (K.state sink.new) result }
     ensures letters { IfErr result (λ fault. is_letters fault ≡ false) }
     ensures untouched { IfErr result (λ fault. is_write fault ≡ false → sink.new ≡ sink.old) }
 {
-    let clips = ClipPaths::of(alloc, page, pens, strokes)?;
+    let clips = ClipPaths::of(alloc, view.page, view.pens, view.strokes)?;
     let written = if ends.is_empty() {
-        write_svg(page, pens, strokes, labels, before, &clips, sink)
+        write_svg(view, &clips, sink)
     } else {
-        write_svg_sheets(page, pens, strokes, ends, labels, before, &clips, sink)
+        write_svg_sheets(view, ends, &clips, sink)
     };
     match written {
         Ok(_) => Ok(()),
@@ -141,64 +108,50 @@ fn put_fitting_svg<K: Sink>(
 fn put_pdf<K: Sink>(
     alloc: Global,
     naming: Naming<'_>,
-    page: &Page,
-    pens: &PenSet,
-    strokes: &[Stroke],
+    view: &SheetView<'_>,
     ends: &[usize],
-    labels: &[Label],
-    before: usize,
     sink: &mut K,
 ) -> Result<(), Fault>
-    requires few { length strokes.now ≤ MOST_STROKES }
+    requires few { length view.now.strokes.now ≤ MOST_STROKES }
     requires sinking { (K.state sink.old).faults < 2 ^ 64 - 1 }
-    ensures puts { PutsVector (IsPdf naming.entry page.now pens.now strokes.now ends.now (all_counted before labels.now))
+    ensures puts { PutsVector (IsPdf naming.entry view.now.page.now view.now.pens.now view.now.strokes.now ends.now
+        (all_counted view.now.before view.now.labels.now))
         (K.state sink.old) (K.state sink.new) result }
-    ensures letters { (result ≡ Err Fault.Letters) ↔ (has_too_many_letters VectorFormat.Pdf (all_counted before labels.now) ≡ true) }
+    ensures letters { (result ≡ Err Fault.Letters)
+        ↔ (has_too_many_letters VectorFormat.Pdf (all_counted view.now.before view.now.labels.now) ≡ true) }
     ensures untouched { IfErr result (λ fault. is_write fault ≡ false → sink.new ≡ sink.old) }
 {
-    if !has_few_letters(labels) {
+    if !has_few_letters(view.labels) {
         return Err(Fault::Letters);
     }
-    put_fitting_pdf(
-        alloc, naming, page, pens, strokes, ends, labels, before, sink,
-    )
+    put_fitting_pdf(alloc, naming, view, ends, sink)
 }
 
 // The same of labels that have few enough letters.
 fn put_fitting_pdf<K: Sink>(
     alloc: Global,
     naming: Naming<'_>,
-    page: &Page,
-    pens: &PenSet,
-    strokes: &[Stroke],
+    view: &SheetView<'_>,
     ends: &[usize],
-    labels: &[Label],
-    before: usize,
     sink: &mut K,
 ) -> Result<(), Fault>
-    requires few { length strokes.now ≤ MOST_STROKES }
-    requires texts { letter_count labels.now ≤ MOST_LETTERS }
+    requires few { length view.now.strokes.now ≤ MOST_STROKES }
+    requires texts { letter_count view.now.labels.now ≤ MOST_LETTERS }
     requires sinking { (K.state sink.old).faults < 2 ^ 64 - 1 }
-    ensures puts { PutsVector (IsPdf naming.entry page.now pens.now strokes.now ends.now (all_counted before labels.now))
+    ensures puts { PutsVector (IsPdf naming.entry view.now.page.now view.now.pens.now view.now.strokes.now ends.now
+        (all_counted view.now.before view.now.labels.now))
         (K.state sink.old) (K.state sink.new) result }
     ensures letters { IfErr result (λ fault. is_letters fault ≡ false) }
     ensures untouched { IfErr result (λ fault. is_write fault ≡ false → sink.new ≡ sink.old) }
 {
-    let pages = page_ends(alloc, strokes.len(), ends)?;
+    let pages = page_ends(alloc, view.strokes.len(), ends)?;
     let pages = pages.as_slice();
     let mut offsets = vec![in alloc; 0u64; room_for(pages.len())]?;
     let mut encoder = TextEncoder::new(alloc)?;
-    let view = SheetView {
-        page,
-        pens,
-        strokes,
-        labels,
-        before,
-    };
     let written = write_pdf(
         naming.version,
         title_kept(naming.title),
-        &view,
+        view,
         pages,
         offsets.as_mut_slice(),
         &mut encoder,

@@ -4,5 +4,6 @@ use Rattle.conversion.proofs.vector_sheet.put_fitting_pdf.Goals as goal
 
 pub returns-in-Ok-clause-puts : goal.returns-in-Ok-clause-puts
 returns-in-Ok-clause-puts g c =
-    puts_pdf {U = Unit {0}} tt c.args.naming c.args.page.now c.args.pens.now c.args.strokes.now c.args.ends.now c.as_slice-pages.result.now c.title_kept.result.now _ _ _ _
+    let view = c.args.view.now in
+    puts_pdf {U = Unit {0}} tt c.args.naming view.page.now view.pens.now view.strokes.now c.args.ends.now c.as_slice-pages.result.now c.title_kept.result.now _ _ _ _
     (c.as_slice-pages.ensures.value ∙ c.in_ok-pages.ensures.pages) c.title_kept.ensures c.in-Ok.ensures.writes

@@ -1,10 +1,10 @@
-use Rattle.std.proofs.Common.{◌≡◌, List, length, ap, ap₂, rules, subst, ◌∙◌}
+use Rattle.std.proofs.Common.{◌≡◌, Err, List, Ok, length, ap, ap₂, rules, subst, ◌∙◌}
 use Rattle.full_plot.specs.Drawings.{sheet_strokes}
 use Rattle.plot_page.specs.Segments.{Segment}
 use Rattle.full_plot.specs.Labels.{labels_of_sheet}
 use Rattle.labels.specs.Sheets.{all_counted}
 use Rattle.conversion.specs.Sheets.{TellsOf, labels_on, strokes_on}
-use Rattle.conversion.proofs.Vectors.{fault_again, no_fault, puts_same, same_fault, same_letters}
+use Rattle.conversion.proofs.Vectors.{fault_again, never_letters, no_fault, puts_same, same_fault, same_letters}
 use Rattle.conversion.proofs.vector_sheet.write_vector_sheet.Goals as goal
 use Rattle.conversion.proofs.vector_sheet.write_vector_sheet.Goals.{in-Svg+in_ok-put_svg-in-Svg, in-Pdf+in_ok-put_pdf-in-Pdf}
 
@@ -29,7 +29,8 @@ returns-clause-writes g c =
       ];
       letters = elim c.match-job.branch [
         | in-Svg+in_ok-put_svg-in-Svg w ↦
-            same_letters _ _ c.args.job.now.format _ _ _ w.in-Svg.is labels (no_fault _ _) (no_fault _ _) w.in_ok-put_svg-in-Svg.ensures.letters
+            same_letters _ _ c.args.job.now.format _ _ _ w.in-Svg.is labels (no_fault _ _) (no_fault _ _)
+            (never_letters {U = Unit {0}} (Ok w.in_ok-put_svg-in-Svg.field-0) w.in_ok-put_svg-in-Svg.ensures.letters)
         | in-Pdf+in_ok-put_pdf-in-Pdf w ↦
             same_letters _ _ c.args.job.now.format _ _ _ w.in-Pdf.is labels (no_fault _ _) (no_fault _ _) w.in_ok-put_pdf-in-Pdf.ensures.letters
       ];
@@ -50,7 +51,7 @@ returns-in_err-put_svg-in-Svg-clause-writes g c =
     record {
       puts = search rules;
       letters = same_letters _ c.from_residual.result c.args.job.now.format _ _ _ c.in-Svg.is labels (same_fault _ e c.from_residual.ensures.1) (fault_again _ e c.from_residual.ensures.1)
-          c.in_err-put_svg-in-Svg.ensures.letters;
+          (never_letters {U = Unit {0}} (Err e) c.in_err-put_svg-in-Svg.ensures.letters);
       rows = search rules;
       bytes = search rules;
       tells = search rules;
