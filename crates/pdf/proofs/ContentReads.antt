@@ -8,9 +8,9 @@ use Rattle.std.specs.Fmt.{digit_glyph, signed_decimal}
 use Rattle.std.specs.List.{join_with_byte, list_any}
 use Rattle.std.specs.Option.{option_map}
 use Rattle.std.specs.Str.Parse.{digits_value}
-use Rattle.number_text.proofs.Scans.{AreWords, Lacks, byte_value, decimal_lacks, digits_lack, fraction_lacks, hex_digit, integer_read, lacks_both, number_read, signed_lacks, split_last, split_more, split_words}
-use Rattle.number_text.specs.Fractions.{fraction}
-use Rattle.number_text.specs.Readings.{given, integer, number, split, ◌>>=◌}
+use Rattle.pieces.proofs.Scans.{AreWords, Lacks, byte_value, decimal_lacks, digits_lack, fraction_lacks, hex_digit, integer_read, lacks_both, number_read, signed_lacks, split_last, split_more, split_words}
+use Rattle.pieces.specs.Fractions.{fraction}
+use Rattle.pieces.specs.Readings.{given, integer, number, split, ◌>>=◌}
 use Rattle.pdf.specs.ContentReader.{bytes_in, colour_part, operator, operators, part_in, parts_in, read_content, signed, unsigned}
 use Rattle.pdf.specs.Numbers.{digits_text, part, signed_thousandths, thousandths, two_digits}
 use Rattle.pdf.specs.Operators.{Operator, Scale, Layer, EndLayer, Save, Restore, Rectangle, Clip, NoPaint, StrokeColour}

@@ -3,7 +3,7 @@
 use Rattle.std.specs.Prelude.{ℕ, ℤ, pos, neg_ℤ, ◌+ℤ◌, ◌+◌, ◌-◌, ◌*◌, ◌/◌, ◌^◌, ◌==◌, ◌&&◌, nat_le, List, [], ◌∷◌, length, Option, Some, None, if◌then◌else◌, codes}
 use Rattle.std.specs.Char.{is_digit}
 use Rattle.std.specs.Option.{option_map}
-use Rattle.number_text.specs.Readings.{after, byte, given, integer, is_text, minus, number, split, ◌>>=◌}
+use Rattle.pieces.specs.Readings.{after, byte, given, integer, is_text, minus, number, split, ◌>>=◌}
 use Rattle.pdf.specs.Operators.{Operator, Scale, Layer, EndLayer, Save, Restore, Rectangle, Clip, NoPaint, StrokeColour}
 use Rattle.pdf.specs.Operators.{LineWidth, LineEnds, LineJoins, MoveTo, LineTo, StrokePath, BeginText, Invisible}
 use Rattle.pdf.specs.Operators.{TextMatrix, Font, ShowText, EndText}

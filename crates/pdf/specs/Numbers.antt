@@ -2,7 +2,7 @@
 use Rattle.std.specs.Prelude.{ℕ, ◌+◌, ◌-◌, ◌*◌, ◌/◌, ◌%◌, nat_lt, false, if◌then◌else◌, List, [], ◌∷◌, ◌++◌, decimal}
 use Rattle.std.specs.Prelude.{ℤ, pos, neg_ℤ, nat_abs, int_lt, codes}
 use Rattle.std.specs.Fmt.{digit_glyph}
-use Rattle.number_text.specs.Fractions.{digit, fraction}
+use Rattle.pieces.specs.Fractions.{digit, fraction}
 
 -- some thousandths as a decimal number
 abbrev pub thousandths : ℕ → List ℕ

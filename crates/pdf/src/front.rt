@@ -13,8 +13,7 @@ use crate::pens::PENS;
 use crate::rows::ROWS;
 use crate::title::put_title;
 use devices::Sink;
-use number_text::put_fraction;
-use pieces::Text;
+use pieces::{Fraction, Text};
 use plot_page::Page;
 
 // Puts the first four objects of a document with layers for these pens, with fonts for these rows and with a page for each
@@ -114,7 +113,7 @@ fn put_points<K: Sink>(text: &mut Text<'_, K>, units: u32)
 {
     let thousandths = (18_000 * units + 127) / 254;
     text.put_number(thousandths / 1000);
-    put_fraction(text, thousandths % 1000);
+    text.put(Fraction::new(thousandths % 1000).as_bytes());
 }
 
 // Puts references to the pages of sheets that end there, from this number on.

@@ -1,34 +1,23 @@
 //! Decimal numbers in the content of a page.
 ghost use Rattle.std.specs.Prelude.{◌≡◌, ◌+◌, ◌*◌, ◌^◌, ◌<◌, ◌≤◌, [], if◌then◌else◌, nat_abs, codes};
-ghost use Rattle.number_text.specs.Fractions.{fraction};
 ghost use Rattle.pdf.specs.Contained.{Fills, IsOpen};
 ghost use Rattle.pdf.specs.Numbers.{nearest, part, rounded, signed_thousandths, thousandths, two_digits};
 
 use crate::content::PageContent;
 use devices::Sink;
-use number_text::{decimals, digits_of, hex_digit};
-use pieces::Text;
-
-// Puts a point and some thousandths, without zeros at the end; nothing if there are none.
-fn put_fraction<K: Sink>(document: &mut Text<'_, K>, content: &mut PageContent<'_>, thousandths: u32)
-    requires open { IsOpen K.state document.old content.old }
-    requires small { thousandths < 1000 }
-    ensures fills { Fills K.state document.old document.new content.old content.new (fraction thousandths) }
-{
-    if thousandths == 0 {
-        return;
-    }
-    content.put(document, b".");
-    content.put(document, &digits_of(thousandths)[..decimals(thousandths)]);
-}
+use pieces::{Fraction, Text, hex_digit};
 
 // Puts some thousandths as a decimal number.
-fn put_thousandths<K: Sink>(document: &mut Text<'_, K>, content: &mut PageContent<'_>, number: u32)
+fn put_thousandths<K: Sink>(
+    document: &mut Text<'_, K>,
+    content: &mut PageContent<'_>,
+    number: u64,
+)
     requires open { IsOpen K.state document.old content.old }
     ensures fills { Fills K.state document.old document.new content.old content.new (thousandths number) }
 {
     content.put_number(document, number / 1000);
-    put_fraction(document, content, number % 1000);
+    content.put(document, Fraction::new((number % 1000) as u32).as_bytes());
 }
 
 // Puts a part of a colour.
@@ -36,7 +25,7 @@ pub(crate) fn put_part<K: Sink>(document: &mut Text<'_, K>, content: &mut PageCo
     requires open { IsOpen K.state document.old content.old }
     ensures fills { Fills K.state document.old document.new content.old content.new (part byte) }
 {
-    put_thousandths(document, content, (2000 * u32::from(byte) + 255) / 510);
+    put_thousandths(document, content, (2000 * u64::from(byte) + 255) / 510);
 }
 
 // Puts some thousandths as a decimal number, which may be below 0.
@@ -49,9 +38,7 @@ pub(crate) fn put_signed_thousandths<K: Sink>(
     ensures fills { Fills K.state document.old document.new content.old content.new (signed_thousandths number) }
 {
     put_sign(document, content, number < 0);
-    let size = number.unsigned_abs();
-    content.put_number(document, size / 1000);
-    put_fraction(document, content, (size % 1000) as u32);
+    put_thousandths(document, content, number.unsigned_abs());
 }
 
 // Puts a sign, or not.

@@ -1,6 +1,6 @@
 //! The table of where objects begin, and the trailer.
 ghost use Rattle.std.specs.Prelude.{◌≡◌, ◌%◌, ◌+◌, ◌^◌, ◌<◌, ◌++◌, length, codes, decimal};
-ghost use Rattle.number_text.specs.Fractions.{digit};
+ghost use Rattle.pieces.specs.Fractions.{digit};
 ghost use Rattle.pieces.specs.Texts.{IsSound, Puts};
 ghost use Rattle.pdf.specs.Objects.{entries_text, entry_text, table_text, trailer_text};
 

@@ -6,8 +6,7 @@ ghost use Rattle.pdf.specs.Documents.{title_text};
 ghost use Rattle.pdf.specs.Numbers.{character_text, four_digits, utf_16_text};
 
 use devices::Sink;
-use number_text::hex_digit;
-use pieces::Text;
+use pieces::{Text, hex_digit};
 
 // Puts a title, unless it is empty.
 pub(crate) fn put_title<K: Sink>(text: &mut Text<'_, K>, title: &str)

@@ -1,1 +1,4 @@
 pub mod Texts
+pub mod Scans
+mod Examples
+mod ReadExamples

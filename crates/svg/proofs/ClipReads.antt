@@ -7,10 +7,10 @@ use Rattle.std.specs.List.{Contains, join_with_byte, list_all}
 use Rattle.svg.specs.declared.places.Rectangle.{Rectangle}
 use Rattle.svg.specs.Clips.{clip_text, rectangle_text}
 use Rattle.svg.specs.Paths.{clip_name}
-use Rattle.number_text.specs.Readings.{integer, is_text, split, ◌>>=◌}
+use Rattle.pieces.specs.Readings.{integer, is_text, split, ◌>>=◌}
 use Rattle.svg.specs.Reader.{attributes, clip_named, is_allowed, is_known, names, rectangle, rectangle_in, value}
 use Rattle.svg.proofs.PathReads.{is_less, name_lacks, name_plain, no_less, no_quote, reference, signed_plain}
-use Rattle.number_text.proofs.Scans.{AreWords, Cuts, Lacks, integer_read, lacks_both, more_parts, one_part, signed_lacks, split_more, split_words}
+use Rattle.pieces.proofs.Scans.{AreWords, Cuts, Lacks, integer_read, lacks_both, more_parts, one_part, signed_lacks, split_more, split_words}
 
 pub text_same : (a : List ℕ) → is_text a a ≡ true
 text_same [] = refl

@@ -4,14 +4,14 @@ use Rattle.std.proofs.lemmas.Bool.Decides.{nat_tests}
 use Rattle.std.proofs.lemmas.List.Elements.{filter-append}
 use Rattle.std.specs.List.{Contains, join_with_byte, list_all}
 use Rattle.std.specs.Option.{option_map}
-use Rattle.number_text.specs.Fractions.{fraction}
+use Rattle.pieces.specs.Fractions.{fraction}
 use Rattle.plot_page.specs.declared.page.Page.{Page}
 use Rattle.svg.specs.declared.places.Rectangle.{Rectangle}
 use Rattle.svg.specs.Clips.{IsAmong, clip_text, clips_text}
 use Rattle.svg.specs.Documents.{head_text, page_text}
 use Rattle.svg.specs.Numbers.{millimetres}
 use Rattle.svg.specs.Paths.{Path, clip_name, path_text}
-use Rattle.number_text.specs.Readings.{Cut, after, each, given, number, split, ◌>>=◌}
+use Rattle.pieces.specs.Readings.{Cut, after, each, given, number, split, ◌>>=◌}
 use Rattle.svg.specs.Reader.{attributes, clip_in, clip_named, elements, is_title, read_titles, resolved_text, is_allowed, is_known, path, paths_in_parts, read_elements, read_known, read_svg, size, size_in, value}
 use Rattle.svg.specs.Readings.{Size, read_paths, size_of}
 use Rattle.svg.proofs.ClipReads.{AreSmallRectangles, IsSmallRectangle, clip_cut, clip_known, clip_parts, first_or_later, named}
@@ -19,7 +19,7 @@ use Rattle.svg.proofs.PartReads.{AreSmallPaths, Shows, all_both, is_path, title_
 use Rattle.svg.proofs.TitleReads.{title_read}
 use Rattle.svg.specs.Titles.{utf_8}
 use Rattle.svg.proofs.PathReads.{decimal_plain, digit_plain, is_less, is_markup, is_quote, no_less, no_quote, path_read, reference}
-use Rattle.number_text.proofs.Scans.{AreWords, Cuts, Lacks, all_parts, decimal_lacks, fraction_lacks, lacks_both, more_parts, no_parts, number_read, one_part, split_words}
+use Rattle.pieces.proofs.Scans.{AreWords, Cuts, Lacks, all_parts, decimal_lacks, fraction_lacks, lacks_both, more_parts, no_parts, number_read, one_part, split_words}
 
 -- a length has no markup
 length_plain : (n : ℕ) → Lacks is_markup (millimetres n)

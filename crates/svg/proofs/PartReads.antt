@@ -19,7 +19,7 @@ use Rattle.svg.specs.Readings.{part_paths, part_titles, parts_of_sheets, paths_i
 use Rattle.svg.specs.Sheets.{Sheet}
 use Rattle.svg.specs.Titles.{text_bytes}
 use Rattle.svg.proofs.PathReads.{IsColour, IsSmallPath, colour_plain, commands_plain, decimal_plain, is_less, is_quote, name_plain, no_less, no_quote, path_known}
-use Rattle.number_text.proofs.Scans.{AreWords, Cuts, Lacks, lacks_both, more_parts, no_parts, one_part, split_words}
+use Rattle.pieces.proofs.Scans.{AreWords, Cuts, Lacks, lacks_both, more_parts, no_parts, one_part, split_words}
 use Rattle.svg.proofs.TitleTexts.{text_lacks}
 
 abbrev pub is_path : List ℕ → Bool

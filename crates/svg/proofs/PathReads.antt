@@ -11,9 +11,9 @@ use Rattle.svg.specs.declared.places.Rectangle.{Rectangle}
 use Rattle.svg.specs.Commands.{Command, MoveTo, LineTo, MoveBy, LineBy, command_text, pair_text}
 use Rattle.svg.specs.Numbers.{colour_digits, two_digits}
 use Rattle.svg.specs.Paths.{Path, clip_name, clipped_text, path_text}
-use Rattle.number_text.specs.Readings.{Cut, each, given, integer, ◌>>=◌}
+use Rattle.pieces.specs.Readings.{Cut, each, given, integer, ◌>>=◌}
 use Rattle.svg.specs.Reader.{attributes, clip_in, colour, command, command_of, commands, is_allowed, is_known, is_letter, path, path_in, place, place_in}
-use Rattle.number_text.proofs.Scans.{AreWords, Cuts, Lacks, PassesDigits, all_parts, byte_value, decimal_lacks, hex_digit, integer_read, lacks_both, more_parts, no_parts, number_read, one_part, signed_lacks, split_last, split_more, split_words}
+use Rattle.pieces.proofs.Scans.{AreWords, Cuts, Lacks, PassesDigits, all_parts, byte_value, decimal_lacks, hex_digit, integer_read, lacks_both, more_parts, no_parts, number_read, one_part, signed_lacks, split_last, split_more, split_words}
 
 -- quotation marks and the starts of tags
 abbrev pub is_markup : ℕ → Bool

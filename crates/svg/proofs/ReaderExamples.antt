@@ -1,7 +1,7 @@
 -- Small documents, read.
 use Rattle.std.proofs.Common.{◌≡◌, ℕ, pos, negsuc, List, [], ◌∷◌, ◌++◌, Some, None, codes, map, refl}
 use Rattle.svg.specs.Commands.{LineBy, LineTo, MoveBy, MoveTo}
-use Rattle.number_text.specs.Readings.{split}
+use Rattle.pieces.specs.Readings.{split}
 use Rattle.svg.specs.Reader.{colour, commands, elements, place, read_svg, read_titles, value}
 
 -- what lies between quotation marks, and outside of them

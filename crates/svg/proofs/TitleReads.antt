@@ -3,8 +3,8 @@ use Rattle.std.proofs.Common.{◌≡◌, ◌∙◌, ℕ, ◌==◌, Bool, true, f
 use Rattle.std.proofs.lemmas.Bool.Decides.{nat_tests}
 use Rattle.std.specs.Char.{encode_utf8}
 use Rattle.std.specs.List.{concat}
-use Rattle.number_text.proofs.Scans.{cut_plain}
-use Rattle.number_text.specs.Readings.{Cut, cut, each, ◌>>=◌}
+use Rattle.pieces.proofs.Scans.{cut_plain}
+use Rattle.pieces.specs.Readings.{Cut, cut, each, ◌>>=◌}
 use Rattle.svg.specs.Reader.{resolved, resolved_text}
 use Rattle.svg.specs.Titles.{character, text_bytes, utf_8}
 use Rattle.svg.proofs.TitleTexts.{utf8_lacks}

@@ -4,7 +4,7 @@ use Rattle.std.proofs.lemmas.Bool.Decides.{nat_tests}
 use Rattle.std.specs.Char.{encode_utf8}
 use Rattle.svg.specs.Titles.{character, character_text, text_bytes}
 use Rattle.svg.proofs.PathReads.{is_less}
-use Rattle.number_text.proofs.Scans.{Lacks, lacks_both}
+use Rattle.pieces.proofs.Scans.{Lacks, lacks_both}
 
 either_lacks : (is_mark : ℕ → Bool) (b : Bool) (xs ys : List ℕ) → Lacks is_mark xs → Lacks is_mark ys → Lacks is_mark (cond b xs ys)
 either_lacks is_mark true xs ys h k = h

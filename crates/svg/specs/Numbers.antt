@@ -1,7 +1,7 @@
 -- Numbers and colours in an SVG document.
 use Rattle.std.specs.Prelude.{ℕ, ◌*◌, ◌/◌, ◌%◌, List, [], ◌∷◌, ◌++◌, false, decimal}
 use Rattle.std.specs.Fmt.{digit_glyph}
-use Rattle.number_text.specs.Fractions.{fraction}
+use Rattle.pieces.specs.Fractions.{fraction}
 use Rattle.plot_page.specs.declared.colour.Colour.{Colour}
 
 -- a length of so many plotter units in millimetres: a unit is 25 thousandths

@@ -6,7 +6,7 @@ use Rattle.std.specs.Int.{is_in_range}
 use Rattle.std.specs.List.{concat, find, list_all, list_any, starts_with}
 use Rattle.std.specs.Option.{option_map, option_or}
 use Rattle.std.specs.Prelude.{nat_eq}
-use Rattle.number_text.specs.Readings.{after, byte, cut, each, given, integer, is_text, number, split, ◌>>=◌}
+use Rattle.pieces.specs.Readings.{after, byte, cut, each, given, integer, is_text, number, split, ◌>>=◌}
 use Rattle.plot_page.specs.Segments.{Segment}
 use Rattle.plot_page.specs.declared.colour.Colour.{Colour}
 use Rattle.svg.specs.declared.places.Place.{Place}

@@ -5,8 +5,7 @@ ghost use Rattle.svg.specs.Documents.{head_text, page_text};
 ghost use Rattle.svg.specs.Numbers.{millimetres};
 
 use devices::Sink;
-use number_text::put_fraction;
-use pieces::Text;
+use pieces::{Fraction, Text};
 use plot_page::Page;
 
 // Puts the head.
@@ -43,5 +42,5 @@ fn put_millimetres<K: Sink>(text: &mut Text<'_, K>, units: u32)
     ensures puts { Puts K.state text.old text.new (millimetres units) }
 {
     text.put_number(units / 40);
-    put_fraction(text, 25 * (units % 40));
+    text.put(Fraction::new(25 * (units % 40)).as_bytes());
 }

@@ -7,8 +7,7 @@ ghost use Rattle.svg.specs.Paths.{clip_of, pen_text, start_text};
 
 use crate::clips::put_clipped;
 use devices::Sink;
-use number_text::hex_digit;
-use pieces::Text;
+use pieces::{Text, hex_digit};
 use plot_page::{Colour, Page, Stroke};
 use stroke_runs::shown_width;
 

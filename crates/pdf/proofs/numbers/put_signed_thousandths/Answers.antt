@@ -11,6 +11,5 @@ pub returns : goal.returns
 returns g c =
     let fits : SFits w64 c.args.number = search rules in
     let sign = simp to_z-of_z at c.put_sign.ensures.fills in
-    let size : c.unsigned_abs-size.result ≡ nat_abs c.args.number = search rules in
-    let parts = fills_as (c.put_number.ensures.fills next c.put_fraction.ensures.fills) (ap thousandths size) in
-    record { fills = sign next parts }
+    let size : c.unsigned_abs.result ≡ nat_abs c.args.number = search rules in
+    record { fills = sign next fills_as c.put_thousandths.ensures.fills (ap thousandths size) }

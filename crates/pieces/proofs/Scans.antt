@@ -9,8 +9,8 @@ use Rattle.std.specs.Fmt.{digit_glyph, digits, digits_onto, signed_decimal}
 use Rattle.std.specs.List.{join_with_byte, list_all, list_any}
 use Rattle.std.specs.Option.{option_map}
 use Rattle.std.specs.Str.Parse.{AllDigits, digits_value}
-use Rattle.number_text.specs.Fractions.{decimals, fraction}
-use Rattle.number_text.specs.Readings.{Cut, byte, cut, given, integer, number, split, with_byte}
+use Rattle.pieces.specs.Fractions.{decimals, fraction}
+use Rattle.pieces.specs.Readings.{Cut, byte, cut, given, integer, number, split, with_byte}
 
 -- a text without a mark
 abbrev pub Lacks : (ℕ → Bool) → List ℕ → Type 0

@@ -1,5 +1,6 @@
 -- Thousandths after a point.
 use Rattle.std.specs.Prelude.{ℕ, ◌+◌, ◌/◌, ◌%◌, ◌==◌, List, [], ◌∷◌, ◌++◌, take, if◌then◌else◌, codes}
+use Rattle.pieces.specs.declared.fractions.Fraction.{Fraction}
 
 -- how many digits of some thousandths are not zeros at the end
 abbrev pub decimals : ℕ → ℕ
@@ -15,3 +16,7 @@ fraction thousandths =
     if thousandths == 0 then [] else
     codes "." ++ take (decimals thousandths)
     (digit (thousandths / 100) ∷ digit (thousandths / 10 % 10) ∷ digit (thousandths % 10) ∷ [])
+
+-- the bytes of the value
+abbrev pub text_of : Fraction → List ℕ
+text_of f = take f.used f.bytes

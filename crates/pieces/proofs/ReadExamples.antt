@@ -1,6 +1,6 @@
 -- Texts that are read.
 use Rattle.std.proofs.Common.{◌≡◌, ◌==◌, pos, negsuc, [], ◌∷◌, Some, None, codes, map, refl}
-use Rattle.number_text.specs.Readings.{after, cut, integer, number, split}
+use Rattle.pieces.specs.Readings.{after, cut, integer, number, split}
 
 parts_between : split 0x20 (codes "1 -2  3") ≡ codes "1" ∷ codes "-2" ∷ [] ∷ codes "3" ∷ []
 parts_between = refl

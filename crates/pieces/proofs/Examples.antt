@@ -1,6 +1,6 @@
 -- Some thousandths as text.
 use Rattle.std.proofs.Common.{◌≡◌, [], ◌∷◌, codes, refl, List, map}
-use Rattle.number_text.specs.Fractions.{fraction}
+use Rattle.pieces.specs.Fractions.{fraction}
 
 -- a table of examples: each input has its output
 abbrev Table : {X Y : Type 0} → (X → Y) → List (X × Y) → Type 0

@@ -1,3 +1,0 @@
-pub mod Scans
-mod Examples
-mod ReadExamples
