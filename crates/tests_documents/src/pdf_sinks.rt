@@ -1,14 +1,16 @@
 //! Long documents, and sinks that take little or fail.
 ghost use Rattle.std.specs.Prelude.{◌≡◌, ◌-◌, ◌^◌, ◌<◌, Some};
 
-use crate::pdf_documents::{bytes_of, two_sheets};
+use crate::pdf_documents::two_sheets;
 use crate::pdf_strokes::{BLACK, write, write_titled};
-use crate::pdf_texts::{TWO_PAGES, labels_of};
+use crate::pdf_texts::{bytes_of, label};
 use crc32::crc_of;
 use deflate::TextEncoder;
 use devices::{Sink, SinkFault};
+use labels::Label;
 use plot_page::Stroke;
 use std::alloc::Global;
+use std::process::Abort;
 use std::test::Fail;
 
 // A sink that takes at most three bytes a call, and fails once, after `limit` bytes.
@@ -37,57 +39,47 @@ impl Sink for Failing {
     }
 }
 
-// A sink fails after each number of bytes: it has taken as many as the fault says, and nothing is written after it. The
+// Fails unless sinks that fail once, after each number of bytes, have taken as many as the fault says, and nothing after it. The
 // encoder begins anew after each.
-#[test]
-fn failing_once(rt: HostRuntime) -> Result<(), Fail> {
-    let strokes = two_sheets(rt.alloc())?;
-    let whole = bytes_of(&rt, rt.alloc(), &strokes, &[6, 8])?;
-    let mut encoder = TextEncoder::new(rt.alloc())?;
+fn fails_anywhere(
+    rt: &impl Abort,
+    alloc: Global,
+    strokes: &[Stroke],
+    ends: &[usize],
+    labels: &[Label],
+    whole: &[u8],
+) -> Result<(), Fail> {
+    let mut encoder = TextEncoder::new(alloc)?;
     for limit in 0..=whole.len() {
         let mut sink = Failing {
-            bytes: Vec::new(rt.alloc()),
+            bytes: Vec::new(alloc),
             limit,
             failures: 0,
         };
-        let bytes = write(rt.alloc(), &mut encoder, &strokes, &[6, 8], &mut sink)?;
+        let bytes = write_titled(alloc, &mut encoder, "", strokes, ends, labels, 0, &mut sink)?;
         let failures = if sink.bytes.len() < whole.len() { 1 } else { 0 };
-        assert_eq!(&rt; (bytes, sink.failures), (sink.bytes.len() as u64, failures));
-        assert!(&rt; whole.as_slice().starts_with(&sink.bytes));
+        assert_eq!(rt; (bytes, sink.failures), (sink.bytes.len() as u64, failures));
+        assert!(rt; whole.starts_with(&sink.bytes));
     }
     Ok(())
 }
 
-// The same with labels, after some numbers of bytes.
+#[test]
+fn failing_once(rt: HostRuntime) -> Result<(), Fail> {
+    let strokes = two_sheets(rt.alloc())?;
+    let whole = bytes_of(&rt, rt.alloc(), &strokes, &[6, 8], &[], 0)?;
+    fails_anywhere(&rt, rt.alloc(), &strokes, &[6, 8], &[], &whole)
+}
+
+// A document with fonts and a text, of one page, so that it is short.
 #[test]
 fn failing_with_labels(rt: HostRuntime) -> Result<(), Fail> {
-    let strokes = two_sheets(rt.alloc())?;
-    let labels = labels_of(rt.alloc(), 0)?;
-    let mut encoder = TextEncoder::new(rt.alloc())?;
-    let mut last = 0;
-    for part in 0..=100 {
-        let limit = TWO_PAGES.0 * part / 100;
-        let mut sink = Failing {
-            bytes: Vec::new(rt.alloc()),
-            limit,
-            failures: 0,
-        };
-        let bytes = write_titled(
-            rt.alloc(),
-            &mut encoder,
-            "",
-            &strokes,
-            &[6, 8],
-            &labels,
-            0,
-            &mut sink,
-        )?;
-        let failures = if sink.bytes.len() < TWO_PAGES.0 { 1 } else { 0 };
-        assert_eq!(&rt; (bytes, sink.failures), (sink.bytes.len() as u64, failures));
-        last = crc_of(&sink.bytes);
-    }
-    assert_eq!(&rt; last, TWO_PAGES.1);
-    Ok(())
+    let mut strokes = Vec::new(rt.alloc());
+    strokes.push(BLACK.stroke([0, 448, 16_256, 448])?)?;
+    let mut labels = Vec::new(rt.alloc());
+    labels.push(label(rt.alloc(), [0, 1], &[65], [0, 448, 241, 448, 0, 500])?)?;
+    let whole = bytes_of(&rt, rt.alloc(), &strokes, &[1], &labels, 0)?;
+    fails_anywhere(&rt, rt.alloc(), &strokes, &[1], &labels, &whole)
 }
 
 // Where the sheets of a long document end.
@@ -116,7 +108,7 @@ fn long_strokes(alloc: Global) -> Result<Vec<Stroke>, Fail> {
 #[test]
 fn many_strokes(rt: HostRuntime) -> Result<(), Fail> {
     let strokes = long_strokes(rt.alloc())?;
-    let document = bytes_of(&rt, rt.alloc(), &strokes, &LONG_ENDS)?;
+    let document = bytes_of(&rt, rt.alloc(), &strokes, &LONG_ENDS, &[], 0)?;
     assert_eq!(&rt; (document.len(), crc_of(&document)), (35_394, 0x5a97_752c));
     Ok(())
 }

@@ -33,8 +33,8 @@ fn near(x: i32, y: i32) -> Place
     }
 }
 
-// A label of one line.
-fn label(
+/// A label of one line.
+pub fn label(
     alloc: Global,
     strokes: [usize; 2],
     text: &[u32],
@@ -50,8 +50,8 @@ fn label(
     })
 }
 
-// The bytes of a document with labels that count strokes from `before` strokes before these.
-fn bytes_of(
+/// The bytes of a document with labels that count strokes from `before` strokes before these.
+pub fn bytes_of(
     rt: &impl Abort,
     alloc: Global,
     strokes: &[Stroke],
@@ -77,9 +77,9 @@ fn bytes_of(
     Ok(document)
 }
 
-/// Labels of the two sheets, as if `before` strokes came before these: of two lines, of two rows of code points and of a code
-/// point over U+FFFF, without a letter, of strokes that are not drawn, upright and mirrored, and of the second sheet.
-pub fn labels_of(alloc: Global, before: usize) -> Result<Vec<Label>, Fail>
+// Labels of the two sheets, as if `before` strokes came before these: of two lines, of two rows of code points and of a code
+// point over U+FFFF, without a letter, of strokes that are not drawn, upright and mirrored, and of the second sheet.
+fn labels_of(alloc: Global, before: usize) -> Result<Vec<Label>, Fail>
     requires { before ≤ 1000 }
 {
     let mut labels = Vec::new(alloc);
@@ -130,8 +130,8 @@ fn later_strokes(rt: HostRuntime) -> Result<(), Fail> {
     Ok(())
 }
 
-/// The length and the CRC-32 of the two sheets with these labels.
-pub const TWO_PAGES: (usize, u32) = (4286, 0xc94a_dfbd);
+// The length and the CRC-32 of the two sheets with these labels.
+const TWO_PAGES: (usize, u32) = (4286, 0xc94a_dfbd);
 
 // A document whose labels are not shown is one without labels.
 #[test]
