@@ -1,7 +1,6 @@
 //! The content of a page, on its way through an encoder into a document.
 ghost use Rattle.std.specs.Prelude.{◌≡◌, ◌+◌, ◌≤◌, [], length};
 ghost use Rattle.deflate.specs.declared.sizes.TheConstants.{FULL, PIECE};
-ghost use Rattle.pieces.specs.Texts.{IsSound};
 ghost use Rattle.pdf.specs.Contained.{Ends, Fills, Holds, IsOpen, Keeps};
 
 use deflate::{PIECE, TextEncoder};

@@ -1,5 +1,5 @@
 //! The first objects: the root, the producer, what all pages have, and the list of layers.
-ghost use Rattle.std.specs.Prelude.{◌≡◌, ◌+◌, ◌*◌, ◌≤◌, ◌++◌, [], ◌∷◌, length};
+ghost use Rattle.std.specs.Prelude.{◌+◌, ◌*◌, ◌≤◌, [], ◌∷◌, length};
 ghost use Rattle.pieces.specs.Texts.{IsSound, Puts};
 ghost use Rattle.plot_page.specs.declared.stroke.TheConstants.{MOST_STROKES};
 ghost use Rattle.pdf.specs.Documents.{catalog_text, info_text, kids_text, list_text, pages_text, shared_text};

@@ -1,5 +1,5 @@
 //! Layers: an optional content group for each pen.
-ghost use Rattle.std.specs.Prelude.{◌≡◌, ◌+◌, ◌-◌, ◌^◌, ◌<◌, ◌≤◌, ◌++◌, [], ◌∷◌, length, codes, decimal};
+ghost use Rattle.std.specs.Prelude.{◌+◌, ◌-◌, ◌^◌, ◌<◌, ◌≤◌, ◌++◌, [], ◌∷◌, length, codes, decimal};
 ghost use Rattle.pieces.specs.Texts.{IsSound, Puts};
 ghost use Rattle.pdf.specs.Documents.{layer_object, layer_objects, layers_text, properties_text};
 ghost use Rattle.pdf.specs.Objects.{reference_text};

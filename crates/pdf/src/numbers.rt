@@ -8,11 +8,7 @@ use devices::Sink;
 use pieces::{Fraction, Text, hex_digit};
 
 // Puts some thousandths as a decimal number.
-fn put_thousandths<K: Sink>(
-    document: &mut Text<'_, K>,
-    content: &mut PageContent<'_>,
-    number: u64,
-)
+fn put_thousandths<K: Sink>(document: &mut Text<'_, K>, content: &mut PageContent<'_>, number: u64)
     requires open { IsOpen K.state document.old content.old }
     ensures fills { Fills K.state document.old document.new content.old content.new (thousandths number) }
 {

@@ -1,6 +1,6 @@
 //! Pages: three objects for each sheet.
-ghost use Rattle.std.specs.Prelude.{◌≡◌, ◌+◌, ◌-◌, ◌*◌, ◌^◌, ◌<◌, ◌≤◌, ◌++◌, [], ◌∷◌, length, decimal};
-ghost use Rattle.labels.specs.Sheets.{all_counted, count_to};
+ghost use Rattle.std.specs.Prelude.{◌+◌, ◌-◌, ◌*◌, ◌^◌, ◌<◌, ◌≤◌, [], ◌∷◌, length, decimal};
+ghost use Rattle.labels.specs.Sheets.{all_counted};
 ghost use Rattle.pieces.specs.Texts.{IsSound, Puts};
 ghost use Rattle.plot_page.specs.declared.stroke.TheConstants.{MOST_STROKES};
 ghost use Rattle.pdf.specs.Contents.{content_text};
@@ -14,9 +14,8 @@ use crate::sheet::Sheet;
 use crate::stream::put_stream;
 use deflate::TextEncoder;
 use devices::Sink;
-use labels::Label;
 use pieces::Text;
-use stroke_runs::{SheetView, between};
+use stroke_runs::{SheetView, between, count_to};
 
 // Puts the pages of sheets after `before` objects. A sheet has the strokes after those of the one before it, up to so many of
 // all as its end says, and the labels before whose strokes it ends.
@@ -136,21 +135,4 @@ fn put_length<K: Sink>(text: &mut Text<'_, K>, offsets: &mut [u64], before: u32,
     begin_object(text, offsets, before);
     text.put_number(size);
     end_object(text);
-}
-
-// How many labels there are up to the first one before which there are `end` strokes after `earlier` ones.
-fn count_to(labels: &[Label], earlier: usize, end: usize) -> usize
-    ensures value { result ≡ count_to end (all_counted earlier labels.now) }
-    ensures most { result ≤ length labels.now }
-{
-    let mut rest = labels;
-    let mut count = 0;
-    'labels: while let [label, others @ ..] = rest {
-        if label.first.saturating_sub(earlier) >= end {
-            break;
-        }
-        count += 1;
-        rest = others;
-    }
-    count
 }

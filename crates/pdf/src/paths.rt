@@ -1,7 +1,7 @@
 //! Paths: the strokes of a run in the content of a page.
 ghost use Rattle.std.specs.Prelude.{◌≡◌, ◌≤◌, ◌++◌, ◌-ℤ◌, nat_abs, max, codes};
 ghost use Rattle.pdf.specs.Contained.{Fills, IsOpen};
-ghost use Rattle.pdf.specs.Operators.{colour_text, place_text, rectangle_text, width_text};
+ghost use Rattle.pdf.specs.Operators.{colour_text, place_text, width_text};
 ghost use Rattle.pdf.specs.RunTexts.{clip_text, layer_text, line_text, start_text, stroke_text, window_text};
 ghost use Rattle.stroke_runs.specs.declared.shown.TheConstants.{LEAST_WIDTH};
 

@@ -70,7 +70,11 @@ fn put_begun<K: Sink>(
 }
 
 // Puts the end of the run that has begun, if there is one.
-pub(crate) fn put_end<K: Sink>(document: &mut Text<'_, K>, content: &mut PageContent<'_>, runs: &Runs)
+pub(crate) fn put_end<K: Sink>(
+    document: &mut Text<'_, K>,
+    content: &mut PageContent<'_>,
+    runs: &Runs,
+)
     requires open { IsOpen K.state document.old content.old }
     ensures fills { Fills K.state document.old document.new content.old content.new (open_end runs.now) }
 {

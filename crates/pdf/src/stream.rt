@@ -35,7 +35,11 @@ pub(crate) fn put_stream<K: Sink>(
 }
 
 // Puts the content of a page.
-fn put_content<K: Sink>(document: &mut Text<'_, K>, content: &mut PageContent<'_>, sheet: &Sheet<'_>)
+fn put_content<K: Sink>(
+    document: &mut Text<'_, K>,
+    content: &mut PageContent<'_>,
+    sheet: &Sheet<'_>,
+)
     requires open { IsOpen K.state document.old content.old }
     requires letters { letter_count sheet.now.labels.now ≤ MOST_LETTERS }
     ensures fills { Fills K.state document.old document.new content.old content.new (content_text sheet.now.page.now sheet.now.pens.now
@@ -46,7 +50,11 @@ fn put_content<K: Sink>(document: &mut Text<'_, K>, content: &mut PageContent<'_
 }
 
 // Puts the drawn strokes of a page.
-fn put_strokes<K: Sink>(document: &mut Text<'_, K>, content: &mut PageContent<'_>, sheet: &Sheet<'_>)
+fn put_strokes<K: Sink>(
+    document: &mut Text<'_, K>,
+    content: &mut PageContent<'_>,
+    sheet: &Sheet<'_>,
+)
     requires open { IsOpen K.state document.old content.old }
     ensures fills { Fills K.state document.old document.new content.old content.new
         (strokes_text sheet.now.page.now sheet.now.pens.now sheet.now.strokes.now) }

@@ -10,6 +10,6 @@ mod view;
 
 pub use drawn::is_drawn;
 pub use runs::{Link, MOST_IN_RUN, Runs};
-pub use sheets::{between, end_of};
-pub use shown::{LEAST_WIDTH, is_shown, is_whole_page, shown_width};
+pub use sheets::{between, count_to, end_of};
+pub use shown::{LEAST_WIDTH, has_drawn, is_shown, is_whole_page, shown_width};
 pub use view::SheetView;

@@ -1,7 +1,9 @@
-//! Sheets: the strokes of a plot, cut where sheets end.
-ghost use Rattle.std.specs.Prelude.{◌≡◌, length, slice_index_or};
+//! Sheets: the strokes of a plot, and its labels, cut where sheets end.
+ghost use Rattle.std.specs.Prelude.{◌≡◌, ◌≤◌, length, slice_index_or};
+ghost use Rattle.labels.specs.Sheets.{all_counted, count_to};
 ghost use Rattle.stroke_runs.specs.Sheets.{between};
 
+use labels::Label;
 use plot_page::Stroke;
 
 /// The strokes after the first `at`, up to and including number `end`.
@@ -20,4 +22,21 @@ pub fn end_of(strokes: &[Stroke], ends: &[usize], before: usize) -> usize
         Some(end) => *end,
         None => strokes.len(),
     }
+}
+
+/// How many of the labels are on a sheet that ends after `end` strokes, if so many come before the first sheet.
+pub fn count_to(labels: &[Label], before: usize, end: usize) -> usize
+    ensures value { result ≡ count_to end (all_counted before labels.now) }
+    ensures most { result ≤ length labels.now }
+{
+    let mut rest = labels;
+    let mut count = 0;
+    'labels: while let [label, others @ ..] = rest {
+        if label.first.saturating_sub(before) >= end {
+            break;
+        }
+        count += 1;
+        rest = others;
+    }
+    count
 }

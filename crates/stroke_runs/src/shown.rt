@@ -49,8 +49,8 @@ pub fn is_shown(pens: &PenSet, strokes: &[Stroke], before: usize, label: &Label)
     has_drawn(pens, between(strokes, first, after))
 }
 
-// Whether one of these strokes is drawn.
-fn has_drawn(pens: &PenSet, strokes: &[Stroke]) -> bool
+/// Whether one of these strokes is drawn.
+pub fn has_drawn(pens: &PenSet, strokes: &[Stroke]) -> bool
     ensures { result ≡ list_any (is_drawn pens.now) strokes.now }
 {
     for stroke in strokes {

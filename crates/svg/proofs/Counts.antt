@@ -1,6 +1,6 @@
 -- Labels whose strokes are counted from other strokes.
-use Rattle.std.proofs.Common.{◌≡◌, ℕ, ◌-◌, List, [], ◌∷◌, drop, suc, zero, take, refl, sym, arith}
-use Rattle.std.proofs.lemmas.List.{take-map}
+use Rattle.std.proofs.Common.{◌≡◌, ℕ, ◌-◌, List, [], ◌∷◌, drop, take, refl, sym, arith}
+use Rattle.std.proofs.lemmas.List.{drop-map, take-map}
 use Rattle.labels.specs.Labels.{LabelShape}
 use Rattle.labels.specs.Sheets.{all_counted, counted}
 
@@ -20,6 +20,4 @@ pub first_counted : (before n : ℕ) (ls : List LabelShape) → all_counted befo
 first_counted before n ls = sym (take-map (counted before) n ls)
 
 pub rest_counted : (before n : ℕ) (ls : List LabelShape) → all_counted before (drop n ls) ≡ drop n (all_counted before ls)
-rest_counted before zero ls = refl
-rest_counted before (suc n) [] = refl
-rest_counted before (suc n) (l ∷ ls) = rest_counted before n ls
+rest_counted before n ls = sym (drop-map (counted before) n ls)

@@ -1,7 +1,6 @@
 -- What is written stroke by stroke is the text of the paths.
-use Rattle.std.proofs.Common.{◌≡◌, ℕ, ◌+◌, ◌-◌, ◌<◌, List, [], ◌∷◌, ◌++◌, flat_map, length, take, drop, get_or, Bool, true, false, cond, refl, ap, sym, ◌∙◌, append_assoc, append-nil, zero, suc, drop-cons, add-one, max, ◌≤◌, min, nat_eq, arith, length-append, length-drop}
+use Rattle.std.proofs.Common.{◌≡◌, ℕ, ◌+◌, ◌-◌, ◌<◌, List, [], ◌∷◌, ◌++◌, flat_map, length, take, drop, get_or, Bool, true, false, cond, refl, ap, sym, ◌∙◌, append_assoc, append-nil, zero, suc, max, ◌≤◌, min, nat_eq, arith, length-append, length-drop}
 use Rattle.std.proofs.lemmas.List.{drop_more, length-take}
-use Rattle.std.proofs.lemmas.List.Concat.{flat_map-append}
 use Rattle.labels.specs.Labels.{LabelShape}
 use Rattle.labels.specs.Sheets.{count_to}
 use Rattle.plot_page.specs.Segments.{Segment}
@@ -64,9 +63,6 @@ more joined page last s = cond joined (line_of page s ∷ []) (move (end_of page
 two : (a b : List ℕ) → a ++ b ≡ a ++ (b ++ [])
 two a b = ap (λ (z : List ℕ). a ++ z) (sym (append-nil b))
 
-more_text : (cs ds : List Command) (l : List ℕ) → l ≡ texts cs → l ++ texts ds ≡ texts (cs ++ ds)
-more_text cs ds l h = ap (λ (z : List ℕ). z ++ texts ds) h ∙ sym (flat_map-append command_text cs ds)
-
 run_step : (goes joined : Bool) (page : Page) (last : Segment) (room : ℕ) (s : Segment) (ss : List Segment) (f g : Following)
     → drawn_text page (after_stroke s (room - 1)) ss ≡ after_text page (texts (rest_commands page s f.rest)) f.runs
     → drawn_text page (after_stroke s 999) ss ≡ after_text page (texts (rest_commands page s g.rest)) g.runs
@@ -107,13 +103,13 @@ all_runs page (s ∷ ss) =
 pub all_steps : (page : Page) (pens : PenSet) (ss : List Segment) → steps_text page pens at_start ss ≡ paths_text page pens ss
 all_steps page pens ss = only_drawn page pens at_start ss ∙ all_runs page (drawn pens ss)
 
--- the next stroke of those that are left
-pub next_stroke : (ss : List Segment) (i : ℕ) (s : Segment) → i < length ss → s ≡ get_or ss i s → drop i ss ≡ s ∷ drop (i + 1) ss
-next_stroke ss i s lt is = drop-cons ss i s lt ∙ ap (λ (t : Segment). t ∷ drop (suc i) ss) (sym is) ∙ ap (λ (n : ℕ). s ∷ drop n ss) (sym (add-one i))
+-- the next item of those that are left
+pub next_item : {X : Type 0} (xs : List X) (i : ℕ) (x : X) → i < length xs → x ≡ get_or xs i x → drop i xs ≡ x ∷ drop (i + 1) xs
+next_item {X} xs i x lt is = drop_more xs i x lt ∙ ap (λ (y : X). y ∷ drop (i + 1) xs) (sym is)
 
 -- what is written for the next stroke, and for those after it
 pub next_text : (page : Page) (pens : PenSet) (r : Runs) (ss : List Segment) (i : ℕ) (s : Segment) → i < length ss → s ≡ get_or ss i s → steps_text page pens r (drop i ss) ≡ step_text page pens r s ++ steps_text page pens (after_step pens r s) (drop (i + 1) ss)
-next_text page pens r ss i s lt is = ap (λ (zs : List Segment). steps_text page pens r zs) (next_stroke ss i s lt is)
+next_text page pens r ss i s lt is = ap (λ (zs : List Segment). steps_text page pens r zs) (next_item ss i s lt is)
 
 end_at : (ends : List ℕ) (n i : ℕ) → get_or (ends ++ n ∷ []) i n ≡ get_or ends i n
 end_at [] n zero = refl
@@ -135,7 +131,3 @@ passed_sheet page pens number strokes at end ends labels h = ap (λ (b : Bool). 
 
 pub sheet_size : (strokes : List Segment) (at end : ℕ) → length (between strokes at end) ≡ min end (length strokes) - at
 sheet_size strokes at end = length-drop at (take end strokes) ∙ ap (λ (n : ℕ). n - at) (length-take end strokes)
-
--- the next item of those that are left
-pub next_item : {X : Type 0} (xs : List X) (i : ℕ) (x : X) → i < length xs → x ≡ get_or xs i x → drop i xs ≡ x ∷ drop (i + 1) xs
-next_item {X} xs i x lt is = drop_more xs i x lt ∙ ap (λ (y : X). y ∷ drop (i + 1) xs) (sym is)

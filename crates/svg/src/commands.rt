@@ -1,5 +1,5 @@
 //! The commands of a path, each in the shorter of two texts.
-ghost use Rattle.std.specs.Prelude.{◌≡◌, ◌+◌, ◌*◌, ◌≤◌, ◌++◌, length};
+ghost use Rattle.std.specs.Prelude.{◌≡◌, ◌+◌, ◌++◌, length};
 ghost use Rattle.pieces.specs.Texts.{IsSound, Puts};
 ghost use Rattle.svg.specs.Commands.{MoveTo, command_text, line, move, pair_text};
 ghost use Rattle.svg.specs.Places.{IsNear};

@@ -1,5 +1,4 @@
 //! What comes before the paths of a document.
-ghost use Rattle.std.specs.Prelude.{◌≡◌};
 ghost use Rattle.pieces.specs.Texts.{IsSound, Puts};
 ghost use Rattle.svg.specs.Documents.{head_text, page_text};
 ghost use Rattle.svg.specs.Numbers.{millimetres};

@@ -14,7 +14,7 @@ use devices::Sink;
 use labels::Label;
 use pieces::Text;
 use plot_page::{Page, PenSet, Stroke};
-use stroke_runs::{SheetView, between, is_drawn};
+use stroke_runs::{SheetView, between, has_drawn};
 
 // Puts the strokes of a sheet with their labels, before whose strokes there are `at` others.
 pub(crate) fn put_parts<K: Sink>(text: &mut Text<'_, K>, view: &SheetView<'_>, at: usize)
@@ -77,11 +77,4 @@ fn put_group<K: Sink>(
     put_title(text, &label.lines);
     put_strokes(text, page, pens, strokes);
     text.put(b"</g>\n");
-}
-
-// Whether one of these strokes is drawn.
-fn has_drawn(pens: &PenSet, strokes: &[Stroke]) -> bool
-    ensures { result ≡ list_any (is_drawn pens.now) strokes.now }
-{
-    strokes.iter().any(|stroke| is_drawn(pens, stroke))
 }

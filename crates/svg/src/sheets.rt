@@ -1,6 +1,6 @@
 //! The sheets of a document.
-ghost use Rattle.std.specs.Prelude.{◌≡◌, ◌-◌, ◌≤◌, length};
-ghost use Rattle.labels.specs.Sheets.{all_counted, count_to};
+ghost use Rattle.std.specs.Prelude.{◌≤◌, length};
+ghost use Rattle.labels.specs.Sheets.{all_counted};
 ghost use Rattle.pieces.specs.Texts.{IsSound, Puts};
 ghost use Rattle.plot_page.specs.declared.stroke.TheConstants.{MOST_STROKES};
 ghost use Rattle.svg.specs.Documents.{open_text, sheets_text};
@@ -8,9 +8,8 @@ ghost use Rattle.svg.specs.Sheets.{labelled_sheets};
 
 use crate::parts::put_parts;
 use devices::Sink;
-use labels::Label;
 use pieces::Text;
-use stroke_runs::{SheetView, between, end_of};
+use stroke_runs::{SheetView, between, count_to, end_of};
 
 // Puts the start of the group of a sheet.
 fn put_open<K: Sink>(text: &mut Text<'_, K>, number: u32)
@@ -22,29 +21,8 @@ fn put_open<K: Sink>(text: &mut Text<'_, K>, number: u32)
     text.put(b"\">\n");
 }
 
-// How many of the labels are on a sheet that ends after `end` strokes, if so many come before the first sheet.
-fn count_to(labels: &[Label], before: usize, end: usize) -> usize
-    ensures value { result ≡ count_to end (all_counted before labels.now) }
-    ensures most { result ≤ length labels.now }
-{
-    let mut rest = labels;
-    let mut count = 0;
-    'labels: while let [label, others @ ..] = rest {
-        if label.first.saturating_sub(before) >= end {
-            break;
-        }
-        count += 1;
-        rest = others;
-    }
-    count
-}
-
 // Puts all sheets, with their labels.
-pub(crate) fn put_sheets<K: Sink>(
-    text: &mut Text<'_, K>,
-    view: &SheetView<'_>,
-    ends: &[usize],
-)
+pub(crate) fn put_sheets<K: Sink>(text: &mut Text<'_, K>, view: &SheetView<'_>, ends: &[usize])
     requires sound { IsSound K.state text.old }
     requires strokes { length view.now.strokes.now ≤ MOST_STROKES }
     ensures puts { Puts K.state text.old text.new (sheets_text view.now.page.now view.now.pens.now 0
