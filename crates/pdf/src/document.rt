@@ -9,7 +9,7 @@ ghost use Rattle.pdf.specs.Writings.{WritesPdf};
 ghost use Rattle.pdf.specs.declared.counts.TheConstants.{MOST_LETTERS};
 
 use crate::fonts::{font_count, put_fonts};
-use crate::front::put_front;
+use crate::front::{put_front, put_shared_objects};
 use crate::layers::put_layers;
 use crate::pages::put_pages;
 use crate::pens::{PENS, list_pens};
@@ -92,7 +92,8 @@ fn put_document<K: Sink>(
     let row_count = list_rows(view, &mut list);
     let rows = &list[..row_count];
     text.put(b"%PDF-1.5\n%\xE2\xE3\xCF\xD3\n");
-    put_front(text, offsets, version, title, view.page, pens, rows, ends);
+    put_front(text, offsets, version, title);
+    put_shared_objects(text, offsets, view.page, pens, rows, ends);
     put_layers(text, offsets, 4, pens);
     let layers = 4 + count as u32;
     put_fonts(text, offsets, layers, rows);

@@ -16,13 +16,28 @@ use devices::Sink;
 use pieces::{Fraction, Text};
 use plot_page::Page;
 
-// Puts the first four objects of a document with layers for these pens, with fonts for these rows and with a page for each
-// end.
+// Puts the first two objects of a document.
 pub(crate) fn put_front<K: Sink>(
     text: &mut Text<'_, K>,
     offsets: &mut [u64],
     version: &str,
     title: &str,
+)
+    requires sound { IsSound K.state text.old }
+    requires room { 2 ≤ length offsets.old }
+    ensures adds { Adds K.state text.old text.new offsets.old offsets.new 0
+        (catalog_text ∷ info_text version.now title.now ∷ []) }
+{
+    let catalog =
+        b"<</Type/Catalog/Pages 3 0 R/OCProperties<</OCGs 4 0 R/D<</Order 4 0 R/ON 4 0 R>>>>>>";
+    put_object(text, offsets, 0, catalog);
+    put_info(text, offsets, version, title);
+}
+
+// Puts the next two, of a document with layers for these pens, with fonts for these rows and with a page for each end.
+pub(crate) fn put_shared_objects<K: Sink>(
+    text: &mut Text<'_, K>,
+    offsets: &mut [u64],
     page: &Page,
     pens: &[u8],
     rows: &[u8],
@@ -33,14 +48,9 @@ pub(crate) fn put_front<K: Sink>(
     requires rows { length rows.now ≤ ROWS }
     requires pages { length ends.now ≤ MOST_STROKES }
     requires room { 4 ≤ length offsets.old }
-    ensures adds { Adds K.state text.old text.new offsets.old offsets.new 0
-        (catalog_text ∷ info_text version.now title.now ∷ pages_text page.now pens.now rows.now ends.now
-        ∷ list_text pens.now ∷ []) }
+    ensures adds { Adds K.state text.old text.new offsets.old offsets.new 2
+        (pages_text page.now pens.now rows.now ends.now ∷ list_text pens.now ∷ []) }
 {
-    let catalog =
-        b"<</Type/Catalog/Pages 3 0 R/OCProperties<</OCGs 4 0 R/D<</Order 4 0 R/ON 4 0 R>>>>>>";
-    put_object(text, offsets, 0, catalog);
-    put_info(text, offsets, version, title);
     put_kids(text, offsets, page, pens, rows, ends);
     put_list(text, offsets, pens);
 }

@@ -3,6 +3,4 @@ use Rattle.pdf.proofs.AddedObjects.{added_more}
 use Rattle.pdf.proofs.front.put_front.Goals as goal
 
 pub returns : goal.returns
-returns g c = record {
-  adds = added_more (added_more (added_more c.put_object.ensures.adds c.put_info.ensures.adds refl) c.put_kids.ensures.adds refl) c.put_list.ensures.adds refl;
-}
+returns g c = record { adds = added_more c.put_object.ensures.adds c.put_info.ensures.adds refl }
