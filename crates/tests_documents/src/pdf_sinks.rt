@@ -3,7 +3,7 @@ ghost use Rattle.std.specs.Prelude.{◌≡◌, ◌-◌, ◌^◌, ◌<◌, Some};
 
 use crate::pdf_documents::two_sheets;
 use crate::pdf_strokes::{BLACK, write, write_titled};
-use crate::pdf_texts::{bytes_of, label};
+use crate::pdf_texts::{TWO_PAGES, bytes_of, label, labels_of};
 use crc32::crc_of;
 use deflate::TextEncoder;
 use devices::{Sink, SinkFault};
@@ -39,8 +39,8 @@ impl Sink for Failing {
     }
 }
 
-// Fails unless sinks that fail once, after each number of bytes, have taken as many as the fault says, and nothing after it. The
-// encoder begins anew after each.
+// Fails unless sinks that fail once, after each `step`th number of bytes, have taken as many as the fault says, and nothing
+// after it. The encoder begins anew after each.
 fn fails_anywhere(
     rt: &impl Abort,
     alloc: Global,
@@ -48,9 +48,15 @@ fn fails_anywhere(
     ends: &[usize],
     labels: &[Label],
     whole: &[u8],
-) -> Result<(), Fail> {
+    step: usize,
+) -> Result<(), Fail>
+    requires { 0 < step }
+{
     let mut encoder = TextEncoder::new(alloc)?;
     for limit in 0..=whole.len() {
+        if limit % step != 0 {
+            continue;
+        }
         let mut sink = Failing {
             bytes: Vec::new(alloc),
             limit,
@@ -68,7 +74,7 @@ fn fails_anywhere(
 fn failing_once(rt: HostRuntime) -> Result<(), Fail> {
     let strokes = two_sheets(rt.alloc())?;
     let whole = bytes_of(&rt, rt.alloc(), &strokes, &[6, 8], &[], 0)?;
-    fails_anywhere(&rt, rt.alloc(), &strokes, &[6, 8], &[], &whole)
+    fails_anywhere(&rt, rt.alloc(), &strokes, &[6, 8], &[], &whole, 1)
 }
 
 // A document with fonts and a text, of one page, so that it is short.
@@ -79,7 +85,17 @@ fn failing_with_labels(rt: HostRuntime) -> Result<(), Fail> {
     let mut labels = Vec::new(rt.alloc());
     labels.push(label(rt.alloc(), [0, 1], &[65], [0, 448, 241, 448, 0, 500])?)?;
     let whole = bytes_of(&rt, rt.alloc(), &strokes, &[1], &labels, 0)?;
-    fails_anywhere(&rt, rt.alloc(), &strokes, &[1], &labels, &whole)
+    fails_anywhere(&rt, rt.alloc(), &strokes, &[1], &labels, &whole, 1)
+}
+
+// Two pages, with a text on each.
+#[test]
+fn failing_on_two_pages_with_labels(rt: HostRuntime) -> Result<(), Fail> {
+    let strokes = two_sheets(rt.alloc())?;
+    let labels = labels_of(rt.alloc(), 0)?;
+    let whole = bytes_of(&rt, rt.alloc(), &strokes, &[6, 8], &labels, 0)?;
+    assert_eq!(&rt; (whole.len(), crc_of(&whole)), TWO_PAGES);
+    fails_anywhere(&rt, rt.alloc(), &strokes, &[6, 8], &labels, &whole, 43)
 }
 
 // Where the sheets of a long document end.

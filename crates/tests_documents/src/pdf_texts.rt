@@ -79,7 +79,7 @@ pub fn bytes_of(
 
 // Labels of the two sheets, as if `before` strokes came before these: of two lines, of two rows of code points and of a code
 // point over U+FFFF, without a letter, of strokes that are not drawn, upright and mirrored, and of the second sheet.
-fn labels_of(alloc: Global, before: usize) -> Result<Vec<Label>, Fail>
+pub fn labels_of(alloc: Global, before: usize) -> Result<Vec<Label>, Fail>
     requires { before ≤ 1000 }
 {
     let mut labels = Vec::new(alloc);
@@ -131,7 +131,7 @@ fn later_strokes(rt: HostRuntime) -> Result<(), Fail> {
 }
 
 // The length and the CRC-32 of the two sheets with these labels.
-const TWO_PAGES: (usize, u32) = (4286, 0xc94a_dfbd);
+pub const TWO_PAGES: (usize, u32) = (4286, 0xc94a_dfbd);
 
 // A document whose labels are not shown is one without labels.
 #[test]
