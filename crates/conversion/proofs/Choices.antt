@@ -10,16 +10,17 @@ use Rattle.picture_job.specs.declared.job.Job.{Job}
 use Rattle.picture_job.specs.declared.page_choice.PageChoice.{PageChoice}
 use Rattle.picture_job.specs.declared.smoothing.Smoothing.{Smoothing}
 use Rattle.picture_job.specs.declared.reading.Reading.{Reading}
-use Rattle.conversion.specs.Boxes.{strokes_boxes}
-use Rattle.conversion.specs.Conversions.{Converts, HasConvertedBy, on_page, times_on}
+use Rattle.rows.specs.Boxes.{strokes_boxes}
+use Rattle.conversion.specs.Conversions.{Converts, HasConvertedBy}
+use Rattle.conversion.specs.PageJobs.{on_page, times_on}
 use Rattle.conversion.specs.Drawings.{Draws, IsDrawn, IsReasonOnFirst, place_of}
 use Rattle.conversion.specs.Faults.{of_plot}
 use Rattle.conversion.specs.Kinds.{HasDrawnFor, is_picture_possible}
 use Rattle.picture_job.specs.declared.picture.Picture.TheVariants.{Rows}
 use Rattle.conversion.proofs.Judged.{drawn_possible}
-use Rattle.conversion.specs.Pictures.{Reach}
+use Rattle.rows.specs.Pictures.{Reach}
 use Rattle.conversion.specs.Placements.{IsDrawnOn, IsPlaced, IsPlacedBy, Place, no_corner, page_reported, place_on, placed_rules}
-use Rattle.conversion.specs.Progress.{HasPainted}
+use Rattle.rows.specs.Progress.{HasPainted}
 use Rattle.conversion.specs.Readings.{WasRead}
 use Rattle.conversion.specs.Reports.{HasReportedAs, HasReportedOn, Reports, WritesReport, report_by, report_drawn, report_on}
 use Rattle.plot_report.specs.Report.{report_page}
@@ -36,6 +37,7 @@ use Rattle.conversion.specs.declared.outcome.Outcome.{Outcome}
 use Rattle.conversion.specs.declared.place.Drawing.{Drawing}
 use Rattle.conversion.specs.declared.placement.Placement.TheVariants.{Given}
 use Rattle.plot_report.specs.declared.report_page.ReportPage.{ReportPage}
+use Rattle.rows.specs.declared.fault.PictureFault.{PictureFault}
 use Rattle.conversion.specs.declared.fault.Fault.{Fault}
 use Rattle.conversion.specs.declared.fault.Fault.TheVariants.{Letters, Memory, Paint, Plot, Read, Resolution, TooLong, Unfinished, Write}
 use Rattle.conversion.proofs.Placements.{first_page}
@@ -105,7 +107,7 @@ module _ (rules : Rules) (sm : Smoothing) (job : Job) (reaches : Reach) (input :
   strokes_given : drawing.lines.strokes.items ≡ rules.strokes job.page input
   strokes_given = drawn.lines.strokes_are ∙ ap (λ (place : Place). (placed_rules rules job.pens place).strokes place.page input) lies
 
-  painted : (strokes : List Segment) (answer : Result ℕ Fault) → strokes ≡ rules.strokes job.page input
+  painted : (strokes : List Segment) (answer : Result ℕ PictureFault) → strokes ≡ rules.strokes job.page input
       → HasPainted (times_on given_choice drawing.page job sm) (on_page given_choice drawing.page job) reaches strokes sink sink' answer
       → HasPainted 1 job reaches (rules.strokes job.page input) sink sink' answer
   painted strokes answer are h =
@@ -115,7 +117,9 @@ module _ (rules : Rules) (sm : Smoothing) (job : Job) (reaches : Reach) (input :
 
   converted : (strokes : List Segment) (answer : Result Outcome Fault) → strokes ≡ rules.strokes job.page input
       → WritesStrokes given_choice sm job drawing strokes reaches sink sink' answer → Converts rules 1 job reaches input before after sink sink' (done_of answer)
-  converted strokes (Err fault) are h = not_painted rules 1 job reaches input before after sink sink' fault drawn.read accepted (painted strokes (Err fault) are h)
+  converted strokes (Err fault) are h =
+      subst (λ (f : Fault). Converts rules 1 job reaches input before after sink sink' (Err f)) (sym h.1)
+      (not_painted rules 1 job reaches input before after sink sink' h.0 drawn.read accepted (painted strokes (Err h.0) are h.2))
   converted strokes (Ok o) are h =
       let wrote = painted strokes (Ok o.done.bytes) are h.0 in
       record {

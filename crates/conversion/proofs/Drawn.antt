@@ -13,10 +13,11 @@ use Rattle.picture_job.specs.declared.png_job.PngJob.{PngJob}
 use Rattle.picture_job.specs.declared.page_choice.PageChoice.{PageChoice}
 use Rattle.picture_job.specs.declared.smoothing.Smoothing.{Smoothing}
 use Rattle.picture_job.specs.Sizes.{dots_in, smoothing_at, smoothing_in}
-use Rattle.conversion.specs.Boxes.{strokes_boxes}
-use Rattle.conversion.specs.Conversions.{is_possible_in, on_page, times_on}
-use Rattle.conversion.specs.Documents.{is_png_possible, is_png_possible_in, png_boxes, png_on_page}
-use Rattle.conversion.specs.Pictures.{has_any_resolution, is_fine, is_possible, is_smoothed}
+use Rattle.rows.specs.Boxes.{strokes_boxes}
+use Rattle.conversion.specs.PageJobs.{is_possible_in, on_page, times_on}
+use Rattle.rows.specs.Documents.{is_png_possible, png_boxes}
+use Rattle.conversion.specs.PageJobs.{is_png_possible_in, png_on_page}
+use Rattle.rows.specs.Pictures.{has_any_resolution, is_fine, is_possible, is_smoothed}
 
 -- a picture of so many pixels is not too fine
 sized_fine : (r s : ℕ) → 1 ≤ r → r ≤ 1200 → nat_le (max 1 (min s (1200 / r)) * r) 1200 ≡ true

@@ -4,8 +4,9 @@ use Rattle.std.specs.Prelude.{Err}
 use Rattle.std.specs.Io.KnownBytes.{Consumes, Appends}
 use Rattle.plot_page.specs.Resolutions.{rows_of}
 use Rattle.picture_job.specs.declared.job.Job.{Job}
-use Rattle.conversion.specs.Stops.{IsStoppedAt}
-use Rattle.conversion.specs.Pictures.{Reach, has_any_resolution, head_of, is_possible, refused_fault, strokes_row, strokes_picture}
+use Rattle.rows.specs.Stops.{IsStoppedAt}
+use Rattle.rows.specs.Pictures.{Reach, head_of, strokes_row, strokes_picture}
+use Rattle.conversion.specs.Pictures.{plot_strokes, refused_fault}
 use Rattle.conversion.specs.Rules.{Rules, core_rules}
 use Rattle.conversion.specs.Readings.{WasRead, WasTooLong}
 use Rattle.devices.specs.Sinks.{SinkState}
@@ -13,11 +14,7 @@ use Rattle.devices.specs.Sources.{SourceState}
 use Rattle.conversion.specs.declared.done.Done.{Done}
 use Rattle.conversion.specs.declared.fault.Fault.{Fault}
 use Rattle.conversion.specs.declared.fault.Fault.TheVariants.{TooLong, Memory, Write, Unfinished, Read, Resolution}
-use Rattle.conversion.specs.Boxes.{strokes_boxes}
-use Rattle.plot_page.specs.declared.page.Page.{Page}
-use Rattle.picture_job.specs.declared.page_choice.PageChoice.{PageChoice}
-use Rattle.picture_job.specs.declared.smoothing.Smoothing.{Smoothing}
-use Rattle.picture_job.specs.Sizes.{dots_in, smoothing_in}
+use Rattle.rows.specs.Boxes.{strokes_boxes}
 
 -- the whole picture was written
 pub record IsWritten (rules : Rules) (n : ℕ) (job : Job) (reaches : Reach) (input : List ℕ) (before after : SourceState)
@@ -75,23 +72,9 @@ abbrev pub HasConverted : Job → Reach → SourceState → SourceState → Sink
     Type 0
 HasConverted = HasConvertedBy core_rules
 
--- the job on another page, whose picture has the resolution of the job, or as many pixels as are chosen
-abbrev pub on_page : PageChoice → Page → Job → Job
-on_page choice page job = record job { page = page; dots = dots_in choice.pixels page job.dots }
-
--- how many rows of this picture are written: those from the job's first row on
-abbrev pub rows_on : PageChoice → Page → Job → ℕ
-rows_on choice page job = rows_of page (on_page choice page job).dots - job.first_row
-
--- how many times finer this picture is painted
-abbrev pub times_on : PageChoice → Page → Job → Smoothing → ℕ
-times_on choice page job smoothing = (smoothing_in choice.pixels (dots_in choice.pixels page job.dots) smoothing).times
-
--- without pixels that are chosen, the form has the resolution, and the picture is not too fine to be smoothed; with them, the
--- form takes every resolution. If not, nothing is read
-abbrev pub is_possible_in : Option ℕ → ℕ → Job → Bool
-is_possible_in None n job = is_possible n job
-is_possible_in (Some pixels) n job = has_any_resolution job.form
+-- how many pixels the boxes of a plot's strokes have, together, in the rows of a job: no more tests are made
+abbrev pub job_boxes : Job → List ℕ → ℕ
+job_boxes job plot = strokes_boxes 1 job (plot_strokes job.page plot)
 
 -- the sink failed
 abbrev pub is_write : Fault → Bool

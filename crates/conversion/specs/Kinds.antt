@@ -7,15 +7,17 @@ use Rattle.picture_job.specs.declared.picture.Picture.{Picture}
 use Rattle.picture_job.specs.declared.picture.Picture.TheVariants.{Rows, Png, Vector}
 use Rattle.devices.specs.Sinks.{SinkState}
 use Rattle.devices.specs.Sources.{SourceState}
-use Rattle.conversion.specs.Boxes.{strokes_boxes}
-use Rattle.conversion.specs.Conversions.{is_possible_in, on_page, rows_on, times_on}
-use Rattle.conversion.specs.Documents.{is_png_possible_in, png_boxes, png_on_page, png_rows_on}
+use Rattle.rows.specs.Boxes.{strokes_boxes}
+use Rattle.conversion.specs.PageJobs.{is_possible_in, on_page, rows_on, times_on}
+use Rattle.conversion.specs.PageJobs.{is_png_possible_in, png_on_page, png_rows_on}
+use Rattle.rows.specs.Documents.{png_boxes}
+use Rattle.conversion.specs.Conversions.{is_write}
 use Rattle.conversion.specs.Drawings.{HasDrawn}
-use Rattle.conversion.specs.Pictures.{Reach}
+use Rattle.rows.specs.Pictures.{Reach}
 use Rattle.conversion.specs.Rules.{Rules}
 use Rattle.conversion.specs.Sheets.{WritesPng, WritesStrokes, strokes_on}
 use Rattle.conversion.specs.Vectors.{WritesVector}
-use Rattle.conversion.specs.Watching.{IsToldOf}
+use Rattle.rows.specs.Watching.{IsTold}
 use Rattle.conversion.specs.declared.fault.Fault.{Fault}
 use Rattle.conversion.specs.declared.fault.Fault.TheVariants.{Resolution}
 use Rattle.conversion.specs.declared.naming.Naming.{Naming}
@@ -66,9 +68,9 @@ most_tests choice (Vector job) drawing sheet = 0
 abbrev pub IsToldOfPicture : {W : Type 0} → (W → ℕ → ℕ → W → Type 0) → PageChoice → Picture → Page → W → W →
     Result Outcome Fault → Type 0
 IsToldOfPicture hears choice (Rows job smoothing) page before after answer =
-    IsToldOf hears (rows_on choice page job) before after answer
+    IsTold is_write hears (rows_on choice page job) before after answer
 IsToldOfPicture hears choice (Png job) page before after answer =
-    IsToldOf hears (png_rows_on choice page job) before after answer
+    IsTold is_write hears (png_rows_on choice page job) before after answer
 IsToldOfPicture hears choice (Vector job) page before after answer = after ≡ before
 
 -- a plot was drawn for a picture, with its labels if the picture has them; if the picture is not possible, nothing was read

@@ -21,7 +21,8 @@ use Rattle.plot_page.specs.declared.page.Page.{Page}
 use Rattle.picture_job.specs.declared.job.Job.{Job}
 use Rattle.picture_job.specs.declared.reading.Reading.{Reading}
 use Rattle.picture_job.specs.declared.reading.Reading.TheVariants.{Core, Full}
-use Rattle.conversion.specs.Pictures.{Reach, has_resolution, plot_strokes, plot_refusal, refused_fault, strokes_picture}
+use Rattle.rows.specs.Pictures.{Reach, has_resolution, strokes_picture}
+use Rattle.conversion.specs.Pictures.{plot_strokes, plot_refusal, refused_fault}
 use Rattle.conversion.specs.declared.fault.Fault.{Fault}
 use Rattle.conversion.specs.declared.fault.Fault.TheVariants.{TooLong, Memory, Write, Read, Resolution}
 

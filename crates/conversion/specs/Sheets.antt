@@ -11,10 +11,13 @@ use Rattle.picture_job.specs.declared.png_job.PngJob.{PngJob}
 use Rattle.picture_job.specs.declared.page_choice.PageChoice.{PageChoice}
 use Rattle.picture_job.specs.declared.smoothing.Smoothing.{Smoothing}
 use Rattle.devices.specs.Sinks.{SinkState}
-use Rattle.conversion.specs.Conversions.{on_page, rows_on, times_on}
-use Rattle.conversion.specs.Documents.{HasPaintedPng, picture_shown, png_on_page, png_rows_on}
-use Rattle.conversion.specs.Pictures.{Reach}
-use Rattle.conversion.specs.Progress.{HasPainted}
+use Rattle.conversion.specs.PageJobs.{on_page, rows_on, times_on}
+use Rattle.rows.specs.Documents.{HasPaintedPng, picture_shown}
+use Rattle.conversion.specs.PageJobs.{png_on_page, png_rows_on}
+use Rattle.rows.specs.Pictures.{Reach}
+use Rattle.rows.specs.Progress.{HasPainted}
+use Rattle.rows.specs.declared.fault.PictureFault.{PictureFault}
+use Rattle.conversion.specs.Faults.{of_picture}
 use Rattle.conversion.specs.declared.fault.Fault.{Fault}
 use Rattle.conversion.specs.declared.outcome.Outcome.{Outcome}
 use Rattle.conversion.specs.declared.place.Drawing.{Drawing}
@@ -47,8 +50,9 @@ WritesStrokes choice smoothing job drawing strokes reaches sink sink' (Ok outcom
     × (outcome.done.rows ≡ rows_on choice drawing.page job)
     × TellsOf drawing job.pens strokes outcome
 WritesStrokes choice smoothing job drawing strokes reaches sink sink' (Err fault) =
-    HasPainted (times_on choice drawing.page job smoothing) (on_page choice drawing.page job) reaches strokes sink sink'
-    (Err fault)
+    (cause : PictureFault) × (fault ≡ of_picture cause)
+    × HasPainted (times_on choice drawing.page job smoothing) (on_page choice drawing.page job) reaches strokes sink sink'
+    (Err cause)
 
 -- the same of a PNG, whose bytes are not counted
 abbrev pub WritesPng : PageChoice → PngJob → Drawing → List Segment → Reach → SinkState → SinkState → Result Outcome Fault →
@@ -59,4 +63,5 @@ WritesPng choice job drawing strokes reaches sink sink' (Ok outcome) =
     × (outcome.done.bytes ≡ 0)
     × TellsOf drawing job.pens strokes outcome
 WritesPng choice job drawing strokes reaches sink sink' (Err fault) =
-    HasPaintedPng {U = Outcome} (picture_shown (png_on_page choice drawing.page job) reaches strokes) sink sink' (Err fault)
+    (cause : PictureFault) × (fault ≡ of_picture cause)
+    × HasPaintedPng {U = Outcome} (picture_shown (png_on_page choice drawing.page job) reaches strokes) sink sink' (Err cause)

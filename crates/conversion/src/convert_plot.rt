@@ -2,17 +2,17 @@
 ghost use Rattle.std.specs.Prelude.{◌≡◌, ◌+◌, ◌-◌, ◌^◌, ◌<◌, ◌↔◌, Err, IfErr, false};
 ghost use Rattle.std.specs.Io.KnownBytes.{IsAtEnd};
 ghost use Rattle.conversion.specs.Conversions.{HasConverted, HasConvertedBy, is_write};
-ghost use Rattle.conversion.specs.Pictures.{has_resolution};
+ghost use Rattle.rows.specs.Pictures.{has_resolution};
 ghost use Rattle.conversion.specs.Rules.{rules_of};
 
 use crate::done::Done;
 use crate::drawing::draw;
 use crate::fault::Fault;
 use crate::sheet::write_strokes;
-use crate::watcher::Unwatched;
 use carousel::Carousel;
 use devices::{Sink, Source};
 use picture_job::{Job, PageChoice, Picture, Reading, Smoothing};
+use rows::Unwatched;
 use std::alloc::Global;
 use stroke_raster::Gauge;
 

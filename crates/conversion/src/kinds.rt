@@ -11,11 +11,11 @@ use crate::png_sheet::write_png_strokes;
 use crate::possible::is_picture_possible;
 use crate::sheet::write_strokes;
 use crate::vector_sheet::write_vector_sheet;
-use crate::watcher::Watcher;
 use devices::Sink;
 use full_plot::sheet_of;
 use picture_job::{PageChoice, Picture};
 use plot_page::{Page, PenSet};
+use rows::Watcher;
 use std::alloc::Global;
 use stroke_raster::Gauge;
 
@@ -46,7 +46,7 @@ use stroke_raster::Gauge;
 /// the format of a document takes; if the sink fails, `Write`, or `Unfinished` for a PNG or a document, and what it has taken
 /// of one is of no use. `Memory` comes when memory is refused. After every error but `Write` and `Unfinished` the sink is as
 /// it was, and the watcher was told of nothing.
-#[tactic(auto, using(crate::proofs::Watched::picture_not_told))]
+#[tactic(auto, using(crate::proofs::Judged::picture_not_told))]
 pub fn write<G: Gauge, K: Sink, W: Watcher>(
     alloc: Global,
     drawing: &Drawing,

@@ -2,25 +2,25 @@
 ghost use Rattle.std.specs.Prelude.{◌≡◌, ◌+◌, ◌-◌, ◌^◌, ◌<◌, ◌≤◌, IfErr, true, false, length};
 ghost use Rattle.plot_page.specs.declared.stroke.TheConstants.{MOST_STROKES};
 ghost use Rattle.conversion.specs.Conversions.{is_write};
-ghost use Rattle.conversion.specs.Documents.{is_png_possible_in, png_boxes, png_on_page, png_rows_on};
+ghost use Rattle.conversion.specs.PageJobs.{is_png_possible_in, png_on_page, png_rows_on};
+ghost use Rattle.rows.specs.Documents.{png_boxes};
 ghost use Rattle.conversion.specs.Sheets.{WritesPng};
-ghost use Rattle.conversion.specs.Watching.{IsToldOf};
+ghost use Rattle.rows.specs.Watching.{IsTold};
 
 use crate::fault::Fault;
 use crate::outcome::Outcome;
 use crate::place::Drawing;
-use crate::png_picture::paint_png;
 use crate::sheet::outcome_of;
-use crate::watcher::Watcher;
 use devices::Sink;
 use picture_job::{PageChoice, PngJob};
 use plot_page::Stroke;
+use rows::{Watcher, paint_png};
 use std::alloc::Global;
 use stroke_raster::Gauge;
 
 /// Writes the PNG, which is possible, of these strokes of a drawing, on the page where the drawing lies, and gives the sink
 /// back. The job's page is not used. The errors are those of `write`, but for `Resolution`.
-#[tactic(auto, using(crate::proofs::Watched::not_told))]
+#[tactic(auto, using(rows::proofs::Watched::not_told))]
 pub(crate) fn write_png_strokes<G: Gauge, K: Sink, W: Watcher>(
     alloc: Global,
     drawing: &Drawing,
@@ -39,7 +39,7 @@ pub(crate) fn write_png_strokes<G: Gauge, K: Sink, W: Watcher>(
     ensures tests { G.count gauge.new ≤ G.count gauge.old
         + png_boxes (png_on_page choice drawing.now.page job.now) strokes.now }
     ensures same { G.reaches gauge.new ≡ G.reaches gauge.old }
-    ensures told { IsToldOf W.hears (png_rows_on choice drawing.now.page job.now) watcher.old watcher.new result.1 }
+    ensures told { IsTold is_write W.hears (png_rows_on choice drawing.now.page job.now) watcher.old watcher.new result.1 }
     ensures untouched { IfErr result.1 (λ fault. is_write fault ≡ false → result.0 ≡ sink) }
 {
     let page = drawing.page;
@@ -57,6 +57,6 @@ pub(crate) fn write_png_strokes<G: Gauge, K: Sink, W: Watcher>(
             let outcome = outcome_of(drawing, job.pens, strokes, dots.rows(&page), 0);
             (sink, Ok(outcome))
         }
-        Err(fault) => (sink, Err(fault)),
+        Err(fault) => (sink, Err(Fault::from(fault))),
     }
 }

@@ -1,27 +1,27 @@
 //! The picture in a form of strokes of a drawing.
 ghost use Rattle.std.specs.Prelude.{◌≡◌, ◌+◌, ◌-◌, ◌^◌, ◌<◌, ◌≤◌, IfErr, true, false, length};
 ghost use Rattle.plot_page.specs.declared.stroke.TheConstants.{MOST_STROKES};
-ghost use Rattle.conversion.specs.Boxes.{strokes_boxes};
-ghost use Rattle.conversion.specs.Conversions.{is_possible_in, is_write, on_page, rows_on, times_on};
+ghost use Rattle.rows.specs.Boxes.{strokes_boxes};
+ghost use Rattle.conversion.specs.PageJobs.{is_possible_in, on_page, rows_on, times_on};
+ghost use Rattle.conversion.specs.Conversions.{is_write};
 ghost use Rattle.conversion.specs.Sheets.{TellsOf, WritesStrokes};
-ghost use Rattle.conversion.specs.Watching.{IsToldOf};
+ghost use Rattle.rows.specs.Watching.{IsTold};
 
 use crate::done::Done;
 use crate::fault::Fault;
 use crate::outcome::Outcome;
-use crate::painting::paint;
 use crate::place::Drawing;
-use crate::watcher::Watcher;
 use devices::Sink;
 use page_fit::census_of;
 use picture_job::{Job, PageChoice, Smoothing};
 use plot_page::{PenSet, Stroke};
+use rows::{Watcher, paint};
 use std::alloc::Global;
 use stroke_raster::Gauge;
 
 /// Writes the picture in a form, which is possible, of these strokes of a drawing, on the page where the drawing lies. The job's
 /// page is not used. The errors are those of `write`, but for `Resolution`.
-#[tactic(auto, using(crate::proofs::Watched::not_told))]
+#[tactic(auto, using(rows::proofs::Watched::not_told))]
 pub(crate) fn write_strokes<G: Gauge, K: Sink, W: Watcher>(
     alloc: Global,
     drawing: &Drawing,
@@ -41,7 +41,7 @@ pub(crate) fn write_strokes<G: Gauge, K: Sink, W: Watcher>(
     ensures tests { G.count gauge.new ≤ G.count gauge.old + strokes_boxes (times_on choice drawing.now.page job.now smoothing)
         (on_page choice drawing.now.page job.now) strokes.now }
     ensures same { G.reaches gauge.new ≡ G.reaches gauge.old }
-    ensures told { IsToldOf W.hears (rows_on choice drawing.now.page job.now) watcher.old watcher.new result }
+    ensures told { IsTold is_write W.hears (rows_on choice drawing.now.page job.now) watcher.old watcher.new result }
     ensures untouched { IfErr result (λ fault. is_write fault ≡ false → sink.new ≡ sink.old) }
 {
     let page = drawing.page;
@@ -50,7 +50,7 @@ pub(crate) fn write_strokes<G: Gauge, K: Sink, W: Watcher>(
     let job = Job { page, dots, ..*job };
     let bytes = match paint(alloc, &job, times, strokes, gauge, sink, watcher) {
         Ok(bytes) => bytes,
-        Err(fault) => return Err(fault),
+        Err(fault) => return Err(Fault::from(fault)),
     };
     let rows = dots.rows(&page) - job.first_row;
     Ok(outcome_of(drawing, job.pens, strokes, rows, bytes))

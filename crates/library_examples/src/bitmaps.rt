@@ -1,6 +1,7 @@
 //! From the bytes of a plot to the bytes of a bitmap.
 ghost use Rattle.std.specs.Prelude.{◌≡◌, IfOk, IfErr};
-ghost use Rattle.conversion.specs.Pictures.{picture, exact, HasPicture};
+ghost use Rattle.conversion.specs.Pictures.{picture, HasPicture};
+ghost use Rattle.rows.specs.Pictures.{exact};
 ghost use Rattle.library_examples.specs.Bitmaps.{bitmap_job};
 ghost use Rattle.library_examples.specs.Refusals.{HasNoDrawing};
 

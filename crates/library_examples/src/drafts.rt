@@ -1,7 +1,7 @@
 //! A gauge of our own: it leaves out every second pixel, and counts its distance tests.
 ghost use Rattle.std.specs.Prelude.{◌≤◌, IfOk, IfErr};
 ghost use Rattle.conversion.specs.Pictures.{picture, HasPicture, Refuses};
-ghost use Rattle.conversion.specs.Boxes.{job_boxes};
+ghost use Rattle.conversion.specs.Conversions.{job_boxes};
 ghost use Rattle.library_examples.specs.Drafts.{every_second};
 ghost use Rattle.library_examples.specs.Previews.{IsPreviewOf};
 

@@ -1,7 +1,7 @@
 //! A sink of our own: it keeps the first bytes of a picture, and then takes no more.
 ghost use Rattle.std.specs.Prelude.{◌+◌, ◌≤◌, IfOk, IfErr, Some};
 ghost use Rattle.conversion.specs.Pictures.{picture, HasPicture, Refuses};
-ghost use Rattle.conversion.specs.Boxes.{job_boxes};
+ghost use Rattle.conversion.specs.Conversions.{job_boxes};
 ghost use Rattle.library_examples.specs.Previews.{IsPreviewOf};
 
 use plotraster::{Fault, Gauge, Job, OverRead, Sink, SinkFault, convert};

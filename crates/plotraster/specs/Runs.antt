@@ -8,7 +8,7 @@ use Rattle.picture_job.specs.declared.page_choice.PageChoice.{PageChoice}
 use Rattle.carousel.specs.declared.carousel.Carousel.{Carousel}
 use Rattle.conversion.specs.Rules.{rules_with}
 use Rattle.conversion.specs.Kinds.{HasConvertedTo, is_picture_possible}
-use Rattle.conversion.specs.Pictures.{exact}
+use Rattle.rows.specs.Pictures.{exact}
 use Rattle.conversion.specs.Faults.{status_of}
 use Rattle.conversion.specs.Reports.{HasReportedOn}
 use Rattle.devices.specs.Sinks.{SinkState}

@@ -3,7 +3,7 @@ ghost use Rattle.std.specs.Prelude.{◌≡◌, ◌+◌, ◌-◌, ◌^◌, ◌<�
 ghost use Rattle.std.specs.Io.KnownBytes.{IsAtEnd};
 ghost use Rattle.conversion.specs.Conversions.{is_write};
 ghost use Rattle.conversion.specs.Kinds.{HasDrawnFor, IsToldOfPicture, WritesSheet, is_picture_possible};
-ghost use Rattle.conversion.specs.Pictures.{exact};
+ghost use Rattle.rows.specs.Pictures.{exact};
 ghost use Rattle.conversion.specs.Rules.{rules_with};
 
 use carousel::Carousel;

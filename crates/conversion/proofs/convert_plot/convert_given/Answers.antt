@@ -4,7 +4,7 @@ use Rattle.conversion.specs.Rules.{rules_of}
 use Rattle.conversion.specs.declared.done.Done.{Done}
 use Rattle.conversion.specs.declared.fault.Fault.{Fault}
 use Rattle.conversion.proofs.Choices.{converted_given, not_converted_given}
-use Rattle.conversion.proofs.Refusals.{passed_on}
+use Rattle.rows.proofs.Faults.{passed_on}
 use Rattle.conversion.proofs.convert_plot.convert_given.Goals as goal
 
 pub returns-in-Ok-clause-converts : goal.returns-in-Ok-clause-converts

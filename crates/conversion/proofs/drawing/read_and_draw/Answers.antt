@@ -5,7 +5,7 @@ use Rattle.conversion.specs.Rules.{Rules, rules_with}
 use Rattle.conversion.specs.declared.drawing.ReadPlot.{ReadPlot}
 use Rattle.conversion.specs.declared.fault.Fault.{Fault}
 use Rattle.conversion.proofs.Choices.{not_drawn}
-use Rattle.conversion.proofs.Refusals.{passed_on}
+use Rattle.rows.proofs.Faults.{passed_on}
 use Rattle.conversion.proofs.drawing.read_and_draw.Goals as goal
 
 pub returns-clause-draws : goal.returns-clause-draws

@@ -2,8 +2,8 @@ use Rattle.std.proofs.Common.{◌≡◌, ◌≤◌, ◌+◌, ◌∙◌, List, ap
 use Rattle.full_plot.specs.Drawings.{sheet_strokes}
 use Rattle.plot_page.specs.Segments.{Segment}
 use Rattle.picture_job.specs.declared.picture.Picture.{Picture}
-use Rattle.conversion.specs.Boxes.{strokes_boxes}
-use Rattle.conversion.specs.Conversions.{on_page, times_on}
+use Rattle.rows.specs.Boxes.{strokes_boxes}
+use Rattle.conversion.specs.PageJobs.{on_page, times_on}
 use Rattle.conversion.specs.Kinds.{most_tests}
 use Rattle.conversion.specs.Sheets.{strokes_on}
 use Rattle.conversion.proofs.kinds.write.Goals as goal

@@ -7,7 +7,7 @@ use Rattle.conversion.specs.Placements.{IsDrawnOn}
 use Rattle.conversion.specs.Rules.{Rules, rules_with}
 use Rattle.conversion.specs.declared.place.Drawing.{Drawing}
 use Rattle.conversion.specs.declared.placement.Placement.{Placement}
-use Rattle.conversion.proofs.Refusals.{passed_on}
+use Rattle.rows.proofs.Faults.{passed_on}
 use Rattle.conversion.proofs.place.draw_placed.Goals as goal
 
 -- a refusal for the page that the plot is drawn on first

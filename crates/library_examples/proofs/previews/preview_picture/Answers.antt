@@ -2,7 +2,8 @@ use Rattle.std.proofs.Common.{rules, ◌≡◌, ◌<◌, ◌∙◌, ap, subst, s
 use Rattle.std.proofs.lemmas.List.{length-take-le}
 use Rattle.picture_job.specs.declared.job.Job.{Job}
 use Rattle.conversion.specs.Conversions.{Converts, IsCutShort}
-use Rattle.conversion.specs.Pictures.{Reach, picture}
+use Rattle.rows.specs.Pictures.{Reach}
+use Rattle.conversion.specs.Pictures.{picture}
 use Rattle.conversion.specs.Rules.{core_rules}
 use Rattle.conversion.specs.declared.done.Done.{Done}
 use Rattle.conversion.specs.declared.fault.Fault.{Fault}

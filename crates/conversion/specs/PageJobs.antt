@@ -1,0 +1,44 @@
+-- The job of a picture on the page that it shows, and whether it can have its resolution there.
+use Rattle.std.specs.Prelude.{ℕ, ◌-◌, Bool, true, Option, Some, None}
+use Rattle.plot_page.specs.Resolutions.{rows_of}
+use Rattle.plot_page.specs.declared.page.Page.{Page}
+use Rattle.picture_job.specs.declared.job.Job.{Job}
+use Rattle.picture_job.specs.declared.page_choice.PageChoice.{PageChoice}
+use Rattle.picture_job.specs.declared.png_job.PngJob.{PngJob}
+use Rattle.picture_job.specs.declared.smoothing.Smoothing.{Smoothing}
+use Rattle.picture_job.specs.Sizes.{dots_in, smoothing_in}
+use Rattle.rows.specs.Documents.{is_png_possible}
+use Rattle.rows.specs.Pictures.{has_any_resolution, is_possible}
+
+-- the job on another page, whose picture has the resolution of the job, or as many pixels as are chosen
+abbrev pub on_page : PageChoice → Page → Job → Job
+on_page choice page job = record job { page = page; dots = dots_in choice.pixels page job.dots }
+
+-- how many rows of this picture are written: those from the job's first row on
+abbrev pub rows_on : PageChoice → Page → Job → ℕ
+rows_on choice page job = rows_of page (on_page choice page job).dots - job.first_row
+
+-- how many times finer this picture is painted
+abbrev pub times_on : PageChoice → Page → Job → Smoothing → ℕ
+times_on choice page job smoothing = (smoothing_in choice.pixels (dots_in choice.pixels page job.dots) smoothing).times
+
+-- without pixels that are chosen, the form has the resolution, and the picture is not too fine to be smoothed; with them, the
+-- form takes every resolution. If not, nothing is read
+abbrev pub is_possible_in : Option ℕ → ℕ → Job → Bool
+is_possible_in None n job = is_possible n job
+is_possible_in (Some pixels) n job = has_any_resolution job.form
+
+-- the same where pixels may be chosen
+abbrev pub is_png_possible_in : Option ℕ → PngJob → Bool
+is_png_possible_in None job = is_png_possible job
+is_png_possible_in (Some pixels) job = true
+
+-- the job on another page, whose picture has the resolution of the job, or as many pixels as are chosen
+abbrev pub png_on_page : PageChoice → Page → PngJob → PngJob
+png_on_page choice page job =
+    let dots = dots_in choice.pixels page job.dots in
+    record job { page = page; dots = dots; smoothing = smoothing_in choice.pixels dots job.smoothing }
+
+-- how many rows this picture has
+abbrev pub png_rows_on : PageChoice → Page → PngJob → ℕ
+png_rows_on choice page job = rows_of page (png_on_page choice page job).dots

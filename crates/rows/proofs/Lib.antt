@@ -1,0 +1,20 @@
+mod Examples
+mod Smoothed
+pub mod Pictures
+pub mod Faults
+mod RowTexts
+mod EvenRows
+mod BitRows
+mod PclRows
+mod Potentials
+mod Colours
+mod PngRows
+mod Numbered
+mod BitNumbers
+mod NumberRows
+pub mod SmoothedRows
+mod WrittenRows
+pub mod Watched
+mod PixelRows
+mod KnownNumbers
+mod PixelLayouts

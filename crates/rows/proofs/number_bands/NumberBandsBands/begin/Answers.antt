@@ -1,0 +1,35 @@
+use Rattle.std.proofs.Common.{◌<◌, ◌^◌, ℕ, List, All, length, sym, ap, ap₂, subst, ◌∙◌}
+use Rattle.plot_page.specs.Segments.{Segment}
+use Rattle.plot_page.specs.Resolutions.{columns_of}
+use Rattle.plot_page.specs.declared.page.Page.{Page}
+use Rattle.plot_page.specs.declared.dots.Dots.{Dots}
+use Rattle.plot_page.specs.declared.pens.PenSet.{PenSet}
+use Rattle.png.specs.declared.header.Depth.{Depth}
+use Rattle.png.specs.Headers.{bits_of_depth}
+use Rattle.rows.specs.Pictures.{Reach}
+use Rattle.rows.specs.Palettes.{numbers_row}
+use Rattle.rows.proofs.Potentials.{tests_are, parts_same}
+use Rattle.rows.proofs.number_bands.NumberBandsBands.begin.Goals as goal
+
+pub invariant_of-result : goal.invariant_of-result
+invariant_of-result c =
+    let made = c.in_ok-painter.ensures in (
+      c.requires.ask.0 ∙ ap length (sym made.strokes),
+      subst (λ (d : Depth). All (λ (number : ℕ). number < 2 ^ bits_of_depth d) c.args.ask.numbers.now) (sym c.in-Ok.ensures.depth) c.requires.ask.1,
+      c.in-Ok.ensures.columns ∙ c.columns-columns.ensures.count ∙ ap₂ (λ (p : Page) (d : Dots). columns_of p d) (sym made.page) (sym made.dots),
+    )
+
+pub returns-clause-text : goal.returns-clause-text
+returns-clause-text c =
+    let made = c.in_ok-painter.ensures in
+    let q = c.in_ok-painter.painter in
+    let numbers = c.args.ask.numbers.now in
+    let F : PenSet → List Segment → Page → Dots → Reach → ℕ → List ℕ = λ l ss p d reaches row. numbers_row c.args.ask.depth numbers l ss p d reaches row in
+    let G : Depth → Reach → ℕ → List ℕ = λ d reaches row. numbers_row d numbers q.pens q.strokes q.page q.dots reaches row in
+    ap G c.in-Ok.ensures.depth
+    ∙ parts_same F q.pens c.args.pens q.strokes c.args.strokes.now q.page c.args.page q.dots c.args.dots made.pens made.strokes made.page made.dots
+
+pub returns-clause-tests : goal.returns-clause-tests
+returns-clause-tests c =
+    let made = c.in_ok-painter.ensures in
+    tests_are c.in_ok-painter.painter c.args.pens c.args.strokes.now c.args.page c.args.dots c.args.first_row made.strokes made.page made.dots made.pens made.first

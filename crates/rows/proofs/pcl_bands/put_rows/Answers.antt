@@ -1,0 +1,22 @@
+use Rattle.std.proofs.Common.{◌≡◌, ◌+◌, ◌/◌, length, take, arith}
+use Rattle.std.proofs.lemmas.List.{length-take-le}
+use Rattle.picture_out.specs.declared.form.Form.TheVariants.{Pcl}
+use Rattle.picture_out.specs.Pcl.{transfer_command}
+use Rattle.rows.proofs.PclRows.{even_part, nth_part, whole_text}
+use Rattle.rows.proofs.pcl_bands.put_rows.Goals as goal
+
+pub write_rows-requires-clause-size_in : goal.write_rows-requires-clause-size_in
+write_rows-requires-clause-size_in g c =
+    let used = c.append_rows-used.result in
+    let text = c.append_rows-used.new.text in
+    let long = length-take-le used text c.append_rows-used.ensures.within in
+    let one : used / c.args.rows ≡ length (transfer_command c.args.stride) + c.args.stride = nth_part c.args.stride c.args.rows used c.args.bits.now (take used text) c.requires.some c.requires.bits long c.append_rows-used.ensures.text in
+    omega (arith, one)
+
+pub returns-clause-rows : goal.returns-clause-rows
+returns-clause-rows g c = λ inks cells tall wide split.
+    let used = c.append_rows-used.result in
+    let text = c.append_rows-used.new.text in
+    let long = length-take-le used text c.append_rows-used.ensures.within in
+    let one = nth_part c.args.stride c.args.rows used c.args.bits.now (take used text) c.requires.some c.requires.bits long c.append_rows-used.ensures.text in
+    c.write_rows.ensures.rows Pcl inks cells (even_part inks c.args.at c.args.stride (used / c.args.rows) cells one wide) (whole_text inks c.args.at cells _ (take used text) split c.append_rows-used.ensures.text)

@@ -1,0 +1,65 @@
+use Rattle.std.proofs.Common.{◌≡◌, ◌<◌, ◌*◌, ℕ, List, map, min, ap, sym, subst, ◌∙◌, arith}
+use Rattle.std.specs.List.{range_with_len}
+use Rattle.smoothing.specs.Smoothings.{smoothed}
+use Rattle.smoothing.specs.Rows.{width_of}
+use Rattle.plot_page.specs.Segments.{Segment}
+use Rattle.plot_page.specs.Resolutions.{columns_of, rows_of}
+use Rattle.plot_page.specs.declared.page.Page.{Page}
+use Rattle.plot_page.specs.declared.dots.Dots.{Dots}
+use Rattle.plot_page.specs.declared.pens.PenSet.{PenSet}
+use Rattle.png.specs.Headers.{HasColours}
+use Rattle.rows.specs.Pictures.{Reach, colours_at, finer, inks_of}
+use Rattle.rows.proofs.Potentials.{parts_same, tests_are}
+use Rattle.rows.proofs.Smoothed.{finer_is, finer_row, finer_rows}
+use Rattle.rows.proofs.smooth_bands.SmoothBands.new.Goals as goal
+
+pub invariant_of-result : goal.invariant_of-result
+invariant_of-result c =
+    let made = c.in-Ok.ensures in
+    let n = c.args.ask.times in
+    let least = c.requires.ask.least in
+    let fine = finer n c.args.dots in
+    let dots : c.in-Ok.painter.dots ≡ fine = made.dots ∙ finer_is n c.args.dots _ (ap (λ (k : ℕ). n * k) c.per_inch.ensures) least c.requires.ask.fine in
+    let tall : rows_of c.in-Ok.painter.page c.in-Ok.painter.dots ≡ rows_of c.args.page fine = ap (λ (p : Page). rows_of p c.in-Ok.painter.dots) made.page ∙ ap (rows_of c.args.page) dots in
+    let each : (row : ℕ) → row < c.rows-rows.result → n * row < rows_of c.in-Ok.painter.page c.in-Ok.painter.dots =
+    λ row lt. omega (arith, tall, finer_rows n c.args.page c.args.dots least c.requires.ask.fine, finer_row n c.args.page.height c.args.dots.resolution row least (omega (arith, lt, c.rows-rows.ensures.count))) in (
+      c.in-Ok-new.ensures.inks ∙ c.new-inks.ensures.inks ∙ ap inks_of (sym made.strokes),
+      c.in-Ok-new.ensures.times,
+      subst HasColours (sym c.in-Ok-new.ensures.layout) c.requires.ask.colours,
+      record {
+        least = least;
+        most = c.requires.ask.most;
+        some = omega (arith, c.max-height.ensures);
+        few = omega (arith, c.max-height.ensures, c.min.ensures, c.height_within.ensures.most, c.if-band_rows-gt4096.false);
+        tall = c.rows-rows.ensures.most;
+        within = omega (arith, c.if-first_row-rows.false);
+        band = made.height;
+        finer = each;
+        next = λ lt. omega (arith, made.first, c.min-first.ensures, each c.args.first_row lt, c.rows.ensures.count, ap (λ (d : Dots). rows_of c.args.page d) made.dots, ap (λ (p : Page). rows_of p c.in-Ok.painter.dots) made.page);
+      },
+      omega (arith, c.in-Ok-new.ensures.width, c.columns-columns.ensures.most),
+    )
+
+pub returns-clause-pixels : goal.returns-clause-pixels
+returns-clause-pixels c =
+    let made = c.in-Ok.ensures in
+    let n = c.args.ask.times in
+    let q = c.in-Ok.painter in
+    let fine = finer n c.args.dots in
+    let dots : q.dots ≡ fine = made.dots ∙ finer_is n c.args.dots _ (ap (λ (k : ℕ). n * k) c.per_inch.ensures) c.requires.ask.least c.requires.ask.fine in
+    let F : PenSet → List Segment → Page → Dots → ℕ → Reach → ℕ → List (List ℕ) = λ l ss p d columns reaches row. map (smoothed n (colours_at reaches l ss p d) row) (range_with_len 0 columns) in
+    let H : ℕ → Reach → ℕ → List (List ℕ) = F q.pens q.strokes q.page q.dots in
+    let width : width_of c.in-Ok-new.smoother.pixels ≡ columns_of c.args.page c.args.dots = c.in-Ok-new.ensures.width ∙ c.columns-columns.ensures.count in
+    ap H width
+    ∙ parts_same {A = Reach → ℕ → List (List ℕ)} (λ l ss p d. F l ss p d (columns_of c.args.page c.args.dots)) q.pens c.args.pens q.strokes c.args.strokes.now q.page c.args.page q.dots fine made.pens made.strokes made.page dots
+
+pub returns-clause-tests : goal.returns-clause-tests
+returns-clause-tests c =
+    let made = c.in-Ok.ensures in
+    let n = c.args.ask.times in
+    let q = c.in-Ok.painter in
+    let fine = finer n c.args.dots in
+    let dots : q.dots ≡ fine = made.dots ∙ finer_is n c.args.dots _ (ap (λ (k : ℕ). n * k) c.per_inch.ensures) c.requires.ask.least c.requires.ask.fine in
+    let tall : c.rows.result ≡ rows_of c.args.page fine = c.rows.ensures.count ∙ ap (rows_of c.args.page) (sym made.dots ∙ dots) in
+    let first : q.next ≡ min (n * c.args.first_row) (rows_of c.args.page fine) = made.first ∙ c.min-first.ensures ∙ ap (λ (k : ℕ). min (n * c.args.first_row) k) tall in
+    tests_are q c.args.pens c.args.strokes.now c.args.page fine _ made.strokes made.page dots made.pens first

@@ -1,0 +1,182 @@
+-- How far the writing of rows and of a picture came, as contracts of private functions say it.
+use Rattle.std.specs.Prelude.{◌≡◌, ℕ, ◌+◌, ◌-◌, ◌*◌, ◌<◌, ◌≤◌, map, List, [], ◌∷◌, ◌++◌, length, take, get_or, nat_eq}
+use Rattle.std.specs.Prelude.{if◌then◌else◌, Result, Ok, Err, Some, None, ⊤}
+use Rattle.std.specs.List.{range_with_len}
+use Rattle.std.specs.Io.KnownBytes.{Appends}
+use Rattle.plot_page.specs.declared.dots.TheConstants.{MOST_PIXELS_A_SIDE}
+use Rattle.smoothing.specs.Smoothings.{smoothed}
+use Rattle.picture_out.specs.declared.form.Form.{Form}
+use Rattle.picture_out.specs.declared.inks.Ink.{Ink}
+use Rattle.picture_out.specs.Forms.{foot_bytes, row_bytes}
+use Rattle.png.specs.declared.header.Depth.{Depth}
+use Rattle.png.specs.declared.header.Layout.{Layout}
+use Rattle.png.specs.Headers.{HasColours}
+use Rattle.plot_page.specs.declared.dots.Dots.{Dots}
+use Rattle.devices.specs.Sinks.{SinkState}
+use Rattle.plot_page.specs.Segments.{Segment}
+use Rattle.plot_page.specs.Resolutions.{rows_of}
+use Rattle.stroke_raster.specs.Painting.{Painting}
+use Rattle.picture_job.specs.declared.job.Job.{Job}
+use Rattle.rows.specs.Pictures.{Reach, colours_at, head_of, job_fault, picture_of, row_of, rows_bytes, strokes_row}
+use Rattle.rows.specs.Boxes.{boxes_from}
+use Rattle.rows.specs.PixelRows.{layout_bytes}
+use Rattle.rows.specs.declared.fault.PictureFault.{PictureFault}
+use Rattle.rows.specs.declared.fault.PictureFault.TheVariants.{Memory, Paint, Write}
+use Rattle.rows.specs.Stops.{IsStoppedAt}
+use Rattle.rows.specs.Watching.{WasTold, WasToldInPart}
+use Rattle.rows.specs.declared.writing.Broken.{Broken}
+
+-- the bytes of a list of rows, the first of which has this number
+abbrev pub rows_text : Form → List Ink → ℕ → List (List ℕ) → List ℕ
+rows_text form inks row [] = []
+rows_text form inks row (cells ∷ rows) = row_bytes form row inks cells ++ rows_text form inks (row + 1) rows
+
+-- each of these rows, the first of which has the number `at`, has as many bytes
+abbrev pub AreEven : Form → List Ink → ℕ → List (List ℕ) → ℕ → Type 0
+AreEven form inks at rows size =
+    (k : ℕ) → k < length rows → length (row_bytes form (at + k) inks (get_or rows k [])) ≡ size
+
+-- where the writing of rows from the row `at` on stopped, after `done` bytes of this run: in the k-th of them
+pub record StopsIn (form : Form) (inks : List Ink) (first at : ℕ) (rows : List (List ℕ)) (done : ℕ) (stop : Broken)
+    (k : ℕ) : Type 0 where
+  pub inside : k < length rows
+  pub row : stop.row ≡ at + k
+  pub from : done + length (rows_text form inks at (take k rows)) ≤ stop.bytes
+  pub to : stop.bytes < done + length (rows_text form inks at (take k rows))
+      + length (row_bytes form (at + k) inks (get_or rows k []))
+  pub whole : stop.whole ≡ (if nat_eq (at + k) first then 0 else (done + length (rows_text form inks at (take k rows))))
+
+-- rows were written, after `done` bytes of this run
+pub record AreWritten (text : List ℕ) (done : ℕ) (sink sink' : SinkState) (bytes : ℕ) : Type 0 where
+  pub written : Appends sink.held sink'.held text
+  pub count : bytes ≡ done + length text
+  pub sound : sink'.faults ≡ sink.faults
+
+-- the sink failed in the k-th of some rows
+pub record CellsAreCutShort (form : Form) (inks : List Ink) (first at : ℕ) (rows : List (List ℕ)) (done : ℕ)
+    (sink sink' : SinkState) (stop : Broken) : Type 0 where
+  pub written : Appends sink.held sink'.held (take (stop.bytes - done) (rows_text form inks at rows))
+  pub failed : sink'.faults ≡ sink.faults + 1
+  pub k : ℕ
+  pub stopped : StopsIn form inks first at rows done stop k
+
+-- all the rows of a list were written and nothing failed, or the sink failed once
+abbrev pub WritesCells : Form → List Ink → ℕ → ℕ → List (List ℕ) → ℕ → SinkState → SinkState → Result ℕ Broken → Type 0
+WritesCells form inks first at rows done sink sink' (Ok n) = AreWritten (rows_text form inks at rows) done sink sink' n
+WritesCells form inks first at rows done sink sink' (Err stop) =
+    CellsAreCutShort form inks first at rows done sink sink' stop
+
+-- the sink failed in one of the rows from `at` up to `end`, after `done` bytes of this run
+pub record AreCutShort (row : ℕ → List ℕ) (first at end done : ℕ) (sink sink' : SinkState) (stop : Broken) : Type 0 where
+  pub written : Appends sink.held sink'.held (take (stop.bytes - done) (rows_bytes row at (end - at)))
+  pub failed : sink'.faults ≡ sink.faults + 1
+  pub since : at ≤ stop.row
+  pub until : stop.row < end
+  pub from : done + length (rows_bytes row at (stop.row - at)) ≤ stop.bytes
+  pub to : stop.bytes < done + length (rows_bytes row at (stop.row - at)) + length (row stop.row)
+  pub whole : stop.whole
+      ≡ (if nat_eq stop.row first then 0 else (done + length (rows_bytes row at (stop.row - at))))
+
+-- the rows from `at` up to `end` were written and nothing failed, or the sink failed once
+abbrev pub WritesRows : (ℕ → List ℕ) → ℕ → ℕ → ℕ → ℕ → SinkState → SinkState → Result ℕ Broken → Type 0
+WritesRows row first at end done sink sink' (Ok n) = AreWritten (rows_bytes row at (end - at)) done sink sink' n
+WritesRows row first at end done sink sink' (Err stop) = AreCutShort row first at end done sink sink' stop
+
+-- a watcher was told of all of so many rows, or the sink failed in one of them
+abbrev pub IsToldOfRows : {W : Type 0} → (W → ℕ → ℕ → W → Type 0) → ℕ → W → W → Result ℕ Broken → Type 0
+IsToldOfRows hears rows before after (Ok _) = WasTold hears rows before rows after
+IsToldOfRows hears rows before after (Err _) = WasToldInPart hears rows before after
+
+-- a picture was written
+pub record IsWhole (text : List ℕ) (sink sink' : SinkState) (bytes : ℕ) : Type 0 where
+  pub written : Appends sink.held sink'.held text
+  pub count : bytes ≡ length text
+  pub sound : sink'.faults ≡ sink.faults
+
+-- the sink failed in a picture
+pub record PictureStops (head : List ℕ) (row : ℕ → List ℕ) (foot : List ℕ) (rows first : ℕ) (sink sink' : SinkState)
+    (stop : Broken) : Type 0 where
+  pub written : Appends sink.held sink'.held (take stop.bytes (picture_of head row foot rows first))
+  pub within : stop.bytes < length (picture_of head row foot rows first)
+  pub failed : sink'.faults ≡ sink.faults + 1
+  pub stopped : IsStoppedAt head row rows first stop.bytes stop.row stop.whole
+
+-- all of a picture was written and nothing failed, or the sink failed once
+abbrev pub WritesPicture : List ℕ → (ℕ → List ℕ) → List ℕ → ℕ → ℕ → SinkState → SinkState → Result ℕ Broken → Type 0
+WritesPicture head row foot rows first sink sink' (Ok n) = IsWhole (picture_of head row foot rows first) sink sink' n
+WritesPicture head row foot rows first sink sink' (Err stop) = PictureStops head row foot rows first sink sink' stop
+
+-- the bytes of each row of what is painted, in a form
+abbrev pub painting_row : Form → Painting → Reach → ℕ → List ℕ
+painting_row form p reaches row = row_of form reaches p.pens p.strokes p.page p.dots row
+
+-- how many tests the painting of the rows that are left makes at most
+abbrev pub tests_left : Painting → ℕ
+tests_left p = boxes_from p.pens p.strokes p.page p.dots p.next
+
+-- the job can be done on its page, and a picture of its strokes was written, or the sink failed once
+abbrev pub WritesJob : ℕ → Job → Reach → List Segment → SinkState → SinkState → Result ℕ Broken → Type 0
+WritesJob n job reaches strokes sink sink' answer =
+    (job_fault job ≡ None)
+    × WritesPicture (head_of job.form job.page job.dots)
+    (strokes_row n job reaches strokes) (foot_bytes job.form) (rows_of job.page job.dots)
+    job.first_row sink sink' answer
+
+-- a job's strokes were painted and written, the sink failed once, or the job cannot be done on its page
+abbrev pub HasPainted : ℕ → Job → Reach → List Segment → SinkState → SinkState → Result ℕ PictureFault → Type 0
+HasPainted n job reaches strokes sink sink' (Ok bytes) = WritesJob n job reaches strokes sink sink' (Ok bytes)
+HasPainted n job reaches strokes sink sink' (Err (Write row whole bytes)) =
+    WritesJob n job reaches strokes sink sink' (Err (record { row = row; whole = whole; bytes = bytes }))
+HasPainted n job reaches strokes sink sink' (Err (Paint fault)) = job_fault job ≡ Some fault
+HasPainted n job reaches strokes sink sink' (Err Memory) = ⊤
+HasPainted n job reaches strokes sink sink' (Err _) = ⊥
+
+-- what is painted as cells, and the form in which its rows are written
+pub record CellPainting : Type 0 where
+  pub painting : Painting
+  pub form : Form
+
+-- what is painted as cells, how many bits a number takes, and the number of each stroke
+pub record NumberPainting : Type 0 where
+  pub painting : Painting
+  pub depth : Depth
+  pub numbers : List ℕ
+
+-- the finer picture that is painted, how many times finer it is, how the pixels are laid out, and how many columns and rows
+-- of them there are; the number of the next row, and how many rows a band has at most
+pub record SmoothPainting : Type 0 where
+  pub painting : Painting
+  pub times : ℕ
+  pub layout : Layout
+  pub columns : ℕ
+  pub rows : ℕ
+  pub next : ℕ
+  pub height : ℕ
+
+-- the pixels of each row of what is smoothed, and its bytes
+abbrev pub row_pixels : SmoothPainting → Reach → ℕ → List (List ℕ)
+row_pixels b reaches row =
+    let p = b.painting in
+    map (smoothed b.times (colours_at reaches p.pens p.strokes p.page p.dots) row) (range_with_len 0 b.columns)
+
+abbrev pub smoothed_text : SmoothPainting → Reach → ℕ → List ℕ
+smoothed_text b reaches row = layout_bytes b.layout (row_pixels b reaches row)
+
+-- each row is made of finer rows, of which the next are painted next
+pub record IsSmoothing (p : Painting) (times rows at height : ℕ) : Type 0 where
+  pub least : 1 ≤ times
+  pub most : times ≤ 8
+  pub some : 1 ≤ height
+  pub few : height ≤ 4096
+  pub tall : rows ≤ MOST_PIXELS_A_SIDE
+  pub within : at ≤ rows
+  pub band : p.band_rows ≡ times * height
+  pub finer : (row : ℕ) → row < rows → times * row < rows_of p.page p.dots
+  pub next : at < rows → p.next ≡ times * at
+
+-- a picture can be smoothed so many times, in this layout
+pub record CanSmooth (times : ℕ) (layout : Layout) (dots : Dots) : Type 0 where
+  pub least : 1 ≤ times
+  pub most : times ≤ 8
+  pub fine : times * dots.resolution ≤ 1200
+  pub colours : HasColours layout

@@ -1,0 +1,72 @@
+//! Bands of bits, which are the rows of a PBM.
+ghost use Rattle.std.specs.Prelude.{◌≡◌, ⊤};
+ghost use Rattle.plot_page.specs.Resolutions.{rows_of};
+ghost use Rattle.picture_out.specs.declared.form.Form.TheVariants.{Pbm};
+ghost use Rattle.rows.specs.Pictures.{row_of};
+ghost use Rattle.rows.specs.Boxes.{boxes_from};
+ghost use Rattle.rows.specs.Progress.{painting_row, tests_left};
+
+use crate::bands::{BIT_ROOM, Bands, height_within};
+use crate::even_rows::write_rows;
+use crate::writing::Broken;
+use bit_rows::packed_length;
+use devices::Sink;
+use plot_page::{Dots, Page, PenSet, Stroke};
+use std::alloc::Global;
+use stroke_raster::{Gauge, Inker, PaintFault};
+
+impl<'a> Bands<'a> for Inker<'a> {
+    type Ask = ();
+
+    ghost can_begin = { λ _ _ _. ⊤ };
+
+    ghost asked_text = { λ _ pens strokes page dots reaches row. row_of Pbm reaches pens strokes page dots row };
+
+    ghost asked_tests = { λ _ pens strokes page dots first. boxes_from pens strokes page dots first };
+
+    ghost row_text = { λ p. painting_row Pbm p };
+
+    ghost rows = { λ p. rows_of p.page p.dots };
+
+    ghost next = { λ p. p.next };
+
+    ghost height = { λ p. p.band_rows };
+
+    ghost tests = { λ p. tests_left p };
+
+    fn begin(
+        alloc: Global,
+        _ask: (),
+        strokes: &'a [Stroke],
+        page: Page,
+        dots: Dots,
+        pens: PenSet,
+        band_rows: u32,
+        first_row: u32,
+    ) -> Result<Inker<'a>, PaintFault> {
+        let size = packed_length(dots.columns(&page) as usize) as u32;
+        let height = height_within(band_rows, size, BIT_ROOM);
+        Inker::new(alloc, strokes, page, dots, pens, height, first_row)
+    }
+
+    fn next_row(&self) -> u32 {
+        Inker::next_row(self)
+    }
+
+    fn rows(&self) -> u32 {
+        Inker::rows(self)
+    }
+
+    fn write_next<G: Gauge, K: Sink>(
+        &mut self,
+        first: u32,
+        done: u64,
+        gauge: &mut G,
+        sink: &mut K,
+    ) -> Result<u64, Broken> {
+        let at = Inker::next_row(self);
+        let stride = packed_length(Inker::columns(self) as usize) as u64;
+        self.ink_next(gauge);
+        write_rows(first, at, stride, done, self.bytes(), sink)
+    }
+}

@@ -1,0 +1,113 @@
+//! Painting a job's strokes, and writing its picture.
+ghost use Rattle.std.specs.Prelude.{◌≡◌, ℕ, ◌+◌, ◌-◌, ◌^◌, ◌<◌, ◌≤◌, length, IfErr, false, true};
+ghost use Rattle.plot_page.specs.declared.stroke.TheConstants.{MOST_STROKES};
+ghost use Rattle.plot_page.specs.Resolutions.{rows_of};
+ghost use Rattle.rows.specs.Boxes.{strokes_boxes};
+ghost use Rattle.rows.specs.Pictures.{is_possible, strokes_row};
+ghost use Rattle.rows.specs.Faults.{is_write};
+ghost use Rattle.rows.specs.Progress.{HasPainted};
+ghost use Rattle.rows.specs.Watching.{IsTold};
+
+use crate::bands::Bands;
+use crate::cell_bands::CellBands;
+use crate::fault::PictureFault;
+use crate::pcl_bands::PclBands;
+use crate::possible::is_smoothed;
+use crate::smooth_bands::{SmoothBands, Smoothed};
+use crate::watcher::Watcher;
+use crate::writing::write_picture;
+use devices::Sink;
+use picture_job::{Job, Smoothing};
+use picture_out::Form;
+use plot_page::Stroke;
+use png::Layout;
+use std::alloc::Global;
+use stroke_raster::{Gauge, Inker};
+
+/// Paints a job's strokes and writes its picture, and answers how many bytes it has. PBM and PCL show
+/// only which pixels have ink, so their rows are painted as bits; those of the other forms as cells. The watcher is
+/// told after each band how many rows are written.
+///
+/// Errors, in this order: `Paint` for a band height or a first row out of range; `Write` if the sink
+/// fails. `Memory` comes when memory is refused.
+pub fn paint<G: Gauge, K: Sink, W: Watcher>(
+    alloc: Global,
+    job: &Job,
+    smoothing: Smoothing,
+    strokes: &[Stroke],
+    gauge: &mut G,
+    sink: &mut K,
+    watcher: &mut W,
+) -> Result<u64, PictureFault>
+    requires possible { is_possible smoothing.times job.now ≡ true }
+    requires few { length strokes.now ≤ MOST_STROKES }
+    requires sinking { (K.state sink.old).faults < 2 ^ 64 - 1 }
+    ensures paints { HasPainted smoothing.times job.now (G.reaches gauge.old) strokes.now (K.state sink.old) (K.state sink.new) result }
+    ensures tests { G.count gauge.new ≤ G.count gauge.old + strokes_boxes smoothing.times job.now strokes.now }
+    ensures same { G.reaches gauge.new ≡ G.reaches gauge.old }
+    ensures told { IsTold is_write W.hears (rows_of job.now.page job.now.dots - job.now.first_row) watcher.old watcher.new result }
+    ensures untouched { IfErr result (λ fault. is_write fault ≡ false → sink.new ≡ sink.old) }
+{
+    if is_smoothed(job.form, smoothing) {
+        let ask = Smoothed {
+            times: smoothing.times(),
+            layout: Layout::Rgb,
+        };
+        return paint_by::<SmoothBands<'_>, G, K, W>(alloc, job, ask, strokes, gauge, sink, watcher);
+    }
+    match job.form {
+        Form::Pbm => paint_by::<Inker<'_>, G, K, W>(alloc, job, (), strokes, gauge, sink, watcher),
+        Form::Pcl => {
+            paint_by::<PclBands<'_>, G, K, W>(alloc, job, (), strokes, gauge, sink, watcher)
+        }
+        form @ (Form::Marks | Form::Ppm) => {
+            paint_by::<CellBands<'_>, G, K, W>(alloc, job, form, strokes, gauge, sink, watcher)
+        }
+    }
+}
+
+// The same by these bands, which are asked for so.
+#[tactic(auto, using(crate::proofs::Watched::not_told))]
+fn paint_by<'a, B: Bands<'a> + Drop, G: Gauge, K: Sink, W: Watcher>(
+    alloc: Global,
+    job: &Job,
+    ask: B::Ask,
+    strokes: &'a [Stroke],
+    gauge: &mut G,
+    sink: &mut K,
+    watcher: &mut W,
+) -> Result<u64, PictureFault>
+    requires few { length strokes.now ≤ MOST_STROKES }
+    requires sinking { (K.state sink.old).faults < 2 ^ 64 - 1 }
+    requires ask { B.can_begin ask strokes.now job.now.dots }
+    ensures paints { (n : ℕ) → B.asked_text ask job.now.pens strokes.entry.now job.now.page job.now.dots (G.reaches gauge.old)
+        ≡ strokes_row n job.now (G.reaches gauge.old) strokes.entry.now →
+        HasPainted n job.now (G.reaches gauge.old) strokes.entry.now (K.state sink.old) (K.state sink.new) result }
+    ensures tests { G.count gauge.new ≤ G.count gauge.old
+        + B.asked_tests ask job.now.pens strokes.entry.now job.now.page job.now.dots job.now.first_row }
+    ensures same { G.reaches gauge.new ≡ G.reaches gauge.old }
+    ensures told { IsTold is_write W.hears (rows_of job.now.page job.now.dots - job.now.first_row) watcher.old watcher.new result }
+    ensures untouched { IfErr result (λ fault. is_write fault ≡ false → sink.new ≡ sink.old) }
+{
+    let mut bands = B::begin(
+        alloc,
+        ask,
+        strokes,
+        job.page,
+        job.dots,
+        job.pens,
+        job.band,
+        job.first_row,
+    )?;
+    let columns = job.dots.columns(&job.page);
+    let bytes = write_picture(
+        job.form,
+        job.dots.per_inch(),
+        columns,
+        &mut bands,
+        gauge,
+        sink,
+        watcher,
+    )?;
+    Ok(bytes)
+}

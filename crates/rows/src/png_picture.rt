@@ -1,0 +1,200 @@
+//! Painting a job's strokes, and writing its picture as a PNG.
+ghost use Rattle.std.specs.Prelude.{◌≡◌, ◌+◌, ◌-◌, ◌^◌, ◌<◌, ◌≤◌, length, IfErr, false, true};
+ghost use Rattle.plot_page.specs.declared.stroke.TheConstants.{MOST_STROKES};
+ghost use Rattle.plot_page.specs.Resolutions.{rows_of};
+ghost use Rattle.png.specs.declared.header.Depth.{Depth};
+ghost use Rattle.png.specs.Headers.{bits_of_depth};
+ghost use Rattle.rows.specs.Faults.{is_write};
+ghost use Rattle.rows.specs.Documents.{HasPaintedPng, is_png_possible, picture_shown, picture_with, png_boxes};
+ghost use Rattle.rows.specs.Layouts.{AreBits, plain_boxes, plain_row};
+ghost use Rattle.rows.specs.Palettes.{AreNumbers, colours_used};
+ghost use Rattle.rows.specs.Watching.{IsTold};
+
+use crate::bit_numbers::are_bits;
+use crate::cell_bands::CellBands;
+use crate::encoding::{encode, header_of};
+use crate::fault::PictureFault;
+use crate::number_bands::{NumberBands, Numbered};
+use crate::palette::{MOST_COLOURS, Palette, palette_of};
+use crate::possible::is_smoothed;
+use crate::smooth_picture::paint_smoothed;
+use crate::watcher::Watcher;
+use devices::Sink;
+use picture_job::PngJob;
+use picture_out::Form;
+use plot_page::Stroke;
+use png::{Depth, Layout};
+use std::alloc::Global;
+use stroke_raster::{Gauge, Inker};
+
+/// Paints a job's strokes and writes its picture as a PNG: with a palette if it has colours for all, else with the colour
+/// of each pixel; a smoothed one in shades of grey if its strokes have no other colours. The watcher is told after each band
+/// how many rows are written.
+///
+/// Errors: `Unfinished` if the sink fails; what it has taken is of no use. `Memory` comes when memory is refused, and then
+/// the sink has taken nothing.
+pub fn paint_png<G: Gauge, K: Sink, W: Watcher>(
+    alloc: Global,
+    job: &PngJob,
+    strokes: &[Stroke],
+    gauge: &mut G,
+    sink: K,
+    watcher: &mut W,
+) -> (K, Result<(), PictureFault>)
+    requires possible { is_png_possible job.now ≡ true }
+    requires few { length strokes.now ≤ MOST_STROKES }
+    requires sinking { (K.state sink).faults < 2 ^ 64 - 1 }
+    ensures paints { HasPaintedPng (picture_shown job.now (G.reaches gauge.old) strokes.now)
+        (K.state sink) (K.state result.0) result.1 }
+    ensures tests { G.count gauge.new ≤ G.count gauge.old + png_boxes job.now strokes.now }
+    ensures same { G.reaches gauge.new ≡ G.reaches gauge.old }
+    ensures told { IsTold is_write W.hears (rows_of job.now.page job.now.dots) watcher.old watcher.new result.1 }
+    ensures untouched { IfErr result.1 (λ fault. is_write fault ≡ false → result.0 ≡ sink) }
+{
+    if is_smoothed(Form::Ppm, job.smoothing) {
+        return paint_smoothed(alloc, job, strokes, gauge, sink, watcher);
+    }
+    paint_plain(alloc, job, strokes, gauge, sink, watcher)
+}
+
+// The same of a picture that is not smoothed.
+#[tactic(auto, using(crate::proofs::Watched::not_told))]
+fn paint_plain<G: Gauge, K: Sink, W: Watcher>(
+    alloc: Global,
+    job: &PngJob,
+    strokes: &[Stroke],
+    gauge: &mut G,
+    sink: K,
+    watcher: &mut W,
+) -> (K, Result<(), PictureFault>)
+    requires few { length strokes.now ≤ MOST_STROKES }
+    requires sinking { (K.state sink).faults < 2 ^ 64 - 1 }
+    ensures paints { HasPaintedPng (picture_with job.now (plain_row job.now (G.reaches gauge.old) strokes.now))
+        (K.state sink) (K.state result.0) result.1 }
+    ensures tests { G.count gauge.new ≤ G.count gauge.old + plain_boxes job.now strokes.now }
+    ensures same { G.reaches gauge.new ≡ G.reaches gauge.old }
+    ensures told { IsTold is_write W.hears (rows_of job.now.page job.now.dots) watcher.old watcher.new result.1 }
+    ensures untouched { IfErr result.1 (λ fault. is_write fault ≡ false → result.0 ≡ sink) }
+{
+    match palette_of(alloc, strokes, job.pens) {
+        Ok(Some(palette)) => paint_numbers(alloc, job, &palette, strokes, gauge, sink, watcher),
+        Ok(None) => paint_colours(alloc, job, strokes, gauge, sink, watcher),
+        Err(_) => (sink, Err(PictureFault::Memory)),
+    }
+}
+
+// The same with this palette.
+fn paint_numbers<G: Gauge, K: Sink, W: Watcher>(
+    alloc: Global,
+    job: &PngJob,
+    palette: &Palette,
+    strokes: &[Stroke],
+    gauge: &mut G,
+    sink: K,
+    watcher: &mut W,
+) -> (K, Result<(), PictureFault>)
+    requires few { length strokes.now ≤ MOST_STROKES }
+    requires sinking { (K.state sink).faults < 2 ^ 64 - 1 }
+    requires colours { palette.now.colours.items ≡ colours_used job.now.pens strokes.now }
+    requires most { length palette.now.colours.items ≤ MOST_COLOURS }
+    requires numbers { AreNumbers job.now.pens strokes.now palette.now.colours.items palette.now.numbers.items }
+    ensures paints { HasPaintedPng (picture_with job.now (plain_row job.now (G.reaches gauge.old) strokes.now))
+        (K.state sink) (K.state result.0) result.1 }
+    ensures tests { G.count gauge.new ≤ G.count gauge.old + plain_boxes job.now strokes.now }
+    ensures same { G.reaches gauge.new ≡ G.reaches gauge.old }
+    ensures told { IsTold is_write W.hears (rows_of job.now.page job.now.dots) watcher.old watcher.new result.1 }
+    ensures untouched { IfErr result.1 (λ fault. is_write fault ≡ false → result.0 ≡ sink) }
+{
+    let colours = palette.colours.as_slice();
+    let numbers = palette.numbers.as_slice();
+    if colours.len() <= 2 && are_bits(strokes, job.pens, numbers) {
+        return paint_bits(alloc, job, palette, strokes, gauge, sink, watcher);
+    }
+    let depth = depth_for(colours.len());
+    let layout = Layout::Indexed {
+        depth,
+        palette: colours,
+    };
+    let ask = Numbered { depth, numbers };
+    let header = header_of(job, layout);
+    encode::<NumberBands<'_>, G, K, W>(alloc, job, ask, &header, strokes, gauge, sink, watcher)
+}
+
+// The same with a palette of at most two colours and numbers that are bits, which are painted as such.
+fn paint_bits<G: Gauge, K: Sink, W: Watcher>(
+    alloc: Global,
+    job: &PngJob,
+    palette: &Palette,
+    strokes: &[Stroke],
+    gauge: &mut G,
+    sink: K,
+    watcher: &mut W,
+) -> (K, Result<(), PictureFault>)
+    requires few { length strokes.now ≤ MOST_STROKES }
+    requires sinking { (K.state sink).faults < 2 ^ 64 - 1 }
+    requires colours { palette.now.colours.items ≡ colours_used job.now.pens strokes.now }
+    requires two { length palette.now.colours.items ≤ 2 }
+    requires numbers { AreNumbers job.now.pens strokes.now palette.now.colours.items palette.now.numbers.items }
+    requires bits { AreBits job.now.pens strokes.now palette.now.numbers.items }
+    ensures paints { HasPaintedPng (picture_with job.now (plain_row job.now (G.reaches gauge.old) strokes.now))
+        (K.state sink) (K.state result.0) result.1 }
+    ensures tests { G.count gauge.new ≤ G.count gauge.old + plain_boxes job.now strokes.now }
+    ensures same { G.reaches gauge.new ≡ G.reaches gauge.old }
+    ensures told { IsTold is_write W.hears (rows_of job.now.page job.now.dots) watcher.old watcher.new result.1 }
+    ensures untouched { IfErr result.1 (λ fault. is_write fault ≡ false → result.0 ≡ sink) }
+{
+    let layout = Layout::Indexed {
+        depth: Depth::One,
+        palette: palette.colours.as_slice(),
+    };
+    let header = header_of(job, layout);
+    encode::<Inker<'_>, G, K, W>(alloc, job, (), &header, strokes, gauge, sink, watcher)
+}
+
+// The same with the colour of each pixel.
+fn paint_colours<G: Gauge, K: Sink, W: Watcher>(
+    alloc: Global,
+    job: &PngJob,
+    strokes: &[Stroke],
+    gauge: &mut G,
+    sink: K,
+    watcher: &mut W,
+) -> (K, Result<(), PictureFault>)
+    requires few { length strokes.now ≤ MOST_STROKES }
+    requires sinking { (K.state sink).faults < 2 ^ 64 - 1 }
+    ensures paints { HasPaintedPng (picture_with job.now (plain_row job.now (G.reaches gauge.old) strokes.now))
+        (K.state sink) (K.state result.0) result.1 }
+    ensures tests { G.count gauge.new ≤ G.count gauge.old + plain_boxes job.now strokes.now }
+    ensures same { G.reaches gauge.new ≡ G.reaches gauge.old }
+    ensures told { IsTold is_write W.hears (rows_of job.now.page job.now.dots) watcher.old watcher.new result.1 }
+    ensures untouched { IfErr result.1 (λ fault. is_write fault ≡ false → result.0 ≡ sink) }
+{
+    let header = header_of(job, Layout::Rgb);
+    encode::<CellBands<'_>, G, K, W>(
+        alloc,
+        job,
+        Form::Ppm,
+        &header,
+        strokes,
+        gauge,
+        sink,
+        watcher,
+    )
+}
+
+/// The least depth of numbers below a count.
+pub fn depth_for(count: usize) -> Depth
+    requires { count ≤ MOST_COLOURS }
+    ensures enough { count ≤ 2 ^ bits_of_depth result }
+    ensures least { (depth : Depth) → count ≤ 2 ^ bits_of_depth depth → bits_of_depth result ≤ bits_of_depth depth }
+{
+    if count <= 2 {
+        Depth::One
+    } else if count <= 4 {
+        Depth::Two
+    } else if count <= 16 {
+        Depth::Four
+    } else {
+        Depth::Eight
+    }
+}
