@@ -8,9 +8,9 @@ ghost use Rattle.rows.specs.Palettes.{number_of, numbers_bytes};
 ghost use Rattle.rows.specs.Known.{AreKnown};
 ghost use Rattle.rows.specs.PixelRows.{HasSamples, layout_bytes, number_in, sample_count, sample_depth, samples_of};
 
+use crate::buffer::buffer_of;
 use crate::known::Known;
 use crate::palette::position_of;
-use crate::buffer::buffer_of;
 use png::{Depth, Layout, pack_samples};
 use std::alloc::{AllocError, Global};
 
