@@ -3,8 +3,9 @@ use Rattle.std.proofs.Common.{◌≡◌, ℕ, zero, suc, ◌+◌, ◌*◌, ◌<�
 use Rattle.std.proofs.lemmas.List.{take_at, drop_at}
 use Rattle.std.proofs.lemmas.Bool.{eq-eqb}
 use Rattle.std.specs.Io.KnownBytes.{Appends}
+use Rattle.plot_page.specs.declared.page.Page.{Page}
+use Rattle.plot_page.specs.declared.dots.Dots.{Dots}
 use Rattle.plot_page.specs.Resolutions.{columns_of, rows_of}
-use Rattle.picture_job.specs.declared.png_job.PngJob.{PngJob}
 use Rattle.png.specs.Samples.{Head, Picture, colours, picture_of, row_colours, stride}
 use Rattle.rows.specs.Pictures.{rows_bytes}
 use Rattle.rows.specs.Documents.{per_metre, picture_with}
@@ -36,17 +37,17 @@ rows_shown h text colour first (suc n) made =
     rw (one, others) refl
 
 -- the rows of a picture, one after the other, are the picture
-pub pictured : (h : Head) (job : PngJob) (colour text : ℕ → List ℕ) → h.columns ≡ columns_of job.page job.dots → h.rows ≡ rows_of job.page job.dots
-    → h.per_metre ≡ per_metre job.dots.resolution → ((r : ℕ) → r < rows_of job.page job.dots → IsRowOf h (text r) (colour r))
-    → picture_of h (rows_bytes text 0 (rows_of job.page job.dots)) ≡ Some (picture_with job colour)
+pub pictured : (h : Head) (page : Page) (dots : Dots) (colour text : ℕ → List ℕ) → h.columns ≡ columns_of page dots → h.rows ≡ rows_of page dots
+    → h.per_metre ≡ per_metre dots.resolution → ((r : ℕ) → r < rows_of page dots → IsRowOf h (text r) (colour r))
+    → picture_of h (rows_bytes text 0 (rows_of page dots)) ≡ Some (picture_with page dots colour)
 unfolding picture_of
-pictured h job colour text wide tall fine made =
-    let n = rows_of job.page job.dots in
+pictured h page dots colour text wide tall fine made =
+    let n = rows_of page dots in
     let each : (r : ℕ) → 0 ≤ r → r < 0 + n → IsRowOf h (text r) (colour r) = λ r from to. made r (omega (arith, to)) in
     let size : length (rows_bytes text 0 n) ≡ h.rows * stride h = rows_size h text colour 0 n each ∙ ap (λ (k : ℕ). k * stride h) (sym tall) in
     let whole : (length (rows_bytes text 0 n) == h.rows * stride h) ≡ true = eq-eqb _ _ size in
     let shown : colours h h.rows (rows_bytes text 0 n) ≡ Some (rows_bytes colour 0 n) = ap (λ (k : ℕ). colours h k (rows_bytes text 0 n)) tall ∙ rows_shown h text colour 0 n each in
-    let made_of : (columns rows per_metre : ℕ) → columns ≡ columns_of job.page job.dots → rows ≡ n → per_metre ≡ _ →
-    ◌≡◌ {A = Option Picture} (Some (record { columns = columns; rows = rows; per_metre = per_metre; pixels = rows_bytes colour 0 n })) (Some (picture_with job colour)) =
+    let made_of : (columns rows per_metre : ℕ) → columns ≡ columns_of page dots → rows ≡ n → per_metre ≡ _ →
+    ◌≡◌ {A = Option Picture} (Some (record { columns = columns; rows = rows; per_metre = per_metre; pixels = rows_bytes colour 0 n })) (Some (picture_with page dots colour)) =
     λ columns rows metre ec er em. rw (ec, er, em) refl in
     rw (whole, shown) (made_of h.columns h.rows h.per_metre wide tall fine)

@@ -1,6 +1,8 @@
 -- PNGs of strokes: what reading one gives, and what writing one answers.
 use Rattle.std.specs.Prelude.{◌≡◌, ℕ, ◌+◌, ◌*◌, ◌/◌, Bool, not, ◌||◌, if◌then◌else◌, List, [], Option, Some, Result, Ok, Err, ⊤}
 use Rattle.plot_page.specs.Segments.{Segment}
+use Rattle.plot_page.specs.declared.page.Page.{Page}
+use Rattle.plot_page.specs.declared.dots.Dots.{Dots}
 use Rattle.plot_page.specs.Resolutions.{columns_of, rows_of}
 use Rattle.picture_job.specs.declared.png_job.PngJob.{PngJob}
 use Rattle.picture_out.specs.declared.form.Form.TheVariants.{Ppm}
@@ -16,13 +18,13 @@ use Rattle.rows.specs.declared.fault.PictureFault.TheVariants.{Memory, Unfinishe
 abbrev pub per_metre : ℕ → ℕ
 per_metre dots = (dots * 10000 + 127) / 254
 
--- a job's picture by the colours of each row: its size, its resolution, and the colours of its pixels, row by row
-abbrev pub picture_with : PngJob → (ℕ → List ℕ) → Picture
-picture_with job colours = record {
-  columns = columns_of job.page job.dots;
-  rows = rows_of job.page job.dots;
-  per_metre = per_metre job.dots.resolution;
-  pixels = rows_bytes colours 0 (rows_of job.page job.dots);
+-- a picture of a page by the colours of each row: its size, its resolution, and the colours of its pixels, row by row
+abbrev pub picture_with : Page → Dots → (ℕ → List ℕ) → Picture
+picture_with page dots colours = record {
+  columns = columns_of page dots;
+  rows = rows_of page dots;
+  per_metre = per_metre dots.resolution;
+  pixels = rows_bytes colours 0 (rows_of page dots);
 }
 
 -- the colours of each row of pixels: the bytes of a PPM's row
@@ -32,7 +34,7 @@ colours_row job reaches strokes row =
 
 -- the picture of a job and strokes
 abbrev pub picture_shown : PngJob → Reach → List Segment → Picture
-picture_shown job reaches strokes = picture_with job (colours_row job reaches strokes)
+picture_shown job reaches strokes = picture_with job.page job.dots (colours_row job reaches strokes)
 
 -- the job's picture can be smoothed; if not, nothing is read
 abbrev pub is_png_possible : PngJob → Bool

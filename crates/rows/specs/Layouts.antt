@@ -6,7 +6,8 @@ use Rattle.plot_page.specs.Segments.{Segment}
 use Rattle.plot_page.specs.Pens.{has_pen}
 use Rattle.plot_page.specs.Resolutions.{columns_of, rows_of}
 use Rattle.plot_page.specs.declared.pens.PenSet.{PenSet}
-use Rattle.picture_job.specs.declared.png_job.PngJob.{PngJob}
+use Rattle.plot_page.specs.declared.page.Page.{Page}
+use Rattle.plot_page.specs.declared.dots.Dots.{Dots}
 use Rattle.picture_out.specs.declared.form.Form.TheVariants.{Ppm}
 use Rattle.png.specs.declared.header.Header.{Header}
 use Rattle.png.specs.declared.header.Layout.{Layout}
@@ -14,14 +15,15 @@ use Rattle.png.specs.declared.header.Layout.TheVariants.{Indexed, Grey, Rgb}
 use Rattle.png.specs.Headers.{IsSound}
 use Rattle.png.specs.Samples.{Head, row_colours, stride}
 use Rattle.rows.specs.Pictures.{Reach, row_of, smoothed_pixels}
-use Rattle.rows.specs.Boxes.{boxes_from}
+use Rattle.rows.specs.Boxes.{boxes_from, finer_boxes}
 use Rattle.rows.specs.Documents.{per_metre}
+use Rattle.rows.specs.declared.scene.Scene.{Scene}
 
--- the header of a job's picture
-pub record IsHeaderOf (job : PngJob) (header : Header) : Type 0 where
-  pub columns : header.columns ≡ columns_of job.page job.dots
-  pub rows : header.rows ≡ rows_of job.page job.dots
-  pub per_metre : header.per_metre ≡ per_metre job.dots.resolution
+-- the header of a picture of a page
+pub record IsHeaderOf (page : Page) (dots : Dots) (header : Header) : Type 0 where
+  pub columns : header.columns ≡ columns_of page dots
+  pub rows : header.rows ≡ rows_of page dots
+  pub per_metre : header.per_metre ≡ per_metre dots.resolution
   pub sound : IsSound header
 
 -- the bytes of a row show colours
@@ -35,11 +37,11 @@ AreBits pens strokes numbers =
     (k : ℕ) (s : Segment) → k < length strokes → has_pen pens (get_or strokes k s).pen ≡ true → get_or numbers k 0 ≡ 1
 
 -- the colours of each row of pixels, not smoothed, and the tests that they take at most
-abbrev pub plain_row : PngJob → Reach → List Segment → ℕ → List ℕ
-plain_row job reaches strokes row = row_of Ppm reaches job.pens strokes job.page job.dots row
+abbrev pub plain_row : Scene → Reach → ℕ → List ℕ
+plain_row scene reaches row = row_of Ppm reaches scene.pens scene.strokes.now scene.page scene.dots row
 
-abbrev pub plain_boxes : PngJob → List Segment → ℕ
-plain_boxes job strokes = boxes_from job.pens strokes job.page job.dots 0
+abbrev pub plain_boxes : Scene → ℕ
+plain_boxes scene = boxes_from scene.pens scene.strokes.now scene.page scene.dots 0
 
 -- a layout has the colours of pixels
 abbrev pub HasPixels : Layout → List (List ℕ) → Type 0
@@ -47,10 +49,15 @@ HasPixels (Indexed depth palette) pixels = All (λ pixel. list_any (bytes_eq pix
 HasPixels Grey pixels = All (λ pixel. (get_or pixel 1 0 ≡ get_or pixel 0 0) × (get_or pixel 2 0 ≡ get_or pixel 0 0)) pixels
 HasPixels Rgb pixels = ⊤
 
--- the colours of each row of smoothed pixels
-abbrev pub smooth_row : PngJob → Reach → List Segment → ℕ → List ℕ
-smooth_row job reaches strokes row =
-    flat_map (λ pixel. pixel) (smoothed_pixels job.smoothing.times reaches job.pens strokes job.page job.dots row)
+-- the pixels of each row of a scene, smoothed n times, their colours, and the tests that they take at most
+abbrev pub scene_pixels : ℕ → Scene → Reach → ℕ → List (List ℕ)
+scene_pixels n scene reaches row = smoothed_pixels n reaches scene.pens scene.strokes.now scene.page scene.dots row
+
+abbrev pub smooth_row : ℕ → Scene → Reach → ℕ → List ℕ
+smooth_row n scene reaches row = flat_map (λ pixel. pixel) (scene_pixels n scene reaches row)
+
+abbrev pub smooth_boxes : ℕ → Scene → ℕ
+smooth_boxes n scene = finer_boxes n scene.pens scene.strokes.now scene.page scene.dots 0
 
 -- each selected stroke is a shade of grey
 abbrev pub AreGrey : PenSet → List Segment → Type 0

@@ -1,20 +1,16 @@
 //! The bands of a picture: painted and written, one after another.
-ghost use Rattle.std.specs.Prelude.{◌≡◌, ℕ, List, ◌+◌, ◌-◌, ◌*◌, ◌^◌, ◌<◌, ◌≤◌, ◌↔◌, IfOk, Err, length, true, false};
-ghost use Rattle.plot_page.specs.declared.stroke.TheConstants.{MOST_STROKES};
+ghost use Rattle.std.specs.Prelude.{◌≡◌, ℕ, List, ◌+◌, ◌-◌, ◌*◌, ◌^◌, ◌<◌, ◌≤◌, ◌↔◌, IfOk, Err, true, false};
 ghost use Rattle.plot_page.specs.declared.dots.TheConstants.{MOST_PIXELS_A_SIDE};
 ghost use Rattle.plot_page.specs.Resolutions.{rows_of};
-ghost use Rattle.plot_page.specs.Segments.{Segment};
-ghost use Rattle.plot_page.specs.declared.page.Page.{Page};
-ghost use Rattle.plot_page.specs.declared.dots.Dots.{Dots};
-ghost use Rattle.plot_page.specs.declared.pens.PenSet.{PenSet};
 ghost use Rattle.stroke_raster.specs.declared.painter.PaintFault.TheVariants.{Band, Row};
 ghost use Rattle.stroke_raster.specs.BandHeights.{is_band_height};
 ghost use Rattle.rows.specs.Pictures.{Reach};
 ghost use Rattle.rows.specs.Progress.{WritesRows};
+ghost use Rattle.rows.specs.declared.scene.Scene.{Scene};
 
+use crate::scene::Scene;
 use crate::writing::Broken;
 use devices::Sink;
-use plot_page::{Dots, Page, PenSet, Stroke};
 use std::alloc::Global;
 use stroke_raster::{Gauge, PaintFault};
 
@@ -26,17 +22,17 @@ pub const BIT_ROOM: u32 = 262_144;
 
 /// Paints the strokes of a picture and writes its rows, band by band.
 pub trait Bands<'a>: Sized {
-    /// What the rows depend on beside the strokes, the page and the resolution.
+    /// What the rows depend on beside the scene.
     type Ask: Copy;
 
-    // Bands can be begun for this, with these strokes, at this resolution.
-    ghost can_begin: { Self.Ask → List Segment → Dots → Type 0 };
+    // Bands can be begun for this, of this scene.
+    ghost can_begin: { Self.Ask → Scene → Type 0 };
 
     // The bytes of each row of the picture that is asked for, by what a gauge reaches.
-    ghost asked_text: { Self.Ask → PenSet → List Segment → Page → Dots → Reach → ℕ → List ℕ };
+    ghost asked_text: { Self.Ask → Scene → Reach → ℕ → List ℕ };
 
     // How many tests its rows take at most, from one row on.
-    ghost asked_tests: { Self.Ask → PenSet → List Segment → Page → Dots → ℕ → ℕ };
+    ghost asked_tests: { Self.Ask → Scene → ℕ → ℕ };
 
     // The bytes of each row, by what a gauge reaches.
     ghost row_text: { Self → Reach → ℕ → List ℕ };
@@ -53,26 +49,22 @@ pub trait Bands<'a>: Sized {
     // How many tests the rows that are left take at most.
     ghost tests: { Self → ℕ };
 
-    /// The bands of a picture, from row `first_row` on. They have at most `band_rows` rows each.
+    /// The bands of the picture of a scene, from row `first_row` on. They have at most `band_rows` rows each.
     fn begin(
         alloc: Global,
         ask: Self::Ask,
-        strokes: &'a [Stroke],
-        page: Page,
-        dots: Dots,
-        pens: PenSet,
+        scene: Scene<'a>,
         band_rows: u32,
         first_row: u32,
     ) -> Result<Self, PaintFault>
-        requires ask { can_begin ask strokes.now dots }
-        requires few { length strokes.now ≤ MOST_STROKES }
+        requires ask { can_begin ask scene }
         ensures band { (result ≡ Err Band) ↔ (is_band_height band_rows ≡ false) }
-        ensures first { (result ≡ Err Row) ↔ ((is_band_height band_rows ≡ true) × (rows_of page dots < first_row)) }
-        ensures text { IfOk result (λ b. row_text b ≡ asked_text ask pens strokes.entry.now page dots) }
-        ensures rows { IfOk result (λ b. rows b ≡ rows_of page dots) }
+        ensures first { (result ≡ Err Row) ↔ ((is_band_height band_rows ≡ true) × (rows_of scene.entry.page scene.entry.dots < first_row)) }
+        ensures text { IfOk result (λ b. row_text b ≡ asked_text ask scene.entry) }
+        ensures rows { IfOk result (λ b. rows b ≡ rows_of scene.entry.page scene.entry.dots) }
         ensures next { IfOk result (λ b. next b ≡ first_row) }
         ensures height { IfOk result (λ b. height b ≤ band_rows) }
-        ensures tests { IfOk result (λ b. tests b ≡ asked_tests ask pens strokes.entry.now page dots first_row) };
+        ensures tests { IfOk result (λ b. tests b ≡ asked_tests ask scene.entry first_row) };
 
     /// The number of the row that the next band begins with.
     fn next_row(&self) -> u32

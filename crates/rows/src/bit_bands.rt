@@ -8,21 +8,22 @@ ghost use Rattle.rows.specs.Progress.{painting_row, tests_left};
 
 use crate::bands::{BIT_ROOM, Bands, height_within};
 use crate::even_rows::write_rows;
+use crate::scene::Scene;
 use crate::writing::Broken;
 use bit_rows::packed_length;
 use devices::Sink;
-use plot_page::{Dots, Page, PenSet, Stroke};
 use std::alloc::Global;
 use stroke_raster::{Gauge, Inker, PaintFault};
 
 impl<'a> Bands<'a> for Inker<'a> {
     type Ask = ();
 
-    ghost can_begin = { λ _ _ _. ⊤ };
+    ghost can_begin = { λ _ _. ⊤ };
 
-    ghost asked_text = { λ _ pens strokes page dots reaches row. row_of Pbm reaches pens strokes page dots row };
+    ghost asked_text = { λ _ scene reaches row.
+        row_of Pbm reaches scene.pens scene.strokes.now scene.page scene.dots row };
 
-    ghost asked_tests = { λ _ pens strokes page dots first. boxes_from pens strokes page dots first };
+    ghost asked_tests = { λ _ scene first. boxes_from scene.pens scene.strokes.now scene.page scene.dots first };
 
     ghost row_text = { λ p. painting_row Pbm p };
 
@@ -37,16 +38,21 @@ impl<'a> Bands<'a> for Inker<'a> {
     fn begin(
         alloc: Global,
         _ask: (),
-        strokes: &'a [Stroke],
-        page: Page,
-        dots: Dots,
-        pens: PenSet,
+        scene: Scene<'a>,
         band_rows: u32,
         first_row: u32,
     ) -> Result<Inker<'a>, PaintFault> {
-        let size = packed_length(dots.columns(&page) as usize) as u32;
+        let size = packed_length(scene.dots.columns(&scene.page) as usize) as u32;
         let height = height_within(band_rows, size, BIT_ROOM);
-        Inker::new(alloc, strokes, page, dots, pens, height, first_row)
+        Inker::new(
+            alloc,
+            scene.strokes,
+            scene.page,
+            scene.dots,
+            scene.pens,
+            height,
+            first_row,
+        )
     }
 
     fn next_row(&self) -> u32 {

@@ -10,11 +10,11 @@ ghost use Rattle.rows.specs.Progress.{painting_row, tests_left, WritesCells};
 
 use crate::bands::{Bands, CELL_ROOM, height_within};
 use crate::buffer::buffer_of;
+use crate::scene::Scene;
 use crate::stroke_inks::StrokeInks;
 use crate::writing::{Broken, whole_before};
 use devices::Sink;
 use picture_out::{Cells, Form, Inks, put_row, row_space};
-use plot_page::{Dots, Page, PenSet, Stroke};
 use std::alloc::Global;
 use std::marker::Model;
 use stroke_raster::{Band, Gauge, PaintFault, Painter};
@@ -47,11 +47,12 @@ impl<'a> Model for CellBands<'a> {
 impl<'a> Bands<'a> for CellBands<'a> {
     type Ask = Form;
 
-    ghost can_begin = { λ _ _ _. ⊤ };
+    ghost can_begin = { λ _ _. ⊤ };
 
-    ghost asked_text = { λ form pens strokes page dots reaches row. row_of form reaches pens strokes page dots row };
+    ghost asked_text = { λ form scene reaches row.
+        row_of form reaches scene.pens scene.strokes.now scene.page scene.dots row };
 
-    ghost asked_tests = { λ _ pens strokes page dots first. boxes_from pens strokes page dots first };
+    ghost asked_tests = { λ _ scene first. boxes_from scene.pens scene.strokes.now scene.page scene.dots first };
 
     ghost row_text = { λ b. painting_row b.form b.painting };
 
@@ -66,23 +67,28 @@ impl<'a> Bands<'a> for CellBands<'a> {
     fn begin(
         alloc: Global,
         form: Form,
-        strokes: &'a [Stroke],
-        page: Page,
-        dots: Dots,
-        pens: PenSet,
+        scene: Scene<'a>,
         band_rows: u32,
         first_row: u32,
     ) -> Result<CellBands<'a>, PaintFault> {
-        let columns = dots.columns(&page);
+        let columns = scene.dots.columns(&scene.page);
         let height = height_within(band_rows, 4 * columns, CELL_ROOM);
-        let painter = Painter::new(alloc, strokes, page, dots, pens, height, first_row)?;
+        let painter = Painter::new(
+            alloc,
+            scene.strokes,
+            scene.page,
+            scene.dots,
+            scene.pens,
+            height,
+            first_row,
+        )?;
         let Ok(buffer) = buffer_of(alloc, row_space(form, columns)) else {
             return Err(PaintFault::Memory);
         };
         Ok(CellBands {
             painter,
             form,
-            inks: StrokeInks::new(strokes),
+            inks: StrokeInks::new(scene.strokes),
             buffer,
         })
     }

@@ -1,6 +1,5 @@
-//! Encoding the rows of a job's picture as a PNG.
-ghost use Rattle.std.specs.Prelude.{◌≡◌, ℕ, List, ◌+◌, ◌-◌, ◌^◌, ◌<◌, ◌≤◌, length, IfErr, false};
-ghost use Rattle.plot_page.specs.declared.stroke.TheConstants.{MOST_STROKES};
+//! Encoding the rows of a scene as a PNG.
+ghost use Rattle.std.specs.Prelude.{◌≡◌, ℕ, List, ◌+◌, ◌-◌, ◌^◌, ◌<◌, ◌≤◌, IfErr, false};
 ghost use Rattle.plot_page.specs.Resolutions.{rows_of};
 ghost use Rattle.png.specs.Headers.{HasColours, head};
 ghost use Rattle.rows.specs.Faults.{is_write};
@@ -10,11 +9,10 @@ ghost use Rattle.rows.specs.Watching.{IsTold};
 
 use crate::bands::Bands;
 use crate::fault::PictureFault;
+use crate::scene::Scene;
 use crate::watcher::Watcher;
 use crate::writing::write_left;
 use devices::Sink;
-use picture_job::PngJob;
-use plot_page::Stroke;
 use png::{Header, Layout, PngSink, Room};
 use std::alloc::Global;
 use stroke_raster::Gauge;
@@ -22,33 +20,30 @@ use stroke_raster::Gauge;
 /// The most rows of a band.
 pub const BAND: u32 = 4096;
 
-/// Paints a job's strokes by these bands, which are asked for so, and writes their rows as a PNG with this header.
+/// Paints a scene by these bands, which are asked for so, and writes its rows as a PNG with this header.
 #[tactic(auto, using(crate::proofs::Watched::not_told))]
 pub fn encode<'a, B: Bands<'a> + Drop, G: Gauge, K: Sink, W: Watcher>(
     alloc: Global,
-    job: &PngJob,
+    scene: Scene<'a>,
     ask: B::Ask,
     header: &Header<'_>,
-    strokes: &'a [Stroke],
     gauge: &mut G,
     sink: K,
     watcher: &mut W,
 ) -> (K, Result<(), PictureFault>)
-    requires few { length strokes.now ≤ MOST_STROKES }
     requires sinking { (K.state sink).faults < 2 ^ 64 - 1 }
-    requires ask { B.can_begin ask strokes.now job.now.dots }
-    requires header { IsHeaderOf job.now header.now }
-    ensures paints { (colours : ℕ → List ℕ) → ((row : ℕ) → row < rows_of job.now.page job.now.dots → IsRowOf (head header.now)
-        (B.asked_text ask job.now.pens strokes.entry.now job.now.page job.now.dots (G.reaches gauge.old) row) (colours row)) →
-        HasPaintedPng (picture_with job.now colours) (K.state sink) (K.state result.0) result.1 }
-    ensures tests { G.count gauge.new ≤ G.count gauge.old
-        + B.asked_tests ask job.now.pens strokes.entry.now job.now.page job.now.dots 0 }
+    requires ask { B.can_begin ask scene }
+    requires header { IsHeaderOf scene.page scene.dots header.now }
+    ensures paints { (colours : ℕ → List ℕ) → ((row : ℕ) → row < rows_of scene.entry.page scene.entry.dots →
+        IsRowOf (head header.now) (B.asked_text ask scene.entry (G.reaches gauge.old) row) (colours row)) →
+        HasPaintedPng (picture_with scene.entry.page scene.entry.dots colours) (K.state sink) (K.state result.0) result.1 }
+    ensures tests { G.count gauge.new ≤ G.count gauge.old + B.asked_tests ask scene.entry 0 }
     ensures same { G.reaches gauge.new ≡ G.reaches gauge.old }
-    ensures told { IsTold is_write W.hears (rows_of job.now.page job.now.dots) watcher.old watcher.new result.1 }
+    ensures told { IsTold is_write W.hears (rows_of scene.entry.page scene.entry.dots) watcher.old watcher.new result.1 }
     ensures untouched { IfErr result.1 (λ fault. is_write fault ≡ false → result.0 ≡ sink) }
 {
     // The height and the first row are in range, so only memory can be wanting.
-    let Ok(mut bands) = B::begin(alloc, ask, strokes, job.page, job.dots, job.pens, BAND, 0) else {
+    let Ok(mut bands) = B::begin(alloc, ask, scene, BAND, 0) else {
         return (sink, Err(PictureFault::Memory));
     };
     let Ok(room) = Room::new(alloc, header) else {
@@ -67,16 +62,16 @@ pub fn encode<'a, B: Bands<'a> + Drop, G: Gauge, K: Sink, W: Watcher>(
     }
 }
 
-/// The header of a job's picture.
-pub fn header_of<'p>(job: &PngJob, layout: Layout<'p>) -> Header<'p>
+/// The header of the picture of a scene.
+pub fn header_of<'p>(scene: &Scene<'_>, layout: Layout<'p>) -> Header<'p>
     requires { HasColours layout }
-    ensures header { IsHeaderOf job.now result }
+    ensures header { IsHeaderOf scene.entry.now.page scene.entry.now.dots result }
     ensures layout { result.layout ≡ layout.entry }
 {
     Header {
-        columns: job.dots.columns(&job.page),
-        rows: job.dots.rows(&job.page),
-        per_metre: (job.dots.per_inch() * 10000 + 127) / 254,
+        columns: scene.dots.columns(&scene.page),
+        rows: scene.dots.rows(&scene.page),
+        per_metre: (scene.dots.per_inch() * 10000 + 127) / 254,
         layout,
     }
 }

@@ -17,6 +17,7 @@ mod pcl_bands;
 mod png_picture;
 mod possible;
 mod sample_row;
+mod scene;
 mod smooth_bands;
 mod smooth_palette;
 mod smooth_picture;

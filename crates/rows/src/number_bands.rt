@@ -11,9 +11,9 @@ ghost use Rattle.rows.specs.Progress.{tests_left, WritesRows};
 
 use crate::bands::{Bands, CELL_ROOM, height_within};
 use crate::sample_row::SampleRow;
+use crate::scene::Scene;
 use crate::writing::{Broken, put_row};
 use devices::Sink;
-use plot_page::{Dots, Page, PenSet, Stroke};
 use png::Depth;
 use std::alloc::Global;
 use std::marker::Model;
@@ -52,13 +52,13 @@ impl<'a> Model for NumberBands<'a> {
 impl<'a> Bands<'a> for NumberBands<'a> {
     type Ask = Numbered<'a>;
 
-    ghost can_begin = { λ ask strokes _. (length ask.numbers.now ≡ length strokes)
+    ghost can_begin = { λ ask scene. (length ask.numbers.now ≡ length scene.strokes.now)
         × (All (λ number. number < 2 ^ bits_of_depth ask.depth) ask.numbers.now) };
 
-    ghost asked_text = { λ ask pens strokes page dots reaches row.
-        numbers_row ask.depth ask.numbers.now pens strokes page dots reaches row };
+    ghost asked_text = { λ ask scene reaches row.
+        numbers_row ask.depth ask.numbers.now scene.pens scene.strokes.now scene.page scene.dots reaches row };
 
-    ghost asked_tests = { λ _ pens strokes page dots first. boxes_from pens strokes page dots first };
+    ghost asked_tests = { λ _ scene first. boxes_from scene.pens scene.strokes.now scene.page scene.dots first };
 
     ghost row_text = { λ b.
         numbers_row b.depth b.numbers b.painting.pens b.painting.strokes b.painting.page b.painting.dots };
@@ -74,16 +74,21 @@ impl<'a> Bands<'a> for NumberBands<'a> {
     fn begin(
         alloc: Global,
         ask: Numbered<'a>,
-        strokes: &'a [Stroke],
-        page: Page,
-        dots: Dots,
-        pens: PenSet,
+        scene: Scene<'a>,
         band_rows: u32,
         first_row: u32,
     ) -> Result<NumberBands<'a>, PaintFault> {
-        let columns = dots.columns(&page);
+        let columns = scene.dots.columns(&scene.page);
         let height = height_within(band_rows, 4 * columns, CELL_ROOM);
-        let painter = Painter::new(alloc, strokes, page, dots, pens, height, first_row)?;
+        let painter = Painter::new(
+            alloc,
+            scene.strokes,
+            scene.page,
+            scene.dots,
+            scene.pens,
+            height,
+            first_row,
+        )?;
         let Ok(row) = SampleRow::new(alloc, ask.depth, columns as usize) else {
             return Err(PaintFault::Memory);
         };

@@ -13,6 +13,7 @@ use crate::cell_bands::CellBands;
 use crate::fault::PictureFault;
 use crate::pcl_bands::PclBands;
 use crate::possible::is_smoothed;
+use crate::scene::Scene;
 use crate::smooth_bands::{SmoothBands, Smoothed};
 use crate::watcher::Watcher;
 use crate::writing::write_picture;
@@ -48,57 +49,54 @@ pub fn paint<G: Gauge, K: Sink, W: Watcher>(
     ensures told { IsTold is_write W.hears (rows_of job.now.page job.now.dots - job.now.first_row) watcher.old watcher.new result }
     ensures untouched { IfErr result (λ fault. is_write fault ≡ false → sink.new ≡ sink.old) }
 {
+    let scene = Scene {
+        strokes,
+        page: job.page,
+        dots: job.dots,
+        pens: job.pens,
+    };
     if is_smoothed(job.form, smoothing) {
         let ask = Smoothed {
             times: smoothing.times(),
             layout: Layout::Rgb,
         };
-        return paint_by::<SmoothBands<'_>, G, K, W>(alloc, job, ask, strokes, gauge, sink, watcher);
+        return paint_by::<SmoothBands<'_>, G, K, W>(alloc, job, ask, scene, gauge, sink, watcher);
     }
     match job.form {
-        Form::Pbm => paint_by::<Inker<'_>, G, K, W>(alloc, job, (), strokes, gauge, sink, watcher),
+        Form::Pbm => paint_by::<Inker<'_>, G, K, W>(alloc, job, (), scene, gauge, sink, watcher),
         Form::Pcl => {
-            paint_by::<PclBands<'_>, G, K, W>(alloc, job, (), strokes, gauge, sink, watcher)
+            paint_by::<PclBands<'_>, G, K, W>(alloc, job, (), scene, gauge, sink, watcher)
         }
         form @ (Form::Marks | Form::Ppm) => {
-            paint_by::<CellBands<'_>, G, K, W>(alloc, job, form, strokes, gauge, sink, watcher)
+            paint_by::<CellBands<'_>, G, K, W>(alloc, job, form, scene, gauge, sink, watcher)
         }
     }
 }
 
-// The same by these bands, which are asked for so.
+// The same of a scene of the job, by these bands, which are asked for so.
 #[tactic(auto, using(crate::proofs::Watched::not_told))]
 fn paint_by<'a, B: Bands<'a> + Drop, G: Gauge, K: Sink, W: Watcher>(
     alloc: Global,
     job: &Job,
     ask: B::Ask,
-    strokes: &'a [Stroke],
+    scene: Scene<'a>,
     gauge: &mut G,
     sink: &mut K,
     watcher: &mut W,
 ) -> Result<u64, PictureFault>
-    requires few { length strokes.now ≤ MOST_STROKES }
+    requires page { scene.page ≡ job.now.page }
+    requires dots { scene.dots ≡ job.now.dots }
     requires sinking { (K.state sink.old).faults < 2 ^ 64 - 1 }
-    requires ask { B.can_begin ask strokes.now job.now.dots }
-    ensures paints { (n : ℕ) → B.asked_text ask job.now.pens strokes.entry.now job.now.page job.now.dots (G.reaches gauge.old)
-        ≡ strokes_row n job.now (G.reaches gauge.old) strokes.entry.now →
-        HasPainted n job.now (G.reaches gauge.old) strokes.entry.now (K.state sink.old) (K.state sink.new) result }
-    ensures tests { G.count gauge.new ≤ G.count gauge.old
-        + B.asked_tests ask job.now.pens strokes.entry.now job.now.page job.now.dots job.now.first_row }
+    requires ask { B.can_begin ask scene }
+    ensures paints { (n : ℕ) → B.asked_text ask scene.entry (G.reaches gauge.old)
+        ≡ strokes_row n job.now (G.reaches gauge.old) scene.entry.strokes.now →
+        HasPainted n job.now (G.reaches gauge.old) scene.entry.strokes.now (K.state sink.old) (K.state sink.new) result }
+    ensures tests { G.count gauge.new ≤ G.count gauge.old + B.asked_tests ask scene.entry job.now.first_row }
     ensures same { G.reaches gauge.new ≡ G.reaches gauge.old }
     ensures told { IsTold is_write W.hears (rows_of job.now.page job.now.dots - job.now.first_row) watcher.old watcher.new result }
     ensures untouched { IfErr result (λ fault. is_write fault ≡ false → sink.new ≡ sink.old) }
 {
-    let mut bands = B::begin(
-        alloc,
-        ask,
-        strokes,
-        job.page,
-        job.dots,
-        job.pens,
-        job.band,
-        job.first_row,
-    )?;
+    let mut bands = B::begin(alloc, ask, scene, job.band, job.first_row)?;
     let columns = job.dots.columns(&job.page);
     let bytes = write_picture(
         job.form,

@@ -12,11 +12,11 @@ ghost use Rattle.rows.specs.Progress.{painting_row, tests_left, WritesCells};
 
 use crate::bands::{BIT_ROOM, Bands, height_within};
 use crate::even_rows::write_rows;
+use crate::scene::Scene;
 use crate::writing::Broken;
 use bit_rows::packed_length;
 use devices::Sink;
 use picture_out::pcl::{LONGEST_COMMAND, append_row};
-use plot_page::{Dots, Page, PenSet, Stroke};
 use std::alloc::Global;
 use std::marker::Model;
 use stroke_raster::{Gauge, Inker, PaintFault};
@@ -26,6 +26,16 @@ use stroke_raster::{Gauge, Inker, PaintFault};
 pub struct PclBands<'a> {
     inker: Inker<'a>,
     text: Vec<u8>,
+}
+
+// Rows of bits, of `stride` bytes each.
+#[derive(Clone, Copy)]
+struct BitRows<'a> {
+    count: usize,
+    stride: usize,
+    bits: &'a [u8],
+    ghost wide: { stride < 2 ^ 32 },
+    ghost size: { length bits.now ≡ count * stride },
 }
 
 impl<'a> Model for PclBands<'a> {
@@ -46,11 +56,12 @@ impl<'a> Model for PclBands<'a> {
 impl<'a> Bands<'a> for PclBands<'a> {
     type Ask = ();
 
-    ghost can_begin = { λ _ _ _. ⊤ };
+    ghost can_begin = { λ _ _. ⊤ };
 
-    ghost asked_text = { λ _ pens strokes page dots reaches row. row_of Pcl reaches pens strokes page dots row };
+    ghost asked_text = { λ _ scene reaches row.
+        row_of Pcl reaches scene.pens scene.strokes.now scene.page scene.dots row };
 
-    ghost asked_tests = { λ _ pens strokes page dots first. boxes_from pens strokes page dots first };
+    ghost asked_tests = { λ _ scene first. boxes_from scene.pens scene.strokes.now scene.page scene.dots first };
 
     ghost row_text = { λ p. painting_row Pcl p };
 
@@ -65,16 +76,21 @@ impl<'a> Bands<'a> for PclBands<'a> {
     fn begin(
         alloc: Global,
         _ask: (),
-        strokes: &'a [Stroke],
-        page: Page,
-        dots: Dots,
-        pens: PenSet,
+        scene: Scene<'a>,
         band_rows: u32,
         first_row: u32,
     ) -> Result<PclBands<'a>, PaintFault> {
-        let size = packed_length(dots.columns(&page) as usize) as u32;
+        let size = packed_length(scene.dots.columns(&scene.page) as usize) as u32;
         let height = height_within(band_rows, size, BIT_ROOM);
-        let inker = Inker::new(alloc, strokes, page, dots, pens, height, first_row)?;
+        let inker = Inker::new(
+            alloc,
+            scene.strokes,
+            scene.page,
+            scene.dots,
+            scene.pens,
+            height,
+            first_row,
+        )?;
         let room = height as usize * (size as usize + LONGEST_COMMAND);
         let Ok(text) = vec![in alloc; 0u8; room] else {
             return Err(PaintFault::Memory);
@@ -100,39 +116,39 @@ impl<'a> Bands<'a> for PclBands<'a> {
         let at = self.inker.next_row();
         let stride = packed_length(self.inker.columns() as usize);
         self.inker.ink_next(gauge);
-        let rows = (self.inker.next_row() - at) as usize;
-        let bits = self.inker.bytes();
-        put_rows(first, at, rows, stride, done, bits, &mut self.text, sink)
+        let rows = BitRows {
+            count: (self.inker.next_row() - at) as usize,
+            stride,
+            bits: self.inker.bytes(),
+        };
+        put_rows(first, at, rows, done, &mut self.text, sink)
     }
 }
 
-// Writes as PCL rows these rows of `stride` bytes each after `done` bytes, by way of a text, and answers how many
-// bytes there are then. Row `first` is the one that the picture begins with, and `at` the first of these.
+// Writes as PCL rows these rows of bits after `done` bytes, by way of a text, and answers how many bytes there are then. Row
+// `first` is the one that the picture begins with, and `at` the first of these.
 fn put_rows<K: Sink>(
     first: u32,
     at: u32,
-    rows: usize,
-    stride: usize,
+    rows: BitRows<'_>,
     done: u64,
-    bits: &[u8],
     text: &mut [u8],
     sink: &mut K,
 ) -> Result<u64, Broken>
     requires sinking { (K.state sink.old).faults < 2 ^ 64 - 1 }
-    requires some { 0 < rows }
-    requires stride { stride < 2 ^ 32 }
-    requires bits { length bits.now ≡ rows * stride }
-    requires room { rows * (stride + LONGEST_COMMAND) ≤ length text.old }
-    requires few { rows * (stride + LONGEST_COMMAND) ≤ 2 ^ 30 }
+    requires some { 0 < rows.count }
+    requires room { rows.count * (rows.stride + LONGEST_COMMAND) ≤ length text.old }
+    requires few { rows.count * (rows.stride + LONGEST_COMMAND) ≤ 2 ^ 30 }
     requires at_in { at ≤ 2 ^ 30 }
     requires done_in { done ≤ 2 ^ 62 }
-    ensures rows { (inks : List Ink) (cells : List (List ℕ)) → length cells ≡ rows →
-        All (λ row. length (packed row) ≡ stride) cells → split_rows stride rows bits.now ≡ map packed cells →
+    ensures rows { (inks : List Ink) (cells : List (List ℕ)) → length cells ≡ rows.entry.count →
+        All (λ row. length (packed row) ≡ rows.entry.stride) cells →
+        split_rows rows.entry.stride rows.entry.count rows.entry.bits.now ≡ map packed cells →
         WritesCells Pcl inks first at cells done (K.state sink.old) (K.state sink.new) result }
-    ensures most { IfOk result (λ n. n ≤ done + rows * (stride + LONGEST_COMMAND)) }
+    ensures most { IfOk result (λ n. n ≤ done + rows.entry.count * (rows.entry.stride + LONGEST_COMMAND)) }
 {
-    let used = append_rows(text, rows, stride, bits);
-    let size = (used / rows) as u64;
+    let used = append_rows(text, rows.count, rows.stride, rows.bits);
+    let size = (used / rows.count) as u64;
     write_rows(first, at, size, done, &text[..used], sink)
 }
 

@@ -17,6 +17,7 @@ use crate::fault::PictureFault;
 use crate::number_bands::{NumberBands, Numbered};
 use crate::palette::{MOST_COLOURS, Palette, palette_of};
 use crate::possible::is_smoothed;
+use crate::scene::Scene;
 use crate::smooth_picture::paint_smoothed;
 use crate::watcher::Watcher;
 use devices::Sink;
@@ -51,34 +52,38 @@ pub fn paint_png<G: Gauge, K: Sink, W: Watcher>(
     ensures told { IsTold is_write W.hears (rows_of job.now.page job.now.dots) watcher.old watcher.new result.1 }
     ensures untouched { IfErr result.1 (λ fault. is_write fault ≡ false → result.0 ≡ sink) }
 {
+    let scene = Scene {
+        strokes,
+        page: job.page,
+        dots: job.dots,
+        pens: job.pens,
+    };
     if is_smoothed(Form::Ppm, job.smoothing) {
-        return paint_smoothed(alloc, job, strokes, gauge, sink, watcher);
+        return paint_smoothed(alloc, scene, job.smoothing, gauge, sink, watcher);
     }
-    paint_plain(alloc, job, strokes, gauge, sink, watcher)
+    paint_plain(alloc, scene, gauge, sink, watcher)
 }
 
 // The same of a picture that is not smoothed.
 #[tactic(auto, using(crate::proofs::Watched::not_told))]
 fn paint_plain<G: Gauge, K: Sink, W: Watcher>(
     alloc: Global,
-    job: &PngJob,
-    strokes: &[Stroke],
+    scene: Scene<'_>,
     gauge: &mut G,
     sink: K,
     watcher: &mut W,
 ) -> (K, Result<(), PictureFault>)
-    requires few { length strokes.now ≤ MOST_STROKES }
     requires sinking { (K.state sink).faults < 2 ^ 64 - 1 }
-    ensures paints { HasPaintedPng (picture_with job.now (plain_row job.now (G.reaches gauge.old) strokes.now))
+    ensures paints { HasPaintedPng (picture_with scene.entry.page scene.entry.dots (plain_row scene.entry (G.reaches gauge.old)))
         (K.state sink) (K.state result.0) result.1 }
-    ensures tests { G.count gauge.new ≤ G.count gauge.old + plain_boxes job.now strokes.now }
+    ensures tests { G.count gauge.new ≤ G.count gauge.old + plain_boxes scene.entry }
     ensures same { G.reaches gauge.new ≡ G.reaches gauge.old }
-    ensures told { IsTold is_write W.hears (rows_of job.now.page job.now.dots) watcher.old watcher.new result.1 }
+    ensures told { IsTold is_write W.hears (rows_of scene.entry.page scene.entry.dots) watcher.old watcher.new result.1 }
     ensures untouched { IfErr result.1 (λ fault. is_write fault ≡ false → result.0 ≡ sink) }
 {
-    match palette_of(alloc, strokes, job.pens) {
-        Ok(Some(palette)) => paint_numbers(alloc, job, &palette, strokes, gauge, sink, watcher),
-        Ok(None) => paint_colours(alloc, job, strokes, gauge, sink, watcher),
+    match palette_of(alloc, scene.strokes, scene.pens) {
+        Ok(Some(palette)) => paint_numbers(alloc, scene, &palette, gauge, sink, watcher),
+        Ok(None) => paint_colours(alloc, scene, gauge, sink, watcher),
         Err(_) => (sink, Err(PictureFault::Memory)),
     }
 }
@@ -86,29 +91,27 @@ fn paint_plain<G: Gauge, K: Sink, W: Watcher>(
 // The same with this palette.
 fn paint_numbers<G: Gauge, K: Sink, W: Watcher>(
     alloc: Global,
-    job: &PngJob,
+    scene: Scene<'_>,
     palette: &Palette,
-    strokes: &[Stroke],
     gauge: &mut G,
     sink: K,
     watcher: &mut W,
 ) -> (K, Result<(), PictureFault>)
-    requires few { length strokes.now ≤ MOST_STROKES }
     requires sinking { (K.state sink).faults < 2 ^ 64 - 1 }
-    requires colours { palette.now.colours.items ≡ colours_used job.now.pens strokes.now }
+    requires colours { palette.now.colours.items ≡ colours_used scene.pens scene.strokes.now }
     requires most { length palette.now.colours.items ≤ MOST_COLOURS }
-    requires numbers { AreNumbers job.now.pens strokes.now palette.now.colours.items palette.now.numbers.items }
-    ensures paints { HasPaintedPng (picture_with job.now (plain_row job.now (G.reaches gauge.old) strokes.now))
+    requires numbers { AreNumbers scene.pens scene.strokes.now palette.now.colours.items palette.now.numbers.items }
+    ensures paints { HasPaintedPng (picture_with scene.entry.page scene.entry.dots (plain_row scene.entry (G.reaches gauge.old)))
         (K.state sink) (K.state result.0) result.1 }
-    ensures tests { G.count gauge.new ≤ G.count gauge.old + plain_boxes job.now strokes.now }
+    ensures tests { G.count gauge.new ≤ G.count gauge.old + plain_boxes scene.entry }
     ensures same { G.reaches gauge.new ≡ G.reaches gauge.old }
-    ensures told { IsTold is_write W.hears (rows_of job.now.page job.now.dots) watcher.old watcher.new result.1 }
+    ensures told { IsTold is_write W.hears (rows_of scene.entry.page scene.entry.dots) watcher.old watcher.new result.1 }
     ensures untouched { IfErr result.1 (λ fault. is_write fault ≡ false → result.0 ≡ sink) }
 {
     let colours = palette.colours.as_slice();
     let numbers = palette.numbers.as_slice();
-    if colours.len() <= 2 && are_bits(strokes, job.pens, numbers) {
-        return paint_bits(alloc, job, palette, strokes, gauge, sink, watcher);
+    if colours.len() <= 2 && are_bits(scene.strokes, scene.pens, numbers) {
+        return paint_bits(alloc, scene, palette, gauge, sink, watcher);
     }
     let depth = depth_for(colours.len());
     let layout = Layout::Indexed {
@@ -116,70 +119,57 @@ fn paint_numbers<G: Gauge, K: Sink, W: Watcher>(
         palette: colours,
     };
     let ask = Numbered { depth, numbers };
-    let header = header_of(job, layout);
-    encode::<NumberBands<'_>, G, K, W>(alloc, job, ask, &header, strokes, gauge, sink, watcher)
+    let header = header_of(&scene, layout);
+    encode::<NumberBands<'_>, G, K, W>(alloc, scene, ask, &header, gauge, sink, watcher)
 }
 
 // The same with a palette of at most two colours and numbers that are bits, which are painted as such.
 fn paint_bits<G: Gauge, K: Sink, W: Watcher>(
     alloc: Global,
-    job: &PngJob,
+    scene: Scene<'_>,
     palette: &Palette,
-    strokes: &[Stroke],
     gauge: &mut G,
     sink: K,
     watcher: &mut W,
 ) -> (K, Result<(), PictureFault>)
-    requires few { length strokes.now ≤ MOST_STROKES }
     requires sinking { (K.state sink).faults < 2 ^ 64 - 1 }
-    requires colours { palette.now.colours.items ≡ colours_used job.now.pens strokes.now }
+    requires colours { palette.now.colours.items ≡ colours_used scene.pens scene.strokes.now }
     requires two { length palette.now.colours.items ≤ 2 }
-    requires numbers { AreNumbers job.now.pens strokes.now palette.now.colours.items palette.now.numbers.items }
-    requires bits { AreBits job.now.pens strokes.now palette.now.numbers.items }
-    ensures paints { HasPaintedPng (picture_with job.now (plain_row job.now (G.reaches gauge.old) strokes.now))
+    requires numbers { AreNumbers scene.pens scene.strokes.now palette.now.colours.items palette.now.numbers.items }
+    requires bits { AreBits scene.pens scene.strokes.now palette.now.numbers.items }
+    ensures paints { HasPaintedPng (picture_with scene.entry.page scene.entry.dots (plain_row scene.entry (G.reaches gauge.old)))
         (K.state sink) (K.state result.0) result.1 }
-    ensures tests { G.count gauge.new ≤ G.count gauge.old + plain_boxes job.now strokes.now }
+    ensures tests { G.count gauge.new ≤ G.count gauge.old + plain_boxes scene.entry }
     ensures same { G.reaches gauge.new ≡ G.reaches gauge.old }
-    ensures told { IsTold is_write W.hears (rows_of job.now.page job.now.dots) watcher.old watcher.new result.1 }
+    ensures told { IsTold is_write W.hears (rows_of scene.entry.page scene.entry.dots) watcher.old watcher.new result.1 }
     ensures untouched { IfErr result.1 (λ fault. is_write fault ≡ false → result.0 ≡ sink) }
 {
     let layout = Layout::Indexed {
         depth: Depth::One,
         palette: palette.colours.as_slice(),
     };
-    let header = header_of(job, layout);
-    encode::<Inker<'_>, G, K, W>(alloc, job, (), &header, strokes, gauge, sink, watcher)
+    let header = header_of(&scene, layout);
+    encode::<Inker<'_>, G, K, W>(alloc, scene, (), &header, gauge, sink, watcher)
 }
 
 // The same with the colour of each pixel.
 fn paint_colours<G: Gauge, K: Sink, W: Watcher>(
     alloc: Global,
-    job: &PngJob,
-    strokes: &[Stroke],
+    scene: Scene<'_>,
     gauge: &mut G,
     sink: K,
     watcher: &mut W,
 ) -> (K, Result<(), PictureFault>)
-    requires few { length strokes.now ≤ MOST_STROKES }
     requires sinking { (K.state sink).faults < 2 ^ 64 - 1 }
-    ensures paints { HasPaintedPng (picture_with job.now (plain_row job.now (G.reaches gauge.old) strokes.now))
+    ensures paints { HasPaintedPng (picture_with scene.entry.page scene.entry.dots (plain_row scene.entry (G.reaches gauge.old)))
         (K.state sink) (K.state result.0) result.1 }
-    ensures tests { G.count gauge.new ≤ G.count gauge.old + plain_boxes job.now strokes.now }
+    ensures tests { G.count gauge.new ≤ G.count gauge.old + plain_boxes scene.entry }
     ensures same { G.reaches gauge.new ≡ G.reaches gauge.old }
-    ensures told { IsTold is_write W.hears (rows_of job.now.page job.now.dots) watcher.old watcher.new result.1 }
+    ensures told { IsTold is_write W.hears (rows_of scene.entry.page scene.entry.dots) watcher.old watcher.new result.1 }
     ensures untouched { IfErr result.1 (λ fault. is_write fault ≡ false → result.0 ≡ sink) }
 {
-    let header = header_of(job, Layout::Rgb);
-    encode::<CellBands<'_>, G, K, W>(
-        alloc,
-        job,
-        Form::Ppm,
-        &header,
-        strokes,
-        gauge,
-        sink,
-        watcher,
-    )
+    let header = header_of(&scene, Layout::Rgb);
+    encode::<CellBands<'_>, G, K, W>(alloc, scene, Form::Ppm, &header, gauge, sink, watcher)
 }
 
 /// The least depth of numbers below a count.

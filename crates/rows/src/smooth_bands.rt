@@ -6,7 +6,6 @@ ghost use Rattle.stroke_raster.specs.Bands.{rows_of_band};
 ghost use Rattle.smoothing.specs.Cells.{colours_of_cells};
 ghost use Rattle.smoothing.specs.Rows.{times_of, width_of};
 ghost use Rattle.smoothing.specs.Smoothings.{smoothed};
-ghost use Rattle.plot_page.specs.declared.stroke.TheConstants.{MOST_STROKES};
 ghost use Rattle.plot_page.specs.Resolutions.{columns_of, rows_of};
 ghost use Rattle.stroke_raster.specs.BandHeights.{is_band_height};
 ghost use Rattle.png.specs.Headers.{HasColours};
@@ -17,11 +16,12 @@ ghost use Rattle.rows.specs.PixelRows.{layout_bytes};
 ghost use Rattle.rows.specs.Progress.{CanSmooth, row_pixels, smoothed_text, tests_left, WritesRows};
 
 use crate::bands::{Bands, CELL_ROOM, height_within};
+use crate::scene::Scene;
 use crate::smoother::Smoother;
 use crate::stroke_inks::StrokeInks;
 use crate::writing::{Broken, put_row};
 use devices::Sink;
-use plot_page::{Dots, Page, PenSet, Stroke};
+use plot_page::Dots;
 use png::Layout;
 use std::alloc::Global;
 use std::marker::Model;
@@ -75,12 +75,13 @@ impl<'a> Model for SmoothBands<'a> {
 impl<'a> Bands<'a> for SmoothBands<'a> {
     type Ask = Smoothed<'a>;
 
-    ghost can_begin = { λ ask _ dots. CanSmooth ask.times ask.layout dots };
+    ghost can_begin = { λ ask scene. CanSmooth ask.times ask.layout scene.dots };
 
-    ghost asked_text = { λ ask pens strokes page dots reaches row.
-        layout_bytes ask.layout (smoothed_pixels ask.times reaches pens strokes page dots row) };
+    ghost asked_text = { λ ask scene reaches row.
+        layout_bytes ask.layout (smoothed_pixels ask.times reaches scene.pens scene.strokes.now scene.page scene.dots row) };
 
-    ghost asked_tests = { λ ask pens strokes page dots first. finer_boxes ask.times pens strokes page dots first };
+    ghost asked_tests = { λ ask scene first.
+        finer_boxes ask.times scene.pens scene.strokes.now scene.page scene.dots first };
 
     ghost row_text = { smoothed_text };
 
@@ -95,14 +96,11 @@ impl<'a> Bands<'a> for SmoothBands<'a> {
     fn begin(
         alloc: Global,
         ask: Smoothed<'a>,
-        strokes: &'a [Stroke],
-        page: Page,
-        dots: Dots,
-        pens: PenSet,
+        scene: Scene<'a>,
         band_rows: u32,
         first_row: u32,
     ) -> Result<SmoothBands<'a>, PaintFault> {
-        match SmoothBands::new(alloc, ask, strokes, page, dots, pens, band_rows, first_row) {
+        match SmoothBands::new(alloc, ask, scene, band_rows, first_row) {
             Ok(bands) => Ok(bands),
             Err(fault) => Err(fault),
         }
@@ -139,25 +137,22 @@ impl<'a> SmoothBands<'a> {
     pub(crate) fn new(
         alloc: Global,
         ask: Smoothed<'a>,
-        strokes: &'a [Stroke],
-        page: Page,
-        dots: Dots,
-        pens: PenSet,
+        scene: Scene<'a>,
         band_rows: u32,
         first_row: u32,
     ) -> Result<SmoothBands<'a>, PaintFault>
-        requires ask { CanSmooth ask.times ask.layout dots }
-        requires few { length strokes.now ≤ MOST_STROKES }
+        requires ask { CanSmooth ask.times ask.layout scene.dots }
         ensures band { (result ≡ Err PaintFault.Band) ↔ (is_band_height band_rows ≡ false) }
-        ensures first { (result ≡ Err PaintFault.Row) ↔ ((is_band_height band_rows ≡ true) × (rows_of page dots < first_row)) }
-        ensures pixels { IfOk result (λ b. row_pixels b ≡ (λ reaches row. smoothed_pixels ask.entry.times reaches pens strokes.entry.now page dots row)) }
+        ensures first { (result ≡ Err PaintFault.Row) ↔ ((is_band_height band_rows ≡ true) × (rows_of scene.entry.page scene.entry.dots < first_row)) }
+        ensures pixels { IfOk result (λ b. row_pixels b ≡ (λ reaches row. smoothed_pixels ask.entry.times reaches scene.entry.pens scene.entry.strokes.now scene.entry.page scene.entry.dots row)) }
         ensures layout { IfOk result (λ b. b.layout ≡ ask.entry.layout) }
-        ensures rows { IfOk result (λ b. b.rows ≡ rows_of page dots) }
+        ensures rows { IfOk result (λ b. b.rows ≡ rows_of scene.entry.page scene.entry.dots) }
         ensures next { IfOk result (λ b. b.next ≡ first_row) }
         ensures height { IfOk result (λ b. b.height ≤ band_rows) }
-        ensures tests { IfOk result (λ b. tests_left b.painting ≡ finer_boxes ask.entry.times pens strokes.entry.now page dots first_row) }
+        ensures tests { IfOk result (λ b. tests_left b.painting ≡ finer_boxes ask.entry.times scene.entry.pens scene.entry.strokes.now scene.entry.page scene.entry.dots first_row) }
     {
-        let rows = dots.rows(&page);
+        let page = scene.page;
+        let rows = scene.dots.rows(&page);
         if band_rows < 1 || band_rows > 4096 {
             return Err(PaintFault::Band);
         }
@@ -165,19 +160,26 @@ impl<'a> SmoothBands<'a> {
             return Err(PaintFault::Row);
         }
         let times = ask.times;
-        let columns = dots.columns(&page);
+        let columns = scene.dots.columns(&page);
         let fine = Dots {
-            resolution: times * dots.per_inch(),
+            resolution: times * scene.dots.per_inch(),
         };
         let height = height_within(band_rows, 4 * times * fine.columns(&page), CELL_ROOM)
             .min(4096 / times)
             .max(1);
         let first = (times * first_row).min(fine.rows(&page));
-        let Ok(painter) = Painter::new(alloc, strokes, page, fine, pens, times * height, first)
-        else {
+        let Ok(painter) = Painter::new(
+            alloc,
+            scene.strokes,
+            page,
+            fine,
+            scene.pens,
+            times * height,
+            first,
+        ) else {
             return Err(PaintFault::Memory);
         };
-        let inks = StrokeInks::new(strokes);
+        let inks = StrokeInks::new(scene.strokes);
         let Ok(smoother) = Smoother::new(alloc, inks, ask.layout, times, columns) else {
             return Err(PaintFault::Memory);
         };

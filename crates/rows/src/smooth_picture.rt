@@ -1,32 +1,31 @@
-//! Painting a job's strokes, and writing its smoothed picture as a PNG.
-ghost use Rattle.std.specs.Prelude.{◌≡◌, ℕ, ◌+◌, ◌-◌, ◌*◌, ◌^◌, ◌<◌, ◌≤◌, ◌↔◌, All, length, get_or, IfOk, IfSome, IfErr, false, true, ◌∷◌, []};
-ghost use Rattle.plot_page.specs.declared.stroke.TheConstants.{MOST_STROKES};
+//! Painting a scene, and writing its smoothed picture as a PNG.
+ghost use Rattle.std.specs.Prelude.{◌≡◌, ℕ, ◌+◌, ◌-◌, ◌*◌, ◌^◌, ◌<◌, ◌≤◌, length, IfOk, IfSome, IfErr, false, true, ◌∷◌, []};
 ghost use Rattle.plot_page.specs.Resolutions.{rows_of};
 ghost use Rattle.picture_out.specs.Inks.{colour_bytes, paper};
-ghost use Rattle.png.specs.Headers.{HasColours};
-ghost use Rattle.rows.specs.Boxes.{finer_boxes};
-ghost use Rattle.rows.specs.Faults.{is_write};
 ghost use Rattle.rows.specs.Documents.{HasPaintedPng, picture_with};
-ghost use Rattle.rows.specs.Layouts.{AreGrey, HasPixels, smooth_row};
+ghost use Rattle.rows.specs.Faults.{is_write};
+ghost use Rattle.rows.specs.Layouts.{AreGrey, HasPixels, scene_pixels, smooth_boxes, smooth_row};
 ghost use Rattle.rows.specs.Palettes.{colours_smoothed};
-ghost use Rattle.rows.specs.Pictures.{is_fine, smoothed_pixels};
+ghost use Rattle.rows.specs.Pictures.{is_fine};
+ghost use Rattle.rows.specs.Progress.{CanSmooth};
 ghost use Rattle.rows.specs.Watching.{IsTold};
 
 use crate::encoding::{BAND, encode, header_of};
 use crate::fault::PictureFault;
 use crate::palette::MOST_COLOURS;
 use crate::png_picture::depth_for;
+use crate::scene::Scene;
 use crate::smooth_bands::{SmoothBands, Smoothed};
 use crate::smooth_palette::add_colours;
 use crate::watcher::Watcher;
 use devices::Sink;
-use picture_job::PngJob;
+use picture_job::Smoothing;
 use plot_page::{PenSet, Stroke};
 use png::Layout;
 use std::alloc::{AllocError, Global};
 use stroke_raster::Gauge;
 
-/// Paints a job's strokes and writes its smoothed picture as a PNG: in shades of grey if its strokes have no other colours,
+/// Paints a scene and writes its smoothed picture as a PNG: in shades of grey if its strokes have no other colours,
 /// with a palette if its pixels have at most 256 colours, else with the colour of each pixel. It is painted twice unless it
 /// is grey, first to find its colours.
 ///
@@ -34,35 +33,45 @@ use stroke_raster::Gauge;
 #[tactic(auto, using(crate::proofs::Watched::not_told))]
 pub fn paint_smoothed<G: Gauge, K: Sink, W: Watcher>(
     alloc: Global,
-    job: &PngJob,
-    strokes: &[Stroke],
+    scene: Scene<'_>,
+    smoothing: Smoothing,
     gauge: &mut G,
     sink: K,
     watcher: &mut W,
 ) -> (K, Result<(), PictureFault>)
-    requires fine { is_fine job.now.smoothing.times job.now.dots ≡ true }
-    requires few { length strokes.now ≤ MOST_STROKES }
+    requires fine { is_fine smoothing.times scene.dots ≡ true }
     requires sinking { (K.state sink).faults < 2 ^ 64 - 1 }
-    ensures paints { HasPaintedPng (picture_with job.now (smooth_row job.now (G.reaches gauge.old) strokes.now))
+    ensures paints { HasPaintedPng (picture_with scene.entry.page scene.entry.dots (smooth_row smoothing.times scene.entry (G.reaches gauge.old)))
         (K.state sink) (K.state result.0) result.1 }
-    ensures tests { G.count gauge.new ≤ G.count gauge.old
-        + 2 * finer_boxes job.now.smoothing.times job.now.pens strokes.now job.now.page job.now.dots 0 }
+    ensures tests { G.count gauge.new ≤ G.count gauge.old + 2 * smooth_boxes smoothing.times scene.entry }
     ensures same { G.reaches gauge.new ≡ G.reaches gauge.old }
-    ensures told { IsTold is_write W.hears (rows_of job.now.page job.now.dots) watcher.old watcher.new result.1 }
+    ensures told { IsTold is_write W.hears (rows_of scene.entry.page scene.entry.dots) watcher.old watcher.new result.1 }
     ensures untouched { IfErr result.1 (λ fault. is_write fault ≡ false → result.0 ≡ sink) }
 {
-    if are_grey(strokes, job.pens) {
-        return paint_pixels(alloc, job, Layout::Grey, strokes, gauge, sink, watcher);
+    let times = smoothing.times();
+    if are_grey(scene.strokes, scene.pens) {
+        let ask = Smoothed {
+            times,
+            layout: Layout::Grey,
+        };
+        return paint_pixels(alloc, scene, ask, gauge, sink, watcher);
     }
-    match palette_of(alloc, job, strokes, gauge) {
+    match palette_of(alloc, scene, times, gauge) {
         Ok(Some(colours)) => {
             let layout = Layout::Indexed {
                 depth: depth_for(colours.len()),
                 palette: colours.as_slice(),
             };
-            paint_pixels(alloc, job, layout, strokes, gauge, sink, watcher)
+            let ask = Smoothed { times, layout };
+            paint_pixels(alloc, scene, ask, gauge, sink, watcher)
         }
-        Ok(None) => paint_pixels(alloc, job, Layout::Rgb, strokes, gauge, sink, watcher),
+        Ok(None) => {
+            let ask = Smoothed {
+                times,
+                layout: Layout::Rgb,
+            };
+            paint_pixels(alloc, scene, ask, gauge, sink, watcher)
+        }
         Err(_) => (sink, Err(PictureFault::Memory)),
     }
 }
@@ -70,60 +79,46 @@ pub fn paint_smoothed<G: Gauge, K: Sink, W: Watcher>(
 // The same in a layout that has the colours of all pixels.
 fn paint_pixels<'a, G: Gauge, K: Sink, W: Watcher>(
     alloc: Global,
-    job: &PngJob,
-    layout: Layout<'a>,
-    strokes: &'a [Stroke],
+    scene: Scene<'a>,
+    ask: Smoothed<'a>,
     gauge: &mut G,
     sink: K,
     watcher: &mut W,
 ) -> (K, Result<(), PictureFault>)
-    requires fine { is_fine job.now.smoothing.times job.now.dots ≡ true }
-    requires few { length strokes.now ≤ MOST_STROKES }
     requires sinking { (K.state sink).faults < 2 ^ 64 - 1 }
-    requires colours { HasColours layout }
-    requires pixels { (row : ℕ) → row < rows_of job.now.page job.now.dots → HasPixels layout
-        (smoothed_pixels job.now.smoothing.times (G.reaches gauge.old) job.now.pens strokes.now job.now.page job.now.dots row) }
-    ensures paints { HasPaintedPng (picture_with job.now (smooth_row job.now (G.reaches gauge.old) strokes.entry.now))
+    requires ask { CanSmooth ask.times ask.layout scene.dots }
+    requires pixels { (row : ℕ) → row < rows_of scene.page scene.dots →
+        HasPixels ask.layout (scene_pixels ask.times scene (G.reaches gauge.old) row) }
+    ensures paints { HasPaintedPng (picture_with scene.entry.page scene.entry.dots (smooth_row ask.entry.times scene.entry (G.reaches gauge.old)))
         (K.state sink) (K.state result.0) result.1 }
-    ensures tests { G.count gauge.new ≤ G.count gauge.old
-        + finer_boxes job.now.smoothing.times job.now.pens strokes.entry.now job.now.page job.now.dots 0 }
+    ensures tests { G.count gauge.new ≤ G.count gauge.old + smooth_boxes ask.entry.times scene.entry }
     ensures same { G.reaches gauge.new ≡ G.reaches gauge.old }
-    ensures told { IsTold is_write W.hears (rows_of job.now.page job.now.dots) watcher.old watcher.new result.1 }
+    ensures told { IsTold is_write W.hears (rows_of scene.entry.page scene.entry.dots) watcher.old watcher.new result.1 }
     ensures untouched { IfErr result.1 (λ fault. is_write fault ≡ false → result.0 ≡ sink) }
 {
-    let ask = Smoothed {
-        times: job.smoothing.times(),
-        layout,
-    };
-    let header = header_of(job, layout);
-    encode::<SmoothBands<'_>, G, K, W>(alloc, job, ask, &header, strokes, gauge, sink, watcher)
+    let header = header_of(&scene, ask.layout);
+    encode::<SmoothBands<'_>, G, K, W>(alloc, scene, ask, &header, gauge, sink, watcher)
 }
 
 // The colours of a smoothed picture: white, and then each further colour in the order in which it first comes, row by row;
 // `None` if they are too many for a palette.
 fn palette_of<G: Gauge>(
     alloc: Global,
-    job: &PngJob,
-    strokes: &[Stroke],
+    scene: Scene<'_>,
+    times: u32,
     gauge: &mut G,
 ) -> Result<Option<Vec<[u8; 3]>>, AllocError>
-    requires fine { is_fine job.now.smoothing.times job.now.dots ≡ true }
-    requires few { length strokes.now ≤ MOST_STROKES }
+    requires smooth { CanSmooth times Layout.Rgb scene.dots }
     ensures few { IfOk result (λ found. IfSome found (λ colours. length colours.items ≤ MOST_COLOURS)) }
     ensures some { IfOk result (λ found. IfSome found (λ colours. 0 < length colours.items)) }
     ensures colours { IfOk result (λ found. IfSome found (λ colours. colours.items
-        ≡ colours_smoothed job.now.smoothing.times (G.reaches gauge.old) job.now.pens strokes.now job.now.page job.now.dots)) }
+        ≡ colours_smoothed times (G.reaches gauge.old) scene.entry.pens scene.entry.strokes.now scene.entry.page scene.entry.dots)) }
     ensures same { G.reaches gauge.new ≡ G.reaches gauge.old }
-    ensures tests { G.count gauge.new ≤ G.count gauge.old
-        + finer_boxes job.now.smoothing.times job.now.pens strokes.now job.now.page job.now.dots 0 }
+    ensures tests { G.count gauge.new ≤ G.count gauge.old + smooth_boxes times scene.entry }
 {
-    let ask = Smoothed {
-        times: job.smoothing.times(),
-        layout: Layout::Rgb,
-    };
+    let layout = Layout::Rgb;
     // The height and the first row are in range, so only memory can be wanting.
-    let Ok(mut bands) = SmoothBands::new(alloc, ask, strokes, job.page, job.dots, job.pens, BAND, 0)
-    else {
+    let Ok(mut bands) = SmoothBands::new(alloc, Smoothed { times, layout }, scene, BAND, 0) else {
         return Err(AllocError);
     };
     let mut colours = colour_of_paper(alloc)?;

@@ -14,13 +14,12 @@ pub returns-in-Ok-ended-clause-paints : goal.returns-in-Ok-ended-clause-paints
 returns-in-Ok-ended-clause-paints g c = λ colour shown.
     let header = c.args.header.now in
     let h = head header in
-    let job = c.args.job.now in
-    let ss = c.args.strokes.now in
+    let scene = c.args.scene in
     let reaches : Reach = g.G.Gauge.reaches c.args.gauge.now in
     let made = c.in-Ok.ensures in
     let bands = c.in-Ok.bands in
-    let text : ℕ → List ℕ = g.B.Bands.asked_text c.args.ask job.pens ss job.page job.dots reaches in
-    let rows = rows_of job.page job.dots in
+    let text : ℕ → List ℕ = g.B.Bands.asked_text c.args.ask scene reaches in
+    let rows = rows_of scene.page scene.dots in
     let same : g.B.Bands.row_text bands reaches ≡ text = ap (λ (f : Reach → ℕ → List ℕ). f reaches) made.text in
     let all : rows - 0 ≡ rows = omega arith in
     let bytes : rows_bytes (g.B.Bands.row_text bands reaches) (g.B.Bands.next bands) (g.B.Bands.rows bands - g.B.Bands.next bands) ≡ rows_bytes text 0 rows =
@@ -34,10 +33,10 @@ returns-in-Ok-ended-clause-paints g c = λ colour shown.
       λ none.
           let begun = ap (λ (k : _). taken png (g.K.Sink.state k).held) sink_is ∙ c.new-png.ensures.fresh none in
           let grown = appended _ _ (heading h) (rows_bytes text 0 rows) (subst (Appends _ _) bytes wrote.written) begun in
-          let picture : picture_of h (rows_bytes text 0 rows) ≡ Some (picture_with job colour) =
-          pictured h job colour text c.requires.header.columns c.requires.header.rows c.requires.header.per_metre shown in
+          let picture : picture_of h (rows_bytes text 0 rows) ≡ Some (picture_with scene.page scene.dots colour) =
+          pictured h scene.page scene.dots colour text c.requires.header.columns c.requires.header.rows c.requires.header.per_metre shown in
           let shows = rw c.in-Ok-ended.is at c.finish-sink.ensures.shows in
-          shows header (rows_bytes text 0 rows) (picture_with job colour) c.requires.header.sound grown picture,
+          shows header (rows_bytes text 0 rows) (picture_with scene.page scene.dots colour) c.requires.header.sound grown picture,
       (rw c.in-Ok-ended.is at c.finish-sink.ensures.quiet) ∙ wrote.sound ∙ ap (λ (k : _). (g.K.Sink.state k).faults) sink_is,
     )
 
@@ -45,6 +44,6 @@ pub returns-in-Ok-write_left-clause-told : goal.returns-in-Ok-write_left-clause-
 returns-in-Ok-write_left-clause-told g c =
     let bands = c.in-Ok.bands in
     let made = c.in-Ok.ensures in
-    let job = c.args.job.now in
-    told_some g.W.Watcher.hears (g.B.Bands.rows bands - g.B.Bands.next bands) (rows_of job.page job.dots) _ c.args.watcher.now c.write_left.new.watcher
+    let scene = c.args.scene in
+    told_some g.W.Watcher.hears (g.B.Bands.rows bands - g.B.Bands.next bands) (rows_of scene.page scene.dots) _ c.args.watcher.now c.write_left.new.watcher
     (omega (arith, made.rows, made.next)) c.in-Ok-write_left.ensures.told

@@ -10,7 +10,7 @@ write_rows-requires-clause-size_in g c =
     let used = c.append_rows-used.result in
     let text = c.append_rows-used.new.text in
     let long = length-take-le used text c.append_rows-used.ensures.within in
-    let one : used / c.args.rows ≡ length (transfer_command c.args.stride) + c.args.stride = nth_part c.args.stride c.args.rows used c.args.bits.now (take used text) c.requires.some c.requires.bits long c.append_rows-used.ensures.text in
+    let one : used / c.args.rows.count ≡ length (transfer_command c.args.rows.stride) + c.args.rows.stride = nth_part c.args.rows.stride c.args.rows.count used c.args.rows.bits.now (take used text) c.requires.some c.args.rows.size long c.append_rows-used.ensures.text in
     omega (arith, one)
 
 pub returns-clause-rows : goal.returns-clause-rows
@@ -18,5 +18,5 @@ returns-clause-rows g c = λ inks cells tall wide split.
     let used = c.append_rows-used.result in
     let text = c.append_rows-used.new.text in
     let long = length-take-le used text c.append_rows-used.ensures.within in
-    let one = nth_part c.args.stride c.args.rows used c.args.bits.now (take used text) c.requires.some c.requires.bits long c.append_rows-used.ensures.text in
-    c.write_rows.ensures.rows Pcl inks cells (even_part inks c.args.at c.args.stride (used / c.args.rows) cells one wide) (whole_text inks c.args.at cells _ (take used text) split c.append_rows-used.ensures.text)
+    let one = nth_part c.args.rows.stride c.args.rows.count used c.args.rows.bits.now (take used text) c.requires.some c.args.rows.size long c.append_rows-used.ensures.text in
+    c.write_rows.ensures.rows Pcl inks cells (even_part inks c.args.at c.args.rows.stride (used / c.args.rows.count) cells one wide) (whole_text inks c.args.at cells _ (take used text) split c.append_rows-used.ensures.text)

@@ -11,11 +11,11 @@ use Rattle.rows.proofs.png_picture.paint_colours.Goals as goal
 
 pub returns-clause-paints : goal.returns-clause-paints
 returns-clause-paints g c =
-    let job = c.args.job.now in
-    let ss = c.args.strokes.now in
+    let scene = c.args.scene in
+    let ss = scene.strokes.now in
     let reaches = g.G.Gauge.reaches c.args.gauge.now in
-    let columns = columns_of job.page job.dots in
-    let covers = λ (s : Segment). reaches s job.page job.dots in
+    let columns = columns_of scene.page scene.dots in
+    let covers = λ (s : Segment). reaches s scene.page scene.dots in
     let made = c.header_of-header.ensures in
-    c.encode.ensures.paints (plain_row job reaches ss) (λ row lt. row_coloured c.header_of-header.result _ made.layout
-    (coloured_size (inks_of ss) (row_shown covers job.pens ss columns row) ∙ ap (λ (n : ℕ). 3 * n) (length-map-range_with_len (λ (column : ℕ). shown covers job.pens ss row column) 0 columns ∙ sym made.header.columns)))
+    c.encode.ensures.paints (plain_row scene reaches) (λ row lt. row_coloured c.header_of-header.result _ made.layout
+    (coloured_size (inks_of ss) (row_shown covers scene.pens ss columns row) ∙ ap (λ (n : ℕ). 3 * n) (length-map-range_with_len (λ (column : ℕ). shown covers scene.pens ss row column) 0 columns ∙ sym made.header.columns)))

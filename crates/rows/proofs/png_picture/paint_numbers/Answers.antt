@@ -7,31 +7,31 @@ use Rattle.rows.proofs.png_picture.paint_numbers.Goals as goal
 
 pub encode-requires : goal.encode-requires
 encode-requires g c = λ k.
-    let job = c.args.job.now in
-    let ss = c.args.strokes.now in
+    let scene = c.args.scene in
+    let ss = scene.strokes.now in
     let reaches = g.G.Gauge.reaches c.args.gauge.now in
     let made = c.header_of-header.ensures in
     let depth = c.depth_for-depth.result in
     let palette = c.as_slice-colours.result in
     let numbers = c.as_slice-numbers.result.now in
-    let used : palette.now ≡ colours_used job.pens ss = c.as_slice-colours.ensures.value ∙ c.requires.colours in
-    let by_palette = subst (λ (z : List (List ℕ)). AreNumbers job.pens ss z c.args.palette.now.numbers.items) (sym c.as_slice-colours.ensures.value) c.requires.numbers in
-    let are = subst (λ (z : List ℕ). AreNumbers job.pens ss palette.now z) (sym c.as_slice-numbers.ensures.value) by_palette in
+    let used : palette.now ≡ colours_used scene.pens ss = c.as_slice-colours.ensures.value ∙ c.requires.colours in
+    let by_palette = subst (λ (z : List (List ℕ)). AreNumbers scene.pens ss z c.args.palette.now.numbers.items) (sym c.as_slice-colours.ensures.value) c.requires.numbers in
+    let are = subst (λ (z : List ℕ). AreNumbers scene.pens ss palette.now z) (sym c.as_slice-numbers.ensures.value) by_palette in
     let few : length palette.now ≤ 2 ^ bits_of_depth depth = c.depth_for-depth.ensures.enough in
     let small : All (λ (n : ℕ). n < 2 ^ bits_of_depth depth) numbers = λ j d lt. (let within = are.within j d lt in omega (arith, within, few)) in
-    ((refl, tt), (c.requires.few, (c.requires.sinking, ((are.size, small), made.header))))
+    ((refl, tt), ((c.requires.sinking, ((are.size, small), made.header))))
 
 pub returns-clause-paints : goal.returns-clause-paints
 returns-clause-paints g c =
-    let job = c.args.job.now in
-    let ss = c.args.strokes.now in
+    let scene = c.args.scene in
+    let ss = scene.strokes.now in
     let reaches = g.G.Gauge.reaches c.args.gauge.now in
     let made = c.header_of-header.ensures in
     let depth = c.depth_for-depth.result in
     let palette = c.as_slice-colours.result in
     let numbers = c.as_slice-numbers.result.now in
-    let used : palette.now ≡ colours_used job.pens ss = c.as_slice-colours.ensures.value ∙ c.requires.colours in
-    let by_palette = subst (λ (z : List (List ℕ)). AreNumbers job.pens ss z c.args.palette.now.numbers.items) (sym c.as_slice-colours.ensures.value) c.requires.numbers in
-    let are = subst (λ (z : List ℕ). AreNumbers job.pens ss palette.now z) (sym c.as_slice-numbers.ensures.value) by_palette in
+    let used : palette.now ≡ colours_used scene.pens ss = c.as_slice-colours.ensures.value ∙ c.requires.colours in
+    let by_palette = subst (λ (z : List (List ℕ)). AreNumbers scene.pens ss z c.args.palette.now.numbers.items) (sym c.as_slice-colours.ensures.value) c.requires.numbers in
+    let are = subst (λ (z : List ℕ). AreNumbers scene.pens ss palette.now z) (sym c.as_slice-numbers.ensures.value) by_palette in
     let few : length palette.now ≤ 2 ^ bits_of_depth depth = c.depth_for-depth.ensures.enough in
-    c.encode.ensures.paints (plain_row job reaches ss) (λ row lt. row_numbered c.header_of-header.result depth palette job.pens ss job.page job.dots numbers reaches row made.layout made.header.columns used are few)
+    c.encode.ensures.paints (plain_row scene reaches) (λ row lt. row_numbered c.header_of-header.result depth palette scene.pens ss scene.page scene.dots numbers reaches row made.layout made.header.columns used are few)

@@ -12,7 +12,7 @@ returns-then-is_smoothed-clause-paints g c =
     let n = job.smoothing.times in
     let reaches = g.G.Gauge.reaches c.args.gauge.now in
     let some : is_smoothed n Ppm ≡ true = sym c.is_smoothed.ensures ∙ c.if-is_smoothed.true in
-    subst (λ (row : ℕ → List ℕ). HasPaintedPng (picture_with job row) (g.K.Sink.state c.args.sink) (g.K.Sink.state c.paint_smoothed.result.0) c.paint_smoothed.result.1)
+    subst (λ (row : ℕ → List ℕ). HasPaintedPng (picture_with job.page job.dots row) (g.K.Sink.state c.args.sink) (g.K.Sink.state c.paint_smoothed.result.0) c.paint_smoothed.result.1)
     (smoothed_rows n Ppm reaches job.pens c.args.strokes.now job.page job.dots some) c.paint_smoothed.ensures.paints
 
 pub returns-then-is_smoothed-clause-tests : goal.returns-then-is_smoothed-clause-tests
@@ -30,7 +30,7 @@ returns-clause-paints g c =
     let n = job.smoothing.times in
     let reaches = g.G.Gauge.reaches c.args.gauge.now in
     let none : is_smoothed n Ppm ≡ false = sym c.is_smoothed.ensures ∙ c.if-is_smoothed.false in
-    subst (λ (row : ℕ → List ℕ). HasPaintedPng (picture_with job row) (g.K.Sink.state c.args.sink) (g.K.Sink.state c.paint_plain.result.0) c.paint_plain.result.1)
+    subst (λ (row : ℕ → List ℕ). HasPaintedPng (picture_with job.page job.dots row) (g.K.Sink.state c.args.sink) (g.K.Sink.state c.paint_plain.result.0) c.paint_plain.result.1)
     (unsmoothed n Ppm reaches job.pens c.args.strokes.now job.page job.dots none) c.paint_plain.ensures.paints
 
 pub returns-clause-tests : goal.returns-clause-tests

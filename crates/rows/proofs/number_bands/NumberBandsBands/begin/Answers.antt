@@ -27,9 +27,9 @@ returns-clause-text c =
     let F : PenSet → List Segment → Page → Dots → Reach → ℕ → List ℕ = λ l ss p d reaches row. numbers_row c.args.ask.depth numbers l ss p d reaches row in
     let G : Depth → Reach → ℕ → List ℕ = λ d reaches row. numbers_row d numbers q.pens q.strokes q.page q.dots reaches row in
     ap G c.in-Ok.ensures.depth
-    ∙ parts_same F q.pens c.args.pens q.strokes c.args.strokes.now q.page c.args.page q.dots c.args.dots made.pens made.strokes made.page made.dots
+    ∙ parts_same F q.pens c.args.scene.pens q.strokes c.args.scene.strokes.now q.page c.args.scene.page q.dots c.args.scene.dots made.pens made.strokes made.page made.dots
 
 pub returns-clause-tests : goal.returns-clause-tests
 returns-clause-tests c =
     let made = c.in_ok-painter.ensures in
-    tests_are c.in_ok-painter.painter c.args.pens c.args.strokes.now c.args.page c.args.dots c.args.first_row made.strokes made.page made.dots made.pens made.first
+    tests_are c.in_ok-painter.painter c.args.scene.pens c.args.scene.strokes.now c.args.scene.page c.args.scene.dots c.args.first_row made.strokes made.page made.dots made.pens made.first

@@ -22,20 +22,20 @@ put_rows-requires-clause-some g c =
     let is_left = c.ink_next.ensures.left.1 (subst (λ (z : Painting). z.next < rows_of z.page z.dots) (sym v) c.requires.left) in
     let n = c.next_row.result - c.next_row-at.result in
     let n_is : n ≡ rows_next p = omega (arith, c.next_row-at.ensures.next, c.next_row.ensures.next, c.ink_next.ensures.moves.next) in
-    let b = next_band p c.ink_next.new.self (g.G.Gauge.reaches c.args.gauge.now) n c.columns.result c.packed_length-stride.result c.bytes-bits.result.now
-    c.ink_next.ensures.moves n_is (c.ink_next.ensures.some is_left) (c.ink_next.ensures.rows is_left) c.bytes-bits.ensures.rows c.bytes-bits.ensures.size
+    let b = next_band p c.ink_next.new.self (g.G.Gauge.reaches c.args.gauge.now) n c.columns.result c.packed_length-stride.result c.bytes.result.now
+    c.ink_next.ensures.moves n_is (c.ink_next.ensures.some is_left) (c.ink_next.ensures.rows is_left) c.bytes.ensures.rows c.bytes.ensures.size
     c.columns.ensures.count c.columns.ensures.most c.packed_length-stride.ensures in
     b.some
 
-pub put_rows-requires-clause-bits : goal.put_rows-requires-clause-bits
-put_rows-requires-clause-bits g c =
+pub invariant_of-rows-clause-size : goal.invariant_of-rows-clause-size
+invariant_of-rows-clause-size g c =
     let v : c.self.inside.inker ≡ c.args.self.now = c.self.view_is in
     let p : Painting = c.self.inside.inker in
     let is_left = c.ink_next.ensures.left.1 (subst (λ (z : Painting). z.next < rows_of z.page z.dots) (sym v) c.requires.left) in
     let n = c.next_row.result - c.next_row-at.result in
     let n_is : n ≡ rows_next p = omega (arith, c.next_row-at.ensures.next, c.next_row.ensures.next, c.ink_next.ensures.moves.next) in
-    let b = next_band p c.ink_next.new.self (g.G.Gauge.reaches c.args.gauge.now) n c.columns.result c.packed_length-stride.result c.bytes-bits.result.now
-    c.ink_next.ensures.moves n_is (c.ink_next.ensures.some is_left) (c.ink_next.ensures.rows is_left) c.bytes-bits.ensures.rows c.bytes-bits.ensures.size
+    let b = next_band p c.ink_next.new.self (g.G.Gauge.reaches c.args.gauge.now) n c.columns.result c.packed_length-stride.result c.bytes.result.now
+    c.ink_next.ensures.moves n_is (c.ink_next.ensures.some is_left) (c.ink_next.ensures.rows is_left) c.bytes.ensures.rows c.bytes.ensures.size
     c.columns.ensures.count c.columns.ensures.most c.packed_length-stride.ensures in
     b.size
 
@@ -46,8 +46,8 @@ put_rows-requires-clause-few g c =
     let is_left = c.ink_next.ensures.left.1 (subst (λ (z : Painting). z.next < rows_of z.page z.dots) (sym v) c.requires.left) in
     let n = c.next_row.result - c.next_row-at.result in
     let n_is : n ≡ rows_next p = omega (arith, c.next_row-at.ensures.next, c.next_row.ensures.next, c.ink_next.ensures.moves.next) in
-    let b = next_band p c.ink_next.new.self (g.G.Gauge.reaches c.args.gauge.now) n c.columns.result c.packed_length-stride.result c.bytes-bits.result.now
-    c.ink_next.ensures.moves n_is (c.ink_next.ensures.some is_left) (c.ink_next.ensures.rows is_left) c.bytes-bits.ensures.rows c.bytes-bits.ensures.size
+    let b = next_band p c.ink_next.new.self (g.G.Gauge.reaches c.args.gauge.now) n c.columns.result c.packed_length-stride.result c.bytes.result.now
+    c.ink_next.ensures.moves n_is (c.ink_next.ensures.some is_left) (c.ink_next.ensures.rows is_left) c.bytes.ensures.rows c.bytes.ensures.size
     c.columns.ensures.count c.columns.ensures.most c.packed_length-stride.ensures in
     let m = mul-le n (c.packed_length-stride.result + LONGEST_COMMAND) MOST_PIXELS_A_SIDE (bytes_for MOST_PIXELS_A_SIDE + LONGEST_COMMAND) b.low (omega (arith, b.narrow)) in
     omega (arith, m)
@@ -59,8 +59,8 @@ returns-clause-writes g c =
     let is_left = c.ink_next.ensures.left.1 (subst (λ (z : Painting). z.next < rows_of z.page z.dots) (sym v) c.requires.left) in
     let n = c.next_row.result - c.next_row-at.result in
     let n_is : n ≡ rows_next p = omega (arith, c.next_row-at.ensures.next, c.next_row.ensures.next, c.ink_next.ensures.moves.next) in
-    let b = next_band p c.ink_next.new.self (g.G.Gauge.reaches c.args.gauge.now) n c.columns.result c.packed_length-stride.result c.bytes-bits.result.now
-    c.ink_next.ensures.moves n_is (c.ink_next.ensures.some is_left) (c.ink_next.ensures.rows is_left) c.bytes-bits.ensures.rows c.bytes-bits.ensures.size
+    let b = next_band p c.ink_next.new.self (g.G.Gauge.reaches c.args.gauge.now) n c.columns.result c.packed_length-stride.result c.bytes.result.now
+    c.ink_next.ensures.moves n_is (c.ink_next.ensures.some is_left) (c.ink_next.ensures.rows is_left) c.bytes.ensures.rows c.bytes.ensures.size
     c.columns.ensures.count c.columns.ensures.most c.packed_length-stride.ensures in
     let reaches = g.G.Gauge.reaches c.args.gauge.now in
     let rows : List (List ℕ) = painted_rows reaches p p.next (rows_next p) in
@@ -82,8 +82,8 @@ returns-clause-small g c =
     let is_left = c.ink_next.ensures.left.1 (subst (λ (z : Painting). z.next < rows_of z.page z.dots) (sym v) c.requires.left) in
     let n = c.next_row.result - c.next_row-at.result in
     let n_is : n ≡ rows_next p = omega (arith, c.next_row-at.ensures.next, c.next_row.ensures.next, c.ink_next.ensures.moves.next) in
-    let b = next_band p c.ink_next.new.self (g.G.Gauge.reaches c.args.gauge.now) n c.columns.result c.packed_length-stride.result c.bytes-bits.result.now
-    c.ink_next.ensures.moves n_is (c.ink_next.ensures.some is_left) (c.ink_next.ensures.rows is_left) c.bytes-bits.ensures.rows c.bytes-bits.ensures.size
+    let b = next_band p c.ink_next.new.self (g.G.Gauge.reaches c.args.gauge.now) n c.columns.result c.packed_length-stride.result c.bytes.result.now
+    c.ink_next.ensures.moves n_is (c.ink_next.ensures.some is_left) (c.ink_next.ensures.rows is_left) c.bytes.ensures.rows c.bytes.ensures.size
     c.columns.ensures.count c.columns.ensures.most c.packed_length-stride.ensures in
     let m = mul-le n (c.packed_length-stride.result + LONGEST_COMMAND) n 4194304 (omega arith) (omega (arith, b.narrow)) in
     let was : p.next ≡ c.args.self.now.next = ap (λ (z : Painting). z.next) v in

@@ -18,11 +18,11 @@ invariant_of-result c =
     let made = c.in-Ok.ensures in
     let n = c.args.ask.times in
     let least = c.requires.ask.least in
-    let fine = finer n c.args.dots in
-    let dots : c.in-Ok.painter.dots ≡ fine = made.dots ∙ finer_is n c.args.dots _ (ap (λ (k : ℕ). n * k) c.per_inch.ensures) least c.requires.ask.fine in
-    let tall : rows_of c.in-Ok.painter.page c.in-Ok.painter.dots ≡ rows_of c.args.page fine = ap (λ (p : Page). rows_of p c.in-Ok.painter.dots) made.page ∙ ap (rows_of c.args.page) dots in
+    let fine = finer n c.args.scene.dots in
+    let dots : c.in-Ok.painter.dots ≡ fine = made.dots ∙ finer_is n c.args.scene.dots _ (ap (λ (k : ℕ). n * k) c.per_inch.ensures) least c.requires.ask.fine in
+    let tall : rows_of c.in-Ok.painter.page c.in-Ok.painter.dots ≡ rows_of c.args.scene.page fine = ap (λ (p : Page). rows_of p c.in-Ok.painter.dots) made.page ∙ ap (rows_of c.args.scene.page) dots in
     let each : (row : ℕ) → row < c.rows-rows.result → n * row < rows_of c.in-Ok.painter.page c.in-Ok.painter.dots =
-    λ row lt. omega (arith, tall, finer_rows n c.args.page c.args.dots least c.requires.ask.fine, finer_row n c.args.page.height c.args.dots.resolution row least (omega (arith, lt, c.rows-rows.ensures.count))) in (
+    λ row lt. omega (arith, tall, finer_rows n c.args.scene.page c.args.scene.dots least c.requires.ask.fine, finer_row n c.args.scene.page.height c.args.scene.dots.resolution row least (omega (arith, lt, c.rows-rows.ensures.count))) in (
       c.in-Ok-new.ensures.inks ∙ c.new-inks.ensures.inks ∙ ap inks_of (sym made.strokes),
       c.in-Ok-new.ensures.times,
       subst HasColours (sym c.in-Ok-new.ensures.layout) c.requires.ask.colours,
@@ -35,7 +35,7 @@ invariant_of-result c =
         within = omega (arith, c.if-first_row-rows.false);
         band = made.height;
         finer = each;
-        next = λ lt. omega (arith, made.first, c.min-first.ensures, each c.args.first_row lt, c.rows.ensures.count, ap (λ (d : Dots). rows_of c.args.page d) made.dots, ap (λ (p : Page). rows_of p c.in-Ok.painter.dots) made.page);
+        next = λ lt. omega (arith, made.first, c.min-first.ensures, each c.args.first_row lt, c.rows.ensures.count, ap (λ (d : Dots). rows_of c.args.scene.page d) made.dots, ap (λ (p : Page). rows_of p c.in-Ok.painter.dots) made.page);
       },
       omega (arith, c.in-Ok-new.ensures.width, c.columns-columns.ensures.most),
     )
@@ -45,21 +45,21 @@ returns-clause-pixels c =
     let made = c.in-Ok.ensures in
     let n = c.args.ask.times in
     let q = c.in-Ok.painter in
-    let fine = finer n c.args.dots in
-    let dots : q.dots ≡ fine = made.dots ∙ finer_is n c.args.dots _ (ap (λ (k : ℕ). n * k) c.per_inch.ensures) c.requires.ask.least c.requires.ask.fine in
+    let fine = finer n c.args.scene.dots in
+    let dots : q.dots ≡ fine = made.dots ∙ finer_is n c.args.scene.dots _ (ap (λ (k : ℕ). n * k) c.per_inch.ensures) c.requires.ask.least c.requires.ask.fine in
     let F : PenSet → List Segment → Page → Dots → ℕ → Reach → ℕ → List (List ℕ) = λ l ss p d columns reaches row. map (smoothed n (colours_at reaches l ss p d) row) (range_with_len 0 columns) in
     let H : ℕ → Reach → ℕ → List (List ℕ) = F q.pens q.strokes q.page q.dots in
-    let width : width_of c.in-Ok-new.smoother.pixels ≡ columns_of c.args.page c.args.dots = c.in-Ok-new.ensures.width ∙ c.columns-columns.ensures.count in
+    let width : width_of c.in-Ok-new.smoother.pixels ≡ columns_of c.args.scene.page c.args.scene.dots = c.in-Ok-new.ensures.width ∙ c.columns-columns.ensures.count in
     ap H width
-    ∙ parts_same {A = Reach → ℕ → List (List ℕ)} (λ l ss p d. F l ss p d (columns_of c.args.page c.args.dots)) q.pens c.args.pens q.strokes c.args.strokes.now q.page c.args.page q.dots fine made.pens made.strokes made.page dots
+    ∙ parts_same {A = Reach → ℕ → List (List ℕ)} (λ l ss p d. F l ss p d (columns_of c.args.scene.page c.args.scene.dots)) q.pens c.args.scene.pens q.strokes c.args.scene.strokes.now q.page c.args.scene.page q.dots fine made.pens made.strokes made.page dots
 
 pub returns-clause-tests : goal.returns-clause-tests
 returns-clause-tests c =
     let made = c.in-Ok.ensures in
     let n = c.args.ask.times in
     let q = c.in-Ok.painter in
-    let fine = finer n c.args.dots in
-    let dots : q.dots ≡ fine = made.dots ∙ finer_is n c.args.dots _ (ap (λ (k : ℕ). n * k) c.per_inch.ensures) c.requires.ask.least c.requires.ask.fine in
-    let tall : c.rows.result ≡ rows_of c.args.page fine = c.rows.ensures.count ∙ ap (rows_of c.args.page) (sym made.dots ∙ dots) in
-    let first : q.next ≡ min (n * c.args.first_row) (rows_of c.args.page fine) = made.first ∙ c.min-first.ensures ∙ ap (λ (k : ℕ). min (n * c.args.first_row) k) tall in
-    tests_are q c.args.pens c.args.strokes.now c.args.page fine _ made.strokes made.page dots made.pens first
+    let fine = finer n c.args.scene.dots in
+    let dots : q.dots ≡ fine = made.dots ∙ finer_is n c.args.scene.dots _ (ap (λ (k : ℕ). n * k) c.per_inch.ensures) c.requires.ask.least c.requires.ask.fine in
+    let tall : c.rows.result ≡ rows_of c.args.scene.page fine = c.rows.ensures.count ∙ ap (rows_of c.args.scene.page) (sym made.dots ∙ dots) in
+    let first : q.next ≡ min (n * c.args.first_row) (rows_of c.args.scene.page fine) = made.first ∙ c.min-first.ensures ∙ ap (λ (k : ℕ). min (n * c.args.first_row) k) tall in
+    tests_are q c.args.scene.pens c.args.scene.strokes.now c.args.scene.page fine _ made.strokes made.page dots made.pens first
