@@ -1,5 +1,5 @@
 -- Runs on the page that is given.
-use Rattle.std.proofs.Common.{◌≡◌, ◌≤◌, ◌<◌, ◌+◌, ◌∙◌, ◌-◌, ℕ, Bool, true, false, List, [], length, take, inl, inr, Result, Ok, Err, Some, None, refl, ap, arith, rules, subst, sym}
+use Rattle.std.proofs.Common.{◌≡◌, ◌≤◌, ◌<◌, ◌+◌, ◌∙◌, ◌-◌, ℕ, Bool, true, false, List, [], length, take, inl, inr, Option, Result, Ok, Err, Some, None, refl, ap, arith, rules, subst, sym}
 use Rattle.hpgl_plot.specs.declared.fault.PlotFault.{PlotFault}
 use Rattle.hpgl_plot.specs.declared.fault.PlotFault.TheVariants as plot
 use Rattle.plot_page.specs.Segments.{Segment}
@@ -13,19 +13,19 @@ use Rattle.picture_job.specs.declared.reading.Reading.{Reading}
 use Rattle.rows.specs.Boxes.{strokes_boxes}
 use Rattle.conversion.specs.Conversions.{Converts, HasConvertedBy}
 use Rattle.conversion.specs.PageJobs.{on_page, times_on}
-use Rattle.conversion.specs.Drawings.{Draws, IsDrawn, IsReasonOnFirst, place_of}
+use Rattle.conversion.specs.Drawings.{Draws, HasDrawn, IsDrawn, IsReasonOnFirst, place_of}
 use Rattle.conversion.specs.Faults.{of_plot}
-use Rattle.conversion.specs.Kinds.{HasDrawnFor, is_picture_possible}
+use Rattle.conversion.specs.Kinds.{HasDrawnFor}
+use Rattle.picture_job.specs.declared.picture.Picture.{Picture}
 use Rattle.picture_job.specs.declared.picture.Picture.TheVariants.{Rows}
-use Rattle.conversion.proofs.Judged.{drawn_possible}
 use Rattle.rows.specs.Pictures.{Reach}
 use Rattle.conversion.specs.Placements.{IsDrawnOn, IsPlaced, IsPlacedBy, Place, no_corner, page_reported, place_on, placed_rules}
 use Rattle.rows.specs.Progress.{HasPainted}
 use Rattle.conversion.specs.Readings.{WasRead}
 use Rattle.conversion.specs.Reports.{HasReportedAs, HasReportedOn, Reports, WritesReport, report_by, report_drawn, report_on}
 use Rattle.plot_report.specs.Report.{report_page}
-use Rattle.std.specs.Io.KnownBytes.{Appends}
-use Rattle.conversion.specs.Rules.{Rules, core_rules, rules_of, rules_with}
+use Rattle.std.specs.Io.KnownBytes.{Appends, Consumes}
+use Rattle.conversion.specs.Rules.{Rules, core_rules, rules_in, rules_of, rules_with}
 use Rattle.conversion.specs.Sheets.{WritesStrokes}
 use Rattle.carousel.specs.Carousels.{empty}
 use Rattle.carousel.specs.declared.carousel.Carousel.{Carousel}
@@ -33,6 +33,7 @@ use Rattle.hpgl_plot.proofs.ByCarousel.{strokes_with_none, refusal_with_none}
 use Rattle.hpgl_text.specs.Cut.{cut}
 use Rattle.picture_job.specs.declared.reading.Reading.TheVariants.{Core, Full}
 use Rattle.conversion.specs.declared.done.Done.{Done}
+use Rattle.conversion.specs.declared.setup.Setup.{Setup}
 use Rattle.conversion.specs.declared.outcome.Outcome.{Outcome}
 use Rattle.conversion.specs.declared.place.Drawing.{Drawing}
 use Rattle.conversion.specs.declared.placement.Placement.TheVariants.{Given}
@@ -153,47 +154,48 @@ converted_with_none : (reading : Reading) (carousel : Carousel) (job : Job) (rea
 converted_with_none reading carousel job reaches before after sink sink' tests tests' answer none h =
     subst (λ (rules : Rules). HasConvertedBy rules job reaches before after sink sink' tests tests' answer) (with_none reading carousel none) h
 
--- a conversion with an empty carousel that drew a plot, and then wrote the picture of all strokes
-pub converted_given : (reading : Reading) (carousel : Carousel) (sm : Smoothing) (job : Job) (reaches : Reach) (before after : SourceState) (sink sink' : SinkState) (tests tests' : ℕ)
-    (drawing : Drawing) (strokes : List Segment) (answer : Result Outcome Fault) → carousel ≡ empty → sm.times ≡ 1
-    → HasDrawnFor (rules_with reading carousel) given_choice (Rows job sm) before after (Ok drawing) → strokes ≡ drawing.lines.strokes.items
-    → WritesStrokes given_choice sm job drawing strokes reaches sink sink' answer
-    → tests' ≤ tests + strokes_boxes (times_on given_choice drawing.page job sm) (on_page given_choice drawing.page job) strokes
-    → HasConvertedBy (rules_of reading) job reaches before after sink sink' tests tests' (done_of answer)
-converted_given reading carousel sm job reaches before after sink sink' tests tests' drawing strokes answer none once h are wrote tested =
-    let by : Rules = rules_with reading carousel in
-    let drawn = h.draws (drawn_possible by given_choice (Rows job sm) before after drawing h) in
-    let all = are ∙ strokes_given by sm job reaches drawn.input before after sink sink' drawing drawn.draws once in
-    converted_with_none reading carousel job reaches before after sink sink' tests tests' (done_of answer) none (record {
-      input = drawn.input;
-      taken = drawn.taken;
-      converts = converted by sm job reaches drawn.input before after sink sink' drawing drawn.draws once strokes answer all wrote;
-      tested = few_tests by sm job reaches drawn.input before after sink sink' drawing drawn.draws once strokes tests tests' all tested;
-    })
+-- a conversion that drew a plot for a request, and then wrote the picture of all strokes, or did not draw it, or not even read it
+module _ (reading : Reading) (carousel : Carousel) (sm : Smoothing) (job : Job) (reaches : Reach) (before after : SourceState) (none : carousel ≡ empty) where
+  pub drawn_so : (setup : Setup) (picture : Picture) (answer : Result Drawing Fault) → rules_in setup ≡ rules_with reading carousel → setup.choice ≡ given_choice → picture ≡ Rows job sm
+      → HasDrawnFor (rules_in setup) setup.choice picture before after answer
+      → HasDrawn (rules_with reading carousel) given_choice job.pens job.page before after answer
+  drawn_so setup picture answer by choice is h =
+      let there = subst (λ (rules : Rules). HasDrawnFor rules setup.choice picture before after answer) by h in
+      let given = subst (λ (c : PageChoice). HasDrawnFor (rules_with reading carousel) c picture before after answer) choice there in
+      (subst (λ (p : Picture). HasDrawnFor (rules_with reading carousel) given_choice p before after answer) is given).draws
 
-by_case : {A : Type 0} (b : Bool) → (b ≡ false → A) → (b ≡ true → A) → A
-by_case false f t = f refl
-by_case true f t = t refl
+  pub converted_given : (sink sink' : SinkState) (tests tests' : ℕ) (drawing : Drawing) (strokes : List Segment) (answer : Result Outcome Fault) → sm.times ≡ 1
+      → HasDrawn (rules_with reading carousel) given_choice job.pens job.page before after (Ok drawing) → strokes ≡ drawing.lines.strokes.items
+      → WritesStrokes given_choice sm job drawing strokes reaches sink sink' answer
+      → tests' ≤ tests + strokes_boxes (times_on given_choice drawing.page job sm) (on_page given_choice drawing.page job) strokes
+      → HasConvertedBy (rules_of reading) job reaches before after sink sink' tests tests' (done_of answer)
+  converted_given sink sink' tests tests' drawing strokes answer once drawn are wrote tested =
+      let by : Rules = rules_with reading carousel in
+      let all = are ∙ strokes_given by sm job reaches drawn.input before after sink sink' drawing drawn.draws once in
+      converted_with_none reading carousel job reaches before after sink sink' tests tests' (done_of answer) none (record {
+        input = drawn.input;
+        taken = drawn.taken;
+        converts = converted by sm job reaches drawn.input before after sink sink' drawing drawn.draws once strokes answer all wrote;
+        tested = few_tests by sm job reaches drawn.input before after sink sink' drawing drawn.draws once strokes tests tests' all tested;
+      })
 
--- and one that did not draw it
-pub not_converted_given : (reading : Reading) (carousel : Carousel) (sm : Smoothing) (job : Job) (reaches : Reach) (before after : SourceState) (sink : SinkState) (tests : ℕ) (fault : Fault)
-    → carousel ≡ empty → HasDrawnFor (rules_with reading carousel) given_choice (Rows job sm) before after (Err fault)
-    → HasConvertedBy (rules_of reading) job reaches before after sink sink tests tests (Err fault)
-not_converted_given reading carousel sm job reaches before after sink tests fault none h =
-    let by : Rules = rules_with reading carousel in
-    converted_with_none reading carousel job reaches before after sink sink tests tests (Err fault) none
-    (by_case (is_picture_possible given_choice (Rows job sm))
-    (λ no.
-    let refused : fault ≡ Resolution = let is = (h.unread no).0 in cc in
-    rw (refused, (h.unread no).1) (record { input = []; taken = search rules; converts = refl; tested = omega arith }))
-    (λ possible.
-    let drawn = h.draws possible in
-    record {
-      input = drawn.input;
-      taken = drawn.taken;
-      converts = not_converted by job reaches drawn.input before after sink sink fault drawn.draws;
-      tested = omega arith;
-    }))
+  pub not_converted_given : (sink : SinkState) (tests : ℕ) (fault : Fault) → HasDrawn (rules_with reading carousel) given_choice job.pens job.page before after (Err fault)
+      → HasConvertedBy (rules_of reading) job reaches before after sink sink tests tests (Err fault)
+  not_converted_given sink tests fault drawn =
+      converted_with_none reading carousel job reaches before after sink sink tests tests (Err fault) none (record {
+        input = drawn.input;
+        taken = drawn.taken;
+        converts = not_converted (rules_with reading carousel) job reaches drawn.input before after sink sink fault drawn.draws;
+        tested = omega arith;
+      })
+
+none_taken : (left : Option (List ℕ)) → Consumes left left []
+none_taken None = tt
+none_taken (Some xs) = refl
+
+pub not_read : (rules : Rules) (job : Job) (reaches : Reach) (source : SourceState) (sink : SinkState) (tests : ℕ) (fault : Fault) → fault ≡ Resolution
+    → HasConvertedBy rules job reaches source source sink sink tests tests (Err fault)
+not_read by job reaches source sink tests fault is = rw is (record { input = []; taken = none_taken source.left; converts = refl; tested = omega arith })
 
 -- the report on the page that is given
 module _ (reading : Reading) (pens : PenSet) (given : Page) (input : List ℕ) (before after : SourceState) (sink sink' : SinkState) where

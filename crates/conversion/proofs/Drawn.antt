@@ -2,7 +2,6 @@
 use Rattle.std.proofs.Common.{◌≡◌, ◌≤◌, ◌∙◌, ◌-◌, ℕ, Bool, true, false, not, ◌&&◌, ◌||◌, List, Option, Some, None, refl, ap, min, max, ◌*◌, ◌/◌, nat_le, arith}
 use Rattle.std.proofs.lemmas.Bool.{le-leb}
 use Rattle.std.proofs.Math.Nat.{div-mul-le_self, le-div_iff_mul-le, max-le, min-le_right, mul-le-mul_right}
-use Rattle.plot_page.specs.Segments.{Segment}
 use Rattle.plot_page.specs.declared.page.Page.{Page}
 use Rattle.plot_page.specs.declared.dots.Dots.{Dots}
 use Rattle.picture_out.specs.declared.form.Form.{Form}
@@ -13,9 +12,8 @@ use Rattle.picture_job.specs.declared.png_job.PngJob.{PngJob}
 use Rattle.picture_job.specs.declared.page_choice.PageChoice.{PageChoice}
 use Rattle.picture_job.specs.declared.smoothing.Smoothing.{Smoothing}
 use Rattle.picture_job.specs.Sizes.{dots_in, smoothing_at, smoothing_in}
-use Rattle.rows.specs.Boxes.{strokes_boxes}
 use Rattle.conversion.specs.PageJobs.{is_possible_in, on_page, times_on}
-use Rattle.rows.specs.Documents.{is_png_possible, png_boxes}
+use Rattle.rows.specs.Documents.{is_png_possible}
 use Rattle.conversion.specs.PageJobs.{is_png_possible_in, png_on_page}
 use Rattle.rows.specs.Pictures.{has_any_resolution, is_fine, is_possible, is_smoothed}
 
@@ -66,19 +64,3 @@ png_possible_by (Some pixels) job page h =
 -- the same of a PNG
 pub png_possible_on : (c : PageChoice) (job : PngJob) (page : Page) → is_png_possible_in c.pixels job ≡ true → is_png_possible (png_on_page c page job) ≡ true
 png_possible_on c job page h = png_possible_by c.pixels job page h
-
--- as many tests as in the picture of the page that is shown
-pub same_boxes : (c : PageChoice) (page : Page) (job : Job) (sm : Smoothing) (dots : Dots) (times : Smoothing) (ss : List Segment) → dots ≡ dots_in c.pixels page job.dots → times ≡ smoothing_in c.pixels dots sm
-    → strokes_boxes times.times (record job { page = page; dots = dots }) ss ≡ strokes_boxes (times_on c page job sm) (on_page c page job) ss
-same_boxes c page job sm dots times ss is so =
-    let both : times ≡ smoothing_in c.pixels (dots_in c.pixels page job.dots) sm = so ∙ ap (λ (d : Dots). smoothing_in c.pixels d sm) is in
-    ap (λ (t : Smoothing). strokes_boxes t.times (record job { page = page; dots = dots }) ss) both
-    ∙ ap (λ (d : Dots). strokes_boxes (times_on c page job sm) (record job { page = page; dots = d }) ss) is
-
-pub same_png_boxes : (c : PageChoice) (page : Page) (job : PngJob) (dots : Dots) (times : Smoothing) (ss : List Segment) → dots ≡ dots_in c.pixels page job.dots → times ≡ smoothing_in c.pixels dots job.smoothing
-    → png_boxes (record job { page = page; dots = dots; smoothing = times }) ss ≡ png_boxes (png_on_page c page job) ss
-same_png_boxes c page job dots times ss is so =
-    let shown : Dots = dots_in c.pixels page job.dots in
-    let both : times ≡ smoothing_in c.pixels shown job.smoothing = so ∙ ap (λ (d : Dots). smoothing_in c.pixels d job.smoothing) is in
-    ap (λ (t : Smoothing). png_boxes (record job { page = page; dots = dots; smoothing = t }) ss) both
-    ∙ ap (λ (d : Dots). png_boxes (record job { page = page; dots = d; smoothing = smoothing_in c.pixels shown job.smoothing }) ss) is

@@ -8,8 +8,7 @@ use Rattle.picture_job.specs.declared.picture.Picture.TheVariants.{Rows, Png, Ve
 use Rattle.devices.specs.Sinks.{SinkState}
 use Rattle.devices.specs.Sources.{SourceState}
 use Rattle.rows.specs.Boxes.{strokes_boxes}
-use Rattle.conversion.specs.PageJobs.{is_possible_in, on_page, rows_on, times_on}
-use Rattle.conversion.specs.PageJobs.{is_png_possible_in, png_on_page, png_rows_on}
+use Rattle.conversion.specs.PageJobs.{is_picture_possible, on_page, png_on_page, png_rows_on, rows_on, times_on}
 use Rattle.rows.specs.Documents.{png_boxes}
 use Rattle.conversion.specs.Conversions.{is_write}
 use Rattle.conversion.specs.Drawings.{HasDrawn}
@@ -40,12 +39,6 @@ abbrev pub has_labels : Picture → Bool
 has_labels (Vector job) = true
 has_labels _ = false
 
--- the form of a picture has its resolution, or has any if pixels are chosen, and a picture that is smoothed is not too fine
-abbrev pub is_picture_possible : PageChoice → Picture → Bool
-is_picture_possible choice (Rows job smoothing) = is_possible_in choice.pixels smoothing.times job
-is_picture_possible choice (Png job) = is_png_possible_in choice.pixels job
-is_picture_possible choice (Vector job) = true
-
 -- the picture of a sheet of a drawing, or of all that is drawn for 0, which is possible, was written by what a gauge reaches,
 -- or was not, for the reason that is answered; a vector document is named so
 abbrev pub WritesSheet : PageChoice → Picture → Naming → Reach → Drawing → ℕ → SinkState → SinkState → Result Outcome Fault →
@@ -73,21 +66,21 @@ IsToldOfPicture hears choice (Png job) page before after answer =
     IsTold is_write hears (png_rows_on choice page job) before after answer
 IsToldOfPicture hears choice (Vector job) page before after answer = after ≡ before
 
--- a plot was drawn for a picture, with its labels if the picture has them; if the picture is not possible, nothing was read
+-- a plot was drawn for a picture, with its labels if the picture has them
 pub record HasDrawnFor (rules : Rules) (choice : PageChoice) (picture : Picture) (before after : SourceState)
     (answer : Result Drawing Fault) : Type 0 where
-  pub unread : is_picture_possible choice picture ≡ false → (answer ≡ Err Resolution) × (after ≡ before)
-  pub draws : is_picture_possible choice picture ≡ true →
-      HasDrawn rules choice (pens_of picture) (page_of picture) before after answer
+  pub draws : HasDrawn rules choice (pens_of picture) (page_of picture) before after answer
   pub labelled : IfOk answer (λ drawing. drawing.lines.labelled ≡ has_labels picture)
 
 -- a plot was drawn for a picture, and then the picture of all that is drawn was written; or it was not drawn, for the reason
--- that is answered, and a watcher is told of nothing
-abbrev pub HasConvertedTo : {W : Type 0} → Rules → PageChoice → Picture → Naming → Reach → SourceState → SourceState →
-    SinkState → SinkState → (W → ℕ → ℕ → W → Type 0) → W → W → Result Outcome Fault → Type 0
-HasConvertedTo rules choice picture naming reaches before after sink sink' hears watcher watcher' answer =
-    ((drawing : Drawing) × HasDrawnFor rules choice picture before after (Ok drawing)
-    × WritesSheet choice picture naming reaches drawing 0 sink sink' answer
-    × IsToldOfPicture hears choice picture drawing.page watcher watcher' answer)
-    ⊎ ((fault : Fault) × HasDrawnFor rules choice picture before after (Err fault) × (answer ≡ Err fault)
-    × (watcher' ≡ watcher))
+-- that is answered, and a watcher is told of nothing. If the picture is not possible, nothing was read
+pub record HasConvertedTo {W : Type 0} (rules : Rules) (choice : PageChoice) (picture : Picture) (naming : Naming)
+    (reaches : Reach) (before after : SourceState) (sink sink' : SinkState) (hears : W → ℕ → ℕ → W → Type 0)
+    (watcher watcher' : W) (answer : Result Outcome Fault) : Type 0 where
+  pub unread : is_picture_possible choice picture ≡ false → (answer ≡ Err Resolution) × (after ≡ before) × (watcher' ≡ watcher)
+  pub converts : is_picture_possible choice picture ≡ true →
+      ((drawing : Drawing) × HasDrawnFor rules choice picture before after (Ok drawing)
+      × WritesSheet choice picture naming reaches drawing 0 sink sink' answer
+      × IsToldOfPicture hears choice picture drawing.page watcher watcher' answer)
+      ⊎ ((fault : Fault) × HasDrawnFor rules choice picture before after (Err fault) × (answer ≡ Err fault)
+      × (watcher' ≡ watcher))

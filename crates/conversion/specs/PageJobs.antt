@@ -4,6 +4,8 @@ use Rattle.plot_page.specs.Resolutions.{rows_of}
 use Rattle.plot_page.specs.declared.page.Page.{Page}
 use Rattle.picture_job.specs.declared.job.Job.{Job}
 use Rattle.picture_job.specs.declared.page_choice.PageChoice.{PageChoice}
+use Rattle.picture_job.specs.declared.picture.Picture.{Picture}
+use Rattle.picture_job.specs.declared.picture.Picture.TheVariants.{Rows, Png, Vector}
 use Rattle.picture_job.specs.declared.png_job.PngJob.{PngJob}
 use Rattle.picture_job.specs.declared.smoothing.Smoothing.{Smoothing}
 use Rattle.picture_job.specs.Sizes.{dots_in, smoothing_in}
@@ -18,22 +20,14 @@ on_page choice page job = record job { page = page; dots = dots_in choice.pixels
 abbrev pub rows_on : PageChoice → Page → Job → ℕ
 rows_on choice page job = rows_of page (on_page choice page job).dots - job.first_row
 
--- how many times finer this picture is painted
+-- how this picture is smoothed, and so how many times finer it is painted
+abbrev pub smoothing_on : PageChoice → Page → Job → Smoothing → Smoothing
+smoothing_on choice page job smoothing = smoothing_in choice.pixels (on_page choice page job).dots smoothing
+
 abbrev pub times_on : PageChoice → Page → Job → Smoothing → ℕ
-times_on choice page job smoothing = (smoothing_in choice.pixels (dots_in choice.pixels page job.dots) smoothing).times
+times_on choice page job smoothing = (smoothing_on choice page job smoothing).times
 
--- without pixels that are chosen, the form has the resolution, and the picture is not too fine to be smoothed; with them, the
--- form takes every resolution. If not, nothing is read
-abbrev pub is_possible_in : Option ℕ → ℕ → Job → Bool
-is_possible_in None n job = is_possible n job
-is_possible_in (Some pixels) n job = has_any_resolution job.form
-
--- the same where pixels may be chosen
-abbrev pub is_png_possible_in : Option ℕ → PngJob → Bool
-is_png_possible_in None job = is_png_possible job
-is_png_possible_in (Some pixels) job = true
-
--- the job on another page, whose picture has the resolution of the job, or as many pixels as are chosen
+-- the same of the job of a PNG
 abbrev pub png_on_page : PageChoice → Page → PngJob → PngJob
 png_on_page choice page job =
     let dots = dots_in choice.pixels page job.dots in
@@ -42,3 +36,20 @@ png_on_page choice page job =
 -- how many rows this picture has
 abbrev pub png_rows_on : PageChoice → Page → PngJob → ℕ
 png_rows_on choice page job = rows_of page (png_on_page choice page job).dots
+
+-- without pixels that are chosen, the form has the resolution, and the picture is not too fine to be smoothed; with them, the
+-- form takes every resolution. If not, nothing is read
+abbrev pub is_possible_in : Option ℕ → ℕ → Job → Bool
+is_possible_in None n job = is_possible n job
+is_possible_in (Some pixels) n job = has_any_resolution job.form
+
+-- the same of a PNG
+abbrev pub is_png_possible_in : Option ℕ → PngJob → Bool
+is_png_possible_in None job = is_png_possible job
+is_png_possible_in (Some pixels) job = true
+
+-- the form of a picture has its resolution, or has any if pixels are chosen, and a picture that is smoothed is not too fine
+abbrev pub is_picture_possible : PageChoice → Picture → Bool
+is_picture_possible choice (Rows job smoothing) = is_possible_in choice.pixels smoothing.times job
+is_picture_possible choice (Png job) = is_png_possible_in choice.pixels job
+is_picture_possible choice (Vector job) = true

@@ -23,6 +23,7 @@ use Rattle.picture_job.specs.declared.reading.Reading.{Reading}
 use Rattle.picture_job.specs.declared.reading.Reading.TheVariants.{Core, Full}
 use Rattle.rows.specs.Pictures.{Reach, has_resolution, strokes_picture}
 use Rattle.conversion.specs.Pictures.{plot_strokes, plot_refusal, refused_fault}
+use Rattle.conversion.specs.declared.setup.Setup.{Setup}
 use Rattle.conversion.specs.declared.fault.Fault.{Fault}
 use Rattle.conversion.specs.declared.fault.Fault.TheVariants.{TooLong, Memory, Write, Read, Resolution}
 
@@ -90,6 +91,10 @@ rules_with Core carousel = record core_rules {
   refusal = λ page plot. refusal_with carousel page (cut plot);
 }
 rules_with (Full sheet encoding) carousel = full_rules sheet encoding carousel
+
+-- how a plot is drawn with this setup
+abbrev pub rules_in : Setup → Rules
+rules_in setup = rules_with setup.reading setup.carousel.now
 
 -- the picture of a job and a plot by these rules, smoothed n times
 abbrev pub picture_by : Rules → ℕ → Job → Reach → List ℕ → List ℕ

@@ -8,7 +8,11 @@ ghost use Rattle.conversion.specs.Rules.{rules_of};
 use crate::done::Done;
 use crate::drawing::draw;
 use crate::fault::Fault;
+use crate::naming::Naming;
+use crate::request::Request;
+use crate::setup::Setup;
 use crate::sheet::write_strokes;
+use crate::shown::Shown;
 use carousel::Carousel;
 use devices::{Sink, Source};
 use picture_job::{Job, PageChoice, Picture, Reading, Smoothing};
@@ -72,20 +76,21 @@ pub(crate) fn convert_given<G: Gauge, S: Source, K: Sink>(
         job: *job,
         smoothing: Smoothing::NONE,
     };
-    let drawing = draw(
-        alloc,
+    let setup = Setup {
         reading,
-        &Carousel::empty(),
-        PageChoice::GIVEN,
-        &picture,
-        source,
-    )?;
-    let strokes = drawing.lines.strokes.as_slice();
+        carousel: &Carousel::empty(),
+        choice: PageChoice::GIVEN,
+    };
+    let request = Request::new(setup, &picture, Naming::NONE)?;
+    let drawing = draw(alloc, &request, source)?;
+    let shown = Shown {
+        drawing: &drawing,
+        strokes: drawing.lines.strokes.as_slice(),
+        choice: PageChoice::GIVEN,
+    };
     match write_strokes(
         alloc,
-        &drawing,
-        strokes,
-        PageChoice::GIVEN,
+        shown,
         job,
         Smoothing::NONE,
         gauge,

@@ -1,54 +1,44 @@
 //! Reading a plot from a source and drawing it.
-ghost use Rattle.std.specs.Prelude.{◌≡◌, ◌+◌, ◌-◌, ◌^◌, ◌<◌, ◌↔◌, Err, IfOk, false};
+ghost use Rattle.std.specs.Prelude.{◌≡◌, ◌+◌, ◌-◌, ◌^◌, ◌<◌, IfOk};
 ghost use Rattle.std.specs.Io.KnownBytes.{IsAtEnd};
 ghost use Rattle.conversion.specs.Drawings.{HasReadAndDrawn};
-ghost use Rattle.conversion.specs.Kinds.{HasDrawnFor, is_picture_possible};
-ghost use Rattle.conversion.specs.Rules.{rules_with};
+ghost use Rattle.conversion.specs.Kinds.{HasDrawnFor};
+ghost use Rattle.conversion.specs.Rules.{rules_in};
 
 use crate::fault::Fault;
 use crate::kinds::{has_labels, page_of, pens_of};
 use crate::place::{Drawing, draw_placed};
-use crate::possible::is_picture_possible;
 use crate::reading::read_plot;
-use carousel::Carousel;
+use crate::request::Request;
+use crate::setup::Setup;
 use devices::Source;
-use picture_job::{PageChoice, Picture, Reading};
 use plot_page::{Page, PenSet};
 use std::alloc::Global;
 
-/// What the plot that the source gives draws for a picture, in either profile, with the pens of the carousel, on the page that
-/// is chosen: the page of the picture, the page of the size that the plot asks for, or the page around what the picture's pens
+/// What the plot that the source gives draws for a picture that is asked for, in either profile, with the pens of the carousel, on
+/// the page that is chosen: the page of the picture, the page of the size that the plot asks for, or the page around what the picture's pens
 /// draw on either. The plot is drawn once; its strokes are moved to the page around them. Of the plot nothing else is kept,
 /// but for its labels, if the picture is a vector document. `write` then writes the picture of all that is drawn, or of a sheet.
 ///
-/// Errors, in this order: `Resolution` if the picture's form does not have its resolution, or it is smoothed too finely, and
-/// then the source is not read; `Read` if the source fails; `TooLong` if it gives more than 67,108,864 bytes; `Plot` if the
+/// Errors, in this order: `Read` if the source fails; `TooLong` if it gives more than 67,108,864 bytes; `Plot` if the
 /// plot is refused for the page that it asks for, if that is chosen and it asks for one, else for that of the picture. `Memory`
 /// comes when memory is refused.
 pub fn draw<S: Source>(
     alloc: Global,
-    reading: Reading,
-    carousel: &Carousel,
-    choice: PageChoice,
-    picture: &Picture,
+    request: &Request<'_>,
     source: &mut S,
 ) -> Result<Drawing, Fault>
     requires failing { (S.state source.old).faults < 2 ^ 64 - 1 }
     requires ending { (S.state source.old).ends < 2 ^ 64 - 1 }
-    ensures resolution { (result ≡ Err Fault.Resolution) ↔ (is_picture_possible choice picture.now ≡ false) }
-    ensures draws { HasDrawnFor (rules_with reading carousel.now) choice picture.now (S.state source.old) (S.state source.new) result }
-    ensures unread { is_picture_possible choice picture.now ≡ false → source.new ≡ source.old }
+    ensures draws { HasDrawnFor (rules_in request.now.setup) request.now.setup.choice request.now.picture.now
+        (S.state source.old) (S.state source.new) result }
     ensures end { (S.state source.new).ends ≡ (S.state source.old).ends + 1 → IsAtEnd (S.state source.new).left }
 {
-    if !is_picture_possible(choice, picture) {
-        return Err(Fault::Resolution);
-    }
+    let picture = request.picture;
     let page = page_of(picture);
     match read_and_draw(
         alloc,
-        reading,
-        carousel,
-        choice,
+        request.setup,
         pens_of(picture),
         &page,
         has_labels(picture),
@@ -74,9 +64,7 @@ pub struct ReadPlot {
 /// memory is refused.
 pub fn read_and_draw<S: Source>(
     alloc: Global,
-    reading: Reading,
-    carousel: &Carousel,
-    choice: PageChoice,
+    setup: Setup<'_>,
     pens: PenSet,
     page: &Page,
     keeps_labels: bool,
@@ -84,20 +72,11 @@ pub fn read_and_draw<S: Source>(
 ) -> Result<ReadPlot, Fault>
     requires failing { (S.state source.old).faults < 2 ^ 64 - 1 }
     requires ending { (S.state source.old).ends < 2 ^ 64 - 1 }
-    ensures draws { HasReadAndDrawn (rules_with reading carousel.now) choice pens page.now (S.state source.old) (S.state source.new) result }
+    ensures draws { HasReadAndDrawn (rules_in setup.entry) setup.entry.choice pens page.now (S.state source.old) (S.state source.new) result }
     ensures labelled { IfOk result (λ read. read.drawing.lines.labelled ≡ keeps_labels) }
     ensures end { (S.state source.new).ends ≡ (S.state source.old).ends + 1 → IsAtEnd (S.state source.new).left }
 {
     let text = read_plot(alloc, source)?;
-    let drawing = draw_placed(
-        alloc,
-        reading,
-        carousel,
-        choice,
-        pens,
-        page,
-        text.as_slice(),
-        keeps_labels,
-    )?;
+    let drawing = draw_placed(alloc, setup, pens, page, text.as_slice(), keeps_labels)?;
     Ok(ReadPlot { text, drawing })
 }

@@ -1,25 +1,25 @@
 //! Pictures of all kinds: in a form, as a PNG, or as a vector document.
-ghost use Rattle.std.specs.Prelude.{◌≡◌, ◌+◌, ◌-◌, ◌^◌, ◌<◌, ◌≤◌, ◌↔◌, Err, IfErr, false, true};
+ghost use Rattle.std.specs.Prelude.{◌≡◌, ◌+◌, ◌-◌, ◌^◌, ◌<◌, ◌≤◌, IfErr, false, true};
 ghost use Rattle.conversion.specs.Conversions.{is_write};
-ghost use Rattle.conversion.specs.Kinds.{IsToldOfPicture, WritesSheet, has_labels, is_picture_possible, most_tests, page_of, pens_of};
+ghost use Rattle.conversion.specs.Kinds.{IsToldOfPicture, WritesSheet, has_labels, most_tests, page_of, pens_of};
 
 use crate::fault::Fault;
-use crate::naming::Naming;
 use crate::outcome::Outcome;
 use crate::place::Drawing;
 use crate::png_sheet::write_png_strokes;
-use crate::possible::is_picture_possible;
+use crate::request::Request;
 use crate::sheet::write_strokes;
+use crate::shown::Shown;
 use crate::vector_sheet::write_vector_sheet;
 use devices::Sink;
 use full_plot::sheet_of;
-use picture_job::{PageChoice, Picture};
+use picture_job::Picture;
 use plot_page::{Page, PenSet};
 use rows::Watcher;
 use std::alloc::Global;
 use stroke_raster::Gauge;
 
-/// Writes the picture of a sheet of a drawing, which counts from 1, or of all that is drawn for 0, on the page where the
+/// Writes the picture that is asked for of a sheet of a drawing, which counts from 1, or of all that is drawn for 0, on the page where the
 /// drawing lies, and gives the sink back. The picture's page is not used. A pixel shows the pen and the colour of the last
 /// stroke of the selected pens that the gauge says reaches it; a vector document is named so.
 ///
@@ -40,51 +40,45 @@ use stroke_raster::Gauge;
 /// The gauge makes at most as many tests as the boxes of the strokes have pixels, whatever the band height. The watcher is
 /// told after each band of rows how many are written, and nothing of a vector document; a picture without rows has no bands.
 ///
-/// Errors, in this order: `Resolution` if the form does not have the picture's resolution, if pixels are chosen in PCL, which
-/// has resolutions of its own, or if the finer picture of a smoothed one would have more than 1,200 dots per inch and no
-/// pixels are chosen; `Paint` for a band height or a first row out of range; `Letters` if the labels have more letters than
+/// Errors, in this order: `Paint` for a band height or a first row out of range; `Letters` if the labels have more letters than
 /// the format of a document takes; if the sink fails, `Write`, or `Unfinished` for a PNG or a document, and what it has taken
 /// of one is of no use. `Memory` comes when memory is refused. After every error but `Write` and `Unfinished` the sink is as
 /// it was, and the watcher was told of nothing.
-#[tactic(auto, using(crate::proofs::Judged::picture_not_told))]
 pub fn write<G: Gauge, K: Sink, W: Watcher>(
     alloc: Global,
+    request: &Request<'_>,
     drawing: &Drawing,
     sheet: u32,
-    choice: PageChoice,
-    picture: &Picture,
-    naming: Naming<'_>,
     gauge: &mut G,
     sink: K,
     watcher: &mut W,
 ) -> (K, Result<Outcome, Fault>)
     requires sinking { (K.state sink).faults < 2 ^ 64 - 1 }
-    ensures resolution { (result.1 ≡ Err Fault.Resolution) ↔ (is_picture_possible choice picture.now ≡ false) }
-    ensures writes { is_picture_possible choice picture.now ≡ true →
-        WritesSheet choice picture.now naming.entry (G.reaches gauge.old) drawing.now sheet (K.state sink) (K.state result.0) result.1 }
-    ensures tests { G.count gauge.new ≤ G.count gauge.old + most_tests choice picture.now drawing.now sheet }
+    ensures writes { WritesSheet request.now.setup.choice request.now.picture.now request.now.naming
+        (G.reaches gauge.old) drawing.now sheet (K.state sink) (K.state result.0) result.1 }
+    ensures tests { G.count gauge.new ≤ G.count gauge.old
+        + most_tests request.now.setup.choice request.now.picture.now drawing.now sheet }
     ensures same { G.reaches gauge.new ≡ G.reaches gauge.old }
-    ensures told { IsToldOfPicture W.hears choice picture.now drawing.now.page watcher.old watcher.new result.1 }
+    ensures told { IsToldOfPicture W.hears request.now.setup.choice request.now.picture.now drawing.now.page
+        watcher.old watcher.new result.1 }
     ensures untouched { IfErr result.1 (λ fault. is_write fault ≡ false → result.0 ≡ sink) }
 {
-    if !is_picture_possible(choice, picture) {
-        return (sink, Err(Fault::Resolution));
-    }
     let lines = &drawing.lines;
-    let strokes = sheet_of(lines.strokes.as_slice(), lines.ends.as_slice(), sheet);
+    let shown = Shown {
+        drawing,
+        strokes: sheet_of(lines.strokes.as_slice(), lines.ends.as_slice(), sheet),
+        choice: request.setup.choice,
+    };
     let mut sink = sink;
+    let picture = request.picture;
     match picture {
         Picture::Rows { job, smoothing } => {
-            let outcome = write_strokes(
-                alloc, drawing, strokes, choice, job, *smoothing, gauge, &mut sink, watcher,
-            );
+            let outcome = write_strokes(alloc, shown, job, *smoothing, gauge, &mut sink, watcher);
             (sink, outcome)
         }
-        Picture::Png(job) => {
-            write_png_strokes(alloc, drawing, strokes, choice, job, gauge, sink, watcher)
-        }
+        Picture::Png(job) => write_png_strokes(alloc, shown, job, gauge, sink, watcher),
         Picture::Vector(job) => {
-            let outcome = write_vector_sheet(alloc, drawing, sheet, job, naming, &mut sink);
+            let outcome = write_vector_sheet(alloc, drawing, sheet, job, request.naming, &mut sink);
             (sink, outcome)
         }
     }

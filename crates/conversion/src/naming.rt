@@ -11,3 +11,11 @@ pub struct Naming<'a> {
     /// The title. An empty one is none, and neither is one of more than 900 bytes. An SVG has none.
     pub title: &'a str,
 }
+
+impl Naming<'static> {
+    /// No version and no title.
+    pub const NONE: Naming<'static> = Naming {
+        version: "",
+        title: "",
+    };
+}

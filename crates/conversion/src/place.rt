@@ -9,17 +9,17 @@ ghost use Rattle.plot_report.specs.Report.{report_page};
 ghost use Rattle.conversion.specs.Drawings.{AreLinesOf, AreMoved, IsReasonOnFirst, place_of};
 ghost use Rattle.conversion.specs.Placements.{IsAsked, IsDrawnOn, IsFitted, IsPlaced};
 ghost use Rattle.conversion.specs.Placements.{page_reported, place_on, placed_rules, reported_at};
-ghost use Rattle.conversion.specs.Rules.{rules_with};
+ghost use Rattle.conversion.specs.Rules.{rules_in, rules_with};
 
 use crate::as_read::draw_as;
 use crate::lines::Lines;
 use crate::placement::Placement;
-use carousel::Carousel;
+use crate::setup::Setup;
 use hpgl_plot::PlotFault;
 use hpgl_text::Profile;
 use labels::move_labels;
 use page_fit::{Corner, Extent, are_movable, corner_around, extent_of, move_strokes, page_around};
-use picture_job::{PageChoice, Reading};
+use picture_job::Reading;
 use plot_page::{Page, PenSet, Stroke};
 use plot_report::ReportPage;
 use plot_size::page_asked;
@@ -60,24 +60,29 @@ impl Drawing {
 /// Errors: the refusal of the plot for the page that it is drawn on; `Memory` if memory runs out.
 pub fn draw_placed(
     alloc: Global,
-    reading: Reading,
-    carousel: &Carousel,
-    choice: PageChoice,
+    setup: Setup<'_>,
     pens: PenSet,
     page: &Page,
     text: &[u8],
     keeps_labels: bool,
 ) -> Result<Drawing, PlotFault>
-    ensures placed { IfOk result (λ drawn. IsPlaced choice (rules_with reading carousel.now) pens page.now text.now (place_of drawn)) }
-    ensures lines { IfOk result (λ drawn. AreLinesOf (placed_rules (rules_with reading carousel.now) pens (place_of drawn))
+    ensures placed { IfOk result (λ drawn. IsPlaced setup.entry.choice (rules_in setup.entry) pens page.now text.now (place_of drawn)) }
+    ensures lines { IfOk result (λ drawn. AreLinesOf (placed_rules (rules_in setup.entry) pens (place_of drawn))
         drawn.page text.now drawn.lines) }
     ensures named { IfOk result (λ drawn. drawn.named ≡ page_reported (place_of drawn)) }
     ensures labelled { IfOk result (λ drawn. drawn.lines.labelled ≡ keeps_labels) }
-    ensures refused { IfErr result (IsReasonOnFirst choice (rules_with reading carousel.now) page.now text.now) }
+    ensures refused { IfErr result (IsReasonOnFirst setup.entry.choice (rules_in setup.entry) page.now text.now) }
 {
-    let (placement, first) = first_page(reading, choice.asked, page, text);
-    let lines = draw_as(alloc, reading, carousel, text, &first, keeps_labels)?;
-    Ok(match choice.margin {
+    let (placement, first) = first_page(setup.reading, setup.choice.asked, page, text);
+    let lines = draw_as(
+        alloc,
+        setup.reading,
+        setup.carousel,
+        text,
+        &first,
+        keeps_labels,
+    )?;
+    Ok(match setup.choice.margin {
         Some(margin) => fitted(margin, pens, first, lines),
         None => unmoved(placement, first, lines),
     })

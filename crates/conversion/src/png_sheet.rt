@@ -1,6 +1,5 @@
 //! The PNG of strokes of a drawing.
-ghost use Rattle.std.specs.Prelude.{◌≡◌, ◌+◌, ◌-◌, ◌^◌, ◌<◌, ◌≤◌, IfErr, true, false, length};
-ghost use Rattle.plot_page.specs.declared.stroke.TheConstants.{MOST_STROKES};
+ghost use Rattle.std.specs.Prelude.{◌≡◌, ◌+◌, ◌-◌, ◌^◌, ◌<◌, ◌≤◌, IfErr, true, false};
 ghost use Rattle.conversion.specs.Conversions.{is_write};
 ghost use Rattle.conversion.specs.PageJobs.{is_png_possible_in, png_on_page, png_rows_on};
 ghost use Rattle.rows.specs.Documents.{png_boxes};
@@ -9,11 +8,11 @@ ghost use Rattle.rows.specs.Watching.{IsTold};
 
 use crate::fault::Fault;
 use crate::outcome::Outcome;
-use crate::place::Drawing;
+use crate::page_job::png_on_page;
 use crate::sheet::outcome_of;
+use crate::shown::Shown;
 use devices::Sink;
-use picture_job::{PageChoice, PngJob};
-use plot_page::Stroke;
+use picture_job::PngJob;
 use rows::{Watcher, paint_png};
 use std::alloc::Global;
 use stroke_raster::Gauge;
@@ -23,38 +22,30 @@ use stroke_raster::Gauge;
 #[tactic(auto, using(rows::proofs::Watched::not_told))]
 pub(crate) fn write_png_strokes<G: Gauge, K: Sink, W: Watcher>(
     alloc: Global,
-    drawing: &Drawing,
-    strokes: &[Stroke],
-    choice: PageChoice,
+    shown: Shown<'_>,
     job: &PngJob,
     gauge: &mut G,
     sink: K,
     watcher: &mut W,
 ) -> (K, Result<Outcome, Fault>)
-    requires possible { is_png_possible_in choice.pixels job.now ≡ true }
-    requires few { length strokes.now ≤ MOST_STROKES }
+    requires possible { is_png_possible_in shown.choice.pixels job.now ≡ true }
     requires sinking { (K.state sink).faults < 2 ^ 64 - 1 }
-    ensures writes { WritesPng choice job.now drawing.now strokes.now (G.reaches gauge.old)
+    ensures writes { WritesPng shown.entry.choice job.now shown.entry.drawing.now shown.entry.strokes.now (G.reaches gauge.old)
         (K.state sink) (K.state result.0) result.1 }
     ensures tests { G.count gauge.new ≤ G.count gauge.old
-        + png_boxes (png_on_page choice drawing.now.page job.now) strokes.now }
+        + png_boxes (png_on_page shown.entry.choice shown.entry.drawing.now.page job.now) shown.entry.strokes.now }
     ensures same { G.reaches gauge.new ≡ G.reaches gauge.old }
-    ensures told { IsTold is_write W.hears (png_rows_on choice drawing.now.page job.now) watcher.old watcher.new result.1 }
+    ensures told { IsTold is_write W.hears (png_rows_on shown.entry.choice shown.entry.drawing.now.page job.now)
+        watcher.old watcher.new result.1 }
     ensures untouched { IfErr result.1 (λ fault. is_write fault ≡ false → result.0 ≡ sink) }
 {
-    let page = drawing.page;
-    let dots = choice.dots(&page, job.dots);
-    let smoothing = choice.smoothing(dots, job.smoothing);
-    let job = PngJob {
-        page,
-        dots,
-        smoothing,
-        ..*job
-    };
-    let (sink, painted) = paint_png(alloc, &job, strokes, gauge, sink, watcher);
+    let page = shown.drawing.page;
+    let job = png_on_page(shown.choice, page, job);
+    let (sink, painted) = paint_png(alloc, &job, shown.strokes, gauge, sink, watcher);
     match painted {
         Ok(()) => {
-            let outcome = outcome_of(drawing, job.pens, strokes, dots.rows(&page), 0);
+            let rows = job.dots.rows(&page);
+            let outcome = outcome_of(shown.drawing, job.pens, shown.strokes, rows, 0);
             (sink, Ok(outcome))
         }
         Err(fault) => (sink, Err(Fault::from(fault))),

@@ -1,7 +1,6 @@
 //! Whether a picture can have its resolution, which is judged before anything is read.
 ghost use Rattle.std.specs.Prelude.{◌≡◌};
-ghost use Rattle.conversion.specs.Kinds.{is_picture_possible};
-ghost use Rattle.conversion.specs.PageJobs.{is_png_possible_in, is_possible_in};
+ghost use Rattle.conversion.specs.PageJobs.{is_picture_possible, is_png_possible_in, is_possible_in};
 
 use picture_job::{Job, PageChoice, Picture, PngJob, Smoothing};
 use rows::{has_any_resolution, is_png_possible, is_possible};

@@ -5,14 +5,15 @@ ghost use Rattle.plot_page.specs.declared.stroke.TheConstants.{MOST_STROKES};
 ghost use Rattle.hpgl_text.specs.declared.program.TheConstants.{LONGEST_PLOT};
 ghost use Rattle.devices.specs.Sinks.{Writes};
 ghost use Rattle.conversion.specs.Conversions.{is_write};
+ghost use Rattle.conversion.specs.Rules.{rules_in};
 ghost use Rattle.conversion.specs.Reports.{HasReported, HasReportedOn, WritesReport, report_on};
-ghost use Rattle.conversion.specs.Rules.{rules_with};
 
 use crate::done::Done;
 use crate::drawing::read_and_draw;
 use crate::fault::Fault;
 use crate::outcome::Outcome;
 use crate::place::Drawing;
+use crate::setup::Setup;
 use crate::sheet::outcome_of;
 use carousel::Carousel;
 use devices::{Sink, Source, WriteFault};
@@ -44,15 +45,12 @@ pub fn report<S: Source, K: Sink>(
     ensures end { (S.state source.new).ends ≡ (S.state source.old).ends + 1 → IsAtEnd (S.state source.new).left }
     ensures untouched { IfErr result (λ fault. is_write fault ≡ false → sink.new ≡ sink.old) }
 {
-    match report_on(
-        alloc,
-        Reading::Core,
-        &Carousel::empty(),
-        PageChoice::GIVEN,
-        page,
-        source,
-        sink,
-    ) {
+    let setup = Setup {
+        reading: Reading::Core,
+        carousel: &Carousel::empty(),
+        choice: PageChoice::GIVEN,
+    };
+    match report_on(alloc, setup, page, source, sink) {
         Ok(outcome) => Ok(outcome.done),
         Err(fault) => Err(fault),
     }
@@ -66,9 +64,7 @@ pub fn report<S: Source, K: Sink>(
 /// chosen and it asks for one, else for the page that is given.
 pub fn report_on<S: Source, K: Sink>(
     alloc: Global,
-    reading: Reading,
-    carousel: &Carousel,
-    choice: PageChoice,
+    setup: Setup<'_>,
     page: &Page,
     source: &mut S,
     sink: &mut K,
@@ -76,14 +72,20 @@ pub fn report_on<S: Source, K: Sink>(
     requires failing { (S.state source.old).faults < 2 ^ 64 - 1 }
     requires ending { (S.state source.old).ends < 2 ^ 64 - 1 }
     requires sinking { (K.state sink.old).faults < 2 ^ 64 - 1 }
-    ensures reports { HasReportedOn (rules_with reading carousel.now) reading choice page.now
+    ensures reports { HasReportedOn (rules_in setup.entry) setup.entry.reading setup.entry.choice page.now
         (S.state source.old) (S.state source.new) (K.state sink.old) (K.state sink.new) result }
     ensures end { (S.state source.new).ends ≡ (S.state source.old).ends + 1 → IsAtEnd (S.state source.new).left }
     ensures untouched { IfErr result (λ fault. is_write fault ≡ false → sink.new ≡ sink.old) }
 {
     let pens = PenSet::all();
-    match read_and_draw(alloc, reading, carousel, choice, pens, page, false, source) {
-        Ok(read) => report_drawing(reading, pens, &read.drawing, read.text.as_slice(), sink),
+    match read_and_draw(alloc, setup, pens, page, false, source) {
+        Ok(read) => report_drawing(
+            setup.reading,
+            pens,
+            &read.drawing,
+            read.text.as_slice(),
+            sink,
+        ),
         Err(fault) => Err(fault),
     }
 }

@@ -1,6 +1,5 @@
 //! The picture in a form of strokes of a drawing.
-ghost use Rattle.std.specs.Prelude.{◌≡◌, ◌+◌, ◌-◌, ◌^◌, ◌<◌, ◌≤◌, IfErr, true, false, length};
-ghost use Rattle.plot_page.specs.declared.stroke.TheConstants.{MOST_STROKES};
+ghost use Rattle.std.specs.Prelude.{◌≡◌, ◌+◌, ◌-◌, ◌^◌, ◌<◌, ◌≤◌, IfErr, true, false};
 ghost use Rattle.rows.specs.Boxes.{strokes_boxes};
 ghost use Rattle.conversion.specs.PageJobs.{is_possible_in, on_page, rows_on, times_on};
 ghost use Rattle.conversion.specs.Conversions.{is_write};
@@ -10,10 +9,12 @@ ghost use Rattle.rows.specs.Watching.{IsTold};
 use crate::done::Done;
 use crate::fault::Fault;
 use crate::outcome::Outcome;
+use crate::page_job::{on_page, smoothing_on};
 use crate::place::Drawing;
+use crate::shown::Shown;
 use devices::Sink;
 use page_fit::census_of;
-use picture_job::{Job, PageChoice, Smoothing};
+use picture_job::{Job, Smoothing};
 use plot_page::{PenSet, Stroke};
 use rows::{Watcher, paint};
 use std::alloc::Global;
@@ -24,36 +25,34 @@ use stroke_raster::Gauge;
 #[tactic(auto, using(rows::proofs::Watched::not_told))]
 pub(crate) fn write_strokes<G: Gauge, K: Sink, W: Watcher>(
     alloc: Global,
-    drawing: &Drawing,
-    strokes: &[Stroke],
-    choice: PageChoice,
+    shown: Shown<'_>,
     job: &Job,
     smoothing: Smoothing,
     gauge: &mut G,
     sink: &mut K,
     watcher: &mut W,
 ) -> Result<Outcome, Fault>
-    requires possible { is_possible_in choice.pixels smoothing.times job.now ≡ true }
-    requires few { length strokes.now ≤ MOST_STROKES }
+    requires possible { is_possible_in shown.choice.pixels smoothing.times job.now ≡ true }
     requires sinking { (K.state sink.old).faults < 2 ^ 64 - 1 }
-    ensures writes { WritesStrokes choice smoothing job.now drawing.now strokes.now (G.reaches gauge.old)
-        (K.state sink.old) (K.state sink.new) result }
-    ensures tests { G.count gauge.new ≤ G.count gauge.old + strokes_boxes (times_on choice drawing.now.page job.now smoothing)
-        (on_page choice drawing.now.page job.now) strokes.now }
+    ensures writes { WritesStrokes shown.entry.choice smoothing job.now shown.entry.drawing.now shown.entry.strokes.now
+        (G.reaches gauge.old) (K.state sink.old) (K.state sink.new) result }
+    ensures tests { G.count gauge.new ≤ G.count gauge.old
+        + strokes_boxes (times_on shown.entry.choice shown.entry.drawing.now.page job.now smoothing)
+        (on_page shown.entry.choice shown.entry.drawing.now.page job.now) shown.entry.strokes.now }
     ensures same { G.reaches gauge.new ≡ G.reaches gauge.old }
-    ensures told { IsTold is_write W.hears (rows_on choice drawing.now.page job.now) watcher.old watcher.new result }
+    ensures told { IsTold is_write W.hears (rows_on shown.entry.choice shown.entry.drawing.now.page job.now)
+        watcher.old watcher.new result }
     ensures untouched { IfErr result (λ fault. is_write fault ≡ false → sink.new ≡ sink.old) }
 {
-    let page = drawing.page;
-    let dots = choice.dots(&page, job.dots);
-    let times = choice.smoothing(dots, smoothing);
-    let job = Job { page, dots, ..*job };
-    let bytes = match paint(alloc, &job, times, strokes, gauge, sink, watcher) {
+    let page = shown.drawing.page;
+    let times = smoothing_on(shown.choice, page, job, smoothing);
+    let job = on_page(shown.choice, page, job);
+    let bytes = match paint(alloc, &job, times, shown.strokes, gauge, sink, watcher) {
         Ok(bytes) => bytes,
         Err(fault) => return Err(Fault::from(fault)),
     };
-    let rows = dots.rows(&page) - job.first_row;
-    Ok(outcome_of(drawing, job.pens, strokes, rows, bytes))
+    let rows = job.dots.rows(&page) - job.first_row;
+    Ok(outcome_of(shown.drawing, job.pens, shown.strokes, rows, bytes))
 }
 
 /// What is told of a picture of strokes of a drawing, of which so many rows and bytes were written.

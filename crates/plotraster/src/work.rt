@@ -10,10 +10,10 @@ use crate::remarks::tell_outcome;
 use crate::run::{naming_of, run_task};
 use crate::sheets::{draw_sheets, write_sheet};
 use command_line::Line;
-use conversion::{Drawing, Fault, Outcome, status};
+use conversion::{Drawing, Fault, Outcome, Request, Setup, status};
 use delivery::{About, Answer, Ending, Refusal, Sheets, Voice, Work};
 use devices::{OverRead, OverWrite};
-use picture_job::Picture;
+use picture_job::Reading;
 use std::alloc::Global;
 use std::fmt::{Display, Formatter};
 use std::io::{Read, Write};
@@ -41,7 +41,7 @@ pub struct DrawnSheets<'r, 'm, 'a, T: Terminal> {
     line: &'r Line<'m, 'a>,
     terminal: &'r T,
     alloc: Global,
-    picture: &'r Picture,
+    request: Request<'r>,
     drawing: Drawing,
 }
 
@@ -87,9 +87,7 @@ impl<'r, 'm, 'a, T: Terminal> Work for LineWork<'r, 'm, 'a, T> {
         let mut source = OverRead::new(plot);
         let (sink, outcome) = run_task(
             self.alloc,
-            reading_for(line),
-            &line.carousel,
-            line.choice,
+            setup_of(line, reading_for(line)),
             &line.task,
             naming_of(title_of(file)),
             &mut source,
@@ -111,21 +109,18 @@ impl<'r, 'm, 'a, T: Terminal> Work for LineWork<'r, 'm, 'a, T> {
         let Some(picture) = picture_apart(line) else {
             return Err(Undrawn(Fault::Resolution));
         };
+        let setup = setup_of(line, of_all_sheets(line.reading));
+        let request = match Request::new(setup, picture, naming_of("")) {
+            Ok(request) => request,
+            Err(fault) => return Err(Undrawn(fault)),
+        };
         let mut source = OverRead::new(plot);
-        let drawn = draw_sheets(
-            self.alloc,
-            of_all_sheets(line.reading),
-            &line.carousel,
-            line.choice,
-            picture,
-            &mut source,
-        );
-        match drawn {
+        match draw_sheets(self.alloc, &request, &mut source) {
             Ok(drawing) => Ok(DrawnSheets {
                 line,
                 terminal: self.terminal,
                 alloc: self.alloc,
-                picture,
+                request,
                 drawing,
             }),
             Err(fault) => Err(Undrawn(fault)),
@@ -154,11 +149,9 @@ impl<'r, 'm, 'a, T: Terminal> Sheets for DrawnSheets<'r, 'm, 'a, T> {
         let mut progress = Progress::new(self.terminal, about, line.progress);
         let (sink, outcome) = write_sheet(
             self.alloc,
+            &self.request,
             &self.drawing,
             number,
-            line.choice,
-            self.picture,
-            naming_of(""),
             OverWrite::new(to),
             &mut progress,
         );
@@ -169,6 +162,15 @@ impl<'r, 'm, 'a, T: Terminal> Sheets for DrawnSheets<'r, 'm, 'a, T> {
             outcome,
         };
         (sink.into_inner(), answer)
+    }
+}
+
+// How a plot is read and drawn by a command line, in this reading.
+fn setup_of<'r>(line: &'r Line<'_, '_>, reading: Reading) -> Setup<'r> {
+    Setup {
+        reading,
+        carousel: &line.carousel,
+        choice: line.choice,
     }
 }
 

@@ -2,8 +2,8 @@
 use crate::cases::text_of;
 use crate::pages::eight_by_eight;
 use plotraster::{
-    Carousel, Encoding, Form, OverRead, OverWrite, PageChoice, Picture, Reading, Smoothing, Task,
-    Unwatched, naming_of, read_colours, read_widths, run_task,
+    Carousel, Encoding, Form, OverRead, OverWrite, PageChoice, Picture, Reading, Setup, Smoothing,
+    Task, Unwatched, naming_of, read_colours, read_widths, run_task,
 };
 use std::alloc::Global;
 use std::test::Fail;
@@ -33,9 +33,11 @@ fn drawn(
     };
     let (sink, answer) = run_task(
         alloc,
-        reading,
-        &carousel,
-        PageChoice::GIVEN,
+        Setup {
+            reading,
+            carousel: &carousel,
+            choice: PageChoice::GIVEN,
+        },
         &Task::Picture(picture),
         naming_of(""),
         &mut OverRead::new(plot),

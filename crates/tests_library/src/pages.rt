@@ -1,7 +1,8 @@
 //! The page that most tests draw on, the plots that they draw, and where plots are placed.
 use crate::cases::text_of;
 use plotraster::{
-    Carousel, Dots, Form, Job, OverRead, OverWrite, Page, PageChoice, PenSet, Reading, report_on,
+    Carousel, Dots, Form, Job, OverRead, OverWrite, Page, PageChoice, PenSet, Reading, Setup,
+    report_on,
 };
 use std::alloc::Global;
 use std::test::Fail;
@@ -42,9 +43,11 @@ pub fn placed_on(
     let mut source = OverRead::new(plot.as_bytes());
     let outcome = report_on(
         alloc,
-        reading,
-        &Carousel::empty(),
-        choice,
+        Setup {
+            reading,
+            carousel: &Carousel::empty(),
+            choice,
+        },
         page,
         &mut source,
         &mut sink,

@@ -4,7 +4,7 @@ use crate::pages::placed_on;
 use crate::placements::fitted;
 use plotraster::{
     Carousel, Dots, Encoding, Fault, Form, Job, OverRead, OverWrite, Page, PageChoice, PenSet,
-    Picture, PlotFault, Reading, Smoothing, Task, Unwatched, naming_of, report_on, run_task,
+    Picture, PlotFault, Reading, Setup, Smoothing, Task, Unwatched, naming_of, report_on, run_task,
 };
 use std::alloc::Global;
 use std::test::Fail;
@@ -110,9 +110,11 @@ fn drawn(alloc: Global, choice: PageChoice, plot: &[u8]) -> Result<String, Fail>
     };
     let (sink, answer) = run_task(
         alloc,
-        Reading::Core,
-        &Carousel::empty(),
-        choice,
+        Setup {
+            reading: Reading::Core,
+            carousel: &Carousel::empty(),
+            choice,
+        },
         &Task::Picture(Picture::Rows {
             job,
             smoothing: Smoothing::NONE,
@@ -181,9 +183,11 @@ fn refusal(
     let mut source = OverRead::new(plot);
     Ok(report_on(
         alloc,
-        Reading::Core,
-        &Carousel::empty(),
-        choice,
+        Setup {
+            reading: Reading::Core,
+            carousel: &Carousel::empty(),
+            choice,
+        },
         &page,
         &mut source,
         &mut sink,

@@ -2,8 +2,8 @@
 use crate::cases::text_of;
 use crate::pages::{eight_by_eight, placed_on};
 use plotraster::{
-    Carousel, Form, Job, OverRead, OverWrite, PageChoice, PenSet, Picture, Reading, Smoothing,
-    Task, Unwatched, naming_of, run_task,
+    Carousel, Form, Job, OverRead, OverWrite, PageChoice, PenSet, Picture, Reading, Setup,
+    Smoothing, Task, Unwatched, naming_of, run_task,
 };
 use std::alloc::Global;
 use std::test::Fail;
@@ -150,9 +150,11 @@ fn drawn(alloc: Global, pens: PenSet, plot: &[u8]) -> Result<String, Fail> {
     let choice = fitted(0);
     let (sink, answer) = run_task(
         alloc,
-        Reading::Core,
-        &Carousel::empty(),
-        choice,
+        Setup {
+            reading: Reading::Core,
+            carousel: &Carousel::empty(),
+            choice,
+        },
         &Task::Picture(Picture::Rows {
             job,
             smoothing: Smoothing::NONE,

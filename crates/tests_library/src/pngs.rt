@@ -2,7 +2,7 @@
 use crate::streams::{Reader, Writer};
 use plotraster::{
     Carousel, Dots, Fault, Outcome, OverRead, OverWrite, Page, PageChoice, PenSet, Picture, PngJob,
-    Reading, Smoothing, Task, Unwatched, naming_of, number, run_task, status,
+    Reading, Setup, Smoothing, Task, Unwatched, naming_of, number, run_task, status,
 };
 use std::alloc::Global;
 use std::test::Fail;
@@ -65,9 +65,11 @@ fn job_of(per_inch: u32, pens: PenSet) -> Result<PngJob, Fail> {
 fn run(alloc: Global, job: &PngJob, plot: &[u8], writer: Writer) -> Answered {
     let (sink, answer) = run_task(
         alloc,
-        Reading::Core,
-        &Carousel::empty(),
-        PageChoice::GIVEN,
+        Setup {
+            reading: Reading::Core,
+            carousel: &Carousel::empty(),
+            choice: PageChoice::GIVEN,
+        },
         &Task::Picture(Picture::Png(*job)),
         naming_of(""),
         &mut OverRead::new(Reader::new(plot)),

@@ -3,7 +3,7 @@ use crate::cases::text_of;
 use crate::pages::eight_by_eight;
 use crate::runs::drawn_as;
 use plotraster::{
-    Carousel, CharacterSet, Encoding, Form, OverRead, OverWrite, Page, PageChoice, Reading,
+    Carousel, CharacterSet, Encoding, Form, OverRead, OverWrite, Page, PageChoice, Reading, Setup,
     report_on,
 };
 use std::alloc::Global;
@@ -100,9 +100,11 @@ fn reported(alloc: Global, reading: Reading, page: &Page, plot: &[u8]) -> Result
     let choice = PageChoice::GIVEN;
     let done = report_on(
         alloc,
-        reading,
-        &Carousel::empty(),
-        choice,
+        Setup {
+            reading,
+            carousel: &Carousel::empty(),
+            choice,
+        },
         page,
         &mut source,
         &mut sink,
@@ -133,9 +135,11 @@ fn sheets(alloc: Global, reading: Reading) -> Result<usize, Fail> {
     let mut sink = OverWrite::new(Vec::new(alloc));
     let outcome = report_on(
         alloc,
-        reading,
-        &Carousel::empty(),
-        PageChoice::GIVEN,
+        Setup {
+            reading,
+            carousel: &Carousel::empty(),
+            choice: PageChoice::GIVEN,
+        },
         &eight_by_eight(Form::Pbm)?.page,
         &mut OverRead::new(SHEETS),
         &mut sink,

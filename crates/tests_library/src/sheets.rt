@@ -3,7 +3,7 @@ use crate::pages::eight_by_eight;
 use crate::runs::drawn_as;
 use plotraster::{
     Carousel, Dots, Drawing, Encoding, Fault, Form, Job, OverRead, OverWrite, PageChoice, Picture,
-    PngJob, Reading, Smoothing, Unwatched, draw_sheets, naming_of, write_sheet,
+    PngJob, Reading, Request, Setup, Smoothing, Unwatched, draw_sheets, naming_of, write_sheet,
 };
 use std::alloc::Global;
 use std::test::Fail;
@@ -34,10 +34,15 @@ fn drawing(
     let mut source = OverRead::new(plot);
     draw_sheets(
         alloc,
-        reading,
-        &Carousel::empty(),
-        choice,
-        picture,
+        &Request::new(
+            Setup {
+                reading,
+                carousel: &Carousel::empty(),
+                choice,
+            },
+            picture,
+            naming_of(""),
+        )?,
         &mut source,
     )
 }
@@ -54,11 +59,17 @@ fn picture_of(
     let naming = naming_of("");
     let (sink, outcome) = write_sheet(
         alloc,
+        &Request::new(
+            Setup {
+                reading: ALL,
+                carousel: &Carousel::empty(),
+                choice,
+            },
+            picture,
+            naming,
+        )?,
         drawing,
         sheet,
-        choice,
-        picture,
-        naming,
         sink,
         &mut Unwatched,
     );

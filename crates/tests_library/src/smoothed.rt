@@ -3,7 +3,7 @@ use crate::pages::{LINE, job_at};
 use crate::streams::{Reader, Writer};
 use plotraster::{
     Carousel, Dots, Fault, Form, Job, Outcome, OverRead, OverWrite, Page, PageChoice, PenSet,
-    Picture, PngJob, Reading, Smoothing, Task, Unwatched, naming_of, run_task,
+    Picture, PngJob, Reading, Setup, Smoothing, Task, Unwatched, naming_of, run_task,
 };
 use std::alloc::Global;
 use std::test::Fail;
@@ -32,9 +32,11 @@ fn run<'a>(alloc: Global, task: &Task, plot: &'a [u8], writer: Writer) -> Answer
     let mut source = OverRead::new(Reader::new(plot));
     let (sink, answer) = run_task(
         alloc,
-        Reading::Core,
-        &Carousel::empty(),
-        PageChoice::GIVEN,
+        Setup {
+            reading: Reading::Core,
+            carousel: &Carousel::empty(),
+            choice: PageChoice::GIVEN,
+        },
         task,
         naming_of(""),
         &mut source,

@@ -1,7 +1,7 @@
 //! Smoothed pictures. The sums of their bytes are those of pictures whose pixels were compared with the means of pixels of the
 //! finer ones.
 use carousel::Carousel;
-use conversion::{Fault, Naming, Unwatched, draw, write};
+use conversion::{Fault, Naming, Request, Setup, Unwatched, draw, write};
 use crc32::crc_of;
 use devices::{OverRead, OverWrite};
 use picture_job::{Job, PageChoice, Picture, PngJob, Reading, Smoothing};
@@ -39,21 +39,18 @@ fn pixmap_sum(alloc: Global, per_inch: u32, times: u32) -> Result<u32, Fail> {
 // The contract of this function promises nothing, so no proof of a test reads what conversions are proved to do: a test looks
 // at the sums.
 fn sum_of(alloc: Global, picture: &Picture) -> Result<u32, Fault> {
-    let drawing = draw(
-        alloc,
-        Reading::Core,
-        &Carousel::empty(),
-        PageChoice::GIVEN,
-        picture,
-        &mut OverRead::new(LINES),
-    )?;
+    let setup = Setup {
+        reading: Reading::Core,
+        carousel: &Carousel::empty(),
+        choice: PageChoice::GIVEN,
+    };
+    let request = Request::new(setup, picture, UNNAMED)?;
+    let drawing = draw(alloc, &request, &mut OverRead::new(LINES))?;
     let (sink, answer) = write(
         alloc,
+        &request,
         &drawing,
         0,
-        PageChoice::GIVEN,
-        picture,
-        UNNAMED,
         &mut Exact::new(),
         OverWrite::new(Vec::new(alloc)),
         &mut Unwatched,

@@ -2,8 +2,8 @@
 use crate::streams::{Reader, Writer};
 use crate::vectors::{ALL, count_of, job_of, run};
 use plotraster::{
-    Carousel, Encoding, OverRead, OverWrite, PageChoice, PenSet, Picture, Reading, Unwatched,
-    VectorFormat, draw_sheets, naming_of, write_sheet,
+    Carousel, Encoding, OverRead, OverWrite, PageChoice, PenSet, Picture, Reading, Request, Setup,
+    Unwatched, VectorFormat, draw_sheets, naming_of, write_sheet,
 };
 use std::test::Fail;
 
@@ -53,22 +53,19 @@ fn titles_of_groups(rt: HostRuntime) -> Result<(), Fail> {
 fn labels_of_one_sheet(rt: HostRuntime) -> Result<(), Fail> {
     let alloc = rt.alloc();
     let picture = Picture::Vector(job_of(VectorFormat::Svg, PenSet::all())?);
-    let drawing = draw_sheets(
-        alloc,
-        ALL,
-        &Carousel::empty(),
-        PageChoice::GIVEN,
-        &picture,
-        &mut OverRead::new(Reader::new(LABELLED)),
-    )?;
+    let setup = Setup {
+        reading: ALL,
+        carousel: &Carousel::empty(),
+        choice: PageChoice::GIVEN,
+    };
+    let request = Request::new(setup, &picture, naming_of(""))?;
+    let drawing = draw_sheets(alloc, &request, &mut OverRead::new(Reader::new(LABELLED)))?;
     for (sheet, counts) in [(1, [1, 1, 0]), (2, [0, 0, 1]), (3, [0, 0, 0])] {
         let (sink, outcome) = write_sheet(
             alloc,
+            &request,
             &drawing,
             sheet,
-            PageChoice::GIVEN,
-            &picture,
-            naming_of(""),
             OverWrite::new(Writer::new(alloc)),
             &mut Unwatched,
         );

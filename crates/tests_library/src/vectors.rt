@@ -2,8 +2,8 @@
 use crate::streams::{Reader, Writer};
 use plotraster::{
     Carousel, Encoding, Fault, Naming, Outcome, OverRead, OverWrite, Page, PageChoice, PenSet,
-    Picture, Reading, Task, Unwatched, VectorFormat, VectorJob, draw_sheets, naming_of, number,
-    run_task, status, write_sheet,
+    Picture, Reading, Request, Setup, Task, Unwatched, VectorFormat, VectorJob, draw_sheets,
+    naming_of, number, run_task, status, write_sheet,
 };
 use std::alloc::Global;
 use std::test::Fail;
@@ -61,9 +61,11 @@ pub fn run(
 ) -> Answered {
     let (sink, answer) = run_task(
         alloc,
-        reading,
-        &Carousel::empty(),
-        PageChoice::GIVEN,
+        Setup {
+            reading,
+            carousel: &Carousel::empty(),
+            choice: PageChoice::GIVEN,
+        },
         &Task::Picture(Picture::Vector(job)),
         naming,
         &mut OverRead::new(Reader::new(plot)),
@@ -140,21 +142,18 @@ fn one_sheet_has_no_group(rt: HostRuntime) -> Result<(), Fail> {
     );
     // A sheet of a drawing of all sheets is the same.
     let picture = Picture::Vector(job);
-    let drawing = draw_sheets(
-        alloc,
-        ALL,
-        &Carousel::empty(),
-        PageChoice::GIVEN,
-        &picture,
-        &mut OverRead::new(Reader::new(SHEETS)),
-    )?;
+    let setup = Setup {
+        reading: ALL,
+        carousel: &Carousel::empty(),
+        choice: PageChoice::GIVEN,
+    };
+    let request = Request::new(setup, &picture, naming_of(""))?;
+    let drawing = draw_sheets(alloc, &request, &mut OverRead::new(Reader::new(SHEETS)))?;
     let (sink, outcome) = write_sheet(
         alloc,
+        &request,
         &drawing,
         1,
-        PageChoice::GIVEN,
-        &picture,
-        naming_of(""),
         OverWrite::new(Writer::new(alloc)),
         &mut Unwatched,
     );
@@ -228,9 +227,11 @@ fn fitted_documents(rt: HostRuntime) -> Result<(), Fail> {
         let mut source = OverRead::new(Reader::new(b"SP1;PU30,30;PD130,30;"));
         let (sink, answer) = run_task(
             alloc,
-            Reading::Core,
-            &Carousel::empty(),
-            choice,
+            Setup {
+                reading: Reading::Core,
+                carousel: &Carousel::empty(),
+                choice,
+            },
             &Task::Picture(Picture::Vector(job_of(format, PenSet::all())?)),
             naming_of(""),
             &mut source,
@@ -317,9 +318,11 @@ fn refused_plots(rt: HostRuntime) -> Result<(), Fail> {
         let mut source = OverRead::new(Reader::new(b"SP1;PD8388607,8388607;"));
         let (sink, answer) = run_task(
             alloc,
-            Reading::Core,
-            &Carousel::empty(),
-            choice,
+            Setup {
+                reading: Reading::Core,
+                carousel: &Carousel::empty(),
+                choice,
+            },
             &Task::Picture(Picture::Vector(job)),
             naming_of(""),
             &mut source,

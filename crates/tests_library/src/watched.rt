@@ -5,8 +5,8 @@ use crate::pages::{CROSSING, eight_by_eight, job_at};
 use crate::runs::drawn;
 use crate::streams::Writer;
 use plotraster::{
-    Carousel, Fault, Form, Job, OverRead, OverWrite, PageChoice, Picture, PngJob, Reading,
-    Smoothing, Task, Watcher, draw_sheets, naming_of, run_task, write_sheet,
+    Carousel, Fault, Form, Job, OverRead, OverWrite, PageChoice, Picture, PngJob, Reading, Request,
+    Setup, Smoothing, Task, Watcher, naming_of, run_task,
 };
 use std::alloc::Global;
 use std::process::Abort;
@@ -52,9 +52,11 @@ fn is_told(
     };
     let (sink, answer) = run_task(
         alloc,
-        Reading::Core,
-        &Carousel::empty(),
-        PageChoice::GIVEN,
+        Setup {
+            reading: Reading::Core,
+            carousel: &Carousel::empty(),
+            choice: PageChoice::GIVEN,
+        },
         &Task::Picture(rows_of(job)),
         naming_of(""),
         &mut OverRead::new(CROSSING),
@@ -103,9 +105,11 @@ fn is_not_told(rt: &impl Abort, alloc: Global, picture: Picture, plot: &[u8]) ->
     };
     let (_, answer) = run_task(
         alloc,
-        Reading::Core,
-        &Carousel::empty(),
-        PageChoice::GIVEN,
+        Setup {
+            reading: Reading::Core,
+            carousel: &Carousel::empty(),
+            choice: PageChoice::GIVEN,
+        },
         &Task::Picture(picture),
         naming_of(""),
         &mut OverRead::new(plot),
@@ -140,33 +144,16 @@ fn watchers_of_refused_pngs(rt: HostRuntime) -> Result<(), Fail> {
     is_not_told(&rt, alloc, Picture::Png(job), OFF_RANGE)
 }
 
-// Sheets of a drawing are written at resolutions that PCL does not have.
+// No picture is asked for at a resolution that PCL does not have.
 #[test]
 fn watchers_of_sheets_that_are_not_possible(rt: HostRuntime) -> Result<(), Fail> {
-    let (alloc, choice) = (rt.alloc(), PageChoice::GIVEN);
-    let mut diary = Diary {
-        told: String::new(alloc),
+    let picture = rows_of(&job_at(Form::Pcl, 127)?);
+    let setup = Setup {
+        reading: Reading::Core,
+        carousel: &Carousel::empty(),
+        choice: PageChoice::GIVEN,
     };
-    let drawing = draw_sheets(
-        alloc,
-        Reading::Core,
-        &Carousel::empty(),
-        choice,
-        &rows_of(&job_at(Form::Pcl, 75)?),
-        &mut OverRead::new(CROSSING),
-    )?;
-    let (sink, answer) = write_sheet(
-        alloc,
-        &drawing,
-        0,
-        choice,
-        &rows_of(&job_at(Form::Pcl, 127)?),
-        naming_of(""),
-        OverWrite::new(Writer::new(alloc)),
-        &mut diary,
-    );
-    assert_eq!(rt; answer, Err(Fault::Resolution));
-    assert_eq!(rt; diary.told.as_str(), "");
-    assert!(rt; sink.into_inner().bytes.is_empty());
-    Ok(())
+    let asked = Request::new(setup, &picture, naming_of(""));
+    assert_eq!(rt; asked.err(), Some(Fault::Resolution));
+    is_not_told(&rt, rt.alloc(), picture, CROSSING)
 }

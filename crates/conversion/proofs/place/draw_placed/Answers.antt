@@ -4,7 +4,7 @@ use Rattle.picture_job.specs.declared.page_choice.PageChoice.{PageChoice}
 use Rattle.plot_page.specs.declared.page.Page.{Page}
 use Rattle.conversion.specs.Drawings.{IsReason, IsReasonOnFirst}
 use Rattle.conversion.specs.Placements.{IsDrawnOn}
-use Rattle.conversion.specs.Rules.{Rules, rules_with}
+use Rattle.conversion.specs.Rules.{Rules, rules_in}
 use Rattle.conversion.specs.declared.place.Drawing.{Drawing}
 use Rattle.conversion.specs.declared.placement.Placement.{Placement}
 use Rattle.rows.proofs.Faults.{passed_on}
@@ -18,7 +18,7 @@ on_first (Err fault) choice rules given plot placement page begun reason = (page
 
 pub returns-in_err-lines-clause-refused : goal.returns-in_err-lines-clause-refused
 returns-in_err-lines-clause-refused c =
-    let rules : Rules = rules_with c.args.reading c.args.carousel.now in
+    let rules : Rules = rules_in c.args.setup in
     let first = c.first_page-placement.result in
-    subst (λ (r : Result Drawing PlotFault). IfErr r (IsReasonOnFirst c.args.choice rules c.args.page.now c.args.text.now)) (sym (passed_on _ _ c.from_residual.ensures.1))
-    (first.1, (first.0, c.first_page-placement.ensures c.args.carousel.now), c.in_err-lines.ensures.refused)
+    subst (λ (r : Result Drawing PlotFault). IfErr r (IsReasonOnFirst c.args.setup.choice rules c.args.page.now c.args.text.now)) (sym (passed_on _ _ c.from_residual.ensures.1))
+    (first.1, (first.0, c.first_page-placement.ensures c.args.setup.carousel.now), c.in_err-lines.ensures.refused)

@@ -9,5 +9,5 @@ returns-in-Ok-clause-reports g c =
     let draws = c.in-Ok.ensures.draws in
     let was = g.K.Sink.state c.args.sink.now in
     let is = g.K.Sink.state c.report_drawing.new.sink in
-    let writes = subst (λ (plot : List ℕ). WritesReport c.args.reading pens drawing plot was is c.report_drawing.result) (c.as_slice.ensures.value ∙ draws.text) c.report_drawing.ensures.writes in
+    let writes = subst (λ (plot : List ℕ). WritesReport c.args.setup.reading pens drawing plot was is c.report_drawing.result) (c.as_slice.ensures.value ∙ draws.text) c.report_drawing.ensures.writes in
     record { pens = pens; all = c.all-pens.ensures; reports = inl (drawing, draws.drawn, writes) }
