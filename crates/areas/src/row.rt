@@ -66,10 +66,10 @@ impl AreaRow {
 
     /// The columns that were found, in ranges from the left to the right.
     pub fn ranges(&self) -> &[ColumnRange]
-        requires { self.now.count ≤ length self.now.ranges.items }
         ensures { result.now ≡ found_in self.now }
     {
-        &self.ranges.as_slice()[..self.count]
+        let ranges = self.ranges.as_slice();
+        &ranges[..self.count.min(ranges.len())]
     }
 }
 

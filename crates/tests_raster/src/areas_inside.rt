@@ -38,6 +38,14 @@ fn height_of(per_inch: u32, row: u32) -> i64 {
     1024 * i64::from(per_inch) - (2 * i64::from(row) + 1) * 8128
 }
 
+// Room for the rows of an area with these edges.
+fn room_for(alloc: Global, edges: &[Stroke]) -> Result<AreaRow, Fail> {
+    if edges.len() > 100 {
+        return Err("an area of too many edges".into());
+    }
+    Ok(AreaRow::new(alloc, edges.len())?)
+}
+
 // `AreaRow::find`, with no promise.
 fn find(
     area: &mut AreaRow,
@@ -78,13 +86,20 @@ fn is_inside(rule: Rule, edges: &[Stroke], per_inch: u32, height: i64, column: u
     let (x, y) = ((2 * i128::from(column) + 1) * 8128, i128::from(height));
     let (mut upward, mut downward) = (0u32, 0u32);
     for edge in edges {
-        let (ax, ay) = (i128::from(edge.ax), i128::from(edge.ay));
-        let (bx, by) = (i128::from(edge.bx), i128::from(edge.by));
-        let (left, right) = ((bx - ax) * (y - r * ay), (x - r * ax) * (by - ay));
-        if r * ay <= y && y < r * by && left <= right {
+        let (ax, ay) = (
+            r.wrapping_mul(i128::from(edge.ax)),
+            r.wrapping_mul(i128::from(edge.ay)),
+        );
+        let (bx, by) = (
+            r.wrapping_mul(i128::from(edge.bx)),
+            r.wrapping_mul(i128::from(edge.by)),
+        );
+        let left = bx.wrapping_sub(ax).wrapping_mul(y.wrapping_sub(ay));
+        let right = x.wrapping_sub(ax).wrapping_mul(by.wrapping_sub(ay));
+        if ay <= y && y < by && left <= right {
             upward = upward.wrapping_add(1);
         }
-        if r * by <= y && y < r * ay && left >= right {
+        if by <= y && y < ay && left >= right {
             downward = downward.wrapping_add(1);
         }
     }
@@ -99,7 +114,7 @@ fn drawn(alloc: Global, rule: Rule, edges: &[Stroke], per_inch: u32) -> Result<S
     let dots = dots(per_inch)?;
     let page = page()?;
     let columns = dots.columns(&page);
-    let mut area = AreaRow::new(alloc, edges.len())?;
+    let mut area = room_for(alloc, edges)?;
     let mut text = String::new(alloc);
     for row in 0..dots.rows(&page) {
         find(
@@ -167,7 +182,7 @@ fn is_exact(
     let page = page()?;
     let dots = dots(per_inch)?;
     let columns = dots.columns(&page);
-    let mut area = AreaRow::new(alloc, edges.len())?;
+    let mut area = room_for(alloc, &edges)?;
     for row in 0..dots.rows(&page) {
         let height = height_of(per_inch, row);
         for rule in [Rule::OddCounts, Rule::Winding] {
