@@ -33,18 +33,18 @@ fn pixmap_sum(alloc: Global, per_inch: u32, times: u32) -> Result<u32, Fail> {
     };
     let smoothing = Smoothing::new(times).ok_or("a smoothing")?;
     let picture = Picture::Rows { job, smoothing };
-    Ok(sum_of(alloc, &picture).ok().ok_or("a picture")?)
+    Ok(sum_of(alloc, picture).ok().ok_or("a picture")?)
 }
 
 // The contract of this function promises nothing, so no proof of a test reads what conversions are proved to do: a test looks
 // at the sums.
-fn sum_of(alloc: Global, picture: &Picture) -> Result<u32, Fault> {
+fn sum_of(alloc: Global, picture: Picture) -> Result<u32, Fault> {
     let setup = Setup {
         reading: Reading::Core,
         carousel: &Carousel::empty(),
         choice: PageChoice::GIVEN,
     };
-    let request = Request::new(setup, picture, UNNAMED)?;
+    let request = Request::new(setup, &picture, UNNAMED)?;
     let drawing = draw(alloc, &request, &mut OverRead::new(LINES))?;
     let (sink, answer) = write(
         alloc,
@@ -83,7 +83,7 @@ fn shades_of_colours(rt: HostRuntime) -> Result<(), Fail> {
         pens: PenSet::all(),
         smoothing: Smoothing::new(2).ok_or("a smoothing")?,
     };
-    let sum = sum_of(rt.alloc(), &Picture::Png(job))
+    let sum = sum_of(rt.alloc(), Picture::Png(job))
         .ok()
         .ok_or("a picture")?;
     assert_eq!(rt; sum, 0x0b7f85b5);
