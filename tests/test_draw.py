@@ -78,6 +78,8 @@ LINE = b"PU0,0;PD300,200;"
 BLANK = b"IN;"
 OFF_PAGE = b"PU3000,3000;PD4000,4000;"
 TOO_LARGE = b"PU-60000,0;PD60000,0;"
+AROUND_PAGE = b"PU-100,-100;RA1000,1000;"
+BESIDE_PAGE = b"PU-100,-100;RA1000,-10;"
 SKIPPED = b"XX;"
 REPORT = "see plotraster report --profile full"
 NOTHING = messages.text("blank", "plotraster report --profile full")
@@ -94,6 +96,13 @@ REMARKS = [
     (["draw", "--profile=core"], BLANK, [messages.text("blank", "plotraster report")]),
     (["draw", "--width=800", "--height=800"], OFF_PAGE, [NOTHING]),
     (["draw", "--width=800", "--height=800", "--quiet"], OFF_PAGE, []),
+    # The page is black, although each edge of the fill is off it.
+    (["draw", "--width=800", "--height=800"], AROUND_PAGE, []),
+    (["draw", "--form=svg", "--width=800", "--height=800"], AROUND_PAGE, []),
+    (["draw", "--width=800", "--height=800"], BESIDE_PAGE, [NOTHING]),
+    (["draw", "--width=800", "--height=800"], b"IW100,100,200,200;" + AROUND_PAGE, []),
+    (["draw"], b"IW100,100,200,200;" + AROUND_PAGE, []),
+    (["draw"], b"IW-20,-20,-10,-10;" + AROUND_PAGE, [NOTHING]),
     (["draw", "--form=pdf"], BLANK, [NOTHING]),
     (["draw", "--form=svg", "--width=800", "--height=800"], OFF_PAGE, [NOTHING]),
     (["draw", "--dots=10"], TOO_LARGE, [messages.text("too-large-to-fit")]),

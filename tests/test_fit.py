@@ -155,6 +155,27 @@ def test_pens_choose_the_page(program):
     assert drawn(program, words, plot, messages.said("blank-to-fit")) == drawn(program, words[:2], plot)
 
 
+# Plots of the profile full with fills, and their pages without a margin.
+FILLED = [
+    (b"IW100,100,200,200;PU0,0;RA1000,1000;", (100, 100, -100, -100)),
+    (b"IW100,100,200,200;PU0,150;RA1000,1000;", (100, 64, -100, -150)),
+    (b"PU-10,-20;RA12000,9000;", (12010, 9020, 10, 20)),
+    (b"PU20,30;PM0;PD120,5,60,150;PM2;FP1;", (100, 145, -20, -5)),
+    # A corner of the box that the triangle does not fill
+    (b"IW90,90,400,400;PU0,0;PM0;PD200,0,0,200;PM2;FP;", (110, 110, -90, -90)),
+    # A fill and a line
+    (b"PW0;PU0,0;RA100,10;PU50,0;PD50,300;", (100, 300, 0, 0)),
+]
+
+
+def test_fills_choose_the_page(program):
+    """The page is around the boxes of the fills, as far as their windows show them; all that they fill is on it."""
+    for plot, sides in FILLED:
+        assert numbers(page_of(program, ["--fit", "--profile=full", "--margin=0"], plot)) == list(sides), plot
+    for plot in (b"IW0,0,100,100;PU200,0;RA300,300;", b"IW-9,-9,-5,-5;PU0,0;RA300,300;"):
+        page_of(program, ["--fit", "--profile=full"], plot, messages.said("blank-to-fit"))
+
+
 def test_sheets_choose_the_page(program):
     first, second = b"SP1;PU0,0;PD1000,1000;", b"SP1;PU0,0;PD3000,500;"
     for sheet, same in ((1, first), (2, second), (0, first + b"PU;" + second)):
@@ -209,6 +230,14 @@ SAID = [
     # A line of 0.35 mm is 14 units wide: it reaches the page from 7 units beside it, and not from 8.
     (b"SP1;PU-7,0;PD-7,100;", [], "1 line, 0 off the page, 1 cut at its edge; 0 notes"),
     (b"SP1;PU-8,0;PD-8,100;", [], "nothing is drawn: 1 line, 1 off the page; 0 notes"),
+    # An area counts as its edges, which are lines without a width. They are off the page only if the box of all of them is.
+    (b"PU10,10;RA20,20;", ["--profile=full"], "4 lines, 0 off the page; 0 notes"),
+    (b"PU-10,10;RA20,20;", ["--profile=full"], "4 lines, 0 off the page, 3 cut at its edge; 0 notes"),
+    (b"PU-10,-10;RA12000,9000;", ["--profile=full"], "4 lines, 0 off the page, 4 cut at its edge; 0 notes"),
+    (b"PU-10,10;RA-1,20;", ["--profile=full"], "nothing is drawn: 4 lines, 4 off the page; 0 notes"),
+    (b"PU-5,10;RA-1,20;PD;", ["--profile=full"], "5 lines, 4 off the page, 1 cut at its edge; 0 notes"),
+    (b"IW0,0,50,50;PU-10,-10;RA12000,9000;", ["--profile=full"], "4 lines, 0 off the page; 0 notes"),
+    (b"IW100,100,200,200;PU0,0;RA1000,1000;", ["--profile=full", "--fit"], "4 lines, 0 off the page; 0 notes"),
 ]
 
 

@@ -1,5 +1,6 @@
 """Checks laws of the profile full on random plots, by the plain plotter of tests/reference, without the program."""
 
+from collections import Counter
 from functools import partial
 from string import ascii_lowercase
 
@@ -10,6 +11,7 @@ from reference.geometry import Page
 from reference.plotter import FARTHEST, Refused
 from reference.random_full_plots import FullWriter
 from reference.random_plots import random_case
+from reference.shapes import is_area, strokes_of
 from shared import assert_nothing
 
 CORE_PLOTS, FULL_PLOTS, PARTS = 2000, 1200, 4
@@ -31,12 +33,16 @@ def page_of(case):
 
 
 def drawn(draw, plot, page):
-    """The strokes and the notes of a plot, or the text of its refusal. Core has no labels, so strokes are of none."""
+    """The shapes and the notes of a plot, or the text of its refusal."""
     try:
-        strokes, notes = draw(plot, page)
+        return draw(plot, page)
     except Refused as refusal:
         return str(refusal)
-    return [stroke._replace(label=None) for stroke in strokes], notes
+
+
+def without_labels(got):
+    """What is drawn, as core draws it, which has no labels."""
+    return got if isinstance(got, str) else ([stroke._replace(label=None) for stroke in got[0]], got[1])
 
 
 # What both profiles draw
@@ -86,7 +92,7 @@ def test_core_is_the_same_in_both(part):
     """A plot with only the core's items has the same strokes, notes and refusal in both profiles."""
     wrong, sizes = [], []
     for seed, plot, page in core_plots(part):
-        core, full = (drawn(profile.draw, plot, page) for profile in (plotter, full_plotter))
+        core, full = (without_labels(drawn(profile.draw, plot, page)) for profile in (plotter, full_plotter))
         sizes.append(0 if isinstance(core, str) else len(core[0]))
         if core != full:
             wrong.append(f"seed {seed}: {plot!r} on {page}")
@@ -96,20 +102,25 @@ def test_core_is_the_same_in_both(part):
 
 
 @pytest.mark.parametrize("part", range(PARTS))
-def test_strokes_are_in_range(part):
-    """Ends and widths of all strokes are in the core's range, and sheets are numbered without gaps."""
-    wrong, drawings = [], 0
+def test_shapes_are_in_range(part):
+    """Ends and widths of all strokes and edges are in the core's range, and sheets are numbered without gaps. The edges of an area
+    lead round: as many end at a place as begin there."""
+    wrong, drawings, areas = [], 0, 0
     for seed in range(part, FULL_PLOTS, PARTS):
         case = FullWriter(seed).case()
         got = drawn(partial(full_plotter.draw, most=MOST), case.plot, page_of(case))
         if isinstance(got, str):
             continue
         drawings += len(got[0]) > 5
-        sheets = {stroke.sheet for stroke in got[0]}
-        for stroke in got[0]:
+        sheets = {shape.sheet for shape in got[0]}
+        for stroke in (stroke for shape in got[0] for stroke in strokes_of(shape)):
             if max(map(abs, (*stroke.a, *stroke.b))) > FARTHEST or not 0 <= stroke.width <= WIDEST or not stroke.pen:
                 wrong.append(f"seed {seed}: {stroke}")
+        for area in filter(is_area, got[0]):
+            areas += 1
+            if not area.edges or Counter(a for a, _ in area.edges) != Counter(b for _, b in area.edges):
+                wrong.append(f"seed {seed}: {area}")
         if sheets != set(range(1, len(sheets) + 1)):
             wrong.append(f"seed {seed}: sheets {sorted(sheets)}")
     assert_nothing(wrong)
-    assert drawings > FULL_PLOTS / PARTS / 4
+    assert min(drawings, areas) > FULL_PLOTS / PARTS / 4

@@ -8,7 +8,7 @@ import pytest
 
 from reference import messages
 from reference.geometry import Page
-from reference.outputs import Drawing, answer, draw
+from reference.outputs import Drawing, answer, areas_in, draw, strokes_in
 from reference.plotter import BLACK, COLOURS, Refused
 from shared import HERE, assert_nothing, read_bytes
 
@@ -17,6 +17,9 @@ USUAL = {"profile": "full", "width": "1000", "height": "1000"}
 REFUSALS = {"3": "off-range", "4": "too-many-strokes"}
 PLACE = r"\((-?\d+),(-?\d+)\)"
 STROKE = re.compile(rf"{PLACE}(?:-{PLACE})?((?: [pwc]\w+)*)")
+# A row or some rows of pixels, and pixels of a row: columns, pen and colour.
+PIXEL_ROWS = re.compile(r"rows? (\d+)(?: to (\d+))?: ([^,]+)(?:, |$)")
+PIXEL_COLUMNS = re.compile(r"(\d+)(?:-(\d+))?(?:p(\d+))?(?:c(\w{6}))?")
 
 
 def rows():
@@ -57,7 +60,41 @@ def spelled(stroke):
     text = "({},{})".format(*stroke.a) + ("" if stroke.a == stroke.b else "-({},{})".format(*stroke.b))
     text += "" if stroke.pen == 1 else f" p{stroke.pen}"
     text += "" if stroke.width == 224 else f" w{stroke.width}"
-    return text + ("" if stroke.colour == COLOURS.get(stroke.pen, BLACK) else f" c{bytes(stroke.colour).hex()}")
+    return text + colour_of(stroke)
+
+
+def colour_of(shape):
+    return "" if shape.colour == COLOURS.get(shape.pen, BLACK) else f" c{bytes(shape.colour).hex()}"
+
+
+def spelled_area(area):
+    """An area as the rows spell it."""
+    text, last = "", None
+    for a, b in area.edges:
+        text += "" if a == last else "{}({},{})".format(", " if text else "", *a)
+        text += "-({},{})".format(*b)
+        last = b
+    text += "" if area.pen == 1 else f" p{area.pen}"
+    return text + colour_of(area) + (" by winding" if area.rule else "")
+
+
+def marks_of(texts):
+    """The lines of `marks`, by what a row says of pixels."""
+    lines = []
+    assert not any(PIXEL_ROWS.sub("", text) for text in texts), texts
+    for first, last, columns in (found for text in texts for found in PIXEL_ROWS.findall(text)):
+        for row in range(int(first), int(last or first) + 1):
+            for least, most, pen, colour in PIXEL_COLUMNS.findall(columns):
+                pen = int(pen or 1)
+                colour = colour or bytes(COLOURS.get(pen, BLACK)).hex()
+                lines += [f"{row} {column} {pen} {colour}" for column in range(int(least), int(most or least) + 1)]
+    return lines
+
+
+def marks_case(keys):
+    """The options of `marks` for the pixels of a row."""
+    words = " ".join(keys.get("marks", [])).split()
+    return {**options_of(keys), "dots": "127", **dict(zip((word[2:] for word in words[::2]), words[1::2]))}
 
 
 def strokes_of(keys):
@@ -81,6 +118,8 @@ def differences(keys):
         found = {"refusal": got if isinstance(got, str) else "nothing is refused"}
     else:
         wanted, found = wanted_of(keys, options), found_of(keys, got, answer("report", options, plot))
+        if "pixels" in keys:
+            found["pixels"] = answer("marks", marks_case(keys), plot).output.decode().splitlines()
     for name in wanted:
         if wanted[name] != found[name]:
             yield f"{name}: {found[name]} instead of {wanted[name]}"
@@ -90,6 +129,8 @@ def wanted_of(keys, options):
     """What a row says, by the names of its facts."""
     wanted = {"notes": keys.get("note", []), "sheets": max(1, int(keys.get("sheets", ["1"])[0]))}
     listed = strokes_of(keys)
+    if "draws" in keys or "area" in keys:
+        wanted["areas"] = keys.get("area", [])
     if listed is not None:
         wanted["strokes"] = listed
     elif "draws" in keys:
@@ -99,7 +140,7 @@ def wanted_of(keys, options):
             wanted["notes"] = [f"{note.at} {note.kind} {note.has}" for note in other.notes]
         else:
             other = drawn(plot_of(other), options)
-        wanted["strokes"] = [spelled(stroke) for stroke in other.strokes]
+        wanted["strokes"] = [spelled(stroke) for stroke in strokes_in(other.shapes)]
     if "strokes" in keys:
         wanted["count"] = int(keys["strokes"][0])
     for key, at in (("first", "0"), ("last", "-1")):
@@ -109,22 +150,28 @@ def wanted_of(keys, options):
         wanted[f"stroke {at}"] = text
     if "box" in keys:
         wanted["box"] = keys["box"][0]
+    if "report" in keys:
+        wanted["report"] = keys["report"]
+    if "pixels" in keys:
+        wanted["pixels"] = marks_of(keys["pixels"])
     return wanted
 
 
 def found_of(keys, got: Drawing, reported):
     """The same facts of a drawing and of the report on it."""
-    lines = reported.output.decode().splitlines()
+    lines, strokes = reported.output.decode().splitlines(), strokes_in(got.shapes)
     found = {
         "notes": [line[len("note "):] for line in lines if line.startswith("note ")],
         "sheets": max(1, got.sheets or 0),
-        "strokes": [spelled(stroke) for stroke in got.strokes],
-        "count": len(got.strokes),
+        "strokes": [spelled(stroke) for stroke in strokes],
+        "areas": [spelled_area(area) for area in areas_in(got.shapes)],
+        "count": len(strokes),
         "box": " ".join(line.partition(" box ")[2] for line in lines if " box " in line),
+        "report": [line for line in lines if line.startswith(("strokes ", "areas ", "pen "))],
     }
     for at in ("0", "-1", *(value.partition(" ")[0] for value in keys.get("stroke", []))):
-        if -len(got.strokes) <= int(at) < len(got.strokes):
-            found[f"stroke {at}"] = spelled(got.strokes[int(at)])
+        if -len(strokes) <= int(at) < len(strokes):
+            found[f"stroke {at}"] = spelled(strokes[int(at)])
         else:
             found[f"stroke {at}"] = "none"
     return found
@@ -138,6 +185,6 @@ def test_examples(name, keys):
 def test_number_of_examples():
     """Each row has a name of its own, a plot, and something that it says of it."""
     names = [name for name, _ in rows()]
-    assert len(names) == len(set(names)) == 156
-    says = {"draws", "strokes", "refused"}
+    assert len(names) == len(set(names)) == 173
+    says = {"draws", "strokes", "area", "pixels", "refused"}
     assert_nothing(f"{name} says nothing" for name, keys in rows() if len(keys["plot"]) != 1 or not says & set(keys))

@@ -1,20 +1,23 @@
 """Checks shapes of the profile full in the plain plotter of tests/reference, without the program: dashes, directions,
-arcs and solid fills."""
+arcs, and areas, which are solid fills."""
 
 import random
 from fractions import Fraction
 
 import pytest
 
-from reference import full_plotter
+from reference import full_plotter, raster
 from reference.curves import arc
 from reference.directions import ONE, unit
 from reference.geometry import Page
 from reference.line_types import ADAPTIVE, FIXED, Adaptive, Fixed
+from reference.shapes import Area
 
 POLYGONS, POINTS, SIDE = 120, 60, 160
-# A point of a polygon is as near to a stroke of its solid fill, in grains.
-NEAR = 9
+BLACK = (0, 0, 0)
+# A page of 64 by 64 units, on which a pixel of 127 dots per inch is 8 units.
+PAGE = Page(64, 64, 0, 0)
+WHOLE = 0, 0, 1024, 1024
 
 
 # Line types, directions and curves
@@ -80,86 +83,110 @@ def test_arcs_are_parts_of_circles():
         assert min((p[0] - b[0]) ** 2 + (p[1] - b[1]) ** 2 for p in places) <= longest, (a, b, c)
 
 
-# Solid fills
+# Areas
 
 
-def random_polygon(chance):
-    """The parts of a polygon, each by its places in grains, some on the lines of fills."""
+def random_polygon(chance, side=SIDE):
+    """The parts of a polygon, each by its places in grains."""
     parts = []
     for _ in range(chance.choice((1, 1, 2, 3))):
         step = chance.choice((1, 1, 4, 8, 16))
         count = chance.choice((3, 3, 4, 5, 8))
-        parts.append([(chance.randint(0, SIDE // step) * step, chance.randint(0, SIDE // step) * step) for _ in range(count)])
+        parts.append([(chance.randint(0, side // step) * step, chance.randint(0, side // step) * step) for _ in range(count)])
     return parts
 
 
-def filled(parts, rule):
-    """The edges of a polygon, and the strokes of its spans and of its edges."""
-    plot = "PU;PA;"
-    for i, part in enumerate(parts):
-        places = [f"{x / 16},{y / 16}" for x, y in part]
-        plot += f"PU{places[0]};PM0;PD" if i == 0 else f"PM1;PU{places[0]};PD"
-        plot += ",".join(places[1:]) + ";"
-    strokes, notes = full_plotter.draw((plot + f"PM2;FP{rule};").encode(), Page(1000, 1000, 0, 0))
-    assert not notes
-    edges = [(a, b) for part in parts for a, b in zip(part, part[1:])]
-    edges += [(part[-1], part[0]) for part in parts if part[-1] != part[0]]
-    number = len(strokes) - len(edges)
-    assert {(stroke.a, stroke.b) for stroke in strokes[number:]} == set(edges)
-    return edges, strokes[:number], strokes[number:]
-
-
-def is_inside(edges, x, y, rule):
-    """Whether a point is in a polygon: by the edges to the left of it, or None if one goes through it."""
-    number = 0
-    for (ax, ay), (bx, by) in edges:
-        if (ay <= y) == (by <= y):
-            if ay == by == y and min(ax, bx) <= x <= max(ax, bx):
-                return None
-            continue
-        side = (bx - ax) * (y - ay) - (by - ay) * (x - ax)
-        if side == 0:
-            return None
-        if (side < 0) == (by > ay):
-            number += 1 if rule == 0 or by > ay else -1
-    return number % 2 == 1 if rule == 0 else number != 0
-
-
-def is_near(stroke, x, y):
-    """Whether a point is at most NEAR grains from a stroke."""
-    (ax, ay), (bx, by) = stroke.a, stroke.b
-    vx, vy, wx, wy = bx - ax, by - ay, x - ax, y - ay
-    along, square = vx * wx + vy * wy, vx * vx + vy * vy
-    if along <= 0:
-        return wx * wx + wy * wy <= NEAR * NEAR
-    if along >= square:
-        return (wx - vx) ** 2 + (wy - vy) ** 2 <= NEAR * NEAR
-    return (vx * wy - vy * wx) ** 2 <= NEAR * NEAR * square
-
-
-def crossings(edges, y):
-    """The places where edges cross a horizontal line, each with its direction."""
-    for (ax, ay), (bx, by) in edges:
-        if min(ay, by) <= y < max(ay, by):
-            yield (ax + (Fraction((bx - ax) * (y - ay), by - ay) + Fraction(1, 2)) // 1), 1 if by > ay else -1
+def edges_of(parts):
+    """The edges of a polygon: each part is closed, unless its last place is the first."""
+    edges = []
+    for part in parts:
+        edges += zip(part, part[1:])
+        edges += [(part[-1], part[0])] if part[-1] != part[0] else []
+    return tuple(edges)
 
 
 @pytest.mark.parametrize("rule", (0, 1))
 def test_solid_fills(rule):
-    """Each place of a line that is inside lies in a span; each point inside is near a stroke."""
-    chance, inside = random.Random(rule), 0
+    """A solid fill is one area of all edges, whether they are drawn or not."""
+    chance = random.Random(rule)
     for _ in range(POLYGONS):
         parts = random_polygon(chance)
-        edges, spans, outline = filled(parts, rule)
+        plot = "PU;PA;"
+        for i, part in enumerate(parts):
+            places = [f"{x / 16},{y / 16}" for x, y in part]
+            plot += f"PU{places[0]};PM0;" if i == 0 else f"PM1;PU{places[0]};"
+            plot += chance.choice(("PD", "PU")) + ",".join(places[1:]) + ";"
+        got = full_plotter.draw(f"{plot}PM2;FP{rule};".encode(), Page(1000, 1000, 0, 0))
+        assert got == ([Area(1, BLACK, (0, 0, 16_000, 16_000), edges_of(parts), rule)], []), plot
+
+
+def is_inside(edges, x, y, rule):
+    """Whether a point is inside, by how many edges it passes: they lead past its height, and it is not left of them."""
+    upward = downward = 0
+    for (ax, ay), (bx, by) in edges:
+        upward += ay <= y < by and (bx - ax) * (y - ay) <= (x - ax) * (by - ay)
+        downward += by <= y < ay and (bx - ax) * (y - ay) >= (x - ax) * (by - ay)
+    return (upward + downward) % 2 == 1 if rule == 0 else upward != downward
+
+
+def distance(edge, x, y):
+    """The square of how far a point is from an edge."""
+    (ax, ay), (bx, by) = edge
+    vx, vy = bx - ax, by - ay
+    square = vx * vx + vy * vy
+    along = min(Fraction(1), max(Fraction(0), Fraction(vx * (x - ax) + vy * (y - ay), square))) if square else 0
+    return (x - ax - along * vx) ** 2 + (y - ay - along * vy) ** 2
+
+
+def is_covered(area, dots, row, column):
+    """Whether an area covers the centre of a pixel: in its window and inside, or within half the least width of an edge."""
+    side = Fraction(raster.PIXEL, dots)
+    x, y = side * (column + Fraction(1, 2)), WHOLE[3] - side * (row + Fraction(1, 2))
+    left, bottom, right, top = area.window
+    if not (left <= x <= right and bottom <= y <= top):
+        return False
+    near = (side * Fraction(3, 4)) ** 2
+    return is_inside(area.edges, x, y, area.rule) or any(distance(edge, x, y) <= near for edge in area.edges)
+
+
+@pytest.mark.parametrize("dots", (127, 254, 300))
+@pytest.mark.parametrize("rule", (0, 1))
+def test_pixels_of_areas(rule, dots):
+    """Each pixel shows an area if this covers its centre, also where centres are on edges and at corners."""
+    chance, counts = random.Random(dots + rule), {True: 0, False: 0}
+    for _ in range(POLYGONS // 6):
+        window = chance.choice((WHOLE, WHOLE, (192, 64, 704, 960)))
+        area = Area(3, BLACK, window, edges_of(random_polygon(chance, 1024)), rule)
+        for row, cells in raster.rows([area], PAGE, dots, {3}, 0):
+            wanted = [is_covered(area, dots, row, column) for column in range(len(cells))]
+            assert [cell is area for cell in cells] == wanted, (area, row)
+            counts = {it: counts[it] + wanted.count(it) for it in counts}
+    assert min(counts.values()) > 500
+
+
+@pytest.mark.parametrize("rule", (0, 1))
+def test_insides_of_polygons(rule):
+    """Off the edges, what is inside is so after a turn, and if the edges lead the other way round or come in another order."""
+    chance, inside = random.Random(rule), 0
+    for _ in range(POLYGONS):
+        edges = edges_of(random_polygon(chance))
+        turned = [tuple((-y, x) for x, y in edge) for edge in edges]
+        others = [(b, a) for a, b in chance.sample(edges, len(edges))]
         for _ in range(POINTS):
-            x, y = chance.randint(0, SIDE), 8 + 16 * chance.randint(0, SIDE // 16)
-            crossed = list(crossings(edges, y))
-            number = sum(1 if rule == 0 else way for at, way in crossed if at < x)
-            if x not in [at for at, _ in crossed]:
-                on_spans = any(span.a[1] == span.b[1] == y and span.a[0] <= x <= span.b[0] for span in spans)
-                assert on_spans == bool(number % 2 if rule == 0 else number), (parts, x, y)
             x, y = chance.randint(0, SIDE), chance.randint(0, SIDE)
-            if is_inside(edges, x, y, rule):
-                inside += 1
-                assert any(is_near(stroke, x, y) for stroke in (*spans, *outline)), (parts, x, y)
+            if all(distance(edge, x, y) for edge in edges):
+                found = {is_inside(edges, x, y, rule), is_inside(turned, -y, x, rule), is_inside(others, x, y, rule)}
+                assert len(found) == 1, (edges, x, y)
+                inside += found == {True}
     assert inside > POLYGONS * POINTS / 20
+
+
+def test_order_of_shapes():
+    """A pixel shows the last shape of a selected pen; an area comes where it is drawn."""
+    shapes, _ = full_plotter.draw(b"SP2;PU16,16;RA48,48;SP1;PU0,28;PD64,28;SP3;IW0,0,20,64;PU0,16;RA24,48;", PAGE)
+    wide = [cells for _, cells in raster.rows(shapes, PAGE, 127, {1, 2, 3}, 0)]
+    pens = [[cell.pen if cell else 0 for cell in cells] for cells in wide]
+    area, window = [0, 2, 2, 2, 2, 2, 2, 0], [3, 3, 3, 2, 2, 2, 2, 0]
+    assert pens == [8 * [0], window, window, window, [3, 3, 3, 1, 1, 1, 1, 1], window, window, 8 * [0]]
+    two = [[cell.pen if cell else 0 for cell in cells] for _, cells in raster.rows(shapes, PAGE, 127, {2}, 3)]
+    assert two == [area, area, area, area, 8 * [0]]

@@ -16,7 +16,7 @@ from reference.random_options import random_apart_case, random_drawn_case, rando
 from reference.random_plots import Case, random_case
 from reference.random_vectors import random_vector_case
 from shared import EXAMPLES, assert_nothing, read_bytes
-from test_full_reference import options_of, plot_of, rows
+from test_full_reference import marks_case, options_of, plot_of, rows
 
 COUNT = 3000
 # The cases whose options change what is drawn, or how much of it, and how many there are.
@@ -27,7 +27,7 @@ PARTS = 12
 
 
 def examples():
-    """The plots of examples/, each as a report, as a small picture, and as documents of lines."""
+    """The plots of examples/, each as a report, as a small picture, and as documents."""
     page = {"width": "4000", "height": "3000"}
     for path in sorted(glob.glob(os.path.join(EXAMPLES, "*.plt"))):
         plot = read_bytes(path)
@@ -51,11 +51,13 @@ def angles():
 
 
 def full_examples():
-    """The examples of the profile full, as reports and as documents of lines."""
+    """The examples of the profile full, as reports, as documents of lines and areas, and those with pixels as marks."""
     for name, keys in rows():
         plot = plot_of(keys["plot"][0])
         yield name, Case("report", options_of(keys), plot)
         yield from ((name, Case(form, options_of(keys), plot)) for form in VECTORS)
+        if "pixels" in keys:
+            yield name, Case("marks", marks_case(keys), plot)
 
 
 def random_plots(case_of, part, count=COUNT):

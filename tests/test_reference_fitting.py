@@ -6,11 +6,12 @@ import pytest
 
 from reference import messages
 from reference import raster
-from reference.fitting import BLANK, TOO_LARGE, fitted
+from reference.fitting import BLANK, TOO_LARGE, fitted, is_off
 from reference.geometry import NO_WINDOW, Page, whole_page
 from reference.outputs import answer, draw
 from reference.plotter import FARTHEST, Refused, Stroke
 from reference.random_fitted_plots import number, random_fitted_case
+from reference.shapes import Area, strokes_of
 from shared import assert_nothing
 
 GIVEN = Page(1000, 800, 50, 60)
@@ -94,14 +95,68 @@ def test_strokes_on_the_page():
     got = fitted(lines, GIVEN, 0)
     # The first stroke is seven grains wide: the page begins a unit before it and ends a unit after it.
     assert got.page == (102, 66, 50 - 99, 60 - 49)
-    assert [it.window for it in got.strokes] == [
+    assert [it.window for it in got.shapes] == [
         (0, 0, 1632, 1056), (16, 16, 1632, 48), (0, 0, 1632, 1056), (1616, 0, 1616, 1056),
     ]
-    assert all((it.a, it.b, it.width) == ((16, 16), (1616, 1040), 7) for it in got.strokes)
-    assert [it.pen for it in got.strokes] == [1, 2, 3, 4]
+    assert all((it.a, it.b, it.width) == ((16, 16), (1616, 1040), 7) for it in got.shapes)
+    assert [it.pen for it in got.shapes] == [1, 2, 3, 4]
     # What lies off the given page is shown too.
     page, (line,), _ = fitted([stroke((-1600, -800), (32_000, 160))], GIVEN, 0)
     assert (page, line.a, line.window) == ((2100, 64, 50 + 100, 60 + 50), (0, 0), (0, 0, 33_600, 1024))
+
+
+def area(*places, window=WHOLE, pen=1):
+    """The area of a polygon."""
+    return Area(pen, (0, 0, 0), window, tuple(zip(places, (*places[1:], places[0]))), 1)
+
+
+@pytest.mark.parametrize("window, page", [(WHOLE, (100, 64, 50 - 10, 60 - 20)), ((0, 0, 800, 600), (64, 64, 50 - 10, 60 - 20))])
+def test_areas(window, page):
+    """The page is around the box of an area's edges, which have no width, and the area is moved as they are."""
+    triangle = area((160, 320), (1760, 320), (160, 800), window=window, pen=3)
+    got = fitted([triangle], GIVEN, 0)
+    assert got.page == page and got.why is None
+    assert strokes_of(*got.shapes) == fitted(strokes_of(triangle), GIVEN, 0).shapes
+    assert got.shapes[0].rule == 1 and got.shapes[0].edges[0] == ((0, 0), (1600, 0))
+
+
+SQUARE = (0, 0), (16_000, 0), (16_000, 12_800), (0, 12_800)
+
+
+@pytest.mark.parametrize("window, page", [
+    ((3200, 1600, 4800, 3200), (100, 100, 50 - 200, 60 - 100)),
+    ((3200, 1600, 4800, 12_800), (100, 700, 50 - 200, 60 - 100)),
+    (WHOLE, (1000, 800, 50, 60)),
+])
+def test_windows_inside_of_areas(window, page):
+    """A window is seen that the area fills, although no edge is in it."""
+    filled = area(*SQUARE, window=window)
+    assert fitted([filled], GIVEN, 0).page == page
+    if window[3] < 12_800:
+        assert fitted(strokes_of(filled), GIVEN, 0).why == BLANK
+
+
+def test_areas_that_windows_hide():
+    hidden = [
+        area(*SQUARE, window=NO_WINDOW), area((0, 0), (160, 0), (0, 160), window=(161, 0, 320, 320)),
+        area((0, 0), (160, 0), (0, 160), window=(0, 161, 320, 320)),
+    ]
+    assert fitted(hidden, GIVEN, 0) == (GIVEN, hidden, BLANK)
+    # A corner of the box is seen, although the area does not fill it.
+    corner = area((0, 0), (1600, 0), (0, 1600), window=(1440, 1440, 3200, 3200))
+    assert fitted([corner], GIVEN, 0).page == (64, 64, 50 - 90, 60 - 90)
+
+
+@pytest.mark.parametrize("places, off", [
+    (((-160, -160), (32_000, -160), (32_000, 32_000), (-160, 32_000)), False),
+    (((16_001, 0), (32_000, 0), (32_000, 1600)), True), (((16_000, 0), (32_000, 0), (32_000, 1600)), False),
+    (((0, -1), (160, -1), (160, -160)), True), (((0, 12_801), (160, 12_801), (160, 16_000)), True),
+    # Nothing of the triangle is on the page, but a corner of its box is.
+    (((-1600, 160), (160, -1600), (-1600, -1600)), False),
+])
+def test_areas_off_the_page(places, off):
+    """An area that is larger than the page is not off it; a window changes nothing."""
+    assert is_off(area(*places), GIVEN) == is_off(area(*places, window=NO_WINDOW), GIVEN) == off
 
 
 def test_nothing_drawn():
@@ -187,30 +242,30 @@ def wrong_points(seed):
     case, chance = random_fitted_case(seed), random.Random(seed)
     page = Page(*(number(case, side, 64, 2000, 200) for side in ("width", "height")), 0, 0)
     try:
-        strokes = draw(case.plot, page, 0 if seed % 2 else None).strokes
+        shapes = draw(case.plot, page, 0 if seed % 2 else None).shapes
     except Refused:
         return
-    got = fitted(strokes, page, 1)
-    shown = {True: got.strokes, False: strokes}
-    lines = {it: [raster.line_of(one, DOTS) for one in reversed(shown[it])] for it in shown}
+    got = fitted(shapes, page, 1)
+    shown = {True: got.shapes, False: shapes}
+    traced = {it: [raster.traced(one, DOTS) for one in reversed(shown[it])] for it in shown}
     for _ in range(POINTS):
         x, y = chance.randrange(page.width), chance.randrange(page.height)
         u, v = x + got.page.left, y + got.page.below
-        here, there = (stroke_at(lines[it], *at) for it, at in ((False, (x, y)), (True, (u, v))))
+        here, there = (shape_at(traced[it], *at) for it, at in ((False, (x, y)), (True, (u, v))))
         is_inside = 0 <= u < got.page.width and 0 <= v < got.page.height
         if here != (there if is_inside or got.why else None):
             yield f"seed {seed}: {x}, {y} shows {here} and not {there}, {got.page}"
 
 
-def stroke_at(lines, x, y):
-    """How many strokes come after the one that the pixel shows, or None."""
+def shape_at(latest_first, x, y):
+    """How many shapes come after the one that the pixel shows, or None."""
     centre = ((2 * it + 1) * raster.PIXEL // 2 for it in (x, y))
-    found = raster.shown(lines, *centre)
-    return next((at for at, line in enumerate(lines) if line.stroke is found), None)
+    found = raster.shown(latest_first, *centre)
+    return next((at for at, traced in enumerate(latest_first) if traced.shape is found), None)
 
 
 @pytest.mark.parametrize("part", range(4))
 def test_points_show_the_same(part):
-    """A point of the given page shows the same stroke on the page around the drawing; off that page it is white."""
+    """A point of the given page shows the same shape on the page around the drawing; off that page it is white."""
     for seed in range(part, CASES, 4):
         assert_nothing(wrong_points(seed))

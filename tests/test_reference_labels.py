@@ -1,6 +1,7 @@
 """Checks what the plain plotter of tests/reference has of labels, and the readers of PDF and SVG with labels, without the program:
 on examples that were computed by hand, and on documents that were written by hand."""
 
+import re
 from fractions import Fraction
 
 import pytest
@@ -113,7 +114,7 @@ def test_listings(command, options, wanted):
 TITLE = "<A>&\U00010000\nб"
 ESCAPED = b"&lt;A&gt;&amp;\xf0\x90\x80\x80\n\xd0\xb1"
 GROUP = b"<g><title>" + ESCAPED + b"</title>\n%b</g>\n"
-PATH = SVG[SVG.index(b'<path class="pen7"'):SVG.index(b"</g>\n<g id")]
+PATH = re.search(rb'<path class="pen7".*\n', SVG)[0]
 LABELLED = SVG.replace(PATH, GROUP % PATH)
 WRITTEN = b"BT\n3 Tr\n1600 0 0 -0.5 -7 9 Tm\n/F0 1 Tf\n<4142> Tj\n/F4 1 Tf\n<31> Tj\n"
 WRITTEN += b"0 0 2161.778 0 0 0 Tm\n/F4 1 Tf\n<3100> Tj\nET\n"
@@ -165,6 +166,7 @@ def test_texts():
     (b"<g><title>", b"<g>\n<title>"), (b"<g><title>", b"<g id='a'><title>"), (PATH, b""), (ESCAPED, b""),
     (b"</title>\n", b"</title>\n<title>a</title>\n"), (b"</title>\n", b"</title>\na"), (b"<title>", b"<desc>a</desc><title>"),
     (b"<title>", b"<title><![CDATA[a]]>"), (b"&lt;A", b"&quot;A"), (b'd="M-9 0L16256 8000"', b'd="M-9 0L16256 8000&amp;"'),
+    (b'stroke-width="12800"', b'stroke-width="24" fill="#ff8801"'),
 ])
 def test_wrong_groups(old, new):
     assert LABELLED.count(old) == 1

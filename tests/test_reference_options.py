@@ -11,6 +11,7 @@ from reference.carousel import EMPTY, BadItem, Carousel, colours_of, widths_of
 from reference.command_line import request_of
 from reference.geometry import Page
 from reference.outputs import answer, dots_of_size, file_names, listed, shown_by
+from reference.shapes import strokes_of
 
 PAGE = Page(1000, 1000, 0, 0)
 BLUE, GREY = (0, 0, 255), (128, 128, 128)
@@ -57,8 +58,9 @@ CAROUSEL = Carousel({2: BLUE}, {2: 640, 3: 0})
 
 
 def inks(plot, draw=plotter.draw, carousel=CAROUSEL):
-    """The pen, the colour and the width of each stroke."""
-    return [(it.pen, it.colour, it.width) for it in draw(plot, PAGE, carousel)[0]]
+    """The pen, the colour and the width of each stroke, or of the edges of an area."""
+    shapes, _ = draw(plot, PAGE, carousel)
+    return [(it.pen, it.colour, it.width) for shape in shapes for it in strokes_of(shape)]
 
 
 @pytest.mark.parametrize("draw", [plotter.draw, full_plotter.draw])
@@ -80,7 +82,7 @@ def test_widths_of_full():
 
 
 def test_fills():
-    """Solid fills have lines of width 0, and shading lines of 0.35 mm, in the pen's colour."""
+    """Solid fills have edges of width 0, and shading lines of 0.35 mm, in the pen's colour."""
     assert set(inks(b"SP2;PW9;RR40,40;", full_plotter.draw)) == {(2, BLUE, 0)}
     assert set(inks(b"SP2;PW9;FT10,50;RR400,400;", full_plotter.draw)) == {(2, BLUE, 224)}
     assert set(inks(b"SP2;PW9;FT3,100;RR400,400;", full_plotter.draw)) == {(2, BLUE, 640)}

@@ -7,18 +7,21 @@ import zlib
 import pytest
 
 from reference import messages
+from reference.fills import BY_ODD_COUNTS, BY_WINDING
 from reference.outputs import answer
 from reference.pdf import HEADER, read_pdf
 from reference.reading import Wrong
 from reference.svg import read_svg
-from reference.vectors import Document, Line
+from reference.vectors import Document, FilledPath, Line
 
 BLUE, RED = (0, 0, 255), (255, 136, 1)
 WINDOW = (160, 320, 800, 900)
 # On a page of 1,016 by 500 units.
 FIRST = [Line(1, BLUE, 24, None, (0, 448), (256, 448)), Line(1, BLUE, 24, None, (256, 448), (0, 8000)),
-         Line(1, BLUE, 24, None, (5, 6), (5, 6)), Line(7, RED, 12_800, WINDOW, (-9, 8000), (16_256, 0))]
-SECOND = [Line(1, BLUE, 56, WINDOW, (0, 0), (1, 1))]
+         Line(1, BLUE, 24, None, (5, 6), (5, 6)), Line(7, RED, 12_800, WINDOW, (-9, 8000), (16_256, 0)),
+         FilledPath(1, BLUE, BY_ODD_COUNTS, None, (
+             ((0, 0), (9, 0)), ((9, 0), (0, 9)), ((0, 9), (0, 0)), ((2, 2), (2, 4)), ((2, 4), (2, 2))))]
+SECOND = [Line(1, BLUE, 56, WINDOW, (0, 0), (1, 1)), FilledPath(1, BLUE, BY_WINDING, WINDOW, (((3, 4), (3, 4)),))]
 SVG = b"""<?xml version="1.0" encoding="UTF-8"?>
 <svg xmlns="http://www.w3.org/2000/svg" width="25.4mm" height="12.5mm" viewBox="0 0 16256 8000">
 <g fill="none" stroke-linecap="round" stroke-linejoin="round">
@@ -28,9 +31,11 @@ SVG = b"""<?xml version="1.0" encoding="UTF-8"?>
 <g id="sheet-1">
 <path class="pen1" stroke="#0000ff" stroke-width="24" d="M0 7552l256 0L0 0M5 7994l0 0"/>
 <path class="pen7" stroke="#ff8801" stroke-width="12800" clip-path="url(#w160_7100_640_580)" d="M-9 0L16256 8000"/>
+<path class="pen1" stroke="#0000ff" stroke-width="24" fill="#0000ff" fill-rule="evenodd" d="M0 8000l9 0l-9 -9l0 9m2 -2l0 -2l0 2"/>
 </g>
 <g id="sheet-2">
 <path class="pen1" stroke="#0000ff" stroke-width="56" clip-path="url(#w160_7100_640_580)" d="M0 8000l1 -1"/>
+<path class="pen1" stroke="#0000ff" stroke-width="24" fill="#0000ff" clip-path="url(#w160_7100_640_580)" d="M3 7996l0 0"/>
 </g>
 </g></svg>
 """
@@ -63,9 +68,27 @@ n
 S
 Q
 EMC
+/OC /P1 BDC
+q
+0 0 1 RG
+24 w
+0 0 1 rg
+0 0 m
+9 0 l
+0 9 l
+0 0 l
+h
+2 2 m
+2 4 l
+2 2 l
+h
+B*
+Q
+EMC
 """
 OTHER = b"0.004429133858 0 0 0.004429133858 0 0 cm\n1 J\n1 j\n"
 OTHER += b"/OC /P1 BDC\nq\n160 320 640 580 re\nW\nn\n0 0 1 RG\n56 w\n0 0 m\n1 1 l\nS\nQ\nEMC\n"
+OTHER += b"/OC /P1 BDC\nq\n160 320 640 580 re\nW\nn\n0 0 1 RG\n24 w\n0 0 1 rg\n3 4 m\n3 4 l\nh\nB\nQ\nEMC\n"
 OBJECTS = [
     b"<</Type/Catalog/Pages 3 0 R/OCProperties<</OCGs 4 0 R/D<</Order 4 0 R/ON 4 0 R>>>>>>",
     b"<</Producer(plotraster 0.3.0)/Title<FEFF0050D83DDE00>>>",
@@ -149,6 +172,9 @@ def test_each_byte_counts(read, data):
     (b' clip-path="url(#w160_7100_640_580)"', b""), (b'<rect x="160"', b'<rect x="161"'), (b'height="580"', b'height="580" rx="1"'),
     (b"</g></svg>\n", b"</g></svg>"), (b'<g id="sheet-1">', b'<g id="sheet-1" class="a">'), (b"</defs>", b"a</defs>"),
     (b'fill="none"', b'fill="red"'), (b"<path class", b"<path transform='scale(2)' class"),
+    (b'fill="#0000ff"', b'fill="#0000fe"'), (b'fill="#0000ff" fill-rule', b"fill-rule"), (b"evenodd", b"nonzero"),
+    (b' fill="#0000ff" clip-path="url(#w160_7100_640_580)"', b' clip-path="url(#w160_7100_640_580)" fill="#0000ff"'),
+    (b'"24" fill', b'"25" fill'), (b"m2 -2l0 -2l0 2", b"m2 -2l0 -2l0 2z"), (b"m2 -2l0 -2l0 2", b"m2 -2"),
 ])
 def test_wrong_svg(old, new):
     assert SVG.count(old) >= 1
@@ -185,6 +211,11 @@ def test_wrong_number_of_objects():
     (b"S\n", b"s\n"), (b"W\n", b""), (b"W\n", b"W*\n"), (b"n\n", b""), (b"5 6 m\n", b"5 6 m\n5 6 m\n"), (b"5 6 l\n", b""),
     (b"0 448 m\n", b""), (b"0 448 m", b"-0 448 m"), (b"0 448 m", b"0 448.5 m"), (b"640 580 re", b"-640 580 re"),
     (b"160 320 640 580 re", b"0 0 16256 8000 re"), (b"S\nQ\n", b"S\nQ\nq\n"), (b"5 6 m\n5 6 l\n", b"5 6 m\n5 6 l\n" * 999),
+    (b"h\nB*", b"B*"), (b"h\n2 2 m", b"2 2 m"), (b"h\n2 2 m", b"h\nh\n2 2 m"), (b"h\n2 2 m", b"h\n2 2 l"), (b"h\n2 2 m", b"h"),
+    (b"2 2 m\n2 4 l\n2 2 l\nh\n", b"2 2 m\n2 4 l\nh\n"), (b"2 2 m\n", b"2 2 m\nh\n"), (b"h\nB*", b"h\n0 0 m\nB*"),
+    (b"0 0 1 rg\n", b""), (b"0 0 1 rg\n", b"0 0 1 rg\n0 0 1 rg\n"), (b"0 0 1 rg", b"0 0.004 1 rg"), (b"B*", b"S"), (b"B*", b"f*"),
+    (b"B*", b"B*\n0 0 m\n1 1 l\nB*"), (b"24 w\n0 0 1 rg", b"0 0 1 rg\n24 w"), (b"24 w\n0 0 1 rg", b"25 w\n0 0 1 rg"),
+    (b"0 8000 l\n5 6 m", b"0 8000 l\n0 448 l\nh\n5 6 m"), (b"5 6 l\nS", b"5 6 l\nB"), (b"5 6 m\n5 6 l\n", b"5 6 m\n5 6 l\nh\n"),
 ])
 def test_wrong_contents(old, new):
     assert CONTENT.count(old) >= 1
@@ -211,6 +242,39 @@ TWO = b"pen 2 ff0000 width 24 in 160 160 800 960 from 1600 800 to 0 0\n"
 ])
 def test_listings(command, options, wanted):
     assert answer(command, {**PAGE, **options}, PLOT) == (0, b"page 1000 500\n" + wanted, "")
+
+
+FILLS = b"SP2;PU0,0;RA2,1;IW0,0,9,9;PM0;PD2,0,0,2;PM2;FP1;IW-1,-1,-2,-2;FP;"
+RED_AREA = b"pen 2 ff0000 area by odd counts from 0 0 to 32 0 from 32 0 to 32 16 from 32 16 to 0 16 from 0 16 to 0 0\n"
+IN_A_WINDOW = b"pen 2 ff0000 area by winding in 0 0 144 144 from 0 0 to 32 0 from 32 0 to 0 32 from 0 32 to 0 0\n"
+
+
+@pytest.mark.parametrize("command, before", [("svg", b""), ("pdf", b"sheet 1\n")])
+def test_listings_of_areas(command, before):
+    """An area has its rule, its window and its edges, and one whose window is empty is not there."""
+    options = {**PAGE, "profile": "full", "sheet": "1"}
+    assert answer(command, options, FILLS) == (0, b"page 1000 500\n" + before + RED_AREA + IN_A_WINDOW, "")
+    assert answer(command, {**options, "pens": "1"}, FILLS) == (0, b"page 1000 500\n" + before, "")
+
+
+def test_areas_and_labels():
+    """The lines of a label are counted among areas, too."""
+    plot = b"PU0,0;RA2,1;LB.\x03RA2,1;RA2,1;LB.\x03"
+    found = answer("svg", {**PAGE, "profile": "full", "sheet": "1"}, plot).output.splitlines()
+    assert found[-2:] == [b"label '.' of lines 1 to 2", b"label '.' of lines 4 to 5"]
+
+
+def test_areas_on_the_page_around_them():
+    """An area, its window and what it reaches by its edges are moved with the page."""
+    plot = b"PU100,200;RA200,300;IW150,0,500,500;RA250,400;"
+    wanted = [
+        b"page 150 200",
+        b"pen 1 000000 area by odd counts from 0 0 to 1600 0 from 1600 0 to 1600 1600 from 1600 1600 to 0 1600 from 0 1600 to 0 0",
+        b"pen 1 000000 area by odd counts in 800 0 2400 3200 from 0 0 to 2400 0 from 2400 0 to 2400 3200"
+        b" from 2400 3200 to 0 3200 from 0 3200 to 0 0",
+    ]
+    got = answer("svg", {**PAGE, "profile": "full", "sheet": "1", "fit": None, "margin": "0"}, plot)
+    assert (got.output.splitlines(), got.error) == (wanted, "")
 
 
 def test_files_of_documents():

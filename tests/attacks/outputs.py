@@ -13,8 +13,8 @@ from .answers import Broken, must
 MOST_READ = 30000
 MARKS = re.compile(rb"(?:[0-9]+ [0-9]+ [0-9]+ [0-9a-f]{6}\n)*")
 REPORT = re.compile(
-    rb"page [0-9]+ [0-9]+ -?[0-9]+ -?[0-9]+\n(sheets [0-9]+\n)?strokes [0-9]+\n"
-    rb"(pen [0-9]+ strokes [0-9]+ widest [0-9]+ box( -?[0-9]+){4}\n)*"
+    rb"page [0-9]+ [0-9]+ -?[0-9]+ -?[0-9]+\n(sheets [0-9]+\n)?strokes [0-9]+\n(areas [1-9][0-9]*\n)?"
+    rb"(pen [0-9]+ (strokes [0-9]+ widest [0-9]+|areas [1-9][0-9]* edges [1-9][0-9]*) box( -?[0-9]+){4}\n)*"
     rb"(note [0-9]+ (skipped [A-Z]{2}|bad [A-Z]{2}|stray [0-9]+|open [A-Z]{2}|axis [A-Z]{2})\n)*")
 PBM = re.compile(rb"P4\n([0-9]+) ([0-9]+)\n")
 PPM = re.compile(rb"P6\n([0-9]+) ([0-9]+)\n255\n")

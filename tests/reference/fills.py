@@ -1,4 +1,4 @@
-"""The lines that fill polygons, in the profile full."""
+"""The lines of hatching and of shading, in the profile full."""
 
 from .cutting import MILLION, rounded
 from .geometry import sine

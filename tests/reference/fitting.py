@@ -1,13 +1,16 @@
 """The page around a drawing, which `--fit` takes, and the drawing on it.
 
 The drawing is that on the page that the other options give, whose edges cut nothing: a window that is all of it counts
-as none. Boxes and windows are left, lower, right and upper edges, in grains; a page is in plotter units.
+as none. A shape reaches the box of its ends, a stroke with its width around it. What an area fills is in this box, but it need not
+fill it. Boxes and windows are left, lower, right and upper edges, in grains; a page is in plotter units.
 """
 
+import itertools
 from typing import NamedTuple
 
 from .geometry import NO_WINDOW, Page, whole_page
 from .plotter import FARTHEST
+from .shapes import is_area, strokes_of
 
 UNIT = 16
 MILLIMETRE = 640
@@ -17,44 +20,45 @@ TOO_LARGE = "too-large-to-fit"
 
 
 class Fitted(NamedTuple):
-    """A page, the strokes on it, and by which message it is the page that was given, or None."""
+    """A page, the shapes on it, and by which message it is the page that was given, or None."""
 
     page: Page
-    strokes: list
+    shapes: list
     why: str = None
 
 
-def fitted(strokes, page, margin):
-    """The page around strokes, with a margin of so many millimetres, and the strokes on it."""
-    boxes = [box for box in (box_of(stroke, page) for stroke in strokes) if box]
+def fitted(shapes, page, margin):
+    """The page around shapes, with a margin of so many millimetres, and the shapes on it."""
+    strokes = [stroke for shape in shapes for stroke in strokes_of(shape)]
+    boxes = [box for box in (box_of(shape, page) for shape in shapes) if box]
     if not boxes:
-        return Fitted(page, strokes, BLANK)
+        return Fitted(page, shapes, BLANK)
     lefts, bottoms, rights, tops = zip(*boxes)
     around = min(lefts), min(bottoms), max(rights), max(tops)
     x, width = side(around[0], around[2], margin)
     y, height = side(around[1], around[3], margin)
     corner = UNIT * x, UNIT * y
     if max(width, height) > LONGEST or any(is_far(stroke, corner) for stroke in strokes):
-        return Fitted(page, strokes, TOO_LARGE)
+        return Fitted(page, shapes, TOO_LARGE)
     shown = Page(width, height, page.left - x, page.below - y)
-    return Fitted(shown, [moved(stroke, page, shown, corner) for stroke in strokes])
+    return Fitted(shown, [moved(shape, page, shown, corner) for shape in shapes])
 
 
-def box_of(stroke, page):
-    """What a stroke reaches with its width, in its window; None if nothing of that is in the window."""
-    return reach_of(stroke) if stroke.window == whole_page(page) else cut(reach_of(stroke), stroke.window)
+def box_of(shape, page):
+    """What a shape reaches, in its window; None if nothing of that is in the window."""
+    return reach_of(shape) if shape.window == whole_page(page) else cut(reach_of(shape), shape.window)
 
 
-def reach_of(stroke):
-    """What a stroke reaches with its width."""
-    half = (stroke.width + 1) // 2
-    x, y = zip(stroke.a, stroke.b)
+def reach_of(shape):
+    """What a shape reaches: a stroke its ends with its width, an area all ends of its edges."""
+    half = 0 if is_area(shape) else (shape.width + 1) // 2
+    x, y = zip(*itertools.chain.from_iterable(shape.edges if is_area(shape) else [(shape.a, shape.b)]))
     return min(x) - half, min(y) - half, max(x) + half, max(y) + half
 
 
-def is_off(stroke, page):
-    """Whether all that a stroke reaches is off the page, whatever its window shows."""
-    return cut(reach_of(stroke), (0, 0, UNIT * page.width, UNIT * page.height)) is None
+def is_off(shape, page):
+    """Whether all that a shape reaches is off the page, whatever its window shows."""
+    return cut(reach_of(shape), whole_page(page)) is None
 
 
 def cut(box, window):
@@ -76,13 +80,16 @@ def is_far(stroke, corner):
     return any(abs(place - start) > FARTHEST for end in (stroke.a, stroke.b) for place, start in zip(end, corner))
 
 
-def moved(stroke, page, shown, corner):
-    """A stroke of a page, on the page that has this corner."""
+def moved(shape, page, shown, corner):
+    """A shape of a page, on the page that has this corner."""
     dx, dy = corner
-    a, b = ((end[0] - dx, end[1] - dy) for end in (stroke.a, stroke.b))
-    if stroke.window == whole_page(page):
+    if shape.window == whole_page(page):
         window = whole_page(shown)
     else:
-        left, bottom, right, top = stroke.window
+        left, bottom, right, top = shape.window
         window = cut((left - dx, bottom - dy, right - dx, top - dy), whole_page(shown)) or NO_WINDOW
-    return stroke._replace(a=a, b=b, window=window)
+    if is_area(shape):
+        edges = tuple(tuple((x - dx, y - dy) for x, y in edge) for edge in shape.edges)
+        return shape._replace(edges=edges, window=window)
+    a, b = ((x - dx, y - dy) for x, y in (shape.a, shape.b))
+    return shape._replace(a=a, b=b, window=window)

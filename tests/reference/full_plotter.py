@@ -1,7 +1,7 @@
-"""From items to strokes and notes, in the profile full: what is drawn, and what polygons take.
+"""From items to shapes and notes, in the profile full: what is drawn, and what polygons take.
 
 Three calls make all strokes: `ink` draws a stroke, `line` draws one in the line type, and `reach` moves the pen. Letters,
-symbols, ticks and the dot of a PD are ink; moves, figures, edges and hatching are lines.
+symbols, ticks and the dot of a PD are ink; moves, figures, edges and hatching are lines. Areas are solid fills.
 """
 
 from fractions import Fraction
@@ -22,17 +22,16 @@ from .geometry import sign, turned, turned_about, turns
 from .labels import rows_of
 from .plotter import LONGEST_PLOT, MOST_STROKES, USUAL_WIDTH, Bad, Refused, Stroke, listed, whole
 from .polygons import Buffer
+from .shapes import Area
 
 BAD_IN_POLYGONS = "EA ER LB PB CP XT YT EP FP RA RR EW WG".split()
 TICKS_OF_A_UNIT = 16 * TICKS_OF_A_GRAIN
-# The lines of solid fills go through the middle of plotter units.
-MIDDLE_OF_A_UNIT = (0, 8)
 
 
 def draw(plot, page, carousel=EMPTY, most=MOST_STROKES, characters=None):
-    """The strokes of all sheets and the notes of a plot; it is refused if it has more strokes than most."""
+    """The shapes of all sheets and the notes of a plot; it is refused if it has more strokes and edges than most."""
     plotter = after(plot, page, carousel, most, characters)
-    return plotter.strokes_drawn(), plotter.notes
+    return plotter.shapes_drawn(), plotter.notes
 
 
 def after(plot, page, carousel=EMPTY, most=MOST_STROKES, characters=None):
@@ -66,15 +65,15 @@ class FullPlotter(FullSettings):
     """A plotter of the profile full."""
 
     def __init__(self, page, carousel=EMPTY, most=MOST_STROKES):
-        self.most = most  # the most strokes
+        self.most = most  # the most strokes and edges
         self.sheet, self.is_sheet_empty = 1, True
-        self.parts = []  # what is drawn: each has strokes
-        self.sum = 0  # of strokes, and of what counts as strokes: places that are filled or edged, and texts of PB
+        self.parts = []  # what is drawn: each has shapes
+        self.sum = 0  # of strokes, and of what counts as strokes: edges of areas, places that are filled or edged, and texts of PB
         self.labels, self.label = [], None  # the lines of each label that has strokes, and which one is written now
         super().__init__(page, carousel)
 
-    def strokes_drawn(self):
-        """The strokes of all sheets."""
+    def shapes_drawn(self):
+        """The shapes of all sheets."""
         return list(chain.from_iterable(self.parts))
 
     def set_defaults(self):
@@ -105,10 +104,10 @@ class FullPlotter(FullSettings):
     def stroke(self, a, b, width):
         return Stroke(self.pen, self.colour(), width, self.window, a, b, self.sheet, self.label)
 
-    def add(self, count, strokes):
-        """Draws so many strokes; after too many the plot is refused, and none are needed."""
+    def add(self, count, shapes):
+        """Draws shapes of so many strokes and edges; after too many the plot is refused, and none are needed."""
         if count and self.sum <= self.most:
-            self.parts.append(strokes)
+            self.parts.append(shapes)
             self.is_sheet_empty = False
         self.sum += count
 
@@ -302,12 +301,7 @@ class FullPlotter(FullSettings):
                 apart = min(MOST_TICKS, rounded(100 * USUAL_WIDTH * TICKS_OF_A_GRAIN * MILLION, self.level))
                 self.fill(fills.Lines(45_000, apart, (0, 0)), edges, rule, self.shade)
         else:
-            self.fill(fills.Lines(0, TICKS_OF_A_UNIT, MIDDLE_OF_A_UNIT), edges, rule, self.thin)
-            for a, b in edges:
-                self.thin(a, b)
-
-    def thin(self, a, b):
-        self.ink(a, b, 0)
+            self.add(len(edges), [Area(self.pen, self.colour(), self.window, tuple(edges), rule, self.sheet)])
 
     def shade(self, a, b):
         self.ink(a, b, USUAL_WIDTH)
@@ -372,7 +366,7 @@ class FullPlotter(FullSettings):
     # Sheets
 
     def PG(self, _):
-        """Ends a sheet that has a stroke."""
+        """Ends a sheet that has a shape."""
         if not self.is_sheet_empty:
             self.sheet, self.is_sheet_empty = self.sheet + 1, True
 

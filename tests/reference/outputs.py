@@ -12,7 +12,8 @@ from .fitting import BLANK, TOO_LARGE, UNIT, fitted, is_off
 from .geometry import Page
 from .labels import groups_of, rows_moved, texts_of
 from .plotter import Refused
-from .vectors import Document, lines_of, spans_of
+from .shapes import is_area
+from .vectors import Document, shapes_of, spans_of
 
 ESC = b"\x1b"
 WHITE = b"\xff\xff\xff"
@@ -48,15 +49,15 @@ def answer(command, options, plot):
     except Refused as refusal:
         return fault(1, refusal)
     if request.form == "report":
-        return Answer(0, report(shown.drawing, shown.page), said_of(request, shown, shown.drawing.strokes))
+        return Answer(0, report(shown.drawing, shown.page), said_of(request, shown, shown.drawing.shapes))
     return pictured(request, shown)
 
 
 class Drawing(NamedTuple):
-    """What is drawn of a plot: the strokes of the sheet asked for, all notes, in full the greatest sheet, whether a sheet
+    """What is drawn of a plot: the shapes of the sheet asked for, all notes, in full the greatest sheet, whether a sheet
     ends before the plot does, and the lines of all labels."""
 
-    strokes: list
+    shapes: list
     notes: list
     sheets: int = None
     has_ends: bool = False
@@ -68,10 +69,10 @@ def draw(plot, page, sheet, carousel=EMPTY, characters=None):
     if sheet is None:
         return Drawing(*plotter.draw(plot, page, carousel))
     plotted = full_plotter.after(plot, page, carousel, characters=characters)
-    strokes = plotted.strokes_drawn()
-    sheets = max((stroke.sheet for stroke in strokes), default=0)
-    strokes = [stroke for stroke in strokes if sheet in (0, EACH, stroke.sheet)]
-    return Drawing(strokes, plotted.notes, sheets, plotted.sheet > 1, plotted.labels)
+    shapes = plotted.shapes_drawn()
+    sheets = max((shape.sheet for shape in shapes), default=0)
+    shapes = [shape for shape in shapes if sheet in (0, EACH, shape.sheet)]
+    return Drawing(shapes, plotted.notes, sheets, plotted.sheet > 1, plotted.labels)
 
 
 class Shown(NamedTuple):
@@ -93,19 +94,19 @@ def shown_by(request, plot):
         asked = asked_page(plot, request)
         page, why = asked or page, None if asked else "no-size"
     drawing = draw(plot, page, request.sheet, request.carousel, request.characters)
-    strokes, lines = drawing.strokes, len(drawing.strokes)
+    shapes, lines = drawing.shapes, len(drawing.shapes)
     if request.form != "report":
-        strokes = [stroke for stroke in strokes if stroke.pen in request.pens]
+        shapes = [shape for shape in shapes if shape.pen in request.pens]
     if request.margin is not None:
         given = page
-        page, strokes, why = fitted(strokes, given, request.margin)
+        page, shapes, why = fitted(shapes, given, request.margin)
         by = UNIT * (page.left - given.left), UNIT * (page.below - given.below)
         drawing = drawing._replace(labels=[rows_moved(rows, *by) for rows in drawing.labels])
     dots, smooth = request.dots, request.smooth
     if request.pixels:
         dots = dots_of_size(page, request.pixels)
         smooth = min(smooth, MOST_DOTS // dots)
-    return Shown(page, drawing._replace(strokes=strokes), dots, smooth, why, lines)
+    return Shown(page, drawing._replace(shapes=shapes), dots, smooth, why, lines)
 
 
 def asked_page(plot, request):
@@ -130,11 +131,11 @@ def dots_of_size(page, pixels):
     return max((dots for dots in range(1, MOST_DOTS + 1) if max(1, raster.count(longer, dots)) <= pixels), default=1)
 
 
-def said_of(request, shown, strokes, about=""):
-    """What is said of strokes that are shown, beside their picture, with what it is about."""
+def said_of(request, shown, shapes, about=""):
+    """What is said of shapes that are shown, beside their picture, with what it is about."""
     said = f"plotraster: {about}{messages.text(shown.why)}\n" if shown.why else ""
     report = "plotraster report" + ("" if request.sheet is None else " --profile full")
-    is_blank = shown.why == BLANK or all(is_off(it, shown.page) for it in strokes)
+    is_blank = shown.why == BLANK or all(is_off(it, shown.page) for it in shapes)
     if request.is_draw and is_blank and shown.why != TOO_LARGE:
         said = "" if request.is_quiet else f"plotraster: {about}{messages.text('blank', report)}\n"
     if request.is_quiet:
@@ -152,13 +153,13 @@ def pictured(request, shown):
     """The picture of what is shown, or in a folder those of all sheets."""
     if request.first and request.first > raster.count(shown.page.height, shown.dots):
         return fault(2, messages.text("first-row"))
-    strokes = shown.drawing.strokes
+    shapes = shown.drawing.shapes
     if not request.folder:
-        return Answer(0, picture_of(request, shown, strokes), said_of(request, shown, strokes))
-    sheets = [("", strokes)]
+        return Answer(0, picture_of(request, shown, shapes), said_of(request, shown, shapes))
+    sheets = [("", shapes)]
     if request.sheet == EACH and shown.drawing.sheets > 1:
         numbers = range(1, shown.drawing.sheets + 1)
-        sheets = [(f"sheet {number}: ", [it for it in strokes if it.sheet == number]) for number in numbers]
+        sheets = [(f"sheet {number}: ", [it for it in shapes if it.sheet == number]) for number in numbers]
     names = file_names(len(sheets), request.form)
     files = {name: picture_of(request, shown, drawn) for name, (_, drawn) in zip(names, sheets)}
     return Answer(0, listed(files), "".join(said_of(request, shown, drawn, about) for about, drawn in sheets))
@@ -175,36 +176,36 @@ def listed(files):
     return b"".join(b"%s %d\n%s\n" % (name.encode(), len(files[name]), files[name]) for name in sorted(files))
 
 
-def picture_of(request, shown, strokes):
-    """The picture of strokes on the page that is shown."""
+def picture_of(request, shown, shapes):
+    """The picture of shapes on the page that is shown."""
     if request.form in VECTORS:
-        return document_of(request, shown, strokes).listing()
+        return document_of(request, shown, shapes).listing()
     page, dots, smooth, first = shown.page, shown.dots, shown.smooth, request.first
     if request.form == "png" or smooth > 1:
-        rows = smoothed_rows(strokes, page, dots, smooth, request.pens, first)
+        rows = smoothed_rows(shapes, page, dots, smooth, request.pens, first)
         return pixmap(request.form, page, dots, rows, first == 0)
-    rows = raster.rows(strokes, page, dots, request.pens, first)
+    rows = raster.rows(shapes, page, dots, request.pens, first)
     return picture(request.form, page, dots, rows, first == 0)
 
 
-def document_of(request, shown, strokes):
-    """What a document of strokes on the page that is shown has: in PDF pages, and in SVG groups if there is more than a sheet
+def document_of(request, shown, shapes):
+    """What a document of shapes on the page that is shown has: in PDF pages, and in SVG groups if there is more than a sheet
     by itself."""
     is_pdf, is_whole = request.form == "pdf", request.sheet == 0
     numbers = range(1, max(1, shown.drawing.sheets if is_whole else 1) + 1)
-    sheets = [[it for it in strokes if not is_whole or it.sheet == number] for number in numbers]
+    sheets = [[it for it in shapes if not is_whole or it.sheet == number] for number in numbers]
     are_numbered = is_pdf or is_whole and shown.drawing.has_ends
     page, title = shown.page, f"{PLOT}.plt" if is_pdf and request.folder else None
     read = texts_of if is_pdf else groups_of
     labels = [it for number, own in enumerate(sheets, 1) for it in read(number, spans_of(own), shown.drawing.labels)]
-    return Document(page.width, page.height, [lines_of(it, page) for it in sheets], are_numbered, title, tuple(labels))
+    return Document(page.width, page.height, [shapes_of(it, page) for it in sheets], are_numbered, title, tuple(labels))
 
 
-def smoothed_rows(strokes, page, dots, times, pens, first):
+def smoothed_rows(shapes, page, dots, times, pens, first):
     """The colours of each row from the first on: each is the mean of times by times pixels of the finer picture, beyond
     which all is white."""
     columns, fine_columns = raster.count(page.width, dots), raster.count(page.width, dots * times)
-    fine = [colours(*row) for row in raster.rows(strokes, page, dots * times, pens, first * times)]
+    fine = [colours(*row) for row in raster.rows(shapes, page, dots * times, pens, first * times)]
     wide = 3 * times * columns
     fine = [row[:wide] + WHITE * (times * columns - fine_columns) for row in fine]
     count = raster.count(page.height, dots) - first
@@ -241,11 +242,11 @@ def commands_before(dots, columns, rows):
 
 
 def marks(row, cells):
-    """A line for each pixel that shows a stroke."""
+    """A line for each pixel that shows a shape."""
     return b"".join(
-        b"%d %d %d %s\n" % (row, column, stroke.pen, bytes(stroke.colour).hex().encode())
-        for column, stroke in enumerate(cells)
-        if stroke
+        b"%d %d %d %s\n" % (row, column, shape.pen, bytes(shape.colour).hex().encode())
+        for column, shape in enumerate(cells)
+        if shape
     )
 
 
@@ -257,7 +258,7 @@ def bits(_, cells):
 
 def colours(_, cells):
     """Three bytes a pixel; the paper is white."""
-    return b"".join(bytes(stroke.colour) if stroke else b"\xff\xff\xff" for stroke in cells)
+    return b"".join(bytes(shape.colour) if shape else b"\xff\xff\xff" for shape in cells)
 
 
 def transfer(row, cells):
@@ -276,17 +277,43 @@ FORMS = {
 
 
 def report(drawing, page):
-    """The lines of a report: the page, in full the sheets, the strokes of each pen, and the notes."""
-    strokes, notes, sheets, *_ = drawing
+    """The lines of a report: the page, in full the sheets, the strokes, and the areas if there are any, of all pens and of each
+    pen, and the notes."""
+    shapes, notes, sheets, *_ = drawing
     lines = ["page %d %d %d %d" % page]
     lines += [] if sheets is None else [f"sheets {sheets}"]
-    lines.append(f"strokes {len(strokes)}")
-    for pen in sorted({stroke.pen for stroke in strokes}):
-        own = [stroke for stroke in strokes if stroke.pen == pen]
-        x = [end[0] for stroke in own for end in (stroke.a, stroke.b)]
-        y = [end[1] for stroke in own for end in (stroke.a, stroke.b)]
-        widest = max(stroke.width for stroke in own)
-        box = f"{min(x)} {min(y)} {max(x)} {max(y)}"
-        lines.append(f"pen {pen} strokes {len(own)} widest {widest} box {box}")
+    lines.append(f"strokes {len(strokes_in(shapes))}")
+    lines += [f"areas {len(areas_in(shapes))}"] if areas_in(shapes) else []
+    for pen in sorted({shape.pen for shape in shapes}):
+        own = [shape for shape in shapes if shape.pen == pen]
+        lines += [f"pen {pen} {of_own}" for of_own in (*of_strokes(strokes_in(own)), *of_areas(areas_in(own)))]
     lines += [f"note {note.at} {note.kind} {note.has}" for note in notes]
     return "".join(line + "\n" for line in lines).encode()
+
+
+def strokes_in(shapes):
+    return [shape for shape in shapes if not is_area(shape)]
+
+
+def areas_in(shapes):
+    return [shape for shape in shapes if is_area(shape)]
+
+
+def of_strokes(strokes):
+    """What a report says of the strokes of a pen, if it has any."""
+    if strokes:
+        ends = [end for stroke in strokes for end in (stroke.a, stroke.b)]
+        yield f"strokes {len(strokes)} widest {max(stroke.width for stroke in strokes)} {box_of(ends)}"
+
+
+def of_areas(areas):
+    """What a report says of the areas of a pen, if it has any."""
+    if areas:
+        edges = [edge for area in areas for edge in area.edges]
+        yield f"areas {len(areas)} edges {len(edges)} {box_of([end for edge in edges for end in edge])}"
+
+
+def box_of(places):
+    """The box around places."""
+    x, y = zip(*places)
+    return f"box {min(x)} {min(y)} {max(x)} {max(y)}"

@@ -9,7 +9,7 @@ from fractions import Fraction
 from typing import NamedTuple
 
 from .labels import Text
-from .pdf_content import lines_of
+from .pdf_content import shapes_of
 from .pdf_fonts import fonts_of
 from .reading import Wrong, inflated, must
 from .vectors import Document
@@ -62,9 +62,9 @@ def read_pdf(data):
     must(count == len(references(kids)) >= 1, f"{len(kids)} pages instead of {count}")
     must(isinstance(box, list) and len(box) == 4 and box[:2] == [0, 0], f"the box {box}")
     width, height = map(units_of, box[2:])
-    found = [lines_of(content_of(objects, kid, pages), width, height) for kid in kids]
-    sheets = [lines for lines, _ in found]
-    must({line.pen for lines in sheets for line in lines} == set(layers), "a layer without a line, or a line without one")
+    found = [shapes_of(content_of(objects, kid, pages), width, height) for kid in kids]
+    sheets = [shapes for shapes, _ in found]
+    must({it.pen for shapes in sheets for it in shapes} == set(layers), "a layer without a shape, or a shape without one")
     characters = fonts_of(objects, resources.get("Font"))
     texts = [Text(number, text_of(row, characters), row.matrix) for number, (_, rows) in enumerate(found, 1) for row in rows]
     used = {font for _, rows in found for row in rows for font, _ in row.pieces}

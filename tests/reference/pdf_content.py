@@ -1,12 +1,13 @@
-"""The operators of a PDF's page, read one after another, by ISO 32000-1: the lines that they draw and the texts that they write
-invisibly after these, or why they are wrong."""
+"""The operators of a PDF's page, read one after another, by ISO 32000-1: the lines that they draw, the areas that they fill, and
+the texts that they write invisibly after these, or why they are wrong."""
 
 import re
 from fractions import Fraction
 from typing import NamedTuple
 
+from .fills import BY_ODD_COUNTS, BY_WINDING
 from .reading import must
-from .vectors import LEAST_WIDTH, MOST_IN_A_PATH, Line
+from .vectors import LEAST_WIDTH, MOST_IN_A_PATH, Line, FilledPath
 
 WHOLE = re.compile(rb"0|-?[1-9][0-9]*")
 PART = re.compile(rb"0(?:\.[0-9]{0,2}[1-9])?|1")
@@ -22,11 +23,12 @@ ROUNDED_PART = Fraction(1, 2000)
 
 
 class Set(NamedTuple):
-    """What is set for the lines that are drawn; before that nothing is."""
+    """What is set for what is drawn; before that nothing is. What is filled is an area."""
 
     colour: tuple = None
     width: int = None
     window: tuple = None
+    filling: tuple = None
 
 
 class Row(NamedTuple):
@@ -36,8 +38,8 @@ class Row(NamedTuple):
     pieces: list
 
 
-def lines_of(content, width, height):
-    """The lines that the operators of a page of so many plotter units draw, and those of text that they write."""
+def shapes_of(content, width, height):
+    """The lines and areas that the operators of a page of so many plotter units draw, and the lines of text that they write."""
     must(content.endswith(b"\n"), "no end of the last line")
     page = Content((0, 0, 16 * width, 16 * height))
     for line in content[:-1].split(b"\n"):
@@ -55,6 +57,16 @@ def numbers(operands, count):
     return tuple(map(int, found))
 
 
+def colour_of(operands):
+    """A colour by its parts, rounded to three decimals."""
+    parts = operands.split(b" ")
+    must(len(parts) == 3 and all(map(PART.fullmatch, parts)), f"the colour {operands}")
+    found = [Fraction(part.decode()) for part in parts]
+    colour = tuple(round(part * 255) for part in found)
+    must(all(abs(part - Fraction(it, 255)) <= ROUNDED_PART for part, it in zip(found, colour)), f"the colour {operands}")
+    return colour
+
+
 class Content:
     """What operators have set and drawn."""
 
@@ -63,7 +75,7 @@ class Content:
         self.begun = set()
         self.pen, self.set, self.saved = None, Set(), None
         self.rectangle, self.is_clip = None, False
-        self.place, self.lines, self.is_moved = None, [], False
+        self.start, self.place, self.ends, self.is_moved, self.is_closed = None, None, [], False, False
         self.painted, self.is_painted = [], False
         self.rows, self.is_invisible, self.is_text_ended, self.font = None, False, False, None
 
@@ -116,12 +128,12 @@ class Content:
         self.rectangle, self.is_clip = None, False
 
     def colour(self, operands):
-        parts = operands.split(b" ")
-        must(len(parts) == 3 and all(map(PART.fullmatch, parts)), f"the colour {operands}")
-        found = [Fraction(part.decode()) for part in parts]
-        colour = tuple(round(part * 255) for part in found)
-        must(all(abs(part - Fraction(it, 255)) <= ROUNDED_PART for part, it in zip(found, colour)), f"the colour {operands}")
-        self.change("colour", colour)
+        self.change("colour", colour_of(operands))
+
+    def filling(self, operands):
+        found = colour_of(operands)
+        must(found == self.set.colour and self.set.width == LEAST_WIDTH, "edges of another colour, or wide ones")
+        self.change("filling", found)
 
     def width(self, operands):
         width, = numbers(operands, 1)
@@ -137,19 +149,43 @@ class Content:
     def move(self, operands):
         must(None not in (self.saved, self.set.colour, self.set.width) and self.rectangle is None, "lines of nothing")
         must(not self.is_moved and not self.is_painted, "a move without a line, or after what is painted")
-        self.place, self.is_moved = numbers(operands, 2), True
+        must(not self.ends or self.is_chain_whole(), "an area with a chain that is not closed")
+        self.start = self.place = numbers(operands, 2)
+        self.is_moved, self.is_closed = True, False
 
     def line(self, operands):
-        must(self.place is not None, "a line from nowhere")
+        must(self.place is not None and not self.is_closed, "a line from nowhere")
         to = numbers(operands, 2)
-        self.lines.append(Line(self.pen, *self.set, self.place, to))
+        self.ends.append((self.place, to))
         self.place, self.is_moved = to, False
 
+    def close(self, operands):
+        must(not operands and self.ends and not self.is_moved and not self.is_closed, "nothing is closed")
+        self.is_closed = True
+
+    def is_chain_whole(self):
+        """Whether the last chain of lines is closed if it leads back within an area, and only then."""
+        return self.is_closed == (self.set.filling is not None and self.place == self.start)
+
     def stroke(self, operands):
-        must(not operands and self.lines and not self.is_moved, "a path without a line at its end")
-        must(len(self.lines) <= MOST_IN_A_PATH, f"{len(self.lines)} lines in a path")
-        self.painted += self.lines
-        self.lines, self.place, self.is_painted = [], None, True
+        must(self.set.filling is None and len(self.ends) <= MOST_IN_A_PATH, f"{len(self.ends)} lines in a path, or an area")
+        self.paint(operands, [Line(self.pen, self.set.colour, self.set.width, self.set.window, *ends) for ends in self.ends])
+
+    def fill_by_odd_counts(self, operands):
+        self.fill(operands, BY_ODD_COUNTS)
+
+    def fill_by_winding(self, operands):
+        self.fill(operands, BY_WINDING)
+
+    def fill(self, operands, rule):
+        must(self.set.filling is not None, "an area of no colour")
+        self.paint(operands, [FilledPath(self.pen, self.set.colour, rule, self.set.window, tuple(self.ends))])
+
+    def paint(self, operands, shapes):
+        must(not operands and self.ends and not self.is_moved, "a path without a line at its end")
+        must(self.is_chain_whole(), "a chain that is closed, or is not")
+        self.painted += shapes
+        self.start, self.place, self.ends, self.is_closed, self.is_painted = None, None, [], False, True
 
     def begin_text(self, operands):
         must(not operands and self.pen is None and self.rows is None and self.painted, "text that is not after all lines")
@@ -190,7 +226,8 @@ class Content:
 OPERATORS = {
     b"cm": Content.scale, b"J": Content.line_ends, b"j": Content.line_joins, b"BDC": Content.layer, b"EMC": Content.end_layer,
     b"q": Content.save, b"Q": Content.restore, b"re": Content.clip_rectangle, b"W": Content.clip, b"n": Content.no_paint,
-    b"RG": Content.colour, b"w": Content.width, b"m": Content.move, b"l": Content.line, b"S": Content.stroke,
+    b"RG": Content.colour, b"rg": Content.filling, b"w": Content.width, b"m": Content.move, b"l": Content.line,
+    b"h": Content.close, b"S": Content.stroke, b"B*": Content.fill_by_odd_counts, b"B": Content.fill_by_winding,
     b"BT": Content.begin_text, b"Tr": Content.way_of_text, b"Tm": Content.matrix, b"Tf": Content.choose_font,
     b"Tj": Content.show, b"ET": Content.end_text,
 }

@@ -1,7 +1,8 @@
 """Random plots of either profile on the page around their drawing, by `--fit`.
 
-The case of a seed is that of the same seed without `--fit`, with a margin and perhaps with more before the plot. If the
-picture has too many pixels for the reference, it gets another resolution, or is a report.
+The case of a seed is that of the same seed without `--fit`, with a margin and perhaps with more before the plot: a line that is
+hidden, or in the profile full a fill around its window or around the page. If the picture has too many pixels for the reference,
+it gets another resolution, or is a report.
 """
 
 import random
@@ -50,14 +51,28 @@ def fitted_options(options, chance):
 
 
 def beginning(case, chance):
-    """What comes before a plot: perhaps a width, which need be no whole units and may be odd in grains, and perhaps a line
-    that a window hides and that may be too far from the page around the others."""
+    """What comes before a plot: perhaps a width, which need be no whole units and may be odd in grains, and perhaps a fill, or a
+    line that a window hides and that may be too far from the page around the others."""
     width = b"PW%s;" % spelled(chance.randint(0, MILLION)).encode() if chance.random() < 0.5 else b""
+    if case.options.get("profile") == "full" and chance.random() < 0.3:
+        return width + filled(case, chance)
     if chance.random() < 0.9:
         return width
     x, y = (chance.choice((-1, 1)) * (LONGEST - chance.choice((0, 1, 100, 2000))) - number(case, name, *PAGE_OPTIONS[name])
             for name in ("left", "below"))
     return width + b"IW0,0,1,1;PU%d,%d;PD;IW;PU0,0;" % (x, y)
+
+
+def filled(case, chance):
+    """A fill in a window, or on the page: every other one is around it, and of the others each side is inside or outside. The plot
+    after it is drawn without the window."""
+    page = [number(case, name, *PAGE_OPTIONS[name]) for name in ("width", "height")]
+    low = [chance.randint(-side // 4, side) for side in page]
+    window = *low, *(place + chance.randint(1, side) for place, side in zip(low, page))
+    has_window, is_around = chance.random() < 0.8, chance.random() < 0.5
+    sides = zip(window if has_window else (0, 0, *page), (-1, -1, 1, 1))
+    places = [place + (out if is_around else chance.choice((-1, 1))) * chance.randint(0, max(page)) for place, out in sides]
+    return (b"IW%d,%d,%d,%d;" % window if has_window else b"") + b"PU%d,%d;RA%d,%d;IW;PU0,0;" % tuple(places)
 
 
 def light_case(case, chance):

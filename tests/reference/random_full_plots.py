@@ -1,6 +1,6 @@
 """Random plots of the profile full, with random options.
 
-Instructions of the core come among the further ones. Most fills and dashed lines are small, since a pixel asks every
+Instructions of the core come among the further ones. Most hatching and dashed lines are small, since a pixel asks every
 stroke.
 """
 
@@ -10,6 +10,7 @@ from .full_cutting import items
 from .full_plotter import FullPlotter
 from .geometry import Page
 from .plotter import Refused
+from .random_areas import AreaWriter
 from .random_plots import Writer
 
 # The names of --characters.
@@ -37,6 +38,8 @@ THEMES = [
         "PM PM PD PU PR PA PE CI AA AT RT BZ BR EP FP EA LB SM IN DF",
         "FT FT RA RR WG FP AC hatching hatching mirrored RO SC IP PW SP",
         "shading shading FT RR WG polygon FP SP PC PW AC",
+        "solid solid solid solid SP PC PD FP EP PG edge",
+        "solid solid RR WG polygon LB hatching PW SP IW sheet",
         "EW WG CT CI AA AR RT AT RO SC PD",
         "AT RT BZ BR PD PU SC RO PR mirrored LT PM EP flat",
         "sheet sheet PD LB RR SP PC IN BP",
@@ -50,7 +53,7 @@ THEMES = [
         "PD PD PR AR ER CI IW LB units units bad",
     )
 ]
-DRAWING = ("PD", "PD", "PR", "PE", "EA", "ER", "CI", "AA", "LB", "RR", "EP", "FP", "BZ", "AT", "WG", "YT")
+DRAWING = ("PD", "PD", "PR", "PE", "EA", "ER", "CI", "AA", "LB", "RR", "EP", "FP", "BZ", "AT", "WG", "YT", "solid")
 KNOWN = (
     b"PS100,200;", b"NP8;", b"LA1,4,2,4;", b"TR0;", b"MC1;", b"PP", b"VS20",
     b"OE;", b"OI", b"DP", b"GM;", b"FN2", b"ST", b"RF1,1,1,0;", b"LM1;", b"TD1", b'QL"PD;"', b"EC", b"ow",
@@ -96,7 +99,7 @@ def light(plot, page, most, carousel=EMPTY):
     return plot
 
 
-class FullWriter(Writer):
+class FullWriter(AreaWriter):
     """Writes one case of the profile full; it may have very many strokes."""
 
     themes, drawing = THEMES, DRAWING
@@ -117,6 +120,7 @@ class FullWriter(Writer):
             "polygon": self.polygon,
             "dashes": self.dashes,
             "hatching": self.hatching,
+            "solid": self.solid,
             "shading": self.shading,
             "mirrored": self.mirrored,
             "lines": self.lines,

@@ -15,6 +15,7 @@ from .plotter import Refused
 from .random_fitted_plots import MARGINS, base_case, fitted_case
 from .random_full_plots import MOST_OF_A_PICTURE, MOST_OF_A_REPORT, light, random_full_case
 from .raster import count
+from .shapes import strokes_of
 
 PENS = ("all", "all", "1", "1", "2", "1-3", "2-255", "3", "001", "7-8", "255", "4-6")
 WRONG_PENS = ("0", "3-1", "256", "", "1-2-3", "ALL", "+1", "1 ")
@@ -173,7 +174,7 @@ def size(chance):
 
 
 def small_case(case, chance):
-    """The case, smoothed as much as it may be: the reference tests each stroke at each pixel of the finer picture."""
+    """The case, smoothed as much as it may be: the reference tests each stroke and edge at each pixel of the finer picture."""
     try:
         request = request_of("draw", case.options)
         if request.form not in WITH_SHADES:
@@ -181,7 +182,7 @@ def small_case(case, chance):
         shown = shown_by(request, case.plot)
     except (Mistake, Refused):
         return case
-    strokes = max(1, len(shown.drawing.strokes))
+    strokes = max(1, sum(len(strokes_of(shape)) for shape in shown.drawing.shapes))
     allowed = [
         times for times in range(1, 9) if times * shown.dots <= MOST_DOTS
         and strokes * count(shown.page.width, times * shown.dots) * count(shown.page.height, times * shown.dots) <= MOST_TESTS

@@ -1,12 +1,14 @@
-"""From strokes to pixels: each pixel asks all strokes.
+"""From shapes to pixels: each pixel asks all shapes.
 
 docs/FORMATS.md, "Pixels". All lengths here are whole numbers, in grains divided by the resolution: an inch
 has 16 * 1016 * dots of them, and a side of a pixel 16,256.
 """
 
+from bisect import bisect_right
 from typing import NamedTuple
 
-from .plotter import Stroke
+from .fills import BY_ODD_COUNTS
+from .shapes import is_area, strokes_of
 
 PIXEL = 16 * 1016
 
@@ -17,54 +19,113 @@ def count(units, dots):
 
 
 class Line(NamedTuple):
-    """A stroke in these lengths: its window, one end, the way to the other, and its drawn width."""
+    """A stroke, or an edge of an area, in these lengths: one end, the way to the other, and its drawn width."""
 
-    stroke: Stroke
-    left: int
-    bottom: int
-    right: int
-    top: int
     ax: int
     ay: int
     vx: int
     vy: int
     width: int
 
+    def is_near(self, y):
+        """Whether a height is at most half the width away from those of the line."""
+        return 2 * max(min(self.ay, self.ay + self.vy) - y, y - max(self.ay, self.ay + self.vy)) <= self.width
+
+    def covers(self, x, y):
+        """Whether a point is at most half the width away."""
+        ax, ay, vx, vy, width = self
+        wx, wy = x - ax, y - ay
+        along, length = vx * wx + vy * wy, vx * vx + vy * vy
+        if along <= 0:
+            return 4 * (wx * wx + wy * wy) <= width * width
+        if along >= length:
+            return 4 * ((wx - vx) ** 2 + (wy - vy) ** 2) <= width * width
+        return 4 * (vx * wy - vy * wx) ** 2 <= width * width * length
+
+    def is_passed(self, y):
+        """Whether points at this height can pass the edge."""
+        return min(self.ay, self.ay + self.vy) <= y < max(self.ay, self.ay + self.vy)
+
+    def passing(self, y):
+        """The first x at a height at which a point passes the edge."""
+        return self.ax - self.vx * (self.ay - y) // self.vy
+
+
+class Traced(NamedTuple):
+    """A shape in these lengths: its window, and its lines, which are a stroke or the edges of an area."""
+
+    shape: object
+    window: tuple
+    lines: list
+
+
+def traced(shape, dots):
+    window = tuple(dots * length for length in shape.window)
+    return Traced(shape, window, [line_of(stroke, dots) for stroke in strokes_of(shape)])
+
 
 def line_of(stroke, dots):
     (ax, ay), (bx, by) = stroke.a, stroke.b
-    lengths = (dots * length for length in (*stroke.window, ax, ay, bx - ax, by - ay))
     # A line is at least one and a half pixels wide.
-    return Line(stroke, *lengths, max(dots * stroke.width, 3 * PIXEL // 2))
+    return Line(*(dots * length for length in (ax, ay, bx - ax, by - ay)), max(dots * stroke.width, 3 * PIXEL // 2))
 
 
-def covers(line, x, y):
-    """Whether a point is in a line's window, and at most half its width away from it."""
-    _, left, bottom, right, top, ax, ay, vx, vy, width = line
-    if not (left <= x <= right and bottom <= y <= top):
-        return False
-    wx, wy = x - ax, y - ay
-    along, length = vx * wx + vy * wy, vx * vx + vy * vy
-    if along <= 0:
-        return 4 * (wx * wx + wy * wy) <= width * width
-    if along >= length:
-        return 4 * ((wx - vx) ** 2 + (wy - vy) ** 2) <= width * width
-    return 4 * (vx * wy - vy * wx) ** 2 <= width * width * length
+class Level(NamedTuple):
+    """What a shape has at a height: the ends of its window, the lines that are near, the places where points pass edges of an
+    area, and whether the points before each of these places are inside it, and those after the last one."""
+
+    shape: object
+    left: int
+    right: int
+    y: int
+    lines: list
+    places: list
+    insides: list
+
+    def covers(self, x):
+        """Whether the shape covers the point at this height."""
+        if not self.left <= x <= self.right:
+            return False
+        return self.insides[bisect_right(self.places, x)] or any(line.covers(x, self.y) for line in self.lines)
+
+
+def levels(latest_first, y):
+    """What shapes have at a height, those that have something."""
+    for shape, (left, bottom, right, top), lines in latest_first:
+        if bottom <= y <= top:
+            near = [line for line in lines if line.is_near(y)]
+            places, insides = insides_of(shape, lines, y) if is_area(shape) else ([], [False])
+            if near or any(insides):
+                yield Level(shape, left, right, y, near, places, insides)
+
+
+def insides_of(area, edges, y):
+    """The places at a height where points pass edges, and whether the points before each of these are inside, and those after
+    the last one. By odd counts a point is inside if it has passed an odd number of edges; by winding, if the upward edges that
+    it has passed are not as many as the downward ones."""
+    passed = sorted((edge.passing(y), edge.vy > 0) for edge in edges if edge.is_passed(y))
+    number, insides = 0, [False]
+    for _, is_up in passed:
+        number += 1 if is_up or area.rule == BY_ODD_COUNTS else -1
+        insides.append(number % 2 == 1 if area.rule == BY_ODD_COUNTS else number != 0)
+    return [x for x, _ in passed], insides
 
 
 def shown(latest_first, x, y):
-    """The last stroke that covers a point, or None."""
-    for line in latest_first:
-        if covers(line, x, y):
-            return line.stroke
-    return None
+    """The last shape that covers a point, or None."""
+    return shown_at(levels(latest_first, y), x)
 
 
-def rows(strokes, page, dots, pens, first):
-    """Each row from the first on: the stroke that each of its pixels shows at its centre, or None."""
-    latest_first = [line_of(stroke, dots) for stroke in reversed(strokes) if stroke.pen in pens]
+def shown_at(latest_first, x):
+    """The last shape that covers a point of a height, or None."""
+    return next((level.shape for level in latest_first if level.covers(x)), None)
+
+
+def rows(shapes, page, dots, pens, first):
+    """Each row from the first on: the shape that each of its pixels shows at its centre, or None."""
+    latest_first = [traced(shape, dots) for shape in reversed(shapes) if shape.pen in pens]
     top = 16 * page.height * dots
+    columns = range(count(page.width, dots))
     for row in range(first, count(page.height, dots)):
-        y = top - (2 * row + 1) * PIXEL // 2
-        columns = range(count(page.width, dots))
-        yield row, [shown(latest_first, (2 * column + 1) * PIXEL // 2, y) for column in columns]
+        found = list(levels(latest_first, top - (2 * row + 1) * PIXEL // 2))
+        yield row, [shown_at(found, (2 * column + 1) * PIXEL // 2) for column in columns]

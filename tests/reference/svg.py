@@ -1,16 +1,17 @@
 """A reader of SVG documents, by SVG 1.1: what a document shows, or why it is none.
 
 It knows what plotraster may write: a page in millimetres, clip paths of one rectangle, groups of sheets, groups of labels with
-their texts as titles, and paths of lines from place to place.
+their texts as titles, paths of lines from place to place, and paths that are filled, of the edges of an area.
 """
 
 import re
 from fractions import Fraction
 from xml.etree import ElementTree
 
+from .fills import BY_ODD_COUNTS, BY_WINDING
 from .labels import Group
 from .reading import Wrong, must
-from .vectors import LEAST_WIDTH, MOST_IN_A_PATH, Document, Line
+from .vectors import LEAST_WIDTH, MOST_IN_A_PATH, Document, Line, FilledPath
 
 DECLARATION = b'<?xml version="1.0" encoding="UTF-8"?>\n'
 SPACE = "{http://www.w3.org/2000/svg}"
@@ -53,7 +54,7 @@ def read_svg(data):
     read = [things_of(sheet, number, clips, used, 16 * height) for number, sheet in enumerate(sheets, 1)]
     must(used == set(clips), f"clip paths that are not used: {sorted(set(clips) - used)}")
     labels = tuple(label for _, own in read for label in own)
-    return Document(width, height, [lines for lines, _ in read], are_numbered, None, labels)
+    return Document(width, height, [shapes for shapes, _ in read], are_numbered, None, labels)
 
 
 def attributes(element, name, *names):
@@ -109,10 +110,10 @@ def groups(elements):
 
 
 def things_of(sheet, number, clips, used, top):
-    """The lines of a sheet, and its labels."""
-    lines, labels = [], []
+    """The lines and areas of a sheet, and its labels."""
+    shapes, labels = [], []
     for element in sheet:
-        first, paths = len(lines), [element]
+        first, paths = len(shapes), [element]
         if element.tag == f"{SPACE}g":
             attributes(element, "g")
             must(len(element) > 1, "a label without lines")
@@ -120,30 +121,45 @@ def things_of(sheet, number, clips, used, top):
             attributes(title, "title")
             must(not list(title), "a title of elements")
         for path in paths:
-            lines += lines_of(path, clips, used, top)
-        labels += [Group(number, first, len(lines), title.text)] if element.tag == f"{SPACE}g" else []
-    return lines, labels
+            shapes += shapes_of(path, clips, used, top)
+        if element.tag == f"{SPACE}g":
+            must(all(isinstance(shape, Line) for shape in shapes[first:]), "an area in a label")
+            labels.append(Group(number, first, len(shapes), title.text))
+    return shapes, labels
 
 
-def lines_of(path, clips, used, top):
-    """The lines of a path, and the name of its clip path among those that are used."""
-    is_clipped = "clip-path" in path.attrib
-    names = ("class", "stroke", "stroke-width", *(["clip-path"] if is_clipped else []), "d")
-    pen, colour, width, *clip, commands = attributes(path, "path", *names)
+def shapes_of(path, clips, used, top):
+    """The lines of a path, or its area if it is filled, and the name of its clip path among those that are used."""
+    optional = [name for name in ("fill", "fill-rule", "clip-path") if name in path.attrib]
+    found = dict(zip(path.attrib, attributes(path, "path", "class", "stroke", "stroke-width", *optional, "d")))
+    pen, colour, width = (found[name] for name in ("class", "stroke", "stroke-width"))
     must(not list(path), "something in a path")
     must(re.fullmatch("pen[1-9][0-9]{0,2}", pen) and int(pen[3:]) < 256, f"the class {pen}")
     must(re.fullmatch("#[0-9a-f]{6}", colour), f"the colour {colour}")
     must(re.fullmatch(COUNT, width) and int(width) >= LEAST_WIDTH, f"the width {width}")
-    window = None
-    if is_clipped:
-        name = clip[0].removeprefix("url(#").removesuffix(")")
-        must(clip[0] == f"url(#{name})" and name in clips, f"the clip path {clip[0]}")
-        used.add(name)
-        window = clips[name]
-    look = int(pen[3:]), tuple(bytes.fromhex(colour[1:])), int(width), window
-    found = [Line(*look, *((x, top - y) for x, y in ends)) for ends in ends_of(commands)]
-    must(len(found) <= MOST_IN_A_PATH, f"{len(found)} lines in a path")
-    return found
+    pen, colour, width = int(pen[3:]), tuple(bytes.fromhex(colour[1:])), int(width)
+    window = window_of(found["clip-path"], clips, used) if "clip-path" in found else None
+    ends = tuple(tuple((x, top - y) for x, y in line) for line in ends_of(found["d"]))
+    if "fill" in found or "fill-rule" in found:
+        must(width == LEAST_WIDTH, f"edges of the width {width}")
+        return [FilledPath(pen, colour, rule_of(found), window, ends)]
+    must(len(ends) <= MOST_IN_A_PATH, f"{len(ends)} lines in a path")
+    return [Line(pen, colour, width, window, *line) for line in ends]
+
+
+def rule_of(path):
+    """The rule by which a path is filled, which has the colour of its edges; winding is the one that need not be named."""
+    must(path.get("fill") == path["stroke"], f"{path['stroke']} around {path.get('fill')}")
+    must(path.get("fill-rule", "evenodd") == "evenodd", f"the rule {path.get('fill-rule')}")
+    return BY_ODD_COUNTS if "fill-rule" in path else BY_WINDING
+
+
+def window_of(clip, clips, used):
+    """The window of a clip path, whose name is used."""
+    name = clip.removeprefix("url(#").removesuffix(")")
+    must(clip == f"url(#{name})" and name in clips, f"the clip path {clip}")
+    used.add(name)
+    return clips[name]
 
 
 def ends_of(commands):

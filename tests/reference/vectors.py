@@ -1,9 +1,11 @@
-"""Documents of lines, PDF and SVG: what one shows, in the same form for what a plot draws and for what a document has."""
+"""Documents of lines and areas, PDF and SVG: what one shows, in the same form for what a plot draws and for what a document has."""
 
 from itertools import groupby
 from typing import NamedTuple
 
+from .fills import BY_ODD_COUNTS
 from .geometry import whole_page
+from .shapes import is_area
 
 LEAST_WIDTH = 24
 MOST_IN_A_PATH = 1000
@@ -20,9 +22,20 @@ class Line(NamedTuple):
     b: tuple
 
 
+class FilledPath(NamedTuple):
+    """An area as a document shows it: the rule by which it is filled, the window that cuts it, or None for the page, and its
+    edges, each by its ends, in grains."""
+
+    pen: int
+    colour: tuple
+    rule: int
+    window: tuple
+    edges: tuple
+
+
 class Document(NamedTuple):
-    """A page in plotter units, the lines of each sheet on it, which are by themselves if there is no sheet, the title, and what
-    it has of labels: in an SVG groups of lines, in a PDF texts."""
+    """A page in plotter units, the lines and areas of each sheet on it, which are by themselves if there is no sheet, the title,
+    and what it has of labels: in an SVG groups of lines, in a PDF texts."""
 
     width: int
     height: int
@@ -35,9 +48,9 @@ class Document(NamedTuple):
         """A line of text for each thing that the document shows."""
         texts = [f"page {self.width} {self.height}"]
         texts += [] if self.title is None else [f"title {self.title}"]
-        for number, lines in enumerate(self.sheets, 1):
+        for number, shapes in enumerate(self.sheets, 1):
             texts += [f"sheet {number}"] if self.are_numbered else []
-            texts += map(spelled, lines)
+            texts += map(spelled, shapes)
             texts += [str(it) for it in self.labels if it.sheet == number]
         return "".join(f"{text}\n" for text in texts).encode()
 
@@ -49,23 +62,30 @@ class Document(NamedTuple):
         return self._replace(labels=())
 
 
-def spelled(line):
-    """A line as text."""
-    window = "" if line.window is None else " in {} {} {} {}".format(*line.window)
-    return "pen {} {} width {}{} from {} {} to {} {}".format(
-        line.pen, bytes(line.colour).hex(), line.width, window, *line.a, *line.b)
+def spelled(shape):
+    """A line or an area as text."""
+    window = "" if shape.window is None else " in {} {} {} {}".format(*shape.window)
+    look = f"pen {shape.pen} {bytes(shape.colour).hex()}"
+    if isinstance(shape, Line):
+        return f"{look} width {shape.width}{window}" + between(shape.a, shape.b)
+    rule = "odd counts" if shape.rule == BY_ODD_COUNTS else "winding"
+    return f"{look} area by {rule}{window}" + "".join(between(a, b) for a, b in shape.edges)
 
 
-def lines_of(strokes, page):
-    """The lines that a document shows of strokes on a page: those whose window holds a place."""
-    return [line_of(stroke, page) for stroke in strokes if holds_a_place(stroke.window)]
+def between(a, b):
+    return " from {} {} to {} {}".format(*a, *b)
 
 
-def spans_of(strokes):
+def shapes_of(shapes, page):
+    """What a document shows of shapes on a page: those whose window holds a place."""
+    return [shape_of(shape, page) for shape in shapes if holds_a_place(shape.window)]
+
+
+def spans_of(shapes):
     """The number of each label of which a document shows strokes, with the numbers of its first line and of the one after its
-    last."""
+    last, among all that the document shows."""
     first, spans = 0, []
-    for label, own in groupby(stroke.label for stroke in strokes if holds_a_place(stroke.window)):
+    for label, own in groupby(shape.label for shape in shapes if holds_a_place(shape.window)):
         after = first + len(list(own))
         spans += [] if label is None else [(label, first, after)]
         first = after
@@ -77,6 +97,8 @@ def holds_a_place(window):
     return left <= right and bottom <= top
 
 
-def line_of(stroke, page):
-    window = None if stroke.window == whole_page(page) else stroke.window
-    return Line(stroke.pen, stroke.colour, max(LEAST_WIDTH, stroke.width), window, stroke.a, stroke.b)
+def shape_of(shape, page):
+    window = None if shape.window == whole_page(page) else shape.window
+    if is_area(shape):
+        return FilledPath(shape.pen, shape.colour, shape.rule, window, shape.edges)
+    return Line(shape.pen, shape.colour, max(LEAST_WIDTH, shape.width), window, shape.a, shape.b)

@@ -7,10 +7,11 @@ use Rattle.std.specs.List.{All, flat_map}
 use Rattle.plot_page.specs.Segments.{Segment}
 use Rattle.polygons.specs.Climbs.{total}
 use Rattle.polygons.specs.declared.lines.Rule.{Rule}
-use Rattle.polygons.proofs.Tests.{le_from, le_not, le_false, lt_true, lt_false}
+use Rattle.polygons.proofs.Tests.{le_from, le_not, lt_true, lt_false}
 use Rattle.polygons.proofs.SolidLaws.{one, count_is, outside, total-append}
 use Rattle.areas.specs.Inside.{rises_past, falls_past, is_inside_area}
 use Rattle.areas.specs.Laws.{LeadsTo, IsRound, AreRound, IsRightOf, IsLeftOf, IsAbove, IsBelow, AreasStayInTheirBox}
+use Rattle.areas.proofs.Passes.{begins_above, begins_below, ends_above, ends_below}
 use Rattle.areas.proofs.Sides.{none_right, none_right_down, all_left, all_left_down}
 
 -- edges of which none passes a test
@@ -99,39 +100,16 @@ right_of_all rule r edges x y h left =
     ∙ sym (same_of (λ e. falls_past r e x y) (level_down r y) (IsLeftOf r x) (all_left_down r x y) edges left)
     )
 
--- a first test that fails
-fails : (p q s : Bool) → p ≡ false → ((p && q) && s) ≡ false
-fails p q s e = rw e refl
+below_up : (r : ℕ) (x y : ℤ) (e : Segment) → IsBelow r y e → rises_past r e x y ≡ false
+below_up r x y e h = ends_below r y e x (omega (arith, ints, h.1))
 
-fails_second : (p q s : Bool) → q ≡ false → ((p && q) && s) ≡ false
-fails_second true q s e = rw e refl
-fails_second false q s e = refl
-
-module _ (r : ℕ) (x y : ℤ) (e : Segment) where
-  abbrev right_side : Bool
-  right_side = int_le ((e.bx -ℤ e.ax) *ℤ (y -ℤ pos r *ℤ e.ay)) ((x -ℤ pos r *ℤ e.ax) *ℤ (e.by -ℤ e.ay))
-
-  abbrev left_side : Bool
-  left_side = int_le ((x -ℤ pos r *ℤ e.ax) *ℤ (e.by -ℤ e.ay)) ((e.bx -ℤ e.ax) *ℤ (y -ℤ pos r *ℤ e.ay))
-
-  above_up : IsAbove r y e → rises_past r e x y ≡ false
-  above_up h = fails (int_le (pos r *ℤ e.ay) y) (int_lt y (pos r *ℤ e.by)) right_side (le_false (pos r *ℤ e.ay) y h.0)
-
-  above_down : IsAbove r y e → falls_past r e x y ≡ false
-  above_down h = fails (int_le (pos r *ℤ e.by) y) (int_lt y (pos r *ℤ e.ay)) left_side (le_false (pos r *ℤ e.by) y h.1)
-
-  below_up : IsBelow r y e → rises_past r e x y ≡ false
-  below_up h =
-      fails_second (int_le (pos r *ℤ e.ay) y) (int_lt y (pos r *ℤ e.by)) right_side (lt_false y (pos r *ℤ e.by) (omega (arith, ints, h.1)))
-
-  below_down : IsBelow r y e → falls_past r e x y ≡ false
-  below_down h =
-      fails_second (int_le (pos r *ℤ e.by) y) (int_lt y (pos r *ℤ e.ay)) left_side (lt_false y (pos r *ℤ e.ay) (omega (arith, ints, h.0)))
+below_down : (r : ℕ) (x y : ℤ) (e : Segment) → IsBelow r y e → falls_past r e x y ≡ false
+below_down r x y e h = begins_below r y e x (omega (arith, ints, h.0))
 
 pub areas_stay_in_their_box_lem : AreasStayInTheirBox
 areas_stay_in_their_box_lem = record {
   left = λ rule r edges x y h. none rule r x y (IsRightOf r x) (none_right r x y) (none_right_down r x y) edges h;
   right = right_of_all;
-  below = λ rule r edges x y h. none rule r x y (IsAbove r y) (above_up r x y) (above_down r x y) edges h;
+  below = λ rule r edges x y h. none rule r x y (IsAbove r y) (λ e h. begins_above r y e x h.0) (λ e h. ends_above r y e x h.1) edges h;
   above = λ rule r edges x y h. none rule r x y (IsBelow r y) (below_up r x y) (below_down r x y) edges h;
 }

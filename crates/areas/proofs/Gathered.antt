@@ -1,7 +1,10 @@
--- The crossings of a row with one more edge, and in another order.
-use Rattle.std.proofs.Common.{◌≡◌, ℕ, ◌+◌, ◌≤◌, ◌<◌, Bool, not, ◌&&◌, nat_le, List, [], ◌∷◌, ◌++◌, take, length, get_or, count_by, sym, ap, ap₂, ◌∙◌, arith, ℤ, IsPermutation}
+-- The edges of a sweep and the crossings of a row: one more, in another order, and in the row below.
+use Rattle.std.proofs.Common.{◌≡◌, ℕ, ◌+◌, ◌*◌, ◌^◌, ◌≤◌, ◌<◌, Bool, true, not, ◌&&◌, nat_le, List, [], ◌∷◌, ◌++◌, map, take, length, get_or, count_by, refl, sym, ap, ap₂, ◌∙◌, arith, ℤ, pos, nat_abs, ◌+ℤ◌, ◌-ℤ◌, ◌*ℤ◌, ◌≤ℤ◌, int_lt, inl, inr, IsPermutation}
+use Rattle.std.specs.List.{All}
+use Rattle.std.proofs.lemmas.Bool.{cases_Bool}
+use Rattle.std.proofs.lemmas.Int.{ints}
 use Rattle.std.proofs.lemmas.List.{take_more}
-use Rattle.std.proofs.lemmas.List.Elements.{All-append}
+use Rattle.std.proofs.lemmas.List.Elements.{All-append, All-cons, All-head, All-nil, All-tail}
 use Rattle.std.proofs.lemmas.List.Sorted.{All-permutation}
 use Rattle.std.proofs.Math.Seq.{take-append_seam}
 use Rattle.plot_page.specs.Segments.{Segment}
@@ -9,12 +12,15 @@ use Rattle.polygons.specs.Fills.{is_inside}
 use Rattle.polygons.specs.declared.lines.Rule.{Rule}
 use Rattle.polygons.proofs.SolidLaws.{one, count_is}
 use Rattle.areas.specs.declared.crossing.Crossing.{Crossing}
+use Rattle.areas.specs.declared.swept_edge.SweptEdge.{SweptEdge}
 use Rattle.areas.specs.Inside.{rises_past, falls_past, is_inside_area}
 use Rattle.areas.specs.Crossings.{AreCrossings, IsClear, IsCrossing, centre_of_column, is_inside_at}
-use Rattle.areas.proofs.Counts.{count_append, count_permuted}
+use Rattle.areas.specs.Sweeps.{AreSwept, IsEdge, IsFar, IsInRow, IsSomewhere, below, is_past_down, is_past_up, pixel_of}
+use Rattle.areas.proofs.Counts.{count_append, count_mapped, count_permuted}
+use Rattle.areas.proofs.SweptEdges.{in_row_below}
 
 -- what was sorted, and what follows it
-pub first_part : (cs rest : List Crossing) (n : ℕ) → length cs ≡ n → take n (cs ++ rest) ≡ cs
+pub first_part : {X : Type 0} (cs rest : List X) (n : ℕ) → length cs ≡ n → take n (cs ++ rest) ≡ cs
 first_part cs rest n h = ap (λ (m : ℕ). take m (cs ++ rest)) (sym h) ∙ take-append_seam cs rest
 
 -- one more on both sides
@@ -36,44 +42,114 @@ one_none p q xs ys y h e =
     let d = count_is q (y ∷ []) in
     omega (arith, b, d, e, h)
 
+module _ (r : ℕ) (low y : ℤ) where
+  near_more : (edges : List Segment) (near : List SweptEdge) (e : Segment) (n : SweptEdge) → AreSwept r edges low y near → IsEdge r y e n
+      → AreSwept r (edges ++ e ∷ []) low y (near ++ n ∷ [])
+  near_more edges near e n h is = record {
+    in_row = All-append (IsInRow r y) near (n ∷ []) h.in_row (All-cons (IsInRow r y) n [] is.in_row (All-nil (IsInRow r y)));
+    rises = λ x z a b. one_each (λ m. is_past_up r m x z) (λ s. rises_past r s x z) near edges n e (h.rises x z a b) (is.rises x z);
+    falls = λ x z a b. one_each (λ m. is_past_down r m x z) (λ s. falls_past r s x z) near edges n e (h.falls x z a b) (is.falls x z);
+  }
+
+  far_more : (edges : List Segment) (near : List SweptEdge) (e : Segment) → AreSwept r edges low y near → IsFar r low y e
+      → AreSwept r (edges ++ e ∷ []) low y near
+  far_more edges near e h is = record {
+    in_row = h.in_row;
+    rises = λ x z a b. one_none (λ m. is_past_up r m x z) (λ s. rises_past r s x z) near edges e (h.rises x z a b) (ap one (is.rises x z a b));
+    falls = λ x z a b. one_none (λ m. is_past_down r m x z) (λ s. falls_past r s x z) near edges e (h.falls x z a b) (ap one (is.falls x z a b));
+  }
+
+  pub near_next : (edges : List Segment) (near : List SweptEdge) (i : ℕ) (e : Segment) (n : SweptEdge) → i < length edges → e ≡ get_or edges i e
+      → AreSwept r (take i edges) low y near → IsEdge r y e n → AreSwept r (take (i + 1) edges) low y (near ++ n ∷ [])
+  near_next edges near i e n l is h x =
+      let more = take_more edges i e l ∙ ap (λ s. take i edges ++ s ∷ []) (sym is) in
+      rw more (near_more (take i edges) near e n h x)
+
+  pub far_next : (edges : List Segment) (near : List SweptEdge) (i : ℕ) (e : Segment) → i < length edges → e ≡ get_or edges i e
+      → AreSwept r (take i edges) low y near → IsFar r low y e → AreSwept r (take (i + 1) edges) low y near
+  far_next edges near i e l is h x =
+      let more = take_more edges i e l ∙ ap (λ s. take i edges ++ s ∷ []) (sym is) in
+      rw more (far_more (take i edges) near e h x)
+
+-- the same edges in the row below
+same_up : (r : ℕ) (n : SweptEdge) (x z : ℤ) → is_past_up r (below n) x z ≡ is_past_up r n x z
+same_up r n x z = elim (cases_Bool (int_lt (n.short +ℤ pos 16256 *ℤ n.rest) (pixel_of n))) [
+  | inl t ↦ rw t refl
+  | inr f ↦ rw f refl
+]
+
+same_down : (r : ℕ) (n : SweptEdge) (x z : ℤ) → is_past_down r (below n) x z ≡ is_past_down r n x z
+same_down r n x z = elim (cases_Bool (int_lt (n.short +ℤ pos 16256 *ℤ n.rest) (pixel_of n))) [
+  | inl t ↦ rw t refl
+  | inr f ↦ rw f refl
+]
+
+all_below : (r : ℕ) (y : ℤ) (near : List SweptEdge) → All (IsInRow r y) near → All (IsInRow r (y -ℤ pos 16256)) (map below near)
+all_below r y [] h = All-nil (IsInRow r (y -ℤ pos 16256))
+all_below r y (n ∷ ns) h =
+    All-cons (IsInRow r (y -ℤ pos 16256)) (below n) (map below ns) (in_row_below r y n (All-head (IsInRow r y) n ns h))
+    (all_below r y ns (All-tail (IsInRow r y) n ns h))
+
+pub all_somewhere : (r : ℕ) (y : ℤ) → r ≤ 1200 → nat_abs y ≤ 2 ^ 32 → (near : List SweptEdge) → All (IsInRow r y) near → All IsSomewhere near
+all_somewhere r y few by [] h = All-nil IsSomewhere
+all_somewhere r y few by (n ∷ ns) h =
+    All-cons IsSomewhere n ns (record { r = r; y = y; few = few; near = by; in_row = All-head (IsInRow r y) n ns h })
+    (all_somewhere r y few by ns (All-tail (IsInRow r y) n ns h))
+
+pub swept_below : (r : ℕ) (edges : List Segment) (low y : ℤ) (near after : List SweptEdge) → AreSwept r edges low y near
+    → IsPermutation (map below near) after → AreSwept r edges low (y -ℤ pos 16256) after
+swept_below r edges low y near after h p = record {
+  in_row = All-permutation (IsInRow r (y -ℤ pos 16256)) (map below near) after p (all_below r y near h.in_row);
+  rises = λ x z a b.
+      sym (count_permuted (λ m. is_past_up r m x z) (map below near) after p)
+      ∙ count_mapped (λ m. is_past_up r m x z) (λ m. is_past_up r m x z) below (λ m. same_up r m x z) near
+      ∙ h.rises x z a (omega (arith, ints, b));
+  falls = λ x z a b.
+      sym (count_permuted (λ m. is_past_down r m x z) (map below near) after p)
+      ∙ count_mapped (λ m. is_past_down r m x z) (λ m. is_past_down r m x z) below (λ m. same_down r m x z) near
+      ∙ h.falls x z a (omega (arith, ints, b));
+}
+
 module _ (r : ℕ) (y : ℤ) (columns : ℕ) where
-  abbrev Are : List Segment → List Crossing → Type 0
+  abbrev Are : List SweptEdge → List Crossing → Type 0
   Are = AreCrossings r y columns
 
-  crossed : (edges : List Segment) (cs : List Crossing) (e : Segment) (c : Crossing) → Are edges cs → IsCrossing r y columns e c
-      → Are (edges ++ e ∷ []) (cs ++ c ∷ [])
-  crossed edges cs e c h is = record {
-    rises = λ k l. one_each (λ d. d.is_upward && nat_le d.column k) (λ s. rises_past r s (centre_of_column k) y) cs edges c e (h.rises k l) (sym (is.rises k l));
-    falls = λ k l. one_each (λ d. not d.is_upward && nat_le d.column k) (λ s. falls_past r s (centre_of_column k) y) cs edges c e (h.falls k l) (sym (is.falls k l));
+  crossed : (near : List SweptEdge) (cs : List Crossing) (n : SweptEdge) (c : Crossing) → Are near cs → IsCrossing r y columns n c
+      → Are (near ++ n ∷ []) (cs ++ c ∷ [])
+  crossed near cs n c h is = record {
+    rises = λ k l. one_each (λ d. d.is_upward && nat_le d.column k) (λ m. is_past_up r m (centre_of_column k) y) cs near c n (h.rises k l) (sym (is.rises k l));
+    falls = λ k l. one_each (λ d. not d.is_upward && nat_le d.column k) (λ m. is_past_down r m (centre_of_column k) y) cs near c n (h.falls k l) (sym (is.falls k l));
     within = All-append (λ d. d.column ≤ columns) cs (c ∷ []) h.within (grind (arith, is.within));
   }
 
-  clear : (edges : List Segment) (cs : List Crossing) (e : Segment) → Are edges cs → IsClear r y e → Are (edges ++ e ∷ []) cs
-  clear edges cs e h is = record {
-    rises = λ k l. one_none (λ d. d.is_upward && nat_le d.column k) (λ s. rises_past r s (centre_of_column k) y) cs edges e (h.rises k l) (ap one (is.rises (centre_of_column k)));
-    falls = λ k l. one_none (λ d. not d.is_upward && nat_le d.column k) (λ s. falls_past r s (centre_of_column k) y) cs edges e (h.falls k l) (ap one (is.falls (centre_of_column k)));
+  clear : (near : List SweptEdge) (cs : List Crossing) (n : SweptEdge) → Are near cs → IsClear r y n → Are (near ++ n ∷ []) cs
+  clear near cs n h is = record {
+    rises = λ k l. one_none (λ d. d.is_upward && nat_le d.column k) (λ m. is_past_up r m (centre_of_column k) y) cs near n (h.rises k l) (ap one (is.rises (centre_of_column k)));
+    falls = λ k l. one_none (λ d. not d.is_upward && nat_le d.column k) (λ m. is_past_down r m (centre_of_column k) y) cs near n (h.falls k l) (ap one (is.falls (centre_of_column k)));
     within = h.within;
   }
 
-  pub crossed_next : (edges : List Segment) (cs : List Crossing) (i : ℕ) (e : Segment) (c : Crossing) → i < length edges → e ≡ get_or edges i e
-      → Are (take i edges) cs → IsCrossing r y columns e c → Are (take (i + 1) edges) (cs ++ c ∷ [])
-  crossed_next edges cs i e c l is h x =
-      let more = take_more edges i e l ∙ ap (λ s. take i edges ++ s ∷ []) (sym is) in
-      rw more (crossed (take i edges) cs e c h x)
+  pub crossed_next : (near : List SweptEdge) (cs : List Crossing) (i : ℕ) (n : SweptEdge) (c : Crossing) → i < length near → n ≡ get_or near i n
+      → Are (take i near) cs → IsCrossing r y columns n c → Are (take (i + 1) near) (cs ++ c ∷ [])
+  crossed_next near cs i n c l is h x =
+      let more = take_more near i n l ∙ ap (λ s. take i near ++ s ∷ []) (sym is) in
+      rw more (crossed (take i near) cs n c h x)
 
-  pub clear_next : (edges : List Segment) (cs : List Crossing) (i : ℕ) (e : Segment) → i < length edges → e ≡ get_or edges i e
-      → Are (take i edges) cs → IsClear r y e → Are (take (i + 1) edges) cs
-  clear_next edges cs i e l is h x =
-      let more = take_more edges i e l ∙ ap (λ s. take i edges ++ s ∷ []) (sym is) in
-      rw more (clear (take i edges) cs e h x)
+  pub clear_next : (near : List SweptEdge) (cs : List Crossing) (i : ℕ) (n : SweptEdge) → i < length near → n ≡ get_or near i n
+      → Are (take i near) cs → IsClear r y n → Are (take (i + 1) near) cs
+  clear_next near cs i n l is h x =
+      let more = take_more near i n l ∙ ap (λ s. take i near ++ s ∷ []) (sym is) in
+      rw more (clear (take i near) cs n h x)
 
-  pub in_order : (edges : List Segment) (cs ds : List Crossing) → IsPermutation cs ds → Are edges cs → Are edges ds
-  in_order edges cs ds p h = record {
+  pub in_order : (near : List SweptEdge) (cs ds : List Crossing) → IsPermutation cs ds → Are near cs → Are near ds
+  in_order near cs ds p h = record {
     rises = λ k l. sym (count_permuted (λ d. d.is_upward && nat_le d.column k) cs ds p) ∙ h.rises k l;
     falls = λ k l. sym (count_permuted (λ d. not d.is_upward && nat_le d.column k) cs ds p) ∙ h.falls k l;
     within = All-permutation (λ d. d.column ≤ columns) cs ds p h.within;
   }
 
-  pub inside_is : (rule : Rule) (edges : List Segment) (cs : List Crossing) (k : ℕ) → k < columns → Are edges cs
-      → is_inside_at rule cs k ≡ is_inside_area rule r edges (centre_of_column k) y
-  inside_is rule edges cs k l h = ap₂ (is_inside rule) (h.rises k l) (h.falls k l)
+  pub inside_is : (rule : Rule) (edges : List Segment) (low : ℤ) (near : List SweptEdge) (cs : List Crossing) (k : ℕ) → k < columns → low ≤ℤ y
+      → AreSwept r edges low y near → Are near cs → is_inside_at rule cs k ≡ is_inside_area rule r edges (centre_of_column k) y
+  inside_is rule edges low near cs k l above swept h =
+      let last : y ≤ℤ y = omega (arith, ints) in
+      ap₂ (is_inside rule) (h.rises k l ∙ swept.rises (centre_of_column k) y above last) (h.falls k l ∙ swept.falls (centre_of_column k) y above last)

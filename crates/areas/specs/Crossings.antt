@@ -1,45 +1,31 @@
 -- Where a row of pixels passes the edges of an area, and which of its columns are inside.
-use Rattle.std.specs.Prelude.{◌≡◌, ℕ, ◌+◌, ◌*◌, ◌≤◌, ◌<◌, Bool, false, not, ◌&&◌, nat_le, nat_lt, if◌then◌else◌, List, [], ◌∷◌, ◌++◌, count_by, length, take, Option, MatchOption, ℤ, pos, neg_ℤ, ◌-ℤ◌, ◌*ℤ◌, int_le}
-use Rattle.std.specs.Int.{int_div_euclid}
+use Rattle.std.specs.Prelude.{◌≡◌, ℕ, ◌+◌, ◌*◌, ◌≤◌, ◌<◌, Bool, false, not, ◌&&◌, nat_le, nat_lt, if◌then◌else◌, List, [], ◌∷◌, ◌++◌, count_by, take, Option, MatchOption, ℤ, pos}
 use Rattle.std.specs.List.{All, list_any}
-use Rattle.plot_page.specs.Segments.{Segment}
 use Rattle.polygons.specs.declared.lines.Rule.{Rule}
 use Rattle.polygons.specs.Fills.{is_inside}
 use Rattle.areas.specs.declared.crossing.Crossing.{Crossing}
 use Rattle.areas.specs.declared.range.ColumnRange.{ColumnRange}
-use Rattle.areas.specs.declared.rise.Rise.{Rise}
-use Rattle.areas.specs.declared.row.AreaRow.{AreaRow}
-use Rattle.areas.specs.Inside.{rises_past, falls_past}
+use Rattle.areas.specs.declared.sweep.AreaSweep.{AreaSweep}
+use Rattle.areas.specs.declared.swept_edge.SweptEdge.{SweptEdge}
+use Rattle.areas.specs.Sweeps.{is_past_down, is_past_up}
 
 -- where the centre of a column is, from the left edge of the page
 abbrev pub centre_of_column : ℕ → ℤ
 centre_of_column column = pos ((2 * column + 1) * 8128)
 
--- a quotient, rounded up
-abbrev pub ceiling : ℤ → ℤ → ℤ
-ceiling a b = neg_ℤ (int_div_euclid (neg_ℤ a) b)
-
--- a place is not left of a line that rises
-abbrev pub is_past : Rise → ℤ → ℤ → Bool
-is_past line x y = int_le (line.run *ℤ (y -ℤ line.y)) ((x -ℤ line.x) *ℤ line.rise)
-
--- the line from a lower end to an upper one, which are in grains
-abbrev pub rise_between : ℕ → ℤ → ℤ → ℤ → ℤ → Rise
-rise_between r ax ay bx by = record { x = pos r *ℤ ax; y = pos r *ℤ ay; run = bx -ℤ ax; rise = by -ℤ ay }
-
 -- in the row at height y an edge is passed from the column of this crossing on
-pub record IsCrossing (r : ℕ) (y : ℤ) (columns : ℕ) (e : Segment) (c : Crossing) : Type 0 where
-  pub rises : (k : ℕ) → k < columns → rises_past r e (centre_of_column k) y ≡ (c.is_upward && nat_le c.column k)
-  pub falls : (k : ℕ) → k < columns → falls_past r e (centre_of_column k) y ≡ (not c.is_upward && nat_le c.column k)
+pub record IsCrossing (r : ℕ) (y : ℤ) (columns : ℕ) (n : SweptEdge) (c : Crossing) : Type 0 where
+  pub rises : (k : ℕ) → k < columns → is_past_up r n (centre_of_column k) y ≡ (c.is_upward && nat_le c.column k)
+  pub falls : (k : ℕ) → k < columns → is_past_down r n (centre_of_column k) y ≡ (not c.is_upward && nat_le c.column k)
   pub within : c.column ≤ columns
 
 -- no place of the row passes the edge
-pub record IsClear (r : ℕ) (y : ℤ) (e : Segment) : Type 0 where
-  pub rises : (x : ℤ) → rises_past r e x y ≡ false
-  pub falls : (x : ℤ) → falls_past r e x y ≡ false
+pub record IsClear (r : ℕ) (y : ℤ) (n : SweptEdge) : Type 0 where
+  pub rises : (x : ℤ) → is_past_up r n x y ≡ false
+  pub falls : (x : ℤ) → is_past_down r n x y ≡ false
 
-abbrev pub Crosses : ℕ → ℤ → ℕ → Segment → Option Crossing → Type 0
-Crosses r y columns e found = MatchOption found (IsClear r y e) (IsCrossing r y columns e)
+abbrev pub Crosses : ℕ → ℤ → ℕ → SweptEdge → Option Crossing → Type 0
+Crosses r y columns n found = MatchOption found (IsClear r y n) (IsCrossing r y columns n)
 
 -- how many of these crossings a column has passed, upwards and downwards
 abbrev pub upward_until : ℕ → List Crossing → ℕ
@@ -48,10 +34,10 @@ upward_until k crossings = count_by (λ c. c.is_upward && nat_le c.column k) cro
 abbrev pub downward_until : ℕ → List Crossing → ℕ
 downward_until k crossings = count_by (λ c. not c.is_upward && nat_le c.column k) crossings
 
--- these are the crossings of a row with the edges, in any order
-pub record AreCrossings (r : ℕ) (y : ℤ) (columns : ℕ) (edges : List Segment) (crossings : List Crossing) : Type 0 where
-  pub rises : (k : ℕ) → k < columns → upward_until k crossings ≡ count_by (λ e. rises_past r e (centre_of_column k) y) edges
-  pub falls : (k : ℕ) → k < columns → downward_until k crossings ≡ count_by (λ e. falls_past r e (centre_of_column k) y) edges
+-- these are the crossings of a row with edges, in any order
+pub record AreCrossings (r : ℕ) (y : ℤ) (columns : ℕ) (near : List SweptEdge) (crossings : List Crossing) : Type 0 where
+  pub rises : (k : ℕ) → k < columns → upward_until k crossings ≡ count_by (λ n. is_past_up r n (centre_of_column k) y) near
+  pub falls : (k : ℕ) → k < columns → downward_until k crossings ≡ count_by (λ n. is_past_down r n (centre_of_column k) y) near
   pub within : All (λ c. c.column ≤ columns) crossings
 
 -- the crossings come from the left to the right, the first of them no farther left than a column
@@ -90,11 +76,5 @@ abbrev pub is_in_any : List ColumnRange → ℕ → Bool
 is_in_any ranges k = list_any (λ range. is_in range k) ranges
 
 -- the ranges of columns that were found
-abbrev pub found_in : AreaRow → List ColumnRange
-found_in row = take row.count row.ranges.items
-
--- there is room for the crossings of a row with so many edges, and for the ranges between them
-pub record HasRoomFor (edges : ℕ) (row : AreaRow) : Type 0 where
-  pub crossings : edges ≤ length row.crossings.items
-  pub ranges : edges < length row.ranges.items
-  pub few : row.count ≤ length row.ranges.items
+abbrev pub found_in : AreaSweep → List ColumnRange
+found_in sweep = take sweep.count sweep.ranges.items

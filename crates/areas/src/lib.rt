@@ -1,12 +1,19 @@
-//! Areas: which places are inside them, and which columns of a row of pixels.
+//! Areas: which strokes are their edges, which places are inside them, and which columns of a row of pixels.
 #![tactic(auto)]
 
+mod among;
+mod area;
 mod crossing;
 pub mod laws;
 mod range;
-mod rise;
-mod row;
+mod shapes;
+mod sweep;
+mod swept_edge;
+mod walk;
 
-pub use crossing::{Crossing, crossing_of};
+pub use among::{Areas, keep_areas};
+pub use area::Area;
 pub use range::ColumnRange;
-pub use row::AreaRow;
+pub use shapes::Shapes;
+pub use sweep::AreaSweep;
+pub use walk::{NextShape, ShapeWalk};

@@ -1,8 +1,7 @@
 -- Runs on the page that is given.
-use Rattle.std.proofs.Common.{◌≡◌, ◌≤◌, ◌<◌, ◌+◌, ◌∙◌, ◌-◌, ℕ, Bool, true, false, List, [], length, take, inl, inr, Option, Result, Ok, Err, Some, None, refl, ap, arith, rules, subst, sym}
+use Rattle.std.proofs.Common.{◌≡◌, ◌≤◌, ◌<◌, ◌+◌, ◌∙◌, ◌-◌, ℕ, false, List, [], length, take, inl, inr, Option, Result, Ok, Err, Some, None, refl, ap, arith, rules, subst, sym}
 use Rattle.hpgl_plot.specs.declared.fault.PlotFault.{PlotFault}
 use Rattle.hpgl_plot.specs.declared.fault.PlotFault.TheVariants as plot
-use Rattle.plot_page.specs.Segments.{Segment}
 use Rattle.plot_page.specs.Resolutions.{rows_of}
 use Rattle.plot_page.specs.declared.page.Page.{Page}
 use Rattle.plot_page.specs.declared.pens.PenSet.{PenSet}
@@ -13,20 +12,21 @@ use Rattle.picture_job.specs.declared.reading.Reading.{Reading}
 use Rattle.rows.specs.Boxes.{strokes_boxes}
 use Rattle.conversion.specs.Conversions.{Converts, HasConvertedBy}
 use Rattle.conversion.specs.PageJobs.{on_page, times_on}
-use Rattle.conversion.specs.Drawings.{Draws, HasDrawn, IsDrawn, IsReasonOnFirst, place_of}
+use Rattle.conversion.specs.Drawings.{AreLinesOf, Draws, HasDrawn, IsDrawn, IsReasonOnFirst, place_of}
 use Rattle.conversion.specs.Faults.{of_plot}
 use Rattle.conversion.specs.Kinds.{HasDrawnFor}
 use Rattle.picture_job.specs.declared.picture.Picture.{Picture}
 use Rattle.picture_job.specs.declared.picture.Picture.TheVariants.{Rows}
 use Rattle.rows.specs.Pictures.{Reach}
 use Rattle.conversion.specs.Placements.{IsDrawnOn, IsPlaced, IsPlacedBy, Place, no_corner, page_reported, place_on, placed_rules}
+use Rattle.areas.specs.Shapes.{ShapeList, stroke_count}
 use Rattle.rows.specs.Progress.{HasPainted}
 use Rattle.conversion.specs.Readings.{WasRead}
 use Rattle.conversion.specs.Reports.{HasReportedAs, HasReportedOn, Reports, WritesReport, report_by, report_drawn, report_on}
 use Rattle.plot_report.specs.Report.{report_page}
 use Rattle.std.specs.Io.KnownBytes.{Appends, Consumes}
-use Rattle.conversion.specs.Rules.{Rules, core_rules, rules_in, rules_of, rules_with}
-use Rattle.conversion.specs.Sheets.{WritesStrokes}
+use Rattle.conversion.specs.Rules.{Rules, core_rules, rules_in, rules_of, rules_with, shapes_by}
+use Rattle.conversion.specs.Sheets.{WritesShapes, shapes_on}
 use Rattle.carousel.specs.Carousels.{empty}
 use Rattle.carousel.specs.declared.carousel.Carousel.{Carousel}
 use Rattle.hpgl_plot.proofs.ByCarousel.{strokes_with_none, refusal_with_none}
@@ -88,12 +88,17 @@ not_drawn rules c pens given input before after plot.Memory read h = read.sound
 not_drawn rules c pens given input before after (plot.OffRange at) read h = (h.0, h.1, record { read = read; refused = h.2 })
 not_drawn rules c pens given input before after (plot.TooManyStrokes at) read h = (h.0, h.1, record { read = read; refused = h.2 })
 
--- reports of the same strokes, sheets and plot are the same
-pub same_report : (reading : Reading) (page page' : ReportPage) (ss ss' : List Segment) (n n' : ℕ) (plot plot' : List ℕ) → page ≡ page' → ss ≡ ss' → n ≡ n' → plot ≡ plot'
+-- reports of the same shapes, sheets and plot are the same
+pub same_report : (reading : Reading) (page page' : ReportPage) (ss ss' : ShapeList) (n n' : ℕ) (plot plot' : List ℕ) → page ≡ page' → ss ≡ ss' → n ≡ n' → plot ≡ plot'
     → report_on reading page ss n plot ≡ report_on reading page' ss' n' plot'
-same_report reading page page' ss ss' n n' plot plot' named strokes sheets text = rw (named, strokes, sheets, text) refl
+same_report reading page page' ss ss' n n' plot plot' named shapes sheets text = rw (named, shapes, sheets, text) refl
 
--- the picture of all strokes of a drawing, which is not smoothed
+-- all shapes of a drawing are those of its plot
+shapes_drawn : (rules : Rules) (pens : PenSet) (input : List ℕ) (drawing : Drawing) → AreLinesOf (placed_rules rules pens (place_of drawing)) drawing.page input drawing.lines
+    → shapes_on drawing 0 ≡ shapes_by (placed_rules rules pens (place_of drawing)) drawing.page input
+shapes_drawn rules pens input drawing are = λ i. record { strokes = are.strokes_are i; areas = are.areas_are i }
+
+-- the picture of all shapes of a drawing, which is not smoothed
 module _ (rules : Rules) (sm : Smoothing) (job : Job) (reaches : Reach) (input : List ℕ) (before after : SourceState) (sink sink' : SinkState) (drawing : Drawing)
     (drawn : IsDrawn rules given_choice job.pens job.page input before after drawing) (once : sm.times ≡ 1) where
   lies : place_of drawing ≡ place_on Given job.page
@@ -105,24 +110,24 @@ module _ (rules : Rules) (sm : Smoothing) (job : Job) (reaches : Reach) (input :
   accepted : rules.refusal job.page input ≡ None
   accepted = subst (λ (place : Place). rules.refusal place.drawn_on input ≡ None) lies drawn.lines.accepted
 
-  strokes_given : drawing.lines.strokes.items ≡ rules.strokes job.page input
-  strokes_given = drawn.lines.strokes_are ∙ ap (λ (place : Place). (placed_rules rules job.pens place).strokes place.page input) lies
+  shapes_given : shapes_on drawing 0 ≡ shapes_by rules job.page input
+  shapes_given = shapes_drawn rules job.pens input drawing drawn.lines ∙ ap (λ (place : Place). shapes_by (placed_rules rules job.pens place) place.page input) lies
 
-  painted : (strokes : List Segment) (answer : Result ℕ PictureFault) → strokes ≡ rules.strokes job.page input
-      → HasPainted (times_on given_choice drawing.page job sm) (on_page given_choice drawing.page job) reaches strokes sink sink' answer
-      → HasPainted 1 job reaches (rules.strokes job.page input) sink sink' answer
-  painted strokes answer are h =
-      let there = subst (λ (page : Page). HasPainted sm.times (on_page given_choice page job) reaches strokes sink sink' answer) here h in
-      subst (λ (n : ℕ). HasPainted n job reaches (rules.strokes job.page input) sink sink' answer) once
-      (subst (λ (ss : List Segment). HasPainted sm.times job reaches ss sink sink' answer) are there)
+  painted : (shapes : ShapeList) (answer : Result ℕ PictureFault) → shapes ≡ shapes_by rules job.page input
+      → HasPainted (times_on given_choice drawing.page job sm) (on_page given_choice drawing.page job) reaches shapes sink sink' answer
+      → HasPainted 1 job reaches (shapes_by rules job.page input) sink sink' answer
+  painted shapes answer are h =
+      let there = subst (λ (page : Page). HasPainted sm.times (on_page given_choice page job) reaches shapes sink sink' answer) here h in
+      subst (λ (n : ℕ). HasPainted n job reaches (shapes_by rules job.page input) sink sink' answer) once
+      (subst (λ (ss : ShapeList). HasPainted sm.times job reaches ss sink sink' answer) are there)
 
-  converted : (strokes : List Segment) (answer : Result Outcome Fault) → strokes ≡ rules.strokes job.page input
-      → WritesStrokes given_choice sm job drawing strokes reaches sink sink' answer → Converts rules 1 job reaches input before after sink sink' (done_of answer)
-  converted strokes (Err fault) are h =
+  converted : (shapes : ShapeList) (answer : Result Outcome Fault) → shapes ≡ shapes_by rules job.page input
+      → WritesShapes given_choice sm job drawing shapes reaches sink sink' answer → Converts rules 1 job reaches input before after sink sink' (done_of answer)
+  converted shapes (Err fault) are h =
       subst (λ (f : Fault). Converts rules 1 job reaches input before after sink sink' (Err f)) (sym h.1)
-      (not_painted rules 1 job reaches input before after sink sink' h.0 drawn.read accepted (painted strokes (Err h.0) are h.2))
-  converted strokes (Ok o) are h =
-      let wrote = painted strokes (Ok o.done.bytes) are h.0 in
+      (not_painted rules 1 job reaches input before after sink sink' h.0 drawn.read accepted (painted shapes (Err h.0) are h.2))
+  converted shapes (Ok o) are h =
+      let wrote = painted shapes (Ok o.done.bytes) are h.0 in
       record {
         read = drawn.read;
         accepted = job_faults job (rules.refusal job.page input) None accepted wrote.0;
@@ -130,17 +135,18 @@ module _ (rules : Rules) (sm : Smoothing) (job : Job) (reaches : Reach) (input :
         sound = wrote.1.sound;
         rows = h.1 ∙ ap (λ (page : Page). rows_of page job.dots - job.first_row) here;
         bytes = wrote.1.count;
-        strokes_count = h.2.strokes_count ∙ ap length are;
+        strokes_count = h.2.strokes_count ∙ ap stroke_count are;
+        areas_count = h.2.areas_count ∙ ap (λ (ss : ShapeList). length ss.areas) are;
         notes = h.2.notes ∙ drawn.lines.notes_are;
       }
 
-  few_tests : (strokes : List Segment) (tests tests' : ℕ) → strokes ≡ rules.strokes job.page input
-      → tests' ≤ tests + strokes_boxes (times_on given_choice drawing.page job sm) (on_page given_choice drawing.page job) strokes
+  few_tests : (shapes : ShapeList) (tests tests' : ℕ) → shapes ≡ shapes_by rules job.page input
+      → tests' ≤ tests + strokes_boxes (times_on given_choice drawing.page job sm) (on_page given_choice drawing.page job) shapes.strokes
       → tests' ≤ tests + strokes_boxes 1 job (rules.strokes job.page input)
-  few_tests strokes tests tests' are h =
-      let there = subst (λ (page : Page). tests' ≤ tests + strokes_boxes sm.times (on_page given_choice page job) strokes) here h in
+  few_tests shapes tests tests' are h =
+      let there = subst (λ (page : Page). tests' ≤ tests + strokes_boxes sm.times (on_page given_choice page job) shapes.strokes) here h in
       subst (λ (n : ℕ). tests' ≤ tests + strokes_boxes n job (rules.strokes job.page input)) once
-      (subst (λ (ss : List Segment). tests' ≤ tests + strokes_boxes sm.times job ss) are there)
+      (subst (λ (ss : ShapeList). tests' ≤ tests + strokes_boxes sm.times job ss.strokes) are there)
 
 -- an empty carousel changes nothing
 with_none : (reading : Reading) (carousel : Carousel) → carousel ≡ empty → rules_with reading carousel ≡ rules_of reading
@@ -154,7 +160,7 @@ converted_with_none : (reading : Reading) (carousel : Carousel) (job : Job) (rea
 converted_with_none reading carousel job reaches before after sink sink' tests tests' answer none h =
     subst (λ (rules : Rules). HasConvertedBy rules job reaches before after sink sink' tests tests' answer) (with_none reading carousel none) h
 
--- a conversion that drew a plot for a request, and then wrote the picture of all strokes, or did not draw it, or not even read it
+-- a conversion that drew a plot for a request, and then wrote the picture of all shapes, or did not draw it, or not even read it
 module _ (reading : Reading) (carousel : Carousel) (sm : Smoothing) (job : Job) (reaches : Reach) (before after : SourceState) (none : carousel ≡ empty) where
   pub drawn_so : (setup : Setup) (picture : Picture) (answer : Result Drawing Fault) → rules_in setup ≡ rules_with reading carousel → setup.choice ≡ given_choice → picture ≡ Rows job sm
       → HasDrawnFor (rules_in setup) setup.choice picture before after answer
@@ -164,19 +170,19 @@ module _ (reading : Reading) (carousel : Carousel) (sm : Smoothing) (job : Job) 
       let given = subst (λ (c : PageChoice). HasDrawnFor (rules_with reading carousel) c picture before after answer) choice there in
       (subst (λ (p : Picture). HasDrawnFor (rules_with reading carousel) given_choice p before after answer) is given).draws
 
-  pub converted_given : (sink sink' : SinkState) (tests tests' : ℕ) (drawing : Drawing) (strokes : List Segment) (answer : Result Outcome Fault) → sm.times ≡ 1
-      → HasDrawn (rules_with reading carousel) given_choice job.pens job.page before after (Ok drawing) → strokes ≡ drawing.lines.strokes.items
-      → WritesStrokes given_choice sm job drawing strokes reaches sink sink' answer
-      → tests' ≤ tests + strokes_boxes (times_on given_choice drawing.page job sm) (on_page given_choice drawing.page job) strokes
+  pub converted_given : (sink sink' : SinkState) (tests tests' : ℕ) (drawing : Drawing) (shapes : ShapeList) (answer : Result Outcome Fault) → sm.times ≡ 1
+      → HasDrawn (rules_with reading carousel) given_choice job.pens job.page before after (Ok drawing) → shapes ≡ shapes_on drawing 0
+      → WritesShapes given_choice sm job drawing shapes reaches sink sink' answer
+      → tests' ≤ tests + strokes_boxes (times_on given_choice drawing.page job sm) (on_page given_choice drawing.page job) shapes.strokes
       → HasConvertedBy (rules_of reading) job reaches before after sink sink' tests tests' (done_of answer)
-  converted_given sink sink' tests tests' drawing strokes answer once drawn are wrote tested =
+  converted_given sink sink' tests tests' drawing shapes answer once drawn are wrote tested =
       let by : Rules = rules_with reading carousel in
-      let all = are ∙ strokes_given by sm job reaches drawn.input before after sink sink' drawing drawn.draws once in
+      let all = are ∙ shapes_given by sm job reaches drawn.input before after sink sink' drawing drawn.draws once in
       converted_with_none reading carousel job reaches before after sink sink' tests tests' (done_of answer) none (record {
         input = drawn.input;
         taken = drawn.taken;
-        converts = converted by sm job reaches drawn.input before after sink sink' drawing drawn.draws once strokes answer all wrote;
-        tested = few_tests by sm job reaches drawn.input before after sink sink' drawing drawn.draws once strokes tests tests' all tested;
+        converts = converted by sm job reaches drawn.input before after sink sink' drawing drawn.draws once shapes answer all wrote;
+        tested = few_tests by sm job reaches drawn.input before after sink sink' drawing drawn.draws once shapes tests tests' all tested;
       })
 
   pub not_converted_given : (sink : SinkState) (tests : ℕ) (fault : Fault) → HasDrawn (rules_with reading carousel) given_choice job.pens job.page before after (Err fault)
@@ -216,8 +222,8 @@ module _ (reading : Reading) (pens : PenSet) (given : Page) (input : List ℕ) (
     there : place_of drawing ≡ place_on Given given
     there = given_place (rules_of reading) pens given input (place_of drawing) drawn.placed
 
-    strokes_there : drawing.lines.strokes.items ≡ (rules_of reading).strokes given input
-    strokes_there = drawn.lines.strokes_are ∙ ap (λ (place : Place). (placed_rules (rules_of reading) pens place).strokes place.page input) there
+    shapes_there : shapes_on drawing 0 ≡ shapes_by (rules_of reading) given input
+    shapes_there = shapes_drawn (rules_of reading) pens input drawing drawn.lines ∙ ap (λ (place : Place). shapes_by (placed_rules (rules_of reading) pens place) place.page input) there
 
     accepted_there : (rules_of reading).refusal given input ≡ None
     accepted_there = subst (λ (place : Place). (rules_of reading).refusal place.drawn_on input ≡ None) there drawn.lines.accepted
@@ -225,7 +231,7 @@ module _ (reading : Reading) (pens : PenSet) (given : Page) (input : List ℕ) (
     text_there : report_drawn reading drawing input ≡ report_by reading (rules_of reading) (report_page given) given input
     text_there =
         let sheets = drawn.lines.sheets_are ∙ ap (λ (place : Place). (rules_of reading).sheets place.drawn_on input) there in
-        same_report reading _ _ _ _ _ _ input input (drawn.named ∙ ap page_reported there) strokes_there sheets refl
+        same_report reading _ _ _ _ _ _ input input (drawn.named ∙ ap page_reported there) shapes_there sheets refl
 
     reported : (answer : Result Outcome Fault) → WritesReport reading pens drawing input sink sink' answer → Reports reading given input before after sink sink' (done_of answer)
     reported (Ok o) h = record {
@@ -235,7 +241,8 @@ module _ (reading : Reading) (pens : PenSet) (given : Page) (input : List ℕ) (
       sound = h.1;
       rows = h.2;
       bytes = h.3 ∙ ap length text_there;
-      strokes_count = h.4.strokes_count ∙ ap length strokes_there;
+      strokes_count = h.4.strokes_count ∙ ap stroke_count shapes_there;
+      areas_count = h.4.areas_count ∙ ap (λ (ss : ShapeList). length ss.areas) shapes_there;
       notes = h.4.notes ∙ drawn.lines.notes_are;
     }
     reported (Err (Write row whole bytes)) h = record {

@@ -1,5 +1,5 @@
 -- Pictures of drawings, on the page that is shown.
-use Rattle.std.proofs.Common.{◌≡◌, ◌≤◌, ◌∙◌, ◌-◌, ℕ, Bool, true, false, not, ◌&&◌, ◌||◌, List, Option, Some, None, refl, ap, min, max, ◌*◌, ◌/◌, nat_le, arith}
+use Rattle.std.proofs.Common.{◌≡◌, ◌≤◌, ℕ, Bool, true, false, not, ◌&&◌, ◌||◌, Option, Some, None, refl, min, max, ◌*◌, ◌/◌, nat_le, arith}
 use Rattle.std.proofs.lemmas.Bool.{le-leb}
 use Rattle.std.proofs.Math.Nat.{div-mul-le_self, le-div_iff_mul-le, max-le, min-le_right, mul-le-mul_right}
 use Rattle.plot_page.specs.declared.page.Page.{Page}

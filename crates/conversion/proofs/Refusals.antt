@@ -7,7 +7,7 @@ use Rattle.rows.specs.Pictures.{Reach, job_fault}
 use Rattle.rows.specs.Progress.{HasPainted}
 use Rattle.rows.specs.declared.fault.PictureFault.{PictureFault}
 use Rattle.rows.specs.declared.fault.PictureFault.TheVariants as cause
-use Rattle.conversion.specs.Rules.{Rules}
+use Rattle.conversion.specs.Rules.{Rules, shapes_by}
 use Rattle.conversion.specs.Faults.{of_picture}
 use Rattle.conversion.specs.Pictures.{refused_fault}
 use Rattle.conversion.specs.Readings.{WasRead}
@@ -22,7 +22,7 @@ job_faults job refusal fault accepted is = rw (accepted, is) refl
 
 -- a job that was not painted, of a plot that was read and accepted
 pub not_painted : (rules : Rules) (n : ℕ) (job : Job) (reaches : Reach) (input : List ℕ) (before after : SourceState) (sink sink' : SinkState) (fault : PictureFault) → WasRead input before after → rules.refusal job.page input ≡ None
-    → HasPainted n job reaches (rules.strokes job.page input) sink sink' (Err fault) → Converts rules n job reaches input before after sink sink' (Err (of_picture fault))
+    → HasPainted n job reaches (shapes_by rules job.page input) sink sink' (Err fault) → Converts rules n job reaches input before after sink sink' (Err (of_picture fault))
 not_painted rules n job reaches input before after sink sink' cause.Memory read accepted h = read.sound
 not_painted rules n job reaches input before after sink sink' cause.Unfinished read accepted h = absurd h
 not_painted rules n job reaches input before after sink sink' (cause.Paint refusal) read accepted h = record { read = read; refused = job_faults job (rules.refusal job.page input) (Some refusal) accepted h }

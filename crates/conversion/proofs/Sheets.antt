@@ -1,5 +1,5 @@
 -- The sheets of a drawing are what is drawn of each by itself.
-use Rattle.std.proofs.Common.{◌≡◌, ◌≤◌, ◌-◌, ◌∙◌, ℕ, Bool, true, false, nat_eq, List, Option, None, Some, [], ◌∷◌, length, take, drop, map, slice_index_or, refl, ap, subst, sym, arith}
+use Rattle.std.proofs.Common.{◌≡◌, ◌-◌, ◌∙◌, ℕ, Bool, true, false, nat_eq, List, Option, None, ◌∷◌, length, take, drop, map, slice_index_or, refl, ap, subst, sym}
 use Rattle.std.specs.Prelude.{if◌then◌else◌}
 use Rattle.std.proofs.lemmas.List.{drop-map, length-map, take-map}
 use Rattle.plot_page.specs.Segments.{Segment}
@@ -7,13 +7,13 @@ use Rattle.plot_page.specs.declared.page.Page.{Page}
 use Rattle.plot_page.specs.declared.pens.PenSet.{PenSet}
 use Rattle.carousel.specs.declared.carousel.Carousel.{Carousel}
 use Rattle.character_sets.specs.declared.encoding.Encoding.{Encoding}
-use Rattle.full_plot.specs.Drawings.{ends_in, outcome_with, sheet_strokes, strokes_in}
+use Rattle.full_plot.specs.Drawings.{areas_of, areas_of_sheet, ends_in, outcome_with, sheet_strokes, strokes_in}
 use Rattle.page_fit.specs.declared.around.Corner.{Corner}
 use Rattle.page_fit.specs.Moves.{moved_if_selected}
 use Rattle.picture_job.specs.declared.page_choice.PageChoice.{PageChoice}
 use Rattle.picture_job.specs.declared.reading.Reading.TheVariants.{Full}
 use Rattle.conversion.specs.Placements.{IsDrawnOn, IsPlaced, IsPlacedBy, Place, placed_rules, strokes_at}
-use Rattle.conversion.specs.Rules.{Rules, rules_with}
+use Rattle.conversion.specs.Rules.{rules_with}
 use Rattle.conversion.specs.declared.placement.Placement.{Placement}
 use Rattle.conversion.specs.declared.placement.Placement.TheVariants.{Given, Asked, Unasked, Fitted, Blank, TooLarge}
 
@@ -42,6 +42,23 @@ pub drawn_alike : (encoding : Encoding) (carousel : Carousel) (pens : PenSet) (p
 drawn_alike encoding carousel pens place plot sheet =
     let drawn = outcome_with encoding carousel place.drawn_on plot in
     placed_sheets place.placement pens place.drawn_on place.corner place.page (strokes_in drawn) (ends_in drawn) sheet
+
+-- strokes that are moved are as many
+as_many : (p : Placement) (pens : PenSet) (on : Page) (k : Corner) (page : Page) (xs : List Segment) → length (strokes_at p pens on k page xs) ≡ length xs
+as_many Fitted pens on k page xs = length-map xs (moved_if_selected pens on k page)
+as_many Given pens on k page xs = refl
+as_many Asked pens on k page xs = refl
+as_many Unasked pens on k page xs = refl
+as_many Blank pens on k page xs = refl
+as_many TooLarge pens on k page xs = refl
+
+pub areas_alike : (encoding : Encoding) (carousel : Carousel) (pens : PenSet) (place : Place) (plot : List ℕ) (sheet : ℕ)
+    → areas_of_sheet ((placed_rules (rules_with (Full 0 encoding) carousel) pens place).areas place.page plot) ((placed_rules (rules_with (Full 0 encoding) carousel) pens place).ends place.page plot)
+    (length ((placed_rules (rules_with (Full 0 encoding) carousel) pens place).strokes place.page plot)) sheet
+    ≡ (placed_rules (rules_with (Full sheet encoding) carousel) pens place).areas place.page plot
+areas_alike encoding carousel pens place plot sheet =
+    let drawn = outcome_with encoding carousel place.drawn_on plot in
+    ap (λ (n : ℕ). areas_of_sheet (areas_of drawn) (ends_in drawn) n sheet) (as_many place.placement pens place.drawn_on place.corner place.page (strokes_in drawn))
 
 -- the page that a plot is drawn on is the same for each sheet
 on_alike : (b : Bool) (encoding : Encoding) (carousel : Carousel) (given : Page) (plot : List ℕ) (sheet : ℕ) (p : Placement) (page : Page)

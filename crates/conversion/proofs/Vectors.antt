@@ -1,6 +1,8 @@
--- What is written of a vector document is one of the strokes and labels of the sheet.
+-- What is written of a vector document is one of the shapes and labels of the sheet.
 use Rattle.std.proofs.Common.{◌≡◌, ◌≤◌, ◌↔◌, ◌+◌, ◌∙◌, ◌∷◌, ℕ, Bool, true, false, List, [], Result, Ok, Err, IfErr, IsErrAnd, inl, inr, length, ap, ap₂, arith, nat_le, nat_lt, refl, subst, sym}
 use Rattle.std.proofs.lemmas.Bool.{cases_lt, le-leb, leb-true, lt-ltb, ltb-true}
+use Rattle.areas.specs.Shapes.{ShapeList}
+use Rattle.areas.specs.declared.area.Area.{Area}
 use Rattle.labels.specs.Sheets.{all_counted}
 use Rattle.labels.specs.Labels.{LabelShape}
 use Rattle.plot_page.specs.Segments.{Segment}
@@ -8,7 +10,7 @@ use Rattle.plot_page.specs.declared.page.Page.{Page}
 use Rattle.plot_page.specs.declared.pens.PenSet.{PenSet}
 use Rattle.picture_job.specs.declared.vector_job.VectorFormat.{VectorFormat}
 use Rattle.devices.specs.Sinks.{SinkState}
-use Rattle.pdf.specs.Documents.{AreStreams, pdf_bytes, pens_drawn, rows_shown, sheet_labels, sheets}
+use Rattle.pdf.specs.Documents.{AreStreams, page_areas, pdf_bytes, pens_drawn, rows_shown, sheet_labels, sheets}
 use Rattle.pdf.specs.Texts.{letter_count, line_letters}
 use Rattle.pdf.specs.Writings.{WritesPdf}
 use Rattle.conversion.specs.declared.fault.Fault.{Fault}
@@ -16,29 +18,29 @@ use Rattle.conversion.specs.declared.fault.Fault.TheVariants.{Letters}
 use Rattle.conversion.specs.Vectors.{IsPdf, IsVector, PutsVector, has_too_many_letters, is_letters, page_ends, title_kept}
 use Rattle.conversion.specs.declared.naming.Naming.{Naming}
 
-pub puts_pdf : {U : Type 0} (u : U) (naming : Naming) (page : Page) (pens : PenSet) (strokes : List Segment) (ends pages title : List ℕ) (labels : List LabelShape)
+pub puts_pdf : {U : Type 0} (u : U) (naming : Naming) (page : Page) (pens : PenSet) (strokes : List Segment) (areas : List Area) (ends pages title : List ℕ) (labels : List LabelShape)
     (sink sink' : SinkState) (n : ℕ)
     → pages ≡ page_ends (length strokes) ends → title ≡ title_kept naming.title.now
-    → WritesPdf sink sink' naming.version.now title page pens strokes pages labels (Ok n)
-    → PutsVector (IsPdf naming page pens strokes ends labels) sink sink' (Ok u)
-puts_pdf u naming page pens strokes ends pages title labels sink sink' n pages_are title_is wrote =
+    → WritesPdf sink sink' naming.version.now title page pens strokes areas pages labels (Ok n)
+    → PutsVector (IsPdf naming page pens strokes areas ends labels) sink sink' (Ok u)
+puts_pdf u naming page pens strokes areas ends pages title labels sink sink' n pages_are title_is wrote =
     let streams = wrote.streams in
     let document : List ℕ → List ℕ → List ℕ =
     λ t p. pdf_bytes naming.version.now t page (pens_drawn pens strokes) (rows_shown pens strokes labels) p streams in
-    let are = subst (λ p. AreStreams page pens (sheets strokes 0 p) (sheet_labels labels 0 p) streams) pages_are wrote.are in
+    let are = subst (λ p. AreStreams page pens (sheets strokes 0 p) (page_areas areas 0 p) (sheet_labels labels 0 p) streams) pages_are wrote.are in
     (document title pages, (streams, are, ap₂ document title_is pages_are), wrote.writes.0, wrote.writes.1)
 
--- the same document by the same format, strokes, ends and labels, and the same sink
-pub puts_same : {U V : Type 0} (u : U) (v : V) (format f : VectorFormat) (naming : Naming) (page : Page) (pens : PenSet) (strokes s : List Segment) (ends e : List ℕ)
+-- the same document by the same format, shapes, ends and labels, and the same sink
+pub puts_same : {U V : Type 0} (u : U) (v : V) (format f : VectorFormat) (naming : Naming) (page : Page) (pens : PenSet) (shapes s : ShapeList) (ends e : List ℕ)
     (labels l : List LabelShape) (sink sink' k : SinkState)
-    → format ≡ f → s ≡ strokes → e ≡ ends → l ≡ labels → sink' ≡ k
-    → PutsVector (IsVector f naming page pens s e l) sink k (Ok v) → PutsVector (IsVector format naming page pens strokes ends labels) sink sink' (Ok u)
-puts_same u v format f naming page pens strokes s ends e labels l sink sink' k is same_strokes same_ends same_labels same_sink puts =
+    → format ≡ f → s ≡ shapes → e ≡ ends → l ≡ labels → sink' ≡ k
+    → PutsVector (IsVector f naming page pens s e l) sink k (Ok v) → PutsVector (IsVector format naming page pens shapes ends labels) sink sink' (Ok u)
+puts_same u v format f naming page pens shapes s ends e labels l sink sink' k is same_shapes same_ends same_labels same_sink puts =
     let document = puts.0 in
-    let shown = subst (λ g. IsVector g naming page pens strokes ends labels document) (sym is)
-    (subst (λ m. IsVector f naming page pens strokes ends m document) same_labels
-    (subst (λ n. IsVector f naming page pens strokes n l document) same_ends
-    (subst (λ m. IsVector f naming page pens m e l document) same_strokes puts.1))) in
+    let shown = subst (λ g. IsVector g naming page pens shapes ends labels document) (sym is)
+    (subst (λ m. IsVector f naming page pens shapes ends m document) same_labels
+    (subst (λ n. IsVector f naming page pens shapes n l document) same_ends
+    (subst (λ m. IsVector f naming page pens m e l document) same_shapes puts.1))) in
     rw same_sink (document, shown, puts.2, puts.3)
 
 -- labels have the same letters wherever their strokes are counted from

@@ -1,13 +1,14 @@
 -- The picture of a plot, and what a conversion answers, from what it read.
-use Rattle.std.specs.Prelude.{◌≡◌, ℕ, ◌+◌, ◌-◌, ◌<◌, ◌≤◌, Bool, true, false, List, Option, Some, None, length, take, Result, Ok}
+use Rattle.std.specs.Prelude.{◌≡◌, ℕ, ◌+◌, ◌-◌, ◌<◌, ◌≤◌, Bool, true, false, List, Some, None, length, take, Result, Ok}
 use Rattle.std.specs.Prelude.{Err}
 use Rattle.std.specs.Io.KnownBytes.{Consumes, Appends}
 use Rattle.plot_page.specs.Resolutions.{rows_of}
 use Rattle.picture_job.specs.declared.job.Job.{Job}
 use Rattle.rows.specs.Stops.{IsStoppedAt}
-use Rattle.rows.specs.Pictures.{Reach, head_of, strokes_row, strokes_picture}
+use Rattle.areas.specs.Shapes.{stroke_count}
+use Rattle.rows.specs.Pictures.{Reach, head_of, shapes_row, shapes_picture}
 use Rattle.conversion.specs.Pictures.{plot_strokes, refused_fault}
-use Rattle.conversion.specs.Rules.{Rules, core_rules}
+use Rattle.conversion.specs.Rules.{Rules, core_rules, shapes_by}
 use Rattle.conversion.specs.Readings.{WasRead, WasTooLong}
 use Rattle.devices.specs.Sinks.{SinkState}
 use Rattle.devices.specs.Sources.{SourceState}
@@ -21,11 +22,12 @@ pub record IsWritten (rules : Rules) (n : ℕ) (job : Job) (reaches : Reach) (in
     (sink sink' : SinkState) (done : Done) : Type 0 where
   pub read : WasRead input before after
   pub accepted : refused_fault job (rules.refusal job.page input) ≡ None
-  pub written : Appends sink.held sink'.held (strokes_picture n job reaches (rules.strokes job.page input))
+  pub written : Appends sink.held sink'.held (shapes_picture n job reaches (shapes_by rules job.page input))
   pub sound : sink'.faults ≡ sink.faults
   pub rows : done.rows ≡ rows_of job.page job.dots - job.first_row
-  pub bytes : done.bytes ≡ length (strokes_picture n job reaches (rules.strokes job.page input))
-  pub strokes_count : done.strokes ≡ length (rules.strokes job.page input)
+  pub bytes : done.bytes ≡ length (shapes_picture n job reaches (shapes_by rules job.page input))
+  pub strokes_count : done.strokes ≡ stroke_count (shapes_by rules job.page input)
+  pub areas_count : done.areas ≡ length (rules.areas job.page input)
   pub notes : done.notes ≡ rules.notes input
 
 -- the sink failed after the first bytes of the picture, in a row that begins after the bytes `whole`
@@ -33,11 +35,11 @@ pub record IsCutShort (rules : Rules) (n : ℕ) (job : Job) (reaches : Reach) (i
     (sink sink' : SinkState) (row whole bytes : ℕ) : Type 0 where
   pub read : WasRead input before after
   pub accepted : refused_fault job (rules.refusal job.page input) ≡ None
-  pub written : Appends sink.held sink'.held (take bytes (strokes_picture n job reaches (rules.strokes job.page input)))
-  pub within : bytes < length (strokes_picture n job reaches (rules.strokes job.page input))
+  pub written : Appends sink.held sink'.held (take bytes (shapes_picture n job reaches (shapes_by rules job.page input)))
+  pub within : bytes < length (shapes_picture n job reaches (shapes_by rules job.page input))
   pub failed : sink'.faults ≡ sink.faults + 1
   pub stopped : IsStoppedAt (head_of job.form job.page job.dots)
-      (strokes_row n job reaches (rules.strokes job.page input)) (rows_of job.page job.dots) job.first_row bytes row whole
+      (shapes_row n job reaches (shapes_by rules job.page input)) (rows_of job.page job.dots) job.first_row bytes row whole
 
 -- the plot was read whole, and this is why it has no picture of the job
 pub record IsRefused (rules : Rules) (job : Job) (input : List ℕ) (before after : SourceState)

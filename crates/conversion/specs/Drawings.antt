@@ -27,11 +27,12 @@ abbrev pub IsReasonOnFirst : PageChoice → Rules → Page → List ℕ → Plot
 IsReasonOnFirst choice rules given plot fault =
     (page : Page) × IsFirstPage choice rules given plot page × IsReason fault (rules.refusal page plot)
 
--- the plot is accepted for the page, and these are what it draws there, its labels, if they are kept, and how many notes there
--- are on it
+-- the plot is accepted for the page, and these are the strokes that it draws there, the areas among them, its labels, if they
+-- are kept, and how many notes there are on it
 pub record AreLinesOf (rules : Rules) (page : Page) (plot : List ℕ) (lines : Lines) : Type 0 where
   pub accepted : rules.refusal page plot ≡ None
   pub strokes_are : lines.strokes.items ≡ rules.strokes page plot
+  pub areas_are : lines.areas.items ≡ rules.areas page plot
   pub notes_are : lines.notes ≡ rules.notes plot
   pub sheets_are : lines.sheets ≡ rules.sheets page plot
   pub ends_are : lines.ends.items ≡ rules.ends page plot
@@ -50,6 +51,7 @@ place_of drawn = record {
 pub record AreMoved (pens : PenSet) (lines : Lines) (place : Place) (moved : Lines) : Type 0 where
   pub strokes_are : moved.strokes.items
       ≡ strokes_at place.placement pens place.drawn_on place.corner place.page lines.strokes.items
+  pub areas_are : moved.areas.items ≡ lines.areas.items
   pub notes_are : moved.notes ≡ lines.notes
   pub sheets_are : moved.sheets ≡ lines.sheets
   pub ends_are : moved.ends.items ≡ lines.ends.items

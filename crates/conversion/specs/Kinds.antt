@@ -14,7 +14,7 @@ use Rattle.conversion.specs.Conversions.{is_write}
 use Rattle.conversion.specs.Drawings.{HasDrawn}
 use Rattle.rows.specs.Pictures.{Reach}
 use Rattle.conversion.specs.Rules.{Rules}
-use Rattle.conversion.specs.Sheets.{WritesPng, WritesStrokes, strokes_on}
+use Rattle.conversion.specs.Sheets.{WritesPng, WritesShapes, shapes_on, strokes_on}
 use Rattle.conversion.specs.Vectors.{WritesVector}
 use Rattle.rows.specs.Watching.{IsTold}
 use Rattle.conversion.specs.declared.fault.Fault.{Fault}
@@ -44,9 +44,9 @@ has_labels _ = false
 abbrev pub WritesSheet : PageChoice → Picture → Naming → Reach → Drawing → ℕ → SinkState → SinkState → Result Outcome Fault →
     Type 0
 WritesSheet choice (Rows job smoothing) naming reaches drawing sheet sink sink' answer =
-    WritesStrokes choice smoothing job drawing (strokes_on drawing sheet) reaches sink sink' answer
+    WritesShapes choice smoothing job drawing (shapes_on drawing sheet) reaches sink sink' answer
 WritesSheet choice (Png job) naming reaches drawing sheet sink sink' answer =
-    WritesPng choice job drawing (strokes_on drawing sheet) reaches sink sink' answer
+    WritesPng choice job drawing (shapes_on drawing sheet) reaches sink sink' answer
 WritesSheet choice (Vector job) naming reaches drawing sheet sink sink' answer =
     WritesVector job naming drawing sheet sink sink' answer
 

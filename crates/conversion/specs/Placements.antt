@@ -1,19 +1,20 @@
 -- Which page a plot is drawn on, and which page its picture shows.
 use Rattle.std.specs.Prelude.{◌≡◌, ℕ, Bool, true, false, List, Option, Some, None, pos, ◌-ℤ◌}
+use Rattle.areas.specs.Shapes.{ShapeList}
 use Rattle.labels.specs.Labels.{LabelShape}
 use Rattle.labels.specs.Moves.{moved_labels}
 use Rattle.plot_page.specs.Segments.{Segment}
 use Rattle.plot_page.specs.declared.page.Page.{Page}
 use Rattle.plot_page.specs.declared.pens.PenSet.{PenSet}
 use Rattle.page_fit.specs.Around.{corner_around, sides_around, sides_of}
-use Rattle.page_fit.specs.Extents.{extent_of}
+use Rattle.page_fit.specs.Shapes.{shapes_extent}
 use Rattle.page_fit.specs.Moves.{are_movable, moved_strokes}
 use Rattle.page_fit.specs.declared.around.Corner.{Corner}
 use Rattle.page_fit.specs.declared.extent.Extent.{Extent}
 use Rattle.plot_report.specs.Report.{report_page}
 use Rattle.plot_report.specs.declared.report_page.ReportPage.{ReportPage}
 use Rattle.picture_job.specs.declared.page_choice.PageChoice.{PageChoice}
-use Rattle.conversion.specs.Rules.{Rules}
+use Rattle.conversion.specs.Rules.{Rules, shapes_by}
 use Rattle.conversion.specs.declared.placement.Placement.{Placement}
 use Rattle.conversion.specs.declared.placement.Placement.TheVariants.{Given, Asked, Unasked, Fitted, Blank, TooLarge}
 
@@ -47,7 +48,7 @@ no_corner = record { x = pos 0; y = pos 0 }
 abbrev pub place_on : Placement → Page → Place
 place_on placement page = record { placement = placement; drawn_on = page; corner = no_corner; page = page }
 
--- strokes that are seen so far have a page around them, with this margin: its corner, and the page. All of its strokes can be
+-- strokes of shapes that are seen so far have a page around them, with this margin: its corner, and the page. All of them can be
 -- moved to it
 pub record IsAround (pens : PenSet) (margin : ℕ) (strokes : List Segment) (e : Extent) (corner : Corner)
     (page : Page) : Type 0 where
@@ -59,23 +60,23 @@ pub record IsAround (pens : PenSet) (margin : ℕ) (strokes : List Segment) (e :
 abbrev pub HasNoPage : PenSet → ℕ → List Segment → Extent → Type 0
 HasNoPage pens margin strokes e = (corner : Corner) (page : Page) → IsAround pens margin strokes e corner page → ⊥
 
--- a picture of strokes that are drawn on a page shows the page around what the selected pens draw, or, for one of two
+-- a picture of shapes that are drawn on a page shows the page around what the selected pens draw, or, for one of two
 -- reasons, the page that they are drawn on
-abbrev pub IsFitted : PenSet → ℕ → Page → List Segment → Placement → Corner → Page → Type 0
-IsFitted pens margin drawn_on strokes Fitted corner page =
-    (e : Extent) × (extent_of pens drawn_on strokes ≡ Some e) × IsAround pens margin strokes e corner page
-IsFitted pens margin drawn_on strokes Blank corner page =
-    (corner ≡ no_corner) × (page ≡ drawn_on) × (extent_of pens drawn_on strokes ≡ None)
-IsFitted pens margin drawn_on strokes TooLarge corner page =
+abbrev pub IsFitted : PenSet → ℕ → Page → ShapeList → Placement → Corner → Page → Type 0
+IsFitted pens margin drawn_on shapes Fitted corner page =
+    (e : Extent) × (shapes_extent pens drawn_on shapes ≡ Some e) × IsAround pens margin shapes.strokes e corner page
+IsFitted pens margin drawn_on shapes Blank corner page =
+    (corner ≡ no_corner) × (page ≡ drawn_on) × (shapes_extent pens drawn_on shapes ≡ None)
+IsFitted pens margin drawn_on shapes TooLarge corner page =
     (corner ≡ no_corner) × (page ≡ drawn_on)
-    × ((e : Extent) × (extent_of pens drawn_on strokes ≡ Some e) × HasNoPage pens margin strokes e)
-IsFitted pens margin drawn_on strokes _ corner page = ⊥
+    × ((e : Extent) × (shapes_extent pens drawn_on shapes ≡ Some e) × HasNoPage pens margin shapes.strokes e)
+IsFitted pens margin drawn_on shapes _ corner page = ⊥
 
 -- a picture lies there, by the margin if its page is to be fitted; else it shows the page that its plot is drawn on
 abbrev pub IsPlacedBy : Option ℕ → PageChoice → Rules → PenSet → Page → List ℕ → Place → Type 0
 IsPlacedBy (Some margin) choice rules pens given plot place =
     IsFirstPage choice rules given plot place.drawn_on
-    × IsFitted pens margin place.drawn_on (rules.strokes place.drawn_on plot) place.placement place.corner place.page
+    × IsFitted pens margin place.drawn_on (shapes_by rules place.drawn_on plot) place.placement place.corner place.page
 IsPlacedBy None choice rules pens given plot place =
     IsDrawnOn choice.asked rules given plot place.placement place.drawn_on
     × (place.corner ≡ no_corner) × (place.page ≡ place.drawn_on)
@@ -99,6 +100,7 @@ abbrev pub placed_rules : Rules → PenSet → Place → Rules
 placed_rules rules pens place = record {
   strokes = λ page plot.
       strokes_at place.placement pens place.drawn_on place.corner page (rules.strokes place.drawn_on plot);
+  areas = λ page plot. rules.areas place.drawn_on plot;
   refusal = λ page plot. rules.refusal place.drawn_on plot;
   notes = rules.notes;
   sheets = λ page plot. rules.sheets place.drawn_on plot;

@@ -4,14 +4,14 @@ use Rattle.std.specs.Io.KnownBytes.{Consumes, Appends}
 use Rattle.plot_page.specs.declared.page.Page.{Page}
 use Rattle.devices.specs.Sinks.{SinkState}
 use Rattle.conversion.specs.Drawings.{HasDrawn, IsNotDrawn}
-use Rattle.conversion.specs.Sheets.{TellsOf}
+use Rattle.conversion.specs.Sheets.{TellsOf, shapes_on}
 use Rattle.conversion.specs.declared.place.Drawing.{Drawing}
-use Rattle.plot_page.specs.Segments.{Segment}
+use Rattle.areas.specs.Shapes.{ShapeList, stroke_count}
 use Rattle.plot_report.specs.Report.{report_of, full_report_of, report_page}
 use Rattle.plot_report.specs.declared.report_page.ReportPage.{ReportPage}
 use Rattle.picture_job.specs.declared.reading.Reading.{Reading}
 use Rattle.picture_job.specs.declared.reading.Reading.TheVariants.{Core, Full}
-use Rattle.conversion.specs.Rules.{Rules, core_notes, full_notes, rules_of}
+use Rattle.conversion.specs.Rules.{Rules, core_notes, full_notes, rules_of, shapes_by}
 use Rattle.plot_page.specs.Pens.{has_pen}
 use Rattle.plot_page.specs.declared.pens.PenSet.{PenSet}
 use Rattle.picture_job.specs.declared.page_choice.PageChoice.{PageChoice}
@@ -22,20 +22,20 @@ use Rattle.conversion.specs.declared.done.Done.{Done}
 use Rattle.conversion.specs.declared.fault.Fault.{Fault}
 use Rattle.conversion.specs.declared.fault.Fault.TheVariants.{TooLong, Memory, Plot, Write, Read}
 
--- the report on a plot that is read so, by the page that it names, its strokes and its sheets
-abbrev pub report_on : Reading → ReportPage → List Segment → ℕ → List ℕ → List ℕ
-report_on Core page strokes sheets plot = report_of page strokes (core_notes plot)
-report_on (Full sheet encoding) page strokes sheets plot = full_report_of page sheets strokes (full_notes plot)
+-- the report on a plot that is read so, by the page that it names, its shapes and its sheets
+abbrev pub report_on : Reading → ReportPage → ShapeList → ℕ → List ℕ → List ℕ
+report_on Core page shapes sheets plot = report_of page shapes.strokes (core_notes plot)
+report_on (Full sheet encoding) page shapes sheets plot = full_report_of page sheets shapes (full_notes plot)
 
 -- that on a drawing of a plot
 abbrev pub report_drawn : Reading → Drawing → List ℕ → List ℕ
 report_drawn reading drawing plot =
-    report_on reading drawing.named drawing.lines.strokes.items drawing.lines.sheets plot
+    report_on reading drawing.named (shapes_on drawing 0) drawing.lines.sheets plot
 
 -- that on a plot that is drawn by these rules
 abbrev pub report_by : Reading → Rules → ReportPage → Page → List ℕ → List ℕ
 report_by reading rules named page plot =
-    report_on reading named (rules.strokes page plot) (rules.sheets page plot) plot
+    report_on reading named (shapes_by rules page plot) (rules.sheets page plot) plot
 
 -- the whole report was written
 pub record IsReported (reading : Reading) (rules : Rules) (named : ReportPage) (page : Page) (input : List ℕ)
@@ -46,7 +46,8 @@ pub record IsReported (reading : Reading) (rules : Rules) (named : ReportPage) (
   pub sound : sink'.faults ≡ sink.faults
   pub rows : done.rows ≡ 0
   pub bytes : done.bytes ≡ length (report_by reading rules named page input)
-  pub strokes_count : done.strokes ≡ length (rules.strokes page input)
+  pub strokes_count : done.strokes ≡ stroke_count (shapes_by rules page input)
+  pub areas_count : done.areas ≡ length (rules.areas page input)
   pub notes : done.notes ≡ rules.notes input
 
 -- the sink failed after the first bytes of the report, which has no rows to go on from
@@ -97,7 +98,7 @@ WritesReport reading pens drawing plot sink sink' (Ok outcome) =
     let text = report_drawn reading drawing plot in
     Appends sink.held sink'.held text × (sink'.faults ≡ sink.faults)
     × (outcome.done.rows ≡ 0) × (outcome.done.bytes ≡ length text)
-    × TellsOf drawing pens drawing.lines.strokes.items outcome
+    × TellsOf drawing pens (shapes_on drawing 0) outcome
 WritesReport reading pens drawing plot sink sink' (Err (Write row whole bytes)) =
     let text = report_drawn reading drawing plot in
     Appends sink.held sink'.held (take bytes text) × (bytes < length text) × (sink'.faults ≡ sink.faults + 1)

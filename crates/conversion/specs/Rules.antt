@@ -10,7 +10,9 @@ use Rattle.carousel.specs.Carousels.{empty}
 use Rattle.carousel.specs.declared.carousel.Carousel.{Carousel}
 use Rattle.character_sets.specs.declared.encoding.Encoding.{Encoding}
 use Rattle.hpgl_plot.specs.Strokes.{strokes_with, refusal_with}
-use Rattle.full_plot.specs.Drawings.{outcome_with, refusal_in, strokes_in, ends_in, sheet_strokes, sheet_count}
+use Rattle.areas.specs.Shapes.{ShapeList}
+use Rattle.areas.specs.declared.area.Area.{Area}
+use Rattle.full_plot.specs.Drawings.{areas_of, areas_of_sheet, outcome_with, refusal_in, strokes_in, ends_in, sheet_strokes, sheet_count}
 use Rattle.full_plot.specs.Labels.{labels_of, labels_of_sheet}
 use Rattle.full_notes.specs.Notes as full
 use Rattle.labels.specs.Labels.{LabelShape}
@@ -21,18 +23,19 @@ use Rattle.plot_page.specs.declared.page.Page.{Page}
 use Rattle.picture_job.specs.declared.job.Job.{Job}
 use Rattle.picture_job.specs.declared.reading.Reading.{Reading}
 use Rattle.picture_job.specs.declared.reading.Reading.TheVariants.{Core, Full}
-use Rattle.rows.specs.Pictures.{Reach, has_resolution, strokes_picture}
+use Rattle.rows.specs.Pictures.{Reach, has_resolution, shapes_picture}
 use Rattle.conversion.specs.Pictures.{plot_strokes, plot_refusal, refused_fault}
 use Rattle.conversion.specs.declared.setup.Setup.{Setup}
 use Rattle.conversion.specs.declared.fault.Fault.{Fault}
 use Rattle.conversion.specs.declared.fault.Fault.TheVariants.{TooLong, Memory, Write, Read, Resolution}
 
--- the strokes of a plot that is accepted for a page, the first refusal, or None if it is accepted, how many notes there
--- are on it, how many sheets have strokes, 0 where that is not counted, how many strokes there were when each sheet of
--- these strokes ended, the page that it asks for where one is given, or None if it asks for none, and its labels, by these
+-- the strokes of a plot that is accepted for a page, the first refusal, or None if it is accepted, how many notes there are on
+-- it, how many sheets have strokes, 0 where that is not counted, how many strokes there were when each sheet of these strokes
+-- ended, the page that it asks for where one is given, or None if it asks for none, and its areas and its labels, by these
 -- strokes: none in core
 pub record Rules : Type 0 where
   pub strokes : Page → List ℕ → List Segment
+  pub areas : Page → List ℕ → List Area
   pub refusal : Page → List ℕ → Option PlotFault
   pub notes : List ℕ → ℕ
   pub sheets : Page → List ℕ → ℕ
@@ -48,6 +51,7 @@ core_notes plot = core.notes (cut plot)
 abbrev pub core_rules : Rules
 core_rules = record {
   strokes = plot_strokes;
+  areas = λ page plot. [];
   refusal = plot_refusal;
   notes = λ plot. length (core_notes plot);
   sheets = λ page plot. 0;
@@ -70,6 +74,8 @@ full_rules sheet encoding carousel =
     let drawn = outcome_with encoding carousel in
     record {
       strokes = λ page plot. sheet_strokes (strokes_in (drawn page plot)) (ends_in (drawn page plot)) sheet;
+      areas = λ page plot. areas_of_sheet (areas_of (drawn page plot)) (ends_in (drawn page plot))
+          (length (strokes_in (drawn page plot))) sheet;
       refusal = λ page plot. refusal_in (drawn page plot);
       notes = λ plot. length (full_notes plot);
       sheets = λ page plot. sheet_count (ends_in (drawn page plot)) (length (strokes_in (drawn page plot)));
@@ -96,9 +102,13 @@ rules_with (Full sheet encoding) carousel = full_rules sheet encoding carousel
 abbrev pub rules_in : Setup → Rules
 rules_in setup = rules_with setup.reading setup.carousel.now
 
+-- the shapes of a plot that is accepted for a page: its strokes, and the areas among them
+abbrev pub shapes_by : Rules → Page → List ℕ → ShapeList
+shapes_by rules page plot = record { strokes = rules.strokes page plot; areas = rules.areas page plot }
+
 -- the picture of a job and a plot by these rules, smoothed n times
 abbrev pub picture_by : Rules → ℕ → Job → Reach → List ℕ → List ℕ
-picture_by rules n job reaches plot = strokes_picture n job reaches (rules.strokes job.page plot)
+picture_by rules n job reaches plot = shapes_picture n job reaches (shapes_by rules job.page plot)
 
 -- a plot has a picture of a job by these rules: it is not too long, and nothing refuses it
 pub record HasPictureBy (rules : Rules) (job : Job) (plot : List ℕ) : Type 0 where

@@ -1,11 +1,13 @@
--- The picture of strokes of a drawing: of all of them, or of those of one sheet.
+-- The picture of shapes of a drawing: of all of them, or of those of one sheet.
 use Rattle.std.specs.Prelude.{◌≡◌, ℕ, List, length, Result, Ok, Err}
-use Rattle.full_plot.specs.Drawings.{sheet_strokes}
+use Rattle.areas.specs.Shapes.{ShapeList, stroke_count}
+use Rattle.areas.specs.declared.area.Area.{Area}
+use Rattle.full_plot.specs.Drawings.{areas_of_sheet, sheet_strokes}
 use Rattle.full_plot.specs.Labels.{labels_of_sheet}
 use Rattle.labels.specs.Labels.{LabelShape}
 use Rattle.plot_page.specs.Segments.{Segment}
 use Rattle.plot_page.specs.declared.pens.PenSet.{PenSet}
-use Rattle.page_fit.specs.Census.{census_of}
+use Rattle.page_fit.specs.Shapes.{shapes_census}
 use Rattle.picture_job.specs.declared.job.Job.{Job}
 use Rattle.picture_job.specs.declared.png_job.PngJob.{PngJob}
 use Rattle.picture_job.specs.declared.page_choice.PageChoice.{PageChoice}
@@ -26,42 +28,53 @@ use Rattle.conversion.specs.declared.place.Drawing.{Drawing}
 abbrev pub strokes_on : Drawing → ℕ → List Segment
 strokes_on drawing sheet = sheet_strokes drawing.lines.strokes.items drawing.lines.ends.items sheet
 
+-- the areas among these strokes
+abbrev pub areas_on : Drawing → ℕ → List Area
+areas_on drawing sheet =
+    let lines = drawing.lines in
+    areas_of_sheet lines.areas.items lines.ends.items (length lines.strokes.items) sheet
+
+-- its shapes
+abbrev pub shapes_on : Drawing → ℕ → ShapeList
+shapes_on drawing sheet = record { strokes = strokes_on drawing sheet; areas = areas_on drawing sheet }
+
 -- its labels, by these strokes
 abbrev pub labels_on : Drawing → ℕ → List LabelShape
 labels_on drawing sheet =
     let lines = drawing.lines in
     labels_of_sheet lines.labels.items lines.ends.items (length lines.strokes.items) sheet
 
--- an outcome tells of these strokes of a drawing, of which the selected pens' are seen
-pub record TellsOf (drawing : Drawing) (pens : PenSet) (strokes : List Segment) (outcome : Outcome) : Type 0 where
-  pub strokes_count : outcome.done.strokes ≡ length strokes
+-- an outcome tells of these shapes of a drawing, of which the selected pens' are seen
+pub record TellsOf (drawing : Drawing) (pens : PenSet) (shapes : ShapeList) (outcome : Outcome) : Type 0 where
+  pub strokes_count : outcome.done.strokes ≡ stroke_count shapes
+  pub areas_count : outcome.done.areas ≡ length shapes.areas
   pub notes : outcome.done.notes ≡ drawing.lines.notes
   pub placement : outcome.placement ≡ drawing.placement
   pub sheets : outcome.sheets ≡ drawing.lines.sheets
-  pub census : outcome.census ≡ census_of pens drawing.page strokes
+  pub census : outcome.census ≡ shapes_census pens drawing.page shapes
 
--- what each answer says of a picture of these strokes on the page where the drawing lies, which is possible: it was written
+-- what each answer says of a picture of these shapes on the page where the drawing lies, which is possible: it was written
 -- whole, or the sink failed, or the job cannot be done there
-abbrev pub WritesStrokes : PageChoice → Smoothing → Job → Drawing → List Segment → Reach → SinkState → SinkState →
+abbrev pub WritesShapes : PageChoice → Smoothing → Job → Drawing → ShapeList → Reach → SinkState → SinkState →
     Result Outcome Fault → Type 0
-WritesStrokes choice smoothing job drawing strokes reaches sink sink' (Ok outcome) =
-    HasPainted (times_on choice drawing.page job smoothing) (on_page choice drawing.page job) reaches strokes sink sink'
+WritesShapes choice smoothing job drawing shapes reaches sink sink' (Ok outcome) =
+    HasPainted (times_on choice drawing.page job smoothing) (on_page choice drawing.page job) reaches shapes sink sink'
     (Ok outcome.done.bytes)
     × (outcome.done.rows ≡ rows_on choice drawing.page job)
-    × TellsOf drawing job.pens strokes outcome
-WritesStrokes choice smoothing job drawing strokes reaches sink sink' (Err fault) =
+    × TellsOf drawing job.pens shapes outcome
+WritesShapes choice smoothing job drawing shapes reaches sink sink' (Err fault) =
     (cause : PictureFault) × (fault ≡ of_picture cause)
-    × HasPainted (times_on choice drawing.page job smoothing) (on_page choice drawing.page job) reaches strokes sink sink'
+    × HasPainted (times_on choice drawing.page job smoothing) (on_page choice drawing.page job) reaches shapes sink sink'
     (Err cause)
 
 -- the same of a PNG, whose bytes are not counted
-abbrev pub WritesPng : PageChoice → PngJob → Drawing → List Segment → Reach → SinkState → SinkState → Result Outcome Fault →
+abbrev pub WritesPng : PageChoice → PngJob → Drawing → ShapeList → Reach → SinkState → SinkState → Result Outcome Fault →
     Type 0
-WritesPng choice job drawing strokes reaches sink sink' (Ok outcome) =
-    HasPaintedPng (picture_shown (png_on_page choice drawing.page job) reaches strokes) sink sink' (Ok outcome)
+WritesPng choice job drawing shapes reaches sink sink' (Ok outcome) =
+    HasPaintedPng (picture_shown (png_on_page choice drawing.page job) reaches shapes) sink sink' (Ok outcome)
     × (outcome.done.rows ≡ png_rows_on choice drawing.page job)
     × (outcome.done.bytes ≡ 0)
-    × TellsOf drawing job.pens strokes outcome
-WritesPng choice job drawing strokes reaches sink sink' (Err fault) =
+    × TellsOf drawing job.pens shapes outcome
+WritesPng choice job drawing shapes reaches sink sink' (Err fault) =
     (cause : PictureFault) × (fault ≡ of_picture cause)
-    × HasPaintedPng {U = Outcome} (picture_shown (png_on_page choice drawing.page job) reaches strokes) sink sink' (Err cause)
+    × HasPaintedPng {U = Outcome} (picture_shown (png_on_page choice drawing.page job) reaches shapes) sink sink' (Err cause)

@@ -1,6 +1,8 @@
 -- Vector documents of plots: what is written for a drawing.
 use Rattle.std.specs.Prelude.{◌≡◌, ◌↔◌, Bool, ℕ, ◌+◌, min, nat_eq, nat_le, nat_lt, true, false, if◌then◌else◌, List, [], ◌∷◌, length, Result, Ok, Err, IfOk, ⊤}
 use Rattle.std.specs.Io.KnownBytes.{Appends}
+use Rattle.areas.specs.Shapes.{ShapeList}
+use Rattle.areas.specs.declared.area.Area.{Area}
 use Rattle.plot_page.specs.Segments.{Segment}
 use Rattle.plot_page.specs.declared.page.Page.{Page}
 use Rattle.plot_page.specs.declared.pens.PenSet.{PenSet}
@@ -9,12 +11,12 @@ use Rattle.picture_job.specs.declared.vector_job.VectorFormat.TheVariants.{Pdf, 
 use Rattle.picture_job.specs.declared.vector_job.VectorJob.{VectorJob}
 use Rattle.labels.specs.Labels.{LabelShape}
 use Rattle.devices.specs.Sinks.{SinkState}
-use Rattle.pdf.specs.Documents.{AreStreams, pdf_bytes, pens_drawn, rows_shown, sheet_labels, sheets}
+use Rattle.pdf.specs.Documents.{AreStreams, page_areas, pdf_bytes, pens_drawn, rows_shown, sheet_labels, sheets}
 use Rattle.pdf.specs.Texts.{letter_count}
 use Rattle.pdf.specs.declared.counts.TheConstants.{MOST_LETTERS}
 use Rattle.svg.specs.Documents.{sheets_bytes, svg_bytes}
 use Rattle.conversion.specs.Rules.{ends_of}
-use Rattle.conversion.specs.Sheets.{TellsOf, labels_on, strokes_on}
+use Rattle.conversion.specs.Sheets.{TellsOf, labels_on, shapes_on}
 use Rattle.conversion.specs.declared.fault.Fault.{Fault}
 use Rattle.conversion.specs.declared.fault.Fault.TheVariants.{Letters, Memory, Unfinished}
 use Rattle.conversion.specs.declared.naming.Naming.{Naming}
@@ -37,23 +39,25 @@ ends_after count at (end ∷ ends) =
 abbrev pub page_ends : ℕ → List ℕ → List ℕ
 page_ends count ends = if nat_eq count 0 then 0 ∷ [] else ends_after count 0 ends
 
--- the SVG of strokes and labels among which sheets end there: with a group for each sheet, if one ends
-abbrev pub svg_of : Page → PenSet → List Segment → List ℕ → List LabelShape → List ℕ
-svg_of page pens strokes ends labels =
-    if nat_eq (length ends) 0 then svg_bytes page pens strokes labels else sheets_bytes page pens strokes ends labels
+-- the SVG of strokes, areas and labels among which sheets end there: with a group for each sheet, if one ends
+abbrev pub svg_of : Page → PenSet → List Segment → List Area → List ℕ → List LabelShape → List ℕ
+svg_of page pens strokes areas ends labels =
+    if nat_eq (length ends) 0 then svg_bytes page pens strokes areas labels else
+    sheets_bytes page pens strokes areas ends labels
 
 -- a PDF of the same, with a page for each sheet
-abbrev pub IsPdf : Naming → Page → PenSet → List Segment → List ℕ → List LabelShape → List ℕ → Type 0
-IsPdf naming page pens strokes ends labels document =
+abbrev pub IsPdf : Naming → Page → PenSet → List Segment → List Area → List ℕ → List LabelShape → List ℕ → Type 0
+IsPdf naming page pens strokes areas ends labels document =
     let pages = page_ends (length strokes) ends in
-    (streams : List (List ℕ)) × AreStreams page pens (sheets strokes 0 pages) (sheet_labels labels 0 pages) streams
+    (streams : List (List ℕ))
+    × AreStreams page pens (sheets strokes 0 pages) (page_areas areas 0 pages) (sheet_labels labels 0 pages) streams
     × (document ≡ pdf_bytes naming.version.now (title_kept naming.title.now) page (pens_drawn pens strokes)
     (rows_shown pens strokes labels) pages streams)
 
--- a document of the same in a format
-abbrev pub IsVector : VectorFormat → Naming → Page → PenSet → List Segment → List ℕ → List LabelShape → List ℕ → Type 0
-IsVector Svg naming page pens strokes ends labels document = document ≡ svg_of page pens strokes ends labels
-IsVector Pdf naming page pens strokes ends labels document = IsPdf naming page pens strokes ends labels document
+-- a document of shapes and labels in a format
+abbrev pub IsVector : VectorFormat → Naming → Page → PenSet → ShapeList → List ℕ → List LabelShape → List ℕ → Type 0
+IsVector Svg naming page pens shapes ends labels document = document ≡ svg_of page pens shapes.strokes shapes.areas ends labels
+IsVector Pdf naming page pens shapes ends labels document = IsPdf naming page pens shapes.strokes shapes.areas ends labels document
 
 -- the fault that says so
 abbrev pub is_letters : Fault → Bool
@@ -78,9 +82,9 @@ PutsVector IsIt sink sink' (Err _) = ⊥
 -- no rows, and its bytes are not counted
 pub record WritesVector (job : VectorJob) (naming : Naming) (drawing : Drawing) (sheet : ℕ) (sink sink' : SinkState)
     (answer : Result Outcome Fault) : Type 0 where
-  pub puts : PutsVector (IsVector job.format naming drawing.page job.pens (strokes_on drawing sheet)
+  pub puts : PutsVector (IsVector job.format naming drawing.page job.pens (shapes_on drawing sheet)
       (ends_of sheet drawing.lines.ends.items) (labels_on drawing sheet)) sink sink' answer
   pub letters : (answer ≡ Err Letters) ↔ (has_too_many_letters job.format (labels_on drawing sheet) ≡ true)
   pub rows : IfOk answer (λ outcome. outcome.done.rows ≡ 0)
   pub bytes : IfOk answer (λ outcome. outcome.done.bytes ≡ 0)
-  pub tells : IfOk answer (TellsOf drawing job.pens (strokes_on drawing sheet))
+  pub tells : IfOk answer (TellsOf drawing job.pens (shapes_on drawing sheet))

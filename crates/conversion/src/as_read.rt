@@ -8,7 +8,7 @@ ghost use Rattle.picture_job.specs.declared.reading.Reading.TheVariants.{Core, F
 use crate::lines::Lines;
 use carousel::Carousel;
 use character_sets::Encoding;
-use full_plot::{draw_full_with, keep_labels_of, keep_sheet};
+use full_plot::{draw_full_with, keep_areas_of, keep_labels_of, keep_sheet};
 use hpgl_plot::{PlotFault, draw_plot_with};
 use picture_job::Reading;
 use plot_page::Page;
@@ -27,6 +27,7 @@ pub fn draw_as(
 ) -> Result<Lines, PlotFault>
     ensures accepted { OnOk result ((rules_with reading carousel.now).refusal page.now text.now ≡ None) }
     ensures strokes { IfOk result (λ drawn. drawn.strokes.items ≡ (rules_with reading carousel.now).strokes page.now text.now) }
+    ensures areas { IfOk result (λ drawn. drawn.areas.items ≡ (rules_with reading carousel.now).areas page.now text.now) }
     ensures notes { IfOk result (λ drawn. drawn.notes ≡ (rules_with reading carousel.now).notes text.now) }
     ensures sheets { IfOk result (λ drawn. drawn.sheets ≡ (rules_with reading carousel.now).sheets page.now text.now) }
     ensures ends { IfOk result (λ drawn. drawn.ends.items ≡ (rules_with reading carousel.now).ends page.now text.now) }
@@ -52,6 +53,7 @@ fn draw_core(
 ) -> Result<Lines, PlotFault>
     ensures accepted { OnOk result ((rules_with Core carousel.now).refusal page.now text.now ≡ None) }
     ensures strokes { IfOk result (λ drawn. drawn.strokes.items ≡ (rules_with Core carousel.now).strokes page.now text.now) }
+    ensures areas { IfOk result (λ drawn. drawn.areas.items ≡ []) }
     ensures notes { IfOk result (λ drawn. drawn.notes ≡ (rules_with Core carousel.now).notes text.now) }
     ensures sheets { IfOk result (λ drawn. drawn.sheets ≡ 0) }
     ensures ends { IfOk result (λ drawn. drawn.ends.items ≡ []) }
@@ -62,6 +64,7 @@ fn draw_core(
     let drawn = draw_plot_with(alloc, text, page, carousel)?;
     Ok(Lines {
         strokes: drawn.strokes,
+        areas: Vec::new(alloc),
         notes: drawn.notes,
         sheets: 0,
         ends: Vec::new(alloc),
@@ -82,6 +85,7 @@ fn draw_sheet(
 ) -> Result<Lines, PlotFault>
     ensures accepted { OnOk result ((rules_with (Full sheet encoding) carousel.now).refusal page.now text.now ≡ None) }
     ensures strokes { IfOk result (λ drawn. drawn.strokes.items ≡ (rules_with (Full sheet encoding) carousel.now).strokes page.now text.now) }
+    ensures areas { IfOk result (λ drawn. drawn.areas.items ≡ (rules_with (Full sheet encoding) carousel.now).areas page.now text.now) }
     ensures notes { IfOk result (λ drawn. drawn.notes ≡ (rules_with (Full sheet encoding) carousel.now).notes text.now) }
     ensures sheets { IfOk result (λ drawn. drawn.sheets ≡ (rules_with (Full sheet encoding) carousel.now).sheets page.now text.now) }
     ensures ends { IfOk result (λ drawn. drawn.ends.items ≡ (rules_with (Full sheet encoding) carousel.now).ends page.now text.now) }
@@ -91,17 +95,16 @@ fn draw_sheet(
 {
     let mut drawn = draw_full_with(alloc, encoding, text, page, carousel, keeps_labels)?;
     let sheets = drawn.sheets();
+    let count = drawn.strokes.len();
+    let mut areas = drawn.areas;
+    keep_areas_of(&mut areas, drawn.ends.as_slice(), count, sheet);
     if keeps_labels {
-        keep_labels_of(
-            &mut drawn.labels,
-            drawn.ends.as_slice(),
-            drawn.strokes.len(),
-            sheet,
-        );
+        keep_labels_of(&mut drawn.labels, drawn.ends.as_slice(), count, sheet);
     }
     keep_sheet(&mut drawn.strokes, drawn.ends.as_slice(), sheet);
     Ok(Lines {
         strokes: drawn.strokes,
+        areas,
         notes: drawn.notes,
         sheets,
         ends: kept_ends(alloc, drawn.ends, sheet),

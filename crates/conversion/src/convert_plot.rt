@@ -11,7 +11,7 @@ use crate::fault::Fault;
 use crate::naming::Naming;
 use crate::request::Request;
 use crate::setup::Setup;
-use crate::sheet::write_strokes;
+use crate::sheet::write_shapes;
 use crate::shown::Shown;
 use carousel::Carousel;
 use devices::{Sink, Source};
@@ -85,10 +85,10 @@ pub(crate) fn convert_given<G: Gauge, S: Source, K: Sink>(
     let drawing = draw(alloc, &request, source)?;
     let shown = Shown {
         drawing: &drawing,
-        strokes: drawing.lines.strokes.as_slice(),
+        shapes: drawing.shapes_on(0),
         choice: PageChoice::GIVEN,
     };
-    match write_strokes(
+    match write_shapes(
         alloc,
         shown,
         job,

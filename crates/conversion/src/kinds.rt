@@ -6,13 +6,12 @@ ghost use Rattle.conversion.specs.Kinds.{IsToldOfPicture, WritesSheet, has_label
 use crate::fault::Fault;
 use crate::outcome::Outcome;
 use crate::place::Drawing;
-use crate::png_sheet::write_png_strokes;
+use crate::png_sheet::write_png_shapes;
 use crate::request::Request;
-use crate::sheet::write_strokes;
+use crate::sheet::write_shapes;
 use crate::shown::Shown;
 use crate::vector_sheet::write_vector_sheet;
 use devices::Sink;
-use full_plot::sheet_of;
 use picture_job::Picture;
 use plot_page::{Page, PenSet};
 use rows::Watcher;
@@ -21,7 +20,8 @@ use stroke_raster::Gauge;
 
 /// Writes the picture that is asked for of a sheet of a drawing, which counts from 1, or of all that is drawn for 0, on the page where the
 /// drawing lies, and gives the sink back. The picture's page is not used. A pixel shows the pen and the colour of the last
-/// stroke of the selected pens that the gauge says reaches it; a vector document is named so.
+/// shape of the selected pens that reaches it: a stroke, as the gauge says, or an area that has it inside, or an edge of which
+/// reaches it. A vector document is named so.
 ///
 /// A picture in a form has its head if its first row is 0, its rows from the first row on, and its foot. Each pixel of a
 /// smoothed PPM is the mean of n by n pixels of a picture that is n times finer. Marks, PBM and PCL have no shades, and are
@@ -33,12 +33,13 @@ use stroke_raster::Gauge;
 /// first comes; a picture of more than 256 colours has no palette. A smoothed picture is grey if its strokes are; else its
 /// palette is white and each further colour of its pixels, if they are at most 256.
 ///
-/// A vector document has the strokes of the picture's pens as they are, by which it can be printed and enlarged at will. Of all
-/// that is drawn an SVG has a group for each sheet, one above another, if sheets end, and a PDF a page for each. The drawing
-/// has the labels of the plot, if they were kept.
+/// A vector document has the strokes and areas of the picture's pens as they are, by which it can be printed and enlarged at
+/// will. Of all that is drawn an SVG has a group for each sheet, one above another, if sheets end, and a PDF a page for each.
+/// The drawing has the labels of the plot, if they were kept.
 ///
-/// The gauge makes at most as many tests as the boxes of the strokes have pixels, whatever the band height. The watcher is
-/// told after each band of rows how many are written, and nothing of a vector document; a picture without rows has no bands.
+/// The gauge makes at most as many tests as the boxes of the strokes and edges have pixels, whatever the band height. The
+/// watcher is told after each band of rows how many are written, and nothing of a vector document; a picture without rows has
+/// no bands.
 ///
 /// Errors, in this order: `Paint` for a band height or a first row out of range; `Letters` if the labels have more letters than
 /// the format of a document takes; if the sink fails, `Write`, or `Unfinished` for a PNG or a document, and what it has taken
@@ -63,20 +64,19 @@ pub fn write<G: Gauge, K: Sink, W: Watcher>(
         watcher.old watcher.new result.1 }
     ensures untouched { IfErr result.1 (λ fault. is_write fault ≡ false → result.0 ≡ sink) }
 {
-    let lines = &drawing.lines;
     let shown = Shown {
         drawing,
-        strokes: sheet_of(lines.strokes.as_slice(), lines.ends.as_slice(), sheet),
+        shapes: drawing.shapes_on(sheet),
         choice: request.setup.choice,
     };
     let mut sink = sink;
     let picture = request.picture;
     match picture {
         Picture::Rows { job, smoothing } => {
-            let outcome = write_strokes(alloc, shown, job, *smoothing, gauge, &mut sink, watcher);
+            let outcome = write_shapes(alloc, shown, job, *smoothing, gauge, &mut sink, watcher);
             (sink, outcome)
         }
-        Picture::Png(job) => write_png_strokes(alloc, shown, job, gauge, sink, watcher),
+        Picture::Png(job) => write_png_shapes(alloc, shown, job, gauge, sink, watcher),
         Picture::Vector(job) => {
             let outcome = write_vector_sheet(alloc, drawing, sheet, job, request.naming, &mut sink);
             (sink, outcome)

@@ -12,7 +12,7 @@ pub struct Outcome {
     pub placement: Placement,
     /// How many sheets of the plot have strokes in the profile full; in core this is not counted, and 0.
     pub sheets: usize,
-    /// How many strokes the selected pens draw, or in a report all pens, and how many of these lie off the
+    /// How many strokes and edges of areas the selected pens draw, or in a report all pens, and how many of these lie off the
     /// page.
     pub census: Census,
 }

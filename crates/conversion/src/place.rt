@@ -1,20 +1,25 @@
 //! Drawing a plot on its page, and moving its strokes to the page that the picture shows.
-ghost use Rattle.std.specs.Prelude.{◌≡◌, ℕ, List, true, false, IfOk, IfErr, IfSome, IfNone};
+ghost use Rattle.std.specs.Prelude.{◌≡◌, ◌≤◌, ℕ, List, length, true, false, IfOk, IfErr, IfSome, IfNone};
+ghost use Rattle.areas.specs.Views.{shapes_in};
 ghost use Rattle.carousel.specs.declared.carousel.Carousel.{Carousel};
 ghost use Rattle.plot_size.specs.Sizes.{sides_asked};
 ghost use Rattle.page_fit.specs.Around.{corner_around};
 ghost use Rattle.page_fit.specs.Extents.{IsNear};
 ghost use Rattle.page_fit.specs.Moves.{IsCornerNear, are_movable};
+ghost use Rattle.plot_page.specs.declared.stroke.TheConstants.{MOST_STROKES};
 ghost use Rattle.plot_report.specs.Report.{report_page};
 ghost use Rattle.conversion.specs.Drawings.{AreLinesOf, AreMoved, IsReasonOnFirst, place_of};
 ghost use Rattle.conversion.specs.Placements.{IsAsked, IsDrawnOn, IsFitted, IsPlaced};
 ghost use Rattle.conversion.specs.Placements.{page_reported, place_on, placed_rules, reported_at};
 ghost use Rattle.conversion.specs.Rules.{rules_in, rules_with};
+ghost use Rattle.conversion.specs.Sheets.{shapes_on};
 
 use crate::as_read::draw_as;
 use crate::lines::Lines;
 use crate::placement::Placement;
 use crate::setup::Setup;
+use areas::Shapes;
+use full_plot::{areas_on, sheet_of};
 use hpgl_plot::PlotFault;
 use hpgl_text::Profile;
 use labels::move_labels;
@@ -51,6 +56,20 @@ impl Drawing {
         ensures { result ≡ self.now.lines.sheets }
     {
         self.lines.sheets
+    }
+
+    /// The shapes of a sheet, which counts from 1, or all that are drawn for 0.
+    pub(crate) fn shapes_on(&self, sheet: u32) -> Shapes<'_>
+        ensures shapes { shapes_in result ≡ shapes_on self.now sheet }
+        ensures few { length result.strokes.now ≤ MOST_STROKES }
+    {
+        let strokes = self.lines.strokes.as_slice();
+        let ends = self.lines.ends.as_slice();
+        let areas = self.lines.areas.as_slice();
+        Shapes {
+            strokes: sheet_of(strokes, ends, sheet),
+            areas: areas_on(areas, ends, strokes.len(), sheet),
+        }
     }
 }
 
@@ -138,11 +157,12 @@ fn unmoved(placement: Placement, page: Page, lines: Lines) -> Drawing
 // A picture that shows the page around these lines, which a plot draws on a page, if there is one.
 fn fitted(margin: u32, pens: PenSet, page: Page, lines: Lines) -> Drawing
     ensures drawn_on { result.drawn_on ≡ page }
-    ensures fitted { IsFitted pens margin page lines.strokes.items result.placement result.corner result.page }
+    ensures fitted { IsFitted pens margin page (record { strokes = lines.strokes.items; areas = lines.areas.items })
+        result.placement result.corner result.page }
     ensures named { result.named ≡ page_reported (place_of result) }
     ensures lines { AreMoved pens lines (place_of result) result.lines }
 {
-    let Some(extent) = extent_of(lines.strokes.as_slice(), pens, &page) else {
+    let Some(extent) = extent_of(lines.shapes(), pens, &page) else {
         return unmoved(Placement::Blank, page, lines);
     };
     let Some(corner) = corner_of(margin, pens, extent, lines.strokes.as_slice()) else {

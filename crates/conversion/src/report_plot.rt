@@ -1,6 +1,7 @@
 //! The report: a plot is read, drawn and described.
 ghost use Rattle.std.specs.Prelude.{◌≡◌, ◌-◌, ◌+◌, ◌^◌, ◌<◌, ◌≤◌, IfOk, IfErr, false, length};
 ghost use Rattle.std.specs.Io.KnownBytes.{IsAtEnd};
+ghost use Rattle.areas.specs.Views.{shapes_in};
 ghost use Rattle.plot_page.specs.declared.stroke.TheConstants.{MOST_STROKES};
 ghost use Rattle.hpgl_text.specs.declared.program.TheConstants.{LONGEST_PLOT};
 ghost use Rattle.devices.specs.Sinks.{Writes};
@@ -15,12 +16,13 @@ use crate::outcome::Outcome;
 use crate::place::Drawing;
 use crate::setup::Setup;
 use crate::sheet::outcome_of;
+use areas::Shapes;
 use carousel::Carousel;
 use devices::{Sink, Source, WriteFault};
 use full_notes::FullNotes;
 use hpgl_plot::Notes;
 use picture_job::{PageChoice, Reading};
-use plot_page::{Page, PenSet, Stroke};
+use plot_page::{Page, PenSet};
 use plot_report::{ReportPage, write_full_report, write_report};
 use std::alloc::Global;
 
@@ -58,7 +60,7 @@ pub fn report<S: Source, K: Sink>(
 
 /// Writes the report on the plot that the source gives, as `report` does, in either profile, on the page that is chosen: the
 /// page that is given, the page of the size that the plot asks for, or the page around what all pens draw on either. In the
-/// profile full it has a line for the number of sheets, and the strokes of the sheet that is read.
+/// profile full it has a line for the number of sheets, and the strokes and areas of the sheet that is read.
 ///
 /// Errors: those of `report`, in the same order. The plot is refused for the page that it asks for, if that is
 /// chosen and it asks for one, else for the page that is given.
@@ -103,16 +105,16 @@ fn report_drawing<K: Sink>(
     ensures writes { WritesReport reading pens drawing.now plot.now (K.state sink.old) (K.state sink.new) result }
     ensures untouched { IfErr result (λ fault. is_write fault ≡ false → sink.new ≡ sink.old) }
 {
-    let strokes = drawing.lines.strokes.as_slice();
+    let shapes = drawing.shapes_on(0);
     match write_as(
         reading,
         drawing.named,
-        strokes,
+        shapes,
         drawing.lines.sheets,
         plot,
         sink,
     ) {
-        Ok(bytes) => Ok(outcome_of(drawing, pens, strokes, 0, bytes)),
+        Ok(bytes) => Ok(outcome_of(drawing, pens, shapes, 0, bytes)),
         Err(fault) => Err(Fault::Write {
             row: 0,
             whole: 0,
@@ -121,26 +123,26 @@ fn report_drawing<K: Sink>(
     }
 }
 
-// Writes the report on a plot that is read so, by its strokes and sheets.
+// Writes the report on a plot that is read so, by its shapes and sheets.
 fn write_as<K: Sink>(
     reading: Reading,
     page: ReportPage,
-    strokes: &[Stroke],
+    shapes: Shapes<'_>,
     sheets: usize,
     plot: &[u8],
     sink: &mut K,
 ) -> Result<u64, WriteFault>
     requires sinking { (K.state sink.old).faults < 2 ^ 64 - 1 }
-    requires strokes { length strokes.now ≤ MOST_STROKES }
+    requires strokes { length shapes.strokes.now ≤ MOST_STROKES }
     requires plot { length plot.now ≤ LONGEST_PLOT }
     ensures writes { Writes (K.state sink.old) (K.state sink.new)
-        (report_on reading page strokes.now sheets plot.now) result }
-    ensures count { IfOk result (λ n. n ≡ length (report_on reading page strokes.now sheets plot.now)) }
+        (report_on reading page (shapes_in shapes.entry) sheets plot.now) result }
+    ensures count { IfOk result (λ n. n ≡ length (report_on reading page (shapes_in shapes.entry) sheets plot.now)) }
 {
     match reading {
-        Reading::Core => write_report(page, strokes, Notes::new(plot), sink),
+        Reading::Core => write_report(page, shapes.strokes, Notes::new(plot), sink),
         Reading::Full { .. } => {
-            write_full_report(page, sheets, strokes, FullNotes::new(plot), sink)
+            write_full_report(page, sheets, shapes, FullNotes::new(plot), sink)
         }
     }
 }

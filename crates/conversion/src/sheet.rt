@@ -1,9 +1,10 @@
-//! The picture in a form of strokes of a drawing.
+//! The picture in a form of shapes of a drawing.
 ghost use Rattle.std.specs.Prelude.{◌≡◌, ◌+◌, ◌-◌, ◌^◌, ◌<◌, ◌≤◌, IfErr, true, false};
+ghost use Rattle.areas.specs.Views.{shapes_in};
 ghost use Rattle.rows.specs.Boxes.{strokes_boxes};
 ghost use Rattle.conversion.specs.PageJobs.{is_possible_in, on_page, rows_on, times_on};
 ghost use Rattle.conversion.specs.Conversions.{is_write};
-ghost use Rattle.conversion.specs.Sheets.{TellsOf, WritesStrokes};
+ghost use Rattle.conversion.specs.Sheets.{TellsOf, WritesShapes};
 ghost use Rattle.rows.specs.Watching.{IsTold};
 
 use crate::done::Done;
@@ -12,18 +13,19 @@ use crate::outcome::Outcome;
 use crate::page_job::{on_page, smoothing_on};
 use crate::place::Drawing;
 use crate::shown::Shown;
+use areas::Shapes;
 use devices::Sink;
 use page_fit::census_of;
 use picture_job::{Job, Smoothing};
-use plot_page::{PenSet, Stroke};
+use plot_page::PenSet;
 use rows::{Watcher, paint};
 use std::alloc::Global;
 use stroke_raster::Gauge;
 
-/// Writes the picture in a form, which is possible, of these strokes of a drawing, on the page where the drawing lies. The job's
+/// Writes the picture in a form, which is possible, of these shapes of a drawing, on the page where the drawing lies. The job's
 /// page is not used. The errors are those of `write`, but for `Resolution`.
 #[tactic(auto, using(rows::proofs::Watched::not_told))]
-pub(crate) fn write_strokes<G: Gauge, K: Sink, W: Watcher>(
+pub(crate) fn write_shapes<G: Gauge, K: Sink, W: Watcher>(
     alloc: Global,
     shown: Shown<'_>,
     job: &Job,
@@ -34,11 +36,11 @@ pub(crate) fn write_strokes<G: Gauge, K: Sink, W: Watcher>(
 ) -> Result<Outcome, Fault>
     requires possible { is_possible_in shown.choice.pixels smoothing.times job.now ≡ true }
     requires sinking { (K.state sink.old).faults < 2 ^ 64 - 1 }
-    ensures writes { WritesStrokes shown.entry.choice smoothing job.now shown.entry.drawing.now shown.entry.strokes.now
+    ensures writes { WritesShapes shown.entry.choice smoothing job.now shown.entry.drawing.now (shapes_in shown.entry.shapes)
         (G.reaches gauge.old) (K.state sink.old) (K.state sink.new) result }
     ensures tests { G.count gauge.new ≤ G.count gauge.old
         + strokes_boxes (times_on shown.entry.choice shown.entry.drawing.now.page job.now smoothing)
-        (on_page shown.entry.choice shown.entry.drawing.now.page job.now) shown.entry.strokes.now }
+        (on_page shown.entry.choice shown.entry.drawing.now.page job.now) shown.entry.shapes.strokes.now }
     ensures same { G.reaches gauge.new ≡ G.reaches gauge.old }
     ensures told { IsTold is_write W.hears (rows_on shown.entry.choice shown.entry.drawing.now.page job.now)
         watcher.old watcher.new result }
@@ -47,35 +49,36 @@ pub(crate) fn write_strokes<G: Gauge, K: Sink, W: Watcher>(
     let page = shown.drawing.page;
     let times = smoothing_on(shown.choice, page, job, smoothing);
     let job = on_page(shown.choice, page, job);
-    let bytes = match paint(alloc, &job, times, shown.strokes, gauge, sink, watcher) {
+    let bytes = match paint(alloc, &job, times, shown.shapes, gauge, sink, watcher) {
         Ok(bytes) => bytes,
         Err(fault) => return Err(Fault::from(fault)),
     };
     let rows = job.dots.rows(&page) - job.first_row;
-    Ok(outcome_of(shown.drawing, job.pens, shown.strokes, rows, bytes))
+    Ok(outcome_of(shown.drawing, job.pens, shown.shapes, rows, bytes))
 }
 
-/// What is told of a picture of strokes of a drawing, of which so many rows and bytes were written.
+/// What is told of a picture of shapes of a drawing, of which so many rows and bytes were written.
 pub(crate) fn outcome_of(
     drawing: &Drawing,
     pens: PenSet,
-    strokes: &[Stroke],
+    shapes: Shapes<'_>,
     rows: u32,
     bytes: u64,
 ) -> Outcome
     ensures rows { result.done.rows ≡ rows }
     ensures bytes { result.done.bytes ≡ bytes }
-    ensures tells { TellsOf drawing.now pens strokes.now result }
+    ensures tells { TellsOf drawing.now pens (shapes_in shapes.entry) result }
 {
     Outcome {
         done: Done {
             rows,
             bytes,
-            strokes: strokes.len(),
+            strokes: shapes.stroke_count(),
+            areas: shapes.areas.count(),
             notes: drawing.lines.notes,
         },
         placement: drawing.placement,
         sheets: drawing.lines.sheets,
-        census: census_of(strokes, pens, &drawing.page),
+        census: census_of(shapes, pens, &drawing.page),
     }
 }

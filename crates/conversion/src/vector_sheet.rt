@@ -1,5 +1,6 @@
 //! The vector document of a drawing: of all that is drawn, or of one sheet.
 ghost use Rattle.std.specs.Prelude.{◌≡◌, ◌-◌, ◌^◌, ◌<◌, ◌≤◌, ◌↔◌, Err, IfErr, false, true, length};
+ghost use Rattle.areas.specs.Views.{areas_in};
 ghost use Rattle.labels.specs.Sheets.{all_counted};
 ghost use Rattle.pdf.specs.Texts.{letter_count};
 ghost use Rattle.pdf.specs.declared.counts.TheConstants.{MOST_LETTERS};
@@ -17,7 +18,7 @@ use crate::place::Drawing;
 use crate::sheet::outcome_of;
 use deflate::TextEncoder;
 use devices::Sink;
-use full_plot::{labels_on, sheet_of};
+use full_plot::labels_on;
 use pdf::{has_few_letters, room_for, write_pdf};
 use picture_job::{VectorFormat, VectorJob};
 use std::alloc::Global;
@@ -44,7 +45,7 @@ pub fn write_vector_sheet<K: Sink>(
 {
     let lines = &drawing.lines;
     let all = lines.strokes.as_slice();
-    let strokes = sheet_of(all, lines.ends.as_slice(), sheet);
+    let shapes = drawing.shapes_on(sheet);
     let ends = ends_in(lines, sheet);
     let (labels, before) = labels_on(
         lines.labels.as_slice(),
@@ -55,7 +56,8 @@ pub fn write_vector_sheet<K: Sink>(
     let view = SheetView {
         page: &drawing.page,
         pens: &job.pens,
-        strokes,
+        strokes: shapes.strokes,
+        areas: shapes.areas,
         labels,
         before,
     };
@@ -63,7 +65,7 @@ pub fn write_vector_sheet<K: Sink>(
         VectorFormat::Svg => put_svg(alloc, &view, ends, sink)?,
         VectorFormat::Pdf => put_pdf(alloc, naming, &view, ends, sink)?,
     }
-    Ok(outcome_of(drawing, job.pens, strokes, 0, 0))
+    Ok(outcome_of(drawing, job.pens, shapes, 0, 0))
 }
 
 // Where sheets end in what is drawn of a sheet: nowhere, unless it is all.
@@ -86,8 +88,8 @@ fn put_svg<K: Sink>(
 ) -> Result<(), Fault>
     requires few { length view.now.strokes.now ≤ MOST_STROKES }
     requires sinking { (K.state sink.old).faults < 2 ^ 64 - 1 }
-    ensures puts { PutsVector (λ document. document ≡ svg_of view.now.page.now view.now.pens.now view.now.strokes.now ends.now
-        (all_counted view.now.before view.now.labels.now))
+    ensures puts { PutsVector (λ document. document ≡ svg_of view.now.page.now view.now.pens.now view.now.strokes.now
+        (areas_in view.now.areas) ends.now (all_counted view.now.before view.now.labels.now))
         (K.state sink.old) (K.state sink.new) result }
     ensures letters { IfErr result (λ fault. is_letters fault ≡ false) }
     ensures untouched { IfErr result (λ fault. is_write fault ≡ false → sink.new ≡ sink.old) }
@@ -114,8 +116,8 @@ fn put_pdf<K: Sink>(
 ) -> Result<(), Fault>
     requires few { length view.now.strokes.now ≤ MOST_STROKES }
     requires sinking { (K.state sink.old).faults < 2 ^ 64 - 1 }
-    ensures puts { PutsVector (IsPdf naming.entry view.now.page.now view.now.pens.now view.now.strokes.now ends.now
-        (all_counted view.now.before view.now.labels.now))
+    ensures puts { PutsVector (IsPdf naming.entry view.now.page.now view.now.pens.now view.now.strokes.now
+        (areas_in view.now.areas) ends.now (all_counted view.now.before view.now.labels.now))
         (K.state sink.old) (K.state sink.new) result }
     ensures letters { (result ≡ Err Fault.Letters)
         ↔ (has_too_many_letters VectorFormat.Pdf (all_counted view.now.before view.now.labels.now) ≡ true) }
@@ -138,8 +140,8 @@ fn put_fitting_pdf<K: Sink>(
     requires few { length view.now.strokes.now ≤ MOST_STROKES }
     requires texts { letter_count view.now.labels.now ≤ MOST_LETTERS }
     requires sinking { (K.state sink.old).faults < 2 ^ 64 - 1 }
-    ensures puts { PutsVector (IsPdf naming.entry view.now.page.now view.now.pens.now view.now.strokes.now ends.now
-        (all_counted view.now.before view.now.labels.now))
+    ensures puts { PutsVector (IsPdf naming.entry view.now.page.now view.now.pens.now view.now.strokes.now
+        (areas_in view.now.areas) ends.now (all_counted view.now.before view.now.labels.now))
         (K.state sink.old) (K.state sink.new) result }
     ensures letters { IfErr result (λ fault. is_letters fault ≡ false) }
     ensures untouched { IfErr result (λ fault. is_write fault ≡ false → sink.new ≡ sink.old) }

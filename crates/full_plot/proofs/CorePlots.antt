@@ -45,7 +45,7 @@ use Rattle.full_settings.specs.declared.letter_setting.LetterSetting.TheVariants
 use Rattle.full_plot.specs.Items.{as_core, letters_steps, more_steps, params_steps, full_steps, taken}
 use Rattle.full_plot.specs.Worlds.{FullWorld, full_followed, with_core}
 use Rattle.full_plot.specs.Machine.{FullStep, Core, Letter, Restart, Restyle, Rewiden, restarted, restyled, rewidened, run, widths_in, with_widths}
-use Rattle.full_plot.specs.Drawings.{full_at_start, full_at_start_with, full_ended, is_too_much, full_runs, refusal_in, strokes_in, ends_in}
+use Rattle.full_plot.specs.Drawings.{full_at_start, full_at_start_with, full_ended, is_too_much, full_runs, refusal_in, strokes_in, ends_in, areas_of}
 use Rattle.full_plot.specs.Laws.{core_part, is_core_body, IsCoreItem, Draws}
 use Rattle.full_notes.specs.Contexts.{Context, first_context, read_in}
 use Rattle.full_notes.specs.Notes.{context_after}
@@ -137,6 +137,7 @@ like_again d v q h = record {
   led = usual_led;
   no_extra = h.no_extra;
   no_ends = h.no_ends;
+  no_areas = h.no_areas;
   few = h.few;
   few_places = omega arith;
 }
@@ -159,6 +160,7 @@ with_letters d r v l q led h = record {
   led = led;
   no_extra = h.no_extra;
   no_ends = h.no_ends;
+  no_areas = h.no_areas;
   few = h.few;
   few_places = h.few_places;
 }
@@ -339,6 +341,7 @@ taken_as_is w b e h =
 record EndsLike (r : Result FullWorld PlotFault) (x : Result core.World PlotFault) : Type 0 where
   same : core_part r ≡ x
   one_sheet : ends_in r ≡ []
+  no_areas : areas_of r ≡ []
 
 not_too_much : (w : FullWorld) → Like w → is_too_much w ≡ w.core.full
 not_too_much w h =
@@ -350,18 +353,18 @@ not_too_much w h =
 
 judged : (full : Bool) (e : PlotFault) (r : Result FullWorld PlotFault) (x : Result core.World PlotFault) → EndsLike r x
     → EndsLike (if full then Err e else r) (if full then Err e else x)
-judged true e r x h = record { same = refl; one_sheet = refl }
+judged true e r x h = record { same = refl; one_sheet = refl; no_areas = refl }
 judged false e r x h = h
 
 next_item : (at : ℕ) (more : List ItemShape) (o : Option FullWorld) → LikeNow o
     → ((v : FullWorld) → Like v → EndsLike (full_runs v more) (core.runs v.core more))
     → EndsLike (full_ended o at (λ (v : FullWorld). full_runs v more)) (core.ended (core_of o) at (λ (c : core.World). core.runs c more))
-next_item at more None h go = record { same = refl; one_sheet = refl }
+next_item at more None h go = record { same = refl; one_sheet = refl; no_areas = refl }
 next_item at more (Some v) h go =
     rw (not_too_much v h) (judged v.core.full (fault.TooManyStrokes at) (full_runs v more) (core.runs v.core more) (go v h))
 
 items_run : (w : FullWorld) (items : List ItemShape) → All IsCoreItem items → Like w → EndsLike (full_runs w items) (core.runs w.core items)
-items_run w [] all h = record { same = refl; one_sheet = h.no_ends }
+items_run w [] all h = record { same = refl; one_sheet = h.no_ends; no_areas = h.no_areas }
 items_run w (i ∷ more) all h =
     let is_core : is_core_body i.body ≡ true = All-head IsCoreItem i more all in
     let one : IsCores (taken w i.body) (core.run w.core (steps_of i)) =
@@ -382,6 +385,7 @@ like_at_start encoding carousel page plain = record {
   led = usual_led;
   no_extra = refl;
   no_ends = refl;
+  no_areas = refl;
   few = omega arith;
   few_places = omega arith;
 }
@@ -410,7 +414,7 @@ draws_from page before w items is l all =
     let same : core_part r ≡ core.runs (world page before [] false) items = h.same ∙ ap (λ (c : core.World). core.runs c items) is in
     let t : Told page before [] items (core_part r) =
     subst (λ (x : Result core.World PlotFault). Told page before [] items x) (sym same) (told page before [] items (omega arith)) in
-    (refusal_told page before items r t, strokes_told page before items r t, h.one_sheet)
+    (refusal_told page before items r t, strokes_told page before items r t, h.one_sheet, h.no_areas)
 
 pub draws_as_in_core : (page : Page) (items : List ItemShape) → All IsCoreItem items
     → Draws (full_runs (full_at_start page) items) (refusal page items) (strokes page items)

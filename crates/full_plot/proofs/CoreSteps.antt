@@ -69,6 +69,7 @@ pub record IsLikeCore (d : Labelling) (w : FullWorld) : Type 0 where
   pub led : IsLed d w.writing.letters
   pub no_extra : w.extra ≡ 0
   pub no_ends : w.ends ≡ []
+  pub no_areas : w.areas ≡ []
   pub few : length w.core.kept ≤ 4194304
   pub few_places : w.buffer.places ≤ 4194304
 
@@ -199,6 +200,7 @@ like_next d w v h n = record {
   led = subst (λ (s : Writing). IsLed d s.letters) (sym n.writing_is) h.led;
   no_extra = n.extra_is ∙ h.no_extra;
   no_ends = n.ends_are ∙ h.no_ends;
+  no_areas = n.areas_are ∙ h.no_areas;
   few = n.few.1 h.few;
   few_places = n.few_places (outside w h.first) h.few_places;
 }

@@ -1,11 +1,15 @@
 -- What all steps leave alone: how items are read, that no more strokes are kept than a plot may have, and that the sheets
--- that have ended are parts of them, in order.
+-- that have ended and the areas are parts of them, in order, whose edges are alike.
 use Rattle.std.proofs.Common.{◌≡◌, ◌∙◌, ◌≤◌, ℕ, refl, subst, arith, Bool, true, false, List, [], ◌∷◌, length, Result, Ok, Err, Option, Some, None}
 use Rattle.std.specs.Prelude.{if◌then◌else◌, ⊤}
+use Rattle.std.specs.List.{All}
+use Rattle.areas.specs.Shapes.{AreApart, edges_of}
+use Rattle.areas.specs.declared.area.Area.{Area}
 use Rattle.carousel.specs.declared.carousel.Carousel.{Carousel}
 use Rattle.character_sets.specs.declared.encoding.Encoding.{Encoding}
 use Rattle.line_types.specs.declared.run.Run.{Run}
 use Rattle.plot_page.specs.Segments.{Segment}
+use Rattle.polygons.specs.declared.lines.Rule.{Rule}
 use Rattle.plot_page.specs.declared.page.Page.{Page}
 use Rattle.hpgl_text.specs.Cut.{cut_by}
 use Rattle.hpgl_text.specs.Shapes.{ItemShape, BodyShape}
@@ -16,46 +20,74 @@ use Rattle.hpgl_plot.specs.declared.state.State.{State}
 use Rattle.hpgl_plot.specs.Machine as core
 use Rattle.full_notes.specs.Contexts.{Context, read_in}
 use Rattle.full_notes.specs.Notes.{context_after}
-use Rattle.full_plot.specs.Drawings.{full_at_start_with, full_ended, is_too_much, full_runs, outcome_with, strokes_in, ends_in, CarriesOut}
+use Rattle.full_plot.specs.Drawings.{AreAlike, full_at_start_with, full_ended, is_too_much, full_runs, outcome_with, strokes_in, ends_in, CarriesOut}
+use Rattle.full_plot.specs.Fills.{with_area}
 use Rattle.full_plot.specs.Items.{full_steps, taken}
 use Rattle.full_plot.specs.Machine.{ends_with}
 use Rattle.full_plot.specs.Laws.{AreSheets, SheetsJoin}
 use Rattle.full_plot.specs.Worlds.{FullWorld}
+use Rattle.full_plot.proofs.AlikeEdges.{AreInked, GoesOn, HaveAlike, alike_added, alike_on, all_alike, on_kept, on_none, on_then, thin_look}
+use Rattle.full_plot.proofs.AreasInOrder.{AreUpTo, are_apart, are_within, up_to_added, up_to_more}
 use Rattle.full_plot.proofs.Changes.{In}
 use Rattle.full_plot.proofs.FullChanges.{Changes, run_holds}
 use Rattle.full_plot.proofs.JoinedSheets.{Ascend, are_sheets, ascend_on, ascend_with}
 use Rattle.full_plot.proofs.Nexts.{Grows, few_kept}
 
--- so many strokes are no more than a plot may have, and the ends of sheets ascend up to them
-abbrev InOrder : List ℕ → ℕ → Type 0
-InOrder ends count = (count ≤ 4194304) × Ascend 0 ends count
+-- these strokes are no more than a plot may have, the ends of sheets ascend up to them, as areas do, and the edges of an area are
+-- alike
+abbrev InOrder : List ℕ → List Area → List Segment → Type 0
+InOrder ends areas kept = (length kept ≤ 4194304) × Ascend 0 ends (length kept) × AreUpTo 0 areas (length kept) × HaveAlike kept areas
 
 abbrev IsInOrder : FullWorld → Type 0
-IsInOrder w = InOrder w.ends (length w.core.kept)
+IsInOrder w = InOrder w.ends w.areas w.core.kept
 
 -- a later world
 record IsLater (w v : FullWorld) : Type 0 where
   context_is : v.context ≡ w.context
   in_order : IsInOrder w → IsInOrder v
   grows : length w.core.kept ≤ length v.core.kept
+  goes_on : GoesOn w.core.kept v.core.kept
 
 later_then : (w v u : FullWorld) → IsLater w v → IsLater v u → IsLater w u
 later_then w v u h k = record {
   context_is = k.context_is ∙ h.context_is;
   in_order = λ order. k.in_order (h.in_order order);
   grows = omega (arith, h.grows, k.grows);
+  goes_on = on_then w.core.kept v.core.kept u.core.kept h.goes_on k.goes_on;
 }
 
 later_drawn : (w : FullWorld) (s : State) (ss : List Segment) (r : Option Run) → IsLater w (record w { core = core.with_strokes w.core s ss; run = r })
 later_drawn w s ss r =
     let g : Grows (length w.core.kept) (length (core.kept_with w.core.kept w.core.full ss)) = few_kept w.core.kept w.core.full ss in
-    record { context_is = refl; in_order = λ h. (g.1 h.0, ascend_on 0 w.ends _ _ g.0 h.1); grows = g.0 }
+    let on : GoesOn w.core.kept (core.kept_with w.core.kept w.core.full ss) = on_kept w.core.kept w.core.full ss in
+    record {
+      context_is = refl;
+      in_order = λ h. (g.1 h.0, ascend_on 0 w.ends _ _ g.0 h.1, up_to_more 0 w.areas _ _ g.0 h.2, alike_on _ _ w.areas on h.3);
+      grows = g.0;
+      goes_on = on;
+    }
 
-later_aside : (w v : FullWorld) → v.context ≡ w.context → v.core.kept ≡ w.core.kept → v.ends ≡ w.ends → IsLater w v
-later_aside w v c k e = record { context_is = c; in_order = λ h. rw (k, e) h; grows = rw k (omega arith) }
+later_aside : (w v : FullWorld) → v.context ≡ w.context → v.core.kept ≡ w.core.kept → v.ends ≡ w.ends → v.areas ≡ w.areas → IsLater w v
+later_aside w v c k e a = record { context_is = c; in_order = λ h. rw (k, e, a) h; grows = rw k (omega arith); goes_on = rw k (on_none w.core.kept) }
 
 later_ended : (w : FullWorld) → IsLater w (record w { ends = ends_with w.ends (length w.core.kept) })
-later_ended w = record { context_is = refl; in_order = λ h. (h.0, ascend_with w.ends (length w.core.kept) h.1); grows = omega arith }
+later_ended w = record { context_is = refl; in_order = λ h. (h.0, ascend_with w.ends (length w.core.kept) h.1, h.2, h.3); grows = omega arith; goes_on = on_none w.core.kept }
+
+later_area : (w v : FullWorld) (rule : Rule) → IsLater w v → v.areas ≡ w.areas → AreInked w.core.kept v.core.kept (thin_look w.core.state)
+    → IsLater w (with_area (length w.core.kept) rule v)
+later_area w v rule h a inked = record {
+  context_is = h.context_is;
+  in_order = λ order.
+      let after : IsInOrder v = h.in_order order in
+      let alike : HaveAlike w.core.kept v.areas = rw a order.3 in (
+        after.0,
+        after.1,
+        up_to_added 0 v.areas (length w.core.kept) (length v.core.kept) rule h.grows (rw a order.2),
+        alike_added w.core.kept v.core.kept v.areas rule (thin_look w.core.state) refl inked alike,
+      );
+  grows = h.grows;
+  goes_on = h.goes_on;
+}
 
 later_changes : Changes IsLater ⊤
 later_changes = record {
@@ -64,6 +96,7 @@ later_changes = record {
   drawn = λ w s ss r m. later_drawn w s ss r;
   aside = later_aside;
   ended = later_ended;
+  area = later_area;
 }
 
 -- an item leaves the context after it, no more strokes than a plot may have, and sheets in order
@@ -115,10 +148,30 @@ order_by_items [] w h = h
 order_by_items (i ∷ more) w h =
     order_ended w i.body (taken w i.body) i.at more (after_item w i.body) h (λ (v : FullWorld) (k : IsInOrder v). order_by_items more v k)
 
+-- a plot that is accepted
+in_order_at_end : (encoding : Encoding) (carousel : Carousel) (page : Page) (items : List ItemShape) (v : FullWorld)
+    → full_runs (full_at_start_with encoding carousel page) items ≡ Ok v → IsInOrder v
+in_order_at_end encoding carousel page items v e =
+    subst InOrderAfter e (order_by_items items (full_at_start_with encoding carousel page) (omega arith, omega arith, omega arith, tt))
+
 pub few_strokes : (encoding : Encoding) (carousel : Carousel) (page : Page) (items : List ItemShape) (v : FullWorld)
     → full_runs (full_at_start_with encoding carousel page) items ≡ Ok v → length v.core.kept ≤ 4194304
 few_strokes encoding carousel page items v e =
-    (subst InOrderAfter e (order_by_items items (full_at_start_with encoding carousel page) (omega arith, omega arith))).0
+    (in_order_at_end encoding carousel page items v e).0
+
+-- its areas are apart, and end before the last stroke or with it
+pub areas_apart : (encoding : Encoding) (carousel : Carousel) (page : Page) (items : List ItemShape) (v : FullWorld)
+    → full_runs (full_at_start_with encoding carousel page) items ≡ Ok v → AreApart 0 v.areas
+areas_apart encoding carousel page items v e = are_apart 0 v.areas _ (in_order_at_end encoding carousel page items v e).2
+
+pub areas_within : (encoding : Encoding) (carousel : Carousel) (page : Page) (items : List ItemShape) (v : FullWorld)
+    → full_runs (full_at_start_with encoding carousel page) items ≡ Ok v → All (λ (a : Area). a.end ≤ length v.core.kept) v.areas
+areas_within encoding carousel page items v e = are_within 0 v.areas _ (in_order_at_end encoding carousel page items v e).2
+
+-- and the edges of each are alike
+pub areas_alike : (encoding : Encoding) (carousel : Carousel) (page : Page) (items : List ItemShape) (v : FullWorld)
+    → full_runs (full_at_start_with encoding carousel page) items ≡ Ok v → All (λ (a : Area). AreAlike (edges_of v.core.kept a)) v.areas
+areas_alike encoding carousel page items v e = all_alike v.core.kept v.areas (in_order_at_end encoding carousel page items v e).3
 
 -- the sheets of a plot that is refused, too
 sheets_in_order : (r : Result FullWorld PlotFault) → InOrderAfter r → AreSheets (strokes_in r) (ends_in r)
@@ -128,7 +181,7 @@ sheets_in_order (Err e) h = are_sheets [] [] (omega arith)
 pub sheets_joined : SheetsJoin
 sheets_joined encoding carousel page plot =
     sheets_in_order (outcome_with encoding carousel page plot)
-    (order_by_items (cut_by Full plot) (full_at_start_with encoding carousel page) (omega arith, omega arith))
+    (order_by_items (cut_by Full plot) (full_at_start_with encoding carousel page) (omega arith, omega arith, omega arith, tt))
 
 -- an item that is carried out makes no stroke fewer
 pub no_fewer : (w v : FullWorld) (b : BodyShape) → taken w b ≡ Some v → length w.core.kept ≤ length v.core.kept

@@ -1,5 +1,6 @@
 pub mod PlotExamples
 mod PenExamples
+mod FillExamples
 pub mod WidthTables
 pub mod Kept
 pub mod DrawnLines
@@ -11,6 +12,8 @@ pub mod Changes
 pub mod FullChanges
 pub mod Nexts
 pub mod JoinedSheets
+pub mod AreasInOrder
+pub mod AlikeEdges
 pub mod Aside
 pub mod Later
 pub mod OrderedLabels

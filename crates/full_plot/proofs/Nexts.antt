@@ -47,6 +47,7 @@ pub record IsNext (w v : FullWorld) : Type 0 where
   pub writing_is : v.writing ≡ w.writing
   pub extra_is : v.extra ≡ w.extra
   pub ends_are : v.ends ≡ w.ends
+  pub areas_are : v.areas ≡ w.areas
   pub context_is : v.context ≡ w.context
   pub few : Grows (length w.core.kept) (length v.core.kept)
   pub few_places : w.context.in_polygon ≡ false → w.buffer.places ≤ 4194304 → v.buffer.places ≤ 4194304
@@ -59,6 +60,7 @@ next_of_next w v u h k = record {
   writing_is = k.writing_is ∙ h.writing_is;
   extra_is = k.extra_is ∙ h.extra_is;
   ends_are = k.ends_are ∙ h.ends_are;
+  areas_are = k.areas_are ∙ h.areas_are;
   context_is = k.context_is ∙ h.context_is;
   few = grows_on (length w.core.kept) (length v.core.kept) (length u.core.kept) h.few k.few;
   few_places = λ a few. k.few_places (ap (λ (c : Context). c.in_polygon) h.context_is ∙ a) (h.few_places a few);
@@ -74,6 +76,7 @@ next_by w c r q b h k = record {
   writing_is = refl;
   extra_is = refl;
   ends_are = refl;
+  areas_are = refl;
   context_is = refl;
   few = h;
   few_places = k;

@@ -42,8 +42,9 @@ same_changes = record {
   joined = λ w v u h k. record { kept_are = k.kept_are ∙ h.kept_are; context_is = k.context_is ∙ h.context_is };
   context_is = λ w v h. h.context_is;
   drawn = λ w s ss r m. absurd m;
-  aside = λ w v c k e. record { kept_are = k; context_is = c };
+  aside = λ w v c k e a. record { kept_are = k; context_is = c };
   ended = λ w. record { kept_are = refl; context_is = refl };
+  area = λ w v rule h a inked. record { kept_are = h.kept_are; context_is = h.context_is };
 }
 
 silent_run : (ss : List FullStep) (w : FullWorld) → are_silent w.context.in_polygon ss ≡ true → In (IsSame w) (run w ss)

@@ -1,6 +1,9 @@
 -- What a plot draws in the profile full.
 use Rattle.std.specs.Prelude.{◌≡◌, ℕ, ◌+◌, ◌-◌, List, [], ◌∷◌, length, take, drop, nat_eq, nat_lt, slice_index_or}
 use Rattle.std.specs.Prelude.{Bool, ◌||◌, if◌then◌else◌, Option, Some, None, Result, Ok, Err, ⊤}
+use Rattle.std.specs.List.{All}
+use Rattle.areas.specs.Shapes.{all_counted, areas_between}
+use Rattle.areas.specs.declared.area.Area.{Area}
 use Rattle.carousel.specs.declared.carousel.Carousel.{Carousel}
 use Rattle.character_sets.specs.declared.encoding.Encoding.{Encoding}
 use Rattle.character_sets.specs.declared.encoding.Encoding.TheVariants.{ByPlot}
@@ -19,7 +22,7 @@ use Rattle.full_settings.specs.Characters.{usual_characters}
 use Rattle.full_settings.specs.LineStyles.{usual_style}
 use Rattle.full_settings.specs.Widths.{all_percents}
 use Rattle.full_notes.specs.Contexts.{first_context}
-use Rattle.full_plot.specs.Worlds.{FullWorld, usual_area, usual_writing}
+use Rattle.full_plot.specs.Worlds.{FullWorld, usual_filling, usual_writing}
 use Rattle.polygons.specs.Buffers.{empty_buffer}
 use Rattle.full_plot.specs.Machine.{ends_with}
 
@@ -35,10 +38,11 @@ full_at_start page = record {
   characters = usual_characters;
   writing = usual_writing;
   margin = (core.at_start page).state.place;
-  area = usual_area;
+  filling = usual_filling;
   buffer = empty_buffer;
   extra = 0;
   ends = [];
+  areas = [];
 }
 
 -- with texts read as the user says, and the pens of a carousel
@@ -88,6 +92,19 @@ abbrev pub ends_in : Result FullWorld PlotFault → List ℕ
 ends_in (Ok w) = w.ends
 ends_in (Err fault) = []
 
+-- the areas of all sheets
+abbrev pub areas_of : Result FullWorld PlotFault → List Area
+areas_of (Ok w) = w.areas
+areas_of (Err fault) = []
+
+-- a stroke with the pen, the colour, the width and the window of another
+abbrev pub LooksAs : Segment → Segment → Type 0
+LooksAs s t = record s { ax = t.ax; ay = t.ay; bx = t.bx; by = t.by } ≡ t
+
+-- strokes of width 0 that are alike, as the edges of an area are
+abbrev pub AreAlike : List Segment → Type 0
+AreAlike strokes = All (λ s. (s.width ≡ 0) × All (LooksAs s) strokes) strokes
+
 -- the greatest number of a sheet that has a stroke: the end of the plot ends a sheet, too
 abbrev pub sheet_count : List ℕ → ℕ → ℕ
 sheet_count ends count = length (ends_with ends count)
@@ -105,3 +122,9 @@ sheet_strokes strokes ends sheet =
     if nat_eq sheet 0 then strokes else
     drop (slice_index_or (0 ∷ ends) (sheet - 1) (length strokes))
     (take (slice_index_or ends (sheet - 1) (length strokes)) strokes)
+
+-- the areas of a sheet, by the strokes of the sheet; those of all sheets for 0
+abbrev pub areas_of_sheet : List Area → List ℕ → ℕ → ℕ → List Area
+areas_of_sheet areas ends count sheet =
+    let at = sheet_start ends count sheet in
+    if nat_eq sheet 0 then areas else all_counted at (areas_between at (sheet_end ends count sheet) areas)

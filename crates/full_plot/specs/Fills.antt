@@ -1,8 +1,9 @@
 -- Fills (HP-GL/2 guide: FP, RA, RR and WG, by FT and AC): lines at equal distances, where they are inside of the
--- polygons in the buffer.
-use Rattle.std.specs.Prelude.{ℕ, ◌*◌, ◌^◌, ℤ, pos, ◌+ℤ◌, nat_abs, nat_eq, Bool, true, false, List, [], ◌∷◌}
-use Rattle.std.specs.Prelude.{length, map, if◌then◌else◌}
+-- polygons in the buffer; or, for a solid fill, one area, whose edges are those of the polygons.
+use Rattle.std.specs.Prelude.{ℕ, ◌*◌, ◌^◌, ℤ, pos, ◌+ℤ◌, nat_abs, nat_eq, Bool, true, false, List, [], ◌∷◌, ◌++◌}
+use Rattle.std.specs.Prelude.{length, map, nat_lt, if◌then◌else◌}
 use Rattle.std.specs.Int.{int_max, int_min}
+use Rattle.areas.specs.declared.area.Area.{Area}
 use Rattle.exact.specs.Fraction.{quotient, round}
 use Rattle.exact.specs.declared.spot.Spot.{Spot}
 use Rattle.line_types.specs.Patterns.{length_by_percent}
@@ -37,10 +38,6 @@ rule_by by_winding = if by_winding then Winding else OddCounts
 abbrev pub lines_at : ℤ → ℕ → Spot → Lines
 lines_at angle apart anchor = record { angle = angle; apart = apart; anchor = anchor }
 
--- solid: one line a plotter unit
-abbrev pub solid_lines : Lines
-solid_lines = lines_at (pos 0) 4096 (record { x = pos 0; y = pos 8 })
-
 -- lines are a plotter unit apart at least, and 2^40 ticks at most
 abbrev pub cut_distance : ℤ → ℕ
 cut_distance n = nat_abs (int_min (int_max n (pos 4096)) (pos (2 ^ 40)))
@@ -60,8 +57,8 @@ spacing_on a spacing = round (quotient (pos (256 * (nat_abs a.slope * spacing)))
 abbrev pub spacing_in : FullWorld → ℤ
 spacing_in w =
     let s = w.core.state in
-    if nat_eq w.area.fill.spacing 0 then pos (length_by_percent (diagonal s.frame.points) 1000000)
-    else spacing_on (line_in w.core.page s.frame X) w.area.fill.spacing
+    if nat_eq w.filling.fill.spacing 0 then pos (length_by_percent (diagonal s.frame.points) 1000000)
+    else spacing_on (line_in w.core.page s.frame X) w.filling.fill.spacing
 
 -- the distance of lines of hatching: the spacing, but lines are no denser than half the pen's width
 abbrev pub hatching_distance : FullWorld → ℕ
@@ -77,7 +74,7 @@ hatching_turn rotation.ThreeQuarters = pos 270000
 
 abbrev pub hatching_lines : FullWorld → ℤ → Lines
 hatching_lines w more =
-    lines_at (pos w.area.fill.angle +ℤ hatching_turn w.core.state.frame.rotation +ℤ more) (hatching_distance w) w.area.anchor
+    lines_at (pos w.filling.fill.angle +ℤ hatching_turn w.core.state.frame.rotation +ℤ more) (hatching_distance w) w.filling.anchor
 
 -- the line of a span, whatever pen is selected
 abbrev pub span_stroke : State → Span → Segment
@@ -118,16 +115,25 @@ over_lines ink w rule lines = over_spans ink w (spans lines rule w.buffer.edges)
 abbrev pub edge_span : Edge → Span
 edge_span e = record { from = e.from; to = e.to }
 
--- solid: lines and edges of width 0
+-- as strokes of width 0
 abbrev pub edges_inked : FullWorld → FullWorld
 edges_inked w = over_spans (Width 0) w (map edge_span w.buffer.edges)
 
+-- an area of the strokes after the first `first`, if there are any
+abbrev pub area_of : ℕ → ℕ → Rule → List Area
+area_of first end rule = if nat_lt first end then record { first = first; end = end; rule = rule } ∷ [] else []
+
+-- what was drawn after so many strokes are the edges of an area
+abbrev pub with_area : ℕ → Rule → FullWorld → FullWorld
+with_area first rule w = record w { areas = w.areas ++ area_of first (length w.core.kept) rule }
+
+-- solid: one area, whose edges are those of the buffer
 abbrev pub solid_filled : Rule → FullWorld → FullWorld
-solid_filled rule w = edges_inked (over_lines (Width 0) w rule solid_lines)
+solid_filled rule w = with_area (length w.core.kept) rule (edges_inked w)
 
 abbrev pub shaded : Rule → FullWorld → FullWorld
 shaded rule w =
-    let level = w.area.fill.level in
+    let level = w.filling.fill.level in
     if nat_eq level 0 then w else
     if nat_eq level 100000000 then solid_filled rule w else
     over_lines (Width 224) w rule (shading_lines level)
@@ -142,7 +148,7 @@ filled_by CrossHatched rule w = hatched rule (pos 90000) (hatched rule (pos 0) w
 filled_by Shaded rule w = shaded rule w
 
 -- FP: the places in the buffer count as work; pen 0 draws nothing
-abbrev pub area_filled : Bool → FullWorld → FullWorld
-area_filled by_winding w =
+abbrev pub buffer_filled : Bool → FullWorld → FullWorld
+buffer_filled by_winding w =
     let v = worked w.buffer.places w in
-    if nat_eq v.core.state.pen 0 then v else filled_by v.area.fill.kind (rule_by by_winding) v
+    if nat_eq v.core.state.pen 0 then v else filled_by v.filling.fill.kind (rule_by by_winding) v

@@ -20,7 +20,7 @@ use Rattle.hpgl_plot.specs.Strokes.{strokes, strokes_with, refusal, refusal_with
 use Rattle.hpgl_plot.specs.Notes as noting
 use Rattle.full_settings.specs.Characters.{usual_characters}
 use Rattle.full_plot.specs.Drawings.{full_at_start, full_at_start_with, full_runs, outcome_with, refusal_in}
-use Rattle.full_plot.specs.Drawings.{strokes_in, ends_in, sheet_count, sheet_strokes}
+use Rattle.full_plot.specs.Drawings.{strokes_in, ends_in, areas_of, sheet_count, sheet_strokes}
 use Rattle.full_plot.specs.Worlds.{FullWorld}
 use Rattle.full_notes.specs.Notes.{body_noted, context_after, notes}
 use Rattle.full_plot.specs.Items.{taken}
@@ -55,9 +55,9 @@ abbrev pub CoreRunsAsInCore : Type 0
 CoreRunsAsInCore = (page : Page) (items : List ItemShape) → All IsCoreItem items
     → core_part (full_runs (full_at_start page) items) ≡ core.runs (core.at_start page) items
 
--- the whole of a plot: it has this refusal, or else these strokes, on one sheet
+-- the whole of a plot: it has this refusal, or else these strokes, on one sheet; and no areas
 abbrev pub Draws : Result FullWorld PlotFault → Option PlotFault → List Segment → Type 0
-Draws r refused drawn = (refusal_in r ≡ refused) × (refused ≡ None → strokes_in r ≡ drawn) × (ends_in r ≡ [])
+Draws r refused drawn = (refusal_in r ≡ refused) × (refused ≡ None → strokes_in r ≡ drawn) × (ends_in r ≡ []) × (areas_of r ≡ [])
 
 abbrev pub CoreDrawsAsInCore : Type 0
 CoreDrawsAsInCore = (page : Page) (items : List ItemShape) → All IsCoreItem items
@@ -96,8 +96,8 @@ abbrev pub PolygonModeDrawsNothing : Type 0
 PolygonModeDrawsNothing = (w v : FullWorld) (i : ItemShape) → w.context.in_polygon ≡ true → taken w i.body ≡ Some v
     → v.core.kept ≡ w.core.kept
 
--- as at the start, but for the page, the carousel, the strokes, the ends of sheets and the work that counts; and for the
--- widths in percent, which have no effect before widths are in percent again
+-- as at the start, but for the page, the carousel, the strokes, the ends of sheets, the areas and the work that counts; and for
+-- the widths in percent, which have no effect before widths are in percent again
 abbrev pub started_again : FullWorld → FullWorld
 started_again w = record (full_at_start w.core.page) {
   core = record w.core { state = (core.at_start_with w.core.state.carousel w.core.page).state };
@@ -105,6 +105,7 @@ started_again w = record (full_at_start w.core.page) {
   encoding = w.encoding;
   extra = w.extra;
   ends = w.ends;
+  areas = w.areas;
 }
 
 -- IN and BP

@@ -16,5 +16,5 @@ pub mod Labels
 pub mod Laws
 -- What contracts of private calls need: the context after an instruction, and ranges.
 pub mod ContextsAfter
-pub mod Areas
+pub mod Fillings
 pub mod Inking

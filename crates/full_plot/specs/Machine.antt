@@ -34,12 +34,12 @@ use Rattle.full_settings.specs.RelativePoints.{setting_of}
 use Rattle.full_settings.specs.Widths.{widths_by, percents_with, grains_with}
 use Rattle.full_plot.specs.declared.plotter.FullPlotter.{FullPlotter}
 use Rattle.full_plot.specs.Curves.{arc_step, curve_step, if_in_range, curve_pen}
-use Rattle.full_plot.specs.Fills.{area_filled}
+use Rattle.full_plot.specs.Fills.{buffer_filled}
 use Rattle.full_plot.specs.Polygons.{edge_step, edges_drawn, kept_step, lined_step, polygon_set}
 use Rattle.full_plot.specs.Texts.{at_margin, lettered, marked_by, moved_by_characters, ticked, written}
 use Rattle.full_plot.specs.Wedges.{wedge_edged, wedge_kept}
 use Rattle.full_plot.specs.Work.{worked, then_worked}
-use Rattle.full_plot.specs.Worlds.{FullWorld, page_origin, usual_area, usual_writing, with_core, full_followed}
+use Rattle.full_plot.specs.Worlds.{FullWorld, page_origin, usual_filling, usual_writing, with_core, full_followed}
 
 -- the symbol of SM at the pen, unless in polygon mode
 abbrev pub marked_in : Bool → FullWorld → Option FullWorld
@@ -127,7 +127,7 @@ restyled w =
       run = None;
       characters = usual_characters;
       writing = usual_writing;
-      area = usual_area;
+      filling = usual_filling;
       buffer = empty_buffer;
     }
 
@@ -141,7 +141,7 @@ printed w = then_worked (length w.writing.text) (written w w.writing.text)
 
 -- a line of hatching goes through this place
 abbrev pub with_anchor : FullWorld → Spot → FullWorld
-with_anchor w q = record w { area = record w.area { anchor = q } }
+with_anchor w q = record w { filling = record w.filling { anchor = q } }
 
 -- AC: the place of these coordinates, which must be in range
 abbrev pub anchored : FullWorld → Anchor → Option FullWorld
@@ -151,7 +151,7 @@ anchored w (At p) = let q = (curve_pen w false p).place in if_in_range (q ∷ []
 -- RA, RR and WG fill what is in the buffer then, by odd counts
 abbrev pub then_filled : Option FullWorld → Option FullWorld
 then_filled None = None
-then_filled (Some w) = Some (area_filled false w)
+then_filled (Some w) = Some (buffer_filled false w)
 
 -- a step of core; what LT or UL sets; what DF and what IN do besides; what WU, PT or a PW in percent sets; widths by
 -- other P1 and P2; P1 and P2 by IR; how letters are written; what CS, CA, SS, SA, SD or AD sets; the symbol of SM; the
@@ -215,8 +215,8 @@ full_step w (ArcThrough relative points) = arc_step w relative points
 full_step w (Curve relative points) = curve_step w relative points
 full_step w (PolygonBy p) = Some (polygon_set p w)
 full_step w EdgeBuffer = Some (worked w.buffer.places (edges_drawn w))
-full_step w (FillBuffer by_winding) = Some (area_filled by_winding w)
-full_step w (FillBy s) = Some (record w { area = record w.area { fill = fill_with s w.area.fill } })
+full_step w (FillBuffer by_winding) = Some (buffer_filled by_winding w)
+full_step w (FillBy s) = Some (record w { filling = record w.filling { fill = fill_with s w.filling.fill } })
 full_step w (AnchorBy a) = anchored w a
 full_step w (Rectangle relative c) = then_filled (kept_step w (Edge relative c.x c.y))
 full_step w (WedgeEdge wedge) = wedge_edged w wedge
@@ -238,8 +238,9 @@ seen p = record {
   characters = p.characters;
   writing = p.writing;
   margin = p.margin;
-  area = p.area;
+  filling = p.filling;
   buffer = p.buffer;
   extra = p.extra;
   ends = p.ends.items;
+  areas = p.areas.items;
 }

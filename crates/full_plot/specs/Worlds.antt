@@ -2,6 +2,7 @@
 use Rattle.std.specs.Prelude.{ℕ, pos, List, [], Option, Some, None}
 use Rattle.exact.specs.declared.spot.Spot.{Spot}
 use Rattle.line_types.specs.declared.run.Run.{Run}
+use Rattle.areas.specs.declared.area.Area.{Area}
 use Rattle.hpgl_plot.specs.Machine as core
 use Rattle.character_sets.specs.declared.encoding.Encoding.{Encoding}
 use Rattle.polygons.specs.Buffers.{Contents}
@@ -12,7 +13,7 @@ use Rattle.full_settings.specs.Letters.{LetterStyle, usual_letters}
 use Rattle.full_settings.specs.LineStyles as styles
 use Rattle.full_settings.specs.TickParameters.{usual_ticks}
 use Rattle.full_notes.specs.Contexts.{Context}
-use Rattle.full_plot.specs.declared.area.Area.{Area}
+use Rattle.full_plot.specs.declared.filling.Filling.{Filling}
 
 -- what is set for labels: how letters are written, the symbol at the ends of moves (SM), the text that is kept (BL),
 -- and the length of ticks (TL)
@@ -31,14 +32,14 @@ abbrev pub page_origin : Spot
 page_origin = record { x = pos 0; y = pos 0 }
 
 -- how polygons are filled at the start, and after IN and DF: a line of hatching goes through the page's lower left corner
-abbrev pub usual_area : Area
-usual_area = record { fill = usual_fill; anchor = page_origin }
+abbrev pub usual_filling : Filling
+usual_filling = record { fill = usual_fill; anchor = page_origin }
 
 -- what core has: the page, the state and the strokes; what decides how the next item is read; the line style, and the run
 -- of its pattern; the widths of pens in percent, which have an effect while widths are in percent; how the user reads
 -- texts, and the sets of characters and the fonts that the plot has chosen; what is set for labels, and their left
 -- margin, a place; how polygons are filled, and the polygon buffer; how much work besides strokes counts; for each sheet
--- that has ended, how many strokes were made until then
+-- that has ended, how many strokes were made until then; and the areas, whose edges are strokes
 pub record FullWorld : Type 0 where
   pub core : core.World
   pub context : Context
@@ -49,10 +50,11 @@ pub record FullWorld : Type 0 where
   pub characters : Characters
   pub writing : Writing
   pub margin : Spot
-  pub area : Area
+  pub filling : Filling
   pub buffer : Contents
   pub extra : ℕ
   pub ends : List ℕ
+  pub areas : List Area
 
 -- what core leaves, or None if it stops
 abbrev pub with_core : FullWorld → Option core.World → Option FullWorld

@@ -4,7 +4,7 @@ ghost use Rattle.full_notes.specs.Notes.{body_noted};
 ghost use Rattle.full_plot.specs.Drawings.{full_at_start, full_at_start_with, is_too_much, full_runs, CarriesOut};
 ghost use Rattle.full_plot.specs.Machine.{seen};
 
-use crate::area::Area;
+use crate::filling::Filling;
 use crate::plotter::FullPlotter;
 use crate::writing::Writing;
 use carousel::Carousel;
@@ -41,10 +41,11 @@ impl FullPlotter {
             characters: Characters::usual(),
             writing: Writing::usual(alloc),
             margin,
-            area: Area::usual(),
+            filling: Filling::usual(),
             buffer: Buffer::new(alloc),
             extra: 0,
             ends: Vec::new(alloc),
+            areas: Vec::new(alloc),
             alloc,
         }
     }

@@ -1,15 +1,18 @@
 //! What a plot draws in the profile full.
 ghost use Rattle.std.specs.Prelude.{◌≡◌, ◌≤◌, None, OnOk, IfOk, IfErr, length};
+ghost use Rattle.std.specs.List.{All};
+ghost use Rattle.areas.specs.Shapes.{AreApart, edges_of};
 ghost use Rattle.plot_page.specs.declared.stroke.TheConstants.{MOST_STROKES};
 ghost use Rattle.hpgl_text.specs.Cut.{cut_by};
 ghost use Rattle.hpgl_text.specs.declared.profile.Profile.TheVariants.{Full};
-ghost use Rattle.full_plot.specs.Drawings.{outcome, outcome_with, refusal_in, strokes_in, ends_in};
-ghost use Rattle.full_plot.specs.Drawings.{sheet_count, Explains};
+ghost use Rattle.full_plot.specs.Drawings.{outcome, outcome_with, refusal_in, strokes_in, ends_in, areas_of};
+ghost use Rattle.full_plot.specs.Drawings.{sheet_count, AreAlike, Explains};
 ghost use Rattle.full_plot.specs.Labels.{labels_kept, labels_of};
 ghost use Rattle.full_notes.specs.Notes as notes;
 
 use crate::plotter::FullPlotter;
 use crate::steps::last_end;
+use areas::Area;
 use carousel::Carousel;
 use character_sets::Encoding;
 use hpgl_plot::{PlotFault, count_notes};
@@ -18,12 +21,13 @@ use labels::Label;
 use plot_page::{Page, Stroke};
 use std::alloc::Global;
 
-/// What a plot draws: its strokes in drawing order, how many there were when each sheet ended, how many notes there are on it,
-/// and its labels, if they are kept.
+/// What a plot draws: its strokes in drawing order, how many there were when each sheet ended, its areas, whose edges are strokes,
+/// in the same order, how many notes there are on it, and its labels, if they are kept.
 #[derive(Drop)]
 pub struct FullDrawn {
     pub strokes: Vec<Stroke>,
     pub ends: Vec<usize>,
+    pub areas: Vec<Area>,
     pub notes: usize,
     pub labels: Vec<Label>,
 }
@@ -49,6 +53,11 @@ pub fn draw_full(alloc: Global, text: &[u8], page: &Page) -> Result<FullDrawn, P
     ensures accepted { OnOk result (refusal_in (outcome page.now text.now) ≡ None) }
     ensures strokes { IfOk result (λ drawn. drawn.strokes.items ≡ strokes_in (outcome page.now text.now)) }
     ensures ends { IfOk result (λ drawn. drawn.ends.items ≡ ends_in (outcome page.now text.now)) }
+    ensures areas { IfOk result (λ drawn. drawn.areas.items ≡ areas_of (outcome page.now text.now)) }
+    ensures apart { IfOk result (λ drawn. AreApart 0 drawn.areas.items) }
+    ensures within { IfOk result (λ drawn. All (λ area. area.end ≤ length drawn.strokes.items) drawn.areas.items) }
+    ensures alike { IfOk result
+        (λ drawn. All (λ area. AreAlike (edges_of drawn.strokes.items area)) drawn.areas.items) }
     ensures notes { IfOk result (λ drawn. drawn.notes ≡ length (notes.notes (cut_by Full text.now))) }
     ensures limit { IfOk result (λ drawn. length drawn.strokes.items ≤ MOST_STROKES) }
     ensures refused { IfErr result (λ fault. Explains fault (outcome page.now text.now)) }
@@ -65,7 +74,7 @@ pub fn draw_full(alloc: Global, text: &[u8], page: &Page) -> Result<FullDrawn, P
 
 /// The same with the texts of labels read as the user says, whatever sets of characters the plot chooses, and
 /// with the pens of a carousel: a pen draws in its width and its colour there, if it has them, whatever the plot
-/// sets, and hatching is no denser than half that width. The lines of fills that have a width of their own keep
+/// sets, and hatching is no denser than half that width. The strokes of fills that have a width of their own keep
 /// it. Labels are kept if the last argument says so: what LB and PB write, if it makes a stroke.
 pub fn draw_full_with(
     alloc: Global,
@@ -80,6 +89,12 @@ pub fn draw_full_with(
         (λ drawn. drawn.strokes.items ≡ strokes_in (outcome_with encoding carousel.now page.now text.now)) }
     ensures ends { IfOk result
         (λ drawn. drawn.ends.items ≡ ends_in (outcome_with encoding carousel.now page.now text.now)) }
+    ensures areas { IfOk result
+        (λ drawn. drawn.areas.items ≡ areas_of (outcome_with encoding carousel.now page.now text.now)) }
+    ensures apart { IfOk result (λ drawn. AreApart 0 drawn.areas.items) }
+    ensures within { IfOk result (λ drawn. All (λ area. area.end ≤ length drawn.strokes.items) drawn.areas.items) }
+    ensures alike { IfOk result
+        (λ drawn. All (λ area. AreAlike (edges_of drawn.strokes.items area)) drawn.areas.items) }
     ensures notes { IfOk result (λ drawn. drawn.notes ≡ length (notes.notes (cut_by Full text.now))) }
     ensures limit { IfOk result (λ drawn. length drawn.strokes.items ≤ MOST_STROKES) }
     ensures labels { IfOk result (λ drawn. drawn.labels.items
@@ -97,6 +112,7 @@ pub fn draw_full_with(
     Ok(FullDrawn {
         strokes: plotter.plotter.strokes,
         ends: plotter.ends,
+        areas: plotter.areas,
         notes: noted,
         labels,
     })

@@ -26,13 +26,13 @@ impl FullPlotter {
         ensures least { 4096 ≤ result.apart }
         ensures most { result.apart ≤ 2 ^ 40 }
     {
-        let angle = signed(self.area.fill.angle)
+        let angle = signed(self.filling.fill.angle)
             + turn_of(self.plotter.state.frame.rotation)
             + more;
         Lines {
             angle,
             apart: self.hatching_distance(),
-            anchor: Place::new(self.area.anchor),
+            anchor: Place::new(self.filling.anchor),
         }
     }
 
@@ -57,23 +57,12 @@ impl FullPlotter {
     fn spacing(&self) -> i128
         ensures { result ≡ fills.spacing_in (seen self.now) }
     {
-        let spacing = self.area.fill.spacing;
+        let spacing = self.filling.fill.spacing;
         if spacing == 0 {
             let diagonal = diagonal_by(&self.plotter.state.frame.points);
             return i128::from(Length::of_percent(diagonal, 1_000_000).ticks);
         }
         spacing_on(&self.plotter.axes.x, spacing)
-    }
-}
-
-/// Solid: lines a plotter unit apart.
-pub fn solid_lines() -> Lines
-    ensures { result ≡ fills.solid_lines }
-{
-    Lines {
-        angle: 0,
-        apart: 4_096,
-        anchor: Place::new(Spot { x: 0, y: 8 }),
     }
 }
 

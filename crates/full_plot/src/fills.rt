@@ -7,8 +7,9 @@ ghost use Rattle.full_plot.specs.declared.fills.Ink.TheVariants as ink_of;
 ghost use Rattle.full_plot.specs.Lines.{drawn_in_type};
 ghost use Rattle.full_plot.specs.Machine.{seen, full_step, Runs, FillBuffer};
 
-use crate::fill_lines::{shading_lines, solid_lines};
+use crate::fill_lines::shading_lines;
 use crate::plotter::FullPlotter;
+use areas::Area;
 use full_settings::FillKind;
 use hpgl_plot::Stop;
 use plot_page::{MOST_STROKES, Stroke};
@@ -40,10 +41,10 @@ impl FullPlotter {
 
     // Fills the polygons as FT says.
     fn fill_by_rule(&mut self, rule: Rule) -> Result<(), Stop>
-        ensures { Runs (Some (fills.filled_by (seen self.old).area.fill.kind rule (seen self.old)))
+        ensures { Runs (Some (fills.filled_by (seen self.old).filling.fill.kind rule (seen self.old)))
             (seen self.new) result }
     {
-        match self.area.fill.kind {
+        match self.filling.fill.kind {
             FillKind::Solid => self.fill_solid(rule),
             FillKind::Hatched => self.hatch(rule, 0),
             FillKind::CrossHatched => {
@@ -54,19 +55,33 @@ impl FullPlotter {
         }
     }
 
-    // Lines and the edges, of width 0.
+    // Solid: one area, whose edges are those of the buffer.
     fn fill_solid(&mut self, rule: Rule) -> Result<(), Stop>
         ensures { Runs (Some (fills.solid_filled rule (seen self.old))) (seen self.new) result }
     {
-        self.fill_lines(rule, solid_lines(), Ink::Width(0))?;
-        self.ink_edges()
+        let first = self.plotter.strokes.len();
+        self.ink_edges()?;
+        self.add_area(first, rule)
+    }
+
+    // The strokes after the first `first` are the edges of an area, if there are any.
+    fn add_area(&mut self, first: usize, rule: Rule) -> Result<(), Stop>
+        ensures { Runs (Some (fills.with_area first rule (seen self.old))) (seen self.new) result }
+    {
+        let end = self.plotter.strokes.len();
+        if end <= first {
+            return Ok(());
+        }
+        self.areas
+            .push(Area { first, end, rule })
+            .map_err(|_| Stop::Memory)
     }
 
     // Lines of 0.35 mm that cover as much as the level says.
     fn shade(&mut self, rule: Rule) -> Result<(), Stop>
         ensures { Runs (Some (fills.shaded rule (seen self.old))) (seen self.new) result }
     {
-        let level = self.area.fill.level;
+        let level = self.filling.fill.level;
         if level == 0 {
             return Ok(());
         }

@@ -135,7 +135,7 @@ impl FullPlotter {
         requires { IsFillSetting setting }
         ensures { full_step (seen self.old) (FillBy setting) ≡ Some (seen self.new) }
     {
-        self.area.fill = self.area.fill.with(setting);
+        self.filling.fill = self.filling.fill.with(setting);
     }
 
     // Sets the place that a line of hatching goes through, by AC.
@@ -143,10 +143,10 @@ impl FullPlotter {
         ensures { Runs (full_step (seen self.old) (AnchorBy anchor)) (seen self.new) result }
     {
         match anchor {
-            Anchor::PageOrigin => self.area.anchor = Spot { x: 0, y: 0 },
+            Anchor::PageOrigin => self.filling.anchor = Spot { x: 0, y: 0 },
             Anchor::At(point) => {
                 let pen = self.pen_at(false, point)?;
-                self.area.anchor = pen.place;
+                self.filling.anchor = pen.place;
             }
         }
         Ok(())

@@ -2,7 +2,6 @@
 //! ticks, curves, polygons and their fills, widths in percent and ranges of colours.
 #![tactic(auto)]
 
-mod area;
 mod carrying;
 mod core_labels;
 mod curve_steps;
@@ -11,6 +10,7 @@ mod drawn;
 mod edges;
 mod figures;
 mod fill_lines;
+mod filling;
 mod fills;
 mod further;
 mod ink;
@@ -29,9 +29,9 @@ mod widths;
 mod work;
 mod writing;
 
-pub use area::Area;
 pub use carousel::Carousel;
 pub use drawn::{FullDrawn, draw_full, draw_full_with};
+pub use filling::Filling;
 pub use plotter::FullPlotter;
-pub use sheets::{keep_labels_of, keep_sheet, labels_on, sheet_of};
+pub use sheets::{areas_on, keep_areas_of, keep_labels_of, keep_sheet, labels_on, sheet_of};
 pub use writing::Writing;

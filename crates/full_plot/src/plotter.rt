@@ -1,10 +1,11 @@
 //! The plotter of the profile full.
 ghost use Rattle.std.specs.Prelude.{◌^◌};
 ghost use Rattle.directions.specs.Bounds.{IsWithin};
-ghost use Rattle.full_plot.specs.Areas.{IsArea};
+ghost use Rattle.full_plot.specs.Fillings.{IsFilling};
 
-use crate::area::Area;
+use crate::filling::Filling;
 use crate::writing::Writing;
+use areas::Area;
 use character_sets::Encoding;
 use exact::Spot;
 use full_notes::Context;
@@ -33,7 +34,8 @@ pub struct FullPlotter {
     pub writing: Writing,
     /// The left margin of labels, a place on the page in grains.
     pub margin: Spot,
-    pub area: Area,
+    /// How polygons are filled.
+    pub filling: Filling,
     /// The polygons.
     pub buffer: Buffer,
     /// The work that counts besides strokes: the bytes of the texts that PB wrote, the places of the polygons
@@ -41,7 +43,9 @@ pub struct FullPlotter {
     pub extra: u32,
     /// How many strokes there were when each sheet ended.
     pub ends: Vec<usize>,
+    /// The areas that solid fills drew.
+    pub areas: Vec<Area>,
     pub alloc: Global,
     pub ghost margin_in: { IsWithin (2 ^ 96) margin },
-    pub ghost area_in: { IsArea area },
+    pub ghost filling_in: { IsFilling filling },
 }

@@ -1,9 +1,12 @@
 //! The sheets of a plot, which count from 1.
 ghost use Rattle.std.specs.Prelude.{◌≡◌, drop, take, slice_index_or};
+ghost use Rattle.areas.specs.Shapes.{AreApart};
+ghost use Rattle.areas.specs.Views.{areas_in};
 ghost use Rattle.labels.specs.Sheets.{all_counted};
-ghost use Rattle.full_plot.specs.Drawings.{sheet_end, sheet_start, sheet_strokes};
+ghost use Rattle.full_plot.specs.Drawings.{areas_of_sheet, sheet_end, sheet_start, sheet_strokes};
 ghost use Rattle.full_plot.specs.Labels.{labels_of_sheet};
 
+use areas::{Area, Areas, keep_areas};
 use labels::{Label, keep_labels, labels_between};
 use plot_page::Stroke;
 
@@ -53,6 +56,20 @@ pub fn keep_labels_of(labels: &mut Vec<Label>, ends: &[usize], count: usize, she
     }
 }
 
+/// Keeps the areas of a sheet alone, by the strokes of the sheet; for 0 it keeps those of all sheets. `count` is how many
+/// strokes there are on all sheets.
+pub fn keep_areas_of(areas: &mut Vec<Area>, ends: &[usize], count: usize, sheet: u32)
+    ensures { areas.new.items ≡ areas_of_sheet areas.old.items ends.now count sheet }
+{
+    if sheet != 0 {
+        keep_areas(
+            areas,
+            start_of(ends, count, sheet),
+            sheet_end(ends, count, sheet),
+        );
+    }
+}
+
 /// The labels of a sheet, as `keep_labels_of` keeps them, but for how their strokes are counted: so many come before the sheet.
 pub fn labels_on<'a>(
     labels: &'a [Label],
@@ -68,6 +85,18 @@ pub fn labels_on<'a>(
     let start = start_of(ends, count, sheet);
     let end = sheet_end(ends, count, sheet);
     (labels_between(labels, start, end), start)
+}
+
+/// The areas of a sheet, as `keep_areas_of` keeps them.
+pub fn areas_on<'a>(areas: &'a [Area], ends: &[usize], count: usize, sheet: u32) -> Areas<'a>
+    requires { AreApart 0 areas.now }
+    ensures { areas_in result ≡ areas_of_sheet areas.entry.now ends.now count sheet }
+{
+    if sheet == 0 {
+        return Areas::all(areas);
+    }
+    let start = start_of(ends, count, sheet);
+    Areas::between(areas, start, sheet_end(ends, count, sheet))
 }
 
 // How many strokes there were when a sheet began.

@@ -10,7 +10,7 @@ ghost use Rattle.full_plot.specs.Items.{as_core, more_steps, params_steps, size_
 ghost use Rattle.full_plot.specs.ContextsAfter.{after_params};
 ghost use Rattle.full_plot.specs.Machine.{seen, full_step, run, last_end, Runs, Restyle, Restart, EndSheet};
 
-use crate::area::Area;
+use crate::filling::Filling;
 use crate::plotter::FullPlotter;
 use crate::writing::Writing;
 use full_notes::{arc_read, bad_without, circle_read, is_misplaced};
@@ -178,7 +178,7 @@ impl FullPlotter {
         self.run = None;
         self.characters = Characters::usual();
         self.writing = Writing::usual(self.alloc);
-        self.area = Area::usual();
+        self.filling = Filling::usual();
         self.buffer.clear();
     }
 

@@ -10,21 +10,21 @@ use Rattle.page_fit.specs.Moves.{empty_window, is_movable, moved_stroke, moved_w
 use Rattle.page_fit.specs.declared.around.Corner.{Corner}
 
 -- a table of examples: each value agrees with the one beside it
-abbrev Agree : {X : Type 0} → List (X × X) → Type 0
+abbrev pub Agree : {X : Type 0} → List (X × X) → Type 0
 Agree rows = map (λ it. it.0) rows ≡ map (λ it. it.1) rows
 
-abbrev square : Page
+abbrev pub square : Page
 square = record { width = 64; height = 64; left = 0; below = 0; width_in = (lit≤ tt, lit≤ tt); height_in = (lit≤ tt, lit≤ tt); left_in = lit≤ tt; below_in = lit≤ tt }
 
-abbrev window : ℤ → ℤ → ℤ → ℤ → Window
+abbrev pub window : ℤ → ℤ → ℤ → ℤ → Window
 window x0 y0 x1 y1 = record { x0 = x0; y0 = y0; x1 = x1; y1 = y1 }
 
 -- a black stroke of pen 1, of a width, between two places, in a window
-abbrev stroke_in : Window → ℕ → ℤ → ℤ → ℤ → ℤ → Segment
+abbrev pub stroke_in : Window → ℕ → ℤ → ℤ → ℤ → ℤ → Segment
 stroke_in w width ax ay bx by = record { pen = 1; colour = record { red = 0; green = 0; blue = 0 }; width = width; window = w; ax = ax; ay = ay; bx = bx; by = by }
 
 -- the same on the whole page
-abbrev stroke : ℕ → ℤ → ℤ → ℤ → ℤ → Segment
+abbrev pub stroke : ℕ → ℤ → ℤ → ℤ → ℤ → Segment
 stroke width ax ay bx by = stroke_in (page_window square) width ax ay bx by
 
 abbrev corner : ℤ → ℤ → Corner

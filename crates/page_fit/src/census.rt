@@ -1,40 +1,95 @@
 //! How many strokes are drawn, how many of them lie off the page, and how many reach over its edge.
-ghost use Rattle.std.specs.Prelude.{◌≡◌, ℕ, ℤ, ◌+◌, ◌-◌, ◌*◌, ◌^◌, ◌<◌, ◌≤◌, ◌||◌, int_lt, pos, ◌+ℤ◌, ◌-ℤ◌, false, IsTrue};
+ghost use Rattle.std.specs.Prelude.{◌≡◌, ℕ, ℤ, ◌+◌, ◌-◌, ◌*◌, ◌^◌, ◌<◌, ◌≤◌, ◌||◌, int_lt, pos, ◌+ℤ◌, ◌-ℤ◌, false, IsTrue, count_by, length};
 ghost use Rattle.std.specs.Int.{int_max, int_min};
-ghost use Rattle.page_fit.specs.Census.{census_of, counted, is_beside, is_on, is_within, lies_on};
+ghost use Rattle.areas.specs.Views.{shapes_in};
+ghost use Rattle.areas.specs.Walks.{shape_in};
+ghost use Rattle.page_fit.specs.Census.{counted, is_beside, is_on, is_within, lies_on};
 ghost use Rattle.page_fit.specs.Extents.{IsNear, reach};
+ghost use Rattle.page_fit.specs.Shapes.{counted_all, is_cut, shapes_census};
 
+use crate::diagonal::diagonal;
 use crate::extent::{Extent, holds_page};
+use areas::{NextShape, ShapeWalk, Shapes};
 use plot_page::{Page, PenSet, Stroke};
 
-/// How many strokes the selected pens draw, how many of these lie off the page, and how many reach over its edge.
+/// How many strokes the selected pens draw, the edges of areas among them, how many of these lie off the page, and how many reach
+/// over its edge.
 #[derive(Clone, Copy, Debug, PartialEq, Eq)]
 pub struct Census {
     /// How many strokes the selected pens draw.
     pub strokes: usize,
-    /// How many of them lie off the page with all of their width.
+    /// How many of them lie off the page with all of their width, or if they are edges with all of their area.
     pub off_page: usize,
     /// How many others, which no window cuts, have an end off the page.
     pub cut: usize,
 }
 
-/// Counts the strokes that the selected pens draw, those of them that lie off the page whatever window hides them, and those
-/// others that reach over its edge and that no window cuts.
-pub fn census_of(strokes: &[Stroke], pens: PenSet, page: &Page) -> Census
-    ensures { result ≡ census_of pens page.now strokes.now }
+/// Counts the strokes, and the edges of areas, that the selected pens draw, those of them that lie off the page whatever window hides
+/// them, and those others that reach over its edge and that no window cuts. An edge lies off the page only if all of its area does.
+pub fn census_of(shapes: Shapes<'_>, pens: PenSet, page: &Page) -> Census
+    ensures { result ≡ shapes_census pens page.now (shapes_in shapes.entry) }
 {
     let mut census = Census {
         strokes: 0,
         off_page: 0,
         cut: 0,
     };
-    for stroke in strokes {
-        census = census.with(stroke, &pens, page);
+    let mut rest = ShapeWalk::new(shapes);
+    'shapes: while let Some(shape) = rest.next() {
+        census = census.with_shape(shape, &pens, page);
     }
     census
 }
 
 impl Census {
+    // With a shape, if its pen is selected.
+    #[inline]
+    fn with_shape(self, shape: NextShape<'_>, pens: &PenSet, page: &Page) -> Census
+        requires strokes { self.strokes + length (shape_in shape).strokes < 2 ^ 64 }
+        requires off_page { self.off_page ≤ self.strokes }
+        requires cut { self.cut ≤ self.strokes }
+        ensures value { result ≡ counted_all pens.now page.now self (shape_in shape.entry).strokes }
+        ensures strokes { result.strokes ≤ self.strokes + length (shape_in shape.entry).strokes }
+        ensures off_page { result.off_page ≤ result.strokes }
+        ensures cut { result.cut ≤ result.strokes }
+    {
+        match shape {
+            NextShape::Stroke(stroke) => self.with(stroke, pens, page),
+            NextShape::Area(edges, _) => self.with_edges(edges, pens, page),
+        }
+    }
+
+    // With the edges of an area, if their pen is selected.
+    fn with_edges(self, edges: &[Stroke], pens: &PenSet, page: &Page) -> Census
+        requires strokes { self.strokes + length edges.now < 2 ^ 64 }
+        requires off_page { self.off_page ≤ self.strokes }
+        requires cut { self.cut ≤ self.strokes }
+        ensures value { result ≡ counted_all pens.now page.now self edges.now }
+        ensures strokes { result.strokes ≤ self.strokes + length edges.now }
+        ensures off_page { result.off_page ≤ result.strokes }
+        ensures cut { result.cut ≤ result.strokes }
+    {
+        let [first, more @ ..] = edges else {
+            return self;
+        };
+        if !pens.has(first.pen) {
+            return self;
+        }
+        let strokes = self.strokes + edges.len();
+        if is_beside(page, Extent::of(&diagonal(first, more))) {
+            return Census {
+                strokes,
+                off_page: self.off_page + edges.len(),
+                cut: self.cut,
+            };
+        }
+        Census {
+            strokes,
+            off_page: self.off_page,
+            cut: self.cut + cut_among(page, edges),
+        }
+    }
+
     // With a stroke, if its pen is selected.
     #[inline]
     fn with(self, stroke: &Stroke, pens: &PenSet, page: &Page) -> Census
@@ -43,8 +98,8 @@ impl Census {
         requires cut { self.cut < 2 ^ 64 - 1 }
         ensures value { result ≡ counted pens.now page.now self stroke.now }
         ensures strokes { result.strokes ≤ self.strokes + 1 }
-        ensures off_page { result.off_page ≤ self.off_page + 1 }
-        ensures cut { result.cut ≤ self.cut + 1 }
+        ensures off_page { result.off_page + self.strokes ≤ result.strokes + self.off_page }
+        ensures cut { result.cut + self.strokes ≤ result.strokes + self.cut }
     {
         if !pens.has(stroke.pen) {
             return self;
@@ -58,6 +113,25 @@ impl Census {
             cut: self.cut + usize::from(is_cut),
         }
     }
+}
+
+// How many of some strokes are cut at the edge of the page.
+fn cut_among(page: &Page, strokes: &[Stroke]) -> usize
+    ensures value { result ≡ count_by (is_cut page.now) strokes.now }
+    ensures most { result ≤ length strokes.now }
+{
+    let mut count = 0;
+    for stroke in strokes {
+        count += usize::from(is_cut(page, stroke));
+    }
+    count
+}
+
+// Whether an end of a stroke lies off the page, and no window cuts it.
+fn is_cut(page: &Page, stroke: &Stroke) -> bool
+    ensures { result ≡ is_cut page.now stroke.now }
+{
+    !lies_on(page, stroke) && holds_page(page, stroke.window)
 }
 
 // Whether both ends of a stroke lie on the page, as most do. Then the stroke does not lie beside it.

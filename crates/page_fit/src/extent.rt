@@ -1,11 +1,16 @@
-//! How far strokes are seen.
-ghost use Rattle.std.specs.Prelude.{◌≡◌, ◌≤◌, ◌^◌, ◌*◌, ◌+ℤ◌, ◌-ℤ◌, ◌&&◌, pos, nat_abs, int_le, IfSome};
+//! How far strokes and areas are seen.
+ghost use Rattle.std.specs.Prelude.{◌≡◌, ◌≤◌, ◌^◌, ◌*◌, ◌+ℤ◌, ◌-ℤ◌, ◌&&◌, fold, pos, nat_abs, int_le, IfSome};
 ghost use Rattle.std.specs.Int.{int_max, int_min};
-ghost use Rattle.page_fit.specs.Extents.{IsNear, cut_to, extent_of, half_width, holds_page, is_empty, joined, joined_with, reach, seen, with_stroke};
+ghost use Rattle.areas.specs.Views.{shapes_in};
+ghost use Rattle.areas.specs.Walks.{shape_in};
+ghost use Rattle.page_fit.specs.Extents.{IsNear, cut_to, half_width, holds_page, is_empty, joined, joined_with, reach, seen, with_stroke};
+ghost use Rattle.page_fit.specs.Shapes.{diagonal_of, shapes_extent};
 
+use crate::diagonal::diagonal;
+use areas::{NextShape, ShapeWalk, Shapes};
 use plot_page::{Page, PenSet, Stroke, Window};
 
-/// How far strokes reach, in grains from the lower left corner of the page that they are drawn on.
+/// How far shapes reach, in grains from the lower left corner of the page that they are drawn on.
 #[derive(Clone, Copy, Debug, PartialEq, Eq)]
 pub struct Extent {
     pub least_x: i64,
@@ -146,17 +151,39 @@ fn spans(low: i32, high: i32, side: u32) -> bool
     low <= 0 && 16 * i64::from(side) <= i64::from(high)
 }
 
-/// How far the strokes of the selected pens are seen that are drawn on this page, with half their width. Their windows
-/// cut them, but the edges of the page do not. `None` if nothing is seen.
-pub fn extent_of(strokes: &[Stroke], pens: PenSet, page: &Page) -> Option<Extent>
-    ensures value { result ≡ extent_of pens page.now strokes.now }
+/// How far the shapes of the selected pens are seen that are drawn on this page: a stroke with half its width, an area as the box
+/// of its edges. Their windows cut them, but the edges of the page do not. `None` if nothing is seen.
+pub fn extent_of(shapes: Shapes<'_>, pens: PenSet, page: &Page) -> Option<Extent>
+    ensures value { result ≡ shapes_extent pens page.now (shapes_in shapes.entry) }
     ensures near { IfSome result IsNear }
 {
     let mut found = None;
-    for stroke in strokes {
-        found = with_stroke(found, stroke, &pens, page);
+    let mut rest = ShapeWalk::new(shapes);
+    'shapes: while let Some(shape) = rest.next() {
+        found = with_shape(found, shape, &pens, page);
     }
     found
+}
+
+// With a shape, if its pen is selected and something of it is seen.
+#[inline]
+fn with_shape(
+    found: Option<Extent>,
+    shape: NextShape<'_>,
+    pens: &PenSet,
+    page: &Page,
+) -> Option<Extent>
+    requires { IfSome found IsNear }
+    ensures value { result ≡ fold (with_stroke pens.now page.now) found (diagonal_of (shape_in shape.entry).strokes) }
+    ensures near { IfSome result IsNear }
+{
+    match shape {
+        NextShape::Stroke(stroke) => with_stroke(found, stroke, pens, page),
+        NextShape::Area([first, more @ ..], _) => {
+            with_stroke(found, &diagonal(first, more), pens, page)
+        }
+        NextShape::Area([], _) => found,
+    }
 }
 
 // With a stroke, if its pen is selected and something of it is seen.

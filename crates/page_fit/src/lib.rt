@@ -3,6 +3,7 @@
 
 mod around;
 mod census;
+mod diagonal;
 mod extent;
 pub mod laws;
 mod moves;

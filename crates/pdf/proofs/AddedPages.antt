@@ -3,6 +3,7 @@ use Rattle.std.proofs.Common.{◌≡◌, ℕ, suc, ◌+◌, ◌*◌, List, [], �
 use Rattle.deflate.specs.Zlib.{unzlib}
 use Rattle.devices.specs.declared.fault.WriteFault.{WriteFault}
 use Rattle.devices.specs.Sinks.{SinkState}
+use Rattle.areas.specs.declared.area.Area.{Area}
 use Rattle.labels.specs.Labels.{LabelShape}
 use Rattle.labels.specs.Sheets.{all_counted, count_to, labels_to}
 use Rattle.pieces.specs.Texts.{Puts, count_of}
@@ -11,8 +12,9 @@ use Rattle.pieces.proofs.Texts.{puts_as, ◌then◌}
 use Rattle.plot_page.specs.Segments.{Segment}
 use Rattle.plot_page.specs.declared.page.Page.{Page}
 use Rattle.plot_page.specs.declared.pens.PenSet.{PenSet}
+use Rattle.stroke_runs.specs.Sheets.{sheet_areas}
 use Rattle.pdf.specs.Contents.{content_text}
-use Rattle.pdf.specs.Documents.{AreStreams, catalog_text, end_text, font_count, font_objects, header_text, info_text, layer_objects, list_text, objects, page_object, page_objects, pages_objects, pages_text, pdf_bytes, pens_drawn, rows_shown, sheet_labels, sheets, stream_object}
+use Rattle.pdf.specs.Documents.{AreStreams, catalog_text, end_text, font_count, font_objects, header_text, info_text, layer_objects, list_text, objects, page_areas, page_object, page_objects, pages_objects, pages_text, pdf_bytes, pens_drawn, rows_shown, sheet_labels, sheets, stream_object}
 use Rattle.pdf.specs.Writings.{Adds, AddsPage, AddsStream, PutsStream, WritesPdf, object_end, object_start, stream_start}
 use Rattle.pdf.proofs.AddedObjects.{added_as, added_more, document_added, object_added}
 use Rattle.pdf.proofs.FontLists.{fonts_size}
@@ -34,16 +36,24 @@ pages_size before (x ∷ xs) =
     length-append (page_objects before x) (pages_objects (before + 3) xs) ∙ ap (λ (k : ℕ). 3 + k) (pages_size (before + 3) xs)
     ∙ (let e : 3 + 3 * length xs ≡ 3 * length (x ∷ xs) = omega arith in e)
 
-pub streams_size : (page : Page) (pens : PenSet) (pages : List (List Segment)) (labels : List (List LabelShape)) (streams : List (List ℕ)) → AreStreams page pens pages labels streams
+pub streams_size : (page : Page) (pens : PenSet) (pages : List (List Segment)) (areas : List (List Area)) (labels : List (List LabelShape)) (streams : List (List ℕ)) → AreStreams page pens pages areas labels streams
     → length streams ≡ length pages
-streams_size page pens [] [] [] h = refl
-streams_size page pens [] [] (x ∷ xs) h = absurd h
-streams_size page pens [] (l ∷ ls) [] h = absurd h
-streams_size page pens [] (l ∷ ls) (x ∷ xs) h = absurd h
-streams_size page pens (s ∷ ss) [] [] h = absurd h
-streams_size page pens (s ∷ ss) [] (x ∷ xs) h = absurd h
-streams_size page pens (s ∷ ss) (l ∷ ls) [] h = absurd h
-streams_size page pens (s ∷ ss) (l ∷ ls) (x ∷ xs) h = ap (λ (k : ℕ). suc k) (streams_size page pens ss ls xs h.1)
+streams_size page pens [] [] [] [] h = refl
+streams_size page pens [] [] [] (x ∷ xs) h = absurd h
+streams_size page pens [] [] (l ∷ ls) [] h = absurd h
+streams_size page pens [] [] (l ∷ ls) (x ∷ xs) h = absurd h
+streams_size page pens [] (a ∷ bs) [] [] h = absurd h
+streams_size page pens [] (a ∷ bs) [] (x ∷ xs) h = absurd h
+streams_size page pens [] (a ∷ bs) (l ∷ ls) [] h = absurd h
+streams_size page pens [] (a ∷ bs) (l ∷ ls) (x ∷ xs) h = absurd h
+streams_size page pens (s ∷ ss) [] [] [] h = absurd h
+streams_size page pens (s ∷ ss) [] [] (x ∷ xs) h = absurd h
+streams_size page pens (s ∷ ss) [] (l ∷ ls) [] h = absurd h
+streams_size page pens (s ∷ ss) [] (l ∷ ls) (x ∷ xs) h = absurd h
+streams_size page pens (s ∷ ss) (a ∷ bs) [] [] h = absurd h
+streams_size page pens (s ∷ ss) (a ∷ bs) [] (x ∷ xs) h = absurd h
+streams_size page pens (s ∷ ss) (a ∷ bs) (l ∷ ls) [] h = absurd h
+streams_size page pens (s ∷ ss) (a ∷ bs) (l ∷ ls) (x ∷ xs) h = ap (λ (k : ℕ). suc k) (streams_size page pens ss bs ls xs h.1)
 
 pub sheets_size : (strokes : List Segment) (from : ℕ) (ends : List ℕ) → length (sheets strokes from ends) ≡ length ends
 sheets_size strokes from [] = refl
@@ -78,19 +88,21 @@ page_added {before = before} {size = size} first second third =
     }
 
 -- the pages of the sheets that are left
-abbrev pub Follows : Page → PenSet → List (List Segment) → List (List LabelShape) → List (List Segment) → List (List LabelShape) → List (List ℕ) → Type 0
-Follows page pens all labels left others streams = (rest : List (List ℕ)) → AreStreams page pens left others rest → AreStreams page pens all labels (streams ++ rest)
+abbrev pub Follows : Page → PenSet → List (List Segment) → List (List Area) → List (List LabelShape) → List (List Segment) → List (List Area) → List (List LabelShape) → List (List ℕ) → Type 0
+Follows page pens all areas labels left edged others streams = (rest : List (List ℕ)) → AreStreams page pens left edged others rest → AreStreams page pens all areas labels (streams ++ rest)
 
-pub next_follows : (page : Page) (pens : PenSet) (all : List (List Segment)) (labels : List (List LabelShape)) (strokes sheet : List Segment) (left shown after : List LabelShape) (from end : ℕ) (ends others : List ℕ) (streams : List (List ℕ)) (stream : List ℕ)
-    → Follows page pens all labels (sheets strokes from ends) (sheet_labels left from ends) streams → ends ≡ end ∷ others → sheet ≡ drop from (take end strokes)
+pub next_follows : (page : Page) (pens : PenSet) (all : List (List Segment)) (areas : List (List Area)) (labels : List (List LabelShape)) (strokes sheet : List Segment) (edged : List Area) (left shown after : List LabelShape) (from end : ℕ) (ends others : List ℕ) (streams : List (List ℕ)) (stream : List ℕ)
+    → Follows page pens all areas labels (sheets strokes from ends) (page_areas edged from ends) (sheet_labels left from ends) streams → ends ≡ end ∷ others → sheet ≡ drop from (take end strokes)
     → shown ≡ all_counted from (labels_to end left) → after ≡ drop (count_to end left) left
-    → unzlib stream ≡ Some (content_text page pens sheet shown) → Follows page pens all labels (sheets strokes end others) (sheet_labels after end others) (streams ++ stream ∷ [])
-next_follows page pens all labels strokes sheet left shown after from end ends others streams stream so_far next is has moved read rest h =
-    let P : List ℕ → Type 0 = λ zs. Follows page pens all labels (sheets strokes from zs) (sheet_labels left from zs) streams in
-    let Q : List Segment → Type 0 = λ z. unzlib stream ≡ Some (content_text page pens z shown) in
-    let S : List LabelShape → Type 0 = λ z. unzlib stream ≡ Some (content_text page pens (drop from (take end strokes)) z) in
-    let T : List LabelShape → Type 0 = λ z. AreStreams page pens (sheets strokes end others) (sheet_labels z end others) rest in
-    let R : List (List ℕ) → Type 0 = λ z. AreStreams page pens all labels z in
+    → unzlib stream ≡ Some (content_text page pens sheet (sheet_areas from edged) shown)
+    → Follows page pens all areas labels (sheets strokes end others) (page_areas edged end others) (sheet_labels after end others) (streams ++ stream ∷ [])
+next_follows page pens all areas labels strokes sheet edged left shown after from end ends others streams stream so_far next is has moved read rest h =
+    let here = sheet_areas from edged in
+    let P : List ℕ → Type 0 = λ zs. Follows page pens all areas labels (sheets strokes from zs) (page_areas edged from zs) (sheet_labels left from zs) streams in
+    let Q : List Segment → Type 0 = λ z. unzlib stream ≡ Some (content_text page pens z here shown) in
+    let S : List LabelShape → Type 0 = λ z. unzlib stream ≡ Some (content_text page pens (drop from (take end strokes)) here z) in
+    let T : List LabelShape → Type 0 = λ z. AreStreams page pens (sheets strokes end others) (page_areas edged end others) (sheet_labels z end others) rest in
+    let R : List (List ℕ) → Type 0 = λ z. AreStreams page pens all areas labels z in
     subst R (sym (append_assoc streams (stream ∷ []) rest)) (subst P next so_far (stream ∷ rest) (subst S has (subst Q is read), subst T moved h))
 
 -- one page more
@@ -102,11 +114,11 @@ page_more {before = before} {next = next} streams stream first second is =
     added_as (added_more first second size) (ap (λ (k : ℕ). pages_objects before streams ++ page_objects k stream) is ∙ sym (pages_join before streams stream))
 
 -- all pages were written
-pub all_follow : (page : Page) (pens : PenSet) (all : List (List Segment)) (labels : List (List LabelShape)) (strokes : List Segment) (shown : List LabelShape) (from : ℕ) (ends : List ℕ) (streams : List (List ℕ))
-    → Follows page pens all labels (sheets strokes from ends) (sheet_labels shown from ends) streams → ends ≡ [] → AreStreams page pens all labels streams
-all_follow page pens all labels strokes shown from ends streams so_far none =
-    let P : List ℕ → Type 0 = λ z. Follows page pens all labels (sheets strokes from z) (sheet_labels shown from z) streams in
-    let R : List (List ℕ) → Type 0 = λ z. AreStreams page pens all labels z in
+pub all_follow : (page : Page) (pens : PenSet) (all : List (List Segment)) (areas : List (List Area)) (labels : List (List LabelShape)) (strokes : List Segment) (edged : List Area) (shown : List LabelShape) (from : ℕ) (ends : List ℕ) (streams : List (List ℕ))
+    → Follows page pens all areas labels (sheets strokes from ends) (page_areas edged from ends) (sheet_labels shown from ends) streams → ends ≡ [] → AreStreams page pens all areas labels streams
+all_follow page pens all areas labels strokes edged shown from ends streams so_far none =
+    let P : List ℕ → Type 0 = λ z. Follows page pens all areas labels (sheets strokes from z) (page_areas edged from z) (sheet_labels shown from z) streams in
+    let R : List (List ℕ) → Type 0 = λ z. AreStreams page pens all areas labels z in
     subst R (append-nil streams) (subst P none so_far [] tt)
 
 -- the first four objects
@@ -129,10 +141,10 @@ objects_added {state = state} {c = c} {d = d} {e = e} {q = q} {r = r} {s = s} ve
     added_more (added_more (added_more first second refl) third' after) fourth' later
 
 -- how many objects a document has
-pub objects_size : (version title : List ℕ) (page : Page) (pens rows ends : List ℕ) (pages : List (List Segment)) (labels : List (List LabelShape)) (streams : List (List ℕ)) (set : PenSet)
-    → AreStreams page set pages labels streams → length pages ≡ length ends
+pub objects_size : (version title : List ℕ) (page : Page) (pens rows ends : List ℕ) (pages : List (List Segment)) (areas : List (List Area)) (labels : List (List LabelShape)) (streams : List (List ℕ)) (set : PenSet)
+    → AreStreams page set pages areas labels streams → length pages ≡ length ends
     → length (objects version title page pens rows ends streams) ≡ 4 + length pens + font_count rows + 3 * length ends
-objects_size version title page pens rows ends pages labels streams set are same =
+objects_size version title page pens rows ends pages areas labels streams set are same =
     let four = front version title page pens rows ends in
     let fonts = font_objects (4 + length pens) rows in
     omega (
@@ -143,30 +155,30 @@ objects_size version title page pens rows ends pages labels streams set are same
       layer_objects_size pens,
       fonts_size (4 + length pens) rows,
       pages_size (4 + length pens + font_count rows) streams,
-      streams_size page set pages labels streams are,
+      streams_size page set pages areas labels streams are,
       same,
     )
 
 -- the whole document was put into a new text
-pub pdf_put : {K : Type 0} {state : K → SinkState} {a b c d e f g : Text K} {o p q r s : List ℕ} (layers fonts all : ℕ) (version title : List ℕ) (page : Page) (set : PenSet) (strokes : List Segment) (ends : List ℕ) (labels : List LabelShape) (pens rows : List ℕ) (streams : List (List ℕ))
+pub pdf_put : {K : Type 0} {state : K → SinkState} {a b c d e f g : Text K} {o p q r s : List ℕ} (layers fonts all : ℕ) (version title : List ℕ) (page : Page) (set : PenSet) (strokes : List Segment) (areas : List Area) (ends : List ℕ) (labels : List LabelShape) (pens rows : List ℕ) (streams : List (List ℕ))
     → count_of a ≡ 0 → Puts state a b header_text → Adds state b c o p 0 (front version title page pens rows ends) → Adds state c d p q 4 (layer_objects pens)
     → Adds state d e q r layers (font_objects layers rows) → Adds state e f r s fonts (pages_objects fonts streams) → Puts state f g (end_text (take all s) (count_of f))
-    → AreStreams page set (sheets strokes 0 ends) (sheet_labels labels 0 ends) streams
+    → AreStreams page set (sheets strokes 0 ends) (page_areas areas 0 ends) (sheet_labels labels 0 ends) streams
     → layers ≡ 4 + length pens → fonts ≡ 4 + length pens + font_count rows → all ≡ fonts + 3 * length ends
     → pens ≡ pens_drawn set strokes → rows ≡ rows_shown set strokes labels
     → Puts state a g (pdf_bytes version title page (pens_drawn set strokes) (rows_shown set strokes labels) ends streams)
-pdf_put {s = s} layers fonts all version title page set strokes ends labels pens rows streams new head first second third fourth end are layers_is fonts_is all_is pens_are rows_are =
+pdf_put {s = s} layers fonts all version title page set strokes areas ends labels pens rows streams new head first second third fourth end are layers_is fonts_is all_is pens_are rows_are =
     let bodies = objects version title page pens rows ends streams in
     let added = objects_added version title page pens rows ends streams first second third fourth layers_is fonts_is in
     let count : all ≡ length bodies =
-    omega (arith, all_is, fonts_is, objects_size version title page pens rows ends (sheets strokes 0 ends) (sheet_labels labels 0 ends) streams set are (sheets_size strokes 0 ends)) in
+    omega (arith, all_is, fonts_is, objects_size version title page pens rows ends (sheets strokes 0 ends) (page_areas areas 0 ends) (sheet_labels labels 0 ends) streams set are (sheets_size strokes 0 ends)) in
     puts_as (document_added {all = bodies} new head added (ap (λ (k : ℕ). take k s) count) end)
     (ap (λ (z : List ℕ). pdf_bytes version title page z rows ends streams) pens_are
     ∙ ap (λ (z : List ℕ). pdf_bytes version title page (pens_drawn set strokes) z ends streams) rows_are)
 
 -- the same sink before and after
-pub pdf_as : {a b c d : SinkState} {version title : List ℕ} {page : Page} {pens : PenSet} {strokes : List Segment} {ends : List ℕ} {labels : List LabelShape} {result : Result ℕ WriteFault}
-    → c ≡ a → d ≡ b → WritesPdf c d version title page pens strokes ends labels result → WritesPdf a b version title page pens strokes ends labels result
-pdf_as {a = a} {d = d} {version = version} {title = title} {page = page} {pens = pens} {strokes = strokes} {ends = ends} {labels = labels} {result = result} p q h =
-    subst (λ (t : SinkState). WritesPdf a t version title page pens strokes ends labels result) q
-    (subst (λ (t : SinkState). WritesPdf t d version title page pens strokes ends labels result) p h)
+pub pdf_as : {a b c d : SinkState} {version title : List ℕ} {page : Page} {pens : PenSet} {strokes : List Segment} {areas : List Area} {ends : List ℕ} {labels : List LabelShape} {result : Result ℕ WriteFault}
+    → c ≡ a → d ≡ b → WritesPdf c d version title page pens strokes areas ends labels result → WritesPdf a b version title page pens strokes areas ends labels result
+pdf_as {a = a} {d = d} {version = version} {title = title} {page = page} {pens = pens} {strokes = strokes} {areas = areas} {ends = ends} {labels = labels} {result = result} p q h =
+    subst (λ (t : SinkState). WritesPdf a t version title page pens strokes areas ends labels result) q
+    (subst (λ (t : SinkState). WritesPdf t d version title page pens strokes areas ends labels result) p h)

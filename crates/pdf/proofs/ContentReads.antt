@@ -11,11 +11,13 @@ use Rattle.std.specs.Str.Parse.{digits_value}
 use Rattle.pieces.proofs.Scans.{AreWords, Lacks, byte_value, decimal_lacks, digits_lack, fraction_lacks, hex_digit, integer_read, lacks_both, number_read, signed_lacks, split_last, split_more, split_words}
 use Rattle.pieces.specs.Fractions.{fraction}
 use Rattle.pieces.specs.Readings.{given, integer, number, split, ◌>>=◌}
-use Rattle.pdf.specs.ContentReader.{bytes_in, colour_part, operator, operators, part_in, parts_in, read_content, signed, unsigned}
+use Rattle.plot_page.specs.declared.colour.Colour.{Colour}
+use Rattle.polygons.specs.declared.lines.Rule.TheVariants.{OddCounts, Winding}
+use Rattle.pdf.specs.ContentReader.{bytes_in, colour, colour_part, operator, operators, part_in, parts_in, read_content, signed, unsigned}
 use Rattle.pdf.specs.Numbers.{digits_text, part, signed_thousandths, thousandths, two_digits}
 use Rattle.pdf.specs.Operators.{Operator, Scale, Layer, EndLayer, Save, Restore, Rectangle, Clip, NoPaint, StrokeColour}
-use Rattle.pdf.specs.Operators.{LineWidth, LineEnds, LineJoins, MoveTo, LineTo, StrokePath, BeginText, Invisible}
-use Rattle.pdf.specs.Operators.{TextMatrix, Font, ShowText, EndText, operator_text, operators_text}
+use Rattle.pdf.specs.Operators.{FillColour, LineWidth, LineEnds, LineJoins, MoveTo, LineTo, ClosePath, StrokePath, FillAndStroke}
+use Rattle.pdf.specs.Operators.{BeginText, Invisible, TextMatrix, Font, ShowText, EndText, operator_text, operators_text}
 
 -- thousandths are read as they were written
 digit_is : (a : ℕ) → a < 10 → is_digit (48 + a) 10 ≡ true
@@ -163,12 +165,16 @@ words (Rectangle w) = signed_decimal w.x0 ∷ signed_decimal w.y0 ∷ signed_dec
 words Clip = codes "W" ∷ []
 words NoPaint = codes "n" ∷ []
 words (StrokeColour c) = part c.red ∷ part c.green ∷ part c.blue ∷ codes "RG" ∷ []
+words (FillColour c) = part c.red ∷ part c.green ∷ part c.blue ∷ codes "rg" ∷ []
 words (LineWidth width) = decimal width ∷ codes "w" ∷ []
 words LineEnds = codes "1" ∷ codes "J" ∷ []
 words LineJoins = codes "1" ∷ codes "j" ∷ []
 words (MoveTo x y) = signed_decimal x ∷ signed_decimal y ∷ codes "m" ∷ []
 words (LineTo x y) = signed_decimal x ∷ signed_decimal y ∷ codes "l" ∷ []
+words ClosePath = codes "h" ∷ []
 words StrokePath = codes "S" ∷ []
+words (FillAndStroke OddCounts) = codes "B*" ∷ []
+words (FillAndStroke Winding) = codes "B" ∷ []
 words BeginText = codes "BT" ∷ []
 words Invisible = codes "3" ∷ codes "Tr" ∷ []
 words (TextMatrix m x y) = signed_thousandths m.a ∷ signed_thousandths m.b ∷ signed_thousandths m.c ∷ signed_thousandths m.d ∷ signed_decimal x ∷ signed_decimal y ∷ codes "Tm" ∷ []
@@ -187,6 +193,9 @@ rectangle_line a b c d = simp append_assoc
 
 colour_line : (a b c : List ℕ) → a ++ codes " " ++ b ++ codes " " ++ c ++ codes " RG\n" ≡ join_with_byte 32 (a ∷ b ∷ c ∷ codes "RG" ∷ []) ++ codes "\n"
 colour_line a b c = simp append_assoc
+
+fill_line : (a b c : List ℕ) → a ++ codes " " ++ b ++ codes " " ++ c ++ codes " rg\n" ≡ join_with_byte 32 (a ∷ b ∷ c ∷ codes "rg" ∷ []) ++ codes "\n"
+fill_line a b c = simp append_assoc
 
 width_line : (a : List ℕ) → a ++ codes " w\n" ≡ join_with_byte 32 (a ∷ codes "w" ∷ []) ++ codes "\n"
 width_line a = simp append_assoc
@@ -217,12 +226,16 @@ lined (Rectangle w) = rectangle_line (signed_decimal w.x0) (signed_decimal w.y0)
 lined Clip = refl
 lined NoPaint = refl
 lined (StrokeColour c) = colour_line (part c.red) (part c.green) (part c.blue)
+lined (FillColour c) = fill_line (part c.red) (part c.green) (part c.blue)
 lined (LineWidth width) = width_line (decimal width)
 lined LineEnds = refl
 lined LineJoins = refl
 lined (MoveTo x y) = move_line (signed_decimal x) (signed_decimal y)
 lined (LineTo x y) = line_line (signed_decimal x) (signed_decimal y)
+lined ClosePath = refl
 lined StrokePath = refl
+lined (FillAndStroke OddCounts) = refl
+lined (FillAndStroke Winding) = refl
 lined BeginText = refl
 lined Invisible = refl
 lined (TextMatrix m x y) = matrix_line (signed_thousandths m.a) (signed_thousandths m.b) (signed_thousandths m.c) (signed_thousandths m.d) (signed_decimal x) (signed_decimal y)
@@ -238,6 +251,7 @@ abbrev pub Fits : Operator → Type 0
 Fits (Layer pen) = pen < 2 ^ 62
 Fits (Rectangle w) = IsSmall w.x0 × IsSmall w.y0 × IsSmall w.x1 × IsSmall w.y1
 Fits (StrokeColour c) = (c.red < 256) × (c.green < 256) × (c.blue < 256)
+Fits (FillColour c) = (c.red < 256) × (c.green < 256) × (c.blue < 256)
 Fits (LineWidth width) = width < 2 ^ 62
 Fits (MoveTo x y) = IsSmall x × IsSmall y
 Fits (LineTo x y) = IsSmall x × IsSmall y
@@ -265,8 +279,15 @@ signeds z h = signed_read z (omega (arith, h))
 abbrev rectangle_of : Option ℤ → Option ℤ → Option ℤ → Option ℤ → Option Operator
 rectangle_of a b c d = a >>= (λ x. b >>= (λ y. c >>= (λ w. d >>= (λ h. Some (Rectangle (record { x0 = x; y0 = y; x1 = x +ℤ w; y1 = y +ℤ h }))))))
 
-abbrev colour_of : Option ℕ → Option ℕ → Option ℕ → Option Operator
-colour_of a b c = a >>= (λ r. b >>= (λ g. c >>= (λ d. Some (StrokeColour (record { red = r; green = g; blue = d })))))
+abbrev colour_of : Option ℕ → Option ℕ → Option ℕ → Option Colour
+colour_of a b c = a >>= (λ r. b >>= (λ g. c >>= (λ d. Some (record { red = r; green = g; blue = d }))))
+
+colour_read : (c : Colour) → c.red < 256 → c.green < 256 → c.blue < 256 → colour (part c.red) (part c.green) (part c.blue) ≡ Some c
+colour_read c h k m =
+    let r = part_read c.red h in
+    let g = part_read c.green k in
+    let b = part_read c.blue m in
+    λ i. colour_of (r i) (g i) (b i)
 
 abbrev place_of : (ℤ → ℤ → Operator) → Option ℤ → Option ℤ → Option Operator
 place_of f a b = a >>= (λ x. b >>= (λ y. Some (f x y)))
@@ -290,11 +311,8 @@ words_read (Rectangle w) h =
     (λ i. rectangle_of (a i) (b i) (c i) (d i)) ∙ (λ i. Some (Rectangle (record { x0 = w.x0; y0 = w.y0; x1 = x i; y1 = y i })))
 words_read Clip h = refl
 words_read NoPaint h = refl
-words_read (StrokeColour c) h =
-    let r = part_read c.red h.0 in
-    let g = part_read c.green h.1 in
-    let b = part_read c.blue h.2 in
-    λ i. colour_of (r i) (g i) (b i)
+words_read (StrokeColour c) h = ap (λ (o : Option Colour). option_map StrokeColour o) (colour_read c h.0 h.1 h.2)
+words_read (FillColour c) h = ap (λ (o : Option Colour). option_map FillColour o) (colour_read c h.0 h.1 h.2)
 words_read (LineWidth width) h = ap (λ (o : Option ℕ). option_map LineWidth o) (numbers width h)
 words_read LineEnds h = refl
 words_read LineJoins h = refl
@@ -306,7 +324,10 @@ words_read (LineTo x y) h =
     let a = integers x h.0 in
     let b = integers y h.1 in
     λ i. place_of LineTo (a i) (b i)
+words_read ClosePath h = refl
 words_read StrokePath h = refl
+words_read (FillAndStroke OddCounts) h = refl
+words_read (FillAndStroke Winding) h = refl
 words_read BeginText h = refl
 words_read Invisible h = refl
 words_read (TextMatrix m x y) h =
@@ -367,12 +388,16 @@ words_plain (Rectangle w) h = (signed_plain w.x0, (signed_plain w.y0, (signed_pl
 words_plain Clip h = (refl, tt)
 words_plain NoPaint h = (refl, tt)
 words_plain (StrokeColour c) h = (part_plain c.red, (part_plain c.green, (part_plain c.blue, (refl, tt))))
+words_plain (FillColour c) h = (part_plain c.red, (part_plain c.green, (part_plain c.blue, (refl, tt))))
 words_plain (LineWidth width) h = (decimal_plain width, (refl, tt))
 words_plain LineEnds h = (refl, (refl, tt))
 words_plain LineJoins h = (refl, (refl, tt))
 words_plain (MoveTo x y) h = (signed_plain x, (signed_plain y, (refl, tt)))
 words_plain (LineTo x y) h = (signed_plain x, (signed_plain y, (refl, tt)))
+words_plain ClosePath h = (refl, tt)
 words_plain StrokePath h = (refl, tt)
+words_plain (FillAndStroke OddCounts) h = (refl, tt)
+words_plain (FillAndStroke Winding) h = (refl, tt)
 words_plain BeginText h = (refl, tt)
 words_plain Invisible h = (refl, (refl, tt))
 words_plain (TextMatrix m x y) h = (thousandths_plain m.a, (thousandths_plain m.b, (thousandths_plain m.c, (thousandths_plain m.d, (signed_plain x, (signed_plain y, (refl, tt)))))))
@@ -415,12 +440,16 @@ some_words (Rectangle w) = tt
 some_words Clip = tt
 some_words NoPaint = tt
 some_words (StrokeColour c) = tt
+some_words (FillColour c) = tt
 some_words (LineWidth width) = tt
 some_words LineEnds = tt
 some_words LineJoins = tt
 some_words (MoveTo x y) = tt
 some_words (LineTo x y) = tt
+some_words ClosePath = tt
 some_words StrokePath = tt
+some_words (FillAndStroke OddCounts) = tt
+some_words (FillAndStroke Winding) = tt
 some_words BeginText = tt
 some_words Invisible = tt
 some_words (TextMatrix m x y) = tt

@@ -1,11 +1,14 @@
 -- The bytes of small documents.
-use Rattle.std.proofs.Common.{◌≡◌, ◌^◌, ℕ, ℤ, pos, negsuc, List, [], ◌∷◌, ◌++◌, codes, length, map, refl, replicate, true, arith}
+use Rattle.std.proofs.Common.{◌≡◌, ◌^◌, ℕ, ℤ, pos, negsuc, List, [], ◌∷◌, ◌++◌, codes, length, map, refl, replicate, true, arith, Some, None}
 use Rattle.std.specs.Fmt.{digits}
 use Rattle.plot_page.specs.Segments.{Segment}
 use Rattle.plot_page.specs.declared.colour.Colour.{Colour}
 use Rattle.plot_page.specs.declared.page.Page.{Page}
 use Rattle.plot_page.specs.declared.pens.PenSet.{PenSet}
 use Rattle.plot_page.specs.declared.window.Window.{Window}
+use Rattle.polygons.specs.declared.lines.Rule.TheVariants.{OddCounts, Winding}
+use Rattle.areas.specs.Shapes.{Shape}
+use Rattle.areas.specs.declared.area.Area.{Area}
 use Rattle.labels.specs.Labels.{LabelShape, LineShape}
 use Rattle.pdf.specs.Contents.{content_text, lines_operators, runs_operators, stroke_operators, texts_operators}
 use Rattle.pdf.specs.Operators.{colour_text, operators_text}
@@ -102,18 +105,62 @@ a_stroke : operators_text (stroke_operators up) ≡ codes "16256 448 m\n16256 -1
 unfolding digits
 a_stroke = refl
 
+-- edges
+abbrev edge : ℤ → ℤ → ℤ → ℤ → Segment
+edge ax ay bx by = stroke 1 black 0 whole ax ay bx by
+
+abbrev square : List Segment
+square =
+    edge (pos 0) (pos 0) (pos 320) (pos 0) ∷ edge (pos 320) (pos 0) (pos 320) (pos 320)
+    ∷ edge (pos 320) (pos 320) (pos 0) (pos 320) ∷ edge (pos 0) (pos 320) (pos 0) (pos 0) ∷ []
+
+abbrev hole : List Segment
+hole =
+    edge (pos 80) (pos 80) (pos 240) (pos 80) ∷ edge (pos 240) (pos 80) (pos 240) (pos 240)
+    ∷ edge (pos 240) (pos 240) (pos 80) (pos 80) ∷ []
+
+abbrev point : Segment
+point = edge (pos 16) (pos 32) (pos 16) (pos 32)
+
+abbrev corner_of_two : List Segment
+corner_of_two = clipped ∷ stroke 2 orange 0 corner (pos 16256) (pos 32512) (pos 0) (pos 32512) ∷ []
+
+abbrev run : List Segment → Shape
+run strokes = record { strokes = strokes; rule = None }
+
 -- a path
-paths : Table (λ (run : List Segment). operators_text (runs_operators page (run ∷ []))) (
+paths : Table (λ (run : Shape). operators_text (runs_operators page (run ∷ []))) (
     -- two strokes that follow one another, and a dot
-    (across ∷ up ∷ dot ∷ [], codes "/OC /P1 BDC\nq\n0 0 0 RG\n56 w\n0 448 m\n16256 448 l\n16256 -1 l\n16 32 m\n16 32 l\nS\nQ\nEMC\n")
+    (run (across ∷ up ∷ dot ∷ []), codes "/OC /P1 BDC\nq\n0 0 0 RG\n56 w\n0 448 m\n16256 448 l\n16256 -1 l\n16 32 m\n16 32 l\nS\nQ\nEMC\n")
     -- in a window; the width is at least 24 grains
-    ∷ (clipped ∷ [], codes "/OC /P2 BDC\nq\n160 320 7840 8680 re\nW\nn\n1 0.533 0.004 RG\n24 w\n0 0 m\n16256 32512 l\nS\nQ\nEMC\n")
+    ∷ (run (clipped ∷ []), codes "/OC /P2 BDC\nq\n160 320 7840 8680 re\nW\nn\n1 0.533 0.004 RG\n24 w\n0 0 m\n16256 32512 l\nS\nQ\nEMC\n")
+    -- a square with a hole
+    ∷ (
+      record { strokes = square ++ hole; rule = Some OddCounts },
+      codes "/OC /P1 BDC\nq\n0 0 0 RG\n24 w\n0 0 0 rg\n0 0 m\n320 0 l\n320 320 l\n0 320 l\n0 0 l\nh\n80 80 m\n240 80 l\n240 240 l\n80 80 l\nh\nB*\nQ\nEMC\n",
+    )
+    -- an area by winding, of one point
+    ∷ (record { strokes = point ∷ []; rule = Some Winding }, codes "/OC /P1 BDC\nq\n0 0 0 RG\n24 w\n0 0 0 rg\n16 32 m\n16 32 l\nh\nB\nQ\nEMC\n")
+    -- edges in a window that do not lead back
+    ∷ (
+      record { strokes = corner_of_two; rule = Some OddCounts },
+      codes "/OC /P2 BDC\nq\n160 320 7840 8680 re\nW\nn\n1 0.533 0.004 RG\n24 w\n1 0.533 0.004 rg\n0 0 m\n16256 32512 l\n0 32512 l\nB*\nQ\nEMC\n",
+    )
     ∷ []
     )
 unfolding digits
 paths = refl
 
-empty_content : content_text page all_pens [] [] ≡ codes "0.004429133858 0 0 0.004429133858 0 0 cm\n1 J\n1 j\n"
+-- an area among strokes is a path of its own
+abbrev triangle : Area
+triangle = record { first = 1; end = 4; rule = OddCounts }
+
+an_area_among_strokes : content_text page all_pens (across ∷ hole ++ up ∷ []) (triangle ∷ []) []
+    ≡ codes "0.004429133858 0 0 0.004429133858 0 0 cm\n1 J\n1 j\n/OC /P1 BDC\nq\n0 0 0 RG\n56 w\n0 448 m\n16256 448 l\nS\nQ\nEMC\n/OC /P1 BDC\nq\n0 0 0 RG\n24 w\n0 0 0 rg\n80 80 m\n240 80 l\n240 240 l\n80 80 l\nh\nB*\nQ\nEMC\n/OC /P1 BDC\nq\n0 0 0 RG\n56 w\n16256 448 m\n16256 -1 l\nS\nQ\nEMC\n"
+unfolding digits
+an_area_among_strokes = refl
+
+empty_content : content_text page all_pens [] [] [] ≡ codes "0.004429133858 0 0 0.004429133858 0 0 cm\n1 J\n1 j\n"
 empty_content = refl
 
 two_sheets : sheets (across ∷ up ∷ dot ∷ []) 0 (1 ∷ 3 ∷ []) ≡ (across ∷ []) ∷ (up ∷ dot ∷ []) ∷ []

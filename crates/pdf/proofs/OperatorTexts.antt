@@ -1,17 +1,21 @@
 -- The content of a page is the text of its operators.
-use Rattle.std.proofs.Common.{◌≡◌, ℕ, List, [], ◌∷◌, ◌++◌, Bool, true, false, cond, max, codes, decimal, refl, ap, sym, ◌∙◌, append_assoc, append-nil}
+use Rattle.std.proofs.Common.{◌≡◌, ℕ, List, [], ◌∷◌, ◌++◌, Bool, true, false, cond, max, codes, decimal, refl, ap, sym, ◌∙◌, append_assoc, append-nil, Option, Some, None}
 use Rattle.plot_page.specs.Segments.{Segment}
 use Rattle.plot_page.specs.declared.colour.Colour.{Colour}
 use Rattle.plot_page.specs.declared.page.Page.{Page}
 use Rattle.plot_page.specs.declared.pens.PenSet.{PenSet}
 use Rattle.plot_page.specs.declared.window.Window.{Window}
+use Rattle.polygons.specs.declared.lines.Rule.{Rule}
+use Rattle.polygons.specs.declared.lines.Rule.TheVariants.{OddCounts, Winding}
+use Rattle.areas.specs.Shapes.{Shape, shapes}
+use Rattle.areas.specs.declared.area.Area.{Area}
 use Rattle.stroke_runs.specs.Drawn.{is_joined}
-use Rattle.stroke_runs.specs.Runs.{runs}
+use Rattle.stroke_runs.specs.Runs.{shape_runs}
 use Rattle.labels.specs.Labels.{LabelShape, LineShape}
 use Rattle.stroke_runs.specs.Shown.{is_whole_page, is_shown}
-use Rattle.pdf.specs.Contents.{clip_operators, content_text, end_operators, labels_operators, line_operators, lines_operators, rest_operators, runs_operators, start_operators, stroke_operators, text_operators, texts_operators}
-use Rattle.pdf.specs.Operators.{Operator, Clip, Layer, LineWidth, NoPaint, Rectangle, Save, StrokeColour, Scale, LineEnds, LineJoins, BeginText, Invisible, EndText, colour_text, operator_text, operators_text, place_text, width_text}
-use Rattle.pdf.specs.RunTexts.{clip_text, end_text, head_text, layer_text, line_text, rest_text, runs_text, start_text, stroke_text, strokes_text, window_text}
+use Rattle.pdf.specs.Contents.{chain_end, clip_operators, content_text, end_operators, fill_operators, labels_operators, line_operators, lines_operators, rest_operators, run_operators, runs_operators, start_operators, stroke_operators, text_operators, texts_operators}
+use Rattle.pdf.specs.Operators.{Operator, Clip, ClosePath, Layer, LineWidth, NoPaint, Rectangle, Save, StrokeColour, Scale, LineEnds, LineJoins, BeginText, Invisible, EndText, colour_text, fill_colour_text, operator_text, operators_text, place_text, width_text}
+use Rattle.pdf.specs.RunTexts.{begin_text, chain_end_text, clip_text, end_text, fill_text, head_text, layer_text, line_text, rest_text, run_text, runs_text, shapes_text, start_text, stroke_text, window_text}
 
 join : (xs ys : List Operator) → operators_text (xs ++ ys) ≡ operators_text xs ++ operators_text ys
 join [] ys = refl
@@ -45,30 +49,61 @@ of_line s = append-nil (line_text s)
 of_stroke : (s : Segment) → operators_text (stroke_operators s) ≡ stroke_text s
 of_stroke s = ap (λ (z : List ℕ). (place_text s.ax s.ay ++ codes " m\n") ++ z) (append-nil (line_text s))
 
-of_link : (b : Bool) (s : Segment) → operators_text (cond b (line_operators s) (stroke_operators s)) ≡ cond b (line_text s) (stroke_text s)
-of_link true s = of_line s
-of_link false s = of_stroke s
+of_closing : (b : Bool) → operators_text (cond b (ClosePath ∷ []) []) ≡ cond b (codes "h\n") []
+of_closing true = refl
+of_closing false = refl
 
-of_rest : (last : Segment) (ss : List Segment) → operators_text (rest_operators last ss) ≡ rest_text last ss
-of_rest last [] = refl
-of_rest last (s ∷ ss) =
-    both (cond (is_joined last s) (line_operators s) (stroke_operators s)) (rest_operators s ss) _ (rest_text s ss) (of_link (is_joined last s) s) (of_rest s ss)
+of_chain : (rule : Option Rule) (first last : Segment) → operators_text (chain_end rule first last) ≡ chain_end_text rule first last
+of_chain None first last = refl
+of_chain (Some rule) first last = of_closing (is_joined last first)
 
-of_runs : (page : Page) (rs : List (List Segment)) → operators_text (runs_operators page rs) ≡ runs_text page rs
+-- a stroke that goes on a chain, or that begins another one, and those after it
+rest_step : (b : Bool) (rule : Option Rule) (first last s : Segment) (ss : List Segment)
+    → operators_text (rest_operators rule first s ss) ≡ rest_text rule first s ss → operators_text (rest_operators rule s s ss) ≡ rest_text rule s s ss
+    → operators_text (cond b (line_operators s ++ rest_operators rule first s ss) (chain_end rule first last ++ stroke_operators s ++ rest_operators rule s s ss))
+    ≡ cond b (line_text s ++ rest_text rule first s ss) (chain_end_text rule first last ++ stroke_text s ++ rest_text rule s s ss)
+rest_step true rule first last s ss p q = both (line_operators s) (rest_operators rule first s ss) (line_text s) (rest_text rule first s ss) (of_line s) p
+rest_step false rule first last s ss p q =
+    both (chain_end rule first last ++ stroke_operators s) (rest_operators rule s s ss) (chain_end_text rule first last ++ stroke_text s) (rest_text rule s s ss)
+    (both (chain_end rule first last) (stroke_operators s) (chain_end_text rule first last) (stroke_text s) (of_chain rule first last) (of_stroke s)) q
+
+of_rest : (rule : Option Rule) (first last : Segment) (ss : List Segment) → operators_text (rest_operators rule first last ss) ≡ rest_text rule first last ss
+of_rest rule first last [] = of_chain rule first last
+of_rest rule first last (s ∷ ss) = rest_step (is_joined last s) rule first last s ss (of_rest rule first s ss) (of_rest rule s s ss)
+
+of_fill : (rule : Option Rule) (c : Colour) → operators_text (fill_operators rule c) ≡ fill_text rule c
+of_fill None c = refl
+of_fill (Some rule) c = append-nil (fill_colour_text c)
+
+of_end : (rule : Option Rule) → operators_text (end_operators rule) ≡ end_text rule
+of_end None = refl
+of_end (Some OddCounts) = refl
+of_end (Some Winding) = refl
+
+of_run : (page : Page) (rule : Option Rule) (ss : List Segment) → operators_text (run_operators page rule ss) ≡ run_text page rule ss
+of_run page rule [] = refl
+of_run page rule (s ∷ ss) =
+    let start = start_operators page s in
+    let fill = fill_operators rule s.colour in
+    let stroke = stroke_operators s in
+    let rest = rest_operators rule s s ss in
+    both (start ++ fill ++ stroke ++ rest) (end_operators rule) (begin_text page rule s ++ rest_text rule s s ss) (end_text rule)
+    (both (start ++ fill ++ stroke) rest (begin_text page rule s) (rest_text rule s s ss)
+    (both (start ++ fill) stroke (start_text page s ++ fill_text rule s.colour) (stroke_text s)
+    (both start fill (start_text page s) (fill_text rule s.colour) (of_start page s) (of_fill rule s.colour)) (of_stroke s)) (of_rest rule s s ss)) (of_end rule)
+
+of_runs : (page : Page) (rs : List Shape) → operators_text (runs_operators page rs) ≡ runs_text page rs
 of_runs page [] = refl
-of_runs page ([] ∷ rs) = of_runs page rs
-of_runs page ((s ∷ ss) ∷ rs) =
-    both (start_operators page s ++ stroke_operators s ++ rest_operators s ss ++ end_operators) (runs_operators page rs) (start_text page s ++ stroke_text s ++ rest_text s ss ++ end_text) (runs_text page rs)
-    (both (start_operators page s ++ stroke_operators s ++ rest_operators s ss) end_operators (start_text page s ++ stroke_text s ++ rest_text s ss) end_text
-    (both (start_operators page s ++ stroke_operators s) (rest_operators s ss) (start_text page s ++ stroke_text s) (rest_text s ss)
-    (both (start_operators page s) (stroke_operators s) (start_text page s) (stroke_text s) (of_start page s) (of_stroke s)) (of_rest s ss)) refl) (of_runs page rs)
+of_runs page (run ∷ rs) =
+    both (run_operators page run.rule run.strokes) (runs_operators page rs) (run_text page run.rule run.strokes) (runs_text page rs) (of_run page run.rule run.strokes) (of_runs page rs)
 
--- the strokes and the labels
-pub of_content : (page : Page) (pens : PenSet) (strokes : List Segment) (labels : List LabelShape)
-    → content_text page pens strokes labels ≡ strokes_text page pens strokes ++ operators_text (texts_operators pens strokes labels)
-of_content page pens strokes labels =
-    both ((Scale ∷ LineEnds ∷ LineJoins ∷ []) ++ runs_operators page (runs pens strokes)) (texts_operators pens strokes labels) (strokes_text page pens strokes) (operators_text (texts_operators pens strokes labels))
-    (both (Scale ∷ LineEnds ∷ LineJoins ∷ []) (runs_operators page (runs pens strokes)) head_text (runs_text page (runs pens strokes)) refl (of_runs page (runs pens strokes))) refl
+-- the shapes of a page, and its texts
+pub of_content : (page : Page) (pens : PenSet) (strokes : List Segment) (areas : List Area) (labels : List LabelShape)
+    → content_text page pens strokes areas labels ≡ shapes_text page pens strokes areas ++ operators_text (texts_operators pens strokes labels)
+of_content page pens strokes areas labels =
+    let rs = shape_runs pens (shapes strokes areas) in
+    both ((Scale ∷ LineEnds ∷ LineJoins ∷ []) ++ runs_operators page rs) (texts_operators pens strokes labels) (shapes_text page pens strokes areas) (operators_text (texts_operators pens strokes labels))
+    (both (Scale ∷ LineEnds ∷ LineJoins ∷ []) (runs_operators page rs) head_text (runs_text page rs) refl (of_runs page rs)) refl
 
 -- one line more
 pub of_lines : (l : LineShape) (ls : List LineShape) → operators_text (lines_operators (l ∷ ls)) ≡ operators_text (text_operators l) ++ operators_text (lines_operators ls)

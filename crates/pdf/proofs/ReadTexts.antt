@@ -1,5 +1,5 @@
 -- Reading the operators of a content finds the texts of its labels.
-use Rattle.std.proofs.Common.{◌≡◌, ℕ, ◌+◌, ◌*◌, ◌==◌, ◌&&◌, List, [], ◌∷◌, ◌++◌, map, filter, Bool, true, false, cond, max, refl, ap, sym, ◌∙◌, append_assoc, append-nil, subst}
+use Rattle.std.proofs.Common.{◌≡◌, ℕ, ◌+◌, ◌*◌, ◌==◌, ◌&&◌, List, [], ◌∷◌, ◌++◌, map, filter, Bool, true, false, cond, max, refl, ap, sym, ◌∙◌, append_assoc, append-nil, subst, Option, Some, None}
 use Rattle.std.specs.List.{list_any}
 use Rattle.std.proofs.Math.Nat.{div-add-mod}
 use Rattle.std.proofs.lemmas.Bool.{or_parts}
@@ -7,14 +7,18 @@ use Rattle.std.proofs.lemmas.Bool.Decides.{Decides-eqb}
 use Rattle.std.proofs.lemmas.List.{map-append}
 use Rattle.labels.specs.Labels.{LabelShape, LineShape}
 use Rattle.plot_page.specs.Segments.{Segment}
+use Rattle.plot_page.specs.declared.colour.Colour.{Colour}
 use Rattle.plot_page.specs.declared.page.Page.{Page}
 use Rattle.plot_page.specs.declared.pens.PenSet.{PenSet}
 use Rattle.plot_page.specs.declared.window.Window.{Window}
+use Rattle.polygons.specs.declared.lines.Rule.{Rule}
+use Rattle.areas.specs.Shapes.{Shape, shapes}
+use Rattle.areas.specs.declared.area.Area.{Area}
 use Rattle.stroke_runs.specs.Drawn.{is_joined}
-use Rattle.stroke_runs.specs.Runs.{runs}
+use Rattle.stroke_runs.specs.Runs.{shape_runs}
 use Rattle.stroke_runs.specs.Shown.{is_shown, is_whole_page}
-use Rattle.pdf.specs.Contents.{clip_operators, content_operators, end_operators, labels_operators, line_operators, lines_operators, pieces_operators, rest_operators, runs_operators, start_operators, stroke_operators, text_operators, texts_operators}
-use Rattle.pdf.specs.Operators.{Operator, Layer, LineWidth, Rectangle, Clip, NoPaint, Save, StrokeColour, BeginText, Invisible, EndText, TextMatrix}
+use Rattle.pdf.specs.Contents.{chain_end, clip_operators, content_operators, end_operators, fill_operators, labels_operators, line_operators, lines_operators, pieces_operators, rest_operators, run_operators, runs_operators, start_operators, stroke_operators, text_operators, texts_operators}
+use Rattle.pdf.specs.Operators.{Operator, Layer, LineWidth, Rectangle, Clip, ClosePath, NoPaint, Save, StrokeColour, BeginText, Invisible, EndText, TextMatrix}
 use Rattle.pdf.specs.TextReadings.{PlacedText, letters_shown, placed, texts_from, texts_of}
 use Rattle.pdf.specs.Texts.{Piece, byte_of, has_letters, has_text, matrix_of, pieces, row_of, shown_lines, with_byte, written}
 
@@ -25,14 +29,32 @@ Silent os = (row : ℕ) (others : List Operator) → texts_from row (os ++ other
 silent_both : (xs ys : List Operator) → Silent xs → Silent ys → Silent (xs ++ ys)
 silent_both xs ys p q = λ row others. ap (texts_from row) (append_assoc xs ys others) ∙ p row (ys ++ others) ∙ q row others
 
-silent_link : (b : Bool) (s : Segment) → Silent (cond b (line_operators s) (stroke_operators s))
-silent_link true s = λ row others. refl
-silent_link false s = λ row others. refl
+silent_closing : (b : Bool) → Silent (cond b (ClosePath ∷ []) [])
+silent_closing true = λ row others. refl
+silent_closing false = λ row others. refl
 
-silent_rest : (last : Segment) (ss : List Segment) → Silent (rest_operators last ss)
-silent_rest last [] = λ row others. refl
-silent_rest last (s ∷ ss) =
-    silent_both (cond (is_joined last s) (line_operators s) (stroke_operators s)) (rest_operators s ss) (silent_link (is_joined last s) s) (silent_rest s ss)
+silent_chain : (rule : Option Rule) (first last : Segment) → Silent (chain_end rule first last)
+silent_chain None first last = λ row others. refl
+silent_chain (Some rule) first last = silent_closing (is_joined last first)
+
+silent_step : (b : Bool) (rule : Option Rule) (first last s : Segment) (ss : List Segment) → Silent (rest_operators rule first s ss) → Silent (rest_operators rule s s ss)
+    → Silent (cond b (line_operators s ++ rest_operators rule first s ss) (chain_end rule first last ++ stroke_operators s ++ rest_operators rule s s ss))
+silent_step true rule first last s ss p q = silent_both (line_operators s) (rest_operators rule first s ss) (λ row others. refl) p
+silent_step false rule first last s ss p q =
+    silent_both (chain_end rule first last ++ stroke_operators s) (rest_operators rule s s ss)
+    (silent_both (chain_end rule first last) (stroke_operators s) (silent_chain rule first last) (λ row others. refl)) q
+
+silent_rest : (rule : Option Rule) (first last : Segment) (ss : List Segment) → Silent (rest_operators rule first last ss)
+silent_rest rule first last [] = silent_chain rule first last
+silent_rest rule first last (s ∷ ss) = silent_step (is_joined last s) rule first last s ss (silent_rest rule first s ss) (silent_rest rule s s ss)
+
+silent_fill : (rule : Option Rule) (c : Colour) → Silent (fill_operators rule c)
+silent_fill None c = λ row others. refl
+silent_fill (Some rule) c = λ row others. refl
+
+silent_end : (rule : Option Rule) → Silent (end_operators rule)
+silent_end None = λ row others. refl
+silent_end (Some rule) = λ row others. refl
 
 silent_clip : (b : Bool) (w : Window) → Silent (cond b [] (Rectangle w ∷ Clip ∷ NoPaint ∷ []))
 silent_clip true w = λ row others. refl
@@ -43,14 +65,21 @@ silent_start page s =
     silent_both ((Layer s.pen ∷ Save ∷ []) ++ clip_operators page s.window) (StrokeColour s.colour ∷ LineWidth (max 24 s.width) ∷ [])
     (silent_both (Layer s.pen ∷ Save ∷ []) (clip_operators page s.window) (λ row others. refl) (silent_clip (is_whole_page page s.window) s.window)) (λ row others. refl)
 
-silent_runs : (page : Page) (rs : List (List Segment)) → Silent (runs_operators page rs)
+silent_run : (page : Page) (rule : Option Rule) (ss : List Segment) → Silent (run_operators page rule ss)
+silent_run page rule [] = λ row others. refl
+silent_run page rule (s ∷ ss) =
+    let start = start_operators page s in
+    let fill = fill_operators rule s.colour in
+    let stroke = stroke_operators s in
+    let rest = rest_operators rule s s ss in
+    silent_both (start ++ fill ++ stroke ++ rest) (end_operators rule)
+    (silent_both (start ++ fill ++ stroke) rest
+    (silent_both (start ++ fill) stroke (silent_both start fill (silent_start page s) (silent_fill rule s.colour)) (λ row others. refl)) (silent_rest rule s s ss)) (silent_end rule)
+
+silent_runs : (page : Page) (rs : List Shape) → Silent (runs_operators page rs)
 silent_runs page [] = λ row others. refl
-silent_runs page ([] ∷ rs) = silent_runs page rs
-silent_runs page ((s ∷ ss) ∷ rs) =
-    silent_both (start_operators page s ++ stroke_operators s ++ rest_operators s ss ++ end_operators) (runs_operators page rs)
-    (silent_both (start_operators page s ++ stroke_operators s ++ rest_operators s ss) end_operators
-    (silent_both (start_operators page s ++ stroke_operators s) (rest_operators s ss)
-    (silent_both (start_operators page s) (stroke_operators s) (silent_start page s) (λ row others. refl)) (silent_rest s ss)) (λ row others. refl)) (silent_runs page rs)
+silent_runs page (run ∷ rs) =
+    silent_both (run_operators page run.rule run.strokes) (runs_operators page rs) (silent_run page run.rule run.strokes) (silent_runs page rs)
 
 -- the letters of a piece
 abbrev of_row : ℕ → List ℕ → List ℕ
@@ -163,7 +192,7 @@ texts_shown true pens strokes ls h =
     (labels_show pens strokes ls (EndText ∷ []) [] (λ row. refl, λ row. refl)).0 0 ∙ append-nil (map placed (shown_lines pens strokes ls))
 texts_shown false pens strokes ls h = ap (map placed) (sym (none_shown pens strokes ls h))
 
-pub content_texts : (page : Page) (pens : PenSet) (strokes : List Segment) (labels : List LabelShape)
-    → texts_of (content_operators page pens strokes labels) ≡ map placed (shown_lines pens strokes labels)
-content_texts page pens strokes labels =
-    silent_runs page (runs pens strokes) 0 (texts_operators pens strokes labels) ∙ texts_shown (list_any (has_text pens strokes) labels) pens strokes labels refl
+pub content_texts : (page : Page) (pens : PenSet) (strokes : List Segment) (areas : List Area) (labels : List LabelShape)
+    → texts_of (content_operators page pens strokes areas labels) ≡ map placed (shown_lines pens strokes labels)
+content_texts page pens strokes areas labels =
+    silent_runs page (shape_runs pens (shapes strokes areas)) 0 (texts_operators pens strokes labels) ∙ texts_shown (list_any (has_text pens strokes) labels) pens strokes labels refl

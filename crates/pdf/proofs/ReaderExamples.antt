@@ -1,7 +1,8 @@
 -- Small contents, read.
 use Rattle.std.proofs.Common.{◌≡◌, pos, negsuc, List, [], ◌∷◌, Some, None, codes, map, refl}
 use Rattle.pdf.specs.ContentReader.{bytes_in, colour_part, read_content, signed, unsigned}
-use Rattle.pdf.specs.Operators.{Clip, EndLayer, EndText, Font, Layer, LineTo, LineWidth, MoveTo, NoPaint, Rectangle, Restore, Save, Scale, ShowText, StrokeColour, StrokePath, TextMatrix}
+use Rattle.polygons.specs.declared.lines.Rule.TheVariants.{OddCounts, Winding}
+use Rattle.pdf.specs.Operators.{Clip, ClosePath, EndLayer, EndText, FillAndStroke, FillColour, Font, Layer, LineTo, LineWidth, MoveTo, NoPaint, Rectangle, Restore, Save, Scale, ShowText, StrokeColour, StrokePath, TextMatrix}
 
 -- worked examples of a definition: what it is given, and what it says
 abbrev Table : {X Y : Type 0} → (X → Y) → List (X × Y) → Type 0
@@ -58,12 +59,19 @@ contents : Table read_content (
       Some (Scale ∷ Layer 2 ∷ Save ∷ Rectangle (record { x0 = pos 0; y0 = pos 0; x1 = pos 160; y1 = pos 320 }) ∷ Clip ∷ NoPaint ∷ StrokeColour (record { red = 255; green = 136; blue = 1 }) ∷ LineWidth 24
           ∷ MoveTo (pos 0) (pos 0) ∷ LineTo (negsuc 15) (pos 1056) ∷ StrokePath ∷ Restore ∷ EndLayer ∷ []),
     )
+    -- areas, by each rule
+    ∷ (
+      codes "0 0.533 1 rg\n0 0 m\n9 9 l\nh\nB*\nB\n",
+      Some (FillColour (record { red = 0; green = 136; blue = 255 }) ∷ MoveTo (pos 0) (pos 0) ∷ LineTo (pos 9) (pos 9) ∷ ClosePath ∷ FillAndStroke OddCounts ∷ FillAndStroke Winding ∷ []),
+    )
     -- a text
     ∷ (
       codes "1.5 0 0 -1.5 7 8 Tm\n/F0 1 Tf\n<4142> Tj\nET\n",
       Some (TextMatrix (record { a = pos 1500; b = pos 0; c = pos 0; d = negsuc 1499 }) (pos 7) (pos 8) ∷ Font 0 ∷ ShowText (0x41 ∷ 0x42 ∷ []) ∷ EndText ∷ []),
     )
     ∷ (codes "f\n", None)  -- another operator
+    ∷ (codes "b*\n", None)  -- one that closes a path before it fills it
+    ∷ (codes "0 0 rg\n", None)  -- a colour of two parts
     ∷ (codes "0 m\n", None)  -- an operand too few
     ∷ (codes "0 0 0 m\n", None)  -- one too many
     ∷ (codes "1 0 0 1 0 0 cm\n", None)  -- another scale

@@ -4,9 +4,11 @@ use Rattle.std.specs.Prelude.{ℕ, ℤ, pos, neg_ℤ, ◌+ℤ◌, ◌+◌, ◌-�
 use Rattle.std.specs.Char.{is_digit}
 use Rattle.std.specs.Option.{option_map}
 use Rattle.pieces.specs.Readings.{after, byte, given, integer, is_text, minus, number, split, ◌>>=◌}
+use Rattle.plot_page.specs.declared.colour.Colour.{Colour}
+use Rattle.polygons.specs.declared.lines.Rule.TheVariants.{OddCounts, Winding}
 use Rattle.pdf.specs.Operators.{Operator, Scale, Layer, EndLayer, Save, Restore, Rectangle, Clip, NoPaint, StrokeColour}
-use Rattle.pdf.specs.Operators.{LineWidth, LineEnds, LineJoins, MoveTo, LineTo, StrokePath, BeginText, Invisible}
-use Rattle.pdf.specs.Operators.{TextMatrix, Font, ShowText, EndText}
+use Rattle.pdf.specs.Operators.{FillColour, LineWidth, LineEnds, LineJoins, MoveTo, LineTo, ClosePath, StrokePath, FillAndStroke}
+use Rattle.pdf.specs.Operators.{BeginText, Invisible, TextMatrix, Font, ShowText, EndText}
 
 abbrev pub line_feed : ℕ
 line_feed = 0x0A
@@ -56,7 +58,10 @@ alone name =
     if is_text name (codes "Q") then Some Restore else
     if is_text name (codes "W") then Some Clip else
     if is_text name (codes "n") then Some NoPaint else
+    if is_text name (codes "h") then Some ClosePath else
     if is_text name (codes "S") then Some StrokePath else
+    if is_text name (codes "B*") then Some (FillAndStroke OddCounts) else
+    if is_text name (codes "B") then Some (FillAndStroke Winding) else
     if is_text name (codes "BT") then Some BeginText else
     if is_text name (codes "ET") then Some EndText else None
 
@@ -76,13 +81,17 @@ after_two a b name =
     if is_text name (codes "Tf") then given (is_text b (codes "1")) (option_map Font (after (codes "/F") a >>= number)) else
     None
 
-abbrev pub after_three : List ℕ → List ℕ → List ℕ → List ℕ → Option Operator
-after_three a b c name = given (is_text name (codes "RG")) (do
+abbrev pub colour : List ℕ → List ℕ → List ℕ → Option Colour
+colour a b c = do
   red ← colour_part a
   green ← colour_part b
   blue ← colour_part c
-  Some (StrokeColour (record { red = red; green = green; blue = blue }))
-  )
+  Some (record { red = red; green = green; blue = blue })
+
+abbrev pub after_three : List ℕ → List ℕ → List ℕ → List ℕ → Option Operator
+after_three a b c name =
+    if is_text name (codes "RG") then option_map StrokeColour (colour a b c) else
+    if is_text name (codes "rg") then option_map FillColour (colour a b c) else None
 
 -- a rectangle: its lower left corner, its width and its height
 abbrev pub after_four : List ℕ → List ℕ → List ℕ → List ℕ → List ℕ → Option Operator

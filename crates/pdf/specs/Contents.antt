@@ -1,19 +1,23 @@
--- The content of a page: the runs of its strokes, and the texts of its labels. Places are in grains (1/16 plotter unit)
+-- The content of a page: the runs of its shapes, and the texts of its labels. Places are in grains (1/16 plotter unit)
 -- from the lower left corner.
-use Rattle.std.specs.Prelude.{ℕ, max, List, [], ◌∷◌, ◌++◌, if◌then◌else◌}
+use Rattle.std.specs.Prelude.{ℕ, max, List, [], ◌∷◌, ◌++◌, if◌then◌else◌, Option, Some, None}
 use Rattle.std.specs.List.{list_any}
 use Rattle.labels.specs.Labels.{LabelShape, LineShape}
 use Rattle.plot_page.specs.Segments.{Segment}
+use Rattle.plot_page.specs.declared.colour.Colour.{Colour}
 use Rattle.plot_page.specs.declared.page.Page.{Page}
 use Rattle.plot_page.specs.declared.pens.PenSet.{PenSet}
 use Rattle.plot_page.specs.declared.window.Window.{Window}
+use Rattle.polygons.specs.declared.lines.Rule.{Rule}
+use Rattle.areas.specs.Shapes.{Shape, shapes}
+use Rattle.areas.specs.declared.area.Area.{Area}
 use Rattle.stroke_runs.specs.Drawn.{is_joined}
-use Rattle.stroke_runs.specs.Runs.{runs}
+use Rattle.stroke_runs.specs.Runs.{shape_runs}
 use Rattle.stroke_runs.specs.Shown.{is_shown, is_whole_page}
 use Rattle.stroke_runs.specs.declared.shown.TheConstants.{LEAST_WIDTH}
 use Rattle.pdf.specs.Operators.{Operator, Scale, Layer, EndLayer, Save, Restore, Rectangle, Clip, NoPaint, StrokeColour}
-use Rattle.pdf.specs.Operators.{LineWidth, LineEnds, LineJoins, MoveTo, LineTo, StrokePath, BeginText, Invisible}
-use Rattle.pdf.specs.Operators.{TextMatrix, Font, ShowText, EndText, operators_text}
+use Rattle.pdf.specs.Operators.{FillColour, LineWidth, LineEnds, LineJoins, MoveTo, LineTo, ClosePath, StrokePath, FillAndStroke}
+use Rattle.pdf.specs.Operators.{BeginText, Invisible, TextMatrix, Font, ShowText, EndText, operators_text}
 use Rattle.pdf.specs.Texts.{Piece, has_letters, has_text, matrix_of, pieces}
 
 -- a stroke that begins where the last one ended
@@ -24,11 +28,18 @@ line_operators s = LineTo s.bx s.by ∷ []
 abbrev pub stroke_operators : Segment → List Operator
 stroke_operators s = MoveTo s.ax s.ay ∷ LineTo s.bx s.by ∷ []
 
--- the strokes of a run after one of it
-abbrev pub rest_operators : Segment → List Segment → List Operator
-rest_operators last [] = []
-rest_operators last (s ∷ ss) =
-    (if is_joined last s then line_operators s else stroke_operators s) ++ rest_operators s ss
+-- the end of a chain of strokes, each of which begins where the last one ended: one of edges that leads back to where its
+-- first one began is closed
+abbrev pub chain_end : Option Rule → Segment → Segment → List Operator
+chain_end None first last = []
+chain_end (Some rule) first last = if is_joined last first then ClosePath ∷ [] else []
+
+-- the strokes of a run after one of a chain
+abbrev pub rest_operators : Option Rule → Segment → Segment → List Segment → List Operator
+rest_operators rule first last [] = chain_end rule first last
+rest_operators rule first last (s ∷ ss) =
+    if is_joined last s then line_operators s ++ rest_operators rule first s ss else
+    chain_end rule first last ++ stroke_operators s ++ rest_operators rule s s ss
 
 -- the window of a run, if it is not the whole page
 abbrev pub clip_operators : Page → Window → List Operator
@@ -40,16 +51,31 @@ start_operators page s =
     (Layer s.pen ∷ Save ∷ []) ++ clip_operators page s.window
     ++ (StrokeColour s.colour ∷ LineWidth (max LEAST_WIDTH s.width) ∷ [])
 
--- what comes after them
-abbrev pub end_operators : List Operator
-end_operators = StrokePath ∷ Restore ∷ EndLayer ∷ []
+-- an area is filled in the colour of its edges
+abbrev pub fill_operators : Option Rule → Colour → List Operator
+fill_operators None colour = []
+fill_operators (Some rule) colour = FillColour colour ∷ []
+
+-- strokes are drawn; an area is filled by its rule, and its edges are drawn
+abbrev pub paint_operator : Option Rule → Operator
+paint_operator None = StrokePath
+paint_operator (Some rule) = FillAndStroke rule
+
+-- what comes after the places
+abbrev pub end_operators : Option Rule → List Operator
+end_operators rule = paint_operator rule ∷ Restore ∷ EndLayer ∷ []
+
+-- a run of strokes, or of the edges of an area
+abbrev pub run_operators : Page → Option Rule → List Segment → List Operator
+run_operators page rule [] = []
+run_operators page rule (s ∷ ss) =
+    start_operators page s ++ fill_operators rule s.colour ++ stroke_operators s ++ rest_operators rule s s ss
+    ++ end_operators rule
 
 -- runs one after another
-abbrev pub runs_operators : Page → List (List Segment) → List Operator
+abbrev pub runs_operators : Page → List Shape → List Operator
 runs_operators page [] = []
-runs_operators page ([] ∷ others) = runs_operators page others
-runs_operators page ((s ∷ ss) ∷ others) =
-    start_operators page s ++ stroke_operators s ++ rest_operators s ss ++ end_operators ++ runs_operators page others
+runs_operators page (run ∷ others) = run_operators page run.rule run.strokes ++ runs_operators page others
 
 -- pieces of a line
 abbrev pub pieces_operators : List Piece → List Operator
@@ -78,10 +104,12 @@ texts_operators pens strokes labels =
     (BeginText ∷ Invisible ∷ []) ++ labels_operators pens strokes labels ++ (EndText ∷ [])
     else []
 
--- the content of a page: of these strokes those that are drawn, and of these labels those that are shown
-abbrev pub content_operators : Page → PenSet → List Segment → List LabelShape → List Operator
-content_operators page pens strokes labels =
-    (Scale ∷ LineEnds ∷ LineJoins ∷ []) ++ runs_operators page (runs pens strokes) ++ texts_operators pens strokes labels
+-- the content of a page: of the shapes of these strokes and areas those that are drawn, and of these labels those that are
+-- shown
+abbrev pub content_operators : Page → PenSet → List Segment → List Area → List LabelShape → List Operator
+content_operators page pens strokes areas labels =
+    (Scale ∷ LineEnds ∷ LineJoins ∷ []) ++ runs_operators page (shape_runs pens (shapes strokes areas))
+    ++ texts_operators pens strokes labels
 
-abbrev pub content_text : Page → PenSet → List Segment → List LabelShape → List ℕ
-content_text page pens strokes labels = operators_text (content_operators page pens strokes labels)
+abbrev pub content_text : Page → PenSet → List Segment → List Area → List LabelShape → List ℕ
+content_text page pens strokes areas labels = operators_text (content_operators page pens strokes areas labels)

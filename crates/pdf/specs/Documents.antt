@@ -4,12 +4,14 @@ use Rattle.std.specs.Prelude.{◌*◌, filter, Some, codes, decimal, if◌then�
 use Rattle.std.specs.List.{list_any, range_with_len}
 use Rattle.std.specs.Str.{chars}
 use Rattle.deflate.specs.Zlib.{unzlib}
+use Rattle.areas.specs.declared.area.Area.{Area}
 use Rattle.labels.specs.Labels.{LabelShape}
 use Rattle.labels.specs.Sheets.{all_counted, count_to, labels_to}
 use Rattle.plot_page.specs.Segments.{Segment}
 use Rattle.plot_page.specs.declared.page.Page.{Page}
 use Rattle.plot_page.specs.declared.pens.PenSet.{PenSet}
 use Rattle.stroke_runs.specs.Drawn.{is_drawn}
+use Rattle.stroke_runs.specs.Sheets.{sheet_areas}
 use Rattle.pieces.specs.Texts.{counted}
 use Rattle.pdf.specs.Contents.{content_text}
 use Rattle.pdf.specs.Numbers.{points, two_digits, utf_16_text}
@@ -20,6 +22,11 @@ use Rattle.pdf.specs.Texts.{shows_row}
 abbrev pub sheets : List Segment → ℕ → List ℕ → List (List Segment)
 sheets strokes from [] = []
 sheets strokes from (end ∷ ends) = drop from (take end strokes) ∷ sheets strokes end ends
+
+-- the areas of each sheet, and those after them, by its strokes
+abbrev pub page_areas : List Area → ℕ → List ℕ → List (List Area)
+page_areas areas from [] = []
+page_areas areas from (end ∷ ends) = sheet_areas from areas ∷ page_areas areas end ends
 
 -- the labels of each sheet, by how many of its strokes there were: those before whose strokes the sheet ends
 abbrev pub sheet_labels : List LabelShape → ℕ → List ℕ → List (List LabelShape)
@@ -193,9 +200,9 @@ abbrev pub pdf_bytes : List ℕ → List ℕ → Page → List ℕ → List ℕ 
 pdf_bytes version title page pens rows ends streams =
     document_text (objects version title page pens rows ends streams)
 
--- zlib streams (RFC 1950) of the contents of these sheets, which have these labels
-abbrev pub AreStreams : Page → PenSet → List (List Segment) → List (List LabelShape) → List (List ℕ) → Type 0
-AreStreams page pens [] [] [] = Unit {0}
-AreStreams page pens (strokes ∷ others) (labels ∷ rest) (stream ∷ streams) =
-    (unzlib stream ≡ Some (content_text page pens strokes labels)) × AreStreams page pens others rest streams
-AreStreams page pens _ _ _ = ⊥
+-- zlib streams (RFC 1950) of the contents of these sheets, which have these areas and these labels
+abbrev pub AreStreams : Page → PenSet → List (List Segment) → List (List Area) → List (List LabelShape) → List (List ℕ) → Type 0
+AreStreams page pens [] [] [] [] = Unit {0}
+AreStreams page pens (strokes ∷ sheets) (areas ∷ others) (labels ∷ rest) (stream ∷ streams) =
+    (unzlib stream ≡ Some (content_text page pens strokes areas labels)) × AreStreams page pens sheets others rest streams
+AreStreams page pens _ _ _ _ = ⊥

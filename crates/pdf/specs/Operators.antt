@@ -3,11 +3,14 @@ use Rattle.std.specs.Prelude.{ℕ, ℤ, ◌-ℤ◌, List, [], ◌∷◌, ◌++�
 use Rattle.std.specs.Fmt.{signed_decimal}
 use Rattle.plot_page.specs.declared.colour.Colour.{Colour}
 use Rattle.plot_page.specs.declared.window.Window.{Window}
+use Rattle.polygons.specs.declared.lines.Rule.{Rule}
+use Rattle.polygons.specs.declared.lines.Rule.TheVariants.{OddCounts, Winding}
 use Rattle.pdf.specs.Numbers.{digits_text, part, signed_thousandths}
 use Rattle.pdf.specs.Texts.{Matrix}
 
 -- a layer begins and ends; what is set is saved and restored; a rectangle is a path that clips; lines go from place to
--- place, and are painted; a text begins and ends, is invisible, is placed by a matrix, and has letters of a font
+-- place, lead back to where they began, and are painted, with or without what is inside them; a text begins and ends, is
+-- invisible, is placed by a matrix, and has letters of a font
 pub data Operator : Type 0 where
   Scale : Operator
   Layer : (pen : ℕ) → Operator
@@ -18,12 +21,15 @@ pub data Operator : Type 0 where
   Clip : Operator
   NoPaint : Operator
   StrokeColour : (colour : Colour) → Operator
+  FillColour : (colour : Colour) → Operator
   LineWidth : (width : ℕ) → Operator
   LineEnds : Operator
   LineJoins : Operator
   MoveTo : (x y : ℤ) → Operator
   LineTo : (x y : ℤ) → Operator
+  ClosePath : Operator
   StrokePath : Operator
+  FillAndStroke : (rule : Rule) → Operator
   BeginText : Operator
   Invisible : Operator
   TextMatrix : (matrix : Matrix) (x y : ℤ) → Operator
@@ -43,6 +49,10 @@ rectangle_text w = place_text w.x0 w.y0 ++ codes " " ++ place_text (w.x1 -ℤ w.
 abbrev pub colour_text : Colour → List ℕ
 colour_text c = part c.red ++ codes " " ++ part c.green ++ codes " " ++ part c.blue ++ codes " RG\n"
 
+-- the colour of what is inside lines
+abbrev pub fill_colour_text : Colour → List ℕ
+fill_colour_text c = part c.red ++ codes " " ++ part c.green ++ codes " " ++ part c.blue ++ codes " rg\n"
+
 -- the width of lines
 abbrev pub width_text : ℕ → List ℕ
 width_text width = decimal width ++ codes " w\n"
@@ -52,6 +62,11 @@ abbrev pub matrix_text : Matrix → List ℕ
 matrix_text m =
     signed_thousandths m.a ++ codes " " ++ signed_thousandths m.b ++ codes " " ++ signed_thousandths m.c ++ codes " "
     ++ signed_thousandths m.d
+
+-- what is inside lines is filled by this rule, and then the lines are drawn
+abbrev pub paint_text : Rule → List ℕ
+paint_text OddCounts = codes "B*\n"
+paint_text Winding = codes "B\n"
 
 -- an operator as text
 abbrev pub operator_text : Operator → List ℕ
@@ -64,12 +79,15 @@ operator_text (Rectangle corners) = rectangle_text corners
 operator_text Clip = codes "W\n"
 operator_text NoPaint = codes "n\n"
 operator_text (StrokeColour colour) = colour_text colour
+operator_text (FillColour colour) = fill_colour_text colour
 operator_text (LineWidth width) = width_text width
 operator_text LineEnds = codes "1 J\n"
 operator_text LineJoins = codes "1 j\n"
 operator_text (MoveTo x y) = place_text x y ++ codes " m\n"
 operator_text (LineTo x y) = place_text x y ++ codes " l\n"
+operator_text ClosePath = codes "h\n"
 operator_text StrokePath = codes "S\n"
+operator_text (FillAndStroke rule) = paint_text rule
 operator_text BeginText = codes "BT\n"
 operator_text Invisible = codes "3 Tr\n"
 operator_text (TextMatrix matrix x y) = matrix_text matrix ++ codes " " ++ place_text x y ++ codes " Tm\n"

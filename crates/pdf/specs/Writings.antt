@@ -3,14 +3,15 @@ use Rattle.std.specs.Prelude.{◌≡◌, ℕ, ◌+◌, List, [], ◌∷◌, ◌+
 use Rattle.deflate.specs.Zlib.{unzlib}
 use Rattle.devices.specs.declared.fault.WriteFault.{WriteFault}
 use Rattle.devices.specs.Sinks.{SinkState}
+use Rattle.areas.specs.declared.area.Area.{Area}
 use Rattle.labels.specs.Labels.{LabelShape}
 use Rattle.pieces.specs.Texts.{Puts, WritesText, count_of, counted}
 use Rattle.pieces.specs.declared.text.Text.{Text}
 use Rattle.plot_page.specs.Segments.{Segment}
 use Rattle.plot_page.specs.declared.page.Page.{Page}
 use Rattle.plot_page.specs.declared.pens.PenSet.{PenSet}
-use Rattle.pdf.specs.Documents.{AreStreams, page_objects, pages_objects, pdf_bytes, pens_drawn, rows_shown, sheet_labels}
-use Rattle.pdf.specs.Documents.{sheets, stream_object}
+use Rattle.pdf.specs.Documents.{AreStreams, page_areas, page_objects, pages_objects, pdf_bytes, pens_drawn, rows_shown}
+use Rattle.pdf.specs.Documents.{sheet_labels, sheets, stream_object}
 use Rattle.pdf.specs.Objects.{objects_text, offsets_of, reference_text}
 
 -- what comes before the body of an object, and after it
@@ -56,15 +57,15 @@ pub record AddsPage {K : Type 0} (state : K → SinkState) (old new : Text K) (o
 
 -- pages were put, whose contents are in streams
 pub record AddsPages {K : Type 0} (state : K → SinkState) (old new : Text K) (offsets after : List ℕ) (before : ℕ) (page : Page) (pens : PenSet)
-    (pages : List (List Segment)) (labels : List (List LabelShape)) : Type 0 where
+    (pages : List (List Segment)) (areas : List (List Area)) (labels : List (List LabelShape)) : Type 0 where
   pub streams : List (List ℕ)
-  pub are : AreStreams page pens pages labels streams
+  pub are : AreStreams page pens pages areas labels streams
   pub adds : Adds state old new offsets after before (pages_objects before streams)
 
 -- a document was written whose contents are in streams, or the sink failed after a first part of it
-pub record WritesPdf (old new : SinkState) (version title : List ℕ) (page : Page) (pens : PenSet) (strokes : List Segment) (ends : List ℕ)
-    (labels : List LabelShape) (result : Result ℕ WriteFault) : Type 0 where
+pub record WritesPdf (old new : SinkState) (version title : List ℕ) (page : Page) (pens : PenSet) (strokes : List Segment) (areas : List Area)
+    (ends : List ℕ) (labels : List LabelShape) (result : Result ℕ WriteFault) : Type 0 where
   pub streams : List (List ℕ)
-  pub are : AreStreams page pens (sheets strokes 0 ends) (sheet_labels labels 0 ends) streams
+  pub are : AreStreams page pens (sheets strokes 0 ends) (page_areas areas 0 ends) (sheet_labels labels 0 ends) streams
   pub writes : WritesText old new
       (pdf_bytes version title page (pens_drawn pens strokes) (rows_shown pens strokes labels) ends streams) result

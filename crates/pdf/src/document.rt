@@ -1,5 +1,6 @@
 //! The whole document.
 ghost use Rattle.std.specs.Prelude.{◌≡◌, ◌+◌, ◌-◌, ◌*◌, ◌^◌, ◌<◌, ◌≤◌, length};
+ghost use Rattle.areas.specs.Views.{areas_in};
 ghost use Rattle.labels.specs.Sheets.{all_counted};
 ghost use Rattle.pieces.specs.Texts.{IsNew, IsSound, Puts, count_of};
 ghost use Rattle.plot_page.specs.declared.stroke.TheConstants.{MOST_STROKES};
@@ -28,14 +29,15 @@ pub fn room_for(pages: usize) -> usize
     773 + 3 * pages
 }
 
-/// Writes the strokes of the selected pens as a PDF 1.5 document, of which each sheet is a page. The first sheet has
+/// Writes the shapes of the selected pens as a PDF 1.5 document, of which each sheet is a page. The first sheet has
 /// the strokes up to the first end, which says how many they are, each other one those up to its end. All pages have the
 /// size of the page given. The producer is `plotraster` in this version, which has no parenthesis and no backslash. An
 /// empty title is none.
 ///
 /// Each run of strokes with the same pen, colour, width and window is a path of at most 1,000 strokes and with a width
-/// of at least 24 grains (1/16 plotter unit). A stroke with an empty window is left out. A window other than the page is a
-/// clipping path. Each pen that draws a stroke is a layer, `Pen 2`.
+/// of at least 24 grains (1/16 plotter unit). An area is a path by itself, of all of its edges, which is filled in the colour
+/// of its first edge, and drawn as that. A shape whose first stroke has an empty window is left out. A window other than the
+/// page is a clipping path. Each pen that draws a stroke is a layer, `Pen 2`.
 ///
 /// A page has the labels before whose strokes its sheet ends, of which those with a stroke that is drawn are shown: their
 /// text lies over their letters, invisible, so that a search finds it. A code point over U+FFFF is written as U+FFFD. All
@@ -59,7 +61,7 @@ pub fn write_pdf<K: Sink>(
     requires letters { letter_count view.now.labels.now ≤ MOST_LETTERS }
     requires room { 773 + 3 * length ends.now ≤ length offsets.old }
     ensures writes { WritesPdf (K.state sink.old) (K.state sink.new) version.now title.now view.now.page.now view.now.pens.now
-        view.now.strokes.now ends.now (all_counted view.now.before view.now.labels.now) result }
+        view.now.strokes.now (areas_in view.now.areas) ends.now (all_counted view.now.before view.now.labels.now) result }
 {
     let mut text = Text::new(sink);
     put_document(&mut text, version, title, view, ends, offsets, encoder)
@@ -82,7 +84,7 @@ fn put_document<K: Sink>(
     requires room { 773 + 3 * length ends.now ≤ length offsets.old }
     ensures same { text.new.sink.ghost_name ≡ text.old.sink.ghost_name }
     ensures writes { WritesPdf (K.state text.old.sink.now) (K.state text.new.sink.now) version.now title.now
-        view.now.page.now view.now.pens.now view.now.strokes.now ends.now
+        view.now.page.now view.now.pens.now view.now.strokes.now (areas_in view.now.areas) ends.now
         (all_counted view.now.before view.now.labels.now) result }
 {
     let mut list = [0; PENS];

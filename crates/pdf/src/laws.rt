@@ -1,5 +1,7 @@
 //! Laws of contents and of tables.
 ghost use Rattle.std.specs.Prelude.{◌≡◌, Some, ℕ, ◌<◌, List, length, get_or, map, []};
+ghost use Rattle.areas.specs.Shapes.{shapes};
+ghost use Rattle.areas.specs.Views.{areas_in};
 ghost use Rattle.pdf.specs.Contents.{content_operators, content_text};
 ghost use Rattle.pdf.specs.ContentReader.{read_content};
 ghost use Rattle.pdf.specs.Documents.{document_text, header_text};
@@ -8,34 +10,62 @@ ghost use Rattle.pdf.specs.Objects.{object_text, offsets_of};
 ghost use Rattle.pdf.specs.Ranges.{AreInRange};
 ghost use Rattle.std.specs.List.{All};
 ghost use Rattle.labels.specs.Labels.{IsLine};
-ghost use Rattle.pdf.specs.Readings.{read, start_of};
+ghost use Rattle.pdf.specs.Readings.{line_painted, read, shape_painted, start_of};
 ghost use Rattle.pdf.specs.TextReadings.{placed, texts_of};
 ghost use Rattle.pdf.specs.Texts.{shown_lines};
-ghost use Rattle.stroke_runs.specs.Drawn.{drawn};
+ghost use Rattle.stroke_runs.specs.Drawn.{drawn, drawn_shapes};
 ghost use Rattle.stroke_runs.specs.Shown.{widened};
 
+use areas::Areas;
 use labels::{Label, Line};
 use plot_page::{Page, PenSet, Stroke};
 use stroke_runs::laws::strokes_are_in_range;
 
-/// Reading the operators of a page paints the strokes that are drawn, in their order, each once, with its colour, its
-/// window and a width of at least 24 grains, in the layer of its pen.
+/// Reading the operators of a page paints the shapes that are drawn, in their order, each once: a stroke with its colour, its
+/// window and a width of at least 24 grains, in the layer of its pen; an area with all of its edges, drawn as its first one,
+/// and with what is inside them by its rule, in the same colour.
+pub fn content_is_shapes(
+    page: &Page,
+    pens: &PenSet,
+    strokes: &[Stroke],
+    areas: Areas<'_>,
+    labels: &[Label],
+)
+    ensures { (read (start_of page.now)
+        (content_operators page.now pens.now strokes.now (areas_in areas.entry) labels.now)).painted
+        ≡ map shape_painted (drawn_shapes pens.now (shapes strokes.now (areas_in areas.entry))) }
+{}
+
+/// Without areas it paints the strokes that are drawn, in their order, each once, with its colour, its window and a width of at
+/// least 24 grains, in the layer of its pen.
 pub fn content_is_strokes(page: &Page, pens: &PenSet, strokes: &[Stroke], labels: &[Label])
-    ensures { (read (start_of page.now) (content_operators page.now pens.now strokes.now labels.now)).painted
-        ≡ map widened (drawn pens.now strokes.now) }
+    ensures { (read (start_of page.now) (content_operators page.now pens.now strokes.now [] labels.now)).painted
+        ≡ map line_painted (map widened (drawn pens.now strokes.now)) }
 {}
 
 /// Reading them finds the text of each line of each label that is shown, in their order, each once, with its place; lines
 /// without letters are left out.
-pub fn content_has_texts(page: &Page, pens: &PenSet, strokes: &[Stroke], labels: &[Label])
-    ensures { texts_of (content_operators page.now pens.now strokes.now labels.now)
+pub fn content_has_texts(
+    page: &Page,
+    pens: &PenSet,
+    strokes: &[Stroke],
+    areas: Areas<'_>,
+    labels: &[Label],
+)
+    ensures { texts_of (content_operators page.now pens.now strokes.now (areas_in areas.entry) labels.now)
         ≡ map placed (shown_lines pens.now strokes.now labels.now) }
 {}
 
 /// The bytes of a content, read back, are its operators.
-pub fn content_reads_back(page: &Page, pens: &PenSet, strokes: &[Stroke], labels: &[Label])
-    ensures { read_content (content_text page.now pens.now strokes.now labels.now)
-        ≡ Some (content_operators page.now pens.now strokes.now labels.now) }
+pub fn content_reads_back(
+    page: &Page,
+    pens: &PenSet,
+    strokes: &[Stroke],
+    areas: Areas<'_>,
+    labels: &[Label],
+)
+    ensures { read_content (content_text page.now pens.now strokes.now (areas_in areas.entry) labels.now)
+        ≡ Some (content_operators page.now pens.now strokes.now (areas_in areas.entry) labels.now) }
 {
     strokes_are_in_range(strokes);
     read_labels(labels);

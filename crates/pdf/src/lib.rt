@@ -1,4 +1,4 @@
-//! PDF 1.5: the strokes of sheets as a document of pages, with a layer for each pen, and the texts of labels.
+//! PDF 1.5: the strokes and areas of sheets as a document of pages, with a layer for each pen, and the texts of labels.
 #![tactic(auto)]
 
 mod content;
@@ -13,6 +13,7 @@ mod matrices;
 mod numbers;
 mod objects;
 mod pages;
+mod path;
 mod paths;
 mod pens;
 mod rows;

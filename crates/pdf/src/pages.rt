@@ -1,13 +1,15 @@
 //! Pages: three objects for each sheet.
 ghost use Rattle.std.specs.Prelude.{◌+◌, ◌-◌, ◌*◌, ◌^◌, ◌<◌, ◌≤◌, [], ◌∷◌, length, decimal};
+ghost use Rattle.areas.specs.Views.{areas_in};
 ghost use Rattle.labels.specs.Sheets.{all_counted};
 ghost use Rattle.pieces.specs.Texts.{IsSound, Puts};
 ghost use Rattle.plot_page.specs.declared.stroke.TheConstants.{MOST_STROKES};
 ghost use Rattle.pdf.specs.Contents.{content_text};
-ghost use Rattle.pdf.specs.Documents.{page_object, sheet_labels, sheets};
+ghost use Rattle.pdf.specs.Documents.{page_areas, page_object, sheet_labels, sheets};
 ghost use Rattle.pdf.specs.Texts.{letter_count};
 ghost use Rattle.pdf.specs.Writings.{Adds, AddsPage, AddsPages, AddsStream, stream_start};
 ghost use Rattle.pdf.specs.declared.counts.TheConstants.{MOST_LETTERS};
+ghost use Rattle.stroke_runs.specs.Sheets.{sheet_areas};
 
 use crate::objects::{begin_object, end_object, put_reference};
 use crate::sheet::Sheet;
@@ -33,7 +35,7 @@ pub(crate) fn put_pages<K: Sink>(
     requires number { before ≤ 1000 }
     requires room { before + 3 * length ends.now ≤ length offsets.old }
     ensures adds { AddsPages K.state text.old text.new offsets.old offsets.new before view.now.page.now view.now.pens.now
-        (sheets view.now.strokes.now 0 ends.now)
+        (sheets view.now.strokes.now 0 ends.now) (page_areas (areas_in view.now.areas) 0 ends.now)
         (sheet_labels (all_counted view.now.before view.now.labels.now) 0 ends.now) }
 {
     let mut from = 0;
@@ -45,6 +47,7 @@ pub(crate) fn put_pages<K: Sink>(
             page: view.page,
             pens: view.pens,
             strokes: between(view.strokes, from, ends[index]),
+            areas: view.areas,
             labels,
             earlier: view.before,
             from,
@@ -68,7 +71,7 @@ fn put_page<K: Sink>(
     requires number { before < 2 ^ 31 }
     requires room { before + 3 ≤ length offsets.old }
     ensures adds { AddsPage K.state text.old text.new offsets.old offsets.new before (content_text sheet.now.page.now
-        sheet.now.pens.now sheet.now.strokes.now
+        sheet.now.pens.now sheet.now.strokes.now (sheet_areas sheet.now.from (areas_in sheet.now.areas))
         (all_counted sheet.now.from (all_counted sheet.now.earlier sheet.now.labels.now))) }
 {
     put_start(text, offsets, before);
@@ -104,7 +107,7 @@ fn put_content<K: Sink>(
     requires number { before < 2 ^ 32 - 2 }
     requires room { before + 1 ≤ length offsets.old }
     ensures adds { AddsStream K.state text.old text.new offsets.old offsets.new before (content_text sheet.now.page.now
-        sheet.now.pens.now sheet.now.strokes.now
+        sheet.now.pens.now sheet.now.strokes.now (sheet_areas sheet.now.from (areas_in sheet.now.areas))
         (all_counted sheet.now.from (all_counted sheet.now.earlier sheet.now.labels.now))) result }
 {
     begin_object(text, offsets, before);

@@ -1,8 +1,9 @@
-//! Paths: the strokes of a run in the content of a page.
+//! Paths: the strokes of a run, or the edges of an area, in the content of a page.
 ghost use Rattle.std.specs.Prelude.{◌≡◌, ◌≤◌, ◌++◌, ◌-ℤ◌, nat_abs, max, codes};
 ghost use Rattle.pdf.specs.Contained.{Fills, IsOpen};
+ghost use Rattle.pdf.specs.Numbers.{part};
 ghost use Rattle.pdf.specs.Operators.{colour_text, place_text, width_text};
-ghost use Rattle.pdf.specs.RunTexts.{clip_text, layer_text, line_text, start_text, stroke_text, window_text};
+ghost use Rattle.pdf.specs.RunTexts.{clip_text, end_text, fill_text, layer_text, line_text, start_text, stroke_text, window_text};
 ghost use Rattle.stroke_runs.specs.declared.shown.TheConstants.{LEAST_WIDTH};
 
 use crate::content::PageContent;
@@ -10,6 +11,7 @@ use crate::numbers::put_part;
 use devices::Sink;
 use pieces::Text;
 use plot_page::{Colour, Page, Stroke, Window};
+use polygons::Rule;
 use stroke_runs::{is_whole_page, shown_width};
 
 // Puts what comes before the places of a run that begins with this stroke.
@@ -102,12 +104,56 @@ fn put_colour<K: Sink>(document: &mut Text<'_, K>, content: &mut PageContent<'_>
     requires open { IsOpen K.state document.old content.old }
     ensures fills { Fills K.state document.old document.new content.old content.new (colour_text colour) }
 {
+    put_parts(document, content, colour);
+    content.put(document, b" RG\n");
+}
+
+// Puts the parts of a colour.
+fn put_parts<K: Sink>(document: &mut Text<'_, K>, content: &mut PageContent<'_>, colour: Colour)
+    requires open { IsOpen K.state document.old content.old }
+    ensures fills { Fills K.state document.old document.new content.old content.new
+        (part colour.red ++ codes " " ++ part colour.green ++ codes " " ++ part colour.blue) }
+{
     put_part(document, content, colour.red);
     content.put(document, b" ");
     put_part(document, content, colour.green);
     content.put(document, b" ");
     put_part(document, content, colour.blue);
-    content.put(document, b" RG\n");
+}
+
+// Puts the colour of what is inside the edges of an area, if this is one.
+pub(crate) fn put_fill<K: Sink>(
+    document: &mut Text<'_, K>,
+    content: &mut PageContent<'_>,
+    rule: Option<Rule>,
+    colour: Colour,
+)
+    requires open { IsOpen K.state document.old content.old }
+    ensures fills { Fills K.state document.old document.new content.old content.new (fill_text rule colour) }
+{
+    match rule {
+        None => {}
+        Some(_) => {
+            put_parts(document, content, colour);
+            content.put(document, b" rg\n");
+        }
+    }
+}
+
+// Puts what comes after the places of a run: strokes are drawn, and an area is filled, too.
+pub(crate) fn put_paint<K: Sink>(
+    document: &mut Text<'_, K>,
+    content: &mut PageContent<'_>,
+    rule: Option<Rule>,
+)
+    requires open { IsOpen K.state document.old content.old }
+    ensures fills { Fills K.state document.old document.new content.old content.new (end_text rule) }
+{
+    match rule {
+        None => content.put(document, b"S\nQ\nEMC\n"),
+        Some(Rule::OddCounts) => content.put(document, b"B*\nQ\nEMC\n"),
+        Some(Rule::Winding) => content.put(document, b"B\nQ\nEMC\n"),
+    }
 }
 
 // Puts the width of a stroke, or the least one.

@@ -1,22 +1,25 @@
 //! The content of a page, written as a zlib stream.
 ghost use Rattle.std.specs.Prelude.{◌≤◌};
+ghost use Rattle.areas.specs.Views.{areas_in};
 ghost use Rattle.labels.specs.Sheets.{all_counted};
 ghost use Rattle.pieces.specs.Texts.{IsSound};
 ghost use Rattle.pdf.specs.Contained.{Fills, IsOpen};
 ghost use Rattle.pdf.specs.Contents.{content_text};
-ghost use Rattle.pdf.specs.RunTexts.{strokes_text};
+ghost use Rattle.pdf.specs.RunTexts.{shapes_text};
 ghost use Rattle.pdf.specs.Texts.{letter_count};
 ghost use Rattle.pdf.specs.Writings.{PutsStream};
 ghost use Rattle.pdf.specs.declared.counts.TheConstants.{MOST_LETTERS};
+ghost use Rattle.stroke_runs.specs.Sheets.{sheet_areas};
 
 use crate::content::PageContent;
+use crate::path::Path;
 use crate::sheet::Sheet;
 use crate::steps::{put_end, put_step};
 use crate::texts::put_texts;
 use deflate::TextEncoder;
 use devices::Sink;
 use pieces::Text;
-use stroke_runs::Runs;
+use stroke_runs::Roles;
 
 // Puts the content of a page as a zlib stream, and returns how many bytes that is, a count that stops at its greatest.
 pub(crate) fn put_stream<K: Sink>(
@@ -27,7 +30,8 @@ pub(crate) fn put_stream<K: Sink>(
     requires sound { IsSound K.state document.old }
     requires letters { letter_count sheet.now.labels.now ≤ MOST_LETTERS }
     ensures puts { PutsStream K.state document.old document.new (content_text sheet.now.page.now sheet.now.pens.now
-        sheet.now.strokes.now (all_counted sheet.now.from (all_counted sheet.now.earlier sheet.now.labels.now))) result }
+        sheet.now.strokes.now (sheet_areas sheet.now.from (areas_in sheet.now.areas))
+        (all_counted sheet.now.from (all_counted sheet.now.earlier sheet.now.labels.now))) result }
 {
     let mut content = PageContent::new(encoder);
     put_content(document, &mut content, sheet);
@@ -43,29 +47,29 @@ fn put_content<K: Sink>(
     requires open { IsOpen K.state document.old content.old }
     requires letters { letter_count sheet.now.labels.now ≤ MOST_LETTERS }
     ensures fills { Fills K.state document.old document.new content.old content.new (content_text sheet.now.page.now sheet.now.pens.now
-        sheet.now.strokes.now (all_counted sheet.now.from (all_counted sheet.now.earlier sheet.now.labels.now))) }
+        sheet.now.strokes.now (sheet_areas sheet.now.from (areas_in sheet.now.areas))
+        (all_counted sheet.now.from (all_counted sheet.now.earlier sheet.now.labels.now))) }
 {
-    put_strokes(document, content, sheet);
+    put_shapes(document, content, sheet);
     put_texts(document, content, sheet);
 }
 
-// Puts the drawn strokes of a page.
-fn put_strokes<K: Sink>(
-    document: &mut Text<'_, K>,
-    content: &mut PageContent<'_>,
-    sheet: &Sheet<'_>,
-)
+// Puts the drawn shapes of a page.
+fn put_shapes<K: Sink>(document: &mut Text<'_, K>, content: &mut PageContent<'_>, sheet: &Sheet<'_>)
     requires open { IsOpen K.state document.old content.old }
     ensures fills { Fills K.state document.old document.new content.old content.new
-        (strokes_text sheet.now.page.now sheet.now.pens.now sheet.now.strokes.now) }
+        (shapes_text sheet.now.page.now sheet.now.pens.now sheet.now.strokes.now
+        (sheet_areas sheet.now.from (areas_in sheet.now.areas))) }
 {
-    let mut runs = Runs::new();
+    let mut path = Path::new();
+    let mut roles = Roles::new(sheet.areas, sheet.from);
     content.put(
         document,
         b"0.004429133858 0 0 0.004429133858 0 0 cm\n1 J\n1 j\n",
     );
     for stroke in sheet.strokes {
-        put_step(document, content, sheet.page, sheet.pens, &mut runs, stroke);
+        let role = roles.next(sheet.pens, stroke);
+        put_step(document, content, sheet.page, &mut path, stroke, role);
     }
-    put_end(document, content, &runs);
+    put_end(document, content, &path);
 }

@@ -1,14 +1,15 @@
 -- A report is not too long to be counted.
-use Rattle.std.proofs.Common.{◌≡◌, ℕ, ◌+◌, ◌*◌, ◌^◌, ◌<◌, ◌≤◌, ◌/◌, ◌%◌, ◌==◌, List, [], ◌∷◌, ◌++◌, flat_map, length, zero, suc, cond, Bool, true, false, codes, decimal, ℤ, pos, negsuc, arith, refl, length-append, lit≤}
+use Rattle.std.proofs.Common.{◌≡◌, ℕ, ◌+◌, ◌*◌, ◌^◌, ◌<◌, ◌≤◌, ◌/◌, ◌%◌, ◌==◌, List, [], ◌∷◌, ◌++◌, flat_map, length, zero, suc, nat_eq, cond, Bool, true, false, codes, decimal, ℤ, pos, negsuc, arith, refl, length-append, lit≤}
 use Rattle.std.specs.Fmt.{digit_glyph, digits, digits_onto, signed_decimal}
 use Rattle.std.specs.List.{join_with_byte, range_with_len}
 use Rattle.plot_page.specs.Segments.{Segment}
+use Rattle.areas.specs.Shapes.{Shape, ShapeList, shapes}
 use Rattle.hpgl_plot.specs.declared.note.Note.{Note}
 use Rattle.hpgl_plot.specs.declared.note.NoteKind.{NoteKind}
 use Rattle.hpgl_plot.specs.declared.note.NoteKind.TheVariants.{Skipped, Bad, Stray, Axis, Open}
 use Rattle.plot_report.specs.declared.report_page.ReportPage.{ReportPage}
-use Rattle.plot_report.specs.declared.summary.PenSummary.{PenSummary}
-use Rattle.plot_report.specs.Report.{full_report_of, kind_words, line, note_line, page_line, pen_line, pen_lines, report_of, sheets_line, space, strokes_line, strokes_of, summary_line, summary_of}
+use Rattle.plot_report.specs.declared.summary.StrokeSummary.{StrokeSummary}
+use Rattle.plot_report.specs.Report.{all_edges, area_line, areas_among, areas_line, edges_line, full_report_of, kind_words, line, note_line, page_line, pen_line, pen_lines, pen_shape_lines, report_of, shape_lines, shapes_of, sheets_line, space, strokes_among, strokes_line, strokes_of, summary_line, summary_of}
 
 either_few : (b : Bool) (xs ys : List ℕ) (n : ℕ) → length xs ≤ n → length ys ≤ n → length (cond b xs ys) ≤ n
 either_few true xs ys n h k = h
@@ -59,7 +60,7 @@ strokes_few strokes = line_few (codes "strokes" ∷ decimal (length strokes) ∷
 sheets_few : (sheets : ℕ) → length (sheets_line sheets) ≤ 1000
 sheets_few sheets = line_few (codes "sheets" ∷ decimal sheets ∷ []) (lit≤ tt, (decimal_few sheets, tt)) (lit≤ tt)
 
-summary_few : (pen : ℕ) (s : PenSummary) → length (summary_line pen s) ≤ 1000
+summary_few : (pen : ℕ) (s : StrokeSummary) → length (summary_line pen s) ≤ 1000
 summary_few pen s =
     line_few (codes "pen" ∷ decimal pen ∷ codes "strokes" ∷ decimal s.strokes ∷ codes "widest" ∷ decimal s.widest ∷ codes "box" ∷ signed_decimal s.least_x ∷ signed_decimal s.least_y ∷ signed_decimal s.greatest_x ∷ signed_decimal s.greatest_y ∷ [])
     (lit≤ tt, (decimal_few pen, (lit≤ tt, (decimal_few s.strokes, (lit≤ tt, (decimal_few s.widest, (lit≤ tt, (signed_few s.least_x, (signed_few s.least_y, (signed_few s.greatest_x, (signed_few s.greatest_y, tt))))))))))) (lit≤ tt)
@@ -68,13 +69,38 @@ pen_few : (pen : ℕ) (ss : List Segment) → length (pen_line pen ss) ≤ 1000
 pen_few pen [] = omega arith
 pen_few pen (s ∷ ss) = summary_few pen (summary_of (s ∷ ss))
 
-range_few : (f : ℕ → List ℕ) (a n : ℕ) → ((k : ℕ) → length (f k) ≤ 1000) → length (flat_map f (range_with_len a n)) ≤ 1000 * n
+edges_few : (pen areas : ℕ) (s : StrokeSummary) → length (edges_line pen areas s) ≤ 1000
+edges_few pen areas s =
+    line_few (codes "pen" ∷ decimal pen ∷ codes "areas" ∷ decimal areas ∷ codes "edges" ∷ decimal s.strokes ∷ codes "box" ∷ signed_decimal s.least_x ∷ signed_decimal s.least_y ∷ signed_decimal s.greatest_x ∷ signed_decimal s.greatest_y ∷ [])
+    (lit≤ tt, (decimal_few pen, (lit≤ tt, (decimal_few areas, (lit≤ tt, (decimal_few s.strokes, (lit≤ tt, (signed_few s.least_x, (signed_few s.least_y, (signed_few s.greatest_x, (signed_few s.greatest_y, tt))))))))))) (lit≤ tt)
+
+area_few : (pen : ℕ) (areas : List Shape) → length (area_line pen areas) ≤ 1000
+area_few pen [] = omega arith
+area_few pen (a ∷ more) = edges_few pen (length (a ∷ more)) (summary_of (all_edges (a ∷ more)))
+
+areas_few : (areas : ℕ) → length (areas_line areas) ≤ 1000
+areas_few areas = either_few (nat_eq areas 0) [] (line (codes "areas" ∷ decimal areas ∷ [])) 1000 (omega arith) (line_few (codes "areas" ∷ decimal areas ∷ []) (lit≤ tt, (decimal_few areas, tt)) (lit≤ tt))
+
+lines_few : (pen : ℕ) (shapes : List Shape) → length (pen_shape_lines pen shapes) ≤ 2000
+lines_few pen shapes =
+    omega (arith, pen_few pen (strokes_among shapes), area_few pen (areas_among shapes), length-append (pen_line pen (strokes_among shapes)) (area_line pen (areas_among shapes)))
+
+range_few : (f : ℕ → List ℕ) (a n : ℕ) → ((k : ℕ) → length (f k) ≤ 2000) → length (flat_map f (range_with_len a n)) ≤ 2000 * n
 range_few f a zero h = omega arith
 range_few f a (suc n) h = omega (arith, h a, range_few f (a + 1) n h, length-append (f a) (flat_map f (range_with_len (a + 1) n)))
 
-pens_few : (strokes : List Segment) → length (pen_lines strokes) ≤ 255000
+pub shapes_few : (shapes : List Shape) → length (shape_lines shapes) ≤ 512000
+unfolding shape_lines
+shapes_few shapes =
+    let a = strokes_line (strokes_among shapes) in
+    let b = areas_line (length (areas_among shapes)) in
+    let f : ℕ → List ℕ = λ pen. pen_shape_lines pen (shapes_of pen shapes) in
+    let p = flat_map f (range_with_len 1 255) in
+    omega (arith, strokes_few (strokes_among shapes), areas_few (length (areas_among shapes)), range_few f 1 255 (λ k. lines_few k (shapes_of k shapes)), length-append a b, length-append (a ++ b) p)
+
+pens_few : (strokes : List Segment) → length (pen_lines strokes) ≤ 510000
 unfolding pen_lines
-pens_few strokes = range_few (λ (pen : ℕ). pen_line pen (strokes_of pen strokes)) 1 255 (λ k. pen_few k (strokes_of k strokes))
+pens_few strokes = range_few (λ (pen : ℕ). pen_line pen (strokes_of pen strokes)) 1 255 (λ k. omega (arith, pen_few k (strokes_of k strokes)))
 
 kind_few : (at : ℕ) (kind : NoteKind) (code : List ℕ) → length code ≡ 2 → length (line (codes "note" ∷ decimal at ∷ kind_words kind code)) ≤ 1000
 kind_few at Skipped code two = line_few (codes "note" ∷ decimal at ∷ codes "skipped" ∷ code ∷ []) (lit≤ tt, (decimal_few at, (lit≤ tt, (omega (arith, two), tt)))) (lit≤ tt)
@@ -102,11 +128,10 @@ report_few page strokes notes most few =
     let n = flat_map note_line notes in
     omega (arith, most, few, page_few page, strokes_few strokes, pens_few strokes, length-append a b, length-append (a ++ b) p, length-append ((a ++ b) ++ p) n)
 
-pub full_report_few : (page : ReportPage) (sheets : ℕ) (strokes : List Segment) (notes : List Note) → length notes ≤ 67108864 → length (flat_map note_line notes) ≤ 1000 * length notes → length (full_report_of page sheets strokes notes) < 2 ^ 64
-full_report_few page sheets strokes notes most few =
+pub full_report_few : (page : ReportPage) (sheets : ℕ) (list : ShapeList) (notes : List Note) → length notes ≤ 67108864 → length (flat_map note_line notes) ≤ 1000 * length notes → length (full_report_of page sheets list notes) < 2 ^ 64
+full_report_few page sheets list notes most few =
     let a = page_line page in
     let k = sheets_line sheets in
-    let b = strokes_line strokes in
-    let p = pen_lines strokes in
+    let p = shape_lines (shapes list.strokes list.areas) in
     let n = flat_map note_line notes in
-    omega (arith, most, few, page_few page, sheets_few sheets, strokes_few strokes, pens_few strokes, length-append a k, length-append (a ++ k) b, length-append ((a ++ k) ++ b) p, length-append (((a ++ k) ++ b) ++ p) n)
+    omega (arith, most, few, page_few page, sheets_few sheets, shapes_few (shapes list.strokes list.areas), length-append a k, length-append (a ++ k) p, length-append ((a ++ k) ++ p) n)

@@ -6,7 +6,7 @@ use Rattle.plot_page.specs.Segments.{Segment}
 use Rattle.hpgl_plot.specs.declared.note.Note.{Note}
 use Rattle.hpgl_plot.specs.declared.note.NoteKind.{NoteKind}
 use Rattle.hpgl_plot.specs.declared.note.NoteKind.TheVariants.{Skipped, Bad, Stray, Axis, Open}
-use Rattle.plot_report.specs.Report.{line, page_line, report_page, strokes_line, strokes_of, greatest, least_place, greatest_place, end_xs, end_ys, pen_line, pen_lines, note_line, report_of, full_report_of}
+use Rattle.plot_report.specs.Report.{line, page_line, report_page, strokes_line, strokes_of, greatest, least_place, greatest_place, end_xs, end_ys, pen_line, pen_lines, note_line, report_of}
 
 -- a table of examples: each value agrees with the one beside it
 abbrev Agree : {X : Type 0} → List (X × X) → Type 0
@@ -101,9 +101,6 @@ reports : Agree (
     ∷ (report_of (report_page square) [] (note 0 (codes "ZZ") Skipped ∷ note 6 (codes "CO") Skipped ∷ note 14 (codes "PA") Bad ∷ []), codes "page 64 64 0 0\nstrokes 0\nnote 0 skipped ZZ\nnote 6 skipped CO\nnote 14 bad PA\n")
     -- the other notes
     ∷ (report_of (report_page moved) [] (note 3 (codes "DI") Axis ∷ note 9 (codes "LB") Open ∷ []), codes "page 11880 8400 10 65536\nstrokes 0\nnote 3 axis DI\nnote 9 open LB\n")
-    -- in the profile full the sheets follow the page
-    ∷ (full_report_of (report_page square) 3 (across ∷ []) (note 0 (codes "PM") Skipped ∷ []), codes "page 64 64 0 0\nsheets 3\nstrokes 1\npen 1 strokes 1 widest 224 box 0 448 1024 448\nnote 0 skipped PM\n")
-    ∷ (full_report_of (report_page square) 0 [] [], codes "page 64 64 0 0\nsheets 0\nstrokes 0\n")  -- no sheet
     ∷ [])
 unfolding digits pen_lines
 reports = refl

@@ -5,7 +5,7 @@ use Rattle.std.proofs.lemmas.List.Concat.{flat_map-append}
 use Rattle.std.proofs.lemmas.Int.{ints}
 use Rattle.std.specs.Int.{int_max, int_min}
 use Rattle.plot_page.specs.Segments.{Segment}
-use Rattle.plot_report.specs.declared.summary.PenSummary.{PenSummary}
+use Rattle.plot_report.specs.declared.summary.StrokeSummary.{StrokeSummary}
 use Rattle.plot_report.specs.Report.{greatest, least_place, greatest_place, end_xs, end_ys, summary_of}
 
 min_assoc : (x y z : ℤ) → int_min x (int_min y z) ≡ int_min (int_min x y) z
@@ -29,7 +29,7 @@ greatest_joined (m ∷ ms) ns =
     grind arith
 
 -- the numbers of two lists of strokes together, neither of which is empty
-abbrev pub together : PenSummary → PenSummary → PenSummary
+abbrev pub together : StrokeSummary → StrokeSummary → StrokeSummary
 together a b = record {
   strokes = a.strokes + b.strokes;
   widest = max a.widest b.widest;
@@ -53,9 +53,9 @@ one_more b bs s =
     cc
 
 -- the numbers of some strokes together with those of one more
-pub with_one : (all one result : PenSummary) (before : List Segment) (s : Segment) → 0 < all.strokes → all ≡ summary_of before → one ≡ summary_of (s ∷ []) → result ≡ together all one → result ≡ summary_of (before ++ (s ∷ []))
+pub with_one : (all one result : StrokeSummary) (before : List Segment) (s : Segment) → 0 < all.strokes → all ≡ summary_of before → one ≡ summary_of (s ∷ []) → result ≡ together all one → result ≡ summary_of (before ++ (s ∷ []))
 with_one all one result [] s some h is_one e =
-    let none : all.strokes ≡ 0 = ap (λ (p : PenSummary). p.strokes) h in
+    let none : all.strokes ≡ 0 = ap (λ (p : StrokeSummary). p.strokes) h in
     absurd (omega (arith, none, some))
 with_one all one result (b ∷ bs) s some h is_one e =
-    e ∙ ap (λ (p : PenSummary). together p one) h ∙ ap (λ (p : PenSummary). together (summary_of (b ∷ bs)) p) is_one ∙ sym (one_more b bs s)
+    e ∙ ap (λ (p : StrokeSummary). together p one) h ∙ ap (λ (p : StrokeSummary). together (summary_of (b ∷ bs)) p) is_one ∙ sym (one_more b bs s)

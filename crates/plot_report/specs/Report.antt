@@ -1,13 +1,14 @@
--- The report on a plot: lines of text on the page, the strokes of each pen, and the notes.
-use Rattle.std.specs.Prelude.{ℕ, max, ℤ, pos, List, [], ◌∷◌, ◌++◌, length, map, filter, flat_map, nat_eq, codes}
+-- The report on a plot: lines of text on the page, the strokes and the areas of each pen, and the notes.
+use Rattle.std.specs.Prelude.{ℕ, max, ℤ, pos, List, [], ◌∷◌, ◌++◌, length, map, filter, flat_map, is_none, is_some, nat_eq, codes, if◌then◌else◌}
 use Rattle.std.specs.Prelude.{decimal}
 use Rattle.std.specs.List.{join_with_byte, range_with_len}
 use Rattle.std.specs.Fmt.{signed_decimal}
 use Rattle.std.specs.Int.{int_max, int_min}
 use Rattle.plot_page.specs.declared.page.Page.{Page}
 use Rattle.plot_page.specs.Segments.{Segment}
+use Rattle.areas.specs.Shapes.{Shape, ShapeList, shapes}
 use Rattle.plot_report.specs.declared.report_page.ReportPage.{ReportPage}
-use Rattle.plot_report.specs.declared.summary.PenSummary.{PenSummary}
+use Rattle.plot_report.specs.declared.summary.StrokeSummary.{StrokeSummary}
 use Rattle.hpgl_plot.specs.declared.note.Note.{Note}
 use Rattle.hpgl_plot.specs.declared.note.NoteKind.{NoteKind}
 use Rattle.hpgl_plot.specs.declared.note.NoteKind.TheVariants.{Skipped, Bad, Stray, Axis, Open}
@@ -65,7 +66,7 @@ end_ys strokes = flat_map (λ s. s.ay ∷ s.by ∷ []) strokes
 
 -- how many strokes these are, the greatest width, and the least and the greatest x and y of their ends, in grains; no
 -- window cuts them
-abbrev pub summary_of : List Segment → PenSummary
+abbrev pub summary_of : List Segment → StrokeSummary
 summary_of strokes = record {
   strokes = length strokes;
   widest = greatest (map (λ s. s.width) strokes);
@@ -76,12 +77,12 @@ summary_of strokes = record {
 }
 
 -- the corners of the box of these numbers
-abbrev pub corner_words : PenSummary → List (List ℕ)
+abbrev pub corner_words : StrokeSummary → List (List ℕ)
 corner_words s =
     signed_decimal s.least_x ∷ signed_decimal s.least_y ∷ signed_decimal s.greatest_x ∷ signed_decimal s.greatest_y ∷ []
 
 -- the line of a pen with these numbers
-abbrev pub summary_line : ℕ → PenSummary → List ℕ
+abbrev pub summary_line : ℕ → StrokeSummary → List ℕ
 summary_line pen s =
     line (codes "pen" ∷ decimal pen ∷ codes "strokes" ∷ decimal s.strokes ∷ codes "widest" ∷ decimal s.widest
     ∷ codes "box" ∷ corner_words s)
@@ -115,7 +116,53 @@ report_of page strokes notes = page_line page ++ strokes_line strokes ++ pen_lin
 abbrev pub sheets_line : ℕ → List ℕ
 sheets_line sheets = line (codes "sheets" ∷ decimal sheets ∷ [])
 
+-- the strokes that are no edges of areas, and the areas
+abbrev pub strokes_among : List Shape → List Segment
+strokes_among shapes = flat_map (λ shape. shape.strokes) (filter (λ shape. is_none shape.rule) shapes)
+
+abbrev pub areas_among : List Shape → List Shape
+areas_among shapes = filter (λ shape. is_some shape.rule) shapes
+
+-- the edges of areas
+abbrev pub all_edges : List Shape → List Segment
+all_edges areas = flat_map (λ area. area.strokes) areas
+
+-- how many areas there are; without areas there is no such line
+abbrev pub areas_line : ℕ → List ℕ
+areas_line areas = if nat_eq areas 0 then [] else line (codes "areas" ∷ decimal areas ∷ [])
+
+-- the pen of the last of these strokes, or 0 if there are none
+abbrev pub last_pen : List Segment → ℕ
+last_pen [] = 0
+last_pen (s ∷ []) = s.pen
+last_pen (s ∷ ss) = last_pen ss
+
+-- the shapes of one pen: all edges of an area have its pen
+abbrev pub shapes_of : ℕ → List Shape → List Shape
+shapes_of pen shapes = filter (λ shape. nat_eq (last_pen shape.strokes) pen) shapes
+
+-- the line of a pen with so many areas, whose edges have these numbers
+abbrev pub edges_line : ℕ → ℕ → StrokeSummary → List ℕ
+edges_line pen areas s =
+    line (codes "pen" ∷ decimal pen ∷ codes "areas" ∷ decimal areas ∷ codes "edges" ∷ decimal s.strokes
+    ∷ codes "box" ∷ corner_words s)
+
+-- the line of a pen with these areas; a pen without areas has none
+abbrev pub area_line : ℕ → List Shape → List ℕ
+area_line pen [] = []
+area_line pen (a ∷ more) = edges_line pen (length (a ∷ more)) (summary_of (all_edges (a ∷ more)))
+
+-- the lines of a pen with these shapes: of its strokes, and of its areas
+abbrev pub pen_shape_lines : ℕ → List Shape → List ℕ
+pen_shape_lines pen shapes = pen_line pen (strokes_among shapes) ++ area_line pen (areas_among shapes)
+
+-- how many strokes and areas there are, and the lines of the pens, 1 to 255
+unfoldable pub shape_lines : List Shape → List ℕ
+shape_lines shapes =
+    strokes_line (strokes_among shapes) ++ areas_line (length (areas_among shapes))
+    ++ flat_map (λ pen. pen_shape_lines pen (shapes_of pen shapes)) (range_with_len 1 255)
+
 -- the whole report in the profile full
-abbrev pub full_report_of : ReportPage → ℕ → List Segment → List Note → List ℕ
-full_report_of page sheets strokes notes =
-    page_line page ++ sheets_line sheets ++ strokes_line strokes ++ pen_lines strokes ++ flat_map note_line notes
+abbrev pub full_report_of : ReportPage → ℕ → ShapeList → List Note → List ℕ
+full_report_of page sheets list notes =
+    page_line page ++ sheets_line sheets ++ shape_lines (shapes list.strokes list.areas) ++ flat_map note_line notes

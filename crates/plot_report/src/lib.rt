@@ -1,7 +1,9 @@
-//! The report on a plot: lines of text on its page, the strokes of each pen, and its notes.
+//! The report on a plot: lines of text on its page, the strokes and the areas of each pen, and its notes.
 #![tactic(auto)]
 
+pub mod laws;
 mod lines;
+mod pens;
 mod report;
 mod report_page;
 mod summary;

@@ -2,11 +2,11 @@
 ghost use Rattle.std.specs.Prelude.{◌≡◌, ◌++◌, ◌∷◌, [], codes, decimal, length};
 ghost use Rattle.std.specs.List.{join_with_byte};
 ghost use Rattle.pieces.specs.Texts.{IsSound, Puts};
-ghost use Rattle.plot_report.specs.Report.{space, line, page_line, sheets_line, corner_words, summary_line};
+ghost use Rattle.plot_report.specs.Report.{space, line, page_line, sheets_line, corner_words, edges_line, summary_line};
 ghost use Rattle.plot_report.specs.Report.{kind_words, note_line};
 
 use crate::report_page::ReportPage;
-use crate::summary::PenSummary;
+use crate::summary::StrokeSummary;
 use crate::words::{put_number, put_word};
 use devices::Sink;
 use hpgl_plot::{Note, NoteKind};
@@ -36,7 +36,7 @@ pub(crate) fn put_sheets_line<K: Sink>(text: &mut Text<'_, K>, sheets: usize)
 }
 
 // `strokes N`
-pub(crate) fn put_strokes_line<K: Sink>(text: &mut Text<'_, K>, strokes: usize)
+pub(crate) fn put_strokes_line<K: Sink>(text: &mut Text<'_, K>, strokes: u32)
     requires sound { IsSound K.state text.old }
     ensures puts { Puts K.state text.old text.new (line (codes "strokes" ∷ decimal strokes ∷ [])) }
 {
@@ -45,8 +45,18 @@ pub(crate) fn put_strokes_line<K: Sink>(text: &mut Text<'_, K>, strokes: usize)
     text.put(b"\n");
 }
 
+// `areas K`
+pub(crate) fn put_areas_line<K: Sink>(text: &mut Text<'_, K>, areas: usize)
+    requires sound { IsSound K.state text.old }
+    ensures puts { Puts K.state text.old text.new (line (codes "areas" ∷ decimal areas ∷ [])) }
+{
+    text.put(b"areas");
+    put_number(text, areas);
+    text.put(b"\n");
+}
+
 // `pen P strokes N widest G box X0 Y0 X1 Y1`
-pub(crate) fn put_pen_line<K: Sink>(text: &mut Text<'_, K>, pen: u8, of: PenSummary)
+pub(crate) fn put_pen_line<K: Sink>(text: &mut Text<'_, K>, pen: u8, of: StrokeSummary)
     requires sound { IsSound K.state text.old }
     ensures puts { Puts K.state text.old text.new (summary_line pen of) }
 {
@@ -54,6 +64,24 @@ pub(crate) fn put_pen_line<K: Sink>(text: &mut Text<'_, K>, pen: u8, of: PenSumm
     put_number(text, pen);
     put_count(text, b"strokes", of.strokes);
     put_count(text, b"widest", of.widest);
+    put_box(text, of);
+    text.put(b"\n");
+}
+
+// `pen P areas K edges E box X0 Y0 X1 Y1`
+pub(crate) fn put_edges_line<K: Sink>(
+    text: &mut Text<'_, K>,
+    pen: u8,
+    areas: u32,
+    of: StrokeSummary,
+)
+    requires sound { IsSound K.state text.old }
+    ensures puts { Puts K.state text.old text.new (edges_line pen areas of) }
+{
+    text.put(b"pen");
+    put_number(text, pen);
+    put_count(text, b"areas", areas);
+    put_count(text, b"edges", of.strokes);
     put_box(text, of);
     text.put(b"\n");
 }
@@ -68,7 +96,7 @@ fn put_count<K: Sink>(text: &mut Text<'_, K>, word: &[u8], count: u32)
 }
 
 // `box` and its corners.
-fn put_box<K: Sink>(text: &mut Text<'_, K>, of: PenSummary)
+fn put_box<K: Sink>(text: &mut Text<'_, K>, of: StrokeSummary)
     requires sound { IsSound K.state text.old }
     ensures puts { Puts K.state text.old text.new (space ∷ join_with_byte space (codes "box" ∷ corner_words of)) }
 {

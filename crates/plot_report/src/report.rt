@@ -3,12 +3,18 @@ ghost use Rattle.std.specs.Prelude.{◌≡◌, ◌+◌, ◌-◌, ◌^◌, ◌<�
 ghost use Rattle.plot_page.specs.declared.stroke.TheConstants.{MOST_STROKES};
 ghost use Rattle.devices.specs.Sinks.{Writes};
 ghost use Rattle.pieces.specs.Texts.{IsNew, IsSound, Puts};
-ghost use Rattle.plot_report.specs.Report.{report_of, full_report_of, strokes_line, pen_lines, note_line};
-ghost use Rattle.plot_report.specs.Summaries.{summary_lines};
+ghost use Rattle.areas.specs.Shapes.{shapes};
+ghost use Rattle.areas.specs.Views.{areas_in, shapes_in};
+ghost use Rattle.plot_report.specs.Report.{report_of, full_report_of, areas_line, note_line, shape_lines};
+ghost use Rattle.plot_report.specs.Summaries.{summary_lines, summary_text};
 
-use crate::lines::{put_note_line, put_page_line, put_pen_line, put_sheets_line, put_strokes_line};
+use crate::lines::{
+    put_areas_line, put_edges_line, put_note_line, put_page_line, put_pen_line, put_sheets_line,
+    put_strokes_line,
+};
+use crate::pens::{PENS, PenSummary, summarise};
 use crate::report_page::ReportPage;
-use crate::summary::{PENS, PenSummary, summarise};
+use areas::Shapes;
 use devices::{Sink, WriteFault};
 use hpgl_plot::NoteSource;
 use pieces::Text;
@@ -40,25 +46,27 @@ pub fn write_report<N: NoteSource + Drop, K: Sink>(
     put_report(&mut text, page, strokes, notes)
 }
 
-/// The same in the profile full: the line after that of the page says how many sheets there are.
+/// The same in the profile full. The line after that of the page says how many sheets there are. The strokes that are edges of
+/// areas do not count as strokes: if there are areas, the line after that of the strokes says how many, and a pen that has areas
+/// has a line for them, after the one for its strokes.
 ///
 /// Errors: those of `write_report`.
 pub fn write_full_report<N: NoteSource + Drop, K: Sink>(
     page: ReportPage,
     sheets: usize,
-    strokes: &[Stroke],
+    shapes: Shapes<'_>,
     notes: N,
     sink: &mut K,
 ) -> Result<u64, WriteFault>
     requires sound { (K.state sink.old).faults < 2 ^ 64 - 1 }
-    requires strokes { length strokes.now ≤ MOST_STROKES }
+    requires strokes { length shapes.strokes.now ≤ MOST_STROKES }
     requires notes { length (N.notes notes) ≤ MOST_NOTES }
     ensures writes { Writes (K.state sink.old) (K.state sink.new)
-        (full_report_of page sheets strokes.now (N.notes notes)) result }
-    ensures count { IfOk result (λ n. n ≡ length (full_report_of page sheets strokes.now (N.notes notes))) }
+        (full_report_of page sheets (shapes_in shapes.entry) (N.notes notes)) result }
+    ensures count { IfOk result (λ n. n ≡ length (full_report_of page sheets (shapes_in shapes.entry) (N.notes notes))) }
 {
     let mut text = Text::new(sink);
-    put_full_report(&mut text, page, sheets, strokes, notes)
+    put_full_report(&mut text, page, sheets, shapes, notes)
 }
 
 // Writes the report as a new text.
@@ -78,7 +86,7 @@ fn put_report<N: NoteSource + Drop, K: Sink>(
     ensures count { IfOk result (λ n. n ≡ length (report_of page strokes.now (N.notes notes))) }
 {
     put_page_line(text, page);
-    put_strokes(text, strokes);
+    put_shapes(text, Shapes::of_strokes(strokes));
     put_notes(text, notes);
     text.finish()
 }
@@ -88,45 +96,67 @@ fn put_full_report<N: NoteSource + Drop, K: Sink>(
     text: &mut Text<'_, K>,
     page: ReportPage,
     sheets: usize,
-    strokes: &[Stroke],
+    shapes: Shapes<'_>,
     notes: N,
 ) -> Result<u64, WriteFault>
     requires sound { IsSound K.state text.old }
     requires new { IsNew text.old }
-    requires strokes { length strokes.now ≤ MOST_STROKES }
+    requires strokes { length shapes.strokes.now ≤ MOST_STROKES }
     requires notes { length (N.notes notes) ≤ MOST_NOTES }
     ensures same { text.new.sink.ghost_name ≡ text.old.sink.ghost_name }
     ensures writes { Writes (K.state text.old.sink.now) (K.state text.new.sink.now)
-        (full_report_of page sheets strokes.now (N.notes notes)) result }
-    ensures count { IfOk result (λ n. n ≡ length (full_report_of page sheets strokes.now (N.notes notes))) }
+        (full_report_of page sheets (shapes_in shapes.entry) (N.notes notes)) result }
+    ensures count { IfOk result (λ n. n ≡ length (full_report_of page sheets (shapes_in shapes.entry) (N.notes notes))) }
 {
     put_page_line(text, page);
     put_sheets_line(text, sheets);
-    put_strokes(text, strokes);
+    put_shapes(text, shapes);
     put_notes(text, notes);
     text.finish()
 }
 
-// Puts the lines of the strokes and of the pens.
-fn put_strokes<K: Sink>(text: &mut Text<'_, K>, strokes: &[Stroke])
+// Puts the lines of the strokes and of the areas, and those of the pens.
+fn put_shapes<K: Sink>(text: &mut Text<'_, K>, of: Shapes<'_>)
     requires sound { IsSound K.state text.old }
-    requires strokes { length strokes.now ≤ MOST_STROKES }
-    ensures puts { Puts K.state text.old text.new (strokes_line strokes.now ++ pen_lines strokes.now) }
+    requires strokes { length of.strokes.now ≤ MOST_STROKES }
+    ensures puts { Puts K.state text.old text.new (shape_lines (shapes of.entry.strokes.now (areas_in of.entry.areas))) }
 {
-    put_strokes_line(text, strokes.len());
-    put_pen_lines(text, &summarise(strokes));
+    let summaries = summarise(of);
+    put_strokes_line(text, summaries.strokes);
+    put_areas(text, of.areas.count());
+    put_pen_lines(text, &summaries.pens);
 }
 
-// Puts a line for each pen that has strokes, from pen 1 on.
+// Puts a line for how many areas there are, unless there are none.
+fn put_areas<K: Sink>(text: &mut Text<'_, K>, areas: usize)
+    requires sound { IsSound K.state text.old }
+    ensures puts { Puts K.state text.old text.new (areas_line areas) }
+{
+    if areas > 0 {
+        put_areas_line(text, areas);
+    }
+}
+
+// Puts the lines of each pen, from pen 1 on.
 fn put_pen_lines<K: Sink>(text: &mut Text<'_, K>, pens: &[PenSummary; PENS])
     requires sound { IsSound K.state text.old }
     ensures puts { Puts K.state text.old text.new (summary_lines pens.now 255) }
 {
     for pen in 1..PENS {
-        let summary = pens[pen];
-        if summary.strokes > 0 {
-            put_pen_line(text, pen as u8, summary);
-        }
+        put_lines_of_pen(text, pen as u8, pens[pen]);
+    }
+}
+
+// Puts a line for the strokes of a pen, if it has some, and a line for its areas, if it has some.
+fn put_lines_of_pen<K: Sink>(text: &mut Text<'_, K>, pen: u8, of: PenSummary)
+    requires sound { IsSound K.state text.old }
+    ensures puts { Puts K.state text.old text.new (summary_text pen of) }
+{
+    if of.strokes.strokes > 0 {
+        put_pen_line(text, pen, of.strokes);
+    }
+    if of.areas > 0 {
+        put_edges_line(text, pen, of.areas, of.edges);
     }
 }
 

@@ -1,19 +1,14 @@
-//! What a report says of the strokes of each pen.
-ghost use Rattle.std.specs.Prelude.{◌≡◌, ℕ, ◌-◌, ◌^◌, ◌<◌, ◌≤◌, ◌++◌, ◌∷◌, [], List, length, slice_index_or};
+//! What a report says of some strokes.
+ghost use Rattle.std.specs.Prelude.{◌≡◌, ◌+◌, ◌-◌, ◌^◌, ◌<◌, ◌++◌, ◌∷◌, [], List, length};
 ghost use Rattle.plot_page.specs.Segments.{Segment};
-ghost use Rattle.plot_page.specs.declared.stroke.TheConstants.{MOST_STROKES};
-ghost use Rattle.plot_report.specs.declared.summary.PenSummary.{PenSummary};
-ghost use Rattle.plot_report.specs.Report.{strokes_of, summary_of};
+ghost use Rattle.plot_report.specs.Report.{summary_of};
 
 use plot_page::Stroke;
 
-/// The pens 0 to 255. No stroke has pen 0.
-pub(crate) const PENS: usize = 256;
-
-// How many strokes a pen has, the greatest of their widths, and the least box that holds their
+// How many strokes there are, the greatest of their widths, and the least box that holds their
 // ends. Without strokes each number is 0.
 #[derive(Clone, Copy)]
-pub(crate) struct PenSummary {
+pub(crate) struct StrokeSummary {
     pub(crate) strokes: u32,
     pub(crate) widest: u32,
     pub(crate) least_x: i32,
@@ -22,8 +17,8 @@ pub(crate) struct PenSummary {
     pub(crate) greatest_y: i32,
 }
 
-// Of no strokes.
-const NONE: PenSummary = PenSummary {
+/// Of no strokes.
+pub(crate) const NO_STROKES: StrokeSummary = StrokeSummary {
     strokes: 0,
     widest: 0,
     least_x: 0,
@@ -32,12 +27,12 @@ const NONE: PenSummary = PenSummary {
     greatest_y: 0,
 };
 
-impl PenSummary {
+impl StrokeSummary {
     // Of one stroke.
-    fn of_one(stroke: &Stroke) -> PenSummary
+    fn of_one(stroke: &Stroke) -> StrokeSummary
         ensures { result ≡ summary_of (stroke.now ∷ []) }
     {
-        PenSummary {
+        StrokeSummary {
             strokes: 1,
             widest: stroke.width,
             least_x: stroke.ax.min(stroke.bx),
@@ -48,16 +43,17 @@ impl PenSummary {
     }
 
     // Of the strokes that this one is of, and one more.
-    fn with(self, stroke: &Stroke) -> PenSummary
+    pub(crate) fn with(self, stroke: &Stroke) -> StrokeSummary
         requires room { self.strokes < 2 ^ 32 - 1 }
-        ensures { (before : List Segment) → self ≡ summary_of before →
+        ensures sums { (before : List Segment) → self ≡ summary_of before →
             result ≡ summary_of (before ++ (stroke.now ∷ [])) }
+        ensures count { result.strokes ≡ self.strokes + 1 }
     {
-        let one = PenSummary::of_one(stroke);
+        let one = StrokeSummary::of_one(stroke);
         if self.strokes == 0 {
             return one;
         }
-        PenSummary {
+        StrokeSummary {
             strokes: self.strokes + 1,
             widest: self.widest.max(one.widest),
             least_x: self.least_x.min(one.least_x),
@@ -66,18 +62,17 @@ impl PenSummary {
             greatest_y: self.greatest_y.max(one.greatest_y),
         }
     }
-}
 
-// What holds of the strokes of each pen, by its number.
-pub(crate) fn summarise(strokes: &[Stroke]) -> [PenSummary; PENS]
-    requires few { length strokes.now ≤ MOST_STROKES }
-    ensures { (pen : ℕ) (d : PenSummary) → pen < 256 →
-        slice_index_or result pen d ≡ summary_of (strokes_of pen strokes.now) }
-{
-    let mut pens = [NONE; PENS];
-    for stroke in strokes {
-        let pen = stroke.pen as usize;
-        pens[pen] = pens[pen].with(stroke);
+    // Of the strokes that this one is of, and more.
+    pub(crate) fn with_all(self, strokes: &[Stroke]) -> StrokeSummary
+        requires room { self.strokes + length strokes.now < 2 ^ 32 }
+        ensures sums { (before : List Segment) → self ≡ summary_of before →
+            result ≡ summary_of (before ++ strokes.now) }
+    {
+        let mut all = self;
+        for stroke in strokes {
+            all = all.with(stroke);
+        }
+        all
     }
-    pens
 }

@@ -1,5 +1,5 @@
 -- When a run says something of what it wrote.
-use Rattle.std.specs.Prelude.{ℕ, Bool, true, false, not, ◌&&◌, ◌||◌, ◌++◌, List, [], Option, None, Some, codes, decimal, nat_eq, nat_lt, if◌then◌else◌}
+use Rattle.std.specs.Prelude.{ℕ, ◌+◌, Bool, true, false, not, ◌&&◌, ◌||◌, ◌++◌, List, [], Option, None, Some, codes, decimal, nat_eq, nat_lt, if◌then◌else◌}
 use Rattle.command_line.specs.declared.line.Line.{Line}
 use Rattle.command_line.specs.declared.line.Task.{Task}
 use Rattle.command_line.specs.declared.line.Task.TheVariants.{Report}
@@ -36,11 +36,11 @@ has_all_sheets (Full sheet encoding) = nat_eq sheet 0
 abbrev pub is_whole : Line → Bool → Outcome → Bool
 is_whole line is_sheet outcome = nat_lt outcome.sheets 2 || (not is_sheet && has_all_sheets (reading_for line))
 
--- there are more notes than lines, and this is to be said
+-- there are more notes than lines and areas, and this is to be said
 abbrev pub is_hardly_understood : Line → Bool → Outcome → Bool
 is_hardly_understood line is_sheet outcome =
     (line.remarks && not line.verbose)
-    && (is_whole line is_sheet outcome && (not (is_blank outcome) && nat_lt outcome.done.strokes outcome.done.notes))
+    && (is_whole line is_sheet outcome && (not (is_blank outcome) && nat_lt (outcome.done.strokes + outcome.done.areas) outcome.done.notes))
 
 abbrev pub is_report : Task → Bool
 is_report (Report page) = true

@@ -58,7 +58,7 @@ fn tell_placement<V: Voice>(voice: &mut V, about: About<'_>, placement: Placemen
     }
 }
 
-// Says that there are more notes than lines, of which there is one at least.
+// Says that there are more notes than lines and areas, of which there is one at least.
 fn tell_notes<V: Voice>(
     voice: &mut V,
     line: &Line<'_, '_>,
@@ -72,7 +72,7 @@ fn tell_notes<V: Voice>(
         let message = ManyNotes {
             about,
             notes: outcome.done.notes,
-            lines: Lines(outcome.done.strokes),
+            lines: Lines(outcome.done.strokes.saturating_add(outcome.done.areas)),
             report: report_of(line),
         };
         voice.remark(&message);
@@ -150,14 +150,15 @@ fn is_blank(outcome: &Outcome) -> bool
     is_empty(outcome.placement) || outcome.census.off_page == outcome.census.strokes
 }
 
-// There are more notes than lines, of pens that are not drawn, too. The notes are those of the whole plot, so this is not asked
+// There are more notes than lines and areas, of pens that are not drawn, too. The notes are those of the whole plot, so this is not asked
 // of one sheet of several, and draw need not say it if it is to be quiet or says these numbers anyway.
 fn is_hardly_understood(line: &Line<'_, '_>, is_sheet: bool, outcome: &Outcome) -> bool
     ensures { result ≡ is_hardly_understood line.now is_sheet outcome.now }
 {
     let is_whole = outcome.sheets < 2 || !is_sheet && has_all_sheets(reading_for(line));
     let is_said = line.remarks && !line.verbose;
-    is_said && is_whole && !is_blank(outcome) && outcome.done.notes > outcome.done.strokes
+    let others = outcome.done.notes.saturating_sub(outcome.done.strokes);
+    is_said && is_whole && !is_blank(outcome) && others > outcome.done.areas
 }
 
 // All sheets are drawn.

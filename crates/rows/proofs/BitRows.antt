@@ -5,8 +5,8 @@ use Rattle.std.proofs.lemmas.Nat.{mul-le}
 use Rattle.std.proofs.lemmas.List.{take-append-drop, length-drop, length-map}
 use Rattle.stroke_raster.specs.Painting.{Painting, Moves, painted_rows, rows_next}
 use Rattle.stroke_raster.specs.Rows.{split_rows}
+use Rattle.stroke_raster.specs.ShownShapes.{shows_at}
 use Rattle.stroke_raster.proofs.Rows.{rows_height, rows_width}
-use Rattle.plot_page.specs.Segments.{Segment}
 use Rattle.plot_page.specs.declared.page.Page.{Page}
 use Rattle.plot_page.specs.declared.dots.Dots.{Dots}
 use Rattle.plot_page.specs.declared.dots.TheConstants.{MOST_PIXELS_A_SIDE}
@@ -68,12 +68,11 @@ pub next_band : (p q : Painting) (reaches : Reach) (n columns s : ℕ) (bits : L
 next_band p q reaches n columns s bits moved n_is some shown split sized columns_is few s_is =
     let page_columns = columns_of p.page p.dots in
     let rows : List (List ℕ) = painted_rows reaches p p.next (rows_next p) in
-    let covers = λ (t : Segment). reaches t p.page p.dots in
-    let tall : length rows ≡ n = rows_height covers p.pens p.strokes page_columns p.next (rows_next p) ∙ sym n_is in
+    let tall : length rows ≡ n = rows_height (shows_at reaches p.pens p.strokes p.areas p.page p.dots) (length p.strokes) page_columns p.next (rows_next p) ∙ sym n_is in
     let many : length q.last.rows ≡ n = ap length shown ∙ length-map rows packed ∙ tall in
     let stride : s ≡ bytes_for page_columns = s_is ∙ ap bytes_for columns_is in
     let same : bytes_for (columns_of q.page q.dots) ≡ s = ap₂ (λ (z : Page) (d : Dots). bytes_for (columns_of z d)) moved.page moved.dots ∙ sym stride in
-    let wide = packed_width page_columns rows (rows_width covers p.pens p.strokes page_columns p.next (rows_next p)) in
+    let wide = packed_width page_columns rows (rows_width (shows_at reaches p.pens p.strokes p.areas p.page p.dots) (length p.strokes) page_columns p.next (rows_next p)) in
     let rows_in = few_rows p.page.height p.dots.resolution (omega (arith, p.page.height_in)) (omega (arith, p.dots.at_most)) in
     record {
       tall = tall;

@@ -1,5 +1,6 @@
 mod Examples
 mod Smoothed
+pub mod Alone
 pub mod Pictures
 pub mod Faults
 mod RowTexts

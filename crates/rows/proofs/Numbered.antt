@@ -11,13 +11,14 @@ use Rattle.std.proofs.lemmas.List.{get_or_default, get_or_past, length-map}
 use Rattle.std.proofs.lemmas.List.Concat.{flat_map-cons}
 use Rattle.std.proofs.lemmas.List.FromFn.{get_or-map-range_with_len, length-map-range_with_len}
 use Rattle.plot_page.specs.Segments.{Segment}
+use Rattle.areas.specs.Shapes.{ShapeList}
 use Rattle.plot_page.specs.Pens.{has_pen}
 use Rattle.plot_page.specs.declared.page.Page.{Page}
 use Rattle.plot_page.specs.declared.dots.Dots.{Dots}
 use Rattle.plot_page.specs.declared.pens.PenSet.{PenSet}
 use Rattle.plot_page.specs.Resolutions.{columns_of}
 use Rattle.stroke_raster.specs.Boxes.{selected}
-use Rattle.stroke_raster.specs.Shown.{last_position, row_shown, shown}
+use Rattle.stroke_raster.specs.ShownShapes.{last_at, nobody, row_of_shapes, shown_at, shows_at, stroke_at}
 use Rattle.picture_out.specs.declared.form.Form.TheVariants.{Ppm}
 use Rattle.picture_out.specs.declared.inks.Ink.{Ink}
 use Rattle.picture_out.specs.Inks.{cell_colour, colour_bytes, ink_at, paper}
@@ -31,34 +32,26 @@ use Rattle.png.specs.Packing.{packed_samples, per_byte}
 use Rattle.png.specs.Samples.{entry, is_entry, sample, samples}
 use Rattle.png.specs.Chunks.{given}
 use Rattle.png.proofs.Packings.{sample_read}
-use Rattle.rows.specs.Pictures.{Reach, ink_of, inks_of, row_of}
+use Rattle.rows.specs.Pictures.{Reach, ink_of, inks_of, row_of_list}
 use Rattle.rows.specs.Palettes.{AreNumbers, stroke_colour, colours_used, number_of, numbers_bytes, numbers_row, with_colour}
 use Rattle.rows.specs.Layouts.{IsRowOf}
 use Rattle.rows.proofs.NumberRows.{depth_some, number_few, packed_length}
 
--- the stroke at the last position for which a test holds passes the test
-last_by : (test : Segment → Bool) (s : Segment) (ss : List Segment) (k n : ℕ) (d : Segment) → ((m : ℕ) → n ≡ suc m → (m < length ss) × (test (get_or ss m d) ≡ true))
-    → cond (nat_eq n 0) (cond (test s) 1 0) (n + 1) ≡ suc k → (k < suc (length ss)) × (test (get_or (s ∷ ss) k d) ≡ true)
-last_by test s ss k zero d before e =
-    elim (test s) as (λ b. test s ≡ b → cond b 1 0 ≡ suc k → (k < suc (length ss)) × (test (get_or (s ∷ ss) k d) ≡ true)) [
-      | true ↦ λ t e'. (let first : k ≡ 0 = omega (arith, e') in (omega (arith, first), subst (λ (j : ℕ). test (get_or (s ∷ ss) j d) ≡ true) (sym first) t))
-      | false ↦ λ t e'. absurd (omega (arith, e'))
+-- the last position for which a test holds passes the test
+pub last_passes : (test : ℕ → Bool) (n k : ℕ) → last_at test n ≡ suc k → (k < n) × (test (suc k) ≡ true)
+last_passes test zero k e = absurd (omega (arith, e))
+last_passes test (suc n) k e =
+    elim (test (suc n)) as (λ b. test (suc n) ≡ b → cond b (suc n) (last_at test n) ≡ suc k → (k < suc n) × (test (suc k) ≡ true)) [
+      | true ↦ λ t e'. (let here : n ≡ k = omega (arith, e') in (omega (arith, here), subst (λ (j : ℕ). test (suc j) ≡ true) here t))
+      | false ↦ λ t e'. (let h = last_passes test n k e' in (omega (arith, h.0), h.1))
     ] refl e
-last_by test s ss k (suc m) d before e =
-    let some : nat_eq (suc m) 0 ≡ false = grind (arith, nat_tests) in
-    let e' : suc m + 1 ≡ suc k = sym (ap (λ (b : Bool). cond b (cond (test s) 1 0) (suc m + 1)) some) ∙ e in
-    let here : k ≡ suc m = omega (arith, e') in
-    let h = before m refl in
-    (omega (arith, h.0, here), subst (λ (j : ℕ). test (get_or (s ∷ ss) j d) ≡ true) (sym here) h.1)
 
-pub last_test : (test : Segment → Bool) (ss : List Segment) (k : ℕ) (d : Segment) → last_position test ss ≡ suc k → (k < length ss) × (test (get_or ss k d) ≡ true)
-last_test test [] k d e = absurd (omega (arith, e))
-last_test test (s ∷ ss) k d e = last_by test s ss k (last_position test ss) d (λ m is. last_test test ss m d is) e
-
--- a stroke, if there is one
-pub a_stroke : (test : Segment → Bool) (ss : List Segment) (k : ℕ) → last_position test ss ≡ suc k → Segment
-a_stroke test [] k e = absurd (omega (arith, e))
-a_stroke test (s ∷ ss) k e = s
+-- its stroke is selected
+pub is_chosen : (pens : PenSet) (ss : List Segment) (test : ℕ → Bool) (k : ℕ) → ((j : ℕ) → test j ≡ true → has_pen pens (stroke_at ss j).pen ≡ true)
+    → test (suc k) ≡ true → has_pen pens (get_or ss k nobody).pen ≡ true
+is_chosen pens ss test k chosen h =
+    let same : suc k - 1 ≡ k = omega arith in
+    subst (λ (j : ℕ). has_pen pens (get_or ss j nobody).pen ≡ true) same (chosen (suc k) h)
 
 pub both : (a b : Bool) → (a && b) ≡ true → a ≡ true
 both true b h = refl
@@ -102,8 +95,8 @@ pub record IsShown (colours : List (List ℕ)) (ss : List Segment) (numbers : Li
   pub within : number_of numbers cell < length colours
   pub named : get_or colours (number_of numbers cell) [] ≡ cell_colour (inks_of ss) cell
 
-cell_shown : (pens : PenSet) (ss : List Segment) (colours : List (List ℕ)) (numbers : List ℕ) (test : Segment → Bool) (cell : ℕ) → colours ≡ colours_used pens ss → AreNumbers pens ss colours numbers
-    → ((s : Segment) → test s ≡ true → has_pen pens s.pen ≡ true) → last_position test ss ≡ cell → IsShown colours ss numbers cell
+cell_shown : (pens : PenSet) (ss : List Segment) (colours : List (List ℕ)) (numbers : List ℕ) (test : ℕ → Bool) (cell : ℕ) → colours ≡ colours_used pens ss → AreNumbers pens ss colours numbers
+    → ((j : ℕ) → test j ≡ true → has_pen pens (stroke_at ss j).pen ≡ true) → last_at test (length ss) ≡ cell → IsShown colours ss numbers cell
 cell_shown pens ss colours numbers test zero used are chosen is =
     let h = first_kept (colour_bytes paper) [] (map stroke_colour (selected pens ss)) in
     record {
@@ -111,14 +104,13 @@ cell_shown pens ss colours numbers test zero used are chosen is =
       named = ap (λ (z : List (List ℕ)). get_or z 0 []) used ∙ h.0;
     }
 cell_shown pens ss colours numbers test (suc k) used are chosen is =
-    let d = a_stroke test ss k is in
-    let h = last_test test ss k d is in
+    let h = last_passes test (length ss) k is in
     let some : nat_eq (suc k) 0 ≡ false = grind (arith, nat_tests) in
     let same : suc k - 1 ≡ k = omega arith in
     let mine : number_of numbers (suc k) ≡ get_or numbers k 0 = ap (λ (b : Bool). cond b 0 (get_or numbers (suc k - 1) 0)) some ∙ ap (λ (j : ℕ). get_or numbers j 0) same in
     record {
       within = rw mine (are.within k 0 (omega (arith, h.0, are.size)));
-      named = ap (λ (n : ℕ). get_or colours n []) mine ∙ are.named k d h.0 (chosen (get_or ss k d) h.1) ∙ sym (colour_shown ss k d h.0);
+      named = ap (λ (n : ℕ). get_or colours n []) mine ∙ are.named k nobody h.0 (is_chosen pens ss test k chosen h.1) ∙ sym (colour_shown ss k nobody h.0);
     }
 
 three_of : (inks : List Ink) (cell : ℕ) → three (cell_colour inks cell) ≡ cell_colour inks cell
@@ -167,23 +159,22 @@ stride_is Two columns = omega arith
 stride_is Four columns = omega arith
 stride_is Eight columns = omega arith
 
-pub row_numbered : (header : Header) (depth : Depth) (palette : Bor (List (List ℕ))) (pens : PenSet) (ss : List Segment) (page : Page) (dots : Dots) (numbers : List ℕ) (reaches : Reach) (row : ℕ) → header.layout ≡ Indexed depth palette
-    → header.columns ≡ columns_of page dots → palette.now ≡ colours_used pens ss → AreNumbers pens ss palette.now numbers → length palette.now ≤ 2 ^ bits_of_depth depth
-    → IsRowOf (head header) (numbers_row depth numbers pens ss page dots reaches row) (row_of Ppm reaches pens ss page dots row)
+pub row_numbered : (header : Header) (depth : Depth) (palette : Bor (List (List ℕ))) (pens : PenSet) (ss : ShapeList) (page : Page) (dots : Dots) (numbers : List ℕ) (reaches : Reach) (row : ℕ) → header.layout ≡ Indexed depth palette
+    → header.columns ≡ columns_of page dots → palette.now ≡ colours_used pens ss.strokes → AreNumbers pens ss.strokes palette.now numbers → length palette.now ≤ 2 ^ bits_of_depth depth
+    → IsRowOf (head header) (numbers_row depth numbers pens ss page dots reaches row) (row_of_list Ppm reaches pens ss page dots row)
 row_numbered header depth palette pens ss page dots numbers reaches row layout wide used are few =
     let columns = columns_of page dots in
     let bits = bits_of_depth depth in
     let colours = palette.now in
     let P = flat_map three colours in
-    let covers = λ (s : Segment). reaches s page dots in
-    let cells : List ℕ = row_shown covers pens ss columns row in
+    let cells : List ℕ = row_of_shapes reaches pens ss.strokes ss.areas page dots row in
     let ns : List ℕ = map (number_of numbers) cells in
     let bytes : List ℕ = numbers_row depth numbers pens ss page dots reaches row in
-    let tall : length cells ≡ columns = length-map-range_with_len (λ (k : ℕ). shown covers pens ss row k) 0 columns in
+    let tall : length cells ≡ columns = length-map-range_with_len (λ (k : ℕ). shown_at (shows_at reaches pens ss.strokes ss.areas page dots) (length ss.strokes) row k) 0 columns in
     let size : length ns ≡ columns = length-map cells (number_of numbers) ∙ tall in
-    let each : (k : ℕ) → k < length cells → IsShown colours ss numbers (get_or cells k 0) =
-    λ k lt. cell_shown pens ss colours numbers (λ (s : Segment). has_pen pens s.pen && covers s row k) (get_or cells k 0) used are (λ s t. both _ _ t)
-    (sym (get_or-map-range_with_len (λ (j : ℕ). shown covers pens ss row j) 0 columns k k 0 (omega (arith, lt, tall)) (omega arith))) in
+    let each : (k : ℕ) → k < length cells → IsShown colours ss.strokes numbers (get_or cells k 0) =
+    λ k lt. cell_shown pens ss.strokes colours numbers (λ (j : ℕ). shows_at reaches pens ss.strokes ss.areas page dots j row k) (get_or cells k 0) used are (λ s t. both _ _ t)
+    (sym (get_or-map-range_with_len (λ (j : ℕ). shown_at (shows_at reaches pens ss.strokes ss.areas page dots) (length ss.strokes) row j) 0 columns k k 0 (omega (arith, lt, tall)) (omega arith))) in
     let number_at : (k : ℕ) → get_or ns k 0 ≡ number_of numbers (get_or cells k 0) = λ k. get_or-map (number_of numbers) cells k 0 in
     let small : (k : ℕ) → get_or ns k 0 < 2 ^ bits = λ k. elim (cases_lt k (length cells)) as (λ _. get_or ns k 0 < 2 ^ bits) [
       | inl lt ↦ rw (number_at k) (number_few depth _ (length colours) (each k lt).within few)
@@ -192,8 +183,8 @@ row_numbered header depth palette pens ss page dots numbers reaches row layout w
     let read : samples bits header.columns bytes ≡ ns = ap (λ (w : ℕ). samples bits w bytes) wide ∙ samples_are depth columns ns size small in
     let inside : list_all (is_entry P) (samples bits header.columns bytes) ≡ true = ap (list_all (is_entry P)) read
     ∙ all_entries P ns (λ k lt. (let within = (each k (omega (arith, lt, size, tall))).within in omega (arith, within, number_at k, palette_size colours))) in
-    let shows : flat_map (entry P) (samples bits header.columns bytes) ≡ flat_map (cell_colour (inks_of ss)) cells = ap (flat_map (entry P)) read ∙ entries_are colours ss numbers cells each in
-    subst (λ (l : Layout). IsRowOf (record { columns = header.columns; rows = header.rows; depth = depth_of l; colour = colour_type l; per_metre = header.per_metre; palette = palette_of l }) bytes (row_of Ppm reaches pens ss page dots row)) (sym layout)
+    let shows : flat_map (entry P) (samples bits header.columns bytes) ≡ flat_map (cell_colour (inks_of ss.strokes)) cells = ap (flat_map (entry P)) read ∙ entries_are colours ss.strokes numbers cells each in
+    subst (λ (l : Layout). IsRowOf (record { columns = header.columns; rows = header.rows; depth = depth_of l; colour = colour_type l; per_metre = header.per_metre; palette = palette_of l }) bytes (row_of_list Ppm reaches pens ss page dots row)) (sym layout)
     (record {
       size = packed_length depth (numbers_bytes depth columns) ns ∙ sym (stride_is depth columns) ∙ ap (λ (w : ℕ). (w * (1 * bits) + 7) / 8) (sym wide);
       shows = ap (λ (b : Bool). given b (Some (flat_map (entry P) (samples bits header.columns bytes)))) inside ∙ ap Some shows;

@@ -1,5 +1,5 @@
 -- Rows of pixels of any colours show their colours, in each layout; which colours palettes have, and which pixels are grey.
-use Rattle.std.proofs.Common.{◌≡◌, ℕ, zero, suc, ◌+◌, ◌*◌, ◌/◌, ◌^◌, ◌<◌, Bool, true, false, cond, ◌&&◌, ◌||◌, All, List, [], ◌∷◌, ◌++◌, length, get_or, map, fold, refl, sym, ap, ap₂, ◌∙◌, subst, arith, Some, inl, inr, nat_lt}
+use Rattle.std.proofs.Common.{◌≡◌, ℕ, zero, suc, ◌+◌, ◌*◌, ◌/◌, ◌^◌, ◌<◌, Bool, true, false, cond, ◌||◌, All, List, [], ◌∷◌, ◌++◌, length, get_or, map, fold, refl, sym, ap, ap₂, ◌∙◌, subst, arith, Some, inl, inr, nat_lt}
 use Rattle.std.specs.List.{flat_map, list_all, list_any, range_with_len}
 use Rattle.std.specs.Str.{bytes_eq}
 use denote.Bor.{Bor}
@@ -23,17 +23,18 @@ use Rattle.rows.specs.Layouts.{HasPixels, IsRowOf, AreGrey}
 use Rattle.rows.specs.Palettes.{numbers_bytes, with_colour}
 use Rattle.rows.specs.PixelRows.{layout_bytes, number_in, place_of}
 use Rattle.rows.proofs.NumberRows.{depth_some, number_few, packed_length}
-use Rattle.rows.proofs.Numbered.{all_entries, entry_is, palette_size, samples_are, stride_is, a_stroke, both, colour_shown, last_test}
+use Rattle.rows.proofs.Numbered.{all_entries, entry_is, palette_size, samples_are, stride_is, both, colour_shown, is_chosen, last_passes}
 use Rattle.rows.proofs.PixelRows.{channels_size, number_within}
 use Rattle.std.proofs.lemmas.List.Folds.{list_any-append}
 use Rattle.std.proofs.lemmas.List.FromFn.{get_or-map-range_with_len, length-map-range_with_len}
 use Rattle.plot_page.specs.Segments.{Segment}
+use Rattle.areas.specs.Shapes.{ShapeList}
 use Rattle.plot_page.specs.Pens.{has_pen}
 use Rattle.plot_page.specs.declared.page.Page.{Page}
 use Rattle.plot_page.specs.declared.dots.Dots.{Dots}
 use Rattle.plot_page.specs.declared.pens.PenSet.{PenSet}
 use Rattle.plot_page.specs.Resolutions.{columns_of, rows_of}
-use Rattle.stroke_raster.specs.Shown.{last_position, row_shown, shown}
+use Rattle.stroke_raster.specs.ShownShapes.{last_at, nobody, row_of_shapes, shown_at, shows_at, stroke_at}
 use Rattle.picture_out.specs.Inks.{cell_colour, colour_bytes, paper}
 use Rattle.smoothing.specs.Smoothings.{Colours, channel, mean, smoothed, total}
 use Rattle.smoothing.proofs.Totals.{total_same}
@@ -201,27 +202,25 @@ white_grey : IsGrey (colour_bytes paper)
 white_grey = record { green = refl; blue = refl }
 
 -- the colour of a cell that shows a selected stroke or the paper
-cell_grey : (pens : PenSet) (ss : List Segment) (test : Segment → Bool) (cell : ℕ) → AreGrey pens ss → ((s : Segment) → test s ≡ true → has_pen pens s.pen ≡ true) → last_position test ss ≡ cell → IsGrey (cell_colour (inks_of ss) cell)
+cell_grey : (pens : PenSet) (ss : List Segment) (test : ℕ → Bool) (cell : ℕ) → AreGrey pens ss → ((j : ℕ) → test j ≡ true → has_pen pens (stroke_at ss j).pen ≡ true) → last_at test (length ss) ≡ cell → IsGrey (cell_colour (inks_of ss) cell)
 cell_grey pens ss test zero grey chosen is = white_grey
 cell_grey pens ss test (suc k) grey chosen is =
-    let d = a_stroke test ss k is in
-    let h = last_test test ss k d is in
-    let shade = grey k d h.0 (chosen (get_or ss k d) h.1) in
-    subst IsGrey (sym (colour_shown ss k d h.0)) (record { green = shade.0; blue = shade.1 })
+    let h = last_passes test (length ss) k is in
+    let shade = grey k nobody h.0 (is_chosen pens ss test k chosen h.1) in
+    subst IsGrey (sym (colour_shown ss k nobody h.0)) (record { green = shade.0; blue = shade.1 })
 
 -- the colour of each pixel of a picture of grey strokes
-pixel_grey : (reaches : Reach) (pens : PenSet) (ss : List Segment) (page : Page) (dots : Dots) (row column : ℕ) → AreGrey pens ss → IsGrey (colours_at reaches pens ss page dots row column)
+pixel_grey : (reaches : Reach) (pens : PenSet) (ss : ShapeList) (page : Page) (dots : Dots) (row column : ℕ) → AreGrey pens ss.strokes → IsGrey (colours_at reaches pens ss page dots row column)
 pixel_grey reaches pens ss page dots row column grey =
-    let covers = λ (s : Segment). reaches s page dots in
     let columns = columns_of page dots in
-    let cells : List ℕ = row_shown covers pens ss columns row in
-    let size : length cells ≡ columns = length-map-range_with_len (λ (k : ℕ). shown covers pens ss row k) 0 columns in
-    elim (nat_lt row (rows_of page dots)) as (λ b. IsGrey (cell_colour (inks_of ss) (cond b (get_or cells column 0) 0))) [
-      | true ↦ elim (cases_lt column columns) as (λ _. IsGrey (cell_colour (inks_of ss) (get_or cells column 0))) [
-        | inl lt ↦ cell_grey pens ss (λ (s : Segment). has_pen pens s.pen && covers s row column) (get_or cells column 0) grey (λ s t. both _ _ t)
-            (sym (get_or-map-range_with_len (λ (j : ℕ). shown covers pens ss row j) 0 columns column column 0 lt (omega arith)))
+    let cells : List ℕ = row_of_shapes reaches pens ss.strokes ss.areas page dots row in
+    let size : length cells ≡ columns = length-map-range_with_len (λ (k : ℕ). shown_at (shows_at reaches pens ss.strokes ss.areas page dots) (length ss.strokes) row k) 0 columns in
+    elim (nat_lt row (rows_of page dots)) as (λ b. IsGrey (cell_colour (inks_of ss.strokes) (cond b (get_or cells column 0) 0))) [
+      | true ↦ elim (cases_lt column columns) as (λ _. IsGrey (cell_colour (inks_of ss.strokes) (get_or cells column 0))) [
+        | inl lt ↦ cell_grey pens ss.strokes (λ (j : ℕ). shows_at reaches pens ss.strokes ss.areas page dots j row column) (get_or cells column 0) grey (λ s t. both _ _ t)
+            (sym (get_or-map-range_with_len (λ (j : ℕ). shown_at (shows_at reaches pens ss.strokes ss.areas page dots) (length ss.strokes) row j) 0 columns column column 0 lt (omega arith)))
         | inr le ↦ (let none : get_or cells column 0 ≡ 0 = get_or_past cells column 0 (omega (arith, le, size)) in
-            subst (λ (cell : ℕ). IsGrey (cell_colour (inks_of ss) cell)) (sym none) white_grey)
+            subst (λ (cell : ℕ). IsGrey (cell_colour (inks_of ss.strokes) cell)) (sym none) white_grey)
       ]
       | false ↦ white_grey
     ]
@@ -240,7 +239,7 @@ smoothed_grey n colours row column grey = record {
 }
 
 -- the smoothed pixels of grey strokes are shades of grey
-pub grey_pixels : (n : ℕ) (reaches : Reach) (pens : PenSet) (ss : List Segment) (page : Page) (dots : Dots) (row : ℕ) → AreGrey pens ss → HasPixels Grey (smoothed_pixels n reaches pens ss page dots row)
+pub grey_pixels : (n : ℕ) (reaches : Reach) (pens : PenSet) (ss : ShapeList) (page : Page) (dots : Dots) (row : ℕ) → AreGrey pens ss.strokes → HasPixels Grey (smoothed_pixels n reaches pens ss page dots row)
 grey_pixels n reaches pens ss page dots row grey = λ k d lt.
     let colours = colours_at reaches pens ss page (finer n dots) in
     let pixel = smoothed n colours row in

@@ -1,6 +1,7 @@
 -- The tests that the rows which are left take at most.
 use Rattle.std.proofs.Common.{◌≡◌, ℕ, ◌+◌, ◌-◌, ◌≤◌, List, ap, ◌∙◌, arith, Result, Ok, Err, IfOk}
 use Rattle.plot_page.specs.Segments.{Segment}
+use Rattle.areas.specs.Shapes.{ShapeList}
 use Rattle.plot_page.specs.declared.page.Page.{Page}
 use Rattle.plot_page.specs.declared.dots.Dots.{Dots}
 use Rattle.plot_page.specs.declared.pens.PenSet.{PenSet}
@@ -10,12 +11,19 @@ use Rattle.stroke_raster.specs.Painting.{Painting, Moves, boxed_pixels, rows_nex
 use Rattle.stroke_raster.proofs.BoxCounts.{boxes_join}
 use Rattle.rows.specs.Boxes.{boxes_from}
 use Rattle.picture_out.specs.declared.form.Form.{Form}
-use Rattle.rows.specs.Pictures.{Reach, row_of}
-use Rattle.rows.specs.Progress.{painting_row, tests_left}
+use Rattle.rows.specs.Pictures.{Reach, row_of_list}
+use Rattle.rows.specs.Progress.{painting_row, painting_shapes, tests_left}
 
 -- what is made of equal parts is equal
 pub parts_same : {A : Type 0} (F : PenSet → List Segment → Page → Dots → A) (l l' : PenSet) (ss ss' : List Segment) (p p' : Page) (d d' : Dots) → l ≡ l' → ss ≡ ss' → p ≡ p' → d ≡ d' → F l ss p d ≡ F l' ss' p' d'
 parts_same F l l' ss ss' p p' d d' el es ep ed = cc
+
+pub shapes_same : {A : Type 0} (F : PenSet → ShapeList → Page → Dots → A) (l l' : PenSet) (ss ss' : ShapeList) (p p' : Page) (d d' : Dots) → l ≡ l' → ss ≡ ss' → p ≡ p' → d ≡ d' → F l ss p d ≡ F l' ss' p' d'
+shapes_same F l l' ss ss' p p' d d' el es ep ed = cc
+
+-- the shapes of a painting of these parts
+pub list_is : (q : Painting) (ss : ShapeList) → q.strokes ≡ ss.strokes → q.areas ≡ ss.areas → painting_shapes q ≡ ss
+list_is q ss es ea = λ i. record { strokes = es i; areas = ea i }
 
 -- the tests that a painting of these parts takes
 pub tests_are : (q : Painting) (l : PenSet) (ss : List Segment) (p : Page) (d : Dots) (first : ℕ) → q.strokes ≡ ss → q.page ≡ p → q.dots ≡ d → q.pens ≡ l → q.next ≡ first → tests_left q ≡ boxes_from l ss p d first
@@ -43,7 +51,7 @@ begun_tests (Ok q) l ss p d first es ep ed el en = tests_are q l ss p d first es
 begun_tests (Err e) l ss p d first es ep ed el en = tt
 
 -- the rows of a painting of these parts
-pub rows_are : (form : Form) (q : Painting) (l : PenSet) (ss : List Segment) (p : Page) (d : Dots) → q.strokes ≡ ss → q.page ≡ p → q.dots ≡ d → q.pens ≡ l → painting_row form q ≡ (λ reaches row. row_of form reaches l ss p d row)
-rows_are form q l ss p d es ep ed el =
-    let F : PenSet → List Segment → Page → Dots → Reach → ℕ → List ℕ = λ l ss p d reaches row. row_of form reaches l ss p d row in
-    parts_same F q.pens l q.strokes ss q.page p q.dots d el es ep ed
+pub rows_are : (form : Form) (q : Painting) (l : PenSet) (ss : ShapeList) (p : Page) (d : Dots) → q.strokes ≡ ss.strokes → q.areas ≡ ss.areas → q.page ≡ p → q.dots ≡ d → q.pens ≡ l → painting_row form q ≡ (λ reaches row. row_of_list form reaches l ss p d row)
+rows_are form q l ss p d es ea ep ed el =
+    let F : PenSet → ShapeList → Page → Dots → Reach → ℕ → List ℕ = λ l ss p d reaches row. row_of_list form reaches l ss p d row in
+    shapes_same F q.pens l (painting_shapes q) ss q.page p q.dots d el (list_is q ss es ea) ep ed

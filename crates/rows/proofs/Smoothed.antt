@@ -8,6 +8,7 @@ use Rattle.std.specs.Coded.{le_prop}
 use Rattle.std.proofs.Math.Nat.{mul-le-mul_left, mul-le-mul_right}
 use Rattle.plot_page.specs.Resolutions.{cell_count, columns_of, rows_of}
 use Rattle.plot_page.specs.Segments.{Segment}
+use Rattle.areas.specs.Shapes.{ShapeList}
 use Rattle.plot_page.specs.declared.page.Page.{Page}
 use Rattle.plot_page.specs.declared.dots.Dots.{Dots}
 use Rattle.plot_page.specs.declared.pens.PenSet.{PenSet}
@@ -18,19 +19,19 @@ use Rattle.png.specs.declared.header.Layout.TheVariants.{Rgb}
 use Rattle.png.specs.Headers.{three}
 use Rattle.rows.specs.PixelRows.{layout_bytes}
 use Rattle.rows.proofs.PixelLayouts.{rgb_bytes}
-use Rattle.rows.specs.Pictures.{Reach, colours_at, finer, has_resolution, is_fine, is_possible, is_smoothed, row_of, shown_row, smoothed_pixels}
+use Rattle.rows.specs.Pictures.{Reach, colours_at, finer, has_resolution, is_fine, is_possible, is_smoothed, row_of_list, shown_row, smoothed_pixels}
 
 -- without smoothing the rows of a form are shown
-pub unsmoothed : (n : ℕ) (form : Form) (reaches : Reach) (pens : PenSet) (ss : List Segment) (page : Page) (dots : Dots) → is_smoothed n form ≡ false
-    → ◌≡◌ {A = ℕ → List ℕ} (row_of form reaches pens ss page dots) (shown_row n form reaches pens ss page dots)
+pub unsmoothed : (n : ℕ) (form : Form) (reaches : Reach) (pens : PenSet) (ss : ShapeList) (page : Page) (dots : Dots) → is_smoothed n form ≡ false
+    → ◌≡◌ {A = ℕ → List ℕ} (row_of_list form reaches pens ss page dots) (shown_row n form reaches pens ss page dots)
 unsmoothed n form reaches pens ss page dots none =
-    ap {B = ℕ → List ℕ} (λ (b : Bool). λ (row : ℕ). cond b (flat_map (λ (pixel : List ℕ). pixel) (smoothed_pixels n reaches pens ss page dots row)) (row_of form reaches pens ss page dots row)) (sym none)
+    ap {B = ℕ → List ℕ} (λ (b : Bool). λ (row : ℕ). cond b (flat_map (λ (pixel : List ℕ). pixel) (smoothed_pixels n reaches pens ss page dots row)) (row_of_list form reaches pens ss page dots row)) (sym none)
 
 -- with it their smoothed pixels
-pub smoothed_rows : (n : ℕ) (form : Form) (reaches : Reach) (pens : PenSet) (ss : List Segment) (page : Page) (dots : Dots) → is_smoothed n form ≡ true
+pub smoothed_rows : (n : ℕ) (form : Form) (reaches : Reach) (pens : PenSet) (ss : ShapeList) (page : Page) (dots : Dots) → is_smoothed n form ≡ true
     → ◌≡◌ {A = ℕ → List ℕ} (λ row. flat_map (λ (pixel : List ℕ). pixel) (smoothed_pixels n reaches pens ss page dots row)) (shown_row n form reaches pens ss page dots)
 smoothed_rows n form reaches pens ss page dots some =
-    ap {B = ℕ → List ℕ} (λ (b : Bool). λ (row : ℕ). cond b (flat_map (λ (pixel : List ℕ). pixel) (smoothed_pixels n reaches pens ss page dots row)) (row_of form reaches pens ss page dots row)) (sym some)
+    ap {B = ℕ → List ℕ} (λ (b : Bool). λ (row : ℕ). cond b (flat_map (λ (pixel : List ℕ). pixel) (smoothed_pixels n reaches pens ss page dots row)) (row_of_list form reaches pens ss page dots row)) (sym some)
 
 pub unsmoothed_boxes : (n : ℕ) (job : Job) (ss : List Segment) → is_smoothed n job.form ≡ false → boxes_from job.pens ss job.page job.dots job.first_row ≡ strokes_boxes n job ss
 unsmoothed_boxes n job ss none = ap (λ (b : Bool). cond b (finer_boxes n job.pens ss job.page job.dots job.first_row) (boxes_from job.pens ss job.page job.dots job.first_row)) (sym none)
@@ -85,7 +86,7 @@ finer_row n units r row some lt =
     finer_row_by row n units r some lt
 
 -- smoothed pixels have three channels
-pub smoothed_threes : (n : ℕ) (reaches : Reach) (pens : PenSet) (ss : List Segment) (page : Page) (dots : Dots) (row k : ℕ) → k < length (smoothed_pixels n reaches pens ss page dots row)
+pub smoothed_threes : (n : ℕ) (reaches : Reach) (pens : PenSet) (ss : ShapeList) (page : Page) (dots : Dots) (row k : ℕ) → k < length (smoothed_pixels n reaches pens ss page dots row)
     → three (get_or (smoothed_pixels n reaches pens ss page dots row) k []) ≡ get_or (smoothed_pixels n reaches pens ss page dots row) k []
 smoothed_threes n reaches pens ss page dots row k lt =
     let pixel = smoothed n (colours_at reaches pens ss page (finer n dots)) row in
@@ -94,7 +95,7 @@ smoothed_threes n reaches pens ss page dots row k lt =
     ap three here ∙ sym here
 
 -- in red, green and blue they are the bytes of a PPM
-pub rgb_rows : (n : ℕ) (reaches : Reach) (pens : PenSet) (ss : List Segment) (page : Page) (dots : Dots)
+pub rgb_rows : (n : ℕ) (reaches : Reach) (pens : PenSet) (ss : ShapeList) (page : Page) (dots : Dots)
     → ◌≡◌ {A = ℕ → List ℕ} (λ row. layout_bytes Rgb (smoothed_pixels n reaches pens ss page dots row)) (λ row. flat_map (λ (pixel : List ℕ). pixel) (smoothed_pixels n reaches pens ss page dots row))
 rgb_rows n reaches pens ss page dots = λ i. λ row. rgb_bytes (smoothed_pixels n reaches pens ss page dots row) (smoothed_threes n reaches pens ss page dots row) i
 

@@ -9,12 +9,11 @@ use Rattle.std.proofs.Math.ListN.{get_or-append}
 use Rattle.std.proofs.lemmas.List.{ext_get_or, get_or-append_right, get_or_past}
 use Rattle.std.proofs.lemmas.List.FromFn.{get_or-map-range_with_len, length-map-range_with_len}
 use Rattle.std.proofs.lemmas.List.Sums.{fold-append}
-use Rattle.plot_page.specs.Segments.{Segment}
-use Rattle.plot_page.specs.Resolutions.{columns_of, rows_of}
+use Rattle.plot_page.specs.Resolutions.{rows_of}
 use Rattle.picture_out.specs.declared.inks.Ink.{Ink}
 use Rattle.picture_out.specs.Inks.{cell_colour}
 use Rattle.stroke_raster.specs.Painting.{Painting, Moves, painted_rows, rows_next}
-use Rattle.stroke_raster.specs.Shown.{row_shown}
+use Rattle.stroke_raster.specs.ShownShapes.{row_of_shapes}
 use Rattle.smoothing.specs.Smoothings.{Colours, channel, mean, mean_channel, smoothed, total}
 use Rattle.smoothing.specs.Cells.{colours_of_cells}
 use Rattle.smoothing.proofs.Totals.{total_same}
@@ -25,7 +24,7 @@ use Rattle.rows.specs.PixelRows.{layout_bytes, sample_count}
 use Rattle.rows.specs.declared.stroke_inks.StrokeInks.{StrokeInks}
 use Rattle.rows.specs.Palettes.{with_colour}
 use Rattle.rows.specs.Pictures.{Reach, colours_at, inks_of}
-use Rattle.rows.specs.Progress.{IsSmoothing, SmoothPainting, row_pixels}
+use Rattle.rows.specs.Progress.{IsSmoothing, SmoothPainting, painting_shapes, row_pixels}
 
 -- a cell of some rows, or 0 past the last of them
 cell_of_rows : (shows : ℕ → List ℕ) (first n rows r column : ℕ) → (r < n → first + r < rows) → (n ≤ r → rows ≤ first + r)
@@ -42,9 +41,9 @@ cell_of_rows shows first n rows r column within after = elim (cases_lt r n) as (
 
 -- the colours of a band are those of the picture, also past the picture's last row
 band_colour : (reaches : Reach) (p : Painting) (r column : ℕ) → r < p.band_rows
-    → colours_of_cells (inks_of p.strokes) (painted_rows reaches p p.next (rows_next p)) r column ≡ colours_at reaches p.pens p.strokes p.page p.dots (p.next + r) column
+    → colours_of_cells (inks_of p.strokes) (painted_rows reaches p p.next (rows_next p)) r column ≡ colours_at reaches p.pens (painting_shapes p) p.page p.dots (p.next + r) column
 band_colour reaches p r column lt =
-    ap (cell_colour (inks_of p.strokes)) (cell_of_rows (row_shown (λ (s : Segment). reaches s p.page p.dots) p.pens p.strokes (columns_of p.page p.dots)) p.next (rows_next p) (rows_of p.page p.dots) r column
+    ap (cell_colour (inks_of p.strokes)) (cell_of_rows (row_of_shapes reaches p.pens p.strokes p.areas p.page p.dots) p.next (rows_next p) (rows_of p.page p.dots) r column
     (λ inside. omega (arith, inside)) (λ past. omega (arith, past, lt)))
 
 -- smoothed pixels of colours that are the same are the same
@@ -59,10 +58,10 @@ smoothed_same n f g row other column same =
 -- a row of pixels of a band is that of the picture
 pub band_pixels : (reaches : Reach) (p : Painting) (times rows at height k columns : ℕ) → IsSmoothing p times rows at height → at < rows → k < min height (rows - at)
     → map (smoothed times (colours_of_cells (inks_of p.strokes) (painted_rows reaches p p.next (rows_next p))) k) (range_with_len 0 columns)
-    ≡ map (smoothed times (colours_at reaches p.pens p.strokes p.page p.dots) (at + k)) (range_with_len 0 columns)
+    ≡ map (smoothed times (colours_at reaches p.pens (painting_shapes p) p.page p.dots) (at + k)) (range_with_len 0 columns)
 band_pixels reaches p times rows at height k columns made left lt =
     let finer = colours_of_cells (inks_of p.strokes) (painted_rows reaches p p.next (rows_next p)) in
-    let all = colours_at reaches p.pens p.strokes p.page p.dots in
+    let all = colours_at reaches p.pens (painting_shapes p) p.page p.dots in
     let low : k + 1 ≤ height = omega (arith, lt) in
     let most : times * (k + 1) ≤ times * height = mul-le-mul_left times low in
     let more : times * (k + 1) ≡ times * k + times = omega arith in

@@ -1,6 +1,7 @@
--- PNGs of strokes: what reading one gives, and what writing one answers.
+-- PNGs of shapes: what reading one gives, and what writing one answers.
 use Rattle.std.specs.Prelude.{◌≡◌, ℕ, ◌+◌, ◌*◌, ◌/◌, Bool, not, ◌||◌, if◌then◌else◌, List, [], Option, Some, Result, Ok, Err, ⊤}
 use Rattle.plot_page.specs.Segments.{Segment}
+use Rattle.areas.specs.Shapes.{ShapeList}
 use Rattle.plot_page.specs.declared.page.Page.{Page}
 use Rattle.plot_page.specs.declared.dots.Dots.{Dots}
 use Rattle.plot_page.specs.Resolutions.{columns_of, rows_of}
@@ -28,13 +29,13 @@ picture_with page dots colours = record {
 }
 
 -- the colours of each row of pixels: the bytes of a PPM's row
-abbrev pub colours_row : PngJob → Reach → List Segment → ℕ → List ℕ
-colours_row job reaches strokes row =
-    shown_row job.smoothing.times Ppm reaches job.pens strokes job.page job.dots row
+abbrev pub colours_row : PngJob → Reach → ShapeList → ℕ → List ℕ
+colours_row job reaches shapes row =
+    shown_row job.smoothing.times Ppm reaches job.pens shapes job.page job.dots row
 
--- the picture of a job and strokes
-abbrev pub picture_shown : PngJob → Reach → List Segment → Picture
-picture_shown job reaches strokes = picture_with job.page job.dots (colours_row job reaches strokes)
+-- the picture of a job and shapes
+abbrev pub picture_shown : PngJob → Reach → ShapeList → Picture
+picture_shown job reaches shapes = picture_with job.page job.dots (colours_row job reaches shapes)
 
 -- the job's picture can be smoothed; if not, nothing is read
 abbrev pub is_png_possible : PngJob → Bool

@@ -3,6 +3,7 @@ use Rattle.std.specs.Prelude.{◌≡◌, ◌<◌, ℕ, All, List, length, get_or
 use Rattle.std.specs.List.{flat_map, list_any}
 use Rattle.std.specs.Str.{bytes_eq}
 use Rattle.plot_page.specs.Segments.{Segment}
+use Rattle.areas.specs.Views.{shapes_in}
 use Rattle.plot_page.specs.Pens.{has_pen}
 use Rattle.plot_page.specs.Resolutions.{columns_of, rows_of}
 use Rattle.plot_page.specs.declared.pens.PenSet.{PenSet}
@@ -14,7 +15,7 @@ use Rattle.png.specs.declared.header.Layout.{Layout}
 use Rattle.png.specs.declared.header.Layout.TheVariants.{Indexed, Grey, Rgb}
 use Rattle.png.specs.Headers.{IsSound}
 use Rattle.png.specs.Samples.{Head, row_colours, stride}
-use Rattle.rows.specs.Pictures.{Reach, row_of, smoothed_pixels}
+use Rattle.rows.specs.Pictures.{Reach, row_of_list, smoothed_pixels}
 use Rattle.rows.specs.Boxes.{boxes_from, finer_boxes}
 use Rattle.rows.specs.Documents.{per_metre}
 use Rattle.rows.specs.declared.scene.Scene.{Scene}
@@ -38,10 +39,10 @@ AreBits pens strokes numbers =
 
 -- the colours of each row of pixels, not smoothed, and the tests that they take at most
 abbrev pub plain_row : Scene → Reach → ℕ → List ℕ
-plain_row scene reaches row = row_of Ppm reaches scene.pens scene.strokes.now scene.page scene.dots row
+plain_row scene reaches row = row_of_list Ppm reaches scene.pens (shapes_in scene.shapes) scene.page scene.dots row
 
 abbrev pub plain_boxes : Scene → ℕ
-plain_boxes scene = boxes_from scene.pens scene.strokes.now scene.page scene.dots 0
+plain_boxes scene = boxes_from scene.pens scene.shapes.strokes.now scene.page scene.dots 0
 
 -- a layout has the colours of pixels
 abbrev pub HasPixels : Layout → List (List ℕ) → Type 0
@@ -51,13 +52,13 @@ HasPixels Rgb pixels = ⊤
 
 -- the pixels of each row of a scene, smoothed n times, their colours, and the tests that they take at most
 abbrev pub scene_pixels : ℕ → Scene → Reach → ℕ → List (List ℕ)
-scene_pixels n scene reaches row = smoothed_pixels n reaches scene.pens scene.strokes.now scene.page scene.dots row
+scene_pixels n scene reaches row = smoothed_pixels n reaches scene.pens (shapes_in scene.shapes) scene.page scene.dots row
 
 abbrev pub smooth_row : ℕ → Scene → Reach → ℕ → List ℕ
 smooth_row n scene reaches row = flat_map (λ pixel. pixel) (scene_pixels n scene reaches row)
 
 abbrev pub smooth_boxes : ℕ → Scene → ℕ
-smooth_boxes n scene = finer_boxes n scene.pens scene.strokes.now scene.page scene.dots 0
+smooth_boxes n scene = finer_boxes n scene.pens scene.shapes.strokes.now scene.page scene.dots 0
 
 -- each selected stroke is a shade of grey
 abbrev pub AreGrey : PenSet → List Segment → Type 0

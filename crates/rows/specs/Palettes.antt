@@ -9,7 +9,8 @@ use Rattle.plot_page.specs.declared.dots.Dots.{Dots}
 use Rattle.plot_page.specs.declared.pens.PenSet.{PenSet}
 use Rattle.plot_page.specs.Resolutions.{columns_of, rows_of}
 use Rattle.stroke_raster.specs.Boxes.{selected}
-use Rattle.stroke_raster.specs.Shown.{row_shown}
+use Rattle.areas.specs.Shapes.{ShapeList}
+use Rattle.stroke_raster.specs.ShownShapes.{row_of_shapes}
 use Rattle.picture_out.specs.Inks.{colour_bytes, paper}
 use Rattle.png.specs.declared.header.Depth.{Depth}
 use Rattle.png.specs.Headers.{bits_of_depth}
@@ -50,13 +51,13 @@ abbrev pub numbers_bytes : Depth → ℕ → ℕ
 numbers_bytes depth columns = (columns * bits_of_depth depth + 7) / 8
 
 -- the bytes of a row of numbers
-abbrev pub numbers_row : Depth → List ℕ → PenSet → List Segment → Page → Dots → Reach → ℕ → List ℕ
-numbers_row depth numbers pens strokes page dots reaches row =
+abbrev pub numbers_row : Depth → List ℕ → PenSet → ShapeList → Page → Dots → Reach → ℕ → List ℕ
+numbers_row depth numbers pens shapes page dots reaches row =
     packed_samples depth (numbers_bytes depth (columns_of page dots))
-    (map (number_of numbers) (row_shown (λ s. reaches s page dots) pens strokes (columns_of page dots) row))
+    (map (number_of numbers) (row_of_shapes reaches pens shapes.strokes shapes.areas page dots row))
 
 -- white, and then each further colour of the pixels of a smoothed picture, in the order in which it first comes, row by row
-abbrev pub colours_smoothed : ℕ → Reach → PenSet → List Segment → Page → Dots → List (List ℕ)
-colours_smoothed n reaches pens strokes page dots =
+abbrev pub colours_smoothed : ℕ → Reach → PenSet → ShapeList → Page → Dots → List (List ℕ)
+colours_smoothed n reaches pens shapes page dots =
     fold with_colour (colour_bytes paper ∷ [])
-    (flat_map (smoothed_pixels n reaches pens strokes page dots) (range_with_len 0 (rows_of page dots)))
+    (flat_map (smoothed_pixels n reaches pens shapes page dots) (range_with_len 0 (rows_of page dots)))

@@ -8,7 +8,9 @@ use Rattle.plot_page.specs.Segments.{Segment}
 use Rattle.plot_page.specs.declared.dots.Dots.{Dots}
 use Rattle.plot_page.specs.declared.pens.PenSet.{PenSet}
 use Rattle.plot_page.specs.Resolutions.{columns_of, rows_of}
+use Rattle.areas.specs.Shapes.{ShapeList}
 use Rattle.stroke_raster.specs.Shown.{row_shown}
+use Rattle.stroke_raster.specs.ShownShapes.{row_of_shapes}
 use Rattle.smoothing.specs.Smoothings.{Colours, smoothed}
 use Rattle.picture_out.specs.declared.form.Form.{Form}
 use Rattle.picture_out.specs.declared.inks.Ink.{Ink}
@@ -58,16 +60,21 @@ finer n dots = record {
   at_most = max-le (le-max_left 1 1200) (min-le_right (n * dots.resolution) 1200);
 }
 
--- the colour of each pixel of the picture of strokes; past its edges is paper
-abbrev pub colours_at : Reach → PenSet → List Segment → Page → Dots → Colours
-colours_at reaches pens strokes page dots row column =
-    let cells = row_shown (λ s. reaches s page dots) pens strokes (columns_of page dots) row in
-    cell_colour (inks_of strokes) (if nat_lt row (rows_of page dots) then get_or cells column 0 else 0)
+-- the same of the picture of shapes: an area has the ink of its last edge
+abbrev pub row_of_list : Form → Reach → PenSet → ShapeList → Page → Dots → ℕ → List ℕ
+row_of_list form reaches pens shapes page dots row =
+    row_bytes form row (inks_of shapes.strokes) (row_of_shapes reaches pens shapes.strokes shapes.areas page dots row)
 
--- the pixels of each row of the picture, each the mean of n by n pixels of a finer picture of the same strokes
-abbrev pub smoothed_pixels : ℕ → Reach → PenSet → List Segment → Page → Dots → ℕ → List (List ℕ)
-smoothed_pixels n reaches pens strokes page dots row =
-    map (smoothed n (colours_at reaches pens strokes page (finer n dots)) row) (range_with_len 0 (columns_of page dots))
+-- the colour of each pixel of the picture of shapes; past its edges is paper
+abbrev pub colours_at : Reach → PenSet → ShapeList → Page → Dots → Colours
+colours_at reaches pens shapes page dots row column =
+    let cells = row_of_shapes reaches pens shapes.strokes shapes.areas page dots row in
+    cell_colour (inks_of shapes.strokes) (if nat_lt row (rows_of page dots) then get_or cells column 0 else 0)
+
+-- the pixels of each row of the picture, each the mean of n by n pixels of a finer picture of the same shapes
+abbrev pub smoothed_pixels : ℕ → Reach → PenSet → ShapeList → Page → Dots → ℕ → List (List ℕ)
+smoothed_pixels n reaches pens shapes page dots row =
+    map (smoothed n (colours_at reaches pens shapes page (finer n dots)) row) (range_with_len 0 (columns_of page dots))
 
 -- only a PPM has shades
 abbrev pub has_shades : Form → Bool
@@ -78,12 +85,12 @@ has_shades _ = false
 abbrev pub is_smoothed : ℕ → Form → Bool
 is_smoothed n form = nat_lt 1 n && has_shades form
 
--- the bytes of each row of the picture of strokes, smoothed n times; 1 is no smoothing
-abbrev pub shown_row : ℕ → Form → Reach → PenSet → List Segment → Page → Dots → ℕ → List ℕ
-shown_row n form reaches pens strokes page dots row =
+-- the bytes of each row of the picture of shapes, smoothed n times; 1 is no smoothing
+abbrev pub shown_row : ℕ → Form → Reach → PenSet → ShapeList → Page → Dots → ℕ → List ℕ
+shown_row n form reaches pens shapes page dots row =
     if is_smoothed n form
-    then flat_map (λ pixel. pixel) (smoothed_pixels n reaches pens strokes page dots row)
-    else row_of form reaches pens strokes page dots row
+    then flat_map (λ pixel. pixel) (smoothed_pixels n reaches pens shapes page dots row)
+    else row_of_list form reaches pens shapes page dots row
 
 abbrev pub head_of : Form → Page → Dots → List ℕ
 head_of form page dots = head_bytes form dots.resolution (columns_of page dots) (rows_of page dots)
@@ -92,14 +99,14 @@ head_of form page dots = head_bytes form dots.resolution (columns_of page dots) 
 abbrev pub exact : Reach
 exact s page dots row column = covers s page dots row column
 
--- the rows of the picture of a job and strokes, smoothed n times, by what a gauge reaches
-abbrev pub strokes_row : ℕ → Job → Reach → List Segment → ℕ → List ℕ
-strokes_row n job reaches strokes row = shown_row n job.form reaches job.pens strokes job.page job.dots row
+-- the rows of the picture of a job and shapes, smoothed n times, by what a gauge reaches
+abbrev pub shapes_row : ℕ → Job → Reach → ShapeList → ℕ → List ℕ
+shapes_row n job reaches shapes row = shown_row n job.form reaches job.pens shapes job.page job.dots row
 
--- the picture of a job and strokes: the head if it begins with row 0, the rows from its first row on, the foot
-abbrev pub strokes_picture : ℕ → Job → Reach → List Segment → List ℕ
-strokes_picture n job reaches strokes =
-    picture_of (head_of job.form job.page job.dots) (strokes_row n job reaches strokes) (foot_bytes job.form)
+-- the picture of a job and shapes: the head if it begins with row 0, the rows from its first row on, the foot
+abbrev pub shapes_picture : ℕ → Job → Reach → ShapeList → List ℕ
+shapes_picture n job reaches shapes =
+    picture_of (head_of job.form job.page job.dots) (shapes_row n job reaches shapes) (foot_bytes job.form)
     (rows_of job.page job.dots) job.first_row
 
 -- the job's form has its resolution; if not, nothing is read

@@ -13,11 +13,11 @@ use Rattle.png.specs.declared.header.Layout.{Layout}
 use Rattle.png.specs.Headers.{HasColours}
 use Rattle.plot_page.specs.declared.dots.Dots.{Dots}
 use Rattle.devices.specs.Sinks.{SinkState}
-use Rattle.plot_page.specs.Segments.{Segment}
+use Rattle.areas.specs.Shapes.{ShapeList}
 use Rattle.plot_page.specs.Resolutions.{rows_of}
 use Rattle.stroke_raster.specs.Painting.{Painting}
 use Rattle.picture_job.specs.declared.job.Job.{Job}
-use Rattle.rows.specs.Pictures.{Reach, colours_at, head_of, job_fault, picture_of, row_of, rows_bytes, strokes_row}
+use Rattle.rows.specs.Pictures.{Reach, colours_at, head_of, job_fault, picture_of, row_of_list, rows_bytes, shapes_row}
 use Rattle.rows.specs.Boxes.{boxes_from}
 use Rattle.rows.specs.PixelRows.{layout_bytes}
 use Rattle.rows.specs.declared.fault.PictureFault.{PictureFault}
@@ -106,30 +106,34 @@ abbrev pub WritesPicture : List ℕ → (ℕ → List ℕ) → List ℕ → ℕ 
 WritesPicture head row foot rows first sink sink' (Ok n) = IsWhole (picture_of head row foot rows first) sink sink' n
 WritesPicture head row foot rows first sink sink' (Err stop) = PictureStops head row foot rows first sink sink' stop
 
+-- the shapes of what is painted
+abbrev pub painting_shapes : Painting → ShapeList
+painting_shapes p = record { strokes = p.strokes; areas = p.areas }
+
 -- the bytes of each row of what is painted, in a form
 abbrev pub painting_row : Form → Painting → Reach → ℕ → List ℕ
-painting_row form p reaches row = row_of form reaches p.pens p.strokes p.page p.dots row
+painting_row form p reaches row = row_of_list form reaches p.pens (painting_shapes p) p.page p.dots row
 
 -- how many tests the painting of the rows that are left makes at most
 abbrev pub tests_left : Painting → ℕ
 tests_left p = boxes_from p.pens p.strokes p.page p.dots p.next
 
--- the job can be done on its page, and a picture of its strokes was written, or the sink failed once
-abbrev pub WritesJob : ℕ → Job → Reach → List Segment → SinkState → SinkState → Result ℕ Broken → Type 0
-WritesJob n job reaches strokes sink sink' answer =
+-- the job can be done on its page, and a picture of its shapes was written, or the sink failed once
+abbrev pub WritesJob : ℕ → Job → Reach → ShapeList → SinkState → SinkState → Result ℕ Broken → Type 0
+WritesJob n job reaches shapes sink sink' answer =
     (job_fault job ≡ None)
     × WritesPicture (head_of job.form job.page job.dots)
-    (strokes_row n job reaches strokes) (foot_bytes job.form) (rows_of job.page job.dots)
+    (shapes_row n job reaches shapes) (foot_bytes job.form) (rows_of job.page job.dots)
     job.first_row sink sink' answer
 
--- a job's strokes were painted and written, the sink failed once, or the job cannot be done on its page
-abbrev pub HasPainted : ℕ → Job → Reach → List Segment → SinkState → SinkState → Result ℕ PictureFault → Type 0
-HasPainted n job reaches strokes sink sink' (Ok bytes) = WritesJob n job reaches strokes sink sink' (Ok bytes)
-HasPainted n job reaches strokes sink sink' (Err (Write row whole bytes)) =
-    WritesJob n job reaches strokes sink sink' (Err (record { row = row; whole = whole; bytes = bytes }))
-HasPainted n job reaches strokes sink sink' (Err (Paint fault)) = job_fault job ≡ Some fault
-HasPainted n job reaches strokes sink sink' (Err Memory) = ⊤
-HasPainted n job reaches strokes sink sink' (Err _) = ⊥
+-- a job's shapes were painted and written, the sink failed once, or the job cannot be done on its page
+abbrev pub HasPainted : ℕ → Job → Reach → ShapeList → SinkState → SinkState → Result ℕ PictureFault → Type 0
+HasPainted n job reaches shapes sink sink' (Ok bytes) = WritesJob n job reaches shapes sink sink' (Ok bytes)
+HasPainted n job reaches shapes sink sink' (Err (Write row whole bytes)) =
+    WritesJob n job reaches shapes sink sink' (Err (record { row = row; whole = whole; bytes = bytes }))
+HasPainted n job reaches shapes sink sink' (Err (Paint fault)) = job_fault job ≡ Some fault
+HasPainted n job reaches shapes sink sink' (Err Memory) = ⊤
+HasPainted n job reaches shapes sink sink' (Err _) = ⊥
 
 -- what is painted as cells, and the form in which its rows are written
 pub record CellPainting : Type 0 where
@@ -157,7 +161,7 @@ pub record SmoothPainting : Type 0 where
 abbrev pub row_pixels : SmoothPainting → Reach → ℕ → List (List ℕ)
 row_pixels b reaches row =
     let p = b.painting in
-    map (smoothed b.times (colours_at reaches p.pens p.strokes p.page p.dots) row) (range_with_len 0 b.columns)
+    map (smoothed b.times (colours_at reaches p.pens (painting_shapes p) p.page p.dots) row) (range_with_len 0 b.columns)
 
 abbrev pub smoothed_text : SmoothPainting → Reach → ℕ → List ℕ
 smoothed_text b reaches row = layout_bytes b.layout (row_pixels b reaches row)

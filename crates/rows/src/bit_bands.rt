@@ -2,7 +2,8 @@
 ghost use Rattle.std.specs.Prelude.{◌≡◌, ⊤};
 ghost use Rattle.plot_page.specs.Resolutions.{rows_of};
 ghost use Rattle.picture_out.specs.declared.form.Form.TheVariants.{Pbm};
-ghost use Rattle.rows.specs.Pictures.{row_of};
+ghost use Rattle.areas.specs.Views.{shapes_in};
+ghost use Rattle.rows.specs.Pictures.{row_of_list};
 ghost use Rattle.rows.specs.Boxes.{boxes_from};
 ghost use Rattle.rows.specs.Progress.{painting_row, tests_left};
 
@@ -21,9 +22,9 @@ impl<'a> Bands<'a> for Inker<'a> {
     ghost can_begin = { λ _ _. ⊤ };
 
     ghost asked_text = { λ _ scene reaches row.
-        row_of Pbm reaches scene.pens scene.strokes.now scene.page scene.dots row };
+        row_of_list Pbm reaches scene.pens (shapes_in scene.shapes) scene.page scene.dots row };
 
-    ghost asked_tests = { λ _ scene first. boxes_from scene.pens scene.strokes.now scene.page scene.dots first };
+    ghost asked_tests = { λ _ scene first. boxes_from scene.pens scene.shapes.strokes.now scene.page scene.dots first };
 
     ghost row_text = { λ p. painting_row Pbm p };
 
@@ -44,9 +45,9 @@ impl<'a> Bands<'a> for Inker<'a> {
     ) -> Result<Inker<'a>, PaintFault> {
         let size = packed_length(scene.dots.columns(&scene.page) as usize) as u32;
         let height = height_within(band_rows, size, BIT_ROOM);
-        Inker::new(
+        Inker::of_shapes(
             alloc,
-            scene.strokes,
+            scene.shapes,
             scene.page,
             scene.dots,
             scene.pens,

@@ -4,7 +4,8 @@ ghost use Rattle.plot_page.specs.declared.dots.TheConstants.{MOST_PIXELS_A_SIDE}
 ghost use Rattle.plot_page.specs.Resolutions.{rows_of};
 ghost use Rattle.stroke_raster.specs.Bands.{first_of, rows_of_band};
 ghost use Rattle.picture_out.specs.Rooms.{room_of};
-ghost use Rattle.rows.specs.Pictures.{row_of};
+ghost use Rattle.areas.specs.Views.{shapes_in};
+ghost use Rattle.rows.specs.Pictures.{row_of_list};
 ghost use Rattle.rows.specs.Boxes.{boxes_from};
 ghost use Rattle.rows.specs.Progress.{painting_row, tests_left, WritesCells};
 
@@ -50,9 +51,9 @@ impl<'a> Bands<'a> for CellBands<'a> {
     ghost can_begin = { λ _ _. ⊤ };
 
     ghost asked_text = { λ form scene reaches row.
-        row_of form reaches scene.pens scene.strokes.now scene.page scene.dots row };
+        row_of_list form reaches scene.pens (shapes_in scene.shapes) scene.page scene.dots row };
 
-    ghost asked_tests = { λ _ scene first. boxes_from scene.pens scene.strokes.now scene.page scene.dots first };
+    ghost asked_tests = { λ _ scene first. boxes_from scene.pens scene.shapes.strokes.now scene.page scene.dots first };
 
     ghost row_text = { λ b. painting_row b.form b.painting };
 
@@ -73,9 +74,9 @@ impl<'a> Bands<'a> for CellBands<'a> {
     ) -> Result<CellBands<'a>, PaintFault> {
         let columns = scene.dots.columns(&scene.page);
         let height = height_within(band_rows, 4 * columns, CELL_ROOM);
-        let painter = Painter::new(
+        let painter = Painter::of_shapes(
             alloc,
-            scene.strokes,
+            scene.shapes,
             scene.page,
             scene.dots,
             scene.pens,
@@ -88,7 +89,7 @@ impl<'a> Bands<'a> for CellBands<'a> {
         Ok(CellBands {
             painter,
             form,
-            inks: StrokeInks::new(scene.strokes),
+            inks: StrokeInks::new(scene.shapes.strokes),
             buffer,
         })
     }

@@ -3,11 +3,12 @@ ghost use Rattle.std.specs.Prelude.{◌≡◌, ℕ, List, [], ◌+◌, ◌-◌, 
 ghost use Rattle.plot_page.specs.declared.dots.TheConstants.{MOST_PIXELS_A_SIDE};
 ghost use Rattle.plot_page.specs.Resolutions.{rows_of};
 ghost use Rattle.stroke_raster.specs.Bands.{first_of, rows_of_band};
+ghost use Rattle.areas.specs.Views.{shapes_in};
 ghost use Rattle.rows.specs.Boxes.{boxes_from};
 ghost use Rattle.png.specs.Headers.{bits_of_depth};
 ghost use Rattle.png.specs.Packing.{packed_samples};
 ghost use Rattle.rows.specs.Palettes.{number_of, numbers_bytes, numbers_row};
-ghost use Rattle.rows.specs.Progress.{tests_left, WritesRows};
+ghost use Rattle.rows.specs.Progress.{painting_shapes, tests_left, WritesRows};
 
 use crate::bands::{Bands, CELL_ROOM, height_within};
 use crate::sample_row::SampleRow;
@@ -52,16 +53,16 @@ impl<'a> Model for NumberBands<'a> {
 impl<'a> Bands<'a> for NumberBands<'a> {
     type Ask = Numbered<'a>;
 
-    ghost can_begin = { λ ask scene. (length ask.numbers.now ≡ length scene.strokes.now)
+    ghost can_begin = { λ ask scene. (length ask.numbers.now ≡ length scene.shapes.strokes.now)
         × (All (λ number. number < 2 ^ bits_of_depth ask.depth) ask.numbers.now) };
 
     ghost asked_text = { λ ask scene reaches row.
-        numbers_row ask.depth ask.numbers.now scene.pens scene.strokes.now scene.page scene.dots reaches row };
+        numbers_row ask.depth ask.numbers.now scene.pens (shapes_in scene.shapes) scene.page scene.dots reaches row };
 
-    ghost asked_tests = { λ _ scene first. boxes_from scene.pens scene.strokes.now scene.page scene.dots first };
+    ghost asked_tests = { λ _ scene first. boxes_from scene.pens scene.shapes.strokes.now scene.page scene.dots first };
 
     ghost row_text = { λ b.
-        numbers_row b.depth b.numbers b.painting.pens b.painting.strokes b.painting.page b.painting.dots };
+        numbers_row b.depth b.numbers b.painting.pens (painting_shapes b.painting) b.painting.page b.painting.dots };
 
     ghost rows = { λ b. rows_of b.painting.page b.painting.dots };
 
@@ -80,9 +81,9 @@ impl<'a> Bands<'a> for NumberBands<'a> {
     ) -> Result<NumberBands<'a>, PaintFault> {
         let columns = scene.dots.columns(&scene.page);
         let height = height_within(band_rows, 4 * columns, CELL_ROOM);
-        let painter = Painter::new(
+        let painter = Painter::of_shapes(
             alloc,
-            scene.strokes,
+            scene.shapes,
             scene.page,
             scene.dots,
             scene.pens,

@@ -1,9 +1,10 @@
-//! Painting a job's strokes, and writing its picture.
+//! Painting a job's shapes, and writing its picture.
 ghost use Rattle.std.specs.Prelude.{◌≡◌, ℕ, ◌+◌, ◌-◌, ◌^◌, ◌<◌, ◌≤◌, length, IfErr, false, true};
 ghost use Rattle.plot_page.specs.declared.stroke.TheConstants.{MOST_STROKES};
 ghost use Rattle.plot_page.specs.Resolutions.{rows_of};
+ghost use Rattle.areas.specs.Views.{shapes_in};
 ghost use Rattle.rows.specs.Boxes.{strokes_boxes};
-ghost use Rattle.rows.specs.Pictures.{is_possible, strokes_row};
+ghost use Rattle.rows.specs.Pictures.{is_possible, shapes_row};
 ghost use Rattle.rows.specs.Faults.{is_write};
 ghost use Rattle.rows.specs.Progress.{HasPainted};
 ghost use Rattle.rows.specs.Watching.{IsTold};
@@ -17,15 +18,15 @@ use crate::scene::Scene;
 use crate::smooth_bands::{SmoothBands, Smoothed};
 use crate::watcher::Watcher;
 use crate::writing::write_picture;
+use areas::Shapes;
 use devices::Sink;
 use picture_job::{Job, Smoothing};
 use picture_out::Form;
-use plot_page::Stroke;
 use png::Layout;
 use std::alloc::Global;
 use stroke_raster::{Gauge, Inker};
 
-/// Paints a job's strokes and writes its picture, and answers how many bytes it has. PBM and PCL show
+/// Paints a job's shapes and writes its picture, and answers how many bytes it has. PBM and PCL show
 /// only which pixels have ink, so their rows are painted as bits; those of the other forms as cells. The watcher is
 /// told after each band how many rows are written.
 ///
@@ -35,22 +36,22 @@ pub fn paint<G: Gauge, K: Sink, W: Watcher>(
     alloc: Global,
     job: &Job,
     smoothing: Smoothing,
-    strokes: &[Stroke],
+    shapes: Shapes<'_>,
     gauge: &mut G,
     sink: &mut K,
     watcher: &mut W,
 ) -> Result<u64, PictureFault>
     requires possible { is_possible smoothing.times job.now ≡ true }
-    requires few { length strokes.now ≤ MOST_STROKES }
+    requires few { length shapes.strokes.now ≤ MOST_STROKES }
     requires sinking { (K.state sink.old).faults < 2 ^ 64 - 1 }
-    ensures paints { HasPainted smoothing.times job.now (G.reaches gauge.old) strokes.now (K.state sink.old) (K.state sink.new) result }
-    ensures tests { G.count gauge.new ≤ G.count gauge.old + strokes_boxes smoothing.times job.now strokes.now }
+    ensures paints { HasPainted smoothing.times job.now (G.reaches gauge.old) (shapes_in shapes.entry) (K.state sink.old) (K.state sink.new) result }
+    ensures tests { G.count gauge.new ≤ G.count gauge.old + strokes_boxes smoothing.times job.now shapes.entry.strokes.now }
     ensures same { G.reaches gauge.new ≡ G.reaches gauge.old }
     ensures told { IsTold is_write W.hears (rows_of job.now.page job.now.dots - job.now.first_row) watcher.old watcher.new result }
     ensures untouched { IfErr result (λ fault. is_write fault ≡ false → sink.new ≡ sink.old) }
 {
     let scene = Scene {
-        strokes,
+        shapes,
         page: job.page,
         dots: job.dots,
         pens: job.pens,
@@ -89,8 +90,8 @@ fn paint_by<'a, B: Bands<'a> + Drop, G: Gauge, K: Sink, W: Watcher>(
     requires sinking { (K.state sink.old).faults < 2 ^ 64 - 1 }
     requires ask { B.can_begin ask scene }
     ensures paints { (n : ℕ) → B.asked_text ask scene.entry (G.reaches gauge.old)
-        ≡ strokes_row n job.now (G.reaches gauge.old) scene.entry.strokes.now →
-        HasPainted n job.now (G.reaches gauge.old) scene.entry.strokes.now (K.state sink.old) (K.state sink.new) result }
+        ≡ shapes_row n job.now (G.reaches gauge.old) (shapes_in scene.entry.shapes) →
+        HasPainted n job.now (G.reaches gauge.old) (shapes_in scene.entry.shapes) (K.state sink.old) (K.state sink.new) result }
     ensures tests { G.count gauge.new ≤ G.count gauge.old + B.asked_tests ask scene.entry job.now.first_row }
     ensures same { G.reaches gauge.new ≡ G.reaches gauge.old }
     ensures told { IsTold is_write W.hears (rows_of job.now.page job.now.dots - job.now.first_row) watcher.old watcher.new result }

@@ -6,7 +6,8 @@ ghost use Rattle.picture_out.specs.declared.inks.Ink.{Ink};
 ghost use Rattle.picture_out.specs.Pcl as pcl;
 ghost use Rattle.bit_rows.specs.Bits.{packed};
 ghost use Rattle.stroke_raster.specs.Rows.{split_rows};
-ghost use Rattle.rows.specs.Pictures.{row_of};
+ghost use Rattle.areas.specs.Views.{shapes_in};
+ghost use Rattle.rows.specs.Pictures.{row_of_list};
 ghost use Rattle.rows.specs.Boxes.{boxes_from};
 ghost use Rattle.rows.specs.Progress.{painting_row, tests_left, WritesCells};
 
@@ -59,9 +60,9 @@ impl<'a> Bands<'a> for PclBands<'a> {
     ghost can_begin = { λ _ _. ⊤ };
 
     ghost asked_text = { λ _ scene reaches row.
-        row_of Pcl reaches scene.pens scene.strokes.now scene.page scene.dots row };
+        row_of_list Pcl reaches scene.pens (shapes_in scene.shapes) scene.page scene.dots row };
 
-    ghost asked_tests = { λ _ scene first. boxes_from scene.pens scene.strokes.now scene.page scene.dots first };
+    ghost asked_tests = { λ _ scene first. boxes_from scene.pens scene.shapes.strokes.now scene.page scene.dots first };
 
     ghost row_text = { λ p. painting_row Pcl p };
 
@@ -82,9 +83,9 @@ impl<'a> Bands<'a> for PclBands<'a> {
     ) -> Result<PclBands<'a>, PaintFault> {
         let size = packed_length(scene.dots.columns(&scene.page) as usize) as u32;
         let height = height_within(band_rows, size, BIT_ROOM);
-        let inker = Inker::new(
+        let inker = Inker::of_shapes(
             alloc,
-            scene.strokes,
+            scene.shapes,
             scene.page,
             scene.dots,
             scene.pens,

@@ -4,6 +4,7 @@ ghost use Rattle.plot_page.specs.declared.stroke.TheConstants.{MOST_STROKES};
 ghost use Rattle.plot_page.specs.Resolutions.{rows_of};
 ghost use Rattle.png.specs.declared.header.Depth.{Depth};
 ghost use Rattle.png.specs.Headers.{bits_of_depth};
+ghost use Rattle.areas.specs.Views.{shapes_in};
 ghost use Rattle.rows.specs.Faults.{is_write};
 ghost use Rattle.rows.specs.Documents.{HasPaintedPng, is_png_possible, picture_shown, picture_with, png_boxes};
 ghost use Rattle.rows.specs.Layouts.{AreBits, plain_boxes, plain_row};
@@ -20,10 +21,10 @@ use crate::possible::is_smoothed;
 use crate::scene::Scene;
 use crate::smooth_picture::paint_smoothed;
 use crate::watcher::Watcher;
+use areas::Shapes;
 use devices::Sink;
 use picture_job::PngJob;
 use picture_out::Form;
-use plot_page::Stroke;
 use png::{Depth, Layout};
 use std::alloc::Global;
 use stroke_raster::{Gauge, Inker};
@@ -37,23 +38,23 @@ use stroke_raster::{Gauge, Inker};
 pub fn paint_png<G: Gauge, K: Sink, W: Watcher>(
     alloc: Global,
     job: &PngJob,
-    strokes: &[Stroke],
+    shapes: Shapes<'_>,
     gauge: &mut G,
     sink: K,
     watcher: &mut W,
 ) -> (K, Result<(), PictureFault>)
     requires possible { is_png_possible job.now ≡ true }
-    requires few { length strokes.now ≤ MOST_STROKES }
+    requires few { length shapes.strokes.now ≤ MOST_STROKES }
     requires sinking { (K.state sink).faults < 2 ^ 64 - 1 }
-    ensures paints { HasPaintedPng (picture_shown job.now (G.reaches gauge.old) strokes.now)
+    ensures paints { HasPaintedPng (picture_shown job.now (G.reaches gauge.old) (shapes_in shapes.entry))
         (K.state sink) (K.state result.0) result.1 }
-    ensures tests { G.count gauge.new ≤ G.count gauge.old + png_boxes job.now strokes.now }
+    ensures tests { G.count gauge.new ≤ G.count gauge.old + png_boxes job.now shapes.entry.strokes.now }
     ensures same { G.reaches gauge.new ≡ G.reaches gauge.old }
     ensures told { IsTold is_write W.hears (rows_of job.now.page job.now.dots) watcher.old watcher.new result.1 }
     ensures untouched { IfErr result.1 (λ fault. is_write fault ≡ false → result.0 ≡ sink) }
 {
     let scene = Scene {
-        strokes,
+        shapes,
         page: job.page,
         dots: job.dots,
         pens: job.pens,
@@ -81,7 +82,7 @@ fn paint_plain<G: Gauge, K: Sink, W: Watcher>(
     ensures told { IsTold is_write W.hears (rows_of scene.entry.page scene.entry.dots) watcher.old watcher.new result.1 }
     ensures untouched { IfErr result.1 (λ fault. is_write fault ≡ false → result.0 ≡ sink) }
 {
-    match palette_of(alloc, scene.strokes, scene.pens) {
+    match palette_of(alloc, scene.shapes.strokes, scene.pens) {
         Ok(Some(palette)) => paint_numbers(alloc, scene, &palette, gauge, sink, watcher),
         Ok(None) => paint_colours(alloc, scene, gauge, sink, watcher),
         Err(_) => (sink, Err(PictureFault::Memory)),
@@ -98,9 +99,9 @@ fn paint_numbers<G: Gauge, K: Sink, W: Watcher>(
     watcher: &mut W,
 ) -> (K, Result<(), PictureFault>)
     requires sinking { (K.state sink).faults < 2 ^ 64 - 1 }
-    requires colours { palette.now.colours.items ≡ colours_used scene.pens scene.strokes.now }
+    requires colours { palette.now.colours.items ≡ colours_used scene.pens scene.shapes.strokes.now }
     requires most { length palette.now.colours.items ≤ MOST_COLOURS }
-    requires numbers { AreNumbers scene.pens scene.strokes.now palette.now.colours.items palette.now.numbers.items }
+    requires numbers { AreNumbers scene.pens scene.shapes.strokes.now palette.now.colours.items palette.now.numbers.items }
     ensures paints { HasPaintedPng (picture_with scene.entry.page scene.entry.dots (plain_row scene.entry (G.reaches gauge.old)))
         (K.state sink) (K.state result.0) result.1 }
     ensures tests { G.count gauge.new ≤ G.count gauge.old + plain_boxes scene.entry }
@@ -110,7 +111,7 @@ fn paint_numbers<G: Gauge, K: Sink, W: Watcher>(
 {
     let colours = palette.colours.as_slice();
     let numbers = palette.numbers.as_slice();
-    if colours.len() <= 2 && are_bits(scene.strokes, scene.pens, numbers) {
+    if colours.len() <= 2 && are_bits(scene.shapes.strokes, scene.pens, numbers) {
         return paint_bits(alloc, scene, palette, gauge, sink, watcher);
     }
     let depth = depth_for(colours.len());
@@ -133,10 +134,10 @@ fn paint_bits<G: Gauge, K: Sink, W: Watcher>(
     watcher: &mut W,
 ) -> (K, Result<(), PictureFault>)
     requires sinking { (K.state sink).faults < 2 ^ 64 - 1 }
-    requires colours { palette.now.colours.items ≡ colours_used scene.pens scene.strokes.now }
+    requires colours { palette.now.colours.items ≡ colours_used scene.pens scene.shapes.strokes.now }
     requires two { length palette.now.colours.items ≤ 2 }
-    requires numbers { AreNumbers scene.pens scene.strokes.now palette.now.colours.items palette.now.numbers.items }
-    requires bits { AreBits scene.pens scene.strokes.now palette.now.numbers.items }
+    requires numbers { AreNumbers scene.pens scene.shapes.strokes.now palette.now.colours.items palette.now.numbers.items }
+    requires bits { AreBits scene.pens scene.shapes.strokes.now palette.now.numbers.items }
     ensures paints { HasPaintedPng (picture_with scene.entry.page scene.entry.dots (plain_row scene.entry (G.reaches gauge.old)))
         (K.state sink) (K.state result.0) result.1 }
     ensures tests { G.count gauge.new ≤ G.count gauge.old + plain_boxes scene.entry }

@@ -9,6 +9,7 @@ ghost use Rattle.smoothing.specs.Smoothings.{smoothed};
 ghost use Rattle.plot_page.specs.Resolutions.{columns_of, rows_of};
 ghost use Rattle.stroke_raster.specs.BandHeights.{is_band_height};
 ghost use Rattle.png.specs.Headers.{HasColours};
+ghost use Rattle.areas.specs.Views.{shapes_in};
 ghost use Rattle.rows.specs.Boxes.{finer_boxes};
 ghost use Rattle.rows.specs.Inks.{inks_held};
 ghost use Rattle.rows.specs.Pictures.{finer, smoothed_pixels};
@@ -78,10 +79,10 @@ impl<'a> Bands<'a> for SmoothBands<'a> {
     ghost can_begin = { λ ask scene. CanSmooth ask.times ask.layout scene.dots };
 
     ghost asked_text = { λ ask scene reaches row.
-        layout_bytes ask.layout (smoothed_pixels ask.times reaches scene.pens scene.strokes.now scene.page scene.dots row) };
+        layout_bytes ask.layout (smoothed_pixels ask.times reaches scene.pens (shapes_in scene.shapes) scene.page scene.dots row) };
 
     ghost asked_tests = { λ ask scene first.
-        finer_boxes ask.times scene.pens scene.strokes.now scene.page scene.dots first };
+        finer_boxes ask.times scene.pens scene.shapes.strokes.now scene.page scene.dots first };
 
     ghost row_text = { smoothed_text };
 
@@ -144,12 +145,12 @@ impl<'a> SmoothBands<'a> {
         requires ask { CanSmooth ask.times ask.layout scene.dots }
         ensures band { (result ≡ Err PaintFault.Band) ↔ (is_band_height band_rows ≡ false) }
         ensures first { (result ≡ Err PaintFault.Row) ↔ ((is_band_height band_rows ≡ true) × (rows_of scene.entry.page scene.entry.dots < first_row)) }
-        ensures pixels { IfOk result (λ b. row_pixels b ≡ (λ reaches row. smoothed_pixels ask.entry.times reaches scene.entry.pens scene.entry.strokes.now scene.entry.page scene.entry.dots row)) }
+        ensures pixels { IfOk result (λ b. row_pixels b ≡ (λ reaches row. smoothed_pixels ask.entry.times reaches scene.entry.pens (shapes_in scene.entry.shapes) scene.entry.page scene.entry.dots row)) }
         ensures layout { IfOk result (λ b. b.layout ≡ ask.entry.layout) }
         ensures rows { IfOk result (λ b. b.rows ≡ rows_of scene.entry.page scene.entry.dots) }
         ensures next { IfOk result (λ b. b.next ≡ first_row) }
         ensures height { IfOk result (λ b. b.height ≤ band_rows) }
-        ensures tests { IfOk result (λ b. tests_left b.painting ≡ finer_boxes ask.entry.times scene.entry.pens scene.entry.strokes.now scene.entry.page scene.entry.dots first_row) }
+        ensures tests { IfOk result (λ b. tests_left b.painting ≡ finer_boxes ask.entry.times scene.entry.pens scene.entry.shapes.strokes.now scene.entry.page scene.entry.dots first_row) }
     {
         let page = scene.page;
         let rows = scene.dots.rows(&page);
@@ -168,9 +169,9 @@ impl<'a> SmoothBands<'a> {
             .min(4096 / times)
             .max(1);
         let first = (times * first_row).min(fine.rows(&page));
-        let Ok(painter) = Painter::new(
+        let Ok(painter) = Painter::of_shapes(
             alloc,
-            scene.strokes,
+            scene.shapes,
             page,
             fine,
             scene.pens,
@@ -179,7 +180,7 @@ impl<'a> SmoothBands<'a> {
         ) else {
             return Err(PaintFault::Memory);
         };
-        let inks = StrokeInks::new(scene.strokes);
+        let inks = StrokeInks::new(scene.shapes.strokes);
         let Ok(smoother) = Smoother::new(alloc, inks, ask.layout, times, columns) else {
             return Err(PaintFault::Memory);
         };

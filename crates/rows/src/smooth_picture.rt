@@ -2,6 +2,7 @@
 ghost use Rattle.std.specs.Prelude.{◌≡◌, ℕ, ◌+◌, ◌-◌, ◌*◌, ◌^◌, ◌<◌, ◌≤◌, length, IfOk, IfSome, IfErr, false, true, ◌∷◌, []};
 ghost use Rattle.plot_page.specs.Resolutions.{rows_of};
 ghost use Rattle.picture_out.specs.Inks.{colour_bytes, paper};
+ghost use Rattle.areas.specs.Views.{shapes_in};
 ghost use Rattle.rows.specs.Documents.{HasPaintedPng, picture_with};
 ghost use Rattle.rows.specs.Faults.{is_write};
 ghost use Rattle.rows.specs.Layouts.{AreGrey, HasPixels, scene_pixels, smooth_boxes, smooth_row};
@@ -49,7 +50,7 @@ pub fn paint_smoothed<G: Gauge, K: Sink, W: Watcher>(
     ensures untouched { IfErr result.1 (λ fault. is_write fault ≡ false → result.0 ≡ sink) }
 {
     let times = smoothing.times();
-    if are_grey(scene.strokes, scene.pens) {
+    if are_grey(scene.shapes.strokes, scene.pens) {
         let ask = Smoothed {
             times,
             layout: Layout::Grey,
@@ -112,7 +113,7 @@ fn palette_of<G: Gauge>(
     ensures few { IfOk result (λ found. IfSome found (λ colours. length colours.items ≤ MOST_COLOURS)) }
     ensures some { IfOk result (λ found. IfSome found (λ colours. 0 < length colours.items)) }
     ensures colours { IfOk result (λ found. IfSome found (λ colours. colours.items
-        ≡ colours_smoothed times (G.reaches gauge.old) scene.entry.pens scene.entry.strokes.now scene.entry.page scene.entry.dots)) }
+        ≡ colours_smoothed times (G.reaches gauge.old) scene.entry.pens (shapes_in scene.entry.shapes) scene.entry.page scene.entry.dots)) }
     ensures same { G.reaches gauge.new ≡ G.reaches gauge.old }
     ensures tests { G.count gauge.new ≤ G.count gauge.old + smooth_boxes times scene.entry }
 {

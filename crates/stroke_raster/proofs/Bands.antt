@@ -21,7 +21,7 @@ rows_joined reaches p first n k all e = tables_joined _ first n k ∙ ap (painte
 
 -- the rows that are left to the painter after a band
 rows_left : (reaches : Reaches) (old new : Painting) → Moves old new → painted_rows reaches new new.next (rows_of new.page new.dots - new.next) ≡ painted_rows reaches old (old.next + rows_next old) (rows_of old.page old.dots - (old.next + rows_next old))
-rows_left reaches old new m = rw (m.strokes, m.page, m.dots, m.pens, m.next) refl
+rows_left reaches old new m = rw (m.strokes, m.areas, m.page, m.dots, m.pens, m.next) refl
 
 pub bands_join : (reaches : Reaches) (p : Painting) (bands : List (List (List ℕ))) → LendsAll reaches p bands → flat_map (λ rows. rows) bands ≡ painted_rows reaches p p.next (rows_of p.page p.dots - p.next)
 bands_join reaches p [] past =

@@ -8,7 +8,7 @@ use Rattle.plot_page.specs.declared.pens.PenSet.{PenSet}
 use Rattle.plot_page.specs.Pens.{has_pen}
 use Rattle.stroke_raster.specs.Tests.{reached}
 use Rattle.stroke_raster.specs.Boxes.{selected, boxes, box_pixels}
-use Rattle.stroke_raster.specs.Slots.{nobody, stroke_at}
+use Rattle.stroke_raster.specs.ShownShapes.{nobody, stroke_at}
 use Rattle.stroke_raster.proofs.Reached.{reached_more}
 use Rattle.stroke_raster.proofs.ReachedRows.{row_reached, runs_reached}
 use Rattle.stroke_raster.proofs.Slots.{take_slot}

@@ -33,7 +33,7 @@ row_beside row n ne = elim (cases_lt n row) [
 ]
 
 -- one row inked
-row_inked : (reached : ℕ → ℕ → Bool) (layout : Layout) (row from many A K : ℕ) (bits line : List ℕ)
+pub row_inked : (reached : ℕ → ℕ → Bool) (layout : Layout) (row from many A K : ℕ) (bits line : List ℕ)
     → layout.first ≤ row → row < layout.first + layout.rows → from + many ≤ 8 * layout.stride → length bits ≡ layout.rows * layout.stride → A ≡ (row - layout.first) * layout.stride → K ≡ length bits - A → length line ≡ K
     → IsReached (reached row) from many (mid_of A K bits) line
     → ArePartInked reached layout (record { low = row; end = row + 1 }) (record { low = from; end = from + many }) bits (put_mid A K bits line)

@@ -11,7 +11,7 @@ use Rattle.stroke_raster.specs.Tests.{reached}
 use Rattle.stroke_raster.specs.Boxes.{selected, boxes, box_pixels}
 use Rattle.stroke_raster.specs.Shown.{shown, row_shown}
 use Rattle.stroke_raster.specs.Rows.{rows_shown, marked, marked_in_rows}
-use Rattle.stroke_raster.specs.Slots.{stroke_at}
+use Rattle.stroke_raster.specs.ShownShapes.{stroke_at}
 use Rattle.stroke_raster.proofs.BoxCounts.{boxes_slot}
 use Rattle.stroke_raster.proofs.ReachedRows.{none_has}
 use Rattle.stroke_raster.proofs.Slots.{take_slot}

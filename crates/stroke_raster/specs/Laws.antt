@@ -2,13 +2,16 @@
 use Rattle.std.specs.Prelude.{◌≡◌, ℕ, ◌+◌, ◌-◌, ◌*◌, ◌<◌, ◌≤◌, pos, ◌*ℤ◌, int_le, Bool, true, false, ◌&&◌, List, []}
 use Rattle.std.specs.Prelude.{◌∷◌, ◌++◌, flat_map, length}
 use Rattle.plot_page.specs.Segments.{Segment}
+use Rattle.plot_page.specs.declared.dots.Dots.{Dots}
+use Rattle.plot_page.specs.declared.page.Page.{Page}
 use Rattle.plot_page.specs.declared.pens.PenSet.{PenSet}
 use Rattle.stroke_raster.specs.declared.vector.Vector.{Vector}
 use Rattle.stroke_raster.specs.Covers.{in_window, first_end, drawn_width, covers_place}
 use Rattle.stroke_raster.specs.Gap.{way, scaled, dot}
 use Rattle.plot_page.specs.Pens.{has_pen}
-use Rattle.plot_page.specs.Resolutions.{rows_of}
-use Rattle.stroke_raster.specs.Shown.{shown}
+use Rattle.plot_page.specs.Resolutions.{columns_of, rows_of}
+use Rattle.stroke_raster.specs.Shown.{row_shown, shown}
+use Rattle.stroke_raster.specs.ShownShapes.{row_of_shapes}
 use Rattle.stroke_raster.specs.Painting.{Painting, Reaches, painted_rows, rows_next, Moves}
 
 -- a painter lends a band of these rows, and is `new` afterwards: the clauses of `next_band`
@@ -56,3 +59,9 @@ pub record LaterStrokesCover : Type 0 where
       (row column : ℕ) →
       has_pen pens s.pen ≡ false →
       shown covers pens (strokes ++ (s ∷ [])) row column ≡ shown covers pens strokes row column
+
+-- if no stroke is the edge of an area, a row shows the last strokes that reach its pixels
+abbrev pub StrokesAlone : Type 0
+StrokesAlone = (reaches : Reaches) (pens : PenSet) (strokes : List Segment) (page : Page) (dots : Dots) (row : ℕ) →
+    row_of_shapes reaches pens strokes [] page dots row
+    ≡ row_shown (λ s. reaches s page dots) pens strokes (columns_of page dots) row

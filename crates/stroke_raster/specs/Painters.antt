@@ -2,16 +2,26 @@
 use Rattle.std.specs.Prelude.{◌≡◌, ℕ, ◌+◌, ◌-◌, ◌*◌, ◌<◌, ◌≤◌, List, length, min}
 use Rattle.stroke_raster.specs.declared.scene.Scene.{Scene}
 use Rattle.plot_page.specs.Resolutions.{rows_of}
+use Rattle.plot_page.specs.Segments.{Segment}
+use Rattle.areas.specs.Sweeps.{HasRoomFor}
+use Rattle.areas.specs.Views.{areas_in}
+use Rattle.areas.specs.declared.area.Area.{Area}
+use Rattle.areas.specs.declared.sweep.AreaSweep.{AreaSweep}
+use Rattle.stroke_raster.specs.ShownShapes.{area_at}
 use Rattle.stroke_raster.specs.Scenes.{AreChained, width_of}
 
 -- how many rows the next band has
 abbrev pub rows_ahead : Scene → ℕ → ℕ
 rows_ahead scene next = min scene.band_rows (rows_of scene.page scene.dots - next)
 
+-- there is room for the area that ends at any position
+abbrev pub HasRoomForAll : List Segment → List Area → AreaSweep → Type 0
+HasRoomForAll strokes areas sweep = (position : ℕ) → HasRoomFor (length (area_at strokes areas position).strokes) sweep
+
 -- the next row and its band, the number of rows that were painted last, the chains, and the rows and columns of a canvas
 -- that is sound
 pub record IsSound (scene : Scene) (next band painted : ℕ) (heads links : List ℕ) (height width : ℕ)
-    (IsSoundCanvas : Type 0) : Type 0 where
+    (sweep : AreaSweep) (IsSoundCanvas : Type 0) : Type 0 where
   -- the next row is on the page or right after it, and begins its band
   pub next_in : next ≤ rows_of scene.page scene.dots
   pub next_at : next < rows_of scene.page scene.dots → next ≡ scene.first_row + band * scene.band_rows
@@ -23,6 +33,8 @@ pub record IsSound (scene : Scene) (next band painted : ℕ) (heads links : List
   pub height_in : height ≤ scene.band_rows
   pub width_is : width ≡ width_of scene
   pub canvas : IsSoundCanvas
+  -- there is room for each area
+  pub roomy : HasRoomForAll scene.strokes.now (areas_in scene.areas) sweep
   -- there are chains for all strokes and all bands; a page has at most 77,405 rows, so 2^17 bands are enough
   pub slots : length links ≡ length scene.strokes.now + 1
   pub bands_few : length heads ≤ 131072

@@ -5,6 +5,7 @@ ghost use Rattle.stroke_raster.specs.Inks.{ink_at};
 use crate::canvas::Canvas;
 use crate::extent::extent_of;
 use crate::gauge::Gauge;
+use crate::ink::ink_run;
 use crate::layout::Layout;
 use crate::strip::Span;
 use bit_rows::packed_length;
@@ -87,6 +88,11 @@ impl Canvas for Bits {
         let bytes = self.bytes.as_mut_slice();
         gauge.ink_rows(stroke, page, dots, part, extent.columns, layout, bytes);
         extent.rows.end
+    }
+
+    fn fill(&mut self, row: u32, span: Span, position: u32) {
+        let start = row as usize * self.stride as usize;
+        ink_run(&mut self.bytes.as_mut_slice()[start..], span);
     }
 
     fn lends_what_it_shows(&self) {

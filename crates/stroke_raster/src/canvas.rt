@@ -1,16 +1,16 @@
 //! What a band's strokes are painted on.
-ghost use Rattle.std.specs.Prelude.{◌≡◌, ℕ, ◌+◌, ◌<◌, ◌≤◌, Bool, List, IfOk, cond, min};
-ghost use Rattle.plot_page.specs.Segments.{Segment};
-ghost use Rattle.plot_page.specs.declared.pens.PenSet.{PenSet};
+ghost use Rattle.std.specs.Prelude.{◌≡◌, ℕ, ◌+◌, ◌<◌, ◌≤◌, Bool, ◌&&◌, List, IfOk, cond, min, nat_eq};
 ghost use Rattle.plot_page.specs.declared.dots.TheConstants.{MOST_PIXELS_A_SIDE};
 ghost use Rattle.plot_page.specs.Resolutions.{columns_of, rows_of};
 ghost use Rattle.stroke_raster.specs.Boxes.{box_pixels, in_box, BoxHolds};
 ghost use Rattle.stroke_raster.specs.Canvases.{Shows};
 ghost use Rattle.stroke_raster.specs.Extents.{end_row_of};
-ghost use Rattle.stroke_raster.specs.Rows.{rows_shown};
+ghost use Rattle.stroke_raster.specs.ShownShapes.{rows_at};
+ghost use Rattle.stroke_raster.specs.Spans.{holds};
 ghost use Rattle.stroke_raster.specs.Tests.{MOST_TESTS, reached_pixels};
 
 use crate::gauge::Gauge;
+use crate::strip::Span;
 use plot_page::{Dots, Page, Stroke};
 use std::alloc::{AllocError, Global};
 
@@ -85,13 +85,25 @@ pub trait Canvas: Sized + Drop {
             (λ s. in_box s page.now dots) stroke.now first (height self.old) (width self.old) }
         ensures grows { G.count gauge.old ≤ G.count gauge.new };
 
-    /// Does nothing. Its contract is a law: rows whose pixels show what strokes do are lent as such rows are.
+    /// Paints a span of columns of a row, which counts from 0, as the stroke at a position is painted.
+    fn fill(&mut self, row: u32, span: Span, position: u32)
+        requires sound { is_sound self.old }
+        requires tall { row < height self.old }
+        requires order { span.low ≤ span.end }
+        requires wide { span.end ≤ width self.old }
+        requires counted { 1 ≤ position }
+        ensures sound { is_sound self.new }
+        ensures height { height self.new ≡ height self.old }
+        ensures width { width self.new ≡ width self.old }
+        ensures pixels { (r k : ℕ) → r < height self.old → k < width self.old →
+            pixel self.new r k ≡ cond (nat_eq r row && holds span k) (mark position) (pixel self.old r k) };
+
+    /// Does nothing. Its contract is a law: rows whose pixels show positions are lent as such rows are.
     fn lends_what_it_shows(&self)
         requires sound { is_sound self.now }
-        ensures { (covers : Segment → ℕ → ℕ → Bool) (pens : PenSet) (strokes : List Segment) (first : ℕ) →
-            Shows (pixel self.now) mark covers pens strokes first (height self.now) (width self.now) →
-            lent self.now (height self.now)
-            ≡ lends (rows_shown covers pens strokes (width self.now) first (height self.now)) };
+        ensures { (test : ℕ → ℕ → ℕ → Bool) (n first : ℕ) →
+            Shows (pixel self.now) mark test n first (height self.now) (width self.now) →
+            lent self.now (height self.now) ≡ lends (rows_at test n (width self.now) first (height self.now)) };
 
     // 0, the position of no stroke, is what a blank pixel shows.
     ghost blank: { mark 0 ≡ 0 };

@@ -4,7 +4,7 @@ ghost use Rattle.std.specs.Borrow.{sem};
 ghost use Rattle.plot_page.specs.Resolutions.{columns_of, rows_of};
 ghost use Rattle.stroke_raster.specs.Tests.{MOST_TESTS};
 ghost use Rattle.stroke_raster.specs.Rows.{marked_in_rows};
-ghost use Rattle.stroke_raster.specs.Painting.{painted_rows, boxed_pixels, rows_next};
+ghost use Rattle.stroke_raster.specs.Painting.{painted_rows, boxed_pixels, rows_next, stroke_rows};
 
 use crate::band::Band;
 use crate::canvas::Canvas;
@@ -37,7 +37,7 @@ impl<'a> Painter<'a> {
     }
 
     /// The next band, with what its pixels show; `None` once all rows are painted. The gauge's count
-    /// rises by at least one for each pixel that shows a stroke, and by at most the pixels that the
+    /// rises by at least one for each pixel that would show a stroke if there were no areas, and by at most the pixels that the
     /// selected strokes' boxes have in the band's rows.
     pub fn next_band<G: Gauge>(&mut self, gauge: &mut G) -> Option<Band<'_>>
         ensures* moves { sem 𝓛 (EndsAs ⟦<Cells as Canvas>⟧ self.entry) }
@@ -53,8 +53,8 @@ impl<'a> Painter<'a> {
             (rows_of_band b)) }
         ensures same { G.reaches gauge.new ≡ G.reaches gauge.old }
         ensures idle { IfNone result (gauge.new ≡ gauge.old) }
-        ensures least { IfSome result (λ b. min
-            (G.count gauge.old + marked_in_rows (rows_of_band b)) MOST_TESTS ≤ G.count gauge.new) }
+        ensures least { IfSome result (λ _. min (G.count gauge.old + marked_in_rows
+            (stroke_rows (G.reaches gauge.old) self.old self.old.next (rows_next self.old))) MOST_TESTS ≤ G.count gauge.new) }
         ensures most { IfSome result (λ _.
             G.count gauge.new ≤ G.count gauge.old + boxed_pixels self.old self.old.next (rows_next self.old)) }
         ensures grows { G.count gauge.old ≤ G.count gauge.new }

@@ -4,6 +4,7 @@ ghost use Rattle.stroke_raster.specs.Spans.{Spanned, holds, none};
 
 use crate::canvas::Canvas;
 use crate::extent::extent_of;
+use crate::fill::fill;
 use crate::gauge::Gauge;
 use crate::strip::Span;
 use crate::trace::trace_of;
@@ -97,6 +98,20 @@ impl Canvas for Cells {
             spans[at] = joined(spans[at], painted);
         }
         extent.rows.end
+    }
+
+    fn fill(&mut self, row: u32, span: Span, position: u32) {
+        let start = row as usize * self.columns as usize;
+        let cells = self.cells.as_mut_slice();
+        let line = &mut cells[start + span.low as usize..start + span.end as usize];
+        let all = Span {
+            low: 0,
+            end: span.end - span.low,
+        };
+        fill(line, all, position);
+        let spans = self.spans.as_mut_slice();
+        let old = spans[row as usize];
+        spans[row as usize] = joined(old, span);
     }
 
     fn lends_what_it_shows(&self) {}

@@ -78,8 +78,8 @@ fn sides_of(w0: i32, w1: i32, a: i32, b: i32, r: u32, d: u32) -> Sides
     }
 }
 
-// The double of a number of grains, in grains divided by the resolution.
-fn doubled(r: u32, z: i32) -> i64
+/// The double of a number of grains, in grains divided by the resolution.
+pub fn doubled(r: u32, z: i32) -> i64
     requires r_in { r ≤ 1200 }
     ensures value { result ≡ pos (2 * r) *ℤ z }
     ensures small { nat_abs result ≤ 2 ^ 43 }

@@ -2,7 +2,7 @@
 ghost use Rattle.std.specs.Prelude.{◌≡◌, ◌+◌, ◌*◌, ◌<◌, ◌≤◌, ◌↔◌, length, map, min, IsTrue, false};
 ghost use Rattle.plot_page.specs.Resolutions.{columns_of, rows_of};
 ghost use Rattle.bit_rows.specs.Bits.{bytes_for, packed};
-ghost use Rattle.stroke_raster.specs.Painting.{painted_rows, boxed_pixels, rows_next, Moves};
+ghost use Rattle.stroke_raster.specs.Painting.{painted_rows, boxed_pixels, rows_next, stroke_rows, Moves};
 ghost use Rattle.stroke_raster.specs.Rows.{marked_in_rows, split_rows};
 ghost use Rattle.stroke_raster.specs.Tests.{MOST_TESTS};
 
@@ -15,9 +15,8 @@ use crate::painter::BandPainter;
 pub type Inker<'a> = BandPainter<'a, Bits>;
 
 impl<'a> Inker<'a> {
-    /// Inks the next band, if a row is left. The gauge's count rises by at least the band's black pixels
-    /// and at most the pixels that the selected strokes' boxes have in the band's rows, or to 2^64 - 1,
-    /// where it stays.
+    /// Inks the next band, if a row is left. The gauge's count rises by at least the pixels that would be black if there were no
+    /// areas, and at most the pixels that the selected strokes' boxes have in the band's rows, or to 2^64 - 1, where it stays.
     pub fn ink_next<G: Gauge>(&mut self, gauge: &mut G) -> bool
         ensures left { IsTrue result ↔ (self.old.next < rows_of self.old.page self.old.dots) }
         ensures moves { Moves self.old self.new }
@@ -28,7 +27,7 @@ impl<'a> Inker<'a> {
         ensures same { G.reaches gauge.new ≡ G.reaches gauge.old }
         ensures idle { result ≡ false → gauge.new ≡ gauge.old }
         ensures least { IsTrue result → min (G.count gauge.old + marked_in_rows
-            (painted_rows (G.reaches gauge.old) self.old self.old.next (rows_next self.old))) MOST_TESTS
+            (stroke_rows (G.reaches gauge.old) self.old self.old.next (rows_next self.old))) MOST_TESTS
             ≤ G.count gauge.new }
         ensures most { IsTrue result →
             G.count gauge.new ≤ G.count gauge.old + boxed_pixels self.old self.old.next (rows_next self.old) }

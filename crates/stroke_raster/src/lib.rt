@@ -19,6 +19,7 @@ mod marks;
 mod nearness;
 mod painter;
 mod pixel;
+mod placed_area;
 mod run;
 mod scan;
 mod scene;

@@ -42,9 +42,9 @@ pub fn is_in_window(stroke: &Stroke, dots: Dots, place: Vector) -> bool
         && is_between(window.y0, window.y1, dots, place.y)
 }
 
-// Whether a coordinate lies between two numbers of grains.
+/// Whether a coordinate lies between two numbers of grains.
 #[inline(always)]
-fn is_between(low: i32, high: i32, dots: Dots, z: i64) -> bool
+pub fn is_between(low: i32, high: i32, dots: Dots, z: i64) -> bool
     ensures { result ≡ between (pos dots.resolution *ℤ low) (pos dots.resolution *ℤ high) z }
 {
     let r = i64::from(dots.resolution);

@@ -1,14 +1,19 @@
 -- Some strokes, and their runs.
-use Rattle.std.proofs.Common.{◌≡◌, ℕ, ℤ, pos, negsuc, [], ◌∷◌, refl, replicate, set, true, false, List, map}
+use Rattle.std.proofs.Common.{◌≡◌, ℕ, ℤ, pos, negsuc, [], ◌∷◌, Some, refl, replicate, set, true, false, List, map}
+use Rattle.areas.specs.Shapes.{Shape, shapes, stroke_shape}
+use Rattle.areas.specs.declared.area.Area.{Area}
 use Rattle.plot_page.specs.Segments.{Segment}
 use Rattle.plot_page.specs.declared.colour.Colour.{Colour}
 use Rattle.plot_page.specs.declared.pens.PenSet.{PenSet}
 use Rattle.plot_page.specs.declared.window.Window.{Window}
+use Rattle.polygons.specs.declared.lines.Rule.TheVariants.{OddCounts, Winding}
 use Rattle.stroke_runs.specs.declared.runs.Link.TheVariants.{Begins, Apart, Joined}
 use Rattle.stroke_runs.specs.Drawn.{is_drawn, is_alike, is_joined}
-use Rattle.stroke_runs.specs.Runs.{following, runs_of, runs}
-use Rattle.stroke_runs.specs.Links.{link_after}
-use Rattle.stroke_runs.specs.Sheets.{sheets_of}
+use Rattle.stroke_runs.specs.declared.role.Role.TheVariants.{Stroke, FirstEdge, NextEdge}
+use Rattle.stroke_runs.specs.Runs.{following, runs_of, runs, shape_runs, stroke_run}
+use Rattle.stroke_runs.specs.Links.{after_edge, at_start, link_after, link_as}
+use Rattle.stroke_runs.specs.Roles.{member, members_of}
+use Rattle.stroke_runs.specs.Sheets.{shapes_between, sheet_areas, sheets_of}
 
 -- a table of examples: each value agrees with the one beside it
 abbrev Agree : {X : Type 0} → List (X × X) → Type 0
@@ -107,3 +112,52 @@ links : Agree (
     ∷ (link_after first 0 next, Begins)  -- no more strokes fit
     ∷ [])
 links = refl
+
+-- the area of the strokes after so many, up to and including this one
+abbrev area : ℕ → ℕ → Area
+area at end = record { first = at; end = end; rule = OddCounts }
+
+abbrev filled : List Segment → Shape
+filled edges = record { strokes = edges; rule = Some OddCounts }
+
+-- runs of shapes
+runs_of_shapes : Agree (
+    (shape_runs all_pens [], [])  -- no runs
+    ∷ (shape_runs all_pens (shapes (first ∷ next ∷ []) []), stroke_run (first ∷ next ∷ []) ∷ [])  -- no areas
+    ∷ (shape_runs all_pens (shapes (first ∷ next ∷ []) (area 0 2 ∷ [])), filled (first ∷ next ∷ []) ∷ [])  -- an area
+    ∷ (
+      shape_runs all_pens (shapes (first ∷ next ∷ first ∷ next ∷ []) (area 1 3 ∷ [])),
+      stroke_run (first ∷ []) ∷ filled (next ∷ first ∷ []) ∷ stroke_run (next ∷ []) ∷ [],
+    )  -- an area does not go on a run, and no stroke goes on an area
+    ∷ (
+      shape_runs all_pens (shapes (first ∷ next ∷ first ∷ []) (area 0 1 ∷ area 1 3 ∷ [])),
+      filled (first ∷ []) ∷ filled (next ∷ first ∷ []) ∷ [],
+    )  -- two areas drawn in one way
+    ∷ (
+      shape_runs pen_1 (shapes (first ∷ other_pen ∷ other_pen ∷ next ∷ []) (area 1 3 ∷ [])),
+      stroke_run (first ∷ next ∷ []) ∷ [],
+    )  -- an area that is not drawn breaks nothing
+    ∷ (
+      shapes_between (first ∷ next ∷ first ∷ next ∷ []) (area 2 4 ∷ []) 1 4,
+      stroke_shape next ∷ filled (first ∷ next ∷ []) ∷ [],
+    )  -- the shapes between two strokes
+    ∷ [])
+runs_of_shapes = refl
+
+-- the areas of a sheet, and what the strokes of shapes are
+areas_on_sheets : sheet_areas 3 (area 1 2 ∷ area 3 5 ∷ area 7 9 ∷ []) ≡ area 0 2 ∷ area 4 6 ∷ []
+areas_on_sheets = refl
+
+members : members_of (stroke_shape first ∷ filled (next ∷ first ∷ next ∷ []) ∷ [])
+    ≡ member Stroke first ∷ member (FirstEdge OddCounts) next ∷ member NextEdge first ∷ member NextEdge next ∷ []
+members = refl
+
+-- how an edge follows another stroke, and a stroke an edge
+links_of_edges : Agree (
+    (link_as at_start first (FirstEdge Winding), Begins)  -- an area begins
+    ∷ (link_as (after_edge first Winding) next NextEdge, Joined)  -- it goes on there
+    ∷ (link_as (after_edge next Winding) first NextEdge, Apart)  -- it goes on elsewhere
+    ∷ (link_as (after_edge first Winding) next (FirstEdge Winding), Begins)  -- another area
+    ∷ (link_as (after_edge first Winding) next Stroke, Begins)  -- a stroke does not go on an area
+    ∷ [])
+links_of_edges = refl

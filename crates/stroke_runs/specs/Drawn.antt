@@ -1,6 +1,7 @@
 -- Which strokes are drawn, and which of them are drawn in one way.
-use Rattle.std.specs.Prelude.{int_le, ◌==◌, ◌&&◌, Bool, List, filter}
+use Rattle.std.specs.Prelude.{int_le, ◌==◌, ◌&&◌, Bool, false, List, [], ◌∷◌, filter}
 use Rattle.std.specs.Ordering.{int_eq}
+use Rattle.areas.specs.Shapes.{Shape}
 use Rattle.plot_page.specs.Pens.{has_pen}
 use Rattle.plot_page.specs.Segments.{Segment}
 use Rattle.plot_page.specs.declared.colour.Colour.{Colour}
@@ -18,6 +19,15 @@ is_drawn pens s = has_pen pens s.pen && has_place s.window
 -- the strokes that are drawn
 abbrev pub drawn : PenSet → List Segment → List Segment
 drawn pens strokes = filter (is_drawn pens) strokes
+
+-- a shape is drawn if its first stroke is: the edges of an area have the same pen and the same window
+abbrev pub begins_drawn : PenSet → List Segment → Bool
+begins_drawn pens [] = false
+begins_drawn pens (s ∷ ss) = is_drawn pens s
+
+-- the shapes that are drawn
+abbrev pub drawn_shapes : PenSet → List Shape → List Shape
+drawn_shapes pens shapes = filter (λ shape. begins_drawn pens shape.strokes) shapes
 
 abbrev pub is_same_colour : Colour → Colour → Bool
 is_same_colour a b = (a.red == b.red && a.green == b.green) && a.blue == b.blue

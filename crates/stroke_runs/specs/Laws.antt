@@ -1,5 +1,6 @@
 -- What the laws say of runs.
-use Rattle.std.specs.Prelude.{◌≡◌, ◌≤◌, ◌⊎◌, List, [], ◌∷◌, ◌++◌, length, true, false}
+use Rattle.std.specs.Prelude.{◌≡◌, ◌≤◌, ◌⊎◌, List, [], ◌∷◌, ◌++◌, length, map, MatchOption, is_some, true, false, if◌then◌else◌}
+use Rattle.areas.specs.Shapes.{Shape, stroke_shape}
 use Rattle.plot_page.specs.Segments.{Segment}
 use Rattle.stroke_runs.specs.declared.runs.TheConstants.{MOST_IN_RUN}
 use Rattle.stroke_runs.specs.Drawn.{is_alike}
@@ -38,3 +39,11 @@ abbrev pub AreGreatest : List (List Segment) → Type 0
 AreGreatest [] = Unit {0}
 AreGreatest (run ∷ []) = Unit {0}
 AreGreatest (run ∷ other ∷ runs) = IsCut run other × AreGreatest (other ∷ runs)
+
+-- a run as the shapes that it has: an area, or strokes
+abbrev pub split : Shape → List Shape
+split run = if is_some run.rule then run ∷ [] else map stroke_shape run.strokes
+
+-- an area, or a run of strokes
+abbrev pub IsShapeRun : Shape → Type 0
+IsShapeRun run = MatchOption run.rule (IsRun run.strokes) (λ rule. Unit {0})

@@ -3,7 +3,8 @@ pub mod Drawn
 pub mod Runs
 pub mod Sheets
 pub mod Shown
--- How strokes follow one another, taken one at a time.
+-- What strokes are, and how they follow one another, taken one at a time.
+pub mod Roles
 pub mod Links
 -- What the laws say of runs.
 pub mod Laws

@@ -1,9 +1,10 @@
--- Runs: the longest lists of at most 1,000 strokes that follow one another and are drawn in one way.
-use Rattle.std.specs.Prelude.{ℕ, ◌-◌, nat_le, ◌&&◌, Bool, List, [], ◌∷◌, if◌then◌else◌}
+-- Runs: the longest lists of at most 1,000 strokes that follow one another and are drawn in one way. An area is a run, too.
+use Rattle.std.specs.Prelude.{ℕ, ◌-◌, nat_le, ◌&&◌, Bool, List, [], ◌∷◌, ◌++◌, map, None, is_some, if◌then◌else◌}
+use Rattle.areas.specs.Shapes.{Shape}
 use Rattle.plot_page.specs.Segments.{Segment}
 use Rattle.plot_page.specs.declared.pens.PenSet.{PenSet}
 use Rattle.stroke_runs.specs.declared.runs.TheConstants.{MOST_IN_RUN}
-use Rattle.stroke_runs.specs.Drawn.{drawn, is_alike}
+use Rattle.stroke_runs.specs.Drawn.{drawn, drawn_shapes, is_alike}
 
 -- what follows a stroke: the rest of its run, and the runs after it
 pub record Following : Type 0 where
@@ -36,3 +37,18 @@ runs_of (s ∷ ss) = (beginning s (following s (MOST_IN_RUN - 1) ss)).runs
 -- the runs of the strokes that are drawn
 abbrev pub runs : PenSet → List Segment → List (List Segment)
 runs pens strokes = runs_of (drawn pens strokes)
+
+-- strokes that are one run
+abbrev pub stroke_run : List Segment → Shape
+stroke_run strokes = record { strokes = strokes; rule = None }
+
+-- the runs of shapes after these strokes: the strokes up to the next area are cut into runs, and the area is one
+abbrev pub shape_runs_after : List Segment → List Shape → List Shape
+shape_runs_after strokes [] = map stroke_run (runs_of strokes)
+shape_runs_after strokes (shape ∷ shapes) =
+    if is_some shape.rule then map stroke_run (runs_of strokes) ++ shape ∷ shape_runs_after [] shapes else
+    shape_runs_after (strokes ++ shape.strokes) shapes
+
+-- the runs of the shapes that are drawn, each with its strokes, and with its rule if it is an area
+abbrev pub shape_runs : PenSet → List Shape → List Shape
+shape_runs pens shapes = shape_runs_after [] (drawn_shapes pens shapes)

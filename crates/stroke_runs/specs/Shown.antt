@@ -1,6 +1,7 @@
 -- How a vector document shows strokes, and which labels it has.
-use Rattle.std.specs.Prelude.{pos, ◌*◌, max, Bool, List}
+use Rattle.std.specs.Prelude.{pos, ◌*◌, max, Bool, List, [], ◌∷◌, map}
 use Rattle.std.specs.List.{list_any}
+use Rattle.areas.specs.Shapes.{Shape}
 use Rattle.labels.specs.Labels.{LabelShape}
 use Rattle.plot_page.specs.Segments.{Segment}
 use Rattle.plot_page.specs.declared.page.Page.{Page}
@@ -13,6 +14,19 @@ use Rattle.stroke_runs.specs.declared.shown.TheConstants.{LEAST_WIDTH}
 -- a stroke as a document shows it: at least 24 grains wide
 abbrev pub widened : Segment → Segment
 widened s = record s { width = max LEAST_WIDTH s.width }
+
+-- a stroke with the pen, the colour, the width and the window of another one
+abbrev pub drawn_as : Segment → Segment → Segment
+drawn_as other s = record s { pen = other.pen; colour = other.colour; width = other.width; window = other.window }
+
+-- strokes as a document shows them in one path: all are drawn as the first one
+abbrev pub shown_as_first : List Segment → List Segment
+shown_as_first [] = []
+shown_as_first (s ∷ ss) = widened s ∷ map (λ e. widened (drawn_as s e)) ss
+
+-- a shape as a document shows it
+abbrev pub shown_shape : Shape → Shape
+shown_shape shape = record shape { strokes = shown_as_first shape.strokes }
 
 -- the whole page as a window
 abbrev pub whole_page : Page → Window

@@ -1,37 +1,40 @@
--- The bytes of a document, read back, are the strokes that are drawn.
-use Rattle.std.proofs.Common.{◌≡◌, ◌∙◌, ℕ, ◌+◌, ◌*◌, ◌≤◌, ℤ, pos, ◌-ℤ◌, nat_abs, Bool, true, false, cond, List, [], ◌∷◌, ◌++◌, map, Some, None, refl, ap, subst, arith, append_assoc, append-nil}
+-- The bytes of a document, read back, are the shapes that are drawn.
+use Rattle.std.proofs.Common.{◌≡◌, ◌∙◌, ℕ, ◌+◌, ◌*◌, ◌<◌, ◌≤◌, ℤ, pos, ◌-ℤ◌, nat_abs, Bool, true, false, cond, List, [], ◌∷◌, ◌++◌, map, Some, None, refl, ap, subst, arith, append_assoc, append-nil}
 use Rattle.std.proofs.lemmas.Int.{ints}
 use Rattle.std.proofs.lemmas.List.Concat.{flat_map-append}
-use Rattle.std.proofs.lemmas.List.Elements.{All-head, All-tail}
+use Rattle.std.proofs.lemmas.List.Elements.{All-cons, All-head, All-nil, All-tail}
 use Rattle.std.specs.BTreeSet.{insert_key}
 use Rattle.std.specs.List.{All}
 use Rattle.std.specs.Ordering.{match_ordering}
 use Rattle.std.specs.declared.cmp.Ordering.{Ordering}
 use Rattle.std.specs.declared.cmp.Ordering.TheVariants.{Less, Equal, Greater}
+use Rattle.areas.specs.Shapes.{AreApart, Shape, shapes, stroke_shape}
+use Rattle.areas.specs.declared.area.Area.{Area}
 use Rattle.labels.specs.Labels.{LabelShape}
 use Rattle.plot_page.specs.Segments.{Segment}
 use Rattle.plot_page.specs.declared.page.Page.{Page}
 use Rattle.plot_page.specs.declared.pens.PenSet.{PenSet}
-use Rattle.stroke_runs.specs.Drawn.{drawn, is_drawn, is_joined}
-use Rattle.stroke_runs.specs.Shown.{is_whole_page, widened}
+use Rattle.stroke_runs.specs.Drawn.{drawn, drawn_shapes, is_drawn, is_joined}
+use Rattle.stroke_runs.specs.Sheets.{NoneGoesOn}
+use Rattle.stroke_runs.specs.Shown.{is_whole_page, shown_shape, widened}
 use Rattle.svg.specs.declared.places.Place.{Place}
 use Rattle.svg.specs.declared.places.Rectangle.{Rectangle}
 use Rattle.svg.specs.Clips.{IsAmong, clips_of, rectangle_cmp, with_clip, with_clips}
 use Rattle.svg.specs.Commands.{Command, LineBy, LineTo, MoveBy, MoveTo, line, move}
 use Rattle.svg.specs.Documents.{foot_text, sheets_bytes, sheets_text, start_text, svg_bytes}
-use Rattle.svg.specs.Parts.{parts, parts_text}
+use Rattle.svg.specs.Parts.{AreBeside, Part, parts, parts_text}
 use Rattle.svg.specs.Paths.{Path, clip_of, line_of, rest_commands}
 use Rattle.svg.specs.Places.{end_of, offset, rectangle_of, start_of, turned}
 use Rattle.stroke_runs.specs.Ranges.{IsInRange}
 use Rattle.svg.specs.Reader.{read_svg, read_titles}
-use Rattle.svg.specs.Readings.{part_paths, parts_of_sheets, paths_in, read_paths, read_sheets, size_of, strokes_of, titles}
+use Rattle.svg.specs.Readings.{part_paths, parts_of_sheets, paths_in, read_paths, read_sheets, shapes_of, size_of, titles}
 use Rattle.svg.specs.Sheets.{Sheet, labelled_sheets}
 use Rattle.svg.specs.Titles.{utf_8}
 use Rattle.svg.proofs.ClipLaw.{parts_clipped, sheets_clipped}
 use Rattle.svg.proofs.ClipReads.{AreSmallRectangles, IsSmallRectangle}
 use Rattle.svg.proofs.DocumentReads.{AreClipped, document_read, document_titles}
 use Rattle.svg.proofs.EachPath.{Each, EachDrawn, FromRun, each_of_parts, each_of_sheets}
-use Rattle.svg.proofs.PartLaws.{all_sheets_read, parts_read}
+use Rattle.svg.proofs.PartLaws.{all_sheets_read, parts_read, seen_strokes}
 use Rattle.svg.proofs.PartReads.{AreSmallPaths, Shows, shows_both, shows_foot, shows_parts, shows_sheets}
 use Rattle.svg.proofs.PathReads.{AreSmall, IsSmall, IsSmallCommand, IsSmallPath}
 
@@ -85,8 +88,8 @@ rest_small page last (s ∷ ss) h k =
     next_small (is_joined last s) (move (end_of page last) (start_of page s)) (line_of page s) (rest_commands page s ss)
     (small_move (end_of page last) (start_of page s) (end_near page last h) (start_near page s k.0)) (stroke_line page s k.0) (rest_small page s ss k.0 k.1)
 
-small_run : (page : Page) → FromRun page IsInRange IsSmallPath
-small_run page s ss h k = record {
+small_run : (page : Page) → FromRun page IsInRange IsInRange IsSmallPath
+small_run page rule s ss _ h k = record {
   pen = omega (arith, h.pen);
   colour = record { red = h.red; green = h.green; blue = h.blue };
   width = omega (arith, h.width);
@@ -154,69 +157,99 @@ with_foot text ps ts h =
     let T : List (List ℕ) → Type 0 = λ us. Shows (text ++ foot_text) (ps ++ []) us in
     subst P (append-nil ps) (subst T (append-nil ts) (shows_both text foot_text ps [] h shows_foot))
 
--- the paths of strokes with their labels can be read
-parts_small : (page : Page) (pens : PenSet) (strokes : List Segment) (labels : List LabelShape) → All IsInRange strokes → AreSmallPaths (paths_in (parts page pens strokes labels))
-parts_small page pens strokes labels h =
-    small_of_all (paths_in (parts page pens strokes labels)) (each_of_parts page pens IsInRange IsSmallPath (small_run page) strokes (drawn_in_range pens strokes (each_of_all IsInRange strokes h)) labels)
+-- the documents of strokes, whose numbers are in their ranges, and of areas that are apart
+module _ (page : Page) (pens : PenSet) (strokes : List Segment) (areas : List Area) (labels : List LabelShape) (h : All IsInRange strokes) (apart : AreApart 0 areas) where
+  abbrev rs : List Rectangle
+  rs = clips_of page pens strokes
 
-parts_shown : (page : Page) (pens : PenSet) (strokes : List Segment) (labels : List LabelShape) → All IsInRange strokes → Shows (parts_text page pens strokes labels ++ foot_text) (paths_in (parts page pens strokes labels)) (titles (parts page pens strokes labels))
-parts_shown page pens strokes labels h =
-    let all = parts page pens strokes labels in
-    with_foot (parts_text page pens strokes labels) (paths_in all) (titles all) (shows_parts all (parts_small page pens strokes labels h))
+  abbrev all : List Part
+  all = parts page pens strokes areas labels
 
-pub bytes_read : (page : Page) (pens : PenSet) (strokes : List Segment) (labels : List LabelShape) → All IsInRange strokes → read_svg (svg_bytes page pens strokes labels) ≡ Some (map widened (drawn pens strokes))
-bytes_read page pens strokes labels h =
-    let rs = clips_of page pens strokes in
-    let all = parts page pens strokes labels in
-    let ps = paths_in all in
-    let text = parts_text page pens strokes labels in
-    ap (λ (z : List ℕ). read_svg z) (append_assoc (start_text page pens strokes) text foot_text)
-    ∙ document_read page rs (text ++ foot_text) ps (titles all) (parts_shown page pens strokes labels h) (all_small page pens strokes h) (parts_small page pens strokes labels h) (clipped_of_all rs ps (parts_clipped page pens strokes labels))
-    ∙ ap (λ (ss : List Segment). Some ss) (parts_read page pens strokes labels)
+  abbrev text : List ℕ
+  text = parts_text page pens strokes areas labels
 
-pub titles_read : (page : Page) (pens : PenSet) (strokes : List Segment) (labels : List LabelShape) → All IsInRange strokes → read_titles (svg_bytes page pens strokes labels) ≡ Some (map utf_8 (titles (parts page pens strokes labels)))
-titles_read page pens strokes labels h =
-    let all = parts page pens strokes labels in
-    let text = parts_text page pens strokes labels in
-    ap (λ (z : List ℕ). read_titles z) (append_assoc (start_text page pens strokes) text foot_text)
-    ∙ document_titles page (clips_of page pens strokes) (text ++ foot_text) (paths_in all) (titles all) (parts_shown page pens strokes labels h)
+  in_range : Each IsInRange strokes
+  in_range = each_of_all IsInRange strokes h
 
--- the strokes of sheets are those of their paths
+  -- the paths can be read
+  parts_small : AreSmallPaths (paths_in all)
+  parts_small =
+      small_of_all (paths_in all) (each_of_parts page IsInRange IsInRange IsSmallPath (small_run page) pens strokes areas apart (drawn_in_range pens strokes in_range) in_range labels)
+
+  parts_shown : Shows (text ++ foot_text) (paths_in all) (titles all)
+  parts_shown = with_foot text (paths_in all) (titles all) (shows_parts all parts_small)
+
+  pub bytes_read : AreBeside areas labels → read_svg (svg_bytes page pens strokes areas labels) ≡ Some (map shown_shape (drawn_shapes pens (shapes strokes areas)))
+  bytes_read beside =
+      ap (λ (z : List ℕ). read_svg z) (append_assoc (start_text page pens strokes) text foot_text)
+      ∙ document_read page rs (text ++ foot_text) (paths_in all) (titles all) parts_shown (all_small page pens strokes h) parts_small (clipped_of_all rs (paths_in all) (parts_clipped page pens strokes areas labels apart))
+      ∙ ap (λ (ss : List Shape). Some ss) (parts_read page pens strokes areas labels apart beside)
+
+  pub titles_read : read_titles (svg_bytes page pens strokes areas labels) ≡ Some (map utf_8 (titles all))
+  titles_read =
+      ap (λ (z : List ℕ). read_titles z) (append_assoc (start_text page pens strokes) text foot_text)
+      ∙ document_titles page rs (text ++ foot_text) (paths_in all) (titles all) parts_shown
+
+-- the shapes of sheets are those of their paths
 sheets_paths : (page : Page) (pens : PenSet) (sheets : List Sheet) → read_paths (size_of page) (paths_in (parts_of_sheets page pens sheets)) ≡ read_sheets page pens sheets
 sheets_paths page pens [] = refl
 sheets_paths page pens (sheet ∷ sheets) =
-    let first = parts page pens sheet.strokes sheet.labels in
+    let first = parts page pens sheet.strokes sheet.areas sheet.labels in
     let others = parts_of_sheets page pens sheets in
     ap (λ (ps : List Path). read_paths (size_of page) ps) (flat_map-append part_paths first others)
-    ∙ flat_map-append (strokes_of (size_of page)) (paths_in first) (paths_in others)
-    ∙ ap (λ (ss : List Segment). read_paths (size_of page) (paths_in first) ++ ss) (sheets_paths page pens sheets)
+    ∙ flat_map-append (shapes_of (size_of page)) (paths_in first) (paths_in others)
+    ∙ ap (λ (ss : List Shape). read_paths (size_of page) (paths_in first) ++ ss) (sheets_paths page pens sheets)
 
-sheets_small : (page : Page) (pens : PenSet) (strokes : List Segment) (ends : List ℕ) (labels : List LabelShape) → All IsInRange strokes → AreSmallPaths (paths_in (parts_of_sheets page pens (labelled_sheets strokes ends labels)))
-sheets_small page pens strokes ends labels h =
-    small_of_all (paths_in (parts_of_sheets page pens (labelled_sheets strokes ends labels))) (each_of_sheets page pens IsInRange IsSmallPath (small_run page) strokes (drawn_in_range pens strokes (each_of_all IsInRange strokes h)) ends labels)
+module _ (page : Page) (pens : PenSet) (strokes : List Segment) (areas : List Area) (ends : List ℕ) (labels : List LabelShape) (h : All IsInRange strokes) (apart : AreApart 0 areas) where
+  abbrev clips : List Rectangle
+  clips = clips_of page pens strokes
 
-sheets_shown : (page : Page) (pens : PenSet) (strokes : List Segment) (ends : List ℕ) (labels : List LabelShape) → All IsInRange strokes
-    → Shows (sheets_text page pens 0 (labelled_sheets strokes ends labels) ++ foot_text) (paths_in (parts_of_sheets page pens (labelled_sheets strokes ends labels))) (titles (parts_of_sheets page pens (labelled_sheets strokes ends labels)))
-sheets_shown page pens strokes ends labels h =
-    let sheets = labelled_sheets strokes ends labels in
-    let all = parts_of_sheets page pens sheets in
-    with_foot (sheets_text page pens 0 sheets) (paths_in all) (titles all) (shows_sheets page pens 0 sheets (sheets_small page pens strokes ends labels h))
+  abbrev sheets : List Sheet
+  sheets = labelled_sheets strokes areas ends labels
 
-pub sheet_bytes_read : (page : Page) (pens : PenSet) (strokes : List Segment) (ends : List ℕ) (labels : List LabelShape) → All IsInRange strokes → read_svg (sheets_bytes page pens strokes ends labels) ≡ Some (map widened (drawn pens strokes))
-sheet_bytes_read page pens strokes ends labels h =
-    let rs = clips_of page pens strokes in
-    let sheets = labelled_sheets strokes ends labels in
-    let all = parts_of_sheets page pens sheets in
-    let ps = paths_in all in
-    let text = sheets_text page pens 0 sheets in
-    ap (λ (z : List ℕ). read_svg z) (append_assoc (start_text page pens strokes) text foot_text)
-    ∙ document_read page rs (text ++ foot_text) ps (titles all) (sheets_shown page pens strokes ends labels h) (all_small page pens strokes h) (sheets_small page pens strokes ends labels h) (clipped_of_all rs ps (sheets_clipped page pens strokes ends labels))
-    ∙ ap (λ (ss : List Segment). Some ss) (sheets_paths page pens sheets ∙ all_sheets_read page pens strokes ends labels)
+  abbrev every : List Part
+  every = parts_of_sheets page pens sheets
 
-pub sheet_titles_read : (page : Page) (pens : PenSet) (strokes : List Segment) (ends : List ℕ) (labels : List LabelShape) → All IsInRange strokes → read_titles (sheets_bytes page pens strokes ends labels) ≡ Some (map utf_8 (titles (parts_of_sheets page pens (labelled_sheets strokes ends labels))))
-sheet_titles_read page pens strokes ends labels h =
-    let sheets = labelled_sheets strokes ends labels in
-    let all = parts_of_sheets page pens sheets in
-    let text = sheets_text page pens 0 sheets in
-    ap (λ (z : List ℕ). read_titles z) (append_assoc (start_text page pens strokes) text foot_text)
-    ∙ document_titles page (clips_of page pens strokes) (text ++ foot_text) (paths_in all) (titles all) (sheets_shown page pens strokes ends labels h)
+  abbrev body : List ℕ
+  body = sheets_text page pens 0 sheets
+
+  range : Each IsInRange strokes
+  range = each_of_all IsInRange strokes h
+
+  sheets_small : AreSmallPaths (paths_in every)
+  sheets_small =
+      small_of_all (paths_in every) (each_of_sheets page IsInRange IsInRange IsSmallPath (small_run page) pens strokes areas apart (drawn_in_range pens strokes range) range ends labels)
+
+  sheets_shown : Shows (body ++ foot_text) (paths_in every) (titles every)
+  sheets_shown = with_foot body (paths_in every) (titles every) (shows_sheets page pens 0 sheets sheets_small)
+
+  pub sheet_bytes_read : All (λ end. NoneGoesOn end areas) ends → AreBeside areas labels → read_svg (sheets_bytes page pens strokes areas ends labels) ≡ Some (map shown_shape (drawn_shapes pens (shapes strokes areas)))
+  sheet_bytes_read whole beside =
+      ap (λ (z : List ℕ). read_svg z) (append_assoc (start_text page pens strokes) body foot_text)
+      ∙ document_read page clips (body ++ foot_text) (paths_in every) (titles every) sheets_shown (all_small page pens strokes h) sheets_small (clipped_of_all clips (paths_in every) (sheets_clipped page pens strokes areas ends labels apart))
+      ∙ ap (λ (ss : List Shape). Some ss) (sheets_paths page pens sheets ∙ all_sheets_read page pens strokes areas ends labels apart whole beside)
+
+  pub sheet_titles_read : read_titles (sheets_bytes page pens strokes areas ends labels) ≡ Some (map utf_8 (titles every))
+  sheet_titles_read =
+      ap (λ (z : List ℕ). read_titles z) (append_assoc (start_text page pens strokes) body foot_text)
+      ∙ document_titles page clips (body ++ foot_text) (paths_in every) (titles every) sheets_shown
+
+-- without areas all labels are beside them, and all ends
+no_areas : (labels : List LabelShape) → AreBeside [] labels
+no_areas [] = All-nil (λ (l : LabelShape). NoneGoesOn l.first [] × NoneGoesOn l.after [])
+no_areas (l ∷ ls) =
+    let none = All-nil (λ (a : Area). a.first < l.first → a.end ≤ l.first) in
+    let later = All-nil (λ (a : Area). a.first < l.after → a.end ≤ l.after) in
+    All-cons (λ (k : LabelShape). NoneGoesOn k.first [] × NoneGoesOn k.after []) l ls (none, later) (no_areas ls)
+
+no_ends : (ends : List ℕ) → All (λ (end : ℕ). NoneGoesOn end []) ends
+no_ends [] = All-nil (λ (end : ℕ). NoneGoesOn end [])
+no_ends (e ∷ es) = All-cons (λ (end : ℕ). NoneGoesOn end []) e es (All-nil (λ (a : Area). a.first < e → a.end ≤ e)) (no_ends es)
+
+pub bytes_of_strokes : (page : Page) (pens : PenSet) (strokes : List Segment) (labels : List LabelShape) → All IsInRange strokes → read_svg (svg_bytes page pens strokes [] labels) ≡ Some (map stroke_shape (map widened (drawn pens strokes)))
+bytes_of_strokes page pens strokes labels h =
+    bytes_read page pens strokes [] labels h tt (no_areas labels) ∙ ap (λ (ss : List Shape). Some ss) (seen_strokes pens strokes)
+
+pub sheets_of_strokes : (page : Page) (pens : PenSet) (strokes : List Segment) (ends : List ℕ) (labels : List LabelShape) → All IsInRange strokes → read_svg (sheets_bytes page pens strokes [] ends labels) ≡ Some (map stroke_shape (map widened (drawn pens strokes)))
+sheets_of_strokes page pens strokes ends labels h =
+    sheet_bytes_read page pens strokes [] ends labels h tt (no_ends ends) (no_areas labels) ∙ ap (λ (ss : List Shape). Some ss) (seen_strokes pens strokes)

@@ -7,6 +7,8 @@ use Rattle.std.specs.List.{All, Contains}
 use Rattle.std.specs.Ordering.{MatchOrdering, int_cmp, is_eq, match_ordering, ordering_then}
 use Rattle.std.specs.declared.cmp.Ordering.{Ordering}
 use Rattle.std.specs.declared.cmp.Ordering.TheVariants.{Less, Equal, Greater}
+use Rattle.areas.specs.Shapes.{AreApart}
+use Rattle.areas.specs.declared.area.Area.{Area}
 use Rattle.labels.specs.Labels.{LabelShape}
 use Rattle.plot_page.specs.Segments.{Segment}
 use Rattle.plot_page.specs.declared.page.Page.{Page}
@@ -106,18 +108,22 @@ HasClip page rs s = IsAmong rs (clip_of page s.window)
 abbrev IsClipped : List Rectangle → Path → Type 0
 IsClipped rs p = IsAmong rs p.clip
 
-clipped_runs : (page : Page) (rs : List Rectangle) → FromRun page (HasClip page rs) (IsClipped rs)
-clipped_runs page rs s ss h k = h
+clipped_runs : (page : Page) (rs : List Rectangle) → FromRun page (HasClip page rs) (λ s. Unit {0}) (IsClipped rs)
+clipped_runs page rs rule s ss h k m = h
+
+each_any : (ss : List Segment) → Each (λ s. Unit {0}) ss
+each_any [] = tt
+each_any (s ∷ ss) = (tt, each_any ss)
 
 strokes_clipped : (page : Page) (pens : PenSet) (strokes : List Segment) → EachDrawn pens (HasClip page (clips_of page pens strokes)) strokes
 strokes_clipped page pens strokes = each_drawn pens (HasClip page (clips_of page pens strokes)) strokes (each_among page [] (drawn pens strokes))
 
-pub parts_clipped : (page : Page) (pens : PenSet) (strokes : List Segment) (labels : List LabelShape) → All (λ (p : Path). IsAmong (clips_of page pens strokes) p.clip) (paths_in (parts page pens strokes labels))
-parts_clipped page pens strokes labels =
+pub parts_clipped : (page : Page) (pens : PenSet) (strokes : List Segment) (areas : List Area) (labels : List LabelShape) → AreApart 0 areas → All (λ (p : Path). IsAmong (clips_of page pens strokes) p.clip) (paths_in (parts page pens strokes areas labels))
+parts_clipped page pens strokes areas labels apart =
     let rs = clips_of page pens strokes in
-    each_of_parts page pens (HasClip page rs) (IsClipped rs) (clipped_runs page rs) strokes (strokes_clipped page pens strokes) labels
+    each_of_parts page (HasClip page rs) (λ s. Unit {0}) (IsClipped rs) (clipped_runs page rs) pens strokes areas apart (strokes_clipped page pens strokes) (each_any strokes) labels
 
-pub sheets_clipped : (page : Page) (pens : PenSet) (strokes : List Segment) (ends : List ℕ) (labels : List LabelShape) → All (λ (p : Path). IsAmong (clips_of page pens strokes) p.clip) (paths_in (parts_of_sheets page pens (labelled_sheets strokes ends labels)))
-sheets_clipped page pens strokes ends labels =
+pub sheets_clipped : (page : Page) (pens : PenSet) (strokes : List Segment) (areas : List Area) (ends : List ℕ) (labels : List LabelShape) → AreApart 0 areas → All (λ (p : Path). IsAmong (clips_of page pens strokes) p.clip) (paths_in (parts_of_sheets page pens (labelled_sheets strokes areas ends labels)))
+sheets_clipped page pens strokes areas ends labels apart =
     let rs = clips_of page pens strokes in
-    each_of_sheets page pens (HasClip page rs) (IsClipped rs) (clipped_runs page rs) strokes (strokes_clipped page pens strokes) ends labels
+    each_of_sheets page (HasClip page rs) (λ s. Unit {0}) (IsClipped rs) (clipped_runs page rs) pens strokes areas apart (strokes_clipped page pens strokes) (each_any strokes) ends labels

@@ -1,16 +1,19 @@
 -- The bytes of small documents.
 use Rattle.std.proofs.Common.{◌≡◌, ℕ, ℤ, pos, negsuc, [], ◌∷◌, ◌++◌, flat_map, Some, None, codes, refl, replicate, true, arith, List, map}
 use Rattle.std.specs.Fmt.{digits}
+use Rattle.areas.specs.Shapes.{shapes, stroke_shape}
+use Rattle.areas.specs.declared.area.Area.{Area}
 use Rattle.plot_page.specs.Segments.{Segment}
 use Rattle.plot_page.specs.declared.colour.Colour.{Colour}
 use Rattle.plot_page.specs.declared.page.Page.{Page}
 use Rattle.plot_page.specs.declared.pens.PenSet.{PenSet}
 use Rattle.plot_page.specs.declared.window.Window.{Window}
+use Rattle.polygons.specs.declared.lines.Rule.TheVariants.{OddCounts, Winding}
 use Rattle.svg.specs.Clips.{clip_text, clips_of, clips_text}
 use Rattle.svg.specs.Commands.{LineBy, LineTo, MoveBy, MoveTo, command_text, line, move}
 use Rattle.svg.specs.Documents.{foot_text, head_text, page_text, sheets_bytes, svg_bytes}
 use Rattle.svg.specs.Numbers.{colour_digits, millimetres}
-use Rattle.svg.specs.Paths.{clipped_text, path_of, path_text, paths, pen_text, run_commands}
+use Rattle.svg.specs.Paths.{clipped_text, fill_text, path_of, path_text, paths, pen_text, run_commands}
 use Rattle.svg.specs.Places.{rectangle_of}
 use Rattle.svg.specs.Readings.{lines_from, read_paths, size_of}
 use Rattle.svg.specs.declared.places.Place.{Place}
@@ -102,7 +105,10 @@ texts : Agree (
     ∷ (clipped_text None, [])  -- not clipped
     ∷ (clips_text (clips_of page all_pens (across ∷ [])), [])  -- no clip paths
     -- two strokes that follow one another, and a dot
-    ∷ (path_text (path_of page across (up ∷ dot ∷ [])), codes "<path class=\"pen1\" stroke=\"#000000\" stroke-width=\"56\" d=\"M0 608l1024 0L1024 0M16 1024l0 0\"/>\n")
+    ∷ (path_text (path_of page None across (up ∷ dot ∷ [])), codes "<path class=\"pen1\" stroke=\"#000000\" stroke-width=\"56\" d=\"M0 608l1024 0L1024 0M16 1024l0 0\"/>\n")
+    ∷ (fill_text None (codes "ff8801"), [])  -- strokes are not filled
+    ∷ (fill_text (Some OddCounts) (codes "ff8801"), codes " fill=\"#ff8801\" fill-rule=\"evenodd\"")  -- an area by odd counts
+    ∷ (fill_text (Some Winding) (codes "ff8801"), codes " fill=\"#ff8801\"")  -- an area by winding
     ∷ [])
 unfolding digits
 texts = refl
@@ -130,17 +136,29 @@ lines_of_commands : lines_from (at (pos 0) (pos 0)) (MoveTo (at (pos 5) (pos 6))
 lines_of_commands = refl
 
 -- the strokes are read as they were, but for a width below 24
-strokes_read : read_paths (size_of page) (paths page all_pens (across ∷ clipped ∷ [])) ≡ across ∷ record clipped { width = 24 } ∷ []
+strokes_read : read_paths (size_of page) (paths page all_pens (shapes (across ∷ clipped ∷ []) [])) ≡ stroke_shape across ∷ stroke_shape (record clipped { width = 24 }) ∷ []
 unfolding digits
 strokes_read = refl
+
+-- the area of the strokes after so many, up to and including this one
+abbrev area : ℕ → ℕ → Area
+area first end = record { first = first; end = end; rule = OddCounts }
+
+-- an area is read as it was
+area_read : read_paths (size_of page) (paths page all_pens (shapes (across ∷ up ∷ dot ∷ []) (area 1 3 ∷ [])))
+    ≡ stroke_shape across ∷ record { strokes = up ∷ dot ∷ []; rule = Some OddCounts } ∷ []
+unfolding digits
+area_read = refl
 
 -- documents
 documents : Agree (
     -- the width is 24 grains at least
-    (svg_bytes page all_pens (across ∷ clipped ∷ []) [], codes "<?xml version=\"1.0\" encoding=\"UTF-8\"?>\n<svg xmlns=\"http://www.w3.org/2000/svg\" width=\"1.6mm\" height=\"1.65mm\" viewBox=\"0 0 1024 1056\">\n<g fill=\"none\" stroke-linecap=\"round\" stroke-linejoin=\"round\">\n<defs>\n<clipPath id=\"w0_736_160_320\"><rect x=\"0\" y=\"736\" width=\"160\" height=\"320\"/></clipPath>\n</defs>\n<path class=\"pen1\" stroke=\"#000000\" stroke-width=\"56\" d=\"M0 608l1024 0\"/>\n<path class=\"pen2\" stroke=\"#ff8801\" stroke-width=\"24\" clip-path=\"url(#w0_736_160_320)\" d=\"M0 1056L1024 0\"/>\n</g></svg>\n")
+    (svg_bytes page all_pens (across ∷ clipped ∷ []) [] [], codes "<?xml version=\"1.0\" encoding=\"UTF-8\"?>\n<svg xmlns=\"http://www.w3.org/2000/svg\" width=\"1.6mm\" height=\"1.65mm\" viewBox=\"0 0 1024 1056\">\n<g fill=\"none\" stroke-linecap=\"round\" stroke-linejoin=\"round\">\n<defs>\n<clipPath id=\"w0_736_160_320\"><rect x=\"0\" y=\"736\" width=\"160\" height=\"320\"/></clipPath>\n</defs>\n<path class=\"pen1\" stroke=\"#000000\" stroke-width=\"56\" d=\"M0 608l1024 0\"/>\n<path class=\"pen2\" stroke=\"#ff8801\" stroke-width=\"24\" clip-path=\"url(#w0_736_160_320)\" d=\"M0 1056L1024 0\"/>\n</g></svg>\n")
     -- two sheets, of which the second one ends with the plot
-    ∷ (sheets_bytes page all_pens (across ∷ up ∷ []) (1 ∷ []) [], head_text page ++ codes "<g id=\"sheet-1\">\n<path class=\"pen1\" stroke=\"#000000\" stroke-width=\"56\" d=\"M0 608l1024 0\"/>\n</g>\n<g id=\"sheet-2\">\n<path class=\"pen1\" stroke=\"#000000\" stroke-width=\"56\" d=\"M1024 608L1024 0\"/>\n</g>\n" ++ foot_text)
-    ∷ (svg_bytes page all_pens [] [], head_text page ++ foot_text)  -- empty document
+    ∷ (sheets_bytes page all_pens (across ∷ up ∷ []) [] (1 ∷ []) [], head_text page ++ codes "<g id=\"sheet-1\">\n<path class=\"pen1\" stroke=\"#000000\" stroke-width=\"56\" d=\"M0 608l1024 0\"/>\n</g>\n<g id=\"sheet-2\">\n<path class=\"pen1\" stroke=\"#000000\" stroke-width=\"56\" d=\"M1024 608L1024 0\"/>\n</g>\n" ++ foot_text)
+    -- an area on the second sheet
+    ∷ (sheets_bytes page all_pens (across ∷ up ∷ dot ∷ []) (area 1 3 ∷ []) (1 ∷ []) [], head_text page ++ codes "<g id=\"sheet-1\">\n<path class=\"pen1\" stroke=\"#000000\" stroke-width=\"56\" d=\"M0 608l1024 0\"/>\n</g>\n<g id=\"sheet-2\">\n<path class=\"pen1\" stroke=\"#000000\" stroke-width=\"56\" fill=\"#000000\" fill-rule=\"evenodd\" d=\"M1024 608L1024 0M16 1024l0 0\"/>\n</g>\n" ++ foot_text)
+    ∷ (svg_bytes page all_pens [] [] [], head_text page ++ foot_text)  -- empty document
     ∷ [])
 unfolding digits
 documents = refl

@@ -55,25 +55,25 @@ hidden = label 1 1 (codes "A" ∷ []) ∷ label 1 2 (codes "B" ∷ []) ∷ label
 -- what is written of labels
 bodies : Agree (
     -- the strokes of a label between others
-    (parts_text page all_pens (across ∷ up ∷ dot ∷ []) (label 1 2 (codes "A&B" ∷ codes "C" ∷ []) ∷ []), codes "<path class=\"pen1\" stroke=\"#000000\" stroke-width=\"56\" d=\"M0 608l1024 0\"/>\n" ++ codes "<g><title>A&amp;B\nC</title>\n" ++ codes "<path class=\"pen1\" stroke=\"#000000\" stroke-width=\"56\" d=\"M1024 608L1024 0\"/>\n</g>\n" ++ codes "<path class=\"pen1\" stroke=\"#000000\" stroke-width=\"56\" d=\"M16 1024l0 0\"/>\n")
+    (parts_text page all_pens (across ∷ up ∷ dot ∷ []) [] (label 1 2 (codes "A&B" ∷ codes "C" ∷ []) ∷ []), codes "<path class=\"pen1\" stroke=\"#000000\" stroke-width=\"56\" d=\"M0 608l1024 0\"/>\n" ++ codes "<g><title>A&amp;B\nC</title>\n" ++ codes "<path class=\"pen1\" stroke=\"#000000\" stroke-width=\"56\" d=\"M1024 608L1024 0\"/>\n</g>\n" ++ codes "<path class=\"pen1\" stroke=\"#000000\" stroke-width=\"56\" d=\"M16 1024l0 0\"/>\n")
     -- of a label without strokes, one whose stroke is not drawn, and one after all strokes nothing is written
-    ∷ (parts_text page all_pens (across ∷ empty ∷ []) hidden, codes "<path class=\"pen1\" stroke=\"#000000\" stroke-width=\"56\" d=\"M0 608l1024 0\"/>\n")
+    ∷ (parts_text page all_pens (across ∷ empty ∷ []) [] hidden, codes "<path class=\"pen1\" stroke=\"#000000\" stroke-width=\"56\" d=\"M0 608l1024 0\"/>\n")
     -- two sheets
-    ∷ (sheets_bytes page all_pens (across ∷ up ∷ []) (1 ∷ []) (label 1 2 (codes "<" ∷ []) ∷ []), head_text page ++ codes "<g id=\"sheet-1\">\n<path class=\"pen1\" stroke=\"#000000\" stroke-width=\"56\" d=\"M0 608l1024 0\"/>\n</g>\n<g id=\"sheet-2\">\n<g><title>&lt;</title>\n" ++ codes "<path class=\"pen1\" stroke=\"#000000\" stroke-width=\"56\" d=\"M1024 608L1024 0\"/>\n</g>\n</g>\n" ++ foot_text)
+    ∷ (sheets_bytes page all_pens (across ∷ up ∷ []) [] (1 ∷ []) (label 1 2 (codes "<" ∷ []) ∷ []), head_text page ++ codes "<g id=\"sheet-1\">\n<path class=\"pen1\" stroke=\"#000000\" stroke-width=\"56\" d=\"M0 608l1024 0\"/>\n</g>\n<g id=\"sheet-2\">\n<g><title>&lt;</title>\n" ++ codes "<path class=\"pen1\" stroke=\"#000000\" stroke-width=\"56\" d=\"M1024 608L1024 0\"/>\n</g>\n</g>\n" ++ foot_text)
     -- a document
-    ∷ (svg_bytes page all_pens (across ∷ []) (label 0 1 (codes "A" ∷ []) ∷ []), head_text page ++ codes "<g><title>A</title>\n<path class=\"pen1\" stroke=\"#000000\" stroke-width=\"56\" d=\"M0 608l1024 0\"/>\n</g>\n" ++ foot_text)
+    ∷ (svg_bytes page all_pens (across ∷ []) [] (label 0 1 (codes "A" ∷ []) ∷ []), head_text page ++ codes "<g><title>A</title>\n<path class=\"pen1\" stroke=\"#000000\" stroke-width=\"56\" d=\"M0 608l1024 0\"/>\n</g>\n" ++ foot_text)
     ∷ [])
 unfolding digits encode_utf8
 bodies = refl
 
-no_titles : titles (parts page all_pens (across ∷ empty ∷ []) hidden) ≡ []
+no_titles : titles (parts page all_pens (across ∷ empty ∷ []) [] hidden) ≡ []
 no_titles = refl
 
 -- the stroke of two labels belongs to the first one, and the second one has no other
-one_title : titles (parts page all_pens (across ∷ up ∷ []) (label 0 2 (codes "A" ∷ []) ∷ label 1 2 (codes "B" ∷ []) ∷ [])) ≡ codes "A" ∷ []
+one_title : titles (parts page all_pens (across ∷ up ∷ []) [] (label 0 2 (codes "A" ∷ []) ∷ label 1 2 (codes "B" ∷ []) ∷ [])) ≡ codes "A" ∷ []
 one_title = refl
 
 -- the sheets of three strokes, of which each one is a label; two strokes come before these
-labels_of_sheets : labelled_sheets (across ∷ up ∷ dot ∷ []) (1 ∷ []) (all_counted 2 (label 2 3 (codes "A" ∷ []) ∷ label 3 4 (codes "B" ∷ []) ∷ label 4 5 (codes "C" ∷ []) ∷ []))
-    ≡ record { strokes = across ∷ []; labels = label 0 1 (codes "A" ∷ []) ∷ [] } ∷ record { strokes = up ∷ dot ∷ []; labels = label 0 1 (codes "B" ∷ []) ∷ label 1 2 (codes "C" ∷ []) ∷ [] } ∷ []
+labels_of_sheets : labelled_sheets (across ∷ up ∷ dot ∷ []) [] (1 ∷ []) (all_counted 2 (label 2 3 (codes "A" ∷ []) ∷ label 3 4 (codes "B" ∷ []) ∷ label 4 5 (codes "C" ∷ []) ∷ []))
+    ≡ record { strokes = across ∷ []; areas = []; labels = label 0 1 (codes "A" ∷ []) ∷ [] } ∷ record { strokes = up ∷ dot ∷ []; areas = []; labels = label 0 1 (codes "B" ∷ []) ∷ label 1 2 (codes "C" ∷ []) ∷ [] } ∷ []
 labels_of_sheets = refl

@@ -8,12 +8,14 @@ use Rattle.std.specs.List.{list_all}
 use Rattle.plot_page.specs.declared.colour.Colour.{Colour}
 use Rattle.plot_page.specs.declared.page.Page.{Page}
 use Rattle.plot_page.specs.declared.pens.PenSet.{PenSet}
+use Rattle.polygons.specs.declared.lines.Rule.{Rule}
+use Rattle.polygons.specs.declared.lines.Rule.TheVariants.{OddCounts, Winding}
 use Rattle.svg.specs.declared.places.Rectangle.{Rectangle}
 use Rattle.svg.specs.Commands.{Command, command_text}
 use Rattle.svg.specs.Documents.{foot_text, open_text, sheet_text, sheets_text}
 use Rattle.svg.specs.Numbers.{colour_digits}
 use Rattle.svg.specs.Parts.{Part, Plain, Group, part_text, parts}
-use Rattle.svg.specs.Paths.{Path, clip_name, clipped_text, path_text}
+use Rattle.svg.specs.Paths.{Path, clip_name, clipped_text, fill_text, path_text}
 use Rattle.svg.specs.Reader.{has_only, is_element, is_known, is_title}
 use Rattle.svg.specs.Readings.{part_paths, part_titles, parts_of_sheets, paths_in, titles}
 use Rattle.svg.specs.Sheets.{Sheet}
@@ -76,26 +78,37 @@ clipped_lacks (Some r) =
     let n = clip_name r in
     lacks_both is_less (codes " clip-path=\"url(#" ++ n) (codes ")\"") (lacks_both is_less (codes " clip-path=\"url(#") n refl (no_less n (name_plain r))) refl
 
-path_lacks : (pen : ℕ) (paint : Colour) (width : ℕ) (clip : Option Rectangle) (lines : List Command) → IsColour paint
-    → Lacks is_less (codes "path class=\"pen" ++ decimal pen ++ codes "\" stroke=\"#" ++ colour_digits paint ++ codes "\" stroke-width=\"" ++ decimal width ++ codes "\"" ++ clipped_text clip ++ codes " d=\"" ++ flat_map command_text lines ++ codes "\"/>\n")
-path_lacks pen paint width clip lines h =
+fill_lacks : (rule : Option Rule) (paint : Colour) → IsColour paint → Lacks is_less (fill_text rule (colour_digits paint))
+fill_lacks None paint h = refl
+fill_lacks (Some OddCounts) paint h =
+    let c = colour_digits paint in
+    lacks_both is_less (codes " fill=\"#" ++ c) (codes "\" fill-rule=\"evenodd\"") (lacks_both is_less (codes " fill=\"#") c refl (no_less c (colour_plain paint h))) refl
+fill_lacks (Some Winding) paint h =
+    let c = colour_digits paint in
+    lacks_both is_less (codes " fill=\"#" ++ c) (codes "\"") (lacks_both is_less (codes " fill=\"#") c refl (no_less c (colour_plain paint h))) refl
+
+path_lacks : (pen : ℕ) (paint : Colour) (width : ℕ) (rule : Option Rule) (clip : Option Rectangle) (lines : List Command) → IsColour paint
+    → Lacks is_less (codes "path class=\"pen" ++ decimal pen ++ codes "\" stroke=\"#" ++ colour_digits paint ++ codes "\" stroke-width=\"" ++ decimal width ++ codes "\"" ++ fill_text rule (colour_digits paint) ++ clipped_text clip ++ codes " d=\"" ++ flat_map command_text lines ++ codes "\"/>\n")
+path_lacks pen paint width rule clip lines h =
     let add = λ (xs ys : List ℕ) (h : Lacks is_less xs) (k : Lacks is_less ys). lacks_both is_less xs ys h k in
     let p = codes "path class=\"pen" ++ decimal pen in
     let c = p ++ codes "\" stroke=\"#" ++ colour_digits paint in
     let w = c ++ codes "\" stroke-width=\"" ++ decimal width in
-    let k = w ++ codes "\"" ++ clipped_text clip in
+    let f = w ++ codes "\"" ++ fill_text rule (colour_digits paint) in
+    let k = f ++ clipped_text clip in
     let x = k ++ codes " d=\"" ++ flat_map command_text lines in
     let p_in = add (codes "path class=\"pen") (decimal pen) refl (no_less (decimal pen) (decimal_plain pen)) in
     let c_in = add (p ++ codes "\" stroke=\"#") (colour_digits paint) (add p (codes "\" stroke=\"#") p_in refl) (no_less (colour_digits paint) (colour_plain paint h)) in
     let w_in = add (c ++ codes "\" stroke-width=\"") (decimal width) (add c (codes "\" stroke-width=\"") c_in refl) (no_less (decimal width) (decimal_plain width)) in
-    let k_in = add (w ++ codes "\"") (clipped_text clip) (add w (codes "\"") w_in refl) (clipped_lacks clip) in
+    let f_in = add (w ++ codes "\"") (fill_text rule (colour_digits paint)) (add w (codes "\"") w_in refl) (fill_lacks rule paint h) in
+    let k_in = add f (clipped_text clip) f_in (clipped_lacks clip) in
     let x_in = add (k ++ codes " d=\"") (flat_map command_text lines) (add k (codes " d=\"") k_in refl) (no_less (flat_map command_text lines) (commands_plain lines)) in
     add x (codes "\"/>\n") x_in refl
 
 shows_path : (p : Path) → IsColour p.colour → Shows (path_text p) (p ∷ []) []
 shows_path p h = record {
   parts = path_text p ∷ [];
-  cuts = one_part is_less 60 _ refl (path_lacks p.pen p.colour p.width p.clip p.commands h);
+  cuts = one_part is_less 60 _ refl (path_lacks p.pen p.colour p.width p.rule p.clip p.commands h);
   paths_are = refl;
   titles_are = refl;
   known = ap (λ (b : Bool). b && true) (path_known p h);
@@ -158,10 +171,10 @@ open_known number =
     let are : AreWords 34 (codes " id=" ∷ name ∷ codes ">\n" ∷ []) = (refl, (name_in, (refl, tt))) in
     ap (λ (ws : List (List ℕ)). (has_only (codes "id" ∷ codes "fill" ∷ codes "stroke-linecap" ∷ codes "stroke-linejoin" ∷ []) ws || false) || false) (split_words 34 (codes " id=") (name ∷ codes ">\n" ∷ []) are)
 
-shows_sheet : (page : Page) (pens : PenSet) (number : ℕ) (sheet : Sheet) → AreSmallPaths (paths_in (parts page pens sheet.strokes sheet.labels)) → Shows (sheet_text page pens number sheet) (paths_in (parts page pens sheet.strokes sheet.labels)) (titles (parts page pens sheet.strokes sheet.labels))
+shows_sheet : (page : Page) (pens : PenSet) (number : ℕ) (sheet : Sheet) → AreSmallPaths (paths_in (parts page pens sheet.strokes sheet.areas sheet.labels)) → Shows (sheet_text page pens number sheet) (paths_in (parts page pens sheet.strokes sheet.areas sheet.labels)) (titles (parts page pens sheet.strokes sheet.areas sheet.labels))
 shows_sheet page pens number sheet h =
     let n = decimal number in
-    let ps = parts page pens sheet.strokes sheet.labels in
+    let ps = parts page pens sheet.strokes sheet.areas sheet.labels in
     let lines = flat_map part_text ps in
     let open_in = lacks_both is_less (codes "g id=\"sheet-" ++ n) (codes "\">\n") (lacks_both is_less (codes "g id=\"sheet-") n refl (no_less n (decimal_plain number))) refl in
     let P : List Path → Type 0 = λ qs. Shows (sheet_text page pens number sheet) qs (titles ps) in
@@ -172,7 +185,7 @@ shows_sheet page pens number sheet h =
 pub shows_sheets : (page : Page) (pens : PenSet) (before : ℕ) (sheets : List Sheet) → AreSmallPaths (paths_in (parts_of_sheets page pens sheets)) → Shows (sheets_text page pens before sheets) (paths_in (parts_of_sheets page pens sheets)) (titles (parts_of_sheets page pens sheets))
 shows_sheets page pens before [] h = shows_none
 shows_sheets page pens before (sheet ∷ sheets) h =
-    let first = parts page pens sheet.strokes sheet.labels in
+    let first = parts page pens sheet.strokes sheet.areas sheet.labels in
     let others = parts_of_sheets page pens sheets in
     let same : paths_in (first ++ others) ≡ paths_in first ++ paths_in others = flat_map-append part_paths first others in
     let S : List Path → Type 0 = λ qs. AreSmallPaths qs in

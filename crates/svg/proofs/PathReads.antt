@@ -6,13 +6,16 @@ use Rattle.std.specs.Fmt.{digit_glyph, signed_decimal}
 use Rattle.std.specs.List.{join_with_byte, list_any}
 use Rattle.std.specs.Option.{option_map}
 use Rattle.plot_page.specs.declared.colour.Colour.{Colour}
+use Rattle.polygons.specs.declared.lines.Rule.{Rule}
+use Rattle.polygons.specs.declared.lines.Rule.TheVariants.{OddCounts, Winding}
+use Rattle.stroke_runs.specs.Drawn.{is_same_colour}
 use Rattle.svg.specs.declared.places.Place.{Place}
 use Rattle.svg.specs.declared.places.Rectangle.{Rectangle}
 use Rattle.svg.specs.Commands.{Command, MoveTo, LineTo, MoveBy, LineBy, command_text, pair_text}
 use Rattle.svg.specs.Numbers.{colour_digits, two_digits}
-use Rattle.svg.specs.Paths.{Path, clip_name, clipped_text, path_text}
+use Rattle.svg.specs.Paths.{Path, clip_name, clipped_text, fill_text, path_text}
 use Rattle.pieces.specs.Readings.{Cut, each, given, integer, ◌>>=◌}
-use Rattle.svg.specs.Reader.{attributes, clip_in, colour, command, command_of, commands, is_allowed, is_known, is_letter, path, path_in, place, place_in}
+use Rattle.svg.specs.Reader.{attributes, clip_in, colour, command, command_of, commands, fill_in, is_allowed, is_known, is_letter, path, path_in, place, place_in}
 use Rattle.pieces.proofs.Scans.{AreWords, Cuts, Lacks, PassesDigits, all_parts, byte_value, decimal_lacks, hex_digit, integer_read, lacks_both, more_parts, no_parts, number_read, one_part, signed_lacks, split_last, split_more, split_words}
 
 -- quotation marks and the starts of tags
@@ -159,42 +162,64 @@ pub colour_plain : (c : Colour) → IsColour c → Lacks is_markup (colour_digit
 colour_plain c h =
     lacks_both is_markup (two_digits c.red ++ two_digits c.green) (two_digits c.blue) (lacks_both is_markup (two_digits c.red) (two_digits c.green) (two_plain c.red h.red) (two_plain c.green h.green)) (two_plain c.blue h.blue)
 
--- the words of a path that is not clipped, and of one that is, by the texts of its pen, its colour, its width and its data
-abbrev plain_words : List ℕ → List ℕ → List ℕ → List ℕ → List (List ℕ)
-plain_words p c w x =
-    codes " class=" ∷ (codes "pen" ++ p) ∷ codes " stroke=" ∷ (codes "#" ++ c) ∷ codes " stroke-width=" ∷ w ∷ codes " d=" ∷ x ∷ codes "/>\n" ∷ []
+-- the words of a path, by the texts of its pen, its colour, its width, its fill, the name of its clip path and its data
+abbrev fill_words : Option Rule → List ℕ → List (List ℕ) → List (List ℕ)
+fill_words None c ws = ws
+fill_words (Some OddCounts) c ws = codes " fill=" ∷ (codes "#" ++ c) ∷ codes " fill-rule=" ∷ codes "evenodd" ∷ ws
+fill_words (Some Winding) c ws = codes " fill=" ∷ (codes "#" ++ c) ∷ ws
 
-abbrev clipped_words : List ℕ → List ℕ → List ℕ → List ℕ → List ℕ → List (List ℕ)
-clipped_words p c w n x =
-    codes " class=" ∷ (codes "pen" ++ p) ∷ codes " stroke=" ∷ (codes "#" ++ c) ∷ codes " stroke-width=" ∷ w
-    ∷ codes " clip-path=" ∷ (codes "url(#" ++ n ++ codes ")") ∷ codes " d=" ∷ x ∷ codes "/>\n" ∷ []
-
--- as the writer has them
-abbrev written : List ℕ → List ℕ → List ℕ → List ℕ → List ℕ → List ℕ
-written p c w k x =
-    codes "<path class=\"pen" ++ p ++ codes "\" stroke=\"#" ++ c ++ codes "\" stroke-width=\"" ++ w ++ codes "\"" ++ k ++ codes " d=\"" ++ x ++ codes "\"/>\n"
-
-nested : (a p b c d w q k e x z : List ℕ) → a ++ p ++ b ++ c ++ d ++ w ++ q ++ k ++ e ++ x ++ z ≡ a ++ (p ++ (b ++ (c ++ (d ++ (w ++ (q ++ (k ++ (e ++ (x ++ z)))))))))
-nested a p b c d w q k e x z = simp append_assoc
-
-plain_written : (p c w x : List ℕ) → written p c w [] x ≡ codes "<path" ++ join_with_byte 34 (plain_words p c w x)
-plain_written p c w x = nested (codes "<path class=\"pen") p (codes "\" stroke=\"#") c (codes "\" stroke-width=\"") w (codes "\"") [] (codes " d=\"") x (codes "\"/>\n")
-
--- a reference to a name, and what follows
+-- a reference to a name
 abbrev pub reference : List ℕ → List ℕ
 reference n = codes "url(#" ++ n ++ codes ")"
 
-abbrev clipped_to : List ℕ → List ℕ
-clipped_to n = codes " clip-path=\"url(#" ++ n ++ codes ")\""
+abbrev clip_words : Option Rectangle → List (List ℕ) → List (List ℕ)
+clip_words None ws = ws
+clip_words (Some r) ws = codes " clip-path=" ∷ reference (clip_name r) ∷ ws
 
-reference_written : (n rest : List ℕ) → clipped_to n ++ rest ≡ codes " clip-path=\"" ++ (reference n ++ (codes "\"" ++ rest))
+abbrev data_words : List ℕ → List (List ℕ)
+data_words x = codes " d=" ∷ x ∷ codes "/>\n" ∷ []
+
+abbrev words : List ℕ → List ℕ → List ℕ → List (List ℕ) → List (List ℕ)
+words p c w rest = codes " class=" ∷ (codes "pen" ++ p) ∷ codes " stroke=" ∷ (codes "#" ++ c) ∷ codes " stroke-width=" ∷ w ∷ rest
+
+-- as the writer has them
+abbrev written : List ℕ → List ℕ → List ℕ → List ℕ → List ℕ → List ℕ → List ℕ
+written p c w f k x =
+    codes "<path class=\"pen" ++ p ++ codes "\" stroke=\"#" ++ c ++ codes "\" stroke-width=\"" ++ w ++ codes "\"" ++ f ++ k ++ codes " d=\"" ++ x ++ codes "\"/>\n"
+
+nested : (a p b c d w q f k e x z : List ℕ) → a ++ p ++ b ++ c ++ d ++ w ++ q ++ f ++ k ++ e ++ x ++ z ≡ a ++ (p ++ (b ++ (c ++ (d ++ (w ++ (q ++ (f ++ (k ++ (e ++ (x ++ z))))))))))
+nested a p b c d w q f k e x z = simp append_assoc
+
+-- how a path is filled, before other words
+fill_written : (rule : Option Rule) (c y : List ℕ) (ys : List (List ℕ)) → fill_text rule c ++ join_with_byte 34 (y ∷ ys) ≡ join_with_byte 34 (fill_words rule c (y ∷ ys))
+fill_written None c y ys = refl
+fill_written (Some OddCounts) c y ys = ap (λ (z : List ℕ). codes " fill=\"#" ++ z) (append_assoc c (codes "\" fill-rule=\"evenodd\"") (join_with_byte 34 (y ∷ ys)))
+fill_written (Some Winding) c y ys = ap (λ (z : List ℕ). codes " fill=\"#" ++ z) (append_assoc c (codes "\"") (join_with_byte 34 (y ∷ ys)))
+
+reference_written : (n rest : List ℕ) → (codes " clip-path=\"url(#" ++ n ++ codes ")\"") ++ rest ≡ codes " clip-path=\"" ++ (reference n ++ (codes "\"" ++ rest))
 reference_written n rest = ap (λ (z : List ℕ). codes " clip-path=\"url(#" ++ z) (append_assoc n (codes ")\"") rest ∙ sym (append_assoc n (codes ")") (codes "\"" ++ rest)))
 
-clipped_written : (p c w n x : List ℕ) → written p c w (clipped_to n) x ≡ codes "<path" ++ join_with_byte 34 (clipped_words p c w n x)
-clipped_written p c w n x =
+-- and what it is clipped to
+ways_written : (rule : Option Rule) (clip : Option Rectangle) (c y : List ℕ) (ys : List (List ℕ))
+    → fill_text rule c ++ (clipped_text clip ++ join_with_byte 34 (y ∷ ys)) ≡ join_with_byte 34 (fill_words rule c (clip_words clip (y ∷ ys)))
+ways_written rule None c y ys = fill_written rule c y ys
+ways_written rule (Some r) c y ys =
+    ap (λ (z : List ℕ). fill_text rule c ++ z) (reference_written (clip_name r) (join_with_byte 34 (y ∷ ys)))
+    ∙ fill_written rule c (codes " clip-path=") (reference (clip_name r) ∷ y ∷ ys)
+
+all_written : (rule : Option Rule) (clip : Option Rectangle) (p c w x : List ℕ) → written p c w (fill_text rule c) (clipped_text clip) x ≡ codes "<path" ++ join_with_byte 34 (words p c w (fill_words rule c (clip_words clip (data_words x))))
+all_written rule clip p c w x =
     let front = λ (z : List ℕ). codes "<path class=\"pen" ++ (p ++ (codes "\" stroke=\"#" ++ (c ++ (codes "\" stroke-width=\"" ++ (w ++ (codes "\"" ++ z)))))) in
-    nested (codes "<path class=\"pen") p (codes "\" stroke=\"#") c (codes "\" stroke-width=\"") w (codes "\"") (clipped_to n) (codes " d=\"") x (codes "\"/>\n")
-    ∙ ap front (reference_written n (codes " d=\"" ++ (x ++ codes "\"/>\n")))
+    nested (codes "<path class=\"pen") p (codes "\" stroke=\"#") c (codes "\" stroke-width=\"") w (codes "\"") (fill_text rule c) (clipped_text clip) (codes " d=\"") x (codes "\"/>\n")
+    ∙ ap front (ways_written rule clip c (codes " d=") (x ∷ codes "/>\n" ∷ []))
+    ∙ some_words rule clip
+  where
+    some_words : (o : Option Rule) (k : Option Rectangle) → codes "<path class=\"pen" ++ (p ++ (codes "\" stroke=\"#" ++ (c ++ (codes "\" stroke-width=\"" ++ (w ++ (codes "\"" ++ join_with_byte 34 (fill_words o c (clip_words k (data_words x)))))))))
+        ≡ codes "<path" ++ join_with_byte 34 (words p c w (fill_words o c (clip_words k (data_words x))))
+    some_words None None = refl
+    some_words None (Some r) = refl
+    some_words (Some OddCounts) k = refl
+    some_words (Some Winding) k = refl
 
 -- a path that the reader reads
 pub record IsSmallPath (p : Path) : Type 0 where
@@ -204,9 +229,9 @@ pub record IsSmallPath (p : Path) : Type 0 where
   pub commands : AreSmall p.commands
 
 -- a path of what was read
-abbrev built : Option ℕ → Option Colour → Option ℕ → Option (Option Rectangle) → Option (List Command) → Option Path
-built pen paint width clip lines =
-    pen >>= (λ p. paint >>= (λ c. width >>= (λ w. clip >>= (λ k. lines >>= (λ cs. Some (record { pen = p; colour = c; width = w; clip = k; commands = cs }))))))
+abbrev built : Option ℕ → Option Colour → Option ℕ → (Colour → Option (Option Rule)) → Option (Option Rectangle) → Option (List Command) → Option Path
+built pen paint width fill clip lines =
+    pen >>= (λ p. paint >>= (λ c. width >>= (λ w. fill c >>= (λ r. clip >>= (λ k. lines >>= (λ cs. Some (record { pen = p; colour = c; width = w; rule = r; clip = k; commands = cs })))))))
 
 pub name_lacks : (is_mark : ℕ → Bool) → PassesDigits is_mark → is_mark 45 ≡ false → is_mark 95 ≡ false → is_mark 119 ≡ false → (r : Rectangle) → Lacks is_mark (clip_name r)
 name_lacks is_mark free minus low letter r =
@@ -224,57 +249,107 @@ name_plain r = name_lacks is_markup digit_plain refl refl refl r
 add_plain : (xs ys : List ℕ) → Lacks is_quote xs → Lacks is_quote ys → Lacks is_quote (xs ++ ys)
 add_plain xs ys h k = lacks_both is_quote xs ys h k
 
--- the attributes of a path that is not clipped, and of one that is
-plain_attributes : (pen : ℕ) (paint : Colour) (width : ℕ) (lines : List Command) → IsColour paint
-    → attributes (codes "<path") (written (decimal pen) (colour_digits paint) (decimal width) [] (flat_map command_text lines)) ≡ Some (plain_words (decimal pen) (colour_digits paint) (decimal width) (flat_map command_text lines))
-plain_attributes pen paint width lines b =
-    let p = decimal pen in
-    let k = colour_digits paint in
-    let w = decimal width in
-    let x = flat_map command_text lines in
-    let pen_in = add_plain (codes "pen") p refl (no_quote p (decimal_plain pen)) in
-    let paint_in = add_plain (codes "#") k refl (no_quote k (colour_plain paint b)) in
-    let ws = plain_words p k w x in
-    let are : AreWords 34 ws = (refl, (pen_in, (refl, (paint_in, (refl, (no_quote w (decimal_plain width), (refl, (no_quote x (commands_plain lines), (refl, tt))))))))) in
-    ap (λ (z : List ℕ). attributes (codes "<path") z) (plain_written p k w x)
-    ∙ ap (λ (zs : List (List ℕ)). Some zs) (split_words 34 (codes " class=") (drop 1 ws) are)
+-- the words have no quotation marks
+fill_quoted : (rule : Option Rule) (c : List ℕ) (ws : List (List ℕ)) → Lacks is_quote (codes "#" ++ c) → AreWords 34 ws → AreWords 34 (fill_words rule c ws)
+fill_quoted None c ws h k = k
+fill_quoted (Some OddCounts) c ws h k = (refl, (h, (refl, (refl, k))))
+fill_quoted (Some Winding) c ws h k = (refl, (h, k))
 
-clipped_attributes : (pen : ℕ) (paint : Colour) (width : ℕ) (r : Rectangle) (lines : List Command) → IsColour paint
-    → attributes (codes "<path") (written (decimal pen) (colour_digits paint) (decimal width) (clipped_to (clip_name r)) (flat_map command_text lines)) ≡ Some (clipped_words (decimal pen) (colour_digits paint) (decimal width) (clip_name r) (flat_map command_text lines))
-clipped_attributes pen paint width r lines b =
-    let p = decimal pen in
-    let k = colour_digits paint in
-    let w = decimal width in
+clip_quoted : (clip : Option Rectangle) (ws : List (List ℕ)) → AreWords 34 ws → AreWords 34 (clip_words clip ws)
+clip_quoted None ws k = k
+clip_quoted (Some r) ws k =
     let n = clip_name r in
+    let named = add_plain (codes "url(#" ++ n) (codes ")") (add_plain (codes "url(#") n refl (no_quote n (name_plain r))) refl in
+    (refl, (named, k))
+
+-- the attributes of a path
+path_attributes : (pen : ℕ) (paint : Colour) (width : ℕ) (rule : Option Rule) (clip : Option Rectangle) (lines : List Command) → IsColour paint
+    → attributes (codes "<path") (written (decimal pen) (colour_digits paint) (decimal width) (fill_text rule (colour_digits paint)) (clipped_text clip) (flat_map command_text lines))
+    ≡ Some (words (decimal pen) (colour_digits paint) (decimal width) (fill_words rule (colour_digits paint) (clip_words clip (data_words (flat_map command_text lines)))))
+path_attributes pen paint width rule clip lines b =
+    let p = decimal pen in
+    let k = colour_digits paint in
+    let w = decimal width in
     let x = flat_map command_text lines in
     let pen_in = add_plain (codes "pen") p refl (no_quote p (decimal_plain pen)) in
     let paint_in = add_plain (codes "#") k refl (no_quote k (colour_plain paint b)) in
-    let clip_in = add_plain (codes "url(#" ++ n) (codes ")") (add_plain (codes "url(#") n refl (no_quote n (name_plain r))) refl in
-    let ws = clipped_words p k w n x in
-    let are : AreWords 34 ws = (refl, (pen_in, (refl, (paint_in, (refl, (no_quote w (decimal_plain width), (refl, (clip_in, (refl, (no_quote x (commands_plain lines), (refl, tt))))))))))) in
-    ap (λ (z : List ℕ). attributes (codes "<path") z) (clipped_written p k w n x)
-    ∙ ap (λ (zs : List (List ℕ)). Some zs) (split_words 34 (codes " class=") (drop 1 ws) are)
+    let rest = fill_words rule k (clip_words clip (data_words x)) in
+    let drawn : AreWords 34 (data_words x) = (refl, (no_quote x (commands_plain lines), (refl, tt))) in
+    let rest_in = fill_quoted rule k (clip_words clip (data_words x)) paint_in (clip_quoted clip (data_words x) drawn) in
+    let are : AreWords 34 (words p k w rest) = (refl, (pen_in, (refl, (paint_in, (refl, (no_quote w (decimal_plain width), rest_in)))))) in
+    ap (λ (z : List ℕ). attributes (codes "<path") z) (all_written rule clip p k w x)
+    ∙ ap (λ (zs : List (List ℕ)). Some zs) (split_words 34 (codes " class=") (drop 1 (words p k w rest)) are)
 
-path_with : (parts : List (List ℕ)) (pen : ℕ) (paint : Colour) (width : ℕ) (clip : Option Rectangle) (lines : List Command) → pen < 2 ^ 64 → IsColour paint → width < 2 ^ 64 → AreSmall lines → clip_in parts (option_map (λ r. reference (clip_name r)) clip) ≡ Some clip
-    → path parts (written (decimal pen) (colour_digits paint) (decimal width) (clipped_text clip) (flat_map command_text lines)) ≡ Some (record { pen = pen; colour = paint; width = width; clip = clip; commands = lines })
-path_with parts pen paint width None lines a b c d e =
-    ap (λ (o : Option (List (List ℕ))). o >>= path_in parts) (plain_attributes pen paint width lines b)
-    ∙ (λ i. built (number_read pen a i) (colour_read paint b i) (number_read width c i) (e i) (commands_read lines d i))
-path_with parts pen paint width (Some r) lines a b c d e =
-    ap (λ (o : Option (List (List ℕ))). o >>= path_in parts) (clipped_attributes pen paint width r lines b)
-    ∙ (λ i. built (number_read pen a i) (colour_read paint b i) (number_read width c i) (e i) (commands_read lines d i))
+-- a colour is the same as itself
+same_number : (n : ℕ) → (n == n) ≡ true
+same_number n = grind (arith, nat_tests)
+
+same_colour : (c : Colour) → is_same_colour c c ≡ true
+same_colour c =
+    let r = same_number c.red in
+    let g = same_number c.green in
+    let b = same_number c.blue in
+    λ i. (r i && g i) && b i
+
+-- the fill is read
+odd_read : (c : Colour) → IsColour c → fill_in c (Some (codes "#" ++ colour_digits c)) (Some (codes "evenodd")) ≡ Some (Some OddCounts)
+odd_read c h =
+    ap (λ (o : Option Colour). o >>= (λ d. given (is_same_colour c d) (Some (Some OddCounts)))) (colour_read c h)
+    ∙ ap (λ (b : Bool). given b (Some (Some OddCounts))) (same_colour c)
+
+winding_read : (c : Colour) → IsColour c → fill_in c (Some (codes "#" ++ colour_digits c)) None ≡ Some (Some Winding)
+winding_read c h =
+    ap (λ (o : Option Colour). o >>= (λ d. given (is_same_colour c d) (Some (Some Winding)))) (colour_read c h)
+    ∙ ap (λ (b : Bool). given b (Some (Some Winding))) (same_colour c)
+
+-- a path of this rule
+abbrev the_path : ℕ → Colour → ℕ → Option Rectangle → List Command → Option Rule → Option Path
+the_path pen paint width clip lines rule = Some (record { pen = pen; colour = paint; width = width; rule = rule; clip = clip; commands = lines })
+
+path_with : (parts : List (List ℕ)) (pen : ℕ) (paint : Colour) (width : ℕ) (rule : Option Rule) (clip : Option Rectangle) (lines : List Command) → pen < 2 ^ 64 → IsColour paint → width < 2 ^ 64 → AreSmall lines → clip_in parts (option_map (λ r. reference (clip_name r)) clip) ≡ Some clip
+    → path parts (written (decimal pen) (colour_digits paint) (decimal width) (fill_text rule (colour_digits paint)) (clipped_text clip) (flat_map command_text lines)) ≡ the_path pen paint width clip lines rule
+path_with parts pen paint width rule clip lines a b c d e =
+    ap (λ (o : Option (List (List ℕ))). o >>= path_in parts) (path_attributes pen paint width rule clip lines b)
+    ∙ words_read rule clip e
+  where
+    words_read : (o : Option Rule) (k : Option Rectangle) → clip_in parts (option_map (λ r. reference (clip_name r)) k) ≡ Some k
+        → path_in parts (words (decimal pen) (colour_digits paint) (decimal width) (fill_words o (colour_digits paint) (clip_words k (data_words (flat_map command_text lines))))) ≡ the_path pen paint width k lines o
+    words_read None None h = λ i. built (number_read pen a i) (colour_read paint b i) (number_read width c i) (λ q. Some None) (h i) (commands_read lines d i)
+    words_read None (Some r) h = λ i. built (number_read pen a i) (colour_read paint b i) (number_read width c i) (λ q. Some None) (h i) (commands_read lines d i)
+    words_read (Some OddCounts) None h =
+        (λ i. built (number_read pen a i) (colour_read paint b i) (number_read width c i) (λ q. fill_in q (Some (codes "#" ++ colour_digits paint)) (Some (codes "evenodd"))) (h i) (commands_read lines d i))
+        ∙ ap (λ (z : Option (Option Rule)). z >>= the_path pen paint width None lines) (odd_read paint b)
+    words_read (Some OddCounts) (Some r) h =
+        (λ i. built (number_read pen a i) (colour_read paint b i) (number_read width c i) (λ q. fill_in q (Some (codes "#" ++ colour_digits paint)) (Some (codes "evenodd"))) (h i) (commands_read lines d i))
+        ∙ ap (λ (z : Option (Option Rule)). z >>= the_path pen paint width (Some r) lines) (odd_read paint b)
+    words_read (Some Winding) None h =
+        (λ i. built (number_read pen a i) (colour_read paint b i) (number_read width c i) (λ q. fill_in q (Some (codes "#" ++ colour_digits paint)) None) (h i) (commands_read lines d i))
+        ∙ ap (λ (z : Option (Option Rule)). z >>= the_path pen paint width None lines) (winding_read paint b)
+    words_read (Some Winding) (Some r) h =
+        (λ i. built (number_read pen a i) (colour_read paint b i) (number_read width c i) (λ q. fill_in q (Some (codes "#" ++ colour_digits paint)) None) (h i) (commands_read lines d i))
+        ∙ ap (λ (z : Option (Option Rule)). z >>= the_path pen paint width (Some r) lines) (winding_read paint b)
 
 -- the attributes of a path that the reader knows
 abbrev path_names : List (List ℕ)
-path_names = codes "class" ∷ codes "stroke" ∷ codes "stroke-width" ∷ codes "clip-path" ∷ codes "d" ∷ []
+path_names = codes "class" ∷ codes "stroke" ∷ codes "stroke-width" ∷ codes "fill" ∷ codes "fill-rule" ∷ codes "clip-path" ∷ codes "d" ∷ []
 
-known_with : (pen : ℕ) (paint : Colour) (width : ℕ) (clip : Option Rectangle) (lines : List Command) → IsColour paint → is_known (written (decimal pen) (colour_digits paint) (decimal width) (clipped_text clip) (flat_map command_text lines)) ≡ true
-known_with pen paint width None lines b = ap (λ (o : Option (List (List ℕ))). (is_allowed path_names o || false) || false) (plain_attributes pen paint width lines b)
-known_with pen paint width (Some r) lines b = ap (λ (o : Option (List (List ℕ))). (is_allowed path_names o || false) || false) (clipped_attributes pen paint width r lines b)
+words_known : (rule : Option Rule) (clip : Option Rectangle) (p c w x : List ℕ) → is_allowed path_names (Some (words p c w (fill_words rule c (clip_words clip (data_words x))))) ≡ true
+words_known None None p c w x = refl
+words_known None (Some r) p c w x = refl
+words_known (Some OddCounts) None p c w x = refl
+words_known (Some OddCounts) (Some r) p c w x = refl
+words_known (Some Winding) None p c w x = refl
+words_known (Some Winding) (Some r) p c w x = refl
+
+known_with : (pen : ℕ) (paint : Colour) (width : ℕ) (rule : Option Rule) (clip : Option Rectangle) (lines : List Command) → IsColour paint
+    → is_known (written (decimal pen) (colour_digits paint) (decimal width) (fill_text rule (colour_digits paint)) (clipped_text clip) (flat_map command_text lines)) ≡ true
+known_with pen paint width rule clip lines b =
+    ap (λ (o : Option (List (List ℕ))). (is_allowed path_names o || false) || false) (path_attributes pen paint width rule clip lines b)
+    ∙ ap (λ (t : Bool). (t || false) || false) (words_known rule clip (decimal pen) (colour_digits paint) (decimal width) (flat_map command_text lines))
 
 pub path_known : (p : Path) → IsColour p.colour → is_known (path_text p) ≡ true
-path_known p h = known_with p.pen p.colour p.width p.clip p.commands h
+path_known p h = known_with p.pen p.colour p.width p.rule p.clip p.commands h
 
 -- a path is read from its bytes
 pub path_read : (parts : List (List ℕ)) (p : Path) → IsSmallPath p → clip_in parts (option_map (λ r. reference (clip_name r)) p.clip) ≡ Some p.clip → path parts (path_text p) ≡ Some p
-path_read parts p h e = path_with parts p.pen p.colour p.width p.clip p.commands h.pen h.colour h.width h.commands e
+path_read parts p h e = path_with parts p.pen p.colour p.width p.rule p.clip p.commands h.pen h.colour h.width h.commands e

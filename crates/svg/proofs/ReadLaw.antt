@@ -1,26 +1,28 @@
--- What the paths show are the strokes that are drawn.
-use Rattle.std.proofs.Common.{◌≡◌, ℕ, ℤ, pos, ◌+ℤ◌, ◌-ℤ◌, ◌*◌, max, List, [], ◌∷◌, ◌++◌, flat_map, map, Bool, true, false, cond, Some, None, refl, ap, sym, ◌∙◌, arith, ◌&&◌, ◌==◌}
+-- What the paths show are the shapes that are drawn.
+use Rattle.std.proofs.Common.{◌≡◌, ℕ, ℤ, pos, ◌+ℤ◌, ◌-ℤ◌, ◌*◌, max, List, [], ◌∷◌, ◌++◌, map, length, ◌≤◌, Bool, true, false, cond, Option, Some, None, is_some, refl, ap, sym, ◌∙◌, append-nil, append_assoc, arith, ◌&&◌, ◌==◌}
 use Rattle.std.specs.Ordering.{int_eq}
 use Rattle.std.proofs.lemmas.Bool.{and_parts}
 use Rattle.std.proofs.lemmas.Bool.Decides.{nat_tests}
 use Rattle.std.proofs.lemmas.Int.{ints}
 use Rattle.std.proofs.lemmas.List.{map-append}
+use Rattle.std.proofs.lemmas.List.Concat.{flat_map-append}
+use Rattle.areas.specs.Shapes.{Shape, stroke_shape}
 use Rattle.plot_page.specs.Segments.{Segment}
 use Rattle.plot_page.specs.declared.page.Page.{Page}
 use Rattle.plot_page.specs.declared.pens.PenSet.{PenSet}
 use Rattle.plot_page.specs.declared.window.Window.{Window}
+use Rattle.polygons.specs.declared.lines.Rule.{Rule}
 use Rattle.stroke_runs.proofs.RunLaws.{all_of, alike_of}
-use Rattle.stroke_runs.proofs.SheetLaws.{all_sheets}
-use Rattle.stroke_runs.specs.Drawn.{drawn, is_alike, is_drawn, is_joined, is_same_colour, is_same_window}
-use Rattle.stroke_runs.specs.Laws.{joined, AreAlike, AreRuns}
-use Rattle.stroke_runs.specs.Runs.{runs_of}
-use Rattle.stroke_runs.specs.Sheets.{sheets_of}
+use Rattle.stroke_runs.proofs.ShapeLaws.{AreWhole, HaveStrokes, drawn_have, whole_drawn}
+use Rattle.stroke_runs.specs.Drawn.{drawn_shapes, is_alike, is_joined, is_same_colour, is_same_window}
+use Rattle.stroke_runs.specs.Laws.{joined, split, AreAlike, AreRuns}
+use Rattle.stroke_runs.specs.Runs.{runs_of, shape_runs_after, stroke_run}
 use Rattle.svg.specs.declared.places.Place.{Place}
 use Rattle.svg.specs.Commands.{Command, MoveTo, LineTo, MoveBy, LineBy, line, move}
-use Rattle.svg.specs.Paths.{Path, line_of, path_of, paths, paths_of, rest_commands}
-use Rattle.stroke_runs.specs.Shown.{is_whole_page, whole_page, widened}
+use Rattle.svg.specs.Paths.{Path, line_of, path_of, paths, paths_of, rest_commands, run_paths}
+use Rattle.stroke_runs.specs.Shown.{drawn_as, is_whole_page, shown_as_first, shown_shape, whole_page, widened}
 use Rattle.svg.specs.Places.{end_of, moved, offset, place_of, rectangle_of, start_of}
-use Rattle.svg.specs.Readings.{lines_from, read_paths, seen_in, size_of, stroke_of, strokes_of, window_of}
+use Rattle.svg.specs.Readings.{lines_from, read_paths, seen_in, shapes_of, size_of, stroke_of, strokes_of, window_of}
 
 there : (a b : ℤ) → a +ℤ (b -ℤ a) ≡ b
 there a b = omega (arith, ints)
@@ -99,8 +101,8 @@ either_window : (t : Bool) (page : Page) (w : Window) → is_whole_page page w �
 either_window true page w h = sym (same_window w (whole_page page) h)
 either_window false page w h = read_window page w
 
-begins_right : (page : Page) (s : Segment) (ss : List Segment) → Draws page (path_of page s ss) s
-begins_right page s ss = (refl, refl, refl, either_window (is_whole_page page s.window) page s.window refl)
+begins_right : (page : Page) (rule : Option Rule) (s : Segment) (ss : List Segment) → Draws page (path_of page rule s ss) s
+begins_right page rule s ss = (refl, refl, refl, either_window (is_whole_page page s.window) page s.window refl)
 
 goes_right : (page : Page) (p : Path) (last s : Segment) → is_alike last s ≡ true → Draws page p last → Draws page p s
 goes_right page p last s h d =
@@ -129,36 +131,105 @@ strokes_read page p last (s ∷ ss) d h =
     let e = goes_right page p last s h.0 d in
     (λ i. stroke_read page p s e i ∷ strokes_read page p s ss e h.1 i)
 
-path_read : (page : Page) (s : Segment) (ss : List Segment) → AreAlike s ss → strokes_of (size_of page) (path_of page s ss) ≡ map widened (s ∷ ss)
-path_read page s ss h =
-    let p = path_of page s ss in
-    let lines : lines_from (start_of page s) (line_of page s ∷ rest_commands page s ss) ≡ map (ends page) (s ∷ ss) =
-    line_read (start_of page s) (end_of page s) (rest_commands page s ss) ∙ ap (λ (ls : List (Place × Place)). ends page s ∷ ls) (rest_read page s ss) in
-    let d = begins_right page s ss in
-    ap (λ (ls : List (Place × Place)). map (stroke_of (size_of page) p) ls) lines ∙ (λ i. stroke_read page p s d i ∷ strokes_read page p s ss d h i)
+-- the lines of a run
+run_lines : (page : Page) (s : Segment) (ss : List Segment) → lines_from (start_of page s) (line_of page s ∷ rest_commands page s ss) ≡ map (ends page) (s ∷ ss)
+run_lines page s ss = line_read (start_of page s) (end_of page s) (rest_commands page s ss) ∙ ap (λ (ls : List (Place × Place)). ends page s ∷ ls) (rest_read page s ss)
 
-runs_read : (page : Page) (rs : List (List Segment)) → AreRuns rs → read_paths (size_of page) (paths_of page rs) ≡ map widened (joined rs)
+path_read : (page : Page) (s : Segment) (ss : List Segment) → AreAlike s ss → strokes_of (size_of page) (path_of page None s ss) ≡ map widened (s ∷ ss)
+path_read page s ss h =
+    let p = path_of page None s ss in
+    let d = begins_right page None s ss in
+    ap (λ (ls : List (Place × Place)). map (stroke_of (size_of page) p) ls) (run_lines page s ss) ∙ (λ i. stroke_read page p s d i ∷ strokes_read page p s ss d h i)
+
+runs_read : (page : Page) (rs : List (List Segment)) → AreRuns rs → read_paths (size_of page) (paths_of page (map stroke_run rs)) ≡ map stroke_shape (map widened (joined rs))
 runs_read page [] h = refl
 runs_read page ([] ∷ rs) h = absurd h.0
 runs_read page ((s ∷ ss) ∷ rs) h =
-    (λ i. path_read page s ss h.0.1 i ++ runs_read page rs h.1 i) ∙ sym (map-append widened (s ∷ ss) (joined rs))
+    let first = map widened (s ∷ ss) in
+    let others = map widened (joined rs) in
+    (λ i. map stroke_shape (path_read page s ss h.0.1 i) ++ runs_read page rs h.1 i)
+    ∙ sym (map-append stroke_shape first others)
+    ∙ ap (λ (zs : List Segment). map stroke_shape zs) (sym (map-append widened (s ∷ ss) (joined rs)))
 
-pub all_read : (page : Page) (pens : PenSet) (strokes : List Segment) → read_paths (size_of page) (paths page pens strokes) ≡ map widened (drawn pens strokes)
-all_read page pens strokes = runs_read page (runs_of (drawn pens strokes)) (alike_of (drawn pens strokes)) ∙ ap (λ (ss : List Segment). map widened ss) (all_of (drawn pens strokes))
+-- the strokes of runs
+strokes_of_runs : (page : Page) (ss : List Segment) → read_paths (size_of page) (paths_of page (map stroke_run (runs_of ss))) ≡ map stroke_shape (map widened ss)
+strokes_of_runs page ss = runs_read page (runs_of ss) (alike_of ss) ∙ ap (λ (zs : List Segment). map stroke_shape (map widened zs)) (all_of ss)
 
-drawn_both : (b : Bool) (s : Segment) (us vs ws : List Segment) → us ++ vs ≡ ws → cond b (s ∷ us) us ++ vs ≡ cond b (s ∷ ws) ws
-drawn_both true s us vs ws h = ap (λ (zs : List Segment). s ∷ zs) h
-drawn_both false s us vs ws h = h
+-- an area is read with the pen, the colour, the width and the window of its first edge
+edge_read : (page : Page) (p : Path) (s e : Segment) → Draws page p s → stroke_of (size_of page) p (ends page e) ≡ widened (drawn_as s e)
+edge_read page p s e d =
+    let h = pos (16 * page.height) in
+    λ i. record { pen = d.0 i; colour = d.1 i; width = d.2 i; window = d.3 i; ax = e.ax; ay = back h e.ay i; bx = e.bx; by = back h e.by i }
 
--- what is drawn of strokes and of others
-pub drawn_append : (pens : PenSet) (ss ts : List Segment) → drawn pens ss ++ drawn pens ts ≡ drawn pens (ss ++ ts)
-drawn_append pens [] ts = refl
-drawn_append pens (s ∷ ss) ts = drawn_both (is_drawn pens s) s (drawn pens ss) (drawn pens ts) (drawn pens (ss ++ ts)) (drawn_append pens ss ts)
+edges_read : (page : Page) (p : Path) (s : Segment) (ss : List Segment) → Draws page p s → map (stroke_of (size_of page) p) (map (ends page) ss) ≡ map (λ e. widened (drawn_as s e)) ss
+edges_read page p s [] d = refl
+edges_read page p s (e ∷ es) d = λ i. edge_read page p s e d i ∷ edges_read page p s es d i
 
-each_read : (page : Page) (pens : PenSet) (sheets : List (List Segment)) → flat_map (λ (sheet : List Segment). read_paths (size_of page) (paths page pens sheet)) sheets ≡ map widened (drawn pens (joined sheets))
-each_read page pens [] = refl
-each_read page pens (sheet ∷ sheets) =
-    (λ i. all_read page pens sheet i ++ each_read page pens sheets i) ∙ sym (map-append widened (drawn pens sheet) (drawn pens (joined sheets))) ∙ ap (λ (zs : List Segment). map widened zs) (drawn_append pens sheet (joined sheets))
+area_read : (page : Page) (rule : Rule) (s : Segment) (ss : List Segment) → strokes_of (size_of page) (path_of page (Some rule) s ss) ≡ shown_as_first (s ∷ ss)
+area_read page rule s ss =
+    let p = path_of page (Some rule) s ss in
+    let d = begins_right page (Some rule) s ss in
+    ap (λ (ls : List (Place × Place)). map (stroke_of (size_of page) p) ls) (run_lines page s ss) ∙ (λ i. stroke_read page p s d i ∷ edges_read page p s ss d i)
 
-pub sheets_read : (page : Page) (pens : PenSet) (strokes : List Segment) (ends : List ℕ) → flat_map (λ (sheet : List Segment). read_paths (size_of page) (paths page pens sheet)) (sheets_of strokes ends) ≡ map widened (drawn pens strokes)
-sheets_read page pens strokes ends = each_read page pens (sheets_of strokes ends) ∙ ap (λ (ss : List Segment). map widened (drawn pens ss)) (all_sheets strokes ends)
+-- the path of an area is the area
+one_area : (page : Page) (shape : Shape) (rule : Option Rule) (strokes : List Segment) → shape.rule ≡ rule → shape.strokes ≡ strokes → is_some rule ≡ true → 1 ≤ length strokes
+    → read_paths (size_of page) (run_paths page shape.rule shape.strokes) ≡ shown_shape shape ∷ []
+one_area page shape None strokes e f some h = cc
+one_area page shape (Some rule) [] e f some h = absurd (omega (arith, h))
+one_area page shape (Some rule) (s ∷ ss) e f some h =
+    ap (λ (o : Option Rule). read_paths (size_of page) (run_paths page o shape.strokes)) e
+    ∙ ap (λ (zs : List Segment). read_paths (size_of page) (run_paths page (Some rule) zs)) f
+    ∙ ap (λ (zs : List Segment). record { strokes = zs; rule = Some rule } ∷ []) (area_read page rule s ss)
+    ∙ (λ i. record { strokes = shown_as_first (sym f i); rule = sym e i } ∷ [])
+
+-- a shape that is one stroke
+one_stroke : (strokes : List Segment) (shape : Shape) → map stroke_shape strokes ≡ shape ∷ [] → map stroke_shape (map widened strokes) ≡ shown_shape shape ∷ []
+one_stroke [] shape h = cc
+one_stroke (s ∷ []) shape h =
+    let same : stroke_shape s ≡ shape = cc in
+    ap (λ (z : Shape). shown_shape z ∷ []) same
+one_stroke (s ∷ t ∷ ts) shape h = cc
+
+by_strokes : (b : Bool) (s : Shape) → is_some s.rule ≡ b → b ≡ false → split s ≡ s ∷ [] → map stroke_shape s.strokes ≡ s ∷ []
+by_strokes b s e none h = sym (ap (λ (c : Bool). cond c (s ∷ []) (map stroke_shape s.strokes)) (e ∙ none)) ∙ h
+
+-- the paths of runs, and of others
+read_both : (page : Page) (rs ts : List Shape) → read_paths (size_of page) (paths_of page (rs ++ ts)) ≡ read_paths (size_of page) (paths_of page rs) ++ read_paths (size_of page) (paths_of page ts)
+read_both page rs ts =
+    ap (λ (ps : List Path). read_paths (size_of page) ps) (flat_map-append (λ run. run_paths page run.rule run.strokes) rs ts)
+    ∙ flat_map-append (shapes_of (size_of page)) (paths_of page rs) (paths_of page ts)
+
+area_then : (page : Page) (before : List Segment) (s : Shape) (ss area : List Shape) → is_some s.rule ≡ true → 1 ≤ length s.strokes
+    → read_paths (size_of page) (paths_of page area) ≡ map shown_shape ss
+    → read_paths (size_of page) (paths_of page (map stroke_run (runs_of before) ++ s ∷ area)) ≡ map stroke_shape (map widened before) ++ map shown_shape (s ∷ ss)
+area_then page before s ss area e h rest =
+    let front = map stroke_run (runs_of before) in
+    read_both page front (s ∷ area)
+    ∙ ap (λ (zs : List Shape). read_paths (size_of page) (paths_of page front) ++ zs) (flat_map-append (shapes_of (size_of page)) (run_paths page s.rule s.strokes) (paths_of page area))
+    ∙ (λ i. strokes_of_runs page before i ++ (one_area page s s.rule s.strokes refl refl e h i ++ rest i))
+
+stroke_then : (before : List Segment) (s : Shape) (ss : List Shape) → map stroke_shape (map widened s.strokes) ≡ shown_shape s ∷ []
+    → map stroke_shape (map widened (before ++ s.strokes)) ++ map shown_shape ss ≡ map stroke_shape (map widened before) ++ map shown_shape (s ∷ ss)
+stroke_then before s ss h =
+    let first = map stroke_shape (map widened before) in
+    let own = map stroke_shape (map widened s.strokes) in
+    ap (λ (zs : List Segment). map stroke_shape zs ++ map shown_shape ss) (map-append widened before s.strokes)
+    ∙ ap (λ (zs : List Shape). zs ++ map shown_shape ss) (map-append stroke_shape (map widened before) (map widened s.strokes))
+    ∙ append_assoc first own (map shown_shape ss)
+    ∙ ap (λ (zs : List Shape). first ++ (zs ++ map shown_shape ss)) h
+
+shape_step : (b : Bool) (page : Page) (before : List Segment) (s : Shape) (ss area others : List Shape) → is_some s.rule ≡ b → split s ≡ s ∷ [] → 1 ≤ length s.strokes
+    → read_paths (size_of page) (paths_of page area) ≡ map shown_shape ss
+    → read_paths (size_of page) (paths_of page others) ≡ map stroke_shape (map widened (before ++ s.strokes)) ++ map shown_shape ss
+    → read_paths (size_of page) (paths_of page (cond b (map stroke_run (runs_of before) ++ s ∷ area) others)) ≡ map stroke_shape (map widened before) ++ map shown_shape (s ∷ ss)
+shape_step true page before s ss area others e h k p q = area_then page before s ss area e k p
+shape_step false page before s ss area others e h k p q = q ∙ stroke_then before s ss (one_stroke s.strokes s (by_strokes false s e refl h))
+
+-- the paths of runs are the shapes
+shapes_read : (page : Page) (before : List Segment) (ss : List Shape) → AreWhole ss → HaveStrokes ss → read_paths (size_of page) (paths_of page (shape_runs_after before ss)) ≡ map stroke_shape (map widened before) ++ map shown_shape ss
+shapes_read page before [] h k = strokes_of_runs page before ∙ sym (append-nil (map stroke_shape (map widened before)))
+shapes_read page before (s ∷ ss) h k =
+    shape_step (is_some s.rule) page before s ss (shape_runs_after [] ss) (shape_runs_after (before ++ s.strokes) ss) refl h.0 k.0 (shapes_read page [] ss h.1 k.1) (shapes_read page (before ++ s.strokes) ss h.1 k.1)
+
+pub all_read : (page : Page) (pens : PenSet) (ss : List Shape) → AreWhole ss → read_paths (size_of page) (paths page pens ss) ≡ map shown_shape (drawn_shapes pens ss)
+all_read page pens ss h = shapes_read page [] (drawn_shapes pens ss) (whole_drawn pens ss h) (drawn_have pens ss)

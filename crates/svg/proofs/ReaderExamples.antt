@@ -1,5 +1,8 @@
 -- Small documents, read.
 use Rattle.std.proofs.Common.{◌≡◌, ℕ, pos, negsuc, List, [], ◌∷◌, ◌++◌, Some, None, codes, map, refl}
+use Rattle.areas.specs.Shapes.{stroke_shape}
+use Rattle.plot_page.specs.Segments.{Segment}
+use Rattle.polygons.specs.declared.lines.Rule.TheVariants.{OddCounts, Winding}
 use Rattle.svg.specs.Commands.{LineBy, LineTo, MoveBy, MoveTo}
 use Rattle.pieces.specs.Readings.{split}
 use Rattle.svg.specs.Reader.{colour, commands, elements, place, read_svg, read_titles, value}
@@ -34,15 +37,27 @@ head = codes "<svg viewBox=\"0 0 32 16\">\n<clipPath id=\"a\"><rect y=\"4\" x=\"
 
 -- y grows upward from the lower edge
 one_stroke : read_svg (head ++ codes "<path d=\"M1 2l3 0\" stroke=\"#000000\" class=\"pen7\" stroke-width=\"56\"/></svg>")
-    ≡ Some (record { pen = 7; colour = record { red = 0; green = 0; blue = 0 }; width = 56; window = record { x0 = pos 0; y0 = pos 0; x1 = pos 32; y1 = pos 16 }; ax = pos 1; ay = pos 14; bx = pos 4; by = pos 14 } ∷ [])
+    ≡ Some (stroke_shape (record { pen = 7; colour = record { red = 0; green = 0; blue = 0 }; width = 56; window = record { x0 = pos 0; y0 = pos 0; x1 = pos 32; y1 = pos 16 }; ax = pos 1; ay = pos 14; bx = pos 4; by = pos 14 }) ∷ [])
 unfolding read_svg
 one_stroke = refl
 
 -- the window is that of the clip path
 clipped_stroke : read_svg (head ++ codes "<path d=\"M1 2L3 0\" clip-path=\"url(#a)\" stroke=\"#0000ff\" class=\"pen1\" stroke-width=\"56\"/></svg>")
-    ≡ Some (record { pen = 1; colour = record { red = 0; green = 0; blue = 255 }; width = 56; window = record { x0 = pos 3; y0 = pos 10; x1 = pos 4; y1 = pos 12 }; ax = pos 1; ay = pos 14; bx = pos 3; by = pos 16 } ∷ [])
+    ≡ Some (stroke_shape (record { pen = 1; colour = record { red = 0; green = 0; blue = 255 }; width = 56; window = record { x0 = pos 3; y0 = pos 10; x1 = pos 4; y1 = pos 12 }; ax = pos 1; ay = pos 14; bx = pos 3; by = pos 16 }) ∷ [])
 unfolding read_svg
 clipped_stroke = refl
+
+-- a path with a fill is an area, by winding if no rule is named
+abbrev edge : Segment
+edge = record { pen = 1; colour = record { red = 0; green = 0; blue = 255 }; width = 24; window = record { x0 = pos 0; y0 = pos 0; x1 = pos 32; y1 = pos 16 }; ax = pos 1; ay = pos 14; bx = pos 3; by = pos 16 }
+
+areas_read : map read_svg (
+    (head ++ codes "<path d=\"M1 2L3 0\" fill-rule=\"evenodd\" fill=\"#0000ff\" stroke=\"#0000ff\" class=\"pen1\" stroke-width=\"24\"/></svg>") ∷
+    (head ++ codes "<path d=\"M1 2L3 0\" fill-rule=\"nonzero\" fill=\"#0000ff\" stroke=\"#0000ff\" class=\"pen1\" stroke-width=\"24\"/></svg>") ∷
+    (head ++ codes "<path d=\"M1 2L3 0\" fill=\"#0000ff\" stroke=\"#0000ff\" class=\"pen1\" stroke-width=\"24\"/></svg>") ∷ [])
+    ≡ map (λ rule. Some (record { strokes = edge ∷ []; rule = Some rule } ∷ [])) (OddCounts ∷ Winding ∷ Winding ∷ [])
+unfolding read_svg
+areas_read = refl
 
 -- a clip path that is not there, a path without a width, a drawing without a size; and what might change how paths are drawn
 abbrev line : List ℕ
@@ -54,14 +69,17 @@ not_read : map read_svg (
     (codes "<svg width=\"1\">" ++ line ++ codes "</svg>") ∷
     (head ++ codes "<g transform=\"scale(2)\">" ++ line ++ codes "</g></svg>") ∷
     (head ++ codes "<style>" ++ line ++ codes "</style></svg>") ∷
-    (head ++ codes "<path d=\"M1 2L3 0\" stroke=\"#0000ff\" class=\"pen1\" stroke-width=\"56\" opacity=\"0\"/></svg>") ∷ [])
-    ≡ None ∷ None ∷ None ∷ None ∷ None ∷ None ∷ []
+    (head ++ codes "<path d=\"M1 2L3 0\" stroke=\"#0000ff\" class=\"pen1\" stroke-width=\"56\" opacity=\"0\"/></svg>") ∷
+    (head ++ codes "<path d=\"M1 2L3 0\" stroke=\"#0000ff\" fill=\"#0000fe\" class=\"pen1\" stroke-width=\"56\"/></svg>") ∷
+    (head ++ codes "<path d=\"M1 2L3 0\" stroke=\"#0000ff\" fill=\"#0000ff\" fill-rule=\"even\" class=\"pen1\" stroke-width=\"56\"/></svg>") ∷
+    (head ++ codes "<path d=\"M1 2L3 0\" stroke=\"#0000ff\" fill-rule=\"evenodd\" class=\"pen1\" stroke-width=\"56\"/></svg>") ∷ [])
+    ≡ None ∷ None ∷ None ∷ None ∷ None ∷ None ∷ None ∷ None ∷ None ∷ []
 unfolding read_svg
 not_read = refl
 
 -- a group with a name is no hindrance
 in_a_group : read_svg (head ++ codes "<g id=\"a\">" ++ line ++ codes "</g></svg>")
-    ≡ Some (record { pen = 1; colour = record { red = 0; green = 0; blue = 255 }; width = 56; window = record { x0 = pos 0; y0 = pos 0; x1 = pos 32; y1 = pos 16 }; ax = pos 1; ay = pos 14; bx = pos 3; by = pos 16 } ∷ [])
+    ≡ Some (stroke_shape (record { pen = 1; colour = record { red = 0; green = 0; blue = 255 }; width = 56; window = record { x0 = pos 0; y0 = pos 0; x1 = pos 32; y1 = pos 16 }; ax = pos 1; ay = pos 14; bx = pos 3; by = pos 16 }) ∷ [])
 unfolding read_svg
 in_a_group = refl
 

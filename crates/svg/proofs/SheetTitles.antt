@@ -5,13 +5,14 @@ use Rattle.std.proofs.lemmas.List.{drop-drop, drop-take, drop_all, length-take, 
 use Rattle.std.proofs.lemmas.List.Concat.{flat_map-append}
 use Rattle.std.proofs.lemmas.List.Elements.{All-drop, All-head, All-tail, All-weaker, filter-append}
 use Rattle.std.specs.List.{All, list_any}
+use Rattle.areas.specs.declared.area.Area.{Area}
 use Rattle.labels.specs.Labels.{LabelShape}
 use Rattle.labels.specs.Sheets.{all_counted, count_to, counted, labels_to}
 use Rattle.plot_page.specs.Segments.{Segment}
 use Rattle.plot_page.specs.declared.page.Page.{Page}
 use Rattle.plot_page.specs.declared.pens.PenSet.{PenSet}
 use Rattle.stroke_runs.specs.Drawn.{is_drawn}
-use Rattle.stroke_runs.specs.Sheets.{between}
+use Rattle.stroke_runs.specs.Sheets.{between, sheet_areas}
 use Rattle.stroke_runs.specs.Shown.{is_shown}
 use Rattle.svg.specs.Parts.{AreInOrder, cut_labels, parts}
 use Rattle.svg.specs.Readings.{part_titles, parts_of_sheets, titles}
@@ -110,26 +111,26 @@ all_kept strokes [] = tt
 all_kept strokes (l ∷ ls) = (ap (λ (zs : List Segment). take l.after zs) (take_all (length strokes) strokes (omega arith)), all_kept strokes ls)
 
 -- the titles of a sheet
-pub sheet_titles : (page : Page) (pens : PenSet) (s : Sheet) → titles (parts page pens s.strokes s.labels) ≡ shown_titles pens s.strokes (cut_labels 0 s.labels)
-sheet_titles page pens s = all_titles page pens s.strokes s.labels
+pub sheet_titles : (page : Page) (pens : PenSet) (s : Sheet) → titles (parts page pens s.strokes s.areas s.labels) ≡ shown_titles pens s.strokes (cut_labels 0 s.labels)
+sheet_titles page pens s = all_titles page pens s.strokes s.areas s.labels
 
-one_sheet : (page : Page) (pens : PenSet) (strokes : List Segment) (at end : ℕ) (labels : List LabelShape) → AreInOrder at labels → Kept strokes end (labels_to end labels)
-    → titles (parts page pens (between strokes at end) (all_counted at (labels_to end labels))) ≡ shown_titles pens strokes (labels_to end labels)
-one_sheet page pens strokes at end labels h k =
+one_sheet : (page : Page) (pens : PenSet) (strokes : List Segment) (areas : List Area) (at end : ℕ) (labels : List LabelShape) → AreInOrder at labels → Kept strokes end (labels_to end labels)
+    → titles (parts page pens (between strokes at end) (sheet_areas at areas) (all_counted at (labels_to end labels))) ≡ shown_titles pens strokes (labels_to end labels)
+one_sheet page pens strokes areas at end labels h k =
     let ls = labels_to end labels in
     let order = first_order (count_to end labels) at labels h in
-    all_titles page pens (between strokes at end) (all_counted at ls)
+    all_titles page pens (between strokes at end) (sheet_areas at areas) (all_counted at ls)
     ∙ ap (λ (zs : List LabelShape). shown_titles pens (between strokes at end) zs) (whole_labels 0 (all_counted at ls) (counted_order at at 0 ls (omega arith) order))
     ∙ same_titles pens strokes at end at ls (omega arith) order k
 
 -- a sheet, and those after it
-more_sheets : (page : Page) (pens : PenSet) (strokes : List Segment) (at end : ℕ) (labels : List LabelShape) (others : List Sheet) → AreInOrder at labels → Kept strokes end (labels_to end labels)
-    → titles (parts_of_sheets page pens others) ≡ shown_titles pens strokes (drop (count_to end labels) labels) → titles (parts_of_sheets page pens (sheet_between strokes at end labels ∷ others)) ≡ shown_titles pens strokes labels
-more_sheets page pens strokes at end labels others h k e =
-    let s = sheet_between strokes at end labels in
+more_sheets : (page : Page) (pens : PenSet) (strokes : List Segment) (areas : List Area) (at end : ℕ) (labels : List LabelShape) (others : List Sheet) → AreInOrder at labels → Kept strokes end (labels_to end labels)
+    → titles (parts_of_sheets page pens others) ≡ shown_titles pens strokes (drop (count_to end labels) labels) → titles (parts_of_sheets page pens (sheet_between strokes areas at end labels ∷ others)) ≡ shown_titles pens strokes labels
+more_sheets page pens strokes areas at end labels others h k e =
+    let s = sheet_between strokes areas at end labels in
     let n = count_to end labels in
-    flat_map-append part_titles (parts page pens s.strokes s.labels) (parts_of_sheets page pens others)
-    ∙ (λ i. one_sheet page pens strokes at end labels h k i ++ e i)
+    flat_map-append part_titles (parts page pens s.strokes s.areas s.labels) (parts_of_sheets page pens others)
+    ∙ (λ i. one_sheet page pens strokes areas at end labels h k i ++ e i)
     ∙ titles_of_both pens strokes (take n labels) (drop n labels)
     ∙ ap (λ (zs : List LabelShape). shown_titles pens strokes zs) (take-append-drop n labels)
 
@@ -138,21 +139,21 @@ sheet_step true page pens ts s xs ys h k = h
 sheet_step false page pens ts s xs ys h k = k
 
 -- the last sheet
-last_sheet : (b : Bool) (page : Page) (pens : PenSet) (strokes : List Segment) (at : ℕ) (labels : List LabelShape) → nat_eq (length (between strokes at (length strokes))) 0 ≡ b → AreInOrder at labels
-    → titles (parts_of_sheets page pens (cond b [] (sheet_between strokes at (length strokes) labels ∷ []))) ≡ shown_titles pens strokes labels
-last_sheet true page pens strokes at labels e h =
+last_sheet : (b : Bool) (page : Page) (pens : PenSet) (strokes : List Segment) (areas : List Area) (at : ℕ) (labels : List LabelShape) → nat_eq (length (between strokes at (length strokes))) 0 ≡ b → AreInOrder at labels
+    → titles (parts_of_sheets page pens (cond b [] (sheet_between strokes areas at (length strokes) labels ∷ []))) ≡ shown_titles pens strokes labels
+last_sheet true page pens strokes areas at labels e h =
     let none : length (between strokes at (length strokes)) ≡ 0 = grind (arith, nat_tests, e) in
     let low : length strokes ≤ at = omega (arith, none, sheet_size strokes at (length strokes)) in
     ap (λ (zs : List LabelShape). map label_text zs) (sym (hidden pens strokes at labels low h))
-last_sheet false page pens strokes at labels e h =
+last_sheet false page pens strokes areas at labels e h =
     let end = length strokes in
     let rest = hidden pens strokes end (drop (count_to end labels) labels) (omega arith) (rest_order end at labels h) in
-    more_sheets page pens strokes at end labels [] h (all_kept strokes (labels_to end labels)) (ap (λ (zs : List LabelShape). map label_text zs) (sym rest))
+    more_sheets page pens strokes areas at end labels [] h (all_kept strokes (labels_to end labels)) (ap (λ (zs : List LabelShape). map label_text zs) (sym rest))
 
-titles_after : (page : Page) (pens : PenSet) (strokes : List Segment) (at : ℕ) (ends : List ℕ) (labels : List LabelShape) → AreInOrder at labels → All (λ end. All (EndsAfter end) labels) ends
-    → titles (parts_of_sheets page pens (labelled_after strokes at (ends ++ length strokes ∷ []) labels)) ≡ shown_titles pens strokes labels
-titles_after page pens strokes at [] labels h k = last_sheet (nat_eq (length (between strokes at (length strokes))) 0) page pens strokes at labels refl h
-titles_after page pens strokes at (end ∷ ends) labels h k =
+titles_after : (page : Page) (pens : PenSet) (strokes : List Segment) (areas : List Area) (at : ℕ) (ends : List ℕ) (labels : List LabelShape) → AreInOrder at labels → All (λ end. All (EndsAfter end) labels) ends
+    → titles (parts_of_sheets page pens (labelled_after strokes areas at (ends ++ length strokes ∷ []) labels)) ≡ shown_titles pens strokes labels
+titles_after page pens strokes areas at [] labels h k = last_sheet (nat_eq (length (between strokes at (length strokes))) 0) page pens strokes areas at labels refl h
+titles_after page pens strokes areas at (end ∷ ends) labels h k =
     let P : ℕ → Type 0 = λ e. All (EndsAfter e) labels in
     let n = count_to end labels in
     let later = drop n labels in
@@ -160,17 +161,17 @@ titles_after page pens strokes at (end ∷ ends) labels h k =
     let here = All-head P end ends k in
     let rest = All-tail P end ends k in
     let all = ends ++ length strokes ∷ [] in
-    sheet_step (nat_eq (length (between strokes at end)) 0) page pens (shown_titles pens strokes labels) (sheet_between strokes at end labels) (labelled_after strokes at all labels) (labelled_after strokes end all later)
-    (titles_after page pens strokes at ends labels h rest)
-    (more_sheets page pens strokes at end labels (labelled_after strokes end all later) h (kept strokes end labels here)
-    (titles_after page pens strokes end ends later (rest_order end at labels h) (All-weaker P Q (λ e w. All-drop (EndsAfter e) n labels w) ends rest)))
+    sheet_step (nat_eq (length (between strokes at end)) 0) page pens (shown_titles pens strokes labels) (sheet_between strokes areas at end labels) (labelled_after strokes areas at all labels) (labelled_after strokes areas end all later)
+    (titles_after page pens strokes areas at ends labels h rest)
+    (more_sheets page pens strokes areas at end labels (labelled_after strokes areas end all later) h (kept strokes end labels here)
+    (titles_after page pens strokes areas end ends later (rest_order end at labels h) (All-weaker P Q (λ e w. All-drop (EndsAfter e) n labels w) ends rest)))
 
-pub all_sheet_titles : (page : Page) (pens : PenSet) (strokes : List Segment) (ends : List ℕ) (labels : List LabelShape) → AreInOrder 0 labels → All (λ end. All (EndsAfter end) labels) ends
-    → titles (parts_of_sheets page pens (labelled_sheets strokes ends labels)) ≡ map label_text (filter (is_shown pens strokes) labels)
-all_sheet_titles page pens strokes ends labels h k = titles_after page pens strokes 0 ends labels h k
+pub all_sheet_titles : (page : Page) (pens : PenSet) (strokes : List Segment) (areas : List Area) (ends : List ℕ) (labels : List LabelShape) → AreInOrder 0 labels → All (λ end. All (EndsAfter end) labels) ends
+    → titles (parts_of_sheets page pens (labelled_sheets strokes areas ends labels)) ≡ map label_text (filter (is_shown pens strokes) labels)
+all_sheet_titles page pens strokes areas ends labels h k = titles_after page pens strokes areas 0 ends labels h k
 
 -- each sheet has the titles of its own labels
 pub each_sheet_titles : (page : Page) (pens : PenSet) (sheets : List Sheet) → titles (parts_of_sheets page pens sheets) ≡ flat_map (λ s. map label_text (filter (is_shown pens s.strokes) (cut_labels 0 s.labels))) sheets
 each_sheet_titles page pens [] = refl
 each_sheet_titles page pens (s ∷ sheets) =
-    flat_map-append part_titles (parts page pens s.strokes s.labels) (parts_of_sheets page pens sheets) ∙ (λ i. sheet_titles page pens s i ++ each_sheet_titles page pens sheets i)
+    flat_map-append part_titles (parts page pens s.strokes s.areas s.labels) (parts_of_sheets page pens sheets) ∙ (λ i. sheet_titles page pens s i ++ each_sheet_titles page pens sheets i)

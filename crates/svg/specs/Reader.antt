@@ -1,5 +1,5 @@
--- A reader of SVG documents: from bytes to strokes. It refuses elements and attributes that it does not know.
--- XML 1.0, 2.4 and 3.1; SVG 1.1, 7.7, 8.3 and 14.3.
+-- A reader of SVG documents: from bytes to shapes. It refuses elements and attributes that it does not know.
+-- XML 1.0, 2.4 and 3.1; SVG 1.1, 7.7, 8.3, 11.3 and 14.3.
 use Rattle.std.specs.Prelude.{ℕ, ◌==◌, ◌&&◌, ◌||◌, Bool, false, List, [], ◌∷◌, ◌++◌, length, filter, Option, Some, None, if◌then◌else◌, codes}
 use Rattle.std.specs.Char.{is_digit}
 use Rattle.std.specs.Int.{is_in_range}
@@ -7,8 +7,11 @@ use Rattle.std.specs.List.{concat, find, list_all, list_any, starts_with}
 use Rattle.std.specs.Option.{option_map, option_or}
 use Rattle.std.specs.Prelude.{nat_eq}
 use Rattle.pieces.specs.Readings.{after, byte, cut, each, given, integer, is_text, number, split, ◌>>=◌}
-use Rattle.plot_page.specs.Segments.{Segment}
+use Rattle.areas.specs.Shapes.{Shape}
 use Rattle.plot_page.specs.declared.colour.Colour.{Colour}
+use Rattle.polygons.specs.declared.lines.Rule.{Rule}
+use Rattle.polygons.specs.declared.lines.Rule.TheVariants.{OddCounts, Winding}
+use Rattle.stroke_runs.specs.Drawn.{is_same_colour}
 use Rattle.svg.specs.declared.places.Place.{Place}
 use Rattle.svg.specs.declared.places.Rectangle.{Rectangle}
 use Rattle.svg.specs.Commands.{Command, MoveTo, LineTo, MoveBy, LineBy}
@@ -111,7 +114,8 @@ kinds =
     ∷ (codes "<defs", [])
     ∷ (codes "<clipPath", codes "id" ∷ [])
     ∷ (codes "<rect", codes "x" ∷ codes "y" ∷ codes "width" ∷ codes "height" ∷ [])
-    ∷ (codes "<path", codes "class" ∷ codes "stroke" ∷ codes "stroke-width" ∷ codes "clip-path" ∷ codes "d" ∷ []) ∷ []
+    ∷ (codes "<path", codes "class" ∷ codes "stroke" ∷ codes "stroke-width" ∷ codes "fill" ∷ codes "fill-rule" ∷ codes "clip-path" ∷ codes "d" ∷ [])
+    ∷ []
 
 -- one of these, a title, the end of an element, or the declaration
 abbrev pub is_known : List ℕ → Bool
@@ -165,15 +169,32 @@ abbrev pub clip_in : List (List ℕ) → Option (List ℕ) → Option (Option Re
 clip_in parts None = Some None
 clip_in parts (Some reference) = option_map Some (clip_named reference parts)
 
+-- the rule of this name, which is `nonzero` if there is none
+abbrev pub rule_named : Option (List ℕ) → Option Rule
+rule_named None = Some Winding
+rule_named (Some name) =
+    if is_text name (codes "evenodd") then Some OddCounts else
+    if is_text name (codes "nonzero") then Some Winding else None
+
+-- the rule by which a path of a colour is filled, by its attributes; a fill of another colour is not known
+abbrev pub fill_in : Colour → Option (List ℕ) → Option (List ℕ) → Option (Option Rule)
+fill_in stroke None None = Some None
+fill_in stroke None (Some name) = None
+fill_in stroke (Some fill) name = do
+  c ← colour fill
+  rule ← rule_named name
+  given (is_same_colour stroke c) (Some (Some rule))
+
 -- a path of a document of these elements, by its attributes
 abbrev pub path_in : List (List ℕ) → List (List ℕ) → Option Path
 path_in parts words = do
   p ← value (codes "class") words >>= after (codes "pen") >>= number
   c ← value (codes "stroke") words >>= colour
   w ← value (codes "stroke-width") words >>= number
+  rule ← fill_in c (value (codes "fill") words) (value (codes "fill-rule") words)
   clip ← clip_in parts (value (codes "clip-path") words)
   cs ← value (codes "d") words >>= commands
-  Some (record { pen = p; colour = c; width = w; clip = clip; commands = cs })
+  Some (record { pen = p; colour = c; width = w; rule = rule; clip = clip; commands = cs })
 
 abbrev pub path : List (List ℕ) → List ℕ → Option Path
 path parts part = attributes (codes "<path") part >>= path_in parts
@@ -182,18 +203,18 @@ path parts part = attributes (codes "<path") part >>= path_in parts
 abbrev pub paths_in_parts : List (List ℕ) → Option (List Path)
 paths_in_parts parts = each (path parts) (filter (is_element (codes "<path")) parts)
 
--- the strokes of a document of these elements
-abbrev pub read_known : List (List ℕ) → Option (List Segment)
+-- the shapes of a document of these elements
+abbrev pub read_known : List (List ℕ) → Option (List Shape)
 read_known parts = do
   drawing ← size parts
   paths ← paths_in_parts parts
   Some (read_paths drawing paths)
 
-abbrev pub read_elements : List (List ℕ) → Option (List Segment)
+abbrev pub read_elements : List (List ℕ) → Option (List Shape)
 read_elements parts = given (list_all is_known parts) (read_known parts)
 
--- the strokes of a document, by its bytes
-unfoldable pub read_svg : List ℕ → Option (List Segment)
+-- the shapes of a document, by its bytes
+unfoldable pub read_svg : List ℕ → Option (List Shape)
 read_svg document = read_elements (elements document)
 
 -- a reference, and the text after it

@@ -1,9 +1,11 @@
 -- What the paths of a document show, by the rules of SVG 1.1, 8.3.
 use Rattle.std.specs.Prelude.{ℕ, ℤ, pos, ◌*◌, ◌+ℤ◌, ◌-ℤ◌, List, [], ◌∷◌, flat_map, map, Option, Some, None}
+use Rattle.areas.specs.Shapes.{Shape}
 use Rattle.plot_page.specs.Segments.{Segment}
 use Rattle.plot_page.specs.declared.page.Page.{Page}
 use Rattle.plot_page.specs.declared.pens.PenSet.{PenSet}
 use Rattle.plot_page.specs.declared.window.Window.{Window}
+use Rattle.stroke_runs.specs.Laws.{split}
 use Rattle.svg.specs.declared.places.Place.{Place}
 use Rattle.svg.specs.declared.places.Rectangle.{Rectangle}
 use Rattle.svg.specs.Commands.{Command, MoveTo, LineTo, MoveBy, LineBy}
@@ -42,7 +44,7 @@ abbrev pub seen_in : Size → Option Rectangle → Window
 seen_in size None = record { x0 = pos 0; y0 = pos 0; x1 = pos size.width; y1 = pos size.height }
 seen_in size (Some r) = window_of size r
 
--- a line of a path as a stroke
+-- a line of a path as a stroke of its own colour, width and window
 abbrev pub stroke_of : Size → Path → Place × Place → Segment
 stroke_of size p l = record {
   pen = p.pen;
@@ -59,8 +61,12 @@ stroke_of size p l = record {
 abbrev pub strokes_of : Size → Path → List Segment
 strokes_of size p = map (stroke_of size p) (lines_from (record { x = pos 0; y = pos 0 }) p.commands)
 
-abbrev pub read_paths : Size → List Path → List Segment
-read_paths size paths = flat_map (strokes_of size) paths
+-- the shapes of a path: one area if it is filled, else its strokes
+abbrev pub shapes_of : Size → Path → List Shape
+shapes_of size p = split (record { strokes = strokes_of size p; rule = p.rule })
+
+abbrev pub read_paths : Size → List Path → List Shape
+read_paths size paths = flat_map (shapes_of size) paths
 
 -- the paths of a part, and its titles
 abbrev pub part_paths : Part → List Path
@@ -75,8 +81,8 @@ part_titles (Group text paths) = text ∷ []
 abbrev pub paths_in : List Part → List Path
 paths_in parts = flat_map part_paths parts
 
--- the strokes of parts, and their titles
-abbrev pub read_parts : Size → List Part → List Segment
+-- the shapes of parts, and their titles
+abbrev pub read_parts : Size → List Part → List Shape
 read_parts size parts = read_paths size (paths_in parts)
 
 abbrev pub titles : List Part → List (List ℕ)
@@ -84,8 +90,9 @@ titles parts = flat_map part_titles parts
 
 -- the parts of sheets, one sheet after another
 abbrev pub parts_of_sheets : Page → PenSet → List Sheet → List Part
-parts_of_sheets page pens sheets = flat_map (λ sheet. parts page pens sheet.strokes sheet.labels) sheets
+parts_of_sheets page pens sheets = flat_map (λ sheet. parts page pens sheet.strokes sheet.areas sheet.labels) sheets
 
--- the strokes of sheets
-abbrev pub read_sheets : Page → PenSet → List Sheet → List Segment
-read_sheets page pens sheets = flat_map (λ sheet. read_parts (size_of page) (parts page pens sheet.strokes sheet.labels)) sheets
+-- the shapes of sheets
+abbrev pub read_sheets : Page → PenSet → List Sheet → List Shape
+read_sheets page pens sheets =
+    flat_map (λ sheet. read_parts (size_of page) (parts page pens sheet.strokes sheet.areas sheet.labels)) sheets

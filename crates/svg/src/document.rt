@@ -1,5 +1,6 @@
 //! The whole document.
 ghost use Rattle.std.specs.Prelude.{◌≡◌, ◌-◌, ◌^◌, ◌<◌, ◌≤◌, ◌++◌, length};
+ghost use Rattle.areas.specs.Views.{areas_in};
 ghost use Rattle.labels.specs.Sheets.{all_counted};
 ghost use Rattle.pieces.specs.Texts.{IsNew, IsSound, Puts, WritesText};
 ghost use Rattle.plot_page.specs.declared.stroke.TheConstants.{MOST_STROKES};
@@ -20,8 +21,9 @@ use stroke_runs::SheetView;
 /// grain (1/16 plotter unit).
 ///
 /// Each run of strokes with the same pen, colour, width and window is a path, with the class `pen2` if the pen is 2, at
-/// most 1,000 strokes, and a width of at least 24 grains. A stroke with an empty window is left out. A window other than the
-/// page is a clip path: `clips` has those of these strokes.
+/// most 1,000 strokes, and a width of at least 24 grains. An area is a path of all its edges, which is filled with their
+/// colour. A stroke with an empty window is left out. A window other than the page is a clip path: `clips` has those of these
+/// strokes.
 ///
 /// The strokes of a label are a group, with the text of the label as its title: its lines, separated by a line feed. U+FFFD
 /// replaces control characters, and code points that XML does not have. A label of which no stroke is drawn is left out. A
@@ -40,7 +42,7 @@ pub fn write_svg<K: Sink>(
     requires strokes { length view.now.strokes.now ≤ MOST_STROKES }
     requires clips { collected clips.now ≡ clips_of view.now.page.now view.now.pens.now view.now.strokes.now }
     ensures writes { WritesText (K.state sink.old) (K.state sink.new)
-        (svg_bytes view.now.page.now view.now.pens.now view.now.strokes.now
+        (svg_bytes view.now.page.now view.now.pens.now view.now.strokes.now (areas_in view.now.areas)
         (all_counted view.now.before view.now.labels.now)) result }
 {
     let mut text = Text::new(sink);
@@ -60,7 +62,7 @@ pub fn write_svg_sheets<K: Sink>(
     requires strokes { length view.now.strokes.now ≤ MOST_STROKES }
     requires clips { collected clips.now ≡ clips_of view.now.page.now view.now.pens.now view.now.strokes.now }
     ensures writes { WritesText (K.state sink.old) (K.state sink.new)
-        (sheets_bytes view.now.page.now view.now.pens.now view.now.strokes.now ends.now
+        (sheets_bytes view.now.page.now view.now.pens.now view.now.strokes.now (areas_in view.now.areas) ends.now
         (all_counted view.now.before view.now.labels.now)) result }
 {
     let mut text = Text::new(sink);
@@ -75,10 +77,11 @@ fn put_document<K: Sink>(
 ) -> Result<u64, WriteFault>
     requires sound { IsSound K.state text.old }
     requires new { IsNew text.old }
+    requires strokes { length view.now.strokes.now ≤ MOST_STROKES }
     requires clips { collected clips.now ≡ clips_of view.now.page.now view.now.pens.now view.now.strokes.now }
     ensures same { text.new.sink.ghost_name ≡ text.old.sink.ghost_name }
     ensures writes { WritesText (K.state text.old.sink.now) (K.state text.new.sink.now)
-        (svg_bytes view.now.page.now view.now.pens.now view.now.strokes.now
+        (svg_bytes view.now.page.now view.now.pens.now view.now.strokes.now (areas_in view.now.areas)
         (all_counted view.now.before view.now.labels.now)) result }
 {
     put_start(text, view.page, clips);
@@ -100,7 +103,7 @@ fn put_all_sheets<K: Sink>(
     requires clips { collected clips.now ≡ clips_of view.now.page.now view.now.pens.now view.now.strokes.now }
     ensures same { text.new.sink.ghost_name ≡ text.old.sink.ghost_name }
     ensures writes { WritesText (K.state text.old.sink.now) (K.state text.new.sink.now)
-        (sheets_bytes view.now.page.now view.now.pens.now view.now.strokes.now ends.now
+        (sheets_bytes view.now.page.now view.now.pens.now view.now.strokes.now (areas_in view.now.areas) ends.now
         (all_counted view.now.before view.now.labels.now)) result }
 {
     put_start(text, view.page, clips);

@@ -1,4 +1,4 @@
-//! SVG 1.1: strokes on a page as a document of paths, and the texts of labels as titles.
+//! SVG 1.1: strokes and areas on a page as a document of paths, and the texts of labels as titles.
 #![tactic(auto)]
 
 mod clip_paths;

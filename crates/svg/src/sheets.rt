@@ -1,5 +1,6 @@
 //! The sheets of a document.
 ghost use Rattle.std.specs.Prelude.{◌≤◌, length};
+ghost use Rattle.areas.specs.Views.{areas_in};
 ghost use Rattle.labels.specs.Sheets.{all_counted};
 ghost use Rattle.pieces.specs.Texts.{IsSound, Puts};
 ghost use Rattle.plot_page.specs.declared.stroke.TheConstants.{MOST_STROKES};
@@ -26,7 +27,8 @@ pub(crate) fn put_sheets<K: Sink>(text: &mut Text<'_, K>, view: &SheetView<'_>, 
     requires sound { IsSound K.state text.old }
     requires strokes { length view.now.strokes.now ≤ MOST_STROKES }
     ensures puts { Puts K.state text.old text.new (sheets_text view.now.page.now view.now.pens.now 0
-        (labelled_sheets view.now.strokes.now ends.now (all_counted view.now.before view.now.labels.now))) }
+        (labelled_sheets view.now.strokes.now (areas_in view.now.areas) ends.now
+        (all_counted view.now.before view.now.labels.now))) }
 {
     let mut rest = view.labels;
     let mut at = 0;

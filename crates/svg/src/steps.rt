@@ -1,11 +1,13 @@
 //! What is written for each stroke, one at a time.
-ghost use Rattle.std.specs.Prelude.{◌≡◌};
+ghost use Rattle.std.specs.Prelude.{◌≡◌, ◌<◌};
 ghost use Rattle.pieces.specs.Texts.{IsSound, Puts};
+ghost use Rattle.plot_page.specs.declared.stroke.TheConstants.{MOST_STROKES};
 ghost use Rattle.svg.specs.Commands.{command_text};
 ghost use Rattle.svg.specs.Paths.{line_of};
 ghost use Rattle.svg.specs.Places.{IsNear};
-ghost use Rattle.svg.specs.Steps.{after_step, apart_text, begun_text, last_place, link_text, open_end, step_text};
-ghost use Rattle.stroke_runs.specs.Links.{link_of, runs_after};
+ghost use Rattle.svg.specs.Steps.{after_step, apart_text, begun_text, last_place, member_text, open_end, step_text};
+ghost use Rattle.stroke_runs.specs.Links.{runs_as};
+ghost use Rattle.stroke_runs.specs.Roles.{roles_after};
 
 use crate::commands::{put_first, put_line, put_move};
 use crate::paths::put_start;
@@ -13,38 +15,47 @@ use crate::places::{Place, end_of, start_of};
 use devices::Sink;
 use pieces::Text;
 use plot_page::{Page, PenSet, Stroke};
-use stroke_runs::{Link, Runs, is_drawn};
+use polygons::Rule;
+use stroke_runs::{Link, Role, Roles, Runs};
 
 // Puts what is written for a stroke, if it is drawn.
 pub(crate) fn put_step<K: Sink>(
     text: &mut Text<'_, K>,
     page: &Page,
     pens: &PenSet,
+    roles: &mut Roles<'_>,
     runs: &mut Runs,
     stroke: &Stroke,
 )
     requires sound { IsSound K.state text.old }
-    ensures puts { Puts K.state text.old text.new (step_text page.now pens.now runs.old stroke.now) }
-    ensures after { runs.new ≡ after_step pens.now runs.old stroke.now }
+    requires few { roles.old.before < MOST_STROKES }
+    ensures puts { Puts K.state text.old text.new (step_text page.now pens.now roles.old runs.old stroke.now) }
+    ensures roles { roles.new ≡ roles_after pens.now roles.old stroke.now }
+    ensures runs { runs.new ≡ after_step pens.now roles.old runs.old stroke.now }
 {
-    if !is_drawn(pens, stroke) {
+    let Some(role) = roles.next(pens, stroke) else {
         return;
-    }
-    put_drawn(text, page, runs, stroke);
+    };
+    put_member(text, page, runs, stroke, role);
 }
 
-// Puts what is written for a stroke that is drawn.
-fn put_drawn<K: Sink>(text: &mut Text<'_, K>, page: &Page, runs: &mut Runs, stroke: &Stroke)
+// Puts what is written for a stroke that is drawn, by what it is.
+fn put_member<K: Sink>(
+    text: &mut Text<'_, K>,
+    page: &Page,
+    runs: &mut Runs,
+    stroke: &Stroke,
+    role: Role,
+)
     requires sound { IsSound K.state text.old }
-    ensures puts { Puts K.state text.old text.new
-        (link_text page.now runs.old (link_of runs.old stroke.now) stroke.now) }
-    ensures after { runs.new ≡ runs_after runs.old stroke.now }
+    ensures puts { Puts K.state text.old text.new (member_text page.now runs.old stroke.now role) }
+    ensures after { runs.new ≡ runs_as runs.old stroke.now role }
 {
     let before = *runs;
-    match runs.next(stroke) {
+    match runs.next_as(stroke, role) {
         Link::Begins => {
             put_end(text, &before);
-            put_begun(text, page, stroke);
+            put_begun(text, page, runs.rule(), stroke);
         }
         Link::Apart => put_apart(text, page, last_place(page, &before), stroke),
         Link::Joined => put_line_of(text, page, stroke),
@@ -62,12 +73,12 @@ pub(crate) fn put_end<K: Sink>(text: &mut Text<'_, K>, runs: &Runs)
     text.put(b"\"/>\n");
 }
 
-// Puts a stroke that begins a path.
-fn put_begun<K: Sink>(text: &mut Text<'_, K>, page: &Page, stroke: &Stroke)
+// Puts a stroke that begins a path, which is filled by this rule if it is an area.
+fn put_begun<K: Sink>(text: &mut Text<'_, K>, page: &Page, rule: Option<Rule>, stroke: &Stroke)
     requires sound { IsSound K.state text.old }
-    ensures puts { Puts K.state text.old text.new (begun_text page.now stroke.now) }
+    ensures puts { Puts K.state text.old text.new (begun_text page.now rule stroke.now) }
 {
-    put_start(text, page, stroke);
+    put_start(text, page, stroke, rule);
     put_first(text, start_of(page, stroke));
     put_line_of(text, page, stroke);
 }

@@ -3,6 +3,7 @@ use crate::long_documents::calls_of;
 use crate::svg_documents::{FOOT, HEAD};
 use crate::svg_strokes::{page, strokes_of, three_pens};
 use crate::written::label_of;
+use areas::Areas;
 use devices::{OverWrite, Sink};
 use labels::Label;
 use plot_page::{MOST_STROKES, Stroke};
@@ -16,8 +17,8 @@ use svg::{ClipPaths, write_svg, write_svg_sheets};
 const STROKES: &str =
     "1 0 56 0 0 0 16 0\n1 0 56 0 16 0 32 0\n1 0 56 0 32 0 48 0\n1 0 56 0 48 0 64 0\n";
 
-// Labels, each of a line: the number of the strokes before it and after it, and its text.
-fn labels_of(alloc: Global, labels: &[(usize, usize, &str)]) -> Result<Vec<Label>, Fail> {
+/// Labels, each of a line: the number of the strokes before it and after it, and its text.
+pub fn labels_of(alloc: Global, labels: &[(usize, usize, &str)]) -> Result<Vec<Label>, Fail> {
     let mut made = Vec::new(alloc);
     for (first, after, text) in labels {
         made.push(label_of(alloc, *first, *after, text)?)?;
@@ -44,6 +45,7 @@ fn document(
         page: &page,
         pens: &pens,
         strokes,
+        areas: Areas::none(),
         labels,
         before,
     };

@@ -6,6 +6,8 @@ mod groups;
 #[cfg(test)]
 mod long_documents;
 #[cfg(test)]
+mod pdf_areas;
+#[cfg(test)]
 mod pdf_contents;
 #[cfg(test)]
 mod pdf_documents;
@@ -21,6 +23,8 @@ mod reports;
 mod runs;
 #[cfg(test)]
 mod sheets;
+#[cfg(test)]
+mod svg_areas;
 #[cfg(test)]
 mod svg_documents;
 #[cfg(test)]

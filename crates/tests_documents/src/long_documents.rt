@@ -3,6 +3,7 @@ ghost use Rattle.std.specs.Prelude.{◌≡◌, ◌-◌, ◌^◌, ◌<◌, Some};
 
 use crate::svg_documents::{FOOT, HEAD};
 use crate::svg_strokes::{page, strokes_of, three_pens};
+use areas::Areas;
 use devices::{Sink, SinkFault};
 use labels::Label;
 use plot_page::{Colour, MOST_STROKES, Stroke, Window};
@@ -82,6 +83,7 @@ fn bytes_written(
         page: &page,
         pens: &pens,
         strokes,
+        areas: Areas::none(),
         labels,
         before: 0,
     };

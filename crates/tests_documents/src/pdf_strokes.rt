@@ -1,5 +1,6 @@
 //! What the tests draw. No contract here promises anything, so that no proof of a test reads what is proved of the
 //! document.
+use areas::Areas;
 use deflate::TextEncoder;
 use devices::Sink;
 use labels::Label;
@@ -64,27 +65,40 @@ pub fn write_titled<K: Sink>(
     before: usize,
     sink: &mut K,
 ) -> Result<u64, Fail> {
-    if ends.len() > MOST_STROKES || sink.failures() > 0 {
-        return Err("too many sheets".into());
-    }
-    if !has_few_letters(labels) {
-        return Err("too many letters".into());
-    }
     let page = Page::new(1016, 2032, 7, 8)?;
     let mut pens = PenSet::none();
     for pen in [1, 2, 7, 9, 255] {
         pens = pens.with(pen);
     }
-    let mut offsets = vec![in alloc; 0u64; room_for(ends.len())]?;
-    let offsets = offsets.as_mut_slice();
     let view = SheetView {
         page: &page,
         pens: &pens,
         strokes,
+        areas: Areas::none(),
         labels,
         before,
     };
-    match write_pdf("0.2.0", title, &view, ends, offsets, encoder, sink) {
+    write_view(alloc, encoder, title, &view, ends, sink)
+}
+
+/// The same of what a view shows.
+pub fn write_view<K: Sink>(
+    alloc: Global,
+    encoder: &mut TextEncoder,
+    title: &str,
+    view: &SheetView<'_>,
+    ends: &[usize],
+    sink: &mut K,
+) -> Result<u64, Fail> {
+    if ends.len() > MOST_STROKES || sink.failures() > 0 {
+        return Err("too many sheets".into());
+    }
+    if view.strokes.len() > MOST_STROKES || !has_few_letters(view.labels) {
+        return Err("too many strokes or letters".into());
+    }
+    let mut offsets = vec![in alloc; 0u64; room_for(ends.len())]?;
+    let offsets = offsets.as_mut_slice();
+    match write_pdf("0.2.0", title, view, ends, offsets, encoder, sink) {
         Ok(bytes) => Ok(bytes),
         Err(fault) => Ok(fault.bytes()),
     }

@@ -1,10 +1,12 @@
 // Reports over a `Vec`, and over sinks that take little or fail.
 ghost use Rattle.std.specs.Prelude.{◌≡◌, ◌-◌, ◌^◌, ◌<◌, Some};
 
+use areas::{Area, Areas, Shapes};
 use devices::{OverWrite, Sink, SinkFault};
 use hpgl_plot::Notes;
 use plot_page::{Colour, Page, Stroke, Window};
 use plot_report::{ReportPage, write_full_report, write_report};
+use polygons::Rule;
 use std::alloc::Global;
 use std::process::Abort;
 use std::test::Fail;
@@ -100,29 +102,30 @@ fn number_of(word: Option<&str>) -> Result<i32, Fail> {
     }
 }
 
-// Writes the report on these strokes, and on what is noted in a plot: in the profile full if there are sheets.
-fn write<K: Sink>(
-    page: &Page,
-    sheets: Option<usize>,
-    strokes: &[Stroke],
-    plot: &[u8],
-    sink: &mut K,
-) -> Result<u64, Fail>
+// Writes the report on these strokes, and on what is noted in a plot.
+fn write<K: Sink>(page: &Page, strokes: &[Stroke], plot: &[u8], sink: &mut K) -> Result<u64, Fail>
     requires { (K.state sink.old).faults < 2 ^ 64 - 1 }
 {
     if strokes.len() > 255 || plot.len() > 10_000 {
         return Err("too much for a report".into());
     }
-    match sheets {
-        Some(sheets) => Ok(write_full_report(
-            ReportPage::of(page),
-            sheets,
-            strokes,
-            Notes::new(plot),
-            sink,
-        )?),
-        None => Ok(write_report(ReportPage::of(page), strokes, Notes::new(plot), sink)?),
+    Ok(write_report(ReportPage::of(page), strokes, Notes::new(plot), sink)?)
+}
+
+// Writes the report in the profile full on these strokes and areas, and on what is noted in a plot.
+fn write_full<K: Sink>(
+    page: &Page,
+    sheets: usize,
+    shapes: Shapes<'_>,
+    plot: &[u8],
+    sink: &mut K,
+) -> Result<u64, Fail>
+    requires { (K.state sink.old).faults < 2 ^ 64 - 1 }
+{
+    if shapes.strokes.len() > 255 || plot.len() > 10_000 {
+        return Err("too much for a report".into());
     }
+    Ok(write_full_report(ReportPage::of(page), sheets, shapes, Notes::new(plot), sink)?)
 }
 
 // Fails unless this is the report with these strokes, and with the notes on a plot.
@@ -130,14 +133,13 @@ fn reports(
     rt: &impl Abort,
     alloc: Global,
     page: Page,
-    sheets: Option<usize>,
     strokes: &str,
     plot: &[u8],
     want: &str,
 ) -> Result<(), Fail> {
     let strokes = strokes_of(alloc, strokes)?;
     let mut sink = OverWrite::new(Vec::new(alloc));
-    let bytes = write(&page, sheets, &strokes, plot, &mut sink)?;
+    let bytes = write(&page, &strokes, plot, &mut sink)?;
     let failures = sink.failures();
     assert_eq!(rt; sink.into_inner().as_slice(), want.as_bytes());
     assert_eq!(rt; (bytes, failures), (want.len() as u64, 0));
@@ -154,7 +156,7 @@ fn page() -> Result<Page, Fail> {
 fn one_horizontal_line(rt: HostRuntime) -> Result<(), Fail> {
     let strokes = "1 224 0 448 1024 448";
     let want = "page 64 64 0 0\nstrokes 1\npen 1 strokes 1 widest 224 box 0 448 1024 448\n";
-    reports(&rt, rt.alloc(), page()?, None, strokes, b"", want)
+    reports(&rt, rt.alloc(), page()?, strokes, b"", want)
 }
 
 // Of the plot PU48,32;PD;AA32,32,37.5; a dot and eight chords.
@@ -173,7 +175,7 @@ const ARC: &str = "\
 #[test]
 fn an_arc(rt: HostRuntime) -> Result<(), Fail> {
     let want = "page 64 64 0 0\nstrokes 9\npen 1 strokes 9 widest 224 box 715 512 768 668\n";
-    reports(&rt, rt.alloc(), page()?, None, ARC, b"", want)
+    reports(&rt, rt.alloc(), page()?, ARC, b"", want)
 }
 
 // A label of one character with two strokes.
@@ -181,7 +183,7 @@ fn an_arc(rt: HostRuntime) -> Result<(), Fail> {
 fn a_letter(rt: HostRuntime) -> Result<(), Fail> {
     let strokes = "1 224 405 1600 405 448\n1 224 0 448 811 448\n";
     let want = "page 64 64 0 0\nstrokes 2\npen 1 strokes 2 widest 224 box 0 448 811 1600\n";
-    reports(&rt, rt.alloc(), page()?, None, strokes, b"", want)
+    reports(&rt, rt.alloc(), page()?, strokes, b"", want)
 }
 
 // The plot SC0,3,0,8;PU0,3.5;PR;PD1,0,1,0,1,0;
@@ -189,14 +191,14 @@ fn a_letter(rt: HostRuntime) -> Result<(), Fail> {
 fn relative_moves(rt: HostRuntime) -> Result<(), Fail> {
     let strokes = "1 224 0 448 341 448\n1 224 341 448 683 448\n1 224 683 448 1024 448\n";
     let want = "page 64 64 0 0\nstrokes 3\npen 1 strokes 3 widest 224 box 0 448 1024 448\n";
-    reports(&rt, rt.alloc(), page()?, None, strokes, b"", want)
+    reports(&rt, rt.alloc(), page()?, strokes, b"", want)
 }
 
 #[test]
 fn skipped_and_bad(rt: HostRuntime) -> Result<(), Fail> {
     let plot = b"ZZ1,2;CO\"a;b\";PA1";
     let want = "page 64 64 0 0\nstrokes 0\nnote 0 skipped ZZ\nnote 6 skipped CO\nnote 14 bad PA\n";
-    reports(&rt, rt.alloc(), page()?, None, "", plot, want)
+    reports(&rt, rt.alloc(), page()?, "", plot, want)
 }
 
 #[test]
@@ -205,7 +207,7 @@ fn each_kind_of_note(rt: HostRuntime) -> Result<(), Fail> {
     let plot = b"ZZ;PA1;\xff;PE\x00;DI1,1;LBx";
     let want = "page 65536 11880 65536 10\nstrokes 0\nnote 0 skipped ZZ\nnote 3 bad PA\n\
         note 7 stray 255\nnote 11 stray 0\nnote 13 axis DI\nnote 19 open LB\n";
-    reports(&rt, rt.alloc(), page, None, "", plot, want)
+    reports(&rt, rt.alloc(), page, "", plot, want)
 }
 
 // An instruction at the end of a plot that is blank but for it.
@@ -215,7 +217,7 @@ fn a_note_at_the_last_place(rt: HostRuntime) -> Result<(), Fail> {
     plot[9_998] = b'Z';
     plot[9_999] = b'Z';
     let want = "page 64 64 0 0\nstrokes 0\nnote 9998 skipped ZZ\n";
-    reports(&rt, rt.alloc(), page()?, None, "", &plot, want)
+    reports(&rt, rt.alloc(), page()?, "", &plot, want)
 }
 
 // Two pens by turns: the last stroke of each is neither its widest nor at an edge of its box.
@@ -237,15 +239,7 @@ pen 255 strokes 3 widest 12800 box -1048576 -20 20 1048576
 
 #[test]
 fn boxes_and_widths_of_two_pens(rt: HostRuntime) -> Result<(), Fail> {
-    reports(
-        &rt,
-        rt.alloc(),
-        page()?,
-        None,
-        TWO_PENS,
-        b"",
-        TWO_PENS_REPORT,
-    )
+    reports(&rt, rt.alloc(), page()?, TWO_PENS, b"", TWO_PENS_REPORT)
 }
 
 // No box reaches to 0 unless an end does.
@@ -254,7 +248,7 @@ fn boxes_away_from_zero(rt: HostRuntime) -> Result<(), Fail> {
     let strokes = "3 1 -9 -8 -5 -7\n3 2 -8 -6 -6 -4\n2 3 5 40 6 8\n";
     let want = "page 64 64 0 0\nstrokes 3\npen 2 strokes 1 widest 3 box 5 8 6 40\n\
         pen 3 strokes 2 widest 2 box -9 -8 -5 -4\n";
-    reports(&rt, rt.alloc(), page()?, None, strokes, b"", want)
+    reports(&rt, rt.alloc(), page()?, strokes, b"", want)
 }
 
 // Each pen has the longest line that it can have with one stroke.
@@ -278,21 +272,182 @@ fn all_pens(rt: HostRuntime) -> Result<(), Fail> {
         &rt,
         rt.alloc(),
         page()?,
-        None,
         strokes.as_str(),
         b"",
         want.as_str(),
     )
 }
 
+// Fails unless this is the report in the profile full with these strokes and areas, and with the notes on a plot.
+fn reports_full(
+    rt: &impl Abort,
+    alloc: Global,
+    sheets: usize,
+    strokes: &str,
+    areas: Areas<'_>,
+    plot: &[u8],
+    want: &str,
+) -> Result<(), Fail> {
+    let strokes = strokes_of(alloc, strokes)?;
+    let shapes = Shapes {
+        strokes: &strokes,
+        areas,
+    };
+    let mut sink = OverWrite::new(Vec::new(alloc));
+    let bytes = write_full(&page()?, sheets, shapes, plot, &mut sink)?;
+    let failures = sink.failures();
+    assert_eq!(rt; str::from_utf8(sink.into_inner().as_slice())?, want);
+    assert_eq!(rt; (bytes, failures), (want.len() as u64, 0));
+    Ok(())
+}
+
 // In the profile full the sheets follow the page.
 #[test]
 fn the_line_of_the_sheets(rt: HostRuntime) -> Result<(), Fail> {
-    let page = Page::new(64, 64, 1, 2)?;
     let strokes = "1 224 0 448 1024 448";
-    let want = "page 64 64 1 2\nsheets 4194304\nstrokes 1\n\
+    let want = "page 64 64 0 0\nsheets 4194304\nstrokes 1\n\
         pen 1 strokes 1 widest 224 box 0 448 1024 448\nnote 0 skipped ZZ\n";
-    reports(&rt, rt.alloc(), page, Some(4_194_304), strokes, b"ZZ", want)
+    reports_full(
+        &rt,
+        rt.alloc(),
+        4_194_304,
+        strokes,
+        Areas::none(),
+        b"ZZ",
+        want,
+    )
+}
+
+// An area with these edges.
+fn area(first: usize, end: usize) -> Area
+    ensures first { result.first ≡ first }
+    ensures end { result.end ≡ end }
+{
+    Area {
+        first,
+        end,
+        rule: Rule::OddCounts,
+    }
+}
+
+// The edges of a square from 16 to 48 plotter units.
+const SQUARE: &str = "\
+1 0 256 256 768 256
+1 0 768 256 768 768
+1 0 768 768 256 768
+1 0 256 768 256 256
+";
+
+#[test]
+fn a_square(rt: HostRuntime) -> Result<(), Fail> {
+    let areas = [area(0, 4)];
+    let want = "page 64 64 0 0\nsheets 1\nstrokes 0\nareas 1\n\
+        pen 1 areas 1 edges 4 box 256 256 768 768\n";
+    reports_full(&rt, rt.alloc(), 1, SQUARE, Areas::all(&areas), b"", want)
+}
+
+// A dot in a corner of a square, which the pen of the square drew.
+const DOT_AND_SQUARE: &str = "\
+1 224 256 256 256 256
+1 0 256 256 768 256
+1 0 768 256 768 768
+1 0 768 768 256 768
+1 0 256 768 256 256
+";
+
+#[test]
+fn a_dot_and_a_square_of_one_pen(rt: HostRuntime) -> Result<(), Fail> {
+    let areas = [area(1, 5)];
+    let want = "page 64 64 0 0\nsheets 1\nstrokes 1\nareas 1\n\
+        pen 1 strokes 1 widest 224 box 256 256 256 256\n\
+        pen 1 areas 1 edges 4 box 256 256 768 768\nnote 0 skipped ZZ\n";
+    reports_full(
+        &rt,
+        rt.alloc(),
+        1,
+        DOT_AND_SQUARE,
+        Areas::all(&areas),
+        b"ZZ",
+        want,
+    )
+}
+
+// Areas of two pens, one right after another, and strokes before, between and after them.
+const MANY: &str = "\
+3 5 -7 -6 -5 -4
+2 0 10 20 11 19
+2 0 11 19 -30 40
+2 0 -30 40 10 20
+255 0 100 100 110 110
+255 0 110 110 90 105
+2 0 12 22 13 21
+2 0 13 21 50 -60
+3 9 0 0 1 1
+2 6 1000 1000 2000 -2000
+";
+
+const MANY_REPORT: &str = "\
+page 64 64 0 0
+sheets 2
+strokes 3
+areas 3
+pen 2 strokes 1 widest 6 box 1000 -2000 2000 1000
+pen 2 areas 2 edges 5 box -30 -60 50 40
+pen 3 strokes 2 widest 9 box -7 -6 1 1
+pen 255 areas 1 edges 2 box 90 100 110 110
+";
+
+#[test]
+fn areas_of_two_pens(rt: HostRuntime) -> Result<(), Fail> {
+    let areas = [area(1, 4), area(4, 6), area(6, 8)];
+    let areas = Areas::all(&areas);
+    reports_full(&rt, rt.alloc(), 2, MANY, areas, b"", MANY_REPORT)
+}
+
+// On a sheet that begins after the first three strokes there are the last two areas, counted by its strokes.
+#[test]
+fn areas_of_a_sheet(rt: HostRuntime) -> Result<(), Fail> {
+    let areas = [area(1, 3), area(3, 7), area(8, 9)];
+    let strokes = "\
+1 0 256 256 768 256
+1 0 768 256 768 768
+1 0 768 768 256 768
+1 0 256 768 256 256
+1 3 1 2 3 4
+7 0 5 6 7 8
+";
+    let want = "page 64 64 0 0\nsheets 5\nstrokes 1\nareas 2\n\
+        pen 1 strokes 1 widest 3 box 1 2 3 4\n\
+        pen 1 areas 1 edges 4 box 256 256 768 768\n\
+        pen 7 areas 1 edges 1 box 5 6 7 8\n";
+    reports_full(
+        &rt,
+        rt.alloc(),
+        5,
+        strokes,
+        Areas::between(&areas, 3, 9),
+        b"",
+        want,
+    )
+}
+
+// The pen of an area is that of its last edge.
+#[test]
+fn the_pen_of_the_last_edge(rt: HostRuntime) -> Result<(), Fail> {
+    let areas = [area(0, 2)];
+    let strokes = "7 0 1 2 3 4\n8 0 3 4 1 2\n";
+    let want = "page 64 64 0 0\nsheets 1\nstrokes 0\nareas 1\n\
+        pen 8 areas 1 edges 2 box 1 2 3 4\n";
+    reports_full(&rt, rt.alloc(), 1, strokes, Areas::all(&areas), b"", want)
+}
+
+// An area of which the last edges are missing has those that are there.
+#[test]
+fn an_area_past_the_last_stroke(rt: HostRuntime) -> Result<(), Fail> {
+    let areas = [area(0, 5), area(6, 7)];
+    let want = "page 64 64 0 0\nsheets 1\nstrokes 0\nareas 2\n\
+        pen 1 areas 1 edges 4 box 256 256 768 768\n";
+    reports_full(&rt, rt.alloc(), 1, SQUARE, Areas::all(&areas), b"", want)
 }
 
 // Fails unless the report on strokes and a plot, at most `step` bytes a call, is this, and takes so many calls.
@@ -306,7 +461,7 @@ fn is_put(
 ) -> Result<(), Fail>
     requires { sink.failures ≡ 0 }
 {
-    let bytes = write(&page()?, None, strokes, plot, &mut sink)?;
+    let bytes = write(&page()?, strokes, plot, &mut sink)?;
     assert!(rt; sink.bytes.as_slice() == want);
     assert_eq!(rt; (bytes, sink.puts), (want.len() as u64, puts));
     Ok(())

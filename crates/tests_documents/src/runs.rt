@@ -1,9 +1,10 @@
 //! Runs, by how each stroke follows the one before it.
 use crate::svg_strokes::{strokes_of, three_pens};
+use polygons::Rule;
 use std::alloc::Global;
 use std::process::Abort;
 use std::test::Fail;
-use stroke_runs::{Link, MOST_IN_RUN, Runs, is_drawn};
+use stroke_runs::{Link, MOST_IN_RUN, Role, Runs, is_drawn};
 
 // How each stroke of three pens follows the one before it: `b` if it begins a run, `j` if it goes on where that one ends,
 // `a` if it goes on elsewhere, `-` if it is not drawn.
@@ -79,5 +80,50 @@ fn begun_runs(rt: HostRuntime) -> Result<(), Fail> {
         assert_eq!(&rt; runs.next(stroke), Link::Begins);
     }
     assert!(&rt; runs.has_begun());
+    Ok(())
+}
+
+// How strokes follow one another, by what they are, each link with the rule of its run: `o` for odd counts, `w` for winding.
+fn links_as(alloc: Global, lines: &str, roles: &[Role]) -> Result<String, Fail> {
+    let mut runs = Runs::new();
+    let mut text = String::new(alloc);
+    for (stroke, role) in strokes_of(alloc, lines)?.iter().zip(roles) {
+        text.push_str(match runs.next_as(stroke, *role) {
+            Link::Begins => " b",
+            Link::Apart => " a",
+            Link::Joined => " j",
+        })?;
+        text.push_str(match runs.rule() {
+            None => "",
+            Some(Rule::OddCounts) => "o",
+            Some(Rule::Winding) => "w",
+        })?;
+    }
+    Ok(text)
+}
+
+// An area goes on no run, and no other shape goes on it, even if all are drawn in one way. Its edges go on, there or elsewhere.
+#[test]
+fn areas_are_runs(rt: HostRuntime) -> Result<(), Fail> {
+    let strokes = "\
+1 0 0 0 0 0 9 9
+1 0 0 0 9 9 0 9
+1 0 0 0 0 9 9 9
+1 0 0 0 5 5 6 6
+1 0 0 0 6 6 5 5
+1 0 0 0 5 5 6 6
+1 0 0 0 6 6 6 6
+";
+    let roles = [
+        Role::Stroke,
+        Role::FirstEdge(Rule::OddCounts),
+        Role::NextEdge,
+        Role::NextEdge,
+        Role::FirstEdge(Rule::Winding),
+        Role::Stroke,
+        Role::Stroke,
+    ];
+    let links = links_as(rt.alloc(), strokes, &roles)?;
+    assert_eq!(&rt; links.as_str(), " b bo jo ao bw b j");
     Ok(())
 }

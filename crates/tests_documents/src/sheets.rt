@@ -1,6 +1,7 @@
 //! All sheets of a plot in one document.
 use crate::svg_documents::{FOOT, HEAD};
 use crate::svg_strokes::{page, strokes_of, three_pens};
+use areas::Areas;
 use devices::{OverWrite, Sink};
 use plot_page::MOST_STROKES;
 use std::alloc::Global;
@@ -30,6 +31,7 @@ fn has_groups(
         page: &page,
         pens: &pens,
         strokes: &strokes,
+        areas: Areas::none(),
         labels: &[],
         before: 0,
     };

@@ -1,5 +1,6 @@
 //! Documents, byte by byte.
 use crate::svg_strokes::{page, strokes_of, three_pens};
+use areas::Areas;
 use devices::{OverWrite, Sink};
 use plot_page::{MOST_STROKES, Page};
 use std::alloc::Global;
@@ -39,6 +40,7 @@ fn is_document(
         page,
         pens: &pens,
         strokes: &strokes,
+        areas: Areas::none(),
         labels: &[],
         before: 0,
     };

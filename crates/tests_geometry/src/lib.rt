@@ -29,6 +29,8 @@ mod numbers;
 #[cfg(test)]
 mod pages;
 #[cfg(test)]
+mod pages_turned;
+#[cfg(test)]
 mod polygons_filled;
 #[cfg(test)]
 mod settings;

@@ -51,6 +51,7 @@ fn numbers_and_texts(rt: HostRuntime) -> Result<(), Fail> {
         rows: 8,
         bytes: 15,
         strokes: 2,
+        areas: 0,
         notes: 0,
     };
     let outcome = Outcome {

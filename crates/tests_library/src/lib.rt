@@ -2,6 +2,8 @@
 #![tactic(auto)]
 
 #[cfg(test)]
+mod areas;
+#[cfg(test)]
 mod broken_off;
 #[cfg(test)]
 mod carousels;
@@ -51,6 +53,8 @@ mod smoothed;
 mod smoothed_rows;
 #[cfg(test)]
 mod streams;
+#[cfg(test)]
+mod turned_pictures;
 #[cfg(test)]
 mod vector_labels;
 #[cfg(test)]

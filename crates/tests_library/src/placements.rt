@@ -2,8 +2,8 @@
 use crate::cases::text_of;
 use crate::pages::{eight_by_eight, placed_on};
 use plotraster::{
-    Carousel, Form, Job, OverRead, OverWrite, PageChoice, PenSet, Picture, Reading, Setup,
-    Smoothing, Task, Unwatched, naming_of, run_task,
+    Carousel, Encoding, Form, Job, OverRead, OverWrite, PageChoice, PenSet, Picture, Reading,
+    Setup, Smoothing, Task, Unwatched, naming_of, run_task,
 };
 use std::alloc::Global;
 use std::test::Fail;
@@ -71,8 +71,18 @@ pub(crate) fn fitted(margin: u32) -> PageChoice {
 
 // What `report_on` says of a plot on a page of 64 units a side.
 fn placed(alloc: Global, choice: PageChoice, plot: &str) -> Result<String, Fail> {
+    placed_as(alloc, Reading::Core, choice, plot)
+}
+
+// The same of a plot that is read so.
+fn placed_as(
+    alloc: Global,
+    reading: Reading,
+    choice: PageChoice,
+    plot: &str,
+) -> Result<String, Fail> {
     let page = eight_by_eight(Form::Pbm)?.page;
-    placed_on(alloc, &page, Reading::Core, choice, plot)
+    placed_on(alloc, &page, reading, choice, plot)
 }
 
 #[test]
@@ -194,5 +204,51 @@ fn windows_move_along(rt: HostRuntime) -> Result<(), Fail> {
     let marks = drawn(rt.alloc(), PenSet::all(), WINDOWS)?;
     let wanted = "8 rows, Fitted, 2 and 0\n7 0 1 000000\n7 1 1 000000\n7 2 1 000000\n";
     assert_eq!(rt; marks.as_str(), wanted);
+    Ok(())
+}
+
+// A page without a margin around plots of the profile full, and what is said of them on the page of 64 units.
+const WITH_AREAS: &str = "\
+IW10,10,30,40;PU0,0;RA100,100;
+Fitted 4 0 0 page 64 64 -10 -10
+Given 4 0 0 page 64 64 0 0
+
+IW10,10,30,40;PU40,0;RA100,100;
+Blank 4 0 0 page 64 64 0 0
+Given 4 0 0 page 64 64 0 0
+
+PU-10,-10;RA100,100;
+Fitted 4 0 0 page 110 110 10 10
+Given 4 0 4 page 64 64 0 0
+
+PU70,0;RA200,100;
+Fitted 4 0 0 page 130 100 -70 0
+Given 4 4 0 page 64 64 0 0
+
+PU-60000,0;RA60000,64;
+TooLarge 4 0 4 page 64 64 0 0
+Given 4 0 4 page 64 64 0 0
+
+PU70,0;RA200,100;PG;PU0,0;RA100,200;
+Fitted 4 0 0 page 130 100 -70 0
+Given 4 4 0 page 64 64 0 0
+";
+
+#[test]
+fn pages_around_areas(rt: HostRuntime) -> Result<(), Fail> {
+    let mut found: usize = 0;
+    let reading = Reading::Full {
+        sheet: 1,
+        encoding: Encoding::ByPlot,
+    };
+    for case in WITH_AREAS.trim_end().split("\n\n") {
+        let (plot, wanted) = case.split_once("\n").ok_or("a case with no answer")?;
+        let around = placed_as(rt.alloc(), reading, fitted(0), plot)?;
+        let given = placed_as(rt.alloc(), reading, PageChoice::GIVEN, plot)?;
+        let both = format!(in rt.alloc(); "{around}\n{given}")?;
+        assert_eq!(rt; both.as_str(), wanted, "{plot}");
+        found = found.saturating_add(1);
+    }
+    assert_eq!(rt; found, 6);
     Ok(())
 }

@@ -94,7 +94,7 @@ fn characters_by_the_reading_or_by_the_plot(rt: HostRuntime) -> Result<(), Fail>
 }
 
 // What `report_on` answers and writes on the page that is given.
-fn reported(alloc: Global, reading: Reading, page: &Page, plot: &[u8]) -> Result<String, Fail> {
+pub fn reported(alloc: Global, reading: Reading, page: &Page, plot: &[u8]) -> Result<String, Fail> {
     let mut sink = OverWrite::new(Vec::new(alloc));
     let mut source = OverRead::new(plot);
     let choice = PageChoice::GIVEN;
@@ -124,7 +124,7 @@ fn a_report_on_a_sheet(rt: HostRuntime) -> Result<(), Fail> {
     let report = reported(rt.alloc(), second, &eight_by_eight(Form::Pbm)?.page, SHEETS)?;
     assert_eq!(rt;
         report.as_str(),
-        "Done { rows: 0, bytes: 80, strokes: 1, notes: 0 }\n\
+        "Done { rows: 0, bytes: 80, strokes: 1, areas: 0, notes: 0 }\n\
 page 64 64 0 0\nsheets 2\nstrokes 1\npen 1 strokes 1 widest 224 box 448 0 448 1024\n"
     );
     Ok(())

@@ -11,12 +11,12 @@ use std::test::Fail;
 // Three sheets: a line in row 4, one in column 3, and one in row 1. The third one ends with the plot.
 const SHEETS: &[u8] = b"SP1;PU0,28;PD64,28;PG;PU28,0;PD28,64;PG;PU0,52;PD64,52;";
 
-const ALL: Reading = Reading::Full {
+pub const ALL: Reading = Reading::Full {
     sheet: 0,
     encoding: Encoding::ByPlot,
 };
 
-fn rows_of(job: Job) -> Picture {
+pub fn rows_of(job: Job) -> Picture {
     Picture::Rows {
         job,
         smoothing: Smoothing::NONE,
@@ -24,7 +24,7 @@ fn rows_of(job: Job) -> Picture {
 }
 
 // What a plot draws, for pictures of its sheets.
-fn drawing(
+pub fn drawing(
     alloc: Global,
     reading: Reading,
     choice: PageChoice,
@@ -48,7 +48,7 @@ fn drawing(
 }
 
 // The picture of a sheet of a drawing.
-fn picture_of(
+pub fn picture_of(
     alloc: Global,
     drawing: &Drawing,
     sheet: u32,

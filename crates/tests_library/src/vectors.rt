@@ -19,7 +19,7 @@ pub const ALL: Reading = Reading::Full {
     encoding: Encoding::ByPlot,
 };
 
-const HEAD: &str = "<?xml version=\"1.0\" encoding=\"UTF-8\"?>\n\
+pub const HEAD: &str = "<?xml version=\"1.0\" encoding=\"UTF-8\"?>\n\
 <svg xmlns=\"http://www.w3.org/2000/svg\" width=\"1.6mm\" height=\"1.6mm\" viewBox=\"0 0 1024 1024\">\n\
 <g fill=\"none\" stroke-linecap=\"round\" stroke-linejoin=\"round\">\n";
 
@@ -32,7 +32,7 @@ const OF_PEN_2: &str =
 const SECOND: &str =
     "<path class=\"pen1\" stroke=\"#000000\" stroke-width=\"224\" d=\"M512 1024L512 0\"/>\n";
 
-const FOOT: &str = "</g></svg>\n";
+pub const FOOT: &str = "</g></svg>\n";
 
 // A job on a small page.
 pub fn job_of(format: VectorFormat, pens: PenSet) -> Result<VectorJob, Fail> {
@@ -79,7 +79,7 @@ pub fn run(
 }
 
 // The text of these parts, one after another.
-fn joined(alloc: Global, parts: &[&str]) -> Result<String, Fail> {
+pub fn joined(alloc: Global, parts: &[&str]) -> Result<String, Fail> {
     let mut text = String::new(alloc);
     for part in parts {
         text.push_str(part)?;

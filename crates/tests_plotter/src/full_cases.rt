@@ -2,10 +2,12 @@
 // wanted, and fails unless both texts are equal.
 use crate::notes_and_sheets::notes_on;
 use crate::pens_set::carousel;
+use areas::Area;
 use character_sets::Encoding;
 use full_plot::{Carousel, FullDrawn, draw_full, draw_full_with};
 use hpgl_plot::{Page, PlotFault, Stroke};
 use labels::{Label, Line, Place};
+use polygons::Rule;
 use std::alloc::{AllocError, Global};
 use std::process::Abort;
 use std::test::Fail;
@@ -27,6 +29,8 @@ pub enum Asked {
     Utf8,
     // The labels.
     Labels,
+    // The areas: how many strokes there were before the edges and after them, and the rule; and each sheet's end.
+    Areas,
     // The greatest number of a sheet with a stroke.
     Sheets,
     // What is noted.
@@ -131,14 +135,32 @@ fn drawn_told(alloc: Global, asked: Asked, drawn: &FullDrawn) -> Result<String, 
         return labels_told(alloc, drawn.labels.as_slice());
     }
     let mut list = String::new(alloc);
-    for stroke in drawn.strokes.as_slice() {
-        list.push_str(stroke_told(alloc, asked, stroke)?.as_str())?;
+    if let Asked::Areas = asked {
+        list.push_str(areas_told(alloc, drawn.areas.as_slice())?.as_str())?;
+    } else {
+        for stroke in drawn.strokes.as_slice() {
+            list.push_str(stroke_told(alloc, asked, stroke)?.as_str())?;
+        }
     }
     for end in drawn.ends.as_slice() {
         write!(list, " sheet to {end}")?;
     }
     if list.is_empty() {
         list.push_str("none")?;
+    }
+    Ok(list)
+}
+
+// The areas of a plot.
+pub fn areas_told(alloc: Global, areas: &[Area]) -> Result<String, AllocError> {
+    let mut list = String::new(alloc);
+    for area in areas {
+        let (first, end) = (area.first, area.end);
+        let rule = match area.rule {
+            Rule::OddCounts => "odd counts",
+            Rule::Winding => "winding",
+        };
+        write!(list, "{first}-{end} {rule};")?;
     }
     Ok(list)
 }

@@ -4,6 +4,10 @@
 #[cfg(test)]
 mod arcs;
 #[cfg(test)]
+mod areas_measured;
+#[cfg(test)]
+mod areas_set;
+#[cfg(test)]
 mod characters_set;
 #[cfg(test)]
 mod colours_set;

@@ -1,6 +1,6 @@
 // Areas: the columns of rows that are inside them.
 use crate::strokes::{WHOLE, dots, page, stroke};
-use areas::AreaRow;
+use areas::AreaSweep;
 use plot_page::{Dots, Stroke};
 use polygons::Rule;
 use std::alloc::Global;
@@ -38,32 +38,16 @@ fn height_of(per_inch: u32, row: u32) -> i64 {
     1024 * i64::from(per_inch) - (2 * i64::from(row) + 1) * 8128
 }
 
-// Room for the rows of an area with these edges.
-fn room_for(alloc: Global, edges: &[Stroke]) -> Result<AreaRow, Fail> {
+// Room for an area with these edges.
+fn room_for(alloc: Global, edges: &[Stroke]) -> Result<AreaSweep, Fail> {
     if edges.len() > 100 {
         return Err("an area of too many edges".into());
     }
-    Ok(AreaRow::new(alloc, edges.len())?)
-}
-
-// `AreaRow::find`, with no promise.
-fn find(
-    area: &mut AreaRow,
-    rule: Rule,
-    edges: &[Stroke],
-    dots: Dots,
-    height: i64,
-    columns: u32,
-) -> Result<(), Fail> {
-    if !area.has_room_for(edges.len()) || height < -FARTHEST || height > FARTHEST {
-        return Err("a row that may not be asked for".into());
-    }
-    area.find(rule, edges, dots, height, columns);
-    Ok(())
+    Ok(AreaSweep::new(alloc, edges.len())?)
 }
 
 // Whether each range that was found has a column, and all of them are among so many.
-fn are_ranges(area: &AreaRow, columns: u32) -> bool {
+fn are_ranges(area: &AreaSweep, columns: u32) -> bool {
     let mut are_ranges = true;
     for range in area.ranges() {
         are_ranges &= range.first < range.end && range.end <= columns;
@@ -72,12 +56,53 @@ fn are_ranges(area: &AreaRow, columns: u32) -> bool {
 }
 
 // Whether a column is in the ranges that were found.
-fn is_found(area: &AreaRow, column: u32) -> bool {
+fn is_found(area: &AreaSweep, column: u32) -> bool {
     let mut is_found = false;
     for range in area.ranges() {
         is_found |= range.first <= column && column < range.end;
     }
     is_found
+}
+
+// An area to sweep: its edges, which of the places between them are inside, and how many columns a row has.
+#[derive(Clone, Copy)]
+struct Swept<'a> {
+    edges: &'a [Stroke],
+    rule: Rule,
+    dots: Dots,
+    columns: u32,
+}
+
+// Adds a line for each of so many rows of an area, from the row at height `top` down: an `x` for each pixel that is inside, and a
+// `.` for each other one.
+fn sweep_over(
+    text: &mut String,
+    area: &mut AreaSweep,
+    swept: &Swept<'_>,
+    top: i64,
+    rows: u32,
+) -> Result<(), Fail> {
+    let dots = swept.dots;
+    if !area.has_room_for(swept.edges.len()) || top < -FARTHEST || top > FARTHEST {
+        return Err("rows that may not be asked for".into());
+    }
+    area.begin(swept.edges, dots, top - 16256 * i64::from(rows), top);
+    let mut height = top;
+    for _ in 0..rows {
+        if height < -FARTHEST || height > FARTHEST {
+            return Err("a row that may not be asked for".into());
+        }
+        area.next_row(swept.rule, dots, height, swept.columns);
+        if !are_ranges(area, swept.columns) {
+            return Err("no ranges of columns".into());
+        }
+        for column in 0..swept.columns {
+            text.push(if is_found(area, column) { 'x' } else { '.' })?;
+        }
+        text.push('\n')?;
+        height -= 16256;
+    }
+    Ok(())
 }
 
 // Whether the centre of a column is inside, by the rule itself and by fractions that are not rounded.
@@ -109,26 +134,37 @@ fn is_inside(rule: Rule, edges: &[Stroke], per_inch: u32, height: i64, column: u
     }
 }
 
-// The rows of the page with an area, an `x` for each pixel that is inside and a `.` for each other one.
-fn drawn(alloc: Global, rule: Rule, edges: &[Stroke], per_inch: u32) -> Result<String, Fail> {
+// The rows of the page with an area, which is swept so many rows at a time.
+fn drawn(
+    alloc: Global,
+    rule: Rule,
+    edges: &[Stroke],
+    per_inch: u32,
+    at_a_time: u32,
+) -> Result<String, Fail> {
     let dots = dots(per_inch)?;
     let page = page()?;
     let columns = dots.columns(&page);
     let mut area = room_for(alloc, edges)?;
     let mut text = String::new(alloc);
-    for row in 0..dots.rows(&page) {
-        find(
-            &mut area,
-            rule,
-            edges,
-            dots,
-            height_of(per_inch, row),
-            columns,
-        )?;
-        for column in 0..columns {
-            text.push(if is_found(&area, column) { 'x' } else { '.' })?;
+    let rows = dots.rows(&page);
+    for row in 0..rows {
+        if row % at_a_time.max(1) == 0 {
+            let swept = Swept {
+                edges,
+                rule,
+                dots,
+                columns,
+            };
+            let count = at_a_time.min(rows - row);
+            sweep_over(
+                &mut text,
+                &mut area,
+                &swept,
+                height_of(per_inch, row),
+                count,
+            )?;
         }
-        text.push('\n')?;
     }
     Ok(text)
 }
@@ -141,7 +177,8 @@ fn is_drawn(
     edges: &[Stroke],
     wanted: &str,
 ) -> Result<(), Fail> {
-    assert_eq!(rt; drawn(alloc, rule, edges, 127)?.as_str(), wanted);
+    assert_eq!(rt; drawn(alloc, rule, edges, 127, 1)?.as_str(), wanted);
+    assert_eq!(rt; drawn(alloc, rule, edges, 127, 8)?.as_str(), wanted);
     Ok(())
 }
 
@@ -170,7 +207,23 @@ fn a_hole_by_both_rules(rt: HostRuntime) -> Result<(), Fail> {
     is_drawn(&rt, rt.alloc(), Rule::Winding, &edges, hole)
 }
 
-// Each column of each row of a polygon, by both rules, against the rule itself.
+// The rows of the page by the rule itself.
+fn exact(alloc: Global, rule: Rule, edges: &[Stroke], per_inch: u32) -> Result<String, Fail> {
+    let page = page()?;
+    let dots = dots(per_inch)?;
+    let mut text = String::new(alloc);
+    for row in 0..dots.rows(&page) {
+        let height = height_of(per_inch, row);
+        for column in 0..dots.columns(&page) {
+            let is_inside = is_inside(rule, edges, per_inch, height, column);
+            text.push(if is_inside { 'x' } else { '.' })?;
+        }
+        text.push('\n')?;
+    }
+    Ok(text)
+}
+
+// Each column of each row of a polygon, by both rules, against the rule itself, for sweeps of one row, of a few, and of all.
 fn is_exact(
     rt: &impl Abort,
     alloc: Global,
@@ -179,19 +232,11 @@ fn is_exact(
 ) -> Result<(), Fail> {
     let mut edges = Vec::new(alloc);
     add(&mut edges, places)?;
-    let page = page()?;
-    let dots = dots(per_inch)?;
-    let columns = dots.columns(&page);
-    let mut area = room_for(alloc, &edges)?;
-    for row in 0..dots.rows(&page) {
-        let height = height_of(per_inch, row);
-        for rule in [Rule::OddCounts, Rule::Winding] {
-            find(&mut area, rule, &edges, dots, height, columns)?;
-            assert!(rt; are_ranges(&area, columns));
-            for column in 0..columns {
-                let wanted = is_inside(rule, &edges, per_inch, height, column);
-                assert!(rt; is_found(&area, column) == wanted);
-            }
+    for rule in [Rule::OddCounts, Rule::Winding] {
+        let wanted = exact(alloc, rule, &edges, per_inch)?;
+        for at_a_time in [1, 3, 1000] {
+            let found = drawn(alloc, rule, &edges, per_inch, at_a_time)?;
+            assert_eq!(rt; found.as_str(), wanted.as_str());
         }
     }
     Ok(())

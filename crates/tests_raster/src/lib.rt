@@ -2,7 +2,11 @@
 #![tactic(auto)]
 
 #[cfg(test)]
+mod areas_counted;
+#[cfg(test)]
 mod areas_inside;
+#[cfg(test)]
+mod areas_painted;
 #[cfg(test)]
 mod checksums;
 #[cfg(test)]

@@ -1,4 +1,5 @@
 use Rattle.std.proofs.Common.{Result, Ok, Err, refl, sym, ap, subst, arith}
+use Rattle.areas.specs.Views.{shapes_in}
 use Rattle.picture_job.specs.declared.smoothing.Smoothing.{Smoothing}
 use Rattle.conversion.specs.Conversions.{HasConvertedBy}
 use Rattle.conversion.specs.Rules.{rules_in, rules_of}
@@ -36,8 +37,8 @@ returns-in-Ok-clause-converts g c =
     let is = g.S.Source.state c.draw.new.source in
     let drawn = drawn_so c.args.reading c.empty.result _ c.args.job.now reaches was is c.empty.ensures c.in_ok-request.request.setup c.in_ok-request.request.picture.now _
     (ap rules_in made.setup) (ap (λ s. s.choice) made.setup) shown c.in_ok-drawing.ensures.draws in
-    converted_given c.args.reading c.empty.result plain c.args.job.now reaches was is c.empty.ensures _ _ _ _ c.in_ok-drawing.drawing c.as_slice.result.now (Ok c.in-Ok.outcome)
-    refl drawn c.as_slice.ensures.value c.in-Ok.ensures.writes c.in-Ok.ensures.tests
+    converted_given c.args.reading c.empty.result plain c.args.job.now reaches was is c.empty.ensures _ _ _ _ c.in_ok-drawing.drawing (shapes_in c.shapes_on.result) (Ok c.in-Ok.outcome)
+    refl drawn c.shapes_on.ensures.shapes c.in-Ok.ensures.writes c.in-Ok.ensures.tests
 
 pub returns-clause-converts : goal.returns-clause-converts
 returns-clause-converts g c =
@@ -48,5 +49,5 @@ returns-clause-converts g c =
     let is = g.S.Source.state c.draw.new.source in
     let drawn = drawn_so c.args.reading c.empty.result _ c.args.job.now reaches was is c.empty.ensures c.in_ok-request.request.setup c.in_ok-request.request.picture.now _
     (ap rules_in made.setup) (ap (λ s. s.choice) made.setup) shown c.in_ok-drawing.ensures.draws in
-    converted_given c.args.reading c.empty.result plain c.args.job.now reaches was is c.empty.ensures _ _ _ _ c.in_ok-drawing.drawing c.as_slice.result.now (Err c.in-Err.fault)
-    refl drawn c.as_slice.ensures.value c.in-Err.ensures.writes c.in-Err.ensures.tests
+    converted_given c.args.reading c.empty.result plain c.args.job.now reaches was is c.empty.ensures _ _ _ _ c.in_ok-drawing.drawing (shapes_in c.shapes_on.result) (Err c.in-Err.fault)
+    refl drawn c.shapes_on.ensures.shapes c.in-Err.ensures.writes c.in-Err.ensures.tests

@@ -3,7 +3,8 @@ use Rattle.std.proofs.Math.Seq.{take-length}
 use Rattle.hpgl_text.specs.Cut.{cut, cut_by}
 use Rattle.hpgl_text.specs.Shapes.{ItemShape}
 use Rattle.hpgl_text.specs.declared.profile.Profile.TheVariants.{Full}
-use Rattle.full_plot.specs.Drawings.{full_runs, full_at_start, refusal_in, strokes_in, ends_in, sheet_strokes}
+use Rattle.areas.specs.declared.area.Area.{Area}
+use Rattle.full_plot.specs.Drawings.{areas_of, areas_of_sheet, full_runs, full_at_start, refusal_in, strokes_in, ends_in, sheet_strokes}
 use Rattle.full_notes.specs.Notes as full
 use Rattle.full_plot.proofs.CorePlots.{draws_as_in_core}
 use Rattle.full_plot.proofs.CoreNotes.{noted_as_in_core}
@@ -21,5 +22,8 @@ returns c = λ page plot h.
           ∙ ap (λ (ends : List ℕ). sheet_strokes strokes ends 1) drawn.2
           ∙ take-length strokes
           ∙ drawn.1 accepted;
+      areas =
+          ap (λ (items : List ItemShape). let o = full_runs (full_at_start page) items in areas_of_sheet (areas_of o) (ends_in o) (length (strokes_in o)) 1) same
+          ∙ ap (λ (areas : List Area). areas_of_sheet areas (ends_in (full_runs (full_at_start page) (cut plot))) (length strokes) 1) drawn.3;
       notes = ap (λ (items : List ItemShape). length (full.notes items)) same ∙ ap length (noted_as_in_core (cut plot) h.are_core);
     }

@@ -1,9 +1,8 @@
-use Rattle.std.proofs.Common.{◌≡◌, Err, List, Ok, length, ap, ap₂, rules, subst, ◌∙◌}
-use Rattle.full_plot.specs.Drawings.{sheet_strokes}
-use Rattle.plot_page.specs.Segments.{Segment}
+use Rattle.std.proofs.Common.{◌≡◌, Err, Ok, length, ap, ap₂, rules, subst, ◌∙◌}
+use Rattle.areas.specs.Shapes.{ShapeList}
 use Rattle.full_plot.specs.Labels.{labels_of_sheet}
 use Rattle.labels.specs.Sheets.{all_counted}
-use Rattle.conversion.specs.Sheets.{TellsOf, labels_on, strokes_on}
+use Rattle.conversion.specs.Sheets.{TellsOf, labels_on}
 use Rattle.conversion.proofs.Vectors.{fault_again, never_letters, no_fault, puts_same, same_fault, same_letters}
 use Rattle.conversion.proofs.vector_sheet.write_vector_sheet.Goals as goal
 use Rattle.conversion.proofs.vector_sheet.write_vector_sheet.Goals.{in-Svg+in_ok-put_svg-in-Svg, in-Pdf+in_ok-put_pdf-in-Pdf}
@@ -11,21 +10,19 @@ use Rattle.conversion.proofs.vector_sheet.write_vector_sheet.Goals.{in-Svg+in_ok
 pub returns-clause-writes : goal.returns-clause-writes
 returns-clause-writes g c =
     let drawing = c.args.drawing.now in
-    let all = c.as_slice-all.ensures.value in
-    let strokes : c.sheet_of-strokes.result.now ≡ strokes_on drawing c.args.sheet =
-    c.sheet_of-strokes.ensures ∙ ap₂ (λ s e. sheet_strokes s e c.args.sheet) all c.as_slice.ensures.value in
+    let shapes = c.shapes_on-shapes.ensures.shapes in
     let labels : all_counted c.labels_on-before.result.1 c.labels_on-before.result.0.now ≡ labels_on drawing c.args.sheet =
     c.labels_on-before.ensures
-    ∙ ap (λ s. labels_of_sheet c.as_slice-2.result.now c.as_slice-3.result.now (length s) c.args.sheet) all
-    ∙ ap₂ (λ l e. labels_of_sheet l e (length drawing.lines.strokes.items) c.args.sheet) c.as_slice-2.ensures.value c.as_slice-3.ensures.value in
+    ∙ ap (λ s. labels_of_sheet c.as_slice.result.now c.as_slice-2.result.now (length s) c.args.sheet) c.as_slice-all.ensures.value
+    ∙ ap₂ (λ l e. labels_of_sheet l e (length drawing.lines.strokes.items) c.args.sheet) c.as_slice.ensures.value c.as_slice-2.ensures.value in
     record {
       puts = elim c.match-job.branch [
         | in-Svg+in_ok-put_svg-in-Svg w ↦
             puts_same c.outcome_of.result w.in_ok-put_svg-in-Svg.field-0 c.args.job.now.format _ c.args.naming drawing.page c.args.job.now.pens _ _ _ _ _ _ _ _ _
-            w.in-Svg.is strokes c.ends_in-ends.ensures labels (ap g.K.Sink.state w.sink-is) w.in_ok-put_svg-in-Svg.ensures.puts
+            w.in-Svg.is shapes c.ends_in-ends.ensures labels (ap g.K.Sink.state w.sink-is) w.in_ok-put_svg-in-Svg.ensures.puts
         | in-Pdf+in_ok-put_pdf-in-Pdf w ↦
             puts_same c.outcome_of.result w.in_ok-put_pdf-in-Pdf.field-0 c.args.job.now.format _ c.args.naming drawing.page c.args.job.now.pens _ _ _ _ _ _ _ _ _
-            w.in-Pdf.is strokes c.ends_in-ends.ensures labels (ap g.K.Sink.state w.sink-is) w.in_ok-put_pdf-in-Pdf.ensures.puts
+            w.in-Pdf.is shapes c.ends_in-ends.ensures labels (ap g.K.Sink.state w.sink-is) w.in_ok-put_pdf-in-Pdf.ensures.puts
       ];
       letters = elim c.match-job.branch [
         | in-Svg+in_ok-put_svg-in-Svg w ↦
@@ -36,17 +33,16 @@ returns-clause-writes g c =
       ];
       rows = c.outcome_of.ensures.rows;
       bytes = c.outcome_of.ensures.bytes;
-      tells = subst (λ (s : List Segment). TellsOf drawing c.args.job.now.pens s c.outcome_of.result) strokes c.outcome_of.ensures.tells;
+      tells = subst (λ (s : ShapeList). TellsOf drawing c.args.job.now.pens s c.outcome_of.result) shapes c.outcome_of.ensures.tells;
     }
 
 pub returns-in_err-put_svg-in-Svg-clause-writes : goal.returns-in_err-put_svg-in-Svg-clause-writes
 returns-in_err-put_svg-in-Svg-clause-writes g c =
     let drawing = c.args.drawing.now in
-    let all = c.as_slice-all.ensures.value in
     let labels : all_counted c.labels_on-before.result.1 c.labels_on-before.result.0.now ≡ labels_on drawing c.args.sheet =
     c.labels_on-before.ensures
-    ∙ ap (λ s. labels_of_sheet c.as_slice-2.result.now c.as_slice-3.result.now (length s) c.args.sheet) all
-    ∙ ap₂ (λ l e. labels_of_sheet l e (length drawing.lines.strokes.items) c.args.sheet) c.as_slice-2.ensures.value c.as_slice-3.ensures.value in
+    ∙ ap (λ s. labels_of_sheet c.as_slice.result.now c.as_slice-2.result.now (length s) c.args.sheet) c.as_slice-all.ensures.value
+    ∙ ap₂ (λ l e. labels_of_sheet l e (length drawing.lines.strokes.items) c.args.sheet) c.as_slice.ensures.value c.as_slice-2.ensures.value in
     let e = c.in_err-put_svg-in-Svg.field-0.0 in
     record {
       puts = search rules;
@@ -60,11 +56,10 @@ returns-in_err-put_svg-in-Svg-clause-writes g c =
 pub returns-in_err-put_pdf-in-Pdf-clause-writes : goal.returns-in_err-put_pdf-in-Pdf-clause-writes
 returns-in_err-put_pdf-in-Pdf-clause-writes g c =
     let drawing = c.args.drawing.now in
-    let all = c.as_slice-all.ensures.value in
     let labels : all_counted c.labels_on-before.result.1 c.labels_on-before.result.0.now ≡ labels_on drawing c.args.sheet =
     c.labels_on-before.ensures
-    ∙ ap (λ s. labels_of_sheet c.as_slice-2.result.now c.as_slice-3.result.now (length s) c.args.sheet) all
-    ∙ ap₂ (λ l e. labels_of_sheet l e (length drawing.lines.strokes.items) c.args.sheet) c.as_slice-2.ensures.value c.as_slice-3.ensures.value in
+    ∙ ap (λ s. labels_of_sheet c.as_slice.result.now c.as_slice-2.result.now (length s) c.args.sheet) c.as_slice-all.ensures.value
+    ∙ ap₂ (λ l e. labels_of_sheet l e (length drawing.lines.strokes.items) c.args.sheet) c.as_slice.ensures.value c.as_slice-2.ensures.value in
     let e = c.in_err-put_pdf-in-Pdf.field-0.0 in
     record {
       puts = search rules;

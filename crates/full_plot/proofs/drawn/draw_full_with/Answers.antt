@@ -11,7 +11,7 @@ use Rattle.full_notes.specs.Notes.{body_noted, context_after, notes_from}
 use Rattle.full_notes.proofs.FewNotes.{few_notes}
 use Rattle.full_plot.specs.Labels.{labels_from, labels_kept}
 use Rattle.full_plot.proofs.LabelsOver.{kept_past}
-use Rattle.full_plot.proofs.Later.{carried_out, few_strokes, told_as_set}
+use Rattle.full_plot.proofs.Later.{areas_alike, areas_apart, areas_within, carried_out, few_strokes, told_as_set}
 use Rattle.full_plot.proofs.drawn.draw_full_with.Goals as goal
 
 -- the notes on these items, where the note on the first is known
@@ -62,4 +62,19 @@ items-preserved c =
 pub returns-clause-limit : goal.returns-clause-limit
 returns-clause-limit c =
     few_strokes c.args.encoding c.args.carousel.now c.args.page.now (cut_by Full c.args.text.now) (seen c.items.plotter)
+    (sym c.items.invariant.same ∙ ap (λ (rest : List ItemShape). full_runs (seen c.items.plotter) rest) c.in_default.ensures.steps.0)
+
+pub returns-clause-apart : goal.returns-clause-apart
+returns-clause-apart c =
+    areas_apart c.args.encoding c.args.carousel.now c.args.page.now (cut_by Full c.args.text.now) (seen c.items.plotter)
+    (sym c.items.invariant.same ∙ ap (λ (rest : List ItemShape). full_runs (seen c.items.plotter) rest) c.in_default.ensures.steps.0)
+
+pub returns-clause-within : goal.returns-clause-within
+returns-clause-within c =
+    areas_within c.args.encoding c.args.carousel.now c.args.page.now (cut_by Full c.args.text.now) (seen c.items.plotter)
+    (sym c.items.invariant.same ∙ ap (λ (rest : List ItemShape). full_runs (seen c.items.plotter) rest) c.in_default.ensures.steps.0)
+
+pub returns-clause-alike : goal.returns-clause-alike
+returns-clause-alike c =
+    areas_alike c.args.encoding c.args.carousel.now c.args.page.now (cut_by Full c.args.text.now) (seen c.items.plotter)
     (sym c.items.invariant.same ∙ ap (λ (rest : List ItemShape). full_runs (seen c.items.plotter) rest) c.in_default.ensures.steps.0)

@@ -4,7 +4,8 @@ use Rattle.picture_job.specs.declared.job.Job.{Job}
 use Rattle.conversion.specs.Conversions.{Converts, IsCutShort}
 use Rattle.rows.specs.Pictures.{Reach}
 use Rattle.conversion.specs.Pictures.{picture}
-use Rattle.conversion.specs.Rules.{core_rules}
+use Rattle.conversion.specs.Rules.{core_rules, picture_by}
+use Rattle.conversion.proofs.CorePictures.{core_picture}
 use Rattle.conversion.specs.declared.done.Done.{Done}
 use Rattle.conversion.specs.declared.fault.Fault.{Fault}
 use Rattle.conversion.specs.declared.fault.Fault.TheVariants.{Write}
@@ -33,7 +34,19 @@ returns-in-Err-Write-clause-preview g c =
     let reaches : Reach = g.G.Gauge.reaches c.args.gauge.now in
     let read = cut.read in
     let written = cut.written in
+    let by_rules = picture_by core_rules 1 c.args.job.now reaches run.input in
     let same : run.input ≡ c.args.plot.now = search rules in
-    let kept : c.convert-answer.new.sink.bytes.items ≡ take bytes (picture c.args.job.now reaches run.input) = search rules in
-    let within : bytes < length (picture c.args.job.now reaches run.input) = cut.within in
-    rw same at (beginning c.convert-answer.new.sink.bytes.items (picture c.args.job.now reaches run.input) bytes kept within)
+    let kept : c.convert-answer.new.sink.bytes.items ≡ take bytes by_rules = search rules in
+    let within : bytes < length by_rules = cut.within in
+    rw same at (subst (λ (p : List ℕ). (length c.convert-answer.new.sink.bytes.items < length p) × (c.convert-answer.new.sink.bytes.items ≡ take (length c.convert-answer.new.sink.bytes.items) p))
+    (core_picture c.args.job.now reaches run.input) (beginning c.convert-answer.new.sink.bytes.items by_rules bytes kept within))
+
+pub returns-in-Ok-clause-preview : goal.returns-in-Ok-clause-preview
+returns-in-Ok-clause-preview g c =
+    let run = c.in-Ok.ensures.converts in
+    let whole = run.converts in
+    let written = whole.written in
+    let reaches : Reach = g.G.Gauge.reaches c.args.gauge.now in
+    let same : run.input ≡ c.args.plot.now = search rules in
+    let kept : c.convert-answer.new.sink.bytes.items ≡ picture_by core_rules 1 c.args.job.now reaches run.input = search rules in
+    rw same at (kept ∙ core_picture c.args.job.now reaches run.input)

@@ -1,8 +1,18 @@
-use Rattle.std.proofs.Common.{◌≡◌, ◌≤◌, fold, take}
-use Rattle.page_fit.specs.Census.{counted}
+use Rattle.std.proofs.Common.{◌≡◌, ◌+◌, ◌≤◌, flat_map, fold, length}
+use Rattle.areas.specs.Views.{shapes_in}
+use Rattle.areas.specs.Walks.{shapes_left}
+use Rattle.page_fit.specs.Shapes.{counted_all, shapes_census}
 use Rattle.page_fit.proofs.census.census_of.Given as goal
 
-abbrev pub invariant-loop-stroke : goal.invariant-loop-stroke
-invariant-loop-stroke l =
-    (l.census ≡ fold (counted l.fn.pens l.fn.page) (record { strokes = 0; off_page = 0; cut = 0 }) (take l.stroke-index l.strokes))
-    × (l.census.strokes ≤ l.stroke-index) × (l.census.off_page ≤ l.stroke-index) × (l.census.cut ≤ l.stroke-index)
+-- with the shapes that are left it is the whole census
+abbrev pub invariant-shapes : goal.invariant-shapes
+invariant-shapes l = record {
+  whole : fold (λ census shape. counted_all l.fn.pens l.fn.page census shape.strokes) l.census (shapes_left l.rest)
+      ≡ shapes_census l.fn.pens l.fn.page (shapes_in l.fn.shapes);
+  few : l.census.strokes + length (flat_map (λ shape. shape.strokes) (shapes_left l.rest)) ≤ length l.fn.shapes.strokes.now;
+  off_page : l.census.off_page ≤ l.census.strokes;
+  cut : l.census.cut ≤ l.census.strokes;
+}
+
+abbrev pub decreases-shapes : goal.decreases-shapes
+decreases-shapes l = length (shapes_left l.rest)

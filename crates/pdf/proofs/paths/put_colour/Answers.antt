@@ -2,11 +2,4 @@ use Rattle.pdf.proofs.Contained.{◌next◌}
 use Rattle.pdf.proofs.paths.put_colour.Goals as goal
 
 pub returns : goal.returns
-returns g c = record {
-  fills = c.put_part.ensures.fills
-      next c.put.ensures.fills
-      next c.put_part-2.ensures.fills
-      next c.put-2.ensures.fills
-      next c.put_part-3.ensures.fills
-      next c.put-3.ensures.fills;
-}
+returns g c = record { fills = c.put_parts.ensures.fills next c.put.ensures.fills }

@@ -1,23 +1,20 @@
-use Rattle.std.proofs.Common.{◌≡◌, ◌++◌, ◌∙◌, List, ℕ, append_assoc, flat_map}
-use Rattle.pieces.proofs.Texts.{◌then◌, all_counted, puts_as, writes, written}
-use Rattle.plot_report.specs.Report.{full_report_of, note_line, page_line, pen_lines, sheets_line, strokes_line}
+use Rattle.std.proofs.Common.{◌∙◌}
+use Rattle.areas.specs.Views.{shapes_in}
+use Rattle.pieces.proofs.Texts.{◌then◌, all_counted, writes, written}
+use Rattle.plot_report.specs.Report.{full_report_of}
 use Rattle.plot_report.proofs.Lengths.{full_report_few}
 use Rattle.plot_report.proofs.report.put_full_report.Goals as goal
-
--- the lines of the strokes and of the pens are put together
-apart : (a b p n : List ℕ) → (a ++ (b ++ p)) ++ n ≡ ((a ++ b) ++ p) ++ n
-apart a b p n = simp append_assoc
 
 pub returns : goal.returns
 returns g c =
     let state = g.K.Sink.state in
     let notes = g.N.NoteSource.notes c.args.notes in
-    let lines = c.put_page_line.ensures.puts then c.put_sheets_line.ensures.puts then c.put_strokes.ensures.puts then c.put_notes.ensures.puts in
-    let puts = puts_as lines (apart (page_line c.args.page ++ sheets_line c.args.sheets) (strokes_line c.args.strokes.now) (pen_lines c.args.strokes.now) (flat_map note_line notes)) in
-    let few = full_report_few c.args.page c.args.sheets c.args.strokes.now notes c.requires.notes c.put_notes.ensures.few in
+    let list = shapes_in c.args.shapes in
+    let puts = c.put_page_line.ensures.puts then c.put_sheets_line.ensures.puts then c.put_shapes.ensures.puts then c.put_notes.ensures.puts in
+    let few = full_report_few c.args.page c.args.sheets list notes c.requires.notes c.put_notes.ensures.few in
     let first = state c.args.text.now.sink.now in
     let last = state c.finish.new.self.sink.now in
-    let text = full_report_of c.args.page c.args.sheets c.args.strokes.now notes in
+    let text = full_report_of c.args.page c.args.sheets list notes in
     let all = written state c.args.text.now c.put_notes.new.text last text c.finish.result c.requires.new puts c.finish.ensures.finishes in
     record {
       same = c.finish.ensures.same ∙ puts.same;

@@ -1,7 +1,9 @@
-use Rattle.std.proofs.Common.{◌≡◌, ◌++◌, ◌∙◌, List, ℕ, append_assoc, flat_map}
+use Rattle.std.proofs.Common.{◌≡◌, ◌++◌, ◌∙◌, List, ℕ, ap, append_assoc, flat_map}
 use Rattle.pieces.proofs.Texts.{◌then◌, all_counted, puts_as, writes, written}
-use Rattle.plot_report.specs.Report.{note_line, page_line, pen_lines, report_of, strokes_line}
+use Rattle.areas.specs.Shapes.{ShapeList, shapes}
+use Rattle.plot_report.specs.Report.{note_line, page_line, pen_lines, report_of, shape_lines, strokes_line}
 use Rattle.plot_report.proofs.Lengths.{report_few}
+use Rattle.plot_report.proofs.Plain.{lines_without_areas}
 use Rattle.plot_report.proofs.report.put_report.Goals as goal
 
 -- the lines of the strokes and of the pens are put together
@@ -12,8 +14,10 @@ pub returns : goal.returns
 returns g c =
     let state = g.K.Sink.state in
     let notes = g.N.NoteSource.notes c.args.notes in
-    let lines = c.put_page_line.ensures.puts then c.put_strokes.ensures.puts then c.put_notes.ensures.puts in
-    let puts = puts_as lines (apart (page_line c.args.page) (strokes_line c.args.strokes.now) (pen_lines c.args.strokes.now) (flat_map note_line notes)) in
+    let strokes = c.args.strokes.now in
+    let plain_lines = ap (λ (list : ShapeList). shape_lines (shapes list.strokes list.areas)) c.of_strokes.ensures.shapes ∙ lines_without_areas strokes in
+    let lines = c.put_page_line.ensures.puts then (puts_as c.put_shapes.ensures.puts plain_lines) then c.put_notes.ensures.puts in
+    let puts = puts_as lines (apart (page_line c.args.page) (strokes_line strokes) (pen_lines strokes) (flat_map note_line notes)) in
     let few = report_few c.args.page c.args.strokes.now notes c.requires.notes c.put_notes.ensures.few in
     let first = state c.args.text.now.sink.now in
     let last = state c.finish.new.self.sink.now in

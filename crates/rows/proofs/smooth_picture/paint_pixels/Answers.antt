@@ -2,6 +2,7 @@ use Rattle.std.proofs.Common.{ℕ, sym, ◌∙◌}
 use Rattle.std.proofs.lemmas.List.FromFn.{length-map-range_with_len}
 use Rattle.plot_page.specs.Resolutions.{columns_of}
 use Rattle.smoothing.specs.Smoothings.{smoothed}
+use Rattle.areas.specs.Views.{shapes_in}
 use Rattle.rows.specs.Layouts.{scene_pixels, smooth_row}
 use Rattle.rows.specs.Pictures.{colours_at, finer}
 use Rattle.rows.proofs.PixelLayouts.{pixels_laid_out}
@@ -12,7 +13,7 @@ pub returns-clause-paints : goal.returns-clause-paints
 returns-clause-paints g c =
     let scene = c.args.scene in
     let n = c.args.ask.times in
-    let ss = scene.strokes.now in
+    let ss = shapes_in scene.shapes in
     let reaches = g.G.Gauge.reaches c.args.gauge.now in
     let made = c.header_of-header.ensures in
     let wide = λ (row : ℕ). made.header.columns ∙ sym (length-map-range_with_len (smoothed n (colours_at reaches scene.pens ss scene.page (finer n scene.dots)) row) 0 (columns_of scene.page scene.dots)) in

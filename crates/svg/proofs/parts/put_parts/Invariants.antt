@@ -1,6 +1,8 @@
 use Rattle.std.proofs.Common.{drop, flat_map}
+use Rattle.areas.specs.Views.{areas_in}
 use Rattle.labels.specs.Sheets.{all_counted}
 use Rattle.pieces.proofs.Texts.{Left}
+use Rattle.stroke_runs.specs.Sheets.{sheet_areas}
 use Rattle.svg.specs.Parts.{cut_labels, part_text, parts_after, parts_text}
 use Rattle.svg.proofs.parts.put_parts.Given as goal
 
@@ -11,5 +13,6 @@ invariant-loop-label g l =
     let page = view.page.now in
     let pens = view.pens.now in
     let strokes = view.strokes.now in
+    let areas = sheet_areas l.at (areas_in view.areas) in
     let left = cut_labels l.end (all_counted l.at (all_counted view.before (drop l.label-index view.labels.now))) in
-    Left g.K.Sink.state l.fn.text l.text (flat_map part_text (parts_after page pens strokes l.end left)) (parts_text page pens strokes (all_counted l.at (all_counted view.before view.labels.now)))
+    Left g.K.Sink.state l.fn.text l.text (flat_map part_text (parts_after page pens strokes areas l.end left)) (parts_text page pens strokes areas (all_counted l.at (all_counted view.before view.labels.now)))

@@ -1,12 +1,14 @@
 use Rattle.std.proofs.Common.{◌≡◌, ◌+◌, ◌≤◌, ◌++◌, ◌∙◌, ℕ, List, [], ◌∷◌, ap, refl, sym, arith, true, false, get_or, nat_eq, length, take, drop}
 use Rattle.std.proofs.lemmas.Bool.Decides.{nat_tests}
+use Rattle.areas.specs.Views.{areas_in}
+use Rattle.areas.specs.declared.area.Area.{Area}
 use Rattle.labels.specs.Labels.{LabelShape}
 use Rattle.labels.specs.Sheets.{all_counted, count_to, labels_to}
 use Rattle.pieces.proofs.Texts.{◌then◌, all_left, left_as, next_put}
 use Rattle.plot_page.specs.Segments.{Segment}
 use Rattle.plot_page.specs.declared.page.Page.{Page}
 use Rattle.plot_page.specs.declared.pens.PenSet.{PenSet}
-use Rattle.stroke_runs.specs.Sheets.{between}
+use Rattle.stroke_runs.specs.Sheets.{between, sheet_areas}
 use Rattle.svg.specs.Documents.{sheet_text, sheets_text}
 use Rattle.svg.specs.Sheets.{Sheet, labelled_after}
 use Rattle.svg.proofs.Counts.{first_counted, rest_counted}
@@ -15,17 +17,17 @@ use Rattle.svg.proofs.sheets.put_sheets.Goals as goal
 use Rattle.svg.proofs.sheets.put_sheets.Goals.{then-not-is_empty, else-not-is_empty}
 
 -- a sheet with these labels
-abbrev sheet_of : List Segment → ℕ → ℕ → List LabelShape → Sheet
-sheet_of sheet at begin labels = record { strokes = sheet; labels = all_counted at (all_counted begin labels) }
+abbrev sheet_of : List Segment → List Area → ℕ → ℕ → List LabelShape → Sheet
+sheet_of sheet areas at begin labels = record { strokes = sheet; areas = sheet_areas at areas; labels = all_counted at (all_counted begin labels) }
 
 same_size : (ss ts : List Segment) → ss ≡ ts → length ss ≡ length ts
 same_size ss ts h = ap (λ (zs : List Segment). length zs) h
 
 -- the next sheet, and those after it
-next_sheet : (page : Page) (pens : PenSet) (number begin : ℕ) (strokes : List Segment) (at end n : ℕ) (left others : List ℕ) (labels here later : List LabelShape) (sheet : List Segment) → left ≡ end ∷ others → nat_eq (length (between strokes at end)) 0 ≡ false → sheet ≡ between strokes at end → n ≡ count_to end (all_counted begin labels)
-    → here ≡ take n labels → later ≡ drop n labels → sheets_text page pens number (labelled_after strokes at left (all_counted begin labels))
-    ≡ sheet_text page pens (number + 1) (sheet_of sheet at begin here) ++ sheets_text page pens (number + 1) (labelled_after strokes end others (all_counted begin later))
-next_sheet page pens number begin strokes at end n left others labels here later sheet next some cut count front back =
+next_sheet : (page : Page) (pens : PenSet) (number begin : ℕ) (strokes : List Segment) (areas : List Area) (at end n : ℕ) (left others : List ℕ) (labels here later : List LabelShape) (sheet : List Segment) → left ≡ end ∷ others → nat_eq (length (between strokes at end)) 0 ≡ false → sheet ≡ between strokes at end → n ≡ count_to end (all_counted begin labels)
+    → here ≡ take n labels → later ≡ drop n labels → sheets_text page pens number (labelled_after strokes areas at left (all_counted begin labels))
+    ≡ sheet_text page pens (number + 1) (sheet_of sheet areas at begin here) ++ sheets_text page pens (number + 1) (labelled_after strokes areas end others (all_counted begin later))
+next_sheet page pens number begin strokes areas at end n left others labels here later sheet next some cut count front back =
     let all = all_counted begin labels in
     let own : all_counted begin here ≡ labels_to end all =
     ap (λ (z : List LabelShape). all_counted begin z) front ∙ first_counted begin n labels ∙ ap (λ (m : ℕ). take m all) count in
@@ -34,13 +36,13 @@ next_sheet page pens number begin strokes at end n left others labels here later
     let a = sym cut in
     let b = sym own in
     let d = sym rest in
-    ap (λ (es : List ℕ). sheets_text page pens number (labelled_after strokes at es all)) next ∙ taken_sheet page pens number strokes at end others all some
-    ∙ (λ i. sheet_text page pens (number + 1) (record { strokes = a i; labels = all_counted at (b i) }) ++ sheets_text page pens (number + 1) (labelled_after strokes end others (d i)))
+    ap (λ (es : List ℕ). sheets_text page pens number (labelled_after strokes areas at es all)) next ∙ taken_sheet page pens number strokes areas at end others all some
+    ∙ (λ i. sheet_text page pens (number + 1) (record { strokes = a i; areas = sheet_areas at areas; labels = all_counted at (b i) }) ++ sheets_text page pens (number + 1) (labelled_after strokes areas end others (d i)))
 
 -- if the next sheet has no stroke
-next_passed : (page : Page) (pens : PenSet) (number : ℕ) (strokes : List Segment) (at end : ℕ) (left others : List ℕ) (labels : List LabelShape) → left ≡ end ∷ others → nat_eq (length (between strokes at end)) 0 ≡ true → sheets_text page pens number (labelled_after strokes at left labels) ≡ sheets_text page pens number (labelled_after strokes at others labels)
-next_passed page pens number strokes at end left others labels next none =
-    ap (λ (es : List ℕ). sheets_text page pens number (labelled_after strokes at es labels)) next ∙ passed_sheet page pens number strokes at end others labels none
+next_passed : (page : Page) (pens : PenSet) (number : ℕ) (strokes : List Segment) (areas : List Area) (at end : ℕ) (left others : List ℕ) (labels : List LabelShape) → left ≡ end ∷ others → nat_eq (length (between strokes at end)) 0 ≡ true → sheets_text page pens number (labelled_after strokes areas at left labels) ≡ sheets_text page pens number (labelled_after strokes areas at others labels)
+next_passed page pens number strokes areas at end left others labels next none =
+    ap (λ (es : List ℕ). sheets_text page pens number (labelled_after strokes areas at es labels)) next ∙ passed_sheet page pens number strokes areas at end others labels none
 
 -- the next end of a sheet, as the code finds it
 end_here : (ends : List ℕ) (n i end : ℕ) → i ≤ length ends → end ≡ get_or ends i n → drop i (ends ++ n ∷ []) ≡ end ∷ drop (i + 1) (ends ++ n ∷ [])
@@ -55,6 +57,7 @@ loop-ended-preserved g c =
     let page = view.page.now in
     let pens = view.pens.now in
     let strokes = view.strokes.now in
+    let areas = areas_in view.areas in
     let begin = view.before in
     let ends = c.args.ends.now ++ length strokes ∷ [] in
     let l = c.loop-ended in
@@ -73,7 +76,7 @@ loop-ended-preserved g c =
           let some : nat_eq (length sheet) 0 ≡ false = grind (arith, nat_tests, same, w.if-not-is_empty.true, c.is_empty.ensures) in
           let stroke : 1 ≤ length sheet = grind (arith, nat_tests, some) in
           let next =
-          next_sheet page pens l.number begin strokes l.at end w.count_to.result (drop l.ended ends) others l.rest.now here later own ended some c.between-sheet.ensures w.count_to.ensures.value w.split_at.ensures.front w.split_at.ensures.back in
+          next_sheet page pens l.number begin strokes areas l.at end w.count_to.result (drop l.ended ends) others l.rest.now here later own ended some c.between-sheet.ensures w.count_to.ensures.value w.split_at.ensures.front w.split_at.ensures.back in
           let put = next_put l.invariant.left (w.put_open.ensures.puts then w.put_parts.ensures.puts then w.put.ensures.puts) next in
           record {
             left = rw (w.text-is, w.at-is, w.number-is, w.rest-is) put;
@@ -82,7 +85,7 @@ loop-ended-preserved g c =
           }
       | else-not-is_empty w ↦
           let none : nat_eq (length sheet) 0 ≡ true = grind (arith, nat_tests, same, w.if-not-is_empty.false, c.is_empty.ensures) in
-          let next = next_passed page pens l.number strokes l.at end (drop l.ended ends) others labels ended none in
+          let next = next_passed page pens l.number strokes areas l.at end (drop l.ended ends) others labels ended none in
           record {
             left = rw (w.text-is, w.at-is, w.number-is, w.rest-is) (left_as l.invariant.left next);
             few = rw (w.at-is, w.number-is) l.invariant.few;

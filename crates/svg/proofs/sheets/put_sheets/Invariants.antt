@@ -1,4 +1,5 @@
 use Rattle.std.proofs.Common.{◌++◌, ◌∷◌, ◌≤◌, [], drop, length}
+use Rattle.areas.specs.Views.{areas_in}
 use Rattle.labels.specs.Sheets.{all_counted}
 use Rattle.pieces.proofs.Texts.{Left}
 use Rattle.svg.specs.Documents.{sheets_text}
@@ -12,8 +13,9 @@ invariant-loop-ended g l =
     let page = view.page.now in
     let pens = view.pens.now in
     let strokes = view.strokes.now in
-    let all = sheets_text page pens 0 (labelled_sheets strokes l.ends (all_counted view.before view.labels.now)) in
-    let left = labelled_after strokes l.at (drop l.ended (l.ends ++ length strokes ∷ [])) (all_counted view.before l.rest) in
+    let areas = areas_in view.areas in
+    let all = sheets_text page pens 0 (labelled_sheets strokes areas l.ends (all_counted view.before view.labels.now)) in
+    let left = labelled_after strokes areas l.at (drop l.ended (l.ends ++ length strokes ∷ [])) (all_counted view.before l.rest) in
     record {
       left : Left g.K.Sink.state l.fn.text l.text (sheets_text page pens l.number left) all;
       few : l.number ≤ l.at;

@@ -1,33 +1,29 @@
-use Rattle.std.proofs.Common.{◌+◌, ◌++◌, ◌∙◌, List, ap, sym, drop}
-use Rattle.std.proofs.lemmas.List.{drop_all}
+use Rattle.std.proofs.Common.{◌≡◌, ◌∙◌, List, ap, arith, length}
+use Rattle.std.proofs.lemmas.Bool.Decides.{nat_tests}
+use Rattle.pieces.proofs.Texts.{none_put, puts_as}
 use Rattle.plot_page.specs.Segments.{Segment}
-use Rattle.stroke_runs.specs.declared.runs.Runs.{Runs}
-use Rattle.pieces.proofs.Texts.{all_left, last_put, next_put}
-use Rattle.svg.specs.Steps.{step_text, steps_text}
-use Rattle.svg.proofs.Texts.{all_steps, next_text}
+use Rattle.stroke_runs.specs.Links.{at_start}
+use Rattle.stroke_runs.specs.Sheets.{between}
+use Rattle.svg.specs.Steps.{steps_text}
+use Rattle.svg.proofs.Texts.{all_steps, no_steps}
 use Rattle.svg.proofs.strokes.put_strokes.Goals as goal
 
-pub loop-stroke-init : goal.loop-stroke-init
-loop-stroke-init g c =
-    let page = c.args.page.now in
-    let pens = c.args.pens.now in
-    let strokes = c.args.strokes.now in
-    all_left c.requires.sound (ap (λ (r : Runs). steps_text page pens r strokes) c.new-runs.ensures ∙ all_steps page pens strokes)
+-- how many strokes they are
+same_size : (ss ts : List Segment) → ss ≡ ts → length ss ≡ length ts
+same_size ss ts h = ap (λ (zs : List Segment). length zs) h
 
-pub loop-stroke-preserved : goal.loop-stroke-preserved
-loop-stroke-preserved g c =
-    let page = c.args.page.now in
-    let pens = c.args.pens.now in
-    let strokes = c.args.strokes.now in
-    let l = c.loop-stroke in
-    let s = c.stroke-item.result in
-    let others = drop (l.stroke-index + 1) strokes in
-    next_put l.invariant c.put_step.ensures.puts
-    (next_text page pens l.runs strokes l.stroke-index s c.loop-stroke-test.true c.stroke-item.is
-    ∙ ap (λ (r : Runs). step_text page pens l.runs s ++ steps_text page pens r others) (sym c.put_step.ensures.after))
+pub returns-then-is_empty : goal.returns-then-is_empty
+returns-then-is_empty g c =
+    let view = c.args.view.now in
+    let same = same_size c.between-strokes.result.now (between view.strokes.now c.args.at c.args.end) c.between-strokes.ensures in
+    let none : length (between view.strokes.now c.args.at c.args.end) ≡ 0 = grind (arith, nat_tests, same, c.if-is_empty.true, c.is_empty.ensures) in
+    record { puts = puts_as (none_put c.requires.sound) (no_steps view.page.now view.pens.now view.areas c.args.before c.args.at c.args.end view.strokes.now none) }
 
 pub returns : goal.returns
 returns g c =
-    let l = c.loop-stroke in
-    let none = ap (λ (ss : List Segment). steps_text c.args.page.now c.args.pens.now l.runs ss) (drop_all l.stroke-index c.args.strokes.now c.loop-stroke-test.false) in
-    record { puts = last_put l.invariant c.put_end.ensures.puts none }
+    let view = c.args.view.now in
+    record {
+      puts = puts_as c.put_each.ensures.puts
+          ((λ i. steps_text view.page.now view.pens.now (c.new-roles.ensures i) at_start (c.between-strokes.ensures i))
+          ∙ all_steps view.page.now view.pens.now view.areas c.args.before c.args.at c.args.end view.strokes.now);
+    }

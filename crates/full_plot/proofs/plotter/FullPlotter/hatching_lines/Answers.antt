@@ -5,9 +5,9 @@ use Rattle.full_plot.proofs.plotter.FullPlotter.hatching_lines.Goals as goal
 
 pub returns-clause-lines : goal.returns-clause-lines
 returns-clause-lines c =
-    let a = c.args.self.now.area.fill.angle in
+    let a = c.args.self.now.filling.fill.angle in
     let t = c.turn_of.result in
-    let ha = c.args.self.now.area_in.fill_in.angle_in in
+    let ha = c.args.self.now.filling_in.fill_in.angle_in in
     let hs = c.signed.ensures in
     let ht = c.turn_of.ensures.most in
     let hm = c.requires in

@@ -6,9 +6,7 @@ use Rattle.stroke_raster.specs.Rows.{split_rows}
 use Rattle.picture_out.specs.declared.form.Form.TheVariants.{Pbm}
 use Rattle.bit_rows.specs.Bits.{bytes_for, packed}
 use Rattle.rows.specs.Pictures.{inks_of}
-use Rattle.plot_page.specs.Segments.{Segment}
-use Rattle.plot_page.specs.Resolutions.{columns_of}
-use Rattle.stroke_raster.specs.Shown.{row_shown}
+use Rattle.stroke_raster.specs.ShownShapes.{row_of_shapes}
 use Rattle.rows.specs.Progress.{painting_row, WritesCells}
 use Rattle.rows.proofs.Potentials.{tests_after}
 use Rattle.rows.proofs.WrittenRows.{cells_written}
@@ -50,7 +48,7 @@ returns-clause-writes g c =
     let total = subst (λ (k : ℕ). length c.bytes.result.now ≡ k * stride) (sym b.tall) b.size in
     let wrote = c.write_rows.ensures.rows Pbm inks rows (pbm_even inks at stride rows b.wide) (text_of_bits inks at stride rows c.bytes.result.now split total) in
     let reaches = g.G.Gauge.reaches c.args.gauge.now in
-    let pens = λ (r : ℕ). row_shown (λ (t : Segment). reaches t p.page p.dots) p.pens p.strokes (columns_of p.page p.dots) r in
+    let pens = λ (r : ℕ). row_of_shapes reaches p.pens p.strokes p.areas p.page p.dots r in
     let from_next = subst (λ (k : ℕ). WritesCells Pbm inks c.args.first k rows c.args.done (g.K.Sink.state c.args.sink.now) (g.K.Sink.state c.write_rows.new.sink) c.write_rows.result) c.next_row-at.ensures.next wrote in
     cells_written Pbm inks (painting_row Pbm p reaches) pens (λ r. refl) c.args.first p.next (rows_next p) c.ink_next.new.self.next c.args.done _ _ c.write_rows.result c.ink_next.ensures.moves.next from_next
 

@@ -1,8 +1,6 @@
 use Rattle.std.proofs.Common.{◌≡◌, ◌≤◌, ◌+◌, ℕ, List, refl, subst}
-use Rattle.plot_page.specs.Segments.{Segment}
-use Rattle.plot_page.specs.Resolutions.{columns_of}
 use Rattle.stroke_raster.specs.Bands.{first_of, rows_of_band}
-use Rattle.stroke_raster.specs.Shown.{row_shown}
+use Rattle.stroke_raster.specs.ShownShapes.{row_of_shapes}
 use Rattle.stroke_raster.specs.Painting.{rows_next}
 use Rattle.picture_out.specs.declared.inks.Ink.{Ink}
 use Rattle.rows.specs.Pictures.{inks_of}
@@ -26,7 +24,7 @@ returns-in-Some-clause-writes g c =
     let by_inks = subst (λ (i : List Ink). W i (first_of c.in-Some.band) rows) c.self.invariant.0 c.write_band.ensures.rows in
     let from_next = subst (λ (k : ℕ). W inks k rows) c.in-Some.ensures.first by_inks in
     let painted = subst (W inks p.next) c.in-Some.ensures.rows from_next in
-    let pens = λ (r : ℕ). row_shown (λ (s : Segment). reaches s p.page p.dots) p.pens p.strokes (columns_of p.page p.dots) r in
+    let pens = λ (r : ℕ). row_of_shapes reaches p.pens p.strokes p.areas p.page p.dots r in
     let wrote = cells_written form inks (painting_row form p reaches) pens (λ r. refl) c.args.first p.next (rows_next p) end c.args.done old new c.write_band.result
     (c.next_band.follows.holds-at-none).next painted in
     let R : CellPainting → Type 0 = λ z. WritesRows (painting_row z.form z.painting reaches) c.args.first z.painting.next end c.args.done old new c.write_band.result in

@@ -1,14 +1,16 @@
 use Rattle.std.proofs.Common.{◌<◌, ◌^◌, ℕ, List, All, length, sym, ap, ap₂, subst, ◌∙◌}
-use Rattle.plot_page.specs.Segments.{Segment}
 use Rattle.plot_page.specs.Resolutions.{columns_of}
 use Rattle.plot_page.specs.declared.page.Page.{Page}
 use Rattle.plot_page.specs.declared.dots.Dots.{Dots}
 use Rattle.plot_page.specs.declared.pens.PenSet.{PenSet}
 use Rattle.png.specs.declared.header.Depth.{Depth}
 use Rattle.png.specs.Headers.{bits_of_depth}
+use Rattle.areas.specs.Shapes.{ShapeList}
+use Rattle.areas.specs.Views.{shapes_in}
+use Rattle.rows.specs.Progress.{painting_shapes}
 use Rattle.rows.specs.Pictures.{Reach}
 use Rattle.rows.specs.Palettes.{numbers_row}
-use Rattle.rows.proofs.Potentials.{tests_are, parts_same}
+use Rattle.rows.proofs.Potentials.{list_is, shapes_same, tests_are}
 use Rattle.rows.proofs.number_bands.NumberBandsBands.begin.Goals as goal
 
 pub invariant_of-result : goal.invariant_of-result
@@ -24,12 +26,12 @@ returns-clause-text c =
     let made = c.in_ok-painter.ensures in
     let q = c.in_ok-painter.painter in
     let numbers = c.args.ask.numbers.now in
-    let F : PenSet → List Segment → Page → Dots → Reach → ℕ → List ℕ = λ l ss p d reaches row. numbers_row c.args.ask.depth numbers l ss p d reaches row in
-    let G : Depth → Reach → ℕ → List ℕ = λ d reaches row. numbers_row d numbers q.pens q.strokes q.page q.dots reaches row in
+    let F : PenSet → ShapeList → Page → Dots → Reach → ℕ → List ℕ = λ l ss p d reaches row. numbers_row c.args.ask.depth numbers l ss p d reaches row in
+    let G : Depth → Reach → ℕ → List ℕ = λ d reaches row. numbers_row d numbers q.pens (painting_shapes q) q.page q.dots reaches row in
     ap G c.in-Ok.ensures.depth
-    ∙ parts_same F q.pens c.args.scene.pens q.strokes c.args.scene.strokes.now q.page c.args.scene.page q.dots c.args.scene.dots made.pens made.strokes made.page made.dots
+    ∙ shapes_same F q.pens c.args.scene.pens (painting_shapes q) (shapes_in c.args.scene.shapes) q.page c.args.scene.page q.dots c.args.scene.dots made.pens (list_is q (shapes_in c.args.scene.shapes) made.strokes made.areas) made.page made.dots
 
 pub returns-clause-tests : goal.returns-clause-tests
 returns-clause-tests c =
     let made = c.in_ok-painter.ensures in
-    tests_are c.in_ok-painter.painter c.args.scene.pens c.args.scene.strokes.now c.args.scene.page c.args.scene.dots c.args.first_row made.strokes made.page made.dots made.pens made.first
+    tests_are c.in_ok-painter.painter c.args.scene.pens c.args.scene.shapes.strokes.now c.args.scene.page c.args.scene.dots c.args.first_row made.strokes made.page made.dots made.pens made.first

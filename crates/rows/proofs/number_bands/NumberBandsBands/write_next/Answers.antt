@@ -1,13 +1,11 @@
 use Rattle.std.proofs.Common.{◌≡◌, ◌<◌, ◌≤◌, ◌+◌, ℕ, List, [], length, map, get_or, sym, ap, subst, ◌∙◌, arith}
 use Rattle.std.proofs.lemmas.List.FromFn.{get_or-map-range_with_len}
-use Rattle.plot_page.specs.Segments.{Segment}
-use Rattle.plot_page.specs.Resolutions.{columns_of}
 use Rattle.stroke_raster.specs.Bands.{first_of, rows_of_band}
-use Rattle.stroke_raster.specs.Shown.{row_shown}
+use Rattle.stroke_raster.specs.ShownShapes.{row_of_shapes}
 use Rattle.stroke_raster.specs.Painting.{rows_next}
 use Rattle.png.specs.Packing.{packed_samples}
 use Rattle.rows.specs.Palettes.{number_of, numbers_bytes, numbers_row}
-use Rattle.rows.specs.Progress.{NumberPainting, tests_left, WritesRows}
+use Rattle.rows.specs.Progress.{NumberPainting, painting_shapes, tests_left, WritesRows}
 use Rattle.rows.proofs.Potentials.{tests_after}
 use Rattle.rows.proofs.number_bands.NumberBandsBands.write_next.Goals as goal
 
@@ -25,8 +23,8 @@ returns-in-Some-clause-writes g c =
     let rows = rows_of_band c.in-Some.band in
     let at = first_of c.in-Some.band in
     let n = rows_next p in
-    let pens : ℕ → List ℕ = λ r. row_shown (λ (s : Segment). reaches s p.page p.dots) p.pens p.strokes (columns_of p.page p.dots) r in
-    let row : ℕ → List ℕ = numbers_row depth numbers p.pens p.strokes p.page p.dots reaches in
+    let pens : ℕ → List ℕ = λ r. row_of_shapes reaches p.pens p.strokes p.areas p.page p.dots r in
+    let row : ℕ → List ℕ = numbers_row depth numbers p.pens (painting_shapes p) p.page p.dots reaches in
     let begins : at ≡ p.next = c.in-Some.ensures.first in
     let made : (k : ℕ) → k < length rows → row (at + k) ≡ packed_samples depth (numbers_bytes depth inside.row.columns) (map (number_of numbers) (get_or rows k [])) =
     λ k lt.
@@ -37,7 +35,7 @@ returns-in-Some-clause-writes g c =
     let wrote = c.write_numbers.ensures.rows row made in
     let W : ℕ → ℕ → Type 0 = λ a e. WritesRows row c.args.first a e c.args.done old new c.write_numbers.result in
     let ends : at + length rows ≡ end = omega (arith, begins, c.in-Some.ensures.height, (c.next_band.follows.holds-at-none).next) in
-    let R : NumberPainting → Type 0 = λ z. WritesRows (numbers_row z.depth z.numbers z.painting.pens z.painting.strokes z.painting.page z.painting.dots reaches) c.args.first z.painting.next end c.args.done old new c.write_numbers.result in
+    let R : NumberPainting → Type 0 = λ z. WritesRows (numbers_row z.depth z.numbers z.painting.pens (painting_shapes z.painting) z.painting.page z.painting.dots reaches) c.args.first z.painting.next end c.args.done old new c.write_numbers.result in
     subst R v (subst (λ (e : ℕ). W p.next e) ends (subst (λ (a : ℕ). W a (at + length rows)) begins wrote))
 
 pub returns-in-Some-clause-tests : goal.returns-in-Some-clause-tests

@@ -1,14 +1,13 @@
 use Rattle.std.proofs.Common.{refl, ◌≡◌, ◌≤◌, ◌<◌, ◌+◌, ◌-◌, ◌*◌, ℕ, List, sym, ap, subst, arith}
 use Rattle.std.proofs.lemmas.Nat.{mul-le}
-use Rattle.plot_page.specs.Resolutions.{columns_of, rows_of}
+use Rattle.plot_page.specs.Resolutions.{rows_of}
 use Rattle.plot_page.specs.declared.dots.TheConstants.{MOST_PIXELS_A_SIDE}
 use Rattle.stroke_raster.specs.Painting.{Painting, painted_rows, rows_next}
 use Rattle.picture_out.specs.declared.form.Form.TheVariants.{Pcl}
 use Rattle.picture_out.specs.declared.pcl.TheConstants.{LONGEST_COMMAND}
 use Rattle.bit_rows.specs.Bits.{bytes_for}
 use Rattle.rows.specs.Pictures.{inks_of}
-use Rattle.plot_page.specs.Segments.{Segment}
-use Rattle.stroke_raster.specs.Shown.{row_shown}
+use Rattle.stroke_raster.specs.ShownShapes.{row_of_shapes}
 use Rattle.rows.specs.Progress.{painting_row, tests_left, WritesCells, WritesRows}
 use Rattle.rows.proofs.Potentials.{tests_after}
 use Rattle.rows.proofs.WrittenRows.{cells_written}
@@ -69,7 +68,7 @@ returns-clause-writes g c =
     let new = g.K.Sink.state c.put_rows.new.sink in
     let wrote = c.put_rows.ensures.rows inks rows b.tall b.wide b.split in
     let P : ℕ → Type 0 = λ k. WritesCells Pcl inks c.args.first k rows c.args.done old new c.put_rows.result in
-    let pens = λ (r : ℕ). row_shown (λ (t : Segment). reaches t p.page p.dots) p.pens p.strokes (columns_of p.page p.dots) r in
+    let pens = λ (r : ℕ). row_of_shapes reaches p.pens p.strokes p.areas p.page p.dots r in
     let done = cells_written Pcl inks (painting_row Pcl p reaches) pens (λ r. refl) c.args.first p.next (rows_next p) c.ink_next.new.self.next c.args.done old new c.put_rows.result
     c.ink_next.ensures.moves.next (subst P c.next_row-at.ensures.next wrote) in
     let Q : Painting → Type 0 = λ z. WritesRows (painting_row Pcl z reaches) c.args.first z.next c.ink_next.new.self.next c.args.done old new c.put_rows.result in

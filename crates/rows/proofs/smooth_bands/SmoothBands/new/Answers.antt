@@ -2,14 +2,16 @@ use Rattle.std.proofs.Common.{◌≡◌, ◌<◌, ◌*◌, ℕ, List, map, min, 
 use Rattle.std.specs.List.{range_with_len}
 use Rattle.smoothing.specs.Smoothings.{smoothed}
 use Rattle.smoothing.specs.Rows.{width_of}
-use Rattle.plot_page.specs.Segments.{Segment}
 use Rattle.plot_page.specs.Resolutions.{columns_of, rows_of}
 use Rattle.plot_page.specs.declared.page.Page.{Page}
 use Rattle.plot_page.specs.declared.dots.Dots.{Dots}
 use Rattle.plot_page.specs.declared.pens.PenSet.{PenSet}
 use Rattle.png.specs.Headers.{HasColours}
+use Rattle.areas.specs.Shapes.{ShapeList}
+use Rattle.areas.specs.Views.{shapes_in}
+use Rattle.rows.specs.Progress.{painting_shapes}
 use Rattle.rows.specs.Pictures.{Reach, colours_at, finer, inks_of}
-use Rattle.rows.proofs.Potentials.{parts_same, tests_are}
+use Rattle.rows.proofs.Potentials.{list_is, shapes_same, tests_are}
 use Rattle.rows.proofs.Smoothed.{finer_is, finer_row, finer_rows}
 use Rattle.rows.proofs.smooth_bands.SmoothBands.new.Goals as goal
 
@@ -47,11 +49,11 @@ returns-clause-pixels c =
     let q = c.in-Ok.painter in
     let fine = finer n c.args.scene.dots in
     let dots : q.dots ≡ fine = made.dots ∙ finer_is n c.args.scene.dots _ (ap (λ (k : ℕ). n * k) c.per_inch.ensures) c.requires.ask.least c.requires.ask.fine in
-    let F : PenSet → List Segment → Page → Dots → ℕ → Reach → ℕ → List (List ℕ) = λ l ss p d columns reaches row. map (smoothed n (colours_at reaches l ss p d) row) (range_with_len 0 columns) in
-    let H : ℕ → Reach → ℕ → List (List ℕ) = F q.pens q.strokes q.page q.dots in
+    let F : PenSet → ShapeList → Page → Dots → ℕ → Reach → ℕ → List (List ℕ) = λ l ss p d columns reaches row. map (smoothed n (colours_at reaches l ss p d) row) (range_with_len 0 columns) in
+    let H : ℕ → Reach → ℕ → List (List ℕ) = F q.pens (painting_shapes q) q.page q.dots in
     let width : width_of c.in-Ok-new.smoother.pixels ≡ columns_of c.args.scene.page c.args.scene.dots = c.in-Ok-new.ensures.width ∙ c.columns-columns.ensures.count in
     ap H width
-    ∙ parts_same {A = Reach → ℕ → List (List ℕ)} (λ l ss p d. F l ss p d (columns_of c.args.scene.page c.args.scene.dots)) q.pens c.args.scene.pens q.strokes c.args.scene.strokes.now q.page c.args.scene.page q.dots fine made.pens made.strokes made.page dots
+    ∙ shapes_same {A = Reach → ℕ → List (List ℕ)} (λ l ss p d. F l ss p d (columns_of c.args.scene.page c.args.scene.dots)) q.pens c.args.scene.pens (painting_shapes q) (shapes_in c.args.scene.shapes) q.page c.args.scene.page q.dots fine made.pens (list_is q (shapes_in c.args.scene.shapes) made.strokes made.areas) made.page dots
 
 pub returns-clause-tests : goal.returns-clause-tests
 returns-clause-tests c =
@@ -62,4 +64,4 @@ returns-clause-tests c =
     let dots : q.dots ≡ fine = made.dots ∙ finer_is n c.args.scene.dots _ (ap (λ (k : ℕ). n * k) c.per_inch.ensures) c.requires.ask.least c.requires.ask.fine in
     let tall : c.rows.result ≡ rows_of c.args.scene.page fine = c.rows.ensures.count ∙ ap (rows_of c.args.scene.page) (sym made.dots ∙ dots) in
     let first : q.next ≡ min (n * c.args.first_row) (rows_of c.args.scene.page fine) = made.first ∙ c.min-first.ensures ∙ ap (λ (k : ℕ). min (n * c.args.first_row) k) tall in
-    tests_are q c.args.scene.pens c.args.scene.strokes.now c.args.scene.page fine _ made.strokes made.page dots made.pens first
+    tests_are q c.args.scene.pens c.args.scene.shapes.strokes.now c.args.scene.page fine _ made.strokes made.page dots made.pens first

@@ -1,23 +1,26 @@
-use Rattle.std.proofs.Common.{◌≡◌, ◌≤◌, ◌+◌, ◌-◌, ℕ, min, ap, subst, ◌∙◌}
+use Rattle.std.proofs.Common.{◌≡◌, ◌≤◌, ◌+◌, ◌-◌, ℕ, length, min, ap, subst, ◌∙◌}
 use Rattle.plot_page.specs.Segments.{Segment}
 use Rattle.plot_page.specs.Resolutions.{columns_of, rows_of}
 use Rattle.stroke_raster.specs.Boxes.{selected, boxes, in_box}
 use Rattle.stroke_raster.specs.Rows.{marked_in_rows, rows_shown}
 use Rattle.stroke_raster.specs.Tests.{MOST_TESTS}
-use Rattle.stroke_raster.specs.Painting.{Painting, rows_next}
+use Rattle.stroke_raster.specs.Painting.{Painting, painted_rows, rows_next}
+use Rattle.stroke_raster.specs.Scenes.{scene_test}
+use Rattle.stroke_raster.specs.ShownShapes.{rows_at}
 use Rattle.stroke_raster.proofs.painter.BandPainter.advance.Goals as goal
 
 pub returns-clause-rows : goal.returns-clause-rows
 returns-clause-rows g c = λ _.
     let p = c.self.inside in
-    let new = c.paint_band.new.canvas in
+    let reaches = g.G.Gauge.reaches c.args.gauge.now in
+    let n = length p.scene.strokes.now in
     let count : c.min-count.result ≡ min p.scene.band_rows (rows_of p.scene.page p.scene.dots - p.next) = c.min-count.ensures ∙ ap (λ (n : ℕ). min p.scene.band_rows (n - p.next)) c.rows-rows.ensures.count in
     let columns : g.C.Canvas.width c.paint_band.new.canvas ≡ columns_of p.scene.page p.scene.dots = c.paint_band.ensures.width ∙ c.self.invariant.width_is in
-    let law = rw (c.paint_band.ensures.height, columns) at (c.lends_what_it_shows.ensures (λ (s : Segment). g.G.Gauge.reaches c.args.gauge.now s p.scene.page p.scene.dots) p.scene.pens p.scene.strokes.now p.next) in
+    let law = rw (c.paint_band.ensures.height, columns) at (c.lends_what_it_shows.ensures (scene_test (g.G.Gauge.reaches c.args.gauge.now) p.scene) (length p.scene.strokes.now) p.next) in
     let P : Painting → Type 0 = λ q. g.C.Canvas.lent c.paint_band.new.canvas c.min-count.result
-    ≡ g.C.Canvas.lends (rows_shown (λ (s : Segment). g.G.Gauge.reaches c.args.gauge.now s q.page q.dots) q.pens q.strokes (columns_of q.page q.dots) q.next (rows_next q)) in
-    let Q : ℕ → Type 0 = λ n. g.C.Canvas.lent c.paint_band.new.canvas c.min-count.result
-    ≡ g.C.Canvas.lends (rows_shown (λ (s : Segment). g.G.Gauge.reaches c.args.gauge.now s p.scene.page p.scene.dots) p.scene.pens p.scene.strokes.now (columns_of p.scene.page p.scene.dots) p.next n) in
+    ≡ g.C.Canvas.lends (painted_rows (g.G.Gauge.reaches c.args.gauge.now) q q.next (rows_next q)) in
+    let Q : ℕ → Type 0 = λ k. g.C.Canvas.lent c.paint_band.new.canvas c.min-count.result
+    ≡ g.C.Canvas.lends (rows_at (scene_test (g.G.Gauge.reaches c.args.gauge.now) p.scene) (length p.scene.strokes.now) (columns_of p.scene.page p.scene.dots) p.next k) in
     subst P c.self.view_is (subst Q count (law c.paint_band.ensures.pixels))
 
 pub returns-clause-least : goal.returns-clause-least

@@ -1,0 +1,27 @@
+-- A drawing after a turn of the page that it shows.
+use Rattle.std.specs.Prelude.{◌≡◌}
+use Rattle.directions.specs.declared.turn.Turn.{Turn}
+use Rattle.plot_page.specs.declared.page.Page.{Page}
+use Rattle.plot_page.specs.declared.pens.PenSet.{PenSet}
+use Rattle.turning.specs.Turns.{turned_labels, turned_page, turned_strokes}
+use Rattle.conversion.specs.declared.lines.Lines.{Lines}
+use Rattle.conversion.specs.declared.place.Drawing.{Drawing}
+
+-- lines after a turn of their page: the strokes of the selected pens are turned, and the labels; areas have the same numbers
+pub record AreTurned (pens : PenSet) (turn : Turn) (page : Page) (before after : Lines) : Type 0 where
+  pub strokes_are : after.strokes.items ≡ turned_strokes pens turn page before.strokes.items
+  pub labels_are : after.labels.items ≡ turned_labels turn page before.labels.items
+  pub areas_are : after.areas.items ≡ before.areas.items
+  pub notes_are : after.notes ≡ before.notes
+  pub sheets_are : after.sheets ≡ before.sheets
+  pub ends_are : after.ends.items ≡ before.ends.items
+  pub labelled_are : after.labelled ≡ before.labelled
+
+-- a drawing after the turn: it shows the turned page; what is said of the page that its plot is drawn on stays
+pub record IsTurned (pens : PenSet) (turn : Turn) (before after : Drawing) : Type 0 where
+  pub page_is : after.page ≡ turned_page turn before.page
+  pub lines_are : AreTurned pens turn before.page before.lines after.lines
+  pub placement_is : after.placement ≡ before.placement
+  pub drawn_on_is : after.drawn_on ≡ before.drawn_on
+  pub corner_is : after.corner ≡ before.corner
+  pub named_is : after.named ≡ before.named

@@ -1,0 +1,7 @@
+use Rattle.pieces.proofs.Texts.{◌then◌}
+use Rattle.plot_report.proofs.lines.put_edges_line.Goals as goal
+
+pub returns : goal.returns
+returns g c = record {
+  puts = c.put.ensures.puts then (c.put_number.ensures.puts then (c.put_count.ensures.puts then (c.put_count-2.ensures.puts then c.put_box.ensures.puts))) then c.put-2.ensures.puts;
+}

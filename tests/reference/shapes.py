@@ -1,0 +1,30 @@
+"""Shapes: strokes, and areas, which solid fills make in the profile full."""
+
+from typing import NamedTuple
+
+from .plotter import Stroke
+
+
+class Area(NamedTuple):
+    """What is inside polygons, by the edges of all of them, each from a place to a place in grains, and by the rule of what is
+    inside."""
+
+    pen: int
+    colour: tuple
+    window: tuple
+    edges: tuple
+    rule: int
+    sheet: int = 1
+
+    label = None  # no area is part of a label
+
+
+def is_area(shape):
+    return isinstance(shape, Area)
+
+
+def strokes_of(shape):
+    """A stroke itself, or the edges of an area as strokes of width 0."""
+    if not is_area(shape):
+        return [shape]
+    return [Stroke(shape.pen, shape.colour, 0, shape.window, a, b, shape.sheet) for a, b in shape.edges]
