@@ -11,7 +11,7 @@ import pytest
 from shared import TOP, need
 
 sys.path.insert(0, os.path.join(TOP, "tools"))
-from edits import CRATES, all_mutants  # noqa: E402
+from edits import CRATES, all_mutants, below, dependencies  # noqa: E402
 
 SECONDS = 60
 
@@ -76,6 +76,14 @@ def sources(crate):
             path = os.path.join(folder, file)
             with open(path, encoding="utf-8") as text:
                 yield os.path.relpath(path, os.path.join(CRATES, crate)), text.read()
+
+
+def test_names_of_modules():
+    """No module has the name of a library that its crate stands on, which rt ci refuses."""
+    uses = dependencies()
+    for crate in uses:
+        modules = {it for _, text in sources(crate) for it in re.findall(r"^\s*(?:pub )?mod (\w+)", text, re.M)}
+        assert not modules & (below(crate, uses) - {crate}), crate
 
 
 def faults_of(name, mutant):

@@ -2,7 +2,7 @@
 #![tactic(auto)]
 
 #[cfg(test)]
-mod areas;
+mod areas_drawn;
 #[cfg(test)]
 mod broken_off;
 #[cfg(test)]
