@@ -172,6 +172,8 @@ faults_of_values_2 : Table value_fault_on (
     ∷ (codes "ppm a.plt b.plt", Some (Plain fault.Several))  -- no place
     ∷ (codes "report a.plt --margin=1 b.plt", Some (Plain fault.Margin))  -- margin before place
     ∷ (codes "pbm a.plt b.plt --output=out", None)  -- a place for several
+    ∷ (codes "pdf --margin=1 --rotate=45", Some (Plain fault.Margin))  -- margin before turn
+    ∷ (codes "report --rotate=-90 a.plt b.plt", Some (Plain fault.BadTurn))  -- turn before place
     ∷ []
     )
 unfolding clap_on_literals path_extension path_file_name rsplit_once split_last_component trim_trailing

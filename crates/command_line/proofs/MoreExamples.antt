@@ -13,9 +13,12 @@ use Rattle.pen_list.specs.Colours.{colour_written}
 use Rattle.command_line.specs.declared.fault.LineFault.TheVariants as fault
 use Rattle.command_line.specs.Faults.{BadColours, BadWidths, Plain}
 use Rattle.command_line.specs.Characters.{encoding_named}
-use Rattle.command_line.specs.Lines.{colours_text, encoding_of, sheet_in}
+use Rattle.command_line.specs.Lines.{colours_text, encoding_of, sheet_in, turn_in}
 use Rattle.command_line.specs.Options.{plot_app}
 use Rattle.command_line.specs.Sheets.{sheet_named}
+use Rattle.command_line.specs.Turns.{turn_named}
+use Rattle.directions.specs.declared.turn.Turn.{Turn}
+use Rattle.directions.specs.declared.turn.Turn.TheVariants as turn
 use Rattle.command_line.proofs.OnWords.{Table, words_of, choice_on, faults_on, value_fault_on}
 
 -- the sheet that a text asks for
@@ -29,6 +32,33 @@ sheets_by_text : Table sheet_named (
     ∷ []
     )
 sheets_by_text = refl
+
+-- the turn that a text asks for
+turns_by_text : Table turn_named (
+    (codes "0", Some turn.None)  -- none
+    ∷ (codes "90", Some turn.Quarter)  -- a quarter
+    ∷ (codes "180", Some turn.Half)  -- a half
+    ∷ (codes "270", Some turn.ThreeQuarters)  -- three quarters
+    ∷ (codes "360", None)  -- not all the way round
+    ∷ (codes "-90", None)  -- not clockwise
+    ∷ (codes "45", None)  -- not an eighth
+    ∷ []
+    )
+turns_by_text = refl
+
+-- the turn that is asked for on a command line
+abbrev turn_on : Text → Option Turn
+turn_on line = option_and_then (λ p. turn_in p.1) (subcommand_of plot_app (words_of line))
+
+-- the turn that is asked for
+turns : Table turn_on (
+    (codes "draw", Some turn.None)  -- turn left out
+    ∷ (codes "svg --rotate 270", Some turn.ThreeQuarters)  -- turn given
+    ∷ (codes "report --rotate=90", Some turn.Quarter)  -- of a report, too
+    ∷ []
+    )
+unfolding clap_on_literals
+turns = refl
 
 -- the sheet that is asked for on a command line
 abbrev sheet_on : Text → Option ℕ

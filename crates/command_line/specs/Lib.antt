@@ -1,4 +1,4 @@
--- What a reader must believe: the command, its defaults, the papers, forms, sheets and characters that it names, what
+-- What a reader must believe: the command, its defaults, the papers, forms, sheets, characters and turns that it names, what
 -- its matches ask for, what is wrong with them, and exit statuses.
 pub mod Defaults
 pub mod Options
@@ -6,6 +6,7 @@ pub mod Papers
 pub mod Forms
 pub mod Sheets
 pub mod Characters
+pub mod Turns
 pub mod Faults
 pub mod Lines
 pub mod Statuses

@@ -22,6 +22,9 @@ pub use Rattle.command_line.specs.Options.{is_picture, is_pcl}
 use Rattle.command_line.specs.Options.{is_smoothed, subcommands, plot_app}
 use Rattle.command_line.specs.Papers.{a4, names_plot, size_named}
 use Rattle.command_line.specs.Sheets.{is_each, sheet_named}
+use Rattle.command_line.specs.Turns.{turn_named}
+use Rattle.directions.specs.declared.turn.Turn.{Turn}
+use Rattle.directions.specs.declared.turn.Turn.TheVariants as turn
 use Rattle.pen_list.specs.Assignments.{first_bad, given}
 use Rattle.pen_list.specs.Colours.{colour_written}
 use Rattle.pen_list.specs.Lists.{is_listed, is_pen_list}
@@ -41,7 +44,7 @@ use Rattle.command_line.specs.declared.destination.Destination.{Destination}
 use Rattle.command_line.specs.declared.destination.Destination.TheVariants.{File, Folder}
 use Rattle.command_line.specs.declared.fault.LineFault.{LineFault}
 use Rattle.command_line.specs.declared.fault.LineFault.TheVariants.{Pens, Shades, Smooth, Paper, Size, Profile, Sheet}
-use Rattle.command_line.specs.declared.fault.LineFault.TheVariants.{BadCharacters, BadSheet, Characters, Form as NoForm, Margin, NoFolder, NoPicture, NoPixels, Pixels, PrinterPixels, Several}
+use Rattle.command_line.specs.declared.fault.LineFault.TheVariants.{BadCharacters, BadSheet, BadTurn, Characters, Form as NoForm, Margin, NoFolder, NoPicture, NoPixels, Pixels, PrinterPixels, Several}
 use Rattle.command_line.specs.declared.line.Line.{Line}
 use Rattle.command_line.specs.declared.line.Task.{Task}
 use Rattle.command_line.specs.declared.line.Task.TheVariants.{Picture, Report}
@@ -86,6 +89,14 @@ characters_text rows = first_of (codes "characters") rows
 -- nothing
 abbrev pub encoding_of : List Row → Option Encoding
 encoding_of rows = option_map_or encoding_named (characters_text rows) (Some ByPlot)
+
+-- the text that says how the page is turned, or None if none is given
+abbrev pub turn_text : List Row → Option Text
+turn_text rows = first_of (codes "rotate") rows
+
+-- how the page is turned: as the text says, or not at all if none is given; None if the text says nothing
+abbrev pub turn_in : List Row → Option Turn
+turn_in rows = option_map_or turn_named (turn_text rows) (Some turn.None)
 
 -- the texts of the options for the colours and the widths of pens
 abbrev pub colours_text : List Row → Option Text
@@ -334,6 +345,7 @@ pub record IsLineBy (kind : Kind) (rows : List Row) (line : Line) : Type 0 where
   pub task : IsTaskOf kind rows line.task
   pub reading : IsReadingOf rows line.reading
   pub choice : IsChoiceOf kind rows line.choice
+  pub turned : turn_in rows ≡ Some line.turn
   pub sized : pixels_fault kind rows ≡ None
   pub carousel : IsCarouselOf rows line.carousel
   pub files : map (λ s. s.now) line.files.now ≡ files_in rows
@@ -430,6 +442,10 @@ reading_fault rows =
 abbrev pub choice_fault : Kind → List Row → Option LineFault
 choice_fault kind rows = if has_stray_margin kind rows then Some Margin else None
 
+-- what is wrong with the turn of the page
+abbrev pub turn_fault : List Row → Option LineFault
+turn_fault rows = if is_some (turn_in rows) then None else Some BadTurn
+
 -- what is wrong with where the output goes: nothing says it, and there are several plots
 abbrev pub output_fault : List Row → Option LineFault
 output_fault rows = if has_no_place rows then Some Several else None
@@ -481,6 +497,7 @@ values_fault kind rows = first_of_these (
     ∷ option_map refusal_of (each_fault kind rows)
     ∷ option_map refusal_of (pixels_fault kind rows)
     ∷ option_map refusal_of (choice_fault kind rows)
+    ∷ option_map refusal_of (turn_fault rows)
     ∷ option_map refusal_of (output_fault rows)
     ∷ [])
 

@@ -112,6 +112,7 @@ options =
     ∷ option_or (codes "0") (codes "below") group.All (Number 0 65536)
     ∷ option (codes "fit") group.All Flag
     ∷ option (codes "margin") group.All (Number 0 100)
+    ∷ option (codes "rotate") group.All Word
     ∷ profile
     ∷ option (codes "sheet") group.All Word
     ∷ option (codes "characters") group.All Word

@@ -77,6 +77,9 @@ pub enum LineFault<'a> {
     /// `--margin` is given, and the page is not fitted.
     #[error("--margin needs --fit")]
     Margin,
+    /// The word after `--rotate` is no turn.
+    #[error("bad rotation: use 0, 90, 180 or 270")]
+    BadTurn,
     /// Several plots are given without `--output`.
     #[error("several plots need --output FOLDER")]
     Several,

@@ -16,6 +16,7 @@ pub mod parses;
 mod sheets;
 mod subcommands;
 mod table;
+mod turns;
 mod values;
 
 pub use destination::{Destination, output_of};

@@ -24,9 +24,11 @@ use crate::groups::{is_pcl, is_smoothed};
 use crate::papers::{A4, names_plot, size_named};
 use crate::sheets::{each_of, reading_of};
 use crate::subcommands::{Kind, Output, kind_of};
+use crate::turns::turn_of;
 use crate::values::{has_flag, is_given, number_if_given, number_of};
 use carousel::Carousel;
 use clap::ArgMatches;
+use directions::Turn;
 use pen_list::read_pens;
 use picture_job::{Job, PageChoice, Picture, PngJob, Reading, Smoothing, VectorFormat, VectorJob};
 use picture_out::Form;
@@ -50,6 +52,8 @@ pub struct Line<'m, 'a> {
     pub reading: Reading,
     /// Which page it is drawn on, and in how many pixels.
     pub choice: PageChoice,
+    /// How the page is turned after that.
+    pub turn: Turn,
     /// The colours and the widths of pens that hold whatever the plot sets.
     pub carousel: Carousel,
     /// The names of the plots' files, in order; none if the plot comes on standard input.
@@ -86,7 +90,7 @@ pub struct Line<'m, 'a> {
 /// of 0 to 4194304 and not `each`, `BadCharacters` if `--characters` names none, `Profile` if `--profile` is neither `core`
 /// nor `full`, `Sheet` or `Characters` if `--sheet` or `--characters` is given with the profile core, `NoPicture` or
 /// `NoFolder` if `--sheet` is `each` for a report, or without `--output` and not for a PDF, `Pixels` if `--size` is given with `--dots`,
-/// `PrinterPixels` if it is given for PCL, `Margin` if `--margin` is given and the page is not fitted, and `Several` if
+/// `PrinterPixels` if it is given for PCL, `Margin` if `--margin` is given and the page is not fitted, `BadTurn` if `--rotate` is no turn, and `Several` if
 /// several files are given without `--output`; no other one after a `parse` that succeeded. `Words` if the matches are of
 /// another command.
 pub fn settle<'m, 'a>(
@@ -116,6 +120,7 @@ fn line_of<'m, 'a>(kind: Kind, options: &'m ArgMatches<'a>) -> Result<Line<'m, '
     let each_sheet = each_of(kind, options)?;
     let pixels = pixels_of(kind, options)?;
     let choice = choice_of(kind, options, pixels)?;
+    let turn = turn_of(options)?;
     let place = place_of(options)?;
     let interactive = defaults_of(kind).interactive;
     let quiet = has_flag(options, "quiet");
@@ -123,6 +128,7 @@ fn line_of<'m, 'a>(kind: Kind, options: &'m ArgMatches<'a>) -> Result<Line<'m, '
         task,
         reading,
         choice,
+        turn,
         carousel,
         files: files_of(options),
         output: place,

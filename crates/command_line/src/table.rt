@@ -39,7 +39,7 @@ pub(crate) struct OptionRow<'a> {
 }
 
 // All options, in the order of the help.
-static OPTIONS: [OptionRow<'static>; 23] = [
+static OPTIONS: [OptionRow<'static>; 24] = [
     OptionRow {
         name: "width",
         short: None,
@@ -147,6 +147,20 @@ static OPTIONS: [OptionRow<'static>; 23] = [
                 "Margin of --fit around the drawing, in millimetres, 0 to 100 [default: 1]",
             ),
         ],
+    },
+    OptionRow {
+        name: "rotate",
+        short: None,
+        aliases: &[],
+        group: Group::All,
+        value: Value::Word,
+        defaults: &[],
+        value_name: "DEGREES",
+        help: &[(
+            Group::All,
+            "Turn the page counterclockwise, with all that is on it, by 0, 90, 180 or 270 degrees; a report shows the page as it \
+        lies before [default: 0]",
+        )],
     },
     OptionRow {
         name: "profile",

@@ -14,7 +14,7 @@ use Rattle.conversion.specs.Conversions.{Converts, HasConvertedBy}
 use Rattle.conversion.specs.PageJobs.{on_page, times_on}
 use Rattle.conversion.specs.Drawings.{AreLinesOf, Draws, HasDrawn, IsDrawn, IsReasonOnFirst, place_of}
 use Rattle.conversion.specs.Faults.{of_plot}
-use Rattle.conversion.specs.Kinds.{HasDrawnFor}
+use Rattle.conversion.specs.Kinds.{HasDrawnFor, HasDrawnTurned}
 use Rattle.picture_job.specs.declared.picture.Picture.{Picture}
 use Rattle.picture_job.specs.declared.picture.Picture.TheVariants.{Rows}
 use Rattle.rows.specs.Pictures.{Reach}
@@ -28,6 +28,8 @@ use Rattle.std.specs.Io.KnownBytes.{Appends, Consumes}
 use Rattle.conversion.specs.Rules.{Rules, core_rules, rules_in, rules_of, rules_with, shapes_by}
 use Rattle.conversion.specs.Sheets.{WritesShapes, shapes_on}
 use Rattle.carousel.specs.Carousels.{empty}
+use Rattle.directions.specs.declared.turn.Turn.{Turn}
+use Rattle.directions.specs.declared.turn.Turn.TheVariants as turns
 use Rattle.carousel.specs.declared.carousel.Carousel.{Carousel}
 use Rattle.hpgl_plot.proofs.ByCarousel.{strokes_with_none, refusal_with_none}
 use Rattle.hpgl_text.specs.Cut.{cut}
@@ -40,7 +42,7 @@ use Rattle.conversion.specs.declared.placement.Placement.TheVariants.{Given}
 use Rattle.plot_report.specs.declared.report_page.ReportPage.{ReportPage}
 use Rattle.rows.specs.declared.fault.PictureFault.{PictureFault}
 use Rattle.conversion.specs.declared.fault.Fault.{Fault}
-use Rattle.conversion.specs.declared.fault.Fault.TheVariants.{Letters, Memory, Paint, Plot, Read, Resolution, TooLong, Unfinished, Write}
+use Rattle.conversion.specs.declared.fault.Fault.TheVariants.{Letters, Memory, Paint, Plot, Read, Resolution, TooLong, Unfinished, Unturned, Write}
 use Rattle.conversion.proofs.Placements.{first_page}
 use Rattle.conversion.proofs.Refusals.{job_faults, not_painted, plot_fault}
 use Rattle.devices.specs.Sinks.{SinkState}
@@ -79,6 +81,7 @@ not_converted rules job reaches input before after sink sink' (Paint fault) h = 
 not_converted rules job reaches input before after sink sink' (Write row whole bytes) h = absurd h
 not_converted rules job reaches input before after sink sink' Resolution h = absurd h
 not_converted rules job reaches input before after sink sink' Letters h = absurd h
+not_converted rules job reaches input before after sink sink' Unturned h = absurd h
 not_converted rules job reaches input before after sink sink' Unfinished h = absurd h
 
 -- a plot that was read, and is refused for its first page
@@ -162,11 +165,12 @@ converted_with_none reading carousel job reaches before after sink sink' tests t
 
 -- a conversion that drew a plot for a request, and then wrote the picture of all shapes, or did not draw it, or not even read it
 module _ (reading : Reading) (carousel : Carousel) (sm : Smoothing) (job : Job) (reaches : Reach) (before after : SourceState) (none : carousel ≡ empty) where
-  pub drawn_so : (setup : Setup) (picture : Picture) (answer : Result Drawing Fault) → rules_in setup ≡ rules_with reading carousel → setup.choice ≡ given_choice → picture ≡ Rows job sm
-      → HasDrawnFor (rules_in setup) setup.choice picture before after answer
+  pub drawn_so : (setup : Setup) (picture : Picture) (answer : Result Drawing Fault) → rules_in setup ≡ rules_with reading carousel → setup.choice ≡ given_choice → setup.turn ≡ turns.None → picture ≡ Rows job sm
+      → HasDrawnTurned setup.turn (rules_in setup) setup.choice picture before after answer
       → HasDrawn (rules_with reading carousel) given_choice job.pens job.page before after answer
-  drawn_so setup picture answer by choice is h =
-      let there = subst (λ (rules : Rules). HasDrawnFor rules setup.choice picture before after answer) by h in
+  drawn_so setup picture answer by choice upright is h =
+      let drawn = subst (λ (turn : Turn). HasDrawnTurned turn (rules_in setup) setup.choice picture before after answer) upright h in
+      let there = subst (λ (rules : Rules). HasDrawnFor rules setup.choice picture before after answer) by drawn in
       let given = subst (λ (c : PageChoice). HasDrawnFor (rules_with reading carousel) c picture before after answer) choice there in
       (subst (λ (p : Picture). HasDrawnFor (rules_with reading carousel) given_choice p before after answer) is given).draws
 
@@ -216,6 +220,7 @@ module _ (reading : Reading) (pens : PenSet) (given : Page) (input : List ℕ) (
   not_reported (Write row whole bytes) h = absurd h
   not_reported Resolution h = absurd h
   not_reported Letters h = absurd h
+  not_reported Unturned h = absurd h
   not_reported Unfinished h = absurd h
 
   module _ (drawing : Drawing) (drawn : IsDrawn (rules_of reading) given_choice pens given input before after drawing) where
@@ -261,6 +266,7 @@ module _ (reading : Reading) (pens : PenSet) (given : Page) (input : List ℕ) (
     reported (Err (Paint fault)) h = absurd h
     reported (Err Resolution) h = absurd h
     reported (Err Letters) h = absurd h
+    reported (Err Unturned) h = absurd h
     reported (Err Unfinished) h = absurd h
 
 reported_by_it : (reading : Reading) (given : Page) (before after : SourceState) (sink sink' : SinkState) (answer : Result Outcome Fault)

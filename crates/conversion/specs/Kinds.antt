@@ -2,6 +2,8 @@
 use Rattle.std.specs.Prelude.{◌≡◌, ◌⊎◌, ℕ, Bool, true, false, Result, Ok, Err, IfOk}
 use Rattle.plot_page.specs.declared.page.Page.{Page}
 use Rattle.plot_page.specs.declared.pens.PenSet.{PenSet}
+use Rattle.directions.specs.declared.turn.Turn.{Turn}
+use Rattle.directions.specs.declared.turn.Turn.TheVariants.{None}
 use Rattle.picture_job.specs.declared.page_choice.PageChoice.{PageChoice}
 use Rattle.picture_job.specs.declared.picture.Picture.{Picture}
 use Rattle.picture_job.specs.declared.picture.Picture.TheVariants.{Rows, Png, Vector}
@@ -15,10 +17,12 @@ use Rattle.conversion.specs.Drawings.{HasDrawn}
 use Rattle.rows.specs.Pictures.{Reach}
 use Rattle.conversion.specs.Rules.{Rules}
 use Rattle.conversion.specs.Sheets.{WritesPng, WritesShapes, shapes_on, strokes_on}
+use Rattle.conversion.specs.Turned.{IsTurned}
+use Rattle.turning.specs.Turns.{are_turnable}
 use Rattle.conversion.specs.Vectors.{WritesVector}
 use Rattle.rows.specs.Watching.{IsTold}
 use Rattle.conversion.specs.declared.fault.Fault.{Fault}
-use Rattle.conversion.specs.declared.fault.Fault.TheVariants.{Resolution}
+use Rattle.conversion.specs.declared.fault.Fault.TheVariants.{Resolution, Unturned}
 use Rattle.conversion.specs.declared.naming.Naming.{Naming}
 use Rattle.conversion.specs.declared.outcome.Outcome.{Outcome}
 use Rattle.conversion.specs.declared.place.Drawing.{Drawing}
@@ -72,15 +76,31 @@ pub record HasDrawnFor (rules : Rules) (choice : PageChoice) (picture : Picture)
   pub draws : HasDrawn rules choice (pens_of picture) (page_of picture) before after answer
   pub labelled : IfOk answer (λ drawing. drawing.lines.labelled ≡ has_labels picture)
 
--- a plot was drawn for a picture, and then the picture of all that is drawn was written; or it was not drawn, for the reason
--- that is answered, and a watcher is told of nothing. If the picture is not possible, nothing was read
-pub record HasConvertedTo {W : Type 0} (rules : Rules) (choice : PageChoice) (picture : Picture) (naming : Naming)
+-- what was drawn was then turned with its page, with the strokes of the picture's pens; or one of these would not be a stroke after
+-- the turn; or the plot was not drawn
+abbrev pub HasTurned : Turn → Rules → PageChoice → Picture → SourceState → SourceState → Result Drawing Fault → Type 0
+HasTurned turn rules choice picture before after (Ok turned) =
+    (drawing : Drawing) × HasDrawnFor rules choice picture before after (Ok drawing)
+    × IsTurned (pens_of picture) turn drawing turned
+HasTurned turn rules choice picture before after (Err Unturned) =
+    (drawing : Drawing) × HasDrawnFor rules choice picture before after (Ok drawing)
+    × (are_turnable (pens_of picture) turn drawing.page drawing.lines.strokes.items ≡ false)
+HasTurned turn rules choice picture before after (Err fault) = HasDrawnFor rules choice picture before after (Err fault)
+
+-- a plot was drawn for a picture, and then turned, if it is to be turned
+abbrev pub HasDrawnTurned : Turn → Rules → PageChoice → Picture → SourceState → SourceState → Result Drawing Fault → Type 0
+HasDrawnTurned None rules choice picture before after answer = HasDrawnFor rules choice picture before after answer
+HasDrawnTurned turn rules choice picture before after answer = HasTurned turn rules choice picture before after answer
+
+-- a plot was drawn for a picture, and turned so, and then the picture of all that is drawn was written; or it was not drawn or
+-- not turned, for the reason that is answered, and a watcher is told of nothing. If the picture is not possible, nothing was read
+pub record HasConvertedTo {W : Type 0} (turn : Turn) (rules : Rules) (choice : PageChoice) (picture : Picture) (naming : Naming)
     (reaches : Reach) (before after : SourceState) (sink sink' : SinkState) (hears : W → ℕ → ℕ → W → Type 0)
     (watcher watcher' : W) (answer : Result Outcome Fault) : Type 0 where
   pub unread : is_picture_possible choice picture ≡ false → (answer ≡ Err Resolution) × (after ≡ before) × (watcher' ≡ watcher)
   pub converts : is_picture_possible choice picture ≡ true →
-      ((drawing : Drawing) × HasDrawnFor rules choice picture before after (Ok drawing)
+      ((drawing : Drawing) × HasDrawnTurned turn rules choice picture before after (Ok drawing)
       × WritesSheet choice picture naming reaches drawing 0 sink sink' answer
       × IsToldOfPicture hears choice picture drawing.page watcher watcher' answer)
-      ⊎ ((fault : Fault) × HasDrawnFor rules choice picture before after (Err fault) × (answer ≡ Err fault)
+      ⊎ ((fault : Fault) × HasDrawnTurned turn rules choice picture before after (Err fault) × (answer ≡ Err fault)
       × (watcher' ≡ watcher))

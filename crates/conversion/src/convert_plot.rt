@@ -19,6 +19,7 @@ use picture_job::{Job, PageChoice, Picture, Reading, Smoothing};
 use rows::Unwatched;
 use std::alloc::Global;
 use stroke_raster::Gauge;
+use turning::Turn;
 
 /// Writes the picture of the plot that the source gives, in the profile core: the head if the job's first row is 0, its
 /// rows from the first row on, the foot. A pixel shows the pen and the colour of the last stroke of
@@ -80,6 +81,7 @@ pub(crate) fn convert_given<G: Gauge, S: Source, K: Sink>(
         reading,
         carousel: &Carousel::empty(),
         choice: PageChoice::GIVEN,
+        turn: Turn::None,
     };
     let request = Request::new(setup, &picture, Naming::NONE)?;
     let drawing = draw(alloc, &request, source)?;

@@ -25,6 +25,7 @@ use picture_job::{PageChoice, Reading};
 use plot_page::{Page, PenSet};
 use plot_report::{ReportPage, write_full_report, write_report};
 use std::alloc::Global;
+use turning::Turn;
 
 /// Writes the report on the plot that the source gives, drawn on a page in the profile core: the page, how many strokes
 /// there are, the strokes of each pen with their box, and each note.
@@ -51,6 +52,7 @@ pub fn report<S: Source, K: Sink>(
         reading: Reading::Core,
         carousel: &Carousel::empty(),
         choice: PageChoice::GIVEN,
+        turn: Turn::None,
     };
     match report_on(alloc, setup, page, source, sink) {
         Ok(outcome) => Ok(outcome.done),
@@ -60,7 +62,7 @@ pub fn report<S: Source, K: Sink>(
 
 /// Writes the report on the plot that the source gives, as `report` does, in either profile, on the page that is chosen: the
 /// page that is given, the page of the size that the plot asks for, or the page around what all pens draw on either. In the
-/// profile full it has a line for the number of sheets, and the strokes and areas of the sheet that is read.
+/// profile full it has a line for the number of sheets, and the strokes and areas of the sheet that is read. Nothing is turned.
 ///
 /// Errors: those of `report`, in the same order. The plot is refused for the page that it asks for, if that is
 /// chosen and it asks for one, else for the page that is given.

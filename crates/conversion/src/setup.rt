@@ -2,8 +2,9 @@
 
 use carousel::Carousel;
 use picture_job::{PageChoice, Reading};
+use turning::Turn;
 
-/// How a plot is read and drawn: in which profile, with which pens, and on which page.
+/// How a plot is read and drawn: in which profile, with which pens, on which page, and how that is turned.
 #[derive(Clone, Copy)]
 pub struct Setup<'a> {
     /// In which profile the plot is read, and of the profile full which sheet.
@@ -12,4 +13,7 @@ pub struct Setup<'a> {
     pub carousel: &'a Carousel,
     /// Which page the plot is drawn on.
     pub choice: PageChoice,
+    /// How the page is turned counterclockwise, with all that is on it, after the plot is drawn and the page fitted. A report
+    /// is on the page as it lies before.
+    pub turn: Turn,
 }

@@ -12,7 +12,7 @@ use turning::{Turn, are_turnable, turn_labels, turn_strokes, turned_page};
 /// page that its plot is drawn on, and of the page as a report names it, stays.
 ///
 /// Errors: the drawing as it is, if a stroke of a selected pen would lie too far away after the turn.
-pub fn turned(drawing: Drawing, pens: &PenSet, turn: Turn) -> Result<Drawing, Drawing>
+pub(crate) fn turned(drawing: Drawing, pens: &PenSet, turn: Turn) -> Result<Drawing, Drawing>
     ensures turned { IfOk result (IsTurned pens.now turn drawing) }
     ensures kept { IfErr result (λ kept. kept ≡ drawing) }
     ensures decides { is_ok result ≡ are_turnable pens.now turn drawing.page drawing.lines.strokes.items }

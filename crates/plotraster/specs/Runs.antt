@@ -17,13 +17,13 @@ use Rattle.conversion.specs.declared.setup.Setup.{Setup}
 use Rattle.conversion.specs.declared.outcome.Outcome.{Outcome}
 use Rattle.conversion.specs.declared.fault.Fault.{Fault}
 
--- a plot, which is read and drawn so, was drawn for a picture, and
--- the picture written by the exact gauge, a vector document named so; or it was drawn for a report, and the report written. A
--- watcher is told of the rows of a picture in pixels, and of nothing else
+-- a plot, which is read and drawn so, was drawn for a picture, turned, and
+-- the picture written by the exact gauge, a vector document named so; or it was drawn for a report, and the report written,
+-- without a turn. A watcher is told of the rows of a picture in pixels, and of nothing else
 abbrev pub HasRun : {W : Type 0} → Setup → Task → Naming → SourceState → SourceState →
     SinkState → SinkState → (W → ℕ → ℕ → W → Type 0) → W → W → Result Outcome Fault → Type 0
 HasRun setup (Draw picture) naming before after sink sink' hears watcher watcher' answer =
-    HasConvertedTo (rules_in setup) setup.choice picture naming exact before after sink sink' hears watcher watcher' answer
+    HasConvertedTo setup.turn (rules_in setup) setup.choice picture naming exact before after sink sink' hears watcher watcher' answer
 HasRun setup (Report page) naming before after sink sink' hears watcher watcher' answer =
     HasReportedOn (rules_in setup) setup.reading setup.choice page before after sink sink' answer × (watcher' ≡ watcher)
 

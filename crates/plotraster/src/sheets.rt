@@ -2,7 +2,7 @@
 ghost use Rattle.std.specs.Prelude.{◌≡◌, ◌+◌, ◌-◌, ◌^◌, ◌<◌, IfErr, false};
 ghost use Rattle.std.specs.Io.KnownBytes.{IsAtEnd};
 ghost use Rattle.conversion.specs.Conversions.{is_write};
-ghost use Rattle.conversion.specs.Kinds.{HasDrawnFor, IsToldOfPicture, WritesSheet};
+ghost use Rattle.conversion.specs.Kinds.{HasDrawnTurned, IsToldOfPicture, WritesSheet};
 ghost use Rattle.conversion.specs.Rules.{rules_in};
 ghost use Rattle.rows.specs.Pictures.{exact};
 
@@ -22,8 +22,8 @@ pub fn draw_sheets<S: Source>(
 ) -> Result<Drawing, Fault>
     requires failing { (S.state source.old).faults < 2 ^ 64 - 1 }
     requires ending { (S.state source.old).ends < 2 ^ 64 - 1 }
-    ensures draws { HasDrawnFor (rules_in request.now.setup) request.now.setup.choice request.now.picture.now
-        (S.state source.old) (S.state source.new) result }
+    ensures draws { HasDrawnTurned request.now.setup.turn (rules_in request.now.setup) request.now.setup.choice
+        request.now.picture.now (S.state source.old) (S.state source.new) result }
     ensures end { (S.state source.new).ends ≡ (S.state source.old).ends + 1 → IsAtEnd (S.state source.new).left }
 {
     draw(alloc, request, source)

@@ -166,11 +166,17 @@ impl<'r, 'm, 'a, T: Terminal> Sheets for DrawnSheets<'r, 'm, 'a, T> {
 }
 
 // How a plot is read and drawn by a command line, in this reading.
-fn setup_of<'r>(line: &'r Line<'_, '_>, reading: Reading) -> Setup<'r> {
+fn setup_of<'r>(line: &'r Line<'_, '_>, reading: Reading) -> Setup<'r>
+    ensures reading { result.reading ≡ reading }
+    ensures carousel { result.carousel.now ≡ line.now.carousel }
+    ensures choice { result.choice ≡ line.now.choice }
+    ensures turn { result.turn ≡ line.now.turn }
+{
     Setup {
         reading,
         carousel: &line.carousel,
         choice: line.choice,
+        turn: line.turn,
     }
 }
 

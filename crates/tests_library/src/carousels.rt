@@ -3,7 +3,7 @@ use crate::cases::text_of;
 use crate::pages::eight_by_eight;
 use plotraster::{
     Carousel, Encoding, Form, OverRead, OverWrite, PageChoice, Picture, Reading, Setup, Smoothing,
-    Task, Unwatched, naming_of, read_colours, read_widths, run_task,
+    Task, Turn, Unwatched, naming_of, read_colours, read_widths, run_task,
 };
 use std::alloc::Global;
 use std::test::Fail;
@@ -37,6 +37,7 @@ fn drawn(
             reading,
             carousel: &carousel,
             choice: PageChoice::GIVEN,
+            turn: Turn::None,
         },
         &Task::Picture(picture),
         naming_of(""),

@@ -7,7 +7,7 @@ use plotraster::{
 use std::test::Fail;
 use stroke_raster::PaintFault;
 
-const FAULTS: [Fault; 10] = [
+const FAULTS: [Fault; 11] = [
     Fault::TooLong,
     Fault::Memory,
     Fault::Plot(PlotFault::OffRange { at: 7 }),
@@ -22,6 +22,7 @@ const FAULTS: [Fault; 10] = [
     Fault::Read,
     Fault::Resolution,
     Fault::Letters,
+    Fault::Unturned,
 ];
 
 // The number of each fault, its status, that of a run that stops for it, and its text.
@@ -36,6 +37,7 @@ const NUMBERS_AND_TEXTS: &str = "\
 8 3 3 read failed
 9 2 2 resolution is not one of PCL's
 10 2 2 labels have more than 67108864 letters, too many for a PDF
+11 2 2 a line leads too far from the page to be turned
 ";
 
 #[test]

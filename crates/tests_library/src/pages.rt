@@ -1,7 +1,7 @@
 //! The page that most tests draw on, the plots that they draw, and where plots are placed.
 use crate::cases::text_of;
 use plotraster::{
-    Carousel, Dots, Form, Job, OverRead, OverWrite, Page, PageChoice, PenSet, Reading, Setup,
+    Carousel, Dots, Form, Job, OverRead, OverWrite, Page, PageChoice, PenSet, Reading, Setup, Turn,
     report_on,
 };
 use std::alloc::Global;
@@ -47,6 +47,7 @@ pub fn placed_on(
             reading,
             carousel: &Carousel::empty(),
             choice,
+            turn: Turn::None,
         },
         page,
         &mut source,

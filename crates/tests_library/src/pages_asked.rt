@@ -4,7 +4,8 @@ use crate::pages::placed_on;
 use crate::placements::fitted;
 use plotraster::{
     Carousel, Dots, Encoding, Fault, Form, Job, OverRead, OverWrite, Page, PageChoice, PenSet,
-    Picture, PlotFault, Reading, Setup, Smoothing, Task, Unwatched, naming_of, report_on, run_task,
+    Picture, PlotFault, Reading, Setup, Smoothing, Task, Turn, Unwatched, naming_of, report_on,
+    run_task,
 };
 use std::alloc::Global;
 use std::test::Fail;
@@ -114,6 +115,7 @@ fn drawn(alloc: Global, choice: PageChoice, plot: &[u8]) -> Result<String, Fail>
             reading: Reading::Core,
             carousel: &Carousel::empty(),
             choice,
+            turn: Turn::None,
         },
         &Task::Picture(Picture::Rows {
             job,
@@ -187,6 +189,7 @@ fn refusal(
             reading: Reading::Core,
             carousel: &Carousel::empty(),
             choice,
+            turn: Turn::None,
         },
         &page,
         &mut source,

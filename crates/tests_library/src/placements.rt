@@ -3,7 +3,7 @@ use crate::cases::text_of;
 use crate::pages::{eight_by_eight, placed_on};
 use plotraster::{
     Carousel, Encoding, Form, Job, OverRead, OverWrite, PageChoice, PenSet, Picture, Reading,
-    Setup, Smoothing, Task, Unwatched, naming_of, run_task,
+    Setup, Smoothing, Task, Turn, Unwatched, naming_of, run_task,
 };
 use std::alloc::Global;
 use std::test::Fail;
@@ -164,6 +164,7 @@ fn drawn(alloc: Global, pens: PenSet, plot: &[u8]) -> Result<String, Fail> {
             reading: Reading::Core,
             carousel: &Carousel::empty(),
             choice,
+            turn: Turn::None,
         },
         &Task::Picture(Picture::Rows {
             job,

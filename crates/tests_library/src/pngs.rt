@@ -2,7 +2,7 @@
 use crate::streams::{Reader, Writer};
 use plotraster::{
     Carousel, Dots, Fault, Outcome, OverRead, OverWrite, Page, PageChoice, PenSet, Picture, PngJob,
-    Reading, Setup, Smoothing, Task, Unwatched, naming_of, number, run_task, status,
+    Reading, Setup, Smoothing, Task, Turn, Unwatched, naming_of, number, run_task, status,
 };
 use std::alloc::Global;
 use std::test::Fail;
@@ -69,6 +69,7 @@ fn run(alloc: Global, job: &PngJob, plot: &[u8], writer: Writer) -> Answered {
             reading: Reading::Core,
             carousel: &Carousel::empty(),
             choice: PageChoice::GIVEN,
+            turn: Turn::None,
         },
         &Task::Picture(Picture::Png(*job)),
         naming_of(""),

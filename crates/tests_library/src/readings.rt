@@ -4,7 +4,7 @@ use crate::pages::eight_by_eight;
 use crate::runs::drawn_as;
 use plotraster::{
     Carousel, CharacterSet, Encoding, Form, OverRead, OverWrite, Page, PageChoice, Reading, Setup,
-    report_on,
+    Turn, report_on,
 };
 use std::alloc::Global;
 use std::process::Abort;
@@ -104,6 +104,7 @@ pub fn reported(alloc: Global, reading: Reading, page: &Page, plot: &[u8]) -> Re
             reading,
             carousel: &Carousel::empty(),
             choice,
+            turn: Turn::None,
         },
         page,
         &mut source,
@@ -139,6 +140,7 @@ fn sheets(alloc: Global, reading: Reading) -> Result<usize, Fail> {
             reading,
             carousel: &Carousel::empty(),
             choice: PageChoice::GIVEN,
+            turn: Turn::None,
         },
         &eight_by_eight(Form::Pbm)?.page,
         &mut OverRead::new(SHEETS),

@@ -3,7 +3,8 @@ use crate::pages::eight_by_eight;
 use crate::runs::drawn_as;
 use plotraster::{
     Carousel, Dots, Drawing, Encoding, Fault, Form, Job, OverRead, OverWrite, PageChoice, Picture,
-    PngJob, Reading, Request, Setup, Smoothing, Unwatched, draw_sheets, naming_of, write_sheet,
+    PngJob, Reading, Request, Setup, Smoothing, Turn, Unwatched, draw_sheets, naming_of,
+    write_sheet,
 };
 use std::alloc::Global;
 use std::test::Fail;
@@ -39,6 +40,7 @@ pub fn drawing(
                 reading,
                 carousel: &Carousel::empty(),
                 choice,
+                turn: Turn::None,
             },
             picture,
             naming_of(""),
@@ -64,6 +66,7 @@ pub fn picture_of(
                 reading: ALL,
                 carousel: &Carousel::empty(),
                 choice,
+                turn: Turn::None,
             },
             picture,
             naming,

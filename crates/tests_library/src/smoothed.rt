@@ -3,7 +3,7 @@ use crate::pages::{LINE, job_at};
 use crate::streams::{Reader, Writer};
 use plotraster::{
     Carousel, Dots, Fault, Form, Job, Outcome, OverRead, OverWrite, Page, PageChoice, PenSet,
-    Picture, PngJob, Reading, Setup, Smoothing, Task, Unwatched, naming_of, run_task,
+    Picture, PngJob, Reading, Setup, Smoothing, Task, Turn, Unwatched, naming_of, run_task,
 };
 use std::alloc::Global;
 use std::test::Fail;
@@ -36,6 +36,7 @@ fn run<'a>(alloc: Global, task: &Task, plot: &'a [u8], writer: Writer) -> Answer
             reading: Reading::Core,
             carousel: &Carousel::empty(),
             choice: PageChoice::GIVEN,
+            turn: Turn::None,
         },
         task,
         naming_of(""),

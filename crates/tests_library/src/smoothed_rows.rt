@@ -1,7 +1,7 @@
 //! Smoothed pictures. The sums of their bytes are those of pictures whose pixels were compared with the means of pixels of the
 //! finer ones.
 use carousel::Carousel;
-use conversion::{Fault, Naming, Request, Setup, Unwatched, draw, write};
+use conversion::{Fault, Naming, Request, Setup, Turn, Unwatched, draw, write};
 use crc32::crc_of;
 use devices::{OverRead, OverWrite};
 use picture_job::{Job, PageChoice, Picture, PngJob, Reading, Smoothing};
@@ -43,6 +43,7 @@ fn sum_of(alloc: Global, picture: Picture) -> Result<u32, Fault> {
         reading: Reading::Core,
         carousel: &Carousel::empty(),
         choice: PageChoice::GIVEN,
+        turn: Turn::None,
     };
     let request = Request::new(setup, &picture, UNNAMED)?;
     let drawing = draw(alloc, &request, &mut OverRead::new(LINES))?;

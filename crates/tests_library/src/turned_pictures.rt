@@ -1,6 +1,6 @@
 //! Pictures of drawings that are turned with their page of 64 by 128 plotter units, which has 8 by 16 pixels.
 use carousel::Carousel;
-use conversion::{Drawing, Naming, Request, Setup, Turn, Unwatched, draw, turned, write};
+use conversion::{Drawing, Fault, Naming, Request, Setup, Turn, Unwatched, draw, write};
 use devices::{OverRead, OverWrite};
 use picture_job::{Job, PageChoice, Picture, Reading, Smoothing};
 use picture_out::Form;
@@ -51,28 +51,38 @@ fn picture() -> Result<Picture, Fail> {
     Ok(Picture::Rows { job, smoothing })
 }
 
-fn request<'a>(picture: &'a Picture, carousel: &'a Carousel) -> Result<Request<'a>, Fail> {
+// What is drawn of a plot by this picture, and then turned.
+fn drawn(
+    alloc: Global,
+    plot: &[u8],
+    turn: Turn,
+    picture: &Picture,
+) -> Result<Result<Drawing, Fault>, Fail> {
+    let carousel = Carousel::empty();
+    let request = request(picture, &carousel, turn)?;
+    Ok(draw(alloc, &request, &mut OverRead::new(plot)))
+}
+
+fn request<'a>(
+    picture: &'a Picture,
+    carousel: &'a Carousel,
+    turn: Turn,
+) -> Result<Request<'a>, Fail> {
     let setup = Setup {
         reading: Reading::Core,
         carousel,
         choice: PageChoice::GIVEN,
+        turn,
     };
     Ok(Request::new(setup, picture, UNNAMED)?)
-}
-
-// A drawing after a turn, if it can be turned.
-fn turned_by(drawing: Drawing, turn: Turn) -> Result<Drawing, Fail> {
-    let pens = PenSet::none().with(1);
-    Ok(turned(drawing, &pens, turn).ok().ok_or("a drawing")?)
 }
 
 // The contract of this function promises nothing: a test looks at the bytes.
 fn written(alloc: Global, plot: &[u8], turn: Turn) -> Result<Vec<u8>, Fail> {
     let picture = picture()?;
     let carousel = Carousel::empty();
-    let request = request(&picture, &carousel)?;
-    let drawing = draw(alloc, &request, &mut OverRead::new(plot))?;
-    let drawing = turned_by(drawing, turn)?;
+    let request = request(&picture, &carousel, turn)?;
+    let drawing = drawn(alloc, plot, turn, &picture)??;
     let (sink, answer) = write(
         alloc,
         &request,
@@ -97,11 +107,11 @@ fn lines_turned_with_their_page(rt: HostRuntime) -> Result<(), Fail> {
 
 // Whether what a plot draws can be turned.
 fn can_be_turned(alloc: Global, plot: &[u8], turn: Turn) -> Result<bool, Fail> {
-    let picture = picture()?;
-    let carousel = Carousel::empty();
-    let request = request(&picture, &carousel)?;
-    let drawing = draw(alloc, &request, &mut OverRead::new(plot))?;
-    Ok(turned(drawing, &PenSet::none().with(1), turn).is_ok())
+    match drawn(alloc, plot, turn, &picture()?)? {
+        Ok(_) => Ok(true),
+        Err(Fault::Unturned) => Ok(false),
+        Err(_) => Err(Fail::from("another fault")),
+    }
 }
 
 // A line that would end too far right of the page, unless it is of another pen.

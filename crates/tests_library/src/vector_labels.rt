@@ -3,7 +3,7 @@ use crate::streams::{Reader, Writer};
 use crate::vectors::{ALL, count_of, job_of, run};
 use plotraster::{
     Carousel, Encoding, OverRead, OverWrite, PageChoice, PenSet, Picture, Reading, Request, Setup,
-    Unwatched, VectorFormat, draw_sheets, naming_of, write_sheet,
+    Turn, Unwatched, VectorFormat, draw_sheets, naming_of, write_sheet,
 };
 use std::test::Fail;
 
@@ -57,6 +57,7 @@ fn labels_of_one_sheet(rt: HostRuntime) -> Result<(), Fail> {
         reading: ALL,
         carousel: &Carousel::empty(),
         choice: PageChoice::GIVEN,
+        turn: Turn::None,
     };
     let request = Request::new(setup, &picture, naming_of(""))?;
     let drawing = draw_sheets(alloc, &request, &mut OverRead::new(Reader::new(LABELLED)))?;

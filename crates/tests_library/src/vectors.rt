@@ -2,7 +2,7 @@
 use crate::streams::{Reader, Writer};
 use plotraster::{
     Carousel, Encoding, Fault, Naming, Outcome, OverRead, OverWrite, Page, PageChoice, PenSet,
-    Picture, Reading, Request, Setup, Task, Unwatched, VectorFormat, VectorJob, draw_sheets,
+    Picture, Reading, Request, Setup, Task, Turn, Unwatched, VectorFormat, VectorJob, draw_sheets,
     naming_of, number, run_task, status, write_sheet,
 };
 use std::alloc::Global;
@@ -65,6 +65,7 @@ pub fn run(
             reading,
             carousel: &Carousel::empty(),
             choice: PageChoice::GIVEN,
+            turn: Turn::None,
         },
         &Task::Picture(Picture::Vector(job)),
         naming,
@@ -146,6 +147,7 @@ fn one_sheet_has_no_group(rt: HostRuntime) -> Result<(), Fail> {
         reading: ALL,
         carousel: &Carousel::empty(),
         choice: PageChoice::GIVEN,
+        turn: Turn::None,
     };
     let request = Request::new(setup, &picture, naming_of(""))?;
     let drawing = draw_sheets(alloc, &request, &mut OverRead::new(Reader::new(SHEETS)))?;
@@ -231,6 +233,7 @@ fn fitted_documents(rt: HostRuntime) -> Result<(), Fail> {
                 reading: Reading::Core,
                 carousel: &Carousel::empty(),
                 choice,
+                turn: Turn::None,
             },
             &Task::Picture(Picture::Vector(job_of(format, PenSet::all())?)),
             naming_of(""),
@@ -322,6 +325,7 @@ fn refused_plots(rt: HostRuntime) -> Result<(), Fail> {
                 reading: Reading::Core,
                 carousel: &Carousel::empty(),
                 choice,
+                turn: Turn::None,
             },
             &Task::Picture(Picture::Vector(job)),
             naming_of(""),

@@ -6,7 +6,7 @@ use crate::runs::drawn;
 use crate::streams::Writer;
 use plotraster::{
     Carousel, Fault, Form, Job, OverRead, OverWrite, PageChoice, Picture, PngJob, Reading, Request,
-    Setup, Smoothing, Task, Watcher, naming_of, run_task,
+    Setup, Smoothing, Task, Turn, Watcher, naming_of, run_task,
 };
 use std::alloc::Global;
 use std::process::Abort;
@@ -56,6 +56,7 @@ fn is_told(
             reading: Reading::Core,
             carousel: &Carousel::empty(),
             choice: PageChoice::GIVEN,
+            turn: Turn::None,
         },
         &Task::Picture(rows_of(job)),
         naming_of(""),
@@ -109,6 +110,7 @@ fn is_not_told(rt: &impl Abort, alloc: Global, picture: Picture, plot: &[u8]) ->
             reading: Reading::Core,
             carousel: &Carousel::empty(),
             choice: PageChoice::GIVEN,
+            turn: Turn::None,
         },
         &Task::Picture(picture),
         naming_of(""),
@@ -152,6 +154,7 @@ fn watchers_of_sheets_that_are_not_possible(rt: HostRuntime) -> Result<(), Fail>
         reading: Reading::Core,
         carousel: &Carousel::empty(),
         choice: PageChoice::GIVEN,
+        turn: Turn::None,
     };
     let asked = Request::new(setup, &picture, naming_of(""));
     assert_eq!(rt; asked.err(), Some(Fault::Resolution));

@@ -44,13 +44,18 @@ impl Terminal for Unseen {
 
 // What is done for a command line, and the exit status. There is a folder `d`.
 fn log_of(alloc: Global, line: &str) -> Result<String, Fail> {
+    log_on(alloc, PLOT, line)
+}
+
+// The same with this plot in each file.
+fn log_on(alloc: Global, plot: &'static [u8], line: &str) -> Result<String, Fail> {
     let mut words = Vec::new(alloc);
     for word in line.split(" ") {
         words.push(word)?;
     }
     let matches = parse(command(alloc)?, words.as_slice())?;
     let mut desk = Recorder::new(alloc, "");
-    desk.plot = PLOT;
+    desk.plot = plot;
     let destination = destination_of(&mut desk, output_of(&matches));
     let Ok(line) = settle(&matches, destination) else {
         return Err(Fail::from("not understood"));
@@ -103,5 +108,33 @@ fn in_a_folder(rt: HostRuntime) -> Result<(), Fail> {
     let sheets = sheets.as_str();
     assert!(rt; sheets.contains("rename d/a-1.png\n"), "{sheets}");
     assert!(rt; sheets.ends_with("rename d/a-2.png\n0"), "{sheets}");
+    Ok(())
+}
+
+// A plot that leads too far below its page to be turned by a quarter.
+const FAR: &[u8] = b"IN;SP1;PU0,0;PD0,-65500;";
+
+const TOO_FAR: &str = "a line leads too far from the page to be turned\n";
+
+#[test]
+fn turned_too_far(rt: HostRuntime) -> Result<(), Fail> {
+    for (line, is_refused) in [
+        ("plotraster pbm a.plt -o out", false),
+        ("plotraster pbm --rotate=90 a.plt -o out", true),
+        (
+            "plotraster pbm --profile=full --sheet=each --rotate=90 a.plt -o d",
+            true,
+        ),
+        ("plotraster svg --pens=2 --rotate=90 a.plt -o out", false),
+        ("plotraster report --rotate=90 a.plt -o out", false),
+    ] {
+        let log = log_on(rt.alloc(), FAR, line)?;
+        let log = log.as_str();
+        assert_eq!(rt; log.contains(TOO_FAR), is_refused, "{line}");
+        assert!(rt;
+            log.ends_with(if is_refused { "\n2" } else { "\n0" }),
+            "{line}"
+        );
+    }
     Ok(())
 }

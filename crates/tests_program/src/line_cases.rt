@@ -21,6 +21,8 @@ pub enum Asked {
     Page,
     // The same, with the page that is given.
     Size,
+    // Only how a command line has the page turned, or why it is refused.
+    Turn,
     // Only which messages a command line asks for, or why it is refused.
     Messages,
     // Only what a command line has written and the files that it has read, or why it is refused.
@@ -129,6 +131,7 @@ fn line_told(alloc: Global, asked: Asked, line: &Line<'_, '_>) -> Result<String,
             let (width, height, left, below) = (page.width, page.height, page.left, page.below);
             format!(in alloc; "{width} {height} {left} {below} {choice}")
         }
+        (Asked::Turn, _) => format!(in alloc; "{:?}", line.turn),
         (Asked::Messages, _) => messages_told(alloc, line),
         (Asked::Files, _) => files_told(alloc, line.output, line.files),
         (_, Task::Picture(Picture::Rows { job, smoothing })) => {

@@ -6,7 +6,7 @@ use Rattle.clap.specs.Words.{Row, found_of, rows_of}
 use Rattle.command_line.specs.declared.fault.LineFault.{LineFault}
 use Rattle.command_line.specs.declared.subcommands.Kind.{Kind}
 use Rattle.command_line.specs.Faults.{Refusal, first_of_these, refusal_of}
-use Rattle.command_line.specs.Lines.{carousel_fault, choice_fault, each_fault, output_fault, pixels_fault, reading_fault, selection_fault, task_fault, values_fault}
+use Rattle.command_line.specs.Lines.{carousel_fault, choice_fault, each_fault, output_fault, pixels_fault, reading_fault, selection_fault, task_fault, turn_fault, values_fault}
 use Rattle.command_line.proofs.line.line_of.Goals as goal
 
 -- a fault that is passed on says the same of lists of pens
@@ -35,11 +35,14 @@ abbrev told : Option LineFault → Option Refusal
 told fault = option_map refusal_of fault
 
 -- the faults that come after so many
+abbrev after_9 : Kind → List Row → List (Option Refusal)
+after_9 kind rows = []
+
 abbrev after_8 : Kind → List Row → List (Option Refusal)
-after_8 kind rows = []
+after_8 kind rows = told (output_fault rows) ∷ after_9 kind rows
 
 abbrev after_7 : Kind → List Row → List (Option Refusal)
-after_7 kind rows = told (output_fault rows) ∷ after_8 kind rows
+after_7 kind rows = told (turn_fault rows) ∷ after_8 kind rows
 
 abbrev after_6 : Kind → List Row → List (Option Refusal)
 after_6 kind rows = told (choice_fault kind rows) ∷ after_7 kind rows
@@ -62,54 +65,70 @@ after_1 kind rows = carousel_fault rows ∷ after_2 kind rows
 abbrev after_0 : Kind → List Row → List (Option Refusal)
 after_0 kind rows = told (selection_fault kind rows) ∷ after_1 kind rows
 
+-- each fault is the first one if there is none before it, and without any there is none
 module _ (kind : Kind) (rows : List Row) where
-  good_0 : None ≡ selection_fault kind rows → values_fault kind rows ≡ first_of_these (after_1 kind rows)
-  good_0 g0 = past (told (selection_fault kind rows)) (after_1 kind rows) (ap told g0)
-
-  good_1 : None ≡ selection_fault kind rows → None ≡ carousel_fault rows → values_fault kind rows ≡ first_of_these (after_2 kind rows)
-  good_1 g0 g1 = good_0 g0 ∙ past (carousel_fault rows) (after_2 kind rows) g1
-
-  good_2 : None ≡ selection_fault kind rows → None ≡ carousel_fault rows → None ≡ task_fault kind rows → values_fault kind rows ≡ first_of_these (after_3 kind rows)
-  good_2 g0 g1 g2 = good_1 g0 g1 ∙ past (told (task_fault kind rows)) (after_3 kind rows) (ap told g2)
-
-  good_3 : None ≡ selection_fault kind rows → None ≡ carousel_fault rows → None ≡ task_fault kind rows → None ≡ reading_fault rows → values_fault kind rows ≡ first_of_these (after_4 kind rows)
-  good_3 g0 g1 g2 g3 = good_2 g0 g1 g2 ∙ past (told (reading_fault rows)) (after_4 kind rows) (ap told g3)
-
-  good_4 : None ≡ selection_fault kind rows → None ≡ carousel_fault rows → None ≡ task_fault kind rows → None ≡ reading_fault rows → None ≡ each_fault kind rows → values_fault kind rows ≡ first_of_these (after_5 kind rows)
-  good_4 g0 g1 g2 g3 g4 = good_3 g0 g1 g2 g3 ∙ past (told (each_fault kind rows)) (after_5 kind rows) (ap told g4)
-
-  good_5 : None ≡ selection_fault kind rows → None ≡ carousel_fault rows → None ≡ task_fault kind rows → None ≡ reading_fault rows → None ≡ each_fault kind rows → None ≡ pixels_fault kind rows → values_fault kind rows ≡ first_of_these (after_6 kind rows)
-  good_5 g0 g1 g2 g3 g4 g5 = good_4 g0 g1 g2 g3 g4 ∙ past (told (pixels_fault kind rows)) (after_6 kind rows) (ap told g5)
-
-  good_6 : None ≡ selection_fault kind rows → None ≡ carousel_fault rows → None ≡ task_fault kind rows → None ≡ reading_fault rows → None ≡ each_fault kind rows → None ≡ pixels_fault kind rows → None ≡ choice_fault kind rows → values_fault kind rows ≡ first_of_these (after_7 kind rows)
-  good_6 g0 g1 g2 g3 g4 g5 g6 = good_5 g0 g1 g2 g3 g4 g5 ∙ past (told (choice_fault kind rows)) (after_7 kind rows) (ap told g6)
-
-  good_7 : None ≡ selection_fault kind rows → None ≡ carousel_fault rows → None ≡ task_fault kind rows → None ≡ reading_fault rows → None ≡ each_fault kind rows → None ≡ pixels_fault kind rows → None ≡ choice_fault kind rows → None ≡ output_fault rows → values_fault kind rows ≡ first_of_these (after_8 kind rows)
-  good_7 g0 g1 g2 g3 g4 g5 g6 g7 = good_6 g0 g1 g2 g3 g4 g5 g6 ∙ past (told (output_fault rows)) (after_8 kind rows) (ap told g7)
-
   bad_0 : (e : LineFault) → Some e ≡ selection_fault kind rows → values_fault kind rows ≡ Some (refusal_of e)
   bad_0 e bad = here (told (selection_fault kind rows)) (after_1 kind rows) (refusal_of e) (ap told bad)
 
-  bad_1 : None ≡ selection_fault kind rows → (x : Refusal) → Some x ≡ carousel_fault rows → values_fault kind rows ≡ Some x
-  bad_1 g0 x bad = good_0 g0 ∙ here (carousel_fault rows) (after_2 kind rows) x bad
+  module _ (g0 : None ≡ selection_fault kind rows) where
+    good_0 : values_fault kind rows ≡ first_of_these (after_1 kind rows)
+    good_0 = past (told (selection_fault kind rows)) (after_1 kind rows) (ap told g0)
 
-  bad_2 : None ≡ selection_fault kind rows → None ≡ carousel_fault rows → (e : LineFault) → Some e ≡ task_fault kind rows → values_fault kind rows ≡ Some (refusal_of e)
-  bad_2 g0 g1 e bad = good_1 g0 g1 ∙ here (told (task_fault kind rows)) (after_3 kind rows) (refusal_of e) (ap told bad)
+    bad_1 : (x : Refusal) → Some x ≡ carousel_fault rows → values_fault kind rows ≡ Some x
+    bad_1 x bad = good_0 ∙ here (carousel_fault rows) (after_2 kind rows) x bad
 
-  bad_3 : None ≡ selection_fault kind rows → None ≡ carousel_fault rows → None ≡ task_fault kind rows → (e : LineFault) → Some e ≡ reading_fault rows → values_fault kind rows ≡ Some (refusal_of e)
-  bad_3 g0 g1 g2 e bad = good_2 g0 g1 g2 ∙ here (told (reading_fault rows)) (after_4 kind rows) (refusal_of e) (ap told bad)
+    module _ (g1 : None ≡ carousel_fault rows) where
+      good_1 : values_fault kind rows ≡ first_of_these (after_2 kind rows)
+      good_1 = good_0 ∙ past (carousel_fault rows) (after_2 kind rows) g1
 
-  bad_4 : None ≡ selection_fault kind rows → None ≡ carousel_fault rows → None ≡ task_fault kind rows → None ≡ reading_fault rows → (e : LineFault) → Some e ≡ each_fault kind rows → values_fault kind rows ≡ Some (refusal_of e)
-  bad_4 g0 g1 g2 g3 e bad = good_3 g0 g1 g2 g3 ∙ here (told (each_fault kind rows)) (after_5 kind rows) (refusal_of e) (ap told bad)
+      bad_2 : (e : LineFault) → Some e ≡ task_fault kind rows → values_fault kind rows ≡ Some (refusal_of e)
+      bad_2 e bad = good_1 ∙ here (told (task_fault kind rows)) (after_3 kind rows) (refusal_of e) (ap told bad)
 
-  bad_5 : None ≡ selection_fault kind rows → None ≡ carousel_fault rows → None ≡ task_fault kind rows → None ≡ reading_fault rows → None ≡ each_fault kind rows → (e : LineFault) → Some e ≡ pixels_fault kind rows → values_fault kind rows ≡ Some (refusal_of e)
-  bad_5 g0 g1 g2 g3 g4 e bad = good_4 g0 g1 g2 g3 g4 ∙ here (told (pixels_fault kind rows)) (after_6 kind rows) (refusal_of e) (ap told bad)
+      module _ (g2 : None ≡ task_fault kind rows) where
+        good_2 : values_fault kind rows ≡ first_of_these (after_3 kind rows)
+        good_2 = good_1 ∙ past (told (task_fault kind rows)) (after_3 kind rows) (ap told g2)
 
-  bad_6 : None ≡ selection_fault kind rows → None ≡ carousel_fault rows → None ≡ task_fault kind rows → None ≡ reading_fault rows → None ≡ each_fault kind rows → None ≡ pixels_fault kind rows → (e : LineFault) → Some e ≡ choice_fault kind rows → values_fault kind rows ≡ Some (refusal_of e)
-  bad_6 g0 g1 g2 g3 g4 g5 e bad = good_5 g0 g1 g2 g3 g4 g5 ∙ here (told (choice_fault kind rows)) (after_7 kind rows) (refusal_of e) (ap told bad)
+        bad_3 : (e : LineFault) → Some e ≡ reading_fault rows → values_fault kind rows ≡ Some (refusal_of e)
+        bad_3 e bad = good_2 ∙ here (told (reading_fault rows)) (after_4 kind rows) (refusal_of e) (ap told bad)
 
-  bad_7 : None ≡ selection_fault kind rows → None ≡ carousel_fault rows → None ≡ task_fault kind rows → None ≡ reading_fault rows → None ≡ each_fault kind rows → None ≡ pixels_fault kind rows → None ≡ choice_fault kind rows → (e : LineFault) → Some e ≡ output_fault rows → values_fault kind rows ≡ Some (refusal_of e)
-  bad_7 g0 g1 g2 g3 g4 g5 g6 e bad = good_6 g0 g1 g2 g3 g4 g5 g6 ∙ here (told (output_fault rows)) (after_8 kind rows) (refusal_of e) (ap told bad)
+        module _ (g3 : None ≡ reading_fault rows) where
+          good_3 : values_fault kind rows ≡ first_of_these (after_4 kind rows)
+          good_3 = good_2 ∙ past (told (reading_fault rows)) (after_4 kind rows) (ap told g3)
+
+          bad_4 : (e : LineFault) → Some e ≡ each_fault kind rows → values_fault kind rows ≡ Some (refusal_of e)
+          bad_4 e bad = good_3 ∙ here (told (each_fault kind rows)) (after_5 kind rows) (refusal_of e) (ap told bad)
+
+          module _ (g4 : None ≡ each_fault kind rows) where
+            good_4 : values_fault kind rows ≡ first_of_these (after_5 kind rows)
+            good_4 = good_3 ∙ past (told (each_fault kind rows)) (after_5 kind rows) (ap told g4)
+
+            bad_5 : (e : LineFault) → Some e ≡ pixels_fault kind rows → values_fault kind rows ≡ Some (refusal_of e)
+            bad_5 e bad = good_4 ∙ here (told (pixels_fault kind rows)) (after_6 kind rows) (refusal_of e) (ap told bad)
+
+            module _ (g5 : None ≡ pixels_fault kind rows) where
+              good_5 : values_fault kind rows ≡ first_of_these (after_6 kind rows)
+              good_5 = good_4 ∙ past (told (pixels_fault kind rows)) (after_6 kind rows) (ap told g5)
+
+              bad_6 : (e : LineFault) → Some e ≡ choice_fault kind rows → values_fault kind rows ≡ Some (refusal_of e)
+              bad_6 e bad = good_5 ∙ here (told (choice_fault kind rows)) (after_7 kind rows) (refusal_of e) (ap told bad)
+
+              module _ (g6 : None ≡ choice_fault kind rows) where
+                good_6 : values_fault kind rows ≡ first_of_these (after_7 kind rows)
+                good_6 = good_5 ∙ past (told (choice_fault kind rows)) (after_7 kind rows) (ap told g6)
+
+                bad_7 : (e : LineFault) → Some e ≡ turn_fault rows → values_fault kind rows ≡ Some (refusal_of e)
+                bad_7 e bad = good_6 ∙ here (told (turn_fault rows)) (after_8 kind rows) (refusal_of e) (ap told bad)
+
+                module _ (g7 : None ≡ turn_fault rows) where
+                  good_7 : values_fault kind rows ≡ first_of_these (after_8 kind rows)
+                  good_7 = good_6 ∙ past (told (turn_fault rows)) (after_8 kind rows) (ap told g7)
+
+                  bad_8 : (e : LineFault) → Some e ≡ output_fault rows → values_fault kind rows ≡ Some (refusal_of e)
+                  bad_8 e bad = good_7 ∙ here (told (output_fault rows)) (after_9 kind rows) (refusal_of e) (ap told bad)
+
+                  module _ (g8 : None ≡ output_fault rows) where
+                    good_8 : values_fault kind rows ≡ first_of_these (after_9 kind rows)
+                    good_8 = good_7 ∙ past (told (output_fault rows)) (after_9 kind rows) (ap told g8)
 
 pub returns-in_err-output-clause-pens : goal.returns-in_err-output-clause-pens
 returns-in_err-output-clause-pens c = same_pens _ _ _ c.from_residual.ensures.1 c.in_err-output.ensures.pens
@@ -179,6 +198,16 @@ returns-in_err-choice-clause-refused c = λ has.
     passed_on _ _ c.from_residual-in_err-choice.ensures.1
     ∙ sym (bad_6 c.args.kind (rows_of (found_of c.args.options.now)) (c.in_ok-output.ensures.refused has.pens) c.in_ok-carousel.ensures.refused (c.in_ok-task.ensures.refused has.numbers) (c.in_ok-reading.ensures.refused has.profile) c.in_ok-each_sheet.ensures.refused (c.in_ok-pixels.ensures.refused (has.numbers.within (codes "size"))) _ (c.in_err-choice.ensures.refused (has.numbers.within (codes "margin"))))
 
+pub returns-in_err-turn-clause-pens : goal.returns-in_err-turn-clause-pens
+returns-in_err-turn-clause-pens c =
+    same_pens _ _ _ c.from_residual-in_err-turn.ensures.1
+    (λ h. absurd (c.in_err-turn.ensures.pens h), λ bad. absurd (no_bad_list _ _ c.in_ok-output.ensures.pens bad))
+
+pub returns-in_err-turn-clause-refused : goal.returns-in_err-turn-clause-refused
+returns-in_err-turn-clause-refused c = λ has.
+    passed_on _ _ c.from_residual-in_err-turn.ensures.1
+    ∙ sym (bad_7 c.args.kind (rows_of (found_of c.args.options.now)) (c.in_ok-output.ensures.refused has.pens) c.in_ok-carousel.ensures.refused (c.in_ok-task.ensures.refused has.numbers) (c.in_ok-reading.ensures.refused has.profile) c.in_ok-each_sheet.ensures.refused (c.in_ok-pixels.ensures.refused (has.numbers.within (codes "size"))) (c.in_ok-choice.ensures.refused (has.numbers.within (codes "margin"))) _ c.in_err-turn.ensures.refused)
+
 pub returns-in_err-place-clause-pens : goal.returns-in_err-place-clause-pens
 returns-in_err-place-clause-pens c =
     same_pens _ _ _ c.from_residual-in_err-place.ensures.1
@@ -187,11 +216,11 @@ returns-in_err-place-clause-pens c =
 pub returns-in_err-place-clause-refused : goal.returns-in_err-place-clause-refused
 returns-in_err-place-clause-refused c = λ has.
     passed_on _ _ c.from_residual-in_err-place.ensures.1
-    ∙ sym (bad_7 c.args.kind (rows_of (found_of c.args.options.now)) (c.in_ok-output.ensures.refused has.pens) c.in_ok-carousel.ensures.refused (c.in_ok-task.ensures.refused has.numbers) (c.in_ok-reading.ensures.refused has.profile) c.in_ok-each_sheet.ensures.refused (c.in_ok-pixels.ensures.refused (has.numbers.within (codes "size"))) (c.in_ok-choice.ensures.refused (has.numbers.within (codes "margin"))) _ c.in_err-place.ensures.refused)
+    ∙ sym (bad_8 c.args.kind (rows_of (found_of c.args.options.now)) (c.in_ok-output.ensures.refused has.pens) c.in_ok-carousel.ensures.refused (c.in_ok-task.ensures.refused has.numbers) (c.in_ok-reading.ensures.refused has.profile) c.in_ok-each_sheet.ensures.refused (c.in_ok-pixels.ensures.refused (has.numbers.within (codes "size"))) (c.in_ok-choice.ensures.refused (has.numbers.within (codes "margin"))) c.in_ok-turn.ensures.refused _ c.in_err-place.ensures.refused)
 
 pub returns-clause-pens : goal.returns-clause-pens
 returns-clause-pens c = (λ h. absurd (cc), λ bad. absurd (no_bad_list _ _ c.in_ok-output.ensures.pens bad))
 
 pub returns-clause-refused : goal.returns-clause-refused
 returns-clause-refused c = λ has.
-    sym (good_7 c.args.kind (rows_of (found_of c.args.options.now)) (c.in_ok-output.ensures.refused has.pens) c.in_ok-carousel.ensures.refused (c.in_ok-task.ensures.refused has.numbers) (c.in_ok-reading.ensures.refused has.profile) c.in_ok-each_sheet.ensures.refused (c.in_ok-pixels.ensures.refused (has.numbers.within (codes "size"))) (c.in_ok-choice.ensures.refused (has.numbers.within (codes "margin"))) c.in_ok-place.ensures.refused)
+    sym (good_8 c.args.kind (rows_of (found_of c.args.options.now)) (c.in_ok-output.ensures.refused has.pens) c.in_ok-carousel.ensures.refused (c.in_ok-task.ensures.refused has.numbers) (c.in_ok-reading.ensures.refused has.profile) c.in_ok-each_sheet.ensures.refused (c.in_ok-pixels.ensures.refused (has.numbers.within (codes "size"))) (c.in_ok-choice.ensures.refused (has.numbers.within (codes "margin"))) c.in_ok-turn.ensures.refused c.in_ok-place.ensures.refused)

@@ -24,7 +24,7 @@ returns-in_err-drawing-clause-converts g c =
     let sink = g.K.Sink.state c.args.sink.now in
     let count = g.G.Gauge.count c.args.gauge.now in
     let drawn = drawn_so c.args.reading c.empty.result _ job reaches was is c.empty.ensures c.in_ok-request.request.setup c.in_ok-request.request.picture.now _
-    (ap rules_in made.setup) (ap (λ s. s.choice) made.setup) shown c.in_err-drawing.ensures.draws in
+    (ap rules_in made.setup) (ap (λ s. s.choice) made.setup) (ap (λ s. s.turn) made.setup) shown c.in_err-drawing.ensures.draws in
     subst (λ (answer : Result Done Fault). HasConvertedBy (rules_of c.args.reading) job reaches was is sink sink count count answer) (sym (passed_on _ _ c.from_residual-in_err-drawing.ensures.1))
     (not_converted_given c.args.reading c.empty.result plain job reaches was is c.empty.ensures sink count _ drawn)
 
@@ -36,7 +36,7 @@ returns-in-Ok-clause-converts g c =
     let was = g.S.Source.state c.args.source.now in
     let is = g.S.Source.state c.draw.new.source in
     let drawn = drawn_so c.args.reading c.empty.result _ c.args.job.now reaches was is c.empty.ensures c.in_ok-request.request.setup c.in_ok-request.request.picture.now _
-    (ap rules_in made.setup) (ap (λ s. s.choice) made.setup) shown c.in_ok-drawing.ensures.draws in
+    (ap rules_in made.setup) (ap (λ s. s.choice) made.setup) (ap (λ s. s.turn) made.setup) shown c.in_ok-drawing.ensures.draws in
     converted_given c.args.reading c.empty.result plain c.args.job.now reaches was is c.empty.ensures _ _ _ _ c.in_ok-drawing.drawing (shapes_in c.shapes_on.result) (Ok c.in-Ok.outcome)
     refl drawn c.shapes_on.ensures.shapes c.in-Ok.ensures.writes c.in-Ok.ensures.tests
 
@@ -48,6 +48,6 @@ returns-clause-converts g c =
     let was = g.S.Source.state c.args.source.now in
     let is = g.S.Source.state c.draw.new.source in
     let drawn = drawn_so c.args.reading c.empty.result _ c.args.job.now reaches was is c.empty.ensures c.in_ok-request.request.setup c.in_ok-request.request.picture.now _
-    (ap rules_in made.setup) (ap (λ s. s.choice) made.setup) shown c.in_ok-drawing.ensures.draws in
+    (ap rules_in made.setup) (ap (λ s. s.choice) made.setup) (ap (λ s. s.turn) made.setup) shown c.in_ok-drawing.ensures.draws in
     converted_given c.args.reading c.empty.result plain c.args.job.now reaches was is c.empty.ensures _ _ _ _ c.in_ok-drawing.drawing (shapes_in c.shapes_on.result) (Err c.in-Err.fault)
     refl drawn c.shapes_on.ensures.shapes c.in-Err.ensures.writes c.in-Err.ensures.tests
