@@ -11,6 +11,7 @@ mod groups;
 mod help;
 mod line;
 mod options;
+mod pages;
 mod papers;
 pub mod parses;
 mod sheets;

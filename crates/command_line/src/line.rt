@@ -1,31 +1,28 @@
 //! What a command line asks for.
-ghost use Rattle.std.specs.Prelude.{◌≡◌, ◌↔◌, ◌<◌, ◌≤◌, ◌*◌, ◌^◌, ℕ, Some, Err, IfOk, IfErr, IsOk, IsOkAnd, true, false, is_some};
-ghost use Rattle.std.specs.Prelude.{codes, None, ◌≢◌, ◌||◌, ◌&&◌, IfSome, [], map, nat_lt, not, option_and_then, option_map};
+ghost use Rattle.std.specs.Prelude.{◌≡◌, ◌↔◌, ◌<◌, ◌≤◌, ◌*◌, Some, Err, IfOk, IfErr, IsOk, true, false, is_some};
+ghost use Rattle.std.specs.Prelude.{codes, None, ◌≢◌, ◌||◌, ◌&&◌, [], map, nat_lt, not, option_and_then, option_map};
 ghost use Rattle.std.specs.Result.{result_err};
 ghost use Rattle.clap.specs.Words.{found_of, rows_of};
-ghost use Rattle.plot_page.specs.Pages.{has_page_size};
 ghost use Rattle.command_line.specs.Faults.{refusal_of};
-ghost use Rattle.command_line.specs.Lines.{extension_in, number_in, lists_no_pens, has_bad_list, asks_bad_list, written, form_text, asked_picture};
-ghost use Rattle.command_line.specs.Lines.{ArePensOf, IsPageOf, IsPictureOf, IsPngJobOf, IsTaskOf, IsVectorOf, IsLineBy, IsLineOf, AreOfThisCommand};
+ghost use Rattle.command_line.specs.Lines.{extension_in, lists_no_pens, has_bad_list, asks_bad_list, written, form_text, asked_picture};
+ghost use Rattle.command_line.specs.Lines.{ArePensOf, IsPictureOf, IsPngJobOf, IsTaskOf, IsVectorOf, IsLineBy, IsLineOf, AreOfThisCommand};
 ghost use Rattle.command_line.specs.Lines.{has_stray_smooth, picture_fault, smooth_or, usual_smooth, dots_in, is_picture, selection_fault};
-ghost use Rattle.command_line.specs.Lines.{IsReadingOf, line_fault, page_fault, pens_text, reading_fault, task_fault, values_fault};
-ghost use Rattle.command_line.specs.Lines.{IsChoiceOf, choice_fault, gives_page, has_flag, has_paper_and_side, is_given, names_page, page_size};
-ghost use Rattle.command_line.specs.Lines.{asks_each, each_fault, is_for_printers, is_report, pixels_fault, sheet_in};
+ghost use Rattle.command_line.specs.Lines.{line_fault, pens_text, task_fault, values_fault};
 ghost use Rattle.command_line.specs.Lines.{files_in, has_no_place, has_pixels, output_fault, output_text, vector_fault};
 ghost use Rattle.command_line.specs.Options.{is_smoothed};
-ghost use Rattle.command_line.specs.Readings.{HasNumbers, HasPens, HasValues, MayHaveNumber, paper_or_fault, stray_smooth_fault};
+ghost use Rattle.command_line.specs.Readings.{HasNumbers, HasPens, HasValues, MayHaveNumber, stray_smooth_fault};
 
 use crate::carousels::carousel_of;
 use crate::defaults::defaults_of;
 use crate::destination::Destination;
 use crate::fault::LineFault;
 use crate::forms::{extension_of, form_named};
-use crate::groups::{is_pcl, is_smoothed};
-use crate::papers::{A4, names_plot, size_named};
+use crate::groups::is_smoothed;
+use crate::pages::{choice_of, page_of, pixels_of};
 use crate::sheets::{each_of, reading_of};
 use crate::subcommands::{Kind, Output, kind_of};
 use crate::turns::turn_of;
-use crate::values::{has_flag, is_given, number_if_given, number_of};
+use crate::values::{has_flag, is_given, number_if_given};
 use carousel::Carousel;
 use clap::ArgMatches;
 use directions::Turn;
@@ -367,132 +364,6 @@ fn pens_of<'a>(options: &ArgMatches<'a>) -> Result<PenSet, LineFault<'a>>
         return Err(LineFault::Words);
     };
     read_pens(text).ok_or(LineFault::Pens)
-}
-
-fn page_of<'a>(options: &ArgMatches<'a>) -> Result<Page, LineFault<'a>>
-    ensures page { IfOk result (IsPageOf (rows_of (found_of options.now))) }
-    ensures pens { result ≢ Err LineFault.Pens }
-    ensures refused { HasNumbers (rows_of (found_of options.now)) →
-        result_err result ≡ page_fault (rows_of (found_of options.now)) }
-{
-    let (width, height) = size_of(options)?;
-    let left = number_of(options, "left")?;
-    let below = number_of(options, "below")?;
-    Page::new(width, height, left, below).map_err(|_| LineFault::Words)
-}
-
-// The width and the height of the page. By default they are those of A4 in landscape.
-fn size_of<'a>(options: &ArgMatches<'a>) -> Result<(u32, u32), LineFault<'a>>
-    ensures size { IfOk result (λ size. page_size (rows_of (found_of options.now)) ≡ Some size) }
-    ensures one_way { IfOk result (λ _. has_paper_and_side (rows_of (found_of options.now)) ≡ false) }
-    ensures pens { result ≢ Err LineFault.Pens }
-    ensures within { HasNumbers (rows_of (found_of options.now)) →
-        IfOk result (λ size. has_page_size size.0 size.1 ≡ true) }
-    ensures refused { HasNumbers (rows_of (found_of options.now)) →
-        result_err result ≡ page_fault (rows_of (found_of options.now)) }
-{
-    let width = number_if_given(options, "width")?;
-    let height = number_if_given(options, "height")?;
-    match options.get_str("page") {
-        None => Ok((width.unwrap_or(A4.0), height.unwrap_or(A4.1))),
-        Some(name) => paper_size(name, width, height),
-    }
-}
-
-// The size that this name gives, beside which no width and no height may be given.
-fn paper_size<'a>(
-    name: &'a str,
-    width: Option<u32>,
-    height: Option<u32>,
-) -> Result<(u32, u32), LineFault<'a>>
-    ensures { result ≡ paper_or_fault name.now (is_some width || is_some height) }
-{
-    let size = size_named(name).ok_or(LineFault::Paper)?;
-    if width.is_some() || height.is_some() {
-        return Err(LineFault::Size);
-    }
-    Ok(size)
-}
-
-// How many pixels the picture is to have, if it is asked for so, and not by dots per inch, nor for a printer.
-fn pixels_of<'a>(kind: Kind, options: &ArgMatches<'a>) -> Result<Option<u32>, LineFault<'a>>
-    ensures pixels { IfOk result (λ pixels. number_in (rows_of (found_of options.now)) (codes "size") ≡ pixels) }
-    ensures sized { IfOk result (λ _. pixels_fault kind (rows_of (found_of options.now)) ≡ None) }
-    ensures pens { result ≢ Err LineFault.Pens }
-    ensures refused { MayHaveNumber (rows_of (found_of options.now)) (codes "size") 16 20000 →
-        result_err result ≡ pixels_fault kind (rows_of (found_of options.now)) }
-{
-    let pixels = number_if_given(options, "size")?;
-    if !is_given(options, "size") {
-        return Ok(pixels);
-    }
-    if is_given(options, "dots") {
-        return Err(LineFault::Pixels);
-    }
-    if is_for_printers(kind, options) {
-        return Err(LineFault::PrinterPixels);
-    }
-    Ok(pixels)
-}
-
-// Whether PCL is written.
-fn is_for_printers(kind: Kind, options: &ArgMatches<'_>) -> bool
-    ensures { result ≡ is_for_printers kind (rows_of (found_of options.now)) }
-{
-    match written(kind, options) {
-        Some(output) => is_pcl(output),
-        None => false,
-    }
-}
-
-fn choice_of<'a>(
-    kind: Kind,
-    options: &ArgMatches<'a>,
-    pixels: Option<u32>,
-) -> Result<PageChoice, LineFault<'a>>
-    requires { number_in (rows_of (found_of options.now)) (codes "size") ≡ pixels }
-    ensures choice { IfOk result (IsChoiceOf kind (rows_of (found_of options.now))) }
-    ensures pens { result ≢ Err LineFault.Pens }
-    ensures refused { MayHaveNumber (rows_of (found_of options.now)) (codes "margin") 0 100 →
-        result_err result ≡ choice_fault kind (rows_of (found_of options.now)) }
-{
-    let defaults = defaults_of(kind);
-    let margin = number_if_given(options, "margin")?;
-    let is_free = defaults.fits && !gives_page(options);
-    let asked = names_page(options) || is_free;
-    if has_flag(options, "fit") || is_free {
-        let margin = Some(margin.unwrap_or(defaults.margin));
-        return Ok(PageChoice {
-            asked,
-            margin,
-            pixels,
-        });
-    }
-    match margin {
-        None => Ok(PageChoice {
-            asked,
-            margin,
-            pixels,
-        }),
-        Some(_) => Err(LineFault::Margin),
-    }
-}
-
-// Whether the plot is named as the page.
-fn names_page(options: &ArgMatches<'_>) -> bool
-    ensures { result ≡ names_page (rows_of (found_of options.now)) }
-{
-    match options.get_str("page") {
-        Some(name) => names_plot(name),
-        None => false,
-    }
-}
-
-// Whether a paper or the plot is named as the page, or a width or a height is given.
-fn gives_page(options: &ArgMatches<'_>) -> bool
-    ensures { result ≡ gives_page (rows_of (found_of options.now)) }
-{
-    is_given(options, "page") || is_given(options, "width") || is_given(options, "height")
 }
 
 fn files_of<'m, 'a>(options: &'m ArgMatches<'a>) -> &'m [&'a str]

@@ -5,7 +5,7 @@ use Rattle.std.proofs.lemmas.Bool.Decides.{nat_tests}
 use Rattle.plot_page.specs.Pages.{has_page_size, has_page_corner}
 use Rattle.plot_page.specs.declared.page.Page.{Page}
 use Rattle.plot_page.specs.declared.page.PageFault.{PageFault}
-use Rattle.command_line.proofs.line.page_of.Goals as goal
+use Rattle.command_line.proofs.pages.page_of.Goals as goal
 
 pub returns-in_err-left-clause-refused : goal.returns-in_err-left-clause-refused
 returns-in_err-left-clause-refused c = λ has. absurd (c.in_err-left.ensures.understood 0 65536 (omega arith) has.left)

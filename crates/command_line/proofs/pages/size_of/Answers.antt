@@ -12,7 +12,7 @@ use Rattle.command_line.specs.Lines.{has_paper_and_side, number_in, page_fault, 
 use Rattle.command_line.specs.Papers.{size_named}
 use Rattle.command_line.specs.Readings.{paper_or_fault, size_or_fault}
 use Rattle.command_line.proofs.PaperSizes.{named_fits}
-use Rattle.command_line.proofs.line.size_of.Goals as goal
+use Rattle.command_line.proofs.pages.size_of.Goals as goal
 
 -- what the size of a page is to be if no paper is given
 record WithoutPaper (rows : List Row) (width height : Option ℕ) : Type 0 where
