@@ -1,7 +1,7 @@
 # Bash completion of plotraster: its commands, their options, and the names of files.
 _plotraster() {
     local word="${COMP_WORDS[COMP_CWORD]}" before="${COMP_WORDS[COMP_CWORD - 1]}"
-    local command="${COMP_WORDS[1]}" options="--width --height --page --left --below --fit --margin"
+    local command="${COMP_WORDS[1]}" options="--width --height --page --left --below --fit --margin --rotate"
     local papers="a0 a1 a2 a3 a4 a5 b4 letter legal tabloid ansi-a ansi-b ansi-c ansi-d ansi-e arch-d arch-e"
     options="$options --profile --sheet --characters --output --verbose --colours --widths"
     COMPREPLY=()
@@ -44,6 +44,10 @@ _plotraster() {
     case "$before" in
         --page)
             COMPREPLY=($(compgen -W "$papers ${papers// /-portrait }-portrait plot" -- "$word"))
+            return
+            ;;
+        --rotate)
+            COMPREPLY=($(compgen -W "0 90 180 270" -- "$word"))
             return
             ;;
         --profile)

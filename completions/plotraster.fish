@@ -41,6 +41,7 @@ __plotraster_option "$all" -x -l below -d 'How far the page reaches below the pl
 __plotraster_option "$all" -l fit -d 'Fit the page to what the selected pens draw, and a margin'
 __plotraster_option draw -x -l margin -d 'Margin around the drawing, if the page is fitted, in millimetres'
 __plotraster_option "$others" -x -l margin -d 'Margin of --fit around the drawing, in millimetres'
+__plotraster_option "$all" -x -l rotate -a '0 90 180 270' -d 'Turn the page counterclockwise, with all that is on it'
 __plotraster_option "$all" -x -l profile -a 'core full' -d 'How the plot is read'
 __plotraster_option "$all" -x -l sheet -d 'Sheet to draw in the profile full'
 __plotraster_option "$all" -x -l characters -a 'roman-8 latin-1 windows-1252 pc-8 ascii utf-8' \

@@ -33,6 +33,7 @@ _plotraster() {
         "--below=[How far the page reaches below the plot's (0,0), in plotter units]:UNITS: "
         '--fit[Fit the page to what the selected pens draw, and a margin]'
         "--margin=[$margin]:MM: "
+        '--rotate=[Turn the page counterclockwise, with all that is on it]:DEGREES:(0 90 180 270)'
         '--profile=[How the plot is read]:NAME:(core full)'
         '--sheet=[Sheet to draw in the profile full]:SHEET: '
         '--characters=[How the bytes of labels are read in the profile full]:NAME:(roman-8 latin-1 windows-1252 pc-8 ascii utf-8)'

@@ -280,8 +280,8 @@ def names_a_file(words):
     if not split or split[0].startswith("-"):
         return True
     takes_value = {
-        "--width", "--height", "--page", "--left", "--below", "--profile", "--sheet", "--characters", "--dots", "--pens", "--band",
-        "--from",
+        "--width", "--height", "--page", "--left", "--below", "--rotate", "--profile", "--sheet", "--characters", "--dots",
+        "--pens", "--band", "--from",
     }
     free = [it for before, it in zip(split, split[1:]) if not it.startswith("-") and before not in takes_value]
     return bool(free) or "--help" in split

@@ -6,7 +6,8 @@ without a signal, standard output is empty unless the status is 0, and standard 
 if it is 0.
 
 The program runs in a folder with these files: `line.plt`, `--left`, ` line.plt` and `line.plt `, a plot of
-one line; `far.plt`, a plot that goes too far; `folder`, which is none. Standard input is an empty plot.
+one line; `edge.plt`, a dot as far to the left as may be; `far.plt`, a plot that goes too far; `folder`, which is none.
+Standard input is an empty plot.
 """
 
 import os
@@ -23,7 +24,10 @@ from shared import assert_nothing, read, run, write
 
 SECONDS = 10
 LINE = b"SP1;PU0,28;PD64,28;"
-FILES = {"line.plt": LINE, "--left": LINE, " line.plt": LINE, "line.plt ": LINE, "far.plt": b"PA70000,0;"}
+FILES = {
+    "line.plt": LINE, "--left": LINE, " line.plt": LINE, "line.plt ": LINE, "far.plt": b"PA70000,0;",
+    "edge.plt": b"PU-65536,0;PD;",
+}
 
 # What a run must end with: the exit status, and how standard error begins.
 DONE = (0, b"")
@@ -39,6 +43,8 @@ NO_FORM = (2, b"plotraster: no such form of picture: ")
 NO_SHADES = messages.refused("smooth-without-shades")
 NO_PIXELS = messages.refused("no-pixels")
 NO_FIT = messages.refused("margin-without-fit")
+BAD_ROTATION = messages.refused("rotation")
+TOO_FAR = messages.refused("too-far-to-turn")
 NO_FOLDER = messages.refused("no-folder")
 BAD_SHEET = (2, b"plotraster: bad sheet: use a number from 0 to 4194304, or each\n")
 EACH_OF_A_REPORT = (2, b"plotraster: --sheet each needs a picture\n")
@@ -102,7 +108,8 @@ def commands():
     for option in RANGES:
         yield [option, "100", "pbm"], USAGE
     for option, value in [
-        ("--page", "a4"), ("--pens", "all"), ("--profile", "full"), ("--sheet", "1"), ("--characters", "ascii"), ("--output", "o"),
+        ("--page", "a4"), ("--pens", "all"), ("--rotate", "90"), ("--profile", "full"), ("--sheet", "1"), ("--characters", "ascii"),
+        ("--output", "o"),
     ]:
         yield [option, value, "pbm"], USAGE
 
@@ -146,7 +153,7 @@ def no_numbers():
 
 def values_missing():
     """Options without a value, and values that look like options."""
-    for name in [*RANGES, "--page", "--pens", "--profile", "--sheet", "--characters", "--margin", "--output", "-o"]:
+    for name in [*RANGES, "--page", "--pens", "--profile", "--sheet", "--characters", "--margin", "--rotate", "--output", "-o"]:
         yield ["pbm", name], USAGE
         yield ["pbm", "line.plt", name], USAGE
         yield ["pbm", name, "--", "line.plt"], USAGE
@@ -158,13 +165,14 @@ def values_missing():
 def options_twice():
     """An option that is given twice, with the same value or another, in both forms."""
     texts = [
-        ("--page", "a4", "a5"), ("--pens", "all", "1"), ("--profile", "full", "core"), ("--characters", "ascii", "utf-8"),
+        ("--page", "a4", "a5"), ("--pens", "all", "1"), ("--rotate", "90", "180"), ("--profile", "full", "core"),
+        ("--characters", "ascii", "utf-8"),
     ]
     for name, value, other in [*((it, "100", "101") for it in [*RANGES, "--sheet", "--margin"]), *texts]:
         yield ["marks", name, value, name, value], USAGE
         yield ["pbm", f"{name}={value}", f"{name}={other}"], USAGE
         yield ["ppm", f"{name}={value}", "line.plt", name, other], USAGE
-    for name in [*PAGE_RANGES, "--page", "--sheet", "--characters", "--margin", "--profile", "--output"]:
+    for name in [*PAGE_RANGES, "--page", "--sheet", "--characters", "--margin", "--rotate", "--profile", "--output"]:
         yield ["report", name, "100", "line.plt", f"{name}=100"], USAGE
     yield ["report", "--fit", "line.plt", "--fit"], USAGE
     for flag in ["--verbose", "--progress"]:
@@ -178,7 +186,8 @@ def unknown_options():
     for word in [
         "--dot", "--d", "--pen", "--wid", "--Dots", "--DOTS", "--dots-per-inch", "--dotss", "--dots ", "--version", "-V",
         "--progres", "--progress=1", "-p",
-        "--verb", "--verbos", "-v", "-w", "--fi", "--fit=1", "--fit=", "--fits", "--margins=1", "--prof", "--sheets", "--char",
+        "--verb", "--verbos", "-v", "-w", "--fi", "--fit=1", "--fit=", "--fits", "--margins=1", "--rot=90", "--turn=90", "--prof",
+        "--sheets", "--char",
         "-dots",
         "-1", "-0", "--1", "--=", "--=5", "---", "---dots", "--\u00e9", "-\u00e9", "--" + "w" * LONG, "-" + "w" * LONG,
     ]:
@@ -251,6 +260,19 @@ def fitted_pages():
             yield [command, f"--margin={margin}", "--fit", "line.plt"], DONE
         for margin in ["", "-1", "101", "1.5", "one", "1mm", str(2**32)]:
             yield [command, "--fit", f"--margin={margin}", "line.plt"], USAGE
+
+
+def turned_pages():
+    """Rotations, words that are none, and a dot that is too far away for some."""
+    for command in ["draw", *COMMANDS]:
+        quiet = ["--quiet"] if command == "draw" else []
+        for degrees in ["0", "90", "180", "270"]:
+            yield [command, "--rotate", degrees, "line.plt", *quiet], DONE
+            yield [command, "--page=a5", "line.plt", f"--rotate={degrees}", "--fit"], DONE
+            ends = TOO_FAR if degrees in ("180", "270") and command != "report" else DONE
+            yield [command, "--page=a4", f"--rotate={degrees}", "edge.plt", *quiet], ends
+        for word in ["", " ", "1", "45", "360", "-90", "+90", "090", "90.0", "90 ", "0\n", "ninety", "left", "\u0669\u0660"]:
+            yield [command, f"--rotate={word}", "line.plt"], BAD_ROTATION
 
 
 def drawings():
@@ -481,6 +503,15 @@ def orders_of_refusal():
     yield ["pbm", "--margin=1", "--sheet=1"], NO_SHEETS
     yield ["ppm", "--margin=1", "--pens=0"], BAD_LIST
     yield ["report", "--margin=1", "missing.plt"], NO_FIT
+    yield ["pbm", "--margin=1", "--rotate=1"], NO_FIT
+    yield ["draw", "--rotate=1", "--size=100", "--dots=10"], SIZE_AND_DOTS
+    yield ["ppm", "--rotate=1", "--profile=none"], BAD_PROFILE
+    yield ["pcl", "--rotate=1", "--dots=127"], BAD_ROTATION
+    yield ["report", "--rotate=1", "missing.plt"], BAD_ROTATION
+    yield ["svg", "--rotate=1", "line.plt", "far.plt"], BAD_ROTATION
+    yield ["pbm", "--rotate=180", "far.plt"], OFF_RANGE
+    yield ["pbm", "--rotate=180", "--from=99999", "edge.plt"], TOO_FAR
+    yield ["pcl", "--rotate=180", "--dots=127", "edge.plt"], NOT_OF_PCL
     yield ["pbm", "--pens=0", "--dots=9"], USAGE
     yield ["pbm", "--dots=9", "missing.plt"], USAGE
     yield ["pbm", "--pens=0", "missing.plt"], BAD_LIST
@@ -515,8 +546,8 @@ def bytes_that_are_no_text():
 
 GENERATORS = [
     plain, commands, numbers_in_range, numbers_out_of_range, no_numbers, values_missing, options_twice, unknown_options,
-    options_of_pictures, smoothing, lists_of_pens, fitted_pages, drawings, pages, profiles, sheets, characters, pens_by_option,
-    sizes, resolutions_of_pcl, files, after_two_hyphens, calls_for_help, orders_of_refusal, bytes_that_are_no_text,
+    options_of_pictures, smoothing, lists_of_pens, fitted_pages, turned_pages, drawings, pages, profiles, sheets, characters,
+    pens_by_option, sizes, resolutions_of_pcl, files, after_two_hyphens, calls_for_help, orders_of_refusal, bytes_that_are_no_text,
 ]
 
 

@@ -17,6 +17,7 @@ from .words import COMMANDS, FOLDER, form_of, mistake_in, right_options, soup, w
 LINE = b"SP1;PU0,28;PD64,28;"
 OLD = b"an older picture\n"
 PAST_THE_END = messages.said("first-row")
+TOO_FAR = messages.said("too-far-to-turn")
 TOO_LONG = messages.said("too-long")
 # The most bytes of an output that is written byte by byte.
 MOST_SHORT = 3000
@@ -58,7 +59,8 @@ def check_right(bench, ran, command, options, dice):
     if wrong is not None:
         must(ran.status == USAGE and ran.errors.startswith(wrong.encode()), f"{ends(ran)} for {wrong}")
     elif ran.status == USAGE:
-        must("from" in options and ran.errors == PAST_THE_END, ends(ran))
+        is_possible = {PAST_THE_END: "from" in options, TOO_FAR: command != "report" and options.get("rotate", "0") != "0"}
+        must(is_possible.get(ran.errors), ends(ran))
     else:
         must(ran.status in (0, REFUSED), ends(ran))
     if ran.status != 0:
@@ -86,7 +88,8 @@ def size_of(options):
     """The columns and the rows of a picture, if they do not depend on the plot."""
     if "fit" in options or not {"width", "height", "dots"} <= set(options):
         return None
-    return tuple((int(options[side]) * int(options["dots"]) + 508) // 1016 for side in ("width", "height"))
+    sides = ("width", "height") if options.get("rotate", "0") in ("0", "180") else ("height", "width")
+    return tuple((int(options[side]) * int(options["dots"]) + 508) // 1016 for side in sides)
 
 
 def mutilated_plots(bench, dice, plots):

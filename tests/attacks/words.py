@@ -2,7 +2,7 @@
 
 from reference import messages
 from reference.command_line import (
-    CHARACTERS, DOTS_OF_PCL, MOST_DOTS, PICTURES, VECTORS, WITH_SHADES, Mistake, ranges_of, request_of)
+    CHARACTERS, DOTS_OF_PCL, MOST_DOTS, PICTURES, ROTATIONS, VECTORS, WITH_SHADES, Mistake, ranges_of, request_of)
 from reference.random_options import (
     COLOURS, PENS, WIDTHS, WRONG_CHARACTERS, WRONG_COLOURS, WRONG_PENS, WRONG_SIZES, WRONG_WIDTHS)
 
@@ -19,8 +19,11 @@ WRONG_TEXTS = {
     "pens": (*WRONG_PENS, "1" * LONG), "characters": WRONG_CHARACTERS, "profile": ("", "Core", "fuller"),
     "form": ("", "gif", "P" * LONG),
     "sheet": ("", "-1", "4194305", "all", "1-2", str(2**64 + 1)), "page": ("", "A4", "a6", "a4-", "-portrait" * (LONG // 9)),
+    "rotate": ("", "1", "-90", "+90", "090", "360", "90 ", "all", "9" * LONG),
     "colours": WRONG_COLOURS, "widths": WRONG_WIDTHS, "size": WRONG_SIZES,
 }
+# Words that are right, at least beside others.
+ALONE = ("--margin=1", "--rotate=90", "--sheet=each", "--profile=full")
 UNKNOWN = ("--dot", "--d", "--Dots", "--version", "-V", "-p", "-1", "--=", "---", "--\u00e9", "--" + "w" * LONG)
 NO_TEXT = (b"\xff", b"--dots=\x80", b"pl\xc3", b"\xc0\xaf.plt", b"-o\xed\xa0\x80", b"--\xf4\x90\x80\x80")
 
@@ -61,6 +64,7 @@ def page_options(command, dice):
     options.update({"margin": dice.choice(("0", "1", "100"))} if is_fitted and dice.random() < 0.3 else {})
     for name in ("left", "below"):
         options.update({name: dice.choice(("0", "30", "5000", "65536"))} if dice.random() < 0.1 else {})
+    options.update({"rotate": dice.choice(ROTATIONS)} if dice.random() < 0.25 else {})
     return options
 
 
@@ -151,7 +155,7 @@ def with_wrong_word(command, options, files, dice):
         return words + again + ([] if name in options else again), "error: "
     if kind == 1:
         # It takes no value, as no word is left, or as an option follows.
-        name = dice.choice((*ranges_of(command), "page", "profile", "output"))
+        name = dice.choice((*ranges_of(command), "page", "rotate", "profile", "output"))
         return [*words, f"--{name}", *dice.choice(((), ("--verbose",)))], "error: "
     if kind == 2:
         return words + [dice.choice(UNKNOWN)], "error: "
@@ -176,7 +180,7 @@ def soup(dice):
         elif kind == 1:
             words.insert(at, dice.choice(("--", "-h", "--help", "a.plt", "b.plt", "-", "", "--fit", "none.plt", "each", "=")))
         elif kind == 2:
-            words.insert(at, dice.choice((*UNKNOWN, *NO_TEXT, *COMMANDS, "--margin=1", "--sheet=each", "--profile=full")))
+            words.insert(at, dice.choice((*UNKNOWN, *NO_TEXT, *COMMANDS, *ALONE)))
         elif kind == 3:
             dice.shuffle(words)
         elif at and isinstance(words[at - 1], str):

@@ -35,7 +35,8 @@ CHARACTERS = ("roman-8", "latin-1", "windows-1252", "pc-8", "ascii", "utf-8")
 NO_SUCH_FORM = (
     "no such form of picture: use png, pdf, svg, ppm, pbm, pcl or marks, after --form or as the extension of the output file"
 )
-TEXTS = ("profile", "sheet", "characters", "page", "fit", "colours", "colors", "widths")
+ROTATIONS = ("0", "90", "180", "270")
+TEXTS = ("profile", "sheet", "characters", "page", "fit", "rotate", "colours", "colors", "widths")
 
 
 class Request(NamedTuple):
@@ -45,6 +46,7 @@ class Request(NamedTuple):
     page: Page
     is_page_asked: bool = False  # of the plot
     margin: int = None  # of the page that is fitted
+    rotation: int = 0  # of the page that is shown, in degrees
     sheet: object = None  # in core None, else a number, 0 for all, or EACH
     is_sheet_named: bool = False
     characters: str = None  # how the bytes of labels are read; None as the plot chooses
@@ -98,7 +100,8 @@ def request_of(command, options):
         raise Mistake("--size may not be given with --dots")
     if "size" in options and form == "pcl":
         raise Mistake("--size may not be given with the form pcl")
-    return request._replace(margin=margin_of(command, options, numbers))
+    request = request._replace(margin=margin_of(command, options, numbers))
+    return request._replace(rotation=rotation_of(options))
 
 
 def numbers_of(command, options):
@@ -195,3 +198,11 @@ def margin_of(command, options, numbers):
     if "margin" in options and not is_fitted:
         raise Mistake(messages.text("margin-without-fit"))
     return numbers["margin"] if is_fitted else None
+
+
+def rotation_of(options):
+    """By how many degrees the page is turned."""
+    text = options.get("rotate", "0")
+    if text not in ROTATIONS:
+        raise Mistake(messages.text("rotation"))
+    return int(text)

@@ -10,7 +10,7 @@ from typing import NamedTuple
 
 from .geometry import NO_WINDOW, Page, whole_page
 from .plotter import FARTHEST
-from .shapes import is_area, strokes_of
+from .shapes import is_area, placed, strokes_of
 
 UNIT = 16
 MILLIMETRE = 640
@@ -88,8 +88,4 @@ def moved(shape, page, shown, corner):
     else:
         left, bottom, right, top = shape.window
         window = cut((left - dx, bottom - dy, right - dx, top - dy), whole_page(shown)) or NO_WINDOW
-    if is_area(shape):
-        edges = tuple(tuple((x - dx, y - dy) for x, y in edge) for edge in shape.edges)
-        return shape._replace(edges=edges, window=window)
-    a, b = ((x - dx, y - dy) for x, y in (shape.a, shape.b))
-    return shape._replace(a=a, b=b, window=window)
+    return placed(shape, lambda place: (place[0] - dx, place[1] - dy), window)

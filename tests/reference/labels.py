@@ -58,9 +58,14 @@ def cut(place):
     return tuple(max(-FARTHEST, min(FARTHEST, number)) for number in place)
 
 
+def rows_at(rows, place_of):
+    """The lines of a label, whose places are where a function puts them."""
+    return [Row(row.codes, *(cut(place_of(place)) for place in row[1:])) for row in rows]
+
+
 def rows_moved(rows, dx, dy):
     """The lines of a label, moved by an offset."""
-    return [Row(row.codes, *(cut(moved(place, (dx, dy))) for place in row[1:])) for row in rows]
+    return rows_at(rows, lambda place: moved(place, (dx, dy)))
 
 
 class Group(NamedTuple):

@@ -13,6 +13,7 @@ from .geometry import Page
 from .labels import groups_of, rows_moved, texts_of
 from .plotter import Refused
 from .shapes import is_area
+from .turning import Turn
 from .vectors import Document, shapes_of, spans_of
 
 ESC = b"\x1b"
@@ -47,7 +48,7 @@ def answer(command, options, plot):
     try:
         shown = shown_by(request, plot)
     except Refused as refusal:
-        return fault(1, refusal)
+        return fault(refusal.status, refusal)
     if request.form == "report":
         return Answer(0, report(shown.drawing, shown.page), said_of(request, shown, shown.drawing.shapes))
     return pictured(request, shown)
@@ -102,6 +103,10 @@ def shown_by(request, plot):
         page, shapes, why = fitted(shapes, given, request.margin)
         by = UNIT * (page.left - given.left), UNIT * (page.below - given.below)
         drawing = drawing._replace(labels=[rows_moved(rows, *by) for rows in drawing.labels])
+    if request.form != "report":
+        turn = Turn(page, request.rotation)
+        page, shapes = turn.page, turn.shapes(shapes)
+        drawing = drawing._replace(labels=turn.labels(drawing.labels))
     dots, smooth = request.dots, request.smooth
     if request.pixels:
         dots = dots_of_size(page, request.pixels)

@@ -49,7 +49,9 @@ class Note(NamedTuple):
 
 
 class Refused(Exception):
-    """The plot is refused, for this reason."""
+    """The plot is refused, for this reason, and with this exit status."""
+
+    status = 1
 
 
 class Bad(Exception):

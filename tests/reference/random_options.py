@@ -29,7 +29,7 @@ SIZES = (16, 16, 16, 17, 18, 20, 24, 30, 33, 40)
 WRONG_SIZES = ("15", "0", "20001", "-16", "x", "")
 WRONG_CHARACTERS = ("latin1", "UTF-8", "utf8", "ascii ", "german", "277", "")
 # The options of a case that a preview keeps.
-KEPT = ("left", "below", "pens", "profile", "sheet")
+KEPT = ("left", "below", "rotate", "pens", "profile", "sheet")
 
 
 def random_pens_case(seed):
@@ -110,7 +110,7 @@ def written_apart(case):
 
 def drawn_apart(case, chance):
     """The same by `draw`, which need not be told of the sheets, of a size in pixels or on a small page."""
-    options = {name: case.options[name] for name in case.options if name in ("left", "below", "pens")}
+    options = {name: case.options[name] for name in case.options if name in ("left", "below", "rotate", "pens")}
     options.update(profile="full", output="pictures", form=chance.choice(("png", "png", "ppm", "pbm", "marks", "svg")))
     if chance.random() < 0.8 or options["form"] == "svg":
         options.update(page_options(chance))

@@ -58,6 +58,9 @@ THEMES = [
 DRAWING = ("PD", "PD", "PD", "PR", "PE", "EA", "ER", "CI", "AA", "AR", "LB")
 
 
+ROTATIONS = 8 * ("90", "180", "270") + ("0", "360", "+90")
+
+
 class Case(NamedTuple):
     """What a program is given."""
 
@@ -94,7 +97,25 @@ class Writer(Numbers):
                 plot = self.mutated(plot)
             if self.is_wild and self.chance(12):
                 plot += self.pick(*ENDS)
-        return Case(form, options, plot)
+        return self.turned_case(Case(form, options, plot))
+
+    def turned_case(self, case):
+        """The case, one in four with `--rotate`. Then the first row is one of the page as it lies, and perhaps a dot that a window
+        hides is as far away as it may be for the turn, or farther."""
+        if not self.chance(25):
+            return case
+        options = {**case.options, "rotate": self.pick(*ROTATIONS)}
+        if "from" in options and options["rotate"] in ("90", "270"):
+            columns, rows = count(self.height, self.dots), count(self.width, self.dots)
+            options["from"] = str(self.random.randint(max(0, rows - max(1, MOST_PIXELS // columns)), rows))
+        if self.chance(80):
+            return case._replace(options=options)
+        x, y = (self.far_place(side) - left for side, left in ((self.width, self.left), (self.height, self.below)))
+        return case._replace(options=options, plot=b"IW0,0,1,1;PU%d,%d;PD;IW;PU0,0;" % (x, y) + case.plot)
+
+    def far_place(self, side):
+        """A place on an axis, in units: mostly at the end of the range, or where a turn puts it there."""
+        return self.pick(0, side, 65_536, -65_536, side - 65_536, side - 65_537, side - 65_535)
 
     # Options
 

@@ -23,6 +23,13 @@ def is_area(shape):
     return isinstance(shape, Area)
 
 
+def placed(shape, place_of, window):
+    """A shape whose places are where a function puts them, in a window."""
+    if is_area(shape):
+        return shape._replace(edges=tuple(tuple(map(place_of, edge)) for edge in shape.edges), window=window)
+    return shape._replace(a=place_of(shape.a), b=place_of(shape.b), window=window)
+
+
 def strokes_of(shape):
     """A stroke itself, or the edges of an area as strokes of width 0."""
     if not is_area(shape):
