@@ -147,12 +147,14 @@ PLACED = [
 ]
 
 
-def test_boxes(program):
-    """A word is where the strokes of its letters are."""
+@pytest.mark.parametrize("degrees", [0, 90, 180, 270])
+def test_boxes(program, degrees):
+    """A word is where the strokes of its letters are, also on a page that is turned."""
+    words = [*FULL, f"--rotate={degrees}"]
     texts = ["W%s" % ("abcdefghijklmnopq"[at] * 3) for at in range(len(PLACED))]
     plot = b"".join(b"DF;SI.15,.2;%bPU%b;LB%b\x03" % (*it, text.encode()) for it, text in zip(PLACED, texts))
-    boxes = dict(boxes_of_words(drawn(program, ["pdf", *FULL], plot)))
-    strokes = dict(boxes_of_labels(read_svg(drawn(program, ["svg", *FULL], plot))))
+    boxes = dict(boxes_of_words(drawn(program, ["pdf", *words], plot)))
+    strokes = dict(boxes_of_labels(read_svg(drawn(program, ["svg", *words], plot))))
     assert list(strokes) == texts and set(boxes) == set(texts)
     for text, own in strokes.items():
         low = [inner - outer for inner, outer in zip(own[:2], boxes[text][:2])]

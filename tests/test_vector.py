@@ -22,6 +22,8 @@ READ = ["--profile=full", "--sheet=1"]
 DISTANCES = {"calibration": 2, "figures": 3, "tide": 2}
 # Of a line beside a window, or of one that a white line covers, there may be nothing in one of the pictures.
 WINDOWED, WHITENED = ("figures", "windows"), ("ribbon",)
+# Plots with lines, labels, fills and dashes that are also drawn on a page that is turned.
+TURNED = ("flange", "districts", "lettering")
 # A pixel at 254 dots per inch is 4 units: the page, a window in it, one in that and beyond, and one of a pixel.
 WINDOWS = [(0, 0, 2032, 1016), (400, 200, 1600, 800), (800, 0, 1200, 1016), (804, 4, 808, 8)]
 OF_PIXELS = {"--dots", "--smooth", "--size", "--band", "--from"}
@@ -72,6 +74,18 @@ def test_pixels_of_svg(program, name):
     pair = pictures(ours, painted_svg(drawn(program, ["svg", *words], plot)))
     assert name in WHITENED or lost_ink(pair, LEAST_INK) == 0
     assert new_ink(pair, MUCH_INK) == 0
+
+
+@pytest.mark.parametrize("degrees", [90, 180, 270])
+@pytest.mark.parametrize("name", TURNED)
+def test_turned_pages(program, tmp_path, name, degrees):
+    """No pixel differs but beside an edge, and no line is lost or new."""
+    plot, words = read_bytes(os.path.join(EXAMPLES, f"{name}.plt")), [*SMALL, *READ, f"--rotate={degrees}"]
+    pdf, svg = checked(program, words, plot, tmp_path)
+    ours = picture_of(drawn(program, ["ppm", f"--dots={DOTS}", *words], plot))
+    painted, shaded = pictures(ours, painted_pdf(pdf)), pictures(ours, painted_svg(svg))
+    assert (far_from_edges(painted), lost_ink(painted), new_ink(painted)) == (0, 0, 0)
+    assert (lost_ink(shaded, LEAST_INK), new_ink(shaded, MUCH_INK)) == (0, 0)
 
 
 def test_windows(program):
