@@ -6,7 +6,7 @@ import re
 import subprocess
 import sys
 
-from recipe_checks import A4, PNG, SECONDS, Check, lines_of, netpbm, plan
+from recipe_checks import A4, PNG, SECONDS, Check, lines_of, netpbm, plan, turned_pdf
 from shared import TOP, ink, pixels, read, read_bitmap
 
 # Commands that stand in documents and are not run by tests/test_documents.py, each with the reason.
@@ -195,6 +195,7 @@ DOCUMENT_CHECKS = {
         "EXAMPLES": [Check(pictures, (*PNG, "pamfile")), Check(pictures, ("pamfile",)), Check(pictures, ("pamfile",)),
                      Check(pictures_of_a_folder, (), PLOTS), Check(pictures, (*PNG, "pamfile")),
                      Check(pictures, ("pamfile",)), Check(pictures),
-                     Check(notes, (), {"plan.plt": b"WU1;;SC0,0,0,9;" + plan(*A4)}), Check(centred, ()), Check(eight_marks)],
+                     Check(notes, (), {"plan.plt": b"WU1;;SC0,0,0,9;" + plan(*A4)}), Check(turned_pdf), Check(centred, ()),
+                     Check(eight_marks)],
     },
 }

@@ -189,6 +189,16 @@ def printed_plot(made):
         yield f"printed {made.printed}"
 
 
+def turned_pdf(made):
+    """All lines and the text, turned by a quarter."""
+    found, upright = lines_of(made, "plan.pdf"), read_pdf(made.run("draw", "--form", "pdf", "plan.plt")).document
+    if (found.width, found.height) != DRAWN[::-1] or found.texts() != upright.texts():
+        yield f"a page of {found.width} by {found.height} units with {found.texts()}"
+    turned = [[(16 * upright.height - y, x) for x, y in (line.a, line.b)] for line in upright.sheets[0]]
+    if [[line.a, line.b] for line in found.sheets[0]] != turned:
+        yield "other lines"
+
+
 def pen_as_svg(made):
     """The frame alone."""
     lines, = lines_of(made, "plan.svg").sheets
@@ -265,16 +275,19 @@ def of_pbmtolj(data, columns):
 
 
 def pcl(made):
-    if [words for words, _ in made.printed] != ["lp -o raw"] * 2:
+    if [words for words, _ in made.printed] != ["lp -o raw"] * 3:
         yield f"printed by {[words for words, _ in made.printed]}"
-    (_, upright), (_, turned) = made.printed
+    (_, upright), (_, turned), (_, by_netpbm) = made.printed
     columns, rows, data = bitmap_of(upright)
     wanted = made.run("pbm", "--width", "8400", "--height", "11880", "--dots", "300", "portrait.plt")
     if b"P4\n%d %d\n" % (columns, rows) + data != wanted or columns != pixels(8400, 300):
         yield "another bitmap in portrait"
-    portrait = of_pbmtolj(turned, pixels(8400, 300))
-    if netpbm(["pamflip", "-r270"], portrait) != made.run("pbm", "--dots", "300", "plan.plt"):
+    columns, rows, data = bitmap_of(turned)
+    wanted = made.run("pbm", "--rotate", "90", "--dots", "300", "plan.plt")
+    if b"P4\n%d %d\n" % (columns, rows) + data != wanted or columns != pixels(8400, 300):
         yield "another bitmap in landscape"
+    if of_pbmtolj(by_netpbm, columns) != wanted:
+        yield "another bitmap by Netpbm"
 
 
 def fitted_page(made):
@@ -496,8 +509,9 @@ CHECKS = {
         "Plots by CUPS": [Check(printed_plot)],
         "TIFF, true to size": [Check(tiff, ("pamtotiff", "tifftopnm"))],
         "A PostScript printer, true to size": [Check(postscript, ("pnmtops",))],
-        "A PCL printer": [Check(pcl, ("pamflip", "pbmtolj"))],
+        "A PCL printer": [Check(pcl, ("pbmtolj",))],
         "A page that fits the drawing": [Check(fitted_page, PNG)],
+        "A plot that lies on its side": [Check(turned_pdf)],
         "Other colours and widths": [Check(recoloured, PNG)],
         "The sheets of a plot": [Check(apart, (), {"sheets.plt": SHEETS})],
         "An archive of plots": [Check(archive_in_one_run, (), ARCHIVE), Check(archive, (), ARCHIVE),

@@ -325,6 +325,14 @@ def test_message_of_papers(program):
     assert done.stderr == f"plotraster: bad page: use {names}, one of these with {PORTRAIT}, or plot\n"
 
 
+def test_message_of_rotations(program):
+    """The message on a wrong word has the numbers as help has them."""
+    for command in commands_in_help(program):
+        values = options_in_help(program, command)["--rotate"][1]
+        done = run(program, [command, "--rotate=none"], SECONDS, text=True)
+        assert done.stderr == f"plotraster: bad rotation: use {values}\n"
+
+
 def test_characters(program):
     """The message on a bad name has the names as help has them, each of which is taken."""
     for command in commands_in_help(program):
