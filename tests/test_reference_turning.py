@@ -6,16 +6,17 @@ import random
 
 import pytest
 
-from reference import messages
+from reference import messages, raster
 from reference.geometry import NO_WINDOW, Page, whole_page
 from reference.labels import Row
-from reference.outputs import answer, listed
-from reference.plotter import FARTHEST, Stroke
+from reference.outputs import answer, draw, listed
+from reference.plotter import FARTHEST, Refused, Stroke
 from reference.random_fitted_plots import base_case, random_fitted_case
 from reference.random_options import random_apart_case, random_drawn_case, random_pens_case
 from reference.random_vectors import random_vector_case
-from reference.shapes import Area
+from reference.shapes import Area, strokes_of
 from reference.turning import TooFar, Turn
+from shared import assert_nothing
 
 # The sides are different, and the corner of the plot is not that of the page.
 PAGE = Page(1000, 600, 50, 60)
@@ -25,7 +26,7 @@ QUARTERS = (90, 180, 270)
 SMALL = {"width": "64", "height": "64", "dots": "127"}
 FAR = messages.text("too-far-to-turn")
 KINDS = (base_case, random_fitted_case, random_pens_case, random_apart_case, random_drawn_case, random_vector_case)
-CASES = 400
+CASES, MOST_LINES = 400, 300
 
 
 def stroke(a, b, window=WHOLE, pen=1):
@@ -143,6 +144,29 @@ def test_pictures_of_whole_pixels(degrees, options):
         assert got.output == b"".join(itertools.chain(*wanted[5:]))
     else:
         assert pixels_of(got.output) == wanted
+
+
+def wrong_turns(seed):
+    """The turns of a random plot whose pixels are not those of an array that is turned. Lines that lead far away are left out."""
+    plot, page = base_case(seed).plot, Page(128, 64, 0, 0)
+    try:
+        shapes = draw(plot, page, 0 if seed % 2 else None).shapes
+    except Refused:
+        return
+    is_near = lambda shape: all(max(map(abs, (*it.a, *it.b))) < FARTHEST // 2 for it in strokes_of(shape))
+    shapes = [shape for shape in shapes if is_near(shape)]
+    if sum(len(strokes_of(shape)) for shape in shapes) > MOST_LINES:
+        return
+    ink = lambda found: [[cell and (cell.pen, cell.colour) for cell in row] for row in found]
+    rows = lambda shown, on: ink(row for _, row in raster.rows(shown, on, 127, range(256), 0))
+    for degrees in QUARTERS:
+        turn = Turn(page, degrees)
+        if rows(turn.shapes(shapes), turn.page) != turned_rows(rows(shapes, page), degrees):
+            yield f"seed {seed}, {degrees} degrees"
+
+
+def test_random_pictures_of_whole_pixels():
+    assert_nothing(wrong for seed in range(CASES) for wrong in wrong_turns(seed))
 
 
 def columns_of(output):
