@@ -1,6 +1,6 @@
 """The page that `--rotate` turns counterclockwise, with all that is on it.
 
-A page that is turned lies on its new place as the page of RO lies on a plotter's: with its lower left corner in a corner of
+The page as it was lies on the turned page as the page that RO rotates lies on that of a plot, so a place is found as RO finds
 it. Places are in grains.
 """
 
