@@ -1,7 +1,7 @@
 -- A relation from the world before a step to the one after it: it holds of steps of core, labels, ticks and curves if it
 -- holds of the changes that they make, and of one after another.
 use Rattle.std.proofs.Common.{◌≡◌, ◌∙◌, ◌≤◌, ℕ, refl, arith, Bool, true, false, true≢false, subst, sym, List, [], ◌∷◌, length, map, nat_lt, Option, Some, None, ℤ, pos, neg_ℤ}
-use Rattle.std.specs.Prelude.{if◌then◌else◌, ⊤}
+use Rattle.std.specs.Prelude.{if◌then◌else◌, not, ⊤}
 use Rattle.std.specs.List.{list_all}
 use Rattle.exact.specs.declared.spot.Spot.{Spot}
 use Rattle.plot_page.specs.Segments.{Segment}
@@ -15,6 +15,7 @@ use Rattle.full_settings.specs.declared.character_moves.CharacterMove.{Character
 use Rattle.full_settings.specs.declared.character_moves.CharacterMove.TheVariants.{ToMargin, By}
 use Rattle.full_settings.specs.declared.points.ArcPoints.{ArcPoints}
 use Rattle.full_settings.specs.declared.points.CurvePoints.{CurvePoints}
+use Rattle.full_settings.specs.declared.polygon_setting.PolygonStep.TheVariants.{Begin}
 use Rattle.full_notes.specs.Contexts.{Context}
 use Rattle.line_types.specs.declared.run.Run.{Run}
 use Rattle.character_sets.specs.declared.sign.Sign.{Sign}
@@ -22,16 +23,19 @@ use Rattle.full_settings.specs.Letters.{grains_of_share}
 use Rattle.lettering.specs.Cells.{cell_offset}
 use Rattle.lettering.specs.Labels.{styled_label_end, styled_label_strokes}
 use Rattle.lettering.specs.declared.style.Style.{Style}
-use Rattle.polygons.specs.Buffers.{Contents}
+use Rattle.polygons.specs.Buffers.{Contents, begun_at}
+use Rattle.polygons.specs.Laws.{HoldsPolygons}
+use Rattle.polygons.proofs.BufferLaws.{buffers_hold_polygons_lem}
 use Rattle.curves.specs.Arcs.{arc_places}
 use Rattle.curves.specs.Beziers.{bezier_places}
 use Rattle.full_plot.specs.Curves.{arc_step, arrived, curve_pen, curve_step, gone_over, lined, lined_in}
 use Rattle.full_plot.specs.Lines.{drawn_along, line_step, places_of, state_after, step_path, with_state}
-use Rattle.full_plot.specs.Machine.{FullStep, Core, Print, Place, Tick, ArcThrough, Curve, EdgeBuffer, FillBuffer, Rectangle, WedgeEdge, WedgeFill}
+use Rattle.full_plot.specs.Machine.{FullStep, Core, Print, Place, Tick, ArcThrough, Curve, PolygonBy, EdgeBuffer, FillBuffer, Rectangle, WedgeEdge, WedgeFill}
 use Rattle.full_plot.specs.Machine.{core_step, full_moved, marked, marked_in, touched_in}
 use Rattle.full_plot.specs.Polygons.{lined_by, lined_step, only_figure, trace_step}
 use Rattle.full_plot.specs.Texts.{at_margin, inked_at_pen, label_by, labelled, line_at, margin_by, marked_by, moved_by, moved_by_characters, put, shifted_by, signs_of, style_of, tick_distance, tick_end, ticked, with_margin}
 use Rattle.full_plot.specs.Worlds.{FullWorld, full_followed, with_core}
+use Rattle.full_plot.proofs.HeldPolygons.{Follows, figured, follows_on, reached_hold, traced_holds, unchanged}
 
 -- what is left, if anything is left
 abbrev pub In : {W : Type 0} → (W → Type 0) → Option W → Type 0
@@ -98,6 +102,14 @@ is_silent on (WedgeEdge wedge) = false
 is_silent on (WedgeFill wedge) = false
 is_silent on s = true
 
+-- whether a step may be there, in polygon mode or out of it: PM 0 is what begins it, and nothing is filled in it
+abbrev pub fits : Bool → FullStep → Bool
+fits on (PolygonBy Begin) = on
+fits on (FillBuffer by_winding) = not on
+fits on (Rectangle relative c) = not on
+fits on (WedgeFill wedge) = not on
+fits on s = true
+
 -- the relation holds of the changes of core: strokes, if any may be made; and another state, left margin and buffer, in
 -- which out of polygon mode there are no more places than there may be
 pub record CoreChanges (R : FullWorld → FullWorld → Type 0) (May : Type 0) : Type 0 where
@@ -105,11 +117,11 @@ pub record CoreChanges (R : FullWorld → FullWorld → Type 0) (May : Type 0) :
   pub context_is : (w v : FullWorld) → R w v → v.context ≡ w.context
   pub drawn : (w : FullWorld) (s : State) (ss : List Segment) (r : Option Run) → May → R w (record w { core = core.with_strokes w.core s ss; run = r })
   pub quiet : (w : FullWorld) (s : State) (q : Spot) (b : Contents) → (w.context.in_polygon ≡ false → w.buffer.places ≤ 4194304 → b.places ≤ 4194304)
-      → R w (record w { core = record w.core { state = s }; margin = q; buffer = b })
+      → Follows w b → R w (record w { core = record w.core { state = s }; margin = q; buffer = b })
 
 module _ {R : FullWorld → FullWorld → Type 0} {May : Type 0} (h : CoreChanges R May) where
   moved_to : (w : FullWorld) (s : State) (q : Spot) → R w (record w { core = record w.core { state = s }; margin = q })
-  moved_to w s q = h.quiet w s q w.buffer (λ off few. few)
+  moved_to w s q = h.quiet w s q w.buffer (λ off few. few) (unchanged w)
 
   same : (w : FullWorld) → R w w
   same w = moved_to w w.core.state w.margin
@@ -122,8 +134,12 @@ module _ {R : FullWorld → FullWorld → Type 0} {May : Type 0} (h : CoreChange
       → ((v : FullWorld) → R w v → In (R v) (f v)) → In (R w) (full_followed o f)
   by_then w o f k go = in_then (R w) (R w) o f k (λ (v : FullWorld) (l : R w v). past w v (f v) l (go v l))
 
+  pub by_map_of : (w : FullWorld) (o : Option FullWorld) (g : FullWorld → FullWorld) → In (R w) o → ((v : FullWorld) → R w v → R v (g v))
+      → In (R w) (mapped g o)
+  by_map_of w o g k go = in_mapped (R w) (R w) g o k (λ (v : FullWorld) (l : R w v). h.joined w v (g v) l (go v l))
+
   pub by_map : (w : FullWorld) (o : Option FullWorld) (g : FullWorld → FullWorld) → In (R w) o → ((v : FullWorld) → R v (g v)) → In (R w) (mapped g o)
-  by_map w o g k go = in_mapped (R w) (R w) g o k (λ (v : FullWorld) (l : R w v). h.joined w v (g v) l (go v))
+  by_map w o g k go = by_map_of w o g k (λ (v : FullWorld) (l : R w v). go v)
 
   by_margin : (w : FullWorld) (o : Option FullWorld) (q : Spot) → In (R w) o → In (R w) (with_margin q o)
   by_margin w o q k = by_map w o (λ (v : FullWorld). record v { margin = q }) k (λ (v : FullWorld). moved_to v v.core.state q)
@@ -201,12 +217,13 @@ module _ {R : FullWorld → FullWorld → Type 0} {May : Type 0} (h : CoreChange
       (along_holds w (step_path w t).draws (places_of w t) m)
       (λ (v : FullWorld). moved_to v (state_after w t) v.margin)
 
-  in_buffer : (w : FullWorld) (s : State) (b : Contents) → w.context.in_polygon ≡ true → R w (record w { core = record w.core { state = s }; buffer = b })
-  in_buffer w s b on = h.quiet w s w.margin b (λ off few. absurd (true≢false (sym on ∙ off)))
+  in_buffer : (w : FullWorld) (s : State) (b : Contents) → w.context.in_polygon ≡ true → (HoldsPolygons w.buffer → HoldsPolygons b)
+      → R w (record w { core = record w.core { state = s }; buffer = b })
+  in_buffer w s b on held = h.quiet w s w.margin b (λ off few. absurd (true≢false (sym on ∙ off))) (follows_on w b on held)
 
   line_in : (on : Bool) (w : FullWorld) (t : Step) → w.context.in_polygon ≡ on → MayLine w → In (R w) (lined_by on w t)
   unfolding trace_step
-  line_in true w t e m = in_if (R w) (are_in_range (places_of w t)) _ (in_buffer w _ _ e)
+  line_in true w t e m = in_if (R w) (are_in_range (places_of w t)) _ (in_buffer w _ _ e (traced_holds w t (places_of w t)))
   line_in false w t e m = line w t (m e)
 
   lined_holds : (w : FullWorld) (t : Step) → MayLine w → In (R w) (lined_step w t)
@@ -253,14 +270,18 @@ module _ {R : FullWorld → FullWorld → Type 0} {May : Type 0} (h : CoreChange
   core_holds w (Edge relative x y) m k =
       let b : Contents = only_figure (places_of w (Edge relative x y)) in
       by_map w (line_step w (Edge relative x y)) (λ (v : FullWorld). record v { buffer = b }) (line w (Edge relative x y) (m refl))
-      (λ (v : FullWorld). h.quiet v v.core.state v.margin b (λ off few. edge_places w relative x y))
+      (λ (v : FullWorld). h.quiet v v.core.state v.margin b (λ off few. edge_places w relative x y) (figured v (places_of w (Edge relative x y))))
   core_holds w (DrawCircle c) m k = lined_holds w (DrawCircle c) m
   core_holds w (Write text) m k = by_map w (labelled w text) (shifted_by text) (labelled_holds w text (m refl)) k
   core_holds w t m k = moved_to w _ w.margin
 
   -- curves
   curve_in : (on : Bool) (w : FullWorld) (places : List Spot) → w.context.in_polygon ≡ on → MayLine w → In (R w) (lined_in on w places)
-  curve_in true w places e m = in_if (R w) (are_in_range (w.core.state.place ∷ places)) _ (in_buffer w w.core.state _ e)
+  curve_in true w places e m =
+      let start : Spot = w.core.state.place in
+      in_if (R w) (are_in_range (start ∷ places)) _
+      (in_buffer w w.core.state _ e
+      (λ held. reached_hold w.core.state.is_down (begun_at w.buffer start) places (buffers_hold_polygons_lem.begun w.buffer start held)))
   curve_in false w places e m = along_holds w w.core.state.is_down (w.core.state.place ∷ places) (m e)
 
   over_holds : (w : FullWorld) (places : List Spot) (end : Position) → MayLine w → In (R w) (gone_over w places end)

@@ -1,6 +1,6 @@
 -- What all steps leave alone: how items are read, that no more strokes are kept than a plot may have, and that the sheets
 -- that have ended and the areas are parts of them, in order, whose edges are alike.
-use Rattle.std.proofs.Common.{◌≡◌, ◌∙◌, ◌≤◌, ℕ, refl, subst, arith, Bool, true, false, List, [], ◌∷◌, length, Result, Ok, Err, Option, Some, None}
+use Rattle.std.proofs.Common.{◌≡◌, ◌∙◌, ◌≤◌, ℕ, refl, subst, arith, Bool, true, false, List, [], ◌∷◌, length, map, Result, Ok, Err, Option, Some, None}
 use Rattle.std.specs.Prelude.{if◌then◌else◌, ⊤}
 use Rattle.std.specs.List.{All}
 use Rattle.areas.specs.Shapes.{AreApart, edges_of}
@@ -10,6 +10,7 @@ use Rattle.character_sets.specs.declared.encoding.Encoding.{Encoding}
 use Rattle.line_types.specs.declared.run.Run.{Run}
 use Rattle.plot_page.specs.Segments.{Segment}
 use Rattle.polygons.specs.declared.lines.Rule.{Rule}
+use Rattle.polygons.specs.declared.span.Span.{Span}
 use Rattle.plot_page.specs.declared.page.Page.{Page}
 use Rattle.hpgl_text.specs.Cut.{cut_by}
 use Rattle.hpgl_text.specs.Shapes.{ItemShape, BodyShape}
@@ -21,22 +22,25 @@ use Rattle.hpgl_plot.specs.Machine as core
 use Rattle.full_notes.specs.Contexts.{Context, read_in}
 use Rattle.full_notes.specs.Notes.{context_after}
 use Rattle.full_plot.specs.Drawings.{AreAlike, full_at_start_with, full_ended, is_too_much, full_runs, outcome_with, strokes_in, ends_in, CarriesOut}
-use Rattle.full_plot.specs.Fills.{with_area}
+use Rattle.full_plot.specs.Fills.{edge_span, edges_inked, solid_filled}
 use Rattle.full_plot.specs.Items.{full_steps, taken}
 use Rattle.full_plot.specs.Machine.{ends_with}
 use Rattle.full_plot.specs.Laws.{AreSheets, SheetsJoin}
 use Rattle.full_plot.specs.Worlds.{FullWorld}
-use Rattle.full_plot.proofs.AlikeEdges.{AreInked, GoesOn, HaveAlike, alike_added, alike_on, all_alike, on_kept, on_none, on_then, thin_look}
+use Rattle.full_plot.proofs.AlikeEdges.{alike_added, spans_inked, thin_look}
+use Rattle.full_plot.proofs.AreasHave.{GoesOn, Have, all_have, have_on, on_kept, on_none, on_then}
 use Rattle.full_plot.proofs.AreasInOrder.{AreUpTo, are_apart, are_within, up_to_added, up_to_more}
 use Rattle.full_plot.proofs.Changes.{In}
+use Rattle.full_plot.proofs.FittingSteps.{all_fit}
 use Rattle.full_plot.proofs.FullChanges.{Changes, run_holds}
 use Rattle.full_plot.proofs.JoinedSheets.{Ascend, are_sheets, ascend_on, ascend_with}
 use Rattle.full_plot.proofs.Nexts.{Grows, few_kept}
+use Rattle.full_plot.proofs.RoundEdges.{no_area}
 
 -- these strokes are no more than a plot may have, the ends of sheets ascend up to them, as areas do, and the edges of an area are
 -- alike
 abbrev InOrder : List ℕ → List Area → List Segment → Type 0
-InOrder ends areas kept = (length kept ≤ 4194304) × Ascend 0 ends (length kept) × AreUpTo 0 areas (length kept) × HaveAlike kept areas
+InOrder ends areas kept = (length kept ≤ 4194304) × Ascend 0 ends (length kept) × AreUpTo 0 areas (length kept) × Have AreAlike kept areas
 
 abbrev IsInOrder : FullWorld → Type 0
 IsInOrder w = InOrder w.ends w.areas w.core.kept
@@ -62,7 +66,7 @@ later_drawn w s ss r =
     let on : GoesOn w.core.kept (core.kept_with w.core.kept w.core.full ss) = on_kept w.core.kept w.core.full ss in
     record {
       context_is = refl;
-      in_order = λ h. (g.1 h.0, ascend_on 0 w.ends _ _ g.0 h.1, up_to_more 0 w.areas _ _ g.0 h.2, alike_on _ _ w.areas on h.3);
+      in_order = λ h. (g.1 h.0, ascend_on 0 w.ends _ _ g.0 h.1, up_to_more 0 w.areas _ _ g.0 h.2, have_on AreAlike _ _ w.areas on h.3);
       grows = g.0;
       goes_on = on;
     }
@@ -73,30 +77,33 @@ later_aside w v c k e a = record { context_is = c; in_order = λ h. rw (k, e, a)
 later_ended : (w : FullWorld) → IsLater w (record w { ends = ends_with w.ends (length w.core.kept) })
 later_ended w = record { context_is = refl; in_order = λ h. (h.0, ascend_with w.ends (length w.core.kept) h.1, h.2, h.3); grows = omega arith; goes_on = on_none w.core.kept }
 
-later_area : (w v : FullWorld) (rule : Rule) → IsLater w v → v.areas ≡ w.areas → AreInked w.core.kept v.core.kept (thin_look w.core.state)
-    → IsLater w (with_area (length w.core.kept) rule v)
-later_area w v rule h a inked = record {
-  context_is = h.context_is;
-  in_order = λ order.
-      let after : IsInOrder v = h.in_order order in
-      let alike : HaveAlike w.core.kept v.areas = rw a order.3 in (
-        after.0,
-        after.1,
-        up_to_added 0 v.areas (length w.core.kept) (length v.core.kept) rule h.grows (rw a order.2),
-        alike_added w.core.kept v.core.kept v.areas rule (thin_look w.core.state) refl inked alike,
-      );
-  grows = h.grows;
-  goes_on = h.goes_on;
-}
+later_area : (w : FullWorld) (rule : Rule) → IsLater w (edges_inked w) → IsLater w (solid_filled rule w)
+later_area w rule h =
+    let v : FullWorld = edges_inked w in
+    let spans : List Span = map edge_span w.buffer.edges in
+    let a : v.areas ≡ w.areas = no_area spans w in
+    record {
+      context_is = h.context_is;
+      in_order = λ order.
+          let after : IsInOrder v = h.in_order order in
+          let alike : Have AreAlike w.core.kept v.areas = rw a order.3 in (
+            after.0,
+            after.1,
+            up_to_added 0 v.areas (length w.core.kept) (length v.core.kept) rule h.grows (rw a order.2),
+            alike_added w.core.kept v.core.kept v.areas rule (thin_look w.core.state) refl (spans_inked spans w) alike,
+          );
+      grows = h.grows;
+      goes_on = h.goes_on;
+    }
 
 later_changes : Changes IsLater ⊤
 later_changes = record {
   joined = later_then;
   context_is = λ w v h. h.context_is;
   drawn = λ w s ss r m. later_drawn w s ss r;
-  aside = later_aside;
+  aside = λ w v c k e a full b. later_aside w v c k e a;
   ended = later_ended;
-  area = later_area;
+  area = λ w rule off h. later_area w rule h;
 }
 
 -- an item leaves the context after it, no more strokes than a plot may have, and sheets in order
@@ -106,7 +113,7 @@ IsAfter w b v = IsLater (record w { context = context_after w.context b }) v
 after_item : (w : FullWorld) (b : BodyShape) → In (IsAfter w b) (taken w b)
 after_item w b =
     let within : FullWorld = record w { context = context_after w.context b } in
-    run_holds later_changes (full_steps w.context (read_in w.context b)) within (λ e. tt)
+    run_holds later_changes (full_steps w.context (read_in w.context b)) within (λ e. tt) (all_fit w.context b)
 
 -- an item that is not refused
 abbrev LeavesAfter : Context → Result FullWorld PlotFault → Type 0
@@ -171,7 +178,7 @@ areas_within encoding carousel page items v e = are_within 0 v.areas _ (in_order
 -- and the edges of each are alike
 pub areas_alike : (encoding : Encoding) (carousel : Carousel) (page : Page) (items : List ItemShape) (v : FullWorld)
     → full_runs (full_at_start_with encoding carousel page) items ≡ Ok v → All (λ (a : Area). AreAlike (edges_of v.core.kept a)) v.areas
-areas_alike encoding carousel page items v e = all_alike v.core.kept v.areas (in_order_at_end encoding carousel page items v e).3
+areas_alike encoding carousel page items v e = all_have AreAlike v.core.kept v.areas (in_order_at_end encoding carousel page items v e).3
 
 -- the sheets of a plot that is refused, too
 sheets_in_order : (r : Result FullWorld PlotFault) → InOrderAfter r → AreSheets (strokes_in r) (ends_in r)

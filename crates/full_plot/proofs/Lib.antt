@@ -8,14 +8,19 @@ pub mod Solid
 pub mod LinesAlong
 pub mod Curved
 pub mod FullRuns
+pub mod HeldPolygons
 pub mod Changes
 pub mod FullChanges
 pub mod Nexts
 pub mod JoinedSheets
 pub mod AreasInOrder
+pub mod AreasHave
 pub mod AlikeEdges
 pub mod Aside
+pub mod RoundEdges
+mod FittingSteps
 pub mod Later
+mod RoundAreas
 pub mod OrderedLabels
 pub mod LabelsOver
 pub mod CoreNotes
@@ -26,4 +31,5 @@ pub mod Stills
 pub mod CorePlots
 mod BadItems
 mod Traced
+mod Undrawn
 mod Restarts

@@ -87,7 +87,7 @@ next_changes = record {
   joined = next_of_next;
   context_is = λ w v h. h.context_is;
   drawn = λ w s ss r m. next_by w _ r w.margin w.buffer (few_kept w.core.kept w.core.full ss) (λ off few. few);
-  quiet = λ w s q b few. next_by w _ w.run q b (grows_not (length w.core.kept)) few;
+  quiet = λ w s q b few follows. next_by w _ w.run q b (grows_not (length w.core.kept)) few;
 }
 
 -- a text that selects no set

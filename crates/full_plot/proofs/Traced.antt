@@ -1,5 +1,5 @@
--- In polygon mode no item makes a stroke.
-use Rattle.std.proofs.Common.{◌≡◌, ◌∙◌, ap, sym, refl, ℤ, Bool, true, false, true≢false, subst, List, [], ◌∷◌, ◌++◌, map, Option, Some, None}
+-- In polygon mode no step of an item makes a stroke.
+use Rattle.std.proofs.Common.{◌≡◌, ◌∙◌, ap, sym, refl, ℤ, Bool, true, false, true≢false, List, [], ◌∷◌, ◌++◌, map, Option, Some, None}
 use Rattle.std.specs.Prelude.{if◌then◌else◌}
 use Rattle.std.specs.List.{list_all}
 use Rattle.std.proofs.lemmas.Bool.{and_parts, and_from}
@@ -24,31 +24,12 @@ use Rattle.full_settings.specs.CurveParameters.{curve_points}
 use Rattle.full_settings.specs.LetterParameters.{letter_direction}
 use Rattle.full_settings.specs.WidthParameters.{percent_width}
 use Rattle.full_notes.specs.Contexts.{Context, body_read, is_bad_further, is_bad_in_polygons, is_edge, is_misplaced, numbers_read, read_in, request_in}
-use Rattle.full_notes.specs.Notes.{after_body, context_after, params_after, request_after}
-use Rattle.full_plot.specs.Items.{as_core, full_steps, letters_steps, more_steps, params_steps, request_steps, size_by, taken, width_steps, widths_steps}
-use Rattle.full_plot.specs.Machine.{FullStep, Core, Rewiden, Letter, Curve, run}
-use Rattle.full_plot.specs.Worlds.{FullWorld}
-use Rattle.full_plot.proofs.Changes.{In, either_by, is_silent}
-use Rattle.full_plot.proofs.FullChanges.{Changes, are_silent, run_holds}
+use Rattle.full_notes.specs.Notes.{after_body, params_after, request_after}
+use Rattle.full_plot.specs.Items.{as_core, full_steps, letters_steps, more_steps, params_steps, request_steps, size_by, width_steps, widths_steps}
+use Rattle.full_plot.specs.Machine.{FullStep, Core, Rewiden, Letter, Curve}
+use Rattle.full_plot.proofs.Changes.{either_by, is_silent}
+use Rattle.full_plot.proofs.FullChanges.{are_silent}
 use Rattle.full_plot.proofs.Stills.{ArePlain, entries_plain, is_plain, params_plain}
-
--- the same strokes, and items are read in the same way
-record IsSame (w v : FullWorld) : Type 0 where
-  kept_are : v.core.kept ≡ w.core.kept
-  context_is : v.context ≡ w.context
-
-same_changes : Changes IsSame ⊥
-same_changes = record {
-  joined = λ w v u h k. record { kept_are = k.kept_are ∙ h.kept_are; context_is = k.context_is ∙ h.context_is };
-  context_is = λ w v h. h.context_is;
-  drawn = λ w s ss r m. absurd m;
-  aside = λ w v c k e a. record { kept_are = k; context_is = c };
-  ended = λ w. record { kept_are = refl; context_is = refl };
-  area = λ w v rule h a inked. record { kept_are = h.kept_are; context_is = h.context_is };
-}
-
-silent_run : (ss : List FullStep) (w : FullWorld) → are_silent w.context.in_polygon ss ≡ true → In (IsSame w) (run w ss)
-silent_run ss w h = run_holds same_changes ss w (λ e. true≢false (sym h ∙ e))
 
 -- the steps of the items that are carried out in polygon mode
 both_silent : (on : Bool) (ss ts : List FullStep) → are_silent on ss ≡ true → are_silent on ts ≡ true → are_silent on (ss ++ ts) ≡ true
@@ -186,14 +167,7 @@ read_is_good usual b h = h
 abbrev ReadSilent : Context → BodyShape → Type 0
 ReadSilent c b = are_silent (after_body c b).in_polygon (full_steps c b) ≡ true
 
-read_silent : (c : Context) (b : BodyShape) → c.in_polygon ≡ true → ReadSilent c (read_in c b)
+pub read_silent : (c : Context) (b : BodyShape) → c.in_polygon ≡ true → ReadSilent c (read_in c b)
 read_silent c b on =
     either_by (ReadSilent c) (is_misplaced c.in_polygon b) shape.Bad (body_read c.usual_chords b) (λ e. refl)
     (λ e. body_silent c (body_read c.usual_chords b) on (read_is_good c.usual_chords b (rw on at e)))
-
-pub polygon_mode_is_silent : (w v : FullWorld) (i : ItemShape) → w.context.in_polygon ≡ true → taken w i.body ≡ Some v → v.core.kept ≡ w.core.kept
-polygon_mode_is_silent w v i on e =
-    let within : FullWorld = record w { context = context_after w.context i.body } in
-    let same : IsSame within v =
-    subst (In (IsSame within)) e (silent_run (full_steps w.context (read_in w.context i.body)) within (read_silent w.context i.body on)) in
-    same.kept_are

@@ -1,6 +1,7 @@
 //! What a plot draws in the profile full.
 ghost use Rattle.std.specs.Prelude.{◌≡◌, ◌≤◌, None, OnOk, IfOk, IfErr, length};
 ghost use Rattle.std.specs.List.{All};
+ghost use Rattle.areas.specs.Laws.{AreRound};
 ghost use Rattle.areas.specs.Shapes.{AreApart, edges_of};
 ghost use Rattle.plot_page.specs.declared.stroke.TheConstants.{MOST_STROKES};
 ghost use Rattle.hpgl_text.specs.Cut.{cut_by};
@@ -58,6 +59,8 @@ pub fn draw_full(alloc: Global, text: &[u8], page: &Page) -> Result<FullDrawn, P
     ensures within { IfOk result (λ drawn. All (λ area. area.end ≤ length drawn.strokes.items) drawn.areas.items) }
     ensures alike { IfOk result
         (λ drawn. All (λ area. AreAlike (edges_of drawn.strokes.items area)) drawn.areas.items) }
+    ensures round { IfOk result
+        (λ drawn. All (λ area. AreRound (edges_of drawn.strokes.items area)) drawn.areas.items) }
     ensures notes { IfOk result (λ drawn. drawn.notes ≡ length (notes.notes (cut_by Full text.now))) }
     ensures limit { IfOk result (λ drawn. length drawn.strokes.items ≤ MOST_STROKES) }
     ensures refused { IfErr result (λ fault. Explains fault (outcome page.now text.now)) }
@@ -95,6 +98,8 @@ pub fn draw_full_with(
     ensures within { IfOk result (λ drawn. All (λ area. area.end ≤ length drawn.strokes.items) drawn.areas.items) }
     ensures alike { IfOk result
         (λ drawn. All (λ area. AreAlike (edges_of drawn.strokes.items area)) drawn.areas.items) }
+    ensures round { IfOk result
+        (λ drawn. All (λ area. AreRound (edges_of drawn.strokes.items area)) drawn.areas.items) }
     ensures notes { IfOk result (λ drawn. drawn.notes ≡ length (notes.notes (cut_by Full text.now))) }
     ensures limit { IfOk result (λ drawn. length drawn.strokes.items ≤ MOST_STROKES) }
     ensures labels { IfOk result (λ drawn. drawn.labels.items

@@ -12,6 +12,7 @@ use Rattle.full_notes.proofs.FewNotes.{few_notes}
 use Rattle.full_plot.specs.Labels.{labels_from, labels_kept}
 use Rattle.full_plot.proofs.LabelsOver.{kept_past}
 use Rattle.full_plot.proofs.Later.{areas_alike, areas_apart, areas_within, carried_out, few_strokes, told_as_set}
+use Rattle.full_plot.proofs.RoundAreas.{areas_round}
 use Rattle.full_plot.proofs.drawn.draw_full_with.Goals as goal
 
 -- the notes on these items, where the note on the first is known
@@ -77,4 +78,9 @@ returns-clause-within c =
 pub returns-clause-alike : goal.returns-clause-alike
 returns-clause-alike c =
     areas_alike c.args.encoding c.args.carousel.now c.args.page.now (cut_by Full c.args.text.now) (seen c.items.plotter)
+    (sym c.items.invariant.same ∙ ap (λ (rest : List ItemShape). full_runs (seen c.items.plotter) rest) c.in_default.ensures.steps.0)
+
+pub returns-clause-round : goal.returns-clause-round
+returns-clause-round c =
+    areas_round c.args.encoding c.args.carousel.now c.args.page.now (cut_by Full c.args.text.now) (seen c.items.plotter)
     (sym c.items.invariant.same ∙ ap (λ (rest : List ItemShape). full_runs (seen c.items.plotter) rest) c.in_default.ensures.steps.0)
