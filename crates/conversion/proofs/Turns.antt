@@ -1,31 +1,34 @@
--- A plot that was drawn and is then turned.
-use Rattle.std.proofs.Common.{Result, Ok, Err}
+-- A plot that was drawn and is then turned, or cannot be turned.
+use Rattle.std.proofs.Common.{◌≡◌, ◌≢◌, ◌∙◌, Result, Ok, Err, false, ap, refl, subst, sym}
+use Rattle.plot_page.specs.declared.pens.PenSet.{PenSet}
 use Rattle.picture_job.specs.declared.page_choice.PageChoice.{PageChoice}
 use Rattle.picture_job.specs.declared.picture.Picture.{Picture}
 use Rattle.devices.specs.Sources.{SourceState}
 use Rattle.directions.specs.declared.turn.Turn.{Turn}
 use Rattle.directions.specs.declared.turn.Turn.TheVariants.{None, Quarter, Half, ThreeQuarters}
-use Rattle.conversion.specs.Kinds.{HasDrawnFor, HasDrawnTurned, HasTurned}
+use Rattle.turning.specs.Turns.{are_turnable}
+use Rattle.conversion.specs.Kinds.{HasDrawnFor, HasDrawnTurned, HasTurned, pens_of}
 use Rattle.conversion.specs.Rules.{Rules}
+use Rattle.conversion.specs.Turned.{IsTurned}
 use Rattle.conversion.specs.declared.fault.Fault.{Fault}
-use Rattle.conversion.specs.declared.fault.Fault.TheVariants.{Letters, Memory, Paint, Plot, Read, Resolution, TooLong, Unfinished, Unturned, Write}
+use Rattle.conversion.specs.declared.fault.Fault.TheVariants.{Unturned}
+use Rattle.conversion.specs.declared.place.Drawing.{Drawing}
 
 module _ (rules : Rules) (choice : PageChoice) (picture : Picture) (before after : SourceState) where
-  -- a plot that was not drawn is not turned
-  not_turned : (turn : Turn) (fault : Fault) → HasDrawnFor rules choice picture before after (Err fault) → HasTurned turn rules choice picture before after (Err fault)
-  not_turned turn TooLong h = h
-  not_turned turn Memory h = h
-  not_turned turn (Plot refusal) h = h
-  not_turned turn (Paint refusal) h = h
-  not_turned turn (Write row whole bytes) h = h
-  not_turned turn Unfinished h = h
-  not_turned turn Read h = h
-  not_turned turn Resolution h = h
-  not_turned turn Letters h = h
-  not_turned turn Unturned h = absurd h.draws.draws
+  -- what is turned is drawn, and then turned
+  as_turned : (turn : Turn) (answer : Result Drawing Fault) → turn ≢ None → HasTurned turn rules choice picture before after answer
+      → HasDrawnTurned turn rules choice picture before after answer
+  as_turned None answer some h = absurd (some refl)
+  as_turned Quarter answer some h = h
+  as_turned Half answer some h = h
+  as_turned ThreeQuarters answer some h = h
 
-  pub not_drawn_turned : (turn : Turn) (fault : Fault) → HasDrawnFor rules choice picture before after (Err fault) → HasDrawnTurned turn rules choice picture before after (Err fault)
-  not_drawn_turned None fault h = h
-  not_drawn_turned Quarter fault h = not_turned Quarter fault h
-  not_drawn_turned Half fault h = not_turned Half fault h
-  not_drawn_turned ThreeQuarters fault h = not_turned ThreeQuarters fault h
+  module _ (turn : Turn) (some : turn ≢ None) (pens : PenSet) (its : pens ≡ pens_of picture) (drawing : Drawing) (drawn : HasDrawnFor rules choice picture before after (Ok drawing)) where
+    pub turned_so : (turned : Drawing) → IsTurned pens turn drawing turned → HasDrawnTurned turn rules choice picture before after (Ok turned)
+    turned_so turned h =
+        as_turned turn (Ok turned) some (drawing, drawn, subst (λ (p : PenSet). IsTurned p turn drawing turned) its h)
+
+    pub unturned_so : are_turnable pens turn drawing.page drawing.lines.strokes.items ≡ false → HasDrawnTurned turn rules choice picture before after (Err Unturned)
+    unturned_so h =
+        let by_pens = ap (λ (p : PenSet). are_turnable p turn drawing.page drawing.lines.strokes.items) (sym its) ∙ h in
+        as_turned turn (Err Unturned) some (drawing, drawn, by_pens)
