@@ -96,6 +96,14 @@ all_somewhere r y few by (n ∷ ns) h =
     All-cons IsSomewhere n ns (record { r = r; y = y; few = few; near = by; in_row = All-head (IsInRow r y) n ns h })
     (all_somewhere r y few by ns (All-tail (IsInRow r y) n ns h))
 
+pub swept_sorted : (r : ℕ) (edges : List Segment) (low y : ℤ) (near after : List SweptEdge) → AreSwept r edges low y near
+    → IsPermutation near after → AreSwept r edges low y after
+swept_sorted r edges low y near after h p = record {
+  in_row = All-permutation (IsInRow r y) near after p h.in_row;
+  rises = λ x z a b. sym (count_permuted (λ m. is_past_up r m x z) near after p) ∙ h.rises x z a b;
+  falls = λ x z a b. sym (count_permuted (λ m. is_past_down r m x z) near after p) ∙ h.falls x z a b;
+}
+
 pub swept_below : (r : ℕ) (edges : List Segment) (low y : ℤ) (near after : List SweptEdge) → AreSwept r edges low y near
     → IsPermutation (map below near) after → AreSwept r edges low (y -ℤ pos 16256) after
 swept_below r edges low y near after h p = record {

@@ -1,6 +1,7 @@
 -- Shapes: what a plot draws, in order. A shape is a stroke, or an area, whose edges are strokes that follow one another in the
 -- list of strokes.
 use Rattle.std.specs.Prelude.{ℕ, ◌+◌, ◌-◌, ◌≤◌, ◌<◌, nat_eq, nat_le, nat_lt, if◌then◌else◌, List, [], ◌∷◌, ◌++◌, filter, length, map, take, drop, Option, Some, None}
+use Rattle.std.specs.List.{All}
 use Rattle.plot_page.specs.Segments.{Segment}
 use Rattle.polygons.specs.declared.lines.Rule.{Rule}
 use Rattle.areas.specs.declared.area.Area.{Area}
@@ -52,6 +53,10 @@ plain strokes = record { strokes = strokes; areas = [] }
 abbrev pub AreApart : ℕ → List Area → Type 0
 AreApart at [] = Unit {0}
 AreApart at (a ∷ more) = (at ≤ a.first) × (a.first < a.end) × AreApart a.end more
+
+-- no area goes on after the first `at` strokes
+abbrev pub NoneGoesOn : ℕ → List Area → Type 0
+NoneGoesOn at areas = All (λ a. a.first < at → a.end ≤ at) areas
 
 -- the first area of which a number is this one
 abbrev pub first_with : (Area → ℕ) → ℕ → List Area → Option Area

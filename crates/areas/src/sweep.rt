@@ -109,8 +109,22 @@ impl AreaSweep {
     }
 }
 
-// Writes the edges that rows from one height down to another may pass, as they are in the first row, and answers how many there are.
+// Writes the edges that rows from one height down to another may pass, as they are in the first row, from the left to the right,
+// and answers how many there are.
 fn gather(edges: &[Stroke], dots: Dots, bottom: i64, top: i64, room: &mut [SweptEdge]) -> usize
+    requires room { length edges.now ≤ length room.old }
+    requires near { nat_abs top ≤ 2 ^ 32 }
+    ensures are { AreSwept dots.resolution edges.entry.now bottom top (take result room.new) }
+    ensures few { result ≤ length edges.entry.now }
+    ensures same { length room.new ≡ length room.old }
+{
+    let count = edges_near(edges, dots, bottom, top, room);
+    room[..count].sort_unstable_by_key(|edge| edge.column);
+    count
+}
+
+// The same in the order of the polygon.
+fn edges_near(edges: &[Stroke], dots: Dots, bottom: i64, top: i64, room: &mut [SweptEdge]) -> usize
     requires room { length edges.now ≤ length room.old }
     requires near { nat_abs top ≤ 2 ^ 32 }
     ensures are { AreSwept dots.resolution edges.entry.now bottom top (take result room.new) }

@@ -1,6 +1,9 @@
 -- What a plot writes: labels, of lines of letters.
 use Rattle.std.specs.Prelude.{ℕ, ◌≤◌, ℤ, pos, neg_ℤ, nat_abs, List, [], ◌∷◌, ◌++◌}
 use Rattle.std.specs.Int.{int_max, int_min}
+use Rattle.std.specs.List.{All}
+use Rattle.areas.specs.declared.area.Area.{Area}
+use Rattle.areas.specs.Shapes.{NoneGoesOn}
 use Rattle.exact.specs.declared.spot.Spot.{Spot}
 use Rattle.plot_page.specs.declared.stroke.TheConstants.{FARTHEST_PLACE}
 use Rattle.labels.specs.declared.place.Place.{Place}
@@ -48,3 +51,7 @@ with_letter l code_point end = record l { text = l.text ++ code_point ∷ []; en
 abbrev pub AreInOrder : ℕ → List LabelShape → Type 0
 AreInOrder at [] = Unit {0}
 AreInOrder at (l ∷ ls) = (at ≤ l.first) × (l.first ≤ l.after) × AreInOrder l.after ls
+
+-- no area goes on where one of these labels begins or ends
+abbrev pub AreBeside : List Area → List LabelShape → Type 0
+AreBeside areas labels = All (λ l. NoneGoesOn l.first areas × NoneGoesOn l.after areas) labels

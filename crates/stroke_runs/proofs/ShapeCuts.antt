@@ -6,12 +6,12 @@ use Rattle.std.proofs.lemmas.List.{drop_all, drop-drop, drop-take, length-take, 
 use Rattle.std.proofs.lemmas.List.Concat.{flat_map-append}
 use Rattle.std.proofs.lemmas.List.Elements.{All-cons, All-filter, All-head, All-nil, All-tail, filter-append}
 use Rattle.std.specs.List.{list_any}
-use Rattle.areas.specs.Shapes.{AreApart, Shape, all_counted, area_shape, areas_from, counted, edges_of, shapes, shapes_after, stroke_shape}
+use Rattle.areas.specs.Shapes.{AreApart, NoneGoesOn, Shape, all_counted, area_shape, areas_from, counted, edges_of, shapes, shapes_after, stroke_shape}
 use Rattle.areas.specs.declared.area.Area.{Area}
 use Rattle.plot_page.specs.Segments.{Segment}
 use Rattle.plot_page.specs.declared.pens.PenSet.{PenSet}
 use Rattle.stroke_runs.specs.Drawn.{begins_drawn, drawn_shapes, is_drawn}
-use Rattle.stroke_runs.specs.Sheets.{NoneGoesOn, between, shapes_between, sheet_areas}
+use Rattle.stroke_runs.specs.Sheets.{between, shapes_between, sheet_areas}
 use Rattle.areas.proofs.Apart.{all_kept, apart_counted, apart_from, counted_from_none}
 
 -- what lies between two places, and what follows

@@ -1,6 +1,5 @@
 -- Sheets: the strokes of a plot, cut where sheets end, and its areas.
-use Rattle.std.specs.Prelude.{ℕ, ◌<◌, ◌≤◌, nat_eq, List, [], ◌∷◌, ◌++◌, length, take, drop, if◌then◌else◌}
-use Rattle.std.specs.List.{All}
+use Rattle.std.specs.Prelude.{ℕ, nat_eq, List, [], ◌∷◌, ◌++◌, length, take, drop, if◌then◌else◌}
 use Rattle.areas.specs.Shapes.{Shape, all_counted, areas_from, shapes_after}
 use Rattle.areas.specs.declared.area.Area.{Area}
 use Rattle.plot_page.specs.Segments.{Segment}
@@ -16,10 +15,6 @@ shapes_between strokes areas at end = shapes_after at (take end strokes) (areas_
 -- the areas of a sheet before which there are so many strokes, and those after them, by the strokes of the sheet
 abbrev pub sheet_areas : ℕ → List Area → List Area
 sheet_areas before areas = all_counted before (areas_from before areas)
-
--- no area goes on after the first `at` strokes
-abbrev pub NoneGoesOn : ℕ → List Area → Type 0
-NoneGoesOn at areas = All (λ a. a.first < at → a.end ≤ at) areas
 
 -- the sheets after the first `at` strokes, by how many strokes there were when each one ended; without strokes there is none
 abbrev pub sheets_after : List Segment → ℕ → List ℕ → List (List Segment)

@@ -8,14 +8,13 @@ use Rattle.std.specs.List.{All}
 use Rattle.std.specs.Ordering.{match_ordering}
 use Rattle.std.specs.declared.cmp.Ordering.{Ordering}
 use Rattle.std.specs.declared.cmp.Ordering.TheVariants.{Less, Equal, Greater}
-use Rattle.areas.specs.Shapes.{AreApart, Shape, shapes, stroke_shape}
+use Rattle.areas.specs.Shapes.{AreApart, NoneGoesOn, Shape, shapes, stroke_shape}
 use Rattle.areas.specs.declared.area.Area.{Area}
 use Rattle.labels.specs.Labels.{LabelShape}
 use Rattle.plot_page.specs.Segments.{Segment}
 use Rattle.plot_page.specs.declared.page.Page.{Page}
 use Rattle.plot_page.specs.declared.pens.PenSet.{PenSet}
 use Rattle.stroke_runs.specs.Drawn.{drawn, drawn_shapes, is_drawn, is_joined}
-use Rattle.stroke_runs.specs.Sheets.{NoneGoesOn}
 use Rattle.stroke_runs.specs.Shown.{is_whole_page, shown_shape, widened}
 use Rattle.svg.specs.declared.places.Place.{Place}
 use Rattle.svg.specs.declared.places.Rectangle.{Rectangle}

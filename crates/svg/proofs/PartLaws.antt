@@ -5,7 +5,7 @@ use Rattle.std.proofs.lemmas.List.{length-take, map-append}
 use Rattle.std.proofs.lemmas.List.Concat.{flat_map-append}
 use Rattle.std.proofs.lemmas.List.Elements.{All-cons, All-drop, All-head, All-nil, All-tail, All-take}
 use Rattle.std.specs.List.{All, list_any}
-use Rattle.areas.specs.Shapes.{AreApart, Shape, areas_from, shapes, stroke_shape}
+use Rattle.areas.specs.Shapes.{AreApart, NoneGoesOn, Shape, areas_from, shapes, stroke_shape}
 use Rattle.areas.specs.declared.area.Area.{Area}
 use Rattle.labels.specs.Labels.{LabelShape}
 use Rattle.labels.specs.Sheets.{all_counted, count_to, counted, labels_to}
@@ -15,7 +15,7 @@ use Rattle.plot_page.specs.declared.pens.PenSet.{PenSet}
 use Rattle.stroke_runs.proofs.ShapeCuts.{cut_shapes, first_shapes, last_shapes, no_more_shapes, none_at_later, none_at_start, none_drawn, none_on_sheet, shapes_from, sheet_apart, sheet_shapes, strokes_between}
 use Rattle.stroke_runs.proofs.ShapeLaws.{drawn_strokes, whole_after}
 use Rattle.stroke_runs.specs.Drawn.{drawn, drawn_shapes, is_drawn}
-use Rattle.stroke_runs.specs.Sheets.{NoneGoesOn, between, shapes_between, sheet_areas}
+use Rattle.stroke_runs.specs.Sheets.{between, shapes_between, sheet_areas}
 use Rattle.stroke_runs.specs.Shown.{is_shown, shown_shape, widened}
 use Rattle.svg.specs.Documents.{foot_text, start_text, svg_bytes}
 use Rattle.svg.specs.Parts.{AreBeside, AreInOrder, Part, Group, cut_label, cut_labels, label_parts, parts, parts_after}

@@ -1,13 +1,12 @@
 -- The parts of a sheet: paths, and groups of the strokes of labels. SVG 1.1, 5.2 and 5.4.
 use Rattle.std.specs.Prelude.{ℕ, max, List, [], ◌∷◌, ◌++◌, flat_map, length, if◌then◌else◌, codes}
-use Rattle.std.specs.List.{All}
 use Rattle.areas.specs.declared.area.Area.{Area}
 use Rattle.labels.specs.Labels.{LabelShape}
-pub use Rattle.labels.specs.Labels.{AreInOrder}
+pub use Rattle.labels.specs.Labels.{AreBeside, AreInOrder}
 use Rattle.plot_page.specs.Segments.{Segment}
 use Rattle.plot_page.specs.declared.page.Page.{Page}
 use Rattle.plot_page.specs.declared.pens.PenSet.{PenSet}
-use Rattle.stroke_runs.specs.Sheets.{NoneGoesOn, shapes_between}
+use Rattle.stroke_runs.specs.Sheets.{shapes_between}
 use Rattle.stroke_runs.specs.Shown.{is_shown}
 use Rattle.svg.specs.Paths.{Path, path_text, paths}
 use Rattle.svg.specs.Titles.{label_text, title_text}
@@ -29,10 +28,6 @@ cut_label at l = record l { first = max at l.first; after = max (max at l.first)
 abbrev pub cut_labels : ℕ → List LabelShape → List LabelShape
 cut_labels at [] = []
 cut_labels at (l ∷ ls) = cut_label at l ∷ cut_labels (cut_label at l).after ls
-
--- no area goes on where one of these labels begins or ends
-abbrev pub AreBeside : List Area → List LabelShape → Type 0
-AreBeside areas labels = All (λ l. NoneGoesOn l.first areas × NoneGoesOn l.after areas) labels
 
 -- a label that is shown is a group
 abbrev pub label_parts : Page → PenSet → List Segment → List Area → LabelShape → List Part

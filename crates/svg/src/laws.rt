@@ -1,10 +1,9 @@
 //! Laws of documents.
 ghost use Rattle.std.specs.Prelude.{◌≡◌, ◌≢◌, Some, [], ◌++◌, filter, flat_map, map};
 ghost use Rattle.std.specs.List.{All, AllPairs};
-ghost use Rattle.areas.specs.Shapes.{shapes, stroke_shape};
+ghost use Rattle.areas.specs.Shapes.{NoneGoesOn, shapes, stroke_shape};
 ghost use Rattle.areas.specs.Views.{areas_in};
 ghost use Rattle.stroke_runs.specs.Drawn.{drawn, drawn_shapes};
-ghost use Rattle.stroke_runs.specs.Sheets.{NoneGoesOn};
 ghost use Rattle.stroke_runs.specs.Shown.{is_shown, shown_shape, widened};
 ghost use Rattle.svg.specs.Clips.{IsAmong, clips_of};
 ghost use Rattle.svg.specs.Documents.{foot_text, sheets_bytes, start_text, svg_bytes};

@@ -1,42 +1,16 @@
-use Rattle.std.proofs.Common.{take, ◌∙◌, arith, rules, FitsSigned}
+use Rattle.std.proofs.Common.{◌≡◌, length, arith, rules, FitsSigned}
 use mir.Syntax.{w64}
 use Rattle.std.proofs.lemmas.Int.{to_z-of_z}
-use Rattle.std.proofs.lemmas.List.{length-set, take_all, take_more_set}
-use Rattle.areas.specs.Sweeps.{AreSwept}
-use Rattle.areas.proofs.Gathered.{near_next, far_next}
+use Rattle.std.proofs.lemmas.List.{length-take}
+use Rattle.areas.proofs.Gathered.{first_part, swept_sorted}
 use Rattle.areas.proofs.sweep.gather.Goals as goal
-use Rattle.areas.proofs.sweep.gather.Goals.{in-Some, in_default}
-
-pub loop-edge-preserved : goal.loop-edge-preserved
-loop-edge-preserved c =
-    let fb : FitsSigned w64 c.args.bottom = search rules in
-    let ft : FitsSigned w64 c.args.top = search rules in
-    let r = c.args.dots.resolution in
-    let edges = c.args.edges.now in
-    let i = c.loop-edge.edge-index in
-    let near = take c.loop-edge.count c.loop-edge.room in
-    let t = c.loop-edge-test.true in
-    let are : AreSwept r (take i edges) c.args.bottom c.args.top near = simp to_z-of_z at c.loop-edge.invariant.0 in
-    let few = c.loop-edge.invariant.1 in
-    let same = c.loop-edge.invariant.2 in
-    elim c.match-swept.branch [
-      | in-Some w ↦ (
-          let is = simp to_z-of_z at w.in-Some.ensures in
-          let next = near_next r c.args.bottom c.args.top edges near i c.edge-item.result w.in-Some.near t c.edge-item.is are is in
-          let m = take_more_set c.loop-edge.room c.loop-edge.count w.in-Some.near (omega (arith, few, same, t, c.requires.room)) in
-          simp to_z-of_z (rw (w.room-is, w.count-is, m) (next, omega (arith, few), length-set c.loop-edge.room c.loop-edge.count w.in-Some.near ∙ same))
-          )
-      | in_default w ↦ (
-          let is = simp to_z-of_z at w.in_default.ensures in
-          let next = far_next r c.args.bottom c.args.top edges near i c.edge-item.result t c.edge-item.is are is in
-          simp to_z-of_z (rw (w.room-is, w.count-is) (next, omega (arith, few), same))
-          )
-    ]
 
 pub returns-clause-are : goal.returns-clause-are
 returns-clause-are c =
-    let all = take_all c.loop-edge.edge-index c.args.edges.now (omega (arith, c.loop-edge-test.false)) in
     let fb : FitsSigned w64 c.args.bottom = search rules in
     let ft : FitsSigned w64 c.args.top = search rules in
-    let are = simp to_z-of_z at c.loop-edge.invariant.0 in
-    rw all at are
+    let ns = c.sort_unstable_by_key.new.self in
+    let n = c.edges_near-count.result in
+    let long : length ns ≡ n = omega (arith, c.sort_unstable_by_key.ensures.len, length-take n c.edges_near-count.new.room, c.edges_near-count.ensures.same, c.edges_near-count.ensures.few, c.requires.room) in
+    let are = simp to_z-of_z at c.edges_near-count.ensures.are in
+    rw (first_part ns _ n long) (swept_sorted c.args.dots.resolution c.args.edges.now c.args.bottom c.args.top _ ns are c.sort_unstable_by_key.ensures.permutation)

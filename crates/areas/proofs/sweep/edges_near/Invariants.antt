@@ -1,6 +1,6 @@
 use Rattle.std.proofs.Common.{◌≡◌, ◌≤◌, length, take}
 use Rattle.areas.specs.Sweeps.{AreSwept}
-use Rattle.areas.proofs.sweep.gather.Given as goal
+use Rattle.areas.proofs.sweep.edges_near.Given as goal
 
 -- what is written are those of the edges so far
 abbrev pub invariant-loop-edge : goal.invariant-loop-edge
