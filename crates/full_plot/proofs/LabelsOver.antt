@@ -1,5 +1,5 @@
 -- The labels of items, one item after another.
-use Rattle.std.proofs.Common.{◌≡◌, ◌∙◌, ℕ, ap, ap₂, sym, refl, Bool, true, false, List, [], ◌∷◌, ◌++◌, Option, Some, None, Ok, Err}
+use Rattle.std.proofs.Common.{◌≡◌, ◌∙◌, ℕ, ap, ap₂, sym, refl, Bool, true, false, List, [], ◌∷◌, ◌++◌, append-nil, Option, Some, None, Ok, Err}
 use Rattle.std.specs.Prelude.{if◌then◌else◌}
 use native.Mathlib.Nat.{sub-zero}
 use Rattle.std.proofs.lemmas.List.{append_assoc}
@@ -31,6 +31,10 @@ kept_append : (keeps : Bool) (a b : List LabelShape) → labels_kept keeps (a ++
 kept_append true a b = refl
 kept_append false a b = refl
 
+none_kept : (keeps : Bool) → labels_kept keeps [] ≡ []
+none_kept true = refl
+none_kept false = refl
+
 -- labels that are there, with those of an item and of those after it
 pub kept_past : (keeps : Bool) (w v : FullWorld) (i : ItemShape) (more : List ItemShape) (before after : List LabelShape) → full_runs w (i ∷ []) ≡ Ok v
     → after ≡ before ++ labels_kept keeps (label_between w i.body v)
@@ -41,6 +45,16 @@ kept_past keeps w v i more before after h e =
     ∙ ap (λ (ls : List LabelShape). before ++ ls)
     (sym (kept_append keeps (label_between w i.body v) (labels_from v more))
     ∙ ap (labels_kept keeps) (sym (labels_past w v i more h)))
+
+-- after all items
+pub kept_at_end : (keeps : Bool) (w : FullWorld) (items : List ItemShape) (before all : List LabelShape) → items ≡ []
+    → before ++ labels_kept keeps (labels_from w items) ≡ all → before ≡ all
+kept_at_end keeps w items before all e h =
+    let none : labels_kept keeps [] ≡ [] = none_kept keeps in
+    sym (append-nil before)
+    ∙ ap (λ (ls : List LabelShape). before ++ ls) (sym none)
+    ∙ ap (λ (is : List ItemShape). before ++ labels_kept keeps (labels_from w is)) (sym e)
+    ∙ h
 
 -- labels by the strokes of all sheets
 same_count : (l : LabelShape) → counted 0 l ≡ l

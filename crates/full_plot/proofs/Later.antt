@@ -1,9 +1,11 @@
--- What all steps leave alone: how items are read, that no more strokes are kept than a plot may have, and that the sheets
--- that have ended and the areas are parts of them, in order, whose edges are alike.
+-- What all steps leave alone: how items are read, that no more strokes are kept than a plot may have, that the sheets that
+-- have ended and the areas are parts of them, in order, that the edges of an area are alike, and that no area goes on where one
+-- did not.
 use Rattle.std.proofs.Common.{◌≡◌, ◌∙◌, ◌≤◌, ℕ, refl, subst, arith, Bool, true, false, List, [], ◌∷◌, length, map, Result, Ok, Err, Option, Some, None}
 use Rattle.std.specs.Prelude.{if◌then◌else◌, ⊤}
 use Rattle.std.specs.List.{All}
-use Rattle.areas.specs.Shapes.{AreApart, edges_of}
+use Rattle.std.proofs.lemmas.List.Elements.{All-nil}
+use Rattle.areas.specs.Shapes.{AreApart, NoneGoesOn, edges_of}
 use Rattle.areas.specs.declared.area.Area.{Area}
 use Rattle.carousel.specs.declared.carousel.Carousel.{Carousel}
 use Rattle.character_sets.specs.declared.encoding.Encoding.{Encoding}
@@ -30,27 +32,31 @@ use Rattle.full_plot.specs.Worlds.{FullWorld}
 use Rattle.full_plot.proofs.AlikeEdges.{alike_added, spans_inked, thin_look}
 use Rattle.full_plot.proofs.AreasHave.{GoesOn, Have, all_have, have_on, on_kept, on_none, on_then}
 use Rattle.full_plot.proofs.AreasInOrder.{AreUpTo, are_apart, are_within, up_to_added, up_to_more}
+use Rattle.full_plot.proofs.BesideAreas.{NoneAtEnds, none_at_ends_with_later, none_at_next_end, none_with_later}
 use Rattle.full_plot.proofs.Changes.{In}
 use Rattle.full_plot.proofs.FittingSteps.{all_fit}
 use Rattle.full_plot.proofs.FullChanges.{Changes, run_holds}
 use Rattle.full_plot.proofs.JoinedSheets.{Ascend, are_sheets, ascend_on, ascend_with}
 use Rattle.full_plot.proofs.Nexts.{Grows, few_kept}
-use Rattle.full_plot.proofs.RoundEdges.{no_area}
+use Rattle.full_plot.proofs.RoundEdges.{no_area, no_end}
 
--- these strokes are no more than a plot may have, the ends of sheets ascend up to them, as areas do, and the edges of an area are
--- alike
+-- these strokes are no more than a plot may have, the ends of sheets ascend up to them, as areas do, the edges of an area are
+-- alike, and no area goes on where a sheet ends
 abbrev InOrder : List ℕ → List Area → List Segment → Type 0
-InOrder ends areas kept = (length kept ≤ 4194304) × Ascend 0 ends (length kept) × AreUpTo 0 areas (length kept) × Have AreAlike kept areas
+InOrder ends areas kept =
+    (length kept ≤ 4194304) × Ascend 0 ends (length kept) × AreUpTo 0 areas (length kept) × Have AreAlike kept areas
+    × NoneAtEnds ends areas
 
-abbrev IsInOrder : FullWorld → Type 0
+abbrev pub IsInOrder : FullWorld → Type 0
 IsInOrder w = InOrder w.ends w.areas w.core.kept
 
 -- a later world
-record IsLater (w v : FullWorld) : Type 0 where
-  context_is : v.context ≡ w.context
-  in_order : IsInOrder w → IsInOrder v
-  grows : length w.core.kept ≤ length v.core.kept
-  goes_on : GoesOn w.core.kept v.core.kept
+pub record IsLater (w v : FullWorld) : Type 0 where
+  pub context_is : v.context ≡ w.context
+  pub in_order : IsInOrder w → IsInOrder v
+  pub grows : length w.core.kept ≤ length v.core.kept
+  pub goes_on : GoesOn w.core.kept v.core.kept
+  pub none_goes_on : (n : ℕ) → n ≤ length w.core.kept → NoneGoesOn n w.areas → NoneGoesOn n v.areas
 
 later_then : (w v u : FullWorld) → IsLater w v → IsLater v u → IsLater w u
 later_then w v u h k = record {
@@ -58,6 +64,7 @@ later_then w v u h k = record {
   in_order = λ order. k.in_order (h.in_order order);
   grows = omega (arith, h.grows, k.grows);
   goes_on = on_then w.core.kept v.core.kept u.core.kept h.goes_on k.goes_on;
+  none_goes_on = λ n before none. k.none_goes_on n (omega (arith, before, h.grows)) (h.none_goes_on n before none);
 }
 
 later_drawn : (w : FullWorld) (s : State) (ss : List Segment) (r : Option Run) → IsLater w (record w { core = core.with_strokes w.core s ss; run = r })
@@ -66,22 +73,38 @@ later_drawn w s ss r =
     let on : GoesOn w.core.kept (core.kept_with w.core.kept w.core.full ss) = on_kept w.core.kept w.core.full ss in
     record {
       context_is = refl;
-      in_order = λ h. (g.1 h.0, ascend_on 0 w.ends _ _ g.0 h.1, up_to_more 0 w.areas _ _ g.0 h.2, have_on AreAlike _ _ w.areas on h.3);
+      in_order = λ h. (g.1 h.0, ascend_on 0 w.ends _ _ g.0 h.1, up_to_more 0 w.areas _ _ g.0 h.2, have_on AreAlike _ _ w.areas on h.3, h.4);
       grows = g.0;
       goes_on = on;
+      none_goes_on = λ n before none. none;
     }
 
 later_aside : (w v : FullWorld) → v.context ≡ w.context → v.core.kept ≡ w.core.kept → v.ends ≡ w.ends → v.areas ≡ w.areas → IsLater w v
-later_aside w v c k e a = record { context_is = c; in_order = λ h. rw (k, e, a) h; grows = rw k (omega arith); goes_on = rw k (on_none w.core.kept) }
+later_aside w v c k e a = record {
+  context_is = c;
+  in_order = λ h. rw (k, e, a) h;
+  grows = rw k (omega arith);
+  goes_on = rw k (on_none w.core.kept);
+  none_goes_on = λ n before none. rw a none;
+}
 
 later_ended : (w : FullWorld) → IsLater w (record w { ends = ends_with w.ends (length w.core.kept) })
-later_ended w = record { context_is = refl; in_order = λ h. (h.0, ascend_with w.ends (length w.core.kept) h.1, h.2, h.3); grows = omega arith; goes_on = on_none w.core.kept }
+later_ended w =
+    let count : ℕ = length w.core.kept in
+    record {
+      context_is = refl;
+      in_order = λ h. (h.0, ascend_with w.ends count h.1, h.2, h.3, none_at_next_end w.ends w.areas count h.2 h.4);
+      grows = omega arith;
+      goes_on = on_none w.core.kept;
+      none_goes_on = λ n before none. none;
+    }
 
 later_area : (w : FullWorld) (rule : Rule) → IsLater w (edges_inked w) → IsLater w (solid_filled rule w)
 later_area w rule h =
     let v : FullWorld = edges_inked w in
     let spans : List Span = map edge_span w.buffer.edges in
     let a : v.areas ≡ w.areas = no_area spans w in
+    let e : v.ends ≡ w.ends = no_end spans w in
     record {
       context_is = h.context_is;
       in_order = λ order.
@@ -91,9 +114,11 @@ later_area w rule h =
             after.1,
             up_to_added 0 v.areas (length w.core.kept) (length v.core.kept) rule h.grows (rw a order.2),
             alike_added w.core.kept v.core.kept v.areas rule (thin_look w.core.state) refl (spans_inked spans w) alike,
+            none_at_ends_with_later v.ends v.areas (length w.core.kept) (length v.core.kept) rule (rw e order.1) after.4,
           );
       grows = h.grows;
       goes_on = h.goes_on;
+      none_goes_on = λ n before none. none_with_later n v.areas (length w.core.kept) (length v.core.kept) rule before (rw a none);
     }
 
 later_changes : Changes IsLater ⊤
@@ -107,10 +132,10 @@ later_changes = record {
 }
 
 -- an item leaves the context after it, no more strokes than a plot may have, and sheets in order
-abbrev IsAfter : FullWorld → BodyShape → FullWorld → Type 0
+abbrev pub IsAfter : FullWorld → BodyShape → FullWorld → Type 0
 IsAfter w b v = IsLater (record w { context = context_after w.context b }) v
 
-after_item : (w : FullWorld) (b : BodyShape) → In (IsAfter w b) (taken w b)
+pub after_item : (w : FullWorld) (b : BodyShape) → In (IsAfter w b) (taken w b)
 after_item w b =
     let within : FullWorld = record w { context = context_after w.context b } in
     run_holds later_changes (full_steps w.context (read_in w.context b)) within (λ e. tt) (all_fit w.context b)
@@ -155,11 +180,14 @@ order_by_items [] w h = h
 order_by_items (i ∷ more) w h =
     order_ended w i.body (taken w i.body) i.at more (after_item w i.body) h (λ (v : FullWorld) (k : IsInOrder v). order_by_items more v k)
 
+pub at_start_in_order : (encoding : Encoding) (carousel : Carousel) (page : Page) → IsInOrder (full_at_start_with encoding carousel page)
+at_start_in_order encoding carousel page = (omega arith, omega arith, omega arith, tt, All-nil (λ (end : ℕ). NoneGoesOn end []))
+
 -- a plot that is accepted
 in_order_at_end : (encoding : Encoding) (carousel : Carousel) (page : Page) (items : List ItemShape) (v : FullWorld)
     → full_runs (full_at_start_with encoding carousel page) items ≡ Ok v → IsInOrder v
 in_order_at_end encoding carousel page items v e =
-    subst InOrderAfter e (order_by_items items (full_at_start_with encoding carousel page) (omega arith, omega arith, omega arith, tt))
+    subst InOrderAfter e (order_by_items items (full_at_start_with encoding carousel page) (at_start_in_order encoding carousel page))
 
 pub few_strokes : (encoding : Encoding) (carousel : Carousel) (page : Page) (items : List ItemShape) (v : FullWorld)
     → full_runs (full_at_start_with encoding carousel page) items ≡ Ok v → length v.core.kept ≤ 4194304
@@ -180,6 +208,11 @@ pub areas_alike : (encoding : Encoding) (carousel : Carousel) (page : Page) (ite
     → full_runs (full_at_start_with encoding carousel page) items ≡ Ok v → All (λ (a : Area). AreAlike (edges_of v.core.kept a)) v.areas
 areas_alike encoding carousel page items v e = all_have AreAlike v.core.kept v.areas (in_order_at_end encoding carousel page items v e).3
 
+-- and none of them goes on where a sheet ends
+pub no_area_at_ends : (encoding : Encoding) (carousel : Carousel) (page : Page) (items : List ItemShape) (v : FullWorld)
+    → full_runs (full_at_start_with encoding carousel page) items ≡ Ok v → All (λ (end : ℕ). NoneGoesOn end v.areas) v.ends
+no_area_at_ends encoding carousel page items v e = (in_order_at_end encoding carousel page items v e).4
+
 -- the sheets of a plot that is refused, too
 sheets_in_order : (r : Result FullWorld PlotFault) → InOrderAfter r → AreSheets (strokes_in r) (ends_in r)
 sheets_in_order (Ok w) h = are_sheets w.core.kept w.ends h.1
@@ -188,7 +221,7 @@ sheets_in_order (Err e) h = are_sheets [] [] (omega arith)
 pub sheets_joined : SheetsJoin
 sheets_joined encoding carousel page plot =
     sheets_in_order (outcome_with encoding carousel page plot)
-    (order_by_items (cut_by Full plot) (full_at_start_with encoding carousel page) (omega arith, omega arith, omega arith, tt))
+    (order_by_items (cut_by Full plot) (full_at_start_with encoding carousel page) (at_start_in_order encoding carousel page))
 
 -- an item that is carried out makes no stroke fewer
 pub no_fewer : (w v : FullWorld) (b : BodyShape) → taken w b ≡ Some v → length w.core.kept ≤ length v.core.kept

@@ -14,6 +14,7 @@ pub mod FullChanges
 pub mod Nexts
 pub mod JoinedSheets
 pub mod AreasInOrder
+pub mod BesideAreas
 pub mod AreasHave
 pub mod AlikeEdges
 pub mod Aside
@@ -22,6 +23,7 @@ mod FittingSteps
 pub mod Later
 mod RoundAreas
 pub mod OrderedLabels
+pub mod BesideLabels
 pub mod LabelsOver
 pub mod CoreNotes
 pub mod CoreLabels

@@ -1,5 +1,5 @@
 -- The labels of a plot are in order.
-use Rattle.std.proofs.Common.{◌≡◌, ◌≤◌, ℕ, inl, inr, refl, arith, List, [], ◌∷◌, ◌++◌, length, nat_eq, nat_lt, Option, Some, None}
+use Rattle.std.proofs.Common.{◌≡◌, ◌≤◌, ℕ, inl, inr, refl, arith, Bool, true, false, List, [], ◌∷◌, ◌++◌, length, nat_eq, nat_lt, Option, Some, None}
 use Rattle.std.proofs.lemmas.Bool.{cases_Bool}
 use Rattle.hpgl_text.specs.Cut.{cut_by}
 use Rattle.hpgl_text.specs.Shapes.{BodyShape, ItemShape}
@@ -7,7 +7,7 @@ use Rattle.hpgl_text.specs.declared.profile.Profile.TheVariants.{Full}
 use Rattle.labels.specs.Labels.{AreInOrder, LabelShape, LineShape}
 use Rattle.full_plot.specs.Drawings.{full_at_start_with}
 use Rattle.full_plot.specs.Items.{taken}
-use Rattle.full_plot.specs.Labels.{label_of, labels_by, labels_from, lines_of, text_written}
+use Rattle.full_plot.specs.Labels.{label_of, labels_by, labels_from, labels_kept, lines_of, text_written}
 use Rattle.full_plot.specs.Laws.{LabelsAreInOrder}
 use Rattle.full_plot.specs.Worlds.{FullWorld}
 use Rattle.full_plot.proofs.Later.{no_fewer}
@@ -43,3 +43,8 @@ by_items (i ∷ more) at w h =
 pub labels_ordered : LabelsAreInOrder
 labels_ordered encoding carousel page plot =
     by_items (cut_by Full plot) 0 (full_at_start_with encoding carousel page) (omega arith)
+
+-- those that are kept, or none
+pub kept_ordered : (keeps : Bool) (ls : List LabelShape) → AreInOrder 0 ls → AreInOrder 0 (labels_kept keeps ls)
+kept_ordered true ls h = h
+kept_ordered false ls h = tt

@@ -98,3 +98,12 @@ no_area_if false w v h = h
 pub no_area : (ps : List Span) (w : FullWorld) → (over_spans (Width 0) w ps).areas ≡ w.areas
 no_area [] w = refl
 no_area (p ∷ ps) w = no_area_if w.core.full w (over_spans (Width 0) (inked_span 0 w p) ps) (no_area ps (inked_span 0 w p))
+
+-- nor the end of a sheet
+no_end_if : (full : Bool) (w v : FullWorld) → v.ends ≡ w.ends → (unless full w v).ends ≡ w.ends
+no_end_if true w v h = refl
+no_end_if false w v h = h
+
+pub no_end : (ps : List Span) (w : FullWorld) → (over_spans (Width 0) w ps).ends ≡ w.ends
+no_end [] w = refl
+no_end (p ∷ ps) w = no_end_if w.core.full w (over_spans (Width 0) (inked_span 0 w p) ps) (no_end ps (inked_span 0 w p))

@@ -2,7 +2,8 @@
 ghost use Rattle.std.specs.Prelude.{◌≡◌, ◌≤◌, None, OnOk, IfOk, IfErr, length};
 ghost use Rattle.std.specs.List.{All};
 ghost use Rattle.areas.specs.Laws.{AreRound};
-ghost use Rattle.areas.specs.Shapes.{AreApart, edges_of};
+ghost use Rattle.areas.specs.Shapes.{AreApart, NoneGoesOn, edges_of};
+ghost use Rattle.labels.specs.Labels.{AreBeside, AreInOrder};
 ghost use Rattle.plot_page.specs.declared.stroke.TheConstants.{MOST_STROKES};
 ghost use Rattle.hpgl_text.specs.Cut.{cut_by};
 ghost use Rattle.hpgl_text.specs.declared.profile.Profile.TheVariants.{Full};
@@ -61,6 +62,7 @@ pub fn draw_full(alloc: Global, text: &[u8], page: &Page) -> Result<FullDrawn, P
         (λ drawn. All (λ area. AreAlike (edges_of drawn.strokes.items area)) drawn.areas.items) }
     ensures round { IfOk result
         (λ drawn. All (λ area. AreRound (edges_of drawn.strokes.items area)) drawn.areas.items) }
+    ensures ends_beside { IfOk result (λ drawn. All (λ end. NoneGoesOn end drawn.areas.items) drawn.ends.items) }
     ensures notes { IfOk result (λ drawn. drawn.notes ≡ length (notes.notes (cut_by Full text.now))) }
     ensures limit { IfOk result (λ drawn. length drawn.strokes.items ≤ MOST_STROKES) }
     ensures refused { IfErr result (λ fault. Explains fault (outcome page.now text.now)) }
@@ -100,10 +102,13 @@ pub fn draw_full_with(
         (λ drawn. All (λ area. AreAlike (edges_of drawn.strokes.items area)) drawn.areas.items) }
     ensures round { IfOk result
         (λ drawn. All (λ area. AreRound (edges_of drawn.strokes.items area)) drawn.areas.items) }
+    ensures ends_beside { IfOk result (λ drawn. All (λ end. NoneGoesOn end drawn.areas.items) drawn.ends.items) }
     ensures notes { IfOk result (λ drawn. drawn.notes ≡ length (notes.notes (cut_by Full text.now))) }
     ensures limit { IfOk result (λ drawn. length drawn.strokes.items ≤ MOST_STROKES) }
     ensures labels { IfOk result (λ drawn. drawn.labels.items
         ≡ labels_kept keeps_labels (labels_of encoding carousel.now page.now text.now)) }
+    ensures labels_beside { IfOk result (λ drawn. AreBeside drawn.areas.items drawn.labels.items) }
+    ensures labels_in_order { IfOk result (λ drawn. AreInOrder 0 drawn.labels.items) }
     ensures refused { IfErr result (λ fault. Explains fault (outcome_with encoding carousel.now page.now text.now)) }
 {
     let mut items = Items::by_profile(Profile::Full, text);

@@ -9,9 +9,11 @@ use Rattle.full_plot.specs.Machine.{seen}
 use Rattle.full_notes.specs.Contexts.{Context}
 use Rattle.full_notes.specs.Notes.{body_noted, context_after, notes_from}
 use Rattle.full_notes.proofs.FewNotes.{few_notes}
-use Rattle.full_plot.specs.Labels.{labels_from, labels_kept}
-use Rattle.full_plot.proofs.LabelsOver.{kept_past}
-use Rattle.full_plot.proofs.Later.{areas_alike, areas_apart, areas_within, carried_out, few_strokes, told_as_set}
+use Rattle.full_plot.specs.Labels.{labels_from, labels_kept, labels_of}
+use Rattle.full_plot.proofs.BesideLabels.{labels_beside}
+use Rattle.full_plot.proofs.LabelsOver.{kept_at_end, kept_past}
+use Rattle.full_plot.proofs.Later.{areas_alike, areas_apart, areas_within, carried_out, few_strokes, no_area_at_ends, told_as_set}
+use Rattle.full_plot.proofs.OrderedLabels.{kept_ordered, labels_ordered}
 use Rattle.full_plot.proofs.RoundAreas.{areas_round}
 use Rattle.full_plot.proofs.drawn.draw_full_with.Goals as goal
 
@@ -84,3 +86,24 @@ pub returns-clause-round : goal.returns-clause-round
 returns-clause-round c =
     areas_round c.args.encoding c.args.carousel.now c.args.page.now (cut_by Full c.args.text.now) (seen c.items.plotter)
     (sym c.items.invariant.same ∙ ap (λ (rest : List ItemShape). full_runs (seen c.items.plotter) rest) c.in_default.ensures.steps.0)
+
+pub returns-clause-ends_beside : goal.returns-clause-ends_beside
+returns-clause-ends_beside c =
+    no_area_at_ends c.args.encoding c.args.carousel.now c.args.page.now (cut_by Full c.args.text.now) (seen c.items.plotter)
+    (sym c.items.invariant.same ∙ ap (λ (rest : List ItemShape). full_runs (seen c.items.plotter) rest) c.in_default.ensures.steps.0)
+
+pub returns-clause-labels_beside : goal.returns-clause-labels_beside
+returns-clause-labels_beside c =
+    let all : c.items.labels.items ≡ labels_kept c.args.keeps_labels (labels_of c.args.encoding c.args.carousel.now c.args.page.now c.args.text.now) =
+    kept_at_end c.args.keeps_labels (seen c.items.plotter) c.items.items c.items.labels.items _ c.in_default.ensures.steps.0 c.items.invariant.labelled in
+    rw all
+    (labels_beside c.args.keeps_labels c.args.encoding c.args.carousel.now c.args.page.now c.args.text.now (seen c.items.plotter)
+    (sym c.items.invariant.same ∙ ap (λ (rest : List ItemShape). full_runs (seen c.items.plotter) rest) c.in_default.ensures.steps.0))
+
+pub returns-clause-labels_in_order : goal.returns-clause-labels_in_order
+returns-clause-labels_in_order c =
+    let all : c.items.labels.items ≡ labels_kept c.args.keeps_labels (labels_of c.args.encoding c.args.carousel.now c.args.page.now c.args.text.now) =
+    kept_at_end c.args.keeps_labels (seen c.items.plotter) c.items.items c.items.labels.items _ c.in_default.ensures.steps.0 c.items.invariant.labelled in
+    rw all
+    (kept_ordered c.args.keeps_labels (labels_of c.args.encoding c.args.carousel.now c.args.page.now c.args.text.now)
+    (labels_ordered c.args.encoding c.args.carousel.now c.args.page.now c.args.text.now))
