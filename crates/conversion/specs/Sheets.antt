@@ -1,10 +1,12 @@
 -- The picture of shapes of a drawing: of all of them, or of those of one sheet.
 use Rattle.std.specs.Prelude.{◌≡◌, ℕ, List, length, Result, Ok, Err}
-use Rattle.areas.specs.Shapes.{ShapeList, stroke_count}
+use Rattle.std.specs.List.{All}
+use Rattle.areas.specs.Laws.{AreRound}
+use Rattle.areas.specs.Shapes.{NoneGoesOn, ShapeList, edges_of, stroke_count}
 use Rattle.areas.specs.declared.area.Area.{Area}
-use Rattle.full_plot.specs.Drawings.{areas_of_sheet, sheet_strokes}
+use Rattle.full_plot.specs.Drawings.{AreAlike, areas_of_sheet, sheet_strokes}
 use Rattle.full_plot.specs.Labels.{labels_of_sheet}
-use Rattle.labels.specs.Labels.{LabelShape}
+use Rattle.labels.specs.Labels.{AreBeside, LabelShape}
 use Rattle.plot_page.specs.Segments.{Segment}
 use Rattle.plot_page.specs.declared.pens.PenSet.{PenSet}
 use Rattle.page_fit.specs.Shapes.{shapes_census}
@@ -14,6 +16,7 @@ use Rattle.picture_job.specs.declared.page_choice.PageChoice.{PageChoice}
 use Rattle.picture_job.specs.declared.smoothing.Smoothing.{Smoothing}
 use Rattle.devices.specs.Sinks.{SinkState}
 use Rattle.conversion.specs.PageJobs.{on_page, rows_on, times_on}
+use Rattle.conversion.specs.Rules.{ends_of}
 use Rattle.rows.specs.Documents.{HasPaintedPng, picture_shown}
 use Rattle.conversion.specs.PageJobs.{png_on_page, png_rows_on}
 use Rattle.rows.specs.Pictures.{Reach}
@@ -43,6 +46,19 @@ abbrev pub labels_on : Drawing → ℕ → List LabelShape
 labels_on drawing sheet =
     let lines = drawing.lines in
     labels_of_sheet lines.labels.items lines.ends.items (length lines.strokes.items) sheet
+
+-- shapes and labels, among whose strokes sheets end there: no area goes on where a sheet ends, or where a label begins or ends, and
+-- the edges of each are alike, and lead round closed polygons
+pub record AreWhole (shapes : ShapeList) (ends : List ℕ) (labels : List LabelShape) : Type 0 where
+  pub ends_beside : All (λ end. NoneGoesOn end shapes.areas) ends
+  pub labels_beside : AreBeside shapes.areas labels
+  pub round : All (λ area. AreRound (edges_of shapes.strokes area)) shapes.areas
+  pub alike : All (λ area. AreAlike (edges_of shapes.strokes area)) shapes.areas
+
+-- those of a sheet of a drawing
+abbrev pub AreWholeOn : Drawing → ℕ → Type 0
+AreWholeOn drawing sheet =
+    AreWhole (shapes_on drawing sheet) (ends_of sheet drawing.lines.ends.items) (labels_on drawing sheet)
 
 -- an outcome tells of these shapes of a drawing, of which the selected pens' are seen
 pub record TellsOf (drawing : Drawing) (pens : PenSet) (shapes : ShapeList) (outcome : Outcome) : Type 0 where

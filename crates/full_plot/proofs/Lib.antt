@@ -21,7 +21,7 @@ pub mod Aside
 pub mod RoundEdges
 mod FittingSteps
 pub mod Later
-mod RoundAreas
+pub mod RoundAreas
 pub mod OrderedLabels
 pub mod BesideLabels
 pub mod LabelsOver
