@@ -18,8 +18,8 @@ _plotraster() {
             draw) options="$options --size --smooth --form --quiet" ;;
             png) options="$options --smooth" ;;
             pdf | svg) ;;
-            ppm) options="$options --smooth --band --from" ;;
-            *) options="$options --band --from" ;;
+            ppm) options="$options --smooth --band --from --rows" ;;
+            *) options="$options --band --from --rows" ;;
         esac
         case "$before" in
             --dots)
@@ -38,7 +38,7 @@ _plotraster() {
                 COMPREPLY=($(compgen -W "png pdf svg ppm pbm pcl marks" -- "$word"))
                 return
                 ;;
-            --size | --smooth | --band | --from) return ;;
+            --size | --smooth | --band | --from | --rows) return ;;
         esac
     fi
     case "$before" in

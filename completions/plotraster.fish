@@ -62,5 +62,6 @@ __plotraster_option draw -x -l form -a 'png pdf svg ppm pbm pcl marks' -d 'Form 
 __plotraster_option draw -l quiet -d 'Show no progress, and do not say that little or nothing is drawn'
 __plotraster_option "$rows" -x -l band -d 'Most rows of pixels painted at a time'
 __plotraster_option "$rows" -x -l from -d 'First row of pixels to write, counted from 0 at the top'
+__plotraster_option "$rows" -x -l rows -d 'Most rows of pixels to write'
 
 functions --erase __plotraster_option __plotraster_command

@@ -73,6 +73,7 @@ _plotraster() {
             options+=(
                 '--band=[Most rows of pixels painted at a time]:ROWS: '
                 '--from=[First row of pixels to write, counted from 0 at the top]:ROW: '
+                '--rows=[Most rows of pixels to write]:ROWS: '
             )
             ;;
     esac

@@ -364,7 +364,7 @@ def resumed(made, jobs):
 
 
 def parts(made):
-    page = ["--width", str(A0[0]), "--height", str(A0[1]), "--dots", "600"]
+    page = ["--page", "a0", "--dots", "600"]
     if made.read("plan.pbm") != made.run("pbm", *page, "plan.plt"):
         yield "the joined picture is not the whole one"
     if made.output or any(name.startswith("strip.") for name in os.listdir(made.folder)):

@@ -281,7 +281,7 @@ def names_a_file(words):
         return True
     takes_value = {
         "--width", "--height", "--page", "--left", "--below", "--rotate", "--profile", "--sheet", "--characters", "--dots",
-        "--pens", "--band", "--from",
+        "--pens", "--band", "--from", "--rows",
     }
     free = [it for before, it in zip(split, split[1:]) if not it.startswith("-") and before not in takes_value]
     return bool(free) or "--help" in split

@@ -41,7 +41,7 @@ def test_refusals(program, tmp_path, command, words, plot, ends):
 
 @pytest.mark.parametrize("command", DOCUMENTS)
 def test_options_of_rows(program, command):
-    for word in ("--from=0", "--from=5", "--band=64"):
+    for word in ("--from=0", "--from=5", "--rows=1", "--band=64"):
         status, message = ends_of(program, [command, word], LINE)
         assert status == 2 and message.startswith(b"error: ")
 

@@ -26,7 +26,7 @@ WINDOWED, WHITENED = ("figures", "windows"), ("ribbon",)
 TURNED = ("flange", "districts", "lettering")
 # A pixel at 254 dots per inch is 4 units: the page, a window in it, one in that and beyond, and one of a pixel.
 WINDOWS = [(0, 0, 2032, 1016), (400, 200, 1600, 800), (800, 0, 1200, 1016), (804, 4, 808, 8)]
-OF_PIXELS = {"--dots", "--smooth", "--size", "--band", "--from"}
+OF_PIXELS = {"--dots", "--smooth", "--size", "--band", "--from", "--rows"}
 
 
 @pytest.fixture(autouse=True)

@@ -71,7 +71,7 @@ PAPERS = [
     "a0", "a1", "a2", "a3", "a4", "a5", "b4", "letter", "legal", "tabloid",
     "ansi-a", "ansi-b", "ansi-c", "ansi-d", "ansi-e", "arch-d", "arch-e",
 ]
-PICTURE_RANGES = {"--dots": (10, 1200), "--band": (1, 4096), "--from": (0, 99999)}
+PICTURE_RANGES = {"--dots": (10, 1200), "--band": (1, 4096), "--from": (0, 99999), "--rows": (1, 400000)}
 RANGES = {**PAGE_RANGES, **PICTURE_RANGES}
 PCL_DOTS = [75, 100, 150, 200, 300, 600]
 # As many letters as Linux lets a word have, nearly.
@@ -204,7 +204,7 @@ def options_of_pictures():
         for word in ["--dots=100", "--progress"]:
             yield [command, word], USAGE
             yield [command, "line.plt", *word.split("=")], USAGE
-    for word in ["--dots=100", "--pens=all", "--band=64", "--from=0"]:
+    for word in ["--dots=100", "--pens=all", "--band=64", "--from=0", "--rows=1"]:
         yield ["report", word], USAGE
         yield ["report", *word.split("="), "line.plt"], USAGE
         yield ["report", "line.plt", word], USAGE
@@ -226,7 +226,7 @@ def smoothing():
     for command in [*VECTORS, "marks", "pbm", "pcl", "report"]:
         yield [command, "--smooth=1"], USAGE
     for command in DOCUMENTS:
-        for word in ["--from=0", "--band=64"]:
+        for word in ["--from=0", "--rows=1", "--band=64"]:
             yield [command, word], USAGE
             yield [command, "line.plt", *word.split("=")], USAGE
 
@@ -297,7 +297,7 @@ def drawings():
         yield ["draw", "line.plt", *words], DONE
         yield ["draw", "line.plt", *words, "--margin=5"], NO_FIT
         yield ["draw", "line.plt", *words, "--margin=5", "--fit"], DONE
-    for words in [["--band=64"], ["--from=0"], ["--form=png"] * 2, ["--quiet"] * 2, ["--quiet=1"], ["--form"]]:
+    for words in [["--band=64"], ["--from=0"], ["--rows=1"], ["--form=png"] * 2, ["--quiet"] * 2, ["--quiet=1"], ["--form"]]:
         yield ["draw", "line.plt", *words], USAGE
     for command in COMMANDS:
         for word in ["--form=png", "--quiet"]:

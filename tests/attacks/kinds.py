@@ -68,7 +68,7 @@ def check_right(bench, ran, command, options, dice):
         return
     must(may_say_more(command, options) or not ran.errors, ends(ran))
     form = form_of(command, options)
-    check(form, ran.output, size_of(options), int(options.get("from", 0)) == 0)
+    check(form, ran.output, size_of(options), has_all_rows(options))
     if form in READERS and dice.random() < SAMPLE:
         must(is_read(READERS[form], bench.got), f"{READERS[form][0]} refuses it")
 
@@ -82,6 +82,11 @@ def may_say_more(command, options):
     """Whether something may be said of an output that is written."""
     has_sheets = options.get("profile", "full" if command == "draw" else "core") == "full" and "sheet" not in options
     return command == "draw" or has_sheets or options.get("page") == "plot" or bool({"fit", "verbose"} & set(options))
+
+
+def has_all_rows(options):
+    """Whether a picture in rows is to be whole."""
+    return int(options.get("from", 0)) == 0 and "rows" not in options
 
 
 def size_of(options):
@@ -146,7 +151,7 @@ def plots_into_a_folder(bench, dice, plots):
     must(ran.output == b"", "a picture is on standard output")
     must(before == {name: read(name) for name in before}, "a plot or another file is overwritten")
     if is_apart:
-        check_apart(form, names, set(obstacles), int(options.get("from", 0)) == 0)
+        check_apart(form, names, set(obstacles), has_all_rows(options))
     else:
         check_folder(ran, form, names, wanted, obstacles)
 
@@ -318,7 +323,7 @@ def check_not_stored(bench, command, options, plot, how, whole, dice):
     must(whole.startswith(part) and after <= len(part) <= (how.limit or len(whole)), f"out.part, {how}")
     must(how.limit is not None or part == whole, f"out.part, {how}")
     os.remove("out.part")
-    if command == "report" or command == "draw" or int(options.get("from", 0)):
+    if command == "report" or command == "draw" or not has_all_rows(options):
         return
     rest = bench.run(words_of(command, {**options, "from": str(row)}, [], dice), plot)
     must(part[:after] + rest.output == whole, f"no rest from row {row}, {how}")

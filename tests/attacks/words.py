@@ -81,6 +81,7 @@ def pixel_options(command, form, is_small, dice):
     if command in ("marks", "pbm", "ppm", "pcl"):
         options.update({"band": dice.choice(("1", "3", "64", "4096"))} if dice.random() < 0.5 else {})
         options.update({"from": dice.choice(("0", "1", "7", "99"))} if dice.random() < 0.1 else {})
+        options.update({"rows": dice.choice(("1", "2", "9", "400000"))} if dice.random() < 0.1 else {})
     return options
 
 

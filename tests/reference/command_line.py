@@ -23,7 +23,7 @@ PAGE_OPTIONS = {
     "width": (64, 65536, 11880), "height": (64, 65536, 8400), "left": (0, 65536, 0), "below": (0, 65536, 0),
 }
 PICTURE_OPTIONS = {"dots": (10, 1200, 100)}
-ROW_OPTIONS = {"band": (1, 4096, 64), "from": (0, 99999, 0)}
+ROW_OPTIONS = {"band": (1, 4096, 64), "from": (0, 99999, 0), "rows": (1, 400_000, None)}
 SMOOTH_OPTIONS = {"smooth": (1, MOST_SMOOTHING, 1)}
 # Without `fit` there may be no margin.
 FIT_OPTIONS = {"margin": (0, 100, 1)}
@@ -56,6 +56,7 @@ class Request(NamedTuple):
     pixels: int = None  # the most that the longer side may have
     smooth: int = 1
     first: int = 0
+    most: int = None  # rows, from the first on; None for all
     folder: str = None
     is_draw: bool = False
     is_quiet: bool = False
@@ -89,7 +90,7 @@ def request_of(command, options):
         raise Mistake(messages.text("pens"))
     assigned = carousel_of(options)
     request = Request(form, Page(*(numbers[name] for name in PAGE_OPTIONS)), pens=pens, carousel=assigned)
-    request = request._replace(folder=options.get("output"), first=numbers.get("from", 0))
+    request = request._replace(folder=options.get("output"), first=numbers.get("from", 0), most=numbers.get("rows"))
     request = request._replace(is_draw=command == "draw", is_quiet="quiet" in options)
     if form in VECTORS and {"dots", "size", "smooth"} & set(options):
         raise Mistake(messages.text("no-pixels"))

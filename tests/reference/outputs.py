@@ -3,6 +3,7 @@
 docs/FORMATS.md. Of a PNG, a PDF and an SVG it is what a reader is to find in it.
 """
 
+from itertools import islice
 from typing import NamedTuple
 
 from . import cutting, full_cutting, full_plotter, messages, plotter, raster
@@ -187,10 +188,11 @@ def picture_of(request, shown, shapes):
         return document_of(request, shown, shapes).listing()
     page, dots, smooth, first = shown.page, shown.dots, shown.smooth, request.first
     if request.form == "png" or smooth > 1:
-        rows = smoothed_rows(shapes, page, dots, smooth, request.pens, first)
+        rows = islice(smoothed_rows(shapes, page, dots, smooth, request.pens, first), request.most)
         return pixmap(request.form, page, dots, rows, first == 0)
-    rows = raster.rows(shapes, page, dots, request.pens, first)
-    return picture(request.form, page, dots, rows, first == 0)
+    rows = islice(raster.rows(shapes, page, dots, request.pens, first), request.most)
+    is_end = request.most is None or first + request.most >= raster.count(page.height, dots)
+    return picture(request.form, page, dots, rows, first == 0, is_end)
 
 
 def document_of(request, shown, shapes):
@@ -233,11 +235,11 @@ def pixmap(form, page, dots, rows, has_header):
     return before + header + b"".join(rows)
 
 
-def picture(form, page, dots, rows, has_header):
+def picture(form, page, dots, rows, has_header, has_foot):
     """The bytes of a picture, by its rows."""
     header_of, row_of, foot = FORMS[form]
     size = raster.count(page.width, dots), raster.count(page.height, dots)
-    return (header_of(dots, *size) if has_header else b"") + b"".join(row_of(*row) for row in rows) + foot
+    return (header_of(dots, *size) if has_header else b"") + b"".join(row_of(*row) for row in rows) + (foot if has_foot else b"")
 
 
 def commands_before(dots, columns, rows):

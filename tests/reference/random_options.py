@@ -100,7 +100,7 @@ def random_apart_case(seed):
 
 def written_apart(case):
     """The case with all sheets, each in a file of its own."""
-    kept = {name: case.options[name] for name in case.options if name not in ("profile", "sheet", "from")}
+    kept = {name: case.options[name] for name in case.options if name not in ("profile", "sheet", "from", "rows")}
     form = case.form if case.form in PICTURES else "marks"
     options = {**kept, "profile": "full", "sheet": "each", "output": "pictures"}
     if form == "marks" and case.form != form:

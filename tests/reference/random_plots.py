@@ -133,7 +133,8 @@ class Writer(Numbers):
         if form == "pcl" and self.chance(4):
             options["dots"] = self.pick(*DOTS)
         if self.chance(0.5):
-            options[self.pick("width", "left", "dots", "from", "band", "smooth")] = self.pick("0", "-1", "+70", "65537", "x", "")
+            name = self.pick("width", "left", "dots", "from", "rows", "band", "smooth")
+            options[name] = self.pick("0", "-1", "+70", "65537", "x", "")
         return form, {name: str(value) for name, value in options.items() if str(value) != "0" or self.chance(20)}
 
     def length(self):
@@ -159,6 +160,8 @@ class Writer(Numbers):
             options["from"] = min(99999, self.upto(rows + 1))
         if self.chance(25):
             options["band"] = self.pick(1, 2, 3, 5, 64, 4096)
+        if self.chance(15):
+            options["rows"] = self.pick(1, 1, 2, 3, 5, 7, 1 + self.upto(rows), 400_000)
         return self.pens_settings(options)
 
     def smoothing(self, pixels):

@@ -12,7 +12,7 @@ from .random_options import page_options, with_characters, with_ends_of_sheets, 
 
 SHEETS = ("0", "0", "0", EACH, EACH, "1", "2", "3")
 # Options that such a document has not: of `draw` it is a mistake of their own, and else one in usage.
-OTHERS = ("dots", "smooth", "size", "from", "band")
+OTHERS = ("dots", "smooth", "size", "from", "rows", "band")
 
 
 def random_vector_case(seed):

@@ -96,6 +96,8 @@ numbers : Table (λ (it : Text × Text). number_on it.0 it.1) (
     ∷ ((codes "pbm --dots 300", codes "dots"), Some 300)  -- dots given
     ∷ ((codes "pcl --dots 600", codes "dots"), Some 600)  -- pcl is a subcommand
     ∷ ((codes "ppm --from=+7", codes "from"), Some 7)  -- plus sign
+    ∷ ((codes "pcl --rows=9", codes "rows"), Some 9)  -- at most so many rows
+    ∷ ((codes "pcl --from=9", codes "rows"), None)  -- all rows
     ∷ ((codes "png --smooth 4", codes "smooth"), Some 4)  -- smooth given
     ∷ ((codes "ppm", codes "smooth"), None)  -- smooth left out
     ∷ []

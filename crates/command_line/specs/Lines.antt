@@ -38,7 +38,7 @@ use Rattle.picture_job.specs.declared.vector_job.VectorFormat.TheVariants.{Pdf}
 use Rattle.picture_job.specs.declared.vector_job.VectorJob.{VectorJob}
 use Rattle.picture_job.specs.declared.reading.Reading.{Reading}
 use Rattle.picture_job.specs.declared.reading.Reading.TheVariants.{Core, Full}
-use Rattle.picture_job.specs.declared.smoothing.Smoothing.{Smoothing}
+use Rattle.picture_job.specs.declared.row_choice.RowChoice.{RowChoice}
 use Rattle.picture_job.specs.declared.page_choice.PageChoice.{PageChoice}
 use Rattle.command_line.specs.declared.destination.Destination.{Destination}
 use Rattle.command_line.specs.declared.destination.Destination.TheVariants.{File, Folder}
@@ -243,14 +243,15 @@ pub record IsPngJobOf (kind : Kind) (is_smoothed : Bool) (rows : List Row) (job 
   pub painted : is_sized rows ≡ false → job.dots.resolution * job.smoothing.times ≤ 1200
 
 -- the same of a job and its smoothing, and of its rows
-pub record IsJobOf (kind : Kind) (rows : List Row) (job : Job) (smoothing : Smoothing) : Type 0 where
+pub record IsJobOf (kind : Kind) (rows : List Row) (job : Job) (choice : RowChoice) : Type 0 where
   pub page : IsPageOf rows job.page
   pub dots : dots_in kind rows ≡ job.dots.resolution
   pub pens : ArePensOf rows job.pens
-  pub times : smooth_in kind (is_smoothed (output.Picture job.form)) rows job.dots.resolution ≡ smoothing.times
-  pub painted : is_sized rows ≡ false → job.dots.resolution * smoothing.times ≤ 1200
+  pub times : smooth_in kind (is_smoothed (output.Picture job.form)) rows job.dots.resolution ≡ choice.smoothing.times
+  pub painted : is_sized rows ≡ false → job.dots.resolution * choice.smoothing.times ≤ 1200
   pub band : unwrap_or (number_in rows (codes "band")) 64 ≡ job.band
   pub first_row : unwrap_or (number_in rows (codes "from")) 0 ≡ job.first_row
+  pub most_rows : number_in rows (codes "rows") ≡ choice.most_rows
 
 -- the page and the pens of the job are those of the options, and nothing is said of pixels
 pub record IsVectorJobOf (rows : List Row) (job : VectorJob) : Type 0 where
@@ -260,7 +261,7 @@ pub record IsVectorJobOf (rows : List Row) (job : VectorJob) : Type 0 where
 
 -- the task is a picture in this form, by these options
 abbrev pub IsPictureOf : Kind → Form → List Row → Task → Type 0
-IsPictureOf kind form rows (Picture (Rows job smoothing)) = (job.form ≡ form) × IsJobOf kind rows job smoothing
+IsPictureOf kind form rows (Picture (Rows job choice)) = (job.form ≡ form) × IsJobOf kind rows job choice
 IsPictureOf kind form rows _ = ⊥
 
 -- the same of a vector document in this format
@@ -270,8 +271,8 @@ IsVectorOf format rows _ = ⊥
 
 -- the task is what a subcommand does, by its options
 abbrev pub IsTaskOf : Kind → List Row → Task → Type 0
-IsTaskOf kind rows (Picture (Rows job smoothing)) =
-    (written kind rows ≡ Some (output.Picture job.form)) × IsJobOf kind rows job smoothing
+IsTaskOf kind rows (Picture (Rows job choice)) =
+    (written kind rows ≡ Some (output.Picture job.form)) × IsJobOf kind rows job choice
 IsTaskOf kind rows (Picture (Png job)) = (written kind rows ≡ Some output.Png) × IsPngJobOf kind true rows job
 IsTaskOf kind rows (Picture (Vector job)) =
     (written kind rows ≡ Some (output.Vector job.format)) × IsVectorJobOf rows job

@@ -129,6 +129,7 @@ options =
     ∷ option (codes "quiet") group.Draw Flag
     ∷ option_or (codes "64") (codes "band") group.Rows (Number 1 4096)
     ∷ option_or (codes "0") (codes "from") group.Rows (Number 0 99999)
+    ∷ option (codes "rows") group.Rows (Number 1 400000)
     ∷ []
 
 -- what the option of this name takes

@@ -27,7 +27,9 @@ use carousel::Carousel;
 use clap::ArgMatches;
 use directions::Turn;
 use pen_list::read_pens;
-use picture_job::{Job, PageChoice, Picture, PngJob, Reading, Smoothing, VectorFormat, VectorJob};
+use picture_job::{
+    Job, PageChoice, Picture, PngJob, Reading, RowChoice, Smoothing, VectorFormat, VectorJob,
+};
 use picture_out::Form;
 use plot_page::{Dots, Page, PenSet};
 
@@ -231,6 +233,7 @@ fn picture_of<'a>(
     let common = png_job_of(kind, options, is_smoothed(Output::Picture(form)), pens)?;
     let band = number_if_given(options, "band")?;
     let first_row = number_if_given(options, "from")?;
+    let most_rows = number_if_given(options, "rows")?;
     let job = Job {
         page: common.page,
         dots: common.dots,
@@ -239,10 +242,11 @@ fn picture_of<'a>(
         first_row: first_row.unwrap_or(0),
         form,
     };
-    Ok(Task::Picture(Picture::Rows {
-        job,
+    let rows = RowChoice {
         smoothing: common.smoothing,
-    }))
+        most_rows,
+    };
+    Ok(Task::Picture(Picture::Rows { job, rows }))
 }
 
 // What a PNG picture is asked for by, and each other picture too.

@@ -39,7 +39,7 @@ pub(crate) struct OptionRow<'a> {
 }
 
 // All options, in the order of the help.
-static OPTIONS: [OptionRow<'static>; 24] = [
+static OPTIONS: [OptionRow<'static>; 25] = [
     OptionRow {
         name: "width",
         short: None,
@@ -401,6 +401,20 @@ static OPTIONS: [OptionRow<'static>; 24] = [
         help: &[(
             Group::All,
             "First row of pixels to write, counted from 0 at the top, 0 to 99999; only row 0 comes with a header",
+        )],
+    },
+    OptionRow {
+        name: "rows",
+        short: None,
+        aliases: &[],
+        group: Group::Rows,
+        value: Value::Number(1, 400000),
+        defaults: &[],
+        value_name: "ROWS",
+        help: &[(
+            Group::All,
+            "Most rows of pixels to write, 1 to 400000; the files of strips that follow one another, joined, are the whole \
+        picture [default: all that are left]",
         )],
     },
 ];

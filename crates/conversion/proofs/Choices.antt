@@ -1,5 +1,5 @@
 -- Runs on the page that is given.
-use Rattle.std.proofs.Common.{◌≡◌, ◌≤◌, ◌<◌, ◌+◌, ◌∙◌, ◌-◌, ℕ, false, List, [], length, take, inl, inr, Option, Result, Ok, Err, Some, None, refl, ap, arith, rules, subst, sym}
+use Rattle.std.proofs.Common.{◌≡◌, ◌≤◌, ◌<◌, ◌+◌, ◌∙◌, ◌-◌, ℕ, false, List, [], length, take, inl, inr, Option, Result, Ok, Err, Some, None, refl, ap, ap₂, arith, rules, subst, sym}
 use Rattle.hpgl_plot.specs.declared.fault.PlotFault.{PlotFault}
 use Rattle.hpgl_plot.specs.declared.fault.PlotFault.TheVariants as plot
 use Rattle.plot_page.specs.Resolutions.{rows_of}
@@ -7,9 +7,11 @@ use Rattle.plot_page.specs.declared.page.Page.{Page}
 use Rattle.plot_page.specs.declared.pens.PenSet.{PenSet}
 use Rattle.picture_job.specs.declared.job.Job.{Job}
 use Rattle.picture_job.specs.declared.page_choice.PageChoice.{PageChoice}
-use Rattle.picture_job.specs.declared.smoothing.Smoothing.{Smoothing}
+use Rattle.picture_job.specs.declared.row_choice.RowChoice.{RowChoice}
 use Rattle.picture_job.specs.declared.reading.Reading.{Reading}
-use Rattle.rows.specs.Boxes.{strokes_boxes}
+use Rattle.picture_out.specs.Forms.{foot_bytes}
+use Rattle.rows.specs.Boxes.{strip_boxes, strokes_boxes}
+use Rattle.rows.proofs.Joined.{foot_at_end, whole_boxes}
 use Rattle.conversion.specs.Conversions.{Converts, HasConvertedBy}
 use Rattle.conversion.specs.PageJobs.{on_page, times_on}
 use Rattle.conversion.specs.Drawings.{AreLinesOf, Draws, HasDrawn, IsDrawn, IsReasonOnFirst, place_of}
@@ -17,10 +19,10 @@ use Rattle.conversion.specs.Faults.{of_plot}
 use Rattle.conversion.specs.Kinds.{HasDrawnFor, HasDrawnTurned}
 use Rattle.picture_job.specs.declared.picture.Picture.{Picture}
 use Rattle.picture_job.specs.declared.picture.Picture.TheVariants.{Rows}
-use Rattle.rows.specs.Pictures.{Reach}
+use Rattle.rows.specs.Pictures.{Reach, end_of, head_of, picture_of, shapes_row}
 use Rattle.conversion.specs.Placements.{IsDrawnOn, IsPlaced, IsPlacedBy, Place, no_corner, page_reported, place_on, placed_rules}
 use Rattle.areas.specs.Shapes.{ShapeList, stroke_count}
-use Rattle.rows.specs.Progress.{HasPainted}
+use Rattle.rows.specs.Progress.{HasPainted, IsWhole}
 use Rattle.conversion.specs.Readings.{WasRead}
 use Rattle.conversion.specs.Reports.{HasReportedAs, HasReportedOn, Reports, WritesReport, report_by, report_drawn, report_on}
 use Rattle.plot_report.specs.Report.{report_page}
@@ -102,8 +104,8 @@ shapes_drawn : (rules : Rules) (pens : PenSet) (input : List ℕ) (drawing : Dra
 shapes_drawn rules pens input drawing are = λ i. record { strokes = are.strokes_are i; areas = are.areas_are i }
 
 -- the picture of all shapes of a drawing, which is not smoothed
-module _ (rules : Rules) (sm : Smoothing) (job : Job) (reaches : Reach) (input : List ℕ) (before after : SourceState) (sink sink' : SinkState) (drawing : Drawing)
-    (drawn : IsDrawn rules given_choice job.pens job.page input before after drawing) (once : sm.times ≡ 1) where
+module _ (rules : Rules) (chosen : RowChoice) (job : Job) (reaches : Reach) (input : List ℕ) (before after : SourceState) (sink sink' : SinkState) (drawing : Drawing)
+    (drawn : IsDrawn rules given_choice job.pens job.page input before after drawing) (once : chosen.smoothing.times ≡ 1) (whole : chosen.most_rows ≡ None) where
   lies : place_of drawing ≡ place_on Given job.page
   lies = given_place rules job.pens job.page input (place_of drawing) drawn.placed
 
@@ -117,39 +119,47 @@ module _ (rules : Rules) (sm : Smoothing) (job : Job) (reaches : Reach) (input :
   shapes_given = shapes_drawn rules job.pens input drawing drawn.lines ∙ ap (λ (place : Place). shapes_by (placed_rules rules job.pens place) place.page input) lies
 
   painted : (shapes : ShapeList) (answer : Result ℕ PictureFault) → shapes ≡ shapes_by rules job.page input
-      → HasPainted (times_on given_choice drawing.page job sm) (on_page given_choice drawing.page job) reaches shapes sink sink' answer
-      → HasPainted 1 job reaches (shapes_by rules job.page input) sink sink' answer
+      → HasPainted (times_on given_choice drawing.page job chosen.smoothing) chosen.most_rows (on_page given_choice drawing.page job) reaches shapes sink sink' answer
+      → HasPainted 1 None job reaches (shapes_by rules job.page input) sink sink' answer
   painted shapes answer are h =
-      let there = subst (λ (page : Page). HasPainted sm.times (on_page given_choice page job) reaches shapes sink sink' answer) here h in
-      subst (λ (n : ℕ). HasPainted n job reaches (shapes_by rules job.page input) sink sink' answer) once
-      (subst (λ (ss : ShapeList). HasPainted sm.times job reaches ss sink sink' answer) are there)
+      let n = chosen.smoothing.times in
+      let there = subst (λ (page : Page). HasPainted n chosen.most_rows (on_page given_choice page job) reaches shapes sink sink' answer) here h in
+      let all = subst (λ (most : Option ℕ). HasPainted n most job reaches shapes sink sink' answer) whole there in
+      subst (λ (k : ℕ). HasPainted k None job reaches (shapes_by rules job.page input) sink sink' answer) once
+      (subst (λ (ss : ShapeList). HasPainted n None job reaches ss sink sink' answer) are all)
 
   converted : (shapes : ShapeList) (answer : Result Outcome Fault) → shapes ≡ shapes_by rules job.page input
-      → WritesShapes given_choice sm job drawing shapes reaches sink sink' answer → Converts rules 1 job reaches input before after sink sink' (done_of answer)
+      → WritesShapes given_choice chosen job drawing shapes reaches sink sink' answer → Converts rules 1 job reaches input before after sink sink' (done_of answer)
   converted shapes (Err fault) are h =
       subst (λ (f : Fault). Converts rules 1 job reaches input before after sink sink' (Err f)) (sym h.1)
       (not_painted rules 1 job reaches input before after sink sink' h.0 drawn.read accepted (painted shapes (Err h.0) are h.2))
   converted shapes (Ok o) are h =
-      let wrote = painted shapes (Ok o.done.bytes) are h.0 in
+      let painting = painted shapes (Ok o.done.bytes) are h.0 in
+      let rows = rows_of job.page job.dots in
+      let text = shapes_row 1 job reaches (shapes_by rules job.page input) in
+      let wrote = subst (λ (foot : List ℕ). IsWhole (picture_of (head_of job.form job.page job.dots) text foot rows job.first_row) sink sink' o.done.bytes) (foot_at_end (foot_bytes job.form) rows) painting.1 in
       record {
         read = drawn.read;
-        accepted = job_faults job (rules.refusal job.page input) None accepted wrote.0;
-        written = wrote.1.written;
-        sound = wrote.1.sound;
-        rows = h.1 ∙ ap (λ (page : Page). rows_of page job.dots - job.first_row) here;
-        bytes = wrote.1.count;
+        accepted = job_faults job (rules.refusal job.page input) None accepted painting.0;
+        written = wrote.written;
+        sound = wrote.sound;
+        rows = h.1 ∙ ap₂ (λ (most : Option ℕ) (page : Page). end_of most job.first_row (rows_of page job.dots) - job.first_row) whole here;
+        bytes = wrote.count;
         strokes_count = h.2.strokes_count ∙ ap stroke_count are;
         areas_count = h.2.areas_count ∙ ap (λ (ss : ShapeList). length ss.areas) are;
         notes = h.2.notes ∙ drawn.lines.notes_are;
       }
 
   few_tests : (shapes : ShapeList) (tests tests' : ℕ) → shapes ≡ shapes_by rules job.page input
-      → tests' ≤ tests + strokes_boxes (times_on given_choice drawing.page job sm) (on_page given_choice drawing.page job) shapes.strokes
+      → tests' ≤ tests + strip_boxes (times_on given_choice drawing.page job chosen.smoothing) chosen.most_rows (on_page given_choice drawing.page job) shapes.strokes
       → tests' ≤ tests + strokes_boxes 1 job (rules.strokes job.page input)
   few_tests shapes tests tests' are h =
-      let there = subst (λ (page : Page). tests' ≤ tests + strokes_boxes sm.times (on_page given_choice page job) shapes.strokes) here h in
-      subst (λ (n : ℕ). tests' ≤ tests + strokes_boxes n job (rules.strokes job.page input)) once
-      (subst (λ (ss : ShapeList). tests' ≤ tests + strokes_boxes sm.times job ss.strokes) are there)
+      let n = chosen.smoothing.times in
+      let there = subst (λ (page : Page). tests' ≤ tests + strip_boxes n chosen.most_rows (on_page given_choice page job) shapes.strokes) here h in
+      let all = subst (λ (most : Option ℕ). tests' ≤ tests + strip_boxes n most job shapes.strokes) whole there in
+      let few = subst (λ (k : ℕ). tests' ≤ tests + k) (whole_boxes n job shapes.strokes) all in
+      subst (λ (k : ℕ). tests' ≤ tests + strokes_boxes k job (rules.strokes job.page input)) once
+      (subst (λ (ss : ShapeList). tests' ≤ tests + strokes_boxes n job ss.strokes) are few)
 
 -- an empty carousel changes nothing
 with_none : (reading : Reading) (carousel : Carousel) → carousel ≡ empty → rules_with reading carousel ≡ rules_of reading
@@ -164,8 +174,8 @@ converted_with_none reading carousel job reaches before after sink sink' tests t
     subst (λ (rules : Rules). HasConvertedBy rules job reaches before after sink sink' tests tests' answer) (with_none reading carousel none) h
 
 -- a conversion that drew a plot for a request, and then wrote the picture of all shapes, or did not draw it, or not even read it
-module _ (reading : Reading) (carousel : Carousel) (sm : Smoothing) (job : Job) (reaches : Reach) (before after : SourceState) (none : carousel ≡ empty) where
-  pub drawn_so : (setup : Setup) (picture : Picture) (answer : Result Drawing Fault) → rules_in setup ≡ rules_with reading carousel → setup.choice ≡ given_choice → setup.turn ≡ turns.None → picture ≡ Rows job sm
+module _ (reading : Reading) (carousel : Carousel) (chosen : RowChoice) (job : Job) (reaches : Reach) (before after : SourceState) (none : carousel ≡ empty) where
+  pub drawn_so : (setup : Setup) (picture : Picture) (answer : Result Drawing Fault) → rules_in setup ≡ rules_with reading carousel → setup.choice ≡ given_choice → setup.turn ≡ turns.None → picture ≡ Rows job chosen
       → HasDrawnTurned setup.turn (rules_in setup) setup.choice picture before after answer
       → HasDrawn (rules_with reading carousel) given_choice job.pens job.page before after answer
   drawn_so setup picture answer by choice upright is h =
@@ -174,19 +184,19 @@ module _ (reading : Reading) (carousel : Carousel) (sm : Smoothing) (job : Job) 
       let given = subst (λ (c : PageChoice). HasDrawnFor (rules_with reading carousel) c picture before after answer) choice there in
       (subst (λ (p : Picture). HasDrawnFor (rules_with reading carousel) given_choice p before after answer) is given).draws
 
-  pub converted_given : (sink sink' : SinkState) (tests tests' : ℕ) (drawing : Drawing) (shapes : ShapeList) (answer : Result Outcome Fault) → sm.times ≡ 1
+  pub converted_given : (sink sink' : SinkState) (tests tests' : ℕ) (drawing : Drawing) (shapes : ShapeList) (answer : Result Outcome Fault) → chosen.smoothing.times ≡ 1 → chosen.most_rows ≡ None
       → HasDrawn (rules_with reading carousel) given_choice job.pens job.page before after (Ok drawing) → shapes ≡ shapes_on drawing 0
-      → WritesShapes given_choice sm job drawing shapes reaches sink sink' answer
-      → tests' ≤ tests + strokes_boxes (times_on given_choice drawing.page job sm) (on_page given_choice drawing.page job) shapes.strokes
+      → WritesShapes given_choice chosen job drawing shapes reaches sink sink' answer
+      → tests' ≤ tests + strip_boxes (times_on given_choice drawing.page job chosen.smoothing) chosen.most_rows (on_page given_choice drawing.page job) shapes.strokes
       → HasConvertedBy (rules_of reading) job reaches before after sink sink' tests tests' (done_of answer)
-  converted_given sink sink' tests tests' drawing shapes answer once drawn are wrote tested =
+  converted_given sink sink' tests tests' drawing shapes answer once whole drawn are wrote tested =
       let by : Rules = rules_with reading carousel in
-      let all = are ∙ shapes_given by sm job reaches drawn.input before after sink sink' drawing drawn.draws once in
+      let all = are ∙ shapes_given by chosen job reaches drawn.input before after sink sink' drawing drawn.draws once whole in
       converted_with_none reading carousel job reaches before after sink sink' tests tests' (done_of answer) none (record {
         input = drawn.input;
         taken = drawn.taken;
-        converts = converted by sm job reaches drawn.input before after sink sink' drawing drawn.draws once shapes answer all wrote;
-        tested = few_tests by sm job reaches drawn.input before after sink sink' drawing drawn.draws once shapes tests tests' all tested;
+        converts = converted by chosen job reaches drawn.input before after sink sink' drawing drawn.draws once whole shapes answer all wrote;
+        tested = few_tests by chosen job reaches drawn.input before after sink sink' drawing drawn.draws once whole shapes tests tests' all tested;
       })
 
   pub not_converted_given : (sink : SinkState) (tests : ℕ) (fault : Fault) → HasDrawn (rules_with reading carousel) given_choice job.pens job.page before after (Err fault)

@@ -1,10 +1,13 @@
 -- When a plot that was read whole has a picture of a job, and why not if it has none.
-use Rattle.std.proofs.Common.{◌≡◌, ℕ, List, Option, Some, None, Err, refl, option_map}
+use Rattle.std.proofs.Common.{◌≡◌, ℕ, List, Option, Some, None, Err, refl, subst, option_map}
 use Rattle.picture_job.specs.declared.job.Job.{Job}
 use Rattle.stroke_raster.specs.declared.painter.PaintFault.{PaintFault}
 use Rattle.hpgl_plot.specs.declared.fault.PlotFault.{PlotFault}
-use Rattle.rows.specs.Pictures.{Reach, job_fault}
-use Rattle.rows.specs.Progress.{HasPainted}
+use Rattle.plot_page.specs.Resolutions.{rows_of}
+use Rattle.picture_out.specs.Forms.{foot_bytes}
+use Rattle.rows.specs.Pictures.{Reach, head_of, job_fault, shapes_row}
+use Rattle.rows.specs.Progress.{HasPainted, PictureStops}
+use Rattle.rows.proofs.Joined.{foot_at_end}
 use Rattle.rows.specs.declared.fault.PictureFault.{PictureFault}
 use Rattle.rows.specs.declared.fault.PictureFault.TheVariants as cause
 use Rattle.conversion.specs.Rules.{Rules, shapes_by}
@@ -22,18 +25,22 @@ job_faults job refusal fault accepted is = rw (accepted, is) refl
 
 -- a job that was not painted, of a plot that was read and accepted
 pub not_painted : (rules : Rules) (n : ℕ) (job : Job) (reaches : Reach) (input : List ℕ) (before after : SourceState) (sink sink' : SinkState) (fault : PictureFault) → WasRead input before after → rules.refusal job.page input ≡ None
-    → HasPainted n job reaches (shapes_by rules job.page input) sink sink' (Err fault) → Converts rules n job reaches input before after sink sink' (Err (of_picture fault))
+    → HasPainted n None job reaches (shapes_by rules job.page input) sink sink' (Err fault) → Converts rules n job reaches input before after sink sink' (Err (of_picture fault))
 not_painted rules n job reaches input before after sink sink' cause.Memory read accepted h = read.sound
 not_painted rules n job reaches input before after sink sink' cause.Unfinished read accepted h = absurd h
 not_painted rules n job reaches input before after sink sink' (cause.Paint refusal) read accepted h = record { read = read; refused = job_faults job (rules.refusal job.page input) (Some refusal) accepted h }
-not_painted rules n job reaches input before after sink sink' (cause.Write row whole bytes) read accepted h = record {
-  read = read;
-  accepted = job_faults job (rules.refusal job.page input) None accepted h.0;
-  written = h.1.written;
-  within = h.1.within;
-  failed = h.1.failed;
-  stopped = h.1.stopped;
-}
+not_painted rules n job reaches input before after sink sink' (cause.Write row whole bytes) read accepted h =
+    let rows = rows_of job.page job.dots in
+    let text = shapes_row n job reaches (shapes_by rules job.page input) in
+    let stops = subst (λ (foot : List ℕ). PictureStops (head_of job.form job.page job.dots) text foot rows job.first_row sink sink' (record { row = row; whole = whole; bytes = bytes })) (foot_at_end (foot_bytes job.form) rows) h.1 in
+    record {
+      read = read;
+      accepted = job_faults job (rules.refusal job.page input) None accepted h.0;
+      written = stops.written;
+      within = stops.within;
+      failed = stops.failed;
+      stopped = stops.stopped;
+    }
 
 -- the refusal of a plot comes before the fault of a job
 pub plot_fault : (job : Job) (refusal : Option PlotFault) (fault : PlotFault) → refusal ≡ Some fault → refused_fault job refusal ≡ Some (Plot fault)

@@ -9,7 +9,7 @@ use Rattle.picture_job.specs.declared.picture.Picture.{Picture}
 use Rattle.picture_job.specs.declared.picture.Picture.TheVariants.{Rows, Png, Vector}
 use Rattle.devices.specs.Sinks.{SinkState}
 use Rattle.devices.specs.Sources.{SourceState}
-use Rattle.rows.specs.Boxes.{strokes_boxes}
+use Rattle.rows.specs.Boxes.{strip_boxes}
 use Rattle.conversion.specs.PageJobs.{is_picture_possible, on_page, png_on_page, png_rows_on, rows_on, times_on}
 use Rattle.rows.specs.Documents.{png_boxes}
 use Rattle.conversion.specs.Conversions.{is_write}
@@ -29,12 +29,12 @@ use Rattle.conversion.specs.declared.place.Drawing.{Drawing}
 
 -- the page and the pens of a picture
 abbrev pub page_of : Picture → Page
-page_of (Rows job smoothing) = job.page
+page_of (Rows job rows) = job.page
 page_of (Png job) = job.page
 page_of (Vector job) = job.page
 
 abbrev pub pens_of : Picture → PenSet
-pens_of (Rows job smoothing) = job.pens
+pens_of (Rows job rows) = job.pens
 pens_of (Png job) = job.pens
 pens_of (Vector job) = job.pens
 
@@ -47,8 +47,8 @@ has_labels _ = false
 -- or was not, for the reason that is answered; a vector document is named so
 abbrev pub WritesSheet : PageChoice → Picture → Naming → Reach → Drawing → ℕ → SinkState → SinkState → Result Outcome Fault →
     Type 0
-WritesSheet choice (Rows job smoothing) naming reaches drawing sheet sink sink' answer =
-    WritesShapes choice smoothing job drawing (shapes_on drawing sheet) reaches sink sink' answer
+WritesSheet choice (Rows job rows) naming reaches drawing sheet sink sink' answer =
+    WritesShapes choice rows job drawing (shapes_on drawing sheet) reaches sink sink' answer
 WritesSheet choice (Png job) naming reaches drawing sheet sink sink' answer =
     WritesPng choice job drawing (shapes_on drawing sheet) reaches sink sink' answer
 WritesSheet choice (Vector job) naming reaches drawing sheet sink sink' answer =
@@ -56,16 +56,17 @@ WritesSheet choice (Vector job) naming reaches drawing sheet sink sink' answer =
 
 -- how many tests that takes at most
 abbrev pub most_tests : PageChoice → Picture → Drawing → ℕ → ℕ
-most_tests choice (Rows job smoothing) drawing sheet =
-    strokes_boxes (times_on choice drawing.page job smoothing) (on_page choice drawing.page job) (strokes_on drawing sheet)
+most_tests choice (Rows job rows) drawing sheet =
+    strip_boxes (times_on choice drawing.page job rows.smoothing) rows.most_rows (on_page choice drawing.page job)
+    (strokes_on drawing sheet)
 most_tests choice (Png job) drawing sheet = png_boxes (png_on_page choice drawing.page job) (strokes_on drawing sheet)
 most_tests choice (Vector job) drawing sheet = 0
 
 -- a watcher is told of the rows that are written of a picture in pixels, on the page that it shows, and of nothing else
 abbrev pub IsToldOfPicture : {W : Type 0} → (W → ℕ → ℕ → W → Type 0) → PageChoice → Picture → Page → W → W →
     Result Outcome Fault → Type 0
-IsToldOfPicture hears choice (Rows job smoothing) page before after answer =
-    IsTold is_write hears (rows_on choice page job) before after answer
+IsToldOfPicture hears choice (Rows job rows) page before after answer =
+    IsTold is_write hears (rows_on choice page job rows.most_rows) before after answer
 IsToldOfPicture hears choice (Png job) page before after answer =
     IsTold is_write hears (png_rows_on choice page job) before after answer
 IsToldOfPicture hears choice (Vector job) page before after answer = after ≡ before

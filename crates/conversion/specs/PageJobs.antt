@@ -10,15 +10,15 @@ use Rattle.picture_job.specs.declared.png_job.PngJob.{PngJob}
 use Rattle.picture_job.specs.declared.smoothing.Smoothing.{Smoothing}
 use Rattle.picture_job.specs.Sizes.{dots_in, smoothing_in}
 use Rattle.rows.specs.Documents.{is_png_possible}
-use Rattle.rows.specs.Pictures.{has_any_resolution, is_possible}
+use Rattle.rows.specs.Pictures.{end_of, has_any_resolution, is_possible}
 
 -- the job on another page, whose picture has the resolution of the job, or as many pixels as are chosen
 abbrev pub on_page : PageChoice → Page → Job → Job
 on_page choice page job = record job { page = page; dots = dots_in choice.pixels page job.dots }
 
--- how many rows of this picture are written: those from the job's first row on
-abbrev pub rows_on : PageChoice → Page → Job → ℕ
-rows_on choice page job = rows_of page (on_page choice page job).dots - job.first_row
+-- how many rows of this picture are written: those from the job's first row on, at most so many
+abbrev pub rows_on : PageChoice → Page → Job → Option ℕ → ℕ
+rows_on choice page job most = end_of most job.first_row (rows_of page (on_page choice page job).dots) - job.first_row
 
 -- how this picture is smoothed, and so how many times finer it is painted
 abbrev pub smoothing_on : PageChoice → Page → Job → Smoothing → Smoothing
@@ -50,6 +50,6 @@ is_png_possible_in (Some pixels) job = true
 
 -- the form of a picture has its resolution, or has any if pixels are chosen, and a picture that is smoothed is not too fine
 abbrev pub is_picture_possible : PageChoice → Picture → Bool
-is_picture_possible choice (Rows job smoothing) = is_possible_in choice.pixels smoothing.times job
+is_picture_possible choice (Rows job rows) = is_possible_in choice.pixels rows.smoothing.times job
 is_picture_possible choice (Png job) = is_png_possible_in choice.pixels job
 is_picture_possible choice (Vector job) = true

@@ -23,7 +23,7 @@ use Rattle.plot_page.specs.declared.page.Page.{Page}
 use Rattle.picture_job.specs.declared.job.Job.{Job}
 use Rattle.picture_job.specs.declared.reading.Reading.{Reading}
 use Rattle.picture_job.specs.declared.reading.Reading.TheVariants.{Core, Full}
-use Rattle.rows.specs.Pictures.{Reach, has_resolution, shapes_picture}
+use Rattle.rows.specs.Pictures.{Reach, has_resolution, shapes_picture, shapes_strip}
 use Rattle.conversion.specs.Pictures.{plot_strokes, plot_refusal, refused_fault}
 use Rattle.conversion.specs.declared.setup.Setup.{Setup}
 use Rattle.conversion.specs.declared.fault.Fault.{Fault}
@@ -109,6 +109,10 @@ shapes_by rules page plot = record { strokes = rules.strokes page plot; areas = 
 -- the picture of a job and a plot by these rules, smoothed n times
 abbrev pub picture_by : Rules → ℕ → Job → Reach → List ℕ → List ℕ
 picture_by rules n job reaches plot = shapes_picture n job reaches (shapes_by rules job.page plot)
+
+-- the strip of it that is written: at most so many rows
+abbrev pub strip_by : Rules → ℕ → Option ℕ → Job → Reach → List ℕ → List ℕ
+strip_by rules n most job reaches plot = shapes_strip n most job reaches (shapes_by rules job.page plot)
 
 -- a plot has a picture of a job by these rules: it is not too long, and nothing refuses it
 pub record HasPictureBy (rules : Rules) (job : Job) (plot : List ℕ) : Type 0 where

@@ -13,7 +13,7 @@ use Rattle.page_fit.specs.Shapes.{shapes_census}
 use Rattle.picture_job.specs.declared.job.Job.{Job}
 use Rattle.picture_job.specs.declared.png_job.PngJob.{PngJob}
 use Rattle.picture_job.specs.declared.page_choice.PageChoice.{PageChoice}
-use Rattle.picture_job.specs.declared.smoothing.Smoothing.{Smoothing}
+use Rattle.picture_job.specs.declared.row_choice.RowChoice.{RowChoice}
 use Rattle.devices.specs.Sinks.{SinkState}
 use Rattle.conversion.specs.PageJobs.{on_page, rows_on, times_on}
 use Rattle.conversion.specs.Rules.{ends_of}
@@ -70,18 +70,18 @@ pub record TellsOf (drawing : Drawing) (pens : PenSet) (shapes : ShapeList) (out
   pub census : outcome.census ≡ shapes_census pens drawing.page shapes
 
 -- what each answer says of a picture of these shapes on the page where the drawing lies, which is possible: it was written
--- whole, or the sink failed, or the job cannot be done there
-abbrev pub WritesShapes : PageChoice → Smoothing → Job → Drawing → ShapeList → Reach → SinkState → SinkState →
+-- whole, or as many rows as are asked for, or the sink failed, or the job cannot be done there
+abbrev pub WritesShapes : PageChoice → RowChoice → Job → Drawing → ShapeList → Reach → SinkState → SinkState →
     Result Outcome Fault → Type 0
-WritesShapes choice smoothing job drawing shapes reaches sink sink' (Ok outcome) =
-    HasPainted (times_on choice drawing.page job smoothing) (on_page choice drawing.page job) reaches shapes sink sink'
-    (Ok outcome.done.bytes)
-    × (outcome.done.rows ≡ rows_on choice drawing.page job)
+WritesShapes choice rows job drawing shapes reaches sink sink' (Ok outcome) =
+    HasPainted (times_on choice drawing.page job rows.smoothing) rows.most_rows (on_page choice drawing.page job) reaches
+    shapes sink sink' (Ok outcome.done.bytes)
+    × (outcome.done.rows ≡ rows_on choice drawing.page job rows.most_rows)
     × TellsOf drawing job.pens shapes outcome
-WritesShapes choice smoothing job drawing shapes reaches sink sink' (Err fault) =
+WritesShapes choice rows job drawing shapes reaches sink sink' (Err fault) =
     (cause : PictureFault) × (fault ≡ of_picture cause)
-    × HasPainted (times_on choice drawing.page job smoothing) (on_page choice drawing.page job) reaches shapes sink sink'
-    (Err cause)
+    × HasPainted (times_on choice drawing.page job rows.smoothing) rows.most_rows (on_page choice drawing.page job) reaches
+    shapes sink sink' (Err cause)
 
 -- the same of a PNG, whose bytes are not counted
 abbrev pub WritesPng : PageChoice → PngJob → Drawing → ShapeList → Reach → SinkState → SinkState → Result Outcome Fault →

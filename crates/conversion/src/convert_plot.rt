@@ -15,7 +15,7 @@ use crate::sheet::write_shapes;
 use crate::shown::Shown;
 use carousel::Carousel;
 use devices::{Sink, Source};
-use picture_job::{Job, PageChoice, Picture, Reading, Smoothing};
+use picture_job::{Job, PageChoice, Picture, Reading, RowChoice, Smoothing};
 use rows::Unwatched;
 use std::alloc::Global;
 use stroke_raster::Gauge;
@@ -73,10 +73,8 @@ pub(crate) fn convert_given<G: Gauge, S: Source, K: Sink>(
     ensures same { G.reaches gauge.new ≡ G.reaches gauge.old }
     ensures untouched { IfErr result (λ fault. is_write fault ≡ false → sink.new ≡ sink.old) }
 {
-    let picture = Picture::Rows {
-        job: *job,
-        smoothing: Smoothing::NONE,
-    };
+    let rows = RowChoice::all(Smoothing::NONE);
+    let picture = Picture::Rows { job: *job, rows };
     let setup = Setup {
         reading,
         carousel: &Carousel::empty(),
@@ -90,15 +88,7 @@ pub(crate) fn convert_given<G: Gauge, S: Source, K: Sink>(
         shapes: drawing.shapes_on(0),
         choice: PageChoice::GIVEN,
     };
-    match write_shapes(
-        alloc,
-        shown,
-        job,
-        Smoothing::NONE,
-        gauge,
-        sink,
-        &mut Unwatched,
-    ) {
+    match write_shapes(alloc, shown, job, rows, gauge, sink, &mut Unwatched) {
         Ok(outcome) => Ok(outcome.done),
         Err(fault) => Err(fault),
     }

@@ -23,8 +23,8 @@ use stroke_raster::Gauge;
 /// shape of the selected pens that reaches it: a stroke, as the gauge says, or an area that has it inside, or an edge of which
 /// reaches it. A vector document is named so.
 ///
-/// A picture in a form has its head if its first row is 0, its rows from the first row on, and its foot. Each pixel of a
-/// smoothed PPM is the mean of n by n pixels of a picture that is n times finer. Marks, PBM and PCL have no shades, and are
+/// A picture in a form has its head if its first row is 0, its rows from the first row on, all or at most so many, and its foot
+/// if the last row is one of them. Each pixel of a smoothed PPM is the mean of n by n pixels of a picture that is n times finer. Marks, PBM and PCL have no shades, and are
 /// written as without smoothing. If pixels are chosen, the page has so many along its longer side, instead of the picture's
 /// resolution.
 ///
@@ -72,8 +72,8 @@ pub fn write<G: Gauge, K: Sink, W: Watcher>(
     let mut sink = sink;
     let picture = request.picture;
     match picture {
-        Picture::Rows { job, smoothing } => {
-            let outcome = write_shapes(alloc, shown, job, *smoothing, gauge, &mut sink, watcher);
+        Picture::Rows { job, rows } => {
+            let outcome = write_shapes(alloc, shown, job, *rows, gauge, &mut sink, watcher);
             (sink, outcome)
         }
         Picture::Png(job) => write_png_shapes(alloc, shown, job, gauge, sink, watcher),

@@ -10,7 +10,7 @@ pub(crate) fn is_picture_possible(choice: PageChoice, picture: &Picture) -> bool
     ensures { result ≡ is_picture_possible choice picture.now }
 {
     match picture {
-        Picture::Rows { job, smoothing } => are_rows_possible(choice.pixels, job, *smoothing),
+        Picture::Rows { job, rows } => are_rows_possible(choice.pixels, job, rows.smoothing),
         Picture::Png(job) => is_png_possible_in(choice.pixels, job),
         Picture::Vector(_) => true,
     }

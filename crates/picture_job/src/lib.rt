@@ -8,6 +8,7 @@ mod page_choice;
 mod picture;
 mod png_job;
 mod reading;
+mod row_choice;
 mod smoothing;
 mod vector_job;
 
@@ -16,5 +17,6 @@ pub use page_choice::{MOST_PIXELS_CHOSEN, PageChoice};
 pub use picture::Picture;
 pub use png_job::PngJob;
 pub use reading::Reading;
+pub use row_choice::RowChoice;
 pub use smoothing::Smoothing;
 pub use vector_job::{VectorFormat, VectorJob};

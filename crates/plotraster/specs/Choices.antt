@@ -68,7 +68,7 @@ format_extension Svg = codes "svg"
 
 -- the extension of the files in a folder
 abbrev pub extension_of : Task → List ℕ
-extension_of (Draw (Rows job smoothing)) = form_extension job.form
+extension_of (Draw (Rows job rows)) = form_extension job.form
 extension_of (Draw (Png job)) = codes "png"
 extension_of (Draw (Vector job)) = format_extension job.format
 extension_of (Report page) = codes "report"

@@ -26,7 +26,7 @@ nothing_written row = Write row 0 0
 
 -- the fault of a task whose output may not be stored: of a form that no row is there, and of a document that it is of no use
 abbrev pub fault_of_sync : Task → Fault
-fault_of_sync (Draw (Rows job smoothing)) = nothing_written job.first_row
+fault_of_sync (Draw (Rows job rows)) = nothing_written job.first_row
 fault_of_sync (Draw (Png job)) = Unfinished
 fault_of_sync (Draw (Vector job)) = Unfinished
 fault_of_sync (Report page) = nothing_written 0

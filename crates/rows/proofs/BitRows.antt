@@ -10,7 +10,7 @@ use Rattle.stroke_raster.proofs.Rows.{rows_height, rows_width}
 use Rattle.plot_page.specs.declared.page.Page.{Page}
 use Rattle.plot_page.specs.declared.dots.Dots.{Dots}
 use Rattle.plot_page.specs.declared.dots.TheConstants.{MOST_PIXELS_A_SIDE}
-use Rattle.plot_page.specs.Resolutions.{cell_count, columns_of}
+use Rattle.plot_page.specs.Resolutions.{cell_count, columns_of, rows_of}
 use Rattle.picture_out.specs.declared.form.Form.TheVariants.{Pbm}
 use Rattle.picture_out.specs.declared.inks.Ink.{Ink}
 use Rattle.bit_rows.specs.Bits.{bytes_for, packed}
@@ -44,7 +44,7 @@ if_ok (Ok x) P Q h f = f x h
 if_ok (Err e) P Q h f = tt
 
 -- a page has few rows
-few_rows : (height resolution : ℕ) → height ≤ 65536 → resolution ≤ 1200 → cell_count height resolution ≤ MOST_PIXELS_A_SIDE
+pub few_rows : (height resolution : ℕ) → height ≤ 65536 → resolution ≤ 1200 → cell_count height resolution ≤ MOST_PIXELS_A_SIDE
 few_rows height resolution h r = let m = mul-le height resolution 65536 1200 h r in omega (arith, m)
 
 -- the n rows of s bytes each that an inker has in a band of these bits, by its painting p before it
@@ -59,13 +59,13 @@ pub record IsNextBand (p : Painting) (rows : List (List ℕ)) (n s : ℕ) (bits 
   pub split : split_rows s n bits ≡ map packed rows
 
 -- the painting is q after it
-pub next_band : (p q : Painting) (reaches : Reach) (n columns s : ℕ) (bits : List ℕ) → Moves p q → n ≡ rows_next p → 1 ≤ rows_next p
+pub next_band : (p q : Painting) (reaches : Reach) (n columns s : ℕ) (bits : List ℕ) → p.end ≤ rows_of p.page p.dots → Moves p q → n ≡ rows_next p → 1 ≤ rows_next p
     → q.last.rows ≡ map packed (painted_rows reaches p p.next (rows_next p))
     → split_rows (bytes_for (columns_of q.page q.dots)) (length q.last.rows) bits ≡ q.last.rows
     → length bits ≡ length q.last.rows * bytes_for (columns_of q.page q.dots)
     → columns ≡ columns_of p.page p.dots → columns ≤ MOST_PIXELS_A_SIDE → s ≡ bytes_for columns
     → IsNextBand p (painted_rows reaches p p.next (rows_next p)) n s bits
-next_band p q reaches n columns s bits moved n_is some shown split sized columns_is few s_is =
+next_band p q reaches n columns s bits within moved n_is some shown split sized columns_is few s_is =
     let page_columns = columns_of p.page p.dots in
     let rows : List (List ℕ) = painted_rows reaches p p.next (rows_next p) in
     let tall : length rows ≡ n = rows_height (shows_at reaches p.pens p.strokes p.areas p.page p.dots) (length p.strokes) page_columns p.next (rows_next p) ∙ sym n_is in
@@ -78,7 +78,7 @@ next_band p q reaches n columns s bits moved n_is some shown split sized columns
       tall = tall;
       many = n_is;
       some = omega (arith, n_is, some);
-      low = omega (arith, n_is, rows_in);
+      low = omega (arith, n_is, rows_in, within);
       narrow = omega (arith, s_is, few);
       size = sized ∙ ap₂ (λ (a b : ℕ). a * b) many same;
       wide = subst (λ (k : ℕ). All (λ (row : List ℕ). length (packed row) ≡ k) rows) (sym stride) wide;

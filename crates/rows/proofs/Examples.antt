@@ -1,7 +1,8 @@
--- Rows of pixels in the layouts of a PNG, and what a watcher is told.
-use Rattle.std.proofs.Common.{◌≡◌, ℕ, List, [], ◌∷◌, ◌++◌, refl, arith}
+-- Rows of pixels in the layouts of a PNG, what a watcher is told, and strips of pictures.
+use Rattle.std.proofs.Common.{◌≡◌, ℕ, List, [], ◌∷◌, ◌++◌, Option, None, Some, map, refl, arith}
 use Rattle.png.specs.declared.header.Layout.TheVariants.{Grey, Rgb}
 use Rattle.rows.specs.PixelRows.{place_of, number_in, layout_bytes}
+use Rattle.rows.specs.Pictures.{end_of, strip_of}
 use Rattle.rows.specs.Watching.{WasTold}
 
 abbrev white : List ℕ
@@ -39,3 +40,25 @@ two_and_all : WasTold keeps 5 [] 5 ((2, 5) ∷ (5, 5) ∷ [])
 two_and_all =
     let two : WasTold keeps 5 [] 2 ((2, 5) ∷ []) = WasTold.more 2 ((2, 5) ∷ []) none (omega arith) (omega arith) refl in
     WasTold.more 5 ((2, 5) ∷ (5, 5) ∷ []) two (omega arith) (omega arith) refl
+
+-- where strips of a picture of 8 rows end: at most so many rows from one on
+ends : map (λ (it : Option ℕ × ℕ). end_of it.0 it.1 8) (
+    (None, 0)  -- all rows
+    ∷ (None, 5)  -- all that are left
+    ∷ (Some 1, 0)  -- the first row
+    ∷ (Some 3, 4)  -- rows 4 to 6
+    ∷ (Some 3, 5)  -- the last three rows
+    ∷ (Some 400000, 5)  -- more than are left
+    ∷ (Some 1, 8)  -- after the last row
+    ∷ []) ≡ 8 ∷ 8 ∷ 1 ∷ 7 ∷ 8 ∷ 8 ∷ 8 ∷ []
+ends = refl
+
+-- strips of a picture of 3 rows, each of a byte: its number. The head is 100, and the foot 200
+strips : map (λ (it : ℕ × ℕ). strip_of (100 ∷ []) (λ row. row ∷ []) (200 ∷ []) 3 it.0 it.1) (
+    (0, 3)  -- the whole picture
+    ∷ (0, 2)  -- without the last row
+    ∷ (1, 2)  -- a row in the middle
+    ∷ (1, 3)  -- to the last row
+    ∷ (3, 3)  -- after the last row
+    ∷ []) ≡ (100 ∷ 0 ∷ 1 ∷ 2 ∷ 200 ∷ []) ∷ (100 ∷ 0 ∷ 1 ∷ []) ∷ (1 ∷ []) ∷ (1 ∷ 2 ∷ 200 ∷ []) ∷ (200 ∷ []) ∷ []
+strips = refl

@@ -15,6 +15,7 @@ mod BitNumbers
 mod NumberRows
 pub mod SmoothedRows
 mod WrittenRows
+pub mod Joined
 pub mod Watched
 mod PixelRows
 mod KnownNumbers

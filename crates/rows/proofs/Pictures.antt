@@ -52,7 +52,7 @@ split_at_row head row foot rows first stop from to =
     ∙ sym (append_assoc (head_if head first) (rows_bytes row first (stop - first)) back)
 
 -- no head past row 0
-no_head : (head : List ℕ) (r : ℕ) → 0 < r → head_if head r ≡ []
+pub no_head : (head : List ℕ) (r : ℕ) → 0 < r → head_if head r ≡ []
 no_head head r pos = let e : nat_eq r 0 ≡ false = grind (arith, nat_tests) in ap (λ (b : Bool). cond b head []) e
 
 -- a job from row `stop` goes on after the whole rows

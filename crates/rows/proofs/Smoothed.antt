@@ -1,5 +1,5 @@
 -- Pictures that are smoothed, and pictures that are not.
-use Rattle.std.proofs.Common.{◌≡◌, ℕ, ◌+◌, ◌*◌, ◌<◌, ◌≤◌, zero, suc, Bool, true, false, not, ◌&&◌, ◌||◌, cond, List, [], get_or, length, ap, sym, refl, ◌∙◌, subst, arith}
+use Rattle.std.proofs.Common.{◌≡◌, ℕ, ◌+◌, ◌*◌, ◌<◌, ◌≤◌, zero, suc, Bool, true, false, not, ◌&&◌, ◌||◌, cond, Option, List, [], get_or, length, ap, sym, refl, ◌∙◌, subst, arith}
 use Rattle.std.specs.List.{flat_map}
 use Rattle.std.proofs.lemmas.Bool.{leb-true}
 use Rattle.std.proofs.lemmas.List.FromFn.{get_or-map-range_with_len, length-map-range_with_len}
@@ -14,12 +14,12 @@ use Rattle.plot_page.specs.declared.dots.Dots.{Dots}
 use Rattle.plot_page.specs.declared.pens.PenSet.{PenSet}
 use Rattle.picture_out.specs.declared.form.Form.{Form}
 use Rattle.picture_job.specs.declared.job.Job.{Job}
-use Rattle.rows.specs.Boxes.{boxes_from, finer_boxes, strokes_boxes}
+use Rattle.rows.specs.Boxes.{boxes_between, finer_between, strip_boxes}
 use Rattle.png.specs.declared.header.Layout.TheVariants.{Rgb}
 use Rattle.png.specs.Headers.{three}
 use Rattle.rows.specs.PixelRows.{layout_bytes}
 use Rattle.rows.proofs.PixelLayouts.{rgb_bytes}
-use Rattle.rows.specs.Pictures.{Reach, colours_at, finer, has_resolution, is_fine, is_possible, is_smoothed, row_of_list, shown_row, smoothed_pixels}
+use Rattle.rows.specs.Pictures.{Reach, colours_at, end_of, finer, has_resolution, is_fine, is_possible, is_smoothed, row_of_list, shown_row, smoothed_pixels}
 
 -- without smoothing the rows of a form are shown
 pub unsmoothed : (n : ℕ) (form : Form) (reaches : Reach) (pens : PenSet) (ss : ShapeList) (page : Page) (dots : Dots) → is_smoothed n form ≡ false
@@ -33,11 +33,16 @@ pub smoothed_rows : (n : ℕ) (form : Form) (reaches : Reach) (pens : PenSet) (s
 smoothed_rows n form reaches pens ss page dots some =
     ap {B = ℕ → List ℕ} (λ (b : Bool). λ (row : ℕ). cond b (flat_map (λ (pixel : List ℕ). pixel) (smoothed_pixels n reaches pens ss page dots row)) (row_of_list form reaches pens ss page dots row)) (sym some)
 
-pub unsmoothed_boxes : (n : ℕ) (job : Job) (ss : List Segment) → is_smoothed n job.form ≡ false → boxes_from job.pens ss job.page job.dots job.first_row ≡ strokes_boxes n job ss
-unsmoothed_boxes n job ss none = ap (λ (b : Bool). cond b (finer_boxes n job.pens ss job.page job.dots job.first_row) (boxes_from job.pens ss job.page job.dots job.first_row)) (sym none)
+-- and they take the tests of the form's pixels, or of the finer ones
+module _ (n : ℕ) (most : Option ℕ) (job : Job) (ss : List Segment) where
+  abbrev last : ℕ
+  last = end_of most job.first_row (rows_of job.page job.dots)
 
-pub smoothed_boxes : (n : ℕ) (job : Job) (ss : List Segment) → is_smoothed n job.form ≡ true → finer_boxes n job.pens ss job.page job.dots job.first_row ≡ strokes_boxes n job ss
-smoothed_boxes n job ss some = ap (λ (b : Bool). cond b (finer_boxes n job.pens ss job.page job.dots job.first_row) (boxes_from job.pens ss job.page job.dots job.first_row)) (sym some)
+  pub unsmoothed_boxes : is_smoothed n job.form ≡ false → boxes_between job.pens ss job.page job.dots job.first_row last ≡ strip_boxes n most job ss
+  unsmoothed_boxes none = ap (λ (b : Bool). cond b (finer_between n job.pens ss job.page job.dots job.first_row last) (boxes_between job.pens ss job.page job.dots job.first_row last)) (sym none)
+
+  pub smoothed_boxes : is_smoothed n job.form ≡ true → finer_between n job.pens ss job.page job.dots job.first_row last ≡ strip_boxes n most job ss
+  smoothed_boxes some = ap (λ (b : Bool). cond b (finer_between n job.pens ss job.page job.dots job.first_row last) (boxes_between job.pens ss job.page job.dots job.first_row last)) (sym some)
 
 fine_by : (a b c : Bool) → a ≡ true → ((not a || b) && c) ≡ true → b ≡ true
 fine_by true true c some is = refl

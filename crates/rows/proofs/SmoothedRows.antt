@@ -10,6 +10,9 @@ use Rattle.std.proofs.lemmas.List.{ext_get_or, get_or-append_right, get_or_past}
 use Rattle.std.proofs.lemmas.List.FromFn.{get_or-map-range_with_len, length-map-range_with_len}
 use Rattle.std.proofs.lemmas.List.Sums.{fold-append}
 use Rattle.plot_page.specs.Resolutions.{rows_of}
+use Rattle.plot_page.specs.declared.dots.Dots.{Dots}
+use Rattle.plot_page.specs.declared.dots.TheConstants.{MOST_PIXELS_A_SIDE}
+use Rattle.plot_page.specs.declared.page.Page.{Page}
 use Rattle.picture_out.specs.declared.inks.Ink.{Ink}
 use Rattle.picture_out.specs.Inks.{cell_colour}
 use Rattle.stroke_raster.specs.Painting.{Painting, Moves, painted_rows, rows_next}
@@ -23,8 +26,9 @@ use Rattle.rows.specs.Inks.{inks_held}
 use Rattle.rows.specs.PixelRows.{layout_bytes, sample_count}
 use Rattle.rows.specs.declared.stroke_inks.StrokeInks.{StrokeInks}
 use Rattle.rows.specs.Palettes.{with_colour}
-use Rattle.rows.specs.Pictures.{Reach, colours_at, inks_of}
+use Rattle.rows.specs.Pictures.{Reach, colours_at, finer, inks_of}
 use Rattle.rows.specs.Progress.{IsSmoothing, SmoothPainting, painting_shapes, row_pixels}
+use Rattle.rows.proofs.Smoothed.{finer_row, finer_rows}
 
 -- a cell of some rows, or 0 past the last of them
 cell_of_rows : (shows : ℕ → List ℕ) (first n rows r column : ℕ) → (r < n → first + r < rows) → (n ≤ r → rows ≤ first + r)
@@ -40,11 +44,11 @@ cell_of_rows shows first n rows r column within after = elim (cases_lt r n) as (
 ]
 
 -- the colours of a band are those of the picture, also past the picture's last row
-band_colour : (reaches : Reach) (p : Painting) (r column : ℕ) → r < p.band_rows
+band_colour : (reaches : Reach) (p : Painting) (r column : ℕ) → r < p.band_rows → p.end ≤ rows_of p.page p.dots → (p.end ≤ p.next + r → rows_of p.page p.dots ≤ p.next + r)
     → colours_of_cells (inks_of p.strokes) (painted_rows reaches p p.next (rows_next p)) r column ≡ colours_at reaches p.pens (painting_shapes p) p.page p.dots (p.next + r) column
-band_colour reaches p r column lt =
+band_colour reaches p r column lt within after =
     ap (cell_colour (inks_of p.strokes)) (cell_of_rows (row_of_shapes reaches p.pens p.strokes p.areas p.page p.dots) p.next (rows_next p) (rows_of p.page p.dots) r column
-    (λ inside. omega (arith, inside)) (λ past. omega (arith, past, lt)))
+    (λ inside. omega (arith, inside, within)) (λ past. after (omega (arith, past, lt))))
 
 -- smoothed pixels of colours that are the same are the same
 smoothed_same : (n : ℕ) (f g : Colours) (row other column : ℕ) → ((j c : ℕ) → j < n → f (n * row + j) c ≡ g (n * other + j) c) → smoothed n f row column ≡ smoothed n g other column
@@ -67,10 +71,13 @@ band_pixels reaches p times rows at height k columns made left lt =
     let more : times * (k + 1) ≡ times * k + times = omega arith in
     let parts : times * (at + k) ≡ times * at + times * k = omega arith in
     let begins : p.next ≡ times * at = made.next left in
+    let last : at + k + 1 ≤ rows = omega (arith, lt, left) in
+    let needed : times * (at + k + 1) ≤ times * rows = mul-le-mul_left times last in
+    let further : times * (at + k + 1) ≡ times * (at + k) + times = omega arith in
     let same : (j c : ℕ) → j < times → finer (times * k + j) c ≡ all (times * (at + k) + j) c = λ j c lt'.
     let inside : times * k + j < p.band_rows = omega (arith, lt', most, more, made.band) in
     let there : p.next + (times * k + j) ≡ times * (at + k) + j = omega (arith, begins, parts) in
-    band_colour reaches p (times * k + j) c inside ∙ ap (λ (r : ℕ). all r c) there in
+    band_colour reaches p (times * k + j) c inside made.on_page (λ past. omega (arith, past, there, lt', needed, further, made.enough)) ∙ ap (λ (r : ℕ). all r c) there in
     ext_get_or [] (map (smoothed times finer k) (range_with_len 0 columns)) (map (smoothed times all (at + k)) (range_with_len 0 columns))
     (length-map-range_with_len (smoothed times finer k) 0 columns ∙ sym (length-map-range_with_len (smoothed times all (at + k)) 0 columns))
     (λ i lt'.
@@ -93,14 +100,59 @@ is_smoothing_next p q times rows at height made left moved =
       tall = made.tall;
       within = omega (arith, left);
       band = moved.band_rows ∙ made.band;
-      finer = λ row lt. omega (arith, made.finer row lt, same);
+      finer = λ row lt. omega (arith, made.finer row lt, moved.end);
+      enough = omega (arith, made.enough, same, moved.end);
+      on_page = omega (arith, made.on_page, same, moved.end);
       next = λ more.
           let whole : min height (rows - at) ≡ height = omega (arith, more) in
           let parts : times * (at + height) ≡ times * at + times * height = omega arith in
           let there : times * (at + min height (rows - at)) ≡ times * (at + height) = ap (λ (k : ℕ). times * (at + k)) whole in
-          let last : times * (at + height) < n = made.finer (at + height) (omega (arith, more, whole)) in
+          let last : times * (at + height) < p.end = made.finer (at + height) (omega (arith, more, whole)) in
           omega (arith, moved.next, begins, parts, there, last, made.band);
     }
+
+-- bands that are begun: the painter of all finer rows then stops where no more are needed
+pub smoothing_begins : (p : Painting) (n first end height : ℕ) (page : Page) (dots : Dots) → 1 ≤ n → n ≤ 8 → n * dots.resolution ≤ 1200 → 1 ≤ height → height ≤ 4096 → rows_of page dots ≤ MOST_PIXELS_A_SIDE
+    → p.page ≡ page → p.dots ≡ finer n dots → p.end ≡ rows_of page (finer n dots) → p.next ≡ min (n * first) (rows_of page (finer n dots)) → p.band_rows ≡ n * height → first ≤ end → end ≤ rows_of page dots
+    → IsSmoothing (record p { end = cond (nat_lt end (rows_of page dots)) (n * end) p.end }) n end first height
+smoothing_begins p n first end height page dots some most fine low high tall of_page of_dots ends begins band from to =
+    let rows = rows_of page dots in
+    let all = rows_of page (finer n dots) in
+    let same : rows_of p.page p.dots ≡ all = ap₂ rows_of of_page of_dots in
+    let each : (row : ℕ) → row < rows → n * row < all = λ row lt. omega (arith, finer_rows n page dots some fine, finer_row n page.height dots.resolution row some lt) in
+    elim (nat_lt end rows) as (λ b. nat_lt end rows ≡ b → IsSmoothing (record p { end = cond b (n * end) p.end }) n end first height) [
+      | true ↦ λ e.
+          let left : end < rows = grind (arith, nat_tests) in
+          let before : (row : ℕ) → row < end → n * row < n * end = λ row lt. (let more : n * (row + 1) ≤ n * end = mul-le-mul_left n (omega (arith, lt)) in let next : n * (row + 1) ≡ n * row + n = omega arith in omega (arith, more, next, some)) in
+          record {
+            least = some;
+            most = most;
+            some = low;
+            few = high;
+            tall = omega (arith, to, tall);
+            within = from;
+            band = band;
+            finer = before;
+            enough = omega arith;
+            on_page = omega (arith, each end left, same);
+            next = λ lt. omega (arith, begins, before first lt, each end left);
+          }
+      | false ↦ λ e.
+          let past : rows ≤ end = grind (arith, nat_tests) in
+          record {
+            least = some;
+            most = most;
+            some = low;
+            few = high;
+            tall = omega (arith, to, tall);
+            within = from;
+            band = band;
+            finer = λ row lt. omega (arith, each row (omega (arith, lt, to)), ends);
+            enough = omega (arith, ends, same);
+            on_page = omega (arith, ends, same);
+            next = λ lt. omega (arith, begins, each first (omega (arith, lt, to)));
+          }
+    ] refl
 
 -- lists of equal items, joined
 flat_same : {A : Type 0} (f g : ℕ → List A) (first other n : ℕ) → ((k : ℕ) → k < n → f (first + k) ≡ g (other + k)) → flat_map f (range_with_len first n) ≡ flat_map g (range_with_len other n)
@@ -152,8 +204,8 @@ colours_join start now next f first at end from to before after =
     after ∙ ap (λ (a : List (List ℕ)). fold with_colour a back) before ∙ sym (fold-append with_colour start front back) ∙ sym (ap (fold with_colour start) all)
 
 -- the colours of all rows that are made of a band
-pub colours_of_band : (b : SmoothPainting) (reaches : Reach) (n count : ℕ) (inks : List Ink) (cells start new : List (List ℕ)) → IsSmoothing b.painting b.times b.rows b.next b.height → b.next < b.rows
-    → n ≡ b.times → inks ≡ inks_of b.painting.strokes → cells ≡ painted_rows reaches b.painting b.painting.next (rows_next b.painting) → count ≡ min b.height (b.rows - b.next)
+pub colours_of_band : (b : SmoothPainting) (reaches : Reach) (n count : ℕ) (inks : List Ink) (cells start new : List (List ℕ)) → IsSmoothing b.painting b.times b.end b.next b.height → b.next < b.end
+    → n ≡ b.times → inks ≡ inks_of b.painting.strokes → cells ≡ painted_rows reaches b.painting b.painting.next (rows_next b.painting) → count ≡ min b.height (b.end - b.next)
     → new ≡ fold with_colour start (flat_map (λ k. map (smoothed n (colours_of_cells inks cells) k) (range_with_len 0 b.columns)) (range_with_len 0 count))
     → new ≡ fold with_colour start (flat_map (row_pixels b reaches) (range_with_len b.next (b.next + count - b.next)))
 colours_of_band b reaches n count inks cells start new made left times_are inks_are cells_are counted h =
@@ -164,7 +216,7 @@ colours_of_band b reaches n count inks cells start new made left times_are inks_
     ap (row n inks cells) here
     ∙ ap (λ (times : ℕ). row times inks cells k) times_are
     ∙ ap₂ (λ (i : List Ink) (z : List (List ℕ)). row b.times i z k) inks_are cells_are
-    ∙ band_pixels reaches b.painting b.times b.rows b.next b.height k b.columns made left (omega (arith, lt, counted))) in
+    ∙ band_pixels reaches b.painting b.times b.end b.next b.height k b.columns made left (omega (arith, lt, counted))) in
     h ∙ ap (fold with_colour start) (same ∙ ap (λ (m : ℕ). flat_map (row_pixels b reaches) (range_with_len b.next m)) moved)
 
 -- the bytes of smoothed pixels, by equal parts

@@ -199,19 +199,21 @@ foot_cut head row foot rows first rows' first' done taken whole s u is_rows is_f
     }
 
 -- a picture of equal parts stopped
-pub stops_same : (head head' : List ℕ) (row row' : ℕ → List ℕ) (foot : List ℕ) (rows rows' first first' : ℕ) (s u : SinkState) (stop : Broken) → head ≡ head' → row ≡ row' → rows ≡ rows' → first ≡ first'
-    → PictureStops head row foot rows first s u stop → PictureStops head' row' foot rows' first' s u stop
-stops_same head head' row row' foot rows rows' first first' s u stop eh er en ef h =
-    subst (λ (k : ℕ). PictureStops head' row' foot rows' k s u stop) ef
-    (subst (λ (k : ℕ). PictureStops head' row' foot k first s u stop) en
+pub stops_same : (head head' : List ℕ) (row row' : ℕ → List ℕ) (foot foot' : List ℕ) (rows rows' first first' : ℕ) (s u : SinkState) (stop : Broken) → head ≡ head' → row ≡ row' → foot ≡ foot' → rows ≡ rows' → first ≡ first'
+    → PictureStops head row foot rows first s u stop → PictureStops head' row' foot' rows' first' s u stop
+stops_same head head' row row' foot foot' rows rows' first first' s u stop eh er et en ef h =
+    subst (λ (k : ℕ). PictureStops head' row' foot' rows' k s u stop) ef
+    (subst (λ (k : ℕ). PictureStops head' row' foot' k first s u stop) en
+    (subst (λ (z : List ℕ). PictureStops head' row' z rows first s u stop) et
     (subst (λ (f : ℕ → List ℕ). PictureStops head' f foot rows first s u stop) er
-    (subst (λ (z : List ℕ). PictureStops z row foot rows first s u stop) eh h)))
+    (subst (λ (z : List ℕ). PictureStops z row foot rows first s u stop) eh h))))
 
 -- a picture of equal parts was written
-pub whole_same : (head head' : List ℕ) (row row' : ℕ → List ℕ) (foot : List ℕ) (rows rows' first first' : ℕ) (s u : SinkState) (bytes : ℕ) → head ≡ head' → row ≡ row' → rows ≡ rows' → first ≡ first'
-    → IsWhole (picture_of head row foot rows first) s u bytes → IsWhole (picture_of head' row' foot rows' first') s u bytes
-whole_same head head' row row' foot rows rows' first first' s u bytes eh er en ef h =
-    subst (λ (k : ℕ). IsWhole (picture_of head' row' foot rows' k) s u bytes) ef
-    (subst (λ (k : ℕ). IsWhole (picture_of head' row' foot k first) s u bytes) en
+pub whole_same : (head head' : List ℕ) (row row' : ℕ → List ℕ) (foot foot' : List ℕ) (rows rows' first first' : ℕ) (s u : SinkState) (bytes : ℕ) → head ≡ head' → row ≡ row' → foot ≡ foot' → rows ≡ rows' → first ≡ first'
+    → IsWhole (picture_of head row foot rows first) s u bytes → IsWhole (picture_of head' row' foot' rows' first') s u bytes
+whole_same head head' row row' foot foot' rows rows' first first' s u bytes eh er et en ef h =
+    subst (λ (k : ℕ). IsWhole (picture_of head' row' foot' rows' k) s u bytes) ef
+    (subst (λ (k : ℕ). IsWhole (picture_of head' row' foot' k first) s u bytes) en
+    (subst (λ (z : List ℕ). IsWhole (picture_of head' row' z rows first) s u bytes) et
     (subst (λ (f : ℕ → List ℕ). IsWhole (picture_of head' f foot rows first) s u bytes) er
-    (subst (λ (z : List ℕ). IsWhole (picture_of z row foot rows first) s u bytes) eh h)))
+    (subst (λ (z : List ℕ). IsWhole (picture_of z row foot rows first) s u bytes) eh h))))

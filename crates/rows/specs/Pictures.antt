@@ -35,6 +35,19 @@ head_if head first = if nat_eq first 0 then head else []
 abbrev pub picture_of : List ℕ → (ℕ → List ℕ) → List ℕ → ℕ → ℕ → List ℕ
 picture_of head row foot rows first = head_if head first ++ (rows_bytes row first (rows - first) ++ foot)
 
+-- the row after the last one that is written of so many rows: at most this many are, from `first` on, or all that are left
+abbrev pub end_of : Option ℕ → ℕ → ℕ → ℕ
+end_of None first rows = rows
+end_of (Some most) first rows = min (first + most) rows
+
+-- only rows up to the last one have the foot
+abbrev pub foot_if : List ℕ → ℕ → ℕ → List ℕ
+foot_if foot rows end = if nat_le rows end then foot else []
+
+-- a strip of a picture: its rows from one on, up to another
+abbrev pub strip_of : List ℕ → (ℕ → List ℕ) → List ℕ → ℕ → ℕ → ℕ → List ℕ
+strip_of head row foot rows first end = head_if head first ++ (rows_bytes row first (end - first) ++ foot_if foot rows end)
+
 -- what a gauge reaches: whether a stroke does a pixel of a page
 abbrev pub Reach : Type 0
 Reach = Segment → Page → Dots → ℕ → ℕ → Bool
@@ -108,6 +121,13 @@ abbrev pub shapes_picture : ℕ → Job → Reach → ShapeList → List ℕ
 shapes_picture n job reaches shapes =
     picture_of (head_of job.form job.page job.dots) (shapes_row n job reaches shapes) (foot_bytes job.form)
     (rows_of job.page job.dots) job.first_row
+
+-- the strip of it that is written: at most so many rows
+abbrev pub shapes_strip : ℕ → Option ℕ → Job → Reach → ShapeList → List ℕ
+shapes_strip n most job reaches shapes =
+    let rows = rows_of job.page job.dots in
+    strip_of (head_of job.form job.page job.dots) (shapes_row n job reaches shapes) (foot_bytes job.form) rows job.first_row
+    (end_of most job.first_row rows)
 
 -- the job's form has its resolution; if not, nothing is read
 abbrev pub has_resolution : Job → Bool

@@ -1,6 +1,6 @@
 -- How far the writing of rows and of a picture came, as contracts of private functions say it.
 use Rattle.std.specs.Prelude.{◌≡◌, ℕ, ◌+◌, ◌-◌, ◌*◌, ◌<◌, ◌≤◌, map, List, [], ◌∷◌, ◌++◌, length, take, get_or, nat_eq}
-use Rattle.std.specs.Prelude.{if◌then◌else◌, Result, Ok, Err, Some, None, ⊤}
+use Rattle.std.specs.Prelude.{if◌then◌else◌, min, nat_lt, Option, Result, Ok, Err, Some, None, ⊤}
 use Rattle.std.specs.List.{range_with_len}
 use Rattle.std.specs.Io.KnownBytes.{Appends}
 use Rattle.plot_page.specs.declared.dots.TheConstants.{MOST_PIXELS_A_SIDE}
@@ -17,8 +17,8 @@ use Rattle.areas.specs.Shapes.{ShapeList}
 use Rattle.plot_page.specs.Resolutions.{rows_of}
 use Rattle.stroke_raster.specs.Painting.{Painting}
 use Rattle.picture_job.specs.declared.job.Job.{Job}
-use Rattle.rows.specs.Pictures.{Reach, colours_at, head_of, job_fault, picture_of, row_of_list, rows_bytes, shapes_row}
-use Rattle.rows.specs.Boxes.{boxes_from}
+use Rattle.rows.specs.Pictures.{Reach, colours_at, end_of, foot_if, head_of, job_fault, picture_of, row_of_list, rows_bytes, shapes_row}
+use Rattle.rows.specs.Boxes.{boxes_between}
 use Rattle.rows.specs.PixelRows.{layout_bytes}
 use Rattle.rows.specs.declared.fault.PictureFault.{PictureFault}
 use Rattle.rows.specs.declared.fault.PictureFault.TheVariants.{Memory, Paint, Write}
@@ -116,24 +116,26 @@ painting_row form p reaches row = row_of_list form reaches p.pens (painting_shap
 
 -- how many tests the painting of the rows that are left makes at most
 abbrev pub tests_left : Painting → ℕ
-tests_left p = boxes_from p.pens p.strokes p.page p.dots p.next
+tests_left p = boxes_between p.pens p.strokes p.page p.dots p.next p.end
 
--- the job can be done on its page, and a picture of its shapes was written, or the sink failed once
-abbrev pub WritesJob : ℕ → Job → Reach → ShapeList → SinkState → SinkState → Result ℕ Broken → Type 0
-WritesJob n job reaches shapes sink sink' answer =
+-- the job can be done on its page, and a strip of at most so many rows of a picture of its shapes was written, or the sink
+-- failed once
+abbrev pub WritesJob : ℕ → Option ℕ → Job → Reach → ShapeList → SinkState → SinkState → Result ℕ Broken → Type 0
+WritesJob n most job reaches shapes sink sink' answer =
+    let rows = rows_of job.page job.dots in
+    let end = end_of most job.first_row rows in
     (job_fault job ≡ None)
-    × WritesPicture (head_of job.form job.page job.dots)
-    (shapes_row n job reaches shapes) (foot_bytes job.form) (rows_of job.page job.dots)
-    job.first_row sink sink' answer
+    × WritesPicture (head_of job.form job.page job.dots) (shapes_row n job reaches shapes)
+    (foot_if (foot_bytes job.form) rows end) end job.first_row sink sink' answer
 
--- a job's shapes were painted and written, the sink failed once, or the job cannot be done on its page
-abbrev pub HasPainted : ℕ → Job → Reach → ShapeList → SinkState → SinkState → Result ℕ PictureFault → Type 0
-HasPainted n job reaches shapes sink sink' (Ok bytes) = WritesJob n job reaches shapes sink sink' (Ok bytes)
-HasPainted n job reaches shapes sink sink' (Err (Write row whole bytes)) =
-    WritesJob n job reaches shapes sink sink' (Err (record { row = row; whole = whole; bytes = bytes }))
-HasPainted n job reaches shapes sink sink' (Err (Paint fault)) = job_fault job ≡ Some fault
-HasPainted n job reaches shapes sink sink' (Err Memory) = ⊤
-HasPainted n job reaches shapes sink sink' (Err _) = ⊥
+-- a job's shapes were painted and at most so many rows written, the sink failed once, or the job cannot be done on its page
+abbrev pub HasPainted : ℕ → Option ℕ → Job → Reach → ShapeList → SinkState → SinkState → Result ℕ PictureFault → Type 0
+HasPainted n most job reaches shapes sink sink' (Ok bytes) = WritesJob n most job reaches shapes sink sink' (Ok bytes)
+HasPainted n most job reaches shapes sink sink' (Err (Write row whole bytes)) =
+    WritesJob n most job reaches shapes sink sink' (Err (record { row = row; whole = whole; bytes = bytes }))
+HasPainted n most job reaches shapes sink sink' (Err (Paint fault)) = job_fault job ≡ Some fault
+HasPainted n most job reaches shapes sink sink' (Err Memory) = ⊤
+HasPainted n most job reaches shapes sink sink' (Err _) = ⊥
 
 -- what is painted as cells, and the form in which its rows are written
 pub record CellPainting : Type 0 where
@@ -147,7 +149,8 @@ pub record NumberPainting : Type 0 where
   pub numbers : List ℕ
 
 -- the finer picture that is painted, how many times finer it is, how the pixels are laid out, and how many columns and rows
--- of them there are; the number of the next row, and how many rows a band has at most
+-- of them there are; the numbers of the next row and of the row after the last one that is made, and how many rows a band has
+-- at most
 pub record SmoothPainting : Type 0 where
   pub painting : Painting
   pub times : ℕ
@@ -155,6 +158,7 @@ pub record SmoothPainting : Type 0 where
   pub columns : ℕ
   pub rows : ℕ
   pub next : ℕ
+  pub end : ℕ
   pub height : ℕ
 
 -- the pixels of each row of what is smoothed, and its bytes
@@ -175,7 +179,9 @@ pub record IsSmoothing (p : Painting) (times rows at height : ℕ) : Type 0 wher
   pub tall : rows ≤ MOST_PIXELS_A_SIDE
   pub within : at ≤ rows
   pub band : p.band_rows ≡ times * height
-  pub finer : (row : ℕ) → row < rows → times * row < rows_of p.page p.dots
+  pub finer : (row : ℕ) → row < rows → times * row < p.end
+  pub enough : min (times * rows) (rows_of p.page p.dots) ≤ p.end
+  pub on_page : p.end ≤ rows_of p.page p.dots
   pub next : at < rows → p.next ≡ times * at
 
 -- a picture can be smoothed so many times, in this layout

@@ -31,8 +31,8 @@ pub trait Bands<'a>: Sized {
     // The bytes of each row of the picture that is asked for, by what a gauge reaches.
     ghost asked_text: { Self.Ask → Scene → Reach → ℕ → List ℕ };
 
-    // How many tests its rows take at most, from one row on.
-    ghost asked_tests: { Self.Ask → Scene → ℕ → ℕ };
+    // How many tests its rows take at most, from one row on, up to another.
+    ghost asked_tests: { Self.Ask → Scene → ℕ → ℕ → ℕ };
 
     // The bytes of each row, by what a gauge reaches.
     ghost row_text: { Self → Reach → ℕ → List ℕ };
@@ -43,33 +43,47 @@ pub trait Bands<'a>: Sized {
     // The number of the row that the next band begins with.
     ghost next: { Self → ℕ };
 
+    // The number of the row after the last one that is painted.
+    ghost end: { Self → ℕ };
+
     // How many rows a band has at most.
     ghost height: { Self → ℕ };
 
     // How many tests the rows that are left take at most.
     ghost tests: { Self → ℕ };
 
-    /// The bands of the picture of a scene, from row `first_row` on. They have at most `band_rows` rows each.
+    /// The bands of the picture of a scene, from row `first_row` on, before row `end_row`. They have at most `band_rows` rows
+    /// each.
     fn begin(
         alloc: Global,
         ask: Self::Ask,
         scene: Scene<'a>,
         band_rows: u32,
         first_row: u32,
+        end_row: u32,
     ) -> Result<Self, PaintFault>
         requires ask { can_begin ask scene }
+        requires order { first_row ≤ rows_of scene.page scene.dots → first_row ≤ end_row }
+        requires within { end_row ≤ rows_of scene.page scene.dots }
         ensures band { (result ≡ Err Band) ↔ (is_band_height band_rows ≡ false) }
         ensures first { (result ≡ Err Row) ↔ ((is_band_height band_rows ≡ true) × (rows_of scene.entry.page scene.entry.dots < first_row)) }
         ensures text { IfOk result (λ b. row_text b ≡ asked_text ask scene.entry) }
         ensures rows { IfOk result (λ b. rows b ≡ rows_of scene.entry.page scene.entry.dots) }
         ensures next { IfOk result (λ b. next b ≡ first_row) }
+        ensures end { IfOk result (λ b. end b ≡ end_row) }
         ensures height { IfOk result (λ b. height b ≤ band_rows) }
-        ensures tests { IfOk result (λ b. tests b ≡ asked_tests ask scene.entry first_row) };
+        ensures tests { IfOk result (λ b. tests b ≡ asked_tests ask scene.entry first_row end_row) };
 
     /// The number of the row that the next band begins with.
     fn next_row(&self) -> u32
         ensures next { result ≡ next self.now }
-        ensures within { result ≤ rows self.now };
+        ensures within { result ≤ end self.now };
+
+    /// The number of the row after the last one that is painted.
+    fn end_row(&self) -> u32
+        ensures end { result ≡ end self.now }
+        ensures within { result ≤ rows self.now }
+        ensures most { result ≤ MOST_PIXELS_A_SIDE };
 
     /// How many rows the picture has.
     fn rows(&self) -> u32
@@ -85,13 +99,14 @@ pub trait Bands<'a>: Sized {
         gauge: &mut G,
         sink: &mut K,
     ) -> Result<u64, Broken>
-        requires left { next self.old < rows self.old }
+        requires left { next self.old < end self.old }
         requires sinking { (K.state sink.old).faults < 2 ^ 64 - 1 }
         requires done_in { done ≤ 2 ^ 62 }
         ensures text { row_text self.new ≡ row_text self.old }
         ensures rows { rows self.new ≡ rows self.old }
         ensures some { next self.old < next self.new }
-        ensures within { next self.new ≤ rows self.new }
+        ensures end { end self.new ≡ end self.old }
+        ensures within { next self.new ≤ end self.new }
         ensures most { next self.new ≤ next self.old + height self.old }
         ensures height { height self.new ≡ height self.old }
         ensures writes { WritesRows (row_text self.old (G.reaches gauge.old)) first (next self.old) (next self.new) done

@@ -4,7 +4,7 @@ ghost use Rattle.plot_page.specs.Resolutions.{rows_of};
 ghost use Rattle.picture_out.specs.declared.form.Form.TheVariants.{Pbm};
 ghost use Rattle.areas.specs.Views.{shapes_in};
 ghost use Rattle.rows.specs.Pictures.{row_of_list};
-ghost use Rattle.rows.specs.Boxes.{boxes_from};
+ghost use Rattle.rows.specs.Boxes.{boxes_between};
 ghost use Rattle.rows.specs.Progress.{painting_row, tests_left};
 
 use crate::bands::{BIT_ROOM, Bands, height_within};
@@ -24,13 +24,16 @@ impl<'a> Bands<'a> for Inker<'a> {
     ghost asked_text = { λ _ scene reaches row.
         row_of_list Pbm reaches scene.pens (shapes_in scene.shapes) scene.page scene.dots row };
 
-    ghost asked_tests = { λ _ scene first. boxes_from scene.pens scene.shapes.strokes.now scene.page scene.dots first };
+    ghost asked_tests = { λ _ scene first end.
+        boxes_between scene.pens scene.shapes.strokes.now scene.page scene.dots first end };
 
     ghost row_text = { λ p. painting_row Pbm p };
 
     ghost rows = { λ p. rows_of p.page p.dots };
 
     ghost next = { λ p. p.next };
+
+    ghost end = { λ p. p.end };
 
     ghost height = { λ p. p.band_rows };
 
@@ -42,10 +45,11 @@ impl<'a> Bands<'a> for Inker<'a> {
         scene: Scene<'a>,
         band_rows: u32,
         first_row: u32,
+        end_row: u32,
     ) -> Result<Inker<'a>, PaintFault> {
         let size = packed_length(scene.dots.columns(&scene.page) as usize) as u32;
         let height = height_within(band_rows, size, BIT_ROOM);
-        Inker::of_shapes(
+        let mut inker = Inker::of_shapes(
             alloc,
             scene.shapes,
             scene.page,
@@ -53,11 +57,17 @@ impl<'a> Bands<'a> for Inker<'a> {
             scene.pens,
             height,
             first_row,
-        )
+        )?;
+        inker.stop_at(end_row);
+        Ok(inker)
     }
 
     fn next_row(&self) -> u32 {
         Inker::next_row(self)
+    }
+
+    fn end_row(&self) -> u32 {
+        Inker::end_row(self)
     }
 
     fn rows(&self) -> u32 {

@@ -6,7 +6,7 @@ ghost use Rattle.stroke_raster.specs.Bands.{first_of, rows_of_band};
 ghost use Rattle.picture_out.specs.Rooms.{room_of};
 ghost use Rattle.areas.specs.Views.{shapes_in};
 ghost use Rattle.rows.specs.Pictures.{row_of_list};
-ghost use Rattle.rows.specs.Boxes.{boxes_from};
+ghost use Rattle.rows.specs.Boxes.{boxes_between};
 ghost use Rattle.rows.specs.Progress.{painting_row, tests_left, WritesCells};
 
 use crate::bands::{Bands, CELL_ROOM, height_within};
@@ -53,13 +53,16 @@ impl<'a> Bands<'a> for CellBands<'a> {
     ghost asked_text = { λ form scene reaches row.
         row_of_list form reaches scene.pens (shapes_in scene.shapes) scene.page scene.dots row };
 
-    ghost asked_tests = { λ _ scene first. boxes_from scene.pens scene.shapes.strokes.now scene.page scene.dots first };
+    ghost asked_tests = { λ _ scene first end.
+        boxes_between scene.pens scene.shapes.strokes.now scene.page scene.dots first end };
 
     ghost row_text = { λ b. painting_row b.form b.painting };
 
     ghost rows = { λ b. rows_of b.painting.page b.painting.dots };
 
     ghost next = { λ b. b.painting.next };
+
+    ghost end = { λ b. b.painting.end };
 
     ghost height = { λ b. b.painting.band_rows };
 
@@ -71,10 +74,11 @@ impl<'a> Bands<'a> for CellBands<'a> {
         scene: Scene<'a>,
         band_rows: u32,
         first_row: u32,
+        end_row: u32,
     ) -> Result<CellBands<'a>, PaintFault> {
         let columns = scene.dots.columns(&scene.page);
         let height = height_within(band_rows, 4 * columns, CELL_ROOM);
-        let painter = Painter::of_shapes(
+        let mut painter = Painter::of_shapes(
             alloc,
             scene.shapes,
             scene.page,
@@ -83,6 +87,7 @@ impl<'a> Bands<'a> for CellBands<'a> {
             height,
             first_row,
         )?;
+        painter.stop_at(end_row);
         let Ok(buffer) = buffer_of(alloc, row_space(form, columns)) else {
             return Err(PaintFault::Memory);
         };
@@ -96,6 +101,10 @@ impl<'a> Bands<'a> for CellBands<'a> {
 
     fn next_row(&self) -> u32 {
         self.painter.next_row()
+    }
+
+    fn end_row(&self) -> u32 {
+        self.painter.end_row()
     }
 
     fn rows(&self) -> u32 {

@@ -37,13 +37,14 @@ pub fn encode<'a, B: Bands<'a> + Drop, G: Gauge, K: Sink, W: Watcher>(
     ensures paints { (colours : ℕ → List ℕ) → ((row : ℕ) → row < rows_of scene.entry.page scene.entry.dots →
         IsRowOf (head header.now) (B.asked_text ask scene.entry (G.reaches gauge.old) row) (colours row)) →
         HasPaintedPng (picture_with scene.entry.page scene.entry.dots colours) (K.state sink) (K.state result.0) result.1 }
-    ensures tests { G.count gauge.new ≤ G.count gauge.old + B.asked_tests ask scene.entry 0 }
+    ensures tests { G.count gauge.new ≤ G.count gauge.old + B.asked_tests ask scene.entry 0 (rows_of scene.entry.page scene.entry.dots) }
     ensures same { G.reaches gauge.new ≡ G.reaches gauge.old }
     ensures told { IsTold is_write W.hears (rows_of scene.entry.page scene.entry.dots) watcher.old watcher.new result.1 }
     ensures untouched { IfErr result.1 (λ fault. is_write fault ≡ false → result.0 ≡ sink) }
 {
     // The height and the first row are in range, so only memory can be wanting.
-    let Ok(mut bands) = B::begin(alloc, ask, scene, BAND, 0) else {
+    let rows = scene.dots.rows(&scene.page);
+    let Ok(mut bands) = B::begin(alloc, ask, scene, BAND, 0, rows) else {
         return (sink, Err(PictureFault::Memory));
     };
     let Ok(room) = Room::new(alloc, header) else {

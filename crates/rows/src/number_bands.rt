@@ -4,7 +4,7 @@ ghost use Rattle.plot_page.specs.declared.dots.TheConstants.{MOST_PIXELS_A_SIDE}
 ghost use Rattle.plot_page.specs.Resolutions.{rows_of};
 ghost use Rattle.stroke_raster.specs.Bands.{first_of, rows_of_band};
 ghost use Rattle.areas.specs.Views.{shapes_in};
-ghost use Rattle.rows.specs.Boxes.{boxes_from};
+ghost use Rattle.rows.specs.Boxes.{boxes_between};
 ghost use Rattle.png.specs.Headers.{bits_of_depth};
 ghost use Rattle.png.specs.Packing.{packed_samples};
 ghost use Rattle.rows.specs.Palettes.{number_of, numbers_bytes, numbers_row};
@@ -59,7 +59,8 @@ impl<'a> Bands<'a> for NumberBands<'a> {
     ghost asked_text = { λ ask scene reaches row.
         numbers_row ask.depth ask.numbers.now scene.pens (shapes_in scene.shapes) scene.page scene.dots reaches row };
 
-    ghost asked_tests = { λ _ scene first. boxes_from scene.pens scene.shapes.strokes.now scene.page scene.dots first };
+    ghost asked_tests = { λ _ scene first end.
+        boxes_between scene.pens scene.shapes.strokes.now scene.page scene.dots first end };
 
     ghost row_text = { λ b.
         numbers_row b.depth b.numbers b.painting.pens (painting_shapes b.painting) b.painting.page b.painting.dots };
@@ -67,6 +68,8 @@ impl<'a> Bands<'a> for NumberBands<'a> {
     ghost rows = { λ b. rows_of b.painting.page b.painting.dots };
 
     ghost next = { λ b. b.painting.next };
+
+    ghost end = { λ b. b.painting.end };
 
     ghost height = { λ b. b.painting.band_rows };
 
@@ -78,10 +81,11 @@ impl<'a> Bands<'a> for NumberBands<'a> {
         scene: Scene<'a>,
         band_rows: u32,
         first_row: u32,
+        end_row: u32,
     ) -> Result<NumberBands<'a>, PaintFault> {
         let columns = scene.dots.columns(&scene.page);
         let height = height_within(band_rows, 4 * columns, CELL_ROOM);
-        let painter = Painter::of_shapes(
+        let mut painter = Painter::of_shapes(
             alloc,
             scene.shapes,
             scene.page,
@@ -90,6 +94,7 @@ impl<'a> Bands<'a> for NumberBands<'a> {
             height,
             first_row,
         )?;
+        painter.stop_at(end_row);
         let Ok(row) = SampleRow::new(alloc, ask.depth, columns as usize) else {
             return Err(PaintFault::Memory);
         };
@@ -102,6 +107,10 @@ impl<'a> Bands<'a> for NumberBands<'a> {
 
     fn next_row(&self) -> u32 {
         self.painter.next_row()
+    }
+
+    fn end_row(&self) -> u32 {
+        self.painter.end_row()
     }
 
     fn rows(&self) -> u32 {

@@ -8,7 +8,7 @@ ghost use Rattle.bit_rows.specs.Bits.{packed};
 ghost use Rattle.stroke_raster.specs.Rows.{split_rows};
 ghost use Rattle.areas.specs.Views.{shapes_in};
 ghost use Rattle.rows.specs.Pictures.{row_of_list};
-ghost use Rattle.rows.specs.Boxes.{boxes_from};
+ghost use Rattle.rows.specs.Boxes.{boxes_between};
 ghost use Rattle.rows.specs.Progress.{painting_row, tests_left, WritesCells};
 
 use crate::bands::{BIT_ROOM, Bands, height_within};
@@ -62,13 +62,16 @@ impl<'a> Bands<'a> for PclBands<'a> {
     ghost asked_text = { λ _ scene reaches row.
         row_of_list Pcl reaches scene.pens (shapes_in scene.shapes) scene.page scene.dots row };
 
-    ghost asked_tests = { λ _ scene first. boxes_from scene.pens scene.shapes.strokes.now scene.page scene.dots first };
+    ghost asked_tests = { λ _ scene first end.
+        boxes_between scene.pens scene.shapes.strokes.now scene.page scene.dots first end };
 
     ghost row_text = { λ p. painting_row Pcl p };
 
     ghost rows = { λ p. rows_of p.page p.dots };
 
     ghost next = { λ p. p.next };
+
+    ghost end = { λ p. p.end };
 
     ghost height = { λ p. p.band_rows };
 
@@ -80,10 +83,11 @@ impl<'a> Bands<'a> for PclBands<'a> {
         scene: Scene<'a>,
         band_rows: u32,
         first_row: u32,
+        end_row: u32,
     ) -> Result<PclBands<'a>, PaintFault> {
         let size = packed_length(scene.dots.columns(&scene.page) as usize) as u32;
         let height = height_within(band_rows, size, BIT_ROOM);
-        let inker = Inker::of_shapes(
+        let mut inker = Inker::of_shapes(
             alloc,
             scene.shapes,
             scene.page,
@@ -92,6 +96,7 @@ impl<'a> Bands<'a> for PclBands<'a> {
             height,
             first_row,
         )?;
+        inker.stop_at(end_row);
         let room = height as usize * (size as usize + LONGEST_COMMAND);
         let Ok(text) = vec![in alloc; 0u8; room] else {
             return Err(PaintFault::Memory);
@@ -101,6 +106,10 @@ impl<'a> Bands<'a> for PclBands<'a> {
 
     fn next_row(&self) -> u32 {
         self.inker.next_row()
+    }
+
+    fn end_row(&self) -> u32 {
+        self.inker.end_row()
     }
 
     fn rows(&self) -> u32 {

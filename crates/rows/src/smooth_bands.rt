@@ -1,5 +1,5 @@
 //! Bands of pixels that are means of finer ones.
-ghost use Rattle.std.specs.Prelude.{◌≡◌, ℕ, List, ◌+◌, ◌-◌, ◌*◌, ◌^◌, ◌<◌, ◌≤◌, ◌↔◌, All, length, map, IfOk, Err, false, true};
+ghost use Rattle.std.specs.Prelude.{◌≡◌, ℕ, List, ◌+◌, ◌-◌, ◌*◌, ◌^◌, ◌<◌, ◌≤◌, ◌↔◌, All, length, map, nat_lt, if◌then◌else◌, IfOk, Err, false, true};
 ghost use Rattle.std.specs.List.{range_with_len};
 ghost use Rattle.plot_page.specs.declared.dots.TheConstants.{MOST_PIXELS_A_SIDE};
 ghost use Rattle.stroke_raster.specs.Bands.{rows_of_band};
@@ -10,7 +10,7 @@ ghost use Rattle.plot_page.specs.Resolutions.{columns_of, rows_of};
 ghost use Rattle.stroke_raster.specs.BandHeights.{is_band_height};
 ghost use Rattle.png.specs.Headers.{HasColours};
 ghost use Rattle.areas.specs.Views.{shapes_in};
-ghost use Rattle.rows.specs.Boxes.{finer_boxes};
+ghost use Rattle.rows.specs.Boxes.{finer_between};
 ghost use Rattle.rows.specs.Inks.{inks_held};
 ghost use Rattle.rows.specs.Pictures.{finer, smoothed_pixels};
 ghost use Rattle.rows.specs.PixelRows.{layout_bytes};
@@ -28,8 +28,8 @@ use std::alloc::Global;
 use std::marker::Model;
 use stroke_raster::{Band, Gauge, PaintFault, Painter};
 
-/// A painter of a finer picture, what makes smoothed rows of its bands, and how many rows there are, are made, and a band
-/// has at most.
+/// A painter of a finer picture, what makes smoothed rows of its bands, how many rows there are, are made, and a band has at
+/// most, and the row after the last one that is made.
 #[derive(Drop)]
 pub struct SmoothBands<'a> {
     pub(crate) painter: Painter<'a>,
@@ -37,6 +37,7 @@ pub struct SmoothBands<'a> {
     pub(crate) times: u32,
     pub(crate) rows: u32,
     pub(crate) next: u32,
+    pub(crate) end: u32,
     pub(crate) height: u32,
 }
 
@@ -65,12 +66,13 @@ impl<'a> Model for SmoothBands<'a> {
       columns = width_of b.smoother.pixels;
       rows = b.rows;
       next = b.next;
+      end = b.end;
       height = b.height;
     } };
 
     ghost invariant = { λ b. (inks_held b.smoother.inks ≡ inks_of b.painter.strokes) × (times_of b.smoother.pixels ≡ b.times)
-        × HasColours b.smoother.layout × IsSmoothing b.painter b.times b.rows b.next b.height
-        × (width_of b.smoother.pixels ≤ MOST_PIXELS_A_SIDE) };
+        × HasColours b.smoother.layout × IsSmoothing b.painter b.times b.end b.next b.height
+        × (b.end ≤ b.rows) × (b.rows ≤ MOST_PIXELS_A_SIDE) × (width_of b.smoother.pixels ≤ MOST_PIXELS_A_SIDE) };
 }
 
 impl<'a> Bands<'a> for SmoothBands<'a> {
@@ -81,14 +83,16 @@ impl<'a> Bands<'a> for SmoothBands<'a> {
     ghost asked_text = { λ ask scene reaches row.
         layout_bytes ask.layout (smoothed_pixels ask.times reaches scene.pens (shapes_in scene.shapes) scene.page scene.dots row) };
 
-    ghost asked_tests = { λ ask scene first.
-        finer_boxes ask.times scene.pens scene.shapes.strokes.now scene.page scene.dots first };
+    ghost asked_tests = { λ ask scene first end.
+        finer_between ask.times scene.pens scene.shapes.strokes.now scene.page scene.dots first end };
 
     ghost row_text = { smoothed_text };
 
     ghost rows = { λ b. b.rows };
 
     ghost next = { λ b. b.next };
+
+    ghost end = { λ b. b.end };
 
     ghost height = { λ b. b.height };
 
@@ -100,8 +104,9 @@ impl<'a> Bands<'a> for SmoothBands<'a> {
         scene: Scene<'a>,
         band_rows: u32,
         first_row: u32,
+        end_row: u32,
     ) -> Result<SmoothBands<'a>, PaintFault> {
-        match SmoothBands::new(alloc, ask, scene, band_rows, first_row) {
+        match SmoothBands::new(alloc, ask, scene, band_rows, first_row, end_row) {
             Ok(bands) => Ok(bands),
             Err(fault) => Err(fault),
         }
@@ -109,6 +114,10 @@ impl<'a> Bands<'a> for SmoothBands<'a> {
 
     fn next_row(&self) -> u32 {
         self.next
+    }
+
+    fn end_row(&self) -> u32 {
+        self.end
     }
 
     fn rows(&self) -> u32 {
@@ -123,7 +132,7 @@ impl<'a> Bands<'a> for SmoothBands<'a> {
         sink: &mut K,
     ) -> Result<u64, Broken> {
         let at = self.next;
-        let count = self.height.min(self.rows - at);
+        let count = self.height.min(self.end - at);
         self.next = at + count;
         match self.painter.next_band(gauge) {
             Some(band) => write_smoothed(first, at, count, &band, done, &mut self.smoother, sink),
@@ -141,16 +150,20 @@ impl<'a> SmoothBands<'a> {
         scene: Scene<'a>,
         band_rows: u32,
         first_row: u32,
+        end_row: u32,
     ) -> Result<SmoothBands<'a>, PaintFault>
         requires ask { CanSmooth ask.times ask.layout scene.dots }
+        requires order { first_row ≤ rows_of scene.page scene.dots → first_row ≤ end_row }
+        requires within { end_row ≤ rows_of scene.page scene.dots }
         ensures band { (result ≡ Err PaintFault.Band) ↔ (is_band_height band_rows ≡ false) }
         ensures first { (result ≡ Err PaintFault.Row) ↔ ((is_band_height band_rows ≡ true) × (rows_of scene.entry.page scene.entry.dots < first_row)) }
         ensures pixels { IfOk result (λ b. row_pixels b ≡ (λ reaches row. smoothed_pixels ask.entry.times reaches scene.entry.pens (shapes_in scene.entry.shapes) scene.entry.page scene.entry.dots row)) }
         ensures layout { IfOk result (λ b. b.layout ≡ ask.entry.layout) }
         ensures rows { IfOk result (λ b. b.rows ≡ rows_of scene.entry.page scene.entry.dots) }
         ensures next { IfOk result (λ b. b.next ≡ first_row) }
+        ensures end { IfOk result (λ b. b.end ≡ end_row) }
         ensures height { IfOk result (λ b. b.height ≤ band_rows) }
-        ensures tests { IfOk result (λ b. tests_left b.painting ≡ finer_boxes ask.entry.times scene.entry.pens scene.entry.shapes.strokes.now scene.entry.page scene.entry.dots first_row) }
+        ensures tests { IfOk result (λ b. tests_left b.painting ≡ finer_between ask.entry.times scene.entry.pens scene.entry.shapes.strokes.now scene.entry.page scene.entry.dots first_row end_row) }
     {
         let page = scene.page;
         let rows = scene.dots.rows(&page);
@@ -169,7 +182,7 @@ impl<'a> SmoothBands<'a> {
             .min(4096 / times)
             .max(1);
         let first = (times * first_row).min(fine.rows(&page));
-        let Ok(painter) = Painter::of_shapes(
+        let Ok(mut painter) = Painter::of_shapes(
             alloc,
             scene.shapes,
             page,
@@ -180,6 +193,7 @@ impl<'a> SmoothBands<'a> {
         ) else {
             return Err(PaintFault::Memory);
         };
+        stop_before(&mut painter, times, end_row, rows);
         let inks = StrokeInks::new(scene.shapes.strokes);
         let Ok(smoother) = Smoother::new(alloc, inks, ask.layout, times, columns) else {
             return Err(PaintFault::Memory);
@@ -190,15 +204,29 @@ impl<'a> SmoothBands<'a> {
             times,
             rows,
             next: first_row,
+            end: end_row,
             height,
         })
     }
 
     /// Whether a row is left.
     pub(crate) fn has_row(&self) -> bool
-        ensures { (result ≡ true) ↔ (self.now.next < self.now.rows) }
+        ensures { (result ≡ true) ↔ (self.now.next < self.now.end) }
     {
-        self.next < self.rows
+        self.next < self.end
+    }
+}
+
+// Lets the painter of a picture that is so many times finer stop before the finer rows of a row, if the picture has that.
+fn stop_before(painter: &mut Painter<'_>, times: u32, end: u32, rows: u32)
+    requires few { times ≤ 8 }
+    requires tall { rows ≤ MOST_PIXELS_A_SIDE }
+    requires from { end < rows → painter.old.next ≤ times * end }
+    requires to { end < rows → times * end ≤ painter.old.end }
+    ensures { painter.new ≡ record painter.old { end = if nat_lt end rows then times * end else painter.old.end } }
+{
+    if end < rows {
+        painter.stop_at(times * end);
     }
 }
 

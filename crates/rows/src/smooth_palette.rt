@@ -30,7 +30,7 @@ pub fn add_colours<G: Gauge>(
     requires few { length colours.old.items ≤ MOST_COLOURS }
     ensures few { length colours.new.items ≤ MOST_COLOURS }
     ensures colours { IfOk result (λ all. all ≡ true → colours.new.items ≡ fold with_colour colours.old.items
-        (flat_map (row_pixels bands.old (G.reaches gauge.old)) (range_with_len bands.old.next (bands.old.rows - bands.old.next)))) }
+        (flat_map (row_pixels bands.old (G.reaches gauge.old)) (range_with_len bands.old.next (bands.old.end - bands.old.next)))) }
     ensures same { G.reaches gauge.new ≡ G.reaches gauge.old }
     ensures tests { G.count gauge.new ≤ G.count gauge.old + tests_left bands.old.painting }
 {
@@ -48,21 +48,21 @@ fn add_next<G: Gauge>(
     gauge: &mut G,
     colours: &mut Vec<[u8; 3]>,
 ) -> Result<bool, AllocError>
-    requires left { bands.old.next < bands.old.rows }
+    requires left { bands.old.next < bands.old.end }
     requires some { 0 < length colours.old.items }
     requires few { length colours.old.items ≤ MOST_COLOURS }
     ensures more { 0 < length colours.new.items }
     ensures few { length colours.new.items ≤ MOST_COLOURS }
     ensures some { bands.old.next < bands.new.next }
-    ensures within { bands.new.next ≤ bands.old.rows }
-    ensures rows { bands.new.rows ≡ bands.old.rows }
+    ensures within { bands.new.next ≤ bands.old.end }
+    ensures end { bands.new.end ≡ bands.old.end }
     ensures pixels { row_pixels bands.new ≡ row_pixels bands.old }
     ensures colours { IfOk result (λ all. all ≡ true → colours.new.items ≡ fold with_colour colours.old.items
         (flat_map (row_pixels bands.old (G.reaches gauge.old)) (range_with_len bands.old.next (bands.new.next - bands.old.next)))) }
     ensures same { G.reaches gauge.new ≡ G.reaches gauge.old }
     ensures tests { G.count gauge.new + tests_left bands.new.painting ≤ G.count gauge.old + tests_left bands.old.painting }
 {
-    let count = bands.height.min(bands.rows - bands.next);
+    let count = bands.height.min(bands.end - bands.next);
     bands.next += count;
     match bands.painter.next_band(gauge) {
         Some(band) => add_rows(count, &band, &mut bands.smoother, colours),

@@ -119,7 +119,9 @@ fn palette_of<G: Gauge>(
 {
     let layout = Layout::Rgb;
     // The height and the first row are in range, so only memory can be wanting.
-    let Ok(mut bands) = SmoothBands::new(alloc, Smoothed { times, layout }, scene, BAND, 0) else {
+    let rows = scene.dots.rows(&scene.page);
+    let ask = Smoothed { times, layout };
+    let Ok(mut bands) = SmoothBands::new(alloc, ask, scene, BAND, 0, rows) else {
         return Err(AllocError);
     };
     let mut colours = colour_of_paper(alloc)?;

@@ -2,7 +2,7 @@
 ghost use Rattle.std.specs.Prelude.{◌≡◌, ℕ, List, ◌+◌, ◌-◌, ◌*◌, ◌^◌, ◌<◌, ◌≤◌, length, IfOk, nat_eq, if◌then◌else◌};
 ghost use Rattle.devices.specs.Sinks.{Writes};
 ghost use Rattle.picture_out.specs.Forms.{foot_bytes, head_bytes};
-ghost use Rattle.rows.specs.Pictures.{head_if};
+ghost use Rattle.rows.specs.Pictures.{foot_if, head_if};
 ghost use Rattle.rows.specs.Progress.{IsToldOfRows, WritesPicture, WritesRows};
 
 use crate::bands::Bands;
@@ -21,8 +21,8 @@ pub struct Broken {
 }
 
 /// Paints and writes a picture in a form, at `dots` dots per inch, of rows of `columns` pixels, which the bands give: the
-/// head if it begins with row 0, its rows, the foot. Tells the watcher after each band how many rows are written. Answers
-/// how many bytes the picture has.
+/// head if it begins with row 0, its rows, the foot if the last row is one of them. Tells the watcher after each band how many
+/// rows are written. Answers how many bytes that are.
 #[tactic(auto, using(crate::proofs::Watched::none_told))]
 pub fn write_picture<'a, B: Bands<'a>, G: Gauge, K: Sink, W: Watcher>(
     form: Form,
@@ -36,11 +36,12 @@ pub fn write_picture<'a, B: Bands<'a>, G: Gauge, K: Sink, W: Watcher>(
     requires sinking { (K.state sink.old).faults < 2 ^ 64 - 1 }
     ensures tests { G.count gauge.new ≤ G.count gauge.old + B.tests bands.old }
     ensures same { G.reaches gauge.new ≡ G.reaches gauge.old }
-    ensures told { IsToldOfRows W.hears (B.rows bands.old - B.next bands.old) watcher.old watcher.new result }
+    ensures told { IsToldOfRows W.hears (B.end bands.old - B.next bands.old) watcher.old watcher.new result }
     ensures writes { WritesPicture (head_bytes form dots columns (B.rows bands.old)) (B.row_text bands.old (G.reaches gauge.old))
-        (foot_bytes form) (B.rows bands.old) (B.next bands.old) (K.state sink.old) (K.state sink.new) result }
+        (foot_if (foot_bytes form) (B.rows bands.old) (B.end bands.old)) (B.end bands.old) (B.next bands.old) (K.state sink.old) (K.state sink.new) result }
 {
     let first = bands.next_row();
+    let end = bands.end_row();
     let rows = bands.rows();
     let before = match write_head(form, dots, columns, rows, first, sink) {
         Ok(bytes) => bytes,
@@ -56,11 +57,11 @@ pub fn write_picture<'a, B: Bands<'a>, G: Gauge, K: Sink, W: Watcher>(
         Ok(bytes) => bytes,
         Err(stop) => return Err(stop),
     };
-    match put_foot(form, sink) {
+    match write_foot(form, rows, end, sink) {
         Ok(bytes) => Ok(done + bytes),
         Err(fault) => Err(Broken {
-            row: rows,
-            whole: whole_before(rows, first, done),
+            row: end,
+            whole: whole_before(end, first, done),
             bytes: done + fault.bytes(),
         }),
     }
@@ -80,32 +81,32 @@ pub fn write_left<'a, B: Bands<'a>, G: Gauge, K: Sink, W: Watcher>(
     ensures tests { G.count gauge.new ≤ G.count gauge.old + B.tests bands.old }
     ensures same { G.reaches gauge.new ≡ G.reaches gauge.old }
     ensures writes { WritesRows (B.row_text bands.old (G.reaches gauge.old)) (B.next bands.old) (B.next bands.old)
-        (B.rows bands.old) done (K.state sink.old) (K.state sink.new) result }
-    ensures told { IsToldOfRows W.hears (B.rows bands.old - B.next bands.old) watcher.old watcher.new result }
+        (B.end bands.old) done (K.state sink.old) (K.state sink.new) result }
+    ensures told { IsToldOfRows W.hears (B.end bands.old - B.next bands.old) watcher.old watcher.new result }
     ensures small { IfOk result (λ n. n ≤ 2 ^ 40) }
 {
     let first = bands.next_row();
-    let rows = bands.rows();
+    let end = bands.end_row();
     let mut at = first;
     let mut written = done;
-    'each: while at < rows {
+    'each: while at < end {
         match bands.write_next(first, written, gauge, sink) {
             Ok(bytes) => written = bytes,
             Err(stop) => return Err(stop),
         }
         at = bands.next_row();
-        tell(watcher, first, at, rows);
+        tell(watcher, first, at, end);
     }
     Ok(written)
 }
 
-// Tells the watcher that the rows from `first` up to `at` are written, of those up to `rows`.
-fn tell<W: Watcher>(watcher: &mut W, first: u32, at: u32, rows: u32)
+// Tells the watcher that the rows from `first` up to `at` are written, of those up to `end`.
+fn tell<W: Watcher>(watcher: &mut W, first: u32, at: u32, end: u32)
     requires some { first < at }
-    requires within { at ≤ rows }
-    ensures { W.hears watcher.old (at - first) (rows - first) watcher.new }
+    requires within { at ≤ end }
+    ensures { W.hears watcher.old (at - first) (end - first) watcher.new }
 {
-    watcher.rows_written(at - first, rows - first);
+    watcher.rows_written(at - first, end - first);
 }
 
 // Writes the head if the picture begins with row 0, and answers how many bytes that took.
@@ -124,6 +125,20 @@ fn write_head<K: Sink>(
 {
     if first == 0 {
         put_head(form, dots, columns, rows, sink)
+    } else {
+        Ok(0)
+    }
+}
+
+// Writes the foot if the rows before `end` are all rows, and answers how many bytes that took.
+fn write_foot<K: Sink>(form: Form, rows: u32, end: u32, sink: &mut K) -> Result<u64, WriteFault>
+    requires { (K.state sink.old).faults < 2 ^ 64 - 1 }
+    ensures writes { Writes (K.state sink.old) (K.state sink.new) (foot_if (foot_bytes form) rows end) result }
+    ensures count { IfOk result (λ n. n ≡ length (foot_if (foot_bytes form) rows end)) }
+    ensures small { length (foot_if (foot_bytes form) rows end) ≤ 128 }
+{
+    if end >= rows {
+        put_foot(form, sink)
     } else {
         Ok(0)
     }

@@ -20,17 +20,17 @@ rows_joined : (reaches : Reaches) (p : Painting) (first n k all : ℕ) → n + k
 rows_joined reaches p first n k all e = tables_joined _ first n k ∙ ap (painted_rows reaches p first) e
 
 -- the rows that are left to the painter after a band
-rows_left : (reaches : Reaches) (old new : Painting) → Moves old new → painted_rows reaches new new.next (rows_of new.page new.dots - new.next) ≡ painted_rows reaches old (old.next + rows_next old) (rows_of old.page old.dots - (old.next + rows_next old))
-rows_left reaches old new m = rw (m.strokes, m.areas, m.page, m.dots, m.pens, m.next) refl
+rows_left : (reaches : Reaches) (old new : Painting) → Moves old new → painted_rows reaches new new.next (new.end - new.next) ≡ painted_rows reaches old (old.next + rows_next old) (old.end - (old.next + rows_next old))
+rows_left reaches old new m = rw (m.strokes, m.areas, m.page, m.dots, m.pens, m.end, m.next) refl
 
-pub bands_join : (reaches : Reaches) (p : Painting) (bands : List (List (List ℕ))) → LendsAll reaches p bands → flat_map (λ rows. rows) bands ≡ painted_rows reaches p p.next (rows_of p.page p.dots - p.next)
+pub bands_join : (reaches : Reaches) (p : Painting) (bands : List (List (List ℕ))) → LendsAll reaches p bands → flat_map (λ rows. rows) bands ≡ painted_rows reaches p p.next (p.end - p.next)
 bands_join reaches p [] past =
-    let none : 0 ≡ rows_of p.page p.dots - p.next = omega (arith, past) in
+    let none : 0 ≡ p.end - p.next = omega (arith, past) in
     ap (painted_rows reaches p p.next) none
 bands_join reaches p (rows ∷ bands) h =
     let new = h.0 in
     let band = h.1 in
-    let whole : rows_next p + (rows_of p.page p.dots - (p.next + rows_next p)) ≡ rows_of p.page p.dots - p.next = omega arith in
+    let whole : rows_next p + (p.end - (p.next + rows_next p)) ≡ p.end - p.next = omega arith in
     ap (λ (z : List (List ℕ)). z ++ flat_map (λ more. more) bands) band.rows_are
     ∙ ap (λ (z : List (List ℕ)). painted_rows reaches p p.next (rows_next p) ++ z) (bands_join reaches new bands h.2 ∙ rows_left reaches p new band.moves)
     ∙ rows_joined reaches p p.next (rows_next p) _ _ whole

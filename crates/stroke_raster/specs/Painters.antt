@@ -11,25 +11,26 @@ use Rattle.stroke_raster.specs.ShownShapes.{area_at}
 use Rattle.stroke_raster.specs.Scenes.{AreChained, width_of}
 
 -- how many rows the next band has
-abbrev pub rows_ahead : Scene → ℕ → ℕ
-rows_ahead scene next = min scene.band_rows (rows_of scene.page scene.dots - next)
+abbrev pub rows_ahead : Scene → ℕ → ℕ → ℕ
+rows_ahead scene next end = min scene.band_rows (end - next)
 
 -- there is room for the area that ends at any position
 abbrev pub HasRoomForAll : List Segment → List Area → AreaSweep → Type 0
 HasRoomForAll strokes areas sweep = (position : ℕ) → HasRoomFor (length (area_at strokes areas position).strokes) sweep
 
--- the next row and its band, the number of rows that were painted last, the chains, and the rows and columns of a canvas
--- that is sound
-pub record IsSound (scene : Scene) (next band painted : ℕ) (heads links : List ℕ) (height width : ℕ)
+-- the next row and its band, the row after the last one that is painted, the number of rows that were painted last, the
+-- chains, and the rows and columns of a canvas that is sound
+pub record IsSound (scene : Scene) (next end band painted : ℕ) (heads links : List ℕ) (height width : ℕ)
     (sweep : AreaSweep) (IsSoundCanvas : Type 0) : Type 0 where
-  -- the next row is on the page or right after it, and begins its band
-  pub next_in : next ≤ rows_of scene.page scene.dots
-  pub next_at : next < rows_of scene.page scene.dots → next ≡ scene.first_row + band * scene.band_rows
+  -- the rows that are painted are on the page; the next one is among them or right after them, and begins its band
+  pub end_in : end ≤ rows_of scene.page scene.dots
+  pub next_in : next ≤ end
+  pub next_at : next < end → next ≡ scene.first_row + band * scene.band_rows
   -- the rows that were painted last are before it
   pub painted_before : painted ≤ next
   -- the canvas has room for them, and for the next band
   pub painted_rows : painted ≤ height
-  pub next_rows : rows_ahead scene next ≤ height
+  pub next_rows : rows_ahead scene next end ≤ height
   pub height_in : height ≤ scene.band_rows
   pub width_is : width ≡ width_of scene
   pub canvas : IsSoundCanvas

@@ -41,7 +41,8 @@ impl<'a> Painter<'a> {
     /// selected strokes' boxes have in the band's rows.
     pub fn next_band<G: Gauge>(&mut self, gauge: &mut G) -> Option<Band<'_>>
         ensures* moves { sem 𝓛 (EndsAs ⟦<Cells as Canvas>⟧ self.entry) }
-        ensures left { IsSome result ↔ (self.old.next < rows_of self.old.page self.old.dots) }
+        ensures within { self.old.end ≤ rows_of self.old.page self.old.dots }
+        ensures left { IsSome result ↔ (self.old.next < self.old.end) }
         ensures first { IfSome result (λ b. first_of b ≡ self.old.next) }
         ensures rows { IfSome result (λ b. rows_of_band b
             ≡ painted_rows (G.reaches gauge.old) self.old self.old.next (rows_next self.old)) }

@@ -18,7 +18,8 @@ impl<'a> Inker<'a> {
     /// Inks the next band, if a row is left. The gauge's count rises by at least the pixels that would be black if there were no
     /// areas, and at most the pixels that the selected strokes' boxes have in the band's rows, or to 2^64 - 1, where it stays.
     pub fn ink_next<G: Gauge>(&mut self, gauge: &mut G) -> bool
-        ensures left { IsTrue result ↔ (self.old.next < rows_of self.old.page self.old.dots) }
+        ensures within { self.old.end ≤ rows_of self.old.page self.old.dots }
+        ensures left { IsTrue result ↔ (self.old.next < self.old.end) }
         ensures moves { Moves self.old self.new }
         ensures some { IsTrue result → 1 ≤ rows_next self.old }
         ensures first { IsTrue result → self.new.last.first ≡ self.old.next }

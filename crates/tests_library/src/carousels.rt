@@ -2,8 +2,8 @@
 use crate::cases::text_of;
 use crate::pages::eight_by_eight;
 use plotraster::{
-    Carousel, Encoding, Form, OverRead, OverWrite, PageChoice, Picture, Reading, Setup, Smoothing,
-    Task, Turn, Unwatched, naming_of, read_colours, read_widths, run_task,
+    Carousel, Encoding, Form, OverRead, OverWrite, PageChoice, Picture, Reading, RowChoice, Setup,
+    Smoothing, Task, Turn, Unwatched, naming_of, read_colours, read_widths, run_task,
 };
 use std::alloc::Global;
 use std::test::Fail;
@@ -29,7 +29,7 @@ fn drawn(
     };
     let picture = Picture::Rows {
         job: eight_by_eight(Form::Marks)?,
-        smoothing: Smoothing::NONE,
+        rows: RowChoice::all(Smoothing::NONE),
     };
     let (sink, answer) = run_task(
         alloc,

@@ -54,6 +54,8 @@ mod smoothed_rows;
 #[cfg(test)]
 mod streams;
 #[cfg(test)]
+mod strips;
+#[cfg(test)]
 mod turned_pictures;
 #[cfg(test)]
 mod vector_labels;

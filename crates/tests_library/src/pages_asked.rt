@@ -4,8 +4,8 @@ use crate::pages::placed_on;
 use crate::placements::fitted;
 use plotraster::{
     Carousel, Dots, Encoding, Fault, Form, Job, OverRead, OverWrite, Page, PageChoice, PenSet,
-    Picture, PlotFault, Reading, Setup, Smoothing, Task, Turn, Unwatched, naming_of, report_on,
-    run_task,
+    Picture, PlotFault, Reading, RowChoice, Setup, Smoothing, Task, Turn, Unwatched, naming_of,
+    report_on, run_task,
 };
 use std::alloc::Global;
 use std::test::Fail;
@@ -119,7 +119,7 @@ fn drawn(alloc: Global, choice: PageChoice, plot: &[u8]) -> Result<String, Fail>
         },
         &Task::Picture(Picture::Rows {
             job,
-            smoothing: Smoothing::NONE,
+            rows: RowChoice::all(Smoothing::NONE),
         }),
         naming_of(""),
         &mut OverRead::new(plot),

@@ -3,7 +3,7 @@ use crate::cases::text_of;
 use crate::pages::{eight_by_eight, placed_on};
 use plotraster::{
     Carousel, Encoding, Form, Job, OverRead, OverWrite, PageChoice, PenSet, Picture, Reading,
-    Setup, Smoothing, Task, Turn, Unwatched, naming_of, run_task,
+    RowChoice, Setup, Smoothing, Task, Turn, Unwatched, naming_of, run_task,
 };
 use std::alloc::Global;
 use std::test::Fail;
@@ -168,7 +168,7 @@ fn drawn(alloc: Global, pens: PenSet, plot: &[u8]) -> Result<String, Fail> {
         },
         &Task::Picture(Picture::Rows {
             job,
-            smoothing: Smoothing::NONE,
+            rows: RowChoice::all(Smoothing::NONE),
         }),
         naming_of(""),
         &mut OverRead::new(plot),

@@ -3,7 +3,7 @@ use crate::pages::eight_by_eight;
 use crate::runs::drawn_as;
 use plotraster::{
     Carousel, Dots, Drawing, Encoding, Fault, Form, Job, OverRead, OverWrite, PageChoice, Picture,
-    PngJob, Reading, Request, Setup, Smoothing, Turn, Unwatched, draw_sheets, naming_of,
+    PngJob, Reading, Request, RowChoice, Setup, Smoothing, Turn, Unwatched, draw_sheets, naming_of,
     write_sheet,
 };
 use std::alloc::Global;
@@ -20,7 +20,7 @@ pub const ALL: Reading = Reading::Full {
 pub fn rows_of(job: Job) -> Picture {
     Picture::Rows {
         job,
-        smoothing: Smoothing::NONE,
+        rows: RowChoice::all(Smoothing::NONE),
     }
 }
 

@@ -3,7 +3,8 @@ use crate::pages::{LINE, job_at};
 use crate::streams::{Reader, Writer};
 use plotraster::{
     Carousel, Dots, Fault, Form, Job, Outcome, OverRead, OverWrite, Page, PageChoice, PenSet,
-    Picture, PngJob, Reading, Setup, Smoothing, Task, Turn, Unwatched, naming_of, run_task,
+    Picture, PngJob, Reading, RowChoice, Setup, Smoothing, Task, Turn, Unwatched, naming_of,
+    run_task,
 };
 use std::alloc::Global;
 use std::test::Fail;
@@ -67,7 +68,7 @@ fn pixmap_from(first_row: u32) -> Result<Task, Fail> {
     };
     Ok(Task::Picture(Picture::Rows {
         job,
-        smoothing: smoothing(2)?,
+        rows: RowChoice::all(smoothing(2)?),
     }))
 }
 
@@ -115,7 +116,7 @@ fn forms_without_shades_are_not_smoothed(rt: HostRuntime) -> Result<(), Fail> {
     let alloc = rt.alloc();
     let task = Task::Picture(Picture::Rows {
         job: job_at(Form::Pbm, 127)?,
-        smoothing: smoothing(8)?,
+        rows: RowChoice::all(smoothing(8)?),
     });
     let run = run(alloc, &task, LINE, Writer::new(alloc));
     assert!(rt; run.answer.is_ok());
@@ -136,7 +137,8 @@ fn smoothed_too_finely(rt: HostRuntime) -> Result<(), Fail> {
         pens: job.pens,
         smoothing,
     };
-    for picture in [Picture::Rows { job, smoothing }, Picture::Png(png)] {
+    let rows = RowChoice::all(smoothing);
+    for picture in [Picture::Rows { job, rows }, Picture::Png(png)] {
         let run = run(alloc, &Task::Picture(picture), LINE, Writer::new(alloc));
         assert!(rt; matches!(run.answer, Err(Fault::Resolution)));
         assert_eq!(rt; (run.reader.calls, run.writer.bytes.len()), (0, 0));

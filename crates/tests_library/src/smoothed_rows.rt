@@ -4,7 +4,7 @@ use carousel::Carousel;
 use conversion::{Fault, Naming, Request, Setup, Turn, Unwatched, draw, write};
 use crc32::crc_of;
 use devices::{OverRead, OverWrite};
-use picture_job::{Job, PageChoice, Picture, PngJob, Reading, Smoothing};
+use picture_job::{Job, PageChoice, Picture, PngJob, Reading, RowChoice, Smoothing};
 use picture_out::Form;
 use plot_page::{Dots, Page, PenSet};
 use std::alloc::Global;
@@ -32,7 +32,8 @@ fn pixmap_sum(alloc: Global, per_inch: u32, times: u32) -> Result<u32, Fail> {
         form: Form::Ppm,
     };
     let smoothing = Smoothing::new(times).ok_or("a smoothing")?;
-    let picture = Picture::Rows { job, smoothing };
+    let rows = RowChoice::all(smoothing);
+    let picture = Picture::Rows { job, rows };
     Ok(sum_of(alloc, picture).ok().ok_or("a picture")?)
 }
 

@@ -2,7 +2,7 @@
 use carousel::Carousel;
 use conversion::{Drawing, Fault, Naming, Request, Setup, Turn, Unwatched, draw, write};
 use devices::{OverRead, OverWrite};
-use picture_job::{Job, PageChoice, Picture, Reading, Smoothing};
+use picture_job::{Job, PageChoice, Picture, Reading, RowChoice, Smoothing};
 use picture_out::Form;
 use plot_page::{Dots, Page, PenSet};
 use std::alloc::Global;
@@ -47,8 +47,8 @@ fn picture() -> Result<Picture, Fail> {
         first_row: 0,
         form: Form::Pbm,
     };
-    let smoothing = Smoothing::NONE;
-    Ok(Picture::Rows { job, smoothing })
+    let rows = RowChoice::all(Smoothing::NONE);
+    Ok(Picture::Rows { job, rows })
 }
 
 // What is drawn of a plot by this picture, and then turned.

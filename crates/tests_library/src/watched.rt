@@ -6,7 +6,7 @@ use crate::runs::drawn;
 use crate::streams::Writer;
 use plotraster::{
     Carousel, Fault, Form, Job, OverRead, OverWrite, PageChoice, Picture, PngJob, Reading, Request,
-    Setup, Smoothing, Task, Turn, Watcher, naming_of, run_task,
+    RowChoice, Setup, Smoothing, Task, Turn, Watcher, naming_of, run_task,
 };
 use std::alloc::Global;
 use std::process::Abort;
@@ -33,7 +33,7 @@ impl Watcher for Diary {
 fn rows_of(job: &Job) -> Picture {
     Picture::Rows {
         job: *job,
-        smoothing: Smoothing::NONE,
+        rows: RowChoice::all(Smoothing::NONE),
     }
 }
 

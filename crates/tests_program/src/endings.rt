@@ -1,7 +1,7 @@
 //! How a run ends, for its output.
 use delivery::Ending;
 use plotraster::{
-    Dots, Fault, Form, Job, Page, PenSet, Picture, PngJob, Smoothing, Task, ending_of,
+    Dots, Fault, Form, Job, Page, PenSet, Picture, PngJob, RowChoice, Smoothing, Task, ending_of,
     fault_of_sync,
 };
 use std::test::Fail;
@@ -40,7 +40,8 @@ fn tasks() -> Option<(Task, Task, Task)> {
         pens,
         smoothing,
     };
-    let rows = Task::Picture(Picture::Rows { job, smoothing });
+    let rows = RowChoice::all(smoothing);
+    let rows = Task::Picture(Picture::Rows { job, rows });
     Some((rows, Task::Picture(Picture::Png(png)), Task::Report(page)))
 }
 

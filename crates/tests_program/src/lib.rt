@@ -44,6 +44,8 @@ mod readings;
 #[cfg(test)]
 mod sizes;
 #[cfg(test)]
+mod strips;
+#[cfg(test)]
 mod turns;
 #[cfg(test)]
 mod vectors;

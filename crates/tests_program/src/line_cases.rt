@@ -3,7 +3,7 @@ use carousel::Carousel;
 use clap::ArgMatches;
 use command_line::{Destination, Line, Task, command, parse, parse_status, settle};
 use pen_list::read_pens;
-use picture_job::{Job, Picture, PngJob, Smoothing, VectorFormat, VectorJob};
+use picture_job::{Job, Picture, PngJob, RowChoice, VectorFormat, VectorJob};
 use picture_out::Form;
 use plot_page::{Page, PenSet};
 use std::alloc::{AllocError, Global};
@@ -134,9 +134,7 @@ fn line_told(alloc: Global, asked: Asked, line: &Line<'_, '_>) -> Result<String,
         (Asked::Turn, _) => format!(in alloc; "{:?}", line.turn),
         (Asked::Messages, _) => messages_told(alloc, line),
         (Asked::Files, _) => files_told(alloc, line.output, line.files),
-        (_, Task::Picture(Picture::Rows { job, smoothing })) => {
-            job_told(alloc, job, *smoothing, file)
-        }
+        (_, Task::Picture(Picture::Rows { job, rows })) => { job_told(alloc, job, *rows, file) }
         (_, Task::Picture(Picture::Png(job))) => png_told(alloc, job, file),
         (_, Task::Picture(Picture::Vector(job))) => vector_told(alloc, job, file),
         (_, Task::Report(page)) => {
@@ -261,11 +259,12 @@ fn vector_told(alloc: Global, job: &VectorJob, file: Option<&str>) -> Result<Str
     format!(in alloc; "{format} {width} {height} {left} {below} {pens} of {file:?}")
 }
 
-// The form, with its smoothing if there is one, the numbers in the order of the manual page, the pens and the file.
+// The form, with its smoothing if there is one, or the numbers in the order of the manual page, the most rows, if they are
+// said, the pens and the file.
 fn job_told(
     alloc: Global,
     job: &Job,
-    smoothing: Smoothing,
+    rows: RowChoice,
     file: Option<&str>,
 ) -> Result<String, AllocError> {
     let page = job.page;
@@ -277,13 +276,21 @@ fn job_told(
         job.first_row,
     );
     let pens = pens_told(alloc, &job.pens)?;
-    let times = smoothing.times();
+    let times = rows.smoothing.times();
     if times > 1 {
         return format!(in alloc; "{form} smoothed {times} {dots} {pens}");
     }
+    let most = most_told(alloc, rows.most_rows)?;
     format!(in alloc;
-        "{form} {width} {height} {left} {below} {dots} {band} {first} {pens} of {file:?}"
+        "{form} {width} {height} {left} {below} {dots} {band} {first} {most}{pens} of {file:?}"
     )
+}
+
+fn most_told(alloc: Global, most_rows: Option<u32>) -> Result<String, AllocError> {
+    match most_rows {
+        Some(most) => format!(in alloc; "most {most} "),
+        None => Ok(String::new(alloc)),
+    }
 }
 
 fn name_of(form: Form) -> &'static str {

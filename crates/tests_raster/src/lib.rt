@@ -32,6 +32,8 @@ mod png_texts;
 #[cfg(test)]
 mod random;
 #[cfg(test)]
+mod stopped;
+#[cfg(test)]
 mod stream_failures;
 #[cfg(test)]
 mod strokes;

@@ -1,6 +1,5 @@
 use Rattle.std.proofs.Common.{Result, Ok, Err, refl, sym, ap, subst, arith}
 use Rattle.areas.specs.Views.{shapes_in}
-use Rattle.picture_job.specs.declared.smoothing.Smoothing.{Smoothing}
 use Rattle.conversion.specs.Conversions.{HasConvertedBy}
 use Rattle.conversion.specs.Rules.{rules_in, rules_of}
 use Rattle.conversion.specs.declared.done.Done.{Done}
@@ -8,10 +7,6 @@ use Rattle.conversion.specs.declared.fault.Fault.{Fault}
 use Rattle.conversion.proofs.Choices.{converted_given, drawn_so, not_converted_given}
 use Rattle.rows.proofs.Faults.{passed_on}
 use Rattle.conversion.proofs.convert_plot.convert_given.Goals as goal
-
--- a picture that is not smoothed
-abbrev plain : Smoothing
-plain = record { times = 1; at_least = omega arith; at_most = omega arith }
 
 pub returns-in_err-drawing-clause-converts : goal.returns-in_err-drawing-clause-converts
 returns-in_err-drawing-clause-converts g c =
@@ -26,7 +21,7 @@ returns-in_err-drawing-clause-converts g c =
     let drawn = drawn_so c.args.reading c.empty.result _ job reaches was is c.empty.ensures c.in_ok-request.request.setup c.in_ok-request.request.picture.now _
     (ap rules_in made.setup) (ap (λ s. s.choice) made.setup) (ap (λ s. s.turn) made.setup) shown c.in_err-drawing.ensures.draws in
     subst (λ (answer : Result Done Fault). HasConvertedBy (rules_of c.args.reading) job reaches was is sink sink count count answer) (sym (passed_on _ _ c.from_residual-in_err-drawing.ensures.1))
-    (not_converted_given c.args.reading c.empty.result plain job reaches was is c.empty.ensures sink count _ drawn)
+    (not_converted_given c.args.reading c.empty.result c.all-rows.result job reaches was is c.empty.ensures sink count _ drawn)
 
 pub returns-in-Ok-clause-converts : goal.returns-in-Ok-clause-converts
 returns-in-Ok-clause-converts g c =
@@ -37,8 +32,8 @@ returns-in-Ok-clause-converts g c =
     let is = g.S.Source.state c.draw.new.source in
     let drawn = drawn_so c.args.reading c.empty.result _ c.args.job.now reaches was is c.empty.ensures c.in_ok-request.request.setup c.in_ok-request.request.picture.now _
     (ap rules_in made.setup) (ap (λ s. s.choice) made.setup) (ap (λ s. s.turn) made.setup) shown c.in_ok-drawing.ensures.draws in
-    converted_given c.args.reading c.empty.result plain c.args.job.now reaches was is c.empty.ensures _ _ _ _ c.in_ok-drawing.drawing (shapes_in c.shapes_on.result) (Ok c.in-Ok.outcome)
-    refl drawn c.shapes_on.ensures.shapes c.in-Ok.ensures.writes c.in-Ok.ensures.tests
+    converted_given c.args.reading c.empty.result c.all-rows.result c.args.job.now reaches was is c.empty.ensures _ _ _ _ c.in_ok-drawing.drawing (shapes_in c.shapes_on.result) (Ok c.in-Ok.outcome)
+    (ap (λ s. s.times) c.all-rows.ensures.smoothing) c.all-rows.ensures.rows drawn c.shapes_on.ensures.shapes c.in-Ok.ensures.writes c.in-Ok.ensures.tests
 
 pub returns-clause-converts : goal.returns-clause-converts
 returns-clause-converts g c =
@@ -49,5 +44,5 @@ returns-clause-converts g c =
     let is = g.S.Source.state c.draw.new.source in
     let drawn = drawn_so c.args.reading c.empty.result _ c.args.job.now reaches was is c.empty.ensures c.in_ok-request.request.setup c.in_ok-request.request.picture.now _
     (ap rules_in made.setup) (ap (λ s. s.choice) made.setup) (ap (λ s. s.turn) made.setup) shown c.in_ok-drawing.ensures.draws in
-    converted_given c.args.reading c.empty.result plain c.args.job.now reaches was is c.empty.ensures _ _ _ _ c.in_ok-drawing.drawing (shapes_in c.shapes_on.result) (Err c.in-Err.fault)
-    refl drawn c.shapes_on.ensures.shapes c.in-Err.ensures.writes c.in-Err.ensures.tests
+    converted_given c.args.reading c.empty.result c.all-rows.result c.args.job.now reaches was is c.empty.ensures _ _ _ _ c.in_ok-drawing.drawing (shapes_in c.shapes_on.result) (Err c.in-Err.fault)
+    (ap (λ s. s.times) c.all-rows.ensures.smoothing) c.all-rows.ensures.rows drawn c.shapes_on.ensures.shapes c.in-Err.ensures.writes c.in-Err.ensures.tests

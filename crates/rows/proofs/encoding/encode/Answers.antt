@@ -22,10 +22,11 @@ returns-in-Ok-ended-clause-paints g c = λ colour shown.
     let rows = rows_of scene.page scene.dots in
     let same : g.B.Bands.row_text bands reaches ≡ text = ap (λ (f : Reach → ℕ → List ℕ). f reaches) made.text in
     let all : rows - 0 ≡ rows = omega arith in
-    let bytes : rows_bytes (g.B.Bands.row_text bands reaches) (g.B.Bands.next bands) (g.B.Bands.rows bands - g.B.Bands.next bands) ≡ rows_bytes text 0 rows =
-    ap (λ (f : ℕ → List ℕ). rows_bytes f (g.B.Bands.next bands) (g.B.Bands.rows bands - g.B.Bands.next bands)) same
-    ∙ ap (λ (k : ℕ). rows_bytes text k (g.B.Bands.rows bands - k)) made.next
-    ∙ ap (λ (k : ℕ). rows_bytes text 0 (k - 0)) made.rows
+    let ends : g.B.Bands.end bands ≡ rows = made.end ∙ c.rows-rows.ensures.count in
+    let bytes : rows_bytes (g.B.Bands.row_text bands reaches) (g.B.Bands.next bands) (g.B.Bands.end bands - g.B.Bands.next bands) ≡ rows_bytes text 0 rows =
+    ap (λ (f : ℕ → List ℕ). rows_bytes f (g.B.Bands.next bands) (g.B.Bands.end bands - g.B.Bands.next bands)) same
+    ∙ ap (λ (k : ℕ). rows_bytes text k (g.B.Bands.end bands - k)) made.next
+    ∙ ap (λ (k : ℕ). rows_bytes text 0 (k - 0)) ends
     ∙ ap (rows_bytes text 0) all in
     let png = c.new-png.result in
     let wrote = c.in-Ok-write_left.ensures.writes in
@@ -45,5 +46,5 @@ returns-in-Ok-write_left-clause-told g c =
     let bands = c.in-Ok.bands in
     let made = c.in-Ok.ensures in
     let scene = c.args.scene in
-    told_some g.W.Watcher.hears (g.B.Bands.rows bands - g.B.Bands.next bands) (rows_of scene.page scene.dots) _ c.args.watcher.now c.write_left.new.watcher
-    (omega (arith, made.rows, made.next)) c.in-Ok-write_left.ensures.told
+    told_some g.W.Watcher.hears (g.B.Bands.end bands - g.B.Bands.next bands) (rows_of scene.page scene.dots) _ c.args.watcher.now c.write_left.new.watcher
+    (omega (arith, made.end, c.rows-rows.ensures.count, made.next)) c.in-Ok-write_left.ensures.told

@@ -21,10 +21,10 @@ each-preserved g c =
     record {
       some = made.more;
       few = made.few;
-      rows = made.rows ∙ inv.rows;
+      end = made.end ∙ inv.end;
       pixels = made.pixels ∙ inv.pixels;
       from = omega (arith, inv.from, made.some);
-      to = omega (arith, made.within, made.rows);
+      to = omega (arith, made.within, made.end);
       colours = colours_join c.args.colours.now.items c.each.colours.items c.add_next.new.colours.items row first at end inv.from (omega (arith, made.some)) inv.colours added;
       same = made.same ∙ inv.same;
       tests = omega (arith, made.tests, inv.tests);

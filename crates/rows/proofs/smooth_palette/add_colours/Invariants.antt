@@ -11,14 +11,14 @@ invariant-each g l =
     record {
       some : 0 < length l.colours.items;
       few : length l.colours.items ≤ 256;
-      rows : l.bands.rows ≡ l.fn.bands.rows;
+      end : l.bands.end ≡ l.fn.bands.end;
       pixels : row_pixels l.bands ≡ row_pixels l.fn.bands;
       from : first ≤ l.bands.next;
-      to : l.bands.next - first ≤ l.bands.rows - first;
+      to : l.bands.next - first ≤ l.bands.end - first;
       colours : l.colours.items ≡ fold with_colour l.fn.colours.items (flat_map (row_pixels l.fn.bands (g.G.Gauge.reaches l.fn.gauge)) (range_with_len first (l.bands.next - first)));
       same : g.G.Gauge.reaches l.gauge ≡ g.G.Gauge.reaches l.fn.gauge;
       tests : g.G.Gauge.count l.gauge + tests_left l.bands.painting ≤ g.G.Gauge.count l.fn.gauge + tests_left l.fn.bands.painting;
     }
 
 abbrev pub decreases-each : goal.decreases-each
-decreases-each g l = l.bands.rows - l.bands.next
+decreases-each g l = l.bands.end - l.bands.next

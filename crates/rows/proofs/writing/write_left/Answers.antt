@@ -10,14 +10,14 @@ pub each-init : goal.each-init
 each-init g c = record {
   so_far = search rules;
   text = refl;
-  rows = refl;
+  ends = refl;
   next = sym c.next_row-first.ensures.next;
   from = omega (arith, c.next_row-first.ensures.next);
-  to = omega (arith, c.next_row-first.ensures.next, c.next_row-first.ensures.within, c.rows-rows.ensures.count);
-  most = omega (arith, c.rows-rows.ensures.count, c.rows-rows.ensures.most);
+  to = omega (arith, c.next_row-first.ensures.next, c.next_row-first.ensures.within, c.end_row-end.ensures.end);
+  most = omega (arith, c.end_row-end.ensures.most);
   small = omega (arith, c.requires.few);
   same = refl;
-  told = told_nothing g.W.Watcher.hears (c.rows-rows.result - c.next_row-first.result) c.next_row-first.result c.args.watcher.now;
+  told = told_nothing g.W.Watcher.hears (c.end_row-end.result - c.next_row-first.result) c.next_row-first.result c.args.watcher.now;
   tests = omega arith;
 }
 
@@ -39,19 +39,19 @@ each-preserved g c =
     (subst (λ (k : ℕ). W c.next_row-first.result k (g.B.Bands.next c.write_next.new.self) row) inv.next
     (subst (W c.next_row-first.result (g.B.Bands.next c.each.bands) (g.B.Bands.next c.write_next.new.self)) same made.writes))) in
     let later : c.each.at ≤ c.next_row-at.result = omega (arith, there, inv.next, made.some) in
-    let rows_are : g.B.Bands.rows c.write_next.new.self ≡ c.rows-rows.result = made.rows ∙ inv.rows ∙ sym c.rows-rows.ensures.count in
+    let ends_are : g.B.Bands.end c.write_next.new.self ≡ c.end_row-end.result = made.end ∙ inv.ends ∙ sym c.end_row-end.ensures.end in
     record {
       so_far = rows_after row first first c.each.at c.next_row-at.result c.args.done c.each.written (g.K.Sink.state c.args.sink.now) was is (Ok c.in-Ok.bytes) inv.from later inv.so_far wrote;
       text = made.text ∙ inv.text;
-      rows = made.rows ∙ inv.rows;
+      ends = made.end ∙ inv.ends;
       next = there;
       from = omega (arith, inv.from, later);
-      to = omega (arith, made.within, rows_are, there);
+      to = omega (arith, made.within, ends_are, there);
       most = inv.most;
       small = omega (arith, inv.small, made.small, inv.next, there, later);
       same = made.same ∙ inv.same;
-      told = told_more g.W.Watcher.hears c.next_row-first.result c.each.at c.next_row-at.result c.rows-rows.result c.args.watcher.now c.each.watcher c.tell.new.watcher
-          (omega (arith, inv.from, c.next_row-first.ensures.next)) (omega (arith, there, inv.next, made.some)) (omega (arith, made.within, rows_are, there)) inv.told c.tell.ensures;
+      told = told_more g.W.Watcher.hears c.next_row-first.result c.each.at c.next_row-at.result c.end_row-end.result c.args.watcher.now c.each.watcher c.tell.new.watcher
+          (omega (arith, inv.from, c.next_row-first.ensures.next)) (omega (arith, there, inv.next, made.some)) (omega (arith, made.within, ends_are, there)) inv.told c.tell.ensures;
       tests = omega (arith, inv.tests, made.tests);
     }
 
@@ -72,17 +72,17 @@ returns-in-Err-clause-writes g c =
     let wrote = subst (λ (k : ℕ). W k c.each.at row) c.next_row-first.ensures.next
     (subst (λ (k : ℕ). W c.next_row-first.result k row) inv.next (subst (W c.next_row-first.result (g.B.Bands.next c.each.bands)) same made.writes)) in
     let later : c.each.at ≤ end = omega (arith, inv.next, made.some) in
-    let within : end ≤ g.B.Bands.rows c.args.bands.now = omega (arith, made.within, made.rows, inv.rows) in
-    cut_in_more row first first end (g.B.Bands.rows c.args.bands.now) c.args.done (g.K.Sink.state c.args.sink.now) is c.in-Err.stop within
+    let within : end ≤ g.B.Bands.end c.args.bands.now = omega (arith, made.within, made.end, inv.ends) in
+    cut_in_more row first first end (g.B.Bands.end c.args.bands.now) c.args.done (g.K.Sink.state c.args.sink.now) is c.in-Err.stop within
     (rows_after row first first c.each.at end c.args.done c.each.written (g.K.Sink.state c.args.sink.now) was is answer inv.from later inv.so_far wrote)
 
 pub returns-in-Err-clause-told : goal.returns-in-Err-clause-told
 returns-in-Err-clause-told g c =
-    told_some g.W.Watcher.hears (c.rows-rows.result - c.next_row-first.result) _ _ c.args.watcher.now c.each.watcher
-    (omega (arith, c.rows-rows.ensures.count, c.next_row-first.ensures.next)) c.each.invariant.told
+    told_some g.W.Watcher.hears (c.end_row-end.result - c.next_row-first.result) _ _ c.args.watcher.now c.each.watcher
+    (omega (arith, c.end_row-end.ensures.end, c.next_row-first.ensures.next)) c.each.invariant.told
 
 pub returns-clause-told : goal.returns-clause-told
 returns-clause-told g c =
     let inv = c.each.invariant in
-    told_all g.W.Watcher.hears c.next_row-first.result c.each.at c.rows-rows.result (g.B.Bands.next c.args.bands.now) (g.B.Bands.rows c.args.bands.now)
-    c.args.watcher.now c.each.watcher (omega arith) inv.to c.rows-rows.ensures.count c.next_row-first.ensures.next inv.told
+    told_all g.W.Watcher.hears c.next_row-first.result c.each.at c.end_row-end.result (g.B.Bands.next c.args.bands.now) (g.B.Bands.end c.args.bands.now)
+    c.args.watcher.now c.each.watcher (omega arith) inv.to c.end_row-end.ensures.end c.next_row-first.ensures.next inv.told

@@ -10,16 +10,16 @@ invariant-each g l =
     record {
       so_far : WritesRows (g.B.Bands.row_text l.fn.bands (g.G.Gauge.reaches l.fn.gauge)) first first l.at l.done (g.K.Sink.state l.fn.sink) (g.K.Sink.state l.sink) (Ok l.written);
       text : g.B.Bands.row_text l.bands ≡ g.B.Bands.row_text l.fn.bands;
-      rows : g.B.Bands.rows l.bands ≡ g.B.Bands.rows l.fn.bands;
+      ends : g.B.Bands.end l.bands ≡ g.B.Bands.end l.fn.bands;
       next : g.B.Bands.next l.bands ≡ l.at;
       from : first ≤ l.at;
-      to : l.at ≤ l.rows;
-      most : l.rows ≤ 77405;
+      to : l.at ≤ l.end;
+      most : l.end ≤ 77405;
       small : l.written ≤ 128 + l.at * 4194304;
       same : g.G.Gauge.reaches l.gauge ≡ g.G.Gauge.reaches l.fn.gauge;
-      told : WasTold g.W.Watcher.hears (l.rows - l.first) l.fn.watcher (l.at - l.first) l.watcher;
+      told : WasTold g.W.Watcher.hears (l.end - l.first) l.fn.watcher (l.at - l.first) l.watcher;
       tests : g.G.Gauge.count l.gauge + g.B.Bands.tests l.bands ≤ g.G.Gauge.count l.fn.gauge + g.B.Bands.tests l.fn.bands;
     }
 
 abbrev pub decreases-each : goal.decreases-each
-decreases-each g l = l.rows - l.at
+decreases-each g l = l.end - l.at

@@ -1,6 +1,14 @@
-use Rattle.rows.proofs.Potentials.{begun_tests}
+use Rattle.areas.specs.Views.{shapes_in}
+use Rattle.picture_out.specs.declared.form.Form.TheVariants.{Pbm}
+use Rattle.rows.proofs.Potentials.{stopped_rows, stopped_tests}
 use Rattle.rows.proofs.bit_bands.InkerBands.begin.Goals as goal
+
+pub returns-clause-text : goal.returns-clause-text
+returns-clause-text c =
+    let made = c.in_ok-inker.ensures in
+    stopped_rows Pbm c.in_ok-inker.inker c.stop_at.new.self c.args.end_row c.args.scene.pens (shapes_in c.args.scene.shapes) c.args.scene.page c.args.scene.dots c.stop_at.ensures made.strokes made.areas made.page made.dots made.pens
 
 pub returns-clause-tests : goal.returns-clause-tests
 returns-clause-tests c =
-    begun_tests c.of_shapes.result c.args.scene.pens c.args.scene.shapes.strokes.now c.args.scene.page c.args.scene.dots c.args.first_row c.of_shapes.ensures.strokes c.of_shapes.ensures.page c.of_shapes.ensures.dots c.of_shapes.ensures.pens c.of_shapes.ensures.first
+    let made = c.in_ok-inker.ensures in
+    stopped_tests c.in_ok-inker.inker c.stop_at.new.self c.args.scene.pens c.args.scene.shapes.strokes.now c.args.scene.page c.args.scene.dots c.args.first_row c.args.end_row c.stop_at.ensures made.strokes made.page made.dots made.pens made.first

@@ -1,6 +1,5 @@
 use Rattle.std.proofs.Common.{refl, ◌≡◌, ◌≤◌, ◌<◌, ◌+◌, ◌-◌, ◌*◌, ℕ, List, sym, ap, subst, arith}
 use Rattle.std.proofs.lemmas.Nat.{mul-le}
-use Rattle.plot_page.specs.Resolutions.{rows_of}
 use Rattle.plot_page.specs.declared.dots.TheConstants.{MOST_PIXELS_A_SIDE}
 use Rattle.stroke_raster.specs.Painting.{Painting, painted_rows, rows_next}
 use Rattle.picture_out.specs.declared.form.Form.TheVariants.{Pcl}
@@ -18,11 +17,11 @@ pub put_rows-requires-clause-some : goal.put_rows-requires-clause-some
 put_rows-requires-clause-some g c =
     let v : c.self.inside.inker ≡ c.args.self.now = c.self.view_is in
     let p : Painting = c.self.inside.inker in
-    let is_left = c.ink_next.ensures.left.1 (subst (λ (z : Painting). z.next < rows_of z.page z.dots) (sym v) c.requires.left) in
+    let is_left = c.ink_next.ensures.left.1 (subst (λ (z : Painting). z.next < z.end) (sym v) c.requires.left) in
     let n = c.next_row.result - c.next_row-at.result in
     let n_is : n ≡ rows_next p = omega (arith, c.next_row-at.ensures.next, c.next_row.ensures.next, c.ink_next.ensures.moves.next) in
     let b = next_band p c.ink_next.new.self (g.G.Gauge.reaches c.args.gauge.now) n c.columns.result c.packed_length-stride.result c.bytes.result.now
-    c.ink_next.ensures.moves n_is (c.ink_next.ensures.some is_left) (c.ink_next.ensures.rows is_left) c.bytes.ensures.rows c.bytes.ensures.size
+    c.ink_next.ensures.within c.ink_next.ensures.moves n_is (c.ink_next.ensures.some is_left) (c.ink_next.ensures.rows is_left) c.bytes.ensures.rows c.bytes.ensures.size
     c.columns.ensures.count c.columns.ensures.most c.packed_length-stride.ensures in
     b.some
 
@@ -30,11 +29,11 @@ pub invariant_of-rows-clause-size : goal.invariant_of-rows-clause-size
 invariant_of-rows-clause-size g c =
     let v : c.self.inside.inker ≡ c.args.self.now = c.self.view_is in
     let p : Painting = c.self.inside.inker in
-    let is_left = c.ink_next.ensures.left.1 (subst (λ (z : Painting). z.next < rows_of z.page z.dots) (sym v) c.requires.left) in
+    let is_left = c.ink_next.ensures.left.1 (subst (λ (z : Painting). z.next < z.end) (sym v) c.requires.left) in
     let n = c.next_row.result - c.next_row-at.result in
     let n_is : n ≡ rows_next p = omega (arith, c.next_row-at.ensures.next, c.next_row.ensures.next, c.ink_next.ensures.moves.next) in
     let b = next_band p c.ink_next.new.self (g.G.Gauge.reaches c.args.gauge.now) n c.columns.result c.packed_length-stride.result c.bytes.result.now
-    c.ink_next.ensures.moves n_is (c.ink_next.ensures.some is_left) (c.ink_next.ensures.rows is_left) c.bytes.ensures.rows c.bytes.ensures.size
+    c.ink_next.ensures.within c.ink_next.ensures.moves n_is (c.ink_next.ensures.some is_left) (c.ink_next.ensures.rows is_left) c.bytes.ensures.rows c.bytes.ensures.size
     c.columns.ensures.count c.columns.ensures.most c.packed_length-stride.ensures in
     b.size
 
@@ -42,11 +41,11 @@ pub put_rows-requires-clause-few : goal.put_rows-requires-clause-few
 put_rows-requires-clause-few g c =
     let v : c.self.inside.inker ≡ c.args.self.now = c.self.view_is in
     let p : Painting = c.self.inside.inker in
-    let is_left = c.ink_next.ensures.left.1 (subst (λ (z : Painting). z.next < rows_of z.page z.dots) (sym v) c.requires.left) in
+    let is_left = c.ink_next.ensures.left.1 (subst (λ (z : Painting). z.next < z.end) (sym v) c.requires.left) in
     let n = c.next_row.result - c.next_row-at.result in
     let n_is : n ≡ rows_next p = omega (arith, c.next_row-at.ensures.next, c.next_row.ensures.next, c.ink_next.ensures.moves.next) in
     let b = next_band p c.ink_next.new.self (g.G.Gauge.reaches c.args.gauge.now) n c.columns.result c.packed_length-stride.result c.bytes.result.now
-    c.ink_next.ensures.moves n_is (c.ink_next.ensures.some is_left) (c.ink_next.ensures.rows is_left) c.bytes.ensures.rows c.bytes.ensures.size
+    c.ink_next.ensures.within c.ink_next.ensures.moves n_is (c.ink_next.ensures.some is_left) (c.ink_next.ensures.rows is_left) c.bytes.ensures.rows c.bytes.ensures.size
     c.columns.ensures.count c.columns.ensures.most c.packed_length-stride.ensures in
     let m = mul-le n (c.packed_length-stride.result + LONGEST_COMMAND) MOST_PIXELS_A_SIDE (bytes_for MOST_PIXELS_A_SIDE + LONGEST_COMMAND) b.low (omega (arith, b.narrow)) in
     omega (arith, m)
@@ -55,11 +54,11 @@ pub returns-clause-writes : goal.returns-clause-writes
 returns-clause-writes g c =
     let v : c.self.inside.inker ≡ c.args.self.now = c.self.view_is in
     let p : Painting = c.self.inside.inker in
-    let is_left = c.ink_next.ensures.left.1 (subst (λ (z : Painting). z.next < rows_of z.page z.dots) (sym v) c.requires.left) in
+    let is_left = c.ink_next.ensures.left.1 (subst (λ (z : Painting). z.next < z.end) (sym v) c.requires.left) in
     let n = c.next_row.result - c.next_row-at.result in
     let n_is : n ≡ rows_next p = omega (arith, c.next_row-at.ensures.next, c.next_row.ensures.next, c.ink_next.ensures.moves.next) in
     let b = next_band p c.ink_next.new.self (g.G.Gauge.reaches c.args.gauge.now) n c.columns.result c.packed_length-stride.result c.bytes.result.now
-    c.ink_next.ensures.moves n_is (c.ink_next.ensures.some is_left) (c.ink_next.ensures.rows is_left) c.bytes.ensures.rows c.bytes.ensures.size
+    c.ink_next.ensures.within c.ink_next.ensures.moves n_is (c.ink_next.ensures.some is_left) (c.ink_next.ensures.rows is_left) c.bytes.ensures.rows c.bytes.ensures.size
     c.columns.ensures.count c.columns.ensures.most c.packed_length-stride.ensures in
     let reaches = g.G.Gauge.reaches c.args.gauge.now in
     let rows : List (List ℕ) = painted_rows reaches p p.next (rows_next p) in
@@ -78,11 +77,11 @@ pub returns-clause-small : goal.returns-clause-small
 returns-clause-small g c =
     let v : c.self.inside.inker ≡ c.args.self.now = c.self.view_is in
     let p : Painting = c.self.inside.inker in
-    let is_left = c.ink_next.ensures.left.1 (subst (λ (z : Painting). z.next < rows_of z.page z.dots) (sym v) c.requires.left) in
+    let is_left = c.ink_next.ensures.left.1 (subst (λ (z : Painting). z.next < z.end) (sym v) c.requires.left) in
     let n = c.next_row.result - c.next_row-at.result in
     let n_is : n ≡ rows_next p = omega (arith, c.next_row-at.ensures.next, c.next_row.ensures.next, c.ink_next.ensures.moves.next) in
     let b = next_band p c.ink_next.new.self (g.G.Gauge.reaches c.args.gauge.now) n c.columns.result c.packed_length-stride.result c.bytes.result.now
-    c.ink_next.ensures.moves n_is (c.ink_next.ensures.some is_left) (c.ink_next.ensures.rows is_left) c.bytes.ensures.rows c.bytes.ensures.size
+    c.ink_next.ensures.within c.ink_next.ensures.moves n_is (c.ink_next.ensures.some is_left) (c.ink_next.ensures.rows is_left) c.bytes.ensures.rows c.bytes.ensures.size
     c.columns.ensures.count c.columns.ensures.most c.packed_length-stride.ensures in
     let m = mul-le n (c.packed_length-stride.result + LONGEST_COMMAND) n 4194304 (omega arith) (omega (arith, b.narrow)) in
     let was : p.next ≡ c.args.self.now.next = ap (λ (z : Painting). z.next) v in
@@ -93,6 +92,6 @@ returns-clause-small g c =
 pub returns-clause-tests : goal.returns-clause-tests
 returns-clause-tests g c =
     let v : c.self.inside.inker ≡ c.args.self.now = c.self.view_is in
-    let is_left = c.ink_next.ensures.left.1 (subst (λ (z : Painting). z.next < rows_of z.page z.dots) (sym v) c.requires.left) in
+    let is_left = c.ink_next.ensures.left.1 (subst (λ (z : Painting). z.next < z.end) (sym v) c.requires.left) in
     subst (λ (z : Painting). g.G.Gauge.count c.ink_next.new.gauge + tests_left c.ink_next.new.self ≤ g.G.Gauge.count c.args.gauge.now + tests_left z) v
     (tests_after c.self.inside.inker c.ink_next.new.self _ _ c.ink_next.ensures.moves (c.ink_next.ensures.most is_left))

@@ -20,9 +20,9 @@ returns-in-Some-clause-writes g c =
     let at = inside.next in
     let count = c.min-count.result in
     let columns = width_of s.pixels in
-    let it : SmoothPainting = record { painting = p; times = inside.times; layout = s.layout; columns = columns; rows = inside.rows; next = at; height = inside.height } in
+    let it : SmoothPainting = record { painting = p; times = inside.times; layout = s.layout; columns = columns; rows = inside.rows; next = at; end = inside.end; height = inside.height } in
     let v : it ≡ c.args.self.now = c.self.view_is in
-    let left : at < inside.rows = subst (λ (z : SmoothPainting). z.next < z.rows) (sym v) c.requires.left in
+    let left : at < inside.end = subst (λ (z : SmoothPainting). z.next < z.end) (sym v) c.requires.left in
     let reaches = g.G.Gauge.reaches c.args.gauge.now in
     let inv = c.self.invariant in
     let cells = rows_of_band c.in-Some.band in
@@ -31,7 +31,7 @@ returns-in-Some-clause-writes g c =
     λ k lt. sym
     (ap (λ (m : ℕ). f m (inks_held s.inks) cells k) inv.1
     ∙ ap₂ (λ (i : List Ink) (z : List (List ℕ)). f inside.times i z k) inv.0 c.in-Some.ensures.rows
-    ∙ ap (layout_bytes s.layout) (band_pixels reaches p inside.times inside.rows at inside.height k columns inv.3 left (omega (arith, lt, c.min-count.ensures)))) in
+    ∙ ap (layout_bytes s.layout) (band_pixels reaches p inside.times inside.end at inside.height k columns inv.3 left (omega (arith, lt, c.min-count.ensures)))) in
     let wrote = c.write_smoothed.ensures.rows (smoothed_text it reaches) made in
     subst (λ (z : SmoothPainting). WritesRows (smoothed_text z reaches) c.args.first z.next (at + count) c.args.done (g.K.Sink.state c.args.sink.now) (g.K.Sink.state c.write_smoothed.new.sink) c.write_smoothed.result) v wrote
 

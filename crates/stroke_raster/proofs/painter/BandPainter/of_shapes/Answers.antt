@@ -13,6 +13,7 @@ invariant_of-result g c =
     let enough : rows_of c.args.page c.args.dots ≤ c.args.first_row + c.in-Ok-vec.heads.len * c.args.band_rows =
     enough_bands (rows_of c.args.page c.args.dots) c.args.first_row c.args.band_rows c.in-Ok-vec.heads.len (search rules) (search rules) (search rules) in
     rw (whole c.chain.new.heads (drop (length c.chain.new.heads) c.in-Ok-vec.heads.items) c.in-Ok-vec.heads.len heads, whole c.chain.new.links (drop (length c.chain.new.links) c.in-Ok-vec-2.links.items) c.in-Ok-vec-2.links.len links) (record {
+      end_in = search rules;
       next_in = search rules;
       next_at = search rules;
       painted_before = search rules;
