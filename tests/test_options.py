@@ -188,7 +188,7 @@ def options_in_page(command, commands):
             continue
         own = re.search(rf"For {command} it is ([^.]*)\.", text)
         values = range_in(own[1] if own else re.sub(r"For \w+ it is [^.]*\.", "", text))
-        default = re.search(rf"For {command} the default is ([^ ,.;]+)", text) or re.search(r"The default is ([^ ,.]+)", text)
+        default = re.search(rf"For {command} the default is ([^ ,.;]+)", text) or re.search(r"The default is ([^,.]+)", text)
         found[name] = (words[-1], values, default[1] if default else None)
     return found
 
