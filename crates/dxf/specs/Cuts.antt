@@ -1,0 +1,78 @@
+-- The part of the centre line of a stroke that is in its window. Its ends and the edges of the window are included.
+use Rattle.std.specs.Prelude.{ℕ, ◌*◌, max, nat_lt, not, ◌&&◌, Bool, true, false, ℤ, pos, int_le, int_lt, ◌+ℤ◌, ◌-ℤ◌, ◌*ℤ◌, nat_abs, Option, Some, None, if◌then◌else◌}
+use Rattle.exact.specs.Fraction.{quotient, round}
+use Rattle.plot_page.specs.Segments.{Segment}
+use Rattle.plot_page.specs.declared.window.Window.{Window}
+use Rattle.dxf.specs.Groups.{in_parts}
+use Rattle.dxf.specs.declared.cuts.Point.{Point}
+use Rattle.dxf.specs.declared.cuts.Line.{Line}
+use Rattle.dxf.specs.declared.cuts.Share.{Share}
+use Rattle.dxf.specs.declared.cuts.Span.{Span}
+
+-- a place of the page, in grains, as a point of the document, in parts
+abbrev pub point_of : ℤ → ℤ → Point
+point_of x y = record { x = in_parts x; y = in_parts y }
+
+-- a window holds a place
+abbrev pub holds : Window → ℤ → ℤ → Bool
+holds w x y = (int_le w.x0 x && int_le x w.x1) && (int_le w.y0 y && int_le y w.y1)
+
+-- the window cuts nothing of a stroke
+abbrev pub is_whole : Segment → Bool
+is_whole s = holds s.window s.ax s.ay && holds s.window s.bx s.by
+
+-- one share of the way along a stroke is less than another
+abbrev pub is_before : Share → Share → Bool
+is_before a b = nat_lt (a.over * b.under) (b.over * a.under)
+
+abbrev pub earlier : Share → Share → Share
+earlier a b = if is_before b a then b else a
+
+abbrev pub later : Share → Share → Share
+later a b = if is_before a b then b else a
+
+-- the size of q over the size of p
+abbrev pub share_of : ℤ → ℤ → Share
+share_of p q = record { over = nat_abs q; under = nat_abs p }
+
+-- from the first end of a stroke to the other one
+abbrev pub whole_way : Span
+whole_way = record { from = record { over = 0; under = 1 }; to = record { over = 1; under = 1 }; is_seen = true }
+
+-- the part of a span whose shares t have p t ≤ q
+abbrev pub narrowed : ℤ → ℤ → Span → Span
+narrowed p q span =
+    if int_lt q (pos 0) then
+    (if int_lt p (pos 0) then record span { from = later span.from (share_of p q) } else record span { is_seen = false })
+    else if int_lt (pos 0) p then record span { to = earlier span.to (share_of p q) } else span
+
+-- the part of a span that is between two numbers, for a coordinate that leads from a to b
+abbrev pub between : ℤ → ℤ → ℤ → ℤ → Span → Span
+between low high a b span = narrowed (b -ℤ a) (high -ℤ a) (narrowed (a -ℤ b) (a -ℤ low) span)
+
+-- the part of a stroke that is in its window
+abbrev pub span_of : Segment → Span
+span_of s =
+    between s.window.y0 s.window.y1 s.ay s.by (between s.window.x0 s.window.x1 s.ax s.bx whole_way)
+
+-- a span holds a place
+abbrev pub is_open : Span → Bool
+is_open span = span.is_seen && not (is_before span.to span.from)
+
+-- a coordinate after a share of the way from a to b, rounded to a whole part; the upper one of two that are as near
+abbrev pub coordinate_at : ℤ → ℤ → Share → ℤ
+coordinate_at a b t =
+    round (quotient (in_parts (a *ℤ pos t.under +ℤ (b -ℤ a) *ℤ pos t.over)) (pos (max 1 t.under)))
+
+abbrev pub point_at : Segment → Share → Point
+point_at s t = record { x = coordinate_at s.ax s.bx t; y = coordinate_at s.ay s.by t }
+
+abbrev pub own_line : Segment → Line
+own_line s = record { from = point_of s.ax s.ay; to = point_of s.bx s.by }
+
+abbrev pub cut_line : Segment → Span → Option Line
+cut_line s span = if is_open span then Some (record { from = point_at s span.from; to = point_at s span.to }) else None
+
+-- what is seen of the centre line of a stroke: all of it, a part, or nothing
+abbrev pub line_of : Segment → Option Line
+line_of s = if is_whole s then Some (own_line s) else cut_line s (span_of s)

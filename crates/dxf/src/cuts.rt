@@ -1,0 +1,228 @@
+//! The part of the centre line of a stroke that is in its window.
+ghost use Rattle.std.specs.Prelude.{◌≡◌, ◌≤◌, ◌-ℤ◌, nat_abs};
+ghost use Rattle.dxf.specs.Cuts.{between, coordinate_at, cut_line, earlier, holds, is_before, is_open, is_whole, later, line_of, narrowed, own_line, point_at, point_of, share_of, span_of, whole_way};
+
+use crate::groups::in_parts;
+use exact::rounded;
+use plot_page::{Stroke, Window};
+
+/// A point of a document, in parts of a millimetre from the lower left corner of the page.
+#[derive(Clone, Copy)]
+pub(crate) struct Point {
+    pub(crate) x: i128,
+    pub(crate) y: i128,
+}
+
+/// A straight line.
+#[derive(Clone, Copy)]
+pub(crate) struct Line {
+    pub(crate) from: Point,
+    pub(crate) to: Point,
+}
+
+/// A share of the way from one end of a stroke to the other.
+#[derive(Clone, Copy)]
+pub(crate) struct Share {
+    pub(crate) over: u32,
+    pub(crate) under: u32,
+}
+
+/// A part of a stroke, from one share of its way to another, or nothing.
+#[derive(Clone, Copy)]
+pub(crate) struct Span {
+    pub(crate) from: Share,
+    pub(crate) to: Share,
+    pub(crate) is_seen: bool,
+}
+
+// What is seen of the centre line of a stroke: all of it, a part, or nothing.
+pub(crate) fn line_of(stroke: &Stroke) -> Option<Line>
+    ensures { result ≡ line_of stroke.now }
+{
+    if is_whole(stroke) {
+        Some(own_line(stroke))
+    } else {
+        cut_line(stroke, span_of(stroke))
+    }
+}
+
+// A place of the page as a point of the document.
+pub(crate) fn point_of(x: i32, y: i32) -> Point
+    ensures { result ≡ point_of x y }
+{
+    Point {
+        x: in_parts(x),
+        y: in_parts(y),
+    }
+}
+
+// A stroke that no window cuts.
+fn own_line(stroke: &Stroke) -> Line
+    ensures { result ≡ own_line stroke.now }
+{
+    Line {
+        from: point_of(stroke.ax, stroke.ay),
+        to: point_of(stroke.bx, stroke.by),
+    }
+}
+
+// Whether its window cuts nothing of a stroke.
+pub(crate) fn is_whole(stroke: &Stroke) -> bool
+    ensures { result ≡ is_whole stroke.now }
+{
+    holds(stroke.window, stroke.ax, stroke.ay) && holds(stroke.window, stroke.bx, stroke.by)
+}
+
+// Whether a window holds a place.
+fn holds(window: Window, x: i32, y: i32) -> bool
+    ensures { result ≡ holds window x y }
+{
+    window.x0 <= x && x <= window.x1 && window.y0 <= y && y <= window.y1
+}
+
+// The part of a stroke that is in its window.
+fn span_of(stroke: &Stroke) -> Span
+    ensures { result ≡ span_of stroke.now }
+{
+    let across = between(
+        stroke.window.x0,
+        stroke.window.x1,
+        stroke.ax,
+        stroke.bx,
+        whole_way(),
+    );
+    between(
+        stroke.window.y0,
+        stroke.window.y1,
+        stroke.ay,
+        stroke.by,
+        across,
+    )
+}
+
+// From the first end of a stroke to the other one.
+fn whole_way() -> Span
+    ensures { result ≡ whole_way }
+{
+    Span {
+        from: Share { over: 0, under: 1 },
+        to: Share { over: 1, under: 1 },
+        is_seen: true,
+    }
+}
+
+// The part of a span that is between two numbers, for a coordinate that leads from `a` to `b`.
+fn between(low: i32, high: i32, a: i32, b: i32, span: Span) -> Span
+    requires low { nat_abs low ≤ 1048576 }
+    requires high { nat_abs high ≤ 1048576 }
+    requires a { nat_abs a ≤ 1048576 }
+    requires b { nat_abs b ≤ 1048576 }
+    ensures { result ≡ between low high a b span }
+{
+    let above = narrowed(difference(a, b), difference(a, low), span);
+    narrowed(difference(b, a), difference(high, a), above)
+}
+
+// How much a number is above another one.
+fn difference(number: i32, other: i32) -> i32
+    requires number { nat_abs number ≤ 1048576 }
+    requires other { nat_abs other ≤ 1048576 }
+    ensures { result ≡ number -ℤ other }
+{
+    number - other
+}
+
+// The part of a span whose shares t have p t <= q.
+fn narrowed(p: i32, q: i32, span: Span) -> Span
+    ensures { result ≡ narrowed p q span }
+{
+    if q < 0 {
+        if p < 0 {
+            Span {
+                from: later(span.from, share_of(p, q)),
+                ..span
+            }
+        } else {
+            Span {
+                is_seen: false,
+                ..span
+            }
+        }
+    } else if p > 0 {
+        Span {
+            to: earlier(span.to, share_of(p, q)),
+            ..span
+        }
+    } else {
+        span
+    }
+}
+
+// The size of q over the size of p.
+fn share_of(p: i32, q: i32) -> Share
+    ensures { result ≡ share_of p q }
+{
+    Share {
+        over: q.unsigned_abs(),
+        under: p.unsigned_abs(),
+    }
+}
+
+// Whether one share is less than another.
+fn is_before(one: Share, other: Share) -> bool
+    ensures { result ≡ is_before one other }
+{
+    u64::from(one.over) * u64::from(other.under) < u64::from(other.over) * u64::from(one.under)
+}
+
+fn earlier(one: Share, other: Share) -> Share
+    ensures { result ≡ earlier one other }
+{
+    if is_before(other, one) { other } else { one }
+}
+
+fn later(one: Share, other: Share) -> Share
+    ensures { result ≡ later one other }
+{
+    if is_before(one, other) { other } else { one }
+}
+
+// The line of a span of a stroke, if it holds a place.
+fn cut_line(stroke: &Stroke, span: Span) -> Option<Line>
+    ensures { result ≡ cut_line stroke.now span }
+{
+    if !is_open(span) {
+        return None;
+    }
+    Some(Line {
+        from: point_at(stroke, span.from),
+        to: point_at(stroke, span.to),
+    })
+}
+
+// Whether a span holds a place.
+fn is_open(span: Span) -> bool
+    ensures { result ≡ is_open span }
+{
+    span.is_seen && !is_before(span.to, span.from)
+}
+
+// The point of a stroke after a share of its way.
+fn point_at(stroke: &Stroke, share: Share) -> Point
+    ensures { result ≡ point_at stroke.now share }
+{
+    Point {
+        x: coordinate_at(stroke.ax, stroke.bx, share),
+        y: coordinate_at(stroke.ay, stroke.by, share),
+    }
+}
+
+// A coordinate after a share of the way from `a` to `b`, rounded to a whole part.
+fn coordinate_at(a: i32, b: i32, share: Share) -> i128
+    ensures { result ≡ coordinate_at a b share }
+{
+    let under = i128::from(share.under.max(1));
+    let way = i128::from(b) - i128::from(a);
+    let over = i128::from(a) * i128::from(share.under) + way * i128::from(share.over);
+    rounded(15_625 * over, under)
+}

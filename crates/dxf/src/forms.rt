@@ -1,0 +1,231 @@
+//! How the letters of a line lie on the page.
+ghost use Rattle.std.specs.Prelude.{◌≡◌, ◌≤◌, ◌<◌, ◌^◌, ◌*◌, ◌*ℤ◌, nat_abs};
+ghost use Rattle.labels.specs.Labels.{IsNear};
+ghost use Rattle.dxf.specs.Forms.{cross, dot, factor_of, form_by, form_of, height_of, leaning_of, leaning_size, length_of, rotation_of, some_height, square, way};
+
+use crate::angles::{angle_within, direction, rounded};
+use crate::groups::GRAIN;
+use exact::root;
+use labels::{Line, Place};
+
+/// The most that letters lean forward or back, in ten-thousandths of a degree: 85 degrees.
+pub(crate) const MOST_LEANING: u64 = 850_000;
+
+/// How far one place is from another, in grains.
+#[derive(Clone, Copy)]
+pub(crate) struct Vector {
+    pub(crate) x: i32,
+    pub(crate) y: i32,
+}
+
+/// How the letters of a line lie.
+#[derive(Clone, Copy)]
+pub(crate) struct Form {
+    /// Their height, in parts of a millimetre.
+    pub(crate) height: u128,
+    /// The direction of their line, in ten-thousandths of a degree.
+    pub(crate) rotation: u64,
+    /// Their width as a share of their height, in ten-thousandths.
+    pub(crate) factor: u128,
+    /// By how much they lean forward, in ten-thousandths of a degree.
+    pub(crate) leaning: i64,
+    /// Whether they are upside down.
+    pub(crate) is_mirrored: bool,
+    /// Whether they go on along their line, and are not one below the other.
+    pub(crate) is_fit: bool,
+}
+
+// How the letters of a line lie.
+pub(crate) fn form_of(line: &Line) -> Form
+    ensures { result ≡ form_of line.now }
+{
+    form_by(
+        way(line.start, line.end),
+        way(line.start, line.top),
+        line.text.len(),
+    )
+}
+
+// From one place to another.
+fn way(from: Place, to: Place) -> Vector
+    requires from { IsNear from }
+    requires to { IsNear to }
+    ensures value { result ≡ way from to }
+    ensures x { nat_abs result.x ≤ 2097152 }
+    ensures y { nat_abs result.y ≤ 2097152 }
+{
+    Vector {
+        x: to.x - from.x,
+        y: to.y - from.y,
+    }
+}
+
+// The form of so many letters, by their line, and by the way to their top.
+fn form_by(u: Vector, v: Vector, letters: usize) -> Form
+    requires ux { nat_abs u.x ≤ 2097152 }
+    requires uy { nat_abs u.y ≤ 2097152 }
+    requires vx { nat_abs v.x ≤ 2097152 }
+    requires vy { nat_abs v.y ≤ 2097152 }
+    ensures { result ≡ form_by u v letters }
+{
+    let height = height_of(u, v);
+    let crossed = cross(u, v);
+    Form {
+        height,
+        rotation: rotation_of(u, v),
+        factor: factor_of(u, letters, height),
+        leaning: leaning_of(u, v),
+        is_mirrored: crossed < 0,
+        is_fit: crossed.unsigned_abs() != 0,
+    }
+}
+
+// The product of two numbers of vectors.
+fn product(a: i32, b: i32) -> i64
+    requires a { nat_abs a ≤ 2097152 }
+    requires b { nat_abs b ≤ 2097152 }
+    ensures value { result ≡ a *ℤ b }
+    ensures most { nat_abs result ≤ 2 ^ 42 }
+{
+    i64::from(a) * i64::from(b)
+}
+
+fn cross(u: Vector, v: Vector) -> i64
+    requires ux { nat_abs u.x ≤ 2097152 }
+    requires uy { nat_abs u.y ≤ 2097152 }
+    requires vx { nat_abs v.x ≤ 2097152 }
+    requires vy { nat_abs v.y ≤ 2097152 }
+    ensures value { result ≡ cross u v }
+    ensures most { nat_abs result ≤ 2 ^ 43 }
+{
+    product(u.x, v.y) - product(u.y, v.x)
+}
+
+fn dot(u: Vector, v: Vector) -> i64
+    requires ux { nat_abs u.x ≤ 2097152 }
+    requires uy { nat_abs u.y ≤ 2097152 }
+    requires vx { nat_abs v.x ≤ 2097152 }
+    requires vy { nat_abs v.y ≤ 2097152 }
+    ensures value { result ≡ dot u v }
+    ensures most { nat_abs result ≤ 2 ^ 43 }
+{
+    product(u.x, v.x) + product(u.y, v.y)
+}
+
+// The square of the length of a vector.
+fn square(u: Vector) -> u128
+    requires x { nat_abs u.x ≤ 2097152 }
+    requires y { nat_abs u.y ≤ 2097152 }
+    ensures value { result ≡ square u }
+    ensures most { result ≤ 2 ^ 43 }
+{
+    u128::from(dot(u, u).unsigned_abs())
+}
+
+// The length of a vector, in parts.
+fn length_of(u: Vector) -> u128
+    requires x { nat_abs u.x ≤ 2097152 }
+    requires y { nat_abs u.y ≤ 2097152 }
+    ensures value { result ≡ length_of u }
+    ensures most { result < 2 ^ 64 }
+{
+    root(GRAIN * GRAIN * square(u))
+}
+
+// One grain instead of no height.
+fn some_height(height: u128) -> u128
+    requires { height < 2 ^ 64 }
+    ensures value { result ≡ some_height height }
+    ensures most { result < 2 ^ 64 }
+{
+    if height == 0 { GRAIN } else { height }
+}
+
+// How far the top is from the line.
+fn height_of(u: Vector, v: Vector) -> u128
+    requires ux { nat_abs u.x ≤ 2097152 }
+    requires uy { nat_abs u.y ≤ 2097152 }
+    requires vx { nat_abs v.x ≤ 2097152 }
+    requires vy { nat_abs v.y ≤ 2097152 }
+    ensures value { result ≡ height_of u v }
+    ensures most { result < 2 ^ 64 }
+{
+    let crossed = u128::from(cross(u, v).unsigned_abs());
+    if crossed == 0 {
+        some_height(length_of(v))
+    } else {
+        some_height(root(square_of(crossed) / square(u).max(1)))
+    }
+}
+
+// The square of so many grains, in parts.
+fn square_of(grains: u128) -> u128
+    requires { grains ≤ 2 ^ 43 }
+    ensures { result ≡ GRAIN * grains * (GRAIN * grains) }
+{
+    let parts = GRAIN * grains;
+    parts * parts
+}
+
+// The width of a letter as a share of its height.
+fn factor_of(u: Vector, letters: usize, height: u128) -> u128
+    requires x { nat_abs u.x ≤ 2097152 }
+    requires y { nat_abs u.y ≤ 2097152 }
+    requires height { height < 2 ^ 64 }
+    ensures { result ≡ factor_of u letters height }
+{
+    let wide = length_of(u) * 10_000;
+    (wide / product_of(letters, height).max(1)).max(1)
+}
+
+// So many heights.
+fn product_of(letters: usize, height: u128) -> u128
+    requires { height < 2 ^ 64 }
+    ensures { result ≡ letters * height }
+{
+    letters as u128 * height
+}
+
+// The direction of the line, or that of the width of letters that are one below the other.
+fn rotation_of(u: Vector, v: Vector) -> u64
+    requires ux { nat_abs u.x ≤ 2097152 }
+    requires uy { nat_abs u.y ≤ 2097152 }
+    requires vx { nat_abs v.x ≤ 2097152 }
+    requires vy { nat_abs v.y ≤ 2097152 }
+    ensures { result ≡ rotation_of u v }
+{
+    if cross(u, v).unsigned_abs() == 0 {
+        direction(v.y, -v.x)
+    } else {
+        direction(u.x, u.y)
+    }
+}
+
+// How much the letters lean, forward or back.
+fn leaning_size(u: Vector, v: Vector) -> u64
+    requires ux { nat_abs u.x ≤ 2097152 }
+    requires uy { nat_abs u.y ≤ 2097152 }
+    requires vx { nat_abs v.x ≤ 2097152 }
+    requires vy { nat_abs v.y ≤ 2097152 }
+    ensures value { result ≡ leaning_size u v }
+    ensures most { result ≤ MOST_LEANING }
+{
+    let across = cross(u, v).unsigned_abs();
+    let along = dot(u, v).unsigned_abs();
+    MOST_LEANING.min(rounded(angle_within(across, along)))
+}
+
+// By how much the letters lean forward.
+fn leaning_of(u: Vector, v: Vector) -> i64
+    requires ux { nat_abs u.x ≤ 2097152 }
+    requires uy { nat_abs u.y ≤ 2097152 }
+    requires vx { nat_abs v.x ≤ 2097152 }
+    requires vy { nat_abs v.y ≤ 2097152 }
+    ensures { result ≡ leaning_of u v }
+{
+    if cross(u, v).unsigned_abs() == 0 {
+        return 0;
+    }
+    let size = leaning_size(u, v) as i64;
+    if dot(u, v) < 0 { -size } else { size }
+}

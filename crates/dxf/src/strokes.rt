@@ -1,0 +1,113 @@
+//! The strokes and areas of a document that are written together.
+ghost use Rattle.std.specs.Prelude.{◌≡◌, ◌+◌, ◌≤◌, length};
+ghost use Rattle.std.specs.List.{list_all};
+ghost use Rattle.areas.specs.Views.{areas_in};
+ghost use Rattle.pieces.specs.Texts.{IsSound, Puts};
+ghost use Rattle.plot_page.specs.declared.stroke.TheConstants.{MOST_STROKES};
+ghost use Rattle.stroke_runs.specs.Sheets.{shapes_between, sheet_areas};
+ghost use Rattle.dxf.specs.Chains.{edge_marks};
+ghost use Rattle.dxf.specs.Cuts.{is_whole};
+ghost use Rattle.dxf.specs.Entities.{shapes_text};
+ghost use Rattle.dxf.specs.Steps.{after_stroke, area_text, left_text, stroke_text};
+
+use crate::chains::{Pending, piece_of};
+use crate::cuts::is_whole;
+use crate::entities::{put_end, put_next};
+use crate::layers::Layers;
+use areas::Areas;
+use devices::Sink;
+use pieces::Text;
+use plot_page::{PenSet, Stroke};
+use stroke_runs::{LEAST_WIDTH, SheetView, between, is_drawn};
+
+// Puts the strokes and areas after the first `at` strokes, up to and including number `end`, of a sheet after `before` others.
+pub(crate) fn put_strokes<K: Sink>(
+    text: &mut Text<'_, K>,
+    layers: &Layers,
+    view: &SheetView<'_>,
+    before: usize,
+    at: usize,
+    end: usize,
+)
+    requires sound { IsSound K.state text.old }
+    requires few { before + length view.now.strokes.now ≤ MOST_STROKES }
+    ensures puts { Puts K.state text.old text.new (shapes_text layers.now view.now.pens.now
+        (shapes_between view.now.strokes.now (sheet_areas before (areas_in view.now.areas)) at end)) }
+{
+    let strokes = between(view.strokes, 0, end);
+    let mut pending = Pending::Nothing;
+    let mut done = at;
+    for i in 0..strokes.len() {
+        if i >= done {
+            match view.areas.beginning_at(before + i) {
+                Some(area) => {
+                    put_end(text, layers, pending);
+                    pending = Pending::Nothing;
+                    done = area.end.saturating_sub(before);
+                    put_area(text, layers, view.pens, between(strokes, i, done));
+                }
+                None => {
+                    pending = put_stroke(text, layers, view.pens, pending, &strokes[i]);
+                    done = i + 1;
+                }
+            }
+        }
+    }
+    put_end(text, layers, pending);
+}
+
+// Puts a stroke that is no edge, if it is drawn, and returns the chain that may go on after it.
+fn put_stroke<K: Sink>(
+    text: &mut Text<'_, K>,
+    layers: &Layers,
+    pens: &PenSet,
+    pending: Pending,
+    stroke: &Stroke,
+) -> Pending
+    requires sound { IsSound K.state text.old }
+    ensures puts { Puts K.state text.old text.new (stroke_text layers.now pens.now pending stroke.now) }
+    ensures after { result ≡ after_stroke pens.now pending stroke.now }
+{
+    if is_drawn(pens, stroke) {
+        put_next(text, layers, pending, piece_of(stroke.width, false, stroke))
+    } else {
+        pending
+    }
+}
+
+// Puts the edges of an area, if it is drawn.
+fn put_area<K: Sink>(text: &mut Text<'_, K>, layers: &Layers, pens: &PenSet, edges: &[Stroke])
+    requires sound { IsSound K.state text.old }
+    ensures puts { Puts K.state text.old text.new (area_text layers.now pens.now edges.now) }
+{
+    let Some(first) = edges.first() else {
+        return;
+    };
+    if is_drawn(pens, first) {
+        put_edges(text, layers, are_whole(edges), edges);
+    }
+}
+
+// Whether no window cuts one of these strokes.
+fn are_whole(strokes: &[Stroke]) -> bool
+    ensures { result ≡ list_all is_whole strokes.now }
+{
+    for stroke in strokes {
+        if !is_whole(stroke) {
+            return false;
+        }
+    }
+    true
+}
+
+// Puts the edges of an area.
+fn put_edges<K: Sink>(text: &mut Text<'_, K>, layers: &Layers, closed: bool, edges: &[Stroke])
+    requires sound { IsSound K.state text.old }
+    ensures puts { Puts K.state text.old text.new (left_text layers.now Pending.Nothing (edge_marks closed edges.now)) }
+{
+    let mut pending = Pending::Nothing;
+    for edge in edges {
+        pending = put_next(text, layers, pending, piece_of(LEAST_WIDTH, closed, edge));
+    }
+    put_end(text, layers, pending);
+}
