@@ -1,6 +1,5 @@
 -- The layers of a DXF document: one for each pen of a sheet that is drawn.
-use Rattle.std.specs.Prelude.{ℕ, zero, suc, ◌+◌, ◌==◌, List, [], ◌∷◌, ◌++◌, replicate, Option, Some, None, if◌then◌else◌, codes, decimal, slice_index_or}
-use Rattle.std.specs.List.{set}
+use Rattle.std.specs.Prelude.{ℕ, zero, suc, ◌+◌, ◌==◌, List, [], ◌∷◌, ◌++◌, replicate, Option, Some, None, if◌then◌else◌, codes, decimal, slice_index_or, slice_set}
 use Rattle.plot_page.specs.Segments.{Segment}
 use Rattle.plot_page.specs.declared.colour.Colour.{Colour}
 use Rattle.plot_page.specs.declared.pens.PenSet.{PenSet}
@@ -15,7 +14,7 @@ number_of numbers pen = slice_index_or numbers pen 0
 
 -- a stroke that is drawn makes a layer for its pen, of its colour, unless there is one
 abbrev pub with_stroke : List ℕ → Segment → List ℕ
-with_stroke numbers s = if number_of numbers s.pen == 0 then set numbers s.pen (colour_number s.colour) else numbers
+with_stroke numbers s = if number_of numbers s.pen == 0 then slice_set numbers s.pen (colour_number s.colour) else numbers
 
 abbrev pub with_strokes : List ℕ → List Segment → List ℕ
 with_strokes numbers [] = numbers

@@ -1,5 +1,5 @@
 //! Angles, in ten-millionths of a degree, and in ten-thousandths.
-ghost use Rattle.std.specs.Prelude.{◌≡◌, ◌≤◌, ◌<◌, ◌^◌};
+ghost use Rattle.std.specs.Prelude.{◌≡◌, ◌≤◌, ◌<◌, ◌^◌, ◌*◌, ◌/◌};
 ghost use Rattle.dxf.specs.Angles.{angle_by, angle_of_entry, angle_of_tangent, angle_within, direction, rounded};
 
 use crate::tangents::ANGLES;

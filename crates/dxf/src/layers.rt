@@ -2,8 +2,9 @@
 ghost use Rattle.std.specs.Prelude.{◌≡◌, ◌≤◌, ◌<◌, length, [], ◌++◌};
 ghost use Rattle.pieces.specs.Texts.{IsSound, Puts};
 ghost use Rattle.plot_page.specs.declared.stroke.TheConstants.{MOST_STROKES};
+ghost use Rattle.std.specs.Prelude.{codes};
 ghost use Rattle.dxf.specs.Layers.{colour_group, layer_entry, layer_groups, layer_name, layers_of, layers_text, number_of, pen_entry, sheet_name, with_stroke};
-ghost use Rattle.dxf.specs.Groups.{group};
+ghost use Rattle.dxf.specs.Groups.{count_group, group};
 
 use crate::colours::colour_number;
 use crate::groups::{put_count, put_group};

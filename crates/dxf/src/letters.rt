@@ -4,6 +4,7 @@ ghost use Rattle.std.specs.Fmt.{digit_glyph};
 ghost use Rattle.std.specs.List.{list_any};
 ghost use Rattle.labels.specs.Labels.{IsNear};
 ghost use Rattle.pieces.specs.Texts.{IsSound, Puts};
+ghost use Rattle.dxf.specs.Groups.{group};
 ghost use Rattle.dxf.specs.Letters.{fit_groups, form_groups, four_digits, has_letters, is_letter, is_plain, is_written, leaning_group, letter, letter_text, letters_text, line_text, lines_text, mirrored_group, text_entity};
 
 use crate::cuts::point_of;
