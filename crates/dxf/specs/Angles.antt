@@ -1,6 +1,7 @@
 -- Angles, in ten-millionths of a degree, and in ten-thousandths.
-use Rattle.std.specs.Prelude.{ℕ, ◌+◌, ◌-◌, ◌*◌, ◌/◌, ◌%◌, ◌==◌, nat_le, ℤ, pos, int_lt, nat_abs, if◌then◌else◌, slice_index_or}
+use Rattle.std.specs.Prelude.{ℕ, ◌+◌, ◌-◌, ◌*◌, ◌/◌, ◌%◌, ◌==◌, nat_le, pos, int_lt, nat_abs, if◌then◌else◌, slice_index_or}
 use Rattle.dxf.specs.declared.angles.TheConstants.{HALF_TURN, QUARTER_TURN, WHOLE_TURN}
+use Rattle.dxf.specs.declared.angles.Vector.{Vector}
 use Rattle.dxf.specs.declared.tangents.TheConstants.{ANGLES}
 
 abbrev pub angle_of_entry : ℕ → ℕ
@@ -19,15 +20,15 @@ angle_within x y =
     if nat_le y x then angle_of_tangent (y * 16777216 / x) else QUARTER_TURN - angle_of_tangent (x * 16777216 / y)
 
 -- the angle of any vector, by that of the sizes of its numbers
-abbrev pub angle_by : ℤ → ℤ → ℕ → ℕ
-angle_by x y within =
-    if int_lt y (pos 0) then (if int_lt x (pos 0) then HALF_TURN + within else WHOLE_TURN - within) else
-    (if int_lt x (pos 0) then HALF_TURN - within else within)
+abbrev pub angle_by : Vector → ℕ → ℕ
+angle_by u within =
+    if int_lt u.y (pos 0) then (if int_lt u.x (pos 0) then HALF_TURN + within else WHOLE_TURN - within) else
+    (if int_lt u.x (pos 0) then HALF_TURN - within else within)
 
 -- in ten-thousandths of a degree, rounded
 abbrev pub rounded : ℕ → ℕ
 rounded angle = (angle + 500) / 1000
 
 -- the direction of a vector, counterclockwise from the right, 0 to below 360 degrees, in ten-thousandths of a degree
-abbrev pub direction : ℤ → ℤ → ℕ
-direction x y = rounded (angle_by x y (angle_within (nat_abs x) (nat_abs y))) % 3600000
+abbrev pub direction : Vector → ℕ
+direction u = rounded (angle_by u (angle_within (nat_abs u.x) (nat_abs u.y))) % 3600000

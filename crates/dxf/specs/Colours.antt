@@ -24,6 +24,9 @@ nearest_after c best number [] = best
 nearest_after c best number (n ∷ ns) =
     nearest_after c (nearer best (record { number = number; distance = distance c n })) (number + 1) ns
 
--- the number of a colour: the least one of several that are as near
+-- the nearest of colours that have the numbers from 1 on, the first one of several that are as near
+abbrev pub nearest_of : Colour → List ℕ → Nearest
+nearest_of c ns = nearest_after c (record { number = 1; distance = FARTHEST }) 1 ns
+
 abbrev pub colour_number : Colour → ℕ
-colour_number c = (nearest_after c (record { number = 1; distance = FARTHEST }) 1 COLOURS).number
+colour_number c = (nearest_of c COLOURS).number

@@ -1,6 +1,7 @@
 -- The part of the centre line of a stroke that is in its window. Its ends and the edges of the window are included.
-use Rattle.std.specs.Prelude.{ℕ, ◌*◌, max, nat_lt, not, ◌&&◌, Bool, true, false, ℤ, pos, int_le, int_lt, ◌+ℤ◌, ◌-ℤ◌, ◌*ℤ◌, nat_abs, Option, Some, None, if◌then◌else◌}
+use Rattle.std.specs.Prelude.{ℕ, ◌*◌, max, nat_lt, not, ◌&&◌, Bool, true, false, ℤ, pos, int_lt, ◌+ℤ◌, ◌-ℤ◌, ◌*ℤ◌, nat_abs, Option, Some, None, if◌then◌else◌}
 use Rattle.exact.specs.Fraction.{quotient, round}
+use Rattle.exact.specs.Ranges.{is_between}
 use Rattle.plot_page.specs.Segments.{Segment}
 use Rattle.plot_page.specs.declared.window.Window.{Window}
 use Rattle.dxf.specs.Groups.{in_parts}
@@ -15,7 +16,7 @@ point_of x y = record { x = in_parts x; y = in_parts y }
 
 -- a window holds a place
 abbrev pub holds : Window → ℤ → ℤ → Bool
-holds w x y = (int_le w.x0 x && int_le x w.x1) && (int_le w.y0 y && int_le y w.y1)
+holds w x y = is_between w.x0 w.x1 x && is_between w.y0 w.y1 y
 
 -- the window cuts nothing of a stroke
 abbrev pub is_whole : Segment → Bool
@@ -59,10 +60,14 @@ span_of s =
 abbrev pub is_open : Span → Bool
 is_open span = span.is_seen && not (is_before span.to span.from)
 
+-- the share, times its divisor, of the way from a to b, from 0 on
+abbrev pub weighted : ℤ → ℤ → Share → ℤ
+weighted a b t = a *ℤ pos t.under +ℤ (b -ℤ a) *ℤ pos t.over
+
 -- a coordinate after a share of the way from a to b, rounded to a whole part; the upper one of two that are as near
 abbrev pub coordinate_at : ℤ → ℤ → Share → ℤ
 coordinate_at a b t =
-    round (quotient (in_parts (a *ℤ pos t.under +ℤ (b -ℤ a) *ℤ pos t.over)) (pos (max 1 t.under)))
+    round (quotient (in_parts (weighted a b t)) (pos (max 1 t.under)))
 
 abbrev pub point_at : Segment → Share → Point
 point_at s t = record { x = coordinate_at s.ax s.bx t; y = coordinate_at s.ay s.by t }

@@ -6,7 +6,7 @@ use Rattle.labels.specs.declared.place.Place.{Place}
 use Rattle.dxf.specs.Angles.{angle_within, direction, rounded}
 use Rattle.dxf.specs.declared.forms.Form.{Form}
 use Rattle.dxf.specs.declared.forms.TheConstants.{MOST_LEANING}
-use Rattle.dxf.specs.declared.forms.Vector.{Vector}
+use Rattle.dxf.specs.declared.angles.Vector.{Vector}
 use Rattle.dxf.specs.declared.groups.TheConstants.{GRAIN}
 
 -- from one place to another
@@ -15,6 +15,9 @@ way from to = record { x = to.x -ℤ from.x; y = to.y -ℤ from.y }
 
 abbrev pub cross : Vector → Vector → ℤ
 cross u v = u.x *ℤ v.y -ℤ u.y *ℤ v.x
+
+abbrev pub crossed : Vector → Vector → ℕ
+crossed u v = nat_abs (cross u v)
 
 abbrev pub dot : Vector → Vector → ℤ
 dot u v = u.x *ℤ v.x +ℤ u.y *ℤ v.y
@@ -34,25 +37,25 @@ some_height height = if height == 0 then GRAIN else height
 -- how far the top is from the line, in parts; if the letters are one below the other, how far it is from the start
 abbrev pub height_of : Vector → Vector → ℕ
 height_of u v =
-    some_height (if nat_abs (cross u v) == 0 then length_of v else
-    root (GRAIN * nat_abs (cross u v) * (GRAIN * nat_abs (cross u v)) / max 1 (square u)))
+    some_height (if crossed u v == 0 then length_of v else
+    root (GRAIN * crossed u v * (GRAIN * crossed u v) / max 1 (square u)))
 
 -- the width of a letter as a share of its height, in ten-thousandths, at least one
 abbrev pub factor_of : Vector → ℕ → ℕ → ℕ
 factor_of u letters height = max 1 (length_of u * 10000 / max 1 (letters * height))
 
+-- a vector turned clockwise by a quarter turn
+abbrev pub turned : Vector → Vector
+turned v = record { x = v.y; y = neg_ℤ v.x }
+
 -- the direction of the line, or if the letters are one below the other, that of their width
 abbrev pub rotation_of : Vector → Vector → ℕ
-rotation_of u v = if nat_abs (cross u v) == 0 then direction v.y (neg_ℤ v.x) else direction u.x u.y
+rotation_of u v = if crossed u v == 0 then direction (turned v) else direction u
 
--- by how much the letters lean forward, or back, at most 85 degrees, in ten-thousandths of a degree
-abbrev pub leaning_size : Vector → Vector → ℕ
-leaning_size u v = min MOST_LEANING (rounded (angle_within (nat_abs (cross u v)) (nat_abs (dot u v))))
-
-abbrev pub leaning_of : Vector → Vector → ℤ
+-- by how much the letters lean forward or back, at most 85 degrees, in ten-thousandths of a degree
+abbrev pub leaning_of : Vector → Vector → ℕ
 leaning_of u v =
-    if nat_abs (cross u v) == 0 then pos 0 else
-    if int_lt (dot u v) (pos 0) then neg_ℤ (pos (leaning_size u v)) else pos (leaning_size u v)
+    if crossed u v == 0 then 0 else min MOST_LEANING (rounded (angle_within (crossed u v) (nat_abs (dot u v))))
 
 abbrev pub form_by : Vector → Vector → ℕ → Form
 form_by u v letters = record {
@@ -60,8 +63,9 @@ form_by u v letters = record {
   rotation = rotation_of u v;
   factor = factor_of u letters (height_of u v);
   leaning = leaning_of u v;
+  is_backward = int_lt (dot u v) (pos 0);
   is_mirrored = int_lt (cross u v) (pos 0);
-  is_fit = not (nat_abs (cross u v) == 0);
+  is_fit = not (crossed u v == 0);
 }
 
 abbrev pub form_of : LineShape → Form

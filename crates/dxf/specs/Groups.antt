@@ -1,6 +1,6 @@
 -- Groups of a DXF document: a code and a value, each on a line of its own. Lengths and angles are numbers of parts, of which
 -- 10,000,000 are a millimetre or a degree; a grain of 1/640 mm is 15,625 parts.
-use Rattle.std.specs.Prelude.{ℕ, zero, suc, ◌*◌, ◌/◌, ◌%◌, ◌==◌, ℤ, pos, ◌*ℤ◌, int_lt, nat_abs, List, [], ◌∷◌, ◌++◌, if◌then◌else◌, codes, decimal}
+use Rattle.std.specs.Prelude.{ℕ, zero, suc, ◌*◌, ◌/◌, ◌%◌, ◌==◌, Bool, ℤ, pos, ◌*ℤ◌, int_lt, nat_abs, List, [], ◌∷◌, ◌++◌, if◌then◌else◌, codes, decimal}
 use Rattle.pieces.specs.Fractions.{digit}
 use Rattle.dxf.specs.declared.groups.TheConstants.{PARTS, GRAIN}
 
@@ -31,18 +31,21 @@ fraction n = if n == 0 then [] else codes "." ++ decimals 7 n
 abbrev pub size_text : ℕ → List ℕ
 size_text n = decimal (n / PARTS) ++ fraction (n % PARTS)
 
-abbrev pub sign_text : ℤ → List ℕ
-sign_text z = if int_lt z (pos 0) then codes "-" else []
+abbrev pub sign_text : Bool → List ℕ
+sign_text negative = if negative then codes "-" else []
 
-abbrev pub number_text : ℤ → List ℕ
-number_text z = sign_text z ++ size_text (nat_abs z)
+abbrev pub signed_text : Bool → ℕ → List ℕ
+signed_text negative n = sign_text negative ++ size_text n
 
--- groups of a whole number, of a number of parts, and of a size that is not negative
+-- groups of a whole number, of a number of parts by its sign and its size, of any, and of one that is not negative
 abbrev pub count_group : ℕ → ℕ → List ℕ
 count_group code n = group code (decimal n)
 
+abbrev pub signed_group : ℕ → Bool → ℕ → List ℕ
+signed_group code negative n = group code (signed_text negative n)
+
 abbrev pub number_group : ℕ → ℤ → List ℕ
-number_group code z = group code (number_text z)
+number_group code z = signed_group code (int_lt z (pos 0)) (nat_abs z)
 
 abbrev pub size_group : ℕ → ℕ → List ℕ
 size_group code n = group code (size_text n)

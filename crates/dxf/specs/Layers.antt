@@ -12,9 +12,14 @@ use Rattle.dxf.specs.declared.layers.Layers.{Layers}
 abbrev pub number_of : List ℕ → ℕ → ℕ
 number_of numbers pen = slice_index_or numbers pen 0
 
--- a stroke that is drawn makes a layer for its pen, of its colour, unless there is one
+-- a layer of this colour for a pen, unless there is one
+abbrev pub with_layer : List ℕ → ℕ → Colour → List ℕ
+with_layer numbers pen colour =
+    if number_of numbers pen == 0 then slice_set numbers pen (colour_number colour) else numbers
+
+-- layers, and one more for the pen of a stroke that is drawn, unless there is one
 abbrev pub with_stroke : List ℕ → Segment → List ℕ
-with_stroke numbers s = if number_of numbers s.pen == 0 then slice_set numbers s.pen (colour_number s.colour) else numbers
+with_stroke numbers s = with_layer numbers s.pen s.colour
 
 abbrev pub with_strokes : List ℕ → List Segment → List ℕ
 with_strokes numbers [] = numbers

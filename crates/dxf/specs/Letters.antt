@@ -1,16 +1,15 @@
 -- The entities of labels. DXF R12: TEXT.
-use Rattle.std.specs.Prelude.{ℕ, ◌*◌, ◌/◌, ◌%◌, ◌==◌, ◌&&◌, ◌||◌, not, Bool, true, ℤ, pos, ◌*ℤ◌, List, [], ◌∷◌, ◌++◌, flat_map, length, if◌then◌else◌, codes}
+use Rattle.std.specs.Prelude.{ℕ, ◌*◌, ◌/◌, ◌%◌, ◌==◌, ◌&&◌, ◌||◌, not, Bool, true, List, [], ◌∷◌, ◌++◌, flat_map, length, if◌then◌else◌, codes}
 use Rattle.std.specs.Fmt.{digit_glyph}
 use Rattle.std.specs.Int.{is_in_range}
 use Rattle.std.specs.List.{list_any}
-use Rattle.std.specs.Ordering.{int_eq}
 use Rattle.labels.specs.Labels.{LabelShape, LineShape}
 use Rattle.labels.specs.declared.place.Place.{Place}
 use Rattle.plot_page.specs.Segments.{Segment}
 use Rattle.dxf.specs.Cuts.{point_of}
 use Rattle.dxf.specs.Entities.{point_text}
 use Rattle.dxf.specs.Forms.{form_of}
-use Rattle.dxf.specs.Groups.{count_group, group, number_group, size_group}
+use Rattle.dxf.specs.Groups.{count_group, group, signed_group, size_group}
 use Rattle.dxf.specs.Layers.{layer_groups}
 use Rattle.dxf.specs.declared.forms.Form.{Form}
 use Rattle.dxf.specs.declared.layers.Layers.{Layers}
@@ -41,8 +40,8 @@ abbrev pub letters_text : List ℕ → List ℕ
 letters_text text = flat_map letter_text text
 
 -- the group of letters that lean, and that of mirrored ones: they are upside down
-abbrev pub leaning_group : ℤ → List ℕ
-leaning_group z = if int_eq z (pos 0) then [] else number_group 51 (pos 1000 *ℤ z)
+abbrev pub leaning_group : Bool → ℕ → List ℕ
+leaning_group backward n = if n == 0 then [] else signed_group 51 backward (1000 * n)
 
 abbrev pub mirrored_group : Bool → List ℕ
 mirrored_group mirrored = if mirrored then count_group 71 4 else []
@@ -53,7 +52,7 @@ fit_groups fit end = if fit then count_group 72 5 ++ point_text 11 21 (point_of 
 
 abbrev pub form_groups : Form → Place → List ℕ
 form_groups form end =
-    size_group 50 (1000 * form.rotation) ++ size_group 41 (1000 * form.factor) ++ leaning_group form.leaning
+    size_group 50 (1000 * form.rotation) ++ size_group 41 (1000 * form.factor) ++ leaning_group form.is_backward form.leaning
     ++ group 7 (codes "STANDARD") ++ mirrored_group form.is_mirrored ++ fit_groups form.is_fit end
 
 -- a line of letters, with the layer and the colour of a stroke

@@ -1,6 +1,7 @@
 -- What is written for the pieces of strokes, as they are taken one at a time.
-use Rattle.std.specs.Prelude.{ℕ, false, List, [], ◌∷◌, ◌++◌, flat_map, Option, Some, None, if◌then◌else◌}
+use Rattle.std.specs.Prelude.{ℕ, ◌+◌, ◌-◌, false, List, [], ◌∷◌, ◌++◌, flat_map, take, Option, Some, None, if◌then◌else◌}
 use Rattle.std.specs.List.{list_all}
+use Rattle.areas.specs.declared.area.Area.{Area}
 use Rattle.plot_page.specs.Segments.{Segment}
 use Rattle.plot_page.specs.declared.pens.PenSet.{PenSet}
 use Rattle.stroke_runs.specs.Drawn.{begins_drawn, is_drawn}
@@ -12,6 +13,7 @@ use Rattle.dxf.specs.declared.chains.Pending.{Pending}
 use Rattle.dxf.specs.declared.chains.Pending.TheVariants.{Nothing, Single, Open}
 use Rattle.dxf.specs.declared.cuts.Point.{Point}
 use Rattle.dxf.specs.declared.layers.Layers.{Layers}
+use Rattle.dxf.specs.declared.strokes.Walk.{Walk}
 
 -- the chain that has begun ends
 abbrev pub end_text : Layers → Pending → List ℕ
@@ -60,6 +62,30 @@ abbrev pub after_stroke : PenSet → Pending → Segment → Pending
 after_stroke pens pending s = if is_drawn pens s then after_if pending (piece_of s.width false s) else pending
 
 -- the edges of an area, if it is drawn
-abbrev pub area_text : Layers → PenSet → List Segment → List ℕ
-area_text layers pens edges =
-    if begins_drawn pens edges then left_text layers Nothing (edge_marks (list_all is_whole edges) edges) else []
+abbrev pub area_text : Layers → PenSet → Pending → List Segment → List ℕ
+area_text layers pens pending edges =
+    if begins_drawn pens edges
+    then end_text layers pending ++ left_text layers Nothing (edge_marks (list_all is_whole edges) edges) else []
+
+abbrev pub after_area : PenSet → Pending → List Segment → Pending
+after_area pens pending edges = if begins_drawn pens edges then Nothing else pending
+
+-- the first of strokes, which is no edge
+abbrev pub first_text : Layers → PenSet → Pending → List Segment → List ℕ
+first_text layers pens pending [] = []
+first_text layers pens pending (s ∷ ss) = stroke_text layers pens pending s
+
+abbrev pub after_first : PenSet → Pending → List Segment → Pending
+after_first pens pending [] = pending
+after_first pens pending (s ∷ ss) = after_stroke pens pending s
+
+-- the shape that begins with the first of these strokes, before which there are `i` others of a sheet after `before` others,
+-- by the area that begins with it
+abbrev pub shape_text : Layers → PenSet → ℕ → ℕ → Pending → List Segment → Option Area → List ℕ
+shape_text layers pens before i pending rest None = first_text layers pens pending rest
+shape_text layers pens before i pending rest (Some a) = area_text layers pens pending (take (a.end - before - i) rest)
+
+abbrev pub shape_after : PenSet → ℕ → ℕ → Pending → List Segment → Option Area → Walk
+shape_after pens before i pending rest None = record { pending = after_first pens pending rest; done = i + 1 }
+shape_after pens before i pending rest (Some a) =
+    record { pending = after_area pens pending (take (a.end - before - i) rest); done = a.end - before }

@@ -1,5 +1,5 @@
 //! Angles, in ten-millionths of a degree, and in ten-thousandths.
-ghost use Rattle.std.specs.Prelude.{◌≡◌, ◌≤◌, ◌<◌, ◌^◌, ◌*◌, ◌/◌};
+ghost use Rattle.std.specs.Prelude.{◌≡◌, ◌≤◌, ◌<◌, ◌^◌, ◌*◌, ◌/◌, nat_abs, length, slice_index_or};
 ghost use Rattle.dxf.specs.Angles.{angle_by, angle_of_entry, angle_of_tangent, angle_within, direction, rounded};
 
 use crate::tangents::ANGLES;
@@ -14,28 +14,50 @@ pub(crate) const WHOLE_TURN: u64 = 3_600_000_000;
 /// A tangent of 1.
 const ONE: u128 = 16_777_216;
 
+/// How far one place is from another, in grains.
+#[derive(Clone, Copy)]
+pub(crate) struct Vector {
+    pub(crate) x: i32,
+    pub(crate) y: i32,
+}
+
 // The direction of a vector, in ten-thousandths of a degree.
-pub(crate) fn direction(x: i32, y: i32) -> u64
-    ensures value { result ≡ direction x y }
+pub(crate) fn direction(vector: Vector) -> u64
+    ensures value { result ≡ direction vector }
     ensures most { result < 3600000 }
 {
-    let within = angle_within(u64::from(x.unsigned_abs()), u64::from(y.unsigned_abs()));
-    rounded(angle_by(x, y, within)) % 3_600_000
+    rounded(angle_by(vector, angle_of_sizes(vector))) % 3_600_000
+}
+
+// The angle of the vector of the sizes of the numbers of another one.
+fn angle_of_sizes(vector: Vector) -> u64
+    ensures value { result ≡ angle_within (nat_abs vector.x) (nat_abs vector.y) }
+    ensures most { result ≤ 2 ^ 34 }
+{
+    angle_within(size(vector.x), size(vector.y))
+}
+
+// The size of a number.
+fn size(number: i32) -> u64
+    ensures value { result ≡ nat_abs number }
+    ensures most { result ≤ 2 ^ 31 }
+{
+    u64::from(number.unsigned_abs())
 }
 
 // The angle of a vector, by that of the sizes of its numbers.
-fn angle_by(x: i32, y: i32, within: u64) -> u64
+fn angle_by(vector: Vector, within: u64) -> u64
     requires { within ≤ 2 ^ 34 }
-    ensures value { result ≡ angle_by x y within }
+    ensures value { result ≡ angle_by vector within }
     ensures most { result ≤ 2 ^ 35 }
 {
-    if y < 0 {
-        if x < 0 {
+    if vector.y < 0 {
+        if vector.x < 0 {
             HALF_TURN + within
         } else {
             WHOLE_TURN.saturating_sub(within)
         }
-    } else if x < 0 {
+    } else if vector.x < 0 {
         HALF_TURN.saturating_sub(within)
     } else {
         within
@@ -93,8 +115,16 @@ fn angle_of_entry(index: u32) -> u64
     ensures value { result ≡ angle_of_entry index }
     ensures most { result < 2 ^ 32 }
 {
-    match ANGLES.get(index as usize) {
-        Some(angle) => u64::from(*angle),
+    entry_of(&ANGLES, index)
+}
+
+// An entry of a table, 0 after its end.
+fn entry_of(table: &[u32], index: u32) -> u64
+    ensures value { result ≡ slice_index_or table.now index 0 }
+    ensures most { result < 2 ^ 32 }
+{
+    match table.get(index as usize) {
+        Some(entry) => u64::from(*entry),
         None => 0,
     }
 }

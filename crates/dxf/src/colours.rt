@@ -1,6 +1,6 @@
 //! The numbers of colours.
-ghost use Rattle.std.specs.Prelude.{◌≡◌, ◌≤◌};
-ghost use Rattle.dxf.specs.Colours.{colour_number, distance, nearer, square_between};
+ghost use Rattle.std.specs.Prelude.{◌≡◌, ◌≤◌, length};
+ghost use Rattle.dxf.specs.Colours.{colour_number, distance, nearer, nearest_of, square_between};
 
 use crate::palette::COLOURS;
 use plot_page::Colour;
@@ -19,12 +19,20 @@ pub(crate) struct Nearest {
 pub(crate) fn colour_number(colour: Colour) -> u32
     ensures { result ≡ colour_number colour }
 {
+    nearest_of(colour, &COLOURS).number
+}
+
+// The nearest of colours that have the numbers from 1 on.
+fn nearest_of(colour: Colour, colours: &[u32]) -> Nearest
+    requires { length colours.now ≤ 255 }
+    ensures { result ≡ nearest_of colour colours.now }
+{
     let mut best = Nearest {
         number: 1,
         distance: FARTHEST,
     };
     let mut number = 1;
-    for entry in &COLOURS {
+    for entry in colours {
         let next = Nearest {
             number,
             distance: distance(colour, *entry),
@@ -32,7 +40,7 @@ pub(crate) fn colour_number(colour: Colour) -> u32
         best = nearer(best, next);
         number += 1;
     }
-    best.number
+    best
 }
 
 // The nearer of two numbers, the first one if neither is nearer.

@@ -1,6 +1,7 @@
 //! The part of the centre line of a stroke that is in its window.
-ghost use Rattle.std.specs.Prelude.{◌≡◌, ◌≤◌, ◌-ℤ◌, nat_abs};
-ghost use Rattle.dxf.specs.Cuts.{between, coordinate_at, cut_line, earlier, holds, is_before, is_open, is_whole, later, line_of, narrowed, own_line, point_at, point_of, share_of, span_of, whole_way};
+ghost use Rattle.std.specs.Prelude.{◌≡◌, ◌≤◌, ◌^◌, ◌-ℤ◌, ◌*ℤ◌, pos, nat_abs};
+ghost use Rattle.exact.specs.Ranges.{is_between};
+ghost use Rattle.dxf.specs.Cuts.{between, coordinate_at, cut_line, earlier, holds, is_before, is_open, is_whole, later, line_of, narrowed, own_line, point_at, point_of, share_of, span_of, weighted, whole_way};
 
 use crate::groups::in_parts;
 use exact::rounded;
@@ -77,7 +78,14 @@ pub(crate) fn is_whole(stroke: &Stroke) -> bool
 fn holds(window: Window, x: i32, y: i32) -> bool
     ensures { result ≡ holds window x y }
 {
-    window.x0 <= x && x <= window.x1 && window.y0 <= y && y <= window.y1
+    is_between(window.x0, window.x1, x) && is_between(window.y0, window.y1, y)
+}
+
+// Whether a number is from the least to the greatest, both included.
+fn is_between(least: i32, greatest: i32, number: i32) -> bool
+    ensures { result ≡ is_between least greatest number }
+{
+    least <= number && number <= greatest
 }
 
 // The part of a stroke that is in its window.
@@ -219,10 +227,31 @@ fn point_at(stroke: &Stroke, share: Share) -> Point
 
 // A coordinate after a share of the way from `a` to `b`, rounded to a whole part.
 fn coordinate_at(a: i32, b: i32, share: Share) -> i128
+    requires a { nat_abs a ≤ 1048576 }
+    requires b { nat_abs b ≤ 1048576 }
     ensures { result ≡ coordinate_at a b share }
 {
-    let under = i128::from(share.under.max(1));
-    let way = i128::from(b) - i128::from(a);
-    let over = i128::from(a) * i128::from(share.under) + way * i128::from(share.over);
-    rounded(15_625 * over, under)
+    rounded(
+        15_625 * weighted(a, b, share),
+        i128::from(share.under.max(1)),
+    )
+}
+
+// The share, times its divisor, of the way from `a` to `b`, from 0 on.
+fn weighted(a: i32, b: i32, share: Share) -> i128
+    requires a { nat_abs a ≤ 1048576 }
+    requires b { nat_abs b ≤ 1048576 }
+    ensures value { result ≡ weighted a b share }
+    ensures most { nat_abs result ≤ 2 ^ 55 }
+{
+    product(a, share.under) + product(difference(b, a), share.over)
+}
+
+// A number so many times.
+fn product(number: i32, times: u32) -> i128
+    requires { nat_abs number ≤ 2097152 }
+    ensures value { result ≡ number *ℤ pos times }
+    ensures most { nat_abs result ≤ 2 ^ 54 }
+{
+    i128::from(number) * i128::from(times)
 }

@@ -1,22 +1,15 @@
 //! How the letters of a line lie on the page.
 ghost use Rattle.std.specs.Prelude.{◌≡◌, ◌≤◌, ◌<◌, ◌^◌, ◌*◌, ◌*ℤ◌, nat_abs};
 ghost use Rattle.labels.specs.Labels.{IsNear};
-ghost use Rattle.dxf.specs.Forms.{cross, dot, factor_of, form_by, form_of, height_of, leaning_of, leaning_size, length_of, rotation_of, some_height, square, way};
+ghost use Rattle.dxf.specs.Forms.{cross, crossed, dot, factor_of, form_by, form_of, height_of, leaning_of, length_of, rotation_of, some_height, square, turned, way};
 
-use crate::angles::{angle_within, direction, rounded};
+use crate::angles::{Vector, angle_within, direction, rounded};
 use crate::groups::GRAIN;
 use exact::root;
 use labels::{Line, Place};
 
 /// The most that letters lean forward or back, in ten-thousandths of a degree: 85 degrees.
 pub(crate) const MOST_LEANING: u64 = 850_000;
-
-/// How far one place is from another, in grains.
-#[derive(Clone, Copy)]
-pub(crate) struct Vector {
-    pub(crate) x: i32,
-    pub(crate) y: i32,
-}
 
 /// How the letters of a line lie.
 #[derive(Clone, Copy)]
@@ -27,8 +20,10 @@ pub(crate) struct Form {
     pub(crate) rotation: u64,
     /// Their width as a share of their height, in ten-thousandths.
     pub(crate) factor: u128,
-    /// By how much they lean forward, in ten-thousandths of a degree.
-    pub(crate) leaning: i64,
+    /// By how much they lean, in ten-thousandths of a degree.
+    pub(crate) leaning: u64,
+    /// Whether they lean backward.
+    pub(crate) is_backward: bool,
     /// Whether they are upside down.
     pub(crate) is_mirrored: bool,
     /// Whether they go on along their line, and are not one below the other.
@@ -69,14 +64,14 @@ fn form_by(u: Vector, v: Vector, letters: usize) -> Form
     ensures { result ≡ form_by u v letters }
 {
     let height = height_of(u, v);
-    let crossed = cross(u, v);
     Form {
         height,
         rotation: rotation_of(u, v),
         factor: factor_of(u, letters, height),
         leaning: leaning_of(u, v),
-        is_mirrored: crossed < 0,
-        is_fit: crossed.unsigned_abs() != 0,
+        is_backward: dot(u, v) < 0,
+        is_mirrored: cross(u, v) < 0,
+        is_fit: crossed(u, v) != 0,
     }
 }
 
@@ -112,6 +107,30 @@ fn dot(u: Vector, v: Vector) -> i64
     product(u.x, v.x) + product(u.y, v.y)
 }
 
+// The size of the cross product.
+fn crossed(u: Vector, v: Vector) -> u64
+    requires ux { nat_abs u.x ≤ 2097152 }
+    requires uy { nat_abs u.y ≤ 2097152 }
+    requires vx { nat_abs v.x ≤ 2097152 }
+    requires vy { nat_abs v.y ≤ 2097152 }
+    ensures value { result ≡ crossed u v }
+    ensures most { result ≤ 2 ^ 43 }
+{
+    cross(u, v).unsigned_abs()
+}
+
+// The size of the dot product.
+fn dotted(u: Vector, v: Vector) -> u64
+    requires ux { nat_abs u.x ≤ 2097152 }
+    requires uy { nat_abs u.y ≤ 2097152 }
+    requires vx { nat_abs v.x ≤ 2097152 }
+    requires vy { nat_abs v.y ≤ 2097152 }
+    ensures value { result ≡ nat_abs (dot u v) }
+    ensures most { result ≤ 2 ^ 43 }
+{
+    dot(u, v).unsigned_abs()
+}
+
 // The square of the length of a vector.
 fn square(u: Vector) -> u128
     requires x { nat_abs u.x ≤ 2097152 }
@@ -119,7 +138,7 @@ fn square(u: Vector) -> u128
     ensures value { result ≡ square u }
     ensures most { result ≤ 2 ^ 43 }
 {
-    u128::from(dot(u, u).unsigned_abs())
+    u128::from(dotted(u, u))
 }
 
 // The length of a vector, in parts.
@@ -150,11 +169,11 @@ fn height_of(u: Vector, v: Vector) -> u128
     ensures value { result ≡ height_of u v }
     ensures most { result < 2 ^ 64 }
 {
-    let crossed = u128::from(cross(u, v).unsigned_abs());
+    let crossed = crossed(u, v);
     if crossed == 0 {
         some_height(length_of(v))
     } else {
-        some_height(root(square_of(crossed) / square(u).max(1)))
+        some_height(root(square_of(u128::from(crossed)) / square(u).max(1)))
     }
 }
 
@@ -186,6 +205,14 @@ fn product_of(letters: usize, height: u128) -> u128
     letters as u128 * height
 }
 
+// A vector turned clockwise by a quarter turn.
+fn turned(v: Vector) -> Vector
+    requires { nat_abs v.x ≤ 2097152 }
+    ensures { result ≡ turned v }
+{
+    Vector { x: v.y, y: -v.x }
+}
+
 // The direction of the line, or that of the width of letters that are one below the other.
 fn rotation_of(u: Vector, v: Vector) -> u64
     requires ux { nat_abs u.x ≤ 2097152 }
@@ -194,38 +221,25 @@ fn rotation_of(u: Vector, v: Vector) -> u64
     requires vy { nat_abs v.y ≤ 2097152 }
     ensures { result ≡ rotation_of u v }
 {
-    if cross(u, v).unsigned_abs() == 0 {
-        direction(v.y, -v.x)
+    if crossed(u, v) == 0 {
+        direction(turned(v))
     } else {
-        direction(u.x, u.y)
+        direction(u)
     }
 }
 
-// How much the letters lean, forward or back.
-fn leaning_size(u: Vector, v: Vector) -> u64
-    requires ux { nat_abs u.x ≤ 2097152 }
-    requires uy { nat_abs u.y ≤ 2097152 }
-    requires vx { nat_abs v.x ≤ 2097152 }
-    requires vy { nat_abs v.y ≤ 2097152 }
-    ensures value { result ≡ leaning_size u v }
-    ensures most { result ≤ MOST_LEANING }
-{
-    let across = cross(u, v).unsigned_abs();
-    let along = dot(u, v).unsigned_abs();
-    MOST_LEANING.min(rounded(angle_within(across, along)))
-}
-
-// By how much the letters lean forward.
-fn leaning_of(u: Vector, v: Vector) -> i64
+// By how much the letters lean, forward or back.
+fn leaning_of(u: Vector, v: Vector) -> u64
     requires ux { nat_abs u.x ≤ 2097152 }
     requires uy { nat_abs u.y ≤ 2097152 }
     requires vx { nat_abs v.x ≤ 2097152 }
     requires vy { nat_abs v.y ≤ 2097152 }
     ensures { result ≡ leaning_of u v }
 {
-    if cross(u, v).unsigned_abs() == 0 {
-        return 0;
+    let across = crossed(u, v);
+    if across == 0 {
+        0
+    } else {
+        MOST_LEANING.min(rounded(angle_within(across, dotted(u, v))))
     }
-    let size = leaning_size(u, v) as i64;
-    if dot(u, v) < 0 { -size } else { size }
 }

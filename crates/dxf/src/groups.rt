@@ -1,7 +1,7 @@
 //! Groups: a code and a value, each on a line of its own.
 ghost use Rattle.std.specs.Prelude.{◌≡◌, ◌<◌, ◌++◌, ◌*ℤ◌, pos};
 ghost use Rattle.pieces.specs.Texts.{IsSound, Puts};
-ghost use Rattle.dxf.specs.Groups.{after_decimal, count_group, decimals, fraction, group, in_parts, line_end, next_decimal, number_group, number_text, sign_text, size_group, size_text};
+ghost use Rattle.dxf.specs.Groups.{after_decimal, count_group, decimals, fraction, group, in_parts, line_end, next_decimal, number_group, sign_text, signed_group, signed_text, size_group, size_text};
 
 use devices::Sink;
 use pieces::Text;
@@ -39,10 +39,17 @@ pub(crate) fn put_number<K: Sink>(text: &mut Text<'_, K>, code: u32, parts: i128
     requires sound { IsSound K.state text.old }
     ensures puts { Puts K.state text.old text.new (number_group code parts) }
 {
+    put_signed(text, code, parts < 0, parts.unsigned_abs());
+}
+
+// Puts a group with a number of parts, by its sign and its size.
+pub(crate) fn put_signed<K: Sink>(text: &mut Text<'_, K>, code: u32, is_negative: bool, parts: u128)
+    requires sound { IsSound K.state text.old }
+    ensures puts { Puts K.state text.old text.new (signed_group code is_negative parts) }
+{
     text.put_number(code);
     text.put(b"\n");
-    put_sign(text, parts);
-    put_size_text(text, parts.unsigned_abs());
+    put_signed_text(text, is_negative, parts);
     text.put(b"\n");
 }
 
@@ -57,12 +64,21 @@ pub(crate) fn put_size<K: Sink>(text: &mut Text<'_, K>, code: u32, parts: u128)
     text.put(b"\n");
 }
 
-// Puts the sign of a number that is negative.
-fn put_sign<K: Sink>(text: &mut Text<'_, K>, number: i128)
+// Puts a number of parts by its sign and its size.
+fn put_signed_text<K: Sink>(text: &mut Text<'_, K>, is_negative: bool, parts: u128)
     requires sound { IsSound K.state text.old }
-    ensures puts { Puts K.state text.old text.new (sign_text number) }
+    ensures puts { Puts K.state text.old text.new (signed_text is_negative parts) }
 {
-    if number < 0 {
+    put_sign(text, is_negative);
+    put_size_text(text, parts);
+}
+
+// Puts the sign of a number that is negative.
+fn put_sign<K: Sink>(text: &mut Text<'_, K>, is_negative: bool)
+    requires sound { IsSound K.state text.old }
+    ensures puts { Puts K.state text.old text.new (sign_text is_negative) }
+{
+    if is_negative {
         text.put(b"-");
     }
 }
@@ -96,7 +112,7 @@ fn put_decimals<K: Sink>(text: &mut Text<'_, K>, parts: u32)
     ensures puts { Puts K.state text.old text.new (decimals 7 parts) }
 {
     let mut rest = parts;
-    for place in 0..7 {
+    for place in 0..7u32 {
         put_decimal(text, rest);
         rest = after_decimal(rest);
     }

@@ -1,10 +1,9 @@
 //! What comes before the entities of a document, but for the layers of pens.
-ghost use Rattle.std.specs.Prelude.{codes};
+ghost use Rattle.std.specs.Prelude.{◌≡◌};
 ghost use Rattle.pieces.specs.Texts.{IsSound, Puts};
-ghost use Rattle.dxf.specs.Documents.{header_text, line_types_text, middle_text, section_start, start_text, styles_text, table_start};
-ghost use Rattle.dxf.specs.Groups.{count_group, group};
+ghost use Rattle.dxf.specs.Documents.{header_text, line_types_text, middle_text, section_start, side, start_text, styles_text, table_start};
 
-use crate::groups::{put_count, put_group, put_size};
+use crate::groups::{GRAIN, put_count, put_group, put_size};
 use crate::layers::put_layer_zero;
 use devices::Sink;
 use pieces::Text;
@@ -65,12 +64,19 @@ fn put_header<K: Sink>(text: &mut Text<'_, K>, page: &Page)
     put_count(text, 20, 0);
     put_count(text, 30, 0);
     put_group(text, 9, b"$EXTMAX");
-    put_size(text, 10, 250_000 * u128::from(page.width));
-    put_size(text, 20, 250_000 * u128::from(page.height));
+    put_size(text, 10, side(page.width));
+    put_size(text, 20, side(page.height));
     put_count(text, 30, 0);
     put_group(text, 9, b"$INSUNITS");
     put_count(text, 70, 4);
     put_group(text, 0, b"ENDSEC");
+}
+
+// A side of the page, in parts.
+fn side(units: u32) -> u128
+    ensures { result ≡ side units }
+{
+    16 * GRAIN * u128::from(units)
 }
 
 // Puts the table with the one line type.

@@ -1,9 +1,10 @@
 //! Layers: one for each pen of a sheet that is drawn.
-ghost use Rattle.std.specs.Prelude.{◌≡◌, ◌≤◌, ◌<◌, length, [], ◌++◌};
+ghost use Rattle.stroke_runs.specs.Drawn.{is_drawn};
+ghost use Rattle.std.specs.Prelude.{if◌then◌else◌, ◌≡◌, ◌≤◌, ◌<◌, length, [], ◌++◌};
 ghost use Rattle.pieces.specs.Texts.{IsSound, Puts};
 ghost use Rattle.plot_page.specs.declared.stroke.TheConstants.{MOST_STROKES};
 ghost use Rattle.std.specs.Prelude.{codes};
-ghost use Rattle.dxf.specs.Layers.{colour_group, layer_entry, layer_groups, layer_name, layers_of, layers_text, number_of, pen_entry, sheet_name, with_stroke};
+ghost use Rattle.dxf.specs.Layers.{colour_group, layer_entry, layer_groups, layer_name, layers_of, layers_text, number_of, pen_entry, sheet_name, with_layer, with_stroke};
 ghost use Rattle.dxf.specs.Groups.{count_group, group};
 
 use crate::colours::colour_number;
@@ -32,20 +33,29 @@ impl Layers {
             numbers: [0; 256],
         };
         for stroke in strokes {
-            if is_drawn(pens, stroke) {
-                layers.add(stroke);
-            }
+            layers.add_drawn(pens, stroke);
         }
         layers
     }
 
-    // Adds a layer for the pen of a stroke, unless there is one.
-    fn add(&mut self, stroke: &Stroke)
+    // Adds a layer for the pen of a stroke, if it is drawn, unless there is one.
+    fn add_drawn(&mut self, pens: &PenSet, stroke: &Stroke)
         ensures sheet { self.new.sheet ≡ self.old.sheet }
-        ensures numbers { self.new.numbers ≡ with_stroke self.old.numbers stroke.now }
+        ensures numbers { self.new.numbers ≡ (if is_drawn pens.now stroke.now
+            then with_stroke self.old.numbers stroke.now else self.old.numbers) }
     {
-        if self.number_of(stroke.pen) == 0 {
-            self.numbers[usize::from(stroke.pen)] = colour_number(stroke.colour);
+        if is_drawn(pens, stroke) {
+            self.add(stroke.pen, stroke.colour);
+        }
+    }
+
+    // Adds a layer of this colour for a pen, unless there is one.
+    fn add(&mut self, pen: u8, colour: Colour)
+        ensures sheet { self.new.sheet ≡ self.old.sheet }
+        ensures numbers { self.new.numbers ≡ with_layer self.old.numbers pen colour }
+    {
+        if self.number_of(pen) == 0 {
+            self.numbers[usize::from(pen)] = colour_number(colour);
         }
     }
 
@@ -111,10 +121,18 @@ pub(crate) fn put_layer<K: Sink>(text: &mut Text<'_, K>, layers: &Layers, code: 
 {
     text.put_number(code);
     text.put(b"\n");
+    put_name(text, layers, pen);
+    text.put(b"\n");
+}
+
+// Puts the name of the layer of a pen.
+fn put_name<K: Sink>(text: &mut Text<'_, K>, layers: &Layers, pen: u8)
+    requires sound { IsSound K.state text.old }
+    ensures puts { Puts K.state text.old text.new (layer_name layers.now pen) }
+{
     put_sheet(text, layers.sheet);
     text.put(b"PEN_");
     text.put_number(u32::from(pen));
-    text.put(b"\n");
 }
 
 // Puts what the name of a layer of a sheet begins with.

@@ -10,7 +10,7 @@ ghost use Rattle.dxf.specs.Letters.{fit_groups, form_groups, four_digits, has_le
 use crate::cuts::point_of;
 use crate::entities::put_point;
 use crate::forms::{Form, form_of};
-use crate::groups::{put_count, put_group, put_number, put_size};
+use crate::groups::{put_count, put_group, put_signed, put_size};
 use crate::layers::{Layers, put_layer_groups};
 use devices::Sink;
 use labels::{Line, Place};
@@ -174,20 +174,21 @@ fn put_form<K: Sink>(text: &mut Text<'_, K>, form: &Form, end: Place)
 {
     put_size(text, 50, 1000 * u128::from(form.rotation));
     put_size(text, 41, 1000 * form.factor);
-    put_leaning(text, form.leaning);
+    put_leaning(text, form.is_backward, form.leaning);
     put_group(text, 7, b"STANDARD");
     put_mirrored(text, form.is_mirrored);
     put_fit(text, form.is_fit, end);
 }
 
 // Puts by how much letters lean, if they do.
-fn put_leaning<K: Sink>(text: &mut Text<'_, K>, leaning: i64)
+fn put_leaning<K: Sink>(text: &mut Text<'_, K>, is_backward: bool, leaning: u64)
     requires sound { IsSound K.state text.old }
-    ensures puts { Puts K.state text.old text.new (leaning_group leaning) }
+    ensures puts { Puts K.state text.old text.new (leaning_group is_backward leaning) }
 {
-    if leaning != 0 {
-        put_number(text, 51, 1000 * i128::from(leaning));
+    if leaning == 0 {
+        return;
     }
+    put_signed(text, 51, is_backward, 1000 * u128::from(leaning));
 }
 
 // Puts that letters are upside down, if they are.

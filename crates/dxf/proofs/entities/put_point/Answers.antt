@@ -1,0 +1,5 @@
+use Rattle.pieces.proofs.Texts.{◌then◌}
+use Rattle.dxf.proofs.entities.put_point.Goals as goal
+
+pub returns : goal.returns
+returns g c = record { puts = c.put_number.ensures.puts then c.put_number-2.ensures.puts }

@@ -1,0 +1,10 @@
+use Rattle.pieces.proofs.Texts.{◌then◌}
+use Rattle.dxf.proofs.head.put_middle.Goals as goal
+
+pub returns : goal.returns
+returns g c = record {
+  puts = c.put_group.ensures.puts
+      then c.put_styles.ensures.puts
+      then c.put_group-2.ensures.puts
+      then c.put_section.ensures.puts;
+}
