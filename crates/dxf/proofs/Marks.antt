@@ -10,19 +10,29 @@ use Rattle.dxf.specs.declared.chains.Piece.{Piece}
 use Rattle.dxf.specs.declared.cuts.Point.{Point}
 use Rattle.dxf.specs.declared.layers.Layers.{Layers}
 
+-- a polyline begins: p is its start, s and n its first vertices, f the others, e its end, and c what comes after it
+opened : (p s n f e c : List ℕ) → ((p ++ s) ++ (n ++ f)) ++ e ++ c ≡ ((p ++ s) ++ n) ++ ((f ++ e) ++ c)
+opened p s n f e c = simp append_assoc
+
+-- and goes on
+gone_on : (n f e c : List ℕ) → (n ++ f) ++ e ++ c ≡ n ++ ((f ++ e) ++ c)
+gone_on n f e c = simp append_assoc
+
 -- what is written for a piece after one of which nothing is written yet, and after it
 second : (b : Bool) (layers : Layers) (last next : Piece) (f : Following)
     → chain_text layers last (cond b (going_on next f) (beginning next f)).rest ++ chains_text layers (cond b (going_on next f) (beginning next f)).chains
     ≡ cond b (polyline_start layers last ++ start_vertex layers last ++ start_vertex layers next) (single_text layers last)
     ++ cond b (flat_map (start_vertex layers) f.rest ++ polyline_end layers last.from (last_of next f.rest) ++ chains_text layers f.chains) (chain_text layers next f.rest ++ chains_text layers f.chains)
-second true layers last next f = simp append_assoc
+second true layers last next f =
+    opened (polyline_start layers last) (start_vertex layers last) (start_vertex layers next) (flat_map (start_vertex layers) f.rest) (polyline_end layers last.from (last_of next f.rest)) (chains_text layers f.chains)
 second false layers last next f = refl
 
 later : (b : Bool) (layers : Layers) (start : Point) (last next : Piece) (f : Following)
     → flat_map (start_vertex layers) (cond b (going_on next f) (beginning next f)).rest ++ polyline_end layers start (last_of last (cond b (going_on next f) (beginning next f)).rest) ++ chains_text layers (cond b (going_on next f) (beginning next f)).chains
     ≡ cond b (start_vertex layers next) (polyline_end layers start last)
     ++ cond b (flat_map (start_vertex layers) f.rest ++ polyline_end layers start (last_of next f.rest) ++ chains_text layers f.chains) (chain_text layers next f.rest ++ chains_text layers f.chains)
-later true layers start last next f = simp append_assoc
+later true layers start last next f =
+    gone_on (start_vertex layers next) (flat_map (start_vertex layers) f.rest) (polyline_end layers start (last_of next f.rest)) (chains_text layers f.chains)
 later false layers start last next f = refl
 
 -- what is left after a chain has gone on, or another one has begun

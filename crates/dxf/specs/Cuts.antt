@@ -8,6 +8,7 @@ use Rattle.dxf.specs.Groups.{in_parts}
 use Rattle.dxf.specs.declared.cuts.Point.{Point}
 use Rattle.dxf.specs.declared.cuts.Line.{Line}
 use Rattle.dxf.specs.declared.cuts.Share.{Share}
+use Rattle.dxf.specs.declared.cuts.Side.{Side}
 use Rattle.dxf.specs.declared.cuts.Span.{Span}
 
 -- a place of the page, in grains, as a point of the document, in parts
@@ -33,28 +34,37 @@ abbrev pub later : Share → Share → Share
 later a b = if is_before a b then b else a
 
 -- the size of q over the size of p
-abbrev pub share_of : ℤ → ℤ → Share
-share_of p q = record { over = nat_abs q; under = nat_abs p }
+abbrev pub share_of : Side → Share
+share_of e = record { over = nat_abs e.q; under = nat_abs e.p }
 
 -- from the first end of a stroke to the other one
 abbrev pub whole_way : Span
 whole_way = record { from = record { over = 0; under = 1 }; to = record { over = 1; under = 1 }; is_seen = true }
 
--- the part of a span whose shares t have p t ≤ q
-abbrev pub narrowed : ℤ → ℤ → Span → Span
-narrowed p q span =
-    if int_lt q (pos 0) then
-    (if int_lt p (pos 0) then record span { from = later span.from (share_of p q) } else record span { is_seen = false })
-    else if int_lt (pos 0) p then record span { to = earlier span.to (share_of p q) } else span
+-- the part of a span that is on the inner side of an edge of a window: the shares t with p t ≤ q
+abbrev pub narrowed : Side → Span → Span
+narrowed e span =
+    if int_lt e.q (pos 0) then
+    (if int_lt e.p (pos 0) then record span { from = later span.from (share_of e) } else record span { is_seen = false })
+    else if int_lt (pos 0) e.p then record span { to = earlier span.to (share_of e) } else span
 
--- the part of a span that is between two numbers, for a coordinate that leads from a to b
-abbrev pub between : ℤ → ℤ → ℤ → ℤ → Span → Span
-between low high a b span = narrowed (b -ℤ a) (high -ℤ a) (narrowed (a -ℤ b) (a -ℤ low) span)
+-- where the four edges of its window cut a stroke
+abbrev pub left_side : Segment → Side
+left_side s = record { p = s.ax -ℤ s.bx; q = s.ax -ℤ s.window.x0 }
+
+abbrev pub right_side : Segment → Side
+right_side s = record { p = s.bx -ℤ s.ax; q = s.window.x1 -ℤ s.ax }
+
+abbrev pub lower_side : Segment → Side
+lower_side s = record { p = s.ay -ℤ s.by; q = s.ay -ℤ s.window.y0 }
+
+abbrev pub upper_side : Segment → Side
+upper_side s = record { p = s.by -ℤ s.ay; q = s.window.y1 -ℤ s.ay }
 
 -- the part of a stroke that is in its window
 abbrev pub span_of : Segment → Span
 span_of s =
-    between s.window.y0 s.window.y1 s.ay s.by (between s.window.x0 s.window.x1 s.ax s.bx whole_way)
+    narrowed (upper_side s) (narrowed (lower_side s) (narrowed (right_side s) (narrowed (left_side s) whole_way)))
 
 -- a span holds a place
 abbrev pub is_open : Span → Bool
@@ -67,7 +77,7 @@ weighted a b t = a *ℤ pos t.under +ℤ (b -ℤ a) *ℤ pos t.over
 -- a coordinate after a share of the way from a to b, rounded to a whole part; the upper one of two that are as near
 abbrev pub coordinate_at : ℤ → ℤ → Share → ℤ
 coordinate_at a b t =
-    round (quotient (in_parts (weighted a b t)) (pos (max 1 t.under)))
+    round (quotient (in_parts (weighted a b t)) (pos (max t.under 1)))
 
 abbrev pub point_at : Segment → Share → Point
 point_at s t = record { x = coordinate_at s.ax s.bx t; y = coordinate_at s.ay s.by t }

@@ -40,9 +40,9 @@ height_of u v =
     some_height (if crossed u v == 0 then length_of v else
     root (GRAIN * crossed u v * (GRAIN * crossed u v) / max 1 (square u)))
 
--- the width of a letter as a share of its height, in ten-thousandths, at least one
+-- the width of a letter as a share of its height, to four decimals, at least 0.0001
 abbrev pub factor_of : Vector → ℕ → ℕ → ℕ
-factor_of u letters height = max 1 (length_of u * 10000 / max 1 (letters * height))
+factor_of u letters height = 1000 * max 1 (length_of u * 10000 / max 1 (letters * height))
 
 -- a vector turned clockwise by a quarter turn
 abbrev pub turned : Vector → Vector

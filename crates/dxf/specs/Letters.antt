@@ -52,7 +52,7 @@ fit_groups fit end = if fit then count_group 72 5 ++ point_text 11 21 (point_of 
 
 abbrev pub form_groups : Form → Place → List ℕ
 form_groups form end =
-    size_group 50 (1000 * form.rotation) ++ size_group 41 (1000 * form.factor) ++ leaning_group form.is_backward form.leaning
+    size_group 50 (1000 * form.rotation) ++ size_group 41 form.factor ++ leaning_group form.is_backward form.leaning
     ++ group 7 (codes "STANDARD") ++ mirrored_group form.is_mirrored ++ fit_groups form.is_fit end
 
 -- a line of letters, with the layer and the colour of a stroke

@@ -1,7 +1,7 @@
 //! The part of the centre line of a stroke that is in its window.
 ghost use Rattle.std.specs.Prelude.{◌≡◌, ◌≤◌, ◌^◌, ◌-ℤ◌, ◌*ℤ◌, pos, nat_abs};
 ghost use Rattle.exact.specs.Ranges.{is_between};
-ghost use Rattle.dxf.specs.Cuts.{between, coordinate_at, cut_line, earlier, holds, is_before, is_open, is_whole, later, line_of, narrowed, own_line, point_at, point_of, share_of, span_of, weighted, whole_way};
+ghost use Rattle.dxf.specs.Cuts.{coordinate_at, cut_line, earlier, holds, is_before, is_open, is_whole, later, left_side, line_of, lower_side, narrowed, own_line, point_at, point_of, right_side, share_of, span_of, upper_side, weighted, whole_way};
 
 use crate::groups::in_parts;
 use exact::rounded;
@@ -26,6 +26,13 @@ pub(crate) struct Line {
 pub(crate) struct Share {
     pub(crate) over: u32,
     pub(crate) under: u32,
+}
+
+/// Where an edge of a window cuts a stroke: what is on its inner side are the shares t of the way with p t <= q.
+#[derive(Clone, Copy)]
+pub(crate) struct Side {
+    pub(crate) p: i32,
+    pub(crate) q: i32,
 }
 
 /// A part of a stroke, from one share of its way to another, or nothing.
@@ -92,20 +99,50 @@ fn is_between(least: i32, greatest: i32, number: i32) -> bool
 fn span_of(stroke: &Stroke) -> Span
     ensures { result ≡ span_of stroke.now }
 {
-    let across = between(
-        stroke.window.x0,
-        stroke.window.x1,
-        stroke.ax,
-        stroke.bx,
-        whole_way(),
-    );
-    between(
-        stroke.window.y0,
-        stroke.window.y1,
-        stroke.ay,
-        stroke.by,
-        across,
-    )
+    let left = narrowed(left_side(stroke), whole_way());
+    let right = narrowed(right_side(stroke), left);
+    let lower = narrowed(lower_side(stroke), right);
+    narrowed(upper_side(stroke), lower)
+}
+
+// Where the left edge of its window cuts a stroke.
+fn left_side(stroke: &Stroke) -> Side
+    ensures { result ≡ left_side stroke.now }
+{
+    Side {
+        p: difference(stroke.ax, stroke.bx),
+        q: difference(stroke.ax, stroke.window.x0),
+    }
+}
+
+// Where the right edge of its window cuts a stroke.
+fn right_side(stroke: &Stroke) -> Side
+    ensures { result ≡ right_side stroke.now }
+{
+    Side {
+        p: difference(stroke.bx, stroke.ax),
+        q: difference(stroke.window.x1, stroke.ax),
+    }
+}
+
+// Where the lower edge of its window cuts a stroke.
+fn lower_side(stroke: &Stroke) -> Side
+    ensures { result ≡ lower_side stroke.now }
+{
+    Side {
+        p: difference(stroke.ay, stroke.by),
+        q: difference(stroke.ay, stroke.window.y0),
+    }
+}
+
+// Where the upper edge of its window cuts a stroke.
+fn upper_side(stroke: &Stroke) -> Side
+    ensures { result ≡ upper_side stroke.now }
+{
+    Side {
+        p: difference(stroke.by, stroke.ay),
+        q: difference(stroke.window.y1, stroke.ay),
+    }
 }
 
 // From the first end of a stroke to the other one.
@@ -119,18 +156,6 @@ fn whole_way() -> Span
     }
 }
 
-// The part of a span that is between two numbers, for a coordinate that leads from `a` to `b`.
-fn between(low: i32, high: i32, a: i32, b: i32, span: Span) -> Span
-    requires low { nat_abs low ≤ 1048576 }
-    requires high { nat_abs high ≤ 1048576 }
-    requires a { nat_abs a ≤ 1048576 }
-    requires b { nat_abs b ≤ 1048576 }
-    ensures { result ≡ between low high a b span }
-{
-    let above = narrowed(difference(a, b), difference(a, low), span);
-    narrowed(difference(b, a), difference(high, a), above)
-}
-
 // How much a number is above another one.
 fn difference(number: i32, other: i32) -> i32
     requires number { nat_abs number ≤ 1048576 }
@@ -140,14 +165,14 @@ fn difference(number: i32, other: i32) -> i32
     number - other
 }
 
-// The part of a span whose shares t have p t <= q.
-fn narrowed(p: i32, q: i32, span: Span) -> Span
-    ensures { result ≡ narrowed p q span }
+// The part of a span that is on the inner side of an edge of a window: the shares t with p t <= q.
+fn narrowed(side: Side, span: Span) -> Span
+    ensures { result ≡ narrowed side span }
 {
-    if q < 0 {
-        if p < 0 {
+    if side.q < 0 {
+        if side.p < 0 {
             Span {
-                from: later(span.from, share_of(p, q)),
+                from: later(span.from, share_of(side)),
                 ..span
             }
         } else {
@@ -156,9 +181,9 @@ fn narrowed(p: i32, q: i32, span: Span) -> Span
                 ..span
             }
         }
-    } else if p > 0 {
+    } else if side.p > 0 {
         Span {
-            to: earlier(span.to, share_of(p, q)),
+            to: earlier(span.to, share_of(side)),
             ..span
         }
     } else {
@@ -166,13 +191,13 @@ fn narrowed(p: i32, q: i32, span: Span) -> Span
     }
 }
 
-// The size of q over the size of p.
-fn share_of(p: i32, q: i32) -> Share
-    ensures { result ≡ share_of p q }
+// The share of the way at which an edge cuts it: the size of q over the size of p.
+fn share_of(side: Side) -> Share
+    ensures { result ≡ share_of side }
 {
     Share {
-        over: q.unsigned_abs(),
-        under: p.unsigned_abs(),
+        over: side.q.unsigned_abs(),
+        under: side.p.unsigned_abs(),
     }
 }
 

@@ -1,12 +1,12 @@
 //! The entities of strokes and areas.
-ghost use Rattle.std.specs.Prelude.{◌≡◌, codes};
+ghost use Rattle.std.specs.Prelude.{◌≡◌, ◌*◌};
 ghost use Rattle.pieces.specs.Texts.{IsSound, Puts};
-ghost use Rattle.dxf.specs.Entities.{entity_start, last_vertex, point_text, polyline_end, polyline_start, single_text, start_vertex, vertex_text};
+ghost use Rattle.dxf.specs.Entities.{entity_start, flags, last_vertex, point_text, polyline_end, polyline_start, single_text, start_vertex, vertex_text};
 ghost use Rattle.dxf.specs.Steps.{after_if, after_piece, end_text, piece_text, text_if};
 
 use crate::chains::{Pending, Piece, goes_on, is_same_point};
 use crate::cuts::Point;
-use crate::groups::{put_count, put_group, put_number, put_size};
+use crate::groups::{GRAIN, put_count, put_group, put_number, put_size};
 use crate::layers::{Layers, put_layer, put_layer_groups};
 use devices::Sink;
 use pieces::Text;
@@ -139,10 +139,23 @@ fn put_polyline_start<K: Sink>(text: &mut Text<'_, K>, layers: &Layers, piece: &
     put_count(text, 10, 0);
     put_count(text, 20, 0);
     put_count(text, 30, 0);
-    put_count(text, 70, u32::from(piece.is_closed));
-    let width = 15_625 * u128::from(piece.width);
-    put_size(text, 40, width);
-    put_size(text, 41, width);
+    put_count(text, 70, flags(piece));
+    put_size(text, 40, width_of(piece));
+    put_size(text, 41, width_of(piece));
+}
+
+// The flags of a polyline: whether it is closed.
+fn flags(piece: &Piece) -> u32
+    ensures { result ≡ flags piece.now }
+{
+    if piece.is_closed { 1 } else { 0 }
+}
+
+// The width of a piece, in parts.
+fn width_of(piece: &Piece) -> u128
+    ensures { result ≡ GRAIN * piece.now.width }
+{
+    GRAIN * u128::from(piece.width)
 }
 
 // Puts a vertex of a polyline.

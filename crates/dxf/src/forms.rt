@@ -18,7 +18,7 @@ pub(crate) struct Form {
     pub(crate) height: u128,
     /// The direction of their line, in ten-thousandths of a degree.
     pub(crate) rotation: u64,
-    /// Their width as a share of their height, in ten-thousandths.
+    /// Their width as a share of their height, in parts.
     pub(crate) factor: u128,
     /// By how much they lean, in ten-thousandths of a degree.
     pub(crate) leaning: u64,
@@ -194,7 +194,7 @@ fn factor_of(u: Vector, letters: usize, height: u128) -> u128
     ensures { result ≡ factor_of u letters height }
 {
     let wide = length_of(u) * 10_000;
-    (wide / product_of(letters, height).max(1)).max(1)
+    1000 * (wide / product_of(letters, height).max(1)).max(1)
 }
 
 // So many heights.

@@ -4,10 +4,11 @@ ghost use Rattle.std.specs.Fmt.{digit_glyph};
 ghost use Rattle.std.specs.List.{list_any};
 ghost use Rattle.labels.specs.Labels.{IsNear};
 ghost use Rattle.pieces.specs.Texts.{IsSound, Puts};
+ghost use Rattle.dxf.specs.Cuts.{point_of};
 ghost use Rattle.dxf.specs.Groups.{group};
 ghost use Rattle.dxf.specs.Letters.{fit_groups, form_groups, four_digits, has_letters, is_letter, is_plain, is_written, leaning_group, letter, letter_text, letters_text, line_text, lines_text, mirrored_group, text_entity};
 
-use crate::cuts::point_of;
+use crate::cuts::{Point, point_of};
 use crate::entities::put_point;
 use crate::forms::{Form, form_of};
 use crate::groups::{put_count, put_group, put_signed, put_size};
@@ -79,10 +80,17 @@ fn put_entity<K: Sink>(text: &mut Text<'_, K>, layers: &Layers, stroke: &Stroke,
     let form = form_of(line);
     put_group(text, 0, b"TEXT");
     put_layer_groups(text, layers, stroke.pen, stroke.colour);
-    put_point(text, 10, 20, point_of(line.start.x, line.start.y));
+    put_point(text, 10, 20, point_at(line.start));
     put_size(text, 40, form.height);
     put_letters(text, &line.text);
     put_form(text, &form, line.end);
+}
+
+// A place of letters as a point of the document.
+fn point_at(place: Place) -> Point
+    ensures { result ≡ point_of place.x place.y }
+{
+    point_of(place.x, place.y)
 }
 
 // Puts a text as a group.
@@ -90,7 +98,8 @@ fn put_letters<K: Sink>(text: &mut Text<'_, K>, code_points: &[u32])
     requires sound { IsSound K.state text.old }
     ensures puts { Puts K.state text.old text.new (group 1 (letters_text code_points.now)) }
 {
-    text.put(b"1\n");
+    text.put_number(1u32);
+    text.put(b"\n");
     put_code_points(text, code_points);
     text.put(b"\n");
 }
@@ -173,7 +182,7 @@ fn put_form<K: Sink>(text: &mut Text<'_, K>, form: &Form, end: Place)
     ensures puts { Puts K.state text.old text.new (form_groups form.now end) }
 {
     put_size(text, 50, 1000 * u128::from(form.rotation));
-    put_size(text, 41, 1000 * form.factor);
+    put_size(text, 41, form.factor);
     put_leaning(text, form.is_backward, form.leaning);
     put_group(text, 7, b"STANDARD");
     put_mirrored(text, form.is_mirrored);
@@ -208,7 +217,7 @@ fn put_fit<K: Sink>(text: &mut Text<'_, K>, fit: bool, end: Place)
 {
     if fit {
         put_count(text, 72, 5);
-        put_point(text, 11, 21, point_of(end.x, end.y));
+        put_point(text, 11, 21, point_at(end));
     } else {
         put_count(text, 72, 0);
     }

@@ -49,7 +49,7 @@ pub(crate) fn put_strokes<K: Sink>(
     };
     for i in at..strokes.len() {
         if walk.done <= i {
-            let rest = between(strokes, i, end);
+            let rest = between(strokes, i, strokes.len());
             walk = put_shape(text, layers, view, before, i, walk.pending, rest);
         }
     }

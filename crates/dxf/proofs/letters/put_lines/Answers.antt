@@ -1,9 +1,12 @@
-use Rattle.std.proofs.Common.{List, ap}
+use Rattle.std.proofs.Common.{List, ap, refl}
 use Rattle.labels.specs.Labels.{LineShape}
-use Rattle.pieces.proofs.Texts.{next_put}
+use Rattle.pieces.proofs.Texts.{all_left, next_put}
 use Rattle.svg.proofs.Texts.{next_item}
 use Rattle.dxf.specs.Letters.{lines_text}
 use Rattle.dxf.proofs.letters.put_lines.Goals as goal
+
+pub loop-line-init : goal.loop-line-init
+loop-line-init g c = all_left c.requires.sound refl
 
 pub loop-line-preserved : goal.loop-line-preserved
 loop-line-preserved g c =
