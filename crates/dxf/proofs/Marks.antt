@@ -1,7 +1,6 @@
 -- What is written piece by piece is the text of the chains.
 use Rattle.std.proofs.Common.{◌≡◌, ℕ, List, [], ◌∷◌, ◌++◌, flat_map, Bool, true, false, cond, refl, ap, sym, ◌∙◌, append_assoc, append-nil, Option, Some, None}
-use Rattle.std.proofs.lemmas.List.Concat.{flat_map-append}
-use Rattle.dxf.specs.Chains.{Break, Following, Mark, Seen, chains, following, going_on, beginning, goes_on, mark_if}
+use Rattle.dxf.specs.Chains.{Break, Following, Mark, Seen, following, going_on, beginning, goes_on, mark_if}
 use Rattle.dxf.specs.Entities.{chain_text, chains_text, last_of, polyline_end, polyline_start, single_text, start_vertex}
 use Rattle.dxf.specs.Steps.{after_if, after_piece, end_text, left_text, piece_text, text_if}
 use Rattle.dxf.specs.declared.chains.Pending.{Pending}

@@ -16,4 +16,3 @@ taken_sheet section pens number strokes areas at end ends labels h = ap (λ (b :
 
 pub passed_sheet : (section : Section) (pens : PenSet) (number : ℕ) (strokes : List Segment) (areas : List Area) (at end : ℕ) (ends : List ℕ) (labels : List LabelShape) → nat_eq (length (between strokes at end)) 0 ≡ true → sheets_text section pens number (labelled_after strokes areas at (end ∷ ends) labels) ≡ sheets_text section pens number (labelled_after strokes areas at ends labels)
 passed_sheet section pens number strokes areas at end ends labels h = ap (λ (b : Bool). sheets_text section pens number (cond b (labelled_after strokes areas at ends labels) (sheet_between strokes areas at end labels ∷ labelled_after strokes areas end ends (drop (count_to end labels) labels)))) h
-

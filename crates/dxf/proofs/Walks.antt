@@ -1,10 +1,8 @@
 -- What is written shape by shape is the text of the shapes.
 use Rattle.std.proofs.Common.{◌≡◌, ℕ, ◌+◌, ◌-◌, ◌<◌, ◌≤◌, List, [], ◌∷◌, ◌++◌, flat_map, length, take, drop, get_or, map, Bool, true, false, cond, nat_eq, refl, ap, sym, ◌∙◌, append_assoc, append-nil, arith, Option, Some, None, drop-cons, suc, subst, length-take, pos}
-use Rattle.plot_page.specs.declared.colour.Colour.{Colour}
-use Rattle.plot_page.specs.declared.window.Window.{Window}
 use Rattle.std.proofs.lemmas.Bool.Decides.{nat_tests}
 use Rattle.std.proofs.lemmas.List.{drop-take, drop_all}
-use Rattle.std.specs.List.{All, list_all}
+use Rattle.std.specs.List.{list_all}
 use Rattle.std.specs.Option.{option_map}
 use Rattle.areas.proofs.NextShapes.{area_next, stroke_next}
 use Rattle.areas.specs.Shapes.{AreApart, Shape, area_shape, beginning_at, counted, edges_of, shapes_after, stroke_shape}
@@ -19,12 +17,11 @@ use Rattle.plot_page.specs.declared.pens.PenSet.{PenSet}
 use Rattle.stroke_runs.proofs.AreaOrder.{Agree, later_ones, none_before}
 use Rattle.stroke_runs.specs.Drawn.{begins_drawn, drawn_shapes, is_drawn}
 use Rattle.dxf.proofs.Marks.{at_break, next_if, to_break}
-use Rattle.dxf.specs.Chains.{Break, Mark, edge_marks, mark_if, marks, piece_of, shape_marks, stroke_marks}
+use Rattle.dxf.specs.Chains.{Break, Mark, edge_marks, marks, piece_of, shape_marks, stroke_marks}
 use Rattle.dxf.specs.Cuts.{is_whole}
 use Rattle.dxf.specs.Steps.{after_area, after_first, after_if, after_stroke, area_text, end_text, first_text, left_text, shape_after, shape_text, stroke_text, text_if}
 use Rattle.dxf.specs.declared.chains.Pending.{Pending}
 use Rattle.dxf.specs.declared.chains.Pending.TheVariants.{Nothing}
-use Rattle.dxf.specs.declared.chains.Piece.{Piece}
 use Rattle.dxf.specs.declared.layers.Layers.{Layers}
 use Rattle.dxf.specs.declared.strokes.Walk.{Walk}
 
@@ -137,7 +134,7 @@ next_area layers pens areas before i strokes pending rest b apart agree some =
     let parts : AreApart i (a ∷ more) = subst (λ (left : List Area). AreApart i left) found.is apart in
     let here = found.here in
     let edges : edges_of strokes a ≡ take (a.end - i) (drop i strokes) =
-        ap (λ (n : ℕ). drop n (take a.end strokes)) here ∙ edges_here strokes i a.end (omega (arith, here, parts.1)) in
+    ap (λ (n : ℕ). drop n (take a.end strokes)) here ∙ edges_here strokes i a.end (omega (arith, here, parts.1)) in
     record {
       more = more;
       ahead = omega (arith, here, parts.1);
@@ -183,7 +180,7 @@ one_shape layers pens areas before i strokes walk after left rest apart agree sa
     let o = beginning_at (before + i) (areas_in areas) in
     let pending = walk.pending in
     let next = next_shape o layers pens areas before i strokes pending left (get_or strokes i some_stroke) (drop (suc i) strokes)
-        (subst (λ (n : ℕ). AreApart n left) same apart) (subst (λ (n : ℕ). Agree before (areas_in areas) n left) same agree) (drop-cons strokes i some_stroke lt) lt refl in
+    (subst (λ (n : ℕ). AreApart n left) same apart) (subst (λ (n : ℕ). Agree before (areas_in areas) n left) same agree) (drop-cons strokes i some_stroke lt) lt refl in
     let here = subst (λ (ss : List Segment). IsNext layers pens areas before i strokes (left_text layers pending (marks pens (shapes_after i strokes left))) (shape_text layers pens before i pending ss o) (shape_after pens before i pending ss o)) (sym is) next in
     let done = subst (λ (n : ℕ). IsNext layers pens areas before i strokes (left_text layers pending (marks pens (shapes_after n strokes left))) (shape_text layers pens before i pending rest o) (shape_after pens before i pending rest o)) (sym same) here in
     subst (λ (it : Walk). IsNext layers pens areas before i strokes (left_text layers pending (marks pens (shapes_after walk.done strokes left))) (shape_text layers pens before i pending rest o) it) (sym later) done

@@ -1,5 +1,5 @@
 -- The part of the centre line of a stroke that is in its window. Its ends and the edges of the window are included.
-use Rattle.std.specs.Prelude.{ℕ, ◌*◌, max, nat_lt, not, ◌&&◌, Bool, true, false, ℤ, pos, int_lt, ◌+ℤ◌, ◌-ℤ◌, ◌*ℤ◌, nat_abs, Option, Some, None, if◌then◌else◌}
+use Rattle.std.specs.Prelude.{◌*◌, max, nat_lt, not, ◌&&◌, Bool, true, false, ℤ, pos, int_lt, ◌+ℤ◌, ◌-ℤ◌, ◌*ℤ◌, nat_abs, Option, Some, None, if◌then◌else◌}
 use Rattle.exact.specs.Fraction.{quotient, round}
 use Rattle.exact.specs.Ranges.{is_between}
 use Rattle.plot_page.specs.Segments.{Segment}

@@ -2,7 +2,7 @@
 use Rattle.std.specs.Prelude.{ℕ, ◌*◌, ◌&&◌, List, [], ◌∷◌, ◌++◌, flat_map, if◌then◌else◌, codes}
 use Rattle.areas.specs.Shapes.{Shape}
 use Rattle.plot_page.specs.declared.pens.PenSet.{PenSet}
-use Rattle.dxf.specs.Chains.{Chain, Mark, chains, is_same_point, marks}
+use Rattle.dxf.specs.Chains.{Chain, chains, is_same_point, marks}
 use Rattle.dxf.specs.Groups.{count_group, group, number_group, size_group}
 use Rattle.dxf.specs.Layers.{layer_groups, layer_name}
 use Rattle.dxf.specs.declared.chains.Piece.{Piece}

@@ -1,5 +1,5 @@
 -- How the letters of a line lie on the page, as a TEXT of DXF R12 says it.
-use Rattle.std.specs.Prelude.{ℕ, ◌+◌, ◌*◌, ◌/◌, ◌==◌, max, min, not, ℤ, pos, neg_ℤ, int_lt, ◌+ℤ◌, ◌-ℤ◌, ◌*ℤ◌, nat_abs, length, if◌then◌else◌}
+use Rattle.std.specs.Prelude.{ℕ, ◌*◌, ◌/◌, ◌==◌, max, min, not, ℤ, pos, neg_ℤ, int_lt, ◌+ℤ◌, ◌-ℤ◌, ◌*ℤ◌, nat_abs, length, if◌then◌else◌}
 use Rattle.exact.specs.Roots.{root}
 use Rattle.labels.specs.Labels.{LineShape}
 use Rattle.labels.specs.declared.place.Place.{Place}

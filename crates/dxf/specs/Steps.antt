@@ -11,7 +11,6 @@ use Rattle.dxf.specs.Entities.{chain_text, chains_text, last_of, polyline_end, p
 use Rattle.dxf.specs.declared.chains.Piece.{Piece}
 use Rattle.dxf.specs.declared.chains.Pending.{Pending}
 use Rattle.dxf.specs.declared.chains.Pending.TheVariants.{Nothing, Single, Open}
-use Rattle.dxf.specs.declared.cuts.Point.{Point}
 use Rattle.dxf.specs.declared.layers.Layers.{Layers}
 use Rattle.dxf.specs.declared.strokes.Walk.{Walk}
 

@@ -1,7 +1,7 @@
 use Rattle.std.proofs.Common.{◌≡◌, ◌+◌, ◌∙◌, ◌∷◌, ℕ, List, ap, drop, get_or, sym}
 use Rattle.std.proofs.lemmas.List.{drop_all, drop_more}
 use Rattle.plot_page.specs.declared.colour.Colour.{Colour}
-use Rattle.dxf.specs.Colours.{distance, nearer, nearest_after, nearest_of}
+use Rattle.dxf.specs.Colours.{distance, nearer, nearest_after}
 use Rattle.dxf.specs.declared.colours.Nearest.{Nearest}
 use Rattle.dxf.proofs.colours.nearest_of.Goals as goal
 

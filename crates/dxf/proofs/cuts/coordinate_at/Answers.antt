@@ -1,4 +1,4 @@
-use Rattle.std.proofs.Common.{◌≡◌, ◌∙◌, ◌*ℤ◌, ℕ, pos, FitsSigned, ap, arith, rules}
+use Rattle.std.proofs.Common.{◌∙◌, ◌*ℤ◌, ℕ, pos, FitsSigned, ap, arith, rules}
 use mir.Syntax.{w32, w128}
 use mir.Val.{SFits}
 use Rattle.std.proofs.lemmas.Int.{ints, to_z-of_z}

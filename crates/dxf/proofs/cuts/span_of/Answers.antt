@@ -1,4 +1,4 @@
-use Rattle.std.proofs.Common.{◌≡◌, ◌∙◌}
+use Rattle.std.proofs.Common.{◌∙◌}
 use Rattle.dxf.specs.Cuts.{narrowed}
 use Rattle.dxf.proofs.cuts.span_of.Goals as goal
 

@@ -1,4 +1,4 @@
-use Rattle.std.proofs.Common.{◌≡◌, ◌∙◌, ◌+ℤ◌, ◌*ℤ◌, ℤ, pos, FitsSigned, ap, arith}
+use Rattle.std.proofs.Common.{◌∙◌, ◌+ℤ◌, ◌*ℤ◌, ℤ, pos, FitsSigned, ap, arith}
 use mir.Syntax.{w32, w128}
 use Rattle.std.proofs.lemmas.Int.{ints, to_z-of_z}
 use Rattle.dxf.proofs.cuts.weighted.Goals as goal

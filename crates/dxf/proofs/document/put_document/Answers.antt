@@ -1,4 +1,4 @@
-use Rattle.std.proofs.Common.{◌++◌, ◌∙◌, List, None, ap}
+use Rattle.std.proofs.Common.{◌∙◌, ap}
 use Rattle.areas.specs.Views.{areas_in}
 use Rattle.labels.specs.Sheets.{all_counted}
 use Rattle.pieces.proofs.Texts.{◌then◌, puts_as, written}

@@ -1,4 +1,4 @@
-use Rattle.std.proofs.Common.{◌≡◌, ◌∙◌, ◌+ℤ◌, ◌*ℤ◌, FitsSigned, arith}
+use Rattle.std.proofs.Common.{◌+ℤ◌, FitsSigned, arith}
 use mir.Syntax.{w32, w64}
 use Rattle.std.proofs.lemmas.Int.{ints, to_z-of_z}
 use Rattle.dxf.proofs.forms.dot.Goals as goal

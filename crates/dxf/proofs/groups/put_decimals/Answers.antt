@@ -1,6 +1,6 @@
 use Rattle.std.proofs.Common.{◌≡◌, ◌+◌, ◌-◌, ◌++◌, ◌∙◌, ℕ, suc, ap, arith, refl, sym}
 use Rattle.pieces.proofs.Texts.{all_left, all_put, next_put}
-use Rattle.dxf.specs.Groups.{after_decimal, decimals, next_decimal}
+use Rattle.dxf.specs.Groups.{decimals, next_decimal}
 use Rattle.dxf.proofs.groups.put_decimals.Goals as goal
 
 pub loop-place-init : goal.loop-place-init

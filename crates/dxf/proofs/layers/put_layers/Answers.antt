@@ -1,4 +1,4 @@
-use Rattle.std.proofs.Common.{◌≡◌, ◌+◌, ◌-◌, ◌++◌, ◌∙◌, ℕ, suc, ap, arith, refl, sym}
+use Rattle.std.proofs.Common.{◌≡◌, ◌+◌, ◌-◌, ℕ, suc, ap, arith, refl}
 use Rattle.pieces.proofs.Texts.{all_left, all_put, next_put, puts_as}
 use Rattle.dxf.specs.Layers.{pen_entries, pen_entry}
 use Rattle.dxf.proofs.layers.put_layers.Goals as goal

@@ -1,4 +1,4 @@
-use Rattle.std.proofs.Common.{◌≡◌, ◌++◌, ◌∷◌, ◌∙◌, [], ℕ, List, Bool, ap, codes, cond, sym}
+use Rattle.std.proofs.Common.{◌++◌, ◌∷◌, ◌∙◌, [], ℕ, Bool, ap, codes, cond, sym}
 use Rattle.pieces.proofs.Texts.{◌then◌, puts_as}
 use Rattle.dxf.specs.Letters.{four_digits, letter}
 use Rattle.dxf.proofs.letters.put_code_point.Goals as goal

@@ -17,9 +17,9 @@ returns g c =
     let form = c.form_of-form.ensures in
     let layer = puts_as c.put_layer_groups.ensures.puts (ap (λ (s : Segment). layer_groups c.args.layers.now s.pen s.colour) c.stroke.view_is) in
     let point = puts_as c.put_point.ensures.puts
-        (ap (λ (p : Point). point_text 10 20 p) c.point_at.ensures ∙ ap (λ (l : LineShape). point_text 10 20 (point_of l.start.x l.start.y)) line) in
+    (ap (λ (p : Point). point_text 10 20 p) c.point_at.ensures ∙ ap (λ (l : LineShape). point_text 10 20 (point_of l.start.x l.start.y)) line) in
     let height = puts_as c.put_size.ensures.puts (ap (λ (f : Form). size_group 40 f.height) form) in
     let letters = puts_as c.put_letters.ensures.puts
-        (ap (λ (t : List ℕ). group 1 (letters_text t)) (c.deref.ensures.value ∙ ap (λ (l : LineShape). l.text) line)) in
+    (ap (λ (t : List ℕ). group 1 (letters_text t)) (c.deref.ensures.value ∙ ap (λ (l : LineShape). l.text) line)) in
     let lies = puts_as c.put_form.ensures.puts (λ i. form_groups (form i) (line i).end) in
     record { puts = c.put_group.ensures.puts then layer then point then height then letters then lies }

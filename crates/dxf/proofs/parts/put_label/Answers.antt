@@ -1,4 +1,4 @@
-use Rattle.std.proofs.Common.{◌≡◌, ◌∙◌, Bool, List, Option, ap, cond, sym}
+use Rattle.std.proofs.Common.{◌∙◌, Bool, List, Option, ap, cond, sym}
 use Rattle.std.specs.List.{list_any}
 use Rattle.areas.specs.Views.{areas_in}
 use Rattle.labels.specs.Labels.{LabelShape, LineShape}

@@ -1,4 +1,4 @@
-use Rattle.std.proofs.Common.{◌≡◌, ◌∙◌, ap, sym}
+use Rattle.std.proofs.Common.{◌∙◌, ap, sym}
 use Rattle.areas.specs.Views.{areas_in}
 use Rattle.labels.specs.Sheets.{all_counted}
 use Rattle.pieces.proofs.Texts.{puts_as}

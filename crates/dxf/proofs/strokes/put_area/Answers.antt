@@ -1,10 +1,9 @@
-use Rattle.std.proofs.Common.{◌≡◌, ◌++◌, ◌∙◌, [], Bool, ap, cond, sym}
+use Rattle.std.proofs.Common.{◌++◌, ◌∙◌, [], Bool, ap, cond, sym}
 use Rattle.std.specs.List.{list_all}
 use Rattle.pieces.proofs.Texts.{◌then◌, none_put, puts_as}
 use Rattle.dxf.specs.Chains.{edge_marks}
 use Rattle.dxf.specs.Cuts.{is_whole}
 use Rattle.dxf.specs.Steps.{end_text, left_text}
-use Rattle.dxf.specs.declared.chains.Pending.{Pending}
 use Rattle.dxf.specs.declared.chains.Pending.TheVariants.{Nothing}
 use Rattle.dxf.proofs.strokes.put_area.Goals as goal
 

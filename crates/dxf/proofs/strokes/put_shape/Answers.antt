@@ -1,10 +1,8 @@
-use Rattle.std.proofs.Common.{◌≡◌, ◌∙◌, ◌+◌, ◌-◌, ℕ, List, Option, ap, sym, take}
+use Rattle.std.proofs.Common.{◌∙◌, ◌+◌, ◌-◌, ℕ, List, Option, ap, sym, take}
 use Rattle.areas.specs.declared.area.Area.{Area}
 use Rattle.pieces.proofs.Texts.{puts_as}
 use Rattle.plot_page.specs.Segments.{Segment}
 use Rattle.dxf.specs.Steps.{after_area, area_text, shape_after, shape_text}
-use Rattle.dxf.specs.declared.chains.Pending.{Pending}
-use Rattle.dxf.specs.declared.strokes.Walk.{Walk}
 use Rattle.dxf.proofs.strokes.put_shape.Goals as goal
 
 pub returns-in-Some : goal.returns-in-Some

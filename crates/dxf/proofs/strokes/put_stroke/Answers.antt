@@ -1,4 +1,4 @@
-use Rattle.std.proofs.Common.{◌≡◌, ◌∙◌, [], Bool, Option, ap, cond, false, sym}
+use Rattle.std.proofs.Common.{◌∙◌, [], Bool, Option, ap, cond, false, sym}
 use Rattle.pieces.proofs.Texts.{none_put, puts_as}
 use Rattle.plot_page.specs.Segments.{Segment}
 use Rattle.dxf.specs.Chains.{piece_of}

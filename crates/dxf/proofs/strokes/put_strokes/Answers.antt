@@ -1,4 +1,4 @@
-use Rattle.std.proofs.Common.{◌≡◌, ◌∙◌, ◌+◌, ℕ, List, ap, arith, drop, length, take}
+use Rattle.std.proofs.Common.{◌≡◌, ◌∙◌, List, ap, arith, drop, length}
 use Rattle.std.proofs.lemmas.List.{take_all}
 use Rattle.areas.proofs.Apart.{apart_in}
 use Rattle.areas.specs.Shapes.{areas_from, shapes_after}
@@ -40,7 +40,7 @@ loop-i-preserved g c =
           let same : l.walk.done ≡ l.i = omega (arith, now.ahead, w.if-walk-i.true) in
           let rest = w.between-rest.ensures ∙ ap (λ (ss : List Segment). drop l.i ss) (take_all (length strokes) strokes (omega arith)) in
           let next = one_shape c.args.layers.now view.pens.now view.areas c.args.before l.i strokes l.walk w.put_shape-walk.result now.rest w.between-rest.result.now
-              now.apart now.agree same c.loop-i-test.true rest w.put_shape-walk.ensures.after in
+          now.apart now.agree same c.loop-i-test.true rest w.put_shape-walk.ensures.after in
           let put = next_put now.left w.put_shape-walk.ensures.puts next.is in
           record {
             rest = next.more;

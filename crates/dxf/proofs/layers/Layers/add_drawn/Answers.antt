@@ -1,4 +1,4 @@
-use Rattle.std.proofs.Common.{◌≡◌, ◌∙◌, Bool, ap, cond, sym}
+use Rattle.std.proofs.Common.{◌∙◌, Bool, ap, cond, sym}
 use Rattle.plot_page.specs.Segments.{Segment}
 use Rattle.dxf.specs.Layers.{with_stroke}
 use Rattle.dxf.proofs.layers.Layers.add_drawn.Goals as goal

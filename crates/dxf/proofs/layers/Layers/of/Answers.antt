@@ -1,7 +1,6 @@
 use Rattle.std.proofs.Common.{◌≡◌, ◌+◌, ◌∙◌, ◌∷◌, ℕ, List, Bool, true, false, ap, cond, drop, refl, sym}
 use Rattle.std.proofs.lemmas.List.{drop_all}
 use Rattle.plot_page.specs.Segments.{Segment}
-use Rattle.plot_page.specs.declared.pens.PenSet.{PenSet}
 use Rattle.stroke_runs.specs.Drawn.{drawn, is_drawn}
 use Rattle.svg.proofs.Texts.{next_item}
 use Rattle.dxf.specs.Layers.{with_stroke, with_strokes}
