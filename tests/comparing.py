@@ -1,14 +1,15 @@
 """The built program beside tests/reference, a plain plotter: do they answer a case alike?
 
-Standard output, status and standard error must be the same; of a PNG, a PDF and an SVG what tests/reference reads in it. Of a
-mistake in usage only the status and the beginning of the text are compared. The longest plot and the most strokes take the
-reference too long; tests/cases has them.
+Standard output, status and standard error must be the same; of a PNG, a PDF and an SVG what tests/reference reads in it, and of
+a DXF its bytes but for the last digits of angles. Of a mistake in usage only the status and the beginning of the text are
+compared. The longest plot and the most strokes take the reference too long; tests/cases has them.
 """
 
 import os
 import subprocess
 import tempfile
 
+from reference.dxf_groups import near
 from reference.outputs import PLOT, USAGE, Answer, answer, listed
 from reference.pdf import read_pdf
 from reference.png import read_png
@@ -78,6 +79,8 @@ def answers(program, case):
         wanted = answer(*case)
     except Exception as mistake:
         wanted = Answer(-1, b"", f"the reference fails: {mistake!r}")
+    if case.form == "dxf" or case.options.get("form", "").lower() == "dxf":
+        got = got._replace(output=near(got.output, wanted.output))
     if wanted is USAGE:
         return got, wanted, got[:2] == wanted[:2] and got.error.startswith(wanted.error)
     return got, wanted, got == wanted

@@ -11,7 +11,7 @@ from .carousel import Carousel
 from .geometry import Page
 from .pen_lists import pens_of
 
-VECTORS = ("pdf", "svg")
+VECTORS = ("pdf", "svg", "dxf")
 DOCUMENTS = ("png", *VECTORS)
 PICTURES = ("marks", "pbm", "ppm", "pcl", *DOCUMENTS)
 WITH_SHADES = ("png", "ppm")
@@ -33,7 +33,7 @@ MOST_SHEETS = 4_194_304
 EACH = "each"
 CHARACTERS = ("roman-8", "latin-1", "windows-1252", "pc-8", "ascii", "utf-8")
 NO_SUCH_FORM = (
-    "no such form of picture: use png, pdf, svg, ppm, pbm, pcl or marks, after --form or as the extension of the output file"
+    "no such form of picture: use png, pdf, svg, dxf, ppm, pbm, pcl or marks, after --form or as the extension of the output file"
 )
 ROTATIONS = ("0", "90", "180", "270")
 TEXTS = ("profile", "sheet", "characters", "page", "fit", "rotate", "colours", "colors", "widths")

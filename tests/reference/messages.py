@@ -18,7 +18,7 @@ MESSAGES = {
     "rotation": (2, "bad rotation: use 0, 90, 180 or 270"),
     "page-and-sides": (2, "--page may not be given with --width or --height"),
     "smooth-without-shades": (2, "--smooth needs the form png or ppm"),
-    "no-pixels": (2, "--dots, --size and --smooth may not be given with the forms pdf and svg"),
+    "no-pixels": (2, "--dots, --size and --smooth may not be given with the forms pdf, svg and dxf"),
     "no-folder": (2, "several plots need --output FOLDER"),
     "each-without-folder": (2, "--sheet each needs --output FOLDER"),
     # of files and devices

@@ -1,6 +1,6 @@
 """The outputs, from the words of the command line and the bytes of a plot.
 
-docs/FORMATS.md. Of a PNG, a PDF and an SVG it is what a reader is to find in it.
+docs/FORMATS.md. Of a PNG, a PDF and an SVG it is what a reader is to find in it, and of a DXF its bytes.
 """
 
 from itertools import islice
@@ -9,6 +9,8 @@ from typing import NamedTuple
 from . import cutting, full_cutting, full_plotter, messages, plotter, raster
 from .carousel import EMPTY
 from .command_line import DOTS_OF_PCL, EACH, MOST_DOTS, PAGE_OPTIONS, VECTORS, Mistake, request_of
+from .dxf import drawing_of
+from .dxf_groups import bytes_of
 from .fitting import BLANK, TOO_LARGE, UNIT, fitted, is_off
 from .geometry import Page
 from .labels import groups_of, rows_moved, texts_of
@@ -185,7 +187,7 @@ def listed(files):
 def picture_of(request, shown, shapes):
     """The picture of shapes on the page that is shown."""
     if request.form in VECTORS:
-        return document_of(request, shown, shapes).listing()
+        return document_of(request, shown, shapes)
     page, dots, smooth, first = shown.page, shown.dots, shown.smooth, request.first
     if request.form == "png" or smooth > 1:
         rows = islice(smoothed_rows(shapes, page, dots, smooth, request.pens, first), request.most)
@@ -196,16 +198,19 @@ def picture_of(request, shown, shapes):
 
 
 def document_of(request, shown, shapes):
-    """What a document of shapes on the page that is shown has: in PDF pages, and in SVG groups if there is more than a sheet
-    by itself."""
+    """What a document of shapes on the page that is shown has: in PDF pages, and in SVG groups and in DXF layers if there is more
+    than a sheet by itself."""
     is_pdf, is_whole = request.form == "pdf", request.sheet == 0
     numbers = range(1, max(1, shown.drawing.sheets if is_whole else 1) + 1)
     sheets = [[it for it in shapes if not is_whole or it.sheet == number] for number in numbers]
     are_numbered = is_pdf or is_whole and shown.drawing.has_ends
     page, title = shown.page, f"{PLOT}.plt" if is_pdf and request.folder else None
+    if request.form == "dxf":
+        return bytes_of(drawing_of(page, sheets, shown.drawing.labels, are_numbered))
     read = texts_of if is_pdf else groups_of
     labels = [it for number, own in enumerate(sheets, 1) for it in read(number, spans_of(own), shown.drawing.labels)]
-    return Document(page.width, page.height, [shapes_of(it, page) for it in sheets], are_numbered, title, tuple(labels))
+    document = Document(page.width, page.height, [shapes_of(it, page) for it in sheets], are_numbered, title, tuple(labels))
+    return document.listing()
 
 
 def smoothed_rows(shapes, page, dots, times, pens, first):
