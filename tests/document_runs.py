@@ -1,4 +1,4 @@
-"""Runs of the program that write documents: PNG, PDF and SVG."""
+"""Runs of the program that write documents: PNG, PDF, SVG and DXF."""
 
 import resource
 import signal

@@ -5,7 +5,7 @@ from typing import NamedTuple
 
 from shared import read
 
-LINES = ("pdf", "svg")
+LINES = ("pdf", "svg", "dxf")
 ROWS = ("marks", "pbm", "ppm", "pcl")
 RASTERS = ("draw", "png", *ROWS)
 PICTURES = (*RASTERS, *LINES)

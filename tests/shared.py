@@ -11,9 +11,9 @@ HERE = os.path.dirname(os.path.abspath(__file__))
 TOP = os.path.dirname(HERE)
 EXAMPLES = os.path.join(TOP, "examples")
 DEBIAN = {
-    "cc": "gcc libc6-dev", "dpkg-deb": "dpkg", "fish": "fish", "gio": "libglib2.0-bin", "gs": "ghostscript", "lintian": "lintian",
-    "man": "man-db", "mutool": "mupdf-tools", "parallel": "parallel", "pdfgrep": "pdfgrep", "pdfinfo": "poppler-utils",
-    "pdftoppm": "poppler-utils", "pdftotext": "poppler-utils",
+    "cc": "gcc libc6-dev", "dpkg-deb": "dpkg", "ezdxf": "python3-ezdxf", "fish": "fish", "gio": "libglib2.0-bin",
+    "gs": "ghostscript", "lintian": "lintian", "man": "man-db", "mutool": "mupdf-tools", "parallel": "parallel",
+    "pdfgrep": "pdfgrep", "pdfinfo": "poppler-utils", "pdftoppm": "poppler-utils", "pdftotext": "poppler-utils",
     "pngcheck": "pngcheck", "qpdf": "qpdf", "readelf": "binutils", "rsvg-convert": "librsvg2-bin",
     "update-mime-database": "shared-mime-info", "xmllint": "libxml2-utils", "zsh": "zsh",
 }

@@ -1,4 +1,4 @@
-"""PNG, PDF and SVG that are not written: refusals, devices that are full, writes that fail, and memory that is refused."""
+"""PNG, PDF, SVG and DXF that are not written: refusals, devices that are full, writes that fail, and memory that is refused."""
 
 import functools
 import os
@@ -15,12 +15,16 @@ SHEETS = b"SP2;PU0,0;PD3000,2000;PG;IW0,0,900,900;PD5,5;"
 LABELS = b"LBab\r\nc\xd0\x96\x03PG;SP2;BL<d>\x03PB;PD9,9;"
 FULL = ["--profile=full", "--sheet=0"]
 EACH = ["--profile=full", "--sheet=each"]
+# How messages on the sheets of a plot begin.
+APART = ["sheet 1: ", "sheet 2: "]
 # The words of a document, a plot, and the options that tell kinds of documents.
 KINDS = [
     ("png", LINE, []), ("png", plot_in(colours(257)), []), ("pdf", LINE, []), ("pdf", SHEETS, FULL), ("svg", LINE, []),
     ("svg", SHEETS, FULL), ("pdf", LABELS, [*FULL, "--characters=utf-8"]), ("svg", LABELS, [*FULL, "--characters=utf-8"]),
+    ("dxf", LINE, []), ("dxf", SHEETS, FULL), ("dxf", LABELS, [*FULL, "--characters=utf-8"]),
 ]
-NAMES = ["palette", "truecolour", "pdf", "pdf of sheets", "svg", "svg of sheets", "pdf of labels", "svg of labels"]
+NAMES = ["palette", "truecolour", "pdf", "pdf of sheets", "svg", "svg of sheets", "pdf of labels", "svg of labels",
+         "dxf", "dxf of sheets", "dxf of labels"]
 
 
 @pytest.mark.parametrize("command", DOCUMENTS)
@@ -68,8 +72,8 @@ def test_full_disk(program, tmp_path, command, size):
 
 
 @pytest.mark.parametrize("words, about", [
-    (["png", *EACH], ["sheet 1: ", "sheet 2: "]), (["svg", *EACH], ["sheet 1: ", "sheet 2: "]),
-    (["pdf", *EACH], [""]), (["draw", "--form=pdf"], [""]), (["svg", *FULL], [""]),
+    (["png", *EACH], APART), (["svg", *EACH], APART), (["dxf", *EACH], APART),
+    (["pdf", *EACH], [""]), (["draw", "--form=pdf"], [""]), (["svg", *FULL], [""]), (["dxf", *FULL], [""]),
 ])
 def test_full_disk_of_sheets(program, tmp_path, words, about):
     """Of sheets in files of their own each has a line. No part of a file is left."""

@@ -109,7 +109,7 @@ def test_failed_sync_of_one_plot(program, folder, refuse, command):
 
 
 @pytest.mark.parametrize("words, form", [
-    (["png"], "png"), (["svg"], "svg"), (["ppm"], "ppm"), (["draw"], "png"), (["draw", "--form=pbm"], "pbm"),
+    (["png"], "png"), (["svg"], "svg"), (["dxf"], "dxf"), (["ppm"], "ppm"), (["draw"], "png"), (["draw", "--form=pbm"], "pbm"),
 ])
 def test_failed_sync_of_one_sheet(program, folder, refuse, words, form):
     words = [*words, *SMALL, "--profile=full", "--sheet=each", "-o", "out"]

@@ -1,4 +1,4 @@
-"""The texts of labels in PDF and SVG: other programs find them, where their letters are drawn, and read such documents without
+"""The texts of labels in PDF, SVG and DXF: other programs find them, where their letters are drawn, and read such documents without
 a warning."""
 
 import math
@@ -9,9 +9,11 @@ from xml.etree import ElementTree
 
 import pytest
 
+from cad_readers import said_of_dxf, texts_by_ezdxf
 from comparing import difference, differs
 from document_runs import LINE, SECONDS, SMALL, drawn, filtered
 from reference.command_line import VECTORS
+from reference.dxf_groups import characters_of, read_dxf
 from reference.labels import lines_of_texts
 from reference.pdf import read_pdf
 from reference.random_labels import CHARACTERS, MARKUP
@@ -23,6 +25,8 @@ from vector_pictures import READERS_OF_PDF, READERS_OF_SVG, said_of_pdf, said_of
 FULL = ["--profile=full", *SMALL, "--sheet=1"]
 UTF_8 = [*FULL, "--characters=utf-8"]
 LARGE, SMALLEST = b"SI.25,.35;", b"SI.0003,.0003;"
+# What a document has if it has texts.
+MARKS_OF_TEXTS = (b"/Font", b"<title>", b"\nTEXT\n")
 GROUP = re.compile(rb"<g><title>[^<]*</title>\n((?:<path [^<]*/>\n)+)</g>\n")
 # Of 16 units, of which 1,016 are 72 points.
 POINTS_OF_A_GRAIN = 72 / 1016 / 16
@@ -32,7 +36,7 @@ WITHIN, BEYOND = 0.5, 8
 
 @pytest.fixture(autouse=True)
 def readers(pytestconfig):
-    need(pytestconfig, "pdftotext", *READERS_OF_PDF, *READERS_OF_SVG)
+    need(pytestconfig, "pdftotext", "ezdxf", *READERS_OF_PDF, *READERS_OF_SVG)
 
 
 def labels_of(texts, before=LARGE, step=250):
@@ -59,9 +63,11 @@ def documents(program, words, plot):
 
 
 def texts_in(program, words, plot, sheet=1):
-    """The texts of a sheet's labels; a PDF has them as the lines of those of the SVG."""
+    """The texts of a sheet's labels; a PDF and a DXF have them as the lines of those of the SVG."""
     pdf, svg = documents(program, words, plot)
-    assert lines_of_texts(pdf.texts(sheet)) == lines_of_texts(svg.texts(sheet))
+    dxf = read_dxf(drawn(program, ["dxf", *words], plot))
+    number = sheet if svg.are_numbered else None
+    assert lines_of_texts(pdf.texts(sheet)) == lines_of_texts(svg.texts(sheet)) == list(map(characters_of, dxf.texts(number)))
     return svg.texts(sheet)
 
 
@@ -205,7 +211,7 @@ def test_pens(program):
         assert texts_in(program, [*FULL, f"--pens={pens}"], plot) == wanted
         for command in VECTORS:
             data = drawn(program, [command, *FULL, f"--pens={pens}"], plot)
-            assert (b"/Font" in data or b"<title>" in data) == bool(wanted)
+            assert any(mark in data for mark in MARKS_OF_TEXTS) == bool(wanted)
 
 
 SHEETS = LARGE + b"PU500,500;LBfirst\x03PG;LBsecond\x03LB 2\x03PG;PU9,9;PD99,99;PG;LBfourth\x03"
@@ -245,7 +251,7 @@ def test_draw(program, tmp_path):
 def test_core_has_none(program):
     for command in VECTORS:
         data = drawn(program, [command, *SMALL], b"PU500,500;LBPump\x03")
-        assert b"/Font" not in data and b"<title>" not in data
+        assert not any(mark in data for mark in MARKS_OF_TEXTS)
     assert [found.labels for found in documents(program, SMALL, b"LBPump\x03")] == [(), ()]
 
 
@@ -319,8 +325,11 @@ def test_hostile_labels(program, tmp_path):
     texts = [text for text in HOSTILE if text.strip("\u00a0")]
     plot = b"SI.1,.15;" + b"".join(
         b"PU%d,%d;LB%b\x03" % (200 + at % 9 * 400, 2800 - at // 9 * 150, text.encode()) for at, text in enumerate(texts))
-    pdf, svg = (drawn(program, [command, *UTF_8], plot) for command in VECTORS)
-    assert_nothing([*said_of_pdf(pdf, tmp_path / "hostile.pdf"), *said_of_svg(svg)])
+    pdf, svg, dxf = (drawn(program, [command, *UTF_8], plot) for command in VECTORS)
+    said = [*said_of_pdf(pdf, tmp_path / "hostile.pdf"), *said_of_svg(svg), *said_of_dxf(dxf)]
+    assert_nothing(said)
+    assert [characters_of(it) for it in read_dxf(dxf).texts()] == lines_of_texts(texts)
+    assert texts_by_ezdxf(dxf) == lines_of_texts(texts)
     assert read_svg(svg).texts() == [re.sub("[\ufffe\uffff]", "\ufffd", text) for text in texts]
     assert read_pdf(pdf).document.texts() == [re.sub("[\U00010000-\U0010ffff]", "\ufffd", text) for text in texts]
 
@@ -332,8 +341,9 @@ def test_bytes_of_labels(program, tmp_path, text):
     before = (b"", b"CS7;", b"SD1,341;", b"ES-1;", b"ES-2;", b"SI.00005,.00005;", b"SI.01,.01;SL300;", b"SI-.3,3;", b"DV3,1;LO19;")
     for words in (FULL, UTF_8):
         plot = b"".join(b"DF;%bPU0,0;LB%b\x03" % (settings, text) for settings in before)
-        pdf, svg = (drawn(program, [command, *words], plot) for command in VECTORS)
-        assert_nothing([*said_of_pdf(pdf, tmp_path / "bytes.pdf"), *said_of_svg(svg)])
+        pdf, svg, dxf = (drawn(program, [command, *words], plot) for command in VECTORS)
+        said = [*said_of_pdf(pdf, tmp_path / "bytes.pdf"), *said_of_svg(svg), *said_of_dxf(dxf)]
+        assert_nothing(said)
         assert len(read_svg(svg).texts()) == len(before)
 
 

@@ -1,7 +1,7 @@
 """Compares the built program with tests/reference on plots that are the same each time: the examples, all
 characters, all whole angles, and random plots: 3,000 in the profile core and 3,000 in full, and of both 1,200 on the page
 around their drawing, 1,200 with colours and widths of pens by option, 600 as previews, 600 with their sheets apart, and 2,400
-as PDF or SVG. `make fuzz` compares new ones."""
+as PDF, SVG or DXF. `make fuzz` compares new ones."""
 
 import glob
 import os

@@ -7,6 +7,7 @@ import threading
 
 import pytest
 from reference import messages
+from reference.command_line import VECTORS
 from reference.outputs import FORMS
 from shared import read_bytes, run, write
 
@@ -55,10 +56,10 @@ def files_in(folder):
     return {name: read_bytes(folder / "out" / name) for name in os.listdir(folder / "out")}
 
 
-@pytest.mark.parametrize("command", ["png", "svg", *FORMS])
+@pytest.mark.parametrize("command", ["png", "svg", "dxf", *FORMS])
 def test_each_sheet_has_a_file(program, folder, command):
     """Each has the bytes of its sheet by itself. The numbers have as many digits as the last one."""
-    words = [command, *(it for it in FULL if command != "svg" or "--dots" not in it)]
+    words = [command, *(it for it in FULL if command not in VECTORS or "--dots" not in it)]
     plots = ["one.plt", "two.plt", "twelve.plt", "blank.plt"]
     assert ends_of(program, folder, [*words, "--sheet=each", "-o", "out", *plots]) == (0, [])
     wanted = {f"{name}.{command}": sheet_of(program, words, 1, plot)

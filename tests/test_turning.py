@@ -9,7 +9,9 @@ from PIL import Image
 
 from document_runs import SMALL, drawn
 from reference import messages
-from reference.command_line import PICTURES
+from reference.command_line import PICTURES, VECTORS
+from reference.dxf import GRAIN, Drawn
+from reference.dxf_groups import read_dxf
 from reference.pdf import read_pdf
 from reference.svg import read_svg
 from reference.vectors import Line
@@ -116,6 +118,26 @@ def test_documents(program, name, command, reader):
         if command == "pdf":
             starts = [turned_place(plain, degrees, label.matrix[4:]) for label in plain.labels]
             assert [label.matrix[4:] for label in got.labels] == starts
+
+
+@pytest.mark.parametrize("name", NAMES)
+def test_dxf(program, name):
+    """All lines and areas in their order, and the texts by where they start; a cut end is rounded after the turn."""
+    plot, words = example(name), ["dxf", *SMALL, "--profile=full", "--sheet=0"]
+    plain = read_dxf(drawn(program, words, plot))
+    sides = [16 * GRAIN * side for side in plain[:2]]
+    for degrees in QUARTERS:
+        got = read_dxf(drawn(program, [*words, f"--rotate={degrees}"], plot))
+        assert got[:2] == (plain[:2] if degrees == 180 else plain[1::-1]) and got.layers == plain.layers
+        assert [it[:4] if isinstance(it, Drawn) else it.text for it in got.entities] == [
+            it[:4] if isinstance(it, Drawn) else it.text for it in plain.entities]
+        for it, other in zip(got.entities, plain.entities):
+            places, others = (each.places if isinstance(each, Drawn) else [each.start] for each in (it, other))
+            assert len(places) == len(others)
+            far = [abs(n - m) for at, to in zip(places, others) for n, m in zip(at, PLACES[degrees](*sides, *to))]
+            assert max(far) <= 1
+            turn = 0 if isinstance(it, Drawn) else (it.rotation - other.rotation - 10_000 * degrees) % 3_600_000
+            assert min(turn, 3_600_000 - turn) <= 4
 
 
 @pytest.mark.parametrize("words", [["--fit"], ["--fit", "--margin=3", "--left=700"], ["--fit", "--profile=full", "--sheet=1"]])
@@ -232,10 +254,10 @@ def files_in(folder):
     return {name: read_bytes(folder / "out" / name) for name in os.listdir(folder / "out")}
 
 
-@pytest.mark.parametrize("command", ["png", "svg", "pbm", "marks", "pcl"])
+@pytest.mark.parametrize("command", ["png", "svg", "dxf", "pbm", "marks", "pcl"])
 def test_sheets_apart(program, folder, command):
     """Each file is the turned picture of its sheet, on the page of all."""
-    page = ["--width=1500", "--height=1000", "--profile=full", "--rotate=90", *(["--dots=100"] if command != "svg" else [])]
+    page = ["--width=1500", "--height=1000", "--profile=full", "--rotate=90", *([] if command in VECTORS else ["--dots=100"])]
     assert ends_of(program, [command, *page, "--sheet=each", "-o", "out", "two.plt", "one.plt"], cwd=folder) == (0, b"")
     alone = lambda name, sheet: drawn(program, [command, *page, f"--sheet={sheet}"], read_bytes(folder / f"{name}.plt"))
     wanted = {f"two-{sheet}.{command}": alone("two", sheet) for sheet in (1, 2)}

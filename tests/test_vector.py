@@ -1,12 +1,16 @@
-"""PDF and SVG: other programs read them without a warning, and what they draw of them is, as near as they paint lines, what
-`ppm` has."""
+"""PDF, SVG and DXF: other programs read them without a warning, and what they draw of them is, as near as they paint lines, what
+`ppm` has; of a DXF they find the same lines, areas and texts."""
 
 import glob
 import os
 
 import pytest
 
+from cad_readers import said_of_dxf
 from document_runs import SMALL, colours, drawn
+from reference.dxf import entities_of, layers_of
+from reference.dxf_groups import characters_of, read_dxf
+from reference.geometry import Page
 from reference.labels import lines_of_texts
 from reference.pdf import read_pdf
 from reference.svg import read_svg
@@ -18,6 +22,8 @@ from vector_pictures import new_ink, painted_pdf, painted_svg, picture_of, pictu
 
 NAMES = [os.path.basename(path)[:-4] for path in sorted(glob.glob(os.path.join(EXAMPLES, "*.plt")))]
 READ = ["--profile=full", "--sheet=1"]
+# The least width of a line in a PDF and in an SVG, in ten-millionths of a millimetre.
+LEAST = 375_000
 # Where parts of a pixel make a difference, it is so many pixels from an edge: gaps between lines, and windows.
 DISTANCES = {"calibration": 2, "figures": 3, "tide": 2}
 # Of a line beside a window, or of one that a white line covers, there may be nothing in one of the pictures.
@@ -31,18 +37,41 @@ OF_PIXELS = {"--dots", "--smooth", "--size", "--band", "--from", "--rows"}
 
 @pytest.fixture(autouse=True)
 def readers(pytestconfig):
-    need(pytestconfig, *READERS_OF_PDF, *READERS_OF_SVG)
+    need(pytestconfig, *READERS_OF_PDF, *READERS_OF_SVG, "ezdxf")
 
 
 def checked(program, words, plot, folder):
-    """The PDF and the SVG of a plot, in which nobody finds anything wrong."""
+    """The PDF and the SVG of a plot, in which nobody finds anything wrong, and neither in the DXF of it."""
     found = [drawn(program, [command, *words], plot) for command in ("pdf", "svg")]
     assert_nothing([*said_of_pdf(found[0], folder / "plan.pdf"), *said_of_svg(found[1])])
     pdf, svg = read_pdf(found[0]).document, read_svg(found[1])
     assert pdf.without_labels()._replace(are_numbered=svg.are_numbered) == svg.without_labels()
     for sheet in range(1, len(svg.sheets) + 1):
         assert lines_of_texts(pdf.texts(sheet)) == lines_of_texts(svg.texts(sheet))
+    check_dxf(drawn(program, ["dxf", *words], plot), svg)
     return found
+
+
+def check_dxf(data, svg):
+    """Nobody finds anything wrong in a DXF, and it has what the SVG of the same plot has; its lines may be less wide."""
+    assert_nothing(said_of_dxf(data))
+    found, page = read_dxf(data), Page(svg.width, svg.height, 0, 0)
+    assert found[:2] == (svg.width, svg.height)
+    for number, shapes in enumerate(svg.sheets, 1):
+        sheet = number if svg.are_numbered else None
+        layers = layers_of(sheet, shapes)
+        assert [layer for layer in found.layers if layer.sheet == sheet] == list(layers.values())
+        at, parts = 0, []
+        for label in (it for it in svg.labels if it.sheet == number):
+            parts.append(shapes[at:label.first])
+            at = label.after
+        own = [it for part in (*parts, shapes[at:]) if part for it in entities_of([(part, [])], page, layers)]
+        assert [widened(it) for it in found.without_texts().of_sheet(sheet)] == [widened(it) for it in own]
+        assert list(map(characters_of, found.texts(sheet))) == lines_of_texts(svg.texts(number))
+
+
+def widened(drawn):
+    return drawn._replace(width=max(LEAST, drawn.width))
 
 
 @pytest.mark.parametrize("name", NAMES)

@@ -1,4 +1,4 @@
-"""What PDF and SVG have beside lines: sheets, titles, layers and clip paths, without a limit that plots could reach."""
+"""What PDF, SVG and DXF have beside lines: sheets, titles, layers and clip paths, without a limit that plots could reach."""
 
 import json
 import os
@@ -11,6 +11,8 @@ import pytest
 from document_runs import LINE, OLD, SECONDS, SMALL, drawn, ends_of
 from reference import messages
 from reference.command_line import VECTORS
+from reference.dxf import Layer
+from reference.dxf_groups import read_dxf
 from reference.pdf import read_pdf
 from reference.svg import read_svg
 from shared import need, read_bytes, run, write
@@ -33,6 +35,13 @@ def pdf(program, words, plot):
 
 def svg(program, words, plot):
     return read_svg(drawn(program, ["svg", *words], plot))
+
+
+def dxf(program, words, plot):
+    return read_dxf(drawn(program, ["dxf", *words], plot))
+
+
+READERS = {"pdf": lambda data: read_pdf(data).document, "svg": read_svg, "dxf": read_dxf}
 
 
 def pens_of(sheets):
@@ -60,6 +69,11 @@ def test_sheets(program, sheet, wanted):
     assert pens_of(paged.document.sheets) == pens_of(grouped.sheets) == wanted
     assert paged.layers == sorted({pen for pens in wanted for pen in pens})
     assert grouped.are_numbered == (sheet == "0")
+    layers = [(number if sheet == "0" else None, pen) for number, pens in enumerate(wanted, 1) for pen in sorted(pens)]
+    layered = dxf(program, words, THREE)
+    assert [layer[:2] for layer in layered.layers] == layers
+    assert [(it.layer.sheet, it.layer.pen) for it in layered.entities] == [
+        (number if sheet == "0" else None, pen) for number, pens in enumerate(wanted, 1) for pen in pens]
 
 
 def test_sheets_of_other_pens(program):
@@ -67,6 +81,7 @@ def test_sheets_of_other_pens(program):
     for words in ([*ALL, "--pens=3"], [*ALL, "--pens=3", "--fit"]):
         assert pens_of(pdf(program, words, THREE).document.sheets) == pens_of(svg(program, words, THREE).sheets) == [[], [], [3]]
     assert pdf(program, [*ALL, "--pens=3"], THREE).layers == [3]
+    assert dxf(program, [*ALL, "--pens=3"], THREE).layers == [Layer(3, 3, 3)]
 
 
 @pytest.mark.parametrize("plot, count, is_grouped", [
@@ -78,6 +93,7 @@ def test_ends_of_sheets(program, plot, count, is_grouped):
     paged, grouped = pdf(program, ALL, plot).document, svg(program, ALL, plot)
     assert (len(paged.sheets), len(grouped.sheets), grouped.are_numbered) == (count, count, is_grouped)
     assert paged.sheets == grouped.sheets
+    assert all((layer.sheet is not None) == is_grouped for layer in dxf(program, ALL, plot).layers)
 
 
 def test_core_has_no_sheets(program):
@@ -88,7 +104,7 @@ def test_core_has_no_sheets(program):
 def test_first_sheet(program):
     """It is what a command draws if no sheet is named, and it says so; a PDF by `draw` has all."""
     for words, said in [(["pdf"], FIRST_OF_TWO), (["svg"], FIRST_OF_TWO), (["draw", "--form=svg"], FIRST_OF_TWO),
-                        (["draw", "--form=pdf"], b"")]:
+                        (["dxf"], FIRST_OF_TWO), (["draw", "--form=dxf"], FIRST_OF_TWO), (["draw", "--form=pdf"], b"")]:
         done = run(program, [*words, *FULL], SECONDS, input=TWO)
         assert (done.returncode, done.stderr) == (0, said), words
         sheet = "0" if words[-1] == "--form=pdf" else "1"
@@ -96,19 +112,21 @@ def test_first_sheet(program):
 
 
 def test_each_sheet(program, tmp_path):
-    """The sheets of a PDF are pages of one file, which need no folder; those of SVG are files without groups."""
+    """The sheets of a PDF are pages of one file, which need no folder; those of SVG and DXF are files by themselves."""
     write(str(tmp_path / "two.plt"), TWO)
     os.mkdir(tmp_path / "out")
     assert drawn(program, ["pdf", *FULL, "--sheet=each"], TWO) == drawn(program, ["pdf", *ALL], TWO)
     needs = messages.refused("each-without-folder")
-    for words in (["svg", *FULL], ["draw", "--form=svg"]):
+    for words in (["svg", *FULL], ["draw", "--form=svg"], ["dxf", *FULL], ["draw", "--form=dxf"]):
         assert ends_of(program, [*words, "--sheet=each"], TWO) == needs
-    for words in (["pdf", *FULL, "--sheet=each"], ["svg", *FULL, "--sheet=each"], ["draw", "--form=pdf", *FULL]):
+    each = [[form, *FULL, "--sheet=each"] for form in VECTORS]
+    for words in (*each, ["draw", "--form=pdf", *FULL]):
         assert run_in(program, tmp_path, [*words, "-o", "out", "two.plt"]) == (0, b"")
     files = files_in(tmp_path / "out")
-    assert sorted(files) == ["two-1.svg", "two-2.svg", "two.pdf"]
+    assert sorted(files) == ["two-1.dxf", "two-1.svg", "two-2.dxf", "two-2.svg", "two.pdf"]
     for sheet in (1, 2):
-        assert files[f"two-{sheet}.svg"] == drawn(program, ["svg", *FULL, f"--sheet={sheet}"], TWO)
+        for form in ("svg", "dxf"):
+            assert files[f"two-{sheet}.{form}"] == drawn(program, [form, *FULL, f"--sheet={sheet}"], TWO)
     document = read_pdf(files["two.pdf"]).document
     assert document.title == "two.plt" and document._replace(title=None) == pdf(program, ALL, TWO).document
 
@@ -118,10 +136,12 @@ def test_draw_into_a_file(program, tmp_path):
     write(str(tmp_path / "two.plt"), TWO)
     assert run_in(program, tmp_path, ["draw", "-o", "a.pdf", "two.plt"]) == (0, b"")
     assert run_in(program, tmp_path, ["draw", "-o", "a.SVG", "two.plt"]) == (0, FIRST_OF_TWO)
+    assert run_in(program, tmp_path, ["draw", "-o", "a.Dxf", "two.plt"]) == (0, FIRST_OF_TWO)
     assert run_in(program, tmp_path, ["draw", "-o", "b", "--form=pdf", "--sheet=2", "two.plt"]) == (0, b"")
     wanted = ["--page=plot", "--fit", "--margin=5", "--profile=full"]
     assert read_pdf(read_bytes(tmp_path / "a.pdf")).document.sheets == pdf(program, [*wanted[1:], "--sheet=0"], TWO).document.sheets
     assert read_bytes(tmp_path / "a.SVG") == drawn(program, ["draw", "--form=svg", "--sheet=1"], TWO)
+    assert read_bytes(tmp_path / "a.Dxf") == drawn(program, ["draw", "--form=dxf", "--sheet=1"], TWO)
     assert pens_of(read_pdf(read_bytes(tmp_path / "b")).document.sheets) == [[2, 1]]
 
 
@@ -130,7 +150,7 @@ def test_draw_into_a_file(program, tmp_path):
 
 @pytest.mark.parametrize("name", ["plan.plt", r"a(1)\<b>&'c\"[d]{e}%f.plt", "Plän №5 日本.hpgl", "😀", " ", "-", "n" * 255])
 def test_titles(program, tmp_path, pytestconfig, name):
-    """The title is the name of the file that is drawn, without its folder; an SVG has none."""
+    """The title is the name of the file that is drawn, without its folder; an SVG and a DXF have none."""
     need(pytestconfig, "pdfinfo", "qpdf")
     write(str(tmp_path / "deep" / name), LINE)
     for words in (["pdf", *SMALL], ["draw", "--form=pdf"]):
@@ -139,8 +159,9 @@ def test_titles(program, tmp_path, pytestconfig, name):
         assert not list(said_of_pdf(done.stdout, tmp_path / "out.pdf"))
         shown = subprocess.run(["pdfinfo", "-enc", "UTF-8", tmp_path / "out.pdf"], capture_output=True, check=True).stdout
         assert re.search(rb"^Title: +(.*)$", shown, re.M)[1].strip() == name.strip().encode()
-    done = run(program, ["svg", *SMALL, "--", f"deep/{name}"], SECONDS, cwd=tmp_path)
-    assert done.stdout == drawn(program, ["svg", *SMALL], LINE)
+    for form in ("svg", "dxf"):
+        done = run(program, [form, *SMALL, "--", f"deep/{name}"], SECONDS, cwd=tmp_path)
+        assert done.stdout == drawn(program, [form, *SMALL], LINE)
 
 
 def test_titles_of_several_plots(program, tmp_path):
@@ -189,8 +210,8 @@ def test_nothing_drawn(program, command, words, plot, errors):
     """An empty page, without layers and clip paths."""
     done = run(program, [command, *SMALL, *words], SECONDS, input=plot)
     assert (done.returncode, done.stderr) == (0, errors)
-    document = read_svg(done.stdout) if command == "svg" else read_pdf(done.stdout).document
-    assert document[:3] == (4000, 3000, [[]])
+    document = READERS[command](done.stdout)
+    assert document[:3] == (4000, 3000, [[]] if command != "dxf" else [])
 
 
 def test_pages(program):
@@ -199,6 +220,7 @@ def test_pages(program):
         words = [f"--width={max(64, width)}", f"--height={max(64, height)}"]
         wanted = (max(64, width), max(64, height), [[]])
         assert pdf(program, words, b"").document[:3] == svg(program, words, b"")[:3] == wanted
+        assert dxf(program, words, b"") == (*wanted[:2], [], [])
 
 
 def test_places_off_the_page(program):
@@ -252,7 +274,7 @@ def test_no_overwriting(program, tmp_path):
         assert read_bytes(tmp_path / f"out.{command}") == OLD
         assert run_in(program, tmp_path, [*words, "a.plt"]) == (0, b"")
         assert read_bytes(tmp_path / f"out.{command}") != OLD
-    assert sorted(os.listdir(tmp_path)) == ["a.plt", "far.plt", "out.pdf", "out.svg"]
+    assert sorted(os.listdir(tmp_path)) == ["a.plt", "far.plt", "out.dxf", "out.pdf", "out.svg"]
 
 
 # ---- many lines
@@ -279,7 +301,11 @@ def test_many_colours_and_windows(program, command):
     most = MEMORY_OF_A_RUN + 2 * len(plot) + MEMORY_OF_A_LINE * count
     done = run(program, [command, *SMALL], 20, input=plot, preexec_fn=lambda: with_memory(most))
     assert (done.returncode, done.stderr) == (0, b"")
-    document = read_svg(done.stdout) if command == "svg" else read_pdf(done.stdout).document
+    document = READERS[command](done.stdout)
+    if command == "dxf":
+        # Of a line there is what its window shows, and of many of these nothing.
+        assert len(document.layers) == 255 and 1000 < len(document.entities) < count
+        return
     lines, = document.sheets
     assert len(lines) == count and len({line.colour for line in lines}) == count and len({line.window for line in lines}) == count
 
@@ -289,5 +315,9 @@ def test_many_sheets(program, command):
     """10,000 sheets of a line each, and of a long line of 5,000 parts."""
     for plot, count in ((b"PU0,0;PD5,5;PG;" * 10_000, 10_000), (b"PD" + b"9,9,0,0," * 2500 + b"1,1;", 1)):
         data = drawn(program, [command, *ALL], plot)
-        document = read_svg(data) if command == "svg" else read_pdf(data).document
+        document = READERS[command](data)
+        if command == "dxf":
+            assert len({layer.sheet for layer in document.layers}) == count
+            assert sum(len(it.places) - 1 for it in document.entities) == (10_000 if count > 1 else 5_001)
+            continue
         assert len(document.sheets) == count and sum(map(len, document.sheets)) == (10_000 if count > 1 else 5_001)

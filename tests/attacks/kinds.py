@@ -27,7 +27,7 @@ NAMES = (
     "\U0001f58a)(\\.plt", "<&>\"\u202e.plt", "\x01\x7f\u2028.plt", "\ufeff", "n" * 240,
 )
 # Programs that read a form, too: a few outputs are given to them.
-READERS = {"png": ("pngcheck", "-q"), "pdf": ("qpdf", "--check"), "svg": ("xmllint", "--noout")}
+READERS = {"png": ("pngcheck", "-q"), "pdf": ("qpdf", "--check"), "svg": ("xmllint", "--noout"), "dxf": ("ezdxf", "audit")}
 SAMPLE = 0.002
 
 

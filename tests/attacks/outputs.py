@@ -2,6 +2,7 @@
 
 import re
 
+from reference.dxf_groups import read_dxf
 from reference.pdf import read_pdf
 from reference.png import read_png, rows_of_png
 from reference.reading import Wrong
@@ -46,6 +47,12 @@ def check_svg(data):
     if len(data) < MOST_READ:
         read_svg(data)
     must(data.startswith(b"<?xml") and data.endswith(b"</svg>\n"), "svg: its ends")
+
+
+def check_dxf(data):
+    if len(data) < MOST_READ:
+        read_dxf(data)
+    must(data.startswith(b"0\nSECTION\n") and data.endswith(b"0\nENDSEC\n0\nEOF\n"), "dxf: its ends")
 
 
 def check_marks(data):
@@ -94,6 +101,6 @@ def packed(columns):
 
 
 CHECKS = {
-    "png": check_png, "pdf": check_pdf, "svg": check_svg, "marks": check_marks, "pbm": check_pbm, "ppm": check_ppm,
-    "pcl": check_pcl, "report": check_report,
+    "png": check_png, "pdf": check_pdf, "svg": check_svg, "dxf": check_dxf, "marks": check_marks, "pbm": check_pbm,
+    "ppm": check_ppm, "pcl": check_pcl, "report": check_report,
 }

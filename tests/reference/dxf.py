@@ -11,10 +11,9 @@ from typing import NamedTuple
 from .cutting import rounded
 from .dxf_colours import number_of
 from .labels import REPLACEMENT
-from .vectors import LEAST_WIDTH, Line, shapes_of, spans_of
+from .vectors import LEAST_WIDTH, Line, holds_a_place
 
 GRAIN = 15_625
-PARTS_OF_A_UNIT = 16 * GRAIN
 WHOLE_TURN = 3_600_000
 MOST_OBLIQUE = 850_000
 WITH_ESCAPES = "%\\^"
@@ -29,7 +28,8 @@ class Layer(NamedTuple):
 
 
 class Drawn(NamedTuple):
-    """Lines from place to place, which lead back if they are closed; one place is a point. Only several lines have a width."""
+    """Lines from place to place, which lead back if they are closed. One place is a point, and two are a line, which have no
+    width."""
 
     layer: Layer
     colour: int
@@ -55,7 +55,7 @@ class Written(NamedTuple):
 
 
 class Dxf(NamedTuple):
-    """A document: the sides of its page in parts, its layers, and what is in them, in order."""
+    """A document: the sides of its page in plotter units, its layers, and what is in them, in order."""
 
     width: int
     height: int
@@ -77,25 +77,33 @@ def drawing_of(page, sheets, labels, are_numbered):
     """The document of sheets of shapes on a page, and of the lines of all labels."""
     layers, entities = [], []
     for number, shapes in enumerate(sheets, 1):
-        shown, colours = shapes_of(shapes, page), {}
-        for shape in shown:
-            colours.setdefault(shape.pen, number_of(shape.colour))
-        own = {pen: Layer(number if are_numbered else None, pen, colours[pen]) for pen in sorted(colours)}
+        shown = [shape for shape in shapes if holds_a_place(shape.window)]
+        parts = [
+            (list(several), [] if label is None else labels[label])
+            for (_, label), several in groupby(shown, lambda it: (it.labels, it.label))
+        ]
+        own = layers_of(number if are_numbered else None, shown)
         layers += own.values()
-        entities += entities_of(shown, page, own, [(labels[it], *span) for it, *span in spans_of(shapes) if labels[it]])
-    return Dxf(PARTS_OF_A_UNIT * page.width, PARTS_OF_A_UNIT * page.height, layers, entities)
+        entities += entities_of(parts, page, own)
+    return Dxf(page.width, page.height, layers, entities)
 
 
-def entities_of(shapes, page, layers, labels):
-    """What a sheet has of lines and areas, and of labels: of each its lines of text, and the numbers of its first line and of the
-    one after its last."""
-    found, at = [], 0
-    for rows, first, after in labels:
-        found += drawn(shapes[at:first], page, layers)
-        line = shapes[first]
-        found += [written(layers[line.pen], number_of(line.colour), row) for row in rows]
-        at = after
-    return found + drawn(shapes[at:], page, layers)
+def layers_of(sheet, shapes):
+    """The layer of each pen of a sheet, which has the colour of its first line or area."""
+    colours = {}
+    for shape in shapes:
+        colours.setdefault(shape.pen, number_of(shape.colour))
+    return {pen: Layer(sheet, pen, colours[pen]) for pen in sorted(colours)}
+
+
+def entities_of(parts, page, layers):
+    """What a sheet has of its parts: lines and areas between labels, or those of a label with its lines of text, which come
+    instead."""
+    found = []
+    for shapes, rows in parts:
+        pen, colour = shapes[0][:2]
+        found += [written(layers[pen], number_of(colour), row) for row in rows] or drawn(shapes, page, layers)
+    return found
 
 
 # ---- lines and areas
@@ -103,10 +111,10 @@ def entities_of(shapes, page, layers, labels):
 
 def drawn(shapes, page, layers):
     found = []
-    for is_line, several in groupby(shapes, lambda it: isinstance(it, Line)):
-        for area in [] if is_line else several:
+    for are_areas, several in groupby(shapes, lambda it: hasattr(it, "edges")):
+        for area in several if are_areas else []:
             found += outlines_of(area, page, layers)
-        found += chains_of(several, page, layers) if is_line else []
+        found += [] if are_areas else chains_of(several, page, layers)
     return found
 
 
@@ -120,9 +128,16 @@ def outlines_of(area, page, layers):
         if not polygons or polygons[-1][-1] != a:
             polygons.append([a])
         polygons[-1].append(b)
-    look = layers[area.pen], number_of(area.colour), GRAIN * LEAST_WIDTH, True
-    opened = [places[:-1] if places[0] == places[-1] else places for places in polygons]
-    return [Drawn(*look, tuple(map(in_parts, places))) for places in opened]
+    look = layers[area.pen], number_of(area.colour), LEAST_WIDTH
+    return [closed(*look, list(map(in_parts, places))) for places in polygons]
+
+
+def closed(layer, colour, width, places):
+    """Edges of which each begins where the last one ends; the last one may lead back."""
+    if len(places) == 2:
+        return chain_of(layer, colour, width, places)
+    places = places[:-1] if places[0] == places[-1] else places
+    return Drawn(layer, colour, GRAIN * width, True, tuple(places))
 
 
 def chains_of(lines, page, layers):
@@ -182,25 +197,24 @@ def in_parts(place):
 
 
 def written(layer, colour, row):
-    """A line of a label as a text, by how far it runs and where the place above its start is."""
-    (x, y), above = (tuple(n - m for n, m in zip(place, row.start)) for place in (row.end, row.top))
-    cross, dot, square = x * above[1] - y * above[0], x * above[0] + y * above[1], x * x + y * y
+    """A line of a label as a text, by how far it runs and where the place above its start is. Lengths are cut off to parts."""
+    along, above = (tuple(n - m for n, m in zip(place, row.start)) for place in (row.end, row.top))
+    cross, dot = along[0] * above[1] - along[1] * above[0], along[0] * above[0] + along[1] * above[1]
     if cross:
-        height = root_of(Fraction(cross * cross * GRAIN * GRAIN, square)) or GRAIN
-        rotation, oblique = degrees_of(x, y) % WHOLE_TURN, degrees_of(abs(cross), dot)
+        height = math.isqrt((GRAIN * cross) ** 2 // sum(n * n for n in along)) or GRAIN
+        rotation, oblique = degrees_of(*along) % WHOLE_TURN, degrees_of(abs(cross), dot)
     else:
-        height = root_of(Fraction((above[0] ** 2 + above[1] ** 2) * GRAIN * GRAIN)) or GRAIN
-        rotation, oblique = (degrees_of(*above) - WHOLE_TURN // 4) % WHOLE_TURN, 0
-    factor = max(1, root_of(Fraction(square * (10_000 * GRAIN) ** 2, (len(row.codes) * height) ** 2)))
+        height, oblique = length_of(above) or GRAIN, 0
+        rotation = (degrees_of(*above) - WHOLE_TURN // 4) % WHOLE_TURN if any(above) else 0
+    factor = max(1, 10_000 * length_of(along) // (len(row.codes) * height))
     oblique = max(-MOST_OBLIQUE, min(MOST_OBLIQUE, oblique))
     text = "".join(map(spelled, row.codes))
     end = in_parts(row.end) if cross else None
     return Written(layer, colour, text, in_parts(row.start), height, rotation, factor, oblique, cross < 0, end)
 
 
-def root_of(square):
-    """The nearest whole number to the root of a square."""
-    return (math.isqrt(math.floor(4 * square)) + 1) // 2
+def length_of(offset):
+    return math.isqrt(GRAIN * GRAIN * sum(number * number for number in offset))
 
 
 def degrees_of(x, y):

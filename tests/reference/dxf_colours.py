@@ -1,5 +1,7 @@
 """The numbers of colours in DXF: AutoCAD's index of 255 colours, of which 7 is drawn in black on paper."""
 
+import functools
+
 # Of the numbers from 1 on.
 COLOURS = [
     tuple(bytes.fromhex(text)) for text in """
@@ -22,6 +24,7 @@ COLOURS = [
 ]
 
 
+@functools.lru_cache(maxsize=None)
 def number_of(colour):
     """The number of the nearest colour, by the sum of the squares of the differences; the least one of several."""
     return 1 + min(range(len(COLOURS)), key=lambda at: sum((a - b) ** 2 for a, b in zip(COLOURS[at], colour)))

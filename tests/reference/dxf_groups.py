@@ -2,10 +2,12 @@
 
 import re
 
-from .dxf import GRAIN, MOST_OBLIQUE, PARTS_OF_A_UNIT, WHOLE_TURN, Drawn, Dxf, Layer, Written
+from .dxf import MOST_OBLIQUE, WHOLE_TURN, Drawn, Dxf, Layer, Written
 from .reading import must
 
-MILLIMETRE, DEGREE = 10_000_000, 10_000
+MILLIMETRE, UNIT, DEGREE = 10_000_000, 250_000, 10_000
+# The greatest count: a table may have fewer entries than it says.
+MOST_LAYERS = 32_767
 LAYER = re.compile("(?:S([1-9][0-9]*)_)?PEN_([1-9][0-9]{0,2})")
 NUMBER = re.compile(r"(-?)(0|[1-9][0-9]*)(?:\.([0-9]*[1-9]))?")
 # A text: printed ASCII, in which a backslash begins an escape.
@@ -32,7 +34,7 @@ def name_of(layer):
 
 
 def header_of(document):
-    sides = [number(side) for side in document[:2]]
+    sides = [number(UNIT * side) for side in document[:2]]
     yield from [(0, "SECTION"), (2, "HEADER"), (9, "$ACADVER"), (1, "AC1009")]
     yield from [(9, "$EXTMIN"), *place_of("0", "0"), (30, 0), (9, "$EXTMAX"), *place_of(*sides), (30, 0)]
     yield from [(9, "$INSUNITS"), (70, 4), (0, "ENDSEC")]
@@ -40,24 +42,24 @@ def header_of(document):
 
 def tables_of(layers):
     yield from [(0, "SECTION"), (2, "TABLES"), (0, "TABLE"), (2, "LTYPE"), (70, 1), (0, "LTYPE"), (2, "CONTINUOUS"), (70, 0)]
-    yield from [(3, "Solid line"), (72, 65), (73, 0), (40, 0), (0, "ENDTAB"), (0, "TABLE"), (2, "LAYER"), (70, 1 + len(layers))]
+    yield from [(3, "Solid line"), (72, 65), (73, 0), (40, 0), (0, "ENDTAB"), (0, "TABLE"), (2, "LAYER"), (70, MOST_LAYERS)]
     for name, colour in [("0", 7), *((name_of(layer), layer.colour) for layer in layers)]:
         yield from [(0, "LAYER"), (2, name), (70, 0), (62, colour), (6, "CONTINUOUS")]
     yield from [(0, "ENDTAB"), (0, "TABLE"), (2, "STYLE"), (70, 1), (0, "STYLE"), (2, "STANDARD"), (70, 0), (40, 0), (41, 1)]
-    yield from [(50, 0), (71, 0), (42, "2.5"), (3, "txt"), (4, ""), (0, "ENDTAB"), (0, "ENDSEC")]
+    yield from [(50, 0), (71, 0), (42, 1), (3, "txt"), (4, ""), (0, "ENDTAB"), (0, "ENDSEC")]
 
 
 def groups_of_lines(it, look):
     """A point, a line, or a polyline with its vertices."""
     places = [tuple(map(number, place)) for place in it.places]
-    if not it.width:
+    if len(places) < 3 and not it.is_closed:
         other = place_of(*places[1], 11) if places[1:] else []
         return [(0, "LINE" if other else "POINT"), *look, *place_of(*places[0]), *other]
     width = number(it.width)
-    groups = [(0, "POLYLINE"), *look, (66, 1), (70, int(it.is_closed)), *place_of(0, 0), (30, 0), (40, width), (41, width)]
+    groups = [(0, "POLYLINE"), *look, (66, 1), *place_of(0, 0), (30, 0), (70, int(it.is_closed)), (40, width), (41, width)]
     for place in places:
         groups += [(0, "VERTEX"), look[0], *place_of(*place)]
-    return [*groups, (0, "SEQEND"), look[0]]
+    return [*groups, (0, "SEQEND")]
 
 
 def groups_of_text(it, look):
@@ -66,7 +68,7 @@ def groups_of_text(it, look):
     groups += [(50, number(it.rotation, DEGREE)), (41, number(it.factor, DEGREE))]
     groups += [(51, number(it.oblique, DEGREE))] if it.oblique else []
     groups += [(7, "STANDARD"), *([(71, 4)] if it.is_mirrored else [])]
-    return groups if it.end is None else [*groups, (72, 5), *place_of(*map(number, it.end), 11)]
+    return [*groups, *([(72, 0)] if it.end is None else [(72, 5), *place_of(*map(number, it.end), 11)])]
 
 
 def place_of(x, y, code=10):
@@ -109,8 +111,8 @@ def sides_of(header):
     at = header.index((9, "$EXTMAX")) if (9, "$EXTMAX") in header else len(header)
     must([code for code, _ in header[at:at + 3]] == [9, 10, 20], "no size")
     sides = [parts_of(text) for _, text in header[at + 1:at + 3]]
-    must(all(side > 0 and side % PARTS_OF_A_UNIT == 0 for side in sides), f"the sides {sides}")
-    return sides
+    must(all(side > 0 and side % UNIT == 0 for side in sides), f"the sides {sides}")
+    return [side // UNIT for side in sides]
 
 
 def layer_of(record):
@@ -146,13 +148,13 @@ def line(layer, colour, records):
 
 def polyline(layer, colour, records):
     width, is_closed = parts_of(value_of(records[0], 40)), value_of(records[0], 70) == "1"
-    must(width >= 24 * GRAIN and (is_closed or len(records) > 4), f"a polyline of the width {width}, and {len(records)} records")
+    must(width >= 0 and len(records) > (3 if is_closed else 4), f"a polyline of the width {width}, and {len(records)} records")
     return Drawn(layer, colour, width, is_closed, tuple(map(place_in, records[1:-1])))
 
 
 def text(layer, colour, records):
     record, = records
-    has_end = value_of(record, 72, "") == "5"
+    has_end = value_of(record, 72) == "5"
     rotation, factor, oblique = (parts_of(value_of(record, code, "0"), DEGREE) for code in (50, 41, 51))
     height, words = parts_of(value_of(record, 40)), value_of(record, 1)
     must(height > 0 and factor > 0 and 0 <= rotation < WHOLE_TURN and abs(oblique) <= MOST_OBLIQUE, f"the text {record}")
@@ -182,6 +184,11 @@ def parts_of(words, whole=MILLIMETRE):
     must(found and len(found[3] or "") <= digits, f"the number {words}")
     size = int(found[2]) * whole + int((found[3] or "").ljust(digits, "0"))
     return -size if found[1] else size
+
+
+def characters_of(text):
+    """The characters of a text as it is written."""
+    return re.sub(r"\\U\+([0-9A-F]{4})", lambda found: chr(int(found[1], 16)), text)
 
 
 # ---- comparison

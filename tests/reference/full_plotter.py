@@ -102,7 +102,7 @@ class FullPlotter(FullSettings):
             self.add(1, [self.stroke(a, b, self.width() if width is None else width)])
 
     def stroke(self, a, b, width):
-        return Stroke(self.pen, self.colour(), width, self.window, a, b, self.sheet, self.label)
+        return Stroke(self.pen, self.colour(), width, self.window, a, b, self.sheet, self.label, len(self.labels))
 
     def add(self, count, shapes):
         """Draws shapes of so many strokes and edges; after too many the plot is refused, and none are needed."""
@@ -301,7 +301,7 @@ class FullPlotter(FullSettings):
                 apart = min(MOST_TICKS, rounded(100 * USUAL_WIDTH * TICKS_OF_A_GRAIN * MILLION, self.level))
                 self.fill(fills.Lines(45_000, apart, (0, 0)), edges, rule, self.shade)
         else:
-            self.add(len(edges), [Area(self.pen, self.colour(), self.window, tuple(edges), rule, self.sheet)])
+            self.add(len(edges), [Area(self.pen, self.colour(), self.window, tuple(edges), rule, self.sheet, len(self.labels))])
 
     def shade(self, a, b):
         self.ink(a, b, USUAL_WIDTH)

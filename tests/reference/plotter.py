@@ -38,6 +38,7 @@ class Stroke(NamedTuple):
     b: tuple
     sheet: int = 1
     label: int = None  # the number of the label that it is part of, from 0 on
+    labels: int = 0  # how many labels come before it
 
 
 class Note(NamedTuple):

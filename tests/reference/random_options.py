@@ -111,12 +111,12 @@ def written_apart(case):
 def drawn_apart(case, chance):
     """The same by `draw`, which need not be told of the sheets, of a size in pixels or on a small page."""
     options = {name: case.options[name] for name in case.options if name in ("left", "below", "rotate", "pens")}
-    options.update(profile="full", output="pictures", form=chance.choice(("png", "png", "ppm", "pbm", "marks", "svg")))
-    if chance.random() < 0.8 or options["form"] == "svg":
+    options.update(profile="full", output="pictures", form=chance.choice(("png", "png", "ppm", "pbm", "marks", "svg", "dxf")))
+    if chance.random() < 0.8 or options["form"] in VECTORS:
         options.update(page_options(chance))
     else:
         options.update(width="300", height="200", dots="50")
-    if options["form"] != "svg" and "dots" not in options:
+    if options["form"] not in VECTORS and "dots" not in options:
         options["size"] = size(chance)
     if chance.random() < 0.5:
         options["sheet"] = "each"

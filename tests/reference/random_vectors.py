@@ -1,4 +1,4 @@
-"""Random plots of either profile as PDF and SVG, with all options that such a document has.
+"""Random plots of either profile as PDF, SVG and DXF, with all options that such a document has.
 
 The plot of a seed is that of the same seed in another form, in full often with more ends of sheets and with labels.
 """

@@ -15,6 +15,7 @@ class Area(NamedTuple):
     edges: tuple
     rule: int
     sheet: int = 1
+    labels: int = 0  # how many labels come before it
 
     label = None  # no area is part of a label
 

@@ -3,7 +3,7 @@ use Rattle.std.specs.Prelude.{◌-◌, ◌==◌, List, [], ◌∷◌, Option, No
 use Rattle.std.specs.Path.{path_extension, slash}
 use Rattle.std.specs.Str.{str_eq_ignore_ascii_case}
 use Rattle.clap.specs.Words.{Text}
-use Rattle.picture_job.specs.declared.vector_job.VectorFormat.TheVariants.{Pdf, Svg}
+use Rattle.picture_job.specs.declared.vector_job.VectorFormat.TheVariants.{Dxf, Pdf, Svg}
 use Rattle.picture_out.specs.declared.form.Form.TheVariants.{Marks, Pbm, Ppm, Pcl}
 use Rattle.command_line.specs.declared.subcommands.Output.{Output}
 use Rattle.command_line.specs.declared.subcommands.Output.TheVariants.{Picture, Png, Vector}
@@ -14,6 +14,7 @@ forms =
     (codes "png", Png)
     ∷ (codes "pdf", Vector Pdf)
     ∷ (codes "svg", Vector Svg)
+    ∷ (codes "dxf", Vector Dxf)
     ∷ (codes "ppm", Picture Ppm)
     ∷ (codes "pbm", Picture Pbm)
     ∷ (codes "pcl", Picture Pcl)

@@ -8,7 +8,7 @@ use Rattle.clap.specs.declared.builder.action.ArgAction.{ArgAction}
 use Rattle.clap.specs.declared.builder.action.ArgAction.TheVariants.{Set, SetTrue, Append}
 use Rattle.clap.specs.declared.builder.value_parser.ValueParser.{ValueParser}
 use Rattle.clap.specs.declared.builder.value_parser.ValueParser.TheVariants as vp
-use Rattle.picture_job.specs.declared.vector_job.VectorFormat.TheVariants.{Pdf, Svg}
+use Rattle.picture_job.specs.declared.vector_job.VectorFormat.TheVariants.{Dxf, Pdf, Svg}
 use Rattle.picture_out.specs.declared.form.Form.TheVariants.{Marks, Pbm, Ppm, Pcl}
 use Rattle.command_line.specs.declared.subcommands.Kind.{Kind}
 use Rattle.command_line.specs.declared.destination.Destination.TheVariants.{File}
@@ -201,6 +201,7 @@ subcommands =
     ∷ (codes "png", Write Png)
     ∷ (codes "pdf", Write (Vector Pdf))
     ∷ (codes "svg", Write (Vector Svg))
+    ∷ (codes "dxf", Write (Vector Dxf))
     ∷ (codes "marks", Write (Picture Marks))
     ∷ (codes "pbm", Write (Picture Pbm))
     ∷ (codes "ppm", Write (Picture Ppm))

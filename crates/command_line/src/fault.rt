@@ -21,7 +21,7 @@ pub enum LineFault<'a> {
     #[error("words not understood")]
     Words,
     /// The form that draw is asked for, by `--form` or by the extension of the output file, is none.
-    #[error("no such form of picture: use png, pdf, svg, ppm, pbm, pcl or marks, after --form or as the extension of the output file")]
+    #[error("no such form of picture: use png, pdf, svg, dxf, ppm, pbm, pcl or marks, after --form or as the extension of the output file")]
     Form,
     /// The text after `--pens` is no list of pens.
     #[error("bad pen list")]
@@ -36,7 +36,7 @@ pub enum LineFault<'a> {
     #[error("--smooth needs the form png or ppm")]
     Shades,
     /// `--dots`, `--size` or `--smooth` is given for a vector document, which has no pixels.
-    #[error("--dots, --size and --smooth may not be given with the forms pdf and svg")]
+    #[error("--dots, --size and --smooth may not be given with the forms pdf, svg and dxf")]
     NoPixels,
     /// The resolution times the smoothing is over 1200 dots per inch.
     #[error("--dots times --smooth is over 1200")]

@@ -9,10 +9,11 @@ use picture_out::Form;
 use std::path::Path;
 
 // The name of each form, which is the extension of its files, and what is written.
-const FORMS: [(&str, Output); 7] = [
+const FORMS: [(&str, Output); 8] = [
     ("png", Output::Png),
     ("pdf", Output::Vector(VectorFormat::Pdf)),
     ("svg", Output::Vector(VectorFormat::Svg)),
+    ("dxf", Output::Vector(VectorFormat::Dxf)),
     ("ppm", Output::Picture(Form::Ppm)),
     ("pbm", Output::Picture(Form::Pbm)),
     ("pcl", Output::Picture(Form::Pcl)),

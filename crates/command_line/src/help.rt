@@ -14,7 +14,7 @@ pub(crate) const FILE: &str =
     "The plot files; without one the plot is read from standard input, and several need --output and a folder";
 
 pub(crate) const TOP: HelpPage<'static> = HelpPage {
-    about: "Turn an HP-GL or HP-GL/2 plot into a raster picture with exact pixels, or a PDF or SVG of its lines, or describe it",
+    about: "Turn an HP-GL or HP-GL/2 plot into a raster picture with exact pixels, or a PDF, SVG or DXF of its lines, or describe it",
     example: "Example:\n  plotraster draw plan.plt -o plan.png\n\n\
         'plotraster draw --help' lists the options of draw, and so for each command.",
 };

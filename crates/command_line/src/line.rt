@@ -84,7 +84,7 @@ pub struct Line<'m, 'a> {
 ///
 /// Errors, of which the first is given: `Form` if draw is asked for a form that is none, `Pens` if a picture is asked for
 /// and `--pens` is not a valid list, `Colours` or `Widths` with the first bad item of such a list, `Shades` if `--smooth` is
-/// given for a form that may not be smoothed, `Smooth` if `--dots` times `--smooth` is over 1200, `NoPixels` if one of these or `--size` is given for a PDF or an SVG, `Paper` if `--page` names
+/// given for a form that may not be smoothed, `Smooth` if `--dots` times `--smooth` is over 1200, `NoPixels` if one of these or `--size` is given for a vector document, `Paper` if `--page` names
 /// no paper and not the plot, `Size` if `--page` is given with `--width` or `--height`, `BadSheet` if `--sheet` is no number
 /// of 0 to 4194304 and not `each`, `BadCharacters` if `--characters` names none, `Profile` if `--profile` is neither `core`
 /// nor `full`, `Sheet` or `Characters` if `--sheet` or `--characters` is given with the profile core, `NoPicture` or

@@ -42,7 +42,7 @@ impl Kind {
 
 /// All subcommands, in the order of the help: the name, what it does, what help says of it, and
 /// an example of its use.
-pub(crate) const SUBCOMMANDS: [(&str, Kind, &str, &str); 9] = [
+pub(crate) const SUBCOMMANDS: [(&str, Kind, &str, &str); 10] = [
     (
         "draw",
         Kind::Draw(Destination::File),
@@ -51,8 +51,8 @@ pub(crate) const SUBCOMMANDS: [(&str, Kind, &str, &str); 9] = [
             - reads the plot in the profile full, and draws its first sheet;\n\
             - draws on the page that the plot asks for by PS, or on A4;\n\
             - shows what is drawn, wherever on that page it is, with a margin of 5 mm;\n\
-            - writes 150 dots per inch, smoothed 4 times, as PNG, or as the output file's extension says: as PDF or SVG the \
-            lines themselves, in PDF those of all sheets, a page each;\n\
+            - writes 150 dots per inch, smoothed 4 times, as PNG, or as the output file's extension says: as PDF, SVG or \
+            DXF the lines themselves, in PDF those of all sheets, a page each;\n\
             - shows progress on a terminal, and says if little or nothing is drawn.\n\n\
             Example:\n  plotraster draw plan.plt -o plan.png",
     ),
@@ -74,6 +74,12 @@ pub(crate) const SUBCOMMANDS: [(&str, Kind, &str, &str); 9] = [
         Kind::Write(Output::Vector(VectorFormat::Svg)),
         "Write the lines themselves as SVG, which browsers show and drawing programs edit",
         "Example, the drawing and 5 mm around it:\n  plotraster svg --fit --margin 5 plan.plt > plan.svg",
+    ),
+    (
+        "dxf",
+        Kind::Write(Output::Vector(VectorFormat::Dxf)),
+        "Write the lines themselves as DXF, which CAD programs read, with a layer for each pen, and labels as texts",
+        "Example, with labels:\n  plotraster dxf --profile full plan.plt > plan.dxf",
     ),
     (
         "marks",

@@ -360,8 +360,8 @@ static OPTIONS: [OptionRow<'static>; 25] = [
         value_name: "NAME",
         help: &[(
             Group::All,
-            "Form of the picture: 'png', 'pdf', 'svg', 'ppm', 'pbm', 'pcl' or 'marks'; without it the extension of the output \
-        file says the form [default: png]",
+            "Form of the picture: 'png', 'pdf', 'svg', 'dxf', 'ppm', 'pbm', 'pcl' or 'marks'; without it the extension of the \
+        output file says the form [default: png]",
         )],
     },
     OptionRow {

@@ -66,7 +66,7 @@ few_enough (Err fault) fits count counted most is same fit other = (
   λ h. absurd (let few = is.0 fit in let more = ltb-true most counted h in omega arith),
 )
 
--- an SVG takes any
+-- an SVG and a DXF take any
 pub never_letters : {U : Type 0} (answer : Result U Fault) → IfErr answer (λ fault. is_letters fault ≡ false) → (answer ≡ Err Letters) ↔ (false ≡ true)
 never_letters (Ok u) other = (λ h. absurd (cc), λ h. absurd (cc))
 never_letters (Err fault) other = (

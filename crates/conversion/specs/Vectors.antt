@@ -7,13 +7,14 @@ use Rattle.plot_page.specs.Segments.{Segment}
 use Rattle.plot_page.specs.declared.page.Page.{Page}
 use Rattle.plot_page.specs.declared.pens.PenSet.{PenSet}
 use Rattle.picture_job.specs.declared.vector_job.VectorFormat.{VectorFormat}
-use Rattle.picture_job.specs.declared.vector_job.VectorFormat.TheVariants.{Pdf, Svg}
+use Rattle.picture_job.specs.declared.vector_job.VectorFormat.TheVariants.{Dxf, Pdf, Svg}
 use Rattle.picture_job.specs.declared.vector_job.VectorJob.{VectorJob}
 use Rattle.labels.specs.Labels.{LabelShape}
 use Rattle.devices.specs.Sinks.{SinkState}
 use Rattle.pdf.specs.Documents.{AreStreams, page_areas, pdf_bytes, pens_drawn, rows_shown, sheet_labels, sheets}
 use Rattle.pdf.specs.Texts.{letter_count}
 use Rattle.pdf.specs.declared.counts.TheConstants.{MOST_LETTERS}
+use Rattle.dxf.specs.Documents.{dxf_bytes, dxf_sheets_bytes}
 use Rattle.svg.specs.Documents.{sheets_bytes, svg_bytes}
 use Rattle.conversion.specs.Rules.{ends_of}
 use Rattle.conversion.specs.Sheets.{TellsOf, labels_on, shapes_on}
@@ -45,6 +46,12 @@ svg_of page pens strokes areas ends labels =
     if nat_eq (length ends) 0 then svg_bytes page pens strokes areas labels else
     sheets_bytes page pens strokes areas ends labels
 
+-- the DXF of the same: with layers for each sheet, if one ends
+abbrev pub dxf_of : Page → PenSet → List Segment → List Area → List ℕ → List LabelShape → List ℕ
+dxf_of page pens strokes areas ends labels =
+    if nat_eq (length ends) 0 then dxf_bytes page pens strokes areas labels else
+    dxf_sheets_bytes page pens strokes areas ends labels
+
 -- a PDF of the same, with a page for each sheet
 abbrev pub IsPdf : Naming → Page → PenSet → List Segment → List Area → List ℕ → List LabelShape → List ℕ → Type 0
 IsPdf naming page pens strokes areas ends labels document =
@@ -58,16 +65,17 @@ IsPdf naming page pens strokes areas ends labels document =
 abbrev pub IsVector : VectorFormat → Naming → Page → PenSet → ShapeList → List ℕ → List LabelShape → List ℕ → Type 0
 IsVector Svg naming page pens shapes ends labels document = document ≡ svg_of page pens shapes.strokes shapes.areas ends labels
 IsVector Pdf naming page pens shapes ends labels document = IsPdf naming page pens shapes.strokes shapes.areas ends labels document
+IsVector Dxf naming page pens shapes ends labels document = document ≡ dxf_of page pens shapes.strokes shapes.areas ends labels
 
 -- the fault that says so
 abbrev pub is_letters : Fault → Bool
 is_letters Letters = true
 is_letters _ = false
 
--- labels have more letters than a document of a format takes: an SVG takes any
+-- labels have more letters than a document of a format takes: only a PDF does not take any
 abbrev pub has_too_many_letters : VectorFormat → List LabelShape → Bool
 has_too_many_letters Pdf labels = nat_lt MOST_LETTERS (letter_count labels)
-has_too_many_letters Svg labels = false
+has_too_many_letters _ labels = false
 
 -- a document was written after what the sink held, the sink failed, there were too many letters, or there was no memory
 abbrev pub PutsVector : {U : Type 0} → (List ℕ → Type 0) → SinkState → SinkState → Result U Fault → Type 0

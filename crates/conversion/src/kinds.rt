@@ -34,8 +34,8 @@ use stroke_raster::Gauge;
 /// palette is white and each further colour of its pixels, if they are at most 256.
 ///
 /// A vector document has the strokes and areas of the picture's pens as they are, by which it can be printed and enlarged at
-/// will. Of all that is drawn an SVG has a group for each sheet, one above another, if sheets end, and a PDF a page for each.
-/// The drawing has the labels of the plot, if they were kept.
+/// will. Of all that is drawn an SVG has a group for each sheet, and a DXF layers, one above another, if sheets end, and a PDF
+/// a page for each. The drawing has the labels of the plot, if they were kept.
 ///
 /// The gauge makes at most as many tests as the boxes of the strokes and edges have pixels, whatever the band height. The
 /// watcher is told after each band of rows how many are written, and nothing of a vector document; a picture without rows has

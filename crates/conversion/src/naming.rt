@@ -8,7 +8,7 @@ pub(crate) const MOST_CHARACTERS: usize = 900;
 pub struct Naming<'a> {
     /// The version of the program that makes the document, without parentheses and backslashes.
     pub version: &'a str,
-    /// The title. An empty one is none, and neither is one of more than 900 bytes. An SVG has none.
+    /// The title. An empty one is none, and neither is one of more than 900 bytes. An SVG and a DXF have none.
     pub title: &'a str,
 }
 

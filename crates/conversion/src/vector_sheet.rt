@@ -7,7 +7,7 @@ ghost use Rattle.pdf.specs.declared.counts.TheConstants.{MOST_LETTERS};
 ghost use Rattle.plot_page.specs.declared.stroke.TheConstants.{MOST_STROKES};
 ghost use Rattle.conversion.specs.Conversions.{is_write};
 ghost use Rattle.conversion.specs.Rules.{ends_of};
-ghost use Rattle.conversion.specs.Vectors.{IsPdf, IsVector, PutsVector, WritesVector, has_too_many_letters, is_letters, svg_of, title_kept};
+ghost use Rattle.conversion.specs.Vectors.{IsPdf, IsVector, PutsVector, WritesVector, dxf_of, has_too_many_letters, is_letters, svg_of, title_kept};
 
 use crate::fault::Fault;
 use crate::lines::Lines;
@@ -18,6 +18,7 @@ use crate::place::Drawing;
 use crate::sheet::outcome_of;
 use deflate::TextEncoder;
 use devices::Sink;
+use dxf::{write_dxf, write_dxf_sheets};
 use full_plot::labels_on;
 use pdf::{has_few_letters, room_for, write_pdf};
 use picture_job::{VectorFormat, VectorJob};
@@ -26,8 +27,8 @@ use stroke_runs::SheetView;
 use svg::{ClipPaths, write_svg, write_svg_sheets};
 
 /// Writes the vector document of a sheet of a drawing, which counts from 1, or of all that is drawn for 0, on the page where
-/// the drawing lies. The job's page is not used. Of all that is drawn an SVG has a group for each sheet, one above another,
-/// if sheets end, and a PDF a page for each. The drawing has the labels of the plot, if they were kept.
+/// the drawing lies. The job's page is not used. Of all that is drawn an SVG has a group for each sheet, and a DXF layers, one
+/// above another, if sheets end, and a PDF a page for each. The drawing has the labels of the plot, if they were kept.
 ///
 /// Errors: `Letters` if the labels have more letters than a PDF takes, and it is one; `Unfinished` if the sink fails, and what it has
 /// taken is of no use; `Memory` if memory is refused. The sink is as it was after `Letters` and `Memory`.
@@ -64,6 +65,7 @@ pub fn write_vector_sheet<K: Sink>(
     match job.format {
         VectorFormat::Svg => put_svg(alloc, &view, ends, sink)?,
         VectorFormat::Pdf => put_pdf(alloc, naming, &view, ends, sink)?,
+        VectorFormat::Dxf => put_dxf(&view, ends, sink)?,
     }
     Ok(outcome_of(drawing, job.pens, shapes, 0, 0))
 }
@@ -99,6 +101,27 @@ fn put_svg<K: Sink>(
         write_svg(view, &clips, sink)
     } else {
         write_svg_sheets(view, ends, &clips, sink)
+    };
+    match written {
+        Ok(_) => Ok(()),
+        Err(_) => Err(Fault::Unfinished),
+    }
+}
+
+// Writes the DXF of the same.
+fn put_dxf<K: Sink>(view: &SheetView<'_>, ends: &[usize], sink: &mut K) -> Result<(), Fault>
+    requires few { length view.now.strokes.now ≤ MOST_STROKES }
+    requires sinking { (K.state sink.old).faults < 2 ^ 64 - 1 }
+    ensures puts { PutsVector (λ document. document ≡ dxf_of view.now.page.now view.now.pens.now view.now.strokes.now
+        (areas_in view.now.areas) ends.now (all_counted view.now.before view.now.labels.now))
+        (K.state sink.old) (K.state sink.new) result }
+    ensures letters { IfErr result (λ fault. is_letters fault ≡ false) }
+    ensures untouched { IfErr result (λ fault. is_write fault ≡ false → sink.new ≡ sink.old) }
+{
+    let written = if ends.is_empty() {
+        write_dxf(view, sink)
+    } else {
+        write_dxf_sheets(view, ends, sink)
     };
     match written {
         Ok(_) => Ok(()),

@@ -8,6 +8,8 @@ pub enum VectorFormat {
     Svg,
     /// PDF 1.5.
     Pdf,
+    /// DXF R12, for CAD.
+    Dxf,
 }
 
 /// A request for a vector document: format, page and pens. Its strokes are not pixels, so it has no resolution, and it is

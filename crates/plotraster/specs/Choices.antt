@@ -11,7 +11,7 @@ use Rattle.picture_job.specs.declared.picture.Picture.TheVariants.{Rows, Png, Ve
 use Rattle.picture_job.specs.declared.reading.Reading.{Reading}
 use Rattle.picture_job.specs.declared.reading.Reading.TheVariants.{Core, Full}
 use Rattle.picture_job.specs.declared.vector_job.VectorFormat.{VectorFormat}
-use Rattle.picture_job.specs.declared.vector_job.VectorFormat.TheVariants.{Pdf, Svg}
+use Rattle.picture_job.specs.declared.vector_job.VectorFormat.TheVariants.{Dxf, Pdf, Svg}
 use Rattle.picture_out.specs.declared.form.Form.{Form}
 use Rattle.picture_out.specs.declared.form.Form.TheVariants.{Marks, Pbm, Ppm, Pcl}
 
@@ -26,7 +26,7 @@ draws_all line = line.interactive && (not line.sheet_named && not (is_core line.
 -- the sheets are pages of one document
 abbrev pub has_pages : VectorFormat → Bool
 has_pages Pdf = true
-has_pages Svg = false
+has_pages _ = false
 
 abbrev pub is_pdf : Task → Bool
 is_pdf (Draw (Vector job)) = has_pages job.format
@@ -65,6 +65,7 @@ form_extension Pcl = codes "pcl"
 abbrev pub format_extension : VectorFormat → List ℕ
 format_extension Pdf = codes "pdf"
 format_extension Svg = codes "svg"
+format_extension Dxf = codes "dxf"
 
 -- the extension of the files in a folder
 abbrev pub extension_of : Task → List ℕ

@@ -68,7 +68,7 @@ fn is_format_of_pages(format: VectorFormat) -> bool
 {
     match format {
         VectorFormat::Pdf => true,
-        VectorFormat::Svg => false,
+        VectorFormat::Svg | VectorFormat::Dxf => false,
     }
 }
 
@@ -100,6 +100,7 @@ fn extension_of_format(format: VectorFormat) -> &'static str
     match format {
         VectorFormat::Pdf => "pdf",
         VectorFormat::Svg => "svg",
+        VectorFormat::Dxf => "dxf",
     }
 }
 

@@ -225,6 +225,13 @@ fn fitted_documents(rt: HostRuntime) -> Result<(), Fail> {
             VectorFormat::Pdf,
             ["/MediaBox[0 0 8.079 4.535]", "/Producer(plotraster "],
         ),
+        (
+            VectorFormat::Dxf,
+            [
+                "$EXTMAX\n10\n2.85\n20\n1.6\n",
+                "LINE\n8\nPEN_1\n10\n0.175\n20\n0.175\n11\n2.675\n21\n0.175\n",
+            ],
+        ),
     ] {
         let mut source = OverRead::new(Reader::new(b"SP1;PU30,30;PD130,30;"));
         let (sink, answer) = run_task(
@@ -284,7 +291,7 @@ fn titles(rt: HostRuntime) -> Result<(), Fail> {
 #[test]
 fn a_document_broken_off_anywhere(rt: HostRuntime) -> Result<(), Fail> {
     let alloc = rt.alloc();
-    for format in [VectorFormat::Svg, VectorFormat::Pdf] {
+    for format in [VectorFormat::Svg, VectorFormat::Pdf, VectorFormat::Dxf] {
         let job = job_of(format, PenSet::all())?;
         let whole = run(alloc, ALL, job, naming_of("a"), SHEETS, Writer::new(alloc));
         whole.answer?;
@@ -316,7 +323,7 @@ fn refused_plots(rt: HostRuntime) -> Result<(), Fail> {
         pixels: Some(100),
         ..PageChoice::GIVEN
     };
-    for format in [VectorFormat::Svg, VectorFormat::Pdf] {
+    for format in [VectorFormat::Svg, VectorFormat::Pdf, VectorFormat::Dxf] {
         let job = job_of(format, PenSet::all())?;
         let mut source = OverRead::new(Reader::new(b"SP1;PD8388607,8388607;"));
         let (sink, answer) = run_task(

@@ -252,6 +252,7 @@ fn vector_told(alloc: Global, job: &VectorJob, file: Option<&str>) -> Result<Str
     let format = match job.format {
         VectorFormat::Pdf => "pdf",
         VectorFormat::Svg => "svg",
+        VectorFormat::Dxf => "dxf",
     };
     let page = job.page;
     let (width, height, left, below) = (page.width, page.height, page.left, page.below);

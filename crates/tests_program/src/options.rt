@@ -289,7 +289,7 @@ fn prints_faults(rt: HostRuntime) -> Result<(), Fail> {
     let text = format!(in rt.alloc(); "{}", LineFault::Form)?;
     assert_eq!(rt;
         text.as_str(),
-        "no such form of picture: use png, pdf, svg, ppm, pbm, pcl or marks, after --form or as the extension of the output file"
+        "no such form of picture: use png, pdf, svg, dxf, ppm, pbm, pcl or marks, after --form or as the extension of the output file"
     );
     let text = format!(in rt.alloc(); "{}", LineFault::Smooth)?;
     assert_eq!(rt; text.as_str(), "--dots times --smooth is over 1200");

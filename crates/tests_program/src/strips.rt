@@ -5,7 +5,7 @@ use std::test::Fail;
 // The subcommands that write a picture in rows.
 const FORMS: [&str; 4] = ["marks", "pbm", "ppm", "pcl"];
 
-const OTHERS: [&str; 5] = ["draw", "png", "pdf", "svg", "report"];
+const OTHERS: [&str; 6] = ["draw", "png", "pdf", "svg", "dxf", "report"];
 
 const STRIPS: &str = "\
 pbm 64 8400 0 0 100 64 0 pens 1-255 of None

@@ -3,8 +3,8 @@ use crate::line_cases::{Asked, has_answers, has_answers_for_each};
 use std::test::Fail;
 
 // All subcommands, each of which has the option.
-const COMMANDS: [&str; 9] = [
-    "draw", "png", "pdf", "svg", "marks", "pbm", "ppm", "pcl", "report",
+const COMMANDS: [&str; 10] = [
+    "draw", "png", "pdf", "svg", "dxf", "marks", "pbm", "ppm", "pcl", "report",
 ];
 
 const TURNS: &str = "\

@@ -45,6 +45,10 @@ fn pictures_apart(rt: HostRuntime) -> Result<(), Fail> {
             "true false true svg",
         ),
         (
+            "plotraster draw --form=dxf a.plt -o d",
+            "true false true dxf",
+        ),
+        (
             "plotraster pdf --profile=full --sheet=each a.plt -o d",
             "false false true pdf",
         ),
