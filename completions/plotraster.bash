@@ -6,18 +6,18 @@ _plotraster() {
     options="$options --profile --sheet --characters --output --verbose --colours --widths"
     COMPREPLY=()
     if [ "$COMP_CWORD" -eq 1 ]; then
-        COMPREPLY=($(compgen -W "draw png pdf svg marks pbm ppm pcl report --help --version" -- "$word"))
+        COMPREPLY=($(compgen -W "draw png pdf svg dxf marks pbm ppm pcl report --help --version" -- "$word"))
         return
     fi
     if [ "$command" != report ]; then
         case "$command" in
-            pdf | svg) options="$options --pens" ;;
+            pdf | svg | dxf) options="$options --pens" ;;
             *) options="$options --dots --pens --progress" ;;
         esac
         case "$command" in
             draw) options="$options --size --smooth --form --quiet" ;;
             png) options="$options --smooth" ;;
-            pdf | svg) ;;
+            pdf | svg | dxf) ;;
             ppm) options="$options --smooth --band --from --rows" ;;
             *) options="$options --band --from --rows" ;;
         esac
@@ -35,7 +35,7 @@ _plotraster() {
                 return
                 ;;
             --form)
-                COMPREPLY=($(compgen -W "png pdf svg ppm pbm pcl marks" -- "$word"))
+                COMPREPLY=($(compgen -W "png pdf svg dxf ppm pbm pcl marks" -- "$word"))
                 return
                 ;;
             --size | --smooth | --band | --from | --rows) return ;;

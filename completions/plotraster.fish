@@ -11,9 +11,9 @@ end
 
 set -l papers a0 a1 a2 a3 a4 a5 b4 letter legal tabloid ansi-a ansi-b ansi-c ansi-d ansi-e arch-d arch-e
 set -l portraits $papers-portrait
-set -l all draw png pdf svg marks pbm ppm pcl report
-set -l others png pdf svg marks pbm ppm pcl report
-set -l pictures draw png pdf svg marks pbm ppm pcl
+set -l all draw png pdf svg dxf marks pbm ppm pcl report
+set -l others png pdf svg dxf marks pbm ppm pcl report
+set -l pictures draw png pdf svg dxf marks pbm ppm pcl
 set -l pixels draw png marks pbm ppm pcl
 set -l rows marks pbm ppm pcl
 
@@ -25,6 +25,7 @@ __plotraster_command draw 'Draw the whole plot, smoothed, as PNG or as the exten
 __plotraster_command png 'Write a colour picture as PNG'
 __plotraster_command pdf 'Write the lines themselves as PDF'
 __plotraster_command svg 'Write the lines themselves as SVG'
+__plotraster_command dxf 'Write the lines themselves as DXF'
 __plotraster_command marks 'Write a line for each pixel that is drawn'
 __plotraster_command pbm 'Write a black and white picture, Netpbm\'s portable bitmap (P4)'
 __plotraster_command ppm 'Write a colour picture, Netpbm\'s portable pixmap (P6)'
@@ -58,7 +59,7 @@ __plotraster_option "$pixels" -l progress \
     -d 'Show on standard error, if it is a terminal, how many rows of a long picture are written'
 __plotraster_option draw -x -l size -d 'Most pixels of the picture\'s longer side'
 __plotraster_option "draw png ppm" -x -l smooth -d 'Smoothing, 1 to 8'
-__plotraster_option draw -x -l form -a 'png pdf svg ppm pbm pcl marks' -d 'Form of the picture'
+__plotraster_option draw -x -l form -a 'png pdf svg dxf ppm pbm pcl marks' -d 'Form of the picture'
 __plotraster_option draw -l quiet -d 'Show no progress, and do not say that little or nothing is drawn'
 __plotraster_option "$rows" -x -l band -d 'Most rows of pixels painted at a time'
 __plotraster_option "$rows" -x -l from -d 'First row of pixels to write, counted from 0 at the top'

@@ -7,6 +7,7 @@ _plotraster() {
         'png:Write a colour picture as PNG'
         'pdf:Write the lines themselves as PDF'
         'svg:Write the lines themselves as SVG'
+        'dxf:Write the lines themselves as DXF'
         'marks:Write a line for each pixel that is drawn'
         "pbm:Write a black and white picture, Netpbm's portable bitmap (P4)"
         "ppm:Write a colour picture, Netpbm's portable pixmap (P6)"
@@ -48,7 +49,7 @@ _plotraster() {
         )
     fi
     case $command in
-        pdf|svg|report) ;;
+        pdf|svg|dxf|report) ;;
         *)
             options+=(
                 "--dots=[Resolution in dots per inch]:DPI:($dots)"
@@ -60,7 +61,7 @@ _plotraster() {
         draw)
             options+=(
                 "--size=[Most pixels of the picture's longer side]:PIXELS: "
-                '--form=[Form of the picture]:NAME:(png pdf svg ppm pbm pcl marks)'
+                '--form=[Form of the picture]:NAME:(png pdf svg dxf ppm pbm pcl marks)'
                 '--quiet[Show no progress, and do not say that little or nothing is drawn]'
             )
             ;;

@@ -7,6 +7,7 @@ import subprocess
 import sys
 
 from recipe_checks import A4, PNG, SECONDS, Check, lines_of, netpbm, plan, turned_pdf
+from reference.dxf_groups import read_dxf
 from shared import TOP, ink, pixels, read, read_bitmap
 
 # Commands that stand in documents and are not run by tests/test_documents.py, each with the reason.
@@ -75,16 +76,17 @@ def transcript(text):
 
 def few_lines(made, name):
     """A document of lines has some on its first sheet, on a page that is none too small."""
-    found = lines_of(made, name)
-    if len(found.sheets[0]) < 4 or min(found.width, found.height) < 1000:
-        yield f"{name}: {len(found.sheets[0])} lines on {found.width} by {found.height} units"
+    found = read_dxf(made.read(name)) if name.endswith(".dxf") else lines_of(made, name)
+    lines = found.entities if name.endswith(".dxf") else found.sheets[0]
+    if len(lines) < 4 or min(found.width, found.height) < 1000:
+        yield f"{name}: {len(lines)} lines on {found.width} by {found.height} units"
 
 
 def pictures(made):
     """Each file that the block names as output is a picture, and what is printed is for a printer."""
     named = set(re.findall(r"(?:>|plt -o) (\S+)", made.block))
     for name in named:
-        if name.endswith((".pdf", ".svg")):
+        if name.endswith((".pdf", ".svg", ".dxf")):
             yield from few_lines(made, name)
             continue
         data = made.of_png(name) if name.endswith(".png") else made.read(name)

@@ -10,7 +10,9 @@ import signal
 import struct
 import subprocess
 
+from cad_readers import said_of_dxf
 from reference import messages
+from reference.dxf_groups import read_dxf
 from reference.pdf import read_pdf
 from reference.svg import read_svg
 from shared import ink, pixels, read_bitmap, write
@@ -206,6 +208,20 @@ def pen_as_svg(made):
         yield f"{lines}"
     if made.read("plan.svg") != made.run("svg", *AS_DRAW, "--pens", "1", "plan.plt"):
         yield "another document"
+
+
+def plan_as_dxf(made):
+    """The frame and the circle, each as one line of several parts, two lines, and the label as a text, in five layers."""
+    data = made.read("plan.dxf")
+    document = read_dxf(data)
+    yield from said_of_dxf(data)
+    if data != made.run("dxf", *AS_DRAW, "plan.plt"):
+        yield "another document"
+    if document[:2] != DRAWN or document.texts() != [f"plan of {A4[0]}"]:
+        yield f"a page of {document.width} by {document.height} units with {document.texts()}"
+    parts = [(it.layer.pen, len(it.places)) for it in document.without_texts().entities]
+    if parts != [(1, 5), (2, 2), (3, 2), (5, 121)]:
+        yield f"lines of {parts} places"
 
 
 def tiff(made):
@@ -505,6 +521,7 @@ CHECKS = {
         "PNG, in colour": [Check(drawn_png, PNG), Check(preview, PNG)],
         "PNG, black and white": [Check(black_png, PNG)],
         "PDF and SVG": [Check(drawn_pdf), Check(found, ("pdfgrep",), {}, numbered), Check(pen_as_svg)],
+        "A plot back into CAD": [Check(plan_as_dxf, ("ezdxf",))],
         "A large plot on small paper": [Check(printed_pdf)],
         "Plots by CUPS": [Check(printed_plot)],
         "TIFF, true to size": [Check(tiff, ("pamtotiff", "tifftopnm"))],
