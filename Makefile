@@ -39,7 +39,7 @@ CARD = --width 4000 --height 3000
 # Debian's Python, which has Debian's pytest.
 PYTEST = PYTHONDONTWRITEBYTECODE=1 /usr/bin/python3 -m pytest -q -p no:cacheprovider --no-skips
 # The tests that need no built command.
-SOURCE_TESTS = tests/test_style.py tests/test_quotations.py tests/test_reference_fitting.py tests/test_reference_labels.py tests/test_reference_options.py tests/test_reference_turning.py tests/test_reference_vectors.py tests/test_tools.py $(wildcard tests/test_full_*.py)
+SOURCE_TESTS = tests/test_style.py tests/test_quotations.py tests/test_reference_dxf.py tests/test_reference_fitting.py tests/test_reference_labels.py tests/test_reference_options.py tests/test_reference_turning.py tests/test_reference_vectors.py tests/test_tools.py $(wildcard tests/test_full_*.py)
 
 build:
 	@test -x $(PROGRAM) || tools/prove plotraster_program

@@ -116,10 +116,16 @@ def sides_of(header):
 
 
 def layer_of(record):
-    name, colour = value_of(record, 2), value_of(record, 62)
+    name = value_of(record, 2)
     found = LAYER.fullmatch(name)
-    must(found and int(found[2]) < 256 and re.fullmatch("[1-9][0-9]{0,2}", colour) and int(colour) < 256, f"the layer {name}")
-    return Layer(int(found[1]) if found[1] else None, int(found[2]), int(colour))
+    must(found and int(found[2]) < 256, f"the layer {name}")
+    return Layer(int(found[1]) if found[1] else None, int(found[2]), colour_of(record))
+
+
+def colour_of(record, default=None):
+    words = value_of(record, 62, default)
+    must(re.fullmatch("[1-9][0-9]{0,2}", words) and int(words) < 256, f"the colour {words}")
+    return int(words)
 
 
 def entities_of(records, layers):
@@ -133,7 +139,7 @@ def entities_of(records, layers):
         must(kind in READERS, f"an entity {kind}")
         layer = layers.get(value_of(records[at], 8))
         must(layer, f"the layer of {records[at]}")
-        found.append(READERS[kind](layer, int(value_of(records[at], 62, str(layer.colour))), records[at:end]))
+        found.append(READERS[kind](layer, colour_of(records[at], str(layer.colour)), records[at:end]))
         at = end
     return found
 
