@@ -42,7 +42,7 @@ def drawn(draw, plot, page):
 
 def without_labels(got):
     """What is drawn, as core draws it, which has no labels."""
-    return got if isinstance(got, str) else ([stroke._replace(label=None) for stroke in got[0]], got[1])
+    return got if isinstance(got, str) else ([stroke._replace(label=None, labels=0) for stroke in got[0]], got[1])
 
 
 # What both profiles draw

@@ -47,7 +47,7 @@ def test_places(degrees, page, places):
     line, = turn.shapes([stroke((0, 0), (5, 7))])
     assert line == stroke(places[0], places[2], whole_page(turn.page))
     area, = turn.shapes([Area(3, (1, 2, 3), WHOLE, (((0, 0), (WIDE, 0)), ((WIDE, 0), (5, 7)), ((5, 7), (0, 0))), 1)])
-    assert area == (3, (1, 2, 3), whole_page(turn.page), tuple(zip(places, (*places[1:], places[0]))), 1, 1)
+    assert area == (3, (1, 2, 3), whole_page(turn.page), tuple(zip(places, (*places[1:], places[0]))), 1, 1, 0)
 
 
 @pytest.mark.parametrize("degrees, window", [
