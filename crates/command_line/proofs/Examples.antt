@@ -191,6 +191,7 @@ what_is_written : Table written_on (
     ∷ (codes "draw --form=pcl -o plan.pbm", Some (output.Picture form.Pcl))  -- form given
     ∷ (codes "draw -o plan.pbm", Some (output.Picture form.Pbm))  -- form by extension
     ∷ (codes "draw -o plan.svg", Some (output.Vector format.Svg))  -- document by extension
+    ∷ (codes "draw --form DXF -o plan.svg", Some (output.Vector format.Dxf))  -- document by form, in capitals
     ∷ []
     )
 unfolding clap_on_literals path_extension path_file_name rsplit_once split_last_component trim_trailing

@@ -118,7 +118,8 @@ fn put_dxf<K: Sink>(view: &SheetView<'_>, ends: &[usize], sink: &mut K) -> Resul
     ensures letters { IfErr result (λ fault. is_letters fault ≡ false) }
     ensures untouched { IfErr result (λ fault. is_write fault ≡ false → sink.new ≡ sink.old) }
 {
-    let written = if ends.is_empty() {
+    let is_alone = ends.is_empty();
+    let written = if is_alone {
         write_dxf(view, sink)
     } else {
         write_dxf_sheets(view, ends, sink)

@@ -1,6 +1,8 @@
-//! Tests of SVG and PDF documents and of reports, by public calls.
+//! Tests of SVG, DXF and PDF documents and of reports, by public calls.
 #![tactic(auto)]
 
+#[cfg(test)]
+mod dxf_documents;
 #[cfg(test)]
 mod groups;
 #[cfg(test)]

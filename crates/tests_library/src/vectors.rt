@@ -209,6 +209,27 @@ fn pages_of_sheets(rt: HostRuntime) -> Result<(), Fail> {
     Ok(())
 }
 
+// The layers of each sheet, and the lines in them.
+#[test]
+fn layers_of_sheets(rt: HostRuntime) -> Result<(), Fail> {
+    let alloc = rt.alloc();
+    let job = job_of(VectorFormat::Dxf, PenSet::all())?;
+    let run = run(alloc, ALL, job, naming_of("a"), SHEETS, Writer::new(alloc));
+    run.answer?;
+    let document = run.writer.bytes.as_slice();
+    for text in [
+        b"LAYER\n2\nS1_PEN_1\n".as_slice(),
+        b"LAYER\n2\nS1_PEN_2\n",
+        b"LAYER\n2\nS2_PEN_1\n",
+        b"LAYER\n2\nS3_PEN_1\n",
+        b"LINE\n8\nS2_PEN_1\n10\n0.8\n20\n0\n11\n0.8\n21\n1.6\n",
+    ] {
+        assert_eq!(rt; count_of(document, text), 1);
+    }
+    assert_eq!(rt; count_of(document, b"\nLAYER\n"), 6);
+    Ok(())
+}
+
 // The page around a line, whose corner is at (23,23).
 #[test]
 fn fitted_documents(rt: HostRuntime) -> Result<(), Fail> {
