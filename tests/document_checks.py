@@ -6,6 +6,7 @@ import re
 import subprocess
 import sys
 
+from cad_readers import said_of_dxf
 from recipe_checks import A4, PNG, SECONDS, Check, lines_of, netpbm, plan, turned_pdf
 from reference.dxf_groups import read_dxf
 from shared import TOP, ink, pixels, read, read_bitmap
@@ -145,6 +146,17 @@ def stored_lines(made):
         yield "metro.pdf has other lines"
 
 
+def flange_as_dxf(made):
+    """The lines and the texts of the flange, in the layers of its pens; the picture by LibreCAD is shown."""
+    yield from few_lines(made, "flange.dxf")
+    yield from said_of_dxf(made.read("flange.dxf"))
+    document = read_dxf(made.read("flange.dxf"))
+    if "Flange 80 x 26, bore 28" not in document.texts():
+        yield f"the texts {document.texts()}"
+    if "](librecad.png)" not in read("docs", "GALLERY.md"):
+        yield "librecad.png is not shown"
+
+
 def stored_each(made):
     """The pictures of a block with a loop over plots are those in docs/."""
     for name in re.search(r"^for name in (.+); do$", made.block, re.M)[1].split():
@@ -182,6 +194,7 @@ GALLERY = {
                                 Check(stored, (*PNG, "pnmcat"))],
     "Core and full side by side": [Check(stored_each, (*PNG, "pnmcat"))],
     "PDF and SVG": [Check(stored_lines)],
+    "DXF": [Check(flange_as_dxf, ("ezdxf",))],
     "A chart by gnuplot": [Check(stored, PNG)],
     "A detail at 1200 dots per inch": [Check(stored, (*PNG, "pamcut"))],
     "A chart in both profiles": [Check(stored, (*PNG, "pnmcat"))],
