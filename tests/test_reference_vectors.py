@@ -292,8 +292,8 @@ def test_files_of_documents():
     ({"form": "pdf", "dots": "100", "page": "plot", "width": "64"},
      messages.text("no-pixels")),
     ({"form": "SVG", "size": "16", "widths": "x"}, messages.text("widths", "x")),
-    ({"form": "eps"}, "no such form of picture: use png, pdf, svg, dxf, ppm, pbm, pcl or marks, after --form or as the extension of "
-                      "the output file"),
+    ({"form": "eps"}, "no such form of picture: use png, pdf, svg, dxf, ppm, pbm, pcl or marks, after --form or as the extension "
+                      "of the output file"),
 ])
 def test_mistakes(options, text):
     assert answer("draw", options, PLOT) == (2, b"", f"plotraster: {text}\n")
