@@ -226,7 +226,7 @@ def test_status_of_several_plots(program, tmp_path):
 def test_life_of_a_part(program, tmp_path):
     """An older NAME.part is replaced, removed if the plot is refused, and kept after a failed write, unless it is a document."""
     said = re.search(r"NAME \.part, which (replaces) an older file .* It is (removed) if the plot is refused, and (kept) after"
-                     r" a failed write, (unless) it is a PNG, a PDF or an SVG,", plain(PAGE))
+                     r" a failed write, (unless) it is a PNG, a PDF, an SVG or a DXF,", plain(PAGE))
     assert said
     part = tmp_path / "to.part"
     documents = [(command, b"", False) for command in DOCUMENTS]
