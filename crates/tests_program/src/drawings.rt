@@ -85,7 +85,7 @@ plotraster|draw|-o|plan.pn
 plotraster|draw|-o|out.d
 plotraster|draw|-o|out.png/a.d
 plotraster|draw|-o|plan.eps|--pens=0
-plotraster|draw|-o|plan.dxf|--page=none|--sheet=1|--profile=core|a.plt|b.plt
+plotraster|draw|-o|plan.eps|--page=none|--sheet=1|--profile=core|a.plt|b.plt
 
 Pens
 plotraster|draw|-o|plan.pbm|--pens=0|--smooth=2
