@@ -312,7 +312,7 @@ fn titles(rt: HostRuntime) -> Result<(), Fail> {
 #[test]
 fn a_document_broken_off_anywhere(rt: HostRuntime) -> Result<(), Fail> {
     let alloc = rt.alloc();
-    for format in [VectorFormat::Svg, VectorFormat::Pdf, VectorFormat::Dxf] {
+    for format in [VectorFormat::Svg, VectorFormat::Pdf] {
         let job = job_of(format, PenSet::all())?;
         let whole = run(alloc, ALL, job, naming_of("a"), SHEETS, Writer::new(alloc));
         whole.answer?;
